@@ -1,0 +1,16 @@
+pub mod ScaleLemmas
+pub mod StateLemmas
+pub mod PathsRise
+pub mod FreePaths
+pub mod ResponseLaws
+pub mod InnerPaths
+pub mod Walks
+pub mod Hops
+pub mod SpreadTurns
+pub mod HopPaths
+pub mod Strongest
+pub mod Gives
+pub mod HeldStates
+pub mod EndsAbove
+pub mod ReachingRun
+pub mod LastLimit

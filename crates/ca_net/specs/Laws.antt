@@ -1,0 +1,30 @@
+-- Laws of the definitions. Each is the contract of a public function that does nothing (src/laws.rt).
+use Rattle.std.specs.Prelude.{ℕ, ◌≡◌, ◌<◌, List, length, ◌↔◌, ◌≢◌}
+use Rattle.ca_net.specs.declared.trit.Trit.{Trit}
+use Rattle.ca_net.specs.declared.trit.Trit.TheVariants.{X}
+use Rattle.ca_net.specs.Circuit.{Circuit, IsWellFormed}
+use Rattle.ca_net.specs.Trit.{IsBelow}
+use Rattle.ca_net.specs.State.{IsStateBelow, value_at}
+use Rattle.ca_net.specs.Path.{Path}
+use Rattle.ca_net.specs.Response.{IsResponse, IsFreePath}
+use Rattle.ca_net.specs.PairRun.{EndsAt}
+use Rattle.ca_net.specs.Limits.{AreLimits, IsMeet}
+
+-- the response rises: that of a node in a state is below its response in any state above
+abbrev pub ResponseRises : Type 0
+ResponseRises =
+    (net : Circuit) (s t : List Trit) (n : ℕ) (v w : Trit) → IsWellFormed net → n < length net.nodes → IsStateBelow s t
+    → IsResponse net s n v → IsResponse net t n w → IsBelow v w
+
+-- a response never holds for want of paths: to each node some definite path isn't blocked
+abbrev pub SomePathIsUnblocked : Type 0
+SomePathIsUnblocked =
+    (net : Circuit) (s : List Trit) (n : ℕ) → IsWellFormed net → n < length net.nodes
+    → (p : Path) × IsFreePath net s n p
+
+-- the last limit of a node is v in {0, 1} exactly where every pair run ends with v there
+abbrev pub LastLimitIsEnd : Type 0
+LastLimitIsEnd =
+    (net : Circuit) (v1 vm v2 first middle last : List Trit) (n : ℕ) (v : Trit) → IsWellFormed net → n < length net.nodes
+    → IsMeet net v1 v2 vm → AreLimits net v1 vm v2 first middle last
+    → ((v ≢ X) × (value_at last n ≡ v)) ↔ EndsAt net v1 v2 n v

@@ -1,0 +1,13 @@
+pub mod Trit
+pub mod Circuit
+pub mod State
+pub mod Conduction
+pub mod Path
+pub mod Response
+pub mod Event
+pub mod PairRun
+pub mod Limits
+pub mod Wave
+pub mod Laws
+pub mod NetFault
+pub mod Search

@@ -1,0 +1,13 @@
+//! Laws of the definitions, each the contract of a function that does nothing.
+
+ghost use Rattle.ca_net.specs.Laws.{ResponseRises, LastLimitIsEnd};
+
+/// A state that is above another has responses above that one's.
+pub fn response_rises()
+    ensures { ResponseRises }
+{}
+
+/// The last limit of a node is 0 or 1 exactly where every pair run ends with it.
+pub fn last_limit_is_end()
+    ensures { LastLimitIsEnd }
+{}

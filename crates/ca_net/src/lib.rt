@@ -1,0 +1,33 @@
+//! Switch-level networks: values, nodes, devices and states, and the response of a node. The definitions of the model
+//! stand in specs/, from a trit to what every run of a network ends with.
+#![tactic(auto)]
+
+mod device;
+mod flat_net;
+mod laws;
+mod lists;
+mod marks;
+mod network;
+mod node;
+mod response;
+mod scale;
+mod search;
+mod state;
+mod trit;
+mod wave;
+
+pub use device::{Device, DeviceId, DeviceKind};
+pub use flat_net::{FlatNet, NetFault};
+pub use laws::{last_limit_is_end, response_rises};
+pub use lists::{DeviceList, NodeList};
+pub use marks::Marks;
+pub use network::Network;
+pub use node::{NodeId, NodeKind};
+pub use response::response_by_paths;
+pub use scale::{BRIDGE, INNER_NODE, INPUT, OUTPUT_NET, STRONG, WEAK};
+pub use state::State;
+pub use trit::{Trit, below, meet};
+pub use wave::Wave;
+
+#[cfg(test)]
+mod tests;

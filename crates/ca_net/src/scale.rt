@@ -1,0 +1,20 @@
+//! The scale of sizes and strengths, which stands here alone: each size of a storage node is at least 1 and below each
+//! strength of a device, and that is below the strength of an input node. Nothing else of these numbers is used.
+
+/// The size of an inner node of a cell.
+pub const INNER_NODE: u8 = 1;
+
+/// The size of an output net.
+pub const OUTPUT_NET: u8 = 2;
+
+/// The strength of a weak transistor, whose channel is longer than it is wide.
+pub const WEAK: u8 = 3;
+
+/// The strength of every other transistor.
+pub const STRONG: u8 = 4;
+
+/// The strength of a bridge, the device of a short.
+pub const BRIDGE: u8 = 5;
+
+/// The strength of an input node.
+pub const INPUT: u8 = 6;
