@@ -8,8 +8,12 @@ use Rattle.ca_net.specs.Conduction.{Links}
 use Rattle.ca_net.specs.Path.{Path, Root, Via, end_of, IsOn, IsPath, IsDefinite, strength_of, root_strength}
 use Rattle.ca_net.specs.Response.{IsBlocked}
 use Rattle.ca_net.proofs.StateLemmas.{storage_or_input}
-use Rattle.ca_net.proofs.ScaleLemmas.{strength_of-le, strength_below_input}
+use Rattle.ca_net.proofs.ScaleLemmas.{strength_below_input}
 use Rattle.ca_net.specs.Search.{IsInner}
+
+-- a device of a path is weaker than an input node
+device_below_input : (net : Circuit) → IsWellFormed net → (p : Path) (d : Device) (n : ℕ) → IsPath net (Via p d n) → d.strength < INPUT
+device_below_input net well_formed p d n ip = strength_below_input d (subst HasStrength ip.1.2 (well_formed.strengths ip.1.0 d ip.1.1))
 
 -- a path that isn't blocked has no input node but its root
 pub unblocked_inner : (net : Circuit) (s : List Trit) → IsWellFormed net → (p : Path) → IsPath net p → (IsBlocked net s p → ⊥) → IsInner net p
@@ -17,7 +21,7 @@ unblocked_inner net s well_formed (Root r) ip ub = tt
 unblocked_inner net s well_formed (Via p d n) ip ub = (
   λ e.
       let own : root_strength (kind_at net n) ≡ INPUT = ap root_strength e in
-      let weak : d.strength < INPUT = strength_below_input d (subst HasStrength ip.1.2 (well_formed.strengths ip.1.0 d ip.1.1)) in
+      let weak : d.strength < INPUT = device_below_input net well_formed p d n ip in
       ub (inr (record { path = Root n; is_path = ip.3; ends = refl; definite = tt; stronger = omega arith })),
   unblocked_inner net s well_formed p ip.0 (λ b. ub (inl b)),
 )
@@ -50,6 +54,6 @@ shortened net s well_formed (Via p d n) ip id = elim (storage_or_input net n) [
       }
   | inr e ↦
       let own : root_strength (kind_at net n) ≡ INPUT = ap root_strength e in
-      let most : strength_of net (Via p d n) ≤ INPUT = strength_of-le net well_formed (Via p d n) ip in
+      let weak : d.strength < INPUT = device_below_input net well_formed p d n ip in
       record { path = Root n; is_path = ip.3; definite = tt; inner = tt; ends = refl; strength = omega arith; within = λ m on. inl on }
 ]

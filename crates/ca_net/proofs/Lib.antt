@@ -1,11 +1,15 @@
 pub mod ScaleLemmas
 pub mod StateLemmas
 pub mod PathsRise
-pub mod FreePaths
+pub mod Hops
+pub mod Choices
+pub mod Levels
+pub mod NextNode
+pub mod Decided
+pub mod FreePath
 pub mod ResponseLaws
 pub mod InnerPaths
 pub mod Walks
-pub mod Hops
 pub mod SpreadTurns
 pub mod HopPaths
 pub mod Strongest

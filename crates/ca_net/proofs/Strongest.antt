@@ -16,7 +16,7 @@ use Rattle.ca_net.specs.Response.{HasStronger, IsBlocked}
 use Rattle.ca_net.specs.Search.{IsInner, Leads, Explores, HasDefinite, AreStrongest, AreStrongestFrom, RootReaches}
 use Rattle.std.proofs.lemmas.Option.{get_or_from_slice_get, slice_get-get_or}
 use Rattle.ca_net.proofs.Hops.{unmark}
-use Rattle.ca_net.proofs.ScaleLemmas.{strength_of-pos}
+use Rattle.ca_net.proofs.ScaleLemmas.{size_pos, strength_pos, input_pos}
 use Rattle.ca_net.proofs.InnerPaths.{unblocked_inner, shortened}
 use Rattle.ca_net.proofs.HopPaths.{Goes, leads_to, leads_from}
 
@@ -25,6 +25,18 @@ get_or_zeros n m = elim (dec_le (m + 1) n) [
   | yes lt ↦ get_or-replicate n m 0 0 (omega arith)
   | no ge ↦ get_or_past (replicate n 0) m 0 (subst (λ x. x ≤ m) (sym (length-replicate n 0)) (omega arith))
 ]
+
+-- each node gives at least 1
+root_strength-pos : (k : NodeKind) → HasSize k → 0 < root_strength k
+root_strength-pos Input h = input_pos
+root_strength-pos (Storage size) h = size_pos size h
+
+-- and each path has a strength of at least 1
+strength_of-pos : (net : Circuit) → IsWellFormed net → (p : Path) → IsPath net p → 0 < strength_of net p
+strength_of-pos net well_formed (Root r) h = root_strength-pos (kind_at net r) (well_formed.sizes r Input h)
+strength_of-pos net well_formed (Via p d n) h =
+    let a : 0 < strength_of net p = strength_of-pos net well_formed p h.0 in
+    let b : 0 < d.strength = strength_pos d (subst HasStrength h.1.2 (well_formed.strengths h.1.0 d h.1.1)) in omega arith
 
 pub root_within : (net : Circuit) (p : Path) → IsPath net p → root_of p < length net.nodes
 root_within net (Root r) h = h

@@ -5,8 +5,7 @@ use Rattle.ca_net.specs.declared.trit.Trit.TheVariants.{X}
 use Rattle.ca_net.specs.Circuit.{Circuit, IsWellFormed}
 use Rattle.ca_net.specs.Trit.{IsBelow}
 use Rattle.ca_net.specs.State.{IsStateBelow, value_at}
-use Rattle.ca_net.specs.Path.{Path}
-use Rattle.ca_net.specs.Response.{IsResponse, IsFreePath}
+use Rattle.ca_net.specs.Response.{IsResponse, HasUnblocked}
 use Rattle.ca_net.specs.PairRun.{EndsAt}
 use Rattle.ca_net.specs.Limits.{AreLimits, IsMeet}
 
@@ -19,8 +18,7 @@ ResponseRises =
 -- a response never holds for want of paths: to each node some definite path isn't blocked
 abbrev pub SomePathIsUnblocked : Type 0
 SomePathIsUnblocked =
-    (net : Circuit) (s : List Trit) (n : ℕ) → IsWellFormed net → n < length net.nodes
-    → (p : Path) × IsFreePath net s n p
+    (net : Circuit) (s : List Trit) (n : ℕ) → IsWellFormed net → n < length net.nodes → HasUnblocked net s n
 
 -- the last limit of a node is v in {0, 1} exactly where every pair run ends with v there
 abbrev pub LastLimitIsEnd : Type 0

@@ -54,8 +54,9 @@ pub record AreResponses (net : Circuit) (old new : List Trit) : Type 0 where
   pub responds : (n : ℕ) → n < length net.nodes → IsResponse net old n (value_at new n)
 
 -- a definite path to n that isn't blocked
-pub record IsFreePath (net : Circuit) (s : List Trit) (n : ℕ) (p : Path) : Type 0 where
-  pub is_path : IsPath net p
-  pub ends : end_of p ≡ n
-  pub definite : IsDefinite s p
-  pub unblocked : IsBlocked net s p → ⊥
+pub record HasUnblocked (net : Circuit) (s : List Trit) (n : ℕ) : Type 0 where
+  pub path : Path
+  pub is_path : IsPath net path
+  pub ends : end_of path ≡ n
+  pub definite : IsDefinite s path
+  pub unblocked : IsBlocked net s path → ⊥

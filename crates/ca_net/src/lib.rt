@@ -18,7 +18,7 @@ mod wave;
 
 pub use device::{Device, DeviceId, DeviceKind};
 pub use flat_net::{FlatNet, NetFault};
-pub use laws::{last_limit_is_end, response_rises};
+pub use laws::{last_limit_is_end, response_rises, some_path_is_unblocked};
 pub use lists::{DeviceList, NodeList};
 pub use marks::Marks;
 pub use network::Network;
