@@ -63,51 +63,51 @@ module _ (net : Circuit) (well_formed : IsWellFormed net) (s : List Trit) (kind 
   hop_path : (p : Path) (i next left : ℕ) → IsPath net p
       → (h : IsHop net s kind floor (marks_of (length net.nodes) p) (end_of p) (strength_of net p) i next left)
       → IsPath net (Via p h.device next)
-  hop_path p i next left ip h =
+  hop_path p i next left is_path h =
       let lt : i < length net.devices = slice_get_within net.devices i h.device h.is_device in
       let e : get_or net.devices i h.device ≡ h.device = get_or_from_slice_get net.devices i h.device h.device h.is_device in
       let off : IsOn next p → ⊥ = λ on.
-      let a : get_or (marks_of (length net.nodes) p) next false ≡ true = marked net p next ip on in
+      let a : get_or (marks_of (length net.nodes) p) next false ≡ true = marked net p next is_path on in
       let b : get_or (marks_of (length net.nodes) p) next false ≡ false = get_or_from_slice_get (marks_of (length net.nodes) p) next false false h.unmarked in cc in
-      (ip, (i, lt, e), h.links, links_within _ h.device (end_of p) next (named_at net i h.device well_formed h.is_device) h.links, off)
+      (is_path, (i, lt, e), h.links, links_within _ h.device (end_of p) next (named_at net i h.device well_formed h.is_device) h.links, off)
 
   -- where hops lead from the end of a path, a path that goes on leads
   path_of : (p : Path) (on : List Bool) (at k m l : ℕ) → IsPath net p → Goes net s kind floor p
       → marks_of (length net.nodes) p ≡ on → end_of p ≡ at → strength_of net p ≡ k
       → Leads net s kind floor on at k m l → GoesOn net s kind floor (root_of p) m l
-  path_of p on at k m l ip go eo ea ek (Here e f) =
-      record { path = p; is_path = ip; goes = go; from = refl; ends = ea ∙ e; strength = ek ∙ f }
-  path_of p on at k m l ip go eo ea ek (Onward i next left hop leads) =
+  path_of p on at k m l is_path goes eo ea ek (Here e f) =
+      record { path = p; is_path = is_path; goes = goes; from = refl; ends = ea ∙ e; strength = ek ∙ f }
+  path_of p on at k m l is_path goes eo ea ek (Onward i next left hop leads) =
       let h : IsHop net s kind floor (marks_of (length net.nodes) p) (end_of p) (strength_of net p) i next left =
       subst (λ x. IsHop net s kind floor x (end_of p) (strength_of net p) i next left) (sym eo)
       (subst (λ x. IsHop net s kind floor on x (strength_of net p) i next left) (sym ea)
       (subst (λ x. IsHop net s kind floor on at x i next left) (sym ek) hop)) in
       let st : strength_of net (Via p h.device next) ≡ left = sym h.strength in
       path_of (Via p h.device next) (slice_set on next true) next left m l
-      (hop_path p i next left ip h)
-      (go, h.storage, h.passes, subst (λ x. get_or floor next 0 ≤ x) (sym st) h.allowed)
+      (hop_path p i next left is_path h)
+      (goes, h.storage, h.passes, subst (λ x. get_or floor next 0 ≤ x) (sym st) h.allowed)
       (ap (λ x. set x next true) eo) refl st leads
 
   -- each path that goes is followed by the search
   followed : (p : Path) → IsPath net p → Goes net s kind floor p → (m l : ℕ)
       → Leads net s kind floor (marks_of (length net.nodes) p) (end_of p) (strength_of net p) m l
       → Leads net s kind floor (marks_of (length net.nodes) (Root (root_of p))) (root_of p) (strength_of net (Root (root_of p))) m l
-  followed (Root r) ip go m l leads = leads
-  followed (Via p d n) ip go m l leads =
-      followed p ip.0 go.0 m l (Onward ip.1.0 n (strength_of net (Via p d n)) (record {
+  followed (Root r) is_path goes m l leads = leads
+  followed (Via p d n) is_path goes m l leads =
+      followed p is_path.0 goes.0 m l (Onward is_path.1.0 n (strength_of net (Via p d n)) (record {
         device = d;
-        is_device = slice_get-get_or net.devices ip.1.0 d ip.1.1 ∙ ap Some ip.1.2;
-        links = ip.2;
-        storage = go.1;
-        unmarked = slice_get-get_or _ n false (subst (λ x. n < x) (sym (length-marks_of (length net.nodes) p)) ip.3) ∙ ap Some (unmarked net p n ip.4 ip.3);
-        passes = go.2;
+        is_device = slice_get-get_or net.devices is_path.1.0 d is_path.1.1 ∙ ap Some is_path.1.2;
+        links = is_path.2;
+        storage = goes.1;
+        unmarked = slice_get-get_or _ n false (subst (λ x. n < x) (sym (length-marks_of (length net.nodes) p)) is_path.3) ∙ ap Some (unmarked net p n is_path.4 is_path.3);
+        passes = goes.2;
         strength = refl;
-        allowed = go.3;
+        allowed = goes.3;
       }) leads)
 
   pub leads_to : (p : Path) → IsPath net p → Goes net s kind floor p
       → Leads net s kind floor (set (replicate (length net.nodes) false) (root_of p) true) (root_of p) (strength_of net (Root (root_of p))) (end_of p) (strength_of net p)
-  leads_to p ip go = followed p ip go (end_of p) (strength_of net p) (Here refl refl)
+  leads_to p is_path goes = followed p is_path goes (end_of p) (strength_of net p) (Here refl refl)
 
   pub leads_from : (root m l : ℕ) → root < length net.nodes → get_or floor root 0 ≤ strength_of net (Root root)
       → Leads net s kind floor (set (replicate (length net.nodes) false) root true) root (strength_of net (Root root)) m l

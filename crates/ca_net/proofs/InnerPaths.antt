@@ -13,17 +13,17 @@ use Rattle.ca_net.specs.Search.{IsInner}
 
 -- a device of a path is weaker than an input node
 device_below_input : (net : Circuit) → IsWellFormed net → (p : Path) (d : Device) (n : ℕ) → IsPath net (Via p d n) → d.strength < INPUT
-device_below_input net well_formed p d n ip = strength_below_input d (subst HasStrength ip.1.2 (well_formed.strengths ip.1.0 d ip.1.1))
+device_below_input net well_formed p d n is_path = strength_below_input d (subst HasStrength is_path.1.2 (well_formed.strengths is_path.1.0 d is_path.1.1))
 
 -- a path that isn't blocked has no input node but its root
 pub unblocked_inner : (net : Circuit) (s : List Trit) → IsWellFormed net → (p : Path) → IsPath net p → (IsBlocked net s p → ⊥) → IsInner net p
-unblocked_inner net s well_formed (Root r) ip ub = tt
-unblocked_inner net s well_formed (Via p d n) ip ub = (
+unblocked_inner net s well_formed (Root r) is_path unblocked = tt
+unblocked_inner net s well_formed (Via p d n) is_path unblocked = (
   λ e.
       let own : root_strength (kind_at net n) ≡ INPUT = ap root_strength e in
-      let weak : d.strength < INPUT = device_below_input net well_formed p d n ip in
-      ub (inr (record { path = Root n; is_path = ip.3; ends = refl; definite = tt; stronger = omega arith })),
-  unblocked_inner net s well_formed p ip.0 (λ b. ub (inl b)),
+      let weak : d.strength < INPUT = device_below_input net well_formed p d n is_path in
+      unblocked (inr (record { path = Root n; is_path = is_path.3; ends = refl; definite = tt; stronger = omega arith })),
+  unblocked_inner net s well_formed p is_path.0 (λ b. unblocked (inl b)),
 )
 
 -- a path that is as good as p, and has no input node but its root
@@ -37,16 +37,16 @@ pub record Shortened (net : Circuit) (s : List Trit) (p : Path) : Type 0 where
   pub within : (m : ℕ) → IsOn m path → IsOn m p
 
 pub shortened : (net : Circuit) (s : List Trit) → IsWellFormed net → (p : Path) → IsPath net p → IsDefinite s p → Shortened net s p
-shortened net s well_formed (Root r) ip id =
-    record { path = Root r; is_path = ip; definite = tt; inner = tt; ends = refl; strength = omega arith; within = λ m on. on }
-shortened net s well_formed (Via p d n) ip id = elim (storage_or_input net n) [
+shortened net s well_formed (Root r) is_path definite =
+    record { path = Root r; is_path = is_path; definite = tt; inner = tt; ends = refl; strength = omega arith; within = λ m on. on }
+shortened net s well_formed (Via p d n) is_path definite = elim (storage_or_input net n) [
   | inl st ↦
-      let q = shortened net s well_formed p ip.0 id.0 in
+      let q = shortened net s well_formed p is_path.0 definite.0 in
       let le : strength_of net p ≤ strength_of net q.path = q.strength in
       record {
         path = Via q.path d n;
-        is_path = (q.is_path, ip.1, subst (λ m. Links d m n) (sym q.ends) ip.2, ip.3, λ on. ip.4 (q.within n on));
-        definite = (q.definite, id.1);
+        is_path = (q.is_path, is_path.1, subst (λ m. Links d m n) (sym q.ends) is_path.2, is_path.3, λ on. is_path.4 (q.within n on));
+        definite = (q.definite, definite.1);
         inner = (st, q.inner);
         ends = refl;
         strength = omega arith;
@@ -54,6 +54,6 @@ shortened net s well_formed (Via p d n) ip id = elim (storage_or_input net n) [
       }
   | inr e ↦
       let own : root_strength (kind_at net n) ≡ INPUT = ap root_strength e in
-      let weak : d.strength < INPUT = device_below_input net well_formed p d n ip in
-      record { path = Root n; is_path = ip.3; definite = tt; inner = tt; ends = refl; strength = omega arith; within = λ m on. inl on }
+      let weak : d.strength < INPUT = device_below_input net well_formed p d n is_path in
+      record { path = Root n; is_path = is_path.3; definite = tt; inner = tt; ends = refl; strength = omega arith; within = λ m on. inl on }
 ]

@@ -110,10 +110,10 @@ module _ (net : Circuit) (s : List Trit) (k : ℕ) (on : List Bool) (level : IsL
   all_ends : ((r : ℕ) → r < length net.nodes → r < length net.nodes → k ≤ root_strength (kind_at net r) → IsMarked on r)
       → ((i : ℕ) → i < length net.devices → (d : Device) (m n : ℕ) → slice_get net.devices i ≡ Some d → Links d m n → IsDone d m n)
       → (p : Path) → IsPath net p → IsDefinite s p → k ≤ strength_of net p → IsMarked on (end_of p)
-  all_ends roots devices (Root r) ip id le = roots r ip ip le
-  all_ends roots devices (Via p d n) ip id le =
-      devices ip.1.0 ip.1.1 d (end_of p) n (slice_get-get_or net.devices ip.1.0 d ip.1.1 ∙ ap Some ip.1.2) ip.2
-      (all_ends roots devices p ip.0 id.0 (omega arith)) ip.3 id.1 (omega arith)
+  all_ends roots devices (Root r) is_path definite le = roots r is_path is_path le
+  all_ends roots devices (Via p d n) is_path definite le =
+      devices is_path.1.0 is_path.1.1 d (end_of p) n (slice_get-get_or net.devices is_path.1.0 d is_path.1.1 ∙ ap Some is_path.1.2) is_path.2
+      (all_ends roots devices p is_path.0 definite.0 (omega arith)) is_path.3 definite.1 (omega arith)
 
   -- a node that may be marked, or all are that have a definite path of strength k or more
   pub extends_or_full : Extends net s k on ⊎ ((p : Path) → IsPath net p → IsDefinite s p → k ≤ strength_of net p → IsMarked on (end_of p))

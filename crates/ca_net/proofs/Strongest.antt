@@ -69,19 +69,19 @@ module _ (net : Circuit) (well_formed : IsWellFormed net) (s : List Trit) where
 
   pub strongest_none : AreStrongestFrom net s 0 zeros
   strongest_none = record {
-    above = λ p ip inner id lt. absurd (omega arith);
+    above = λ p is_path inner definite lt. absurd (omega arith);
     reached = λ m. inl (get_or_zeros (length net.nodes) m);
   }
 
   pub strongest_more : (i : ℕ) (old new : List ℕ) → i < length net.nodes → AreStrongestFrom net s i old
       → Explores net s Definite zeros (set unmarked i true) i (strength_of net (Root i)) old new → AreStrongestFrom net s (i + 1) new
   strongest_more i old new lt h e = record {
-    above = λ p ip inner id le. elim (ℕ_discrete (root_of p) i) [
+    above = λ p is_path inner definite le. elim (ℕ_discrete (root_of p) i) [
       | yes eq ↦ e.reached (end_of p) (strength_of net p)
           (subst (λ r. Leads net s Definite zeros (set unmarked r true) r (strength_of net (Root r)) (end_of p) (strength_of net p)) eq
-          (leads_to net well_formed s Definite zeros p ip (definite_goes p inner id)))
+          (leads_to net well_formed s Definite zeros p is_path (definite_goes p inner definite)))
       | no ne ↦
-          let a : strength_of net p ≤ get_or old (end_of p) 0 = h.above p ip inner id (omega arith) in
+          let a : strength_of net p ≤ get_or old (end_of p) 0 = h.above p is_path inner definite (omega arith) in
           let b : get_or old (end_of p) 0 ≤ get_or new (end_of p) 0 = e.kept (end_of p) in omega arith
     ];
     reached = λ m. elim (e.only m) [
@@ -145,9 +145,9 @@ module _ (net : Circuit) (well_formed : IsWellFormed net) (s : List Trit) where
     goes_potential (Via p d n) h = (goes_potential p h.0, h.2)
 
     unblocked_goes : (p : Path) → IsInner net p → IsPotential s p → (IsBlocked net s p → ⊥) → Goes net s Potential strongest p
-    unblocked_goes (Root r) inner h ub = floor_kept r _ ub
-    unblocked_goes (Via p d n) inner h ub =
-        (unblocked_goes p inner.1 h.0 (λ b. ub (inl b)), inner.0, h.1, floor_kept n _ (λ b. ub (inr b)))
+    unblocked_goes (Root r) inner h unblocked = floor_kept r _ unblocked
+    unblocked_goes (Via p d n) inner h unblocked =
+        (unblocked_goes p inner.1 h.0 (λ b. unblocked (inl b)), inner.0, h.1, floor_kept n _ (λ b. unblocked (inr b)))
 
     blocked_at_root : (p : Path) → HasStronger net s (root_of p) (strength_of net (Root (root_of p))) → IsBlocked net s p
     blocked_at_root (Root r) b = b

@@ -35,17 +35,17 @@ module _ (net : Circuit) (s : List Trit) (kind : PathKind) (floor : List ℕ) wh
     pub strength : l ≤ strength_of net path
 
   cut_at : (p : Path) (n : ℕ) → IsOn n p → IsPath net p → Goes net s kind floor p → AsGood (root_of p) n (strength_of net p)
-  cut_at (Root r) n on ip go = record { path = Root r; is_path = ip; goes = go; from = refl; ends = sym on; strength = omega arith }
-  cut_at (Via p d m) n (inl e) ip go = record { path = Via p d m; is_path = ip; goes = go; from = refl; ends = sym e; strength = omega arith }
-  cut_at (Via p d m) n (inr on) ip go =
-      let q = cut_at p n on ip.0 go.0 in
+  cut_at (Root r) n on is_path goes = record { path = Root r; is_path = is_path; goes = goes; from = refl; ends = sym on; strength = omega arith }
+  cut_at (Via p d m) n (inl e) is_path goes = record { path = Via p d m; is_path = is_path; goes = goes; from = refl; ends = sym e; strength = omega arith }
+  cut_at (Via p d m) n (inr on) is_path goes =
+      let q = cut_at p n on is_path.0 goes.0 in
       let le : strength_of net p ≤ strength_of net q.path = q.strength in
       record { path = q.path; is_path = q.is_path; goes = q.goes; from = q.from; ends = q.ends; strength = omega arith }
 
   pub path_of_walk : (w : Path) → IsWalk net w → Goes net s kind floor w → AsGood (root_of w) (end_of w) (strength_of net w)
-  path_of_walk (Root r) iw go = record { path = Root r; is_path = iw; goes = go; from = refl; ends = refl; strength = omega arith }
-  path_of_walk (Via w d n) iw go =
-      let q = path_of_walk w iw.0 go.0 in
+  path_of_walk (Root r) is_walk goes = record { path = Root r; is_path = is_walk; goes = goes; from = refl; ends = refl; strength = omega arith }
+  path_of_walk (Via w d n) is_walk goes =
+      let q = path_of_walk w is_walk.0 goes.0 in
       let le : strength_of net w ≤ strength_of net q.path = q.strength in
       elim (is_on q.path n) [
         | inl on ↦
@@ -53,11 +53,11 @@ module _ (net : Circuit) (s : List Trit) (kind : PathKind) (floor : List ℕ) wh
             let up : strength_of net q.path ≤ strength_of net r.path = r.strength in
             record { path = r.path; is_path = r.is_path; goes = r.goes; from = r.from ∙ q.from; ends = r.ends; strength = omega arith }
         | inr off ↦
-            let floor_n : get_or floor n 0 ≤ min (strength_of net w) d.strength = go.3 in
+            let floor_n : get_or floor n 0 ≤ min (strength_of net w) d.strength = goes.3 in
             record {
               path = Via q.path d n;
-              is_path = (q.is_path, iw.1, subst (λ m. Links d m n) (sym q.ends) iw.2, iw.3, off);
-              goes = (q.goes, go.1, go.2, omega arith);
+              is_path = (q.is_path, is_walk.1, subst (λ m. Links d m n) (sym q.ends) is_walk.2, is_walk.3, off);
+              goes = (q.goes, goes.1, goes.2, omega arith);
               from = q.from;
               ends = refl;
               strength = omega arith;
