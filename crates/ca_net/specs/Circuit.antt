@@ -30,9 +30,13 @@ abbrev pub HasSize : NodeKind → Type 0
 HasSize Input = Unit {0}
 HasSize (Storage size) = (size ≡ INNER_NODE) ⊎ (size ≡ OUTPUT_NET)
 
--- a device has the strength of a weak transistor, of another transistor, or of a bridge
+-- the strength is that of a weak transistor, of another transistor, or of a bridge
+abbrev pub IsStrength : ℕ → Type 0
+IsStrength strength = (strength ≡ WEAK) ⊎ ((strength ≡ STRONG) ⊎ (strength ≡ BRIDGE))
+
+-- the device has such a strength
 abbrev pub HasStrength : Device → Type 0
-HasStrength d = (d.strength ≡ WEAK) ⊎ ((d.strength ≡ STRONG) ⊎ (d.strength ≡ BRIDGE))
+HasStrength d = IsStrength d.strength
 
 -- each node that the device names is among the first `count`
 abbrev pub NamesWithin : ℕ → Device → Type 0
