@@ -1,5 +1,5 @@
 -- The places of names in a list of files.
-use Rattle.std.proofs.Common.{inl, inr, ◌≡◌, ℕ, ◌<◌, ◌≤◌, List, [], length, Option, Some, None, IsSome, IsNone, rules, refl, ap, sym, ◌∙◌, arith, subst, ◌+◌, ◌-◌, ◌∷◌, ◌++◌, take, drop, zero, suc, Bool, true, false, cond, nat_lt, nat_eq, length-append}
+use Rattle.std.proofs.Common.{inl, inr, ◌≡◌, ℕ, ◌<◌, ◌≤◌, List, [], length, Option, Some, None, IsSome, IsNone, rules, refl, ap, sym, ◌∙◌, arith, subst, min, ◌+◌, ◌-◌, ◌∷◌, ◌++◌, take, drop, zero, suc, Bool, true, false, cond, nat_lt, nat_eq, length-append}
 use Rattle.std.specs.List.{slice_get, position, position_or_len}
 use Rattle.std.specs.Option.{option_map}
 use Rattle.std.specs.Str.{bytes_eq}
@@ -71,9 +71,10 @@ opens_file files name place named = record {
   there = λ told is_told. subst (λ (t : Files). IsSome (t name)) (same_Some _ _ is_told) (there_at files name place named);
 }
 
--- a name that the files lack can't have a file
-pub not_both : (files : List File) (name : List ℕ) → IsNone (files_of files name) → IsSome (files_of files name) → ⊥
-not_both files name lacks there = apart (files_of files name) lacks there
+-- a name that has a place isn't missing
+pub not_missing : (files : List File) (name : List ℕ) (place : ℕ) → place_named files name ≡ Some place
+    → IsNone (files_of files name) → ⊥
+not_missing files name place named lacks = apart (files_of files name) lacks (there_at files name place named)
   where
     apart : (held : Option (List ℕ)) → IsNone held → IsSome held → ⊥
     apart None none some = cc
@@ -87,6 +88,24 @@ copied_front put rest read all place n copied same filled =
     take-append-le n put rest (omega arith) ∙ take_all n put (omega arith) ∙ copied
     ∙ ap (λ k. take k (drop place read)) range ∙ ap (λ r. take n (drop place r)) same
 
+-- the file that is told to be open is the one at its place in the list
+pub is_open_file : (files : List File) (reading : Option OpenFile) (spot : OpenFile) (file : File)
+    → reading ≡ Some spot → IsOpenWithin files spot → slice_get files spot.file ≡ Some file
+    → (name : List ℕ) (place : ℕ) → opened_of files reading ≡ Reading name place
+    → (file.name ≡ name) × (spot.place ≡ place) × (files_of files name ≡ Some file.bytes)
+is_open_file files reading spot file is_open within there name place opened =
+    let same : Reading file.name spot.place ≡ Reading name place =
+        sym (ap (opened_of files) is_open ∙ ap (reading_of spot.place) there) ∙ opened in
+    let same_name : file.name ≡ name = name_of _ _ _ _ same in
+    (same_name, place_of _ _ _ _ same,
+      ap (files_of files) (sym same_name) ∙ ap (bytes_at files) (within.first file there)
+        ∙ ap (option_map (λ (f : File). f.bytes)) there)
+  where
+    name_of : (a b : List ℕ) (i j : ℕ) → Reading a i ≡ Reading b j → a ≡ b
+    name_of a b i j same = cc
+    place_of : (a b : List ℕ) (i j : ℕ) → Reading a i ≡ Reading b j → i ≡ j
+    place_of a b i j same = cc
+
 -- what a read of the open file gives
 pub reads_on : (files : List File) (reading : Option OpenFile) (spot : OpenFile) (file : File) (into : List ℕ) (n : ℕ)
     → reading ≡ Some spot
@@ -97,34 +116,38 @@ pub reads_on : (files : List File) (reading : Option OpenFile) (spot : OpenFile)
     → take n into ≡ take n (drop spot.place file.bytes)
     → (n ≡ 0 → 0 < length into → length file.bytes ≤ spot.place)
     → ReadsOn n into (Some (files_of files)) (opened_of files reading)
-    (opened_of files (Some (record { file = spot.file; place = spot.place + n })))
+        (opened_of files (Some (record { file = spot.file; place = spot.place + n })))
 reads_on files reading spot file into n is_open within there fits left got at_end =
     let new : Opened = opened_of files (Some (record { file = spot.file; place = spot.place + n })) in
     let moved : new ≡ Reading file.name (spot.place + n) = ap (reading_of (spot.place + n)) there in
-    let old_is : opened_of files reading ≡ Reading file.name spot.place =
-    ap (opened_of files) is_open ∙ ap (reading_of spot.place) there in
-    let held : files_of files file.name ≡ Some file.bytes =
-    ap (bytes_at files) (within.first file there) ∙ ap (option_map (λ (f : File). f.bytes)) there in
     let gives : GivesNext n into file.name spot.place file.bytes new =
-    record { moved = moved; within = left; got = got; at_end = at_end } in
+        record { moved = moved; within = left; got = got; at_end = at_end } in
     record {
       fits = fits;
       in_reading = rw moved tt;
-      next = λ name place old_at told is_told bytes is_bytes.
-          let same_name : file.name ≡ name = reading_name _ _ _ _ (sym old_is ∙ old_at) in
-          let same_place : spot.place ≡ place = reading_place _ _ _ _ (sym old_is ∙ old_at) in
+      next = λ name place opened told is_told bytes is_bytes.
+          let same = is_open_file files reading spot file is_open within there name place opened in
           let same_bytes : file.bytes ≡ bytes =
-          same_Some _ _ (sym held ∙ ap (files_of files) same_name ∙ ap (λ (t : Files). t name) (same_Some _ _ is_told) ∙ is_bytes) in
+              same_Some _ _ (sym same.2 ∙ ap (λ (t : Files). t name) (same_Some _ _ is_told) ∙ is_bytes) in
           subst (λ b. GivesNext n into name place b new) same_bytes
-          (subst (λ p. GivesNext n into name p file.bytes new) same_place
-          (subst (λ m. GivesNext n into m spot.place file.bytes new) same_name gives));
+            (subst (λ p. GivesNext n into name p file.bytes new) same.1
+              (subst (λ m. GivesNext n into m spot.place file.bytes new) same.0 gives));
     }
-  where
-    reading_name : (a b : List ℕ) (i j : ℕ) → Reading a i ≡ Reading b j → a ≡ b
-    reading_name a b i j same = cc
 
-    reading_place : (a b : List ℕ) (i j : ℕ) → Reading a i ≡ Reading b j → i ≡ j
-    reading_place a b i j same = cc
+-- and how much it gives
+pub gives_up_to : (files : List File) (reading : Option OpenFile) (spot : OpenFile) (file : File) (n want piece : ℕ)
+    → reading ≡ Some spot
+    → IsOpenWithin files spot
+    → slice_get files spot.file ≡ Some file
+    → n ≡ min (min (length file.bytes - spot.place) want) piece
+    → (name : List ℕ) (place : ℕ) → opened_of files reading ≡ Reading name place
+    → (bytes : List ℕ) → files_of files name ≡ Some bytes
+    → n ≡ min (min (length bytes - place) want) piece
+gives_up_to files reading spot file n want piece is_open within there gives name place opened bytes is_bytes =
+    let same = is_open_file files reading spot file is_open within there name place opened in
+    let same_bytes : file.bytes ≡ bytes = same_Some _ _ (sym same.2 ∙ is_bytes) in
+    gives ∙ ap (λ b. min (min (length b - spot.place) want) piece) same_bytes
+      ∙ ap (λ p. min (min (length bytes - p) want) piece) same.1
 
 -- what is None isn't there
 pub none_is_not_some : (held : Option (List ℕ)) → held ≡ None → IsSome held → ⊥

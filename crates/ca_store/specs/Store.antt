@@ -1,6 +1,6 @@
 -- What a store of files and a sink of bytes mean to those who call them.
 use Rattle.std.specs.Prelude.{◌≡◌, ◌<◌, ◌≤◌, ℕ, ◌+◌, ◌-◌, ◌^◌, List, [], ◌++◌, length, take, drop}
-use Rattle.std.specs.Prelude.{Option, Some, None, IsSome, IsNone, IsSomeAnd, Result, OnOk}
+use Rattle.std.specs.Prelude.{Option, Some, None, IsSome, IsNone, IsSomeAnd, Result, IsErr, OnOk, OnErr}
 use Rattle.std.specs.Option.{ForSome}
 
 -- what names stand for: the bytes of the file, or None where there is no file of the name
@@ -52,6 +52,11 @@ MayHave files name = ForSome files (λ told. IsSome (told name))
 -- the files are told, and none has this name
 abbrev pub Lacks : Option Files → List ℕ → Type 0
 Lacks files name = IsSomeAnd files (λ told. IsNone (told name))
+
+-- an open of a name that the told files lack fails and counts no fault, and any other open fails only where the count rises
+pub record FailsAtMissing {T E : Type 0} (result : Result T E) (files : Option Files) (name : List ℕ) (before after : ℕ) : Type 0 where
+  pub missing : Lacks files name → IsErr result × (after ≡ before)
+  pub cause : MayHave files name → OnErr result (Rose before after)
 
 -- after the file of this name was opened: it may be there, and where the files are told it is open at its start
 pub record OpensFile (files : Option Files) (name : List ℕ) (opened : Opened) : Type 0 where

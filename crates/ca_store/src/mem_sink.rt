@@ -1,7 +1,5 @@
 //! A sink in memory, which fails where it is told to.
-ghost use Rattle.std.specs.Prelude.{◌≡◌, ◌≤◌, ◌<◌, ◌-◌, ◌^◌, ◌↔◌, ◌⊎◌, ℕ, [], length, min, Some, IfOk, OnErr, IsErr, Contains, vec_len, vec_capacity};
-ghost use Rattle.ca_store.specs.Store.{Rose, KeepsCount, TakesFirst};
-ghost use Rattle.ca_store.specs.Memory.{next_number};
+ghost use Rattle.std.specs.Prelude.{◌≤◌, ◌<◌, ◌^◌, vec_len, vec_capacity};
 
 use crate::fail_list::{FailList, StoreCall};
 use crate::sink::Sink;
@@ -23,15 +21,16 @@ pub struct MemSink {
 }
 
 impl MemSink {
-    ghost use Rattle.ca_store.specs.MemSink.{room_of, fail_of, writes_of};
+    ghost use Rattle.std.specs.Prelude.{◌≡◌, [], IfOk};
+    ghost use Rattle.ca_store.specs.MemSink.{held_by, room_of, fail_of, writes_of, faults_of};
 
     /// A sink that holds nothing, with memory for `room` bytes, which is all that it ever takes.
     pub fn new(alloc: Global, room: usize, fail: FailList) -> Result<Self, NoMemory>
-        ensures bytes { IfOk result (λ sink. ⟦<MemSink as Sink>⟧.bytes sink ≡ Some []) }
+        ensures bytes { IfOk result (λ sink. held_by sink ≡ []) }
         ensures room { IfOk result (λ sink. room_of sink ≡ room) }
         ensures fail { IfOk result (λ sink. fail_of sink ≡ fail) }
         ensures writes { IfOk result (λ sink. writes_of sink ≡ 0) }
-        ensures faults { IfOk result (λ sink. ⟦<MemSink as Sink>⟧.faults sink ≡ 0) }
+        ensures faults { IfOk result (λ sink. faults_of sink ≡ 0) }
     {
         Ok(MemSink {
             bytes: Vec::with_capacity(alloc, room)?,
@@ -44,20 +43,31 @@ impl MemSink {
 
     /// The bytes that it holds.
     pub fn bytes(&self) -> &[u8]
-        ensures { ⟦<MemSink as Sink>⟧.bytes self.now ≡ Some result.now }
+        ensures { result.now ≡ held_by self.now }
     {
         &self.bytes
     }
 }
 
 impl Sink for MemSink {
-    ghost bytes = { λ sink. Some sink.bytes.items };
+    ghost use Rattle.std.specs.Prelude.{◌≡◌, Some, IfOk, OnErr};
+    ghost use Rattle.ca_store.specs.Store.{Rose, KeepsCount, TakesFirst};
+    ghost use Rattle.ca_store.specs.MemSink.{held_by, faults_of, WritesExactly};
 
-    ghost faults = { λ sink. sink.faults };
+    ghost bytes = { λ sink. Some (held_by sink) };
+
+    ghost faults = { λ sink. faults_of sink };
 
     ghost bounded = { λ sink. sink.in_range };
 
-    fn write(&mut self, from: &[u8]) -> Result<usize, Failed> {
+    fn write(&mut self, from: &[u8]) -> Result<usize, Failed>
+        ensures ok { IfOk result (λ n.
+            TakesFirst n from.now (Some (held_by self.old)) (Some (held_by self.new))) }
+        ensures err { OnErr result (held_by self.new ≡ held_by self.old) }
+        ensures cause { OnErr result (Rose (faults_of self.old) (faults_of self.new)) }
+        ensures count { KeepsCount result (faults_of self.old) (faults_of self.new) }
+        ensures exact { WritesExactly from.now result self.old self.new }
+    {
         let faults = self.faults;
         self.writes = next(self.writes);
         let taken = from.len().min(self.room - self.bytes.len());

@@ -1,8 +1,7 @@
 //! A store of files in memory, which fails where it is told to.
-ghost use Rattle.std.specs.Prelude.{◌≡◌, ◌≤◌, ◌<◌, ◌+◌, ◌-◌, ◌^◌, ◌↔◌, ◌⊎◌, ℕ, List, length, min, Some, IfOk, OnOk, OnErr, IsErr, IsNone, Contains};
+ghost use Rattle.std.specs.Prelude.{◌<◌, ◌^◌};
 ghost use Rattle.std.specs.Option.{ForSome};
-ghost use Rattle.ca_store.specs.Store.{Nothing, IsReading, Rose, KeepsCount, MayHave, Lacks, OpensFile, ReadsOn};
-ghost use Rattle.ca_store.specs.Memory.{files_of, opened_of, next_number, IsOpenWithin};
+ghost use Rattle.ca_store.specs.Memory.{IsOpenWithin};
 
 use crate::fail_list::{FailList, StoreCall};
 use crate::file_map::FileMap;
@@ -35,7 +34,10 @@ struct OpenFile {
 }
 
 impl MemStore {
-    ghost use Rattle.ca_store.specs.MemStore.{settings_of, calls_of};
+    ghost use Rattle.std.specs.Prelude.{◌≡◌, ◌<◌, IfOk};
+    ghost use Rattle.ca_store.specs.Store.{Nothing};
+    ghost use Rattle.ca_store.specs.Memory.{files_of};
+    ghost use Rattle.ca_store.specs.MemStore.{settings_of, calls_of, told_by, opened_by, faults_of};
 
     /// A store of these files, with nothing open. A read gives up to `piece` bytes. `room` is the number of bytes that
     /// files in writing may fill.
@@ -48,12 +50,13 @@ impl MemStore {
     ) -> Result<Self, NoMemory>
         requires { 0 < piece }
 
-        ensures files { IfOk result (λ store. ⟦<MemStore as Store>⟧.files store ≡ Some (files_of files)) }
+        ensures files { IfOk result (λ store. told_by store ≡ files_of files) }
+        ensures closed { IfOk result (λ store. opened_by store ≡ Nothing) }
+        ensures faults { IfOk result (λ store. faults_of store ≡ 0) }
         ensures settings { IfOk result (λ store.
             settings_of store ≡ record { piece = piece; room = room; fail = fail }) }
-        ensures calls { IfOk result (λ store. calls_of store ≡ record { opens = 0; reads = 0; closes = 0 }) }
-        ensures faults { IfOk result (λ store. ⟦<MemStore as Store>⟧.faults store ≡ 0) }
-        ensures closed { IfOk result (λ store. ⟦<MemStore as Store>⟧.opened store ≡ Nothing) }
+        ensures calls { IfOk result (λ store.
+            calls_of store ≡ record { opens = 0; reads = 0; closes = 0 }) }
     {
         Ok(MemStore {
             files,
@@ -70,17 +73,31 @@ impl MemStore {
 }
 
 impl Store for MemStore {
-    ghost use Rattle.ca_store.specs.MemStore.{settings_of, calls_of};
+    ghost use Rattle.std.specs.Prelude.{◌≡◌, Some, IfOk, OnOk, OnErr};
+    ghost use Rattle.ca_store.specs.Store.{Nothing, IsReading, Rose, KeepsCount, FailsAtMissing};
+    ghost use Rattle.ca_store.specs.Store.{OpensFile, ReadsOn};
+    ghost use Rattle.ca_store.specs.MemStore.{told_by, opened_by, faults_of};
+    ghost use Rattle.ca_store.specs.MemStore.{OpensExactly, ReadsExactly, ClosesExactly};
 
-    ghost files = { λ store. Some (files_of store.files) };
+    ghost files = { λ store. Some (told_by store) };
 
-    ghost opened = { λ store. opened_of store.files store.reading };
+    ghost opened = { λ store. opened_by store };
 
-    ghost faults = { λ store. store.faults };
+    ghost faults = { λ store. faults_of store };
 
     ghost bounded = { λ store. store.in_range };
 
-    fn open(&mut self, name: &str) -> Result<(), Failed> {
+    fn open(&mut self, name: &str) -> Result<(), Failed>
+        requires { opened_by self.old ≡ Nothing }
+
+        ensures ok { OnOk result (OpensFile (Some (told_by self.old)) name.now (opened_by self.new)) }
+        ensures err { OnErr result (opened_by self.new ≡ Nothing) }
+        ensures kept { told_by self.new ≡ told_by self.old }
+        ensures cause { FailsAtMissing result (Some (told_by self.old)) name.now
+            (faults_of self.old) (faults_of self.new) }
+        ensures count { KeepsCount result (faults_of self.old) (faults_of self.new) }
+        ensures exact { OpensExactly name.now result self.old self.new }
+    {
         let faults = self.faults;
         self.opens = next(self.opens);
         let Some(file) = self.files.place_of(name.as_bytes()) else {
@@ -94,7 +111,17 @@ impl Store for MemStore {
         Ok(())
     }
 
-    fn read(&mut self, into: &mut [u8]) -> Result<usize, Failed> {
+    fn read(&mut self, into: &mut [u8]) -> Result<usize, Failed>
+        requires { IsReading (opened_by self.old) }
+
+        ensures ok { IfOk result (λ n.
+            ReadsOn n into.new (Some (told_by self.old)) (opened_by self.old) (opened_by self.new)) }
+        ensures err { OnErr result (opened_by self.new ≡ Nothing) }
+        ensures kept { told_by self.new ≡ told_by self.old }
+        ensures cause { OnErr result (Rose (faults_of self.old) (faults_of self.new)) }
+        ensures count { KeepsCount result (faults_of self.old) (faults_of self.new) }
+        ensures exact { ReadsExactly into.old result self.old self.new }
+    {
         let faults = self.faults;
         self.reads = next(self.reads);
         let Some(spot) = self.reading else {
@@ -115,7 +142,15 @@ impl Store for MemStore {
         Ok(n)
     }
 
-    fn close(&mut self) -> Result<(), Failed> {
+    fn close(&mut self) -> Result<(), Failed>
+        requires { IsReading (opened_by self.old) }
+
+        ensures closed { opened_by self.new ≡ Nothing }
+        ensures kept { told_by self.new ≡ told_by self.old }
+        ensures cause { OnErr result (Rose (faults_of self.old) (faults_of self.new)) }
+        ensures count { KeepsCount result (faults_of self.old) (faults_of self.new) }
+        ensures exact { ClosesExactly result self.old self.new }
+    {
         let faults = self.faults;
         self.closes = next(self.closes);
         self.reading = None;

@@ -1,7 +1,7 @@
 //! A store of files, of which at most one is open at a time.
 ghost use Rattle.std.specs.Prelude.{◌≡◌, ◌≤◌, ◌<◌, ◌+◌, ◌-◌, ◌^◌, ℕ, Option, min, IfOk, OnOk, OnErr, IsErr};
 ghost use Rattle.ca_store.specs.Store.{Files, Opened, Nothing, IsReading, Rose, KeepsCount};
-ghost use Rattle.ca_store.specs.Store.{MayHave, Lacks, OpensFile, ReadsOn};
+ghost use Rattle.ca_store.specs.Store.{FailsAtMissing, OpensFile, ReadsOn};
 ghost use Rattle.ca_store.specs.Memory.{next_number};
 
 /// A call of a store or a sink failed.
@@ -27,11 +27,8 @@ pub trait Store {
         ensures err { OnErr result (opened self.new ≡ Nothing) }
         ensures kept { files self.new ≡ files self.old }
 
-        // Told files that lack the name are no fault. Each other failure is one.
-        ensures missing { Lacks (files self.old) name.now
-            → IsErr result × (faults self.new ≡ faults self.old) }
-        ensures cause { MayHave (files self.old) name.now
-            → OnErr result (Rose (faults self.old) (faults self.new)) }
+        ensures cause { FailsAtMissing result (files self.old) name.now
+            (faults self.old) (faults self.new) }
         ensures count { KeepsCount result (faults self.old) (faults self.new) };
 
     /// Reads next bytes into the front of a buffer, and answers how many. An answer of 0 for a buffer that is not

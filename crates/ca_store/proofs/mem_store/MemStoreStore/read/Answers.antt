@@ -1,5 +1,5 @@
-use Rattle.std.proofs.Common.{arith, ℕ, ◌≡◌, ◌≤◌, ap, length, length-append, length-drop, length-take}
-use Rattle.ca_store.proofs.Places.{reads_on, copied_front}
+use Rattle.std.proofs.Common.{rules, arith, ℕ, ◌≡◌, ◌≤◌, ap, length, length-append, length-drop, length-take}
+use Rattle.ca_store.proofs.Places.{reads_on, copied_front, gives_up_to}
 use Rattle.ca_store.proofs.mem_store.MemStoreStore.read.Goals as goal
 
 pub returns-clause-ok : goal.returns-clause-ok
@@ -14,3 +14,12 @@ returns-clause-ok c =
     within c.get.ensures (omega (arith, copied, length-append {A = ℕ}, length-take {A = ℕ})) (omega arith)
     (copied_front _ _ _ _ c.in-Some.spot.place c.min-n.result c.copy_from_slice.ensures.after c.as_bytes-bytes.ensures filled)
     (λ none some. omega (arith, copied, length-append {A = ℕ}, length-take {A = ℕ}, length-drop {A = ℕ}))
+
+pub returns-clause-exact : goal.returns-clause-exact
+returns-clause-exact c = record {
+  fails = search rules;
+  gives = gives_up_to c.args.self.now.files c.args.self.now.reading c.in-Some.spot c.get.result.now c.min-n.result _ _ c.in-Some.is
+      (c.args.self.now.at_place c.in-Some.spot c.in-Some.is) c.get.ensures (search rules);
+  counted = search rules;
+  settings = search rules;
+}
