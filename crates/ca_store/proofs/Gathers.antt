@@ -2,7 +2,7 @@
 use Rattle.std.proofs.Common.{◌≡◌, ℕ, ◌+◌, ◌<◌, ◌≤◌, List, [], ◌++◌, length, take, drop, Option, Some, None, refl, ap, sym, ◌∙◌, length-append, arith, rules, IsSome, Bool}
 use Rattle.std.proofs.lemmas.List.{length-take, take_all}
 use Rattle.std.proofs.Math.Seq.{take-add}
-use Rattle.ca_store.specs.Store.{Files, Opened, Reading, GivesNext, OpensFile}
+use Rattle.ca_store.specs.Store.{Files, Opened, Nothing, Reading, Writing, IsReading, IsOpen, GivesNext, OpensFile}
 use Rattle.ca_store.specs.Reading.{IsSoFar, IsEnd, IsReadUpTo}
 
 -- a read goes on from what earlier reads gathered
@@ -49,3 +49,9 @@ read_of files mid_files name text limit opened is_whole opens same read told is_
     some_of : (o : Option (List ℕ)) → IsSome o → (bytes : List ℕ) × (o ≡ Some bytes)
     some_of None there = cc
     some_of (Some bytes) there = (bytes, refl)
+
+-- a file in reading is an open file
+pub is_open_in_reading : (opened : Opened) → IsReading opened → IsOpen opened
+is_open_in_reading Nothing in_reading = in_reading
+is_open_in_reading (Reading name place) in_reading = tt
+is_open_in_reading (Writing name) in_reading = absurd in_reading

@@ -74,7 +74,7 @@ impl MemStore {
 
 impl Store for MemStore {
     ghost use Rattle.std.specs.Prelude.{◌≡◌, Some, IfOk, OnOk, OnErr};
-    ghost use Rattle.ca_store.specs.Store.{Nothing, IsReading, Rose, KeepsCount, FailsAtMissing};
+    ghost use Rattle.ca_store.specs.Store.{Nothing, IsReading, IsOpen, Rose, KeepsCount, FailsAtMissing};
     ghost use Rattle.ca_store.specs.Store.{OpensFile, ReadsOn};
     ghost use Rattle.ca_store.specs.MemStore.{told_by, opened_by, faults_of};
     ghost use Rattle.ca_store.specs.MemStore.{OpensExactly, ReadsExactly, ClosesExactly};
@@ -143,7 +143,7 @@ impl Store for MemStore {
     }
 
     fn close(&mut self) -> Result<(), Failed>
-        requires { IsReading (opened_by self.old) }
+        requires { IsOpen (opened_by self.old) }
 
         ensures closed { opened_by self.new ≡ Nothing }
         ensures kept { told_by self.new ≡ told_by self.old }

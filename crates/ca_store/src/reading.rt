@@ -40,6 +40,7 @@ impl From<NoMemory> for ReadFault {
 }
 
 /// Reads a file to its end, or one byte past the limit. Nothing is open afterwards.
+#[tactic(auto, using(crate::proofs::Gathers::is_open_in_reading))]
 pub fn read_file<S: Store>(
     alloc: Global,
     store: &mut S,

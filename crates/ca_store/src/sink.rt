@@ -1,5 +1,5 @@
 //! A sink of bytes.
-ghost use Rattle.std.specs.Prelude.{◌≡◌, ◌<◌, ◌^◌, ℕ, List, Option, IfOk, OnOk, OnErr};
+ghost use Rattle.std.specs.Prelude.{◌≡◌, ◌<◌, ◌^◌, ℕ, List, [], Option, IsOk, IfOk, OnOk, OnErr};
 ghost use Rattle.ca_store.specs.Store.{Rose, KeepsCount, appended, AppendsPart, TakesFirst};
 
 use crate::store::Failed;
@@ -23,11 +23,12 @@ pub trait Sink {
     ghost bounded: { (sink : Self) → faults sink < 2 ^ 64 };
 }
 
-/// Appends all the bytes, in as many writes as the sink asks for. After `Failed` some of the first bytes were
-/// appended.
+/// Appends all the bytes, in as many writes as the sink asks for, and in none where there are no bytes. After `Failed`
+/// some of the first bytes were appended.
 pub fn write_all<W: Sink>(sink: &mut W, bytes: &[u8]) -> Result<(), Failed>
     ensures ok { OnOk result (W.bytes sink.new ≡ appended bytes.now (W.bytes sink.old)) }
     ensures err { OnErr result (AppendsPart bytes.now (W.bytes sink.old) (W.bytes sink.new)) }
+    ensures nothing { bytes.now ≡ [] → IsOk result × (sink.new ≡ sink.old) }
     ensures cause { OnErr result (Rose (W.faults sink.old) (W.faults sink.new)) }
     ensures count { KeepsCount result (W.faults sink.old) (W.faults sink.new) }
 {

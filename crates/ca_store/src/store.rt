@@ -1,6 +1,6 @@
 //! A store of files, of which at most one is open at a time.
 ghost use Rattle.std.specs.Prelude.{◌≡◌, ◌≤◌, ◌<◌, ◌+◌, ◌-◌, ◌^◌, ℕ, Option, min, IfOk, OnOk, OnErr, IsErr};
-ghost use Rattle.ca_store.specs.Store.{Files, Opened, Nothing, IsReading, Rose, KeepsCount};
+ghost use Rattle.ca_store.specs.Store.{Files, Opened, Nothing, IsReading, IsOpen, Rose, KeepsCount};
 ghost use Rattle.ca_store.specs.Store.{FailsAtMissing, OpensFile, ReadsOn};
 ghost use Rattle.ca_store.specs.Memory.{next_number};
 
@@ -45,7 +45,7 @@ pub trait Store {
 
     /// Closes the open file. Nothing is open afterwards, whatever the answer.
     fn close(&mut self) -> Result<(), Failed>
-        requires { IsReading (opened self.old) }
+        requires { IsOpen (opened self.old) }
 
         ensures closed { opened self.new ≡ Nothing }
         ensures kept { files self.new ≡ files self.old }

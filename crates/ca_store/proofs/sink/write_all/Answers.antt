@@ -1,4 +1,4 @@
-use Rattle.std.proofs.Common.{rules, arith, length-drop, ℕ}
+use Rattle.std.proofs.Common.{rules, arith, length, length-drop, ap, ℕ}
 use Rattle.std.proofs.lemmas.List.{take_rest}
 use Rattle.ca_store.proofs.Appends.{appended_more, part_so_far, at_err}
 use Rattle.ca_store.proofs.sink.write_all.Goals as goal
@@ -8,6 +8,7 @@ pieces-preserved g c = record {
   within = omega (arith, c.in_ok-done.ensures.ok.fits, length-drop {A = ℕ});
   appended = appended_more _ _ _ _ _ _ _ (take_rest c.args.bytes.now c.pieces.done) c.pieces.invariant.appended c.in_ok-done.ensures.ok.appends;
   quiet = search rules;
+  nothing = λ none. absurd (omega (arith, ap length none));
 }
 
 pub returns-in_err-done-clause-err : goal.returns-in_err-done-clause-err

@@ -1,4 +1,4 @@
-use Rattle.std.proofs.Common.{◌≡◌, ◌≤◌, ◌-◌, length, take}
+use Rattle.std.proofs.Common.{◌≡◌, ◌≤◌, ◌-◌, length, take, []}
 use Rattle.ca_store.specs.Store.{appended}
 use Rattle.ca_store.proofs.sink.write_all.Given as goal
 
@@ -10,4 +10,5 @@ invariant-pieces g l = record {
   within : l.done ≤ length l.bytes;
   appended : g.W.Sink.bytes l.sink ≡ appended (take l.done l.bytes) (g.W.Sink.bytes l.initial.sink);
   quiet : g.W.Sink.faults l.sink ≡ g.W.Sink.faults l.initial.sink;
+  nothing : l.bytes ≡ [] → l.sink ≡ l.initial.sink;
 }
