@@ -2,6 +2,8 @@
 #![tactic(auto)]
 
 mod names;
+#[cfg(test)]
+mod tests;
 mod text;
 
 pub use names::Names;

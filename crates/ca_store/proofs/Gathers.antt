@@ -1,8 +1,10 @@
 -- What is read of a file, piece by piece.
-use Rattle.std.proofs.Common.{◌≡◌, ℕ, ◌+◌, ◌<◌, ◌≤◌, List, [], ◌++◌, length, take, drop, Option, Some, None, refl, ap, sym, ◌∙◌, length-append, arith, rules, IsSome, Bool}
+use Rattle.std.proofs.Common.{◌≡◌, ℕ, ◌+◌, ◌<◌, ◌≤◌, List, ◌++◌, length, take, drop, Bool, Option, Some, None}
+use Rattle.std.proofs.Common.{IsSome, refl, ap, sym, ◌∙◌, length-append, arith}
 use Rattle.std.proofs.lemmas.List.{length-take, take_all}
 use Rattle.std.proofs.Math.Seq.{take-add}
-use Rattle.ca_store.specs.Store.{Files, Opened, Nothing, Reading, Writing, IsReading, IsOpen, GivesNext, OpensFile}
+use Rattle.ca_store.specs.Store.{Files, Opened, Nothing, Reading, Writing, IsReading, IsOpen}
+use Rattle.ca_store.specs.Store.{GivesNext, OpensFile}
 use Rattle.ca_store.specs.Reading.{IsSoFar, IsEnd, IsReadUpTo}
 
 -- a read goes on from what earlier reads gathered
@@ -34,7 +36,8 @@ past_limit name bytes mid text limit so_far over =
     omega (arith, ap length so_far.first, length-take (length text) bytes)
 
 -- a text that grew by a part of a buffer
-pub grown_by : (text grown into : List ℕ) (n m : ℕ) → grown ≡ text ++ take n into → length text + n ≤ m → length grown ≤ m
+pub grown_by : (text grown into : List ℕ) (n m : ℕ) → grown ≡ text ++ take n into → length text + n ≤ m
+    → length grown ≤ m
 grown_by text grown into n m is_grown room =
     omega (arith, ap length is_grown, length-append text (take n into), length-take n into)
 

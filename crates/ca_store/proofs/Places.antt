@@ -1,5 +1,7 @@
 -- The places of names in a list of files.
-use Rattle.std.proofs.Common.{inl, inr, ◌≡◌, ℕ, ◌<◌, ◌≤◌, List, [], length, Option, Some, None, IsSome, IsNone, rules, refl, ap, sym, ◌∙◌, arith, subst, min, ◌+◌, ◌-◌, ◌∷◌, ◌++◌, take, drop, zero, suc, Bool, true, false, cond, nat_lt, nat_eq, length-append}
+use Rattle.std.proofs.Common.{◌≡◌, ℕ, zero, suc, ◌+◌, ◌-◌, ◌<◌, ◌≤◌, min, nat_lt, nat_eq, Bool, true, false, cond}
+use Rattle.std.proofs.Common.{List, [], ◌∷◌, ◌++◌, length, take, drop, Option, Some, None, IsSome, IsNone}
+use Rattle.std.proofs.Common.{inl, inr, refl, ap, sym, ◌∙◌, subst, length-append, arith}
 use Rattle.std.specs.List.{slice_get, position, position_or_len}
 use Rattle.std.specs.Option.{option_map}
 use Rattle.std.specs.Str.{bytes_eq}
@@ -13,7 +15,8 @@ use Rattle.std.proofs.Math.ListN.{get_or}
 use Rattle.std.proofs.lemmas.List.Sums.{prefix_len-le-length}
 use Rattle.std.proofs.Math.Nat.{eq-or-lt_of_le}
 use Rattle.ca_store.specs.declared.file_map.File.{File}
-use Rattle.ca_store.specs.Memory.{place_named, files_of, bytes_at, opened_of, reading_of, IsOpenWithin, HasDistinctNames}
+use Rattle.ca_store.specs.Memory.{place_named, files_of, bytes_at, opened_of, reading_of}
+use Rattle.ca_store.specs.Memory.{IsOpenWithin, HasDistinctNames}
 use Rattle.ca_store.specs.declared.mem_store.OpenFile.{OpenFile}
 use Rattle.ca_store.specs.Store.{Files, Opened, Reading, GivesNext, ReadsOn, OpensFile}
 
@@ -68,7 +71,8 @@ pub opens_file : (files : List File) (name : List ℕ) (place : ℕ) → place_n
 opens_file files name place named = record {
   in_reading = rw (reading_at files name place named) tt;
   start = λ told is_told. reading_at files name place named;
-  there = λ told is_told. subst (λ (t : Files). IsSome (t name)) (same_Some _ _ is_told) (there_at files name place named);
+  there = λ told is_told.
+      subst (λ (t : Files). IsSome (t name)) (same_Some _ _ is_told) (there_at files name place named);
 }
 
 -- a name that has a place isn't missing
@@ -81,8 +85,8 @@ not_missing files name place named lacks = apart (files_of files name) lacks (th
     apart (Some bytes) none some = cc
 
 -- the front of a buffer after bytes were copied to it
-pub copied_front : (put rest read all : List ℕ) (place n : ℕ) → put ≡ take ((place + n) - place) (drop place read) → read ≡ all
-    → length put ≡ n → take n (put ++ rest) ≡ take n (drop place all)
+pub copied_front : (put rest read all : List ℕ) (place n : ℕ)
+    → put ≡ take ((place + n) - place) (drop place read) → read ≡ all → length put ≡ n → take n (put ++ rest) ≡ take n (drop place all)
 copied_front put rest read all place n copied same filled =
     let range : (place + n) - place ≡ n = omega arith in
     take-append-le n put rest (omega arith) ∙ take_all n put (omega arith) ∙ copied
@@ -153,6 +157,10 @@ gives_up_to files reading spot file n want piece is_open within there gives name
 pub none_is_not_some : (held : Option (List ℕ)) → held ≡ None → IsSome held → ⊥
 none_is_not_some held none some = cc
 
+-- a place, or None for one past the end
+abbrev found_place : ℕ → ℕ → Option ℕ
+found_place place end = cond (nat_lt place end) (Some place) None
+
 -- an element at the end moves no place that was found before
 place_kept : {X : Type 0} (passes : X → Bool) (xs : List X) (y : X) (place : ℕ) → position passes xs ≡ Some place
     → position passes (xs ++ y ∷ []) ≡ Some place
@@ -160,8 +168,7 @@ place_kept passes xs y place found =
     rw (position_or_len_push passes xs y, length-append xs (y ∷ []))
     (kept (position_or_len passes xs) (length xs) place (cond (passes y) 0 1) found)
   where
-    kept : (p l k step : ℕ) → ◌≡◌ {A = Option ℕ} (cond (nat_lt p l) (Some p) None) (Some k)
-        → ◌≡◌ {A = Option ℕ} (cond (nat_lt (cond (nat_eq p l) (l + step) p) (l + 1)) (Some (cond (nat_eq p l) (l + step) p)) None) (Some k)
+    kept : (p l k step : ℕ) → found_place p l ≡ Some k → found_place (cond (nat_eq p l) (l + step) p) (l + 1) ≡ Some k
     kept p l k step found = grind (arith, nat_tests, found)
 
 -- the first element that passes, at the end
@@ -171,8 +178,7 @@ place_last passes xs y within none hit =
     rw (position_or_len_push passes xs y, hit, length-append xs (y ∷ []))
     (last (position_or_len passes xs) (length xs) within none)
   where
-    last : (p l : ℕ) → p ≤ l → ◌≡◌ {A = Option ℕ} (cond (nat_lt p l) (Some p) None) None
-        → ◌≡◌ {A = Option ℕ} (cond (nat_lt (cond (nat_eq p l) (l + 0) p) (l + 1)) (Some (cond (nat_eq p l) (l + 0) p)) None) (Some l)
+    last : (p l : ℕ) → p ≤ l → found_place p l ≡ None → found_place (cond (nat_eq p l) (l + 0) p) (l + 1) ≡ Some l
     last p l within none = grind (arith, nat_tests, none)
 
 -- an element that stood in the list before
@@ -202,8 +208,8 @@ distinct_push files file lacks distinct place found there =
           ∙ ap Some (sym at_end)
     ]
   where
-    within_push : (files : List File) (file : File) (place : ℕ) (found : File) → slice_get (files ++ file ∷ []) place ≡ Some found
-        → place ≤ length files
+    within_push : (files : List File) (file : File) (place : ℕ) (found : File)
+        → slice_get (files ++ file ∷ []) place ≡ Some found → place ≤ length files
     within_push files file place found there =
         omega (arith, slice_get_within (files ++ file ∷ []) place found there, length-append files (file ∷ []))
 

@@ -40,7 +40,8 @@ faults_of store = store.faults
 
 -- an open fails exactly where it is listed or its name is missing
 pub record OpensExactly {T E : Type 0} (name : List ℕ) (result : Result T E) (old new : MemStore) : Type 0 where
-  pub fails : IsErr result ↔ (Contains (settings_of old).fail (Open, (calls_of new).opens) ⊎ IsNone (told_by old name))
+  pub fails : IsErr result ↔
+      (Contains (settings_of old).fail (Open, (calls_of new).opens) ⊎ IsNone (told_by old name))
   pub counted : calls_of new ≡ record (calls_of old) { opens = next_number (calls_of old).opens }
   pub settings : settings_of new ≡ settings_of old
 
@@ -48,7 +49,8 @@ pub record OpensExactly {T E : Type 0} (name : List ℕ) (result : Result T E) (
 pub record ReadsExactly {E : Type 0} (into : List ℕ) (result : Result ℕ E) (old new : MemStore) : Type 0 where
   pub fails : IsErr result ↔ Contains (settings_of old).fail (Read, (calls_of new).reads)
   pub gives : IfOk result (λ n. (name : List ℕ) (place : ℕ) → opened_by old ≡ Reading name place
-      → ForSome (told_by old name) (λ bytes. n ≡ min (min (length bytes - place) (length into)) (settings_of old).piece))
+      → ForSome (told_by old name) (λ bytes.
+          n ≡ min (min (length bytes - place) (length into)) (settings_of old).piece))
   pub counted : calls_of new ≡ record (calls_of old) { reads = next_number (calls_of old).reads }
   pub settings : settings_of new ≡ settings_of old
 

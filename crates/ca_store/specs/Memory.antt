@@ -1,5 +1,6 @@
 -- Files in memory, and the calls that a store or a sink in memory lets fail.
-use Rattle.std.specs.Prelude.{◌≡◌, ◌<◌, ◌≤◌, ◌-◌, ℕ, ◌+◌, ◌^◌, min, Bool, true, false, List, [], length, slice_get, Option, Some, None}
+use Rattle.std.specs.Prelude.{◌≡◌, ◌<◌, ◌≤◌, ◌-◌, ℕ, ◌+◌, ◌^◌, min, Bool, true, false}
+use Rattle.std.specs.Prelude.{List, [], length, slice_get, Option, Some, None}
 use Rattle.std.specs.Option.{option_map}
 use Rattle.std.specs.List.{position}
 use Rattle.std.specs.Str.{bytes_eq}
@@ -47,7 +48,8 @@ opened_of files (Some open_file) = reading_of open_file.place (slice_get files o
 -- an open file is in the list, is the first of its name there, and has at least as many bytes as were read
 pub record IsOpenWithin (files : List File) (open_file : OpenFile) : Type 0 where
   pub there : open_file.file < length files
-  pub first : (file : File) → slice_get files open_file.file ≡ Some file → place_named files file.name ≡ Some open_file.file
+  pub first : (file : File) → slice_get files open_file.file ≡ Some file
+      → place_named files file.name ≡ Some open_file.file
   pub within : (file : File) → slice_get files open_file.file ≡ Some file → open_file.place ≤ length file.bytes
 
 -- whether something is open, where no more is told

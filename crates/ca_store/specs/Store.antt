@@ -7,7 +7,7 @@ use Rattle.std.specs.Option.{ForSome}
 abbrev pub Files : Type 0
 Files = List ℕ → Option (List ℕ)
 
--- what is open: nothing, a file in reading with its name and the number of bytes read so far, or a file in writing with its name
+-- what is open: nothing, a file in reading by its name with the number of bytes read so far, or a file in writing
 pub data Opened : Type 0 where
   Nothing : Opened
   Reading : List ℕ → ℕ → Opened
@@ -47,8 +47,9 @@ MayHave files name = ForSome files (λ told. IsSome (told name))
 abbrev pub Lacks : Option Files → List ℕ → Type 0
 Lacks files name = IsSomeAnd files (λ told. IsNone (told name))
 
--- an open of a name that the told files lack fails and counts no fault, and any other open fails only where the count rises
-pub record FailsAtMissing {T E : Type 0} (result : Result T E) (files : Option Files) (name : List ℕ) (before after : ℕ) : Type 0 where
+-- an open fails and counts no fault at a name that the told files lack, and else it fails only where the count rises
+pub record FailsAtMissing {T E : Type 0} (result : Result T E) (files : Option Files) (name : List ℕ)
+    (before after : ℕ) : Type 0 where
   pub missing : Lacks files name → IsErr result × (after ≡ before)
   pub cause : MayHave files name → OnErr result (Rose before after)
 

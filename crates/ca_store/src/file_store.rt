@@ -29,6 +29,13 @@ impl<R: Files> FileStore<R> {
             faults: 0,
         }
     }
+
+    /// How many calls failed.
+    pub fn faults(&self) -> u64
+        ensures { result ≡ ⟦<FileStore<R> as Store>⟧.faults self.now }
+    {
+        self.faults
+    }
 }
 
 impl<R: Files> Store for FileStore<R> {

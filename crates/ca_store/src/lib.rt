@@ -11,6 +11,8 @@ mod reading;
 mod sink;
 mod std_sink;
 mod store;
+#[cfg(test)]
+mod tests;
 
 pub use fail_list::{FailList, StoreCall};
 pub use file_map::{File, FileMap};

@@ -47,6 +47,13 @@ impl MemSink {
     {
         &self.bytes
     }
+
+    /// How many writes failed.
+    pub fn faults(&self) -> u64
+        ensures { result ≡ faults_of self.now }
+    {
+        self.faults
+    }
 }
 
 impl Sink for MemSink {

@@ -70,6 +70,13 @@ impl MemStore {
             faults: 0,
         })
     }
+
+    /// How many calls failed, those aside that open a missing name.
+    pub fn faults(&self) -> u64
+        ensures { result ≡ faults_of self.now }
+    {
+        self.faults
+    }
 }
 
 impl Store for MemStore {
@@ -90,7 +97,8 @@ impl Store for MemStore {
     fn open(&mut self, name: &str) -> Result<(), Failed>
         requires { opened_by self.old ≡ Nothing }
 
-        ensures ok { OnOk result (OpensFile (Some (told_by self.old)) name.now (opened_by self.new)) }
+        ensures ok { OnOk result
+            (OpensFile (Some (told_by self.old)) name.now (opened_by self.new)) }
         ensures err { OnErr result (opened_by self.new ≡ Nothing) }
         ensures kept { told_by self.new ≡ told_by self.old }
         ensures cause { FailsAtMissing result (Some (told_by self.old)) name.now

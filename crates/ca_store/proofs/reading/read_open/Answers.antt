@@ -5,7 +5,8 @@ use Rattle.ca_store.proofs.reading.read_open.Goals as goal
 
 pub chunks-preserved : goal.chunks-preserved
 chunks-preserved g c = record {
-  within = grown_by _ _ _ _ _ c.in_ok-append.ensures.ok (omega (arith, c.in_ok-n.ensures.ok.fits, c.read.auto.into, length-take {A = ℕ}));
+  within = grown_by _ _ _ _ _ c.in_ok-append.ensures.ok
+      (omega (arith, c.in_ok-n.ensures.ok.fits, c.read.auto.into, length-take {A = ℕ}));
   in_reading = search rules;
   files = search rules;
   quiet = search rules;
@@ -19,9 +20,12 @@ chunks-preserved g c = record {
 pub returns-then-n-eq0-clause-read : goal.returns-then-n-eq0-clause-read
 returns-then-n-eq0-clause-read g c = λ name start told is_told bytes is_bytes.
     let before = c.chunks.invariant.so_far name start told is_told bytes is_bytes in
-    let next = c.in_ok-n.ensures.ok.next name _ before.place told (c.chunks.invariant.files ∙ is_told) bytes is_bytes in
-    is_whole name bytes _ c.chunks.text before (next.at_end (search rules) (omega (arith, c.read.auto.into, length-take {A = ℕ})))
+    let still_told = c.chunks.invariant.files ∙ is_told in
+    let next = c.in_ok-n.ensures.ok.next name _ before.place told still_told bytes is_bytes in
+    is_whole name bytes _ c.chunks.text before
+      (next.at_end (search rules) (omega (arith, c.read.auto.into, length-take {A = ℕ})))
 
 pub returns-clause-read : goal.returns-clause-read
 returns-clause-read g c = λ name start told is_told bytes is_bytes.
-    past_limit name bytes _ c.chunks.text c.args.limit (c.chunks.invariant.so_far name start told is_told bytes is_bytes) (omega arith)
+    past_limit name bytes _ c.chunks.text c.args.limit
+      (c.chunks.invariant.so_far name start told is_told bytes is_bytes) (omega arith)

@@ -12,5 +12,6 @@ invariant-chunks g l = record {
   in_reading : IsReading (g.S.Store.opened l.store);
   files : g.S.Store.files l.store ≡ g.S.Store.files l.initial.store;
   quiet : g.S.Store.faults l.store ≡ g.S.Store.faults l.initial.store;
-  so_far : IsReadSoFar (g.S.Store.files l.initial.store) (g.S.Store.opened l.initial.store) (g.S.Store.opened l.store) l.text;
+  so_far : IsReadSoFar (g.S.Store.files l.initial.store) (g.S.Store.opened l.initial.store)
+      (g.S.Store.opened l.store) l.text;
 }

@@ -7,7 +7,8 @@ use Rattle.ca_store.proofs.mem_store.MemStoreStore.open.Goals as goal
 pub returns-in_default-clause-cause : goal.returns-in_default-clause-cause
 returns-in_default-clause-cause c = record {
   missing = λ lacks. (refl, refl);
-  cause = λ may. absurd (none_is_not_some _ (missing_at c.args.self.now.files c.args.name.now (search rules)) (may _ refl));
+  cause = λ may.
+      absurd (none_is_not_some _ (missing_at c.args.self.now.files c.args.name.now (search rules)) (may _ refl));
 }
 
 pub returns-then-lists-clause-cause : goal.returns-then-lists-clause-cause
@@ -18,7 +19,8 @@ returns-then-lists-clause-cause c = record {
 
 pub invariant_of-self-2-clause-at_place : goal.invariant_of-self-2-clause-at_place
 invariant_of-self-2-clause-at_place c = λ spot is_spot.
-    subst (IsOpenWithin c.args.self.now.files) (same_Some _ _ is_spot) (within_at c.args.self.now.files c.args.name.now c.in-Some.file (search rules))
+    subst (IsOpenWithin c.args.self.now.files) (same_Some _ _ is_spot)
+      (within_at c.args.self.now.files c.args.name.now c.in-Some.file (search rules))
 
 pub returns-clause-ok : goal.returns-clause-ok
 returns-clause-ok c = opens_file c.args.self.now.files c.args.name.now c.in-Some.file (search rules)

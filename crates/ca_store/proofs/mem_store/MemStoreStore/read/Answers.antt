@@ -18,8 +18,8 @@ returns-clause-ok c =
 pub returns-clause-exact : goal.returns-clause-exact
 returns-clause-exact c = record {
   fails = search rules;
-  gives = gives_up_to c.args.self.now.files c.args.self.now.reading c.in-Some.spot c.get.result.now c.min-n.result _ _ c.in-Some.is
-      (c.args.self.now.at_place c.in-Some.spot c.in-Some.is) c.get.ensures (search rules);
+  gives = gives_up_to c.args.self.now.files c.args.self.now.reading c.in-Some.spot c.get.result.now c.min-n.result _ _
+      c.in-Some.is (c.args.self.now.at_place c.in-Some.spot c.in-Some.is) c.get.ensures (search rules);
   counted = search rules;
   settings = search rules;
 }

@@ -1,0 +1,136 @@
+//! What the doubles in memory give and refuse, and the little that can be tried of the real files.
+
+use crate::{
+    FailList, Failed, File, FileMap, FileStore, MemSink, MemStore, ReadFault, Sink, StdSink,
+    StoreCall, read_file, write_all,
+};
+use ca_base::NoMemory;
+use ca_lex::Text;
+use std::alloc::Global;
+use std::test::Fail;
+
+// The files `four`, of the bytes abcd, and `none`, of no bytes.
+fn two_files(alloc: Global) -> Result<FileMap, NoMemory> {
+    let mut files = FileMap::new(alloc);
+    for (name, bytes) in [("four", "abcd"), ("none", "")] {
+        let file = File {
+            name: Text::from_bytes(alloc, name.as_bytes())?,
+            bytes: Text::from_bytes(alloc, bytes.as_bytes())?,
+        };
+        if files.place_of(file.name.as_bytes()).is_none() {
+            files.add(file)?;
+        }
+    }
+    Ok(files)
+}
+
+// The list of one call.
+fn only(alloc: Global, call: StoreCall, number: u32) -> Result<FailList, NoMemory> {
+    let mut fail = FailList::new(alloc);
+    fail.push(call, number)?;
+    Ok(fail)
+}
+
+// Whether a file was read, or not, as it should be.
+fn is_as_wanted(got: Result<Text, ReadFault>, want: Result<&str, ReadFault>) -> bool {
+    match (got, want) {
+        (Ok(text), Ok(bytes)) => text.is(bytes.as_bytes()),
+        (Err(fault), Err(wanted)) => fault == wanted,
+        (_, _) => false,
+    }
+}
+
+#[test]
+fn files_are_read_up_to_the_limit(rt: HostRuntime) -> Result<(), Fail> {
+    let alloc = rt.alloc();
+    for (name, piece, limit, want) in [
+        ("four", 1, 4, Ok("abcd")),
+        ("four", 3, 4, Ok("abcd")),
+        ("four", 9, 5, Ok("abcd")),
+        ("four", 1, 3, Err(ReadFault::TooLong { taken: 4 })),
+        ("four", 9, 3, Err(ReadFault::TooLong { taken: 4 })),
+        ("four", 3, 0, Err(ReadFault::TooLong { taken: 1 })),
+        ("none", 1, 0, Ok("")),
+        ("five", 1, 9, Err(ReadFault::StoreFailed)),
+    ] {
+        assert!(rt; piece > 0 && limit < usize::MAX);
+        let mut store = MemStore::new(alloc, two_files(alloc)?, piece, 0, FailList::new(alloc))?;
+        let got = read_file(alloc, &mut store, name, limit);
+        assert!(rt; is_as_wanted(got, want), "{name} by {piece} up to {limit}");
+        assert_eq!(rt; store.faults(), 0, "{name} by {piece} up to {limit}");
+    }
+    Ok(())
+}
+
+#[test]
+fn listed_calls_of_a_store_fail_once_and_count(rt: HostRuntime) -> Result<(), Fail> {
+    let alloc = rt.alloc();
+    for (call, number, want, faults) in [
+        (StoreCall::Open, 1, Err(ReadFault::StoreFailed), 1),
+        (StoreCall::Read, 1, Err(ReadFault::StoreFailed), 1),
+        (StoreCall::Read, 2, Err(ReadFault::StoreFailed), 1),
+        (StoreCall::Close, 1, Err(ReadFault::StoreFailed), 1),
+        (StoreCall::Open, 3, Ok("abcd"), 0),
+        (StoreCall::Write, 1, Ok("abcd"), 0),
+        (StoreCall::Create, 1, Ok("abcd"), 0),
+    ] {
+        let fail = only(alloc, call, number)?;
+        let mut store = MemStore::new(alloc, two_files(alloc)?, 3, 0, fail)?;
+        let got = read_file(alloc, &mut store, "four", 9);
+        assert!(rt; is_as_wanted(got, want), "{call:?} {number}");
+        assert_eq!(rt; store.faults(), faults, "{call:?} {number}");
+        let again = read_file(alloc, &mut store, "four", 9);
+        assert!(rt; is_as_wanted(again, Ok("abcd")), "{call:?} {number}");
+        assert_eq!(rt; store.faults(), faults, "{call:?} {number}");
+    }
+    Ok(())
+}
+
+#[test]
+fn a_sink_takes_what_fits(rt: HostRuntime) -> Result<(), Fail> {
+    let alloc = rt.alloc();
+    for (room, number, bytes, want, held, faults) in [
+        (2, 9, "ab", Ok(()), "ab", 0),
+        (2, 9, "abc", Err(Failed), "ab", 1),
+        (0, 9, "", Ok(()), "", 0),
+        (9, 1, "abc", Err(Failed), "", 1),
+        (9, 2, "abc", Ok(()), "abc", 0),
+    ] {
+        let mut sink = MemSink::new(alloc, room, only(alloc, StoreCall::Write, number)?)?;
+        assert_eq!(rt; write_all(&mut sink, bytes.as_bytes()), want, "{bytes} into {room}");
+        assert_eq!(rt; sink.bytes(), held.as_bytes(), "{bytes} into {room}");
+        assert_eq!(rt; sink.faults(), faults, "{bytes} into {room}");
+    }
+    Ok(())
+}
+
+#[test]
+fn files_stand_in_order(rt: HostRuntime) -> Result<(), Fail> {
+    let files = two_files(rt.alloc())?;
+    assert_eq!(rt; files.as_slice().len(), 2);
+    assert!(rt; files.get(1).name.is(b"none"));
+    assert_eq!(rt; files.place_of(b"four"), Some(0));
+    assert_eq!(rt; files.place_of(b"five"), None);
+    Ok(())
+}
+
+#[test]
+fn real_files_are_read_and_missing_ones_count(rt: HostRuntime) {
+    let mut store = FileStore::new(rt);
+    for (name, limit, want, faults) in [
+        ("/dev/null", 0, Ok(""), 0),
+        ("/dev/zero", 5, Err(ReadFault::TooLong { taken: 6 }), 0),
+        ("no such file here", 9, Err(ReadFault::StoreFailed), 1),
+    ] {
+        assert!(rt; limit < usize::MAX);
+        let got = read_file(rt.alloc(), &mut store, name, limit);
+        assert!(rt; is_as_wanted(got, want), "{name}");
+        assert_eq!(rt; store.faults(), faults, "{name}");
+    }
+}
+
+#[test]
+fn real_streams_take_a_piece_of_no_bytes(rt: HostRuntime) {
+    assert_eq!(rt; StdSink::output(rt.stdout()).write(b""), Ok(0));
+    assert_eq!(rt; StdSink::errors(rt.stderr()).write(b""), Ok(0));
+}
