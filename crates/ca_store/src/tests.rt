@@ -116,13 +116,13 @@ fn files_stand_in_order(rt: HostRuntime) -> Result<(), Fail> {
 
 #[test]
 fn real_files_are_read_and_missing_ones_count(rt: HostRuntime) {
-    let mut store = FileStore::new(rt);
     for (name, limit, want, faults) in [
         ("/dev/null", 0, Ok(""), 0),
         ("/dev/zero", 5, Err(ReadFault::TooLong { taken: 6 }), 0),
         ("no such file here", 9, Err(ReadFault::StoreFailed), 1),
     ] {
         assert!(rt; limit < usize::MAX);
+        let mut store = FileStore::new(rt);
         let got = read_file(rt.alloc(), &mut store, name, limit);
         assert!(rt; is_as_wanted(got, want), "{name}");
         assert_eq!(rt; store.faults(), faults, "{name}");
