@@ -20,7 +20,10 @@ fn a_text_grows_and_is_compared(rt: HostRuntime) -> Result<(), Fail> {
         assert_eq!(rt; text.len(), want.len(), "at {want}");
         assert!(rt; text == text.copy(alloc)?, "at {want}");
         assert!(rt; text != Text::new(alloc), "at {want}");
-        assert_eq!(rt; Text::from_vec(want.as_bytes().to_vec(alloc)?).as_bytes(), want.as_bytes());
+        assert_eq!(rt;
+            Text::from_vec(want.as_bytes().to_vec(alloc)?).as_bytes(),
+            want.as_bytes()
+        );
     }
     Ok(())
 }

@@ -1,5 +1,5 @@
 -- The places of names in a list of files.
-use Rattle.std.proofs.Common.{◌≡◌, ℕ, zero, suc, ◌+◌, ◌-◌, ◌<◌, ◌≤◌, min, nat_lt, nat_eq, Bool, true, false, cond}
+use Rattle.std.proofs.Common.{◌≡◌, ℕ, zero, suc, ◌+◌, ◌-◌, ◌<◌, ◌≤◌, min, nat_lt, nat_eq, Bool, true, cond}
 use Rattle.std.proofs.Common.{List, [], ◌∷◌, ◌++◌, length, take, drop, Option, Some, None, IsSome, IsNone}
 use Rattle.std.proofs.Common.{inl, inr, refl, ap, sym, ◌∙◌, subst, length-append, arith}
 use Rattle.std.specs.List.{slice_get, position, position_or_len}
@@ -99,14 +99,17 @@ pub is_open_file : (files : List File) (reading : Option OpenFile) (spot : OpenF
     → (file.name ≡ name) × (spot.place ≡ place) × (files_of files name ≡ Some file.bytes)
 is_open_file files reading spot file is_open within there name place opened =
     let same : Reading file.name spot.place ≡ Reading name place =
-        sym (ap (opened_of files) is_open ∙ ap (reading_of spot.place) there) ∙ opened in
-    let same_name : file.name ≡ name = name_of _ _ _ _ same in
-    (same_name, place_of _ _ _ _ same,
+    sym (ap (opened_of files) is_open ∙ ap (reading_of spot.place) there) ∙ opened in
+    let same_name : file.name ≡ name = name_of _ _ _ _ same in (
+      same_name,
+      place_of _ _ _ _ same,
       ap (files_of files) (sym same_name) ∙ ap (bytes_at files) (within.first file there)
-        ∙ ap (option_map (λ (f : File). f.bytes)) there)
+          ∙ ap (option_map (λ (f : File). f.bytes)) there,
+    )
   where
     name_of : (a b : List ℕ) (i j : ℕ) → Reading a i ≡ Reading b j → a ≡ b
     name_of a b i j same = cc
+
     place_of : (a b : List ℕ) (i j : ℕ) → Reading a i ≡ Reading b j → i ≡ j
     place_of a b i j same = cc
 
@@ -120,22 +123,22 @@ pub reads_on : (files : List File) (reading : Option OpenFile) (spot : OpenFile)
     → take n into ≡ take n (drop spot.place file.bytes)
     → (n ≡ 0 → 0 < length into → length file.bytes ≤ spot.place)
     → ReadsOn n into (Some (files_of files)) (opened_of files reading)
-        (opened_of files (Some (record { file = spot.file; place = spot.place + n })))
+    (opened_of files (Some (record { file = spot.file; place = spot.place + n })))
 reads_on files reading spot file into n is_open within there fits left got at_end =
     let new : Opened = opened_of files (Some (record { file = spot.file; place = spot.place + n })) in
     let moved : new ≡ Reading file.name (spot.place + n) = ap (reading_of (spot.place + n)) there in
     let gives : GivesNext n into file.name spot.place file.bytes new =
-        record { moved = moved; within = left; got = got; at_end = at_end } in
+    record { moved = moved; within = left; got = got; at_end = at_end } in
     record {
       fits = fits;
       in_reading = rw moved tt;
       next = λ name place opened told is_told bytes is_bytes.
           let same = is_open_file files reading spot file is_open within there name place opened in
           let same_bytes : file.bytes ≡ bytes =
-              same_Some _ _ (sym same.2 ∙ ap (λ (t : Files). t name) (same_Some _ _ is_told) ∙ is_bytes) in
+          same_Some _ _ (sym same.2 ∙ ap (λ (t : Files). t name) (same_Some _ _ is_told) ∙ is_bytes) in
           subst (λ b. GivesNext n into name place b new) same_bytes
-            (subst (λ p. GivesNext n into name p file.bytes new) same.1
-              (subst (λ m. GivesNext n into m spot.place file.bytes new) same.0 gives));
+          (subst (λ p. GivesNext n into name p file.bytes new) same.1
+          (subst (λ m. GivesNext n into m spot.place file.bytes new) same.0 gives));
     }
 
 -- and how much it gives
@@ -151,7 +154,7 @@ gives_up_to files reading spot file n want piece is_open within there gives name
     let same = is_open_file files reading spot file is_open within there name place opened in
     let same_bytes : file.bytes ≡ bytes = same_Some _ _ (sym same.2 ∙ is_bytes) in
     gives ∙ ap (λ b. min (min (length b - spot.place) want) piece) same_bytes
-      ∙ ap (λ p. min (min (length bytes - p) want) piece) same.1
+    ∙ ap (λ p. min (min (length bytes - p) want) piece) same.1
 
 -- what is None isn't there
 pub none_is_not_some : (held : Option (List ℕ)) → held ≡ None → IsSome held → ⊥

@@ -1,5 +1,5 @@
 -- A store in memory: what it was made with, what it tells, and exactly when its calls fail.
-use Rattle.std.specs.Prelude.{◌≡◌, ℕ, ◌+◌, ◌-◌, ◌↔◌, ◌⊎◌, min, List, length, Contains, IsNone, Result, IsErr, IfOk}
+use Rattle.std.specs.Prelude.{◌≡◌, ℕ, ◌-◌, ◌↔◌, ◌⊎◌, min, List, length, Contains, IsNone, Result, IsErr, IfOk}
 use Rattle.std.specs.Option.{ForSome}
 use Rattle.ca_store.specs.Store.{Files, Opened, Reading}
 use Rattle.ca_store.specs.Memory.{CallList, next_number, files_of, opened_of}
@@ -50,7 +50,7 @@ pub record ReadsExactly {E : Type 0} (into : List ℕ) (result : Result ℕ E) (
   pub fails : IsErr result ↔ Contains (settings_of old).fail (Read, (calls_of new).reads)
   pub gives : IfOk result (λ n. (name : List ℕ) (place : ℕ) → opened_by old ≡ Reading name place
       → ForSome (told_by old name) (λ bytes.
-          n ≡ min (min (length bytes - place) (length into)) (settings_of old).piece))
+      n ≡ min (min (length bytes - place) (length into)) (settings_of old).piece))
   pub counted : calls_of new ≡ record (calls_of old) { reads = next_number (calls_of old).reads }
   pub settings : settings_of new ≡ settings_of old
 

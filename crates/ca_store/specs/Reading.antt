@@ -1,5 +1,5 @@
 -- The reading of the open file, up to a limit.
-use Rattle.std.specs.Prelude.{◌≡◌, ◌<◌, ◌≤◌, ℕ, List, length, take, Bool, true, false, Option, Some, ⊤}
+use Rattle.std.specs.Prelude.{◌≡◌, ◌<◌, ℕ, List, length, take, Bool, true, false, Option}
 use Rattle.std.specs.Option.{ForSome}
 use Rattle.ca_store.specs.Store.{Files, Opened, Nothing, Reading, IsReading, Rose}
 use Rattle.ca_store.specs.declared.reading.ReadFault.{ReadFault}

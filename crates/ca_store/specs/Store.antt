@@ -1,5 +1,5 @@
 -- What a store of files and a sink of bytes mean to those who call them.
-use Rattle.std.specs.Prelude.{◌≡◌, ◌<◌, ◌≤◌, ℕ, ◌+◌, ◌-◌, ◌^◌, List, [], ◌++◌, length, take, drop}
+use Rattle.std.specs.Prelude.{◌≡◌, ◌<◌, ◌≤◌, ℕ, ◌+◌, ◌-◌, ◌^◌, List, ◌++◌, length, take, drop}
 use Rattle.std.specs.Prelude.{Option, Some, None, IsSome, IsNone, IsSomeAnd, Result, IsErr, OnOk, OnErr}
 use Rattle.std.specs.Option.{ForSome}
 

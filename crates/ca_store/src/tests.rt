@@ -97,7 +97,11 @@ fn a_sink_takes_what_fits(rt: HostRuntime) -> Result<(), Fail> {
         (9, 2, "abc", Ok(()), "abc", 0),
     ] {
         let mut sink = MemSink::new(alloc, room, only(alloc, StoreCall::Write, number)?)?;
-        assert_eq!(rt; write_all(&mut sink, bytes.as_bytes()), want, "{bytes} into {room}");
+        assert_eq!(rt;
+            write_all(&mut sink, bytes.as_bytes()),
+            want,
+            "{bytes} into {room}"
+        );
         assert_eq!(rt; sink.bytes(), held.as_bytes(), "{bytes} into {room}");
         assert_eq!(rt; sink.faults(), faults, "{bytes} into {room}");
     }

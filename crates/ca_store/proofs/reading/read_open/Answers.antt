@@ -23,9 +23,9 @@ returns-then-n-eq0-clause-read g c = λ name start told is_told bytes is_bytes.
     let still_told = c.chunks.invariant.files ∙ is_told in
     let next = c.in_ok-n.ensures.ok.next name _ before.place told still_told bytes is_bytes in
     is_whole name bytes _ c.chunks.text before
-      (next.at_end (search rules) (omega (arith, c.read.auto.into, length-take {A = ℕ})))
+    (next.at_end (search rules) (omega (arith, c.read.auto.into, length-take {A = ℕ})))
 
 pub returns-clause-read : goal.returns-clause-read
 returns-clause-read g c = λ name start told is_told bytes is_bytes.
     past_limit name bytes _ c.chunks.text c.args.limit
-      (c.chunks.invariant.so_far name start told is_told bytes is_bytes) (omega arith)
+    (c.chunks.invariant.so_far name start told is_told bytes is_bytes) (omega arith)

@@ -15,4 +15,4 @@ pieces-preserved g c = record {
 pub returns-in_err-done-clause-err : goal.returns-in_err-done-clause-err
 returns-in_err-done-clause-err g c =
     at_err c.from_residual.result _
-      (part_so_far c.args.bytes.now c.pieces.done _ _ _ c.pieces.invariant.appended c.in_err-done.ensures.err)
+    (part_so_far c.args.bytes.now c.pieces.done _ _ _ c.pieces.invariant.appended c.in_err-done.ensures.err)

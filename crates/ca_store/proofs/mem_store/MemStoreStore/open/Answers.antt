@@ -20,7 +20,7 @@ returns-then-lists-clause-cause c = record {
 pub invariant_of-self-2-clause-at_place : goal.invariant_of-self-2-clause-at_place
 invariant_of-self-2-clause-at_place c = λ spot is_spot.
     subst (IsOpenWithin c.args.self.now.files) (same_Some _ _ is_spot)
-      (within_at c.args.self.now.files c.args.name.now c.in-Some.file (search rules))
+    (within_at c.args.self.now.files c.args.name.now c.in-Some.file (search rules))
 
 pub returns-clause-ok : goal.returns-clause-ok
 returns-clause-ok c = opens_file c.args.self.now.files c.args.name.now c.in-Some.file (search rules)
