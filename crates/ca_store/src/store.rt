@@ -1,5 +1,5 @@
 //! A store of files, of which at most one is open at a time.
-ghost use Rattle.std.specs.Prelude.{◌≡◌, ◌≤◌, ◌<◌, ◌+◌, ◌-◌, ◌^◌, ℕ, Option, min, IfOk, OnOk, OnErr, IsErr};
+ghost use Rattle.std.specs.Prelude.{◌≡◌, ◌≤◌, ◌<◌, ◌^◌, ℕ, Option, IfOk, OnOk, OnErr};
 ghost use Rattle.ca_store.specs.Store.{Files, Opened, Nothing, IsReading, IsOpen, Rose, KeepsCount};
 ghost use Rattle.ca_store.specs.Store.{FailsAtMissing, OpensFile, ReadsOn};
 ghost use Rattle.ca_store.specs.Memory.{next_number};
