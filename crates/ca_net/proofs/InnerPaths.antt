@@ -3,7 +3,7 @@ use Rattle.std.proofs.Common.{◌≡◌, ℕ, ◌<◌, ◌≤◌, List, inl, inr
 use Rattle.ca_net.specs.declared.scale.TheConstants.{INPUT}
 use Rattle.ca_net.specs.declared.trit.Trit.{Trit}
 use Rattle.ca_net.specs.declared.device.Device.{Device}
-use Rattle.ca_net.specs.Circuit.{Circuit, IsWellFormed, HasStrength, kind_at, IsStorage}
+use Rattle.ca_net.specs.Circuit.{Circuit, IsWellFormed, HasStrength, kind_at}
 use Rattle.ca_net.specs.Conduction.{Links}
 use Rattle.ca_net.specs.Path.{Path, Root, Via, end_of, IsOn, IsPath, IsDefinite, strength_of, root_strength}
 use Rattle.ca_net.specs.Response.{IsBlocked}

@@ -4,12 +4,10 @@ use Rattle.std.specs.Prelude.{Some}
 use Rattle.std.proofs.Math.Decide.{dec_le}
 use native.Mathlib.Decide.{ℕ_discrete}
 use Rattle.std.proofs.lemmas.List.{get_or-replicate, length-replicate, get_or_past}
-use Rattle.ca_net.specs.declared.search.PathKind.{PathKind}
 use Rattle.ca_net.specs.declared.search.PathKind.TheVariants.{Definite, Potential}
 use Rattle.ca_net.specs.declared.trit.Trit.{Trit}
 use Rattle.ca_net.specs.declared.node.NodeKind.{NodeKind}
 use Rattle.ca_net.specs.declared.node.NodeKind.TheVariants.{Input, Storage}
-use Rattle.ca_net.specs.declared.device.Device.{Device}
 use Rattle.ca_net.specs.Circuit.{Circuit, IsWellFormed, HasSize, HasStrength, kind_at}
 use Rattle.ca_net.specs.Path.{Path, Root, Via, root_of, end_of, strength_of, root_strength, IsPath, IsPotential, IsDefinite}
 use Rattle.ca_net.specs.Response.{HasStronger, IsBlocked}

@@ -6,7 +6,6 @@ use Rattle.ca_net.specs.declared.node.NodeKind.{NodeKind}
 use Rattle.ca_net.specs.declared.node.NodeKind.TheVariants.{Input, Storage}
 use Rattle.ca_net.specs.declared.wave.Wave.{Wave}
 use Rattle.ca_net.specs.Trit.{IsBelow, meet_of}
-use Rattle.ca_net.specs.State.{value_at}
 
 -- the middle is at or below the first and the last
 pub record IsWave (wave : Wave) : Type 0 where

@@ -2,7 +2,7 @@ use Rattle.std.proofs.Common.{◌≡◌, ◌≢◌, ◌≤◌, get_or, arith, su
 use Rattle.std.proofs.lemmas.Option.{get_or_from_slice_get}
 use Rattle.ca_net.specs.declared.node.NodeKind.TheVariants.{Input}
 use Rattle.ca_net.specs.Search.{PassesAt}
-use Rattle.ca_net.specs.Circuit.{IsStorage, kind_at}
+use Rattle.ca_net.specs.Circuit.{kind_at}
 use Rattle.ca_net.proofs.Hops.{named_at, links_within, hop_by, same_node, unmarked_at}
 use Rattle.ca_net.proofs.search.hop.Goals as goal
 use Rattle.ca_net.proofs.search.hop.Goals.{else-is_storage-via-then-is_storage+then-not-on_path-next+then-passes+else-floor-next, else-is_storage-via-then-is_storage+then-not-on_path-next+else-passes, else-is_storage-via-then-is_storage+else-not-on_path-next, else-is_storage-via-else-is_storage}
