@@ -1,0 +1,4 @@
+pub mod VectorLemmas
+pub mod WriteLemmas
+pub mod TurnLemmas
+pub mod PhaseLemmas
