@@ -1,5 +1,5 @@
 -- Vectors that waves of the input nodes give.
-use Rattle.std.proofs.Common.{◌≡◌, ℕ, zero, suc, ◌+◌, ◌<◌, List, [], ◌∷◌, length, take, map, inl, refl, sym, ◌∙◌, ap, subst, arith, get_or}
+use Rattle.std.proofs.Common.{◌≡◌, ℕ, zero, suc, ◌+◌, ◌++◌, ◌<◌, List, [], ◌∷◌, length, take, map, inl, refl, sym, ◌∙◌, ap, subst, arith, get_or}
 use Rattle.std.specs.List.{All}
 use Rattle.std.proofs.lemmas.List.{get_or_past, get_or-map}
 use Rattle.std.specs.Prelude.{Some, slice_get}
@@ -99,3 +99,9 @@ module _ (kinds : List NodeKind) (waves : List Wave) where
   pub mids_of_pairs : All IsPair waves → (n : ℕ)
       → value_at (at_inputs kinds (mids waves)) n ≡ meet_of (value_at (at_inputs kinds (firsts waves)) n) (value_at (at_inputs kinds (lasts waves)) n)
   mids_of_pairs all = vectors_related (λ first mid last. mid ≡ meet_of first last) refl kinds waves all
+
+-- one more kind counts as one where it is that of an input node
+pub input_count_push : (kinds : List NodeKind) (kind : NodeKind) → input_count (kinds ++ kind ∷ []) ≡ input_count kinds + input_count (kind ∷ [])
+input_count_push [] kind = omega arith
+input_count_push (Input ∷ kinds) kind = let h = input_count_push kinds kind in omega arith
+input_count_push (Storage size ∷ kinds) kind = input_count_push kinds kind
