@@ -1,22 +1,19 @@
 -- From the state in which a phase begins to the limit with which it ends.
-use Rattle.std.proofs.Common.{◌≡◌, ℕ, ◌<◌, List, length, take, get_or, inl, inr, refl, sym, ◌∙◌, ap, subst}
+use Rattle.std.proofs.Common.{◌≡◌, ℕ, List, length, inl, inr, sym, ◌∙◌, subst}
 use Rattle.ca_net.specs.declared.trit.Trit.{Trit}
 use Rattle.ca_net.specs.declared.wave.Wave.{Wave}
 use Rattle.std.specs.List.{All}
 use Rattle.ca_net.specs.Trit.{IsBelow}
-use Rattle.ca_net.specs.declared.node.NodeKind.{NodeKind}
-use Rattle.ca_net.specs.declared.node.NodeKind.TheVariants.{Input, Storage}
-use Rattle.ca_net.specs.Circuit.{Circuit, IsWellFormed, kind_at, IsInput}
-use Rattle.ca_net.specs.State.{IsState, IsStateBelow, value_at}
+use Rattle.ca_net.specs.Circuit.{Circuit, IsWellFormed, IsInput}
+use Rattle.ca_net.specs.State.{IsStateBelow, value_at}
 use Rattle.ca_net.specs.Limits.{IsFixed, AboveAtStorage, IsFirstLimit, IsMiddleLimit, IsLastLimit, AreLimits}
-use Rattle.ca_net.proofs.StateLemmas.{storage_within, IsBelow-trans}
+use Rattle.ca_net.proofs.StateLemmas.{IsBelow-trans}
 use Rattle.ca_net.proofs.HeldStates.{held_response}
-use Rattle.ca_settle.specs.declared.start.Phase.{Phase}
-use Rattle.ca_settle.specs.Phase.{value_in, vector_in, IsUnknown, Begins}
-use Rattle.ca_net.specs.Wave.{IsWave, input_count, at_inputs, firsts, mids, lasts}
+use Rattle.ca_settle.specs.Phase.{IsUnknown, Begins}
+use Rattle.ca_net.specs.Wave.{IsWave, at_inputs, firsts, mids, lasts}
 use Rattle.ca_settle.specs.Settled.{AreWaves}
 use Rattle.ca_settle.specs.Turns.{IsHeldUp, RisesTo, FallsTo}
-use Rattle.ca_settle.proofs.VectorLemmas.{value_at-vector_in, mids_below_firsts, mids_below_lasts}
+use Rattle.ca_settle.proofs.VectorLemmas.{mids_below_firsts, mids_below_lasts}
 use Rattle.ca_settle.proofs.TurnLemmas.{by_node, unknown_past}
 
 -- a state that begins a phase over the vector v with the storage nodes of m
@@ -67,22 +64,18 @@ module _ (net : Circuit) (v m b : List Trit) (begins : Begins net v m b) where
         (λ n i. subst (λ x. IsBelow x (value_at m n)) (sym (begins.inputs n i)) (below n i))
         (λ n le. inl (unknown_past net b n begins.is_state le))
 
-  -- where no value is held, each storage node is at or below its response
-  pub unknown_held : IsUnknown m → IsHeldUp net b
-  unknown_held unknown n st r responds = inl (begins.stored n st ∙ unknown n)
-
--- the first two phases: over v1 up from an unknown state, and over vm down from the first limit
-pub record ArePhases (net : Circuit) (v1 vm v2 start1 first start2 middle : List Trit) : Type 0 where
+-- the first two phases ended with their limits
+pub record ArePhases (net : Circuit) (v1 vm v2 first middle : List Trit) : Type 0 where
   pub well_formed : IsWellFormed net
   pub below_last : IsStateBelow vm v2
   pub is_first : IsFirstLimit net v1 first
   pub is_middle : IsMiddleLimit net vm first middle
 
--- the first two phases end with their limits
+-- up over the firsts from an unknown state, and down over the middles from the first limit, the phases end with limits
 pub phases : (net : Circuit) (waves : List Wave) {unknown start1 first start2 middle : List Trit} → IsWellFormed net → All IsWave waves → IsUnknown unknown
     → Begins net (at_inputs net.nodes (firsts waves)) unknown start1 → RisesTo net start1 first
     → Begins net (at_inputs net.nodes (mids waves)) first start2 → FallsTo net start2 middle
-    → ArePhases net (at_inputs net.nodes (firsts waves)) (at_inputs net.nodes (mids waves)) (at_inputs net.nodes (lasts waves)) start1 first start2 middle
+    → ArePhases net (at_inputs net.nodes (firsts waves)) (at_inputs net.nodes (mids waves)) (at_inputs net.nodes (lasts waves)) first middle
 phases net waves {unknown} {start1} {first} {start2} {middle} well_formed all none first_begins first_rises middle_begins middle_falls = record {
   well_formed = well_formed;
   below_last = mids_below_lasts net.nodes waves all;
@@ -94,7 +87,7 @@ phases net waves {unknown} {start1} {first} {start2} {middle} well_formed all no
   is_first : IsFirstLimit net (at_inputs net.nodes (firsts waves)) first
   is_first = first_limit net _ unknown start1 first_begins first none first_rises
 
-module _ (net : Circuit) {v1 vm v2 start1 first start2 middle : List Trit} (h : ArePhases net v1 vm v2 start1 first start2 middle) where
+module _ (net : Circuit) {v1 vm v2 first middle : List Trit} (h : ArePhases net v1 vm v2 first middle) where
   -- the state in which the last phase begins is held up by its responses
   pub middle_held : {start3 : List Trit} → Begins net v2 middle start3 → IsHeldUp net start3
   middle_held {start3} begins n st r responds =
@@ -137,33 +130,3 @@ limits_are_waves net {v1 = v1} {vm} {v2} {first = first} {middle} {last} room ro
   below_first = limits.is_middle.held.below_first;
   below_last = middle_below_last net v1 vm v2 first middle last below limits;
 }
-
--- an input begins at the vector's value, and a storage node at what is held
-abbrev pub value_begun : NodeKind → Trit → Trit → Trit
-value_begun Input given held = given
-value_begun (Storage size) given held = held
-
-begun_input : (kind : NodeKind) (given held : Trit) → kind ≡ Input → value_begun kind given held ≡ given
-begun_input Input given held is = refl
-begun_input (Storage size) given held is = cc
-
-begun_storage : (kind : NodeKind) (given held : Trit) → (kind ≡ Input → ⊥) → value_begun kind given held ≡ held
-begun_storage Input given held is = absurd (is refl)
-begun_storage (Storage size) given held is = refl
-
-pub all_begun : (net : Circuit) (v held s : List Trit) → IsState net s
-    → ((n : ℕ) → n < length net.nodes → value_at s n ≡ value_begun (kind_at net n) (value_at v n) (value_at held n)) → Begins net v held s
-all_begun net v held s is begun = record {
-  is_state = is;
-  inputs = λ n i. begun n i.0 ∙ begun_input (kind_at net n) _ _ i.1;
-  stored = λ n st. begun n (storage_within net n st) ∙ begun_storage (kind_at net n) _ _ st;
-}
-
--- an input's wave gives the value that the input begins at
-pub begun_at_input : (phase : Phase) (net : Circuit) (waves : List Wave) (n place : ℕ) (wave : Wave) (v held : Trit) → n < length net.nodes
-    → kind_at net n ≡ Input → place ≡ input_count (take n net.nodes) → place < length waves → v ≡ value_in phase (get_or waves place wave)
-    → v ≡ value_begun (kind_at net n) (value_at (vector_in phase net waves) n) held
-begun_at_input phase net waves n place wave v held lt is placed within given =
-    given ∙ ap (λ k. value_in phase (get_or waves k wave)) placed
-    ∙ sym (value_at-vector_in phase net waves n wave lt is (subst (λ k. k < length waves) placed within))
-    ∙ sym (begun_input (kind_at net n) (value_at (vector_in phase net waves) n) held is)

@@ -71,7 +71,7 @@ pub(crate) fn rise<N: Network>(net: &N, at: &mut State, next: &mut State, marks:
     ensures marks { marks.new ≡ marks.old }
 {
     settle_all(net, at, next, marks);
-    while !is_same(at, next) {
+    'rising: while !is_same(at, next) {
         mem::swap(at, next);
         settle_all(net, at, next, marks);
     }
@@ -88,7 +88,7 @@ pub(crate) fn fall<N: Network>(net: &N, at: &mut State, next: &mut State, marks:
     ensures marks { marks.new ≡ marks.old }
 {
     blur_all(net, at, next, marks);
-    while !is_same(at, next) {
+    'falling: while !is_same(at, next) {
         mem::swap(at, next);
         blur_all(net, at, next, marks);
     }

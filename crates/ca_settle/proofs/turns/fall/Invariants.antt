@@ -4,13 +4,13 @@ use Rattle.ca_settle.specs.Turns.{AreBlurred}
 use Rattle.ca_settle.proofs.TurnLemmas.{Falls}
 use Rattle.ca_settle.proofs.turns.fall.Given as goal
 
-abbrev pub invariant-loop-at : goal.invariant-loop-at
-invariant-loop-at g l = record {
+abbrev pub invariant-falling : goal.invariant-falling
+invariant-falling g l = record {
   marks : l.marks ≡ l.fn.marks;
   falls : Falls (g.N.Network.circuit l.net) l.fn.at l.at;
   blurred : AreBlurred (g.N.Network.circuit l.net) l.at l.next;
 }
 
 -- how many values are 0 or 1
-abbrev pub decreases-loop-at : goal.decreases-loop-at
-decreases-loop-at g l = definites l.at
+abbrev pub decreases-falling : goal.decreases-falling
+decreases-falling g l = definites l.at

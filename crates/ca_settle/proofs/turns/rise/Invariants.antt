@@ -4,13 +4,13 @@ use Rattle.ca_net.proofs.StateLemmas.{definites}
 use Rattle.ca_settle.proofs.TurnLemmas.{Rises}
 use Rattle.ca_settle.proofs.turns.rise.Given as goal
 
-abbrev pub invariant-loop-at : goal.invariant-loop-at
-invariant-loop-at g l = record {
+abbrev pub invariant-rising : goal.invariant-rising
+invariant-rising g l = record {
   marks : l.marks ≡ l.fn.marks;
   rises : Rises (g.N.Network.circuit l.net) l.fn.at l.at;
   responses : AreResponses (g.N.Network.circuit l.net) l.at l.next;
 }
 
 -- how many values are X
-abbrev pub decreases-loop-at : goal.decreases-loop-at
-decreases-loop-at g l = length l.at - definites l.at
+abbrev pub decreases-rising : goal.decreases-rising
+decreases-rising g l = length l.at - definites l.at
