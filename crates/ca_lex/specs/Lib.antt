@@ -1,0 +1,10 @@
+-- What the contracts of this crate say, in reading order.
+pub mod Words
+pub mod Physical
+pub mod Lines
+pub mod Joining
+pub mod Length
+pub mod LengthViews
+pub mod LengthGrammar
+pub mod FirstFault
+pub mod Reading

@@ -1,0 +1,5 @@
+pub mod Digits
+pub mod FirstFaultLemmas
+pub mod GrammarLemmas
+pub mod LineLemmas
+pub mod WordLemmas

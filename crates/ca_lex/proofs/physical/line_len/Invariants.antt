@@ -1,0 +1,9 @@
+use Rattle.std.proofs.Common.{◌≡◌, ◌+◌, length}
+use Rattle.ca_lex.specs.Physical.{line_len}
+use Rattle.ca_lex.proofs.physical.line_len.Given as goal
+
+abbrev pub invariant-bytes : goal.invariant-bytes
+invariant-bytes l = (l.len + line_len l.rest ≡ line_len l.text) × (l.len + length l.rest ≡ length l.text)
+
+abbrev pub decreases-bytes : goal.decreases-bytes
+decreases-bytes l = length l.rest
