@@ -1,5 +1,9 @@
-pub mod Digits
+pub mod DigitLemmas
+pub mod ExponentLemmas
 pub mod FirstFaultLemmas
 pub mod GrammarLemmas
 pub mod LineLemmas
+pub mod PointLemmas
+pub mod RunLemmas
+pub mod SuffixLemmas
 pub mod WordLemmas

@@ -33,7 +33,11 @@ pub record Mantissa : Type 0 where
 unfoldable pub fraction_at : List ℕ → List ℕ → Mantissa
 fraction_at whole [] = record { digits = whole; places = 0; rest = [] }
 fraction_at whole (byte ∷ more) = if byte == 46
-    then record { digits = whole ++ take (digits_len more) more; places = digits_len more; rest = drop (digits_len more) more }
+    then record {
+      digits = whole ++ take (digits_len more) more;
+      places = digits_len more;
+      rest = drop (digits_len more) more;
+    }
     else record { digits = whole; places = 0; rest = byte ∷ more }
 
 -- the digits and the point that a word begins with
@@ -72,7 +76,8 @@ is_e byte = byte == 69 || byte == 101
 -- an exponent, or none
 unfoldable pub exponent_at : List ℕ → Option Shift
 exponent_at [] = Some (record { right = 0; left = 0; rest = [] })
-exponent_at (byte ∷ more) = if is_e byte then signed_at more else Some (record { right = 0; left = 0; rest = byte ∷ more })
+exponent_at (byte ∷ more) = if is_e byte then signed_at more
+    else Some (record { right = 0; left = 0; rest = byte ∷ more })
 
 -- M in either case
 abbrev pub is_m : ℕ → Bool
@@ -110,5 +115,6 @@ unfoldable pub length_of : List ℕ → Option ℕ
 length_of word = if has_digits (mantissa_of word).digits then (do
   exponent ← exponent_at (mantissa_of word).rest
   suffix ← suffix_of exponent.rest
-  in_range (scaled (number_of (mantissa_of word).digits) (18 + exponent.right) ((mantissa_of word).places + exponent.left + suffix)))
+  in_range (scaled (number_of (mantissa_of word).digits) (18 + exponent.right)
+      ((mantissa_of word).places + exponent.left + suffix)))
     else None

@@ -52,6 +52,7 @@ pub record IsLength (word : List ℕ) (value : ℕ) : Type 0 where
   pub suffix_form : IsSuffix suffix places
   pub some : 1 ≤ length (whole ++ fraction)
   pub few : length (whole ++ fraction) ≤ 32
-  pub scale : value ≡ number_of (whole ++ fraction) * 10 ^ (18 + right) / 10 ^ (length fraction + left + places)
+  pub scale : value
+      ≡ number_of (whole ++ fraction) * 10 ^ (18 + right) / 10 ^ (length fraction + left + places)
   pub least : 1 ≤ value
   pub most : value ≤ 10 ^ 24

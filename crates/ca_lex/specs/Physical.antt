@@ -42,7 +42,8 @@ card_of (byte ∷ text) = Card (byte ∷ text)
 unfoldable pub physical_at : List ℕ → Physical
 physical_at [] = Nothing
 physical_at (byte ∷ more) =
-    if byte == 42 then (if is_pin_info (byte ∷ more) then PinInfo (without_comment (byte ∷ more)) else Nothing)
+    if byte == 42 then
+    (if is_pin_info (byte ∷ more) then PinInfo (without_comment (byte ∷ more)) else Nothing)
     else (if byte == 43 then Continuation (without_comment more) else card_of (without_comment (byte ∷ more)))
 
 -- what a line is, which the bytes behind its blanks decide

@@ -9,18 +9,12 @@ ghost use Rattle.ca_lex.specs.FirstFault.{steps_from, IsFirstFault};
 pub fn length_grammar()
     ensures found { (word : List ℕ) (value : ℕ) → length_of word ≡ Some value → IsLength word value }
     ensures only { (word : List ℕ) (value : ℕ) → IsLength word value → length_of word ≡ Some value }
-{
-}
+{}
 
 /// A reading item by item has a fault exactly where that is the fault of the first item that has one.
 pub fn first_fault<Item, State, Fault>()
-    ensures found {
-        (step : Item → State → Result State Fault) (start : State) (items : List Item) (fault : Fault)
-            → steps_from step start items ≡ Err fault → IsFirstFault step start items fault
-    }
-    ensures only {
-        (step : Item → State → Result State Fault) (start : State) (items : List Item) (fault : Fault)
-            → IsFirstFault step start items fault → steps_from step start items ≡ Err fault
-    }
-{
-}
+    ensures found { (step : Item → State → Result State Fault) (start : State) (items : List Item) (fault : Fault)
+        → steps_from step start items ≡ Err fault → IsFirstFault step start items fault }
+    ensures only { (step : Item → State → Result State Fault) (start : State) (items : List Item) (fault : Fault)
+        → IsFirstFault step start items fault → steps_from step start items ≡ Err fault }
+{}

@@ -83,7 +83,13 @@ fn suffix_of(text: &[u8]) -> Option<u32>
     match text {
         [] => Some(0),
         [letter] => places_of(*letter),
-        [letter, second] => { if is_m(*second) { places_of(*letter) } else { None } }
+        [letter, second] => {
+            if is_m(*second) {
+                places_of(*letter)
+            } else {
+                None
+            }
+        }
         [_, _, _, ..] => None,
     }
 }

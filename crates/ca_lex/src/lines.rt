@@ -72,10 +72,8 @@ impl Joiner {
 
     /// Adds the next physical line, which has this number.
     fn add(&mut self, alloc: Global, line: usize, piece: Piece<'_>) -> Result<(), NoMemory>
-        ensures ok {
-            OnOk result (TakesOver self.old.lines.items self.old.last line (physical piece.entry)
-                self.new.lines.items self.new.last)
-        }
+        ensures ok { OnOk result (TakesOver self.old.lines.items self.old.last line (physical piece.entry)
+            self.new.lines.items self.new.last) }
     {
         match piece {
             Piece::Nothing => {}

@@ -1,7 +1,7 @@
 use Rattle.std.proofs.Common.{arith, ◌-◌, ap, sym, ◌∙◌, get_or}
 use Rattle.std.proofs.lemmas.List.Sums.{fold_more}
 use Rattle.ca_lex.specs.Length.{with_digit}
-use Rattle.ca_lex.proofs.Digits.{digit_behind, room_so_far}
+use Rattle.ca_lex.proofs.DigitLemmas.{digit_behind, room_so_far}
 use Rattle.ca_lex.proofs.length.with_digits.Goals as goal
 
 pub overflow_mul-value : goal.overflow_mul-value

@@ -7,24 +7,24 @@ returns-in-Nothing c = record { ok = λ more. rw c.in-Nothing.is (nothing_adds _
 pub returns-in_ok-append-in-Some : goal.returns-in_ok-append-in-Some
 returns-in_ok-append-in-Some c = record {
   ok = λ more. rw (c.in-Continuation.is, c.in-Some.is)
-    (more_adds _ c.in-Some.card _ c.in-Continuation.text.now _ more (cc (c.in_ok-append-in-Some.ensures.ok, c.in_ok-push-in-Some.ensures.ok)));
+      (more_adds _ c.in-Some.card _ c.in-Continuation.text.now _ more (cc (c.in_ok-append-in-Some.ensures.ok, c.in_ok-push-in-Some.ensures.ok)));
 }
 
 pub returns-in_ok-push-in-None : goal.returns-in_ok-push-in-None
 returns-in_ok-push-in-None c = record {
   ok = λ more. rw (c.in-Continuation.is, c.in-None.is)
-    (stray_adds _ _ _ c.in-Continuation.text.now more (cc (c.in_ok-push-in-None.ensures.items, c.in_ok-text-in-None.ensures.ok)));
+      (stray_adds _ _ _ c.in-Continuation.text.now more (cc (c.in_ok-push-in-None.ensures.items, c.in_ok-text-in-None.ensures.ok)));
 }
 
 pub returns-in_ok-push-in-PinInfo : goal.returns-in_ok-push-in-PinInfo
 returns-in_ok-push-in-PinInfo c = record {
   ok = λ more. rw c.in-PinInfo.is
-    (info_adds _ _ _ _ _ c.in-PinInfo.text.now more
-    (cc (c.in_ok-push-in-PinInfo.ensures.items, c.in_ok-close-in-PinInfo.ensures.lines, c.in_ok-text-in-PinInfo.ensures.ok)) c.in_ok-close-in-PinInfo.ensures.none);
+      (info_adds _ _ _ _ _ c.in-PinInfo.text.now more
+      (cc (c.in_ok-push-in-PinInfo.ensures.items, c.in_ok-close-in-PinInfo.ensures.lines, c.in_ok-text-in-PinInfo.ensures.ok)) c.in_ok-close-in-PinInfo.ensures.none);
 }
 
 pub returns-in_ok-text-in-Card : goal.returns-in_ok-text-in-Card
 returns-in_ok-text-in-Card c = record {
   ok = λ more. rw (c.in-Card.is, ← c.in_ok-text-in-Card.ensures.ok)
-    (card_adds _ _ _ _ c.in_ok-text-in-Card.text more c.in_ok-close-in-Card.ensures.lines);
+      (card_adds _ _ _ _ c.in_ok-text-in-Card.text more c.in_ok-close-in-Card.ensures.lines);
 }
