@@ -1,5 +1,5 @@
 //! A list of texts.
-ghost use Rattle.std.specs.Prelude.{◌≡◌, ◌<◌, ◌↔◌, ℕ, List, [], ◌∷◌, ◌++◌, length, slice_get, IsTrue, OnOk, OnErr};
+ghost use Rattle.std.specs.Prelude.{◌≡◌, ◌<◌, ◌↔◌, ℕ, List, [], ◌∷◌, ◌++◌, length, slice_get, IsTrue, IfOk, OnOk, OnErr};
 
 use crate::Text;
 use ca_base::NoMemory;
@@ -55,6 +55,17 @@ impl Names {
         ensures { result.now ≡ self.now }
     {
         &self.names
+    }
+
+    /// A list of its own with the same texts.
+    pub fn copy(&self, alloc: Global) -> Result<Self, NoMemory>
+        ensures ok { IfOk result (λ names. names ≡ self.now) }
+    {
+        let mut names = Names::new(alloc);
+        for name in self.as_slice() {
+            names.push(name.copy(alloc)?)?;
+        }
+        Ok(names)
     }
 
     /// Adds a text at the end. A text that finds no memory is dropped.

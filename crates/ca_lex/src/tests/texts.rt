@@ -39,5 +39,8 @@ fn names_stand_in_order(rt: HostRuntime) -> Result<(), Fail> {
     assert_eq!(rt; names.len(), 3);
     assert!(rt; names.get(1).is(b"A1"));
     assert!(rt; names.as_slice()[2].is(b"ZN"));
+    let copy = names.copy(alloc)?;
+    assert_eq!(rt; copy.len(), 3);
+    assert!(rt; copy.get(1).is(b"A1"));
     Ok(())
 }
