@@ -1,0 +1,43 @@
+-- The words of a command.
+use Rattle.std.specs.Prelude.{◌≡◌, ◌≢◌, ◌⊎◌, ℕ, List, [], length, codes, slice_index_or}
+use Rattle.std.specs.List.{All}
+
+-- the word at a place, counted from 0
+abbrev pub word_at : List (List ℕ) → ℕ → List ℕ
+word_at words place = slice_index_or words place []
+
+-- the name of the cell netlist's file
+abbrev pub cells_word : List (List ℕ) → List ℕ
+cells_word words = word_at words 1
+
+-- the name of the cell
+abbrev pub cell_word : List (List ℕ) → List ℕ
+cell_word words = word_at words 2
+
+-- the vector of a command that has one
+abbrev pub vector_word : List (List ℕ) → List ℕ
+vector_word words = word_at words 3
+
+-- a file name is not empty and not a dash
+pub record IsFileName (word : List ℕ) : Type 0 where
+  pub some : word ≢ []
+  pub no_dash : word ≢ codes "-"
+
+-- a letter of a vector: 0 or 1
+abbrev pub IsLetter : ℕ → Type 0
+IsLetter byte = (byte ≡ 48) ⊎ (byte ≡ 49)
+
+-- a vector is a dash, which stands for the empty one, or letters
+abbrev pub IsVector : List ℕ → Type 0
+IsVector word = (word ≡ codes "-") ⊎ ((word ≢ []) × All IsLetter word)
+
+-- the words are `respond CELLS CELL VECTOR`
+pub record IsRespond (words : List (List ℕ)) : Type 0 where
+  pub four : length words ≡ 4
+  pub command : word_at words 0 ≡ codes "respond"
+  pub file : IsFileName (cells_word words)
+  pub vector : IsVector (vector_word words)
+
+-- the words are those of a command
+abbrev pub IsCommand : List (List ℕ) → Type 0
+IsCommand words = IsRespond words

@@ -1,0 +1,159 @@
+//! What a command answers where it doesn't end well.
+ghost use Rattle.std.specs.Prelude.{◌≡◌, [], ◌++◌, codes, decimal, OnOk, OnErr};
+ghost use Rattle.ca_flow.specs.declared.fault.Fault.TheVariants as fault;
+ghost use Rattle.ca_store.specs.Store.{Rose, KeepsCount, appended, AppendsPart};
+
+use crate::pieces::write_pieces;
+use ca_base::NoMemory;
+use ca_lex::Text;
+use ca_store::{Failed, Sink};
+use itoa::Buffer;
+
+/// Why a command didn't end well. Words stand as they were typed.
+#[derive(Drop)]
+pub enum Fault {
+    /// The words are those of no command.
+    BadWords,
+    /// The cell netlist has no reading. Lines are counted from 1.
+    Cells { line: usize, kind: SpiceKind },
+    /// The cell netlist has no cell of this name.
+    NoCell { word: Text },
+    /// A vector has more or fewer letters than the cell has input pins.
+    BadVector { word: Text },
+    /// A file has more bytes than it may have. So many were taken of it.
+    TooLong { name: Text, taken: usize },
+    /// A file wasn't there, or the system failed at it.
+    StoreFailed { name: Text },
+    /// The output took no more bytes.
+    SinkFailed,
+    /// There was no memory.
+    NoMemory,
+}
+
+/// Why a cell netlist has no reading.
+#[derive(Clone, Copy, Debug, PartialEq, Eq)]
+pub enum SpiceKind {
+    /// The bytes aren't one subcircuit in the plain form.
+    NotPlain,
+}
+
+impl Fault {
+    ghost use Rattle.ca_flow.specs.Fault.{status_of, number_of, text_of, line_of};
+
+    /// The exit status that stands for the fault.
+    pub fn status(&self) -> u8
+        ensures { result ≡ status_of self.now }
+    {
+        match self {
+            Fault::BadWords => 1,
+            Fault::Cells { .. } | Fault::NoCell { .. } | Fault::BadVector { .. } => 2,
+            Fault::TooLong { .. } => 3,
+            Fault::StoreFailed { .. } | Fault::SinkFailed => 4,
+            Fault::NoMemory => 5,
+        }
+    }
+
+    /// Appends the line of the fault. It takes no memory. After `Failed` some of its first bytes were appended.
+    pub fn print<W: Sink>(&self, err: &mut W) -> Result<(), Failed>
+        ensures ok { OnOk result (W.bytes err.new ≡ appended (line_of self.now) (W.bytes err.old)) }
+        ensures err { OnErr result
+            (AppendsPart (line_of self.now) (W.bytes err.old) (W.bytes err.new)) }
+        ensures cause { OnErr result (Rose (W.faults err.old) (W.faults err.new)) }
+        ensures count { KeepsCount result (W.faults err.old) (W.faults err.new) }
+    {
+        let mut buffer = Buffer::new();
+        let text = self.text(buffer.format(self.number()).as_bytes());
+        write_pieces(
+            err,
+            &[
+                b"cellaware: ".as_slice(),
+                text.start,
+                text.word,
+                text.end,
+                b"\n".as_slice(),
+            ],
+        )
+    }
+
+    // The number in the text of the fault.
+    fn number(&self) -> usize
+        ensures { result ≡ number_of self.now }
+    {
+        match self {
+            Fault::Cells { line, .. } => *line,
+            _ => 0,
+        }
+    }
+
+    // The text of the fault, for which its number is written already.
+    fn text<'a>(&'a self, number: &'a [u8]) -> FaultText<'a>
+        requires { number.now ≡ decimal (number_of self.now) }
+        ensures { result.start.now ++ (result.word.now ++ result.end.now) ≡ text_of self.now }
+    {
+        match self {
+            Fault::BadWords => FaultText::plain(b"bad command line"),
+            Fault::Cells { kind, .. } => FaultText {
+                start: b"cells: line ",
+                word: number,
+                end: kind.text(),
+            },
+            Fault::NoCell { word } => FaultText::with_word(b"no cell ", word),
+            Fault::BadVector { word } => FaultText::with_word(b"bad vector: ", word),
+            Fault::TooLong { name, .. } => FaultText::with_word(b"file too long: ", name),
+            Fault::StoreFailed { name } => FaultText::with_word(b"file fault: ", name),
+            Fault::SinkFailed => FaultText::plain(b"output fault"),
+            Fault::NoMemory => FaultText::plain(b"out of memory"),
+        }
+    }
+}
+
+// The text of a fault in three parts, the middle one a word or a number.
+#[derive(Clone, Copy)]
+struct FaultText<'a> {
+    start: &'a [u8],
+    word: &'a [u8],
+    end: &'a [u8],
+}
+
+impl<'a> FaultText<'a> {
+    fn plain(start: &'a [u8]) -> Self
+        ensures { (result.start.now ≡ start.now) × (result.word.now ≡ []) × (result.end.now ≡ []) }
+    {
+        FaultText {
+            start,
+            word: &[],
+            end: &[],
+        }
+    }
+
+    fn with_word(start: &'a [u8], word: &'a Text) -> Self
+        ensures { (result.start.now ≡ start.now) × (result.word.now ≡ word.now) × (result.end.now ≡ []) }
+    {
+        FaultText {
+            start,
+            word: word.as_bytes(),
+            end: &[],
+        }
+    }
+}
+
+impl SpiceKind {
+    ghost use Rattle.ca_flow.specs.Fault.{kind_text};
+
+    // The text from the line's number on.
+    fn text(self) -> &'static [u8]
+        ensures { result.now ≡ codes ": " ++ kind_text self }
+    {
+        match self {
+            SpiceKind::NotPlain => b": NotPlain",
+        }
+    }
+}
+
+impl From<NoMemory> for Fault {
+    ghost from_gives = { λ _ e. e ≡ fault.NoMemory };
+
+    fn from(_: NoMemory) -> Self {
+        Fault::NoMemory
+    }
+}

@@ -1,0 +1,57 @@
+//! The command `respond`: the value to which each output pin of a cell settles under one vector.
+ghost use Rattle.std.specs.Prelude.{◌≡◌, ℕ, List, Some, IfErr, OnOk};
+ghost use Rattle.ca_store.specs.Store.{Nothing};
+ghost use Rattle.ca_flow.specs.Command.{IsSpelledRespond};
+ghost use Rattle.ca_flow.specs.Causes.{IsInputCause, TellsStoreFault, Ends};
+
+use crate::evaluate::evaluate;
+use crate::fault::Fault;
+use crate::finished::{Done, Finished, print_done, refused};
+use crate::inputs::read_cells;
+use crate::pin_values::PinValues;
+use crate::words::RespondWords;
+use ca_store::{Sink, Store};
+use std::alloc::Global;
+
+/// Does `respond` from its words to its printed lines.
+pub(crate) fn respond<S: Store, W: Sink>(
+    alloc: Global,
+    request: &RespondWords<'_>,
+    store: &mut S,
+    out: &mut W,
+) -> Finished
+    requires closed { S.opened store.old ≡ Nothing }
+
+    ensures ends { (words : List (List ℕ)) → IsSpelledRespond words request.now
+        → Ends words (S.files store.old)
+        (record { store_faults = S.faults store.old; sink_faults = W.faults out.old; bytes = W.bytes out.old })
+        (record { store_faults = S.faults store.new; sink_faults = W.faults out.new; bytes = W.bytes out.new })
+        result }
+    ensures closed { S.opened store.new ≡ Nothing }
+    ensures kept { S.files store.new ≡ S.files store.old }
+{
+    match find_values(alloc, request, store) {
+        Ok(values) => print_done(alloc, Done::Respond { values }, out),
+        Err(fault) => refused(fault),
+    }
+}
+
+// The values to print.
+fn find_values<S: Store>(
+    alloc: Global,
+    request: &RespondWords<'_>,
+    store: &mut S,
+) -> Result<PinValues, Fault>
+    requires closed { S.opened store.old ≡ Nothing }
+
+    ensures cause { IfErr result (IsInputCause request.now (S.files store.old)
+        (S.faults store.old) (S.faults store.new)) }
+    ensures quiet { OnOk result (S.faults store.new ≡ S.faults store.old) }
+    ensures told { IfErr result (λ fault.
+        TellsStoreFault (Some fault) (S.faults store.old) (S.faults store.new)) }
+    ensures closed { S.opened store.new ≡ Nothing }
+    ensures kept { S.files store.new ≡ S.files store.old }
+{
+    let bytes = read_cells(alloc, request.cells, store)?;
+    evaluate(alloc, bytes.as_bytes(), request)
+}

@@ -1,0 +1,176 @@
+//! Commands over a store and a sink in memory.
+
+use crate::{Done, Fault, Finished, run};
+use ca_base::NoMemory;
+use ca_lex::Text;
+use ca_store::{FailList, File, FileMap, MemSink, MemStore, StoreCall};
+use std::alloc::Global;
+use std::test::Fail;
+
+const NAND2: &str = "\
+.SUBCKT NAND2 A1 A2 ZN VDD VSS
+*.PININFO A1:I A2:I ZN:O VDD:P VSS:G
+MP1 ZN A1 VDD VDD PCH W=630n L=50n
+MP2 ZN A2 VDD VDD PCH W=630n L=50n
+MN1 ZN A1 N1 VSS NCH W=415n L=50n
+MN2 N1 A2 VSS VSS NCH W=415n L=50n
+.ENDS
+";
+
+// A transistor that is longer than wide pulls up against one that isn't.
+const RATIOED: &str = "\
+.SUBCKT RATIOED A Y ZN VDD VSS
+*.PININFO A:I Y:O ZN:O VDD:P VSS:G
+MP1 ZN VSS VDD VDD PCH W=99n L=100n
+MN1 ZN A VSS VSS NCH W=100n L=100n
+MP2 Y ZN VDD VDD PCH W=100n L=99n
+MN2 Y ZN VSS VSS NCH W=100n L=99n
+.ENDS
+";
+
+const TIE: &str = "\
+.SUBCKT TIE Z VDD VSS VDDA
+*.PININFO Z:O VDD:P VSS:G VDDA:P
+MP1 Z VSS VDDA VDD PCH W=1n L=1n
+.ENDS
+";
+
+// What a command left behind: its end, the bytes that it printed, and the line of its fault.
+#[derive(Drop)]
+struct Outcome {
+    end: Finished,
+    printed: MemSink,
+    line: MemSink,
+}
+
+// One command over a store with one file, n.sp, and a sink of this room.
+fn outcome_of(
+    alloc: Global,
+    bytes: &str,
+    line: &str,
+    room: usize,
+    fail: FailList,
+) -> Result<Outcome, NoMemory> {
+    let mut files = FileMap::new(alloc);
+    files.add(File {
+        name: Text::from_bytes(alloc, b"n.sp")?,
+        bytes: Text::from_bytes(alloc, bytes.as_bytes())?,
+    })?;
+    let mut words = Vec::new(alloc);
+    for word in line.split(' ') {
+        words.push(String::from_str(alloc, word)?)?;
+    }
+    let mut store = MemStore::new(alloc, files, 7, 0, fail)?;
+    let mut printed = MemSink::new(alloc, room, FailList::new(alloc))?;
+    let end = run(alloc, &words, &mut store, &mut printed);
+    let mut line = MemSink::new(alloc, 100, FailList::new(alloc))?;
+    if let Some(fault) = &end.fault {
+        let _ = fault.print(&mut line);
+    }
+    Ok(Outcome { end, printed, line })
+}
+
+#[test]
+fn each_line_ends_so(rt: HostRuntime) -> Result<(), Fail> {
+    let alloc = rt.alloc();
+    for (bytes, line, status, printed, told) in [
+        (NAND2, "respond n.sp NAND2 00", 0, "ZN=1\n", ""),
+        (NAND2, "respond n.sp NAND2 01", 0, "ZN=1\n", ""),
+        (NAND2, "respond n.sp NAND2 10", 0, "ZN=1\n", ""),
+        (NAND2, "respond n.sp nand2 11", 0, "ZN=0\n", ""),
+        (RATIOED, "respond n.sp RATIOED 0", 0, "Y=0\nZN=1\n", ""),
+        (RATIOED, "respond n.sp RATIOED 1", 0, "Y=1\nZN=0\n", ""),
+        (TIE, "respond n.sp TIE -", 0, "Z=1\n", ""),
+        (NAND2, "respond n.sp NAND2 1", 2, "", "bad vector: 1"),
+        (NAND2, "respond n.sp NAND2 -", 2, "", "bad vector: -"),
+        (NAND2, "respond n.sp NAND3 1", 2, "", "no cell NAND3"),
+        (NAND2, "respond m.sp NAND2 11", 4, "", "file fault: m.sp"),
+        (NAND2, "respond - NAND2 11", 1, "", "bad command line"),
+        (NAND2, "respond  NAND2 11", 1, "", "bad command line"),
+        (NAND2, "respond n.sp NAND2 12", 1, "", "bad command line"),
+        (NAND2, "respond n.sp NAND2 ", 1, "", "bad command line"),
+        (NAND2, "respond n.sp NAND2", 1, "", "bad command line"),
+        (NAND2, "respond n.sp NAND2 11 -", 1, "", "bad command line"),
+        (NAND2, "RESPOND n.sp NAND2 11", 1, "", "bad command line"),
+    ] {
+        let ended = outcome_of(alloc, bytes, line, 100, FailList::new(alloc))?;
+        assert_eq!(rt; ended.end.status, status, "at {line}");
+        assert_eq!(rt; ended.printed.bytes(), printed.as_bytes(), "at {line}");
+        let told = format!(in alloc; "cellaware: {told}\n")?;
+        let wanted = if status == 0 { "" } else { told.as_str() };
+        assert_eq!(rt; ended.line.bytes(), wanted.as_bytes(), "at {line}");
+    }
+    Ok(())
+}
+
+// Each row puts one piece in place of another.
+#[test]
+fn a_text_in_another_form_is_refused(rt: HostRuntime) -> Result<(), Fail> {
+    let alloc = rt.alloc();
+    for (old, new) in [
+        (".ENDS\n", ""),
+        (".ENDS\n", ".ENDS"),
+        (".ENDS\n", ".ENDS NAND2\n"),
+        (".SUBCKT", " .SUBCKT"),
+        ("NAND2 A1 A2", "nand2 A1 A2"),
+        ("A1 A2 ZN", "A1 A1 ZN"),
+        ("A1:I A2:I", "A2:I A1:I"),
+        ("VDD:P", "VDD:B"),
+        ("VDD:P", "VDD:O"),
+        ("ZN:O", "ZN:I"),
+        ("A2:I ", ""),
+        ("MP2", "MP1"),
+        ("MP2", "XP2"),
+        ("MP2 ZN", "MP2  ZN"),
+        ("MP2 ZN", "MP2 A1"),
+        ("VSS VSS NCH", "VSS VSS XCH"),
+        ("W=415n L=50n\nMN2", "L=50n W=415n\nMN2"),
+        ("W=415n L=50n\nMN2", "W=0n L=50n\nMN2"),
+        ("W=415n L=50n\nMN2", "W=100000n L=50n\nMN2"),
+        ("W=415n L=50n\nMN2", "W=415 L=50n\nMN2"),
+    ] {
+        let (before, after) = NAND2.split_once(old).expect(&rt, "the piece is there");
+        let text = format!(in alloc; "{before}{new}{after}")?;
+        let ended = outcome_of(
+            alloc,
+            &text,
+            "respond n.sp NAND2 11",
+            100,
+            FailList::new(alloc),
+        )?;
+        assert_eq!(rt; ended.end.status, 2, "at {new} for {old}");
+        assert_eq!(rt;
+            ended.line.bytes(),
+            b"cellaware: cells: line 1: NotPlain\n".as_slice(),
+            "at {new} for {old}"
+        );
+        assert_eq!(rt; ended.printed.bytes(), b"".as_slice(), "at {new} for {old}");
+    }
+    Ok(())
+}
+
+#[test]
+fn a_failed_call_is_told(rt: HostRuntime) -> Result<(), Fail> {
+    let alloc = rt.alloc();
+    for (call, number, room, printed, told) in [
+        (StoreCall::Open, 1, 9, "", "cellaware: file fault: n.sp\n"),
+        (StoreCall::Read, 1, 9, "", "cellaware: file fault: n.sp\n"),
+        (StoreCall::Read, 3, 9, "", "cellaware: file fault: n.sp\n"),
+        (StoreCall::Close, 1, 9, "", "cellaware: file fault: n.sp\n"),
+        (StoreCall::Read, 999, 0, "", "cellaware: output fault\n"),
+        (StoreCall::Read, 999, 2, "ZN", "cellaware: output fault\n"),
+    ] {
+        let mut fail = FailList::new(alloc);
+        fail.push(call, number)?;
+        let ended = outcome_of(alloc, NAND2, "respond n.sp NAND2 11", room, fail)?;
+        assert_eq!(rt; ended.end.status, 4);
+        assert_eq!(rt; ended.printed.bytes(), printed.as_bytes());
+        assert_eq!(rt; ended.line.bytes(), told.as_bytes());
+        let told_work = matches!(&ended.end.done, Some(Done::Respond { .. }));
+        assert_eq!(rt;
+            told_work,
+            matches!(&ended.end.fault, Some(Fault::SinkFailed))
+        );
+    }
+    Ok(())
+}
