@@ -5,3 +5,4 @@ pub mod PinLine
 pub mod Finished
 pub mod Causes
 pub mod Plain
+pub mod Outputs

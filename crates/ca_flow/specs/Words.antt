@@ -23,9 +23,9 @@ pub record IsFileName (word : List ℕ) : Type 0 where
   pub some : word ≢ []
   pub no_dash : word ≢ codes "-"
 
--- a letter of a vector: 0 or 1
+-- a letter of a vector: 0, 1 or X
 abbrev pub IsLetter : ℕ → Type 0
-IsLetter byte = (byte ≡ 48) ⊎ (byte ≡ 49)
+IsLetter byte = (byte ≡ 48) ⊎ ((byte ≡ 49) ⊎ (byte ≡ 88))
 
 -- a vector is a dash, which stands for the empty one, or letters
 abbrev pub IsVector : List ℕ → Type 0

@@ -5,6 +5,7 @@ mod evaluate;
 mod fault;
 mod finished;
 mod inputs;
+mod outputs;
 mod pieces;
 mod pin_values;
 mod plain;

@@ -52,5 +52,5 @@ fn is_vector(word: &str) -> bool
 fn is_letter(byte: u8) -> bool
     ensures { IsTrue result ↔ IsLetter byte }
 {
-    byte == b'0' || byte == b'1'
+    byte == b'0' || byte == b'1' || byte == b'X'
 }
