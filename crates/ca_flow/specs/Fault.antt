@@ -1,41 +1,48 @@
--- Faults: their statuses and their lines.
-use Rattle.std.specs.Prelude.{ℕ, List, ◌++◌, codes, decimal}
-use Rattle.ca_flow.specs.declared.fault.SpiceKind.{SpiceKind}
-use Rattle.ca_flow.specs.declared.fault.SpiceKind.TheVariants.{NotPlain}
+-- Why a command is refused.
+use Rattle.std.specs.Prelude.{◌≡◌, ◌⊎◌, ℕ, List, Option, ⊤}
+use Rattle.ca_store.specs.Store.{Files, MayHave, Rose}
+use Rattle.ca_store.specs.ReadFault.{IsTooLong}
+use Rattle.ca_flow.specs.declared.words.RespondWords.{RespondWords}
+use Rattle.ca_flow.specs.declared.inputs.TheConstants.{MAX_CELLS}
 use Rattle.ca_flow.specs.declared.fault.Fault.{Fault}
 use Rattle.ca_flow.specs.declared.fault.Fault.TheVariants.{BadWords, Cells, NoCell, BadVector, TooLong, StoreFailed, SinkFailed, NoMemory}
+use Rattle.ca_flow.specs.Words.{cells_word, cell_word, vector_word, IsCommand}
 
--- the exit status that stands for a fault
-abbrev pub status_of : Fault → ℕ
-status_of BadWords = 1
-status_of (Cells line kind) = 2
-status_of (NoCell word) = 2
-status_of (BadVector word) = 2
-status_of (TooLong name taken) = 3
-status_of (StoreFailed name) = 4
-status_of SinkFailed = 4
-status_of NoMemory = 5
+-- what is seen of a store and a sink: how often each failed, and the bytes that the sink holds, where it tells them
+pub record Outside : Type 0 where
+  pub store_faults : ℕ
+  pub sink_faults : ℕ
+  pub bytes : Option (List ℕ)
 
--- the number in the text of a fault, and 0 where it has none
-abbrev pub number_of : Fault → ℕ
-number_of (Cells line kind) = line
-number_of _ = 0
+-- why the file of this name could not be read up to a limit, with the store's count of faults before and after
+abbrev pub IsReadCause : List ℕ → Option Files → ℕ → ℕ → ℕ → Fault → Type 0
+IsReadCause name files limit before after (TooLong word taken) = (word ≡ name) × IsTooLong files name limit taken before after
+IsReadCause name files limit before after (StoreFailed word) = (word ≡ name) × (MayHave files name → Rose before after)
+IsReadCause name files limit before after NoMemory = ⊤
+IsReadCause name files limit before after _ = ⊥
 
--- the name of a kind
-abbrev pub kind_text : SpiceKind → List ℕ
-kind_text NotPlain = codes "NotPlain"
+-- why a cell of this name has no values at this vector. Nothing is said yet of the text of the cell netlist
+abbrev pub IsCellCause : List ℕ → List ℕ → Fault → Type 0
+IsCellCause cell vector (Cells line kind) = line ≡ 1
+IsCellCause cell vector (NoCell word) = word ≡ cell
+IsCellCause cell vector (BadVector word) = word ≡ vector
+IsCellCause cell vector NoMemory = ⊤
+IsCellCause cell vector _ = ⊥
 
--- what a fault prints between the program's name and the line's end
-abbrev pub text_of : Fault → List ℕ
-text_of BadWords = codes "bad command line"
-text_of (Cells line kind) = codes "cells: line " ++ (decimal line ++ (codes ": " ++ kind_text kind))
-text_of (NoCell word) = codes "no cell " ++ word
-text_of (BadVector word) = codes "bad vector: " ++ word
-text_of (TooLong name taken) = codes "file too long: " ++ name
-text_of (StoreFailed name) = codes "file fault: " ++ name
-text_of SinkFailed = codes "output fault"
-text_of NoMemory = codes "out of memory"
+-- why `respond` found no values: the cell netlist could not be read, or it gives none
+abbrev pub IsInputCause : RespondWords → Option Files → ℕ → ℕ → Fault → Type 0
+IsInputCause request files before after fault = IsReadCause request.cells.now files MAX_CELLS before after fault
+    ⊎ IsCellCause request.cell.now request.vector.now fault
 
--- the line of a fault
-abbrev pub line_of : Fault → List ℕ
-line_of fault = codes "cellaware: " ++ (text_of fault ++ codes "\n")
+-- why a command of these words was refused
+abbrev pub IsCause : List (List ℕ) → Option Files → Outside → Outside → Fault → Type 0
+IsCause words files before after BadWords = ¬ (IsCommand words)
+IsCause words files before after (Cells line kind) = line ≡ 1
+IsCause words files before after (NoCell word) = word ≡ cell_word words
+IsCause words files before after (BadVector word) = word ≡ vector_word words
+IsCause words files before after (TooLong name taken) =
+    (name ≡ cells_word words) × IsTooLong files name MAX_CELLS taken before.store_faults after.store_faults
+IsCause words files before after (StoreFailed name) =
+    (name ≡ cells_word words) × (MayHave files name → Rose before.store_faults after.store_faults)
+IsCause words files before after SinkFailed = Rose before.sink_faults after.sink_faults
+IsCause words files before after NoMemory = ⊤

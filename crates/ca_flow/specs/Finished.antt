@@ -8,7 +8,7 @@ use Rattle.ca_flow.specs.declared.fault.Fault.TheVariants.{SinkFailed, NoMemory}
 use Rattle.ca_flow.specs.declared.finished.Done.{Done}
 use Rattle.ca_flow.specs.declared.finished.Done.TheVariants.{Respond}
 use Rattle.ca_flow.specs.declared.finished.Finished.{Finished}
-use Rattle.ca_flow.specs.Fault.{status_of}
+use Rattle.ca_flow.specs.FaultLine.{status_of}
 use Rattle.ca_flow.specs.PinLine.{line_of_pin}
 
 -- the lines that tell a command's work

@@ -1,8 +1,9 @@
 pub mod Words
 pub mod Command
-pub mod Fault
+pub mod FaultLine
 pub mod PinLine
 pub mod Finished
-pub mod Causes
+pub mod Fault
+pub mod Ends
 pub mod Plain
 pub mod Outputs

@@ -1,6 +1,6 @@
 //! The values of the cell of a name under a vector, as words give them.
 ghost use Rattle.std.specs.Prelude.{IfErr};
-ghost use Rattle.ca_flow.specs.Causes.{IsCellCause};
+ghost use Rattle.ca_flow.specs.Fault.{IsCellCause};
 
 use crate::fault::{Fault, SpiceKind};
 use crate::outputs::values_of;

@@ -38,7 +38,7 @@ pub enum SpiceKind {
 }
 
 impl Fault {
-    ghost use Rattle.ca_flow.specs.Fault.{status_of, number_of, text_of, line_of};
+    ghost use Rattle.ca_flow.specs.FaultLine.{status_of, number_of, text_of, line_of};
 
     /// The exit status that stands for the fault.
     pub fn status(&self) -> u8
@@ -138,7 +138,7 @@ impl<'a> FaultText<'a> {
 }
 
 impl SpiceKind {
-    ghost use Rattle.ca_flow.specs.Fault.{kind_text};
+    ghost use Rattle.ca_flow.specs.FaultLine.{kind_text};
 
     // The text from the line's number on.
     fn text(self) -> &'static [u8]

@@ -2,7 +2,7 @@
 ghost use Rattle.std.specs.Prelude.{◌≡◌, Some, IsSome, IsNone, IfOk, IfSome};
 ghost use Rattle.std.specs.Option.{ForSome};
 ghost use Rattle.ca_store.specs.Store.{Rose};
-ghost use Rattle.ca_flow.specs.Fault.{status_of};
+ghost use Rattle.ca_flow.specs.FaultLine.{status_of};
 ghost use Rattle.ca_flow.specs.Finished.{lines_of, IsAnswer, Prints, IsPrintCause, TellsSinkFault};
 
 use crate::fault::Fault;

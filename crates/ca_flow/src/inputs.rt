@@ -2,7 +2,8 @@
 ghost use Rattle.std.specs.Prelude.{◌≡◌, Some, IfErr, IfOk, OnOk};
 ghost use Rattle.ca_store.specs.Store.{Nothing};
 ghost use Rattle.ca_store.specs.ReadFault.{IsWhole};
-ghost use Rattle.ca_flow.specs.Causes.{IsReadCause, TellsStoreFault};
+ghost use Rattle.ca_flow.specs.Fault.{IsReadCause};
+ghost use Rattle.ca_flow.specs.Ends.{TellsStoreFault};
 
 use crate::fault::Fault;
 use ca_lex::Text;

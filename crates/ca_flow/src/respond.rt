@@ -2,7 +2,8 @@
 ghost use Rattle.std.specs.Prelude.{◌≡◌, ℕ, List, Some, IfErr, OnOk};
 ghost use Rattle.ca_store.specs.Store.{Nothing};
 ghost use Rattle.ca_flow.specs.Command.{IsSpelledRespond};
-ghost use Rattle.ca_flow.specs.Causes.{IsInputCause, TellsStoreFault, Ends};
+ghost use Rattle.ca_flow.specs.Fault.{IsInputCause};
+ghost use Rattle.ca_flow.specs.Ends.{TellsStoreFault, Ends};
 
 use crate::evaluate::evaluate;
 use crate::fault::Fault;

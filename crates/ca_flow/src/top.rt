@@ -3,7 +3,7 @@ ghost use Rattle.std.specs.Prelude.{◌≡◌, Some, map};
 ghost use Rattle.std.specs.String.{string_bytes};
 ghost use Rattle.ca_store.specs.Store.{Nothing};
 ghost use Rattle.ca_flow.specs.Words.{IsCommand};
-ghost use Rattle.ca_flow.specs.Causes.{Ends};
+ghost use Rattle.ca_flow.specs.Ends.{Ends};
 
 use crate::fault::Fault;
 use crate::finished::{Finished, refused};
