@@ -1,3 +1,7 @@
 pub mod Appends
+pub mod Changes
 pub mod Gathers
-pub mod Places
+pub mod DistinctNames
+pub mod Parts
+pub mod Shelves
+pub mod LastFiles

@@ -1,13 +1,14 @@
 -- Files in memory, and the calls that a store or a sink in memory lets fail.
 use Rattle.std.specs.Prelude.{◌≡◌, ◌<◌, ◌≤◌, ◌-◌, ℕ, ◌+◌, ◌^◌, min, Bool, true, false}
-use Rattle.std.specs.Prelude.{List, [], length, slice_get, Option, Some, None}
-use Rattle.std.specs.Option.{option_map}
+use Rattle.std.specs.Prelude.{List, [], ◌∷◌, ◌++◌, length, slice_get, Option, Some, None}
 use Rattle.std.specs.List.{position}
 use Rattle.std.specs.Str.{bytes_eq}
-use Rattle.ca_store.specs.Store.{Files, Opened, Nothing, Reading}
+use Rattle.ca_store.specs.Store.{Files, Opened, Nothing, Reading, Writing}
 use Rattle.ca_store.specs.declared.fail_list.StoreCall.{StoreCall}
 use Rattle.ca_store.specs.declared.file_map.File.{File}
 use Rattle.ca_store.specs.declared.mem_store.OpenFile.{OpenFile}
+use Rattle.ca_store.specs.declared.mem_store.Mode.{Mode}
+use Rattle.ca_store.specs.declared.mem_store.Mode.TheVariants.{Closed, InReading, InWriting}
 
 -- calls by their kind and number
 abbrev pub CallList : Type 0
@@ -26,33 +27,54 @@ abbrev pub HasDistinctNames : List File → Type 0
 HasDistinctNames files = (place : ℕ) (file : File) → slice_get files place ≡ Some file
     → place_named files file.name ≡ Some place
 
--- the bytes of the file at a place
-abbrev pub bytes_at : List File → Option ℕ → Option (List ℕ)
-bytes_at files None = None
-bytes_at files (Some place) = option_map (λ file. file.bytes) (slice_get files place)
+-- what a later file tells, or else the bytes of this one, if it is the one that is meant
+abbrev pub later_or : Option (List ℕ) → Bool → List ℕ → Option (List ℕ)
+later_or (Some later) is_meant bytes = Some later
+later_or None true bytes = Some bytes
+later_or None false bytes = None
 
--- what names stand for in a list of files
+-- what names stand for in a list of files: of two files of one name the later one counts
 abbrev pub files_of : List File → Files
-files_of files name = bytes_at files (place_named files name)
+files_of [] name = None
+files_of (file ∷ files) name = later_or (files_of files name) (bytes_eq file.name name) file.bytes
 
--- a file in reading, with the number of bytes read so far
-abbrev pub reading_of : ℕ → Option File → Opened
-reading_of place None = Nothing
-reading_of place (Some file) = Reading file.name place
+-- the name of a file, or no bytes where there is no file
+abbrev pub name_in : Option File → List ℕ
+name_in None = []
+name_in (Some file) = file.name
 
--- what is open, where the open file is given by its place in the list
-abbrev pub opened_of : List File → Option OpenFile → Opened
-opened_of files None = Nothing
-opened_of files (Some open_file) = reading_of open_file.place (slice_get files open_file.file)
+-- the bytes of a file, or no bytes where there is no file
+abbrev pub bytes_in : Option File → List ℕ
+bytes_in None = []
+bytes_in (Some file) = file.bytes
 
--- an open file is in the list, is the first of its name there, and has at least as many bytes as were read
-pub record IsOpenWithin (files : List File) (open_file : OpenFile) : Type 0 where
-  pub there : open_file.file < length files
-  pub first : (file : File) → slice_get files open_file.file ≡ Some file
-      → place_named files file.name ≡ Some open_file.file
-  pub within : (file : File) → slice_get files open_file.file ≡ Some file → open_file.place ≤ length file.bytes
+-- the name of the file at a place
+abbrev pub name_at : List File → ℕ → List ℕ
+name_at files place = name_in (slice_get files place)
 
--- whether something is open, where no more is told
-abbrev pub untold : Bool → Opened
-untold false = Nothing
-untold true = Reading [] 0
+-- the bytes of the file at a place
+abbrev pub bytes_at : List File → ℕ → List ℕ
+bytes_at files place = bytes_in (slice_get files place)
+
+-- the name of the last file
+abbrev pub last_name : List File → List ℕ
+last_name [] = []
+last_name (file ∷ []) = file.name
+last_name (file ∷ next ∷ files) = last_name (next ∷ files)
+
+-- what is open, where a file in reading is given by its place in the list, and one in writing is the last
+abbrev pub opened_of : List File → Mode → Opened
+opened_of files Closed = Nothing
+opened_of files (InReading spot) = Reading (name_at files spot.file) spot.place
+opened_of files InWriting = Writing (last_name files)
+
+-- a file in reading is in the list, is what its name stands for, and has at least as many bytes as were read
+pub record IsOpenWithin (files : List File) (spot : OpenFile) : Type 0 where
+  pub there : spot.file < length files
+  pub meant : files_of files (name_at files spot.file) ≡ Some (bytes_at files spot.file)
+  pub within : spot.place ≤ length (bytes_at files spot.file)
+
+-- what is open in this mode is in the list
+pub record HasOpenFile (files : List File) (mode : Mode) : Type 0 where
+  pub reading : (spot : OpenFile) → mode ≡ InReading spot → IsOpenWithin files spot
+  pub writing : mode ≡ InWriting → 0 < length files

@@ -19,6 +19,12 @@ IsReading Nothing = ⊥
 IsReading (Reading name place) = Unit {0}
 IsReading (Writing name) = ⊥
 
+-- a file in writing is open
+abbrev pub IsWriting : Opened → Type 0
+IsWriting Nothing = ⊥
+IsWriting (Reading name place) = ⊥
+IsWriting (Writing name) = Unit {0}
+
 -- a file is open
 abbrev pub IsOpen : Opened → Type 0
 IsOpen Nothing = ⊥

@@ -8,9 +8,11 @@ mod file_store;
 mod mem_sink;
 mod mem_store;
 mod reading;
+mod shelf;
 mod sink;
 mod std_sink;
 mod store;
+mod writing;
 #[cfg(test)]
 mod tests;
 
@@ -23,3 +25,4 @@ pub use reading::{ReadFault, read_file};
 pub use sink::{Sink, write_all};
 pub use std_sink::StdSink;
 pub use store::{Failed, Store};
+pub use writing::write_file;

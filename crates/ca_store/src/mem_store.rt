@@ -1,32 +1,46 @@
 //! A store of files in memory, which fails where it is told to.
 ghost use Rattle.std.specs.Prelude.{◌<◌, ◌^◌};
-ghost use Rattle.std.specs.Option.{ForSome};
-ghost use Rattle.ca_store.specs.Memory.{IsOpenWithin};
+ghost use Rattle.ca_store.specs.Memory.{HasOpenFile};
 
 use crate::fail_list::{FailList, StoreCall};
 use crate::file_map::FileMap;
+use crate::shelf::Shelf;
 use crate::store::{Failed, Store, next};
 use ca_base::NoMemory;
 use std::alloc::Global;
 
-/// Files in memory. A call fails where it is listed, and an `open` also where there is no file of the name.
+// How many creates may succeed.
+const CREATES: usize = 8;
+
+/// Files in memory. A call fails where it is listed. An `open` also fails where there is no file of the name, a `create`
+/// where its name doesn't fit the room that is left or eight creates succeeded before, and a `write` of a piece that is
+/// not empty where no room is left.
 #[derive(Drop)]
 pub struct MemStore {
-    files: FileMap,
+    shelf: Shelf,
     piece: usize,
-    room: usize,
     fail: FailList,
-    reading: Option<OpenFile>,
+    mode: Mode,
     opens: u64,
     reads: u64,
+    creates: u64,
+    writes: u64,
     closes: u64,
     faults: u64,
     ghost piece_some: { 0 < piece },
-    ghost at_place: { ForSome reading (IsOpenWithin files) },
+    ghost at_place: { HasOpenFile shelf.files mode },
     ghost in_range: { faults < 2 ^ 64 },
 }
 
-// The file in reading: its place in the list, and the number of bytes read so far.
+// What is open. A file in writing is the last one of the shelf.
+#[derive(Clone, Copy)]
+enum Mode {
+    Closed,
+    InReading(OpenFile),
+    InWriting,
+}
+
+// The file in reading: its place on the shelf, and the number of bytes read so far.
 #[derive(Clone, Copy)]
 struct OpenFile {
     file: usize,
@@ -34,15 +48,16 @@ struct OpenFile {
 }
 
 impl MemStore {
-    ghost use Rattle.std.specs.Prelude.{◌≡◌, ◌<◌, IfOk};
+    ghost use Rattle.std.specs.Prelude.{◌≡◌, ◌<◌, None, Some, IfOk, MatchOption};
     ghost use Rattle.ca_store.specs.Store.{Nothing};
     ghost use Rattle.ca_store.specs.Memory.{files_of};
-    ghost use Rattle.ca_store.specs.MemStore.{settings_of, calls_of, told_by, opened_by, faults_of};
+    ghost use Rattle.ca_store.specs.MemStore.{settings_of, room_of, calls_of, told_by, opened_by, faults_of};
 
-    /// A store of these files, with nothing open. A read gives up to `piece` bytes. `room` is the number of bytes that
-    /// files in writing may fill.
+    /// A store of these files, with nothing open, and with all the memory that it ever takes. A call gives or takes up
+    /// to `piece` bytes. `room` is the number of bytes that created names and written bytes may fill together: each
+    /// `create` that succeeds counts its name, whether the file was there or not, and no room is given back.
     pub fn new(
-        _alloc: Global,
+        alloc: Global,
         files: FileMap,
         piece: usize,
         room: usize,
@@ -54,21 +69,35 @@ impl MemStore {
         ensures closed { IfOk result (λ store. opened_by store ≡ Nothing) }
         ensures faults { IfOk result (λ store. faults_of store ≡ 0) }
         ensures settings { IfOk result (λ store.
-            settings_of store ≡ record { piece = piece; room = room; fail = fail }) }
+            settings_of store ≡ record { piece = piece; fail = fail }) }
+        ensures room { IfOk result (λ store.
+            room_of store ≡ record { bytes = room; creates = 8 }) }
         ensures calls { IfOk result (λ store.
-            calls_of store ≡ record { opens = 0; reads = 0; closes = 0 }) }
+            calls_of store ≡ record { opens = 0; reads = 0; creates = 0; writes = 0; closes = 0 }) }
     {
         Ok(MemStore {
-            files,
+            shelf: Shelf::holding(alloc, files.as_slice(), room, CREATES)?,
             piece,
-            room,
             fail,
-            reading: None,
+            mode: Mode::Closed,
             opens: 0,
             reads: 0,
+            creates: 0,
+            writes: 0,
             closes: 0,
             faults: 0,
         })
+    }
+
+    /// What the file of this name holds, if there is one.
+    pub fn bytes(&self, name: &str) -> Option<&[u8]>
+        ensures { MatchOption result (told_by self.now name.now ≡ None)
+            (λ bytes. told_by self.now name.now ≡ Some bytes.now) }
+    {
+        match self.shelf.find(name.as_bytes()) {
+            Some(file) => Some(self.shelf.bytes(file)),
+            None => None,
+        }
     }
 
     /// How many calls failed, those aside that open a missing name.
@@ -81,10 +110,11 @@ impl MemStore {
 
 impl Store for MemStore {
     ghost use Rattle.std.specs.Prelude.{◌≡◌, Some, IfOk, OnOk, OnErr};
-    ghost use Rattle.ca_store.specs.Store.{Nothing, IsReading, IsOpen, Rose, KeepsCount, FailsAtMissing};
-    ghost use Rattle.ca_store.specs.Store.{OpensFile, ReadsOn};
+    ghost use Rattle.ca_store.specs.Store.{Nothing, IsReading, IsWriting, IsOpen, Rose, KeepsCount};
+    ghost use Rattle.ca_store.specs.Store.{FailsAtMissing, OpensFile, ReadsOn};
+    ghost use Rattle.ca_store.specs.Writing.{CreatesFile, MayEmpty, WritesOn};
     ghost use Rattle.ca_store.specs.MemStore.{told_by, opened_by, faults_of};
-    ghost use Rattle.ca_store.specs.MemStore.{OpensExactly, ReadsExactly, ClosesExactly};
+    ghost use Rattle.ca_store.specs.MemStore.{OpensExactly, ReadsExactly, CreatesExactly, WritesExactly, ClosesExactly};
 
     ghost files = { λ store. Some (told_by store) };
 
@@ -108,14 +138,14 @@ impl Store for MemStore {
     {
         let faults = self.faults;
         self.opens = next(self.opens);
-        let Some(file) = self.files.place_of(name.as_bytes()) else {
+        let Some(file) = self.shelf.find(name.as_bytes()) else {
             return Err(Failed);
         };
         if self.fail.lists(StoreCall::Open, self.opens) {
             self.faults = next(faults);
             return Err(Failed);
         }
-        self.reading = Some(OpenFile { file, place: 0 });
+        self.mode = Mode::InReading(OpenFile { file, place: 0 });
         Ok(())
     }
 
@@ -132,22 +162,71 @@ impl Store for MemStore {
     {
         let faults = self.faults;
         self.reads = next(self.reads);
-        let Some(spot) = self.reading else {
+        let Mode::InReading(spot) = self.mode else {
             unreachable!()
         };
         if self.fail.lists(StoreCall::Read, self.reads) {
-            self.reading = None;
+            self.mode = Mode::Closed;
             self.faults = next(faults);
             return Err(Failed);
         }
-        let bytes = self.files.get(spot.file).bytes.as_bytes();
+        let bytes = self.shelf.bytes(spot.file);
         let n = (bytes.len() - spot.place).min(into.len()).min(self.piece);
         into[..n].copy_from_slice(&bytes[spot.place..spot.place + n]);
-        self.reading = Some(OpenFile {
+        self.mode = Mode::InReading(OpenFile {
             file: spot.file,
             place: spot.place + n,
         });
         Ok(n)
+    }
+
+    fn create(&mut self, name: &str) -> Result<(), Failed>
+        requires { opened_by self.old ≡ Nothing }
+
+        ensures ok { OnOk result (CreatesFile (Some (told_by self.old)) (Some (told_by self.new))
+            name.now (opened_by self.new)) }
+        ensures err { OnErr result (opened_by self.new ≡ Nothing) }
+        ensures kept { OnErr result
+            (MayEmpty (Some (told_by self.old)) (Some (told_by self.new)) name.now) }
+        ensures cause { OnErr result (Rose (faults_of self.old) (faults_of self.new)) }
+        ensures count { KeepsCount result (faults_of self.old) (faults_of self.new) }
+        ensures exact { CreatesExactly name.now result self.old self.new }
+    {
+        let faults = self.faults;
+        self.creates = next(self.creates);
+        if self.fail.lists(StoreCall::Create, self.creates)
+            || name.len() > self.shelf.room()
+            || self.shelf.creates() == 0
+        {
+            self.faults = next(faults);
+            return Err(Failed);
+        }
+        self.shelf.add(name.as_bytes());
+        self.mode = Mode::InWriting;
+        Ok(())
+    }
+
+    fn write(&mut self, from: &[u8]) -> Result<usize, Failed>
+        requires { IsWriting (opened_by self.old) }
+
+        ensures ok { IfOk result (λ n. WritesOn n from.now (Some (told_by self.old))
+            (Some (told_by self.new)) (opened_by self.old) (opened_by self.new)) }
+        ensures err { OnErr result (opened_by self.new ≡ Nothing) }
+        ensures kept { OnErr result (told_by self.new ≡ told_by self.old) }
+        ensures cause { OnErr result (Rose (faults_of self.old) (faults_of self.new)) }
+        ensures count { KeepsCount result (faults_of self.old) (faults_of self.new) }
+        ensures exact { WritesExactly from.now result self.old self.new }
+    {
+        let faults = self.faults;
+        self.writes = next(self.writes);
+        let taken = from.len().min(self.piece).min(self.shelf.room());
+        if self.fail.lists(StoreCall::Write, self.writes) || taken == 0 && !from.is_empty() {
+            self.mode = Mode::Closed;
+            self.faults = next(faults);
+            return Err(Failed);
+        }
+        self.shelf.extend(&from[..taken]);
+        Ok(taken)
     }
 
     fn close(&mut self) -> Result<(), Failed>
@@ -161,7 +240,7 @@ impl Store for MemStore {
     {
         let faults = self.faults;
         self.closes = next(self.closes);
-        self.reading = None;
+        self.mode = Mode::Closed;
         if self.fail.lists(StoreCall::Close, self.closes) {
             self.faults = next(faults);
             return Err(Failed);

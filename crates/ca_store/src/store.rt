@@ -1,7 +1,8 @@
 //! A store of files, of which at most one is open at a time.
 ghost use Rattle.std.specs.Prelude.{◌≡◌, ◌≤◌, ◌<◌, ◌^◌, ℕ, Option, IfOk, OnOk, OnErr};
-ghost use Rattle.ca_store.specs.Store.{Files, Opened, Nothing, IsReading, IsOpen, Rose, KeepsCount};
-ghost use Rattle.ca_store.specs.Store.{FailsAtMissing, OpensFile, ReadsOn};
+ghost use Rattle.ca_store.specs.Store.{Files, Opened, Nothing, IsReading, IsWriting, IsOpen, Rose};
+ghost use Rattle.ca_store.specs.Store.{KeepsCount, FailsAtMissing, OpensFile, ReadsOn};
+ghost use Rattle.ca_store.specs.Writing.{CreatesFile, MayEmpty, WritesOn};
 ghost use Rattle.ca_store.specs.Memory.{next_number};
 
 /// A call of a store or a sink failed.
@@ -43,7 +44,30 @@ pub trait Store {
         ensures cause { OnErr result (Rose (faults self.old) (faults self.new)) }
         ensures count { KeepsCount result (faults self.old) (faults self.new) };
 
-    /// Closes the open file. Nothing is open afterwards, whatever the answer.
+    /// Makes a file of no bytes, or empties the file of this name, and opens it for writing.
+    fn create(&mut self, name: &str) -> Result<(), Failed>
+        requires { opened self.old ≡ Nothing }
+
+        ensures ok { OnOk result
+            (CreatesFile (files self.old) (files self.new) name.now (opened self.new)) }
+        ensures err { OnErr result (opened self.new ≡ Nothing) }
+        ensures kept { OnErr result (MayEmpty (files self.old) (files self.new) name.now) }
+        ensures cause { OnErr result (Rose (faults self.old) (faults self.new)) }
+        ensures count { KeepsCount result (faults self.old) (faults self.new) };
+
+    /// Appends some of the first bytes, at least one of a piece that is not empty, to the open file, and answers how
+    /// many. After `Failed` the file holds what was written to it before.
+    fn write(&mut self, from: &[u8]) -> Result<usize, Failed>
+        requires { IsWriting (opened self.old) }
+
+        ensures ok { IfOk result (λ n. WritesOn n from.now (files self.old) (files self.new)
+            (opened self.old) (opened self.new)) }
+        ensures err { OnErr result (opened self.new ≡ Nothing) }
+        ensures kept { OnErr result (files self.new ≡ files self.old) }
+        ensures cause { OnErr result (Rose (faults self.old) (faults self.new)) }
+        ensures count { KeepsCount result (faults self.old) (faults self.new) };
+
+    /// Closes the open file, in reading or in writing. Nothing is open afterwards, whatever the answer.
     fn close(&mut self) -> Result<(), Failed>
         requires { IsOpen (opened self.old) }
 

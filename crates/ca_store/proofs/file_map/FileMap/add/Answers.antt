@@ -1,6 +1,6 @@
 use Rattle.std.proofs.Common.{subst, sym, IsNone}
 use Rattle.ca_store.specs.Memory.{place_named}
-use Rattle.ca_store.proofs.Places.{distinct_push}
+use Rattle.ca_store.proofs.DistinctNames.{distinct_push}
 use Rattle.ca_store.proofs.file_map.FileMap.add.Goals as goal
 
 pub invariant_of-self-2 : goal.invariant_of-self-2
