@@ -35,7 +35,7 @@ files_added bytes name (s ∷ spans) span laid starts middles =
     let next : first_start (length (bytes ++ name)) (spans ++ span ∷ []) ≡ first_start (length bytes) spans =
     first_start_added (length bytes) spans span (length (bytes ++ name)) starts in
     let same : part (bytes ++ name) s.middle (first_start (length bytes) spans)
-        ≡ part bytes s.middle (first_start (length bytes) spans) =
+    ≡ part bytes s.middle (first_start (length bytes) spans) =
     part_before bytes name s.middle (first_start (length bytes) spans) laid.1 laid.2 in
     rw (named, next, same, files_added bytes name spans span laid.3 starts middles) refl
 

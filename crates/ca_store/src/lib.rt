@@ -12,9 +12,9 @@ mod shelf;
 mod sink;
 mod std_sink;
 mod store;
-mod writing;
 #[cfg(test)]
 mod tests;
+mod writing;
 
 pub use fail_list::{FailList, StoreCall};
 pub use file_map::{File, FileMap};

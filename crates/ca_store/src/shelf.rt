@@ -31,9 +31,9 @@ impl Model for Shelf {
     ghost Value = { Shelved };
 
     ghost view = { λ shelf. record {
-        files = files_in shelf.bytes.items shelf.spans.items;
-        room = shelf.room;
-        creates = shelf.creates;
+      files = files_in shelf.bytes.items shelf.spans.items;
+      room = shelf.room;
+      creates = shelf.creates;
     } };
 
     ghost invariant = { λ shelf. IsLaid (length shelf.bytes.items) shelf.spans.items

@@ -1,12 +1,13 @@
 //! What the doubles in memory give and refuse, and the little that can be tried of the real files.
 
 use crate::{
-    FailList, Failed, File, FileMap, FileStore, MemSink, MemStore, ReadFault, Sink, StdSink,
-    StoreCall, read_file, write_all,
+    FailList, Failed, File, FileMap, FileStore, MemSink, MemStore, ReadFault, Sink, StdSink, Store,
+    StoreCall, read_file, write_all, write_file,
 };
 use ca_base::NoMemory;
 use ca_lex::Text;
 use std::alloc::Global;
+use std::fs;
 use std::test::Fail;
 
 // The files `four`, of the bytes abcd, and `none`, of no bytes.
@@ -87,6 +88,176 @@ fn listed_calls_of_a_store_fail_once_and_count(rt: HostRuntime) -> Result<(), Fa
 }
 
 #[test]
+fn whole_files_are_written(rt: HostRuntime) -> Result<(), Fail> {
+    let alloc = rt.alloc();
+    let none = (StoreCall::Open, 9);
+    for (name, bytes, piece, room, listed, want, held) in [
+        ("new", "hello", 1, 8, none, Ok(()), Some("hello")),
+        ("new", "hello", 2, 8, none, Ok(()), Some("hello")),
+        ("new", "hello", 9, 8, none, Ok(()), Some("hello")),
+        ("new", "hello", 9, 7, none, Err(Failed), Some("hell")),
+        ("new", "hello", 2, 6, none, Err(Failed), Some("hel")),
+        ("new", "hello", 9, 3, none, Err(Failed), Some("")),
+        ("new", "hello", 9, 2, none, Err(Failed), None),
+        ("new", "", 1, 3, none, Ok(()), Some("")),
+        ("new", "", 1, 2, none, Err(Failed), None),
+        ("", "hi", 1, 2, none, Ok(()), Some("hi")),
+        ("four", "hello", 9, 9, none, Ok(()), Some("hello")),
+        ("four", "hello", 9, 4, none, Err(Failed), Some("")),
+        ("four", "hello", 9, 3, none, Err(Failed), Some("abcd")),
+        (
+            "new",
+            "hello",
+            2,
+            8,
+            (StoreCall::Create, 1),
+            Err(Failed),
+            None,
+        ),
+        (
+            "four",
+            "hello",
+            2,
+            9,
+            (StoreCall::Create, 1),
+            Err(Failed),
+            Some("abcd"),
+        ),
+        (
+            "new",
+            "hello",
+            2,
+            8,
+            (StoreCall::Write, 1),
+            Err(Failed),
+            Some(""),
+        ),
+        (
+            "new",
+            "hello",
+            2,
+            8,
+            (StoreCall::Write, 2),
+            Err(Failed),
+            Some("he"),
+        ),
+        (
+            "new",
+            "hello",
+            2,
+            8,
+            (StoreCall::Write, 3),
+            Err(Failed),
+            Some("hell"),
+        ),
+        (
+            "new",
+            "hello",
+            2,
+            8,
+            (StoreCall::Close, 1),
+            Err(Failed),
+            Some("hello"),
+        ),
+        (
+            "new",
+            "hello",
+            2,
+            8,
+            (StoreCall::Create, 2),
+            Ok(()),
+            Some("hello"),
+        ),
+        (
+            "new",
+            "hello",
+            2,
+            8,
+            (StoreCall::Write, 4),
+            Ok(()),
+            Some("hello"),
+        ),
+        (
+            "new",
+            "hello",
+            2,
+            8,
+            (StoreCall::Read, 1),
+            Ok(()),
+            Some("hello"),
+        ),
+    ] {
+        assert!(rt; piece > 0);
+        let fail = only(alloc, listed.0, listed.1)?;
+        let mut store = MemStore::new(alloc, two_files(alloc)?, piece, room, fail)?;
+        let got = write_file(&mut store, name, bytes.as_bytes());
+        assert_eq!(rt; got, want, "{name} by {piece} into {room}, {listed:?}");
+        let text = store.bytes(name);
+        assert_eq!(rt;
+            text,
+            held.map(|text| text.as_bytes()),
+            "{name} by {piece} into {room}, {listed:?}"
+        );
+        assert_eq!(rt;
+            store.bytes("none"),
+            Some(b"".as_slice()),
+            "{name} by {piece} into {room}, {listed:?}"
+        );
+        let faults = if want.is_ok() { 0 } else { 1 };
+        assert_eq!(rt;
+            store.faults(),
+            faults,
+            "{name} by {piece} into {room}, {listed:?}"
+        );
+    }
+    Ok(())
+}
+
+#[test]
+fn eight_creates_succeed(rt: HostRuntime) -> Result<(), Fail> {
+    let alloc = rt.alloc();
+    let mut store = MemStore::new(alloc, two_files(alloc)?, 3, 99, FailList::new(alloc))?;
+    for (name, want) in [
+        ("a", Ok(())),
+        ("b", Ok(())),
+        ("a", Ok(())),
+        ("four", Ok(())),
+        ("c", Ok(())),
+        ("d", Ok(())),
+        ("e", Ok(())),
+        ("f", Ok(())),
+        ("a", Err(Failed)),
+    ] {
+        assert_eq!(rt;
+            write_file(&mut store, name, name.as_bytes()),
+            want,
+            "{name}"
+        );
+        assert_eq!(rt; store.bytes(name), Some(name.as_bytes()), "{name}");
+    }
+    assert_eq!(rt; store.bytes("b"), Some(b"b".as_slice()));
+    assert_eq!(rt; store.bytes("none"), Some(b"".as_slice()));
+    assert_eq!(rt; store.bytes("g"), None);
+    Ok(())
+}
+
+#[test]
+fn a_file_in_writing_takes_what_fits(rt: HostRuntime) -> Result<(), Fail> {
+    let alloc = rt.alloc();
+    let mut store = MemStore::new(alloc, two_files(alloc)?, 3, 9, FailList::new(alloc))?;
+    store.create("new")?;
+    assert_eq!(rt; store.write(b"hello")?, 3);
+    assert_eq!(rt; store.write(b"")?, 0);
+    assert_eq!(rt; store.write(b"lo")?, 2);
+    assert_eq!(rt; store.write(b"xyz")?, 1);
+    assert_eq!(rt; store.write(b"")?, 0);
+    assert_eq!(rt; store.write(b"yz"), Err(Failed));
+    assert_eq!(rt; store.bytes("new"), Some(b"hellox".as_slice()));
+    assert_eq!(rt; store.faults(), 1);
+    Ok(())
+}
+
+#[test]
 fn a_sink_takes_what_fits(rt: HostRuntime) -> Result<(), Fail> {
     let alloc = rt.alloc();
     for (room, number, bytes, want, held, faults) in [
@@ -130,6 +301,44 @@ fn real_files_are_read_and_missing_ones_count(rt: HostRuntime) {
         let got = read_file(rt.alloc(), &mut store, name, limit);
         assert!(rt; is_as_wanted(got, want), "{name}");
         assert_eq!(rt; store.faults(), faults, "{name}");
+    }
+}
+
+#[test]
+fn real_files_are_written_and_read_back(rt: HostRuntime) -> Result<(), Fail> {
+    let alloc = rt.alloc();
+    let mut store = FileStore::new(rt);
+    for bytes in ["hello", "", "hi"] {
+        assert_eq!(rt;
+            write_file(&mut store, "written by a test", bytes.as_bytes()),
+            Ok(()),
+            "{bytes}"
+        );
+        let got = read_file(alloc, &mut store, "written by a test", 9);
+        assert!(rt; is_as_wanted(got, Ok(bytes)), "{bytes}");
+    }
+    fs::remove_file(&rt, "written by a test")?;
+    assert_eq!(rt; store.faults(), 0);
+    Ok(())
+}
+
+#[test]
+fn a_full_disk_and_a_closed_folder_count(rt: HostRuntime) {
+    for (name, bytes, want, faults) in [
+        ("/dev/full", "hello", Err(Failed), 1),
+        ("/dev/full", "", Ok(()), 0),
+        ("/dev/null", "hello", Ok(()), 0),
+        ("/proc/no such file", "hello", Err(Failed), 1),
+        ("no such folder/file", "", Err(Failed), 1),
+        ("/dev", "", Err(Failed), 1),
+    ] {
+        let mut store = FileStore::new(rt);
+        assert_eq!(rt;
+            write_file(&mut store, name, bytes.as_bytes()),
+            want,
+            "{bytes} to {name}"
+        );
+        assert_eq!(rt; store.faults(), faults, "{bytes} to {name}");
     }
 }
 

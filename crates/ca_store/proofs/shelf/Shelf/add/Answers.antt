@@ -18,7 +18,7 @@ invariant_of-self c =
     let middles : c.len-middle.result ≡ length c.extend_from_slice.new.self.items =
     omega (arith, c.len-middle.ensures, c.extend_from_slice.new.self.ok) in (
       rw pushed (laid_added (length old.bytes.items) _ old.spans.items span c.self.invariant.0 (omega (arith, grown))
-      starts (omega (arith, starts, middles, grown)) (omega (arith, middles))),
+          starts (omega (arith, starts, middles, grown)) (omega (arith, middles))),
       omega (arith, len, c.self.invariant.1, c.requires.room, c.extend_from_slice.ensures.capacity),
       omega (arith, spans_len, c.self.invariant.2, c.requires.creates, c.push.ensures.capacity),
     )

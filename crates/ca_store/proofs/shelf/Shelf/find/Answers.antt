@@ -17,8 +17,12 @@ loop-place-init c =
 pub index-span-requires : goal.index-span-requires
 index-span-requires c =
     let files = ap (λ (v : Shelved). v.files) c.self.view_is in
-    omega (arith, c.loop-place.invariant.within, length_spans c.self.inside.bytes.items c.self.inside.spans.items _ files,
-    c.self.inside.spans.ok)
+    omega (
+      arith,
+      c.loop-place.invariant.within,
+      length_spans c.self.inside.bytes.items c.self.inside.spans.items _ files,
+      c.self.inside.spans.ok,
+    )
 
 pub part_of-requires : goal.part_of-requires
 part_of-requires c =
@@ -37,9 +41,12 @@ returns-then-eq c =
     c.index-span.ensures in
     let same : name_at c.args.self.now.files (c.loop-place.place - 1) ≡ c.args.name.now =
     rw (at.named, ← c.deref.ensures.value) (sym c.part_of.ensures)
-    ∙ (bytes_eq-Decides c.part_of.result.now c.args.name.now).0 (sym c.if-eq.ensures) in
-    (below, same, is_here c.args.self.now.files c.args.name.now (c.loop-place.place - 1) c.loop-place.place (omega arith)
-    below c.loop-place.invariant.none same)
+    ∙ (bytes_eq-Decides c.part_of.result.now c.args.name.now).0 (sym c.if-eq.ensures) in (
+      below,
+      same,
+      is_here c.args.self.now.files c.args.name.now (c.loop-place.place - 1) c.loop-place.place (omega arith)
+          below c.loop-place.invariant.none same,
+    )
 
 pub loop-place-preserved : goal.loop-place-preserved
 loop-place-preserved c =
