@@ -1,7 +1,7 @@
 -- What several writes to one file leave together.
-use Rattle.std.proofs.Common.{◌≡◌, ◌≢◌, ℕ, ◌+◌, ◌-◌, List, ◌++◌, length, take, drop, Option, Some, None}
-use Rattle.std.proofs.Common.{inl, inr, ap, sym, ◌∙◌}
-use Rattle.std.proofs.lemmas.List.{take-append-drop, take_rest}
+use Rattle.std.proofs.Common.{◌≡◌, ℕ, ◌+◌, List, ◌++◌, take, drop, Option, Some}
+use Rattle.std.proofs.Common.{inr, ap, sym, ◌∙◌}
+use Rattle.std.proofs.lemmas.List.{take-append-drop}
 use Rattle.std.proofs.Math.Seq.{take-add}
 use Rattle.ca_store.specs.Store.{Files, Opened, Writing, appended}
 use Rattle.ca_store.specs.Writing.{SetsOne, ChangesOnly, WritesOn, MayWrite}

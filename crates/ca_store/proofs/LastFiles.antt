@@ -7,8 +7,8 @@ use Rattle.std.proofs.lemmas.Slice.Eq.{bytes_eq-Decides}
 use Rattle.ca_store.specs.declared.file_map.File.{File}
 use Rattle.ca_store.specs.declared.mem_store.Mode.{Mode}
 use Rattle.ca_store.specs.declared.mem_store.Mode.TheVariants.{Closed, InReading, InWriting}
-use Rattle.ca_store.specs.Store.{Files, Opened, Writing, IsWriting, appended}
-use Rattle.ca_store.specs.Writing.{SetsOne, ChangesOnly, CreatesFile, WritesOn}
+use Rattle.ca_store.specs.Store.{Files, Writing, IsWriting, appended}
+use Rattle.ca_store.specs.Writing.{CreatesFile, WritesOn}
 use Rattle.ca_store.specs.Memory.{files_of, name_at, bytes_at, last_name, opened_of, HasOpenFile}
 use Rattle.ca_store.specs.Arena.{with_more}
 use Rattle.ca_store.proofs.Parts.{equal, unequal}

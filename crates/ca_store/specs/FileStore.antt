@@ -1,5 +1,5 @@
 -- The files of the system, of which nothing is told but whether one is open.
-use Rattle.std.specs.Prelude.{ℕ, List, []}
+use Rattle.std.specs.Prelude.{[]}
 use Rattle.ca_store.specs.Store.{Opened, Nothing, Reading, Writing}
 use Rattle.ca_store.specs.declared.file_store.OpenFile.{OpenFile}
 use Rattle.ca_store.specs.declared.file_store.OpenFile.TheVariants.{Closed, InReading, InWriting}

@@ -88,127 +88,66 @@ fn listed_calls_of_a_store_fail_once_and_count(rt: HostRuntime) -> Result<(), Fa
 }
 
 #[test]
-fn whole_files_are_written(rt: HostRuntime) -> Result<(), Fail> {
+fn files_are_written_as_far_as_there_is_room(rt: HostRuntime) -> Result<(), Fail> {
     let alloc = rt.alloc();
-    let none = (StoreCall::Open, 9);
-    for (name, bytes, piece, room, listed, want, held) in [
-        ("new", "hello", 1, 8, none, Ok(()), Some("hello")),
-        ("new", "hello", 2, 8, none, Ok(()), Some("hello")),
-        ("new", "hello", 9, 8, none, Ok(()), Some("hello")),
-        ("new", "hello", 9, 7, none, Err(Failed), Some("hell")),
-        ("new", "hello", 2, 6, none, Err(Failed), Some("hel")),
-        ("new", "hello", 9, 3, none, Err(Failed), Some("")),
-        ("new", "hello", 9, 2, none, Err(Failed), None),
-        ("new", "", 1, 3, none, Ok(()), Some("")),
-        ("new", "", 1, 2, none, Err(Failed), None),
-        ("", "hi", 1, 2, none, Ok(()), Some("hi")),
-        ("four", "hello", 9, 9, none, Ok(()), Some("hello")),
-        ("four", "hello", 9, 4, none, Err(Failed), Some("")),
-        ("four", "hello", 9, 3, none, Err(Failed), Some("abcd")),
-        (
-            "new",
-            "hello",
-            2,
-            8,
-            (StoreCall::Create, 1),
-            Err(Failed),
-            None,
-        ),
-        (
-            "four",
-            "hello",
-            2,
-            9,
-            (StoreCall::Create, 1),
-            Err(Failed),
-            Some("abcd"),
-        ),
-        (
-            "new",
-            "hello",
-            2,
-            8,
-            (StoreCall::Write, 1),
-            Err(Failed),
-            Some(""),
-        ),
-        (
-            "new",
-            "hello",
-            2,
-            8,
-            (StoreCall::Write, 2),
-            Err(Failed),
-            Some("he"),
-        ),
-        (
-            "new",
-            "hello",
-            2,
-            8,
-            (StoreCall::Write, 3),
-            Err(Failed),
-            Some("hell"),
-        ),
-        (
-            "new",
-            "hello",
-            2,
-            8,
-            (StoreCall::Close, 1),
-            Err(Failed),
-            Some("hello"),
-        ),
-        (
-            "new",
-            "hello",
-            2,
-            8,
-            (StoreCall::Create, 2),
-            Ok(()),
-            Some("hello"),
-        ),
-        (
-            "new",
-            "hello",
-            2,
-            8,
-            (StoreCall::Write, 4),
-            Ok(()),
-            Some("hello"),
-        ),
-        (
-            "new",
-            "hello",
-            2,
-            8,
-            (StoreCall::Read, 1),
-            Ok(()),
-            Some("hello"),
-        ),
+    for (name, bytes, piece, room, want, held) in [
+        ("new", "hello", 1, 8, Ok(()), Some("hello")),
+        ("new", "hello", 2, 8, Ok(()), Some("hello")),
+        ("new", "hello", 9, 8, Ok(()), Some("hello")),
+        ("new", "hello", 9, 7, Err(Failed), Some("hell")),
+        ("new", "hello", 2, 6, Err(Failed), Some("hel")),
+        ("new", "hello", 9, 3, Err(Failed), Some("")),
+        ("new", "hello", 9, 2, Err(Failed), None),
+        ("new", "", 1, 3, Ok(()), Some("")),
+        ("new", "", 1, 2, Err(Failed), None),
+        ("", "hi", 1, 2, Ok(()), Some("hi")),
+        ("four", "hello", 9, 9, Ok(()), Some("hello")),
+        ("four", "hello", 9, 4, Err(Failed), Some("")),
+        ("four", "hello", 9, 3, Err(Failed), Some("abcd")),
     ] {
         assert!(rt; piece > 0);
-        let fail = only(alloc, listed.0, listed.1)?;
-        let mut store = MemStore::new(alloc, two_files(alloc)?, piece, room, fail)?;
+        let mut store = MemStore::new(alloc, two_files(alloc)?, piece, room, FailList::new(alloc))?;
         let got = write_file(&mut store, name, bytes.as_bytes());
-        assert_eq!(rt; got, want, "{name} by {piece} into {room}, {listed:?}");
-        let text = store.bytes(name);
+        assert_eq!(rt; got, want, "{name} by {piece} into {room}");
+        let held = held.map(|text| text.as_bytes());
+        assert_eq!(rt; store.bytes(name), held, "{name} by {piece} into {room}");
+        let faults = if want.is_ok() { 0 } else { 1 };
+        assert_eq!(rt; store.faults(), faults, "{name} by {piece} into {room}");
+    }
+    Ok(())
+}
+
+#[test]
+fn listed_calls_stop_the_writing_of_a_file(rt: HostRuntime) -> Result<(), Fail> {
+    let alloc = rt.alloc();
+    for (call, number, want, held) in [
+        (StoreCall::Create, 1, Err(Failed), "abcd"),
+        (StoreCall::Write, 1, Err(Failed), ""),
+        (StoreCall::Write, 2, Err(Failed), "he"),
+        (StoreCall::Write, 3, Err(Failed), "hell"),
+        (StoreCall::Close, 1, Err(Failed), "hello"),
+        (StoreCall::Create, 2, Ok(()), "hello"),
+        (StoreCall::Write, 4, Ok(()), "hello"),
+        (StoreCall::Close, 2, Ok(()), "hello"),
+        (StoreCall::Open, 1, Ok(()), "hello"),
+        (StoreCall::Read, 1, Ok(()), "hello"),
+    ] {
+        let fail = only(alloc, call, number)?;
+        let mut store = MemStore::new(alloc, two_files(alloc)?, 2, 9, fail)?;
+        let got = write_file(&mut store, "four", b"hello");
+        assert_eq!(rt; got, want, "{call:?} {number}");
         assert_eq!(rt;
-            text,
-            held.map(|text| text.as_bytes()),
-            "{name} by {piece} into {room}, {listed:?}"
+            store.bytes("four"),
+            Some(held.as_bytes()),
+            "{call:?} {number}"
         );
         assert_eq!(rt;
             store.bytes("none"),
             Some(b"".as_slice()),
-            "{name} by {piece} into {room}, {listed:?}"
+            "{call:?} {number}"
         );
         let faults = if want.is_ok() { 0 } else { 1 };
-        assert_eq!(rt;
-            store.faults(),
-            faults,
-            "{name} by {piece} into {room}, {listed:?}"
-        );
+        assert_eq!(rt; store.faults(), faults, "{call:?} {number}");
     }
     Ok(())
 }

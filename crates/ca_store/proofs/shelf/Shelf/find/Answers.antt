@@ -1,4 +1,4 @@
-use Rattle.std.proofs.Common.{arith, ◌≡◌, ◌≢◌, ◌<◌, ap, length, ◌∙◌, sym, ◌+◌, ◌-◌, true}
+use Rattle.std.proofs.Common.{arith, ◌≡◌, ◌≢◌, ◌<◌, ap, length, ◌∙◌, sym, ◌-◌, true}
 use Rattle.std.proofs.lemmas.Slice.Eq.{bytes_eq-Decides}
 use Rattle.ca_store.specs.Memory.{name_at}
 use Rattle.ca_store.specs.Arena.{Shelved}
