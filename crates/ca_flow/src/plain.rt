@@ -2,6 +2,7 @@
 //! claimed of what it takes.
 ghost use Rattle.std.specs.Prelude.{◌≡◌, ◌≢◌, ◌≤◌, ◌<◌, ◌+◌, ◌++◌, length, replicate, IfOk, IfSome, OnOk};
 ghost use Rattle.ca_net.specs.Circuit.{HasStrength, GateIsDrain};
+ghost use Rattle.ca_flow.specs.declared.plain.PlainFault.TheVariants as fault;
 ghost use Rattle.ca_flow.specs.Plain.{HasPins, AreNodes, IsStrength};
 
 use ca_base::NoMemory;
@@ -21,6 +22,8 @@ pub(crate) enum PlainFault {
 }
 
 impl From<NoMemory> for PlainFault {
+    ghost from_gives = { λ _ e. e ≡ fault.NoMemory };
+
     fn from(_: NoMemory) -> Self {
         PlainFault::NoMemory
     }

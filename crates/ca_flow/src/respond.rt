@@ -25,8 +25,16 @@ pub(crate) fn respond<S: Store, W: Sink>(
 
     ensures ends { (words : List (List ℕ)) → IsSpelledRespond words request.now
         → Ends words (S.files store.old)
-        (record { store_faults = S.faults store.old; sink_faults = W.faults out.old; bytes = W.bytes out.old })
-        (record { store_faults = S.faults store.new; sink_faults = W.faults out.new; bytes = W.bytes out.new })
+        (record {
+          store_faults = S.faults store.old;
+          sink_faults = W.faults out.old;
+          bytes = W.bytes out.old;
+        })
+        (record {
+          store_faults = S.faults store.new;
+          sink_faults = W.faults out.new;
+          bytes = W.bytes out.new;
+        })
         result }
     ensures closed { S.opened store.new ≡ Nothing }
     ensures kept { S.files store.new ≡ S.files store.old }

@@ -24,8 +24,16 @@ pub fn run<S: Store, W: Sink>(
     requires closed { S.opened store.old ≡ Nothing }
 
     ensures ends { Ends (map string_bytes words.now) (S.files store.old)
-        (record { store_faults = S.faults store.old; sink_faults = W.faults out.old; bytes = W.bytes out.old })
-        (record { store_faults = S.faults store.new; sink_faults = W.faults out.new; bytes = W.bytes out.new })
+        (record {
+          store_faults = S.faults store.old;
+          sink_faults = W.faults out.old;
+          bytes = W.bytes out.old;
+        })
+        (record {
+          store_faults = S.faults store.new;
+          sink_faults = W.faults out.new;
+          bytes = W.bytes out.new;
+        })
         result }
     ensures bad_words { ¬ (IsCommand (map string_bytes words.now)) → result.fault ≡ Some Fault.BadWords }
     ensures uncalled { result.fault ≡ Some Fault.BadWords → (store.new ≡ store.old) × (out.new ≡ out.old) }
