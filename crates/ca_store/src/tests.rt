@@ -1,4 +1,7 @@
 //! What the doubles in memory give and refuse, and the little that can be tried of the real files.
+ghost use Rattle.std.specs.Prelude.{◌≡◌};
+ghost use Rattle.ca_store.specs.Store.{Nothing};
+ghost use Rattle.ca_store.specs.MemStore.{opened_by};
 
 use crate::{
     FailList, Failed, File, FileMap, FileStore, MemSink, MemStore, ReadFault, Sink, StdSink, Store,
@@ -87,6 +90,27 @@ fn listed_calls_of_a_store_fail_once_and_count(rt: HostRuntime) -> Result<(), Fa
     Ok(())
 }
 
+// Whether the writing of a file ends as it should, leaves the file as it should be, and counts where it fails.
+fn writes_as_wanted(
+    store: &mut MemStore,
+    name: &str,
+    bytes: &str,
+    want: Result<(), Failed>,
+    held: Option<&str>,
+) -> bool
+    requires { opened_by store.old ≡ Nothing }
+    ensures { opened_by store.new ≡ Nothing }
+{
+    let before = store.faults();
+    let got = write_file(store, name, bytes.as_bytes());
+    let is_held = match (store.bytes(name), held) {
+        (Some(bytes), Some(text)) => bytes == text.as_bytes(),
+        (None, None) => true,
+        (_, _) => false,
+    };
+    got == want && is_held && (store.faults() == before) == want.is_ok()
+}
+
 #[test]
 fn files_are_written_as_far_as_there_is_room(rt: HostRuntime) -> Result<(), Fail> {
     let alloc = rt.alloc();
@@ -107,12 +131,8 @@ fn files_are_written_as_far_as_there_is_room(rt: HostRuntime) -> Result<(), Fail
     ] {
         assert!(rt; piece > 0);
         let mut store = MemStore::new(alloc, two_files(alloc)?, piece, room, FailList::new(alloc))?;
-        let got = write_file(&mut store, name, bytes.as_bytes());
-        assert_eq!(rt; got, want, "{name} by {piece} into {room}");
-        let held = held.map(|text| text.as_bytes());
-        assert_eq!(rt; store.bytes(name), held, "{name} by {piece} into {room}");
-        let faults = if want.is_ok() { 0 } else { 1 };
-        assert_eq!(rt; store.faults(), faults, "{name} by {piece} into {room}");
+        let is_wanted = writes_as_wanted(&mut store, name, bytes, want, held);
+        assert!(rt; is_wanted, "{bytes} to {name} by {piece} into {room}");
     }
     Ok(())
 }
@@ -134,20 +154,10 @@ fn listed_calls_stop_the_writing_of_a_file(rt: HostRuntime) -> Result<(), Fail> 
     ] {
         let fail = only(alloc, call, number)?;
         let mut store = MemStore::new(alloc, two_files(alloc)?, 2, 9, fail)?;
-        let got = write_file(&mut store, "four", b"hello");
-        assert_eq!(rt; got, want, "{call:?} {number}");
-        assert_eq!(rt;
-            store.bytes("four"),
-            Some(held.as_bytes()),
-            "{call:?} {number}"
-        );
-        assert_eq!(rt;
-            store.bytes("none"),
-            Some(b"".as_slice()),
-            "{call:?} {number}"
-        );
-        let faults = if want.is_ok() { 0 } else { 1 };
-        assert_eq!(rt; store.faults(), faults, "{call:?} {number}");
+        let is_wanted = writes_as_wanted(&mut store, "four", "hello", want, Some(held));
+        assert!(rt; is_wanted, "{call:?} {number}");
+        let other = store.bytes("none");
+        assert_eq!(rt; other, Some(b"".as_slice()), "{call:?} {number}");
     }
     Ok(())
 }
@@ -167,12 +177,8 @@ fn eight_creates_succeed(rt: HostRuntime) -> Result<(), Fail> {
         ("f", Ok(())),
         ("a", Err(Failed)),
     ] {
-        assert_eq!(rt;
-            write_file(&mut store, name, name.as_bytes()),
-            want,
-            "{name}"
-        );
-        assert_eq!(rt; store.bytes(name), Some(name.as_bytes()), "{name}");
+        let is_wanted = writes_as_wanted(&mut store, name, name, want, Some(name));
+        assert!(rt; is_wanted, "{name}");
     }
     assert_eq!(rt; store.bytes("b"), Some(b"b".as_slice()));
     assert_eq!(rt; store.bytes("none"), Some(b"".as_slice()));
