@@ -15,8 +15,7 @@ use Rattle.ca_net.specs.Conduction.{Links}
 use Rattle.ca_net.proofs.ScaleLemmas.{strength_below_input}
 use Rattle.ca_net.proofs.StateLemmas.{storage_or_input}
 use Rattle.ca_relax.specs.declared.strengths.Sureness.{Sureness}
-use Rattle.ca_relax.specs.Groups.{IsStorageEnd}
-use Rattle.ca_relax.specs.Spread.{Passes, IsReached, AreReached, InputsStand, carried, IsSpent, Lifts, RaisesSome, Raises, StayButAt}
+use Rattle.ca_relax.specs.Spread.{Passes, IsReached, InputsStand, carried, IsSpent, Lifts, RaisesSome, Raises, StayButAt}
 use Rattle.ca_relax.proofs.PathLemmas.{extended}
 
 -- a device at a place is weaker than an input node

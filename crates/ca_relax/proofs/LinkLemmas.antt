@@ -1,5 +1,5 @@
 -- Linking devices into the lists of their groups.
-use Rattle.std.proofs.Common.{◌≡◌, ℕ, ◌+◌, ◌-◌, ◌<◌, ◌≤◌, ◌⊎◌, List, length, inl, inr, refl, sym, ◌∙◌, ap, subst, arith, get_or, set, replicate, get_or-set_same, get_or-set_other}
+use Rattle.std.proofs.Common.{◌≡◌, ℕ, ◌+◌, ◌<◌, ◌≤◌, ◌⊎◌, List, length, inl, inr, sym, ◌∙◌, ap, subst, arith, get_or, set, replicate, get_or-set_same, get_or-set_other}
 use Rattle.std.specs.Prelude.{Option, Some, None}
 use Rattle.std.proofs.Math.Decide.{dec_le}
 use Rattle.std.proofs.lemmas.List.{get_or-replicate, length-replicate, get_or_past}
@@ -7,7 +7,7 @@ use Rattle.std.proofs.lemmas.Option.{slice_get_within}
 use native.Mathlib.Decide.{ℕ_discrete}
 use Rattle.ca_net.specs.Circuit.{Circuit, IsStorage}
 use Rattle.ca_net.proofs.StateLemmas.{storage_within}
-use Rattle.ca_relax.specs.Groups.{IsStorageEnd, IsListed, First, Later, IsInList, HasEndOf, AreChannelGroups, GroupLists, LeadOn}
+use Rattle.ca_relax.specs.Groups.{IsStorageEnd, IsListed, First, Later, IsInList, HasEndOf, AreChannelGroups, LeadOn}
 use Rattle.ca_relax.specs.Links.{NameJoined, TellJoined, AreLinkedFrom}
 use Rattle.ca_relax.proofs.JoinedLemmas.{joined_storage, joined_ends}
 
@@ -137,22 +137,29 @@ get_or_nones n m = elim (dec_le (m + 1) n) [
 ]
 
 -- before any device is linked, all lists are empty
-pub linked_none : (net : Circuit) (labels : List ℕ) (m n : ℕ) → AreLinkedFrom net labels (length net.devices) (replicate m None) (replicate n None)
-linked_none net labels m n = record {
-  first_from = λ k place e. absurd (let none = get_or_nones m k in cc);
-  next_from = λ k place e. absurd (let none = get_or_nones n k in cc);
-  lead_on = λ k place e. absurd (let none = get_or_nones n k in cc);
+pub linked_none : (net : Circuit) (labels : List ℕ) (start m n : ℕ) (firsts next : List (Option ℕ)) → length net.devices ≤ start
+    → firsts ≡ replicate m None → next ≡ replicate n None → AreLinkedFrom net labels start firsts next
+linked_none net labels start m n firsts next all first_nones next_nones = record {
+  first_from = λ k place e. absurd (let none = no_first k in cc);
+  next_from = λ k place e. absurd (let none = no_next k in cc);
+  lead_on = λ k place e. absurd (let none = no_next k in cc);
   listed = λ place k le q. absurd (let lt : place < length net.devices = slice_get_within net.devices place q.device q.is_device in omega arith);
-  only = λ label place l. absurd (listed_nowhere (replicate n None) _ place (get_or_nones m label) l);
-}
+  only = λ label place l. absurd (listed_nowhere next (get_or firsts label None) place (no_first label) l);
+} where
+  no_first : (k : ℕ) → get_or firsts k None ≡ None
+  no_first k = ap (λ xs. get_or xs k None) first_nones ∙ get_or_nones m k
+
+  no_next : (k : ℕ) → get_or next k None ≡ None
+  no_next k = ap (λ xs. get_or xs k None) next_nones ∙ get_or_nones n k
 
 -- with all devices linked, the lists are those of the channel groups
-pub channel_groups : (net : Circuit) (groups : GroupLists) → length groups.labels ≡ length net.nodes → length groups.firsts ≡ length net.nodes
-    → length groups.next ≡ length net.devices → TellJoined net groups.labels → AreLinkedFrom net groups.labels 0 groups.firsts groups.next → AreChannelGroups net groups
-channel_groups net groups labels firsts next tell h = record {
-  label_count = labels;
-  first_count = firsts;
-  next_count = next;
+pub channel_groups : (net : Circuit) (labels : List ℕ) (firsts next : List (Option ℕ)) → length labels ≡ length net.nodes → length firsts ≡ length net.nodes
+    → length next ≡ length net.devices → TellJoined net labels → AreLinkedFrom net labels 0 firsts next
+    → AreChannelGroups net (record { labels = labels; firsts = firsts; next = next })
+channel_groups net labels firsts next label_count first_count next_count tell h = record {
+  label_count = label_count;
+  first_count = first_count;
+  next_count = next_count;
   joined = tell;
   listed = λ place n q. h.listed place n (omega arith) q;
   only = h.only;

@@ -1,6 +1,6 @@
 -- Raising strengths over the lists of devices, one list after another.
 use Rattle.std.proofs.Common.{◌≡◌, ℕ, ◌+◌, ◌<◌, ◌≤◌, ◌⊎◌, List, length, min, inl, inr, refl, sym, ◌∙◌, subst, arith, get_or}
-use Rattle.std.specs.Prelude.{Option, Some, None, slice_get}
+use Rattle.std.specs.Prelude.{Option, Some, None, IfSome, slice_get}
 use Rattle.std.specs.List.{Contains}
 use Rattle.std.proofs.Math.Decide.{dec_le}
 use Rattle.std.proofs.lemmas.List.{get_or_past}
@@ -11,12 +11,17 @@ use Rattle.ca_net.specs.Circuit.{Circuit, IsWellFormed}
 use Rattle.ca_net.proofs.Hops.{named_at}
 use Rattle.ca_net.proofs.StateLemmas.{storage_or_input}
 use Rattle.ca_relax.specs.declared.strengths.Sureness.{Sureness}
-use Rattle.ca_relax.specs.Groups.{GroupLists, AreChannelGroups, IsListed, First, Later, IsInList, HasEndOf, IsStorageEnd}
+use Rattle.ca_relax.specs.Groups.{GroupLists, AreChannelGroups, IsListed, First, Later, IsInList, IsStorageEnd}
 use Rattle.ca_relax.specs.Spread.{IsSpent, IsSettled, IsSettledAt, IsListSettled, InputsStand, AreBeginnings, RaisesSome, Spreads, StayButAt, StayOffList}
 use Rattle.ca_relax.proofs.JoinedLemmas.{placed}
 use Rattle.ca_relax.proofs.LinkLemmas.{same_label, listed_nowhere, listed_from}
 use Rattle.ca_relax.proofs.LiftLemmas.{below_input, input_spent, still_stand}
 use Rattle.ca_relax.proofs.PathLemmas.{begun, spread_over}
+
+-- a fact about the place that stands somewhere, if any
+pub if_some : (o : Option ℕ) (P : ℕ → Type 0) → ((k : ℕ) → o ≡ Some k → P k) → IfSome o P
+if_some None P h = tt
+if_some (Some k) P h = h k refl
 
 -- what is listed from `at` on is in the list that begins at `first`
 abbrev pub IsRest : List (Option ℕ) → Option ℕ → Option ℕ → Type 0

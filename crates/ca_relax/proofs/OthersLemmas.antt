@@ -9,7 +9,7 @@ use Rattle.ca_net.specs.declared.node.NodeKind.TheVariants.{Input}
 use Rattle.ca_net.specs.Circuit.{Circuit, IsWellFormed, kind_at}
 use Rattle.ca_net.specs.State.{value_at}
 use Rattle.ca_net.specs.Path.{Path, Root, Via, root_of, strength_of, root_strength, IsPotential}
-use Rattle.ca_net.specs.Response.{HasStronger, IsBlocked, AllGive}
+use Rattle.ca_net.specs.Response.{HasStronger, IsBlocked}
 use Rattle.ca_net.proofs.Strongest.{root_within}
 use Rattle.ca_relax.specs.declared.strengths.Sureness.TheVariants.{Potential}
 use Rattle.ca_relax.specs.Spread.{Goes, Spreads, AreBeginnings}

@@ -90,6 +90,22 @@ fn link<N: Network>(net: &N, labels: &[u32], firsts: &mut [Option<u32>], next: &
     }
 }
 
+// Leaves the channel groups of the network in these three lists.
+fn make_groups<N: Network>(
+    net: &N,
+    labels: &mut [u32],
+    firsts: &mut [Option<u32>],
+    next: &mut [Option<u32>],
+)
+    requires labels { length labels.old ≡ length (N.circuit net.now).nodes }
+    requires firsts { length firsts.old ≡ length (N.circuit net.now).nodes }
+    requires next { length next.old ≡ length (N.circuit net.now).devices }
+    ensures { AreChannelGroups (N.circuit net.now) (record { labels = labels.new; firsts = firsts.new; next = next.new }) }
+{
+    label(net, labels);
+    link(net, labels, firsts, next);
+}
+
 impl Groups {
     /// Takes the room for the groups of a network of this many nodes and devices. As yet they are those of no network.
     pub(crate) fn reserve(alloc: Global, nodes: usize, devices: usize) -> Result<Self, NoMemory>
@@ -107,7 +123,6 @@ impl Groups {
         requires { HasRoom (length (N.circuit net.now).nodes) (length (N.circuit net.now).devices) self.old }
         ensures { AreChannelGroups (N.circuit net.now) self.new }
     {
-        label(net, &mut self.labels);
-        link(net, &self.labels, &mut self.firsts, &mut self.next);
+        make_groups(net, &mut self.labels, &mut self.firsts, &mut self.next);
     }
 }

@@ -8,9 +8,9 @@ abbrev pub invariant-devices : goal.invariant-devices
 invariant-devices g l = record {
   raises : Raises (g.N.Network.circuit l.net) l.state l.sureness l.floor l.fn.reached l.reached l.rose;
   within : IfSome l.at (λ i. i < length l.next);
-  rest : IsRest l.next l.first l.at;
-  settled : l.rose ≡ false → AreSettledBefore (g.N.Network.circuit l.net) l.state l.sureness l.floor l.next l.first l.at l.fn.reached;
-  elsewhere : StayOffList (g.N.Network.circuit l.net) l.next l.first l.fn.reached l.reached;
+  rest : IsRest l.next l.fn.first l.at;
+  settled : l.rose ≡ false → AreSettledBefore (g.N.Network.circuit l.net) l.state l.sureness l.floor l.next l.fn.first l.at l.fn.reached;
+  elsewhere : StayOffList (g.N.Network.circuit l.net) l.next l.fn.first l.fn.reached l.reached;
 }
 
 -- how many devices there are from this place on
