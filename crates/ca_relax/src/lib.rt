@@ -11,3 +11,6 @@ mod strengths;
 pub use groups::Groups;
 pub use relax::response;
 pub use scratch::Scratch;
+
+#[cfg(test)]
+mod tests;
