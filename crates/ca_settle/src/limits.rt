@@ -22,11 +22,12 @@ pub fn three_phase<N: Network>(net: &N, inputs: &[Wave], work: &mut Work)
     ensures ends { All IsPair inputs.now → EndsAreLast (N.circuit net.now) inputs.now work.new }
     ensures kept { IsRoomFor (N.circuit net.now) work.new }
 {
+    work.scratch.group(net);
     forget(&mut work.last);
     begin(net, inputs, Phase::First, &work.last, &mut work.first);
-    rise(net, &mut work.first, &mut work.next, &mut work.marks);
+    rise(net, &mut work.first, &mut work.next, &mut work.scratch);
     begin(net, inputs, Phase::Middle, &work.first, &mut work.middle);
-    fall(net, &mut work.middle, &mut work.next, &mut work.marks);
+    fall(net, &mut work.middle, &mut work.next, &mut work.scratch);
     begin(net, inputs, Phase::Last, &work.middle, &mut work.last);
-    rise(net, &mut work.last, &mut work.next, &mut work.marks);
+    rise(net, &mut work.last, &mut work.next, &mut work.scratch);
 }
