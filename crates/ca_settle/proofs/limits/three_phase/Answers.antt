@@ -26,12 +26,13 @@ invariant_of-work g c =
     c.begin.ensures.begun c.rise.ensures.risen c.begin-2.ensures.begun c.fall.ensures.fallen in
     let scratch = c.rise-2.ensures.scratch ∙ c.fall.ensures.scratch ∙ c.rise.ensures.scratch in
     let groups : AreChannelGroups net c.rise-2.new.scratch = subst (AreChannelGroups net) (sym scratch) c.group.ensures.groups in
-    let room_before = ap (λ x. x.nodes) c.work.view_is ∙ c.requires.room.nodes in
-    (record { label_count = refl; first_count = groups.first_count ∙ sym groups.label_count; next_count = refl },
-    limits_are_waves net groups.label_count
-    (c.rise-2.ensures.next ∙ c.fall.ensures.next ∙ c.rise.ensures.next ∙ c.work.invariant.1.room_next ∙ room_before ∙ sym groups.label_count)
-    (mids_below_lasts net.nodes c.args.inputs.now c.requires.waves)
-    (are_limits net before c.begin-3.ensures.begun c.rise-2.ensures.risen))
+    let room_before = ap (λ x. x.nodes) c.work.view_is ∙ c.requires.room.nodes in (
+      record { label_count = refl; first_count = groups.first_count ∙ sym groups.label_count; next_count = refl },
+      limits_are_waves net groups.label_count
+          (c.rise-2.ensures.next ∙ c.fall.ensures.next ∙ c.rise.ensures.next ∙ c.work.invariant.1.room_next ∙ room_before ∙ sym groups.label_count)
+          (mids_below_lasts net.nodes c.args.inputs.now c.requires.waves)
+          (are_limits net before c.begin-3.ensures.begun c.rise-2.ensures.risen),
+    )
 
 pub returns-clause-ends : goal.returns-clause-ends
 returns-clause-ends g c pairs n v lt =
