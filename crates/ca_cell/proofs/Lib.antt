@@ -1,0 +1,4 @@
+pub mod RuleLemmas
+pub mod CircuitLemmas
+pub mod LibraryLemmas
+pub mod NodeLemmas

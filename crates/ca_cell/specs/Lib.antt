@@ -1,0 +1,5 @@
+pub mod Raw
+pub mod Rules
+pub mod Library
+pub mod Entries
+pub mod Nodes

@@ -1,0 +1,39 @@
+-- Libraries of cells by name.
+use Rattle.std.specs.Prelude.{ℕ, ◌+◌, ◌≡◌, List, [], ◌∷◌, length, Option, Some, None, IsSome, IsNone, if◌then◌else◌}
+use Rattle.std.specs.Str.{bytes_eq}
+use Rattle.ca_lex.specs.Words.{upper_case}
+use Rattle.ca_cell.specs.declared.library.Entry.{Entry}
+use Rattle.ca_cell.specs.declared.library.Entry.TheVariants.{Sound, Refused}
+use Rattle.ca_cell.specs.declared.library.LibraryFault.{LibraryFault}
+use Rattle.ca_cell.specs.declared.library.LibraryFault.TheVariants.{DoubleName, TooManyCells, NoMemory}
+use Rattle.ca_cell.specs.declared.library.TheConstants.{MOST_CELLS}
+use Rattle.ca_cell.specs.declared.raw.RawCell.{RawCell}
+use Rattle.ca_cell.specs.Rules.{IsRaw, KeepsRules, IsFirstBroken}
+
+-- the subcircuit of an entry
+abbrev pub raw_of : Entry → RawCell
+raw_of (Sound raw) = raw
+raw_of (Refused raw rule) = raw
+
+-- an entry is a cell where its subcircuit keeps the rules, and else the subcircuit with the first rule that it breaks
+abbrev pub IsEntry : Entry → Type 0
+IsEntry (Sound raw) = IsRaw raw × KeepsRules raw
+IsEntry (Refused raw rule) = IsRaw raw × IsFirstBroken raw rule
+
+-- what a library is seen as: its entries with their names, in the order in which they were added
+pub record Named : Type 0 where
+  pub name : List ℕ
+  pub entry : Entry
+
+-- the entry of a kept name
+abbrev pub entry_of : List Named → List ℕ → Option Entry
+entry_of [] name = None
+entry_of (named ∷ more) name = if bytes_eq name named.name then Some named.entry else entry_of more name
+
+-- why an entry wasn't added: its name is there; or it isn't, and the library is full, with one cell more than it may have; or there
+-- was no memory
+abbrev pub IsCause : List Named → List ℕ → LibraryFault → Type 0
+IsCause library name DoubleName = IsSome (entry_of library (upper_case name))
+IsCause library name (TooManyCells count) =
+    IsNone (entry_of library (upper_case name)) × (length library ≡ MOST_CELLS) × (count ≡ MOST_CELLS + 1)
+IsCause library name NoMemory = Unit {0}

@@ -1,0 +1,194 @@
+//! Libraries of cells by name.
+
+ghost use Rattle.std.specs.Prelude.{◌≡◌, ◌<◌, ◌≤◌, [], ◌∷◌, ◌++◌, length, map, ◌↔◌, IsTrue, IsSome, IsNone, IfSome, IfOk, IfErr, OnOk, OnErr};
+ghost use Rattle.std.specs.Option.{option_copied};
+ghost use Rattle.ca_lex.specs.Words.{upper_case};
+ghost use Rattle.ca_cell.specs.declared.library.LibraryFault.TheVariants as fault;
+
+use crate::cell::Cell;
+use crate::raw::RawCell;
+use crate::rule::{CellFault, CellRule};
+use ca_base::NoMemory;
+use ca_lex::Text;
+use indexmap::IndexMap;
+use std::alloc::{AllocError, Global};
+use std::marker::Model;
+
+/// The most cells of a library.
+pub const MOST_CELLS: usize = 1024;
+
+/// A subcircuit of a library: a cell, or a subcircuit that breaks a rule, with the first rule that it breaks.
+#[derive(Drop)]
+pub enum Entry {
+    Sound(Cell),
+    Refused(RawCell, CellRule),
+}
+
+impl Entry {
+    ghost use Rattle.ca_cell.specs.Rules.{IsRaw};
+    ghost use Rattle.ca_cell.specs.Library.{raw_of, IsEntry};
+
+    /// The entry of a subcircuit.
+    pub fn of(alloc: Global, raw: RawCell) -> Result<Self, NoMemory>
+        requires { IsRaw raw }
+        ensures ok { IfOk result (λ entry. raw_of entry ≡ raw) }
+        ensures entry { IfOk result IsEntry }
+    {
+        match Cell::check(alloc, &raw) {
+            Ok(cell) => Ok(Entry::Sound(cell)),
+            Err(CellFault::Rule(rule)) => Ok(Entry::Refused(raw, rule)),
+            Err(CellFault::NoMemory) => Err(NoMemory),
+        }
+    }
+}
+
+/// Why an entry wasn't added. The library is as it was, and the entry is dropped.
+#[derive(Clone, Copy, Debug, PartialEq, Eq)]
+pub enum LibraryFault {
+    /// The library has an entry of that name.
+    DoubleName,
+    /// The library is full; the count is one more than its cells.
+    TooManyCells { count: usize },
+    /// There was no memory.
+    NoMemory,
+}
+
+impl From<AllocError> for LibraryFault {
+    ghost from_gives = { λ _ e. e ≡ fault.NoMemory };
+
+    fn from(_: AllocError) -> Self {
+        LibraryFault::NoMemory
+    }
+}
+
+impl From<NoMemory> for LibraryFault {
+    ghost from_gives = { λ _ e. e ≡ fault.NoMemory };
+
+    fn from(_: NoMemory) -> Self {
+        LibraryFault::NoMemory
+    }
+}
+
+/// Cells by name, in the order in which they were added. Names are kept with their letters in upper case.
+#[derive(Drop)]
+pub struct Library {
+    alloc: Global,
+    entries: IndexMap<Vec<u8>, Entry>,
+}
+
+impl Model for Library {
+    ghost use Rattle.std.specs.Prelude.{List, ◌≤◌, length};
+    ghost use Rattle.ca_cell.specs.Library.{Named};
+    ghost use Rattle.ca_cell.specs.Entries.{named_entries, AllUpperCase, AllEntries};
+    ghost use Rattle.ca_cell.specs.declared.library.TheConstants.{MOST_CELLS};
+
+    ghost Value = { List Named };
+
+    ghost view = { λ library. named_entries library.entries.entries };
+
+    ghost invariant = { λ library. AllUpperCase library.entries.entries × AllEntries library.entries.entries
+        × (length library.entries.entries ≤ MOST_CELLS) };
+}
+
+impl Library {
+    ghost use Rattle.ca_cell.specs.Library.{Named, IsEntry, IsCause, entry_of};
+
+    /// The library of no cells.
+    pub fn new(alloc: Global) -> Result<Self, NoMemory>
+        ensures ok { IfOk result (λ library. library ≡ []) }
+    {
+        Ok(Library {
+            alloc,
+            entries: IndexMap::new(alloc),
+        })
+    }
+
+    /// The number of cells.
+    pub fn len(&self) -> usize
+        ensures count { result ≡ length self.now }
+        ensures most { result ≤ MOST_CELLS }
+    {
+        self.entries.len()
+    }
+
+    /// The entry of a name, which may be in any case.
+    pub fn get(&self, name: &[u8]) -> Option<&Entry>
+        ensures found { option_copied result ≡ entry_of self.now (upper_case name.now) }
+        ensures entry { IfSome result (λ entry. IsEntry entry.now) }
+    {
+        // A name that is kept as it stands needs no search.
+        match self.find(name) {
+            Some(entry) => Some(entry),
+            None => self.search(name),
+        }
+    }
+
+    // The entry that is kept under this name.
+    fn find(&self, name: &[u8]) -> Option<&Entry>
+        ensures found { option_copied result ≡ entry_of self.now name.now }
+        ensures upper { IsSome result → upper_case name.now ≡ name.now }
+        ensures entry { IfSome result (λ entry. IsEntry entry.now) }
+    {
+        self.entries.get(name)
+    }
+
+    // The first entry that is kept under this name in upper case.
+    fn search(&self, name: &[u8]) -> Option<&Entry>
+        ensures found { option_copied result ≡ entry_of self.now (upper_case name.now) }
+        ensures entry { IfSome result (λ entry. IsEntry entry.now) }
+    {
+        for i in 0..self.entries.len() {
+            if let Some((key, entry)) = self.entries.get_index(i) {
+                if is_upper_case(key, name) {
+                    return Some(entry);
+                }
+            }
+        }
+        None
+    }
+
+    /// Adds an entry under a name.
+    pub fn add(&mut self, name: Text, entry: Entry) -> Result<(), LibraryFault>
+        requires { IsEntry entry }
+        ensures ok { OnOk result (self.new ≡ self.old ++ record { name = upper_case name; entry = entry } ∷ []) }
+        ensures fresh { OnOk result (IsNone (entry_of self.old (upper_case name))) }
+        ensures err { OnErr result (self.new ≡ self.old) }
+        ensures cause { IfErr result (IsCause self.old name) }
+    {
+        let key = name.as_bytes().to_ascii_uppercase(self.alloc)?;
+        if self.find(&key).is_some() {
+            return Err(LibraryFault::DoubleName);
+        }
+        if self.len() == MOST_CELLS {
+            return Err(LibraryFault::TooManyCells {
+                count: MOST_CELLS + 1,
+            });
+        }
+        self.insert(key, entry)?;
+        Ok(())
+    }
+
+    // Adds an entry under a name that is kept as it stands.
+    fn insert(&mut self, key: Vec<u8>, entry: Entry) -> Result<(), NoMemory>
+        requires upper { upper_case key.items ≡ key.items }
+        requires fresh { IsNone (entry_of self.old key.items) }
+        requires room { length self.old < MOST_CELLS }
+        requires entry { IsEntry entry }
+        ensures ok { OnOk result (self.new ≡ self.old ++ record { name = key.items; entry = entry } ∷ []) }
+        ensures err { OnErr result (self.new ≡ self.old) }
+    {
+        self.entries.insert(key, entry)?;
+        Ok(())
+    }
+}
+
+// Whether a name gives the key, once its letters are in upper case.
+fn is_upper_case(key: &[u8], name: &[u8]) -> bool
+    ensures { IsTrue result ↔ (key.now ≡ upper_case name.now) }
+{
+    key.len() == name.len()
+        && key
+            .iter()
+            .zip(name)
+            .all(|(kept, byte)| *kept == byte.to_ascii_uppercase())
+}

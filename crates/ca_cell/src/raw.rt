@@ -1,0 +1,238 @@
+//! Subcircuits as they were read.
+
+ghost use Rattle.std.specs.Prelude.{◌≡◌, ◌<◌, ◌↔◌, [], ◌∷◌, ◌++◌, length, slice_get, IsTrue, IfOk, OnOk, OnErr};
+
+use ca_base::NoMemory;
+use ca_lex::{Length, Names, Text};
+use ca_net::{BRIDGE, DeviceKind, STRONG, WEAK};
+use std::alloc::Global;
+use std::marker::Model;
+
+/// What a pin is for.
+#[derive(Clone, Copy, Debug, PartialEq, Eq)]
+pub enum Role {
+    Input,
+    Output,
+    Power,
+    Ground,
+}
+
+impl Role {
+    ghost use Rattle.ca_cell.specs.Raw.{is_input, is_output, is_power, is_ground};
+
+    /// Whether it is an input pin's.
+    pub fn is_input(self) -> bool
+        ensures { result ≡ is_input self }
+    {
+        matches!(self, Role::Input)
+    }
+
+    /// Whether it is an output pin's.
+    pub fn is_output(self) -> bool
+        ensures { result ≡ is_output self }
+    {
+        matches!(self, Role::Output)
+    }
+
+    /// Whether it is a power pin's.
+    pub fn is_power(self) -> bool
+        ensures { result ≡ is_power self }
+    {
+        matches!(self, Role::Power)
+    }
+
+    /// Whether it is a ground pin's.
+    pub fn is_ground(self) -> bool
+        ensures { result ≡ is_ground self }
+    {
+        matches!(self, Role::Ground)
+    }
+}
+
+/// A pin of a subcircuit.
+#[derive(Drop)]
+pub struct RawPin {
+    pub name: Text,
+    pub role: Role,
+}
+
+/// A transistor of a subcircuit. Its drain, gate and source are places in the list of nets.
+#[derive(Drop)]
+pub struct RawDevice {
+    pub name: Text,
+    pub kind: DeviceKind,
+    pub strength: u8,
+    pub width: Length,
+    pub length: Length,
+    pub drain: u32,
+    pub gate: u32,
+    pub source: u32,
+}
+
+impl RawDevice {
+    ghost use Rattle.ca_net.specs.Circuit.{IsStrength};
+    ghost use Rattle.ca_cell.specs.Rules.{PlacesWithin};
+
+    // Whether each terminal is a place among the first `nets` nets, and the strength is one of the scale.
+    fn is_placed(&self, nets: usize) -> bool
+        ensures { IsTrue result ↔ (PlacesWithin nets self.now × IsStrength self.now.strength) }
+    {
+        (self.drain as usize) < nets
+            && (self.gate as usize) < nets
+            && (self.source as usize) < nets
+            && matches!(self.strength, WEAK | STRONG | BRIDGE)
+    }
+}
+
+/// The pins of a subcircuit, in order.
+#[derive(Drop)]
+pub struct RawPins {
+    pins: Vec<RawPin>,
+}
+
+impl Model for RawPins {
+    ghost use Rattle.std.specs.Prelude.{List};
+    ghost use Rattle.ca_cell.specs.declared.raw.RawPin.{RawPin};
+
+    ghost Value = { List RawPin };
+
+    ghost view = { λ list. list.pins.items };
+}
+
+impl RawPins {
+    /// The list of no pins.
+    pub fn new(alloc: Global) -> Self
+        ensures { result ≡ [] }
+    {
+        RawPins {
+            pins: Vec::new(alloc),
+        }
+    }
+
+    /// The pins as a slice.
+    pub fn as_slice(&self) -> &[RawPin]
+        ensures { result.now ≡ self.now }
+    {
+        &self.pins
+    }
+
+    /// Appends a pin. A pin that finds no memory is dropped.
+    pub fn push(&mut self, pin: RawPin) -> Result<(), NoMemory>
+        ensures ok { OnOk result (self.new ≡ self.old ++ pin ∷ []) }
+        ensures err { OnErr result (self.new ≡ self.old) }
+    {
+        Ok(self.pins.push(pin)?)
+    }
+
+    /// A list of its own with the same pins.
+    pub fn copy(&self, alloc: Global) -> Result<Self, NoMemory>
+        ensures ok { IfOk result (λ pins. pins ≡ self.now) }
+    {
+        let mut pins = RawPins::new(alloc);
+        for pin in self.as_slice() {
+            pins.push(RawPin {
+                name: pin.name.copy(alloc)?,
+                role: pin.role,
+            })?;
+        }
+        Ok(pins)
+    }
+}
+
+/// The transistors of a subcircuit, in the order of their cards.
+#[derive(Drop)]
+pub struct RawDevices {
+    devices: Vec<RawDevice>,
+}
+
+impl Model for RawDevices {
+    ghost use Rattle.std.specs.Prelude.{List};
+    ghost use Rattle.ca_cell.specs.declared.raw.RawDevice.{RawDevice};
+
+    ghost Value = { List RawDevice };
+
+    ghost view = { λ list. list.devices.items };
+}
+
+impl RawDevices {
+    /// The list of no transistors.
+    pub fn new(alloc: Global) -> Self
+        ensures { result ≡ [] }
+    {
+        RawDevices {
+            devices: Vec::new(alloc),
+        }
+    }
+
+    /// The transistors as a slice.
+    pub fn as_slice(&self) -> &[RawDevice]
+        ensures { result.now ≡ self.now }
+    {
+        &self.devices
+    }
+
+    /// Appends a transistor. One that finds no memory is dropped.
+    pub fn push(&mut self, device: RawDevice) -> Result<(), NoMemory>
+        ensures ok { OnOk result (self.new ≡ self.old ++ device ∷ []) }
+        ensures err { OnErr result (self.new ≡ self.old) }
+    {
+        Ok(self.devices.push(device)?)
+    }
+
+    /// A list of its own with the same transistors.
+    pub fn copy(&self, alloc: Global) -> Result<Self, NoMemory>
+        ensures ok { IfOk result (λ devices. devices ≡ self.now) }
+    {
+        let mut devices = RawDevices::new(alloc);
+        for device in self.as_slice() {
+            devices.push(RawDevice {
+                name: device.name.copy(alloc)?,
+                kind: device.kind,
+                strength: device.strength,
+                width: device.width,
+                length: device.length,
+                drain: device.drain,
+                gate: device.gate,
+                source: device.source,
+            })?;
+        }
+        Ok(devices)
+    }
+}
+
+/// A subcircuit as it was read. `nets` has the names of the pins in pin order and then those of the inner nets in the order
+/// of first mention (in a card: drain, gate, source).
+#[derive(Drop)]
+pub struct RawCell {
+    pub pins: RawPins,
+    pub nets: Names,
+    pub devices: RawDevices,
+}
+
+impl RawCell {
+    ghost use Rattle.ca_cell.specs.Rules.{IsRaw};
+
+    /// Whether each transistor's terminals are places in the list of nets and its strength is one of the scale, and there are
+    /// no more pins than nets.
+    pub fn is_raw(&self) -> bool
+        ensures { IsTrue result ↔ IsRaw self.now }
+    {
+        let nets = self.nets.len();
+        let devices = self.devices.as_slice();
+        nets <= u32::MAX as usize
+            && devices.len() <= u32::MAX as usize
+            && self.pins.as_slice().len() <= nets
+            && devices.iter().all(|device| device.is_placed(nets))
+    }
+
+    /// A subcircuit of its own that is the same.
+    pub fn copy(&self, alloc: Global) -> Result<Self, NoMemory>
+        ensures ok { IfOk result (λ raw. raw ≡ self.now) }
+    {
+        Ok(RawCell {
+            pins: self.pins.copy(alloc)?,
+            nets: self.nets.copy(alloc)?,
+            devices: self.devices.copy(alloc)?,
+        })
+    }
+}
