@@ -1,0 +1,81 @@
+-- The first faulty line.
+use Rattle.std.proofs.Common.{◌≡◌, ℕ, List, Bool, true, false, cond, [], ◌∷◌, ◌++◌, Option, Some, None, Result, Ok, Err, refl, sym, ap, ◌∙◌, inl, inr, ◌⊎◌, length}
+use Rattle.std.specs.Prelude.{nat_lt}
+use Rattle.ca_lex.specs.declared.lines.Line.{Line}
+use Rattle.ca_lex.specs.Lines.{spice_lines}
+use Rattle.ca_lex.specs.FirstFault.{steps_from, located, IsFirstFault}
+use Rattle.ca_lex.proofs.FirstFaultLemmas as first
+use Rattle.ca_cell.specs.declared.library.TheConstants.{MOST_CELLS}
+use Rattle.ca_spice.specs.declared.fault.SpiceKind.{SpiceKind}
+use Rattle.ca_spice.specs.declared.fault.SpiceKind.TheVariants.{Unended}
+use Rattle.ca_spice.specs.declared.fault.SpiceFault.{SpiceFault}
+use Rattle.ca_spice.specs.declared.fault.SpiceFault.TheVariants.{At, TooManyCells}
+use Rattle.ca_spice.specs.declared.subcircuit.Subcircuit.{Subcircuit}
+use Rattle.ca_spice.specs.OpenCell.{OpenCell}
+use Rattle.ca_spice.specs.Reading.{Reading, Step, nothing, line_step, at_line, lines_from, limited, library_from, library_of}
+use Rattle.ca_spice.specs.Laws.{BreaksRule, IsUnended, IsFirstFaulty}
+
+-- a located step that has a fault has it at its line
+broken_at : (here : Line) (line : ℕ) (kind : SpiceKind) (step : Step)
+    → elim step as (λ _. Result Reading SpiceFault) [ Ok next ↦ Ok next | Err told ↦ Err (at_line here told) ] ≡ Err (At line kind)
+    → (step ≡ Err kind) × (here.line ≡ line)
+broken_at here line kind (Ok next) told = absurd cc
+broken_at here line kind (Err other) told = (cc, cc)
+
+-- too many subcircuits are no fault of a line
+not_limited : (cells : List Subcircuit) (line : ℕ) (kind : SpiceKind) → limited cells ≡ Err (At line kind) → ⊥
+not_limited cells line kind = by (nat_lt MOST_CELLS (length cells))
+  where
+    by : (many : Bool) → cond many (Err (TooManyCells (length cells))) (Ok cells) ≡ Err (At line kind) → ⊥
+    by true told = cc
+    by false told = cc
+
+found_open : (text : List ℕ) (line : ℕ) (kind : SpiceKind) (reading : Reading) → lines_from nothing (spice_lines text) ≡ Ok reading
+    → (current : Option OpenCell) → reading.current ≡ current
+    → elim current as (λ _. Result (List Subcircuit) SpiceFault) [ None ↦ limited reading.cells | Some cell ↦ Err (At cell.line Unended) ] ≡ Err (At line kind)
+    → IsFirstFaulty text line kind
+found_open text line kind reading read None is told = absurd (not_limited reading.cells line kind told)
+found_open text line kind reading read (Some cell) is told =
+    inr (record { so_far = reading; cell = cell; read = read; is_open = is; number = cc; unended = cc })
+
+found_in : (text : List ℕ) (line : ℕ) (kind : SpiceKind) (given : Result Reading SpiceFault) → lines_from nothing (spice_lines text) ≡ given
+    → library_from given ≡ Err (At line kind) → IsFirstFaulty text line kind
+unfolding library_from
+found_in text line kind (Ok reading) read told = found_open text line kind reading read reading.current refl told
+found_in text line kind (Err fault) read told =
+    let same : fault ≡ At line kind = cc in
+    let it : IsFirstFault (located at_line line_step) nothing (spice_lines text) (At line kind) =
+    first.found (located at_line line_step) nothing (spice_lines text) (At line kind) (read ∙ ap (λ (f : SpiceFault). Err f) same) in
+    let at : (line_step it.here it.so_far ≡ Err kind) × (it.here.line ≡ line) =
+    broken_at it.here line kind (line_step it.here it.so_far) it.broken in
+    inl (record {
+      before = it.before;
+      here = it.here;
+      after = it.after;
+      so_far = it.so_far;
+      whole = it.whole;
+      number = at.1;
+      read = it.read;
+      broken = at.0;
+    })
+
+-- a fault at a line is that of the first faulty line
+pub found : (text : List ℕ) (line : ℕ) (kind : SpiceKind) → library_of text ≡ Err (At line kind) → IsFirstFaulty text line kind
+found text line kind told = found_in text line kind (lines_from nothing (spice_lines text)) refl told
+
+-- the first faulty line gives its fault
+pub only : (text : List ℕ) (line : ℕ) (kind : SpiceKind) → IsFirstFaulty text line kind → library_of text ≡ Err (At line kind)
+unfolding library_from
+only text line kind (inl it) =
+    let at : located at_line line_step it.here it.so_far ≡ Err (At line kind) =
+    ap (λ (step : Step). elim step as (λ _. Result Reading SpiceFault) [ Ok next ↦ Ok next | Err told ↦ Err (at_line it.here told) ]) it.broken
+    ∙ ap (λ (n : ℕ). Err (At n kind)) it.number in
+    let read : lines_from nothing (spice_lines text) ≡ Err (At line kind) =
+    first.only (located at_line line_step) nothing (spice_lines text) (At line kind)
+    (record { before = it.before; here = it.here; after = it.after; so_far = it.so_far; whole = it.whole; read = it.read; broken = at }) in
+    ap library_from read
+only text line kind (inr it) =
+    ap library_from it.read
+    ∙ ap (λ (current : Option OpenCell). elim current as (λ _. Result (List Subcircuit) SpiceFault) [ None ↦ limited it.so_far.cells | Some cell ↦ Err (At cell.line Unended) ]) it.is_open
+    ∙ ap (λ (n : ℕ). Err (At n Unended)) it.number
+    ∙ ap (λ (k : SpiceKind). Err (At line k)) (sym it.unended)

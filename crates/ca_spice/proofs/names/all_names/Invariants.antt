@@ -1,0 +1,10 @@
+use Rattle.std.proofs.Common.{◌≡◌, length}
+use Rattle.std.specs.List.{list_all}
+use Rattle.ca_spice.specs.Names.{texts, is_name}
+use Rattle.ca_spice.proofs.names.all_names.Given as goal
+
+abbrev pub invariant-words : goal.invariant-words
+invariant-words l = list_all is_name (texts l.rest) ≡ list_all is_name (texts l.words)
+
+abbrev pub decreases-words : goal.decreases-words
+decreases-words l = length l.rest

@@ -1,0 +1,12 @@
+-- What the contracts of this crate say, in reading order.
+pub mod Names
+pub mod Card
+pub mod PinInfo
+pub mod Mos
+pub mod OpenCell
+pub mod Reading
+pub mod SpiceFault
+pub mod Kept
+pub mod Named
+pub mod Views
+pub mod Laws

@@ -1,0 +1,19 @@
+-- Why a text gives no library.
+use Rattle.std.specs.Prelude.{Option, Some, None, Result}
+use Rattle.ca_lex.specs.Reading as reading
+use Rattle.ca_spice.specs.declared.fault.SpiceKind.{SpiceKind}
+use Rattle.ca_spice.specs.declared.fault.SpiceFault.{SpiceFault}
+use Rattle.ca_spice.specs.declared.fault.SpiceFault.TheVariants.{At, TooManyCells, NoMemory}
+use Rattle.ca_spice.specs.declared.fault.Refusal.{Refusal}
+use Rattle.ca_spice.specs.declared.fault.Refusal.TheVariants as refusal
+
+-- the fault of the text that an error is; want of memory tells nothing of the text
+abbrev pub fault_told : SpiceFault → Option SpiceFault
+fault_told (At line kind) = Some (At line kind)
+fault_told (TooManyCells count) = Some (TooManyCells count)
+fault_told NoMemory = None
+
+-- the rule that a refusal says a line breaks, if it isn't want of memory
+abbrev pub kind_told : Refusal → Option SpiceKind
+kind_told (refusal.Kind kind) = Some kind
+kind_told refusal.NoMemory = None

@@ -1,0 +1,21 @@
+//! Cell netlists: the library that a text reads as, or its first faulty line.
+#![tactic(auto)]
+
+mod card;
+mod fault;
+mod laws;
+mod library;
+mod mos;
+mod name_set;
+mod names;
+mod open_cell;
+mod pin;
+mod pin_info;
+mod reading;
+mod subcircuit;
+#[cfg(test)]
+mod tests;
+
+pub use fault::{SpiceFault, SpiceKind};
+pub use laws::first_faulty_line;
+pub use library::read_library;

@@ -1,0 +1,82 @@
+//! The library of a text.
+ghost use Rattle.std.specs.Prelude.{◌≡◌, ◌≤◌, map, IfOk, length};
+ghost use Rattle.std.specs.List.{All, IsDistinct};
+ghost use Rattle.std.specs.Str.{bytes_eq};
+ghost use Rattle.ca_lex.specs.Reading.{Gives};
+ghost use Rattle.ca_cell.specs.Library.{IsEntry};
+ghost use Rattle.ca_spice.specs.SpiceFault.{fault_told};
+ghost use Rattle.ca_spice.specs.Kept.{IsPlacedCell, IsUpper, names_of};
+ghost use Rattle.ca_spice.specs.Reading.{nothing, lines_from, library_from, library_of};
+ghost use Rattle.ca_spice.specs.Views.{reading_seen, subcircuit_seen};
+
+use crate::fault::{SpiceFault, SpiceKind};
+use crate::reading::Reading;
+use crate::subcircuit::Subcircuit;
+use ca_base::NoMemory;
+use ca_cell::{Entry, Library, LibraryFault, MOST_CELLS};
+use ca_lex::{Line, spice_lines};
+use std::alloc::Global;
+
+// What these logical lines read as.
+fn lines_of(alloc: Global, lines: &[Line]) -> Result<Reading, SpiceFault>
+    ensures { Gives fault_told reading_seen result (lines_from nothing lines.now) }
+{
+    let mut reading = Reading::new(alloc);
+    'lines: for line in lines {
+        match reading.line(alloc, line) {
+            Ok(next) => reading = next,
+            Err(refusal) => return Err(refusal.at(line.line)),
+        }
+    }
+    Ok(reading)
+}
+
+// The library of these subcircuits, whose names differ.
+fn entries_of(alloc: Global, cells: Vec<Subcircuit>) -> Result<Library, NoMemory>
+    requires few { length cells.items ≤ MOST_CELLS }
+    requires placed { All (λ cell. IsPlacedCell cell.raw) cells.items }
+    requires upper { All IsUpper (names_of cells.items) }
+    requires distinct { IsDistinct bytes_eq (names_of cells.items) }
+    ensures cells { IfOk result (λ library. map subcircuit_seen library ≡ cells.items) }
+    ensures entries { IfOk result (λ library. All (λ named. IsEntry named.entry) library) }
+{
+    let mut library = Library::new(alloc)?;
+    'cells: for cell in cells {
+        let Subcircuit { name, raw } = cell;
+        let entry = Entry::of(alloc, raw)?;
+        match library.add(name, entry) {
+            Ok(()) => {}
+            Err(LibraryFault::NoMemory) => return Err(NoMemory),
+            // Names differ, and there are few enough of them.
+            Err(LibraryFault::DoubleName) => unreachable!(),
+            Err(LibraryFault::TooManyCells { .. }) => unreachable!(),
+        }
+    }
+    Ok(library)
+}
+
+/// The library that a cell netlist reads as.
+#[tactic(auto, unfolding(crate::specs::Reading::library_from))]
+pub fn read_library(alloc: Global, bytes: &[u8]) -> Result<Library, SpiceFault>
+    ensures exact { Gives fault_told (map subcircuit_seen) result (library_of bytes.now) }
+    ensures entries { IfOk result (λ library. All (λ named. IsEntry named.entry) library) }
+{
+    let lines = spice_lines(alloc, bytes)?;
+    let reading = lines_of(alloc, lines.as_slice())?;
+    let Reading {
+        names,
+        cells,
+        current,
+    } = reading;
+    if let Some(cell) = current {
+        return Err(SpiceFault::At {
+            line: cell.line,
+            kind: SpiceKind::Unended,
+        });
+    }
+    let count = names.len();
+    if MOST_CELLS < count {
+        return Err(SpiceFault::TooManyCells { count });
+    }
+    Ok(entries_of(alloc, cells)?)
+}

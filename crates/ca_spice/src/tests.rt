@@ -1,0 +1,5 @@
+//! Cell netlists, worked out by hand.
+
+mod faults;
+mod row_library;
+mod sizes;
