@@ -38,9 +38,9 @@ IsPlaced-grown pins nets more devices device placed longer few few_devices withi
   few_devices = few_devices;
   pins_within = omega (arith, placed.pins_within);
   places = All-push (PlacesWithin (length more)) devices device
-    (All-weaker (PlacesWithin (length nets)) (PlacesWithin (length more))
-    (λ other held. record { drain = omega (arith, held.drain); gate = omega (arith, held.gate); source = omega (arith, held.source) })
-    devices placed.places) within;
+      (All-weaker (PlacesWithin (length nets)) (PlacesWithin (length more))
+      (λ other held. record { drain = omega (arith, held.drain); gate = omega (arith, held.gate); source = omega (arith, held.source) })
+      devices placed.places) within;
   strengths = All-push HasOwnStrength devices device placed.strengths own;
 }
 
@@ -85,7 +85,7 @@ IsPlaced-IsRaw raw placed = record {
   pins = placed.pins_within;
   places = placed.places;
   strengths = All-weaker HasOwnStrength (λ device. IsStrength device.strength)
-    (λ device own. subst IsStrength (sym own) (strength device.width.0 device.length.0)) raw.devices placed.strengths;
+      (λ device own. subst IsStrength (sym own) (strength device.width.0 device.length.0)) raw.devices placed.strengths;
 }
 
 -- names with one more are not fewer

@@ -69,9 +69,10 @@ at_turn P all place cell held turn = subst P (sym turn.1) (held place cell turn.
 name_at : (all : List Subcircuit) (place : ℕ) (cell : Subcircuit) → (place < length all) × (cell ≡ get_or all place cell)
     → (place < length (names_of all)) × (cell.name ≡ get_or (names_of all) place cell.name)
 name_at all place cell turn =
-    let count : length (names_of all) ≡ length all = length-map all (λ (c : Subcircuit). c.name) in
-    ( subst (λ (n : ℕ). place < n) (sym count) turn.0,
-      ap (λ (c : Subcircuit). c.name) turn.1 ∙ sym (get_or-map (λ (c : Subcircuit). c.name) all place cell cell.name turn.0) )
+    let count : length (names_of all) ≡ length all = length-map all (λ (c : Subcircuit). c.name) in (
+      subst (λ (n : ℕ). place < n) (sym count) turn.0,
+      ap (λ (c : Subcircuit). c.name) turn.1 ∙ sym (get_or-map (λ (c : Subcircuit). c.name) all place cell cell.name turn.0),
+    )
 
 -- so its name is in upper case, if all are
 pub upper_at : (all : List Subcircuit) (place : ℕ) (cell : Subcircuit) → All IsUpper (names_of all)

@@ -35,6 +35,7 @@ words_of-upper (letter ∷ text) = by (is_blank (to_ascii_uppercase letter)) (to
   where
     byte : ℕ
     byte = to_ascii_uppercase letter
+
     by : (blank sign : Bool) → All IsUpper (words_of (upper_case text))
         → All IsUpper (cond blank (words_of (upper_case text)) (cond sign ((byte ∷ []) ∷ words_of (upper_case text)) (words_with byte (upper_case text) (words_of (upper_case text)))))
     by true sign all = all

@@ -39,7 +39,12 @@ impl OpenCell {
     ghost use Rattle.ca_spice.specs.Views.{cell_seen, wiring_seen, sizes_seen};
 
     /// The subcircuit that a `.SUBCKT` with these pins begins.
-    pub(crate) fn new(alloc: Global, line: usize, name: &[u8], pins: &[&[u8]]) -> Result<Self, Refusal>
+    pub(crate) fn new(
+        alloc: Global,
+        line: usize,
+        name: &[u8],
+        pins: &[&[u8]],
+    ) -> Result<Self, Refusal>
         ensures read { Gives kind_told cell_seen result
             (unless (has_double (texts pins.now)) DoubleName (Ok (new_cell line name.now (texts pins.now)))) }
         ensures same_name { IfOk result (λ cell. cell.name ≡ name.now) }
@@ -81,7 +86,13 @@ impl OpenCell {
     }
 
     // The subcircuit with one transistor more, whose name is new.
-    fn with_device(self, alloc: Global, name: &[u8], wiring: Wiring<'_>, sizes: Sizes) -> Result<Self, NoMemory>
+    fn with_device(
+        self,
+        alloc: Global,
+        name: &[u8],
+        wiring: Wiring<'_>,
+        sizes: Sizes,
+    ) -> Result<Self, NoMemory>
         requires { has_device name.now self.devices ≡ false }
         ensures { IfOk result (λ cell. cell_seen cell
             ≡ with_device name.now (wiring_seen wiring.entry) (sizes_seen sizes) (cell_seen self)) }

@@ -2,7 +2,7 @@
 
 use crate::*;
 use SpiceKind::{
-    BadCard, BadLength, BadRole, DoubleName, NoPinInfo, NotText, UnknownCard, Unended,
+    BadCard, BadLength, BadRole, DoubleName, NoPinInfo, NotText, Unended, UnknownCard,
 };
 
 const COUNT: usize = 62;
@@ -53,11 +53,23 @@ const FAULTS: [(&[u8], usize, SpiceKind); COUNT] = [
     (b".SUBCKT A B\n*.PININFO B:\n", 2, BadRole),
     (b".SUBCKT A B\n*.PININFO C:I\n", 2, BadRole),
     (b".SUBCKT A B\n*.PININFO B:I B:I\n", 2, BadRole),
-    (b".SUBCKT A B\nM1 C B B B PCH W=1U L=1U\n*.PININFO C:I\n", 3, BadRole),
+    (
+        b".SUBCKT A B\nM1 C B B B PCH W=1U L=1U\n*.PININFO C:I\n",
+        3,
+        BadRole,
+    ),
     (b".SUBCKT A B C B\n", 1, DoubleName),
     (b".SUBCKT A B\n*X\n+ b\n", 1, DoubleName),
-    (b".SUBCKT A B\n*.PININFO B:I\n.ENDS\n.SUBCKT a C\n", 4, DoubleName),
-    (b".SUBCKT A B\nM1 B B B B P W=1U L=1U\nm1 B B B B P W=1U L=1U\n", 3, DoubleName),
+    (
+        b".SUBCKT A B\n*.PININFO B:I\n.ENDS\n.SUBCKT a C\n",
+        4,
+        DoubleName,
+    ),
+    (
+        b".SUBCKT A B\nM1 B B B B P W=1U L=1U\nm1 B B B B P W=1U L=1U\n",
+        3,
+        DoubleName,
+    ),
     (b".SUBCKT A B C\n*.PININFO B:I\n.ENDS\n", 3, NoPinInfo),
     (b"\n.SUBCKT A B\n*.PININFO B:I\n", 2, Unended),
     // The first of two faults on one line.
@@ -71,7 +83,11 @@ const FAULTS: [(&[u8], usize, SpiceKind); COUNT] = [
     (b".SUBCKT A B\n*.PININFO C:I B\n", 2, BadCard),
     (b".SUBCKT A B B (\n", 1, BadCard),
     (b".SUBCKT A B\n.ENDS B\n", 2, BadCard),
-    (b".SUBCKT A B\nM1 B B B B P W=1U L=1U\nM1 B B B B P W=1U\n", 3, BadLength),
+    (
+        b".SUBCKT A B\nM1 B B B B P W=1U L=1U\nM1 B B B B P W=1U\n",
+        3,
+        BadLength,
+    ),
     // The first of two faulty lines.
     (b".SUBCKT A B\nM1 B B B B XCH W=0 L=1U\n\x80\n", 2, BadCard),
 ];
@@ -92,16 +108,40 @@ fn readings(rt: HostRuntime) {
         (b"", 0),
         (b"* a comment \x80\n\n$ another \x80\n", 0),
         (b"*.PININFO \x80 X\n", 0),
-        (b"C1 ( = , $ \x80\nD1 A B\n+ C\n.OPTION X=Y\n.options\n.PARAM\n.END\n", 0),
+        (
+            b"C1 ( = , $ \x80\nD1 A B\n+ C\n.OPTION X=Y\n.options\n.PARAM\n.END\n",
+            0,
+        ),
         (b".SUBCKT A B\n*.PININFO B:I\n.ENDS", 1),
         (b".subckt a b\r\n*.pininfo B:i\r\n.ends A\r\n.end\r\n", 1),
-        (b"\t.SUBCKT A\n+ B $ \x80\n+$X\n*.PININFO B:I $ C\n.ENDS\n", 1),
-        (b".SUBCKT A B C:\n*.PININFO B:I\n* between\n*.PININFO C::O\n.ENDS\n", 1),
-        (b".SUBCKT A B\n*.PININFO B:I\nM1 B B B = N W = 1U\n+ L\n+ =1U X = = Y=( \n.ENDS\n", 1),
-        (b".SUBCKT A B\n*.PININFO B:I\nM = = = = P L=1U AD=1 AD=2 W=1U\n.ENDS\n", 1),
-        (b".SUBCKT A V1 V2 G1 G2\n*.PININFO V1:P V2:P G1:G G2:G\n.ENDS\n", 1),
-        (b".SUBCKT A A\n*.PININFO A:I\n.ENDS\n.SUBCKT B A\n*.PININFO A:I\n.ENDS\n", 2),
-        (b".SUBCKT A A\nMA A A A A N W=1U L=1U\n*.PININFO A:I\n.ENDS\n*.PININFO X\n", 1),
+        (
+            b"\t.SUBCKT A\n+ B $ \x80\n+$X\n*.PININFO B:I $ C\n.ENDS\n",
+            1,
+        ),
+        (
+            b".SUBCKT A B C:\n*.PININFO B:I\n* between\n*.PININFO C::O\n.ENDS\n",
+            1,
+        ),
+        (
+            b".SUBCKT A B\n*.PININFO B:I\nM1 B B B = N W = 1U\n+ L\n+ =1U X = = Y=( \n.ENDS\n",
+            1,
+        ),
+        (
+            b".SUBCKT A B\n*.PININFO B:I\nM = = = = P L=1U AD=1 AD=2 W=1U\n.ENDS\n",
+            1,
+        ),
+        (
+            b".SUBCKT A V1 V2 G1 G2\n*.PININFO V1:P V2:P G1:G G2:G\n.ENDS\n",
+            1,
+        ),
+        (
+            b".SUBCKT A A\n*.PININFO A:I\n.ENDS\n.SUBCKT B A\n*.PININFO A:I\n.ENDS\n",
+            2,
+        ),
+        (
+            b".SUBCKT A A\nMA A A A A N W=1U L=1U\n*.PININFO A:I\n.ENDS\n*.PININFO X\n",
+            1,
+        ),
     ];
     for (text, cells) in texts {
         match read_library(rt.alloc(), text) {

@@ -28,7 +28,10 @@ fn more_than_1024_cells_are_told(rt: HostRuntime) -> Result<(), Fail> {
     let alloc = rt.alloc();
     assert_eq!(rt; fault_of(alloc, &many_cells(alloc, 1024)?), None);
     let mut text = many_cells(alloc, 1025)?;
-    assert_eq!(rt; fault_of(alloc, &text), Some(SpiceFault::TooManyCells { count: 1025 }));
+    assert_eq!(rt;
+        fault_of(alloc, &text),
+        Some(SpiceFault::TooManyCells { count: 1025 })
+    );
     text.append(b".SUBCKT C7 A\n")?;
     let fault = SpiceFault::At {
         line: 3076,
@@ -52,7 +55,9 @@ fn a_card_of_100_000_lines_reads(rt: HostRuntime) -> Result<(), Fail> {
         text.append(line.as_bytes())?;
     }
     text.append(b".ENDS\n")?;
-    let library = read_library(alloc, text.as_bytes()).ok().ok_or("the text reads")?;
+    let library = read_library(alloc, text.as_bytes())
+        .ok()
+        .ok_or("the text reads")?;
     assert_eq!(rt; library.len(), 1);
     Ok(())
 }

@@ -41,10 +41,10 @@ cells-preserved c =
     c.in-Some.is c.next.ensures.steps in
     record {
       seen = ap (map subcircuit_seen) c.in-Ok.ensures.ok
-        ∙ seen_grown c.cells.library c.cells.yielded c.in-Some.cell c.in_ok-entry.entry c.cells.invariant.seen
-        (upper_at all (length c.cells.yielded) c.in-Some.cell c.requires.upper turn) c.in_ok-entry.ensures.ok;
+          ∙ seen_grown c.cells.library c.cells.yielded c.in-Some.cell c.in_ok-entry.entry c.cells.invariant.seen
+          (upper_at all (length c.cells.yielded) c.in-Some.cell c.requires.upper turn) c.in_ok-entry.ensures.ok;
       entries = subst (All (λ (named : Named). IsEntry named.entry)) (sym c.in-Ok.ensures.ok)
-        (All-push (λ (named : Named). IsEntry named.entry) c.cells.library _ c.cells.invariant.entries c.in_ok-entry.ensures.entry);
+          (All-push (λ (named : Named). IsEntry named.entry) c.cells.library _ c.cells.invariant.entries c.in_ok-entry.ensures.entry);
     }
 
 pub returns : goal.returns

@@ -29,7 +29,7 @@ returns-in-Err-clause-read c =
 pub words-preserved : goal.words-preserved
 words-preserved c = record {
   steps = behind_goes_on c.args.nets.now c.words.rest.now _ c.words.pins.items c.take_role.new.pins.items _ c.in-len1-up.len_at_least
-    c.in_default-take_role.ensures.read c.words.invariant.steps;
+      c.in_default-take_role.ensures.read c.words.invariant.steps;
   count = c.in_default-take_role.ensures.count ∙ c.words.invariant.count;
   form = behind_are c.words.rest.now c.in-len1-up.len_at_least c.words.invariant.form;
 }
