@@ -1,4 +1,5 @@
 pub mod WordLemmas
 pub mod PieceLemmas
-pub mod PlainLemmas
+pub mod CellLemmas
 pub mod OutputLemmas
+pub mod CauseLemmas

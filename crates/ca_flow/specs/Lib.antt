@@ -3,7 +3,7 @@ pub mod Command
 pub mod FaultLine
 pub mod PinLine
 pub mod Finished
+pub mod Cells
+pub mod Outputs
 pub mod Fault
 pub mod Ends
-pub mod Plain
-pub mod Outputs

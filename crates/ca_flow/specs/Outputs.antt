@@ -1,5 +1,6 @@
 -- The values of a cell's output pins under one vector.
-use Rattle.std.specs.Prelude.{ℕ, ◌+◌, ◌==◌, ◌≡◌, ◌≢◌, ◌↔◌, List, [], ◌∷◌, map, Some, slice_get, if◌then◌else◌}
+use Rattle.std.specs.Prelude.{ℕ, ◌+◌, ◌==◌, ◌≡◌, ◌≢◌, ◌↔◌, List, [], ◌∷◌, map, length, codes, Some, slice_get, if◌then◌else◌}
+use Rattle.std.specs.Str.{bytes_eq}
 use Rattle.ca_net.specs.declared.trit.Trit.{Trit}
 use Rattle.ca_net.specs.declared.trit.Trit.TheVariants.{Zero, One, X}
 use Rattle.ca_net.specs.declared.node.NodeKind.{NodeKind}
@@ -9,7 +10,16 @@ use Rattle.ca_net.specs.Circuit.{Circuit}
 use Rattle.ca_net.specs.State.{value_at}
 use Rattle.ca_net.specs.PairRun.{EndsAt}
 use Rattle.ca_net.specs.Wave.{at_inputs}
+use Rattle.ca_cell.specs.declared.raw.RawPin.{RawPin}
+use Rattle.ca_cell.specs.declared.raw.RawCell.{RawCell}
+use Rattle.ca_cell.specs.Raw.{is_input, is_output, role_count, nodes_of, circuit_of}
+use Rattle.ca_cell.specs.Rules.{KeepsRules}
 use Rattle.ca_flow.specs.declared.pin_values.PinValue.{PinValue}
+use Rattle.ca_flow.specs.Cells.{FindsCell}
+
+-- the letters of a vector, of which a dash has none
+abbrev pub letters_of : List ℕ → List ℕ
+letters_of word = if bytes_eq word (codes "-") then [] else word
 
 -- the value of a letter: 0, 1, and X for any other
 abbrev pub trit_of : ℕ → Trit
@@ -38,3 +48,19 @@ pub record AreEnds (net : Circuit) (pins : List (List ℕ)) (node : ℕ) (vector
   pub of_pins : map (λ value. value.pin) values ≡ pins
   pub ends : (place : ℕ) (value : PinValue) (end : Trit) → slice_get values place ≡ Some value
       → ((end ≢ X) × (value.value ≡ end)) ↔ EndsAt net vector vector (node + place) end
+
+-- the names of the output pins, in pin order
+abbrev pub output_names : List RawPin → List (List ℕ)
+output_names [] = []
+output_names (pin ∷ pins) = if is_output pin.role then pin.name ∷ output_names pins else output_names pins
+
+-- the values are those of a subcircuit's output pins: it keeps the rules of a used cell, there is one letter per input pin, and
+-- the values are what every run of its network ends with. Its output pins are the nodes behind power, ground and the input pins
+pub record AreValues (letters : List ℕ) (values : List PinValue) (raw : RawCell) : Type 0 where
+  pub kept : KeepsRules raw
+  pub fits : length letters ≡ role_count is_input raw.pins
+  pub ends : AreEnds (circuit_of raw) (output_names raw.pins) (2 + role_count is_input raw.pins) (vector_of (nodes_of raw) letters) values
+
+-- the values are those of the cell that the word names in the text
+abbrev pub AreValuesIn : List ℕ → List ℕ → List ℕ → List PinValue → Type 0
+AreValuesIn bytes cell vector values = FindsCell bytes cell (AreValues (letters_of vector) values)

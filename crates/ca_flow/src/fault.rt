@@ -1,11 +1,14 @@
 //! What a command answers where it doesn't end well.
 ghost use Rattle.std.specs.Prelude.{◌≡◌, [], ◌++◌, codes, decimal, OnOk, OnErr};
 ghost use Rattle.ca_flow.specs.declared.fault.Fault.TheVariants as fault;
+ghost use Rattle.ca_flow.specs.FaultLine.{kind_text, rule_text};
 ghost use Rattle.ca_store.specs.Store.{Rose, KeepsCount, appended, AppendsPart};
 
 use crate::pieces::write_pieces;
 use ca_base::NoMemory;
+use ca_cell::CellRule;
 use ca_lex::Text;
+use ca_spice::SpiceKind;
 use ca_store::{Failed, Sink};
 use itoa::Buffer;
 
@@ -18,10 +21,14 @@ pub enum Fault {
     Cells { line: usize, kind: SpiceKind },
     /// The cell netlist has no cell of this name.
     NoCell { word: Text },
+    /// The cell breaks a rule of used cells, the first of those that it breaks. Its name stands in upper case.
+    Cell { cell: Text, rule: CellRule },
     /// A vector has more or fewer letters than the cell has input pins.
     BadVector { word: Text },
     /// A file has more bytes than it may have. So many were taken of it.
     TooLong { name: Text, taken: usize },
+    /// There is more of something than there may be.
+    Limit { kind: LimitKind, count: usize },
     /// A file wasn't there, or the system failed at it.
     StoreFailed { name: Text },
     /// The output took no more bytes.
@@ -30,11 +37,11 @@ pub enum Fault {
     NoMemory,
 }
 
-/// Why a cell netlist has no reading.
+/// What there is too much of.
 #[derive(Clone, Copy, Debug, PartialEq, Eq)]
-pub enum SpiceKind {
-    /// The bytes aren't one subcircuit in the plain form.
-    NotPlain,
+pub enum LimitKind {
+    /// A cell netlist has more than 1,024 cells.
+    Cells,
 }
 
 impl Fault {
@@ -46,8 +53,11 @@ impl Fault {
     {
         match self {
             Fault::BadWords => 1,
-            Fault::Cells { .. } | Fault::NoCell { .. } | Fault::BadVector { .. } => 2,
-            Fault::TooLong { .. } => 3,
+            Fault::Cells { .. }
+            | Fault::NoCell { .. }
+            | Fault::Cell { .. }
+            | Fault::BadVector { .. } => 2,
+            Fault::TooLong { .. } | Fault::Limit { .. } => 3,
             Fault::StoreFailed { .. } | Fault::SinkFailed => 4,
             Fault::NoMemory => 5,
         }
@@ -81,6 +91,7 @@ impl Fault {
     {
         match self {
             Fault::Cells { line, .. } => *line,
+            Fault::Limit { count, .. } => *count,
             _ => 0,
         }
     }
@@ -95,11 +106,24 @@ impl Fault {
             Fault::Cells { kind, .. } => FaultText {
                 start: b"cells: line ",
                 word: number,
-                end: kind.text(),
+                end: kind_text(*kind),
             },
             Fault::NoCell { word } => FaultText::with_word(b"no cell ", word),
+            Fault::Cell { cell, rule } => FaultText {
+                start: b"cell ",
+                word: cell.as_bytes(),
+                end: rule_text(*rule),
+            },
             Fault::BadVector { word } => FaultText::with_word(b"bad vector: ", word),
             Fault::TooLong { name, .. } => FaultText::with_word(b"file too long: ", name),
+            Fault::Limit {
+                kind: LimitKind::Cells,
+                ..
+            } => FaultText {
+                start: b"limit: Cells ",
+                word: number,
+                end: &[],
+            },
             Fault::StoreFailed { name } => FaultText::with_word(b"file fault: ", name),
             Fault::SinkFailed => FaultText::plain(b"output fault"),
             Fault::NoMemory => FaultText::plain(b"out of memory"),
@@ -137,16 +161,34 @@ impl<'a> FaultText<'a> {
     }
 }
 
-impl SpiceKind {
-    ghost use Rattle.ca_flow.specs.FaultLine.{kind_text};
+// The text of a kind of faulty line, behind the line's number.
+fn kind_text(kind: SpiceKind) -> &'static [u8]
+    ensures { result.now ≡ codes ": " ++ kind_text kind }
+{
+    match kind {
+        SpiceKind::UnknownCard => b": UnknownCard",
+        SpiceKind::BadCard => b": BadCard",
+        SpiceKind::NoPinInfo => b": NoPinInfo",
+        SpiceKind::BadRole => b": BadRole",
+        SpiceKind::BadLength => b": BadLength",
+        SpiceKind::DoubleName => b": DoubleName",
+        SpiceKind::Unended => b": Unended",
+        SpiceKind::NotText => b": NotText",
+    }
+}
 
-    // The text from the line's number on.
-    fn text(self) -> &'static [u8]
-        ensures { result.now ≡ codes ": " ++ kind_text self }
-    {
-        match self {
-            SpiceKind::NotPlain => b": NotPlain",
-        }
+// The text of a rule, behind the cell's name.
+fn rule_text(rule: CellRule) -> &'static [u8]
+    ensures { result.now ≡ codes ": " ++ rule_text rule }
+{
+    match rule {
+        CellRule::NoRail => b": NoRail",
+        CellRule::TooManyDevices { .. } => b": TooManyDevices",
+        CellRule::TooManyNodes { .. } => b": TooManyNodes",
+        CellRule::TooManyInputs { .. } => b": TooManyInputs",
+        CellRule::NoOutput => b": NoOutput",
+        CellRule::TooManyOutputs { .. } => b": TooManyOutputs",
+        CellRule::InputDrivesChannel { .. } => b": InputDrivesChannel",
     }
 }
 

@@ -8,12 +8,11 @@ mod inputs;
 mod outputs;
 mod pieces;
 mod pin_values;
-mod plain;
 mod respond;
 mod top;
 mod words;
 
-pub use fault::{Fault, SpiceKind};
+pub use fault::{Fault, LimitKind};
 pub use finished::{Done, Finished};
 pub use pin_values::{PinValue, PinValues};
 pub use top::run;

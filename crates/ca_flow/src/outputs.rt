@@ -1,37 +1,48 @@
 //! The values to which the output pins of a cell settle.
 ghost use Rattle.std.specs.Prelude.{◌≡◌, ◌+◌, length, map, IfOk};
-ghost use Rattle.ca_flow.specs.Outputs.{trit_of, steady, input_values, vector_of, AreEnds};
+ghost use Rattle.ca_cell.specs.Raw.{is_input, role_count, circuit_of};
+ghost use Rattle.ca_flow.specs.Outputs.{trit_of, steady, input_values, output_names, AreValues};
 
 use crate::pin_values::{PinValue, PinValues};
-use crate::plain::PlainCell;
 use ca_base::NoMemory;
+use ca_cell::{Cell, RawPin};
+use ca_lex::Names;
 use ca_net::{Network, NodeId, Trit, Wave};
 use ca_settle::{Work, three_phase};
 use std::alloc::Global;
 
 /// The values of the output pins under a vector that has one letter per input pin, in pin order.
-pub(crate) fn values_of(
-    alloc: Global,
-    cell: &PlainCell,
-    letters: &[u8],
-) -> Result<PinValues, NoMemory>
-    requires letters { length letters.now ≡ length cell.now.inputs }
+pub(crate) fn values_of(alloc: Global, cell: &Cell, letters: &[u8]) -> Result<PinValues, NoMemory>
+    requires letters { length letters.now ≡ role_count is_input cell.now.pins }
 
-    ensures ends { IfOk result (AreEnds cell.now.net cell.now.outputs (2 + length cell.now.inputs)
-        (vector_of cell.now.net.nodes letters.now)) }
+    ensures values { IfOk result (λ values. AreValues letters.now values cell.now) }
 {
     let waves = waves_of(alloc, letters)?;
-    let mut work = Work::reserve(alloc, cell.net.node_count(), cell.net.device_count())?;
-    three_phase(&cell.net, &waves, &mut work);
-    let first = 2 + cell.inputs.len();
+    let pins = output_names(alloc, cell.raw().pins.as_slice())?;
+    let mut work = Work::reserve(alloc, cell.node_count(), cell.device_count())?;
+    three_phase(cell, &waves, &mut work);
+    let first = 2 + cell.inputs();
     let mut values = PinValues::new(alloc);
-    for place in 0..cell.outputs.len() {
+    for place in 0..cell.outputs() {
         values.push(PinValue {
-            pin: cell.outputs.get(place).copy(alloc)?,
+            pin: pins.get(place).copy(alloc)?,
             value: work.wave(NodeId((first + place) as u32)).last,
         })?;
     }
     Ok(values)
+}
+
+// The names of the output pins.
+fn output_names(alloc: Global, pins: &[RawPin]) -> Result<Names, NoMemory>
+    ensures { IfOk result (λ names. names ≡ output_names pins.now) }
+{
+    let mut names = Names::new(alloc);
+    for pin in pins {
+        if pin.role.is_output() {
+            names.push(pin.name.copy(alloc)?)?;
+        }
+    }
+    Ok(names)
 }
 
 // The waves of the input nodes: power, ground, and the input pins.

@@ -1,8 +1,9 @@
 //! The command `respond`: the value to which each output pin of a cell settles under one vector.
-ghost use Rattle.std.specs.Prelude.{◌≡◌, ℕ, List, Some, IfErr, OnOk};
+ghost use Rattle.std.specs.Prelude.{◌≡◌, ℕ, List, Some, IfOk, IfErr, OnOk};
 ghost use Rattle.ca_store.specs.Store.{Nothing};
 ghost use Rattle.ca_flow.specs.Command.{IsSpelledRespond};
-ghost use Rattle.ca_flow.specs.Fault.{IsInputCause};
+ghost use Rattle.ca_flow.specs.Outputs.{AreValuesIn};
+ghost use Rattle.ca_flow.specs.Fault.{OfFile, IsInputCause};
 ghost use Rattle.ca_flow.specs.Ends.{TellsStoreFault, Ends};
 
 use crate::evaluate::evaluate;
@@ -53,8 +54,10 @@ fn find_values<S: Store>(
 ) -> Result<PinValues, Fault>
     requires closed { S.opened store.old ≡ Nothing }
 
-    ensures cause { IfErr result (IsInputCause request.now (S.files store.old)
-        (S.faults store.old) (S.faults store.new)) }
+    ensures values { IfOk result (λ values. OfFile (S.files store.old) request.now.cells.now
+        (λ bytes. AreValuesIn bytes request.now.cell.now request.now.vector.now values)) }
+    ensures cause { IfErr result (IsInputCause request.now.cells.now request.now.cell.now request.now.vector.now
+        (S.files store.old) (S.faults store.old) (S.faults store.new)) }
     ensures quiet { OnOk result (S.faults store.new ≡ S.faults store.old) }
     ensures told { IfErr result (λ fault.
         TellsStoreFault (Some fault) (S.faults store.old) (S.faults store.new)) }

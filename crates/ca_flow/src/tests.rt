@@ -35,6 +35,21 @@ MP1 Z VSS VDDA VDD PCH W=1n L=1n
 .ENDS
 ";
 
+// The first cell breaks a rule, the second is sound.
+const LIBRARY: &str = "\
+* Two cells
+.subckt tg a z vdd vss
+*.pininfo a:i z:o vdd:p vss:g
+m1 a vdd z vss nch w=1u l=0.1u
+.ends tg
+.subckt inv a zn vdd vss
+*.pininfo a:i zn:o vdd:p vss:g
+mp1 zn a vdd vdd pch
++ w=630n l=50n m=1
+mn1 zn a vss vss nch w=415n l=50n $ nmos
+.ends
+";
+
 // What a command left behind: its end, the bytes that it printed, and the line of its fault.
 #[derive(Drop)]
 struct Outcome {
@@ -83,6 +98,14 @@ fn each_line_ends_so(rt: HostRuntime) -> Result<(), Fail> {
         (RATIOED, "respond n.sp RATIOED 0", 0, "Y=0\nZN=1\n", ""),
         (RATIOED, "respond n.sp RATIOED 1", 0, "Y=1\nZN=0\n", ""),
         (TIE, "respond n.sp TIE -", 0, "Z=1\n", ""),
+        (LIBRARY, "respond n.sp INV 0", 0, "ZN=1\n", ""),
+        (
+            LIBRARY,
+            "respond n.sp Tg 1",
+            2,
+            "",
+            "cell TG: InputDrivesChannel",
+        ),
         (NAND2, "respond n.sp NAND2 1", 2, "", "bad vector: 1"),
         (NAND2, "respond n.sp NAND2 -", 2, "", "bad vector: -"),
         (NAND2, "respond n.sp NAND3 1", 2, "", "no cell NAND3"),
@@ -108,46 +131,53 @@ fn each_line_ends_so(rt: HostRuntime) -> Result<(), Fail> {
 
 // Each row puts one piece in place of another.
 #[test]
-fn a_text_in_another_form_is_refused(rt: HostRuntime) -> Result<(), Fail> {
+fn a_faulty_text_is_refused(rt: HostRuntime) -> Result<(), Fail> {
     let alloc = rt.alloc();
-    for (old, new) in [
-        (".ENDS\n", ""),
-        (".ENDS\n", ".ENDS"),
-        (".ENDS\n", ".ENDS NAND2\n"),
-        (".SUBCKT", " .SUBCKT"),
-        ("NAND2 A1 A2", "nand2 A1 A2"),
-        ("A1 A2 ZN", "A1 A1 ZN"),
-        ("A1:I A2:I", "A2:I A1:I"),
-        ("VDD:P", "VDD:B"),
-        ("VDD:P", "VDD:O"),
-        ("ZN:O", "ZN:I"),
-        ("A2:I ", ""),
-        ("MP2", "MP1"),
-        ("MP2", "XP2"),
-        ("MP2 ZN", "MP2  ZN"),
-        ("MP2 ZN", "MP2 A1"),
-        ("VSS VSS NCH", "VSS VSS XCH"),
-        ("W=415n L=50n\nMN2", "L=50n W=415n\nMN2"),
-        ("W=415n L=50n\nMN2", "W=0n L=50n\nMN2"),
-        ("W=415n L=50n\nMN2", "W=100000n L=50n\nMN2"),
-        ("W=415n L=50n\nMN2", "W=415 L=50n\nMN2"),
+    for (old, new, told) in [
+        (".ENDS\n", "", "cells: line 1: Unended"),
+        (".SUBCKT", "+ .SUBCKT", "cells: line 1: BadCard"),
+        ("A1 A2 ZN", "A1 A1 ZN", "cells: line 1: DoubleName"),
+        ("VDD:P", "VDD:B", "cells: line 2: BadRole"),
+        ("A2:I ", "", "cells: line 7: NoPinInfo"),
+        ("MP2", "XP2", "cells: line 4: UnknownCard"),
+        ("MP2 ZN", "MP2 Z\x7f", "cells: line 4: NotText"),
+        ("MP2 ZN A2", "MP2 ZN", "cells: line 4: BadCard"),
+        (
+            "W=415n L=50n\nMN2",
+            "W=0n L=50n\nMN2",
+            "cells: line 5: BadLength",
+        ),
+        ("VDD:P", "VDD:O", "cell NAND2: NoRail"),
+        ("ZN:O", "ZN:I", "cell NAND2: NoOutput"),
+        ("MP2 ZN", "MP2 A1", "cell NAND2: InputDrivesChannel"),
     ] {
         let (before, after) = NAND2.split_once(old).expect(&rt, "the piece is there");
         let text = format!(in alloc; "{before}{new}{after}")?;
-        let ended = outcome_of(
-            alloc,
-            &text,
-            "respond n.sp NAND2 11",
-            100,
-            FailList::new(alloc),
-        )?;
-        assert_eq!(rt; ended.end.status, 2, "at {new} for {old}");
-        assert_eq!(rt;
-            ended.line.bytes(),
-            b"cellaware: cells: line 1: NotPlain\n".as_slice(),
-            "at {new} for {old}"
-        );
-        assert_eq!(rt; ended.printed.bytes(), b"".as_slice(), "at {new} for {old}");
+        let line = "respond n.sp NAND2 11";
+        let ended = outcome_of(alloc, &text, line, 100, FailList::new(alloc))?;
+        let wanted = format!(in alloc; "cellaware: {told}\n")?;
+        assert_eq!(rt; ended.end.status, 2, "at {told}");
+        assert_eq!(rt; ended.line.bytes(), wanted.as_bytes(), "at {told}");
+        assert_eq!(rt; ended.printed.bytes(), b"".as_slice(), "at {told}");
+    }
+    Ok(())
+}
+
+#[test]
+fn a_library_has_at_most_1024_cells(rt: HostRuntime) -> Result<(), Fail> {
+    let alloc = rt.alloc();
+    for (cells, told) in [
+        (1024, "cellaware: no cell B\n"),
+        (1025, "cellaware: limit: Cells 1025\n"),
+    ] {
+        let mut text = String::new(alloc);
+        for cell in 0..cells {
+            text.push_str(".SUBCKT A")?;
+            text.push_str(&format!(in alloc; "{cell}")?)?;
+            text.push_str(" Z\n*.PININFO Z:O\n.ENDS\n")?;
+        }
+        let ended = outcome_of(alloc, &text, "respond n.sp B 1", 100, FailList::new(alloc))?;
+        assert_eq!(rt; ended.line.bytes(), told.as_bytes());
     }
     Ok(())
 }

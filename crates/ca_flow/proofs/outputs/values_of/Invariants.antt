@@ -3,4 +3,4 @@ use Rattle.ca_flow.specs.Outputs.{values_from}
 use Rattle.ca_flow.proofs.outputs.values_of.Given as goal
 
 abbrev pub invariant-loop-place : goal.invariant-loop-place
-invariant-loop-place l = l.values ≡ values_from (take l.place l.cell.outputs) l.work.last l.first
+invariant-loop-place l = l.values ≡ values_from (take l.place l.pins) l.work.last l.first

@@ -1,0 +1,23 @@
+-- Why a command was refused, from why its parts were.
+use Rattle.std.proofs.Common.{ℕ, List}
+use Rattle.std.specs.Prelude.{Option}
+use Rattle.ca_store.specs.Store.{Files}
+use Rattle.ca_flow.specs.declared.fault.Fault.{Fault}
+use Rattle.ca_flow.specs.declared.fault.Fault.TheVariants.{BadWords, Cells, NoCell, Cell, BadVector, TooLong, Limit, StoreFailed, SinkFailed, NoMemory}
+use Rattle.ca_flow.specs.Words.{cells_word, cell_word, vector_word}
+use Rattle.ca_flow.specs.Fault.{Outside, IsInputCause, IsCause}
+
+-- a command found no values
+pub of_input : (words : List (List ℕ)) (files : Option Files) (before after : Outside) (fault : Fault)
+    → IsInputCause (cells_word words) (cell_word words) (vector_word words) files before.store_faults after.store_faults fault
+    → IsCause words files before after fault
+of_input words files before after BadWords held = absurd held
+of_input words files before after (Cells line kind) held = held
+of_input words files before after (NoCell word) held = held
+of_input words files before after (Cell name rule) held = held
+of_input words files before after (BadVector word) held = held
+of_input words files before after (TooLong name taken) held = held
+of_input words files before after (Limit kind count) held = held
+of_input words files before after (StoreFailed name) held = held
+of_input words files before after SinkFailed held = absurd held
+of_input words files before after NoMemory held = held
