@@ -1,5 +1,5 @@
 -- Why a command is refused.
-use Rattle.std.specs.Prelude.{◌≡◌, ◌≢◌, ℕ, List, length, Option, Some, None, IsSomeAnd, Err, ⊤}
+use Rattle.std.specs.Prelude.{◌≡◌, ◌≢◌, ◌≤◌, ℕ, List, length, Option, Some, None, IsSomeAnd, Err, ⊤}
 use Rattle.std.specs.Option.{ForSome}
 use Rattle.ca_store.specs.Store.{Files, MayHave, Rose}
 use Rattle.ca_store.specs.ReadFault.{IsTooLong}
@@ -33,9 +33,9 @@ IsReadCause name files limit before after (StoreFailed word) = (word ≡ name) �
 IsReadCause name files limit before after NoMemory = ⊤
 IsReadCause name files limit before after _ = ⊥
 
--- the file of this name is there, where files are told, and this holds of its bytes
+-- the file of this name, where files are told, is there and no longer than it may be, and this holds of its bytes
 abbrev pub OfFile : Option Files → List ℕ → (List ℕ → Type 0) → Type 0
-OfFile files name Holds = ForSome files (λ told. IsSomeAnd (told name) Holds)
+OfFile files name Holds = ForSome files (λ told. IsSomeAnd (told name) (λ bytes. (length bytes ≤ MAX_CELLS) × Holds bytes))
 
 -- the word names a subcircuit that breaks this rule first
 pub record RefusesCell (library : List Named) (word : List ℕ) (rule : CellRule) : Type 0 where

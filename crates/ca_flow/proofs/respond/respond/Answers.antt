@@ -1,7 +1,9 @@
 use Rattle.std.proofs.Common.{rules, sym}
 use Rattle.ca_flow.specs.Words.{cells_word, cell_word, vector_word}
 use Rattle.ca_flow.specs.Fault.{Outside, IsInputCause}
-use Rattle.ca_flow.proofs.CauseLemmas.{of_input}
+use Rattle.ca_flow.specs.declared.finished.Done.TheVariants.{Respond}
+use Rattle.ca_flow.specs.Ends.{IsAsked}
+use Rattle.ca_flow.proofs.CauseLemmas.{of_input, asked_of}
 use Rattle.ca_flow.proofs.respond.respond.Goals as goal
 
 pub returns-in-Err-clause-ends : goal.returns-in-Err-clause-ends
@@ -26,4 +28,18 @@ returns-in-Err-clause-ends g c = λ words spelled.
       cause = rw c.refused.ensures.fault (of_input words files before after c.in-Err.fault moved);
       of_store = rw c.refused.ensures.fault (c.in-Err.ensures).told;
       of_sink = search rules;
+    }
+
+pub returns-in-Ok-clause-ends : goal.returns-in-Ok-clause-ends
+returns-in-Ok-clause-ends g c = λ words spelled.
+    let files = g.S.Store.files c.args.store.now in
+    let asked : IsAsked words files (Respond c.in-Ok.values) =
+    rw (sym spelled.cells, sym spelled.cell, sym spelled.vector) (c.in-Ok.ensures).values in
+    record {
+      answer = c.print_done.ensures.answer;
+      asked = asked_of words files (Respond c.in-Ok.values) c.print_done.result.done c.print_done.ensures.done asked;
+      prints = c.print_done.ensures.prints;
+      cause = search rules;
+      of_store = search rules;
+      of_sink = c.print_done.ensures.count;
     }
