@@ -1,0 +1,8 @@
+pub mod ListLemmas
+pub mod CircuitWithLemmas
+pub mod EachLemmas
+pub mod MemberLemmas
+pub mod CountLemmas
+pub mod CaseLemmas
+pub mod NameLemmas
+pub mod FindLemmas

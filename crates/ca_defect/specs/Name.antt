@@ -1,0 +1,34 @@
+-- The names of defects.
+use Rattle.std.specs.Prelude.{ℕ, ◌+◌, ◌==◌, Bool, if◌then◌else◌, List, [], ◌∷◌, ◌++◌, codes, slice_get, option_map, unwrap_or}
+use Rattle.std.specs.Str.{bytes_eq}
+use Rattle.ca_lex.specs.Words.{upper_case}
+use Rattle.ca_cell.specs.declared.raw.RawPin.{RawPin}
+use Rattle.ca_cell.specs.declared.raw.RawCell.{RawCell}
+use Rattle.ca_cell.specs.Raw.{node_of}
+use Rattle.ca_defect.specs.declared.defect.Defect.{Defect}
+use Rattle.ca_defect.specs.declared.defect.Defect.TheVariants.{OpenDrain, OpenSource, OpenGate, OpenPin, Short}
+
+-- the first of these nets whose node is n; the first of them stands at a place of the list of nets
+abbrev pub net_from : List RawPin → ℕ → ℕ → List (List ℕ) → List ℕ
+net_from pins n place [] = []
+net_from pins n place (net ∷ more) = if node_of pins place == n then net else net_from pins n (place + 1) more
+
+-- the name of a node: that of the first net whose node it is
+abbrev pub node_name : RawCell → ℕ → List ℕ
+node_name raw n = net_from raw.pins n 0 raw.nets
+
+-- the name of a device
+abbrev pub device_name : RawCell → ℕ → List ℕ
+device_name raw place = unwrap_or (option_map (λ device. device.name) (slice_get raw.devices place)) []
+
+-- the name of a defect, in upper case: MP1(D), MP1(S), MP1(G), A1(P), VDD=ZN
+abbrev pub name_of : RawCell → Defect → List ℕ
+name_of raw (OpenDrain opened) = upper_case (device_name raw opened.0) ++ codes "(D)"
+name_of raw (OpenSource opened) = upper_case (device_name raw opened.0) ++ codes "(S)"
+name_of raw (OpenGate opened) = upper_case (device_name raw opened.0) ++ codes "(G)"
+name_of raw (OpenPin pin) = upper_case (node_name raw pin.0) ++ codes "(P)"
+name_of raw (Short low high) = upper_case (node_name raw low.0) ++ (codes "=" ++ upper_case (node_name raw high.0))
+
+-- the text in upper case is the name of the defect
+abbrev pub is_called : RawCell → List ℕ → Defect → Bool
+is_called raw text defect = bytes_eq (name_of raw defect) (upper_case text)

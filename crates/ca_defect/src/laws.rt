@@ -1,0 +1,9 @@
+//! Laws of the definitions, each the contract of a function that does nothing.
+
+ghost use Rattle.ca_cell.specs.declared.raw.RawCell.{RawCell};
+ghost use Rattle.ca_defect.specs.List.{ListsDefects};
+
+/// The list of a cell's defects has exactly its defects, and as many as the cell counts.
+pub fn lists_defects()
+    ensures { (raw : RawCell) → ListsDefects raw }
+{}
