@@ -14,6 +14,17 @@ pub struct Wave {
     pub last: Trit,
 }
 
+/// The wave of a node of which no value is known.
+impl Default for Wave {
+    fn default() -> Self {
+        Wave {
+            first: Trit::X,
+            mid: Trit::X,
+            last: Trit::X,
+        }
+    }
+}
+
 impl Wave {
     /// The wave of an input that changes from one value to another, or keeps it: its middle is the meet of the two.
     pub fn pair(first: Trit, last: Trit) -> Wave
