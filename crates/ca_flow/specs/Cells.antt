@@ -1,22 +1,28 @@
--- What a name finds in the text of a cell netlist.
-use Rattle.std.specs.Prelude.{◌≡◌, ℕ, List, map, Some, None, Ok}
-use Rattle.ca_lex.specs.Words.{upper_case}
+-- What a name finds in the file of a cell netlist.
+use Rattle.std.specs.Prelude.{◌≤◌, ℕ, List, length, Option, IsOk, IsNone, IsSomeAnd}
+use Rattle.std.specs.Option.{ForSome}
+use Rattle.ca_store.specs.Store.{Files}
 use Rattle.ca_cell.specs.declared.raw.RawCell.{RawCell}
-use Rattle.ca_cell.specs.declared.library.Entry.{Entry}
-use Rattle.ca_cell.specs.Library.{Named, entry_of, raw_of}
 use Rattle.ca_spice.specs.Reading.{library_of}
-use Rattle.ca_spice.specs.Views.{subcircuit_seen}
+use Rattle.ca_spice.specs.Called.{cell_called}
+use Rattle.ca_flow.specs.declared.inputs.TheConstants.{MAX_CELLS}
 
--- the text reads as the subcircuits of a library, in which the word, in any case, names one of which this holds
-pub record FindsCell (bytes word : List ℕ) (Holds : RawCell → Type 0) : Type 0 where
-  pub library : List Named
-  pub reads : library_of bytes ≡ Ok (map subcircuit_seen library)
-  pub entry : Entry
-  pub found : entry_of library (upper_case word) ≡ Some entry
-  pub holds : Holds (raw_of entry)
+-- the file of this name is there and no longer than a cell netlist may be, and this holds of its bytes
+abbrev pub IsFileWith : Files → List ℕ → (List ℕ → Type 0) → Type 0
+IsFileWith told name Holds = IsSomeAnd (told name) (λ bytes. (length bytes ≤ MAX_CELLS) × Holds bytes)
 
--- the text reads as the subcircuits of a library, in which the word names none
-pub record FindsNone (bytes word : List ℕ) : Type 0 where
-  pub library : List Named
-  pub reads : library_of bytes ≡ Ok (map subcircuit_seen library)
-  pub missing : entry_of library (upper_case word) ≡ None
+-- the same, where the files are told
+abbrev pub OfFile : Option Files → List ℕ → (List ℕ → Type 0) → Type 0
+OfFile files name Holds = ForSome files (λ told. IsFileWith told name Holds)
+
+-- the text has a reading, in which the word names a subcircuit of which this holds
+abbrev pub HasCell : List ℕ → (RawCell → Type 0) → List ℕ → Type 0
+HasCell word Holds bytes = IsSomeAnd (cell_called bytes word) Holds
+
+-- the text has a reading, in which the word names no subcircuit
+abbrev pub LacksCell : List ℕ → List ℕ → Type 0
+LacksCell word bytes = IsOk (library_of bytes) × IsNone (cell_called bytes word)
+
+-- where the files are told, the word names a subcircuit of the file, and this holds of it
+abbrev pub OfCell : Option Files → List ℕ → List ℕ → (RawCell → Type 0) → Type 0
+OfCell files cells word Holds = OfFile files cells (HasCell word Holds)

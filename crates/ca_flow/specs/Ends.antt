@@ -1,15 +1,21 @@
 -- How a command ends.
-use Rattle.std.specs.Prelude.{◌<◌, ◌≤◌, ℕ, List, Option, IsSomeAnd, IfSome, ⊤}
+use Rattle.std.specs.Prelude.{◌≡◌, ◌<◌, ◌≤◌, ℕ, List, map, Option, IsSomeAnd, IfSome, ⊤}
 use Rattle.ca_store.specs.Store.{Files}
+use Rattle.ca_cell.specs.declared.raw.RawCell.{RawCell}
+use Rattle.ca_cell.specs.Rules.{KeepsRules}
+use Rattle.ca_defect.specs.List.{defects_of}
+use Rattle.ca_defect.specs.Name.{name_of}
 use Rattle.ca_flow.specs.declared.fault.Fault.{Fault}
 use Rattle.ca_flow.specs.declared.fault.Fault.TheVariants.{StoreFailed, NoMemory}
 use Rattle.ca_flow.specs.declared.finished.Done.{Done}
-use Rattle.ca_flow.specs.declared.finished.Done.TheVariants.{Respond}
+use Rattle.ca_flow.specs.declared.finished.Done.TheVariants.{Respond, Pair, Defects}
 use Rattle.ca_flow.specs.declared.finished.Finished.{Finished}
-use Rattle.ca_flow.specs.Words.{cells_word, cell_word, vector_word}
-use Rattle.ca_flow.specs.Outputs.{AreValuesIn}
+use Rattle.ca_flow.specs.Words.{cells_word, cell_word, vector_word, first_word, last_word, defect_word, dash, IsRespond, IsPair, IsDefects}
+use Rattle.ca_flow.specs.Outputs.{AreValues}
 use Rattle.ca_flow.specs.Finished.{IsAnswer, Prints, TellsSinkFault}
-use Rattle.ca_flow.specs.Fault.{Outside, OfFile, IsCause}
+use Rattle.ca_flow.specs.Cells.{OfCell}
+use Rattle.ca_flow.specs.Fault.{Outside, IsCause}
+use Rattle.ca_flow.specs.Complete.{Completes}
 
 -- the faults after which the store's count may be greater
 abbrev pub IsStoreFault : Fault → Type 0
@@ -22,10 +28,17 @@ pub record TellsStoreFault (fault : Option Fault) (before after : ℕ) : Type 0 
   pub told : before < after → IsSomeAnd fault IsStoreFault
   pub later : before ≤ after
 
--- the work that is told is what the words ask for, of the file that they name
+-- the names are those of the defects of a subcircuit that keeps the rules of a used cell, in their order
+abbrev pub AreDefectNames : List (List ℕ) → RawCell → Type 0
+AreDefectNames names raw = KeepsRules raw × (names ≡ map (name_of raw) (defects_of raw))
+
+-- the work that is told is that of the command, on the cell that the words name in the file that they name
 abbrev pub IsAsked : List (List ℕ) → Option Files → Done → Type 0
-IsAsked words files (Respond values) = OfFile files (cells_word words)
-    (λ bytes. AreValuesIn bytes (cell_word words) (vector_word words) values)
+IsAsked words files (Respond values) = IsRespond words × OfCell files (cells_word words) (cell_word words)
+    (AreValues (vector_word words) (vector_word words) dash values)
+IsAsked words files (Pair values) = IsPair words × OfCell files (cells_word words) (cell_word words)
+    (AreValues (first_word words) (last_word words) (defect_word words) values)
+IsAsked words files (Defects names) = IsDefects words × OfCell files (cells_word words) (cell_word words) (AreDefectNames names)
 
 -- how a command of these words ends
 pub record Ends (words : List (List ℕ)) (files : Option Files) (before after : Outside) (end : Finished) : Type 0 where
@@ -33,5 +46,6 @@ pub record Ends (words : List (List ℕ)) (files : Option Files) (before after :
   pub asked : IfSome end.done (IsAsked words files)
   pub prints : Prints end before.bytes after.bytes
   pub cause : IfSome end.fault (IsCause words files before after)
+  pub complete : Completes words files before after end
   pub of_store : TellsStoreFault end.fault before.store_faults after.store_faults
   pub of_sink : TellsSinkFault end.fault before.sink_faults after.sink_faults

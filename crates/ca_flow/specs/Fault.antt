@@ -1,24 +1,19 @@
--- Why a command is refused.
-use Rattle.std.specs.Prelude.{◌≡◌, ◌≢◌, ◌≤◌, ℕ, List, length, Option, Some, None, IsSomeAnd, Err, ⊤}
-use Rattle.std.specs.Option.{ForSome}
+-- Why a command is refused: each stage of a command has its own causes, and a command's are those of its stages.
+use Rattle.std.specs.Prelude.{◌≡◌, ◌⊎◌, ℕ, List, Option, Some, Err, IsNone, ⊤}
 use Rattle.ca_store.specs.Store.{Files, MayHave, Rose}
 use Rattle.ca_store.specs.ReadFault.{IsTooLong}
 use Rattle.ca_lex.specs.Words.{upper_case}
 use Rattle.ca_cell.specs.declared.raw.RawCell.{RawCell}
-use Rattle.ca_cell.specs.declared.rule.CellRule.{CellRule}
-use Rattle.ca_cell.specs.declared.library.Entry.TheVariants.{Refused}
-use Rattle.ca_cell.specs.Library.{Named, entry_of}
-use Rattle.ca_cell.specs.Raw.{is_input, role_count}
 use Rattle.ca_cell.specs.Rules.{KeepsRules, IsFirstBroken}
 use Rattle.ca_spice.specs.declared.fault.SpiceFault.TheVariants as spice
 use Rattle.ca_spice.specs.Reading.{library_of}
 use Rattle.ca_flow.specs.declared.inputs.TheConstants.{MAX_CELLS}
 use Rattle.ca_flow.specs.declared.fault.LimitKind.TheVariants as limit
 use Rattle.ca_flow.specs.declared.fault.Fault.{Fault}
-use Rattle.ca_flow.specs.declared.fault.Fault.TheVariants.{BadWords, Cells, NoCell, Cell, BadVector, TooLong, Limit, StoreFailed, SinkFailed, NoMemory}
-use Rattle.ca_flow.specs.Cells.{FindsCell, FindsNone}
-use Rattle.ca_flow.specs.Outputs.{letters_of}
-use Rattle.ca_flow.specs.Words.{cells_word, cell_word, vector_word, IsCommand}
+use Rattle.ca_flow.specs.declared.fault.Fault.TheVariants.{BadWords, Cells, NoCell, Cell, BadVector, NoDefect, TooLong, Limit, StoreFailed, SinkFailed, NoMemory}
+use Rattle.ca_flow.specs.Cells.{OfFile, OfCell, LacksCell}
+use Rattle.ca_flow.specs.Outputs.{Fits, asked_network}
+use Rattle.ca_flow.specs.Words.{cells_word, cell_word, vector_word, first_word, last_word, defect_word, dash, IsRespond, IsPair, IsDefects, IsCommand}
 
 -- what is seen of a store and a sink: how often each failed, and the bytes that the sink holds, where it tells them
 pub record Outside : Type 0 where
@@ -33,55 +28,82 @@ IsReadCause name files limit before after (StoreFailed word) = (word ≡ name) �
 IsReadCause name files limit before after NoMemory = ⊤
 IsReadCause name files limit before after _ = ⊥
 
--- the file of this name, where files are told, is there and no longer than it may be, and this holds of its bytes
-abbrev pub OfFile : Option Files → List ℕ → (List ℕ → Type 0) → Type 0
-OfFile files name Holds = ForSome files (λ told. IsSomeAnd (told name) (λ bytes. (length bytes ≤ MAX_CELLS) × Holds bytes))
+-- why the text of a cell netlist has no reading: its first faulty line, or its number of subcircuits where these are too many
+abbrev pub IsTextCause : Fault → List ℕ → Type 0
+IsTextCause (Cells line kind) bytes = library_of bytes ≡ Err (spice.At line kind)
+IsTextCause (Limit limit.Cells count) bytes = library_of bytes ≡ Err (spice.TooManyCells count)
+IsTextCause _ bytes = ⊥
 
--- the word names a subcircuit that breaks this rule first
-pub record RefusesCell (library : List Named) (word : List ℕ) (rule : CellRule) : Type 0 where
-  pub raw : RawCell
-  pub found : entry_of library (upper_case word) ≡ Some (Refused raw rule)
-  pub broken : IsFirstBroken raw rule
+-- the same of a file
+abbrev pub IsCellsCause : List ℕ → Option Files → Fault → Type 0
+IsCellsCause name files (Cells line kind) = OfFile files name (IsTextCause (Cells line kind))
+IsCellsCause name files (Limit kind count) = OfFile files name (IsTextCause (Limit kind count))
+IsCellsCause name files _ = ⊥
 
--- why a text gives no library
-abbrev pub IsTextCause : List ℕ → Fault → Type 0
-IsTextCause bytes (Cells line kind) = library_of bytes ≡ Err (spice.At line kind)
-IsTextCause bytes (Limit limit.Cells count) = library_of bytes ≡ Err (spice.TooManyCells count)
-IsTextCause bytes NoMemory = ⊤
-IsTextCause bytes _ = ⊥
+-- why a file gives no library: it could not be read, or its text has no reading
+abbrev pub IsLibraryCause : List ℕ → Option Files → ℕ → ℕ → Fault → Type 0
+IsLibraryCause name files before after fault =
+    IsReadCause name files MAX_CELLS before after fault ⊎ IsCellsCause name files fault
 
--- why a word finds no cell in a library
-abbrev pub IsNameCause : List Named → List ℕ → Fault → Type 0
-IsNameCause library word (NoCell typed) = (typed ≡ word) × (entry_of library (upper_case word) ≡ None)
-IsNameCause library word (Cell name rule) = (name ≡ upper_case word) × RefusesCell library word rule
-IsNameCause library word NoMemory = ⊤
-IsNameCause library word _ = ⊥
+-- why a word finds no cell in a file: it names none, or one that breaks a rule, the first of those that it breaks
+abbrev pub IsNameCause : List ℕ → List ℕ → Option Files → Fault → Type 0
+IsNameCause name word files (NoCell typed) = (typed ≡ word) × OfFile files name (LacksCell word)
+IsNameCause name word files (Cell cell rule) = (cell ≡ upper_case word) × OfCell files name word (λ raw. IsFirstBroken raw rule)
+IsNameCause name word files _ = ⊥
 
--- why the cell of this name in this text has no values at this vector: the text reads as no library, or as one with too many cells; no
--- cell has the name; the cell breaks a rule; or the vector has more or fewer letters than the cell has input pins
-abbrev pub IsCellCause : List ℕ → List ℕ → Fault → List ℕ → Type 0
-IsCellCause cell vector (Cells line kind) bytes = library_of bytes ≡ Err (spice.At line kind)
-IsCellCause cell vector (Limit limit.Cells count) bytes = library_of bytes ≡ Err (spice.TooManyCells count)
-IsCellCause cell vector (NoCell word) bytes = (word ≡ cell) × FindsNone bytes cell
-IsCellCause cell vector (Cell name rule) bytes = (name ≡ upper_case cell) × FindsCell bytes cell (λ raw. IsFirstBroken raw rule)
-IsCellCause cell vector (BadVector word) bytes = (word ≡ vector) × FindsCell bytes cell
-    (λ raw. KeepsRules raw × (length (letters_of vector) ≢ role_count is_input raw.pins))
-IsCellCause cell vector NoMemory bytes = ⊤
-IsCellCause cell vector _ bytes = ⊥
+-- the first of the two vectors that has more or fewer letters than the cell has input pins
+abbrev pub IsFirstUnfit : RawCell → List ℕ → List ℕ → List ℕ → Type 0
+IsFirstUnfit raw first last typed = ((typed ≡ first) × ¬ (Fits raw first)) ⊎ ((typed ≡ last) × (Fits raw first × ¬ (Fits raw last)))
 
--- why `respond` found no values: its file could not be read, or the text in it gives none
-abbrev pub IsInputCause : List ℕ → List ℕ → List ℕ → Option Files → ℕ → ℕ → Fault → Type 0
-IsInputCause cells cell vector files before after BadWords = ⊥
-IsInputCause cells cell vector files before after SinkFailed = ⊥
-IsInputCause cells cell vector files before after NoMemory = ⊤
-IsInputCause cells cell vector files before after (TooLong name taken) = IsReadCause cells files MAX_CELLS before after (TooLong name taken)
-IsInputCause cells cell vector files before after (StoreFailed name) = IsReadCause cells files MAX_CELLS before after (StoreFailed name)
-IsInputCause cells cell vector files before after fault = OfFile files cells (IsCellCause cell vector fault)
+-- both vectors fit, and the word for the defect is no dash and names no defect of the cell
+abbrev pub LacksDefect : RawCell → List ℕ → List ℕ → List ℕ → Type 0
+LacksDefect raw first last defect = Fits raw first × (Fits raw last × IsNone (asked_network raw defect))
+
+-- why a cell has no values under these vectors with this defect: a vector doesn't fit, or the cell lacks the defect
+abbrev pub IsPairCause : List ℕ → List ℕ → List ℕ → Fault → RawCell → Type 0
+IsPairCause first last defect (BadVector typed) raw = KeepsRules raw × IsFirstUnfit raw first last typed
+IsPairCause first last defect (NoDefect typed) raw = (typed ≡ defect) × (KeepsRules raw × LacksDefect raw first last defect)
+IsPairCause first last defect _ raw = ⊥
+
+-- the same of the cell that a word names in a file
+abbrev pub IsVectorCause : List ℕ → List ℕ → List ℕ → List ℕ → List ℕ → Option Files → Fault → Type 0
+IsVectorCause name word first last defect files (BadVector typed) =
+    OfCell files name word (IsPairCause first last defect (BadVector typed))
+IsVectorCause name word first last defect files (NoDefect typed) =
+    OfCell files name word (IsPairCause first last defect (NoDefect typed))
+IsVectorCause name word first last defect files _ = ⊥
+
+-- why a command on one cell found no cell
+abbrev pub IsCellCause : List ℕ → List ℕ → Option Files → ℕ → ℕ → Fault → Type 0
+IsCellCause name word files before after fault =
+    IsLibraryCause name files before after fault ⊎ IsNameCause name word files fault
+
+-- why `respond` and `pair` found no values
+abbrev pub IsValueCause : List ℕ → List ℕ → List ℕ → List ℕ → List ℕ → Option Files → ℕ → ℕ → Fault → Type 0
+IsValueCause name word first last defect files before after fault =
+    IsCellCause name word files before after fault ⊎ IsVectorCause name word first last defect files fault
+
+-- why the words are refused at once
+abbrev pub IsWordsCause : List (List ℕ) → Fault → Type 0
+IsWordsCause words BadWords = ¬ (IsCommand words)
+IsWordsCause words _ = ⊥
+
+-- why nothing, or a part alone, was printed of work that was whole: there was no memory for its lines, or the output failed
+abbrev pub IsPrintCause : ℕ → ℕ → Fault → Type 0
+IsPrintCause before after SinkFailed = Rose before after
+IsPrintCause before after NoMemory = ⊤
+IsPrintCause before after _ = ⊥
+
+-- why the command that the words spell did no work
+abbrev pub IsWorkCause : List (List ℕ) → Option Files → ℕ → ℕ → Fault → Type 0
+IsWorkCause words files before after fault =
+    (IsRespond words × IsValueCause (cells_word words) (cell_word words) (vector_word words) (vector_word words) dash files before after fault)
+    ⊎ ((IsPair words × IsValueCause (cells_word words) (cell_word words) (first_word words) (last_word words) (defect_word words) files before after fault)
+    ⊎ (IsDefects words × IsCellCause (cells_word words) (cell_word words) files before after fault))
 
 -- why a command of these words was refused
 abbrev pub IsCause : List (List ℕ) → Option Files → Outside → Outside → Fault → Type 0
-IsCause words files before after BadWords = ¬ (IsCommand words)
-IsCause words files before after SinkFailed = Rose before.sink_faults after.sink_faults
-IsCause words files before after NoMemory = ⊤
-IsCause words files before after fault = IsInputCause (cells_word words) (cell_word words) (vector_word words)
-    files before.store_faults after.store_faults fault
+IsCause words files before after fault =
+    IsWordsCause words fault
+    ⊎ (IsWorkCause words files before.store_faults after.store_faults fault
+    ⊎ IsPrintCause before.sink_faults after.sink_faults fault)

@@ -7,7 +7,7 @@ use Rattle.ca_spice.specs.declared.fault.SpiceKind.TheVariants as kind
 use Rattle.ca_flow.specs.declared.fault.LimitKind.{LimitKind}
 use Rattle.ca_flow.specs.declared.fault.LimitKind.TheVariants as limit
 use Rattle.ca_flow.specs.declared.fault.Fault.{Fault}
-use Rattle.ca_flow.specs.declared.fault.Fault.TheVariants.{BadWords, Cells, NoCell, Cell, BadVector, TooLong, Limit, StoreFailed, SinkFailed, NoMemory}
+use Rattle.ca_flow.specs.declared.fault.Fault.TheVariants.{BadWords, Cells, NoCell, Cell, BadVector, NoDefect, TooLong, Limit, StoreFailed, SinkFailed, NoMemory}
 
 -- the exit status that stands for a fault
 abbrev pub status_of : Fault → ℕ
@@ -16,6 +16,7 @@ status_of (Cells line kind) = 2
 status_of (NoCell word) = 2
 status_of (Cell name rule) = 2
 status_of (BadVector word) = 2
+status_of (NoDefect word) = 2
 status_of (TooLong name taken) = 3
 status_of (Limit kind count) = 3
 status_of (StoreFailed name) = 4
@@ -60,6 +61,7 @@ text_of (Cells line kind) = codes "cells: line " ++ (decimal line ++ (codes ": "
 text_of (NoCell word) = codes "no cell " ++ word
 text_of (Cell name rule) = codes "cell " ++ (name ++ (codes ": " ++ rule_text rule))
 text_of (BadVector word) = codes "bad vector: " ++ word
+text_of (NoDefect word) = codes "no defect " ++ word
 text_of (TooLong name taken) = codes "file too long: " ++ name
 text_of (Limit kind count) = codes "limit: " ++ (limit_text kind ++ (codes " " ++ decimal count))
 text_of (StoreFailed name) = codes "file fault: " ++ name

@@ -4,16 +4,18 @@ use Rattle.std.specs.List.{flat_map}
 use Rattle.std.specs.Option.{ForSome}
 use Rattle.ca_store.specs.Store.{Rose, appended, AppendsPart}
 use Rattle.ca_flow.specs.declared.fault.Fault.{Fault}
-use Rattle.ca_flow.specs.declared.fault.Fault.TheVariants.{SinkFailed, NoMemory}
+use Rattle.ca_flow.specs.declared.fault.Fault.TheVariants.{SinkFailed}
 use Rattle.ca_flow.specs.declared.finished.Done.{Done}
-use Rattle.ca_flow.specs.declared.finished.Done.TheVariants.{Respond}
+use Rattle.ca_flow.specs.declared.finished.Done.TheVariants.{Respond, Pair, Defects}
 use Rattle.ca_flow.specs.declared.finished.Finished.{Finished}
 use Rattle.ca_flow.specs.FaultLine.{status_of}
-use Rattle.ca_flow.specs.PinLine.{line_of_pin}
+use Rattle.ca_flow.specs.Lines.{line_of_pin, line_of_name}
 
 -- the lines that tell a command's work
 abbrev pub lines_of : Done → List ℕ
 lines_of (Respond values) = flat_map line_of_pin values
+lines_of (Pair values) = flat_map line_of_pin values
+lines_of (Defects names) = flat_map line_of_name names
 
 -- the exit status of a fault, and 0 where there is none
 abbrev pub status_told : Option Fault → ℕ
@@ -30,10 +32,6 @@ pub record Prints (end : Finished) (old new : Option (List ℕ)) : Type 0 where
   pub all : ForSome end.done (λ done. end.status ≡ 0 → new ≡ appended (lines_of done) old)
   pub part : ForSome end.done (λ done. end.fault ≡ Some SinkFailed → AppendsPart (lines_of done) old new)
   pub nothing : IsNone end.done → new ≡ old
-
--- a command whose work was whole is refused for want of memory, or since the output failed
-abbrev pub IsPrintCause : ℕ → ℕ → Fault → Type 0
-IsPrintCause before after fault = (fault ≡ NoMemory) ⊎ ((fault ≡ SinkFailed) × Rose before after)
 
 -- where the sink's count of faults rose, the answer says that the output failed, and the count never falls
 pub record TellsSinkFault (fault : Option Fault) (before after : ℕ) : Type 0 where

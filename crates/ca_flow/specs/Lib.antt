@@ -1,9 +1,11 @@
 pub mod Words
 pub mod Command
 pub mod FaultLine
-pub mod PinLine
+pub mod Lines
 pub mod Finished
-pub mod Cells
 pub mod Outputs
+pub mod Cells
 pub mod Fault
+pub mod Stages
+pub mod Complete
 pub mod Ends

@@ -14,14 +14,30 @@ cells_word words = word_at words 1
 abbrev pub cell_word : List (List ℕ) → List ℕ
 cell_word words = word_at words 2
 
--- the vector of a command that has one
+-- the vector of `respond`
 abbrev pub vector_word : List (List ℕ) → List ℕ
 vector_word words = word_at words 3
+
+-- the first vector of `pair`
+abbrev pub first_word : List (List ℕ) → List ℕ
+first_word words = word_at words 3
+
+-- the last vector of `pair`
+abbrev pub last_word : List (List ℕ) → List ℕ
+last_word words = word_at words 4
+
+-- the defect of `pair`, or a dash
+abbrev pub defect_word : List (List ℕ) → List ℕ
+defect_word words = word_at words 5
+
+-- the word that stands for no defect, and for the vector without letters
+abbrev pub dash : List ℕ
+dash = codes "-"
 
 -- a file name is not empty and not a dash
 pub record IsFileName (word : List ℕ) : Type 0 where
   pub some : word ≢ []
-  pub no_dash : word ≢ codes "-"
+  pub no_dash : word ≢ dash
 
 -- a letter of a vector: 0, 1 or X
 abbrev pub IsLetter : ℕ → Type 0
@@ -29,7 +45,7 @@ IsLetter byte = (byte ≡ 48) ⊎ ((byte ≡ 49) ⊎ (byte ≡ 88))
 
 -- a vector is a dash, which stands for the empty one, or letters
 abbrev pub IsVector : List ℕ → Type 0
-IsVector word = (word ≡ codes "-") ⊎ ((word ≢ []) × All IsLetter word)
+IsVector word = (word ≡ dash) ⊎ ((word ≢ []) × All IsLetter word)
 
 -- the words are `respond CELLS CELL VECTOR`
 pub record IsRespond (words : List (List ℕ)) : Type 0 where
@@ -38,6 +54,20 @@ pub record IsRespond (words : List (List ℕ)) : Type 0 where
   pub file : IsFileName (cells_word words)
   pub vector : IsVector (vector_word words)
 
+-- the words are `pair CELLS CELL FIRST LAST DEFECT`
+pub record IsPair (words : List (List ℕ)) : Type 0 where
+  pub six : length words ≡ 6
+  pub command : word_at words 0 ≡ codes "pair"
+  pub file : IsFileName (cells_word words)
+  pub first : IsVector (first_word words)
+  pub last : IsVector (last_word words)
+
+-- the words are `defects CELLS CELL`
+pub record IsDefects (words : List (List ℕ)) : Type 0 where
+  pub three : length words ≡ 3
+  pub command : word_at words 0 ≡ codes "defects"
+  pub file : IsFileName (cells_word words)
+
 -- the words are those of a command
 abbrev pub IsCommand : List (List ℕ) → Type 0
-IsCommand words = IsRespond words
+IsCommand words = IsRespond words ⊎ (IsPair words ⊎ IsDefects words)

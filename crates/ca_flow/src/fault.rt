@@ -25,6 +25,8 @@ pub enum Fault {
     Cell { cell: Text, rule: CellRule },
     /// A vector has more or fewer letters than the cell has input pins.
     BadVector { word: Text },
+    /// The cell has no defect of this name.
+    NoDefect { word: Text },
     /// A file has more bytes than it may have. So many were taken of it.
     TooLong { name: Text, taken: usize },
     /// There is more of something than there may be.
@@ -56,7 +58,8 @@ impl Fault {
             Fault::Cells { .. }
             | Fault::NoCell { .. }
             | Fault::Cell { .. }
-            | Fault::BadVector { .. } => 2,
+            | Fault::BadVector { .. }
+            | Fault::NoDefect { .. } => 2,
             Fault::TooLong { .. } | Fault::Limit { .. } => 3,
             Fault::StoreFailed { .. } | Fault::SinkFailed => 4,
             Fault::NoMemory => 5,
@@ -115,6 +118,7 @@ impl Fault {
                 end: rule_text(*rule),
             },
             Fault::BadVector { word } => FaultText::with_word(b"bad vector: ", word),
+            Fault::NoDefect { word } => FaultText::with_word(b"no defect ", word),
             Fault::TooLong { name, .. } => FaultText::with_word(b"file too long: ", name),
             Fault::Limit {
                 kind: LimitKind::Cells,

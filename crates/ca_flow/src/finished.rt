@@ -3,12 +3,14 @@ ghost use Rattle.std.specs.Prelude.{◌≡◌, Some, IsSome, IsNone, IfOk, IfSom
 ghost use Rattle.std.specs.Option.{ForSome};
 ghost use Rattle.ca_store.specs.Store.{Rose};
 ghost use Rattle.ca_flow.specs.FaultLine.{status_of};
-ghost use Rattle.ca_flow.specs.Finished.{lines_of, IsAnswer, Prints, IsPrintCause, TellsSinkFault};
+ghost use Rattle.ca_flow.specs.Finished.{lines_of, IsAnswer, Prints, TellsSinkFault};
+ghost use Rattle.ca_flow.specs.Fault.{IsPrintCause};
 
 use crate::fault::Fault;
+use crate::lines::lines_of_names;
 use crate::pin_values::PinValues;
 use ca_base::NoMemory;
-use ca_lex::Text;
+use ca_lex::{Names, Text};
 use ca_store::{Failed, Sink, write_all};
 use std::alloc::Global;
 
@@ -23,8 +25,12 @@ pub struct Finished {
 /// The work of a command, from which its lines are printed.
 #[derive(Drop)]
 pub enum Done {
-    /// The value to which each output pin of a cell settles.
+    /// The value to which each output pin of a cell settles under a vector.
     Respond { values: PinValues },
+    /// The value to which each output pin of a cell, or of one with a defect, settles under a pair of vectors.
+    Pair { values: PinValues },
+    /// The names of the defects of a cell, in their order.
+    Defects { names: Names },
 }
 
 impl Done {
@@ -33,7 +39,8 @@ impl Done {
         ensures { IfOk result (λ text. text ≡ lines_of self.now) }
     {
         match self {
-            Done::Respond { values } => values.lines(alloc),
+            Done::Respond { values } | Done::Pair { values } => values.lines(alloc),
+            Done::Defects { names } => lines_of_names(alloc, names),
         }
     }
 }

@@ -1,15 +1,16 @@
 //! The commands: what each word of a command line asks for, and how it ends.
 #![tactic(auto)]
 
-mod evaluate;
 mod fault;
 mod finished;
 mod inputs;
+mod lines;
+mod listing;
 mod outputs;
 mod pieces;
 mod pin_values;
-mod respond;
 mod top;
+mod values;
 mod words;
 
 pub use fault::{Fault, LimitKind};

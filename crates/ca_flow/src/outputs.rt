@@ -1,32 +1,42 @@
 //! The values to which the output pins of a cell settle.
-ghost use Rattle.std.specs.Prelude.{◌≡◌, ◌+◌, length, map, IfOk};
-ghost use Rattle.ca_cell.specs.Raw.{is_input, role_count, circuit_of};
-ghost use Rattle.ca_flow.specs.Outputs.{trit_of, steady, input_values, output_names, AreValues};
+ghost use Rattle.std.specs.Prelude.{◌≡◌, length, map, IfOk};
+ghost use Rattle.ca_cell.specs.Raw.{is_input, role_count};
+ghost use Rattle.ca_flow.specs.Outputs.{trit_of, output_names, AreEnds};
 
 use crate::pin_values::{PinValue, PinValues};
 use ca_base::NoMemory;
-use ca_cell::{Cell, RawPin};
+use ca_cell::RawPin;
 use ca_lex::Names;
-use ca_net::{Network, NodeId, Trit, Wave};
-use ca_settle::{Work, three_phase};
+use ca_net::Trit;
+use ca_response::{CellNet, pairs, respond};
+use ca_settle::Work;
 use std::alloc::Global;
 
-/// The values of the output pins under a vector that has one letter per input pin, in pin order.
-pub(crate) fn values_of(alloc: Global, cell: &Cell, letters: &[u8]) -> Result<PinValues, NoMemory>
-    requires letters { length letters.now ≡ role_count is_input cell.now.pins }
+/// The values of the output pins under two vectors that have one letter per input pin, in pin order.
+pub(crate) fn values_of<N: CellNet>(
+    alloc: Global,
+    net: &N,
+    first: &[u8],
+    last: &[u8],
+) -> Result<PinValues, NoMemory>
+    requires first { length first.now ≡ role_count is_input (N.subcircuit net.now).pins }
+    requires last { length last.now ≡ role_count is_input (N.subcircuit net.now).pins }
 
-    ensures values { IfOk result (λ values. AreValues letters.now values cell.now) }
+    ensures values { IfOk result (λ values.
+        AreEnds (N.subcircuit net.now) (map trit_of first.now) (map trit_of last.now) values (N.circuit net.now)) }
 {
-    let waves = waves_of(alloc, letters)?;
+    let first = trits(alloc, first)?;
+    let last = trits(alloc, last)?;
+    let cell = net.cell();
     let pins = output_names(alloc, cell.raw().pins.as_slice())?;
-    let mut work = Work::reserve(alloc, cell.node_count(), cell.device_count())?;
-    three_phase(cell, &waves, &mut work);
-    let first = 2 + cell.inputs();
+    let mut work = Work::reserve(alloc, net.node_count(), net.device_count())?;
+    let waves = respond(net, pairs(&first, &last).as_slice(), &mut work);
     let mut values = PinValues::new(alloc);
     for place in 0..cell.outputs() {
+        let wave = waves[place];
         values.push(PinValue {
             pin: pins.get(place).copy(alloc)?,
-            value: work.wave(NodeId((first + place) as u32)).last,
+            value: wave.last,
         })?;
     }
     Ok(values)
@@ -45,18 +55,15 @@ fn output_names(alloc: Global, pins: &[RawPin]) -> Result<Names, NoMemory>
     Ok(names)
 }
 
-// The waves of the input nodes: power, ground, and the input pins.
-fn waves_of(alloc: Global, letters: &[u8]) -> Result<Vec<Wave>, NoMemory>
-    ensures { IfOk result (λ waves. waves.items ≡ map steady (input_values letters.now)) }
+// The values of letters.
+fn trits(alloc: Global, letters: &[u8]) -> Result<Vec<Trit>, NoMemory>
+    ensures { IfOk result (λ values. values.items ≡ map trit_of letters.now) }
 {
-    let mut waves = Vec::new(alloc);
-    waves.push(Wave::pair(Trit::One, Trit::One))?;
-    waves.push(Wave::pair(Trit::Zero, Trit::Zero))?;
+    let mut values = Vec::new(alloc);
     for letter in letters {
-        let value = trit(*letter);
-        waves.push(Wave::pair(value, value))?;
+        values.push(trit(*letter))?;
     }
-    Ok(waves)
+    Ok(values)
 }
 
 // The value of a letter.

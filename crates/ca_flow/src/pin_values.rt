@@ -1,6 +1,6 @@
 //! The values of a cell's output pins.
 ghost use Rattle.std.specs.Prelude.{◌≡◌, [], ◌∷◌, ◌++◌, flat_map, IfOk, OnOk, OnErr};
-ghost use Rattle.ca_flow.specs.PinLine.{line_of_pin, letter_of};
+ghost use Rattle.ca_flow.specs.Lines.{line_of_pin, letter_of};
 
 use ca_base::NoMemory;
 use ca_lex::Text;

@@ -1,10 +1,14 @@
 //! Commands over a store and a sink in memory.
 
+mod rows;
+
+use self::rows::{DEFECTS, LIBRARY, LINES, PAIR, RESPOND, Row};
 use crate::{Done, Fault, Finished, run};
 use ca_base::NoMemory;
 use ca_lex::Text;
 use ca_store::{FailList, File, FileMap, MemSink, MemStore, StoreCall};
 use std::alloc::Global;
+use std::process::Abort;
 use std::test::Fail;
 
 const NAND2: &str = "\
@@ -15,39 +19,6 @@ MP2 ZN A2 VDD VDD PCH W=630n L=50n
 MN1 ZN A1 N1 VSS NCH W=415n L=50n
 MN2 N1 A2 VSS VSS NCH W=415n L=50n
 .ENDS
-";
-
-// A transistor that is longer than wide pulls up against one that isn't.
-const RATIOED: &str = "\
-.SUBCKT RATIOED A Y ZN VDD VSS
-*.PININFO A:I Y:O ZN:O VDD:P VSS:G
-MP1 ZN VSS VDD VDD PCH W=99n L=100n
-MN1 ZN A VSS VSS NCH W=100n L=100n
-MP2 Y ZN VDD VDD PCH W=100n L=99n
-MN2 Y ZN VSS VSS NCH W=100n L=99n
-.ENDS
-";
-
-const TIE: &str = "\
-.SUBCKT TIE Z VDD VSS VDDA
-*.PININFO Z:O VDD:P VSS:G VDDA:P
-MP1 Z VSS VDDA VDD PCH W=1n L=1n
-.ENDS
-";
-
-// The first cell breaks a rule, the second is sound.
-const LIBRARY: &str = "\
-* Two cells
-.subckt tg a z vdd vss
-*.pininfo a:i z:o vdd:p vss:g
-m1 a vdd z vss nch w=1u l=0.1u
-.ends tg
-.subckt inv a zn vdd vss
-*.pininfo a:i zn:o vdd:p vss:g
-mp1 zn a vdd vdd pch
-+ w=630n l=50n m=1
-mn1 zn a vss vss nch w=415n l=50n $ nmos
-.ends
 ";
 
 // What a command left behind: its end, the bytes that it printed, and the line of its fault.
@@ -85,48 +56,27 @@ fn outcome_of(
     Ok(Outcome { end, printed, line })
 }
 
-#[test]
-fn each_line_ends_so(rt: HostRuntime) -> Result<(), Fail> {
-    let alloc = rt.alloc();
-    for (bytes, line, status, printed, told) in [
-        (NAND2, "respond n.sp NAND2 00", 0, "ZN=1\n", ""),
-        (NAND2, "respond n.sp NAND2 01", 0, "ZN=1\n", ""),
-        (NAND2, "respond n.sp NAND2 10", 0, "ZN=1\n", ""),
-        (NAND2, "respond n.sp nand2 11", 0, "ZN=0\n", ""),
-        (NAND2, "respond n.sp NAND2 0X", 0, "ZN=1\n", ""),
-        (NAND2, "respond n.sp NAND2 1X", 0, "ZN=X\n", ""),
-        (RATIOED, "respond n.sp RATIOED 0", 0, "Y=0\nZN=1\n", ""),
-        (RATIOED, "respond n.sp RATIOED 1", 0, "Y=1\nZN=0\n", ""),
-        (TIE, "respond n.sp TIE -", 0, "Z=1\n", ""),
-        (LIBRARY, "respond n.sp INV 0", 0, "ZN=1\n", ""),
-        (
-            LIBRARY,
-            "respond n.sp Tg 1",
-            2,
-            "",
-            "cell TG: InputDrivesChannel",
-        ),
-        (NAND2, "respond n.sp NAND2 1", 2, "", "bad vector: 1"),
-        (NAND2, "respond n.sp NAND2 -", 2, "", "bad vector: -"),
-        (NAND2, "respond n.sp NAND3 1", 2, "", "no cell NAND3"),
-        (NAND2, "respond m.sp NAND2 11", 4, "", "file fault: m.sp"),
-        (NAND2, "respond - NAND2 11", 1, "", "bad command line"),
-        (NAND2, "respond  NAND2 11", 1, "", "bad command line"),
-        (NAND2, "respond n.sp NAND2 12", 1, "", "bad command line"),
-        (NAND2, "respond n.sp NAND2 1x", 1, "", "bad command line"),
-        (NAND2, "respond n.sp NAND2 ", 1, "", "bad command line"),
-        (NAND2, "respond n.sp NAND2", 1, "", "bad command line"),
-        (NAND2, "respond n.sp NAND2 11 -", 1, "", "bad command line"),
-        (NAND2, "RESPOND n.sp NAND2 11", 1, "", "bad command line"),
-    ] {
-        let ended = outcome_of(alloc, bytes, line, 100, FailList::new(alloc))?;
-        assert_eq!(rt; ended.end.status, status, "at {line}");
+// Each row's words stand behind a start; the command ends as the row says.
+fn check_rows(rt: &impl Abort, alloc: Global, start: &str, rows: &[Row]) -> Result<(), Fail> {
+    for (words, status, printed, told) in rows {
+        let line = format!(in alloc; "{start}{words}")?;
+        let ended = outcome_of(alloc, LIBRARY, &line, 100, FailList::new(alloc))?;
+        assert_eq!(rt; ended.end.status, *status, "at {line}");
         assert_eq!(rt; ended.printed.bytes(), printed.as_bytes(), "at {line}");
         let told = format!(in alloc; "cellaware: {told}\n")?;
-        let wanted = if status == 0 { "" } else { told.as_str() };
+        let wanted = if *status == 0 { "" } else { told.as_str() };
         assert_eq!(rt; ended.line.bytes(), wanted.as_bytes(), "at {line}");
     }
     Ok(())
+}
+
+#[test]
+fn each_command_ends_so(rt: HostRuntime) -> Result<(), Fail> {
+    let alloc = rt.alloc();
+    check_rows(&rt, alloc, "respond n.sp ", &RESPOND)?;
+    check_rows(&rt, alloc, "pair n.sp ", &PAIR)?;
+    check_rows(&rt, alloc, "defects n.sp ", &DEFECTS)?;
+    check_rows(&rt, alloc, "", &LINES)
 }
 
 // Each row puts one piece in place of another.

@@ -1,13 +1,16 @@
 //! The top call.
-ghost use Rattle.std.specs.Prelude.{◌≡◌, Some, map};
+ghost use Rattle.std.specs.Prelude.{◌≡◌, ◌≢◌, ℕ, List, Some, map, IfOk, IfErr, OnOk};
 ghost use Rattle.std.specs.String.{string_bytes};
 ghost use Rattle.ca_store.specs.Store.{Nothing};
 ghost use Rattle.ca_flow.specs.Words.{IsCommand};
-ghost use Rattle.ca_flow.specs.Ends.{Ends};
+ghost use Rattle.ca_flow.specs.Command.{IsSpelled};
+ghost use Rattle.ca_flow.specs.Fault.{IsWorkCause};
+ghost use Rattle.ca_flow.specs.Ends.{TellsStoreFault, IsAsked, Ends};
 
 use crate::fault::Fault;
-use crate::finished::{Finished, refused};
-use crate::respond::respond;
+use crate::finished::{Done, Finished, print_done, refused};
+use crate::listing::find_names;
+use crate::values::find_values;
 use crate::words::{Command, parse};
 use ca_store::{Sink, Store};
 use std::alloc::Global;
@@ -40,8 +43,39 @@ pub fn run<S: Store, W: Sink>(
     ensures closed { S.opened store.new ≡ Nothing }
     ensures kept { S.files store.new ≡ S.files store.old }
 {
-    match parse(words) {
-        Some(Command::Respond(request)) => respond(alloc, &request, store, out),
-        None => refused(Fault::BadWords),
+    let Some(command) = parse(words) else {
+        return refused(Fault::BadWords);
+    };
+    match work_of(alloc, &command, store) {
+        Ok(done) => print_done(alloc, done, out),
+        Err(fault) => refused(fault),
+    }
+}
+
+// The work of a command, of which nothing is printed yet.
+fn work_of<S: Store>(alloc: Global, command: &Command<'_>, store: &mut S) -> Result<Done, Fault>
+    requires closed { S.opened store.old ≡ Nothing }
+
+    ensures asked { IfOk result (λ done. (words : List (List ℕ)) → IsSpelled words command.now
+        → IsAsked words (S.files store.old) done) }
+    ensures cause { IfErr result (λ fault. (words : List (List ℕ)) → IsSpelled words command.now
+        → IsWorkCause words (S.files store.old) (S.faults store.old) (S.faults store.new) fault) }
+    ensures no_sink { IfErr result (λ fault. fault ≢ Fault.SinkFailed) }
+    ensures quiet { OnOk result (S.faults store.new ≡ S.faults store.old) }
+    ensures told { IfErr result (λ fault.
+        TellsStoreFault (Some fault) (S.faults store.old) (S.faults store.new)) }
+    ensures closed { S.opened store.new ≡ Nothing }
+    ensures kept { S.files store.new ≡ S.files store.old }
+{
+    match command {
+        Command::Respond(request) => Ok(Done::Respond {
+            values: find_values(alloc, request, store)?,
+        }),
+        Command::Pair(request) => Ok(Done::Pair {
+            values: find_values(alloc, request, store)?,
+        }),
+        Command::Defects(request) => Ok(Done::Defects {
+            names: find_names(alloc, request, store)?,
+        }),
     }
 }

@@ -1,21 +1,34 @@
 //! The words of a command.
 ghost use Rattle.std.specs.Prelude.{◌≡◌, ℕ, List, map, IfSome, IsNone, IsTrue, ◌↔◌};
 ghost use Rattle.std.specs.String.{string_bytes};
-ghost use Rattle.ca_flow.specs.Words.{IsFileName, IsVector, IsLetter, IsCommand};
-ghost use Rattle.ca_flow.specs.Command.{IsSpelled};
+ghost use Rattle.ca_flow.specs.Words.{IsFileName, IsVector, IsLetter, IsRespond, IsPair, IsDefects, IsCommand};
+ghost use Rattle.ca_flow.specs.Command.{IsSpelledRespond, IsSpelledPair, IsSpelledDefects, IsSpelled};
 
 /// A command, with its words as they were typed.
 #[derive(Clone, Copy)]
 pub(crate) enum Command<'a> {
-    Respond(RespondWords<'a>),
+    /// `respond CELLS CELL VECTOR`: VECTOR is both the first and the last vector, and there is no defect.
+    Respond(PairWords<'a>),
+    /// `pair CELLS CELL FIRST LAST DEFECT`.
+    Pair(PairWords<'a>),
+    /// `defects CELLS CELL`.
+    Defects(CellWords<'a>),
 }
 
-/// `respond CELLS CELL VECTOR`.
+/// The file and the cell of a command on one cell.
 #[derive(Clone, Copy)]
-pub(crate) struct RespondWords<'a> {
+pub(crate) struct CellWords<'a> {
     pub cells: &'a str,
     pub cell: &'a str,
-    pub vector: &'a str,
+}
+
+/// The words of a command that asks for the values of a cell under two vectors, with a defect or a dash.
+#[derive(Clone, Copy)]
+pub(crate) struct PairWords<'a> {
+    pub of: CellWords<'a>,
+    pub first: &'a str,
+    pub last: &'a str,
+    pub defect: &'a str,
 }
 
 /// The command that the words spell.
@@ -23,15 +36,73 @@ pub(crate) fn parse(words: &[String]) -> Option<Command<'_>>
     ensures found { IfSome result (IsSpelled (map string_bytes words.now)) }
     ensures none { IsNone result → ¬ (IsCommand (map string_bytes words.now)) }
 {
+    if let Some(request) = parse_respond(words) {
+        Some(Command::Respond(request))
+    } else if let Some(request) = parse_pair(words) {
+        Some(Command::Pair(request))
+    } else if let Some(request) = parse_defects(words) {
+        Some(Command::Defects(request))
+    } else {
+        None
+    }
+}
+
+fn parse_respond(words: &[String]) -> Option<PairWords<'_>>
+    ensures found { IfSome result (IsSpelledRespond (map string_bytes words.now)) }
+    ensures none { IsNone result → ¬ (IsRespond (map string_bytes words.now)) }
+{
     let [command, cells, cell, vector] = words else {
         return None;
     };
     if command.as_str() == "respond" && is_file_name(cells) && is_vector(vector) {
-        Some(Command::Respond(RespondWords {
+        Some(PairWords {
+            of: CellWords {
+                cells: cells.as_str(),
+                cell: cell.as_str(),
+            },
+            first: vector.as_str(),
+            last: vector.as_str(),
+            defect: "-",
+        })
+    } else {
+        None
+    }
+}
+
+fn parse_pair(words: &[String]) -> Option<PairWords<'_>>
+    ensures found { IfSome result (IsSpelledPair (map string_bytes words.now)) }
+    ensures none { IsNone result → ¬ (IsPair (map string_bytes words.now)) }
+{
+    let [command, cells, cell, first, last, defect] = words else {
+        return None;
+    };
+    if command.as_str() == "pair" && is_file_name(cells) && is_vector(first) && is_vector(last) {
+        Some(PairWords {
+            of: CellWords {
+                cells: cells.as_str(),
+                cell: cell.as_str(),
+            },
+            first: first.as_str(),
+            last: last.as_str(),
+            defect: defect.as_str(),
+        })
+    } else {
+        None
+    }
+}
+
+fn parse_defects(words: &[String]) -> Option<CellWords<'_>>
+    ensures found { IfSome result (IsSpelledDefects (map string_bytes words.now)) }
+    ensures none { IsNone result → ¬ (IsDefects (map string_bytes words.now)) }
+{
+    let [command, cells, cell] = words else {
+        return None;
+    };
+    if command.as_str() == "defects" && is_file_name(cells) {
+        Some(CellWords {
             cells: cells.as_str(),
             cell: cell.as_str(),
-            vector: vector.as_str(),
-        }))
+        })
     } else {
         None
     }

@@ -6,3 +6,4 @@ pub mod LawLemmas
 pub mod ReadingLemmas
 pub mod PinLemmas
 pub mod LibraryLemmas
+pub mod CalledLemmas

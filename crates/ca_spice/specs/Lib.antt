@@ -5,6 +5,7 @@ pub mod PinInfo
 pub mod Mos
 pub mod OpenCell
 pub mod Reading
+pub mod Called
 pub mod SpiceFault
 pub mod Kept
 pub mod Named

@@ -1,5 +1,5 @@
 use Rattle.std.proofs.Common.{◌≡◌, take, flat_map}
-use Rattle.ca_flow.specs.PinLine.{line_of_pin}
+use Rattle.ca_flow.specs.Lines.{line_of_pin}
 use Rattle.ca_flow.proofs.pin_values.PinValues.lines.Given as goal
 
 abbrev pub invariant-loop-value : goal.invariant-loop-value

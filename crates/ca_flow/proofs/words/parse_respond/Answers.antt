@@ -3,8 +3,8 @@ use Rattle.std.proofs.lemmas.List.{length-map}
 use Rattle.std.specs.String.{string_bytes}
 use Rattle.ca_flow.specs.Words.{IsFileName, IsVector}
 use Rattle.ca_flow.proofs.WordLemmas.{word_of}
-use Rattle.ca_flow.proofs.words.parse.Goals as goal
-use Rattle.ca_flow.proofs.words.parse.Goals.{else-eq-via-then-eq+then-is_file_name+else-is_vector, else-eq-via-then-eq+else-is_file_name, else-eq-via-else-eq}
+use Rattle.ca_flow.proofs.words.parse_respond.Goals as goal
+use Rattle.ca_flow.proofs.words.parse_respond.Goals.{else-eq-via-then-eq+then-is_file_name+else-is_vector, else-eq-via-then-eq+else-is_file_name, else-eq-via-else-eq}
 
 pub returns-then-is_vector-clause-found : goal.returns-then-is_vector-clause-found
 returns-then-is_vector-clause-found c =
@@ -20,9 +20,10 @@ returns-then-is_vector-clause-found c =
         file = rw second (search rules);
         vector = rw fourth (search rules);
       };
-      cells = rw second (search rules);
-      cell = rw third (search rules);
-      vector = rw fourth (search rules);
+      of = record { cells = rw second (search rules); cell = rw third (search rules) };
+      first = rw fourth (search rules);
+      last = rw fourth (search rules);
+      defect = search rules;
     }
 
 pub returns-else-eq-clause-none : goal.returns-else-eq-clause-none

@@ -1,0 +1,214 @@
+-- A command that can be answered is refused only for want of memory, where no call failed.
+use Rattle.std.proofs.Common.{ℕ, ◌≡◌, ◌≤◌, ◌<◌, ◌⊎◌, ◌∙◌, inl, inr, refl, sym, ap, List, length, Option, Some, None, Ok, Err, arith, true≢false}
+use Rattle.std.proofs.lemmas.Option.{same_Some}
+use Rattle.std.specs.Prelude.{IfSome, IsSome, IsNone, IsSomeAnd}
+use Rattle.ca_store.specs.Store.{Files, Rose, MayHave}
+use Rattle.ca_cell.specs.declared.raw.RawCell.{RawCell}
+use Rattle.ca_cell.specs.declared.rule.CellRule.{CellRule}
+use Rattle.ca_cell.specs.Rules.{KeepsRules, IsFirstBroken}
+use Rattle.ca_spice.specs.declared.fault.SpiceFault.{SpiceFault}
+use Rattle.ca_spice.specs.declared.fault.SpiceFault.TheVariants as spice
+use Rattle.ca_spice.specs.Reading.{library_of}
+use Rattle.ca_spice.specs.Called.{cell_called}
+use Rattle.ca_flow.specs.declared.inputs.TheConstants.{MAX_CELLS}
+use Rattle.ca_flow.specs.declared.fault.LimitKind.TheVariants as limit
+use Rattle.ca_flow.specs.declared.fault.Fault.{Fault}
+use Rattle.ca_flow.specs.declared.fault.Fault.TheVariants.{BadWords, Cells, NoCell, Cell, BadVector, NoDefect, TooLong, Limit, StoreFailed, SinkFailed, NoMemory}
+use Rattle.ca_flow.specs.declared.finished.Finished.{Finished}
+use Rattle.ca_flow.specs.Finished.{IsAnswer, status_told}
+use Rattle.ca_flow.specs.Words.{cells_word, cell_word, vector_word, first_word, last_word, defect_word, dash}
+use Rattle.ca_flow.specs.Outputs.{Fits, asked_network}
+use Rattle.ca_flow.specs.Cells.{IsFileWith, OfFile, HasCell, LacksCell}
+use Rattle.ca_flow.specs.Complete.{FitsCell, IsAnswerable, Completes}
+use Rattle.ca_flow.specs.Fault.{Outside, IsReadCause, IsTextCause, IsCellsCause, IsNameCause, IsFirstUnfit, IsPairCause, IsVectorCause, IsCellCause, IsValueCause, IsWordsCause, IsPrintCause, IsWorkCause, IsCause}
+
+-- the file and the cell that the words name
+record HasSeen (words : List (List ℕ)) (files : Option Files) : Type 0 where
+  pub told : Files
+  pub told_are : files ≡ Some told
+  pub bytes : List ℕ
+  pub there : told (cells_word words) ≡ Some bytes
+  pub within : length bytes ≤ MAX_CELLS
+  pub raw : RawCell
+  pub called : cell_called bytes (cell_word words) ≡ Some raw
+  pub fits : FitsCell words raw
+
+seen_of : (words : List (List ℕ)) (files : Option Files) → IsAnswerable words files → HasSeen words files
+seen_of words None held = absurd held
+seen_of words (Some told) held = at_file (told (cells_word words)) refl held
+  where
+    at_cell : (bytes : List ℕ) → told (cells_word words) ≡ Some bytes → length bytes ≤ MAX_CELLS → (cell : Option RawCell)
+        → cell_called bytes (cell_word words) ≡ cell → IsSomeAnd cell (FitsCell words) → HasSeen words (Some told)
+    at_cell bytes there within None called fits = absurd fits
+    at_cell bytes there within (Some raw) called fits = record {
+      told = told;
+      told_are = refl;
+      bytes = bytes;
+      there = there;
+      within = within;
+      raw = raw;
+      called = called;
+      fits = fits;
+    }
+
+    at_file : (file : Option (List ℕ)) → told (cells_word words) ≡ file
+        → IsSomeAnd file (λ bytes. (length bytes ≤ MAX_CELLS) × HasCell (cell_word words) (FitsCell words) bytes) → HasSeen words (Some told)
+    at_file None there held = absurd held
+    at_file (Some bytes) there (within, has) = at_cell bytes there within (cell_called bytes (cell_word words)) refl has
+
+module _ (words : List (List ℕ)) (files : Option Files) (seen : HasSeen words files) where
+  -- what is said of the file holds of its bytes
+  at_bytes : (P : List ℕ → Type 0) → OfFile files (cells_word words) P → P seen.bytes
+  at_bytes P held =
+      let here : IsSomeAnd (Some seen.bytes) (λ bytes. (length bytes ≤ MAX_CELLS) × P bytes) = rw seen.there at (held seen.told seen.told_are) in
+      here.1
+
+  -- what is said of the cell holds of its subcircuit
+  at_raw : (P : RawCell → Type 0) → OfFile files (cells_word words) (HasCell (cell_word words) P) → P seen.raw
+  at_raw P held =
+      let here : IsSomeAnd (Some seen.raw) P = rw seen.called at (at_bytes (HasCell (cell_word words) P) held) in
+      here
+
+  is_there : MayHave files (cells_word words)
+  is_there = λ told are. rw (sym (same_Some seen.told told (sym seen.told_are ∙ are)), seen.there) refl
+
+  module _ (before after : ℕ) (quiet : ¬ (Rose before after)) where
+    at_read : (fault : Fault) → IsReadCause (cells_word words) files MAX_CELLS before after fault → fault ≡ NoMemory
+    at_read BadWords cause = absurd cause
+    at_read (Cells line kind) cause = absurd cause
+    at_read (NoCell typed) cause = absurd cause
+    at_read (Cell cell rule) cause = absurd cause
+    at_read (BadVector typed) cause = absurd cause
+    at_read (NoDefect typed) cause = absurd cause
+    at_read (TooLong typed taken) (same, long) =
+        let past : IsSomeAnd (Some seen.bytes) (λ bytes. MAX_CELLS < length bytes) = rw seen.there at (long.past seen.told seen.told_are) in
+        absurd (omega (arith, past, seen.within))
+    at_read (Limit kind count) cause = absurd cause
+    at_read (StoreFailed typed) (same, rose) = absurd (quiet (rose is_there))
+    at_read SinkFailed cause = absurd cause
+    at_read NoMemory cause = refl
+
+  -- a text that names the cell has a reading
+  has_reading : (fault : SpiceFault) → library_of seen.bytes ≡ Err fault → ⊥
+  has_reading fault reads =
+      let missing : None ≡ Some seen.raw = rw (cell_called, reads) at seen.called in
+      cc
+
+  at_text : (fault : Fault) → IsCellsCause (cells_word words) files fault → ⊥
+  at_text BadWords cause = cause
+  at_text (Cells line kind) cause = has_reading (spice.At line kind) (at_bytes (IsTextCause (Cells line kind)) cause)
+  at_text (NoCell typed) cause = cause
+  at_text (Cell cell rule) cause = cause
+  at_text (BadVector typed) cause = cause
+  at_text (NoDefect typed) cause = cause
+  at_text (TooLong typed taken) cause = cause
+  at_text (Limit limit.Cells count) cause = has_reading (spice.TooManyCells count) (at_bytes (IsTextCause (Limit limit.Cells count)) cause)
+  at_text (StoreFailed typed) cause = cause
+  at_text SinkFailed cause = cause
+  at_text NoMemory cause = cause
+
+  at_name : (fault : Fault) → IsNameCause (cells_word words) (cell_word words) files fault → ⊥
+  at_name BadWords cause = cause
+  at_name (Cells line kind) cause = cause
+  at_name (NoCell typed) (same, lacks) =
+      let missing : IsNone (Some seen.raw) = rw seen.called at (at_bytes (LacksCell (cell_word words)) lacks).1 in
+      cc
+  at_name (Cell cell rule) (same, broken) = at_rule rule (at_raw (λ raw. IsFirstBroken raw rule) broken)
+    where
+      at_rule : (rule : CellRule) → IsFirstBroken seen.raw rule → ⊥
+      at_rule rule first = seen.fits.kept rule first.broken
+  at_name (BadVector typed) cause = cause
+  at_name (NoDefect typed) cause = cause
+  at_name (TooLong typed taken) cause = cause
+  at_name (Limit kind count) cause = cause
+  at_name (StoreFailed typed) cause = cause
+  at_name SinkFailed cause = cause
+  at_name NoMemory cause = cause
+
+  at_vector : (first last defect : List ℕ) → Fits seen.raw first → Fits seen.raw last → IsSome (asked_network seen.raw defect) → (fault : Fault)
+      → IsVectorCause (cells_word words) (cell_word words) first last defect files fault → ⊥
+  at_vector first last defect first_fits last_fits asks BadWords cause = cause
+  at_vector first last defect first_fits last_fits asks (Cells line kind) cause = cause
+  at_vector first last defect first_fits last_fits asks (NoCell typed) cause = cause
+  at_vector first last defect first_fits last_fits asks (Cell cell rule) cause = cause
+  at_vector first last defect first_fits last_fits asks (BadVector typed) cause =
+      at_unfit (at_raw (IsPairCause first last defect (BadVector typed)) cause).1
+    where
+      at_unfit : IsFirstUnfit seen.raw first last typed → ⊥
+      at_unfit (inl (same, unfit)) = unfit first_fits
+      at_unfit (inr (same, (fits, unfit))) = unfit last_fits
+  at_vector first last defect first_fits last_fits asks (NoDefect typed) cause =
+      let lacks = (at_raw (IsPairCause first last defect (NoDefect typed)) cause).1.1 in
+      true≢false (sym asks ∙ lacks.1.1)
+  at_vector first last defect first_fits last_fits asks (TooLong typed taken) cause = cause
+  at_vector first last defect first_fits last_fits asks (Limit kind count) cause = cause
+  at_vector first last defect first_fits last_fits asks (StoreFailed typed) cause = cause
+  at_vector first last defect first_fits last_fits asks SinkFailed cause = cause
+  at_vector first last defect first_fits last_fits asks NoMemory cause = cause
+
+  module _ (before after : Outside) (quiet_store : ¬ (Rose before.store_faults after.store_faults))
+      (quiet_sink : ¬ (Rose before.sink_faults after.sink_faults)) (fault : Fault) where
+    at_cell : IsCellCause (cells_word words) (cell_word words) files before.store_faults after.store_faults fault → fault ≡ NoMemory
+    at_cell (inl (inl read)) = at_read before.store_faults after.store_faults quiet_store fault read
+    at_cell (inl (inr text)) = absurd (at_text fault text)
+    at_cell (inr name) = absurd (at_name fault name)
+
+    at_value : (first last defect : List ℕ) → Fits seen.raw first → Fits seen.raw last → IsSome (asked_network seen.raw defect)
+        → IsValueCause (cells_word words) (cell_word words) first last defect files before.store_faults after.store_faults fault → fault ≡ NoMemory
+    at_value first last defect first_fits last_fits asks (inl cell) = at_cell cell
+    at_value first last defect first_fits last_fits asks (inr own) = absurd (at_vector first last defect first_fits last_fits asks fault own)
+
+    at_work : IsWorkCause words files before.store_faults after.store_faults fault → fault ≡ NoMemory
+    at_work (inl (is, cause)) =
+        let fits = seen.fits.respond is in
+        at_value (vector_word words) (vector_word words) dash fits fits refl cause
+    at_work (inr (inl (is, cause))) =
+        let fits = seen.fits.pair is in
+        at_value (first_word words) (last_word words) (defect_word words) fits.first fits.last fits.defect cause
+    at_work (inr (inr (is, cause))) = at_cell cause
+
+  at_words : (fault : Fault) → IsWordsCause words fault → ⊥
+  at_words BadWords cause = cause seen.fits.is
+  at_words (Cells line kind) cause = cause
+  at_words (NoCell typed) cause = cause
+  at_words (Cell cell rule) cause = cause
+  at_words (BadVector typed) cause = cause
+  at_words (NoDefect typed) cause = cause
+  at_words (TooLong typed taken) cause = cause
+  at_words (Limit kind count) cause = cause
+  at_words (StoreFailed typed) cause = cause
+  at_words SinkFailed cause = cause
+  at_words NoMemory cause = cause
+
+  at_print : (before after : ℕ) → ¬ (Rose before after) → (fault : Fault) → IsPrintCause before after fault → fault ≡ NoMemory
+  at_print before after quiet BadWords cause = absurd cause
+  at_print before after quiet (Cells line kind) cause = absurd cause
+  at_print before after quiet (NoCell typed) cause = absurd cause
+  at_print before after quiet (Cell cell rule) cause = absurd cause
+  at_print before after quiet (BadVector typed) cause = absurd cause
+  at_print before after quiet (NoDefect typed) cause = absurd cause
+  at_print before after quiet (TooLong typed taken) cause = absurd cause
+  at_print before after quiet (Limit kind count) cause = absurd cause
+  at_print before after quiet (StoreFailed typed) cause = absurd cause
+  at_print before after quiet SinkFailed rose = absurd (quiet rose)
+  at_print before after quiet NoMemory cause = refl
+
+  only_memory : (before after : Outside) → ¬ (Rose before.store_faults after.store_faults)
+      → ¬ (Rose before.sink_faults after.sink_faults) → (fault : Fault) → IsCause words files before after fault → fault ≡ NoMemory
+  only_memory before after quiet_store quiet_sink fault (inl words_cause) = absurd (at_words fault words_cause)
+  only_memory before after quiet_store quiet_sink fault (inr (inl work)) = at_work before after quiet_store quiet_sink fault work
+  only_memory before after quiet_store quiet_sink fault (inr (inr print)) =
+      at_print before.sink_faults after.sink_faults quiet_sink fault print
+
+-- a command that was answered or refused for a cause completes
+pub completes : (words : List (List ℕ)) (files : Option Files) (before after : Outside) (end : Finished) → IsAnswer end
+    → IfSome end.fault (IsCause words files before after) → Completes words files before after end
+completes words files before after end answer cause = λ answerable quiet_store quiet_sink.
+    by_fault (seen_of words files answerable) quiet_store quiet_sink end.fault answer.status refl cause
+  where
+    by_fault : HasSeen words files → ¬ (Rose before.store_faults after.store_faults) → ¬ (Rose before.sink_faults after.sink_faults)
+        → (told : Option Fault) → end.status ≡ status_told told → end.fault ≡ told → IfSome told (IsCause words files before after)
+        → (end.status ≡ 0) ⊎ (end.fault ≡ Some NoMemory)
+    by_fault seen quiet_store quiet_sink None status is cause = inl status
+    by_fault seen quiet_store quiet_sink (Some fault) status is cause =
+        inr (is ∙ ap Some (only_memory words files seen before after quiet_store quiet_sink fault cause))

@@ -1,0 +1,34 @@
+-- When a command does its work, where there is memory.
+use Rattle.std.specs.Prelude.{◌≡◌, ◌⊎◌, ℕ, List, Option, Some, IsSome, IsSomeAnd}
+use Rattle.ca_store.specs.Store.{Files, Rose}
+use Rattle.ca_cell.specs.declared.raw.RawCell.{RawCell}
+use Rattle.ca_cell.specs.Rules.{KeepsRules}
+use Rattle.ca_flow.specs.declared.fault.Fault.TheVariants.{NoMemory}
+use Rattle.ca_flow.specs.declared.finished.Finished.{Finished}
+use Rattle.ca_flow.specs.Words.{cells_word, cell_word, vector_word, first_word, last_word, defect_word, IsRespond, IsPair, IsCommand}
+use Rattle.ca_flow.specs.Outputs.{Fits, asked_network}
+use Rattle.ca_flow.specs.Cells.{IsFileWith, HasCell}
+use Rattle.ca_flow.specs.Fault.{Outside}
+
+-- the vectors of `pair` have one letter per input pin, and its word for the defect asks for a network
+pub record FitsPair (words : List (List ℕ)) (raw : RawCell) : Type 0 where
+  pub first : Fits raw (first_word words)
+  pub last : Fits raw (last_word words)
+  pub defect : IsSome (asked_network raw (defect_word words))
+
+-- the words are those of a command, its cell keeps the rules of a used cell, and its own words fit the cell
+pub record FitsCell (words : List (List ℕ)) (raw : RawCell) : Type 0 where
+  pub is : IsCommand words
+  pub kept : KeepsRules raw
+  pub respond : IsRespond words → Fits raw (vector_word words)
+  pub pair : IsPair words → FitsPair words raw
+
+-- the files are told, the file that the words name is there, is no longer than it may be and has a reading, in which they name a
+-- subcircuit that they fit
+abbrev pub IsAnswerable : List (List ℕ) → Option Files → Type 0
+IsAnswerable words files = IsSomeAnd files (λ told. IsFileWith told (cells_word words) (HasCell (cell_word words) (FitsCell words)))
+
+-- where no call of the store or the sink failed, a command that can be answered does its work, or there was no memory
+abbrev pub Completes : List (List ℕ) → Option Files → Outside → Outside → Finished → Type 0
+Completes words files before after end = IsAnswerable words files → ¬ (Rose before.store_faults after.store_faults)
+    → ¬ (Rose before.sink_faults after.sink_faults) → (end.status ≡ 0) ⊎ (end.fault ≡ Some NoMemory)

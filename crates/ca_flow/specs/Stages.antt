@@ -1,0 +1,39 @@
+-- Why a stage of a command fails, over what it was handed: a text, a library, a cell.
+use Rattle.std.specs.Prelude.{◌≡◌, ◌⊎◌, ℕ, List, Some, None, ⊤}
+use Rattle.ca_lex.specs.Words.{upper_case}
+use Rattle.ca_cell.specs.declared.raw.RawCell.{RawCell}
+use Rattle.ca_cell.specs.declared.rule.CellRule.{CellRule}
+use Rattle.ca_cell.specs.declared.library.Entry.TheVariants.{Refused}
+use Rattle.ca_cell.specs.Library.{Named, entry_of}
+use Rattle.ca_cell.specs.Rules.{KeepsRules, IsFirstBroken}
+use Rattle.ca_flow.specs.declared.fault.Fault.{Fault}
+use Rattle.ca_flow.specs.declared.fault.Fault.TheVariants.{Cells, NoCell, Cell, BadVector, Limit, NoMemory}
+use Rattle.ca_flow.specs.Outputs.{Fits}
+use Rattle.ca_flow.specs.Fault.{IsTextCause, IsPairCause}
+
+-- why a text gives no library
+abbrev pub IsReadingCause : List ℕ → Fault → Type 0
+IsReadingCause bytes fault = (fault ≡ NoMemory) ⊎ IsTextCause fault bytes
+
+-- the word names a subcircuit that breaks this rule first
+pub record RefusesCell (library : List Named) (word : List ℕ) (rule : CellRule) : Type 0 where
+  pub raw : RawCell
+  pub found : entry_of library (upper_case word) ≡ Some (Refused raw rule)
+  pub broken : IsFirstBroken raw rule
+
+-- why a word finds no cell in a library
+abbrev pub IsEntryCause : List ℕ → List Named → Fault → Type 0
+IsEntryCause word library (NoCell typed) = (typed ≡ word) × (entry_of library (upper_case word) ≡ None)
+IsEntryCause word library (Cell name rule) = (name ≡ upper_case word) × RefusesCell library word rule
+IsEntryCause word library NoMemory = ⊤
+IsEntryCause word library _ = ⊥
+
+-- why a vector isn't one of the cell
+abbrev pub IsUnfit : RawCell → List ℕ → Fault → Type 0
+IsUnfit raw word (BadVector typed) = (typed ≡ word) × (KeepsRules raw × ¬ (Fits raw word))
+IsUnfit raw word NoMemory = ⊤
+IsUnfit raw word _ = ⊥
+
+-- why a cell has no values under two vectors with a defect
+abbrev pub IsEvaluationCause : List ℕ → List ℕ → List ℕ → RawCell → Fault → Type 0
+IsEvaluationCause first last defect raw fault = (fault ≡ NoMemory) ⊎ IsPairCause first last defect fault raw

@@ -1,0 +1,54 @@
+//! The names that `defects` asks for.
+ghost use Rattle.std.specs.Prelude.{◌≡◌, Some, map, IfErr, IfOk, OnOk};
+ghost use Rattle.ca_store.specs.Store.{Nothing};
+ghost use Rattle.ca_defect.specs.List.{defects_of, IsDefectOf};
+ghost use Rattle.ca_defect.specs.Name.{name_of};
+ghost use Rattle.ca_flow.specs.Cells.{OfCell};
+ghost use Rattle.ca_flow.specs.Fault.{IsCellCause};
+ghost use Rattle.ca_flow.specs.Ends.{TellsStoreFault, AreDefectNames};
+
+use crate::fault::Fault;
+use crate::inputs::{find_cell, open_library};
+use crate::words::CellWords;
+use ca_base::NoMemory;
+use ca_cell::Cell;
+use ca_defect::{defects, name};
+use ca_lex::Names;
+use ca_store::Store;
+use std::alloc::Global;
+
+/// The names of the defects of the cell that the words name in their file.
+#[tactic(auto, using(crate::proofs::FileLemmas::of_entry, crate::proofs::CauseLemmas::of_entry_cause))]
+pub(crate) fn find_names<S: Store>(
+    alloc: Global,
+    request: &CellWords<'_>,
+    store: &mut S,
+) -> Result<Names, Fault>
+    requires closed { S.opened store.old ≡ Nothing }
+
+    ensures names { IfOk result (λ names. OfCell (S.files store.old) request.now.cells.now request.now.cell.now (AreDefectNames names)) }
+    ensures cause { IfErr result (IsCellCause request.now.cells.now request.now.cell.now
+        (S.files store.old) (S.faults store.old) (S.faults store.new)) }
+    ensures quiet { OnOk result (S.faults store.new ≡ S.faults store.old) }
+    ensures told { IfErr result (λ fault.
+        TellsStoreFault (Some fault) (S.faults store.old) (S.faults store.new)) }
+    ensures closed { S.opened store.new ≡ Nothing }
+    ensures kept { S.files store.new ≡ S.files store.old }
+{
+    let library = open_library(alloc, request.cells, store)?;
+    let cell = find_cell(alloc, &library, request.cell)?;
+    Ok(defect_names(alloc, cell)?)
+}
+
+// The names of the cell's defects, in their order.
+fn defect_names(alloc: Global, cell: &Cell) -> Result<Names, NoMemory>
+    ensures { IfOk result (λ names. names ≡ map (name_of cell.now) (defects_of cell.now)) }
+{
+    let defects = defects(alloc, cell)?;
+    let mut names = Names::new(alloc);
+    let defects = defects.as_slice();
+    for defect in defects {
+        names.push(name(alloc, cell, *defect)?)?;
+    }
+    Ok(names)
+}
