@@ -1,8 +1,5 @@
 -- How the causes of a command follow from those of its stages.
-use Rattle.std.proofs.Common.{ℕ, ◌≡◌, ◌≢◌, ◌⊎◌, inl, inr, refl, sym, ap, List, map, Option, Some, None, Ok, ◌∙◌, true≢false}
-use Rattle.std.proofs.lemmas.Option.{same_Some}
-use Rattle.std.specs.Prelude.{IfSome, IsNone}
-use Rattle.std.specs.Option.{ForSome}
+use Rattle.std.proofs.Common.{ℕ, ◌≡◌, ◌≢◌, ◌⊎◌, inl, inr, refl, sym, ap, List, map, Option, Some, None, Ok}
 use Rattle.ca_store.specs.Store.{Files}
 use Rattle.ca_lex.specs.Words.{upper_case}
 use Rattle.ca_cell.specs.declared.raw.RawCell.{RawCell}
@@ -11,15 +8,18 @@ use Rattle.ca_cell.specs.Library.{Named, entry_of}
 use Rattle.ca_cell.specs.Rules.{IsFirstBroken}
 use Rattle.ca_spice.specs.Reading.{library_of}
 use Rattle.ca_spice.specs.Views.{subcircuit_seen}
+use Rattle.ca_matrix.specs.Matrix.{Entries}
 use Rattle.ca_flow.specs.declared.fault.Fault.{Fault}
 use Rattle.ca_flow.specs.declared.fault.Fault.TheVariants.{BadWords, Cells, NoCell, Cell, BadVector, NoDefect, TooLong, Limit, StoreFailed, SinkFailed, NoMemory}
 use Rattle.ca_flow.specs.declared.finished.Done.{Done}
-use Rattle.ca_flow.specs.declared.finished.Finished.{Finished}
-use Rattle.ca_flow.specs.FaultLine.{status_of}
-use Rattle.ca_flow.specs.Finished.{IsAnswer}
+use Rattle.ca_flow.specs.Words.{cells_word, cell_word, vector_word, first_word, last_word, defect_word, dash}
 use Rattle.ca_flow.specs.Cells.{OfFile, OfCell}
-use Rattle.ca_flow.specs.Ends.{IsAsked}
-use Rattle.ca_flow.specs.Fault.{Outside, IsPrintCause, IsCause, IsLibraryCause, IsCellCause, IsPairCause, IsVectorCause, IsValueCause}
+use Rattle.ca_flow.specs.declared.finished.Done.TheVariants.{Defects, Matrix}
+use Rattle.ca_flow.specs.declared.words.CellWords.{CellWords}
+use Rattle.ca_flow.specs.declared.words.MatrixWords.{MatrixWords}
+use Rattle.ca_flow.specs.Command.{IsSpelledDefects, IsSpelledMatrix}
+use Rattle.ca_flow.specs.Ends.{AreDefectNames, IsSoundMatrix, IsAsked}
+use Rattle.ca_flow.specs.Fault.{IsLibraryCause, IsCellCause, IsPairCause, IsVectorCause, IsValueCause, IsWorkCause}
 use Rattle.ca_flow.specs.Stages.{IsReadingCause, IsEntryCause, IsEvaluationCause}
 use Rattle.ca_flow.proofs.FileLemmas.{of_entry, of_none}
 
@@ -67,42 +67,35 @@ module _ (name word : List ℕ) (files : Option Files) (library : List Named)
     of_evaluation fault (inl none) = rw none (inl (inl (inl tt)))
     of_evaluation fault (inr cause) = inr (at_pair fault cause)
 
--- where work is told, it is what was asked for
-pub asked_of : (words : List (List ℕ)) (files : Option Files) (done : Done) (told : Option Done) → ForSome told (λ it. it ≡ done)
-    → IsAsked words files done → IfSome told (IsAsked words files)
-asked_of words files done None same asked = tt
-asked_of words files done (Some it) same asked = rw (same it refl) asked
+-- a file that could not be read is the cell netlist
+at_cell_stage : (name word typed : List ℕ) (files : Option Files) (before after : ℕ) → IsCellCause name word files before after (StoreFailed typed)
+    → typed ≡ name
+at_cell_stage name word typed files before after (inl (inl read)) = read.0
+at_cell_stage name word typed files before after (inl (inr text)) = absurd text
+at_cell_stage name word typed files before after (inr other) = absurd other
 
--- where work was whole, a fault is one of printing
-pub printed_cause : (words : List (List ℕ)) (files : Option Files) (before after : Outside) (told : Option Fault)
-    → IfSome told (IsPrintCause before.sink_faults after.sink_faults) → IfSome told (IsCause words files before after)
-printed_cause words files before after None cause = tt
-printed_cause words files before after (Some fault) cause = inr (inr cause)
+at_value_stage : (name word first last defect typed : List ℕ) (files : Option Files) (before after : ℕ)
+    → IsValueCause name word first last defect files before after (StoreFailed typed) → typed ≡ name
+at_value_stage name word first last defect typed files before after (inl cell) = at_cell_stage name word typed files before after cell
+at_value_stage name word first last defect typed files before after (inr own) = absurd own
 
--- no fault has the status of work that is whole
-status_is_told : (fault : Fault) → status_of fault ≡ 0 → ⊥
-status_is_told BadWords zero = cc
-status_is_told (Cells line kind) zero = cc
-status_is_told (NoCell typed) zero = cc
-status_is_told (Cell cell rule) zero = cc
-status_is_told (BadVector typed) zero = cc
-status_is_told (NoDefect typed) zero = cc
-status_is_told (TooLong typed taken) zero = cc
-status_is_told (Limit kind count) zero = cc
-status_is_told (StoreFailed typed) zero = cc
-status_is_told SinkFailed zero = cc
-status_is_told NoMemory zero = cc
+pub unread_is_cells : (words : List (List ℕ)) (typed : List ℕ) (files : Option Files) (before after : ℕ)
+    → IsWorkCause words files before after (StoreFailed typed) → typed ≡ cells_word words
+unread_is_cells words typed files before after (inl (is, cause)) =
+    at_value_stage (cells_word words) (cell_word words) (vector_word words) (vector_word words) dash typed files before after cause
+unread_is_cells words typed files before after (inr (inl (is, cause))) =
+    at_value_stage (cells_word words) (cell_word words) (first_word words) (last_word words) (defect_word words) typed files before after cause
+unread_is_cells words typed files before after (inr (inr (inl (is, cause)))) =
+    at_cell_stage (cells_word words) (cell_word words) typed files before after cause
+unread_is_cells words typed files before after (inr (inr (inr (is, cause)))) =
+    at_cell_stage (cells_word words) (cell_word words) typed files before after cause
 
--- a command that is refused before it prints has its fault's status, and tells no work
-pub refused_answer : (end : Finished) (fault : Fault) → end.fault ≡ Some fault → end.status ≡ status_of fault → IsNone end.done
-    → fault ≢ SinkFailed → IsAnswer end
-refused_answer end fault is status none other = record {
-  status = rw is status;
-  done = (
-    λ some. absurd (true≢false (sym some ∙ none)),
-    λ said. elim said [
-      | inl zero ↦ absurd (status_is_told fault (sym status ∙ zero))
-      | inr same ↦ absurd (other (same_Some fault SinkFailed (sym is ∙ same)))
-    ],
-  );
-}
+-- the names that the words of `defects` ask for
+pub defects_asked : (words : List (List ℕ)) (request : CellWords) (files : Option Files) (names : List (List ℕ)) → IsSpelledDefects words request
+    → OfCell files request.cells.now request.cell.now (AreDefectNames names) → IsAsked words files (Defects names)
+defects_asked words request files names spelled held = (spelled.is, rw (sym spelled.of.cells, sym spelled.of.cell) held)
+
+-- the matrix that the words of `matrix` ask for
+pub matrix_asked : (words : List (List ℕ)) (request : MatrixWords) (files : Option Files) (matrix : Entries) → IsSpelledMatrix words request
+    → OfCell files request.of.cells.now request.of.cell.now (IsSoundMatrix matrix) → IsAsked words files (Matrix matrix)
+matrix_asked words request files matrix spelled held = (spelled.is, rw (sym spelled.of.cells, sym spelled.of.cell) held)

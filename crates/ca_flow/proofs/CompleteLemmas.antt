@@ -20,7 +20,7 @@ use Rattle.ca_flow.specs.Words.{cells_word, cell_word, vector_word, first_word, 
 use Rattle.ca_flow.specs.Outputs.{Fits, asked_network}
 use Rattle.ca_flow.specs.Cells.{IsFileWith, OfFile, HasCell, LacksCell}
 use Rattle.ca_flow.specs.Complete.{FitsCell, IsAnswerable, Completes}
-use Rattle.ca_flow.specs.Fault.{Outside, IsReadCause, IsTextCause, IsCellsCause, IsNameCause, IsFirstUnfit, IsPairCause, IsVectorCause, IsCellCause, IsValueCause, IsWordsCause, IsPrintCause, IsWorkCause, IsCause}
+use Rattle.ca_flow.specs.Fault.{Outside, IsReadCause, IsTextCause, IsCellsCause, IsNameCause, IsFirstUnfit, IsPairCause, IsVectorCause, IsCellCause, IsValueCause, IsWordsCause, IsWriteCause, IsPrintCause, IsWorkCause, IsCause}
 
 -- the file and the cell that the words name
 record HasSeen (words : List (List ℕ)) (files : Option Files) : Type 0 where
@@ -165,7 +165,8 @@ module _ (words : List (List ℕ)) (files : Option Files) (seen : HasSeen words 
     at_work (inr (inl (is, cause))) =
         let fits = seen.fits.pair is in
         at_value (first_word words) (last_word words) (defect_word words) fits.first fits.last fits.defect cause
-    at_work (inr (inr (is, cause))) = at_cell cause
+    at_work (inr (inr (inl (is, cause)))) = at_cell cause
+    at_work (inr (inr (inr (is, cause)))) = at_cell cause
 
   at_words : (fault : Fault) → IsWordsCause words fault → ⊥
   at_words BadWords cause = cause seen.fits.is
@@ -193,22 +194,38 @@ module _ (words : List (List ℕ)) (files : Option Files) (seen : HasSeen words 
   at_print before after quiet SinkFailed rose = absurd (quiet rose)
   at_print before after quiet NoMemory cause = refl
 
-  only_memory : (before after : Outside) → ¬ (Rose before.store_faults after.store_faults)
-      → ¬ (Rose before.sink_faults after.sink_faults) → (fault : Fault) → IsCause words files before after fault → fault ≡ NoMemory
-  only_memory before after quiet_store quiet_sink fault (inl words_cause) = absurd (at_words fault words_cause)
-  only_memory before after quiet_store quiet_sink fault (inr (inl work)) = at_work before after quiet_store quiet_sink fault work
-  only_memory before after quiet_store quiet_sink fault (inr (inr print)) =
-      at_print before.sink_faults after.sink_faults quiet_sink fault print
+  at_write : (before after : ℕ) → ¬ (Rose before after) → (fault : Fault) → IsWriteCause words before after fault → ⊥
+  at_write before after quiet BadWords cause = cause
+  at_write before after quiet (Cells line kind) cause = cause
+  at_write before after quiet (NoCell typed) cause = cause
+  at_write before after quiet (Cell cell rule) cause = cause
+  at_write before after quiet (BadVector typed) cause = cause
+  at_write before after quiet (NoDefect typed) cause = cause
+  at_write before after quiet (TooLong typed taken) cause = cause
+  at_write before after quiet (Limit kind count) cause = cause
+  at_write before after quiet (StoreFailed typed) (is, (same, rose)) = quiet rose
+  at_write before after quiet SinkFailed cause = cause
+  at_write before after quiet NoMemory cause = cause
+
+module _ (words : List (List ℕ)) (before after : Outside) (seen : HasSeen words before.files)
+    (quiet_store : ¬ (Rose before.store_faults after.store_faults)) (quiet_sink : ¬ (Rose before.sink_faults after.sink_faults)) where
+  only_memory : (fault : Fault) → IsCause words before after fault → fault ≡ NoMemory
+  only_memory fault (inl words_cause) = absurd (at_words words before.files seen fault words_cause)
+  only_memory fault (inr (inl work)) = at_work words before.files seen before after quiet_store quiet_sink fault work
+  only_memory fault (inr (inr (inl write))) =
+      absurd (at_write words before.files seen before.store_faults after.store_faults quiet_store fault write)
+  only_memory fault (inr (inr (inr print))) =
+      at_print words before.files seen before.sink_faults after.sink_faults quiet_sink fault print
 
 -- a command that was answered or refused for a cause completes
-pub completes : (words : List (List ℕ)) (files : Option Files) (before after : Outside) (end : Finished) → IsAnswer end
-    → IfSome end.fault (IsCause words files before after) → Completes words files before after end
-completes words files before after end answer cause = λ answerable quiet_store quiet_sink.
-    by_fault (seen_of words files answerable) quiet_store quiet_sink end.fault answer.status refl cause
+pub completes : (words : List (List ℕ)) (before after : Outside) (end : Finished) → IsAnswer words end
+    → IfSome end.fault (IsCause words before after) → Completes words before after end
+completes words before after end answer cause = λ answerable quiet_store quiet_sink.
+    by_fault (seen_of words before.files answerable) quiet_store quiet_sink end.fault answer.status refl cause
   where
-    by_fault : HasSeen words files → ¬ (Rose before.store_faults after.store_faults) → ¬ (Rose before.sink_faults after.sink_faults)
-        → (told : Option Fault) → end.status ≡ status_told told → end.fault ≡ told → IfSome told (IsCause words files before after)
+    by_fault : HasSeen words before.files → ¬ (Rose before.store_faults after.store_faults) → ¬ (Rose before.sink_faults after.sink_faults)
+        → (told : Option Fault) → end.status ≡ status_told told → end.fault ≡ told → IfSome told (IsCause words before after)
         → (end.status ≡ 0) ⊎ (end.fault ≡ Some NoMemory)
     by_fault seen quiet_store quiet_sink None status is cause = inl status
     by_fault seen quiet_store quiet_sink (Some fault) status is cause =
-        inr (is ∙ ap Some (only_memory words files seen before after quiet_store quiet_sink fault cause))
+        inr (is ∙ ap Some (only_memory words before after seen quiet_store quiet_sink fault cause))

@@ -2,9 +2,10 @@
 use Rattle.std.specs.Prelude.{◌≡◌, ℕ, List}
 use Rattle.ca_flow.specs.declared.words.CellWords.{CellWords}
 use Rattle.ca_flow.specs.declared.words.PairWords.{PairWords}
+use Rattle.ca_flow.specs.declared.words.MatrixWords.{MatrixWords}
 use Rattle.ca_flow.specs.declared.words.Command.{Command}
-use Rattle.ca_flow.specs.declared.words.Command.TheVariants.{Respond, Pair, Defects}
-use Rattle.ca_flow.specs.Words.{cells_word, cell_word, vector_word, first_word, last_word, defect_word, dash, IsRespond, IsPair, IsDefects}
+use Rattle.ca_flow.specs.declared.words.Command.TheVariants.{Respond, Pair, Defects, Matrix}
+use Rattle.ca_flow.specs.Words.{cells_word, cell_word, vector_word, first_word, last_word, defect_word, out_word, dash, IsRespond, IsPair, IsDefects, IsMatrix}
 
 -- the file and the cell of a command are those of the words
 pub record HasCellWords (words : List (List ℕ)) (request : CellWords) : Type 0 where
@@ -32,8 +33,15 @@ pub record IsSpelledDefects (words : List (List ℕ)) (request : CellWords) : Ty
   pub is : IsDefects words
   pub of : HasCellWords words request
 
+-- the words are these of `matrix`
+pub record IsSpelledMatrix (words : List (List ℕ)) (request : MatrixWords) : Type 0 where
+  pub is : IsMatrix words
+  pub of : HasCellWords words request.of
+  pub out : request.out.now ≡ out_word words
+
 -- the words spell the command
 abbrev pub IsSpelled : List (List ℕ) → Command → Type 0
 IsSpelled words (Respond request) = IsSpelledRespond words request
 IsSpelled words (Pair request) = IsSpelledPair words request
 IsSpelled words (Defects request) = IsSpelledDefects words request
+IsSpelled words (Matrix request) = IsSpelledMatrix words request

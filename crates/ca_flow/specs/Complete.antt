@@ -29,6 +29,6 @@ abbrev pub IsAnswerable : List (List ℕ) → Option Files → Type 0
 IsAnswerable words files = IsSomeAnd files (λ told. IsFileWith told (cells_word words) (HasCell (cell_word words) (FitsCell words)))
 
 -- where no call of the store or the sink failed, a command that can be answered does its work, or there was no memory
-abbrev pub Completes : List (List ℕ) → Option Files → Outside → Outside → Finished → Type 0
-Completes words files before after end = IsAnswerable words files → ¬ (Rose before.store_faults after.store_faults)
+abbrev pub Completes : List (List ℕ) → Outside → Outside → Finished → Type 0
+Completes words before after end = IsAnswerable words before.files → ¬ (Rose before.store_faults after.store_faults)
     → ¬ (Rose before.sink_faults after.sink_faults) → (end.status ≡ 0) ⊎ (end.fault ≡ Some NoMemory)

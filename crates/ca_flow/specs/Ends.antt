@@ -5,14 +5,16 @@ use Rattle.ca_cell.specs.declared.raw.RawCell.{RawCell}
 use Rattle.ca_cell.specs.Rules.{KeepsRules}
 use Rattle.ca_defect.specs.List.{defects_of}
 use Rattle.ca_defect.specs.Name.{name_of}
+use Rattle.ca_matrix.specs.Matrix.{Entries}
+use Rattle.ca_matrix.specs.Built.{IsMatrixOf}
 use Rattle.ca_flow.specs.declared.fault.Fault.{Fault}
 use Rattle.ca_flow.specs.declared.fault.Fault.TheVariants.{StoreFailed, NoMemory}
 use Rattle.ca_flow.specs.declared.finished.Done.{Done}
-use Rattle.ca_flow.specs.declared.finished.Done.TheVariants.{Respond, Pair, Defects}
+use Rattle.ca_flow.specs.declared.finished.Done.TheVariants.{Respond, Pair, Defects, Matrix}
 use Rattle.ca_flow.specs.declared.finished.Finished.{Finished}
-use Rattle.ca_flow.specs.Words.{cells_word, cell_word, vector_word, first_word, last_word, defect_word, dash, IsRespond, IsPair, IsDefects}
+use Rattle.ca_flow.specs.Words.{cells_word, cell_word, vector_word, first_word, last_word, defect_word, dash, IsRespond, IsPair, IsDefects, IsMatrix}
 use Rattle.ca_flow.specs.Outputs.{AreValues}
-use Rattle.ca_flow.specs.Finished.{IsAnswer, Prints, TellsSinkFault}
+use Rattle.ca_flow.specs.Finished.{IsAnswer, Prints, Writes, TellsSinkFault}
 use Rattle.ca_flow.specs.Cells.{OfCell}
 use Rattle.ca_flow.specs.Fault.{Outside, IsCause}
 use Rattle.ca_flow.specs.Complete.{Completes}
@@ -32,6 +34,10 @@ pub record TellsStoreFault (fault : Option Fault) (before after : ℕ) : Type 0 
 abbrev pub AreDefectNames : List (List ℕ) → RawCell → Type 0
 AreDefectNames names raw = KeepsRules raw × (names ≡ map (name_of raw) (defects_of raw))
 
+-- the matrix is that of a subcircuit that keeps the rules of a used cell
+abbrev pub IsSoundMatrix : Entries → RawCell → Type 0
+IsSoundMatrix matrix raw = KeepsRules raw × IsMatrixOf raw matrix
+
 -- the work that is told is that of the command, on the cell that the words name in the file that they name
 abbrev pub IsAsked : List (List ℕ) → Option Files → Done → Type 0
 IsAsked words files (Respond values) = IsRespond words × OfCell files (cells_word words) (cell_word words)
@@ -39,13 +45,15 @@ IsAsked words files (Respond values) = IsRespond words × OfCell files (cells_wo
 IsAsked words files (Pair values) = IsPair words × OfCell files (cells_word words) (cell_word words)
     (AreValues (first_word words) (last_word words) (defect_word words) values)
 IsAsked words files (Defects names) = IsDefects words × OfCell files (cells_word words) (cell_word words) (AreDefectNames names)
+IsAsked words files (Matrix matrix) = IsMatrix words × OfCell files (cells_word words) (cell_word words) (IsSoundMatrix matrix)
 
 -- how a command of these words ends
-pub record Ends (words : List (List ℕ)) (files : Option Files) (before after : Outside) (end : Finished) : Type 0 where
-  pub answer : IsAnswer end
-  pub asked : IfSome end.done (IsAsked words files)
+pub record Ends (words : List (List ℕ)) (before after : Outside) (end : Finished) : Type 0 where
+  pub answer : IsAnswer words end
+  pub asked : IfSome end.done (IsAsked words before.files)
   pub prints : Prints end before.bytes after.bytes
-  pub cause : IfSome end.fault (IsCause words files before after)
-  pub complete : Completes words files before after end
+  pub writes : Writes words end before.files after.files
+  pub cause : IfSome end.fault (IsCause words before after)
+  pub complete : Completes words before after end
   pub of_store : TellsStoreFault end.fault before.store_faults after.store_faults
   pub of_sink : TellsSinkFault end.fault before.sink_faults after.sink_faults

@@ -13,10 +13,11 @@ use Rattle.ca_flow.specs.declared.fault.Fault.{Fault}
 use Rattle.ca_flow.specs.declared.fault.Fault.TheVariants.{BadWords, Cells, NoCell, Cell, BadVector, NoDefect, TooLong, Limit, StoreFailed, SinkFailed, NoMemory}
 use Rattle.ca_flow.specs.Cells.{OfFile, OfCell, LacksCell}
 use Rattle.ca_flow.specs.Outputs.{Fits, asked_network}
-use Rattle.ca_flow.specs.Words.{cells_word, cell_word, vector_word, first_word, last_word, defect_word, dash, IsRespond, IsPair, IsDefects, IsCommand}
+use Rattle.ca_flow.specs.Words.{cells_word, cell_word, vector_word, first_word, last_word, defect_word, out_word, dash, IsRespond, IsPair, IsDefects, IsMatrix, IsCommand}
 
--- what is seen of a store and a sink: how often each failed, and the bytes that the sink holds, where it tells them
+-- what is seen of a store and a sink: the files and the bytes that the sink holds, where they are told, and how often each failed
 pub record Outside : Type 0 where
+  pub files : Option Files
   pub store_faults : ℕ
   pub sink_faults : ℕ
   pub bytes : Option (List ℕ)
@@ -88,6 +89,11 @@ abbrev pub IsWordsCause : List (List ℕ) → Fault → Type 0
 IsWordsCause words BadWords = ¬ (IsCommand words)
 IsWordsCause words _ = ⊥
 
+-- why the file that the command writes could not be written
+abbrev pub IsWriteCause : List (List ℕ) → ℕ → ℕ → Fault → Type 0
+IsWriteCause words before after (StoreFailed name) = IsMatrix words × ((name ≡ out_word words) × Rose before after)
+IsWriteCause words before after _ = ⊥
+
 -- why nothing, or a part alone, was printed of work that was whole: there was no memory for its lines, or the output failed
 abbrev pub IsPrintCause : ℕ → ℕ → Fault → Type 0
 IsPrintCause before after SinkFailed = Rose before after
@@ -99,11 +105,13 @@ abbrev pub IsWorkCause : List (List ℕ) → Option Files → ℕ → ℕ → Fa
 IsWorkCause words files before after fault =
     (IsRespond words × IsValueCause (cells_word words) (cell_word words) (vector_word words) (vector_word words) dash files before after fault)
     ⊎ ((IsPair words × IsValueCause (cells_word words) (cell_word words) (first_word words) (last_word words) (defect_word words) files before after fault)
-    ⊎ (IsDefects words × IsCellCause (cells_word words) (cell_word words) files before after fault))
+    ⊎ ((IsDefects words × IsCellCause (cells_word words) (cell_word words) files before after fault)
+    ⊎ (IsMatrix words × IsCellCause (cells_word words) (cell_word words) files before after fault)))
 
 -- why a command of these words was refused
-abbrev pub IsCause : List (List ℕ) → Option Files → Outside → Outside → Fault → Type 0
-IsCause words files before after fault =
+abbrev pub IsCause : List (List ℕ) → Outside → Outside → Fault → Type 0
+IsCause words before after fault =
     IsWordsCause words fault
-    ⊎ (IsWorkCause words files before.store_faults after.store_faults fault
-    ⊎ IsPrintCause before.sink_faults after.sink_faults fault)
+    ⊎ (IsWorkCause words before.files before.store_faults after.store_faults fault
+    ⊎ (IsWriteCause words before.store_faults after.store_faults fault
+    ⊎ IsPrintCause before.sink_faults after.sink_faults fault))

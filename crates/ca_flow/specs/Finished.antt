@@ -1,36 +1,63 @@
--- How a command ends, and what it prints.
-use Rattle.std.specs.Prelude.{◌≡◌, ◌<◌, ◌≤◌, ◌⊎◌, ◌↔◌, ℕ, List, Option, Some, None, IsSome, IsNone}
+-- How a command ends, and what it prints and writes.
+use Rattle.std.specs.Prelude.{◌≡◌, ◌≢◌, ◌<◌, ◌≤◌, ◌⊎◌, ◌↔◌, ℕ, List, Option, Some, None, IsSome, IsNone, IfSome}
 use Rattle.std.specs.List.{flat_map}
 use Rattle.std.specs.Option.{ForSome}
-use Rattle.ca_store.specs.Store.{Rose, appended, AppendsPart}
+use Rattle.ca_store.specs.Store.{Files, Rose, appended, AppendsPart}
+use Rattle.ca_store.specs.Writing.{ChangesOnly, MayWrite}
+use Rattle.ca_matrix.specs.Text.{text_of}
 use Rattle.ca_flow.specs.declared.fault.Fault.{Fault}
-use Rattle.ca_flow.specs.declared.fault.Fault.TheVariants.{SinkFailed}
+use Rattle.ca_flow.specs.declared.fault.Fault.TheVariants.{StoreFailed, SinkFailed}
 use Rattle.ca_flow.specs.declared.finished.Done.{Done}
-use Rattle.ca_flow.specs.declared.finished.Done.TheVariants.{Respond, Pair, Defects}
+use Rattle.ca_flow.specs.declared.finished.Done.TheVariants.{Respond, Pair, Defects, Matrix}
 use Rattle.ca_flow.specs.declared.finished.Finished.{Finished}
 use Rattle.ca_flow.specs.FaultLine.{status_of}
-use Rattle.ca_flow.specs.Lines.{line_of_pin, line_of_name}
+use Rattle.ca_flow.specs.Lines.{line_of_pin, line_of_name, IsSummary}
+use Rattle.ca_flow.specs.Words.{out_word, IsMatrix}
 
--- the lines that tell a command's work
-abbrev pub lines_of : Done → List ℕ
-lines_of (Respond values) = flat_map line_of_pin values
-lines_of (Pair values) = flat_map line_of_pin values
-lines_of (Defects names) = flat_map line_of_name names
+-- the text tells a command's work
+abbrev pub IsTold : Done → List ℕ → Type 0
+IsTold (Respond values) text = text ≡ flat_map line_of_pin values
+IsTold (Pair values) text = text ≡ flat_map line_of_pin values
+IsTold (Defects names) text = text ≡ flat_map line_of_name names
+IsTold (Matrix matrix) text = IsSummary matrix text
 
 -- the exit status of a fault, and 0 where there is none
 abbrev pub status_told : Option Fault → ℕ
 status_told None = 0
 status_told (Some fault) = status_of fault
 
--- the status is that of the fault, and the work is told exactly where it is 0 or the output failed
-pub record IsAnswer (end : Finished) : Type 0 where
-  pub status : end.status ≡ status_told end.fault
-  pub done : IsSome end.done ↔ ((end.status ≡ 0) ⊎ (end.fault ≡ Some SinkFailed))
+-- the file that the command writes could not be written
+abbrev pub IsOutFault : List (List ℕ) → Option Fault → Type 0
+IsOutFault words fault = IsMatrix words × (fault ≡ Some (StoreFailed (out_word words)))
 
--- what was printed: the lines of the work, a part of them where the output failed, and nothing where no work is told
+-- the status is that of the fault, and the work is told exactly where it is 0, or the output or the writing of a file failed
+pub record IsAnswer (words : List (List ℕ)) (end : Finished) : Type 0 where
+  pub status : end.status ≡ status_told end.fault
+  pub done : IsSome end.done ↔ ((end.status ≡ 0) ⊎ ((end.fault ≡ Some SinkFailed) ⊎ IsOutFault words end.fault))
+
+-- this holds of a text that tells the work
+abbrev pub HasText : Done → (List ℕ → Type 0) → Type 0
+HasText done Holds = (text : List ℕ) × (IsTold done text × Holds text)
+
+-- what was printed: the lines of the work, a part of them where the output failed, and else nothing
 pub record Prints (end : Finished) (old new : Option (List ℕ)) : Type 0 where
-  pub all : ForSome end.done (λ done. end.status ≡ 0 → new ≡ appended (lines_of done) old)
-  pub part : ForSome end.done (λ done. end.fault ≡ Some SinkFailed → AppendsPart (lines_of done) old new)
+  pub all : ForSome end.done (λ done. end.status ≡ 0 → HasText done (λ text. new ≡ appended text old))
+  pub part : ForSome end.done (λ done. end.fault ≡ Some SinkFailed → HasText done (λ text. AppendsPart text old new))
+  pub nothing : end.status ≢ 0 → end.fault ≢ Some SinkFailed → new ≡ old
+
+-- what work that is told leaves of the files: the text of a matrix stands in its file, or a part of it where the writing failed, and every
+-- other file is as it was
+abbrev pub LeavesFiles : List (List ℕ) → Option Fault → Option Files → Option Files → Done → Type 0
+LeavesFiles words fault old new (Respond values) = new ≡ old
+LeavesFiles words fault old new (Pair values) = new ≡ old
+LeavesFiles words fault old new (Defects names) = new ≡ old
+LeavesFiles words fault old new (Matrix matrix) =
+    (IsOutFault words fault → MayWrite old new (out_word words) (text_of matrix))
+    × (¬ (IsOutFault words fault) → ChangesOnly old new (out_word words) (Some (text_of matrix)))
+
+-- what a command leaves of the files: where no work is told they are as they were
+pub record Writes (words : List (List ℕ)) (end : Finished) (old new : Option Files) : Type 0 where
+  pub done : IfSome end.done (LeavesFiles words end.fault old new)
   pub nothing : IsNone end.done → new ≡ old
 
 -- where the sink's count of faults rose, the answer says that the output failed, and the count never falls

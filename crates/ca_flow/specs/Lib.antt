@@ -9,3 +9,4 @@ pub mod Fault
 pub mod Stages
 pub mod Complete
 pub mod Ends
+pub mod Work

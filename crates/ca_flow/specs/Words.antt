@@ -30,6 +30,10 @@ last_word words = word_at words 4
 abbrev pub defect_word : List (List ℕ) → List ℕ
 defect_word words = word_at words 5
 
+-- the file that `matrix` writes
+abbrev pub out_word : List (List ℕ) → List ℕ
+out_word words = word_at words 3
+
 -- the word that stands for no defect, and for the vector without letters
 abbrev pub dash : List ℕ
 dash = codes "-"
@@ -68,6 +72,14 @@ pub record IsDefects (words : List (List ℕ)) : Type 0 where
   pub command : word_at words 0 ≡ codes "defects"
   pub file : IsFileName (cells_word words)
 
+-- the words are `matrix CELLS CELL OUT`, and the two files have different names
+pub record IsMatrix (words : List (List ℕ)) : Type 0 where
+  pub four : length words ≡ 4
+  pub command : word_at words 0 ≡ codes "matrix"
+  pub file : IsFileName (cells_word words)
+  pub out : IsFileName (out_word words)
+  pub others : out_word words ≢ cells_word words
+
 -- the words are those of a command
 abbrev pub IsCommand : List (List ℕ) → Type 0
-IsCommand words = IsRespond words ⊎ (IsPair words ⊎ IsDefects words)
+IsCommand words = IsRespond words ⊎ (IsPair words ⊎ (IsDefects words ⊎ IsMatrix words))

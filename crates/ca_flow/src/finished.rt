@@ -1,17 +1,19 @@
 //! How a command ends.
-ghost use Rattle.std.specs.Prelude.{◌≡◌, Some, IsSome, IsNone, IfOk, IfSome};
-ghost use Rattle.std.specs.Option.{ForSome};
-ghost use Rattle.ca_store.specs.Store.{Rose};
+ghost use Rattle.std.specs.Prelude.{◌≡◌, ◌⊎◌, ℕ, List, Some, IsNone, IfOk};
+ghost use Rattle.ca_store.specs.Store.{Nothing};
 ghost use Rattle.ca_flow.specs.FaultLine.{status_of};
-ghost use Rattle.ca_flow.specs.Finished.{lines_of, IsAnswer, Prints, TellsSinkFault};
-ghost use Rattle.ca_flow.specs.Fault.{IsPrintCause};
+ghost use Rattle.ca_flow.specs.Finished.{status_told, IsTold, TellsSinkFault};
+ghost use Rattle.ca_flow.specs.Ends.{IsAsked};
+ghost use Rattle.ca_flow.specs.Work.{HasFile, HasPrinted, FailsToPrint, EndsWork};
 
 use crate::fault::Fault;
-use crate::lines::lines_of_names;
+use crate::lines::{lines_of_names, summary};
 use crate::pin_values::PinValues;
+use crate::work::{Work, write_out};
 use ca_base::NoMemory;
 use ca_lex::{Names, Text};
-use ca_store::{Failed, Sink, write_all};
+use ca_matrix::Matrix;
+use ca_store::{Failed, Sink, Store, write_all};
 use std::alloc::Global;
 
 /// The exit status, the fault where the status isn't 0, and what was done where the work was whole.
@@ -22,7 +24,7 @@ pub struct Finished {
     pub done: Option<Done>,
 }
 
-/// The work of a command, from which its lines are printed.
+/// The work of a command, from which its lines are printed and its file is written.
 #[derive(Drop)]
 pub enum Done {
     /// The value to which each output pin of a cell settles under a vector.
@@ -31,21 +33,24 @@ pub enum Done {
     Pair { values: PinValues },
     /// The names of the defects of a cell, in their order.
     Defects { names: Names },
+    /// The matrix of a cell.
+    Matrix { matrix: Matrix },
 }
 
 impl Done {
     // The lines that tell the work.
     fn lines(&self, alloc: Global) -> Result<Text, NoMemory>
-        ensures { IfOk result (λ text. text ≡ lines_of self.now) }
+        ensures { IfOk result (IsTold self.now) }
     {
         match self {
             Done::Respond { values } | Done::Pair { values } => values.lines(alloc),
             Done::Defects { names } => lines_of_names(alloc, names),
+            Done::Matrix { matrix } => summary(alloc, matrix),
         }
     }
 }
 
-/// The end of a command that was refused before it printed.
+/// The end of a command that was refused before its work was whole.
 pub(crate) fn refused(fault: Fault) -> Finished
     ensures fault { result.fault ≡ Some fault }
     ensures status { result.status ≡ status_of fault }
@@ -58,17 +63,56 @@ pub(crate) fn refused(fault: Fault) -> Finished
     }
 }
 
-/// Prints the lines of work that is whole. The memory for them is taken before the first byte is printed.
-pub(crate) fn print_done<W: Sink>(alloc: Global, done: Done, out: &mut W) -> Finished
-    ensures answer { IsAnswer result }
-    ensures done { ForSome result.done (λ told. told ≡ done) }
-    ensures prints { Prints result (W.bytes out.old) (W.bytes out.new) }
-    ensures cause { IfSome result.fault (IsPrintCause (W.faults out.old) (W.faults out.new)) }
-    ensures count { TellsSinkFault result.fault (W.faults out.old) (W.faults out.new) }
+/// Writes the file of work that is whole, if it has one, and prints its lines. The memory for them is taken before the file is
+/// created. Where the writing fails nothing is printed.
+pub(crate) fn finish<S: Store, W: Sink>(
+    alloc: Global,
+    work: Work<'_>,
+    store: &mut S,
+    out: &mut W,
+) -> Finished
+    requires closed { S.opened store.old ≡ Nothing }
+
+    ensures ends { (words : List (List ℕ)) → HasFile words work.entry.done work.entry.file
+        → IsAsked words (S.files store.old) work.entry.done
+        → EndsWork words
+        (record {
+          files = S.files store.old;
+          store_faults = S.faults store.old;
+          sink_faults = W.faults out.old;
+          bytes = W.bytes out.old;
+        })
+        (record {
+          files = S.files store.new;
+          store_faults = S.faults store.new;
+          sink_faults = W.faults out.new;
+          bytes = W.bytes out.new;
+        })
+        work.entry.done result }
+    ensures closed { S.opened store.new ≡ Nothing }
 {
+    let Work { done, file } = work;
     let Ok(text) = done.lines(alloc) else {
         return refused(Fault::NoMemory);
     };
+    match write_out(file, store) {
+        Ok(()) => print_done(done, &text, out),
+        Err(fault) => Finished {
+            status: fault.status(),
+            fault: Some(fault),
+            done: Some(done),
+        },
+    }
+}
+
+// Prints the text of work that is whole.
+fn print_done<W: Sink>(done: Done, text: &Text, out: &mut W) -> Finished
+    ensures status { result.status ≡ status_told result.fault }
+    ensures done { result.done ≡ Some done }
+    ensures ends { HasPrinted text.now (W.bytes out.old) (W.bytes out.new) result
+        ⊎ FailsToPrint text.now (W.bytes out.old) (W.bytes out.new) (W.faults out.old) (W.faults out.new) result }
+    ensures count { TellsSinkFault result.fault (W.faults out.old) (W.faults out.new) }
+{
     match write_all(out, text.as_bytes()) {
         Ok(()) => Finished {
             status: 0,

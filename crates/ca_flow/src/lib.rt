@@ -9,9 +9,11 @@ mod listing;
 mod outputs;
 mod pieces;
 mod pin_values;
+mod tables;
 mod top;
 mod values;
 mod words;
+mod work;
 
 pub use fault::{Fault, LimitKind};
 pub use finished::{Done, Finished};

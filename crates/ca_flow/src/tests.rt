@@ -58,15 +58,23 @@ fn outcome_of(
 
 // Each row's words stand behind a start; the command ends as the row says.
 fn check_rows(rt: &impl Abort, alloc: Global, start: &str, rows: &[Row]) -> Result<(), Fail> {
-    for (words, status, printed, told) in rows {
-        let line = format!(in alloc; "{start}{words}")?;
-        let ended = outcome_of(alloc, LIBRARY, &line, 100, FailList::new(alloc))?;
-        assert_eq!(rt; ended.end.status, *status, "at {line}");
-        assert_eq!(rt; ended.printed.bytes(), printed.as_bytes(), "at {line}");
-        let told = format!(in alloc; "cellaware: {told}\n")?;
-        let wanted = if *status == 0 { "" } else { told.as_str() };
-        assert_eq!(rt; ended.line.bytes(), wanted.as_bytes(), "at {line}");
+    for row in rows {
+        check_row(rt, alloc, start, row)?;
     }
+    Ok(())
+}
+
+fn check_row(rt: &impl Abort, alloc: Global, start: &str, row: &Row) -> Result<(), Fail> {
+    let line = format!(in alloc; "{start}{}", row.0)?;
+    let ended = outcome_of(alloc, LIBRARY, &line, 100, FailList::new(alloc))?;
+    assert_eq!(rt; ended.end.status, row.1, "at {line}");
+    assert_eq!(rt; ended.printed.bytes(), row.2.as_bytes(), "at {line}");
+    let told = if row.3.is_empty() {
+        String::new(alloc)
+    } else {
+        format!(in alloc; "cellaware: {}\n", row.3)?
+    };
+    assert_eq!(rt; ended.line.bytes(), told.as_bytes(), "at {line}");
     Ok(())
 }
 

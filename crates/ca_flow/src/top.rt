@@ -1,22 +1,25 @@
 //! The top call.
-ghost use Rattle.std.specs.Prelude.{◌≡◌, ◌≢◌, ℕ, List, Some, map, IfOk, IfErr, OnOk};
+ghost use Rattle.std.specs.Prelude.{◌≡◌, ◌≢◌, ℕ, List, Some, map, IfOk, IfErr, IsNone, OnOk};
 ghost use Rattle.std.specs.String.{string_bytes};
 ghost use Rattle.ca_store.specs.Store.{Nothing};
 ghost use Rattle.ca_flow.specs.Words.{IsCommand};
 ghost use Rattle.ca_flow.specs.Command.{IsSpelled};
 ghost use Rattle.ca_flow.specs.Fault.{IsWorkCause};
 ghost use Rattle.ca_flow.specs.Ends.{TellsStoreFault, IsAsked, Ends};
+ghost use Rattle.ca_flow.specs.Work.{HasFile};
 
 use crate::fault::Fault;
-use crate::finished::{Done, Finished, print_done, refused};
+use crate::finished::{Done, Finished, finish, refused};
 use crate::listing::find_names;
+use crate::tables::{file_of, find_matrix};
 use crate::values::find_values;
 use crate::words::{Command, parse};
+use crate::work::Work;
 use ca_store::{Sink, Store};
 use std::alloc::Global;
 
-/// Does one command, whose words come without the program's name. Nothing is printed before all inputs are judged, and
-/// all memory is taken before the first byte is printed. Words that are no command's leave the store and the sink
+/// Does one command, whose words come without the program's name. Nothing is written or printed before all inputs are judged,
+/// and all memory is taken before the first file is created and the first byte is printed. Words that are no command's leave the store and the sink
 /// uncalled.
 pub fn run<S: Store, W: Sink>(
     alloc: Global,
@@ -26,13 +29,15 @@ pub fn run<S: Store, W: Sink>(
 ) -> Finished
     requires closed { S.opened store.old ≡ Nothing }
 
-    ensures ends { Ends (map string_bytes words.now) (S.files store.old)
+    ensures ends { Ends (map string_bytes words.now)
         (record {
+          files = S.files store.old;
           store_faults = S.faults store.old;
           sink_faults = W.faults out.old;
           bytes = W.bytes out.old;
         })
         (record {
+          files = S.files store.new;
           store_faults = S.faults store.new;
           sink_faults = W.faults out.new;
           bytes = W.bytes out.new;
@@ -41,23 +46,28 @@ pub fn run<S: Store, W: Sink>(
     ensures bad_words { ¬ (IsCommand (map string_bytes words.now)) → result.fault ≡ Some Fault.BadWords }
     ensures uncalled { result.fault ≡ Some Fault.BadWords → (store.new ≡ store.old) × (out.new ≡ out.old) }
     ensures closed { S.opened store.new ≡ Nothing }
-    ensures kept { S.files store.new ≡ S.files store.old }
 {
     let Some(command) = parse(words) else {
         return refused(Fault::BadWords);
     };
     match work_of(alloc, &command, store) {
-        Ok(done) => print_done(alloc, done, out),
+        Ok(work) => finish(alloc, work, store, out),
         Err(fault) => refused(fault),
     }
 }
 
-// The work of a command, of which nothing is printed yet.
-fn work_of<S: Store>(alloc: Global, command: &Command<'_>, store: &mut S) -> Result<Done, Fault>
+// The work of a command, of which nothing is written or printed yet.
+fn work_of<'a, S: Store>(
+    alloc: Global,
+    command: &Command<'a>,
+    store: &mut S,
+) -> Result<Work<'a>, Fault>
     requires closed { S.opened store.old ≡ Nothing }
 
-    ensures asked { IfOk result (λ done. (words : List (List ℕ)) → IsSpelled words command.now
-        → IsAsked words (S.files store.old) done) }
+    ensures asked { IfOk result (λ work. (words : List (List ℕ)) → IsSpelled words command.now
+        → IsAsked words (S.files store.old) work.done) }
+    ensures file { IfOk result (λ work. (words : List (List ℕ)) → IsSpelled words command.now
+        → HasFile words work.done work.file) }
     ensures cause { IfErr result (λ fault. (words : List (List ℕ)) → IsSpelled words command.now
         → IsWorkCause words (S.files store.old) (S.faults store.old) (S.faults store.new) fault) }
     ensures no_sink { IfErr result (λ fault. fault ≢ Fault.SinkFailed) }
@@ -68,14 +78,30 @@ fn work_of<S: Store>(alloc: Global, command: &Command<'_>, store: &mut S) -> Res
     ensures kept { S.files store.new ≡ S.files store.old }
 {
     match command {
-        Command::Respond(request) => Ok(Done::Respond {
+        Command::Respond(request) => Ok(printed(Done::Respond {
             values: find_values(alloc, request, store)?,
-        }),
-        Command::Pair(request) => Ok(Done::Pair {
+        })),
+        Command::Pair(request) => Ok(printed(Done::Pair {
             values: find_values(alloc, request, store)?,
-        }),
-        Command::Defects(request) => Ok(Done::Defects {
+        })),
+        Command::Defects(request) => Ok(printed(Done::Defects {
             names: find_names(alloc, request, store)?,
-        }),
+        })),
+        Command::Matrix(request) => {
+            let matrix = find_matrix(alloc, &request.of, store)?;
+            let file = file_of(alloc, request.out, &matrix)?;
+            Ok(Work {
+                done: Done::Matrix { matrix },
+                file: Some(file),
+            })
+        }
     }
+}
+
+// Work that is printed alone.
+fn printed<'a>(done: Done) -> Work<'a>
+    ensures done { result.done ≡ done }
+    ensures none { IsNone result.file }
+{
+    Work { done, file: None }
 }

@@ -1,8 +1,8 @@
 //! The words of a command.
 ghost use Rattle.std.specs.Prelude.{◌≡◌, ℕ, List, map, IfSome, IsNone, IsTrue, ◌↔◌};
 ghost use Rattle.std.specs.String.{string_bytes};
-ghost use Rattle.ca_flow.specs.Words.{IsFileName, IsVector, IsLetter, IsRespond, IsPair, IsDefects, IsCommand};
-ghost use Rattle.ca_flow.specs.Command.{IsSpelledRespond, IsSpelledPair, IsSpelledDefects, IsSpelled};
+ghost use Rattle.ca_flow.specs.Words.{IsFileName, IsVector, IsLetter, IsRespond, IsPair, IsDefects, IsMatrix, IsCommand};
+ghost use Rattle.ca_flow.specs.Command.{IsSpelledRespond, IsSpelledPair, IsSpelledDefects, IsSpelledMatrix, IsSpelled};
 
 /// A command, with its words as they were typed.
 #[derive(Clone, Copy)]
@@ -13,6 +13,8 @@ pub(crate) enum Command<'a> {
     Pair(PairWords<'a>),
     /// `defects CELLS CELL`.
     Defects(CellWords<'a>),
+    /// `matrix CELLS CELL OUT`.
+    Matrix(MatrixWords<'a>),
 }
 
 /// The file and the cell of a command on one cell.
@@ -31,6 +33,13 @@ pub(crate) struct PairWords<'a> {
     pub defect: &'a str,
 }
 
+/// The words of a command that writes the matrix of a cell to a file.
+#[derive(Clone, Copy)]
+pub(crate) struct MatrixWords<'a> {
+    pub of: CellWords<'a>,
+    pub out: &'a str,
+}
+
 /// The command that the words spell.
 pub(crate) fn parse(words: &[String]) -> Option<Command<'_>>
     ensures found { IfSome result (IsSpelled (map string_bytes words.now)) }
@@ -42,6 +51,8 @@ pub(crate) fn parse(words: &[String]) -> Option<Command<'_>>
         Some(Command::Pair(request))
     } else if let Some(request) = parse_defects(words) {
         Some(Command::Defects(request))
+    } else if let Some(request) = parse_matrix(words) {
+        Some(Command::Matrix(request))
     } else {
         None
     }
@@ -102,6 +113,26 @@ fn parse_defects(words: &[String]) -> Option<CellWords<'_>>
         Some(CellWords {
             cells: cells.as_str(),
             cell: cell.as_str(),
+        })
+    } else {
+        None
+    }
+}
+
+fn parse_matrix(words: &[String]) -> Option<MatrixWords<'_>>
+    ensures found { IfSome result (IsSpelledMatrix (map string_bytes words.now)) }
+    ensures none { IsNone result → ¬ (IsMatrix (map string_bytes words.now)) }
+{
+    let [command, cells, cell, out] = words else {
+        return None;
+    };
+    if command.as_str() == "matrix" && is_file_name(cells) && is_file_name(out) && out.as_str() != cells.as_str() {
+        Some(MatrixWords {
+            of: CellWords {
+                cells: cells.as_str(),
+                cell: cell.as_str(),
+            },
+            out: out.as_str(),
         })
     } else {
         None

@@ -1,63 +1,109 @@
-use Rattle.std.proofs.Common.{rules, map, inl, inr, List, ℕ}
+use Rattle.std.proofs.Common.{rules, map, inl, inr, List, ℕ, ◌≡◌, refl, sym, subst}
 use Rattle.std.specs.Prelude.{IfSome}
 use Rattle.std.specs.String.{string_bytes}
 use Rattle.ca_flow.specs.Fault.{Outside, IsWorkCause, IsCause}
-use Rattle.ca_flow.proofs.CauseLemmas.{asked_of, printed_cause, refused_answer}
+use Rattle.ca_flow.specs.Finished.{Writes}
+use Rattle.ca_flow.specs.Ends.{IsAsked}
+use Rattle.ca_flow.specs.Work.{EndsWork}
 use Rattle.ca_flow.proofs.CompleteLemmas.{completes}
+use Rattle.ca_flow.proofs.EndLemmas.{refused_answer, refused_asked, refused_prints, refused_writes, read_is_not_written, work_asked, work_cause, work_has_words}
 use Rattle.ca_flow.proofs.top.run.Goals as goal
 
 pub returns-in-Err-clause-ends : goal.returns-in-Err-clause-ends
 returns-in-Err-clause-ends g c =
     let words : List (List ℕ) = map string_bytes c.args.words.now in
-    let files = g.S.Store.files c.args.store.now in
     let before : Outside = record {
+      files = g.S.Store.files c.args.store.now;
       store_faults = g.S.Store.faults c.args.store.now;
       sink_faults = g.W.Sink.faults c.args.out.now;
       bytes = g.W.Sink.bytes c.args.out.now;
     } in
     let after : Outside = record {
+      files = g.S.Store.files c.work_of.new.store;
       store_faults = g.S.Store.faults c.work_of.new.store;
       sink_faults = g.W.Sink.faults c.args.out.now;
       bytes = g.W.Sink.bytes c.args.out.now;
     } in
-    let work : IsWorkCause words files before.store_faults after.store_faults c.in-Err.fault =
+    let end = c.refused-in-Err.result in
+    let is = c.refused-in-Err.ensures.fault in
+    let status = c.refused-in-Err.ensures.status in
+    let none = c.refused-in-Err.ensures.done in
+    let work : IsWorkCause words before.files before.store_faults after.store_faults c.in-Err.fault =
     (c.in-Err.ensures).cause words (c.in-Some.ensures).found in
-    let cause : IfSome c.refused-in-Err.result.fault (IsCause words files before after) =
-    rw c.refused-in-Err.ensures.fault (inr (inl work)) in
-    let answer = refused_answer c.refused-in-Err.result c.in-Err.fault c.refused-in-Err.ensures.fault c.refused-in-Err.ensures.status
-    c.refused-in-Err.ensures.done (c.in-Err.ensures).no_sink in
+    let cause : IfSome end.fault (IsCause words before after) = rw is (inr (inl work)) in
+    let answer = refused_answer words end c.in-Err.fault is status none (c.in-Err.ensures).no_sink
+    (read_is_not_written words before.files before.store_faults after.store_faults c.in-Err.fault work) in
     record {
       answer = answer;
-      asked = search rules;
-      prints = search rules;
+      asked = refused_asked words end c.in-Err.fault is status none before.files;
+      prints = refused_prints words end c.in-Err.fault is status none before.bytes;
+      writes = subst (λ files. Writes words end before.files files) (sym (c.in-Err.ensures).kept)
+          (refused_writes words end c.in-Err.fault is status none before.files);
       cause = cause;
-      complete = completes words files before after c.refused-in-Err.result answer cause;
-      of_store = rw c.refused-in-Err.ensures.fault (c.in-Err.ensures).told;
+      complete = completes words before after end answer cause;
+      of_store = rw is (c.in-Err.ensures).told;
       of_sink = search rules;
     }
 
 pub returns-in-Ok-clause-ends : goal.returns-in-Ok-clause-ends
 returns-in-Ok-clause-ends g c =
     let words : List (List ℕ) = map string_bytes c.args.words.now in
-    let files = g.S.Store.files c.args.store.now in
     let before : Outside = record {
+      files = g.S.Store.files c.args.store.now;
       store_faults = g.S.Store.faults c.args.store.now;
       sink_faults = g.W.Sink.faults c.args.out.now;
       bytes = g.W.Sink.bytes c.args.out.now;
     } in
-    let after : Outside = record {
+    let mid : Outside = record {
+      files = g.S.Store.files c.work_of.new.store;
       store_faults = g.S.Store.faults c.work_of.new.store;
-      sink_faults = g.W.Sink.faults c.print_done.new.out;
-      bytes = g.W.Sink.bytes c.print_done.new.out;
+      sink_faults = g.W.Sink.faults c.args.out.now;
+      bytes = g.W.Sink.bytes c.args.out.now;
     } in
-    let cause = printed_cause words files before after c.print_done.result.fault c.print_done.ensures.cause in
+    let after : Outside = record {
+      files = g.S.Store.files c.finish.new.store;
+      store_faults = g.S.Store.faults c.finish.new.store;
+      sink_faults = g.W.Sink.faults c.finish.new.out;
+      bytes = g.W.Sink.bytes c.finish.new.out;
+    } in
+    let work = c.in-Ok.work in
+    let asked = (c.in-Ok.ensures).asked words (c.in-Some.ensures).found in
+    let same : mid ≡ before = rw ((c.in-Ok.ensures).kept, (c.in-Ok.ensures).quiet) refl in
+    let whole : EndsWork words mid after work.done c.finish.result =
+    c.finish.ensures.ends words ((c.in-Ok.ensures).file words (c.in-Some.ensures).found)
+    (subst (λ files. IsAsked words files work.done) (sym (c.in-Ok.ensures).kept) asked) in
+    let ends : EndsWork words before after work.done c.finish.result =
+    subst (λ state. EndsWork words state after work.done c.finish.result) same whole in
+    let cause = work_cause words before after c.finish.result.fault ends.cause in
     record {
-      answer = c.print_done.ensures.answer;
-      asked = asked_of words files c.in-Ok.done c.print_done.result.done c.print_done.ensures.done
-          ((c.in-Ok.ensures).asked words (c.in-Some.ensures).found);
-      prints = c.print_done.ensures.prints;
+      answer = ends.answer;
+      asked = work_asked words before.files work.done c.finish.result.done ends.same asked;
+      prints = ends.prints;
+      writes = ends.writes;
       cause = cause;
-      complete = completes words files before after c.print_done.result c.print_done.ensures.answer cause;
-      of_store = search rules;
-      of_sink = c.print_done.ensures.count;
+      complete = completes words before after c.finish.result ends.answer cause;
+      of_store = ends.of_store;
+      of_sink = ends.of_sink;
     }
+
+pub returns-in-Ok-clause-uncalled : goal.returns-in-Ok-clause-uncalled
+returns-in-Ok-clause-uncalled g c = λ bad.
+    let words : List (List ℕ) = map string_bytes c.args.words.now in
+    let mid : Outside = record {
+      files = g.S.Store.files c.work_of.new.store;
+      store_faults = g.S.Store.faults c.work_of.new.store;
+      sink_faults = g.W.Sink.faults c.args.out.now;
+      bytes = g.W.Sink.bytes c.args.out.now;
+    } in
+    let after : Outside = record {
+      files = g.S.Store.files c.finish.new.store;
+      store_faults = g.S.Store.faults c.finish.new.store;
+      sink_faults = g.W.Sink.faults c.finish.new.out;
+      bytes = g.W.Sink.bytes c.finish.new.out;
+    } in
+    let work = c.in-Ok.work in
+    let asked = (c.in-Ok.ensures).asked words (c.in-Some.ensures).found in
+    let whole : EndsWork words mid after work.done c.finish.result =
+    c.finish.ensures.ends words ((c.in-Ok.ensures).file words (c.in-Some.ensures).found)
+    (subst (λ files. IsAsked words files work.done) (sym (c.in-Ok.ensures).kept) asked) in
+    absurd (work_has_words words mid after c.finish.result.fault whole.cause bad)

@@ -1,0 +1,62 @@
+-- The work of a command before it is written and printed, and how writing and printing end.
+use Rattle.std.specs.Prelude.{◌≡◌, ◌⊎◌, ℕ, List, Option, Some, None, IfSome, IsNone, IsSomeAnd}
+use Rattle.std.specs.Option.{ForSome}
+use Rattle.ca_store.specs.Store.{Files, Rose, appended, AppendsPart}
+use Rattle.ca_store.specs.Writing.{ChangesOnly, MayWrite}
+use Rattle.ca_matrix.specs.Text.{text_of}
+use Rattle.ca_flow.specs.declared.fault.Fault.{Fault}
+use Rattle.ca_flow.specs.declared.fault.Fault.TheVariants.{StoreFailed, SinkFailed}
+use Rattle.ca_flow.specs.declared.finished.Done.{Done}
+use Rattle.ca_flow.specs.declared.finished.Done.TheVariants.{Respond, Pair, Defects, Matrix}
+use Rattle.ca_flow.specs.declared.finished.Finished.{Finished}
+use Rattle.ca_flow.specs.declared.work.OutFile.{OutFile}
+use Rattle.ca_flow.specs.Words.{out_word}
+use Rattle.ca_flow.specs.Finished.{IsAnswer, Prints, Writes, TellsSinkFault}
+use Rattle.ca_flow.specs.Fault.{Outside, IsWriteCause, IsPrintCause}
+use Rattle.ca_flow.specs.Ends.{TellsStoreFault}
+
+-- the file is to have this name and these bytes
+pub record IsOutFile (name bytes : List ℕ) (file : OutFile) : Type 0 where
+  pub name_is : file.name.now ≡ name
+  pub typed_is : file.typed ≡ name
+  pub bytes_are : file.bytes ≡ bytes
+
+-- the file that work of these words is to be written to
+abbrev pub HasFile : List (List ℕ) → Done → Option OutFile → Type 0
+HasFile words (Respond values) file = IsNone file
+HasFile words (Pair values) file = IsNone file
+HasFile words (Defects names) file = IsNone file
+HasFile words (Matrix matrix) file = IsSomeAnd file (IsOutFile (out_word words) (text_of matrix))
+
+-- the file, if there is one, was written
+abbrev pub HasWritten : Option OutFile → Option Files → Option Files → Type 0
+HasWritten None old new = new ≡ old
+HasWritten (Some file) old new = ChangesOnly old new file.name.now (Some file.bytes)
+
+-- the writing of the file failed, and the fault names it
+pub record FailsToWrite (old new : Option Files) (before after : ℕ) (fault : Fault) (file : OutFile) : Type 0 where
+  pub fault_is : fault ≡ StoreFailed file.typed
+  pub part : MayWrite old new file.name.now file.bytes
+  pub rose : Rose before after
+
+-- the text was printed
+pub record HasPrinted (text : List ℕ) (old new : Option (List ℕ)) (end : Finished) : Type 0 where
+  pub fault_is : end.fault ≡ None
+  pub all : new ≡ appended text old
+
+-- the output failed at the text
+pub record FailsToPrint (text : List ℕ) (old new : Option (List ℕ)) (before after : ℕ) (end : Finished) : Type 0 where
+  pub fault_is : end.fault ≡ Some SinkFailed
+  pub part : AppendsPart text old new
+  pub rose : Rose before after
+
+-- how a command of these words ends, once its work is whole
+pub record EndsWork (words : List (List ℕ)) (before after : Outside) (done : Done) (end : Finished) : Type 0 where
+  pub answer : IsAnswer words end
+  pub same : ForSome end.done (λ it. it ≡ done)
+  pub prints : Prints end before.bytes after.bytes
+  pub writes : Writes words end before.files after.files
+  pub cause : IfSome end.fault (λ fault. IsWriteCause words before.store_faults after.store_faults fault
+      ⊎ IsPrintCause before.sink_faults after.sink_faults fault)
+  pub of_store : TellsStoreFault end.fault before.store_faults after.store_faults
+  pub of_sink : TellsSinkFault end.fault before.sink_faults after.sink_faults

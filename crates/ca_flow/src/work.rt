@@ -1,0 +1,43 @@
+//! The work of a command, before it is written and printed.
+ghost use Rattle.std.specs.Prelude.{◌≡◌, IfErr, IsSomeAnd, OnOk};
+ghost use Rattle.ca_store.specs.Store.{Nothing, KeepsCount};
+ghost use Rattle.ca_flow.specs.Work.{HasWritten, FailsToWrite};
+
+use crate::fault::Fault;
+use crate::finished::Done;
+use ca_lex::Text;
+use ca_store::{Store, write_file};
+
+/// The work of a command, with the file that it is to be written to, if there is one.
+#[derive(Drop)]
+pub(crate) struct Work<'a> {
+    pub done: Done,
+    pub file: Option<OutFile<'a>>,
+}
+
+/// A file to be written. Its name stands also in memory of its own, since the fault of a failed writing takes none.
+#[derive(Drop)]
+pub(crate) struct OutFile<'a> {
+    pub name: &'a str,
+    pub typed: Text,
+    pub bytes: Text,
+}
+
+/// Writes the file, if there is one. It takes no memory.
+pub(crate) fn write_out<S: Store>(file: Option<OutFile<'_>>, store: &mut S) -> Result<(), Fault>
+    requires closed { S.opened store.old ≡ Nothing }
+
+    ensures ok { OnOk result (HasWritten file.entry (S.files store.old) (S.files store.new)) }
+    ensures cause { IfErr result (λ fault. IsSomeAnd file.entry (FailsToWrite (S.files store.old) (S.files store.new)
+        (S.faults store.old) (S.faults store.new) fault)) }
+    ensures count { KeepsCount result (S.faults store.old) (S.faults store.new) }
+    ensures closed { S.opened store.new ≡ Nothing }
+{
+    let Some(file) = file else {
+        return Ok(());
+    };
+    match write_file(store, file.name, file.bytes.as_bytes()) {
+        Ok(()) => Ok(()),
+        Err(_) => Err(Fault::StoreFailed { name: file.typed }),
+    }
+}

@@ -1,0 +1,15 @@
+pub mod PlaceLemmas
+pub mod ShapeLemmas
+pub mod VectorLemmas
+pub mod RoomLemmas
+pub mod PutLemmas
+pub mod FillLemmas
+pub mod BuiltLemmas
+pub mod ExposeLemmas
+pub mod ShownLemmas
+pub mod CountLemmas
+pub mod FieldLemmas
+pub mod TextLemmas
+pub mod CsvLemmas
+pub mod ReadLemmas
+pub mod BackLemmas
