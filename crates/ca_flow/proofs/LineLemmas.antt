@@ -6,8 +6,12 @@ use Rattle.ca_flow.specs.Lines.{summary_text}
 summary_joined : (a b c d e f g : List ℕ)
     → (((((a ++ b) ++ c) ++ d) ++ e) ++ f) ++ g ≡ a ++ (b ++ (c ++ (d ++ (e ++ (f ++ g)))))
 summary_joined a b c d e f g =
-    rw (append_assoc ((((a ++ b) ++ c) ++ d) ++ e) f g, append_assoc (((a ++ b) ++ c) ++ d) e (f ++ g), append_assoc ((a ++ b) ++ c) d (e ++ (f ++ g)),
-      append_assoc (a ++ b) c (d ++ (e ++ (f ++ g)))) (append_assoc a b (c ++ (d ++ (e ++ (f ++ g)))))
+    rw (
+      append_assoc ((((a ++ b) ++ c) ++ d) ++ e) f g,
+      append_assoc (((a ++ b) ++ c) ++ d) e (f ++ g),
+      append_assoc ((a ++ b) ++ c) d (e ++ (f ++ g)),
+      append_assoc (a ++ b) c (d ++ (e ++ (f ++ g))),
+    ) (append_assoc a b (c ++ (d ++ (e ++ (f ++ g)))))
 
 -- the line of a matrix, piece by piece
 pub summary_made : (empty one two three four five six whole : List ℕ) (defects exposable records : ℕ)

@@ -2,7 +2,7 @@
 
 mod rows;
 
-use self::rows::{DEFECTS, LIBRARY, LINES, PAIR, RESPOND, Row};
+use self::rows::{DEFECTS, LIBRARY, LINES, MATRIX, NAND2_LINES, PAIR, RESPOND, Row};
 use crate::{Done, Fault, Finished, run};
 use ca_base::NoMemory;
 use ca_lex::Text;
@@ -21,19 +21,31 @@ MN2 N1 A2 VSS VSS NCH W=415n L=50n
 .ENDS
 ";
 
-// What a command left behind: its end, the bytes that it printed, and the line of its fault.
+// What a command left behind: its end, the files, the bytes that it printed, and the line of its fault.
 #[derive(Drop)]
 struct Outcome {
     end: Finished,
+    store: MemStore,
     printed: MemSink,
     line: MemSink,
 }
 
-// One command over a store with one file, n.sp, and a sink of this room.
+// One command over a store with one file, n.sp, and room for others, and a sink of this room.
 fn outcome_of(
     alloc: Global,
     bytes: &str,
     line: &str,
+    room: usize,
+    fail: FailList,
+) -> Result<Outcome, NoMemory> {
+    outcome_in(alloc, bytes, line, 10_000, room, fail)
+}
+
+fn outcome_in(
+    alloc: Global,
+    bytes: &str,
+    line: &str,
+    space: usize,
     room: usize,
     fail: FailList,
 ) -> Result<Outcome, NoMemory> {
@@ -46,14 +58,19 @@ fn outcome_of(
     for word in line.split(' ') {
         words.push(String::from_str(alloc, word)?)?;
     }
-    let mut store = MemStore::new(alloc, files, 7, 0, fail)?;
+    let mut store = MemStore::new(alloc, files, 60, space, fail)?;
     let mut printed = MemSink::new(alloc, room, FailList::new(alloc))?;
     let end = run(alloc, &words, &mut store, &mut printed);
     let mut line = MemSink::new(alloc, 100, FailList::new(alloc))?;
     if let Some(fault) = &end.fault {
         let _ = fault.print(&mut line);
     }
-    Ok(Outcome { end, printed, line })
+    Ok(Outcome {
+        end,
+        store,
+        printed,
+        line,
+    })
 }
 
 // Each row's words stand behind a start; the command ends as the row says.
@@ -84,7 +101,46 @@ fn each_command_ends_so(rt: HostRuntime) -> Result<(), Fail> {
     check_rows(&rt, alloc, "respond n.sp ", &RESPOND)?;
     check_rows(&rt, alloc, "pair n.sp ", &PAIR)?;
     check_rows(&rt, alloc, "defects n.sp ", &DEFECTS)?;
+    check_rows(&rt, alloc, "matrix n.sp ", &MATRIX)?;
     check_rows(&rt, alloc, "", &LINES)
+}
+
+#[test]
+fn a_matrix_stands_in_its_file(rt: HostRuntime) -> Result<(), Fail> {
+    let alloc = rt.alloc();
+    let line = "matrix n.sp NAND2 m.csv";
+    let ended = outcome_of(alloc, LIBRARY, line, 100, FailList::new(alloc))?;
+    let bytes = ended.store.bytes("m.csv").expect(&rt, "the file is there");
+    let text = str::from_utf8(bytes).expect(&rt, "the file is a text");
+    for (number, wanted) in &NAND2_LINES {
+        let found = text.lines().nth(*number).expect(&rt, "the line is there");
+        assert_eq!(rt; found, *wanted);
+    }
+    assert_eq!(rt; text.lines().count(), 17);
+    Ok(())
+}
+
+// A file that is not whole holds the first bytes, and nothing is printed; a failed output leaves the file whole.
+#[test]
+fn a_failed_writing_is_told(rt: HostRuntime) -> Result<(), Fail> {
+    let alloc = rt.alloc();
+    let line = "matrix n.sp NAND2 m.csv";
+    let whole = outcome_of(alloc, LIBRARY, line, 100, FailList::new(alloc))?;
+    let wanted = whole.store.bytes("m.csv").expect(&rt, "the file is there");
+    let cut = outcome_in(alloc, LIBRARY, line, 70, 100, FailList::new(alloc))?;
+    let part = cut.store.bytes("m.csv").expect(&rt, "the file is there");
+    assert_eq!(rt; cut.end.status, 4);
+    assert_eq!(rt;
+        cut.line.bytes(),
+        b"cellaware: file fault: m.csv\n".as_slice()
+    );
+    assert_eq!(rt; cut.printed.bytes(), b"".as_slice());
+    assert_eq!(rt; part.len(), 65);
+    assert!(rt; wanted.starts_with(part));
+    let mute = outcome_of(alloc, LIBRARY, line, 0, FailList::new(alloc))?;
+    assert_eq!(rt; mute.line.bytes(), b"cellaware: output fault\n".as_slice());
+    assert!(rt; mute.store.bytes("m.csv") == whole.store.bytes("m.csv"));
+    Ok(())
 }
 
 // Each row puts one piece in place of another.

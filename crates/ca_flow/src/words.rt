@@ -126,7 +126,11 @@ fn parse_matrix(words: &[String]) -> Option<MatrixWords<'_>>
     let [command, cells, cell, out] = words else {
         return None;
     };
-    if command.as_str() == "matrix" && is_file_name(cells) && is_file_name(out) && out.as_str() != cells.as_str() {
+    if command.as_str() == "matrix"
+        && is_file_name(cells)
+        && is_file_name(out)
+        && out.as_str() != cells.as_str()
+    {
         Some(MatrixWords {
             of: CellWords {
                 cells: cells.as_str(),

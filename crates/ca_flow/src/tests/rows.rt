@@ -111,8 +111,28 @@ pub(super) static DEFECTS: [Row; 4] = [
     ("INV -", 1, "", "bad command line"),
 ];
 
+pub(super) static MATRIX: [Row; 7] = [
+    ("nand2 m.csv", 0, "defects 19, exposable 11, rows 16\n", ""),
+    ("AND2 m.csv", 0, "defects 29, exposable 14, rows 16\n", ""),
+    ("PSN m.csv", 0, "defects 9, exposable 6, rows 4\n", ""),
+    ("TG m.csv", 2, "", "cell TG: InputDrivesChannel"),
+    ("OR2 m.csv", 2, "", "no cell OR2"),
+    ("NAND2 n.sp", 1, "", "bad command line"),
+    ("NAND2 -", 1, "", "bad command line"),
+];
+
+// Lines of the matrix of NAND2: the header, and the records of 11 then 01 and of 11 then 11.
+pub(super) static NAND2_LINES: [(usize, &str); 3] = [
+    (
+        0,
+        "first,last,output,good,MP1(D),MP1(S),MP1(G),MP2(D),MP2(S),MP2(G),MN1(D),MN1(S),MN1(G),MN2(D),MN2(S),MN2(G),A1(P),A2(P),VDD=ZN,VDD=N1,VSS=ZN,VSS=N1,ZN=N1",
+    ),
+    (14, "11,01,ZN,1,0,0,X,1,1,1,1,1,X,1,1,1,X,1,1,1,0,1,X"),
+    (16, "11,11,ZN,0,0,0,X,0,0,X,X,X,X,X,X,X,X,X,1,1,0,0,0"),
+];
+
 // Whole lines that are no command's, or whose file isn't there.
-pub(super) static LINES: [Row; 8] = [
+pub(super) static LINES: [Row; 9] = [
     ("", 1, "", "bad command line"),
     ("respond", 1, "", "bad command line"),
     ("respond - NAND2 11", 1, "", "bad command line"),
@@ -121,4 +141,5 @@ pub(super) static LINES: [Row; 8] = [
     ("respond m.sp NAND2 11", 4, "", "file fault: m.sp"),
     ("pair m.sp NAND2 11 11 -", 4, "", "file fault: m.sp"),
     ("defects m.sp NAND2", 4, "", "file fault: m.sp"),
+    ("matrix m.sp NAND2 m.csv", 4, "", "file fault: m.sp"),
 ];
