@@ -15,7 +15,9 @@ mod reading;
 mod subcircuit;
 #[cfg(test)]
 mod tests;
+mod writing;
 
 pub use fault::{SpiceFault, SpiceKind};
 pub use laws::first_faulty_line;
 pub use library::read_library;
+pub use writing::write_cell;
