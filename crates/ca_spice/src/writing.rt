@@ -1,13 +1,14 @@
 //! Cells as cell netlists.
-ghost use Rattle.std.specs.Prelude.{◌≡◌, ◌∷◌, ◌++◌, ◌<◌, length, map, flat_map, IfOk, OnOk, codes};
+ghost use Rattle.std.specs.Prelude.{◌≡◌, ◌∷◌, ◌++◌, ◌<◌, [], length, map, flat_map, IfOk, Ok, OnOk, codes};
 ghost use Rattle.std.specs.List.{All};
 ghost use Rattle.ca_lex.specs.Words.{upper_case};
 ghost use Rattle.ca_cell.specs.Raw.{is_power, is_ground};
-ghost use Rattle.ca_cell.specs.Rules.{PlacesWithin};
-ghost use Rattle.ca_spice.specs.Writing.{spaced, line_of, pin_names, role_letter, pin_word, rail_name, bulk_of, model_of, net_name, size_word, terminal_words, body_words, device_words, device_line, cell_text, IsReadable};
+ghost use Rattle.ca_cell.specs.Rules.{IsRaw, PlacesWithin};
+ghost use Rattle.ca_spice.specs.Reading.{library_of};
+ghost use Rattle.ca_spice.specs.Writing.{spaced, line_of, pin_names, role_letter, pin_word, rail_name, bulk_of, model_of, net_name, size_word, terminal_words, body_words, device_words, device_line, cell_text, kept_as, IsReadable};
 
 use ca_base::NoMemory;
-use ca_cell::{Cell, RawDevice, RawPin, Role};
+use ca_cell::{Cell, RawCell, RawDevice, RawPin, Role};
 use ca_lex::{Length, Names, Text, fold};
 use ca_net::DeviceKind;
 use itoa::Buffer;
@@ -186,14 +187,12 @@ fn push_devices(
     Ok(())
 }
 
-/// The text of a cell as a cell netlist: a subcircuit under the name in upper case, which is as a library keeps it. The bulk of a
-/// transistor is the net of the first power pin or the first ground pin.
+// The text of a subcircuit.
 #[tactic(auto, unfolding(crate::specs::Writing::cell_text))]
-pub fn write_cell(alloc: Global, cell: &Cell, name: &[u8]) -> Result<Text, NoMemory>
-    requires { IsReadable name.now cell.now }
-    ensures { IfOk result (λ text. text ≡ cell_text (upper_case name.now) cell.now) }
+fn cell_text(alloc: Global, raw: &RawCell, name: &[u8]) -> Result<Text, NoMemory>
+    requires { IsRaw raw.now }
+    ensures { IfOk result (λ text. text ≡ cell_text (upper_case name.now) raw.now) }
 {
-    let raw = cell.raw();
     let pins = raw.pins.as_slice();
     let name = fold(alloc, name)?;
     let mut text = Text::new(alloc);
@@ -208,4 +207,16 @@ pub fn write_cell(alloc: Global, cell: &Cell, name: &[u8]) -> Result<Text, NoMem
     )?;
     text.append(b".ENDS\n")?;
     Ok(text)
+}
+
+/// The text of a cell as a cell netlist: one subcircuit, under the name in upper case, which is how a library keeps it. A cell that is
+/// found in a library which was read may be written under each name by which it is found there (`found_cell`).
+#[tactic(auto, using(crate::proofs::RoundTripLemmas::read_written))]
+pub fn write_cell(alloc: Global, cell: &Cell, name: &[u8]) -> Result<Text, NoMemory>
+    requires { IsReadable name.now cell.now }
+    ensures text { IfOk result (λ text. text ≡ cell_text (upper_case name.now) cell.now) }
+    ensures read { IfOk result (λ text. library_of text ≡ Ok (kept_as name.now cell.now ∷ [])) }
+{
+    let raw = cell.raw();
+    cell_text(alloc, raw, name)
 }
