@@ -1,8 +1,8 @@
 -- M cards as they are read, and as they are read again.
-use Rattle.std.proofs.Common.{◌≡◌, ℕ, suc, zero, ◌+◌, ◌^◌, ◌<◌, ◌≤◌, ◌⊎◌, inl, inr, Bool, true, false, ◌&&◌, ◌||◌, not, cond, eqb, List, [], ◌∷◌, ◌++◌, length, map, Option, Some, None, Result, Ok, Err, refl, sym, ap, ◌∙◌, subst, arith, codes, append_assoc}
-use Rattle.std.specs.Prelude.{slice_get, unwrap_or, option_and_then, nat_lt}
+use Rattle.std.proofs.Common.{◌≡◌, ℕ, suc, zero, ◌+◌, ◌^◌, ◌≤◌, ◌⊎◌, inl, inr, Bool, true, false, ◌&&◌, ◌||◌, not, cond, eqb, List, [], ◌∷◌, ◌++◌, Option, Some, None, Result, Ok, Err, refl, sym, ap, ◌∙◌, subst, codes, append_assoc}
+use Rattle.std.specs.Prelude.{slice_get, unwrap_or, option_and_then}
 use Rattle.std.specs.Fmt.{decimal}
-use Rattle.std.specs.List.{AllByRecursion, list_all, position_or_len}
+use Rattle.std.specs.List.{AllByRecursion, list_all}
 use Rattle.std.specs.Str.{bytes_eq}
 use Rattle.std.proofs.lemmas.List.{append-nil}
 use Rattle.std.proofs.lemmas.Slice.Eq.{bytes_eq-Decides}
@@ -16,14 +16,13 @@ use Rattle.ca_cell.specs.declared.raw.RawDevice.{RawDevice}
 use Rattle.ca_spice.specs.declared.card.Card.TheVariants as card
 use Rattle.ca_spice.specs.declared.fault.SpiceKind.{SpiceKind}
 use Rattle.ca_spice.specs.declared.fault.SpiceKind.TheVariants.{BadCard, BadLength, DoubleName}
-use Rattle.ca_spice.specs.declared.pin.Pin.{Pin}
 use Rattle.ca_spice.specs.Card.{card_of}
 use Rattle.ca_spice.specs.Names.{is_name, has_name, with_name, place_with}
-use Rattle.ca_spice.specs.Mos.{Wiring, Sizes, is_sign, are_params, count_of, value_of, are_sound, kind_of, wiring_with, wiring_of, length_at, sizes_of}
-use Rattle.ca_spice.specs.OpenCell.{OpenCell, has_device, with_drain, with_gate, with_source, device_of, with_device, wired, mos}
-use Rattle.ca_spice.specs.Writing.{net_name, bulk_of, model_of}
+use Rattle.ca_spice.specs.Mos.{Wiring, Sizes, are_params, count_of, value_of, are_sound, kind_of, wiring_with, wiring_of, length_at, sizes_of}
+use Rattle.ca_spice.specs.OpenCell.{OpenCell, has_device, with_device, wired, mos}
+use Rattle.ca_spice.specs.Writing.{net_name, model_of}
 use Rattle.ca_spice.proofs.PinLemmas.{left_true, right_true}
-use Rattle.ca_spice.proofs.ReadingLemmas.{mos-is, mos-new}
+use Rattle.ca_spice.proofs.ReadingLemmas.{mos-new}
 use Rattle.ca_spice.proofs.SpelledLemmas.{IsSpelled}
 use Rattle.ca_spice.proofs.SizeLemmas.{length_of-written}
 

@@ -1,17 +1,16 @@
 -- A cell that is found in a library that was read can be read.
-use Rattle.std.proofs.Common.{◌≡◌, ℕ, suc, ◌<◌, List, Bool, true, false, cond, [], ◌∷◌, length, map, get_or, Option, Some, None, Ok, refl, sym, ap, ◌∙◌, subst, arith}
+use Rattle.std.proofs.Common.{◌≡◌, ℕ, suc, List, Bool, true, false, cond, [], ◌∷◌, map, Some, Ok, refl, sym, ap, arith}
 use Rattle.std.specs.Prelude.{Contains}
 use Rattle.std.specs.Str.{bytes_eq}
 use Rattle.std.proofs.lemmas.Slice.Eq.{bytes_eq-Decides}
 use Rattle.ca_lex.specs.Words.{upper_case}
-use Rattle.ca_cell.specs.declared.library.Entry.{Entry}
 use Rattle.ca_cell.specs.declared.library.Entry.TheVariants.{Sound}
 use Rattle.ca_cell.specs.declared.raw.RawCell.{RawCell}
 use Rattle.ca_cell.specs.Library.{Named, raw_of, entry_of}
 use Rattle.ca_spice.specs.declared.subcircuit.Subcircuit.{Subcircuit}
 use Rattle.ca_spice.specs.Reading.{library_of}
 use Rattle.ca_spice.specs.Views.{subcircuit_seen}
-use Rattle.ca_spice.specs.Writing.{kept_as, IsReadable}
+use Rattle.ca_spice.specs.Writing.{IsReadable}
 
 later : (first : Subcircuit) (cells : List Subcircuit) (cell : Subcircuit) → Contains cells cell → Contains (first ∷ cells) cell
 later first cells cell has = (suc has.0, omega (arith, has.1), has.2)

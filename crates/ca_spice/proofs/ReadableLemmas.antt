@@ -1,42 +1,34 @@
 -- Each subcircuit that a text reads as can be written.
-use Rattle.std.proofs.Common.{◌≡◌, ℕ, suc, zero, ◌+◌, ◌≤◌, ◌⊎◌, inl, inr, Bool, true, false, ◌&&◌, ◌||◌, not, cond, List, [], ◌∷◌, ◌++◌, length, map, Option, Some, None, Result, Ok, Err, refl, sym, ap, ◌∙◌, subst, arith, append_assoc}
-use Rattle.std.specs.Prelude.{slice_get, slice_set, is_some, nat_lt, Contains}
-use Rattle.std.specs.List.{AllByRecursion, list_all, list_any}
-use Rattle.std.specs.Str.{bytes_eq}
-use Rattle.std.proofs.lemmas.List.{append-nil, map-append}
+use Rattle.std.proofs.Common.{◌≡◌, ℕ, Bool, true, false, ◌||◌, not, cond, List, [], ◌∷◌, ◌++◌, length, map, Option, Some, None, Result, Ok, Err, refl, sym, ap, subst}
+use Rattle.std.specs.Prelude.{nat_lt}
+use Rattle.std.specs.List.{AllByRecursion, list_all}
 use Rattle.std.proofs.lemmas.List.Elements.{All-contains, All-from_recursion}
-use Rattle.ca_net.specs.declared.device.DeviceKind.{DeviceKind}
-use Rattle.ca_net.specs.declared.device.DeviceKind.TheVariants as kind
 use Rattle.ca_lex.specs.declared.lines.Line.{Line}
 use Rattle.ca_lex.specs.Words.{words_of, upper_case}
 use Rattle.ca_lex.specs.Lines.{spice_lines}
 use Rattle.ca_lex.specs.FirstFault.{steps_from, located}
 use Rattle.ca_lex.specs.Reading.{unless}
-use Rattle.ca_lex.proofs.FirstFaultLemmas.{after_step, steps_from-cons}
 use Rattle.ca_cell.specs.declared.library.TheConstants.{MOST_CELLS}
-use Rattle.ca_cell.specs.declared.raw.Role.{Role}
 use Rattle.ca_cell.specs.declared.raw.RawPin.{RawPin}
-use Rattle.ca_cell.specs.declared.raw.RawDevice.{RawDevice}
 use Rattle.ca_cell.specs.declared.raw.RawCell.{RawCell}
 use Rattle.ca_spice.specs.declared.card.Card.{Card}
 use Rattle.ca_spice.specs.declared.card.Card.TheVariants as card
 use Rattle.ca_spice.specs.declared.fault.SpiceKind.{SpiceKind}
-use Rattle.ca_spice.specs.declared.fault.SpiceKind.TheVariants.{NotText, UnknownCard, BadCard, BadRole, DoubleName, NoPinInfo, Unended}
+use Rattle.ca_spice.specs.declared.fault.SpiceKind.TheVariants.{NotText, BadCard, DoubleName, Unended}
 use Rattle.ca_spice.specs.declared.fault.SpiceFault.{SpiceFault}
 use Rattle.ca_spice.specs.declared.fault.SpiceFault.TheVariants.{At, TooManyCells}
 use Rattle.ca_spice.specs.declared.pin.Pin.{Pin}
 use Rattle.ca_spice.specs.declared.subcircuit.Subcircuit.{Subcircuit}
-use Rattle.ca_spice.specs.Names.{is_text, is_name, with_name, place_of, place_with, has_double}
+use Rattle.ca_spice.specs.Names.{is_text, has_double}
 use Rattle.ca_spice.specs.Card.{card_of}
-use Rattle.ca_spice.specs.Mos.{Wiring, Sizes, wiring_of, sizes_of}
 use Rattle.ca_spice.specs.PinInfo as info
-use Rattle.ca_spice.specs.OpenCell.{OpenCell, pin_of, new_cell, with_pins, has_roles, pin_info, with_drain, with_gate, with_source, device_of, with_device, has_device, mos, pins_behind, is_ended_by, subcircuit_with, ended}
-use Rattle.ca_spice.specs.Reading.{Reading, Step, nothing, is_outside, has_cell, with_open, is_header, named, subckt, goes_on, in_cell, with_cell, ends, card_step, is_stray, is_comment, judged, words_step, line_step, at_line, lines_from, limited, library_from, library_of}
-use Rattle.ca_spice.specs.Writing.{pin_names, bulk_of, kept_as, IsReadable}
-use Rattle.ca_spice.proofs.SpelledLemmas.{IsSpelled}
+use Rattle.ca_spice.specs.OpenCell.{OpenCell, pin_of, new_cell, with_pins, has_roles, pin_info, mos, pins_behind, is_ended_by, subcircuit_with, ended}
+use Rattle.ca_spice.specs.Reading.{Reading, Step, nothing, is_outside, has_cell, with_open, is_header, named, subckt, goes_on, in_cell, with_cell, ends, card_step, is_stray, is_comment, judged, words_step, line_step, at_line, lines_from, limited, library_from}
+use Rattle.ca_spice.specs.Writing.{pin_names, kept_as, IsReadable}
+use Rattle.ca_spice.proofs.SpelledLemmas.{IsSpelled, all_append}
 use Rattle.ca_spice.proofs.ShownLemmas.{IsShownText, words_spelled, lines_shown}
-use Rattle.ca_spice.proofs.CardLemmas.{IsNameWord, IsNetAt, IsCard, Extends, net_more, card_more, cards_more, net_name-at, with_name-extends, extends_further, net_placed, card_words, card_params, written_wiring, written_sizes, mos-written, IsMos, IsWired, kept_rule, kept_value, mos_found, wiring_found, sizes_found}
-use Rattle.ca_spice.proofs.WritableLemmas.{IsWritable, ReadsAgain, open_with, device_step, first_step, writable_grown, names_shown, pin_info_names, behind_names}
+use Rattle.ca_spice.proofs.CardLemmas.{kept_rule, kept_value, mos_found, wiring_found}
+use Rattle.ca_spice.proofs.WritableLemmas.{IsWritable, first_step, writable_grown, names_shown, pin_info_names, behind_names}
 
 -- a subcircuit that was read can be written
 abbrev pub IsWritableCell : Subcircuit → Type 0
@@ -147,10 +139,6 @@ ended_step words cell made is before =
         subst IsWritableCell (sym same)
         (subst (λ (names : List (List ℕ)). IsWritable cell.name names cell.nets cell.devices) (sym (behind_names [] cell.pins pins found)) before)
 
-cells_push : (cells : List Subcircuit) (cell : Subcircuit) → AllByRecursion IsWritableCell cells → IsWritableCell cell → AllByRecursion IsWritableCell (cells ++ cell ∷ [])
-cells_push [] cell all is = (is, tt)
-cells_push (first ∷ cells) cell all is = (all.0, cells_push cells cell all.1 is)
-
 ends_step : (words : List (List ℕ)) (reading next : Reading) → ends words reading ≡ Ok next → IsWritableReading reading → IsWritableReading next
 unfolding ends
 ends_step words reading next is before = by reading.current refl is
@@ -159,7 +147,7 @@ ends_step words reading next is before = by reading.current refl is
     by_made cell is_open (Ok made) found is =
         let same : next ≡ record { cells = reading.cells ++ made ∷ []; current = None } = cc in
         subst IsWritableReading (sym same) (record {
-          cells = cells_push reading.cells made before.cells (ended_step words cell made found (subst IsWritableOpen is_open before.current));
+          cells = all_append IsWritableCell reading.cells (made ∷ []) before.cells (ended_step words cell made found (subst IsWritableOpen is_open before.current), tt);
           current = tt;
         })
     by_made cell is_open (Err kind) found is = absurd cc

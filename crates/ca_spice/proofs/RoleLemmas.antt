@@ -1,6 +1,6 @@
 -- Roles that were written read as the roles.
-use Rattle.std.proofs.Common.{◌≡◌, ℕ, suc, zero, ◌+◌, ◌<◌, ◌≤◌, inl, inr, Bool, true, false, true≢false, ◌&&◌, ◌||◌, not, cond, eqb, List, [], ◌∷◌, ◌++◌, length, map, take, drop, Option, Some, None, Result, Ok, Err, refl, sym, ap, ◌∙◌, subst, arith, append_assoc, length-append, codes}
-use Rattle.std.specs.Prelude.{slice_get, slice_set, is_some, nat_lt}
+use Rattle.std.proofs.Common.{◌≡◌, ℕ, suc, ◌+◌, ◌<◌, ◌≤◌, inl, inr, Bool, true, false, true≢false, ◌&&◌, ◌||◌, not, cond, eqb, List, [], ◌∷◌, ◌++◌, length, map, take, drop, Option, Some, None, Result, Ok, Err, refl, sym, ap, ◌∙◌, arith, append_assoc, length-append}
+use Rattle.std.specs.Prelude.{slice_get, slice_set, nat_lt}
 use Rattle.std.specs.Char.{to_ascii_uppercase}
 use Rattle.std.specs.List.{flat_map, AllByRecursion, list_all}
 use Rattle.std.specs.Str.{bytes_eq}
@@ -12,13 +12,12 @@ use Rattle.std.proofs.lemmas.Bool.Decides.{nat_tests}
 use Rattle.std.proofs.lemmas.Slice.Eq.{bytes_eq-Decides}
 use Rattle.ca_lex.specs.Words.{ends_word, words_of, upper_case}
 use Rattle.ca_lex.specs.FirstFault.{steps_from}
-use Rattle.ca_lex.specs.Reading.{unless}
 use Rattle.ca_lex.proofs.FirstFaultLemmas.{after_step, steps_from-cons}
 use Rattle.ca_cell.specs.declared.raw.Role.{Role}
 use Rattle.ca_cell.specs.declared.raw.Role.TheVariants as role
 use Rattle.ca_cell.specs.declared.raw.RawPin.{RawPin}
 use Rattle.ca_spice.specs.declared.fault.SpiceKind.{SpiceKind}
-use Rattle.ca_spice.specs.declared.fault.SpiceKind.TheVariants.{BadCard, BadRole}
+use Rattle.ca_spice.specs.declared.fault.SpiceKind.TheVariants.{BadRole}
 use Rattle.ca_spice.specs.declared.pin.Pin.{Pin}
 use Rattle.ca_spice.specs.Names.{is_text_byte, is_text, is_name, has_name, place_of, place_with, repeats, has_double}
 use Rattle.ca_spice.specs.Mos.{is_sign}
@@ -27,8 +26,8 @@ use Rattle.ca_spice.specs.OpenCell.{pin_of, pins_behind}
 use Rattle.ca_spice.specs.Reading.{is_header_word}
 use Rattle.ca_spice.specs.Writing.{pin_names, role_letter, pin_word}
 use Rattle.ca_spice.proofs.PinLemmas.{left_true, right_true, pin_info-steps}
-use Rattle.ca_spice.proofs.SpelledLemmas.{HasNoComment, IsInside, IsOneWord, IsSpelled}
-use Rattle.ca_spice.proofs.SizeLemmas.{all_append, no_comment, run_alone}
+use Rattle.ca_spice.proofs.SpelledLemmas.{HasNoComment, all_append, IsInside, IsOneWord, IsSpelled}
+use Rattle.ca_spice.proofs.SizeLemmas.{no_comment, run_alone}
 use Rattle.ca_spice.proofs.WrittenLemmas.{IsChunk}
 
 -- a name of a header

@@ -1,10 +1,9 @@
 -- A cell that was written is read as that cell alone.
 use Rattle.std.proofs.Common.{◌≡◌, ℕ, ◌+◌, ◌^◌, ◌<◌, ◌≤◌, ◌⊎◌, inl, inr, Bool, true, false, ◌&&◌, ◌||◌, not, cond, eqb, List, [], ◌∷◌, ◌++◌, length, map, Option, Some, None, Result, Ok, Err, refl, sym, ap, ◌∙◌, subst, arith, append_assoc, codes}
 use Rattle.std.specs.Prelude.{IfOk, find, unwrap_or, option_map}
-use Rattle.std.specs.Fmt.{decimal}
-use Rattle.std.specs.List.{flat_map, AllByRecursion, list_all, list_any, count_by}
+use Rattle.std.specs.List.{flat_map, AllByRecursion, list_all}
 use Rattle.std.specs.Str.{bytes_eq}
-use Rattle.std.proofs.lemmas.List.{append-nil, length-map}
+use Rattle.std.proofs.lemmas.List.{append-nil}
 use Rattle.std.proofs.lemmas.List.Sums.{sum_by-cons}
 use Rattle.std.proofs.lemmas.Bool.{eqb-true}
 use Rattle.ca_net.specs.declared.device.DeviceKind.{DeviceKind}
@@ -24,21 +23,21 @@ use Rattle.ca_cell.specs.Rules.{KeepsRules}
 use Rattle.ca_spice.specs.declared.card.Card as cards
 use Rattle.ca_spice.specs.declared.card.Card.TheVariants as card
 use Rattle.ca_spice.specs.declared.fault.SpiceKind.{SpiceKind}
-use Rattle.ca_spice.specs.declared.fault.SpiceKind.TheVariants.{NotText, BadCard, DoubleName, NoPinInfo}
+use Rattle.ca_spice.specs.declared.fault.SpiceKind.TheVariants.{NotText, BadCard, DoubleName}
 use Rattle.ca_spice.specs.declared.fault.SpiceFault.{SpiceFault}
 use Rattle.ca_spice.specs.declared.pin.Pin.{Pin}
 use Rattle.ca_spice.specs.declared.subcircuit.Subcircuit.{Subcircuit}
-use Rattle.ca_spice.specs.Names.{is_text, is_name, has_double}
+use Rattle.ca_spice.specs.Names.{is_text, has_double}
 use Rattle.ca_spice.specs.Card.{card_by_letter, is_ignored, card_of}
 use Rattle.ca_spice.specs.PinInfo as info
-use Rattle.ca_spice.specs.OpenCell.{OpenCell, pin_of, new_cell, has_roles, pin_info, mos, pins_behind, subcircuit_with, ended}
-use Rattle.ca_spice.specs.Reading.{Reading, Step, nothing, is_outside, with_open, is_header_word, is_header, named, subckt, in_cell, goes_on, with_cell, ends, card_step, is_comment, judged, words_step, lines_from, library_from, library_of}
-use Rattle.ca_spice.specs.Writing.{spaced, line_of, pin_names, pin_word, rail_name, bulk_of, model_of, net_name, size_word, terminal_words, body_words, device_words, device_line, cell_text, kept_as, IsReadable}
+use Rattle.ca_spice.specs.OpenCell.{OpenCell, new_cell, has_roles, pin_info, mos, subcircuit_with, ended}
+use Rattle.ca_spice.specs.Reading.{Reading, nothing, is_outside, with_open, is_header_word, is_header, named, subckt, in_cell, goes_on, with_cell, ends, card_step, is_comment, judged, words_step, lines_from, library_from, library_of}
+use Rattle.ca_spice.specs.Writing.{spaced, line_of, pin_names, pin_word, rail_name, bulk_of, model_of, size_word, device_words, device_line, cell_text, kept_as, IsReadable}
 use Rattle.ca_spice.proofs.PinLemmas.{left_true, right_true}
-use Rattle.ca_spice.proofs.SpelledLemmas.{HasNoComment, IsSpelled, alone}
+use Rattle.ca_spice.proofs.SpelledLemmas.{HasNoComment, IsSpelled}
 use Rattle.ca_spice.proofs.SizeLemmas.{value_shown, value_text, width_words, channel_words}
 use Rattle.ca_spice.proofs.WrittenLemmas.{IsChunk, chunk_of, chunks_of, body, body_shown, first_line, line_words, spelled_alone, spelled_words, card_line, roles_line, read_on, BeginsAnew, anew_at_card, anew_at_roles, card_read, roles_read}
-use Rattle.ca_spice.proofs.CardLemmas.{IsNameWord, IsSize, IsCard, net_named, value_word, card_words}
+use Rattle.ca_spice.proofs.CardLemmas.{IsNameWord, IsSize, IsCard, net_named, card_words}
 use Rattle.ca_spice.proofs.WritableLemmas.{open_with, device_step, IsWritable, first_step, bulk_named}
 use Rattle.ca_spice.proofs.ReadableLemmas.{readable_writable}
 use Rattle.ca_spice.proofs.RoleLemmas.{IsPinName, name_of, with_its_role, roles_read_again, pins_again, pin_chunks, pin_words, pin_texts}

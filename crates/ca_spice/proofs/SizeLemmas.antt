@@ -1,29 +1,25 @@
 -- A length that is written reads as itself.
-use Rattle.std.proofs.Common.{◌≡◌, ℕ, zero, suc, ◌+◌, ◌-◌, ◌*◌, ◌/◌, ◌%◌, ◌^◌, ◌<◌, ◌≤◌, Bool, true, false, ◌&&◌, cond, eqb, List, [], ◌∷◌, ◌++◌, length, map, fold, Some, refl, sym, ap, ◌∙◌, subst, arith, inr, codes, get_or}
+use Rattle.std.proofs.Common.{◌≡◌, ℕ, zero, suc, ◌+◌, ◌*◌, ◌/◌, ◌%◌, ◌^◌, ◌<◌, ◌≤◌, Bool, true, false, ◌&&◌, eqb, List, [], ◌∷◌, ◌++◌, length, Some, refl, sym, ap, ◌∙◌, subst, arith, inr, codes}
 use Rattle.std.specs.Fmt.{decimal}
 use Rattle.std.specs.Char.{to_ascii_uppercase}
-use Rattle.std.specs.List.{AllByRecursion, list_all}
+use Rattle.std.specs.List.{AllByRecursion}
 use Rattle.std.proofs.Math.Nat.{mul-div_cancel}
 use Rattle.std.proofs.lemmas.Fmt.{decimal_by_steps_wide, length-decimal-le_wide}
 use Rattle.std.proofs.lemmas.List.{map-append, append-nil, length-append}
 use Rattle.std.proofs.lemmas.List.Folds.{list_all-append}
 use Rattle.std.proofs.lemmas.Bool.Decides.{nat_tests}
-use Rattle.ca_lex.specs.Words.{is_blank, ends_word, words_of, upper_case}
+use Rattle.ca_lex.specs.Words.{ends_word, words_of, upper_case}
 use Rattle.ca_lex.specs.Length.{is_digit, number_of, with_digit, length_of}
-use Rattle.ca_lex.specs.LengthGrammar.{AreDigits, AreOneOrTwoDigits, IsExponent, Minus, NoSuffix, IsLength}
+use Rattle.ca_lex.specs.LengthGrammar.{AreDigits, Minus, NoSuffix, IsLength}
 use Rattle.ca_lex.proofs.DigitLemmas.{fold_append, pow_pos10}
 use Rattle.ca_lex.proofs.GrammarLemmas.{length_only}
 use Rattle.ca_spice.specs.Names.{is_text_byte, is_text}
 use Rattle.ca_spice.specs.Writing.{size_word}
-use Rattle.ca_spice.proofs.SpelledLemmas.{HasNoComment, IsInside, words_of-run}
+use Rattle.ca_spice.proofs.SpelledLemmas.{HasNoComment, IsInside, all_append, words_of-run}
 
 -- the byte is a digit
 abbrev IsDigit : ℕ → Type 0
 IsDigit byte = is_digit byte ≡ true
-
-pub all_append : (P : ℕ → Type 0) (text more : List ℕ) → AllByRecursion P text → AllByRecursion P more → AllByRecursion P (text ++ more)
-all_append P [] more all behind = behind
-all_append P (byte ∷ text) more all behind = (all.0, all_append P text more all.1 behind)
 
 all_weaker : (P Q : ℕ → Type 0) → ((byte : ℕ) → P byte → Q byte) → (text : List ℕ) → AllByRecursion P text → AllByRecursion Q text
 all_weaker P Q implied [] all = tt

@@ -1,11 +1,10 @@
 -- Words that a line spells, and lines of words.
-use Rattle.std.proofs.Common.{◌≡◌, ℕ, ◌+◌, Bool, true, false, ◌||◌, ◌&&◌, ◌⊎◌, inl, inr, cond, not, eqb, List, [], ◌∷◌, ◌++◌, length, map, take, drop, refl, sym, ap, ◌∙◌, subst, append_assoc}
+use Rattle.std.proofs.Common.{◌≡◌, ℕ, ◌+◌, Bool, true, false, ◌||◌, ◌&&◌, ◌⊎◌, inl, inr, cond, eqb, List, [], ◌∷◌, ◌++◌, length, map, take, drop, refl, sym, ap, ◌∙◌, subst}
 use Rattle.std.specs.Char.{to_ascii_uppercase}
-use Rattle.std.specs.List.{flat_map, AllByRecursion, list_all}
+use Rattle.std.specs.List.{flat_map, AllByRecursion}
 use Rattle.std.proofs.Math.Numerals.{one-add}
 use Rattle.std.proofs.Math.Seq.{take-length}
 use Rattle.std.proofs.lemmas.List.{map-append, append-nil}
-use Rattle.std.proofs.lemmas.Bool.Decides.{nat_tests}
 use Rattle.ca_lex.specs.Words.{is_blank, ends_word, word_len, with_byte, words_with, words_of, upper_case}
 use Rattle.ca_lex.specs.Physical.{code_len, without_comment}
 use Rattle.ca_lex.proofs.WordLemmas.{first_of_words}
@@ -33,6 +32,11 @@ pub record IsSpelled (word : List ℕ) : Type 0 where
   pub shown : HasNoComment true word
   pub upper : IsUpper word
   pub text : is_text word ≡ true
+
+-- what holds of each of two lists holds of both together
+pub all_append : {X : Type 0} (P : X → Type 0) (first second : List X) → AllByRecursion P first → AllByRecursion P second → AllByRecursion P (first ++ second)
+all_append P [] second all behind = behind
+all_append P (x ∷ first) second all behind = (all.0, all_append P first second all.1 behind)
 
 pub not_blank : (byte : ℕ) → ends_word byte ≡ false → is_blank byte ≡ false
 not_blank byte is = by (is_blank byte) (eqb byte 61) is

@@ -1,41 +1,28 @@
 -- What is read can be written: each subcircuit that a text reads as has cards that read as its devices again.
-use Rattle.std.proofs.Common.{◌≡◌, ℕ, suc, zero, ◌+◌, ◌≤◌, ◌⊎◌, inl, inr, Bool, true, false, ◌&&◌, ◌||◌, not, cond, List, [], ◌∷◌, ◌++◌, length, map, Option, Some, None, Result, Ok, Err, refl, sym, ap, ◌∙◌, subst, arith, append_assoc}
-use Rattle.std.specs.Prelude.{slice_get, slice_set, is_some, nat_lt, Contains}
-use Rattle.std.specs.List.{AllByRecursion, list_all, list_any}
-use Rattle.std.specs.Str.{bytes_eq}
+use Rattle.std.proofs.Common.{◌≡◌, ℕ, suc, zero, ◌⊎◌, inl, inr, true, false, not, List, [], ◌∷◌, ◌++◌, map, Option, Some, None, Result, Ok, Err, refl, sym, ap, ◌∙◌, subst, append_assoc}
+use Rattle.std.specs.Prelude.{slice_get, slice_set, is_some}
+use Rattle.std.specs.List.{AllByRecursion}
 use Rattle.std.proofs.lemmas.List.{append-nil, map-append}
-use Rattle.std.proofs.lemmas.List.Elements.{All-contains, All-from_recursion}
 use Rattle.ca_net.specs.declared.device.DeviceKind.{DeviceKind}
 use Rattle.ca_net.specs.declared.device.DeviceKind.TheVariants as kind
-use Rattle.ca_lex.specs.declared.lines.Line.{Line}
-use Rattle.ca_lex.specs.Words.{words_of, upper_case}
-use Rattle.ca_lex.specs.Lines.{spice_lines}
-use Rattle.ca_lex.specs.FirstFault.{steps_from, located}
-use Rattle.ca_lex.specs.Reading.{unless}
+use Rattle.ca_lex.specs.FirstFault.{steps_from}
 use Rattle.ca_lex.proofs.FirstFaultLemmas.{after_step, steps_from-cons}
-use Rattle.ca_cell.specs.declared.library.TheConstants.{MOST_CELLS}
 use Rattle.ca_cell.specs.declared.raw.Role.{Role}
 use Rattle.ca_cell.specs.declared.raw.RawPin.{RawPin}
 use Rattle.ca_cell.specs.declared.raw.RawDevice.{RawDevice}
-use Rattle.ca_cell.specs.declared.raw.RawCell.{RawCell}
-use Rattle.ca_spice.specs.declared.card.Card.{Card}
 use Rattle.ca_spice.specs.declared.card.Card.TheVariants as card
 use Rattle.ca_spice.specs.declared.fault.SpiceKind.{SpiceKind}
-use Rattle.ca_spice.specs.declared.fault.SpiceKind.TheVariants.{NotText, UnknownCard, BadCard, BadRole, DoubleName, NoPinInfo, Unended}
-use Rattle.ca_spice.specs.declared.fault.SpiceFault.{SpiceFault}
-use Rattle.ca_spice.specs.declared.fault.SpiceFault.TheVariants.{At, TooManyCells}
+use Rattle.ca_spice.specs.declared.fault.SpiceKind.TheVariants.{BadCard, BadRole}
 use Rattle.ca_spice.specs.declared.pin.Pin.{Pin}
-use Rattle.ca_spice.specs.declared.subcircuit.Subcircuit.{Subcircuit}
-use Rattle.ca_spice.specs.Names.{is_text, is_name, with_name, place_of, place_with, has_double}
+use Rattle.ca_spice.specs.Names.{place_of, has_double}
 use Rattle.ca_spice.specs.Card.{card_of}
-use Rattle.ca_spice.specs.Mos.{Wiring, Sizes, wiring_of, sizes_of}
+use Rattle.ca_spice.specs.Mos.{Wiring, Sizes, sizes_of}
 use Rattle.ca_spice.specs.PinInfo as info
-use Rattle.ca_spice.specs.OpenCell.{OpenCell, pin_of, new_cell, with_pins, has_roles, pin_info, with_drain, with_gate, with_source, device_of, with_device, has_device, mos, pins_behind, is_ended_by, subcircuit_with, ended}
-use Rattle.ca_spice.specs.Reading.{Reading, Step, nothing, is_outside, has_cell, with_open, is_header, named, subckt, goes_on, in_cell, with_cell, ends, card_step, is_stray, is_comment, judged, words_step, line_step, at_line, lines_from, limited, library_from, library_of}
-use Rattle.ca_spice.specs.Writing.{pin_names, bulk_of, kept_as, IsReadable}
-use Rattle.ca_spice.proofs.SpelledLemmas.{IsSpelled}
-use Rattle.ca_spice.proofs.ShownLemmas.{IsShownText, words_spelled, lines_shown}
-use Rattle.ca_spice.proofs.CardLemmas.{IsNameWord, IsNetAt, IsCard, Extends, net_more, card_more, cards_more, net_name-at, with_name-extends, extends_further, net_placed, card_words, card_params, written_wiring, written_sizes, mos-written, IsMos, IsWired, kept_rule, kept_value, mos_found, wiring_found, sizes_found}
+use Rattle.ca_spice.specs.OpenCell.{OpenCell, with_drain, with_gate, with_source, device_of, with_device, has_device, mos, pins_behind}
+use Rattle.ca_spice.specs.Reading.{is_header, named}
+use Rattle.ca_spice.specs.Writing.{pin_names, bulk_of}
+use Rattle.ca_spice.proofs.SpelledLemmas.{IsSpelled, all_append}
+use Rattle.ca_spice.proofs.CardLemmas.{IsNameWord, IsCard, Extends, net_more, card_more, cards_more, net_name-at, with_name-extends, extends_further, net_placed, card_words, card_params, written_wiring, written_sizes, mos-written, IsWired, kept_rule, kept_value, sizes_found}
 
 -- a subcircuit that is being read
 abbrev pub open_with : ℕ → List ℕ → List Pin → List (List ℕ) → List RawDevice → OpenCell
@@ -147,10 +134,6 @@ again_grown cell_name pins nets devices name wiring sizes again named mos wired 
     steps_push (device_step p_bulk n_bulk all) (open_with line cell_name shown pins []) (open_with line cell_name shown nets devices) (open_with line cell_name shown longer (devices ++ device ∷ []))
     devices device before (read ∙ ap (λ (c : OpenCell). Ok c) same)
 
-cards_push : (nets : List (List ℕ)) (devices : List RawDevice) (device : RawDevice) → AllByRecursion (IsCard nets) devices → IsCard nets device → AllByRecursion (IsCard nets) (devices ++ device ∷ [])
-cards_push nets [] device all is = (is, tt)
-cards_push nets (first ∷ devices) device all is = (all.0, cards_push nets devices device all.1 is)
-
 -- a subcircuit with one device more can be written
 pub writable_grown : (cell_name : List ℕ) (pins nets : List (List ℕ)) (devices : List RawDevice) (name : List ℕ) (wiring : Wiring) (sizes : Sizes)
     → IsWritable cell_name pins nets devices → IsNameWord name → card_of name ≡ card.Mos → IsWired name wiring → sizes_of wiring.params ≡ Some sizes
@@ -162,9 +145,9 @@ writable_grown cell_name pins nets devices name wiring sizes it named mos wired 
       header = it.header;
       spelled = it.spelled;
       distinct = it.distinct;
-      cards = cards_push (with_source wiring nets) devices (device_of name wiring sizes nets)
+      cards = all_append (IsCard (with_source wiring nets)) devices (device_of name wiring sizes nets ∷ [])
           (subst (λ (names : List (List ℕ)). AllByRecursion (IsCard names) devices) (sym grown.is) (cards_more nets grown.more devices it.cards))
-          (new_card name wiring sizes nets named mos wired sized);
+          (new_card name wiring sizes nets named mos wired sized, tt);
       again = again_grown cell_name pins nets devices name wiring sizes it.again named mos wired sized new;
     }
 

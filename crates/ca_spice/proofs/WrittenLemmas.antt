@@ -1,7 +1,6 @@
 -- Lines that were written, as they are read.
-use Rattle.std.proofs.Common.{◌≡◌, ℕ, ◌+◌, Bool, true, false, ◌&&◌, cond, eqb, List, [], ◌∷◌, ◌++◌, length, map, take, drop, Option, Result, Ok, Err, refl, sym, ap, ◌∙◌, subst, arith, append_assoc, codes}
-use Rattle.std.specs.Char.{to_ascii_uppercase}
-use Rattle.std.specs.List.{flat_map, AllByRecursion, list_all, prefix_len}
+use Rattle.std.proofs.Common.{◌≡◌, ℕ, ◌+◌, Bool, true, false, cond, eqb, List, [], ◌∷◌, ◌++◌, map, take, drop, Result, Ok, Err, refl, ap, ◌∙◌, arith, append_assoc, codes}
+use Rattle.std.specs.List.{flat_map, AllByRecursion, prefix_len}
 use Rattle.std.specs.Str.{str_eq_ignore_ascii_case}
 use Rattle.std.proofs.lemmas.List.{append-nil}
 use Rattle.std.proofs.lemmas.Bool.Decides.{nat_tests}
@@ -9,10 +8,8 @@ use Rattle.ca_lex.specs.declared.lines.Line.{Line}
 use Rattle.ca_lex.specs.Words.{is_blank, word_len, with_byte, words_of, upper_case}
 use Rattle.ca_lex.specs.Physical.{lines_of, is_pin_info, without_comment, Physical, Nothing, Continuation, PinInfo, Card, card_of, physical_at, physical_of}
 use Rattle.ca_lex.specs.Lines.{continued, logical_from}
-use Rattle.ca_lex.specs.FirstFault.{steps_from, located}
-use Rattle.ca_spice.specs.declared.fault.SpiceKind.{SpiceKind}
+use Rattle.ca_lex.specs.FirstFault.{steps_from}
 use Rattle.ca_spice.specs.declared.fault.SpiceFault.{SpiceFault}
-use Rattle.ca_spice.specs.declared.fault.SpiceFault.TheVariants.{At}
 use Rattle.ca_spice.specs.Names.{is_text_byte, is_text}
 use Rattle.ca_spice.specs.Reading.{Reading, Step, words_step, line_step, at_line, lines_from}
 use Rattle.ca_spice.specs.Writing.{spaced, line_of}

@@ -1,5 +1,5 @@
 -- The text of a cell as a cell netlist.
-use Rattle.std.specs.Prelude.{ℕ, ◌≡◌, Bool, List, [], ◌∷◌, ◌++◌, map, flat_map, codes, decimal, find, Contains, Option, option_map, unwrap_or, slice_get, Ok}
+use Rattle.std.specs.Prelude.{ℕ, ◌≡◌, Bool, List, [], ◌∷◌, ◌++◌, map, flat_map, codes, decimal, find, Contains, option_map, unwrap_or, slice_get, Ok}
 use Rattle.ca_net.specs.declared.device.DeviceKind.{DeviceKind}
 use Rattle.ca_net.specs.declared.device.DeviceKind.TheVariants as kind
 use Rattle.ca_lex.specs.Words.{upper_case}
