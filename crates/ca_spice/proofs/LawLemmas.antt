@@ -1,9 +1,9 @@
 -- The first faulty line.
-use Rattle.std.proofs.Common.{◌≡◌, ℕ, List, Bool, true, false, cond, [], ◌∷◌, ◌++◌, Option, Some, None, Result, Ok, Err, refl, sym, ap, ◌∙◌, inl, inr, ◌⊎◌, length}
+use Rattle.std.proofs.Common.{◌≡◌, ℕ, List, Bool, true, false, cond, Option, Some, None, Result, Ok, Err, refl, sym, ap, ◌∙◌, inl, inr, length}
 use Rattle.std.specs.Prelude.{nat_lt}
 use Rattle.ca_lex.specs.declared.lines.Line.{Line}
 use Rattle.ca_lex.specs.Lines.{spice_lines}
-use Rattle.ca_lex.specs.FirstFault.{steps_from, located, IsFirstFault}
+use Rattle.ca_lex.specs.FirstFault.{located, IsFirstFault}
 use Rattle.ca_lex.proofs.FirstFaultLemmas as first
 use Rattle.ca_cell.specs.declared.library.TheConstants.{MOST_CELLS}
 use Rattle.ca_spice.specs.declared.fault.SpiceKind.{SpiceKind}
@@ -13,7 +13,7 @@ use Rattle.ca_spice.specs.declared.fault.SpiceFault.TheVariants.{At, TooManyCell
 use Rattle.ca_spice.specs.declared.subcircuit.Subcircuit.{Subcircuit}
 use Rattle.ca_spice.specs.OpenCell.{OpenCell}
 use Rattle.ca_spice.specs.Reading.{Reading, Step, nothing, line_step, at_line, lines_from, limited, library_from, library_of}
-use Rattle.ca_spice.specs.Laws.{BreaksRule, IsUnended, IsFirstFaulty}
+use Rattle.ca_spice.specs.Laws.{IsFirstFaulty}
 
 -- a located step that has a fault has it at its line
 broken_at : (here : Line) (line : ℕ) (kind : SpiceKind) (step : Step)

@@ -7,3 +7,13 @@ pub mod ReadingLemmas
 pub mod PinLemmas
 pub mod LibraryLemmas
 pub mod CalledLemmas
+pub mod SpelledLemmas
+pub mod ShownLemmas
+pub mod SizeLemmas
+pub mod WrittenLemmas
+pub mod CardLemmas
+pub mod WritableLemmas
+pub mod ReadableLemmas
+pub mod RoleLemmas
+pub mod RoundTripLemmas
+pub mod FoundLemmas

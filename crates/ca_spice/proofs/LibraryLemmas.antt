@@ -1,6 +1,6 @@
 -- Subcircuits of different names make a library.
-use Rattle.std.proofs.Common.{◌≡◌, ℕ, suc, zero, ◌+◌, ◌<◌, ◌≤◌, List, Bool, true, false, cond, [], ◌∷◌, ◌++◌, length, map, take, get_or, Some, None, refl, sym, ◌∙◌, ap, subst, arith, true≢false, ◌||◌}
-use Rattle.std.specs.Prelude.{Option, IsSome, IsNone}
+use Rattle.std.proofs.Common.{◌≡◌, ℕ, suc, zero, ◌<◌, List, Bool, true, false, cond, [], ◌∷◌, ◌++◌, length, map, take, get_or, Some, None, refl, sym, ◌∙◌, ap, subst, arith, true≢false, ◌||◌}
+use Rattle.std.specs.Prelude.{Option, IsSome}
 use Rattle.std.specs.Str.{bytes_eq}
 use Rattle.std.specs.List.{IsDistinct, AllByRecursion, All}
 use Rattle.std.proofs.lemmas.List.{map-append, length-map, get_or-map, take-map}

@@ -1,6 +1,6 @@
 -- What is left behind the last triple of words.
-use Rattle.std.proofs.Common.{◌≡◌, ℕ, ◌<◌, List, [], ◌∷◌, length, None, false, true, arith, refl}
-use Rattle.std.specs.Prelude.{Bool, ◌==◌}
+use Rattle.std.proofs.Common.{◌≡◌, ℕ, ◌<◌, List, [], ◌∷◌, length, None, arith, refl}
+use Rattle.std.specs.Prelude.{◌==◌}
 use denote.Bor.{Bor}
 use Rattle.ca_spice.specs.Names.{texts}
 use Rattle.ca_spice.specs.Mos.{are_params, count_of, value_of}

@@ -1,8 +1,8 @@
 -- A set of names is looked up as the list of its names.
-use Rattle.std.proofs.Common.{◌≡◌, ℕ, ◌+◌, ◌<◌, ◌≤◌, List, Bool, true, false, cond, not, ltb, [], ◌∷◌, ◌++◌, length, map, Some, None, Vec, Global, refl, sym, ◌∙◌, ap, subst, arith, length-append, ◌||◌}
-use Rattle.std.specs.Prelude.{Option, if◌then◌else◌, position, nat_lt}
+use Rattle.std.proofs.Common.{◌≡◌, ℕ, ◌+◌, List, Bool, true, false, cond, not, [], ◌∷◌, ◌++◌, length, map, Some, None, Vec, Global, refl, sym, ◌∙◌, ap, ◌||◌}
+use Rattle.std.specs.Prelude.{position, nat_lt}
 use Rattle.std.specs.Str.{bytes_eq}
-use Rattle.std.specs.List.{list_any, prefix_len, position_or_len, IsDistinct, AllByRecursion}
+use Rattle.std.specs.List.{list_any, position_or_len, IsDistinct, AllByRecursion}
 use Rattle.std.proofs.lemmas.List.{map-append, length-map}
 use Rattle.indexmap.specs.IndexSet.{insert_key}
 use Rattle.ca_spice.specs.Names.{has_name, place_of, with_name, place_with}

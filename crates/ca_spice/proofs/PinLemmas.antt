@@ -13,14 +13,14 @@ use Rattle.ca_spice.specs.declared.fault.SpiceKind.{SpiceKind}
 use Rattle.ca_spice.specs.declared.fault.SpiceKind.TheVariants.{BadCard, BadRole}
 use Rattle.ca_spice.specs.declared.pin.Pin.{Pin}
 use Rattle.ca_spice.specs.Names.{is_name, texts, place_of}
-use Rattle.ca_spice.specs.PinInfo.{colon_place, pin_part, role_part, is_pin_word, are_pin_words, role_of, with_role, role_step, pin_info}
+use Rattle.ca_spice.specs.PinInfo.{colon_place, pin_part, is_pin_word, are_pin_words, role_of, with_role, role_step, pin_info}
 
 -- both sides of a test that is true are true
-left_true : (left right : Bool) → (left && right) ≡ true → left ≡ true
+pub left_true : (left right : Bool) → (left && right) ≡ true → left ≡ true
 left_true true right all = refl
 left_true false right all = absurd cc
 
-right_true : (left right : Bool) → (left && right) ≡ true → right ≡ true
+pub right_true : (left right : Bool) → (left && right) ≡ true → right ≡ true
 right_true true right all = all
 right_true false right all = absurd cc
 

@@ -1,5 +1,5 @@
 -- Cards, and what they make of a reading.
-use Rattle.std.proofs.Common.{◌≡◌, ℕ, ◌≤◌, List, Bool, true, false, [], ◌∷◌, ◌++◌, length, map, get_or, Option, Some, None, Result, Ok, Err, refl, sym, ap, ◌∙◌, ◌||◌, append-nil, zero-add, arith, subst, cond}
+use Rattle.std.proofs.Common.{◌≡◌, ℕ, ◌≤◌, List, Bool, true, false, [], ◌∷◌, ◌++◌, length, get_or, Option, Some, None, Result, Ok, Err, sym, ap, ◌∙◌, ◌||◌, append-nil, zero-add, arith, subst, cond}
 use Rattle.std.specs.Prelude.{option_map}
 use Rattle.std.specs.List.{All}
 use Rattle.std.specs.Prelude.{IsErrAnd}
@@ -19,7 +19,7 @@ use Rattle.ca_spice.specs.Names.{texts, has_name, with_name, has_double}
 use Rattle.ca_spice.specs.Mos.{Wiring, Sizes, wiring_of, sizes_of}
 use Rattle.ca_spice.specs.OpenCell.{OpenCell, new_cell, has_device, with_device, wired, mos, pins_behind}
 use Rattle.ca_spice.specs.SpiceFault.{kind_told}
-use Rattle.ca_spice.specs.Reading.{Reading, Step, is_outside, has_cell, with_open, named}
+use Rattle.ca_spice.specs.Reading.{Reading, is_outside, has_cell, with_open, named}
 use Rattle.ca_spice.specs.Kept.{IsPlaced, IsUpper, names_of}
 use Rattle.ca_spice.specs.Named.{open_names}
 use Rattle.ca_spice.specs.Views.{cell_seen}

@@ -1,5 +1,5 @@
 -- The words of a text in upper case are in upper case.
-use Rattle.std.proofs.Common.{◌≡◌, ℕ, eqb, List, Bool, true, false, cond, [], ◌∷◌, map, refl, ◌∙◌, ap}
+use Rattle.std.proofs.Common.{◌≡◌, ℕ, List, Bool, true, false, cond, [], ◌∷◌, refl, ◌∙◌, ap}
 use Rattle.std.specs.Prelude.{◌==◌}
 use Rattle.std.specs.Char.{to_ascii_uppercase}
 use Rattle.std.specs.List.{All}

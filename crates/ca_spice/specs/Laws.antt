@@ -1,5 +1,5 @@
 -- The first faulty line of a text, in a reader's words.
-use Rattle.std.specs.Prelude.{ℕ, ◌≡◌, ◌⊎◌, List, [], ◌∷◌, ◌++◌, Option, Some, Result, Ok, Err}
+use Rattle.std.specs.Prelude.{ℕ, ◌≡◌, ◌⊎◌, List, ◌∷◌, ◌++◌, Some, Ok, Err}
 use Rattle.ca_lex.specs.declared.lines.Line.{Line}
 use Rattle.ca_lex.specs.Lines.{spice_lines}
 use Rattle.ca_spice.specs.declared.fault.SpiceKind.{SpiceKind}

@@ -11,3 +11,4 @@ pub mod Kept
 pub mod Named
 pub mod Views
 pub mod Laws
+pub mod Writing

@@ -1,5 +1,5 @@
 -- The roles of pins: words PIN:ROLE behind *.PININFO.
-use Rattle.std.specs.Prelude.{ℕ, ◌+◌, ◌==◌, nat_lt, Bool, not, false, true, ◌&&◌, if◌then◌else◌, List, [], ◌∷◌, codes, length, take, drop, slice_get, slice_set, Option, Some, None, is_some, Result, Ok, Err}
+use Rattle.std.specs.Prelude.{ℕ, ◌+◌, ◌==◌, nat_lt, Bool, not, false, ◌&&◌, if◌then◌else◌, List, [], ◌∷◌, codes, length, take, drop, slice_get, slice_set, Option, Some, None, is_some, Result, Ok, Err}
 use Rattle.std.specs.List.{list_all}
 use Rattle.std.specs.Str.{bytes_eq}
 use Rattle.ca_lex.specs.FirstFault.{steps_from}

@@ -1,6 +1,5 @@
 -- Why a text gives no library.
-use Rattle.std.specs.Prelude.{Option, Some, None, Result}
-use Rattle.ca_lex.specs.Reading as reading
+use Rattle.std.specs.Prelude.{Option, Some, None}
 use Rattle.ca_spice.specs.declared.fault.SpiceKind.{SpiceKind}
 use Rattle.ca_spice.specs.declared.fault.SpiceFault.{SpiceFault}
 use Rattle.ca_spice.specs.declared.fault.SpiceFault.TheVariants.{At, TooManyCells, NoMemory}

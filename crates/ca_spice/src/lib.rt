@@ -1,4 +1,4 @@
-//! Cell netlists: the library that a text reads as, or its first faulty line.
+//! Cell netlists: the library that a text reads as, or its first faulty line, and the text of a cell.
 #![tactic(auto)]
 
 mod card;
@@ -15,7 +15,9 @@ mod reading;
 mod subcircuit;
 #[cfg(test)]
 mod tests;
+mod writing;
 
 pub use fault::{SpiceFault, SpiceKind};
-pub use laws::first_faulty_line;
+pub use laws::{first_faulty_line, found_cell};
 pub use library::read_library;
+pub use writing::write_cell;

@@ -3,3 +3,4 @@
 mod faults;
 mod row_library;
 mod sizes;
+mod writing;

@@ -1,11 +1,13 @@
 //! The row library: seven cells, with their pins, nets and devices worked out by hand.
 
+use super::writing::rewritten;
 use crate::*;
 use DeviceKind::{N, P};
 use Role::{Ground, Input, Output, Power};
 use ca_cell::{Entry, Library, RawCell, RawDevice, RawPin, Role};
 use ca_lex::{Length, Text};
 use ca_net::{DeviceKind, STRONG, WEAK};
+use std::test::Fail;
 
 /// The text of the row library.
 const ROW_LIBRARY: &[u8] = b"* row library
@@ -582,4 +584,17 @@ fn row_library_reads(rt: HostRuntime) {
     for (i, cell) in [INV, NAND2, NOR2, AND2, TG, PSN, FA28].iter().enumerate() {
         assert!(rt; has_cell(&library, *cell), "cell {i}");
     }
+}
+
+#[test]
+fn row_library_is_written_and_read_again(rt: HostRuntime) -> Result<(), Fail> {
+    for (i, cell) in [INV, NAND2, NOR2, AND2, PSN, FA28].iter().enumerate() {
+        let text = rewritten(rt.alloc(), ROW_LIBRARY, cell.name)?;
+        let library = read_library(rt.alloc(), text.as_bytes())
+            .ok()
+            .ok_or("the text reads")?;
+        assert_eq!(rt; library.len(), 1);
+        assert!(rt; has_cell(&library, *cell), "cell {i}");
+    }
+    Ok(())
 }

@@ -1,4 +1,4 @@
-use Rattle.std.proofs.Common.{◌≡◌, ◌<◌, ◌∙◌, ℕ, List, map, length, get_or, take, sym, subst, ap, arith, map-id}
+use Rattle.std.proofs.Common.{◌≡◌, ◌<◌, ◌∙◌, map, length, get_or, take, sym, subst, ap, map-id}
 use Rattle.std.specs.List.{All}
 use Rattle.std.proofs.lemmas.List.Elements.{All-push}
 use Rattle.std.proofs.lemmas.Iterator.Adapters.{YieldsList-from_vec}
@@ -9,7 +9,7 @@ use Rattle.ca_spice.specs.declared.subcircuit.Subcircuit.{Subcircuit}
 use Rattle.ca_spice.specs.Kept.{IsPlacedCell}
 use Rattle.ca_spice.specs.Views.{subcircuit_seen}
 use Rattle.ca_spice.proofs.CellLemmas.{IsPlaced-IsRaw}
-use Rattle.ca_spice.proofs.LibraryLemmas.{at_turn, upper_at, seen_grown, not_added, count_added}
+use Rattle.ca_spice.proofs.LibraryLemmas.{at_turn, upper_at, seen_grown, not_added}
 use Rattle.ca_spice.proofs.library.entries_of.Goals as goal
 
 pub of-requires : goal.of-requires

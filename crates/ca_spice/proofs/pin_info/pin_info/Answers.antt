@@ -1,11 +1,10 @@
 use Rattle.std.proofs.Common.{◌≡◌, ◌∙◌, refl, sym, subst, Result, List, true}
-use Rattle.ca_lex.specs.FirstFault.{steps_from}
 use Rattle.ca_lex.specs.Reading.{IsFault}
 use Rattle.ca_spice.specs.declared.fault.SpiceKind.{SpiceKind}
 use Rattle.ca_spice.specs.declared.pin.Pin.{Pin}
 use Rattle.ca_spice.specs.SpiceFault.{kind_told}
 use Rattle.ca_spice.specs.Names.{texts}
-use Rattle.ca_spice.specs.PinInfo.{are_pin_words, role_step, pin_info}
+use Rattle.ca_spice.specs.PinInfo.{are_pin_words}
 use Rattle.ca_spice.proofs.PinLemmas.{all_words, first_within, behind_are, behind_goes_on, behind_stops, rest_ends, pin_info-steps}
 use Rattle.ca_spice.proofs.pin_info.pin_info.Goals as goal
 

@@ -1,4 +1,4 @@
-use Rattle.std.proofs.Common.{◌≡◌, ◌∙◌, sym, subst, Some, Result, List}
+use Rattle.std.proofs.Common.{◌≡◌, ◌∙◌, sym, subst, Result, List}
 use Rattle.std.specs.Prelude.{slice_get}
 use Rattle.ca_lex.specs.Reading.{Steps}
 use Rattle.ca_spice.specs.declared.fault.SpiceKind.{SpiceKind}

@@ -1,5 +1,4 @@
-use Rattle.std.proofs.Common.{◌≡◌, ◌∷◌, ◌++◌, [], List, map, ℕ, ap, ◌∙◌}
-use Rattle.ca_cell.specs.declared.raw.RawDevice.{RawDevice}
+use Rattle.std.proofs.Common.{◌≡◌, ◌∷◌, ◌++◌, [], map, ap, ◌∙◌}
 use Rattle.ca_spice.specs.Names.{with_name, place_with}
 use Rattle.ca_spice.specs.OpenCell.{device_of, with_source}
 use Rattle.ca_spice.specs.Views.{wiring_seen, sizes_seen}

@@ -1,4 +1,4 @@
-use Rattle.std.proofs.Common.{◌≡◌, ◌∙◌, List, ℕ, sym, subst, ap}
+use Rattle.std.proofs.Common.{◌≡◌, ◌∙◌, sym, subst, ap}
 use Rattle.std.specs.List.{All}
 use Rattle.ca_lex.specs.Words.{words_of, upper_case}
 use Rattle.ca_spice.specs.Names.{texts}

@@ -1,0 +1,369 @@
+-- A cell that was written is read as that cell alone.
+use Rattle.std.proofs.Common.{◌≡◌, ℕ, ◌+◌, ◌^◌, ◌<◌, ◌≤◌, ◌⊎◌, inl, inr, Bool, true, false, ◌&&◌, ◌||◌, not, cond, eqb, List, [], ◌∷◌, ◌++◌, length, map, Option, Some, None, Result, Ok, Err, refl, sym, ap, ◌∙◌, subst, arith, append_assoc, codes}
+use Rattle.std.specs.Prelude.{IfOk, find, unwrap_or, option_map}
+use Rattle.std.specs.List.{flat_map, AllByRecursion, list_all}
+use Rattle.std.specs.Str.{bytes_eq}
+use Rattle.std.proofs.lemmas.List.{append-nil}
+use Rattle.std.proofs.lemmas.List.Sums.{sum_by-cons}
+use Rattle.std.proofs.lemmas.Bool.{eqb-true}
+use Rattle.ca_net.specs.declared.device.DeviceKind.{DeviceKind}
+use Rattle.ca_net.specs.declared.device.DeviceKind.TheVariants as kind
+use Rattle.ca_lex.specs.Words.{words_of, upper_case}
+use Rattle.ca_lex.specs.Physical.{lines_of, physical_of, PinInfo, Card}
+use Rattle.ca_lex.specs.Lines.{continued, logical_from, spice_lines}
+use Rattle.ca_lex.specs.FirstFault.{steps_from}
+use Rattle.ca_lex.specs.Reading.{unless}
+use Rattle.ca_cell.specs.declared.raw.Role.{Role}
+use Rattle.ca_cell.specs.declared.raw.RawPin.{RawPin}
+use Rattle.ca_cell.specs.declared.raw.RawDevice.{RawDevice}
+use Rattle.ca_cell.specs.declared.raw.RawCell.{RawCell}
+use Rattle.ca_cell.specs.declared.rule.CellRule.TheVariants.{NoRail}
+use Rattle.ca_cell.specs.Raw.{is_power, is_ground, role_count}
+use Rattle.ca_cell.specs.Rules.{KeepsRules}
+use Rattle.ca_spice.specs.declared.card.Card as cards
+use Rattle.ca_spice.specs.declared.card.Card.TheVariants as card
+use Rattle.ca_spice.specs.declared.fault.SpiceKind.{SpiceKind}
+use Rattle.ca_spice.specs.declared.fault.SpiceKind.TheVariants.{NotText, BadCard, DoubleName}
+use Rattle.ca_spice.specs.declared.fault.SpiceFault.{SpiceFault}
+use Rattle.ca_spice.specs.declared.pin.Pin.{Pin}
+use Rattle.ca_spice.specs.declared.subcircuit.Subcircuit.{Subcircuit}
+use Rattle.ca_spice.specs.Names.{is_text, has_double}
+use Rattle.ca_spice.specs.Card.{card_by_letter, is_ignored, card_of}
+use Rattle.ca_spice.specs.PinInfo as info
+use Rattle.ca_spice.specs.OpenCell.{OpenCell, new_cell, has_roles, pin_info, mos, subcircuit_with, ended}
+use Rattle.ca_spice.specs.Reading.{Reading, nothing, is_outside, with_open, is_header_word, is_header, named, subckt, in_cell, goes_on, with_cell, ends, card_step, is_comment, judged, words_step, lines_from, library_from, library_of}
+use Rattle.ca_spice.specs.Writing.{spaced, line_of, pin_names, pin_word, rail_name, bulk_of, model_of, size_word, device_words, device_line, cell_text, kept_as, IsReadable}
+use Rattle.ca_spice.proofs.PinLemmas.{left_true, right_true}
+use Rattle.ca_spice.proofs.SpelledLemmas.{HasNoComment, IsSpelled}
+use Rattle.ca_spice.proofs.SizeLemmas.{value_shown, value_text, width_words, channel_words}
+use Rattle.ca_spice.proofs.WrittenLemmas.{IsChunk, chunk_of, chunks_of, body, body_shown, first_line, line_words, spelled_alone, spelled_words, card_line, roles_line, read_on, BeginsAnew, anew_at_card, anew_at_roles, card_read, roles_read}
+use Rattle.ca_spice.proofs.CardLemmas.{IsNameWord, IsSize, IsCard, net_named, card_words}
+use Rattle.ca_spice.proofs.WritableLemmas.{open_with, device_step, IsWritable, first_step, bulk_named}
+use Rattle.ca_spice.proofs.ReadableLemmas.{readable_writable}
+use Rattle.ca_spice.proofs.RoleLemmas.{IsPinName, name_of, with_its_role, roles_read_again, pins_again, pin_chunks, pin_words, pin_texts}
+
+-- the bytes of words that are spelled may stand in words
+spelled_texts : (words : List (List ℕ)) → AllByRecursion IsSpelled words → list_all is_text words ≡ true
+spelled_texts [] all = refl
+spelled_texts (word ∷ words) all = λ j. all.0.text j && spelled_texts words all.1 j
+
+-- the words of a header are names
+pin_named : (names : List (List ℕ)) → AllByRecursion IsSpelled names → list_all is_header_word names ≡ true → AllByRecursion IsPinName names
+pin_named [] all header = tt
+pin_named (name ∷ names) all header = (
+  record { spelled = all.0; header = left_true (is_header_word name) (list_all is_header_word names) header },
+  pin_named names all.1 (right_true (is_header_word name) (list_all is_header_word names) header),
+)
+
+pins_of_header : (name : List ℕ) (pins : List (List ℕ)) → is_header (name ∷ pins) ≡ true → AllByRecursion IsSpelled pins → AllByRecursion IsPinName pins
+pins_of_header name [] header all = tt
+pins_of_header name (pin ∷ pins) header all = pin_named (pin ∷ pins) all (right_true (is_header_word name) (list_all is_header_word (pin ∷ pins)) header)
+
+some_pins : (name : List ℕ) (pins : List RawPin) → is_header (name ∷ pin_names pins) ≡ true → 1 ≤ length pins
+some_pins name [] header = absurd cc
+some_pins name (pin ∷ pins) header = omega arith
+
+-- a role that some pin has gives the name of a pin
+rail_named : (is_role : Role → Bool) (pins : List RawPin) → AllByRecursion IsPinName (pin_names pins) → (role_count is_role pins ≡ 0 → ⊥) → IsNameWord (rail_name is_role pins)
+rail_named is_role [] all some = absurd (some refl)
+rail_named is_role (pin ∷ pins) all some = by (is_role pin.role) refl (rail_named is_role pins all.1)
+  where
+    counted : is_role pin.role ≡ false → role_count is_role pins ≡ 0 → role_count is_role (pin ∷ pins) ≡ 0
+    counted none zero_is =
+        sum_by-cons (λ (p : RawPin). cond (is_role p.role) 1 0) pin pins
+        ∙ ap (λ (x : Bool). cond x 1 0 + role_count is_role pins) none ∙ omega (arith, zero_is)
+
+    by : (has : Bool) → is_role pin.role ≡ has → ((role_count is_role pins ≡ 0 → ⊥) → IsNameWord (rail_name is_role pins))
+        → IsNameWord (unwrap_or (option_map (λ (p : RawPin). p.name) (cond has (Some pin) (find (λ (p : RawPin). is_role p.role) pins))) [])
+    by true has later = record { spelled = all.0.spelled; name = name_of pin.name all.0 }
+    by false has later = later (λ (none : role_count is_role pins ≡ 0). some (counted has none))
+
+-- the name of a transistor begins with M
+record BeginsM (word : List ℕ) : Type 0 where
+  more : List ℕ
+  is : word ≡ 77 ∷ more
+
+begins_m : (word : List ℕ) → card_of word ≡ card.Mos → BeginsM word
+unfolding card_of card_by_letter is_ignored
+begins_m [] is = absurd cc
+begins_m (letter ∷ word) is =
+    by (bytes_eq (letter ∷ word) (codes ".SUBCKT")) (bytes_eq (letter ∷ word) (codes ".ENDS")) (bytes_eq (letter ∷ word) (codes "*.PININFO")) (is_ignored (letter ∷ word))
+    (eqb letter 77) (eqb letter 67 || eqb letter 68) (eqb letter 43) refl is
+  where
+    by : (header end roles ignored m other plus : Bool) → eqb letter 77 ≡ m
+        → cond header card.Subckt (cond end card.Ends (cond roles card.PinInfo (cond ignored card.Ignored
+        (cond m card.Mos (cond other card.Ignored (cond plus card.Stray card.Unknown)))))) ≡ card.Mos → BeginsM (letter ∷ word)
+    by true end roles ignored m other plus m_is is = absurd cc
+    by false true roles ignored m other plus m_is is = absurd cc
+    by false false true ignored m other plus m_is is = absurd cc
+    by false false false true m other plus m_is is = absurd cc
+    by false false false false true other plus m_is is = record { more = word; is = ap (λ (l : ℕ). l ∷ word) (eqb-true letter 77 m_is) }
+    by false false false false false true plus m_is is = absurd cc
+    by false false false false false false true m_is is = absurd cc
+    by false false false false false false false m_is is = absurd cc
+
+mos_line : (name more : List ℕ) → card_of name ≡ card.Mos → HasNoComment true (name ++ more) → physical_of (name ++ more) ≡ Card (name ++ more)
+mos_line name more is shown =
+    let it = begins_m name is in
+    let P : List ℕ → Type 0 = λ text. HasNoComment true (text ++ more) → physical_of (text ++ more) ≡ Card (text ++ more) in
+    (subst P (sym it.is) (card_line 77 (it.more ++ more) refl refl refl)) shown
+
+-- the model of a device is a word
+model_spelled : (k : DeviceKind) → (k ≡ kind.P) ⊎ (k ≡ kind.N) → IsSpelled (model_of k)
+model_spelled k (inl is) =
+    subst (λ (k : DeviceKind). IsSpelled (model_of k)) (sym is) (record { one = inr (refl, (refl, (refl, tt))); shown = (refl, (refl, (refl, tt))); upper = refl; text = refl })
+model_spelled k (inr is) =
+    subst (λ (k : DeviceKind). IsSpelled (model_of k)) (sym is) (record { one = inr (refl, (refl, (refl, tt))); shown = (refl, (refl, (refl, tt))); upper = refl; text = refl })
+
+few : (size : ℕ) → IsSize size → size < 10 ^ 64
+few size it = omega (arith, it.most)
+
+width_chunk : (size : ℕ) → IsSize size → IsChunk (size_word (codes "W=") size)
+width_chunk size it = record {
+  shown = (refl, (refl, value_shown size (few size it)));
+  text = λ j. true && (true && value_text size (codes "e-18") (few size it) refl j);
+}
+
+channel_chunk : (size : ℕ) → IsSize size → IsChunk (size_word (codes "L=") size)
+channel_chunk size it = record {
+  shown = (refl, (refl, value_shown size (few size it)));
+  text = λ j. true && (true && value_text size (codes "e-18") (few size it) refl j);
+}
+
+device_chunks : (nets : List (List ℕ)) (bulk : List ℕ) (device : RawDevice) → IsCard nets device → IsNameWord bulk → AllByRecursion IsChunk (device_words nets bulk device)
+device_chunks nets bulk device it bulk_is = (
+  chunk_of _ (net_named nets device.drain it.drain).spelled,
+  (
+    chunk_of _ (net_named nets device.gate it.gate).spelled,
+    (
+      chunk_of _ (net_named nets device.source it.source).spelled,
+      (chunk_of _ bulk_is.spelled, (chunk_of _ (model_spelled device.kind it.kind), (width_chunk device.width.0 it.width, (channel_chunk device.length.0 it.channel, tt)))),
+    ),
+  ),
+)
+
+-- the words of an M card that was written
+device_read : (nets : List (List ℕ)) (bulk : List ℕ) (device : RawDevice) → IsCard nets device → IsNameWord bulk
+    → words_of (upper_case (body device.name (device_words nets bulk device))) ≡ device.name ∷ card_words nets bulk device
+device_read nets bulk device it bulk_is =
+    let name = spelled_alone device.name it.named.spelled in
+    let drain = spelled_alone _ (net_named nets device.drain it.drain).spelled in
+    let gate = spelled_alone _ (net_named nets device.gate it.gate).spelled in
+    let source = spelled_alone _ (net_named nets device.source it.source).spelled in
+    let rail = spelled_alone bulk bulk_is.spelled in
+    let model = spelled_alone _ (model_spelled device.kind it.kind) in
+    let width = width_words device.width.0 (few device.width.0 it.width) in
+    let channel = channel_words device.length.0 (few device.length.0 it.channel) in
+    line_words device.name (device_words nets bulk device)
+    ∙ (λ j. name j ++ (drain j ++ (gate j ++ (source j ++ (rail j ++ (model j ++ (width j ++ (channel j ++ []))))))))
+
+device_texts : (nets : List (List ℕ)) (bulk : List ℕ) (device : RawDevice) → IsCard nets device → IsNameWord bulk → list_all is_text (device.name ∷ card_words nets bulk device) ≡ true
+device_texts nets bulk device it bulk_is =
+    let drain = (net_named nets device.drain it.drain).spelled.text in
+    let gate = (net_named nets device.gate it.gate).spelled.text in
+    let source = (net_named nets device.source it.source).spelled.text in
+    let model = (model_spelled device.kind it.kind).text in
+    let width = value_text device.width.0 (codes "E-18") (few device.width.0 it.width) refl in
+    let channel = value_text device.length.0 (codes "E-18") (few device.length.0 it.channel) refl in
+    λ j. it.named.spelled.text j && (drain j && (gate j && (source j && (bulk_is.spelled.text j && (model j && (true && (true && (width j && (true && (true && (channel j && true)))))))))))
+
+-- the words of an M card make what its step makes
+mos_made : (number : ℕ) (word : List ℕ) (words : List (List ℕ)) (reading : Reading) (cell next : OpenCell) → card_of word ≡ card.Mos → list_all is_text (word ∷ words) ≡ true
+    → mos word words cell ≡ Ok next → words_step number (word ∷ words) (with_open reading cell) ≡ Ok (with_open reading next)
+unfolding words_step card_step
+mos_made number word words reading cell next is text read =
+    ap (λ (k : cards.Card). cond (is_comment k (with_open reading cell)) (Ok (with_open reading cell)) (judged k number word words (with_open reading cell))) is
+    ∙ ap (λ (x : Bool). unless (not x) NotText (in_cell (mos word words) (with_open reading cell))) text
+    ∙ ap (goes_on (with_open reading cell)) read
+
+-- the text of a device's line is its first line
+device_first : (p_bulk n_bulk : List ℕ) (nets : List (List ℕ)) (device : RawDevice) (rest : List ℕ) → IsCard nets device → IsNameWord p_bulk → IsNameWord n_bulk
+    → lines_of (device_line p_bulk n_bulk nets device ++ rest) ≡ body device.name (device_words nets (bulk_of p_bulk n_bulk device.kind) device) ∷ lines_of rest
+device_first p_bulk n_bulk nets device rest it p_is n_is =
+    let bulk = bulk_named p_bulk n_bulk device.kind it.kind p_is n_is in
+    first_line device.name (device_words nets (bulk_of p_bulk n_bulk device.kind) device) rest (chunk_of device.name it.named.spelled)
+    (device_chunks nets (bulk_of p_bulk n_bulk device.kind) device it bulk)
+
+device_physical : (p_bulk n_bulk : List ℕ) (nets : List (List ℕ)) (device : RawDevice) → IsCard nets device → IsNameWord p_bulk → IsNameWord n_bulk
+    → physical_of (body device.name (device_words nets (bulk_of p_bulk n_bulk device.kind) device)) ≡ Card (body device.name (device_words nets (bulk_of p_bulk n_bulk device.kind) device))
+device_physical p_bulk n_bulk nets device it p_is n_is =
+    let bulk = bulk_named p_bulk n_bulk device.kind it.kind p_is n_is in
+    mos_line device.name (flat_map spaced (device_words nets (bulk_of p_bulk n_bulk device.kind) device)) it.mos
+    (body_shown device.name (device_words nets (bulk_of p_bulk n_bulk device.kind) device) (chunk_of device.name it.named.spelled)
+    (device_chunks nets (bulk_of p_bulk n_bulk device.kind) device it bulk))
+
+devices_anew : (p_bulk n_bulk : List ℕ) (nets : List (List ℕ)) (devices : List RawDevice) (rest : List ℕ) → AllByRecursion (IsCard nets) devices → IsNameWord p_bulk → IsNameWord n_bulk
+    → BeginsAnew rest → BeginsAnew (flat_map (device_line p_bulk n_bulk nets) devices ++ rest)
+devices_anew p_bulk n_bulk nets [] rest all p_is n_is anew = anew
+devices_anew p_bulk n_bulk nets (device ∷ devices) rest all p_is n_is anew =
+    let behind : List ℕ = flat_map (device_line p_bulk n_bulk nets) devices ++ rest in
+    subst BeginsAnew (sym (append_assoc (device_line p_bulk n_bulk nets device) (flat_map (device_line p_bulk n_bulk nets) devices) rest))
+    (anew_at_card (device_line p_bulk n_bulk nets device ++ behind) (body device.name (device_words nets (bulk_of p_bulk n_bulk device.kind) device)) (lines_of behind)
+    (device_first p_bulk n_bulk nets device behind all.0 p_is n_is) (device_physical p_bulk n_bulk nets device all.0 p_is n_is))
+
+-- the lines of devices make what their steps make
+devices_read : (p_bulk n_bulk : List ℕ) (nets : List (List ℕ)) (devices : List RawDevice) (rest : List ℕ) (reading : Reading) (last : OpenCell) (total : Result Reading SpiceFault)
+    → IsNameWord p_bulk → IsNameWord n_bulk → BeginsAnew rest → ((number : ℕ) (follows : Bool) → read_on (with_open reading last) number follows rest ≡ total)
+    → (cell : OpenCell) → steps_from (device_step p_bulk n_bulk nets) cell devices ≡ Ok last → AllByRecursion (IsCard nets) devices
+    → (number : ℕ) (follows : Bool) → read_on (with_open reading cell) number follows (flat_map (device_line p_bulk n_bulk nets) devices ++ rest) ≡ total
+unfolding steps_from
+devices_read p_bulk n_bulk nets [] rest reading last total p_is n_is anew ends_so cell read all number follows =
+    let same : cell ≡ last = cc in
+    ap (λ (c : OpenCell). read_on (with_open reading c) number follows rest) same ∙ ends_so number follows
+devices_read p_bulk n_bulk nets (device ∷ devices) rest reading last total p_is n_is anew ends_so cell read all number follows =
+    let first = first_step (device_step p_bulk n_bulk nets) cell last device devices read in
+    let bulk = bulk_named p_bulk n_bulk device.kind all.0.kind p_is n_is in
+    let chosen : List ℕ = bulk_of p_bulk n_bulk device.kind in
+    let behind : List ℕ = flat_map (device_line p_bulk n_bulk nets) devices ++ rest in
+    let made : words_step number (words_of (upper_case (body device.name (device_words nets chosen device)))) (with_open reading cell) ≡ Ok (with_open reading first.next) =
+    ap (λ (words : List (List ℕ)). words_step number words (with_open reading cell)) (device_read nets chosen device all.0 bulk)
+    ∙ mos_made number device.name (card_words nets chosen device) reading cell first.next all.0.mos (device_texts nets chosen device all.0 bulk) first.stepped in
+    ap (read_on (with_open reading cell) number follows) (append_assoc (device_line p_bulk n_bulk nets device) (flat_map (device_line p_bulk n_bulk nets) devices) rest)
+    ∙ card_read (with_open reading cell) (with_open reading first.next) number follows (device_line p_bulk n_bulk nets device ++ behind)
+    (body device.name (device_words nets chosen device)) behind (device_first p_bulk n_bulk nets device behind all.0 p_is n_is) (device_physical p_bulk n_bulk nets device all.0 p_is n_is)
+    (devices_anew p_bulk n_bulk nets devices rest all.1 p_is n_is anew) made
+    ∙ devices_read p_bulk n_bulk nets devices rest reading last total p_is n_is anew ends_so first.next first.rest all.1 (number + 1) true
+
+-- the line that begins a subcircuit
+header_made : (name : List ℕ) (pins : List (List ℕ)) → is_header (name ∷ pins) ≡ true → has_double pins ≡ false → list_all is_text (name ∷ pins) ≡ true
+    → words_step 1 (codes ".SUBCKT" ∷ name ∷ pins) nothing ≡ Ok (with_open nothing (new_cell 1 name pins))
+unfolding words_step card_step subckt named card_of
+header_made name pins header distinct text =
+    ap (λ (x : Bool). unless (not (true && x)) NotText (subckt 1 (name ∷ pins) nothing)) text
+    ∙ ap (λ (x : Bool). unless (not (is_outside nothing) || not x) BadCard (named 1 name pins nothing)) header
+    ∙ ap (λ (x : Bool). unless (false || x) DoubleName (Ok (with_open nothing (new_cell 1 name pins)))) distinct
+
+-- the line of the roles
+roles_made : (cell : OpenCell) (words : List (List ℕ)) (pins : List Pin) (number : ℕ) → list_all is_text words ≡ true → info.pin_info cell.nets words cell.pins ≡ Ok pins
+    → words_step number (codes "*.PININFO" ∷ words) (with_open nothing cell) ≡ Ok (with_open nothing (open_with cell.line cell.name pins cell.nets cell.devices))
+unfolding words_step card_step card_of pin_info
+roles_made cell words pins number text read =
+    ap (λ (x : Bool). unless (not (true && x)) NotText (in_cell (pin_info words) (with_open nothing cell))) text
+    ∙ ap (λ (given : Result (List Pin) SpiceKind). goes_on (with_open nothing cell) (has_roles cell given)) read
+
+-- the line that ends a subcircuit
+ends_made : (number line : ℕ) (name : List ℕ) (pins : List RawPin) (nets : List (List ℕ)) (devices : List RawDevice)
+    → words_step number (codes ".ENDS" ∷ []) (with_open nothing (open_with line name (map with_its_role pins) nets devices))
+    ≡ Ok (record { cells = record { name = name; raw = record { pins = pins; nets = nets; devices = devices } } ∷ []; current = None })
+unfolding words_step card_step ends ended card_of
+ends_made number line name pins nets devices =
+    ap (λ (given : Option (List RawPin)). with_cell (with_open nothing (open_with line name (map with_its_role pins) nets devices))
+    (subcircuit_with (open_with line name (map with_its_role pins) nets devices) given)) (pins_again [] pins)
+
+end_line : (text : List ℕ) → text ≡ codes ".ENDS\n" → lines_of text ≡ codes ".ENDS" ∷ lines_of []
+unfolding lines_of
+end_line text is = ap lines_of is
+
+end_words : words_of (upper_case (codes ".ENDS")) ≡ codes ".ENDS" ∷ []
+unfolding words_of
+end_words = refl
+
+read_out : (reading : Reading) (number : ℕ) (follows : Bool) → read_on reading number follows [] ≡ Ok reading
+unfolding lines_of logical_from steps_from
+read_out reading number follows = refl
+
+anew_at_end : BeginsAnew []
+unfolding lines_of continued
+anew_at_end = refl
+
+ends_card : physical_of (codes ".ENDS") ≡ Card (codes ".ENDS")
+ends_card = card_line 46 (codes "ENDS") refl refl refl (refl, (refl, (refl, (refl, (refl, tt)))))
+
+ends_read : (number : ℕ) (follows : Bool) (line : ℕ) (name : List ℕ) (pins : List RawPin) (nets : List (List ℕ)) (devices : List RawDevice)
+    → read_on (with_open nothing (open_with line name (map with_its_role pins) nets devices)) number follows (line_of (codes ".ENDS") [])
+    ≡ Ok (record { cells = record { name = name; raw = record { pins = pins; nets = nets; devices = devices } } ∷ []; current = None })
+ends_read number follows line name pins nets devices =
+    let last : Reading = record { cells = record { name = name; raw = record { pins = pins; nets = nets; devices = devices } } ∷ []; current = None } in
+    card_read (with_open nothing (open_with line name (map with_its_role pins) nets devices)) last number follows (line_of (codes ".ENDS") []) (codes ".ENDS") []
+    (end_line (line_of (codes ".ENDS") []) refl) ends_card anew_at_end
+    (ap (λ (words : List (List ℕ)). words_step number words (with_open nothing (open_with line name (map with_its_role pins) nets devices))) end_words
+    ∙ ends_made number line name pins nets devices)
+    ∙ read_out last (number + 1) true
+
+header_chunk : IsChunk (codes ".SUBCKT")
+header_chunk = record { shown = (refl, (refl, (refl, (refl, (refl, (refl, (refl, tt))))))); text = refl }
+
+header_words : words_of (upper_case (codes ".SUBCKT")) ≡ codes ".SUBCKT" ∷ []
+unfolding words_of
+header_words = refl
+
+roles_chunk : IsChunk (codes "*.PININFO")
+roles_chunk = record { shown = (refl, (refl, (refl, (refl, (refl, (refl, (refl, (refl, (refl, tt))))))))); text = refl }
+
+roles_words : words_of (upper_case (codes "*.PININFO")) ≡ codes "*.PININFO" ∷ []
+unfolding words_of
+roles_words = refl
+
+-- the line that begins a subcircuit, and what it makes
+header_read : (name : List ℕ) (pins : List (List ℕ)) (rest : List ℕ) → IsSpelled name → is_header (name ∷ pins) ≡ true → AllByRecursion IsSpelled pins → has_double pins ≡ false
+    → BeginsAnew rest → read_on nothing 1 false (line_of (codes ".SUBCKT") (name ∷ pins) ++ rest) ≡ read_on (with_open nothing (new_cell 1 name pins)) 2 true rest
+header_read name pins rest name_is header all distinct anew =
+    let chunks : AllByRecursion IsChunk (name ∷ pins) = chunks_of (name ∷ pins) (name_is, all) in
+    let words : words_of (upper_case (body (codes ".SUBCKT") (name ∷ pins))) ≡ codes ".SUBCKT" ∷ name ∷ pins =
+    line_words (codes ".SUBCKT") (name ∷ pins) ∙ (λ j. header_words j ++ spelled_words (name ∷ pins) (name_is, all) j) in
+    card_read nothing (with_open nothing (new_cell 1 name pins)) 1 false (line_of (codes ".SUBCKT") (name ∷ pins) ++ rest) (body (codes ".SUBCKT") (name ∷ pins)) rest
+    (first_line (codes ".SUBCKT") (name ∷ pins) rest header_chunk chunks)
+    (card_line 46 (codes "SUBCKT" ++ flat_map spaced (name ∷ pins)) refl refl refl (body_shown (codes ".SUBCKT") (name ∷ pins) header_chunk chunks)) anew
+    (ap (λ (all : List (List ℕ)). words_step 1 all nothing) words ∙ header_made name pins header distinct (spelled_texts (name ∷ pins) (name_is, all)))
+
+-- the line of the roles: where it stands, and what it makes
+roles_first_line : (pins : List RawPin) (rest : List ℕ) → AllByRecursion IsPinName (pin_names pins)
+    → lines_of (line_of (codes "*.PININFO") (map pin_word pins) ++ rest) ≡ body (codes "*.PININFO") (map pin_word pins) ∷ lines_of rest
+roles_first_line pins rest all = first_line (codes "*.PININFO") (map pin_word pins) rest roles_chunk (pin_chunks pins all)
+
+roles_physical : (pins : List RawPin) → AllByRecursion IsPinName (pin_names pins)
+    → physical_of (body (codes "*.PININFO") (map pin_word pins)) ≡ PinInfo (body (codes "*.PININFO") (map pin_word pins))
+roles_physical pins all = roles_line (map pin_word pins) (body_shown (codes "*.PININFO") (map pin_word pins) roles_chunk (pin_chunks pins all))
+
+roles_read_on : (name : List ℕ) (pins : List RawPin) (rest : List ℕ) → 1 ≤ length pins → AllByRecursion IsPinName (pin_names pins) → has_double (pin_names pins) ≡ false
+    → read_on (with_open nothing (new_cell 1 name (pin_names pins))) 2 true (line_of (codes "*.PININFO") (map pin_word pins) ++ rest)
+    ≡ read_on (with_open nothing (open_with 1 name (map with_its_role pins) (pin_names pins) [])) 3 false rest
+roles_read_on name pins rest some all distinct =
+    let words : words_of (upper_case (body (codes "*.PININFO") (map pin_word pins))) ≡ codes "*.PININFO" ∷ map pin_word pins =
+    line_words (codes "*.PININFO") (map pin_word pins) ∙ (λ j. roles_words j ++ pin_words pins all j) in
+    let cell : OpenCell = new_cell 1 name (pin_names pins) in
+    roles_read (with_open nothing cell) (with_open nothing (open_with 1 name (map with_its_role pins) (pin_names pins) [])) 2 true
+    (line_of (codes "*.PININFO") (map pin_word pins) ++ rest) (body (codes "*.PININFO") (map pin_word pins)) rest (roles_first_line pins rest all) (roles_physical pins all)
+    (ap (λ (all : List (List ℕ)). words_step 2 all (with_open nothing cell)) words
+    ∙ roles_made cell (map pin_word pins) (map with_its_role pins) 2 (pin_texts pins all) (roles_read_again pins some all distinct))
+
+one_cell : (cell : Subcircuit) → library_from (Ok (record { cells = cell ∷ []; current = None })) ≡ Ok (cell ∷ [])
+unfolding library_from
+one_cell cell = refl
+
+-- a subcircuit that can be written is read as it was
+writable_again : (name : List ℕ) (raw : RawCell) → IsWritable name (pin_names raw.pins) raw.nets raw.devices → KeepsRules raw
+    → library_of (cell_text name raw) ≡ Ok (record { name = name; raw = raw } ∷ [])
+unfolding cell_text
+writable_again name raw it keeps =
+    let names : AllByRecursion IsPinName (pin_names raw.pins) = pins_of_header name (pin_names raw.pins) it.header it.spelled in
+    let p_is : IsNameWord (rail_name is_power raw.pins) = rail_named is_power raw.pins names (λ (none : role_count is_power raw.pins ≡ 0). keeps NoRail (inl none)) in
+    let n_is : IsNameWord (rail_name is_ground raw.pins) = rail_named is_ground raw.pins names (λ (none : role_count is_ground raw.pins ≡ 0). keeps NoRail (inr none)) in
+    let end : List ℕ = line_of (codes ".ENDS") [] in
+    let devices : List ℕ = flat_map (device_line (rail_name is_power raw.pins) (rail_name is_ground raw.pins) raw.nets) raw.devices ++ end in
+    let roles : List ℕ = line_of (codes "*.PININFO") (map pin_word raw.pins) ++ devices in
+    let last : Reading = record { cells = record { name = name; raw = raw } ∷ []; current = None } in
+    let anew : BeginsAnew end = anew_at_card end (codes ".ENDS") (lines_of []) (end_line end refl) ends_card in
+    let steps : steps_from (device_step (rail_name is_power raw.pins) (rail_name is_ground raw.pins) raw.nets) (open_with 1 name (map with_its_role raw.pins) (pin_names raw.pins) []) raw.devices
+    ≡ Ok (open_with 1 name (map with_its_role raw.pins) raw.nets raw.devices) =
+    subst (λ (nets : List (List ℕ)). steps_from (device_step (rail_name is_power raw.pins) (rail_name is_ground raw.pins) nets) (open_with 1 name (map with_its_role raw.pins) (pin_names raw.pins) []) raw.devices
+    ≡ Ok (open_with 1 name (map with_its_role raw.pins) raw.nets raw.devices))
+    (append-nil raw.nets) (it.again (rail_name is_power raw.pins) (rail_name is_ground raw.pins) [] 1 (map with_its_role raw.pins) p_is n_is) in
+    let read : lines_from nothing (spice_lines (cell_text name raw)) ≡ Ok last =
+    header_read name (pin_names raw.pins) roles it.named it.header it.spelled it.distinct
+    (anew_at_roles roles (body (codes "*.PININFO") (map pin_word raw.pins)) (lines_of devices) (roles_first_line raw.pins devices names) (roles_physical raw.pins names))
+    ∙ roles_read_on name raw.pins devices (some_pins name raw.pins it.header) names it.distinct
+    ∙ devices_read (rail_name is_power raw.pins) (rail_name is_ground raw.pins) raw.nets raw.devices end nothing (open_with 1 name (map with_its_role raw.pins) raw.nets raw.devices) (Ok last)
+    p_is n_is anew (λ (number : ℕ) (follows : Bool). ends_read number follows 1 name raw.pins raw.nets raw.devices)
+    (open_with 1 name (map with_its_role raw.pins) (pin_names raw.pins) []) steps it.cards 3 false in
+    ap library_from read ∙ one_cell (record { name = name; raw = raw })
+
+-- a cell that some text reads as is read alone, under the same name, from the text that is written
+pub read_again : (name : List ℕ) (raw : RawCell) → IsReadable name raw → KeepsRules raw → library_of (cell_text (upper_case name) raw) ≡ Ok (kept_as name raw ∷ [])
+read_again name raw it keeps = writable_again (upper_case name) raw (readable_writable name raw it) keeps
+
+-- so is the text of a call that gives one
+pub read_written : {E : Type 0} (result : Result (List ℕ) E) (name : List ℕ) (raw cell : RawCell) → raw ≡ cell → IfOk result (λ text. text ≡ cell_text (upper_case name) raw)
+    → IsReadable name cell → KeepsRules cell → IfOk result (λ text. library_of text ≡ Ok (kept_as name cell ∷ []))
+read_written (Ok text) name raw cell same is it keeps = ap library_of (is ∙ ap (cell_text (upper_case name)) same) ∙ read_again name cell it keeps
+read_written (Err fault) name raw cell same is it keeps = is

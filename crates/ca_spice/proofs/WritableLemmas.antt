@@ -1,0 +1,221 @@
+-- What is read can be written: each subcircuit that a text reads as has cards that read as its devices again.
+use Rattle.std.proofs.Common.{◌≡◌, ℕ, suc, zero, ◌⊎◌, inl, inr, true, false, not, List, [], ◌∷◌, ◌++◌, map, Option, Some, None, Result, Ok, Err, refl, sym, ap, ◌∙◌, subst, append_assoc}
+use Rattle.std.specs.Prelude.{slice_get, slice_set, is_some}
+use Rattle.std.specs.List.{AllByRecursion}
+use Rattle.std.proofs.lemmas.List.{append-nil, map-append}
+use Rattle.ca_net.specs.declared.device.DeviceKind.{DeviceKind}
+use Rattle.ca_net.specs.declared.device.DeviceKind.TheVariants as kind
+use Rattle.ca_lex.specs.FirstFault.{steps_from}
+use Rattle.ca_lex.proofs.FirstFaultLemmas.{after_step, steps_from-cons}
+use Rattle.ca_cell.specs.declared.raw.Role.{Role}
+use Rattle.ca_cell.specs.declared.raw.RawPin.{RawPin}
+use Rattle.ca_cell.specs.declared.raw.RawDevice.{RawDevice}
+use Rattle.ca_spice.specs.declared.card.Card.TheVariants as card
+use Rattle.ca_spice.specs.declared.fault.SpiceKind.{SpiceKind}
+use Rattle.ca_spice.specs.declared.fault.SpiceKind.TheVariants.{BadCard, BadRole}
+use Rattle.ca_spice.specs.declared.pin.Pin.{Pin}
+use Rattle.ca_spice.specs.Names.{place_of, has_double}
+use Rattle.ca_spice.specs.Card.{card_of}
+use Rattle.ca_spice.specs.Mos.{Wiring, Sizes, sizes_of}
+use Rattle.ca_spice.specs.PinInfo as info
+use Rattle.ca_spice.specs.OpenCell.{OpenCell, with_drain, with_gate, with_source, device_of, with_device, has_device, mos, pins_behind}
+use Rattle.ca_spice.specs.Reading.{is_header, named}
+use Rattle.ca_spice.specs.Writing.{pin_names, bulk_of}
+use Rattle.ca_spice.proofs.SpelledLemmas.{IsSpelled, all_append}
+use Rattle.ca_spice.proofs.CardLemmas.{IsNameWord, IsCard, Extends, net_more, card_more, cards_more, net_name-at, with_name-extends, extends_further, net_placed, card_words, card_params, written_wiring, written_sizes, mos-written, IsWired, kept_rule, kept_value, sizes_found}
+
+-- a subcircuit that is being read
+abbrev pub open_with : ℕ → List ℕ → List Pin → List (List ℕ) → List RawDevice → OpenCell
+open_with line name pins nets devices = record { line = line; name = name; pins = pins; nets = nets; devices = devices }
+
+-- what the written card of a device makes of a subcircuit that is being read
+abbrev pub device_step : List ℕ → List ℕ → List (List ℕ) → RawDevice → OpenCell → Result OpenCell SpiceKind
+device_step p_bulk n_bulk nets device cell = mos device.name (card_words nets (bulk_of p_bulk n_bulk device.kind) device) cell
+
+-- the written cards read as the devices again, with the nets in the same order, also where more nets come later
+abbrev pub ReadsAgain : List ℕ → List (List ℕ) → List (List ℕ) → List RawDevice → Type 0
+ReadsAgain name pins nets devices = (p_bulk n_bulk : List ℕ) (later : List (List ℕ)) (line : ℕ) (shown : List Pin) → IsNameWord p_bulk → IsNameWord n_bulk
+    → steps_from (device_step p_bulk n_bulk (nets ++ later)) (open_with line name shown pins []) devices ≡ Ok (open_with line name shown nets devices)
+
+-- a subcircuit that can be written
+pub record IsWritable (name : List ℕ) (pins nets : List (List ℕ)) (devices : List RawDevice) : Type 0 where
+  pub named : IsSpelled name
+  pub header : is_header (name ∷ pins) ≡ true
+  pub spelled : AllByRecursion IsSpelled pins
+  pub distinct : has_double pins ≡ false
+  pub cards : AllByRecursion (IsCard nets) devices
+  pub again : ReadsAgain name pins nets devices
+
+-- one step more
+steps_push : {State Item Fault : Type 0} (step : Item → State → Result State Fault) (start middle last : State) (items : List Item) (item : Item)
+    → steps_from step start items ≡ Ok middle → step item middle ≡ Ok last → steps_from step start (items ++ item ∷ []) ≡ Ok last
+unfolding steps_from
+steps_push {State} {Item} {Fault} step start middle last [] item read next =
+    let same : start ≡ middle = cc in
+    steps_from-cons step start item [] ∙ ap (λ (given : Result State Fault). after_step step given []) (ap (step item) same ∙ next)
+steps_push {State} {Item} {Fault} step start middle last (first ∷ items) item read next =
+    steps_from-cons step start first (items ++ item ∷ [])
+    ∙ by (step first start) (λ (behind : State). steps_push step behind middle last items item) (sym (steps_from-cons step start first items) ∙ read)
+  where
+    by : (given : Result State Fault)
+        → ((behind : State) → steps_from step behind items ≡ Ok middle → step item middle ≡ Ok last → steps_from step behind (items ++ item ∷ []) ≡ Ok last)
+        → after_step step given items ≡ Ok middle → after_step step given (items ++ item ∷ []) ≡ Ok last
+    by (Ok behind) later is = later behind is next
+    by (Err fault) later is = absurd cc
+
+-- the first step of some
+pub record IsFirstStep {State Item Fault : Type 0} (step : Item → State → Result State Fault) (start last : State) (item : Item) (items : List Item) : Type 0 where
+  pub next : State
+  pub stepped : step item start ≡ Ok next
+  pub rest : steps_from step next items ≡ Ok last
+
+pub first_step : {State Item Fault : Type 0} (step : Item → State → Result State Fault) (start last : State) (item : Item) (items : List Item)
+    → steps_from step start (item ∷ items) ≡ Ok last → IsFirstStep step start last item items
+first_step {State} {Item} {Fault} step start last item items read = by (step item start) refl (sym (steps_from-cons step start item items) ∙ read)
+  where
+    by : (given : Result State Fault) → step item start ≡ given → after_step step given items ≡ Ok last → IsFirstStep step start last item items
+    by (Ok next) stepped rest = record { next = next; stepped = stepped; rest = rest }
+    by (Err fault) stepped rest = absurd cc
+
+pub bulk_named : (p_bulk n_bulk : List ℕ) (k : DeviceKind) → (k ≡ kind.P) ⊎ (k ≡ kind.N) → IsNameWord p_bulk → IsNameWord n_bulk → IsNameWord (bulk_of p_bulk n_bulk k)
+bulk_named p_bulk n_bulk k (inl is) p_is n_is = subst (λ (k : DeviceKind). IsNameWord (bulk_of p_bulk n_bulk k)) (sym is) p_is
+bulk_named p_bulk n_bulk k (inr is) p_is n_is = subst (λ (k : DeviceKind). IsNameWord (bulk_of p_bulk n_bulk k)) (sym is) n_is
+
+-- the nets with those of a card are more
+nets_extend : (wiring : Wiring) (nets : List (List ℕ)) → Extends nets (with_source wiring nets)
+nets_extend wiring nets =
+    extends_further nets (with_drain wiring nets) (with_source wiring nets) (with_name-extends wiring.drain nets)
+    (extends_further (with_drain wiring nets) (with_gate wiring nets) (with_source wiring nets) (with_name-extends wiring.gate (with_drain wiring nets))
+    (with_name-extends wiring.source (with_gate wiring nets)))
+
+-- the device of a card
+abbrev new_card : (name : List ℕ) (wiring : Wiring) (sizes : Sizes) (nets : List (List ℕ)) → IsNameWord name → card_of name ≡ card.Mos → IsWired name wiring → sizes_of wiring.params ≡ Some sizes
+    → IsCard (with_source wiring nets) (device_of name wiring sizes nets)
+new_card name wiring sizes nets named mos wired sized =
+    let size = sizes_found wiring.params sizes sized in
+    let to_source = with_name-extends wiring.source (with_gate wiring nets) in
+    record {
+      named = named;
+      mos = mos;
+      kind = wired.kind;
+      width = size.0;
+      channel = size.1;
+      drain = net_placed wiring.drain nets (with_source wiring nets) wired.drain
+          (extends_further (with_drain wiring nets) (with_gate wiring nets) (with_source wiring nets) (with_name-extends wiring.gate (with_drain wiring nets)) to_source);
+      gate = net_placed wiring.gate (with_drain wiring nets) (with_source wiring nets) wired.gate to_source;
+      source = net_placed wiring.source (with_gate wiring nets) (with_source wiring nets) wired.source (record { more = []; is = sym (append-nil (with_source wiring nets)) });
+    }
+
+-- the cards of the devices with one more read again
+again_grown : (cell_name : List ℕ) (pins nets : List (List ℕ)) (devices : List RawDevice) (name : List ℕ) (wiring : Wiring) (sizes : Sizes)
+    → ReadsAgain cell_name pins nets devices → IsNameWord name → card_of name ≡ card.Mos → IsWired name wiring → sizes_of wiring.params ≡ Some sizes
+    → has_device name devices ≡ false → ReadsAgain cell_name pins (with_source wiring nets) (devices ++ device_of name wiring sizes nets ∷ [])
+again_grown cell_name pins nets devices name wiring sizes again named mos wired sized new p_bulk n_bulk later line shown p_is n_is =
+    let longer : List (List ℕ) = with_source wiring nets in
+    let all : List (List ℕ) = longer ++ later in
+    let device : RawDevice = device_of name wiring sizes nets in
+    let grown : Extends nets longer = nets_extend wiring nets in
+    let split : all ≡ nets ++ (grown.more ++ later) = ap (λ (names : List (List ℕ)). names ++ later) grown.is ∙ append_assoc nets grown.more later in
+    let before : steps_from (device_step p_bulk n_bulk all) (open_with line cell_name shown pins []) devices ≡ Ok (open_with line cell_name shown nets devices) =
+    subst (λ (names : List (List ℕ)). steps_from (device_step p_bulk n_bulk names) (open_with line cell_name shown pins []) devices ≡ Ok (open_with line cell_name shown nets devices))
+    (sym split) (again p_bulk n_bulk (grown.more ++ later) line shown p_is n_is) in
+    let it : IsCard longer device = new_card name wiring sizes nets named mos wired sized in
+    let read : device_step p_bulk n_bulk all device (open_with line cell_name shown nets devices)
+    ≡ Ok (with_device name (written_wiring all device) (written_sizes device) (open_with line cell_name shown nets devices)) =
+    mos-written all (bulk_of p_bulk n_bulk device.kind) device (open_with line cell_name shown nets devices) (card_more longer later device it)
+    (bulk_named p_bulk n_bulk device.kind wired.kind p_is n_is) new in
+    let drain = net_name-at all device.drain (net_more longer later device.drain it.drain) in
+    let gate = net_name-at all device.gate (net_more longer later device.gate it.gate) in
+    let source = net_name-at all device.source (net_more longer later device.source it.source) in
+    let wirings : written_wiring all device ≡ record { drain = wiring.drain; gate = wiring.gate; source = wiring.source; kind = wiring.kind; params = card_params device } =
+    λ j. record { drain = drain j; gate = gate j; source = source j; kind = wiring.kind; params = card_params device } in
+    let same : with_device name (written_wiring all device) (written_sizes device) (open_with line cell_name shown nets devices) ≡ open_with line cell_name shown longer (devices ++ device ∷ []) =
+    ap (λ (w : Wiring). with_device name w (written_sizes device) (open_with line cell_name shown nets devices)) wirings in
+    steps_push (device_step p_bulk n_bulk all) (open_with line cell_name shown pins []) (open_with line cell_name shown nets devices) (open_with line cell_name shown longer (devices ++ device ∷ []))
+    devices device before (read ∙ ap (λ (c : OpenCell). Ok c) same)
+
+-- a subcircuit with one device more can be written
+pub writable_grown : (cell_name : List ℕ) (pins nets : List (List ℕ)) (devices : List RawDevice) (name : List ℕ) (wiring : Wiring) (sizes : Sizes)
+    → IsWritable cell_name pins nets devices → IsNameWord name → card_of name ≡ card.Mos → IsWired name wiring → sizes_of wiring.params ≡ Some sizes
+    → has_device name devices ≡ false → IsWritable cell_name pins (with_source wiring nets) (devices ++ device_of name wiring sizes nets ∷ [])
+writable_grown cell_name pins nets devices name wiring sizes it named mos wired sized new =
+    let grown : Extends nets (with_source wiring nets) = nets_extend wiring nets in
+    record {
+      named = it.named;
+      header = it.header;
+      spelled = it.spelled;
+      distinct = it.distinct;
+      cards = all_append (IsCard (with_source wiring nets)) devices (device_of name wiring sizes nets ∷ [])
+          (subst (λ (names : List (List ℕ)). AllByRecursion (IsCard names) devices) (sym grown.is) (cards_more nets grown.more devices it.cards))
+          (new_card name wiring sizes nets named mos wired sized, tt);
+      again = again_grown cell_name pins nets devices name wiring sizes it.again named mos wired sized new;
+    }
+
+-- the names of pins that are being read
+abbrev pub names_shown : List Pin → List (List ℕ)
+names_shown pins = map (λ pin. pin.name) pins
+
+role_set : (pins : List Pin) (place : ℕ) (pin : Pin) (role : Option Role) → slice_get pins place ≡ Some pin
+    → names_shown (slice_set pins place (record { name = pin.name; role = role })) ≡ names_shown pins
+role_set [] place pin role is = absurd cc
+role_set (first ∷ pins) zero pin role is =
+    let same : pin ≡ first = cc in
+    ap (λ (p : Pin). p.name ∷ names_shown pins) same
+role_set (first ∷ pins) (suc place) pin role is = ap (λ (names : List (List ℕ)). first.name ∷ names) (role_set pins place pin role is)
+
+role_names : (nets : List (List ℕ)) (word : List ℕ) (pins next : List Pin) → info.role_step nets word pins ≡ Ok next → names_shown next ≡ names_shown pins
+unfolding info.role_step
+role_names nets word pins next is = by_role (info.role_of (info.role_part word)) is
+  where
+    by_pin : (taken : Role) (place : ℕ) (found : Option Pin) → slice_get pins place ≡ found → info.with_role taken pins place found ≡ Ok next → names_shown next ≡ names_shown pins
+    by_pin taken place None found is = absurd cc
+    by_pin taken place (Some pin) found is =
+        let value = kept_value (is_some pin.role) BadRole (slice_set pins place (record { name = pin.name; role = Some taken })) next is in
+        ap names_shown value.1 ∙ role_set pins place pin (Some taken) found
+
+    by_place : (taken : Role) (found : Option ℕ)
+        → elim found as (λ _. Result (List Pin) SpiceKind) [ None ↦ Err BadRole | Some place ↦ info.with_role taken pins place (slice_get pins place) ] ≡ Ok next → names_shown next ≡ names_shown pins
+    by_place taken None is = absurd cc
+    by_place taken (Some place) is = by_pin taken place (slice_get pins place) refl is
+
+    by_role : (found : Option Role)
+        → elim found as (λ _. Result (List Pin) SpiceKind) [
+          | None ↦ Err BadRole
+          | Some taken ↦ elim (place_of (info.pin_part word) nets) as (λ _. Result (List Pin) SpiceKind) [ None ↦ Err BadRole | Some place ↦ info.with_role taken pins place (slice_get pins place) ]
+        ] ≡ Ok next → names_shown next ≡ names_shown pins
+    by_role None is = absurd cc
+    by_role (Some taken) is = by_place taken (place_of (info.pin_part word) nets) is
+
+roles_names : (nets words : List (List ℕ)) (pins next : List Pin) → steps_from (info.role_step nets) pins words ≡ Ok next → names_shown next ≡ names_shown pins
+unfolding steps_from
+roles_names nets [] pins next is =
+    let same : next ≡ pins = cc in
+    ap names_shown same
+roles_names nets (word ∷ words) pins next is =
+    let first = first_step (info.role_step nets) pins next word words is in
+    roles_names nets words first.next next first.rest ∙ role_names nets word pins first.next first.stepped
+
+-- roles leave the names of the pins
+pub pin_info_names : (nets words : List (List ℕ)) (pins next : List Pin) → info.pin_info nets words pins ≡ Ok next → names_shown next ≡ names_shown pins
+unfolding info.pin_info
+pin_info_names nets words pins next is =
+    roles_names nets words pins next (kept_rule (not (info.are_pin_words words)) BadCard (steps_from (info.role_step nets) pins words) next is).1
+
+-- and so do pins with their roles
+pub behind_names : (done : List RawPin) (pins : List Pin) (raw : List RawPin) → pins_behind done pins ≡ Some raw → pin_names raw ≡ pin_names done ++ names_shown pins
+unfolding pins_behind
+behind_names done [] raw is =
+    let same : raw ≡ done = cc in
+    ap pin_names same ∙ sym (append-nil (pin_names done))
+behind_names done (pin ∷ pins) raw is = by pin.role (λ grown. behind_names grown pins raw) is
+  where
+    by : (given : Option Role)
+        → ((grown : List RawPin) → pins_behind grown pins ≡ Some raw → pin_names raw ≡ pin_names grown ++ names_shown pins)
+        → elim given as (λ _. Option (List RawPin)) [ None ↦ None | Some role ↦ pins_behind (done ++ record { name = pin.name; role = role } ∷ []) pins ] ≡ Some raw
+        → pin_names raw ≡ pin_names done ++ names_shown (pin ∷ pins)
+    by None later is = absurd cc
+    by (Some role) later is =
+        let shown : RawPin = record { name = pin.name; role = role } in
+        later (done ++ shown ∷ []) is
+        ∙ ap (λ (names : List (List ℕ)). names ++ names_shown pins) (map-append (λ (p : RawPin). p.name) done (shown ∷ []))
+        ∙ append_assoc (pin_names done) (pin.name ∷ []) (names_shown pins)
