@@ -1,0 +1,9 @@
+//! The matrix of a library cell: what the good cell, and the cell with each of its defects, ends with at each output for each
+//! pair of vectors; and its text both ways.
+#![tactic(auto)]
+
+mod matrix;
+mod shape;
+
+pub use matrix::Matrix;
+pub use shape::MOST_DEFECTS;
