@@ -2,8 +2,13 @@
 //! pair of vectors; and its text both ways.
 #![tactic(auto)]
 
+mod build;
+mod exposing;
+mod fill;
 mod matrix;
+mod rooms;
 mod shape;
+mod vectors;
 
 pub use matrix::Matrix;
 pub use shape::MOST_DEFECTS;
