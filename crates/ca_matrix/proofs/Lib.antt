@@ -6,3 +6,5 @@ pub mod PutLemmas
 pub mod FillLemmas
 pub mod BuiltLemmas
 pub mod ExposeLemmas
+pub mod ShownLemmas
+pub mod CountLemmas
