@@ -1,2 +1,6 @@
 pub mod PlaceLemmas
 pub mod ShapeLemmas
+pub mod FieldLemmas
+pub mod TextLemmas
+pub mod CsvLemmas
+pub mod ReadLemmas

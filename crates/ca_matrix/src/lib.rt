@@ -2,8 +2,13 @@
 //! pair of vectors; and its text both ways.
 #![tactic(auto)]
 
+mod fault;
 mod matrix;
+mod reading;
+mod record;
 mod shape;
+mod text;
 
+pub use fault::MatrixFault;
 pub use matrix::Matrix;
 pub use shape::MOST_DEFECTS;
