@@ -155,14 +155,14 @@ row_same (x ∷ []) = rw (escaped_same x, fields_same []) refl
 row_same (x ∷ y ∷ fields) = rw (escaped_same x, fields_same (y ∷ fields)) refl
 
 -- each record has a field
-pub AreNotEmpty : List (List (List ℕ)) → Type 0
+abbrev pub AreNotEmpty : List (List (List ℕ)) → Type 0
 AreNotEmpty [] = Unit {0}
 AreNotEmpty ([] ∷ records) = ⊥
 AreNotEmpty ((x ∷ fields) ∷ records) = AreNotEmpty records
 
 -- the text of such records has these records
 written_are : (records : List (List (List ℕ))) → AreNotEmpty records → AreRecords default_config st.StartRecord (written records) records
-unfolding Reached next_record AreNotEmpty
+unfolding Reached next_record
 written_are [] some = (st.StartRecord, [], (refl, refl), refl)
 written_are ([] ∷ records) some = absurd some
 written_are ((x ∷ fields) ∷ records) some =

@@ -4,3 +4,4 @@ pub mod FieldLemmas
 pub mod TextLemmas
 pub mod CsvLemmas
 pub mod ReadLemmas
+pub mod BackLemmas

@@ -17,7 +17,7 @@ length_front [] (suc n) within = absurd (omega arith)
 length_front (x ∷ xs) (suc n) within = ap suc (length_front xs n (omega arith))
 
 -- the records of entries are of the form due
-due_before : (shape : Shape) (start count : ℕ) (entries : List Trit) (left : List (List (List ℕ))) (j : ℕ) → length entries ≡ count * width_of shape → j < count
+pub due_before : (shape : Shape) (start count : ℕ) (entries : List Trit) (left : List (List (List ℕ))) (j : ℕ) → length entries ≡ count * width_of shape → j < count
     → IsSomeAnd (slice_get (records_from shape start count entries ++ left) j) (IsDue shape (start + j))
 due_before shape start zero entries left j full below = absurd (omega arith)
 due_before shape start (suc count) entries left zero full below =
@@ -32,7 +32,7 @@ due_before shape start (suc count) entries left (suc j) full below =
     let place : start + 1 + j ≡ start + suc j = omega arith in
     subst (λ (k : ℕ). IsSomeAnd (slice_get (records_from shape (start + 1) count (drop (width_of shape) entries) ++ left) j) (IsDue shape k)) place later
 
-behind_records : (shape : Shape) (start count : ℕ) (entries : List Trit) (left : List (List (List ℕ)))
+pub behind_records : (shape : Shape) (start count : ℕ) (entries : List Trit) (left : List (List (List ℕ)))
     → slice_get (records_from shape start count entries ++ left) count ≡ slice_get left 0
 behind_records shape start zero entries left = refl
 behind_records shape start (suc count) entries left = behind_records shape (start + 1) count (drop (width_of shape) entries) left
@@ -70,12 +70,11 @@ no_header [] header others none begins = cc begins
 no_header (fields ∷ records) header others none begins = cc none
 
 -- records begin with one record
-first_of_records : List (List ℕ) → List (List (List ℕ)) → List (List ℕ)
+abbrev pub first_of_records : List (List ℕ) → List (List (List ℕ)) → List (List ℕ)
 first_of_records default [] = default
 first_of_records default (one ∷ others) = one
 
 pub same_header : (records : List (List (List ℕ))) (one other : List (List ℕ)) (ones others : List (List (List ℕ))) → records ≡ one ∷ ones → records ≡ other ∷ others → one ≡ other
-unfolding first_of_records
 same_header records one other ones others begins begins_too = ap (first_of_records one) (sym begins ∙ begins_too)
 
 -- the place at which no record is left, and one is due

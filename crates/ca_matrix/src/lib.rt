@@ -3,6 +3,7 @@
 #![tactic(auto)]
 
 mod fault;
+mod laws;
 mod matrix;
 mod reading;
 mod record;
@@ -10,5 +11,6 @@ mod shape;
 mod text;
 
 pub use fault::MatrixFault;
+pub use laws::{text_is_read_back, texts_have_one_answer};
 pub use matrix::Matrix;
 pub use shape::MOST_DEFECTS;
