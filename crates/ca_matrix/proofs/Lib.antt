@@ -8,3 +8,8 @@ pub mod BuiltLemmas
 pub mod ExposeLemmas
 pub mod ShownLemmas
 pub mod CountLemmas
+pub mod FieldLemmas
+pub mod TextLemmas
+pub mod CsvLemmas
+pub mod ReadLemmas
+pub mod BackLemmas

@@ -4,11 +4,18 @@
 
 mod build;
 mod exposing;
+mod fault;
 mod fill;
+mod laws;
 mod matrix;
+mod reading;
+mod record;
 mod rooms;
 mod shape;
+mod text;
 mod vectors;
 
+pub use fault::MatrixFault;
+pub use laws::{text_is_read_back, texts_have_one_answer};
 pub use matrix::Matrix;
 pub use shape::MOST_DEFECTS;

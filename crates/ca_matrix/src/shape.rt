@@ -1,10 +1,10 @@
 //! What a matrix is of.
 
-ghost use Rattle.std.specs.Prelude.{◌≡◌, ◌<◌, All, length, map, IfOk};
+ghost use Rattle.std.specs.Prelude.{◌≡◌, ◌<◌, ◌≤◌, ◌+◌, All, length, map, IfOk};
 ghost use Rattle.ca_cell.specs.Raw.{circuit_of};
 ghost use Rattle.ca_defect.specs.List.{defects_of, IsDefectOf};
 ghost use Rattle.ca_defect.specs.Name.{node_name, name_of};
-ghost use Rattle.ca_matrix.specs.Matrix.{IsShape};
+ghost use Rattle.ca_matrix.specs.Matrix.{IsShape, vector_count, record_count, width_of};
 ghost use Rattle.ca_matrix.specs.CellShape.{output_names, cell_shape};
 
 use ca_base::NoMemory;
@@ -40,6 +40,37 @@ impl Shape {
             outputs: output_names(alloc, cell)?,
             defects: defect_names(alloc, cell, list)?,
         })
+    }
+
+    /// The number of vectors.
+    #[tactic(auto, using(crate::proofs::PlaceLemmas::few_vectors))]
+    pub(crate) fn vectors(&self) -> usize
+        requires { IsShape self.now }
+        ensures count { result ≡ vector_count self.now }
+        ensures some { 0 < result }
+        ensures few { result ≤ 64 }
+    {
+        2usize.pow(self.inputs as u32)
+    }
+
+    /// The number of records behind the header.
+    #[tactic(auto, using(crate::proofs::PlaceLemmas::few_records))]
+    pub(crate) fn record_count(&self) -> usize
+        requires { IsShape self.now }
+        ensures count { result ≡ record_count self.now }
+        ensures few { result ≤ 8192 }
+    {
+        let vectors = self.vectors();
+        vectors * vectors * self.outputs.len()
+    }
+
+    /// The number of entries of a record.
+    pub(crate) fn width(&self) -> usize
+        requires { IsShape self.now }
+        ensures count { result ≡ width_of self.now }
+        ensures few { result ≤ MOST_DEFECTS + 1 }
+    {
+        1 + self.defects.len()
     }
 }
 
