@@ -19,3 +19,6 @@ pub use fault::MatrixFault;
 pub use laws::{text_is_read_back, texts_have_one_answer};
 pub use matrix::Matrix;
 pub use shape::MOST_DEFECTS;
+
+#[cfg(test)]
+mod examples;
