@@ -198,15 +198,18 @@ unfolding Reached
 finds old new true fields rows has reads took =
     let more = rows-more (λ (slice : Bor (List ℕ)). Some slice.now) old new fields default_config old.state has.rest has.rest [] has.config has.source (refl, refl) reads in
     let p = more.2.0 in
-    let parts = first_and_others default_config old.state has.rest rows p has.left more.2.1 in
-    (parts.0, parts.1 ∙ ap (λ f. f ∷ parts.0) (sym more.2.2), record {
-      trim = reads.3 ∙ has.trim;
-      ready = inl took;
-      config = reads.2 ∙ has.config;
-      rest = more.0;
-      source = more.1;
-      left = are_from default_config p.1 new.state p.2 more.0 parts.0 more.2.3.0 more.2.3.1 parts.2;
-    })
+    let parts = first_and_others default_config old.state has.rest rows p has.left more.2.1 in (
+      parts.0,
+      parts.1 ∙ ap (λ f. f ∷ parts.0) (sym more.2.2),
+      record {
+        trim = reads.3 ∙ has.trim;
+        ready = inl took;
+        config = reads.2 ∙ has.config;
+        rest = more.0;
+        source = more.1;
+        left = are_from default_config p.1 new.state p.2 more.0 parts.0 more.2.3.0 more.2.3.1 parts.2;
+      },
+    )
 finds old new false fields rows has reads took =
     no_records default_config old.state has.rest rows has.left (rows-end (λ (slice : Bor (List ℕ)). Some slice.now) old new fields default_config has.rest has.config has.source reads)
 

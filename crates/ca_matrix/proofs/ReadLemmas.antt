@@ -99,11 +99,10 @@ one_taken shape k old new left fields others due full begins added =
     let more = records_more shape 0 k (k + 1) old due.entries refl full due.wide ∙ ap (λ (place : ℕ). records_from shape 0 k old ++ record_of shape place due.entries ∷ []) here in
     let width : ℕ = width_of shape in
     let size = ap length added ∙ length-append old due.entries in
-    let next : (k + 1) * width ≡ k * width + width = (let is : k + 1 ≡ suc k = omega arith in ap (λ n. n * width) is) ∙ suc-mul k width in
-    (
+    let next : (k + 1) * width ≡ k * width + width = (let is : k + 1 ≡ suc k = omega arith in ap (λ n. n * width) is) ∙ suc-mul k width in (
       ap (λ records. records_from shape 0 k old ++ records) (begins ∙ ap (λ f. f ∷ others) due.same)
-      ∙ sym (append_assoc (records_from shape 0 k old) (record_of shape k due.entries ∷ []) others)
-      ∙ ap (λ records. records ++ others) (sym more)
-      ∙ ap (λ entries. records_from shape 0 (k + 1) entries ++ others) (sym added),
+          ∙ sym (append_assoc (records_from shape 0 k old) (record_of shape k due.entries ∷ []) others)
+          ∙ ap (λ records. records ++ others) (sym more)
+          ∙ ap (λ entries. records_from shape 0 (k + 1) entries ++ others) (sym added),
       omega (arith, size, full, due.wide, next),
     )

@@ -8,6 +8,8 @@ mod matrix;
 mod reading;
 mod record;
 mod shape;
+#[cfg(test)]
+mod tests;
 mod text;
 
 pub use fault::MatrixFault;

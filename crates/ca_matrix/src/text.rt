@@ -21,11 +21,7 @@ impl Matrix {
     pub fn write(&self, alloc: Global) -> Result<Text, NoMemory>
         ensures { IfOk result (λ text. text ≡ text_of self.now) }
     {
-        Ok(Text::from_vec(table_text(
-            alloc,
-            self.shape(),
-            self.entries(),
-        )?))
+        Ok(Text::from_vec(table_text(alloc, self.shape(), self.entries())?))
     }
 }
 

@@ -63,9 +63,13 @@ returns-then-branch-clause-cause c =
     let found = found_some c.in_ok-next-3.field-0 (fields_of c.next-2.new.fields) c.next-2.new.reader inv.0 some (c.in_ok-next-3.ensures inv.0 inv.1) in
     let count = c.record_count-due.ensures.count in
     let past : record_count c.args.shape.now ≤ c.loop-k.k = omega (arith, count, c.loop-k-test.false) in
-    let all : c.record_count-due.result ≡ c.loop-k.k = omega (arith, count, past, inv.4) in
-    (_, c.loop-k.k, inv.2, ap (λ n. n + 2) all,
-     malformed c.args.shape.now c.loop-k.k c.loop-k.entries.items inv.0 (fields_of c.next-2.new.fields) found.0 inv.3 inv.4 found.1 (λ below. absurd (omega (arith, below, past))))
+    let all : c.record_count-due.result ≡ c.loop-k.k = omega (arith, count, past, inv.4) in (
+      _,
+      c.loop-k.k,
+      inv.2,
+      ap (λ n. n + 2) all,
+      malformed c.args.shape.now c.loop-k.k c.loop-k.entries.items inv.0 (fields_of c.next-2.new.fields) found.0 inv.3 inv.4 found.1 (λ below. absurd (omega (arith, below, past))),
+    )
 
 pub returns-clause-ok : goal.returns-clause-ok
 returns-clause-ok c =

@@ -14,8 +14,9 @@ returns-in_default c =
 
 pub loop-i-preserved : goal.loop-i-preserved
 loop-i-preserved c =
-    let rest = drop_at (fields_of c.args.fields.now) c.loop-i.i (c.loop-i.i + 1) c.field.result.now c.field.ensures refl in
-    (c.loop-i.invariant.0 ++ c.in-Some.value ∷ [],
-     values_more c.loop-i.invariant.0 (drop 3 (fields_of c.args.fields.now)) (drop (c.loop-i.i + 1) (fields_of c.args.fields.now)) c.field.result.now c.in-Some.value
-     (c.loop-i.invariant.1 ∙ ap (λ fields. map field_of c.loop-i.invariant.0 ++ fields) rest) c.in-Some.ensures,
-     c.in_ok-push.ensures.items ∙ ap (λ entries. entries ++ c.in-Some.value ∷ []) c.loop-i.invariant.2 ∙ append_assoc c.args.entries.now.items c.loop-i.invariant.0 (c.in-Some.value ∷ []))
+    let rest = drop_at (fields_of c.args.fields.now) c.loop-i.i (c.loop-i.i + 1) c.field.result.now c.field.ensures refl in (
+      c.loop-i.invariant.0 ++ c.in-Some.value ∷ [],
+      values_more c.loop-i.invariant.0 (drop 3 (fields_of c.args.fields.now)) (drop (c.loop-i.i + 1) (fields_of c.args.fields.now)) c.field.result.now c.in-Some.value
+          (c.loop-i.invariant.1 ∙ ap (λ fields. map field_of c.loop-i.invariant.0 ++ fields) rest) c.in-Some.ensures,
+      c.in_ok-push.ensures.items ∙ ap (λ entries. entries ++ c.in-Some.value ∷ []) c.loop-i.invariant.2 ∙ append_assoc c.args.entries.now.items c.loop-i.invariant.0 (c.in-Some.value ∷ []),
+    )

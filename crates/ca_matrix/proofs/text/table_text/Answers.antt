@@ -23,8 +23,7 @@ loop-k-preserved c =
     let row : fields_of c.fill_record.new.fields ≡ record_of shape c.loop-k.k (take (width_of shape) rest) = c.in_ok-fill_record.ensures ∙ ap (record_of shape c.loop-k.k) front in
     let has = subst (λ (fields : List (List ℕ)). HasWritten c.append-in-loop-k.new.writer (inv.0 ++ row_text default_writer fields)) row (c.in_ok-append-2.ensures inv.0 inv.1) in
     let next = written_next shape c.loop-k.k count rest inv.0 all below inv.2 in
-    let size = one_record count c.loop-k.k (width_of shape) (length rest) below inv.3 in
-    (
+    let size = one_record count c.loop-k.k (width_of shape) (length rest) below inv.3 in (
       inv.0 ++ row_text default_writer (record_of shape c.loop-k.k (take (width_of shape) rest)),
       has,
       subst (λ (others : List Trit). (inv.0 ++ row_text default_writer (record_of shape c.loop-k.k (take (width_of shape) rest))) ++ written (records_from shape (c.loop-k.k + 1) (count - (c.loop-k.k + 1)) others) ≡ all) (sym back) next,
