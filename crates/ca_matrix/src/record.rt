@@ -1,9 +1,9 @@
 //! The records of a text.
 
-ghost use Rattle.std.specs.Prelude.{◌≡◌, ◌<◌, ◌≤◌, ◌++◌, ◌↔◌, drop, length, Some, IsTrue, IfOk, OnOk};
+ghost use Rattle.std.specs.Prelude.{◌≡◌, ◌<◌, ◌≤◌, ◌/◌, ◌%◌, ◌++◌, ◌↔◌, drop, length, Some, IsTrue, IfOk, OnOk};
 ghost use Rattle.csv.specs.Records.{fields_of, field_at};
 ghost use Rattle.ca_cell.specs.declared.rule.TheConstants.{MOST_INPUTS};
-ghost use Rattle.ca_matrix.specs.Matrix.{IsShape};
+ghost use Rattle.ca_matrix.specs.Matrix.{IsShape, vector_count};
 ghost use Rattle.ca_matrix.specs.Text.{field_of, vector_text, output_of, header_of, record_of};
 ghost use Rattle.ca_matrix.specs.Streams.{has, begins_as, IsValueOf, AddsValues, TakesRecord};
 
@@ -38,11 +38,10 @@ pub(crate) fn fill_record(
     requires { IsShape shape.now }
     ensures { OnOk result (fields_of fields.new ≡ record_of shape.now k entries.now) }
 {
-    let pair = k / shape.outputs.len();
     fields.clear();
-    put_vector(text, shape.inputs, pair / shape.vectors())?;
+    put_vector(text, shape.inputs, first_number(shape, k))?;
     fields.push_field(text)?;
-    put_vector(text, shape.inputs, pair % shape.vectors())?;
+    put_vector(text, shape.inputs, last_number(shape, k))?;
     fields.push_field(text)?;
     fields.push_field(output_name(shape, k))?;
     for entry in entries {
@@ -51,7 +50,23 @@ pub(crate) fn fill_record(
     Ok(())
 }
 
-// The name of the output of record k after the header.
+// The number of the first vector of record k after the header.
+fn first_number(shape: &Shape, k: usize) -> usize
+    requires { IsShape shape.now }
+    ensures { result ≡ k / length shape.now.outputs / vector_count shape.now }
+{
+    k / shape.outputs.len() / shape.vectors()
+}
+
+// The number of its last vector.
+fn last_number(shape: &Shape, k: usize) -> usize
+    requires { IsShape shape.now }
+    ensures { result ≡ k / length shape.now.outputs % vector_count shape.now }
+{
+    k / shape.outputs.len() % shape.vectors()
+}
+
+// The name of its output.
 fn output_name(shape: &Shape, k: usize) -> &[u8]
     requires { IsShape shape.now }
     ensures { result.now ≡ output_of shape.now k }
@@ -129,12 +144,11 @@ fn begins_as(
     if fields.len() != 3 + shape.width() {
         return Ok(false);
     }
-    let pair = k / shape.outputs.len();
-    put_vector(text, shape.inputs, pair / shape.vectors())?;
+    put_vector(text, shape.inputs, first_number(shape, k))?;
     if !has(fields, 0, text) {
         return Ok(false);
     }
-    put_vector(text, shape.inputs, pair % shape.vectors())?;
+    put_vector(text, shape.inputs, last_number(shape, k))?;
     Ok(has(fields, 1, text) && has(fields, 2, output_name(shape, k)))
 }
 
