@@ -5,3 +5,4 @@ pub mod TextLemmas
 pub mod CsvLemmas
 pub mod ReadLemmas
 pub mod BackLemmas
+pub mod EntryLemmas
