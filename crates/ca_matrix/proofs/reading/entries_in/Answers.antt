@@ -25,7 +25,7 @@ loop-k-init c =
     let some : c.in_ok-next.field-0 ≡ true = search rules in
     let found = found_some c.in_ok-next.field-0 (fields_of c.next.new.fields) c.next.new.reader _ some (c.in_ok-next.ensures _ c.reader_of-reader.ensures) in
     let same : fields_of c.next.new.fields ≡ header_of c.args.shape.now = c.if-not-same_fields.ensures.0 (search rules) ∙ c.in_ok-fill_header.ensures in
-    let none : length c.in_ok-entries.entries.items ≡ 0 * width_of c.args.shape.now = ap length c.in_ok-entries.ensures ∙ omega arith in
+    let none : length c.in_ok-entries.entries.items ≡ 0 * width_of c.args.shape.now = ap length c.in_ok-entries.ensures.items ∙ omega arith in
     (found.0, found.2, found.1 ∙ ap (λ fields. fields ∷ found.0) same, none, omega arith)
 
 pub returns-then-not-branch-2-clause-cause : goal.returns-then-not-branch-2-clause-cause
