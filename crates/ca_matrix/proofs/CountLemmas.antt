@@ -47,15 +47,16 @@ one_counted P limit next count more counted has_it then longer = record {
   ascending = all_pairs_push (λ a b. a < b) counted.numbers limit counted.ascending
       (λ k d below. ((counted.are (get_or counted.numbers k d)).0 (All-contains_itself counted.numbers k d below)).0);
   are = λ n. (
-        λ has. was n (Contains-append_cases counted.numbers (limit ∷ []) n has),
-        λ is. is_there n is.1 (eq-or-lt_of_le (let e : n ≤ limit = omega (arith, is.0, then) in e)),
-      );
+    λ has. was n (Contains-append_cases counted.numbers (limit ∷ []) n has),
+    λ is. is_there n is.1 (eq-or-lt_of_le (let e : n ≤ limit = omega (arith, is.0, then) in e)),
+  );
   count_is = length-append counted.numbers (limit ∷ []) ∙ (let e : length counted.numbers + 1 ≡ more = omega (arith, counted.count_is) in e);
 }
   where
     was : (n : ℕ) → Contains counted.numbers n ⊎ Contains (limit ∷ []) n → Below next P n
     was n (inl has) = let is = (counted.are n).0 has in (omega (arith, is.0, then), is.1)
     was n (inr has) = let same = only_one limit n has in (omega (arith, same, then), subst P same has_it)
+
     is_there : (n : ℕ) → P n → (n ≡ limit) ⊎ (n < limit) → Contains (counted.numbers ++ limit ∷ []) n
     is_there n is (inl same) = Contains-append_right counted.numbers (limit ∷ []) n (0, omega arith, sym same)
     is_there n is (inr less) = Contains-append_left counted.numbers (limit ∷ []) n ((counted.are n).1 (less, is))
@@ -67,9 +68,9 @@ none_more_counted P limit next count counted lacks then = record {
   numbers = counted.numbers;
   ascending = counted.ascending;
   are = λ n. (
-        λ has. let is = (counted.are n).0 has in (omega (arith, is.0, then), is.1),
-        λ is. is_there n is.1 (eq-or-lt_of_le (let e : n ≤ limit = omega (arith, is.0, then) in e)),
-      );
+    λ has. let is = (counted.are n).0 has in (omega (arith, is.0, then), is.1),
+    λ is. is_there n is.1 (eq-or-lt_of_le (let e : n ≤ limit = omega (arith, is.0, then) in e)),
+  );
   count_is = counted.count_is;
 }
   where
@@ -98,6 +99,7 @@ shown_defect_is_exposable raw matrix of_cell place = (
   where
     count : length matrix.defects ≡ length (defects_of raw)
     count = ap (λ (shape : Shape). length shape.defects) of_cell.shape ∙ length-map (defects_of raw) (name_of raw)
+
     listed_one : (o : Option Defect) → slice_get (defects_of raw) place ≡ o → IsSomeAnd o (IsExposable raw) → IsShownDefect matrix place
     listed_one None is never = absurd never
     listed_one (Some defect) is exposable =

@@ -114,11 +114,13 @@ one_showing matrix defect count next old new row are is shows pushed then = reco
   where
     vectors : ℕ
     vectors = vector_count (shape_of matrix)
+
     was : (other : Row) → Contains old other ⊎ Contains (row ∷ []) other → Shows matrix defect other × (other.first * vectors + other.last < next)
     was other (inl has) = let shown = are.contained other has in (shown.0, omega arith)
     was other (inr has) =
         let same = only_one row other has in
         (subst (Shows matrix defect) same shows, (let number = number_again vectors count other (sym same ∙ is) in omega arith))
+
     is_there : (other : Row) → Shows matrix defect other → (other.first * vectors + other.last ≡ count) ⊎ (other.first * vectors + other.last < count)
         → Contains (old ++ row ∷ []) other
     is_there other shown (inl same) =
@@ -136,6 +138,7 @@ none_more_showing matrix defect count next rows row are is none then = record {
   where
     vectors : ℕ
     vectors = vector_count (shape_of matrix)
+
     is_there : (other : Row) → Shows matrix defect other → (other.first * vectors + other.last ≡ count) ⊎ (other.first * vectors + other.last < count)
         → Contains rows other
     is_there other shown (inl same) =

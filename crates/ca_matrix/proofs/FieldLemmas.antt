@@ -153,12 +153,14 @@ due_begins shape k fields due =
 pub takes_values : (shape : Shape) (k : ℕ) (fields : List (List ℕ)) (old new : List Trit) (all : Bool) → begins_as shape k fields ≡ true
     → AddsValues all (drop 3 fields) old new → TakesRecord all shape k fields old new
 takes_values shape k fields old new true begins (values, are, added) =
-    let so = begins_so shape k fields begins in
-    (record {
-       entries = values;
-       wide = sym (length-map values field_of) ∙ ap length (sym are) ∙ so.1;
-       same = so.0 ∙ ap (λ rest. first_of shape k ∷ last_of shape k ∷ output_of shape k ∷ rest) are;
-     }, added)
+    let so = begins_so shape k fields begins in (
+      record {
+        entries = values;
+        wide = sym (length-map values field_of) ∙ ap length (sym are) ∙ so.1;
+        same = so.0 ∙ ap (λ rest. first_of shape k ∷ last_of shape k ∷ output_of shape k ∷ rest) are;
+      },
+      added,
+    )
 takes_values shape k fields old new false begins none = λ due. none due.entries (ap (λ f. drop 3 f) due.same)
 
 pub on_each_ok : {T E : Type 0} (result : Result T E) (P Q : T → Type 0) → ((x : T) → P x → Q x) → IfOk result P → IfOk result Q

@@ -74,10 +74,11 @@ module _ (raw : RawCell) where
       → IsColumnPut old new waves number column → IsRowFilled raw new number (column + 1)
   column_filled number column net old new waves before listed count ends is_put output other other_net is_output below other_listed =
       below_more (λ k. (n : Circuit) → slice_get (networks_of raw) k ≡ Some n
-          → IsEnd raw n (row_at vectors number) output (value_at new (entry_place outputs width number output k))) column earlier here other below other_net other_listed
+      → IsEnd raw n (row_at vectors number) output (value_at new (entry_place outputs width number output k))) column earlier here other below other_net other_listed
     where
       within : column < width
       within = slice_get_within (networks_of raw) column net listed
+
       earlier : (k : ℕ) → k < column → (n : Circuit) → slice_get (networks_of raw) k ≡ Some n
           → IsEnd raw n (row_at vectors number) output (value_at new (entry_place outputs width number output k))
       earlier k less n there =
@@ -85,6 +86,7 @@ module _ (raw : RawCell) where
           (sym (is_put.others (entry_place outputs width number output k) (λ o has. columns_differ (number * outputs + output) (number * outputs + o) width k column
           (omega (arith, within)) within (omega arith))))
           (before output k n is_output less there)
+
       here : (n : Circuit) → slice_get (networks_of raw) column ≡ Some n
           → IsEnd raw n (row_at vectors number) output (value_at new (entry_place outputs width number output column))
       here n there =
@@ -127,6 +129,7 @@ module _ (raw : RawCell) where
         where
           place_is : (output : ℕ) → (first + output) * row_width + column ≡ entry_place outputs width number output column
           place_is output = rw (is_first, is_width) refl
+
       at_row : AreEndsOf raw net (vector_of (role_count is_input raw.pins) (number / vectors)) (vector_of (role_count is_input raw.pins) (number % vectors)) waves
       at_row = subst (AreEndsOf raw net (vector_of (role_count is_input raw.pins) (number / vectors)) (vector_of (role_count is_input raw.pins) (number % vectors))) (sym same)
           (ends (vector_of (role_count is_input raw.pins) (number / vectors)) (vector_of (role_count is_input raw.pins) (number % vectors))

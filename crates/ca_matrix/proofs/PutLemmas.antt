@@ -46,6 +46,7 @@ one_put old mid new waves first width column count next wave before there narrow
         ap (λ list. value_at list ((first + k) * width + column)) is
         ∙ get_or-set_other mid ((first + count) * width + column) ((first + k) * width + column) wave.last X (omega arith)
         ∙ before.put k below other there_too
+
     here : (other : Wave) → slice_get waves count ≡ Some other → value_at new ((first + count) * width + column) ≡ other.last
     here other there_too =
         ap (λ list. value_at list ((first + count) * width + column)) is

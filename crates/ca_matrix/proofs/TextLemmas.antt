@@ -1,9 +1,9 @@
 -- The letters of vectors, and the records of a matrix.
-use Rattle.std.proofs.Common.{◌≡◌, ◌<◌, ◌≤◌, ◌+◌, ◌-◌, ◌*◌, ◌/◌, ◌%◌, ◌^◌, ℕ, zero, suc, List, [], ◌∷◌, ◌++◌, length, map, take, drop, refl, ap, sym, ◌∙◌, arith, append_assoc, length-append}
+use Rattle.std.proofs.Common.{◌≡◌, ◌<◌, ◌≤◌, ◌+◌, ◌-◌, ◌*◌, ◌/◌, ◌%◌, ◌^◌, ℕ, zero, suc, List, [], ◌∷◌, ◌++◌, length, take, drop, refl, ap, sym, ◌∙◌, arith, append_assoc}
 use Rattle.std.proofs.Math.Nat.{suc-mul}
 use Rattle.std.proofs.lemmas.List.{take-append-le}
 use Rattle.ca_net.specs.declared.trit.Trit.{Trit}
-use Rattle.ca_defect.specs.Row.{digit_value, vector_of}
+use Rattle.ca_defect.specs.Row.{digit_value}
 use Rattle.ca_matrix.specs.declared.shape.Shape.{Shape}
 use Rattle.ca_matrix.specs.Matrix.{width_of}
 use Rattle.csv.specs.Writing.{default_writer, row_text}

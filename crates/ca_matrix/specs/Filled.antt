@@ -27,7 +27,7 @@ IsRowFilled raw entries number count =
     (output column : ℕ) (net : Circuit) → output < role_count is_output raw.pins → column < count
     → slice_get (networks_of raw) column ≡ Some net
     → IsEnd raw net (row_at (2 ^ role_count is_input raw.pins) number) output
-        (value_at entries (entry_place (role_count is_output raw.pins) (length (networks_of raw)) number output column))
+    (value_at entries (entry_place (role_count is_output raw.pins) (length (networks_of raw)) number output column))
 
 -- all entries of the first so many rows are what their networks end with
 abbrev pub AreRowsFilled : RawCell → List Trit → ℕ → Type 0

@@ -4,7 +4,6 @@ ghost use Rattle.std.specs.Prelude.{◌≡◌, ◌≢◌, ◌<◌, ◌≤◌, �
 ghost use Rattle.ca_net.specs.declared.trit.Trit.TheVariants.{X};
 ghost use Rattle.ca_cell.specs.declared.raw.RawCell.{RawCell};
 ghost use Rattle.ca_defect.specs.declared.defect.Defect.{Defect};
-
 ghost use Rattle.ca_defect.specs.List.{defects_of};
 ghost use Rattle.ca_defect.specs.Row.{IsAscending};
 ghost use Rattle.ca_defect.specs.Exposes.{opposite_of, IsExposable, IsExposingRow};
@@ -106,10 +105,7 @@ impl Matrix {
         ensures { IsTrue result ↔ Shows self.now defect row }
     {
         for output in 0..self.outputs() {
-            if are_opposite(
-                self.good(row, output),
-                self.entry(row, defect, output),
-            ) {
+            if are_opposite(self.good(row, output), self.entry(row, defect, output)) {
                 return true;
             }
         }
@@ -121,8 +117,5 @@ impl Matrix {
 fn are_opposite(good: Trit, faulty: Trit) -> bool
     ensures { IsTrue result ↔ ((good ≢ X) × (faulty ≡ opposite_of good)) }
 {
-    match (good, faulty) {
-        (Trit::Zero, Trit::One) | (Trit::One, Trit::Zero) => true,
-        _ => false,
-    }
+    good != Trit::X && faulty != Trit::X && good != faulty
 }

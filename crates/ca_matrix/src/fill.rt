@@ -29,13 +29,7 @@ pub(crate) fn fill(cell: &Cell, defects: &[Defect], rooms: &mut Rooms, entries: 
 }
 
 // Fills the entries of the row of a number.
-fn fill_row(
-    cell: &Cell,
-    defects: &[Defect],
-    rooms: &mut Rooms,
-    entries: &mut [Trit],
-    number: usize,
-)
+fn fill_row(cell: &Cell, defects: &[Defect], rooms: &mut Rooms, entries: &mut [Trit], number: usize)
     requires listed { defects.now ≡ defects_of cell.now }
     requires rooms { AreRoomsOf cell.now rooms.old }
     requires room { length entries.old ≡ (2 ^ role_count is_input cell.now.pins * 2 ^ role_count is_input cell.now.pins

@@ -12,10 +12,15 @@ mod reading;
 mod record;
 mod rooms;
 mod shape;
+#[cfg(test)]
+mod tests;
 mod text;
 mod vectors;
 
 pub use fault::MatrixFault;
-pub use laws::{text_is_read_back, texts_have_one_answer};
+pub use laws::{records_have_the_entries, text_is_read_back, texts_have_one_answer};
 pub use matrix::Matrix;
 pub use shape::MOST_DEFECTS;
+
+#[cfg(test)]
+mod examples;

@@ -1,4 +1,4 @@
-use Rattle.std.proofs.Common.{ℕ, ◌≤◌, ◌≡◌, ◌+◌, length, sym, ap, ◌∙◌, subst, arith, refl}
+use Rattle.std.proofs.Common.{ℕ, ◌≤◌, ◌≡◌, ◌+◌, length, ap, ◌∙◌, subst, arith, refl}
 use Rattle.std.specs.List.{All}
 use Rattle.ca_net.specs.Wave.{IsPair}
 use Rattle.ca_settle.specs.Calls.{EndsAreLast}
