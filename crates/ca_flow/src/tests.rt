@@ -2,10 +2,12 @@
 
 mod rows;
 
-use self::rows::{DEFECTS, LIBRARY, LINES, MATRIX, NAND2_LINES, PAIR, RESPOND, Row};
+use self::rows::{DEFECTS, DEFINITE, LIBRARY, LINES, MATRIX, NAND2_LINES, PAIR, RESPOND, Row};
 use crate::{Done, Fault, Finished, run};
 use ca_base::NoMemory;
+use ca_cell::CellRule;
 use ca_lex::Text;
+use ca_net::{DeviceId, NodeId};
 use ca_store::{FailList, File, FileMap, MemSink, MemStore, StoreCall};
 use std::alloc::Global;
 use std::process::Abort;
@@ -140,6 +142,51 @@ fn a_failed_writing_is_told(rt: HostRuntime) -> Result<(), Fail> {
     let mute = outcome_of(alloc, LIBRARY, line, 0, FailList::new(alloc))?;
     assert_eq!(rt; mute.line.bytes(), b"cellaware: output fault\n".as_slice());
     assert!(rt; mute.store.bytes("m.csv") == whole.store.bytes("m.csv"));
+    Ok(())
+}
+
+// The returned fault names the first device on an input pin.
+#[test]
+fn a_refused_cell_has_its_pin_and_device(rt: HostRuntime) -> Result<(), Fail> {
+    let alloc = rt.alloc();
+    let line = "respond n.sp TG 11";
+    let ended = outcome_of(alloc, LIBRARY, line, 9, FailList::new(alloc))?;
+    let rule = CellRule::InputDrivesChannel {
+        pin: NodeId(2),
+        device: DeviceId(0),
+    };
+    let told = matches!(&ended.end.fault, Some(Fault::Cell { rule: found, .. }) if *found == rule);
+    assert!(rt; told);
+    Ok(())
+}
+
+// A short that no pair shows: it ties the output to the net that drives it.
+#[test]
+fn a_pair_that_shows_nothing_reads_x(rt: HostRuntime) -> Result<(), Fail> {
+    let alloc = rt.alloc();
+    for first in &DEFINITE {
+        for last in &DEFINITE {
+            let line = format!(in alloc; "pair n.sp AND2 {first} {last} Z=NB")?;
+            let ended = outcome_of(alloc, LIBRARY, &line, 9, FailList::new(alloc))?;
+            assert_eq!(rt; ended.printed.bytes(), b"Z=X\n".as_slice(), "at {line}");
+        }
+    }
+    Ok(())
+}
+
+// Files of comments alone, of the greatest length and of one byte more.
+#[test]
+fn a_file_may_have_16_mebibytes(rt: HostRuntime) -> Result<(), Fail> {
+    let alloc = rt.alloc();
+    for (length, told) in [
+        (16_777_216, "cellaware: no cell A\n"),
+        (16_777_217, "cellaware: file too long: n.sp\n"),
+    ] {
+        let bytes = vec![in alloc; b'*'; length]?;
+        let text = str::from_utf8(&bytes).expect(&rt, "the bytes are a text");
+        let ended = outcome_of(alloc, text, "respond n.sp A 1", 9, FailList::new(alloc))?;
+        assert_eq!(rt; ended.line.bytes(), told.as_bytes());
+    }
     Ok(())
 }
 

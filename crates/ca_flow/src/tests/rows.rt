@@ -131,6 +131,9 @@ pub(super) static NAND2_LINES: [(usize, &str); 3] = [
     (16, "11,11,ZN,0,0,0,X,0,0,X,X,X,X,X,X,X,X,X,1,1,0,0,0"),
 ];
 
+// The definite vectors of two inputs.
+pub(super) static DEFINITE: [&str; 4] = ["00", "01", "10", "11"];
+
 // Whole lines that are no command's, or whose file isn't there.
 pub(super) static LINES: [Row; 9] = [
     ("", 1, "", "bad command line"),
