@@ -2,3 +2,4 @@ pub mod RuleLemmas
 pub mod CircuitLemmas
 pub mod LibraryLemmas
 pub mod NodeLemmas
+pub mod OutputNameLemmas

@@ -1,5 +1,5 @@
 -- The network of a subcircuit: which node each net is, and what the nodes and devices are.
-use Rattle.std.specs.Prelude.{ℕ, ◌+◌, ◌-◌, Bool, true, false, List, ◌++◌, map, length, take, replicate, count_by, slice_get, Option, Some, None}
+use Rattle.std.specs.Prelude.{ℕ, ◌+◌, ◌-◌, Bool, true, false, if◌then◌else◌, List, [], ◌∷◌, ◌++◌, map, length, take, replicate, count_by, slice_get, Option, Some, None}
 use Rattle.ca_net.specs.declared.scale.TheConstants.{INNER_NODE, OUTPUT_NET}
 use Rattle.ca_net.specs.declared.node.NodeKind.{NodeKind}
 use Rattle.ca_net.specs.declared.node.NodeKind.TheVariants as node
@@ -39,6 +39,11 @@ is_ground Ground = true
 -- how many of the pins have a role
 abbrev pub role_count : (Role → Bool) → List RawPin → ℕ
 role_count is_role pins = count_by (λ pin. is_role pin.role) pins
+
+-- the names of the output pins, in pin order
+abbrev pub output_names : List RawPin → List (List ℕ)
+output_names [] = []
+output_names (pin ∷ pins) = if is_output pin.role then pin.name ∷ output_names pins else output_names pins
 
 -- how many inner nets there are, behind the pins
 abbrev pub inner_count : RawCell → ℕ

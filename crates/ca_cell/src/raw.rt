@@ -100,6 +100,8 @@ impl Model for RawPins {
 }
 
 impl RawPins {
+    ghost use Rattle.ca_cell.specs.Raw.{output_names};
+
     /// The list of no pins.
     pub fn new(alloc: Global) -> Self
         ensures { result ≡ [] }
@@ -122,6 +124,19 @@ impl RawPins {
         ensures err { OnErr result (self.new ≡ self.old) }
     {
         Ok(self.pins.push(pin)?)
+    }
+
+    /// The names of the output pins, in pin order.
+    pub fn output_names(&self, alloc: Global) -> Result<Names, NoMemory>
+        ensures ok { IfOk result (λ names. names ≡ output_names self.now) }
+    {
+        let mut names = Names::new(alloc);
+        for pin in self.as_slice() {
+            if pin.role.is_output() {
+                names.push(pin.name.copy(alloc)?)?;
+            }
+        }
+        Ok(names)
     }
 
     /// A list of its own with the same pins.

@@ -1,5 +1,5 @@
 -- A network with a defect: its devices by their places, and that it is well formed.
-use Rattle.std.proofs.Common.{◌≡◌, ℕ, zero, suc, ◌+◌, ◌<◌, ◌≤◌, ◌^◌, List, Bool, true, false, [], ◌∷◌, ◌++◌, length, inl, inr, refl, sym, ◌∙◌, ap, subst, arith, length-append, append-nil, add-zero, ◌==◌}
+use Rattle.std.proofs.Common.{◌≡◌, ℕ, zero, suc, ◌+◌, ◌<◌, ◌≤◌, ◌^◌, List, Bool, true, false, [], ◌∷◌, ◌++◌, length, inl, inr, refl, sym, ◌∙◌, ap, arith, length-append, append-nil, add-zero, ◌==◌}
 use Rattle.std.specs.Prelude.{cond, Option, Some, None, IsTrue, option_to_list, slice_get, IsSome}
 use Rattle.std.specs.List.{All}
 use Rattle.std.proofs.lemmas.List.Elements.{All-nil, All-cons, All-append}
@@ -12,8 +12,8 @@ use Rattle.ca_net.specs.declared.device.Device.{Device}
 use Rattle.ca_net.specs.Circuit.{Circuit, IsWellFormed, HasSize, HasStrength, NamesWithin}
 use Rattle.ca_cell.specs.declared.raw.RawCell.{RawCell}
 use Rattle.ca_cell.specs.Raw.{is_input, role_count, circuit_of, device_of}
-use Rattle.ca_cell.specs.Rules.{IsRaw, KeepsRules}
-use Rattle.ca_cell.specs.declared.rule.TheConstants.{MOST_DEVICES, MOST_NODES}
+use Rattle.ca_cell.specs.Rules.{KeepsRules}
+use Rattle.ca_cell.specs.declared.rule.TheConstants.{MOST_NODES}
 use Rattle.ca_cell.proofs.CircuitLemmas.{few_nodes, length-nodes_of, well_formed}
 use Rattle.ca_cell.proofs.NodeLemmas.{few_devices}
 use Rattle.std.proofs.lemmas.List.{length-map}

@@ -7,7 +7,6 @@ use Rattle.std.proofs.lemmas.Bool.Decides.{nat_tests}
 use Rattle.std.proofs.lemmas.List.{length-map}
 use Rattle.ca_cell.specs.declared.raw.RawCell.{RawCell}
 use Rattle.ca_cell.specs.Raw.{is_input, is_output, role_count, inner_count, device_of, nodes_of, circuit_of}
-use Rattle.ca_cell.specs.Rules.{node_count}
 use Rattle.ca_cell.specs.Nodes.{free_count, pair_count, defect_count}
 use Rattle.ca_cell.proofs.CircuitLemmas.{length-nodes_of}
 use Rattle.ca_defect.specs.declared.defect.Defect.{Defect}

@@ -1,6 +1,6 @@
 -- What is found in a list passes the test and keeps what all entries keep.
-use Rattle.std.proofs.Common.{◌≡◌, ℕ, zero, suc, ◌+◌, ◌<◌, List, Bool, true, false, [], ◌∷◌, ◌++◌, length, refl, sym, ◌∙◌, ap, subst, arith, true≢false}
-use Rattle.std.specs.Prelude.{cond, Option, Some, None, IfSome, IfNone, IsTrue, find}
+use Rattle.std.proofs.Common.{◌≡◌, ℕ, List, Bool, true, false, [], ◌∷◌, ◌++◌, length, refl, sym, ◌∙◌, ap, subst, true≢false}
+use Rattle.std.specs.Prelude.{cond, Option, Some, None, IfSome, IfNone, IsTrue, is_some, find}
 use Rattle.std.specs.List.{All}
 use Rattle.std.proofs.lemmas.List.Elements.{All-nil, All-cons, All-head, All-tail}
 use Rattle.std.proofs.lemmas.Option.{same_Some}
@@ -80,12 +80,47 @@ find_in_three test opens pins shorts =
     regroup None = refl
     regroup (Some defect) = refl
 
-pub found_first : (raw : RawCell) (text : List ℕ) (opens pins shorts result : Option Defect)
-    → opens ≡ find (is_called raw text) (each_from device_opens 0 (length (circuit_of raw).devices))
-    → pins ≡ find (is_called raw text) (each_from pin_open 0 (role_count is_input raw.pins))
-    → shorts ≡ find (is_called raw text) (each_from (shorts_of (length (circuit_of raw).nodes) (role_count is_input raw.pins)) 0 (length (circuit_of raw).nodes))
-    → result ≡ option_or (option_or opens pins) shorts → result ≡ find (is_called raw text) (defects_of raw)
-found_first raw text opens pins shorts result in_opens in_pins in_shorts is =
-    let whole = find_in_three (is_called raw text) (each_from device_opens 0 (length (circuit_of raw).devices)) (each_from pin_open 0 (role_count is_input raw.pins))
-    (each_from (shorts_of (length (circuit_of raw).nodes) (role_count is_input raw.pins)) 0 (length (circuit_of raw).nodes)) in
-    cc
+-- the first open of a device, the first open of an input pin and the first short that has the name
+abbrev named_open : RawCell → List ℕ → Option Defect
+named_open raw text = find (is_called raw text) (each_from device_opens 0 (length (circuit_of raw).devices))
+
+abbrev named_pin : RawCell → List ℕ → Option Defect
+named_pin raw text = find (is_called raw text) (each_from pin_open 0 (role_count is_input raw.pins))
+
+abbrev named_short : RawCell → List ℕ → Option Defect
+named_short raw text = find (is_called raw text) (each_from (shorts_of (length (circuit_of raw).nodes) (role_count is_input raw.pins)) 0 (length (circuit_of raw).nodes))
+
+-- each in turn is the first defect that has the name, where there is none before
+pub found_as_open : (raw : RawCell) (text : List ℕ) (found : Option Defect) → found ≡ named_open raw text → is_some found ≡ true
+    → found ≡ find (is_called raw text) (defects_of raw)
+found_as_open raw text found is some =
+    here found some ∙ ap (λ o. option_or (option_or o (named_pin raw text)) (named_short raw text)) is
+    ∙ sym (find_in_three (is_called raw text) _ _ _)
+  where
+    here : (o : Option Defect) → is_some o ≡ true → o ≡ option_or (option_or o (named_pin raw text)) (named_short raw text)
+    here None never = cc
+    here (Some defect) some = refl
+
+pub found_as_pin : (raw : RawCell) (text : List ℕ) (opening found : Option Defect) → opening ≡ named_open raw text → is_some opening ≡ false
+    → found ≡ named_pin raw text → is_some found ≡ true → found ≡ find (is_called raw text) (defects_of raw)
+found_as_pin raw text opening found before none is some =
+    here opening found none some ∙ ap (λ o. option_or (option_or o found) (named_short raw text)) before
+    ∙ ap (λ o. option_or (option_or (named_open raw text) o) (named_short raw text)) is ∙ sym (find_in_three (is_called raw text) _ _ _)
+  where
+    here : (one other : Option Defect) → is_some one ≡ false → is_some other ≡ true
+        → other ≡ option_or (option_or one other) (named_short raw text)
+    here None None none never = cc
+    here None (Some defect) none some = refl
+    here (Some defect) other never some = cc
+
+pub found_as_short : (raw : RawCell) (text : List ℕ) (opening pin found : Option Defect) → opening ≡ named_open raw text → is_some opening ≡ false
+    → pin ≡ named_pin raw text → is_some pin ≡ false → found ≡ named_short raw text → found ≡ find (is_called raw text) (defects_of raw)
+found_as_short raw text opening pin found before none next no_pin is =
+    is ∙ here opening pin none no_pin ∙ ap (λ o. option_or (option_or o pin) (named_short raw text)) before
+    ∙ ap (λ o. option_or (option_or (named_open raw text) o) (named_short raw text)) next ∙ sym (find_in_three (is_called raw text) _ _ _)
+  where
+    here : (one other : Option Defect) → is_some one ≡ false → is_some other ≡ false
+        → named_short raw text ≡ option_or (option_or one other) (named_short raw text)
+    here None None none no_other = refl
+    here None (Some defect) none never = cc
+    here (Some defect) other never no_other = cc

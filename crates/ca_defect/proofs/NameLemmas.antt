@@ -1,6 +1,6 @@
 -- The name of a node by the places of nets.
-use Rattle.std.proofs.Common.{◌≡◌, ◌≢◌, ℕ, zero, suc, ◌+◌, ◌<◌, ◌≤◌, ◌==◌, List, Bool, true, false, [], ◌∷◌, refl, sym, ◌∙◌, ap, subst, arith, add-zero, true≢false}
-use Rattle.std.specs.Prelude.{cond, Option, Some, None, slice_get, option_map, unwrap_or}
+use Rattle.std.proofs.Common.{◌≡◌, ◌≢◌, ℕ, zero, suc, ◌+◌, ◌<◌, ◌==◌, List, Bool, true, false, [], ◌∷◌, refl, sym, ◌∙◌, ap, arith, add-zero}
+use Rattle.std.specs.Prelude.{cond, Some, slice_get}
 use Rattle.std.proofs.lemmas.Bool.Decides.{Decides-eqb}
 use Rattle.std.proofs.lemmas.Option.{none-some, same_Some}
 use Rattle.ca_cell.specs.declared.raw.RawPin.{RawPin}

@@ -17,7 +17,7 @@ pub use defect::{Defect, changed_device};
 pub use laws::lists_defects;
 pub use list::DefectList;
 pub use listing::defects;
-pub use names::name;
+pub use names::{defect_names, name};
 pub use overlay::Overlay;
 pub use row::{Row, Rows};
 pub use search::parse;

@@ -1,15 +1,16 @@
 //! The names of defects.
 
-ghost use Rattle.std.specs.Prelude.{◌≡◌, ◌++◌, ◌<◌, length, IfOk, IsTrue, ◌↔◌};
+ghost use Rattle.std.specs.Prelude.{◌≡◌, ◌++◌, ◌<◌, All, length, map, IfOk, IsTrue, ◌↔◌};
 ghost use Rattle.ca_lex.specs.Words.{upper_case};
 ghost use Rattle.ca_cell.specs.Raw.{circuit_of};
 ghost use Rattle.ca_defect.specs.List.{IsDefectOf};
 ghost use Rattle.ca_defect.specs.Name.{node_name, device_name, name_of};
 
 use crate::defect::Defect;
+use crate::list::DefectList;
 use ca_base::NoMemory;
 use ca_cell::Cell;
-use ca_lex::{Text, fold};
+use ca_lex::{Names, Text, fold};
 use ca_net::{DeviceId, NodeId};
 use std::alloc::Global;
 
@@ -31,6 +32,18 @@ pub fn name(alloc: Global, cell: &Cell, defect: Defect) -> Result<Text, NoMemory
     text.append(parts.mark)?;
     text.append(fold(alloc, parts.second)?.as_bytes())?;
     Ok(text)
+}
+
+/// The names of defects of the cell, in the order of the list.
+pub fn defect_names(alloc: Global, cell: &Cell, list: &DefectList) -> Result<Names, NoMemory>
+    requires { All (IsDefectOf cell.now) list.now }
+    ensures { IfOk result (λ names. names ≡ map (name_of cell.now) list.now) }
+{
+    let mut names = Names::new(alloc);
+    for defect in list.as_slice() {
+        names.push(name(alloc, cell, *defect)?)?;
+    }
+    Ok(names)
 }
 
 /// The parts of the name of a defect of the cell.

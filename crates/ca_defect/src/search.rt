@@ -19,9 +19,22 @@ pub fn parse(cell: &Cell, text: &[u8]) -> Option<Defect>
     ensures listed { IfSome result (IsDefectOf cell.now) }
     ensures none { IfNone result (All (λ defect. name_of cell.now defect ≢ upper_case text.now) (defects_of cell.now)) }
 {
-    find_device_open(cell, text)
-        .or(find_pin_open(cell, text))
-        .or(find_short(cell, text))
+    find_listed(cell, text)
+}
+
+// The first defect that has the name.
+fn find_listed(cell: &Cell, text: &[u8]) -> Option<Defect>
+    ensures { result ≡ find (is_called cell.now text.now) (defects_of cell.now) }
+{
+    let found = find_device_open(cell, text);
+    if found.is_some() {
+        return found;
+    }
+    let found = find_pin_open(cell, text);
+    if found.is_some() {
+        return found;
+    }
+    find_short(cell, text)
 }
 
 // The first open of a device that has the name.

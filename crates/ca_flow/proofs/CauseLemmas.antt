@@ -1,5 +1,6 @@
 -- How the causes of a command follow from those of its stages.
-use Rattle.std.proofs.Common.{ℕ, ◌≡◌, ◌≢◌, ◌⊎◌, inl, inr, refl, sym, ap, List, map, Option, Some, None, Ok}
+use Rattle.std.proofs.Common.{ℕ, ◌≡◌, ◌≢◌, ◌⊎◌, inl, inr, refl, sym, ap, List, map, Option, Some, None, Ok, true≢false, subst}
+use Rattle.std.specs.Prelude.{IsNone}
 use Rattle.ca_store.specs.Store.{Files}
 use Rattle.ca_lex.specs.Words.{upper_case}
 use Rattle.ca_cell.specs.declared.raw.RawCell.{RawCell}
@@ -18,10 +19,20 @@ use Rattle.ca_flow.specs.declared.finished.Done.TheVariants.{Defects, Matrix}
 use Rattle.ca_flow.specs.declared.words.CellWords.{CellWords}
 use Rattle.ca_flow.specs.declared.words.MatrixWords.{MatrixWords}
 use Rattle.ca_flow.specs.Command.{IsSpelledDefects, IsSpelledMatrix}
+use Rattle.ca_flow.specs.Outputs.{asked_network}
 use Rattle.ca_flow.specs.Ends.{AreDefectNames, IsSoundMatrix, IsAsked}
-use Rattle.ca_flow.specs.Fault.{IsLibraryCause, IsCellCause, IsPairCause, IsVectorCause, IsValueCause, IsWorkCause}
+use Rattle.ca_flow.specs.Fault.{IsLibraryCause, IsCellCause, IsFirstUnfit, IsPairCause, IsVectorCause, IsValueCause, IsWorkCause}
 use Rattle.ca_flow.specs.Stages.{IsReadingCause, IsEntryCause, IsEvaluationCause}
 use Rattle.ca_flow.proofs.FileLemmas.{of_entry, of_none}
+
+-- a vector that doesn't fit is the first or the last
+typed_of : (raw : RawCell) (first last typed : List ℕ) → IsFirstUnfit raw first last typed → (typed ≡ first) ⊎ (typed ≡ last)
+typed_of raw first last typed (inl unfit) = inl unfit.0
+typed_of raw first last typed (inr unfit) = inr unfit.0
+
+-- a dash asks for the cell itself
+no_dash : (raw : RawCell) (defect : List ℕ) → IsNone (asked_network raw defect) → defect ≢ dash
+no_dash raw defect none = λ same. true≢false (subst (λ word. IsNone (asked_network raw word)) same none)
 
 -- want of memory may come anywhere
 pub no_memory_at_library : (name : List ℕ) (files : Option Files) (before after : ℕ) (fault : Fault) → fault ≡ NoMemory
@@ -52,10 +63,14 @@ module _ (name word : List ℕ) (files : Option Files) (library : List Named)
     at_pair (Cells line kind) cause = absurd cause
     at_pair (NoCell typed) cause = absurd cause
     at_pair (Cell cell rule) cause = absurd cause
-    at_pair (BadVector typed) cause =
-        of_entry files name word library read (Sound raw) (IsPairCause first last defect (BadVector typed)) found cause
-    at_pair (NoDefect typed) cause =
-        of_entry files name word library read (Sound raw) (IsPairCause first last defect (NoDefect typed)) found cause
+    at_pair (BadVector typed) cause = (
+      typed_of raw first last typed cause.1,
+      of_entry files name word library read (Sound raw) (IsPairCause first last defect (BadVector typed)) found cause,
+    )
+    at_pair (NoDefect typed) cause = (
+      cause.0,
+      (no_dash raw defect cause.1.1.1.1, of_entry files name word library read (Sound raw) (IsPairCause first last defect (NoDefect typed)) found cause),
+    )
     at_pair (TooLong typed taken) cause = absurd cause
     at_pair (Limit kind count) cause = absurd cause
     at_pair (StoreFailed typed) cause = absurd cause

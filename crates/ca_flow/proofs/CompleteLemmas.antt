@@ -132,13 +132,13 @@ module _ (words : List (List ℕ)) (files : Option Files) (seen : HasSeen words 
   at_vector first last defect first_fits last_fits asks (NoCell typed) cause = cause
   at_vector first last defect first_fits last_fits asks (Cell cell rule) cause = cause
   at_vector first last defect first_fits last_fits asks (BadVector typed) cause =
-      at_unfit (at_raw (IsPairCause first last defect (BadVector typed)) cause).1
+      at_unfit (at_raw (IsPairCause first last defect (BadVector typed)) cause.1).1
     where
       at_unfit : IsFirstUnfit seen.raw first last typed → ⊥
       at_unfit (inl (same, unfit)) = unfit first_fits
       at_unfit (inr (same, (fits, unfit))) = unfit last_fits
   at_vector first last defect first_fits last_fits asks (NoDefect typed) cause =
-      let lacks = (at_raw (IsPairCause first last defect (NoDefect typed)) cause).1.1 in
+      let lacks = (at_raw (IsPairCause first last defect (NoDefect typed)) cause.1.1).1.1 in
       true≢false (sym asks ∙ lacks.1.1)
   at_vector first last defect first_fits last_fits asks (TooLong typed taken) cause = cause
   at_vector first last defect first_fits last_fits asks (Limit kind count) cause = cause

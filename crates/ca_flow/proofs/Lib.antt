@@ -1,7 +1,6 @@
 pub mod WordLemmas
 pub mod LineLemmas
 pub mod PieceLemmas
-pub mod CellLemmas
 pub mod OutputLemmas
 pub mod FileLemmas
 pub mod CauseLemmas

@@ -8,7 +8,8 @@ use Rattle.ca_net.specs.Circuit.{Circuit}
 use Rattle.ca_cell.specs.declared.raw.RawCell.{RawCell}
 use Rattle.ca_response.specs.Outputs.{AreEndsOf}
 use Rattle.ca_flow.specs.declared.pin_values.PinValue.{PinValue}
-use Rattle.ca_flow.specs.Outputs.{output_names, AreEnds}
+use Rattle.ca_cell.specs.Raw.{output_names}
+use Rattle.ca_flow.specs.Outputs.{AreEnds}
 
 abbrev pub told_values : List (List ℕ) → List Wave → List PinValue
 told_values [] waves = []

@@ -1,10 +1,9 @@
 -- How a command ends.
-use Rattle.std.specs.Prelude.{◌≡◌, ◌<◌, ◌≤◌, ℕ, List, map, Option, IsSomeAnd, IfSome, ⊤}
+use Rattle.std.specs.Prelude.{◌≡◌, ◌<◌, ◌≤◌, ℕ, List, Option, IsSomeAnd, IfSome, ⊤}
 use Rattle.ca_store.specs.Store.{Files}
 use Rattle.ca_cell.specs.declared.raw.RawCell.{RawCell}
 use Rattle.ca_cell.specs.Rules.{KeepsRules}
-use Rattle.ca_defect.specs.List.{defects_of}
-use Rattle.ca_defect.specs.Name.{name_of}
+use Rattle.ca_defect.specs.Name.{names_of}
 use Rattle.ca_matrix.specs.Matrix.{Entries}
 use Rattle.ca_matrix.specs.Built.{IsMatrixOf}
 use Rattle.ca_flow.specs.declared.fault.Fault.{Fault}
@@ -32,7 +31,7 @@ pub record TellsStoreFault (fault : Option Fault) (before after : ℕ) : Type 0 
 
 -- the names are those of the defects of a subcircuit that keeps the rules of a used cell, in their order
 abbrev pub AreDefectNames : List (List ℕ) → RawCell → Type 0
-AreDefectNames names raw = KeepsRules raw × (names ≡ map (name_of raw) (defects_of raw))
+AreDefectNames names raw = KeepsRules raw × (names ≡ names_of raw)
 
 -- the matrix is that of a subcircuit that keeps the rules of a used cell
 abbrev pub IsSoundMatrix : Entries → RawCell → Type 0

@@ -1,5 +1,5 @@
 -- Why a command is refused: each stage of a command has its own causes, and a command's are those of its stages.
-use Rattle.std.specs.Prelude.{◌≡◌, ◌⊎◌, ℕ, List, Option, Some, Err, IsNone, ⊤}
+use Rattle.std.specs.Prelude.{◌≡◌, ◌≢◌, ◌⊎◌, ℕ, List, Option, Some, Err, IsNone, ⊤}
 use Rattle.ca_store.specs.Store.{Files, MayHave, Rose}
 use Rattle.ca_store.specs.ReadFault.{IsTooLong}
 use Rattle.ca_lex.specs.Words.{upper_case}
@@ -66,12 +66,12 @@ IsPairCause first last defect (BadVector typed) raw = KeepsRules raw × IsFirstU
 IsPairCause first last defect (NoDefect typed) raw = (typed ≡ defect) × (KeepsRules raw × LacksDefect raw first last defect)
 IsPairCause first last defect _ raw = ⊥
 
--- the same of the cell that a word names in a file
+-- the same of the cell that a word names in a file; the word told is one of those typed, whatever the store tells
 abbrev pub IsVectorCause : List ℕ → List ℕ → List ℕ → List ℕ → List ℕ → Option Files → Fault → Type 0
 IsVectorCause name word first last defect files (BadVector typed) =
-    OfCell files name word (IsPairCause first last defect (BadVector typed))
+    ((typed ≡ first) ⊎ (typed ≡ last)) × OfCell files name word (IsPairCause first last defect (BadVector typed))
 IsVectorCause name word first last defect files (NoDefect typed) =
-    OfCell files name word (IsPairCause first last defect (NoDefect typed))
+    (typed ≡ defect) × ((defect ≢ dash) × OfCell files name word (IsPairCause first last defect (NoDefect typed)))
 IsVectorCause name word first last defect files _ = ⊥
 
 -- why a command on one cell found no cell

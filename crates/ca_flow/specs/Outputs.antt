@@ -1,12 +1,11 @@
 -- The values of a cell's output pins under a pair of vectors.
-use Rattle.std.specs.Prelude.{ℕ, ◌+◌, ◌==◌, ◌≡◌, ◌≢◌, ◌↔◌, List, [], ◌∷◌, map, find, length, Option, Some, slice_get, option_map, if◌then◌else◌, IsSomeAnd}
+use Rattle.std.specs.Prelude.{ℕ, ◌+◌, ◌==◌, ◌≡◌, ◌≢◌, ◌↔◌, List, [], map, find, length, Option, Some, slice_get, option_map, if◌then◌else◌, IsSomeAnd}
 use Rattle.std.specs.Str.{bytes_eq}
 use Rattle.ca_net.specs.declared.trit.Trit.{Trit}
 use Rattle.ca_net.specs.declared.trit.Trit.TheVariants.{Zero, One, X}
 use Rattle.ca_net.specs.Circuit.{Circuit}
-use Rattle.ca_cell.specs.declared.raw.RawPin.{RawPin}
 use Rattle.ca_cell.specs.declared.raw.RawCell.{RawCell}
-use Rattle.ca_cell.specs.Raw.{is_input, is_output, role_count, circuit_of}
+use Rattle.ca_cell.specs.Raw.{is_input, role_count, output_names, circuit_of}
 use Rattle.ca_cell.specs.Rules.{KeepsRules}
 use Rattle.ca_defect.specs.declared.defect.Defect.{Defect}
 use Rattle.ca_defect.specs.List.{defects_of, faulty_of}
@@ -38,11 +37,6 @@ defect_called raw word = find (is_called raw word) (defects_of raw)
 -- the network that a word asks for: a dash for that of the cell, and the name of a defect for that of the cell with the defect
 abbrev pub asked_network : RawCell → List ℕ → Option Circuit
 asked_network raw word = if bytes_eq word dash then Some (circuit_of raw) else option_map (faulty_of raw) (defect_called raw word)
-
--- the names of the output pins, in pin order
-abbrev pub output_names : List RawPin → List (List ℕ)
-output_names [] = []
-output_names (pin ∷ pins) = if is_output pin.role then pin.name ∷ output_names pins else output_names pins
 
 -- the values are of the output pins in their order, and each is 0 or 1 exactly where every run of the network for the two
 -- vectors ends with it; the output pins are the nodes behind power, ground and the input pins

@@ -1,8 +1,7 @@
 //! The names that `defects` asks for.
-ghost use Rattle.std.specs.Prelude.{◌≡◌, Some, map, IfErr, IfOk, OnOk};
+ghost use Rattle.std.specs.Prelude.{◌≡◌, Some, IfErr, IfOk, OnOk};
 ghost use Rattle.ca_store.specs.Store.{Nothing};
-ghost use Rattle.ca_defect.specs.List.{defects_of, IsDefectOf};
-ghost use Rattle.ca_defect.specs.Name.{name_of};
+ghost use Rattle.ca_defect.specs.Name.{names_of};
 ghost use Rattle.ca_flow.specs.Cells.{OfCell};
 ghost use Rattle.ca_flow.specs.Fault.{IsCellCause};
 ghost use Rattle.ca_flow.specs.Ends.{TellsStoreFault, AreDefectNames};
@@ -12,7 +11,7 @@ use crate::inputs::{find_cell, open_library};
 use crate::words::CellWords;
 use ca_base::NoMemory;
 use ca_cell::Cell;
-use ca_defect::{defects, name};
+use ca_defect::{defect_names, defects};
 use ca_lex::Names;
 use ca_store::Store;
 use std::alloc::Global;
@@ -37,18 +36,13 @@ pub(crate) fn find_names<S: Store>(
 {
     let library = open_library(alloc, request.cells, store)?;
     let cell = find_cell(alloc, &library, request.cell)?;
-    Ok(defect_names(alloc, cell)?)
+    Ok(names_of(alloc, cell)?)
 }
 
 // The names of the cell's defects, in their order.
-fn defect_names(alloc: Global, cell: &Cell) -> Result<Names, NoMemory>
-    ensures { IfOk result (λ names. names ≡ map (name_of cell.now) (defects_of cell.now)) }
+fn names_of(alloc: Global, cell: &Cell) -> Result<Names, NoMemory>
+    ensures { IfOk result (λ names. names ≡ names_of cell.now) }
 {
-    let defects = defects(alloc, cell)?;
-    let mut names = Names::new(alloc);
-    let defects = defects.as_slice();
-    for defect in defects {
-        names.push(name(alloc, cell, *defect)?)?;
-    }
-    Ok(names)
+    let list = defects(alloc, cell)?;
+    defect_names(alloc, cell, &list)
 }

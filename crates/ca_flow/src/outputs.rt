@@ -1,12 +1,10 @@
 //! The values to which the output pins of a cell settle.
 ghost use Rattle.std.specs.Prelude.{◌≡◌, length, map, IfOk};
 ghost use Rattle.ca_cell.specs.Raw.{is_input, role_count};
-ghost use Rattle.ca_flow.specs.Outputs.{trit_of, output_names, AreEnds};
+ghost use Rattle.ca_flow.specs.Outputs.{trit_of, AreEnds};
 
 use crate::pin_values::{PinValue, PinValues};
 use ca_base::NoMemory;
-use ca_cell::RawPin;
-use ca_lex::Names;
 use ca_net::Trit;
 use ca_response::{CellNet, pairs, respond};
 use ca_settle::Work;
@@ -28,7 +26,7 @@ pub(crate) fn values_of<N: CellNet>(
     let first = trits(alloc, first)?;
     let last = trits(alloc, last)?;
     let cell = net.cell();
-    let pins = output_names(alloc, cell.raw().pins.as_slice())?;
+    let pins = cell.raw().pins.output_names(alloc)?;
     let mut work = Work::reserve(alloc, net.node_count(), net.device_count())?;
     let waves = respond(net, pairs(&first, &last).as_slice(), &mut work);
     let mut values = PinValues::new(alloc);
@@ -40,19 +38,6 @@ pub(crate) fn values_of<N: CellNet>(
         })?;
     }
     Ok(values)
-}
-
-// The names of the output pins.
-fn output_names(alloc: Global, pins: &[RawPin]) -> Result<Names, NoMemory>
-    ensures { IfOk result (λ names. names ≡ output_names pins.now) }
-{
-    let mut names = Names::new(alloc);
-    for pin in pins {
-        if pin.role.is_output() {
-            names.push(pin.name.copy(alloc)?)?;
-        }
-    }
-    Ok(names)
 }
 
 // The values of letters.

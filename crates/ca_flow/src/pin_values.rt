@@ -1,10 +1,10 @@
 //! The values of a cell's output pins.
 ghost use Rattle.std.specs.Prelude.{◌≡◌, [], ◌∷◌, ◌++◌, flat_map, IfOk, OnOk, OnErr};
-ghost use Rattle.ca_flow.specs.Lines.{line_of_pin, letter_of};
+ghost use Rattle.ca_flow.specs.Lines.{line_of_pin};
 
 use ca_base::NoMemory;
 use ca_lex::Text;
-use ca_net::Trit;
+use ca_net::{Trit, letter};
 use std::alloc::Global;
 use std::marker::Model;
 
@@ -76,15 +76,4 @@ fn add_line(text: &mut Text, value: &PinValue) -> Result<(), NoMemory>
     text.append(b"=")?;
     text.push(letter(value.value))?;
     text.append(b"\n")
-}
-
-// The letter of a value.
-fn letter(value: Trit) -> u8
-    ensures { result ≡ letter_of value }
-{
-    match value {
-        Trit::Zero => b'0',
-        Trit::One => b'1',
-        Trit::X => b'X',
-    }
 }

@@ -1,7 +1,7 @@
 -- The entries of a cell's matrix, filled row by row.
 use Rattle.std.proofs.Common.{ℕ, ◌+◌, ◌*◌, ◌/◌, ◌%◌, ◌^◌, ◌<◌, ◌≤◌, ◌≡◌, ◌≢◌, refl, sym, ap, ◌∙◌, subst, zero, suc, List, [], ◌∷◌, length, map, get_or, arith, below_more}
 use Rattle.std.specs.Prelude.{Some, slice_get}
-use Rattle.std.proofs.lemmas.Nat.{mul-le, mul-add-lt, mod-mul-add}
+use Rattle.std.proofs.lemmas.Nat.{mul-le, mod-mul-add}
 use Rattle.std.proofs.lemmas.Option.{same_Some, slice_get_within, slice_get-get_or}
 use Rattle.ca_net.specs.declared.trit.Trit.{Trit}
 use Rattle.ca_net.specs.declared.trit.Trit.TheVariants.{X}

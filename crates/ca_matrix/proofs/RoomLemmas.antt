@@ -1,8 +1,6 @@
 -- The numbers of nodes and devices of a cell with a defect.
-use Rattle.std.proofs.Common.{ℕ, ◌+◌, ◌≡◌, refl, sym, ap, ◌∙◌, List, length, arith}
+use Rattle.std.proofs.Common.{ℕ, ◌+◌, ◌≡◌, refl, sym, ap, ◌∙◌, length}
 use Rattle.std.specs.Prelude.{IsSome, IsNone}
-use Rattle.ca_net.specs.declared.node.NodeKind.TheVariants.{Storage}
-use Rattle.ca_net.specs.declared.scale.TheConstants.{INNER_NODE}
 use Rattle.ca_net.specs.Circuit.{Circuit}
 use Rattle.ca_cell.specs.declared.raw.RawCell.{RawCell}
 use Rattle.ca_cell.specs.Raw.{circuit_of}

@@ -1,5 +1,5 @@
 -- The order of the three values (Bryant 1984, ternary values: X stands for a value that isn't known).
-use Rattle.std.specs.Prelude.{◌≡◌, ◌⊎◌}
+use Rattle.std.specs.Prelude.{ℕ, ◌≡◌, ◌⊎◌}
 use Rattle.ca_net.specs.declared.trit.Trit.{Trit}
 use Rattle.ca_net.specs.declared.trit.Trit.TheVariants.{Zero, One, X}
 
@@ -16,3 +16,9 @@ meet_of Zero X = X
 meet_of One Zero = X
 meet_of One X = X
 meet_of X b = X
+
+-- the letter of a value: 0, 1 or X
+abbrev pub letter_of : Trit → ℕ
+letter_of Zero = 48
+letter_of One = 49
+letter_of X = 88

@@ -1,6 +1,11 @@
 //! Laws of the definitions, each the contract of a function that does nothing.
 
-ghost use Rattle.ca_net.specs.Laws.{ResponseRises, SomePathIsUnblocked, LastLimitIsEnd};
+ghost use Rattle.ca_net.specs.Laws.{ScaleIsOrdered, ResponseRises, SomePathIsUnblocked, LastLimitIsEnd};
+
+/// Each number of the scale is below the next.
+pub fn scale_is_ordered()
+    ensures { ScaleIsOrdered }
+{}
 
 /// A state that is above another has responses above that one's.
 pub fn response_rises()

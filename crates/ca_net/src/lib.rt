@@ -18,7 +18,7 @@ mod wave;
 
 pub use device::{Device, DeviceId, DeviceKind};
 pub use flat_net::{FlatNet, NetFault};
-pub use laws::{last_limit_is_end, response_rises, some_path_is_unblocked};
+pub use laws::{last_limit_is_end, response_rises, scale_is_ordered, some_path_is_unblocked};
 pub use lists::{DeviceList, NodeList};
 pub use marks::Marks;
 pub use network::Network;
@@ -26,7 +26,7 @@ pub use node::{NodeId, NodeKind};
 pub use response::response_by_paths;
 pub use scale::{BRIDGE, INNER_NODE, INPUT, OUTPUT_NET, STRONG, WEAK};
 pub use state::State;
-pub use trit::{Trit, below, meet};
+pub use trit::{Trit, below, letter, meet};
 pub use wave::Wave;
 
 #[cfg(test)]

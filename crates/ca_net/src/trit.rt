@@ -1,7 +1,7 @@
 //! The three values of a node.
 
 ghost use Rattle.std.specs.Prelude.{◌≡◌, IsTrue, ◌↔◌};
-ghost use Rattle.ca_net.specs.Trit.{IsBelow, meet_of};
+ghost use Rattle.ca_net.specs.Trit.{IsBelow, meet_of, letter_of};
 
 /// The value of a node: 0, 1, or X where it isn't known.
 #[derive(Clone, Copy, Debug, PartialEq, Eq)]
@@ -23,4 +23,15 @@ pub fn below(a: Trit, b: Trit) -> bool
     ensures { IsTrue result ↔ IsBelow a b }
 {
     a == Trit::X || a == b
+}
+
+/// The letter of a value: 0, 1 or X.
+pub fn letter(value: Trit) -> u8
+    ensures { result ≡ letter_of value }
+{
+    match value {
+        Trit::Zero => b'0',
+        Trit::One => b'1',
+        Trit::X => b'X',
+    }
 }

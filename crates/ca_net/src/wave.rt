@@ -16,7 +16,11 @@ pub struct Wave {
 
 /// The wave of a node of which no value is known.
 impl Default for Wave {
-    fn default() -> Self {
+    ghost use Rattle.ca_net.specs.declared.trit.Trit.TheVariants.{X};
+
+    fn default() -> Self
+        ensures { result ≡ record { first = X; mid = X; last = X } }
+    {
         Wave {
             first: Trit::X,
             mid: Trit::X,

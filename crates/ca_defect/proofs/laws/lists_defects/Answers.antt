@@ -1,4 +1,3 @@
-use Rattle.std.specs.List.{All}
 use Rattle.std.proofs.lemmas.List.Elements.{All-contains}
 use Rattle.ca_cell.specs.Raw.{is_input, role_count, circuit_of}
 use Rattle.ca_defect.specs.List.{defects_of, IsDefectOf}

@@ -1,4 +1,4 @@
-use Rattle.std.proofs.Common.{◌≡◌, ◌++◌, rules}
+use Rattle.std.proofs.Common.{rules}
 use Rattle.ca_defect.specs.List.{pin_open}
 use Rattle.ca_defect.proofs.EachLemmas.{one_more_place}
 use Rattle.ca_defect.proofs.listing.push_pin_opens.Goals as goal

@@ -1,5 +1,5 @@
 use Rattle.std.proofs.Common.{length, arith}
-use Rattle.ca_cell.specs.Raw.{is_input, role_count, circuit_of}
+use Rattle.ca_cell.specs.Raw.{circuit_of}
 use Rattle.ca_defect.specs.List.{device_opens}
 use Rattle.ca_defect.specs.Name.{is_called}
 use Rattle.ca_defect.proofs.EachLemmas.{found_at_place, place_passed}

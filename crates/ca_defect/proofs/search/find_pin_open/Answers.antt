@@ -1,5 +1,5 @@
-use Rattle.std.proofs.Common.{length, arith}
-use Rattle.ca_cell.specs.Raw.{is_input, role_count, circuit_of}
+use Rattle.std.proofs.Common.{arith}
+use Rattle.ca_cell.specs.Raw.{is_input, role_count}
 use Rattle.ca_defect.specs.List.{pin_open}
 use Rattle.ca_defect.specs.Name.{is_called}
 use Rattle.ca_defect.proofs.EachLemmas.{found_at_place, place_passed}

@@ -1,16 +1,16 @@
-use Rattle.std.proofs.Common.{◌≡◌, ◌≤◌, ◌<◌, refl, ◌∙◌, sym, ap, subst, arith, length, map, List, [], ◌∷◌, ◌++◌, Some, slice_index_or}
+use Rattle.std.proofs.Common.{◌≡◌, ◌≤◌, ◌<◌, refl, ◌∙◌, sym, ap, subst, arith, length, map, [], ◌∷◌, ◌++◌, Some, slice_index_or}
 use Rattle.std.proofs.lemmas.List.{take_all, length-map}
 use Rattle.std.proofs.lemmas.Option.{slice_get-get_or}
 use Rattle.std.specs.List.{slice_get}
 use Rattle.ca_net.specs.declared.wave.Wave.{Wave}
 use Rattle.ca_net.specs.declared.trit.Trit.TheVariants.{Zero}
 use Rattle.ca_cell.specs.declared.raw.RawCell.{RawCell}
-use Rattle.ca_cell.specs.Raw.{is_input, is_output, role_count}
+use Rattle.ca_cell.specs.Raw.{is_output, role_count, output_names}
 use Rattle.ca_cell.specs.Rules.{KeepsRules}
 use Rattle.ca_cell.proofs.NodeLemmas.{few_inputs}
 use Rattle.ca_response.specs.Outputs.{pairs_of}
-use Rattle.ca_flow.specs.Outputs.{trit_of, output_names}
-use Rattle.ca_flow.proofs.CellLemmas.{output_count}
+use Rattle.ca_flow.specs.Outputs.{trit_of}
+use Rattle.ca_cell.proofs.OutputNameLemmas.{output_count}
 use Rattle.ca_flow.proofs.OutputLemmas.{told_pushed, told_are_ends}
 use Rattle.ca_flow.proofs.outputs.values_of.Goals as goal
 
@@ -26,7 +26,7 @@ get-requires g c =
     let raw = g.N.CellNet.subcircuit c.args.net.now in
     let is : c.raw.result.now ≡ raw = c.raw.ensures.same ∙ c.cell-cell.ensures.same in
     let are : c.in_ok-pins.pins ≡ output_names raw.pins =
-    c.in_ok-pins.ensures ∙ ap output_names (c.as_slice.ensures ∙ ap (λ (held : RawCell). held.pins) is) in
+    c.in_ok-pins.ensures.ok ∙ ap (λ (held : RawCell). output_names held.pins) is in
     let outputs : c.outputs-place-end.result ≡ role_count is_output raw.pins =
     c.outputs-place-end.ensures.count ∙ ap (λ (held : RawCell). role_count is_output held.pins) c.cell-cell.ensures.same in
     rw are (omega (arith, output_count raw.pins, outputs, c.loop-place-test.true))
@@ -54,7 +54,7 @@ returns g c =
     let raw = g.N.CellNet.subcircuit c.args.net.now in
     let is : c.raw.result.now ≡ raw = c.raw.ensures.same ∙ c.cell-cell.ensures.same in
     let are : c.in_ok-pins.pins ≡ output_names raw.pins =
-    c.in_ok-pins.ensures ∙ ap output_names (c.as_slice.ensures ∙ ap (λ (held : RawCell). held.pins) is) in
+    c.in_ok-pins.ensures.ok ∙ ap (λ (held : RawCell). output_names held.pins) is in
     let outputs : c.outputs-place-end.result ≡ role_count is_output raw.pins =
     c.outputs-place-end.ensures.count ∙ ap (λ (held : RawCell). role_count is_output held.pins) c.cell-cell.ensures.same in
     let count : length c.in_ok-pins.pins ≡ role_count is_output raw.pins = ap length are ∙ output_count raw.pins in
@@ -63,8 +63,8 @@ returns g c =
     let last = map trit_of c.args.last.now in
     let first_are : c.deref.result.now ≡ first = c.deref.ensures.value ∙ c.in_ok-first.ensures in
     let last_are : c.deref-2.result.now ≡ last = c.deref-2.ensures.value ∙ c.in_ok-last.ensures in
-    let pins : c.as_slice-2.result.now ≡ pairs_of first last =
-    c.as_slice-2.ensures.value ∙ c.pairs.ensures.pairs ∙ ap (λ values. pairs_of values c.deref-2.result.now) first_are
+    let pins : c.as_slice.result.now ≡ pairs_of first last =
+    c.as_slice.ensures.value ∙ c.pairs.ensures.pairs ∙ ap (λ values. pairs_of values c.deref-2.result.now) first_are
     ∙ ap (λ values. pairs_of first values) last_are in
     let long : length last ≡ length first = omega (
       arith,

@@ -1,4 +1,4 @@
-use Rattle.std.proofs.Common.{◌≡◌, ◌*◌, ◌^◌, ◌∙◌, refl, subst, arith, sym}
+use Rattle.std.proofs.Common.{◌≡◌, ◌*◌, ◌^◌, ◌∙◌, refl, subst, arith}
 use Rattle.ca_cell.specs.Raw.{is_input, role_count}
 use Rattle.ca_matrix.specs.Filled.{AreRowsFilled}
 use Rattle.ca_matrix.proofs.FillLemmas.{row_filled}

@@ -2,8 +2,7 @@
 use Rattle.std.proofs.Common.{ℕ, ◌+◌, ◌<◌, ◌≡◌, refl, sym, ap, ◌∙◌, take, slice_index_or, add-one, append-nil, Bool, true, false, cond, List, [], ◌∷◌, ◌++◌, length, arith, zero, suc}
 use Rattle.std.proofs.lemmas.List.Recursion.{is_count_by}
 use Rattle.ca_cell.specs.declared.raw.RawPin.{RawPin}
-use Rattle.ca_cell.specs.Raw.{is_output, role_count}
-use Rattle.ca_flow.specs.Outputs.{output_names}
+use Rattle.ca_cell.specs.Raw.{is_output, role_count, output_names}
 
 -- there is one name for each output pin
 pub output_count : (pins : List RawPin) → length (output_names pins) ≡ role_count is_output pins
