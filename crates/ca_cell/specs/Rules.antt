@@ -91,10 +91,10 @@ pub record IsFirstBroken (raw : RawCell) (rule : CellRule) : Type 0 where
 abbrev pub KeepsRules : RawCell → Type 0
 KeepsRules raw = (rule : CellRule) → Breaks raw rule → ⊥
 
--- a broken rule is told as the first that is broken; want of memory may come with any subcircuit
+-- a broken rule is told as the first that is broken; want of memory may come with any subcircuit that breaks none
 abbrev pub IsCause : RawCell → CellFault → Type 0
 IsCause raw (Rule rule) = IsFirstBroken raw rule
-IsCause raw NoMemory = Unit {0}
+IsCause raw NoMemory = KeepsRules raw
 
 -- the rules on counts: all but the last
 abbrev pub KeepsCounts : RawCell → Type 0

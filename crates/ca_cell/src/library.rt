@@ -25,14 +25,15 @@ pub enum Entry {
 }
 
 impl Entry {
-    ghost use Rattle.ca_cell.specs.Rules.{IsRaw};
+    ghost use Rattle.ca_cell.specs.Rules.{IsRaw, KeepsRules};
     ghost use Rattle.ca_cell.specs.Library.{raw_of, IsEntry};
 
-    /// The entry of a subcircuit.
+    /// The entry of a subcircuit. Memory is taken only for that of a cell.
     pub fn of(alloc: Global, raw: RawCell) -> Result<Self, NoMemory>
         requires { IsRaw raw }
         ensures ok { IfOk result (λ entry. raw_of entry ≡ raw) }
         ensures entry { IfOk result IsEntry }
+        ensures err { OnErr result (KeepsRules raw) }
     {
         match Cell::check(alloc, &raw) {
             Ok(cell) => Ok(Entry::Sound(cell)),

@@ -1,5 +1,5 @@
 -- When the reading of a whole file is refused.
-use Rattle.std.specs.Prelude.{◌≡◌, ◌<◌, ◌≤◌, ℕ, ◌+◌, List, length, Option, Some, ⊤, IsSomeAnd}
+use Rattle.std.specs.Prelude.{◌≡◌, ◌<◌, ◌≤◌, ℕ, ◌+◌, List, length, Option, Some, IsSomeAnd}
 use Rattle.std.specs.Option.{ForSome}
 use Rattle.ca_store.specs.Store.{Files, MayHave, Rose}
 use Rattle.ca_store.specs.declared.reading.ReadFault.{ReadFault}
@@ -15,11 +15,11 @@ pub record IsTooLong (files : Option Files) (name : List ℕ) (limit taken befor
   pub one_more : taken ≡ limit + 1
   pub quiet : after ≡ before
 
--- why a reading up to a limit was refused, with the count of faults before and after it
+-- why a reading up to a limit was refused, with the count of faults before and after it; want of memory is told only where no call failed
 abbrev pub IsCause : Option Files → List ℕ → ℕ → ℕ → ℕ → ReadFault → Type 0
 IsCause files name limit before after StoreFailed = MayHave files name → Rose before after
 IsCause files name limit before after (TooLong taken) = IsTooLong files name limit taken before after
-IsCause files name limit before after NoMemory = ⊤
+IsCause files name limit before after NoMemory = after ≡ before
 
 -- these are the file's bytes, where they are told, and no more than the limit
 pub record IsWhole (files : Option Files) (name : List ℕ) (limit : ℕ) (bytes : List ℕ) : Type 0 where

@@ -29,4 +29,4 @@ IsReadUpTo is_whole limit text files old = (name : List ℕ) → old ≡ Reading
 abbrev pub IsStop : Opened → ℕ → ℕ → ReadFault → Type 0
 IsStop opened before after StoreFailed = (opened ≡ Nothing) × Rose before after
 IsStop opened before after (TooLong taken) = ⊥
-IsStop opened before after NoMemory = IsReading opened
+IsStop opened before after NoMemory = IsReading opened × (after ≡ before)

@@ -70,7 +70,7 @@ pub fn read_file<S: Store>(
             }
         }
         Err(ReadFault::NoMemory) => {
-            let _ = store.close();
+            store.close()?;
             Err(ReadFault::NoMemory)
         }
         Err(fault) => Err(fault),
