@@ -25,7 +25,8 @@ def prover_processes(top):
             with open(f"/proc/{process}/stat") as file:
                 fields = file.read().rsplit(")", 1)[1].split()
             crate = words[words.index("--crate-name") + 1]
-            kind = "edits" if words[1] == "check" else "tests" if "--test" in words else "proofs"
+            has_edits = os.path.isdir(os.path.join(top, "crates", crate, "must-fail"))
+            kind = "tests" if "--test" in words else "edits" if words[1] == "check" and has_edits else "proofs"
             yield (process, fields[19]), crate, kind, sum(map(int, fields[11:15])) / TICKS
         except (OSError, ValueError, IndexError):
             continue
