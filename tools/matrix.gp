@@ -22,12 +22,19 @@ least(a, b) = a < b ? a : b
 most(a, b) = a > b ? a : b
 wide = most(2, least(14, 2400 / columns))
 high = most(1, least(14, 2400 / lines))
-set terminal pngcairo size most(480, 190 + wide * columns), most(240, 170 + high * lines) font "sans,8"
+
+# The margins hold the longest names whole, at seven dots a letter.
+longest(of) = int(system("awk -F, '" . of . " END { print n + 0 }' " . matrix))
+left = 30 + 7 * longest("NR > 1 { m = length($1 $2 $3) + 2; if (m > n) n = m }")
+low = 24 + 7 * longest("NR == 1 { for (k = 5; k <= NF; k++) if (length($k) > n) n = length($k) }")
+width = most(480, left + 90 + wide * columns)
+height = most(240, low + 90 + high * lines)
+set terminal pngcairo size width, height font "sans,8"
 set output ARG2
 
 set title matrix . ": red exposes, grey is X, black is X of the good cell" noenhanced
-set lmargin at screen 100.0 / most(480, 190 + wide * columns)
-set bmargin at screen 80.0 / most(240, 170 + high * lines)
+set lmargin at screen 1.0 * left / width
+set bmargin at screen 1.0 * low / height
 set tics out nomirror noenhanced
 set xtics ()
 set ytics ()

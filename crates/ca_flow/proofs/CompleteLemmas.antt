@@ -16,10 +16,10 @@ use Rattle.ca_flow.specs.declared.fault.Fault.{Fault}
 use Rattle.ca_flow.specs.declared.fault.Fault.TheVariants.{BadWords, Cells, NoCell, Cell, BadVector, NoDefect, TooLong, Limit, StoreFailed, SinkFailed, NoMemory}
 use Rattle.ca_flow.specs.declared.finished.Finished.{Finished}
 use Rattle.ca_flow.specs.Finished.{IsAnswer, status_told}
-use Rattle.ca_flow.specs.Words.{cells_word, cell_word, vector_word, first_word, last_word, defect_word, dash}
+use Rattle.ca_flow.specs.Words.{cells_word, cell_word, vector_word, first_word, last_word, defect_word, dash, AsksNoFile, IsCommand}
 use Rattle.ca_flow.specs.Outputs.{Fits, asked_network}
 use Rattle.ca_flow.specs.Cells.{IsFileWith, OfFile, HasCell, LacksCell}
-use Rattle.ca_flow.specs.Complete.{FitsCell, IsAnswerable, Completes}
+use Rattle.ca_flow.specs.Complete.{FitsCell, FitsFile, IsAnswerable, Completes}
 use Rattle.ca_flow.specs.Fault.{Outside, IsReadCause, IsTextCause, IsCellsCause, IsNameCause, IsFirstUnfit, IsPairCause, IsVectorCause, IsCellCause, IsValueCause, IsWordsCause, IsWriteCause, IsPrintCause, IsWorkCause, IsCause}
 
 -- the file and the cell that the words name
@@ -33,7 +33,7 @@ record HasSeen (words : List (List ℕ)) (files : Option Files) : Type 0 where
   pub called : cell_called bytes (cell_word words) ≡ Some raw
   pub fits : FitsCell words raw
 
-seen_of : (words : List (List ℕ)) (files : Option Files) → IsAnswerable words files → HasSeen words files
+seen_of : (words : List (List ℕ)) (files : Option Files) → IsSomeAnd files (FitsFile words) → HasSeen words files
 seen_of words None held = absurd held
 seen_of words (Some told) held = at_file (told (cells_word words)) refl held
   where
@@ -168,64 +168,96 @@ module _ (words : List (List ℕ)) (files : Option Files) (seen : HasSeen words 
     at_work (inr (inr (inl (is, cause)))) = at_cell cause
     at_work (inr (inr (inr (is, cause)))) = at_cell cause
 
-  at_words : (fault : Fault) → IsWordsCause words fault → ⊥
-  at_words BadWords cause = cause seen.fits.is
-  at_words (Cells line kind) cause = cause
-  at_words (NoCell typed) cause = cause
-  at_words (Cell cell rule) cause = cause
-  at_words (BadVector typed) cause = cause
-  at_words (NoDefect typed) cause = cause
-  at_words (TooLong typed taken) cause = cause
-  at_words (Limit kind count) cause = cause
-  at_words (StoreFailed typed) cause = cause
-  at_words SinkFailed cause = cause
-  at_words NoMemory cause = cause
+at_words : (words : List (List ℕ)) → IsCommand words → (fault : Fault) → IsWordsCause words fault → ⊥
+at_words words is BadWords cause = cause is
+at_words words is (Cells line kind) cause = cause
+at_words words is (NoCell typed) cause = cause
+at_words words is (Cell cell rule) cause = cause
+at_words words is (BadVector typed) cause = cause
+at_words words is (NoDefect typed) cause = cause
+at_words words is (TooLong typed taken) cause = cause
+at_words words is (Limit kind count) cause = cause
+at_words words is (StoreFailed typed) cause = cause
+at_words words is SinkFailed cause = cause
+at_words words is NoMemory cause = cause
 
-  at_print : (before after : ℕ) → ¬ (Rose before after) → (fault : Fault) → IsPrintCause before after fault → fault ≡ NoMemory
-  at_print before after quiet BadWords cause = absurd cause
-  at_print before after quiet (Cells line kind) cause = absurd cause
-  at_print before after quiet (NoCell typed) cause = absurd cause
-  at_print before after quiet (Cell cell rule) cause = absurd cause
-  at_print before after quiet (BadVector typed) cause = absurd cause
-  at_print before after quiet (NoDefect typed) cause = absurd cause
-  at_print before after quiet (TooLong typed taken) cause = absurd cause
-  at_print before after quiet (Limit kind count) cause = absurd cause
-  at_print before after quiet (StoreFailed typed) cause = absurd cause
-  at_print before after quiet SinkFailed rose = absurd (quiet rose)
-  at_print before after quiet NoMemory cause = refl
+at_print : (before after : ℕ) → ¬ (Rose before after) → (fault : Fault) → IsPrintCause before after fault → fault ≡ NoMemory
+at_print before after quiet BadWords cause = absurd cause
+at_print before after quiet (Cells line kind) cause = absurd cause
+at_print before after quiet (NoCell typed) cause = absurd cause
+at_print before after quiet (Cell cell rule) cause = absurd cause
+at_print before after quiet (BadVector typed) cause = absurd cause
+at_print before after quiet (NoDefect typed) cause = absurd cause
+at_print before after quiet (TooLong typed taken) cause = absurd cause
+at_print before after quiet (Limit kind count) cause = absurd cause
+at_print before after quiet (StoreFailed typed) cause = absurd cause
+at_print before after quiet SinkFailed rose = absurd (quiet rose)
+at_print before after quiet NoMemory cause = refl
 
-  at_write : (before after : ℕ) → ¬ (Rose before after) → (fault : Fault) → IsWriteCause words before after fault → ⊥
-  at_write before after quiet BadWords cause = cause
-  at_write before after quiet (Cells line kind) cause = cause
-  at_write before after quiet (NoCell typed) cause = cause
-  at_write before after quiet (Cell cell rule) cause = cause
-  at_write before after quiet (BadVector typed) cause = cause
-  at_write before after quiet (NoDefect typed) cause = cause
-  at_write before after quiet (TooLong typed taken) cause = cause
-  at_write before after quiet (Limit kind count) cause = cause
-  at_write before after quiet (StoreFailed typed) (is, (same, rose)) = quiet rose
-  at_write before after quiet SinkFailed cause = cause
-  at_write before after quiet NoMemory cause = cause
+at_write : (words : List (List ℕ)) (before after : ℕ) → ¬ (Rose before after) → (fault : Fault)
+    → IsWriteCause words before after fault → ⊥
+at_write words before after quiet BadWords cause = cause
+at_write words before after quiet (Cells line kind) cause = cause
+at_write words before after quiet (NoCell typed) cause = cause
+at_write words before after quiet (Cell cell rule) cause = cause
+at_write words before after quiet (BadVector typed) cause = cause
+at_write words before after quiet (NoDefect typed) cause = cause
+at_write words before after quiet (TooLong typed taken) cause = cause
+at_write words before after quiet (Limit kind count) cause = cause
+at_write words before after quiet (StoreFailed typed) (is, (same, rose)) = quiet rose
+at_write words before after quiet SinkFailed cause = cause
+at_write words before after quiet NoMemory cause = cause
 
-module _ (words : List (List ℕ)) (before after : Outside) (seen : HasSeen words before.files)
-    (quiet_store : ¬ (Rose before.store_faults after.store_faults)) (quiet_sink : ¬ (Rose before.sink_faults after.sink_faults)) where
-  only_memory : (fault : Fault) → IsCause words before after fault → fault ≡ NoMemory
-  only_memory fault (inl words_cause) = absurd (at_words words before.files seen fault words_cause)
-  only_memory fault (inr (inl work)) = at_work words before.files seen before after quiet_store quiet_sink fault work
-  only_memory fault (inr (inr (inl write))) =
-      absurd (at_write words before.files seen before.store_faults after.store_faults quiet_store fault write)
-  only_memory fault (inr (inr (inr print))) =
-      at_print words before.files seen before.sink_faults after.sink_faults quiet_sink fault print
+-- where its work was refused for want of memory alone, a command was
+only_memory : (words : List (List ℕ)) (before after : Outside) → IsCommand words
+    → ¬ (Rose before.store_faults after.store_faults) → ¬ (Rose before.sink_faults after.sink_faults) → (fault : Fault)
+    → (IsWorkCause words before.files before.store_faults after.store_faults fault → fault ≡ NoMemory)
+    → IsCause words before after fault → fault ≡ NoMemory
+only_memory words before after is quiet_store quiet_sink fault no_work (inl words_cause) =
+    absurd (at_words words is fault words_cause)
+only_memory words before after is quiet_store quiet_sink fault no_work (inr (inl work)) = no_work work
+only_memory words before after is quiet_store quiet_sink fault no_work (inr (inr (inl write))) =
+    absurd (at_write words before.store_faults after.store_faults quiet_store fault write)
+only_memory words before after is quiet_store quiet_sink fault no_work (inr (inr (inr print))) =
+    at_print before.sink_faults after.sink_faults quiet_sink fault print
+
+-- one word asks for no file
+one_word : (words : List (List ℕ)) → AsksNoFile words → length words ≡ 1
+one_word words (inl help) = help.one
+one_word words (inr version) = version.one
+
+-- words that ask for no file have no work that is refused
+no_asking_work : (words : List (List ℕ)) (files : Option Files) (before after : ℕ) (fault : Fault) → AsksNoFile words
+    → IsWorkCause words files before after fault → ⊥
+no_asking_work words files before after fault asks (inl (is, cause)) = omega (arith, one_word words asks, is.four)
+no_asking_work words files before after fault asks (inr (inl (is, cause))) = omega (arith, one_word words asks, is.six)
+no_asking_work words files before after fault asks (inr (inr (inl (is, cause)))) =
+    omega (arith, one_word words asks, is.three)
+no_asking_work words files before after fault asks (inr (inr (inr (is, cause)))) =
+    omega (arith, one_word words asks, is.four)
+
+-- a command that can be answered is refused for want of memory alone
+answerable_memory : (words : List (List ℕ)) (before after : Outside) → IsAnswerable words before.files
+    → ¬ (Rose before.store_faults after.store_faults) → ¬ (Rose before.sink_faults after.sink_faults) → (fault : Fault)
+    → IsCause words before after fault → fault ≡ NoMemory
+answerable_memory words before after (inl asks) quiet_store quiet_sink fault cause =
+    only_memory words before after (inr (inr (inr (inr asks)))) quiet_store quiet_sink fault
+    (λ work. absurd (no_asking_work words before.files before.store_faults after.store_faults fault asks work)) cause
+answerable_memory words before after (inr fits) quiet_store quiet_sink fault cause =
+    let seen = seen_of words before.files fits in
+    only_memory words before after seen.fits.is quiet_store quiet_sink fault
+    (at_work words before.files seen before after quiet_store quiet_sink fault) cause
 
 -- a command that was answered or refused for a cause completes
 pub completes : (words : List (List ℕ)) (before after : Outside) (end : Finished) → IsAnswer words end
     → IfSome end.fault (IsCause words before after) → Completes words before after end
 completes words before after end answer cause = λ answerable quiet_store quiet_sink.
-    by_fault (seen_of words before.files answerable) quiet_store quiet_sink end.fault answer.status refl cause
+    by_fault answerable quiet_store quiet_sink end.fault answer.status refl cause
   where
-    by_fault : HasSeen words before.files → ¬ (Rose before.store_faults after.store_faults) → ¬ (Rose before.sink_faults after.sink_faults)
+    by_fault : IsAnswerable words before.files → ¬ (Rose before.store_faults after.store_faults)
+        → ¬ (Rose before.sink_faults after.sink_faults)
         → (told : Option Fault) → end.status ≡ status_told told → end.fault ≡ told → IfSome told (IsCause words before after)
         → (end.status ≡ 0) ⊎ (end.fault ≡ Some NoMemory)
-    by_fault seen quiet_store quiet_sink None status is cause = inl status
-    by_fault seen quiet_store quiet_sink (Some fault) status is cause =
-        inr (is ∙ ap Some (only_memory words before after seen quiet_store quiet_sink fault cause))
+    by_fault answerable quiet_store quiet_sink None status is cause = inl status
+    by_fault answerable quiet_store quiet_sink (Some fault) status is cause =
+        inr (is ∙ ap Some (answerable_memory words before after answerable quiet_store quiet_sink fault cause))

@@ -10,7 +10,7 @@ use Rattle.ca_matrix.specs.Text.{text_of}
 use Rattle.ca_flow.specs.declared.fault.Fault.{Fault}
 use Rattle.ca_flow.specs.declared.fault.Fault.TheVariants.{BadWords, Cells, NoCell, Cell, BadVector, NoDefect, TooLong, Limit, StoreFailed, SinkFailed, NoMemory}
 use Rattle.ca_flow.specs.declared.finished.Done.{Done}
-use Rattle.ca_flow.specs.declared.finished.Done.TheVariants.{Respond, Pair, Defects, Matrix}
+use Rattle.ca_flow.specs.declared.finished.Done.TheVariants.{Respond, Pair, Defects, Matrix, Help, Version}
 use Rattle.ca_flow.specs.declared.finished.Finished.{Finished}
 use Rattle.ca_flow.specs.declared.work.OutFile.{OutFile}
 use Rattle.ca_flow.specs.FaultLine.{status_of}
@@ -93,6 +93,10 @@ leaves_written words fault old new (Pair values) None other fits written = writt
 leaves_written words fault old new (Pair values) (Some file) other fits written = absurd (true≢false fits)
 leaves_written words fault old new (Defects names) None other fits written = written
 leaves_written words fault old new (Defects names) (Some file) other fits written = absurd (true≢false fits)
+leaves_written words fault old new Help None other fits written = written
+leaves_written words fault old new Help (Some file) other fits written = absurd (true≢false fits)
+leaves_written words fault old new Version None other fits written = written
+leaves_written words fault old new Version (Some file) other fits written = absurd (true≢false fits)
 leaves_written words fault old new (Matrix matrix) None other fits written = absurd fits
 leaves_written words fault old new (Matrix matrix) (Some file) other fits written =
     (λ out. absurd (other out), λ no. rw (fits.name_is, fits.bytes_are) at written)
@@ -113,6 +117,10 @@ failed_writing words before after old new fault (Pair values) None fits asked fa
 failed_writing words before after old new fault (Pair values) (Some file) fits asked failed = absurd (true≢false fits)
 failed_writing words before after old new fault (Defects names) None fits asked failed = absurd failed
 failed_writing words before after old new fault (Defects names) (Some file) fits asked failed = absurd (true≢false fits)
+failed_writing words before after old new fault Help None fits asked failed = absurd failed
+failed_writing words before after old new fault Help (Some file) fits asked failed = absurd (true≢false fits)
+failed_writing words before after old new fault Version None fits asked failed = absurd failed
+failed_writing words before after old new fault Version (Some file) fits asked failed = absurd (true≢false fits)
 failed_writing words before after old new fault (Matrix matrix) None fits asked failed = absurd failed
 failed_writing words before after old new fault (Matrix matrix) (Some file) fits asked failed =
     let named : fault ≡ StoreFailed (out_word words) = failed.fault_is ∙ ap StoreFailed fits.typed_is in

@@ -4,8 +4,8 @@ use Rattle.ca_flow.specs.declared.words.CellWords.{CellWords}
 use Rattle.ca_flow.specs.declared.words.PairWords.{PairWords}
 use Rattle.ca_flow.specs.declared.words.MatrixWords.{MatrixWords}
 use Rattle.ca_flow.specs.declared.words.Command.{Command}
-use Rattle.ca_flow.specs.declared.words.Command.TheVariants.{Respond, Pair, Defects, Matrix}
-use Rattle.ca_flow.specs.Words.{cells_word, cell_word, vector_word, first_word, last_word, defect_word, out_word, dash, IsRespond, IsPair, IsDefects, IsMatrix}
+use Rattle.ca_flow.specs.declared.words.Command.TheVariants.{Respond, Pair, Defects, Matrix, Help, Version}
+use Rattle.ca_flow.specs.Words.{cells_word, cell_word, vector_word, first_word, last_word, defect_word, out_word, dash, IsRespond, IsPair, IsDefects, IsMatrix, IsHelp, IsVersion}
 
 -- the file and the cell of a command are those of the words
 pub record HasCellWords (words : List (List ℕ)) (request : CellWords) : Type 0 where
@@ -45,3 +45,5 @@ IsSpelled words (Respond request) = IsSpelledRespond words request
 IsSpelled words (Pair request) = IsSpelledPair words request
 IsSpelled words (Defects request) = IsSpelledDefects words request
 IsSpelled words (Matrix request) = IsSpelledMatrix words request
+IsSpelled words Help = IsHelp words
+IsSpelled words Version = IsVersion words

@@ -5,7 +5,7 @@ use Rattle.ca_cell.specs.declared.raw.RawCell.{RawCell}
 use Rattle.ca_cell.specs.Rules.{KeepsRules}
 use Rattle.ca_flow.specs.declared.fault.Fault.TheVariants.{NoMemory}
 use Rattle.ca_flow.specs.declared.finished.Finished.{Finished}
-use Rattle.ca_flow.specs.Words.{cells_word, cell_word, vector_word, first_word, last_word, defect_word, IsRespond, IsPair, IsCommand}
+use Rattle.ca_flow.specs.Words.{cells_word, cell_word, vector_word, first_word, last_word, defect_word, IsRespond, IsPair, AsksNoFile, IsCommand}
 use Rattle.ca_flow.specs.Outputs.{Fits, asked_network}
 use Rattle.ca_flow.specs.Cells.{IsFileWith, HasCell}
 use Rattle.ca_flow.specs.Fault.{Outside}
@@ -23,10 +23,13 @@ pub record FitsCell (words : List (List ℕ)) (raw : RawCell) : Type 0 where
   pub respond : IsRespond words → Fits raw (vector_word words)
   pub pair : IsPair words → FitsPair words raw
 
--- the files are told, the file that the words name is there, is no longer than it may be and has a reading, in which they name a
--- subcircuit that they fit
+-- the file that the words name is there, is no longer than it may be and has a reading, in which they name a subcircuit that they fit
+abbrev pub FitsFile : List (List ℕ) → Files → Type 0
+FitsFile words told = IsFileWith told (cells_word words) (HasCell (cell_word words) (FitsCell words))
+
+-- the words ask for no file, or the files are told and the words fit the file that they name
 abbrev pub IsAnswerable : List (List ℕ) → Option Files → Type 0
-IsAnswerable words files = IsSomeAnd files (λ told. IsFileWith told (cells_word words) (HasCell (cell_word words) (FitsCell words)))
+IsAnswerable words files = AsksNoFile words ⊎ IsSomeAnd files (FitsFile words)
 
 -- where no call of the store or the sink failed, a command that can be answered does its work, or there was no memory
 abbrev pub Completes : List (List ℕ) → Outside → Outside → Finished → Type 0

@@ -7,21 +7,20 @@ use Rattle.ca_defect.specs.Name.{names_of}
 use Rattle.ca_matrix.specs.Matrix.{Entries}
 use Rattle.ca_matrix.specs.Built.{IsMatrixOf}
 use Rattle.ca_flow.specs.declared.fault.Fault.{Fault}
-use Rattle.ca_flow.specs.declared.fault.Fault.TheVariants.{StoreFailed, NoMemory}
+use Rattle.ca_flow.specs.declared.fault.Fault.TheVariants.{StoreFailed}
 use Rattle.ca_flow.specs.declared.finished.Done.{Done}
-use Rattle.ca_flow.specs.declared.finished.Done.TheVariants.{Respond, Pair, Defects, Matrix}
+use Rattle.ca_flow.specs.declared.finished.Done.TheVariants.{Respond, Pair, Defects, Matrix, Help, Version}
 use Rattle.ca_flow.specs.declared.finished.Finished.{Finished}
-use Rattle.ca_flow.specs.Words.{cells_word, cell_word, vector_word, first_word, last_word, defect_word, dash, IsRespond, IsPair, IsDefects, IsMatrix}
+use Rattle.ca_flow.specs.Words.{cells_word, cell_word, vector_word, first_word, last_word, defect_word, dash, IsRespond, IsPair, IsDefects, IsMatrix, IsHelp, IsVersion}
 use Rattle.ca_flow.specs.Outputs.{AreValues}
 use Rattle.ca_flow.specs.Finished.{IsAnswer, Prints, Writes, TellsSinkFault}
 use Rattle.ca_flow.specs.Cells.{OfCell}
 use Rattle.ca_flow.specs.Fault.{Outside, IsCause}
 use Rattle.ca_flow.specs.Complete.{Completes}
 
--- the faults after which the store's count may be greater
+-- the fault is that of a file
 abbrev pub IsStoreFault : Fault → Type 0
 IsStoreFault (StoreFailed name) = ⊤
-IsStoreFault NoMemory = ⊤
 IsStoreFault _ = ⊥
 
 -- where the store's count of faults rose, the answer says so, and the count never falls
@@ -45,6 +44,8 @@ IsAsked words files (Pair values) = IsPair words × OfCell files (cells_word wor
     (AreValues (first_word words) (last_word words) (defect_word words) values)
 IsAsked words files (Defects names) = IsDefects words × OfCell files (cells_word words) (cell_word words) (AreDefectNames names)
 IsAsked words files (Matrix matrix) = IsMatrix words × OfCell files (cells_word words) (cell_word words) (IsSoundMatrix matrix)
+IsAsked words files Help = IsHelp words
+IsAsked words files Version = IsVersion words
 
 -- how a command of these words ends
 pub record Ends (words : List (List ℕ)) (before after : Outside) (end : Finished) : Type 0 where

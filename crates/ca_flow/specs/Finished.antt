@@ -8,10 +8,11 @@ use Rattle.ca_matrix.specs.Text.{text_of}
 use Rattle.ca_flow.specs.declared.fault.Fault.{Fault}
 use Rattle.ca_flow.specs.declared.fault.Fault.TheVariants.{StoreFailed, SinkFailed}
 use Rattle.ca_flow.specs.declared.finished.Done.{Done}
-use Rattle.ca_flow.specs.declared.finished.Done.TheVariants.{Respond, Pair, Defects, Matrix}
+use Rattle.ca_flow.specs.declared.finished.Done.TheVariants.{Respond, Pair, Defects, Matrix, Help, Version}
 use Rattle.ca_flow.specs.declared.finished.Finished.{Finished}
 use Rattle.ca_flow.specs.FaultLine.{status_of}
 use Rattle.ca_flow.specs.Lines.{line_of_pin, line_of_name, IsSummary}
+use Rattle.ca_flow.specs.Usage.{usage_text, version_text}
 use Rattle.ca_flow.specs.Words.{out_word, IsMatrix}
 
 -- the text tells a command's work
@@ -20,6 +21,8 @@ IsTold (Respond values) text = text ≡ flat_map line_of_pin values
 IsTold (Pair values) text = text ≡ flat_map line_of_pin values
 IsTold (Defects names) text = text ≡ flat_map line_of_name names
 IsTold (Matrix matrix) text = IsSummary matrix text
+IsTold Help text = text ≡ usage_text
+IsTold Version text = text ≡ version_text
 
 -- the exit status of a fault, and 0 where there is none
 abbrev pub status_told : Option Fault → ℕ
@@ -51,6 +54,8 @@ abbrev pub LeavesFiles : List (List ℕ) → Option Fault → Option Files → O
 LeavesFiles words fault old new (Respond values) = new ≡ old
 LeavesFiles words fault old new (Pair values) = new ≡ old
 LeavesFiles words fault old new (Defects names) = new ≡ old
+LeavesFiles words fault old new Help = new ≡ old
+LeavesFiles words fault old new Version = new ≡ old
 LeavesFiles words fault old new (Matrix matrix) =
     (IsOutFault words fault → MayWrite old new (out_word words) (text_of matrix))
     × (¬ (IsOutFault words fault) → ChangesOnly old new (out_word words) (Some (text_of matrix)))

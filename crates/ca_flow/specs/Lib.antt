@@ -2,6 +2,7 @@ pub mod Words
 pub mod Command
 pub mod FaultLine
 pub mod Lines
+pub mod Usage
 pub mod Finished
 pub mod Outputs
 pub mod Cells
@@ -10,3 +11,4 @@ pub mod Stages
 pub mod Complete
 pub mod Ends
 pub mod Work
+pub mod Answer

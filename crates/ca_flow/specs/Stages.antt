@@ -6,10 +6,17 @@ use Rattle.ca_cell.specs.declared.rule.CellRule.{CellRule}
 use Rattle.ca_cell.specs.declared.library.Entry.TheVariants.{Refused}
 use Rattle.ca_cell.specs.Library.{Named, entry_of}
 use Rattle.ca_cell.specs.Rules.{KeepsRules, IsFirstBroken}
+use Rattle.ca_flow.specs.declared.inputs.TypedWords.{TypedWords}
 use Rattle.ca_flow.specs.declared.fault.Fault.{Fault}
 use Rattle.ca_flow.specs.declared.fault.Fault.TheVariants.{Cells, NoCell, Cell, BadVector, Limit, NoMemory}
 use Rattle.ca_flow.specs.Outputs.{Fits}
 use Rattle.ca_flow.specs.Fault.{IsTextCause, IsPairCause}
+
+-- the words of a file and a cell as they were typed, and the cell's also in upper case
+pub record AreTyped (cells cell : List ℕ) (typed : TypedWords) : Type 0 where
+  pub cells_is : typed.cells ≡ cells
+  pub cell_is : typed.cell ≡ cell
+  pub upper_is : typed.upper_cell ≡ upper_case cell
 
 -- why a text gives no library
 abbrev pub IsReadingCause : List ℕ → Fault → Type 0
@@ -21,11 +28,10 @@ pub record RefusesCell (library : List Named) (word : List ℕ) (rule : CellRule
   pub found : entry_of library (upper_case word) ≡ Some (Refused raw rule)
   pub broken : IsFirstBroken raw rule
 
--- why a word finds no cell in a library
+-- why a word finds no cell in a library; never want of memory
 abbrev pub IsEntryCause : List ℕ → List Named → Fault → Type 0
 IsEntryCause word library (NoCell typed) = (typed ≡ word) × (entry_of library (upper_case word) ≡ None)
 IsEntryCause word library (Cell name rule) = (name ≡ upper_case word) × RefusesCell library word rule
-IsEntryCause word library NoMemory = ⊤
 IsEntryCause word library _ = ⊥
 
 -- why a vector isn't one of the cell

@@ -80,6 +80,20 @@ pub record IsMatrix (words : List (List ℕ)) : Type 0 where
   pub out : IsFileName (out_word words)
   pub others : out_word words ≢ cells_word words
 
+-- the one word is `--help`
+pub record IsHelp (words : List (List ℕ)) : Type 0 where
+  pub one : length words ≡ 1
+  pub command : word_at words 0 ≡ codes "--help"
+
+-- the one word is `--version`
+pub record IsVersion (words : List (List ℕ)) : Type 0 where
+  pub one : length words ≡ 1
+  pub command : word_at words 0 ≡ codes "--version"
+
+-- the words ask for a text that the program has, and for no file
+abbrev pub AsksNoFile : List (List ℕ) → Type 0
+AsksNoFile words = IsHelp words ⊎ IsVersion words
+
 -- the words are those of a command
 abbrev pub IsCommand : List (List ℕ) → Type 0
-IsCommand words = IsRespond words ⊎ (IsPair words ⊎ (IsDefects words ⊎ IsMatrix words))
+IsCommand words = IsRespond words ⊎ (IsPair words ⊎ (IsDefects words ⊎ (IsMatrix words ⊎ AsksNoFile words)))

@@ -7,7 +7,7 @@ use Rattle.ca_matrix.specs.Text.{text_of}
 use Rattle.ca_flow.specs.declared.fault.Fault.{Fault}
 use Rattle.ca_flow.specs.declared.fault.Fault.TheVariants.{StoreFailed, SinkFailed}
 use Rattle.ca_flow.specs.declared.finished.Done.{Done}
-use Rattle.ca_flow.specs.declared.finished.Done.TheVariants.{Respond, Pair, Defects, Matrix}
+use Rattle.ca_flow.specs.declared.finished.Done.TheVariants.{Respond, Pair, Defects, Matrix, Help, Version}
 use Rattle.ca_flow.specs.declared.finished.Finished.{Finished}
 use Rattle.ca_flow.specs.declared.work.OutFile.{OutFile}
 use Rattle.ca_flow.specs.Words.{out_word}
@@ -26,6 +26,8 @@ abbrev pub HasFile : List (List ℕ) → Done → Option OutFile → Type 0
 HasFile words (Respond values) file = IsNone file
 HasFile words (Pair values) file = IsNone file
 HasFile words (Defects names) file = IsNone file
+HasFile words Help file = IsNone file
+HasFile words Version file = IsNone file
 HasFile words (Matrix matrix) file = IsSomeAnd file (IsOutFile (out_word words) (text_of matrix))
 
 -- the file, if there is one, was written

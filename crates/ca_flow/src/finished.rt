@@ -9,6 +9,7 @@ ghost use Rattle.ca_flow.specs.Work.{HasFile, HasPrinted, FailsToPrint, EndsWork
 use crate::fault::Fault;
 use crate::lines::{lines_of_names, summary};
 use crate::pin_values::PinValues;
+use crate::usage::{usage, version};
 use crate::work::{Work, write_out};
 use ca_base::NoMemory;
 use ca_lex::{Names, Text};
@@ -35,6 +36,10 @@ pub enum Done {
     Defects { names: Names },
     /// The matrix of a cell.
     Matrix { matrix: Matrix },
+    /// How the program is used.
+    Help,
+    /// Which version the program is.
+    Version,
 }
 
 impl Done {
@@ -46,6 +51,8 @@ impl Done {
             Done::Respond { values } | Done::Pair { values } => values.lines(alloc),
             Done::Defects { names } => lines_of_names(alloc, names),
             Done::Matrix { matrix } => summary(alloc, matrix),
+            Done::Help => usage(alloc),
+            Done::Version => version(alloc),
         }
     }
 }

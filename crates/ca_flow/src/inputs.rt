@@ -10,10 +10,12 @@ ghost use Rattle.ca_spice.specs.Reading.{library_of};
 ghost use Rattle.ca_spice.specs.Views.{subcircuit_seen};
 ghost use Rattle.ca_flow.specs.Cells.{OfFile};
 ghost use Rattle.ca_flow.specs.Fault.{IsReadCause, IsLibraryCause};
-ghost use Rattle.ca_flow.specs.Stages.{IsReadingCause, IsEntryCause};
+ghost use Rattle.ca_flow.specs.Stages.{AreTyped, IsReadingCause, IsEntryCause};
 ghost use Rattle.ca_flow.specs.Ends.{TellsStoreFault};
 
 use crate::fault::{Fault, LimitKind};
+use crate::words::CellWords;
+use ca_base::NoMemory;
 use ca_cell::{Cell, Entry, Library};
 use ca_lex::{Text, fold};
 use ca_spice::{SpiceFault, read_library};
@@ -23,13 +25,35 @@ use std::alloc::Global;
 /// The greatest number of bytes of a cell netlist: 16 MiB.
 pub(crate) const MAX_CELLS: usize = 16_777_216;
 
+/// What a fault says of the file and the cell of a command. It stands in memory of its own before the file is opened, so that no
+/// fault of the file or of the cell's name is told as want of memory.
+#[derive(Drop)]
+pub(crate) struct TypedWords {
+    pub cells: Text,
+    pub cell: Text,
+    pub upper_cell: Text,
+}
+
+/// The words that faults of the file and the cell's name are told with.
+pub(crate) fn typed_words(alloc: Global, words: &CellWords<'_>) -> Result<TypedWords, NoMemory>
+    ensures { IfOk result (AreTyped words.now.cells.now words.now.cell.now) }
+{
+    Ok(TypedWords {
+        cells: Text::from_bytes(alloc, words.cells.as_bytes())?,
+        cell: Text::from_bytes(alloc, words.cell.as_bytes())?,
+        upper_cell: fold(alloc, words.cell.as_bytes())?,
+    })
+}
+
 /// The library in the file of this name.
 pub(crate) fn open_library<S: Store>(
     alloc: Global,
     name: &str,
+    typed: Text,
     store: &mut S,
 ) -> Result<Library, Fault>
     requires closed { S.opened store.old ≡ Nothing }
+    requires typed { typed ≡ name.now }
 
     ensures ok { IfOk result (λ library. OfFile (S.files store.old) name.now
         (λ bytes. library_of bytes ≡ Ok (map subcircuit_seen library))) }
@@ -40,13 +64,19 @@ pub(crate) fn open_library<S: Store>(
     ensures closed { S.opened store.new ≡ Nothing }
     ensures kept { S.files store.new ≡ S.files store.old }
 {
-    let bytes = read_cells(alloc, name, store)?;
+    let bytes = read_cells(alloc, name, typed, store)?;
     library_in(alloc, bytes.as_bytes())
 }
 
 // The bytes of the file of a cell netlist.
-fn read_cells<S: Store>(alloc: Global, name: &str, store: &mut S) -> Result<Text, Fault>
+fn read_cells<S: Store>(
+    alloc: Global,
+    name: &str,
+    typed: Text,
+    store: &mut S,
+) -> Result<Text, Fault>
     requires closed { S.opened store.old ≡ Nothing }
+    requires typed { typed ≡ name.now }
 
     ensures ok { IfOk result (IsWhole (S.files store.old) name.now MAX_CELLS) }
     ensures cause { IfErr result (IsReadCause name.now (S.files store.old) MAX_CELLS
@@ -59,13 +89,8 @@ fn read_cells<S: Store>(alloc: Global, name: &str, store: &mut S) -> Result<Text
 {
     match read_file(alloc, store, name, MAX_CELLS) {
         Ok(text) => Ok(text),
-        Err(ReadFault::StoreFailed) => Err(Fault::StoreFailed {
-            name: Text::from_bytes(alloc, name.as_bytes())?,
-        }),
-        Err(ReadFault::TooLong { taken }) => Err(Fault::TooLong {
-            name: Text::from_bytes(alloc, name.as_bytes())?,
-            taken,
-        }),
+        Err(ReadFault::StoreFailed) => Err(Fault::StoreFailed { name: typed }),
+        Err(ReadFault::TooLong { taken }) => Err(Fault::TooLong { name: typed, taken }),
         Err(ReadFault::NoMemory) => Err(Fault::NoMemory),
     }
 }
@@ -86,12 +111,17 @@ fn library_in(alloc: Global, bytes: &[u8]) -> Result<Library, Fault>
     }
 }
 
-/// The cell of a name, which may be in any case.
+/// The cell of a name, which may be in any case. It takes no memory: the word stands in memory of its own, as it was typed and in
+/// upper case.
 pub(crate) fn find_cell<'a>(
-    alloc: Global,
     library: &'a Library,
     word: &str,
+    typed: Text,
+    upper: Text,
 ) -> Result<&'a Cell, Fault>
+    requires typed { typed ≡ word.now }
+    requires upper { upper ≡ upper_case word.now }
+
     ensures found { IfOk result (λ cell. entry_of library.now (upper_case word.now) ≡ Some (entry.Sound cell.now)) }
     ensures kept { IfOk result (λ cell. KeepsRules cell.now) }
     ensures cause { IfErr result (IsEntryCause word.now library.now) }
@@ -99,11 +129,9 @@ pub(crate) fn find_cell<'a>(
     match library.get(word.as_bytes()) {
         Some(Entry::Sound(cell)) => Ok(cell),
         Some(Entry::Refused(_, rule)) => Err(Fault::Cell {
-            cell: fold(alloc, word.as_bytes())?,
+            cell: upper,
             rule: *rule,
         }),
-        None => Err(Fault::NoCell {
-            word: Text::from_bytes(alloc, word.as_bytes())?,
-        }),
+        None => Err(Fault::NoCell { word: typed }),
     }
 }

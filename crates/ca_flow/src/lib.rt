@@ -1,6 +1,7 @@
 //! The commands: what each word of a command line asks for, and how it ends.
 #![tactic(auto)]
 
+mod answering;
 mod fault;
 mod finished;
 mod inputs;
@@ -11,10 +12,12 @@ mod pieces;
 mod pin_values;
 mod tables;
 mod top;
+mod usage;
 mod values;
 mod words;
 mod work;
 
+pub use answering::{answer, tell};
 pub use fault::{Fault, LimitKind};
 pub use finished::{Done, Finished};
 pub use pin_values::{PinValue, PinValues};

@@ -8,7 +8,7 @@ ghost use Rattle.ca_flow.specs.Ends.{TellsStoreFault, IsSoundMatrix};
 ghost use Rattle.ca_flow.specs.Work.{IsOutFile};
 
 use crate::fault::Fault;
-use crate::inputs::{find_cell, open_library};
+use crate::inputs::{find_cell, open_library, typed_words};
 use crate::words::{CellWords, MatrixWords};
 use crate::work::OutFile;
 use ca_base::NoMemory;
@@ -36,8 +36,9 @@ pub(crate) fn find_matrix<S: Store>(
     ensures closed { S.opened store.new ≡ Nothing }
     ensures kept { S.files store.new ≡ S.files store.old }
 {
-    let library = open_library(alloc, request.cells, store)?;
-    let cell = find_cell(alloc, &library, request.cell)?;
+    let typed = typed_words(alloc, request)?;
+    let library = open_library(alloc, request.cells, typed.cells, store)?;
+    let cell = find_cell(&library, request.cell, typed.cell, typed.upper_cell)?;
     Ok(Matrix::build(alloc, cell)?)
 }
 

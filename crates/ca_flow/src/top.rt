@@ -95,6 +95,8 @@ fn work_of<'a, S: Store>(
                 file: Some(file),
             })
         }
+        Command::Help => Ok(printed(Done::Help)),
+        Command::Version => Ok(printed(Done::Version)),
     }
 }
 

@@ -9,7 +9,7 @@ ghost use Rattle.ca_flow.specs.Stages.{IsEvaluationCause, IsUnfit};
 ghost use Rattle.ca_flow.specs.Ends.{TellsStoreFault};
 
 use crate::fault::Fault;
-use crate::inputs::{find_cell, open_library};
+use crate::inputs::{find_cell, open_library, typed_words};
 use crate::outputs::values_of;
 use crate::pin_values::PinValues;
 use crate::words::PairWords;
@@ -39,8 +39,9 @@ pub(crate) fn find_values<S: Store>(
     ensures closed { S.opened store.new ≡ Nothing }
     ensures kept { S.files store.new ≡ S.files store.old }
 {
-    let library = open_library(alloc, request.of.cells, store)?;
-    let cell = find_cell(alloc, &library, request.of.cell)?;
+    let typed = typed_words(alloc, &request.of)?;
+    let library = open_library(alloc, request.of.cells, typed.cells, store)?;
+    let cell = find_cell(&library, request.of.cell, typed.cell, typed.upper_cell)?;
     evaluate(alloc, cell, request)
 }
 

@@ -1,7 +1,7 @@
 //! The words of a command.
 ghost use Rattle.std.specs.Prelude.{◌≡◌, ℕ, List, map, IfSome, IsNone, IsTrue, ◌↔◌};
 ghost use Rattle.std.specs.String.{string_bytes};
-ghost use Rattle.ca_flow.specs.Words.{IsFileName, IsVector, IsLetter, IsRespond, IsPair, IsDefects, IsMatrix, IsCommand};
+ghost use Rattle.ca_flow.specs.Words.{IsFileName, IsVector, IsLetter, IsRespond, IsPair, IsDefects, IsMatrix, AsksNoFile, IsCommand};
 ghost use Rattle.ca_flow.specs.Command.{IsSpelledRespond, IsSpelledPair, IsSpelledDefects, IsSpelledMatrix, IsSpelled};
 
 /// A command, with its words as they were typed.
@@ -15,6 +15,10 @@ pub(crate) enum Command<'a> {
     Defects(CellWords<'a>),
     /// `matrix CELLS CELL OUT`.
     Matrix(MatrixWords<'a>),
+    /// `--help`.
+    Help,
+    /// `--version`.
+    Version,
 }
 
 /// The file and the cell of a command on one cell.
@@ -53,6 +57,23 @@ pub(crate) fn parse(words: &[String]) -> Option<Command<'_>>
         Some(Command::Defects(request))
     } else if let Some(request) = parse_matrix(words) {
         Some(Command::Matrix(request))
+    } else {
+        parse_asking(words)
+    }
+}
+
+// The command that asks for a text of the program.
+fn parse_asking(words: &[String]) -> Option<Command<'_>>
+    ensures found { IfSome result (IsSpelled (map string_bytes words.now)) }
+    ensures none { IsNone result → ¬ (AsksNoFile (map string_bytes words.now)) }
+{
+    let [word] = words else {
+        return None;
+    };
+    if word.as_str() == "--help" {
+        Some(Command::Help)
+    } else if word.as_str() == "--version" {
+        Some(Command::Version)
     } else {
         None
     }

@@ -35,10 +35,6 @@ pow_le number more within =
     let is : number + (more - number) ≡ more = omega arith in
     rw is at (pow_up number (more - number))
 
--- one more digit
-pub digit_more : (value places byte : ℕ) → value < 10 ^ places → byte ≤ 9 → value * 10 + byte < 10 ^ (places + 1)
-digit_more value places byte below digit = rw add-one (omega (arith, pow-suc 10 places))
-
 -- one more digit behind a number
 pub digit_behind : (value number places byte : ℕ) → value < (number + 1) * 10 ^ places → byte ≤ 9 → value * 10 + byte < (number + 1) * 10 ^ (places + 1)
 digit_behind value number places byte below digit =

@@ -77,10 +77,6 @@ skipped words total (byte ∷ more) rest some blank is so_far =
     let is : rest ≡ more = is ∙ rw sub-one (take-length more) in
     ap (λ (w : List (List ℕ)). words ++ w) (ap words_of is ∙ blank_skipped byte more blank) ∙ so_far
 
-pub starts : (text : List ℕ) → 1 ≤ length text → is_blank (get_or text 0 0) ≡ false → BeginsWord text
-starts [] some blank = absurd (omega arith)
-starts (byte ∷ more) some blank = blank
-
 pub all_words : (words total : List (List ℕ)) (rest : List ℕ) → length rest < 1 → words ++ words_of rest ≡ total → words ≡ total
 unfolding words_of
 all_words words total [] short so_far = sym (append-nil words) ∙ so_far

@@ -98,7 +98,3 @@ not_added library before all cell seen so_far distinct upper turn there =
     let none : entry_of library (upper_case cell.name) ≡ None =
     ap (entry_of library) (upper_at all (length before) cell upper turn) ∙ entry_of-none library cell.name lacks in
     true≢false (sym (subst (λ (found : Option Entry). IsSome found) none there))
-
--- there are as many entries as subcircuits were added
-pub count_added : (library : List Named) (before : List Subcircuit) → map subcircuit_seen library ≡ before → length library ≡ length before
-count_added library before seen = sym (length-map library subcircuit_seen) ∙ ap length seen

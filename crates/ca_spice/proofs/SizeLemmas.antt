@@ -55,10 +55,6 @@ are_digits [] all k d within = absurd (omega arith)
 are_digits (byte ∷ digits) all zero d within = all.0
 are_digits (byte ∷ digits) all (suc k) d within = are_digits digits all.1 k d (omega arith)
 
--- the value of digits of 10^-18 metre
-abbrev value_word : ℕ → List ℕ
-value_word size = decimal size ++ codes "E-18"
-
 scaled_back : (number size : ℕ) → number ≡ size → size ≡ number * 10 ^ 18 / 10 ^ 18
 scaled_back number size is = sym (mul-div_cancel number (pow_pos10 18) ∙ is)
 

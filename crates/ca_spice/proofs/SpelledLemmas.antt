@@ -52,10 +52,6 @@ not_sign byte is = by (is_blank byte) (eqb byte 61) is
     by true sign is = absurd cc
     by false sign is = is
 
--- a byte at the front of the first word, where words follow
-with_byte-append : (byte : ℕ) (word : List ℕ) (words more : List (List ℕ)) → with_byte byte ((word ∷ words) ++ more) ≡ with_byte byte (word ∷ words) ++ more
-with_byte-append byte word words more = refl
-
 -- a space parts the words before it from those behind it
 pub words_of-spaced : (text more : List ℕ) → words_of (text ++ 32 ∷ more) ≡ words_of text ++ words_of more
 unfolding words_of
@@ -116,12 +112,6 @@ upper-chunks first [] = ap upper_case (append-nil first) ∙ sym (append-nil (up
 upper-chunks first (chunk ∷ chunks) =
     map-append to_ascii_uppercase first (32 ∷ (chunk ++ flat_map spaced chunks))
     ∙ ap (λ (text : List ℕ). upper_case first ++ 32 ∷ text) (upper-chunks chunk chunks)
-
--- no comment in a text is none where a word can't begin
-pub shown_behind : (begins : Bool) (text : List ℕ) → HasNoComment true text → HasNoComment begins text
-shown_behind true text shown = shown
-shown_behind false [] shown = shown
-shown_behind false (byte ∷ text) shown = (refl, shown.1)
 
 -- nor in two texts with a space between
 pub shown_spaced : (begins : Bool) (text more : List ℕ) → HasNoComment begins text → HasNoComment true more → HasNoComment begins (text ++ 32 ∷ more)

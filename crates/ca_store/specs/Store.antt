@@ -35,11 +35,6 @@ IsOpen (Writing name) = Unit {0}
 abbrev pub Rose : ℕ → ℕ → Type 0
 Rose before after = after < 2 ^ 64 - 1 → before < after
 
--- a count of faults did not rise
-pub record IsQuiet (before after : ℕ) : Type 0 where
-  pub same : after ≡ before
-  pub below : after < 2 ^ 64 - 1
-
 -- a call that answers Ok leaves the count of faults as it was, and no call makes it fall
 pub record KeepsCount {T E : Type 0} (result : Result T E) (before after : ℕ) : Type 0 where
   pub quiet : OnOk result (after ≡ before)

@@ -7,6 +7,7 @@ mod file_map;
 mod file_store;
 mod mem_sink;
 mod mem_store;
+mod read_files;
 mod reading;
 mod shelf;
 mod sink;

@@ -1,0 +1,30 @@
+-- What the program answers.
+use Rattle.std.specs.Prelude.{◌≡◌, ◌⊎◌, ℕ, List, Option, Some, None}
+use Rattle.ca_store.specs.Store.{Rose, appended, AppendsPart}
+use Rattle.ca_flow.specs.declared.fault.Fault.{Fault}
+use Rattle.ca_flow.specs.declared.finished.Finished.{Finished}
+use Rattle.ca_flow.specs.FaultLine.{line_of}
+use Rattle.ca_flow.specs.Fault.{Outside}
+use Rattle.ca_flow.specs.Ends.{Ends}
+
+-- the error output, by the bytes that it holds, where they are told, and how often it failed
+pub record Errors : Type 0 where
+  pub bytes : Option (List ℕ)
+  pub faults : ℕ
+
+-- the error output got the line of the fault, or it failed and got a first part of the line
+abbrev pub TellsLine : Fault → Errors → Errors → Type 0
+TellsLine fault old new = (new.bytes ≡ appended (line_of fault) old.bytes)
+    ⊎ (AppendsPart (line_of fault) old.bytes new.bytes × Rose old.faults new.faults)
+
+-- the error output tells the fault, and nothing where there is none
+abbrev pub Tells : Option Fault → Errors → Errors → Type 0
+Tells None old new = new ≡ old
+Tells (Some fault) old new = TellsLine fault old new
+
+-- The command of these words ended, the answer is the exit status of its end, and the error output tells its fault.
+pub record Answers (words : List (List ℕ)) (before after : Outside) (old new : Errors) (status : ℕ) : Type 0 where
+  pub end : Finished
+  pub ends : Ends words before after end
+  pub status_is : status ≡ end.status
+  pub tells : Tells end.fault old new

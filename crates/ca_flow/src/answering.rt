@@ -1,0 +1,68 @@
+//! What the program answers.
+ghost use Rattle.std.specs.Prelude.{◌≡◌, map};
+ghost use Rattle.std.specs.String.{string_bytes};
+ghost use Rattle.ca_store.specs.Store.{Nothing};
+ghost use Rattle.ca_flow.specs.FaultLine.{status_of};
+ghost use Rattle.ca_flow.specs.Answer.{TellsLine, Tells, Answers};
+
+use crate::fault::Fault;
+use crate::top::run;
+use ca_store::{Sink, Store};
+use std::alloc::Global;
+
+/// Does one command, whose words come without the program's name, and prints the line of its fault on `err`, if there is one. The
+/// answer is the exit status.
+pub fn answer<S: Store, W: Sink, E: Sink>(
+    alloc: Global,
+    words: &[String],
+    store: &mut S,
+    out: &mut W,
+    err: &mut E,
+) -> u8
+    requires closed { S.opened store.old ≡ Nothing }
+
+    ensures answers { Answers (map string_bytes words.now)
+        (record {
+          files = S.files store.old;
+          store_faults = S.faults store.old;
+          sink_faults = W.faults out.old;
+          bytes = W.bytes out.old;
+        })
+        (record {
+          files = S.files store.new;
+          store_faults = S.faults store.new;
+          sink_faults = W.faults out.new;
+          bytes = W.bytes out.new;
+        })
+        (record { bytes = E.bytes err.old; faults = E.faults err.old })
+        (record { bytes = E.bytes err.new; faults = E.faults err.new })
+        result }
+    ensures closed { S.opened store.new ≡ Nothing }
+{
+    let end = run(alloc, words, store, out);
+    tell_end(&end.fault, err);
+    end.status
+}
+
+// Prints the line of a fault, if there is one.
+fn tell_end<E: Sink>(fault: &Option<Fault>, err: &mut E)
+    ensures { Tells fault.now
+        (record { bytes = E.bytes err.old; faults = E.faults err.old })
+        (record { bytes = E.bytes err.new; faults = E.faults err.new }) }
+{
+    let Some(fault) = fault else {
+        return;
+    };
+    let _status = tell(fault, err);
+}
+
+/// Prints the line of a fault, and answers its exit status. Where the output fails the status alone tells the fault.
+pub fn tell<E: Sink>(fault: &Fault, err: &mut E) -> u8
+    ensures status { result ≡ status_of fault.now }
+    ensures tells { TellsLine fault.now
+        (record { bytes = E.bytes err.old; faults = E.faults err.old })
+        (record { bytes = E.bytes err.new; faults = E.faults err.new }) }
+{
+    let _printed = fault.print(err);
+    fault.status()
+}

@@ -1,0 +1,38 @@
+//! The texts that the program has of itself.
+ghost use Rattle.std.specs.Prelude.{◌≡◌, IfOk};
+ghost use Rattle.ca_flow.specs.Usage.{usage_text, version_text};
+
+use ca_base::NoMemory;
+use ca_lex::Text;
+use std::alloc::Global;
+
+/// How the program is used.
+pub(crate) fn usage(alloc: Global) -> Result<Text, NoMemory>
+    ensures { IfOk result (λ text. text ≡ usage_text) }
+{
+    Text::from_bytes(
+        alloc,
+        b"\
+usage: cellaware COMMAND WORDS
+
+  cellaware respond CELLS CELL VECTOR          the value of each output pin of CELL under VECTOR
+  cellaware pair CELLS CELL FIRST LAST DEFECT  the same after FIRST and then LAST, with DEFECT or none (-)
+  cellaware defects CELLS CELL                 the names of the defects of CELL
+  cellaware matrix CELLS CELL OUT              write the defect matrix of CELL to OUT, as CSV
+  cellaware --help                             this text
+  cellaware --version                          the version
+
+CELLS is a transistor netlist in SPICE or CDL; a vector has a letter 0, 1 or X per input pin.
+Exit status: 0 done, 1 bad command line, 2 wrong contents, 3 a limit, 4 a file or the output failed,
+5 out of memory. One line on the standard error says why.
+Documents: README.md, docs/TUTORIAL.md, docs/FAULTS.md and docs/cellaware.1 of the sources.
+",
+    )
+}
+
+/// Which version the program is.
+pub(crate) fn version(alloc: Global) -> Result<Text, NoMemory>
+    ensures { IfOk result (λ text. text ≡ version_text) }
+{
+    Text::from_bytes(alloc, b"cellaware 0.2.0\n")
+}
