@@ -1,5 +1,6 @@
 //! Commands over a store and a sink in memory.
 
+mod answers;
 mod rows;
 
 use self::rows::{DEFECTS, DEFINITE, LIBRARY, LINES, MATRIX, NAND2_LINES, PAIR, RESPOND, Row};
@@ -32,6 +33,30 @@ struct Outcome {
     line: MemSink,
 }
 
+// The words of a command line, with one blank between two.
+fn words_of(alloc: Global, line: &str) -> Result<Vec<String>, NoMemory> {
+    let mut words = Vec::new(alloc);
+    for word in line.split(' ') {
+        words.push(String::from_str(alloc, word)?)?;
+    }
+    Ok(words)
+}
+
+// A store with one file, n.sp, and this space for others.
+fn store_with(
+    alloc: Global,
+    bytes: &str,
+    space: usize,
+    fail: FailList,
+) -> Result<MemStore, NoMemory> {
+    let mut files = FileMap::new(alloc);
+    files.add(File {
+        name: Text::from_bytes(alloc, b"n.sp")?,
+        bytes: Text::from_bytes(alloc, bytes.as_bytes())?,
+    })?;
+    MemStore::new(alloc, files, 60, space, fail)
+}
+
 // One command over a store with one file, n.sp, and room for others, and a sink of this room.
 fn outcome_of(
     alloc: Global,
@@ -51,16 +76,8 @@ fn outcome_in(
     room: usize,
     fail: FailList,
 ) -> Result<Outcome, NoMemory> {
-    let mut files = FileMap::new(alloc);
-    files.add(File {
-        name: Text::from_bytes(alloc, b"n.sp")?,
-        bytes: Text::from_bytes(alloc, bytes.as_bytes())?,
-    })?;
-    let mut words = Vec::new(alloc);
-    for word in line.split(' ') {
-        words.push(String::from_str(alloc, word)?)?;
-    }
-    let mut store = MemStore::new(alloc, files, 60, space, fail)?;
+    let words = words_of(alloc, line)?;
+    let mut store = store_with(alloc, bytes, space, fail)?;
     let mut printed = MemSink::new(alloc, room, FailList::new(alloc))?;
     let end = run(alloc, &words, &mut store, &mut printed);
     let mut line = MemSink::new(alloc, 100, FailList::new(alloc))?;
