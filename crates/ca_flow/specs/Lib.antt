@@ -10,3 +10,4 @@ pub mod Stages
 pub mod Complete
 pub mod Ends
 pub mod Work
+pub mod Laws
