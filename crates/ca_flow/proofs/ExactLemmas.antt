@@ -9,7 +9,6 @@ use Rattle.ca_cell.specs.declared.rule.CellRule.{CellRule}
 use Rattle.ca_cell.specs.Rules.{KeepsRules, IsFirstBroken}
 use Rattle.ca_spice.specs.declared.fault.SpiceFault.{SpiceFault}
 use Rattle.ca_spice.specs.declared.fault.SpiceFault.TheVariants as spice
-use Rattle.ca_spice.specs.declared.subcircuit.Subcircuit.{Subcircuit}
 use Rattle.ca_spice.specs.Reading.{library_of}
 use Rattle.ca_spice.specs.Called.{called_among, cell_called}
 use Rattle.ca_flow.specs.declared.inputs.TheConstants.{MAX_CELLS}
@@ -130,27 +129,34 @@ one_at_called : (words : List (List ℕ)) (called : Option RawCell) (fault other
 one_at_called words None fault other here there = here ∙ sym there
 one_at_called words (Some raw) fault other here there = one_at_cell words raw fault other here there
 
--- what is told of a reading
-abbrev pub AtLibrary : List (List ℕ) → Result (List Subcircuit) SpiceFault → Fault → Type 0
-AtLibrary words (Ok cells) fault = AtCalled words (called_among cells (upper_case (cell_word words))) fault
-AtLibrary words (Err (spice.At line kind)) fault = fault ≡ Cells line kind
-AtLibrary words (Err (spice.TooManyCells count)) fault = fault ≡ Limit limit.Cells count
-AtLibrary words (Err spice.NoMemory) fault = ⊥
+-- what is told of a reading, in which the words name a subcircuit or none
+abbrev pub AtReading : {S : Type 0} → List (List ℕ) → Result S SpiceFault → (S → Option RawCell) → Fault → Type 0
+AtReading words (Ok cells) called fault = AtCalled words (called cells) fault
+AtReading words (Err (spice.At line kind)) called fault = fault ≡ Cells line kind
+AtReading words (Err (spice.TooManyCells count)) called fault = fault ≡ Limit limit.Cells count
+AtReading words (Err spice.NoMemory) called fault = ⊥
 
-one_at_library : (words : List (List ℕ)) (read : Result (List Subcircuit) SpiceFault) (fault other : Fault) → AtLibrary words read fault
-    → AtLibrary words read other → fault ≡ other
-one_at_library words (Ok cells) fault other here there =
-    one_at_called words (called_among cells (upper_case (cell_word words))) fault other here there
-one_at_library words (Err (spice.At line kind)) fault other here there = here ∙ sym there
-one_at_library words (Err (spice.TooManyCells count)) fault other here there = here ∙ sym there
-one_at_library words (Err spice.NoMemory) fault other here there = absurd here
+abbrev pub AtLibrary : List (List ℕ) → List ℕ → Fault → Type 0
+AtLibrary words bytes fault = AtReading words (library_of bytes) (λ cells. called_among cells (upper_case (cell_word words))) fault
+
+one_at_reading : {S : Type 0} (words : List (List ℕ)) (read : Result S SpiceFault) (called : S → Option RawCell) (fault other : Fault)
+    → AtReading words read called fault → AtReading words read called other → fault ≡ other
+one_at_reading words (Ok cells) called fault other here there = one_at_called words (called cells) fault other here there
+one_at_reading words (Err (spice.At line kind)) called fault other here there = here ∙ sym there
+one_at_reading words (Err (spice.TooManyCells count)) called fault other here there = here ∙ sym there
+one_at_reading words (Err spice.NoMemory) called fault other here there = absurd here
+
+one_at_library : (words : List (List ℕ)) (bytes : List ℕ) (fault other : Fault) → AtLibrary words bytes fault → AtLibrary words bytes other
+    → fault ≡ other
+one_at_library words bytes fault other here there =
+    one_at_reading words (library_of bytes) (λ cells. called_among cells (upper_case (cell_word words))) fault other here there
 
 -- what is told of a file: it is too long, or it isn't, and of its reading
 abbrev pub AtFile : List (List ℕ) → Option (List ℕ) → Fault → Type 0
 AtFile words None fault = ⊥
 AtFile words (Some bytes) fault =
     ((MAX_CELLS < length bytes) × (fault ≡ TooLong (cells_word words) (MAX_CELLS + 1)))
-    ⊎ ((length bytes ≤ MAX_CELLS) × AtLibrary words (library_of bytes) fault)
+    ⊎ ((length bytes ≤ MAX_CELLS) × AtLibrary words bytes fault)
 
 one_at_file : (words : List (List ℕ)) (file : Option (List ℕ)) (fault other : Fault) → AtFile words file fault → AtFile words file other
     → fault ≡ other
@@ -160,7 +166,7 @@ one_at_file words (Some bytes) fault other (inl here) (inr there) =
     let past = here.0 in let within = there.0 in absurd (omega (arith, past, within))
 one_at_file words (Some bytes) fault other (inr here) (inl there) =
     let past = there.0 in let within = here.0 in absurd (omega (arith, past, within))
-one_at_file words (Some bytes) fault other (inr here) (inr there) = one_at_library words (library_of bytes) fault other here.1 there.1
+one_at_file words (Some bytes) fault other (inr here) (inr there) = one_at_library words bytes fault other here.1 there.1
 
 -- what is told of words and their file
 abbrev pub AtWords : List (List ℕ) → Option (List ℕ) → Fault → Type 0
@@ -193,7 +199,7 @@ of_file words file outside P tells held =
 -- the causes of each stage
 module _ (words : List (List ℕ)) where
   at_bytes : (file : Option (List ℕ)) (P : List ℕ → Type 0) (fault : Fault)
-      → ((bytes : List ℕ) → P bytes → AtLibrary words (library_of bytes) fault)
+      → ((bytes : List ℕ) → P bytes → AtLibrary words bytes fault)
       → IsSomeAnd file (λ bytes. (length bytes ≤ MAX_CELLS) × P bytes) → AtFile words file fault
   at_bytes None P fault next held = absurd held
   at_bytes (Some bytes) P fault next held = inr (held.0, next bytes held.1)
@@ -203,37 +209,36 @@ module _ (words : List (List ℕ)) where
   too_long None past = absurd past
   too_long (Some bytes) past = inl (past, refl)
 
-  -- the reading in which the words name this subcircuit, or none
+  -- the reading in which the words name a subcircuit, or none
+  in_reading : {S : Type 0} (read : Result S SpiceFault) (called : S → Option RawCell) (P : RawCell → Type 0) (fault : Fault)
+      → ((raw : RawCell) → P raw → AtCell words raw fault)
+      → IsSomeAnd (elim read as (λ _. Option RawCell) [ Ok cells ↦ called cells | Err broken ↦ None ]) P
+      → AtReading words read called fault
+  in_reading (Ok cells) called P fault next held = by (called cells) held
+    where
+      by : (found : Option RawCell) → IsSomeAnd found P → AtCalled words found fault
+      by None held = absurd held
+      by (Some raw) held = next raw held
+  in_reading (Err broken) called P fault next held = absurd held
+
   at_called : (bytes : List ℕ) (P : RawCell → Type 0) (fault : Fault) → ((raw : RawCell) → P raw → AtCell words raw fault)
-      → HasCell (cell_word words) P bytes → AtLibrary words (library_of bytes) fault
-  at_called bytes P fault next held = by (library_of bytes) held
+      → HasCell (cell_word words) P bytes → AtLibrary words bytes fault
+  at_called bytes P fault next held =
+      in_reading (library_of bytes) (λ cells. called_among cells (upper_case (cell_word words))) P fault next held
+
+  none_in_reading : {S : Type 0} (read : Result S SpiceFault) (called : S → Option RawCell) → IsOk read
+      → IsNone (elim read as (λ _. Option RawCell) [ Ok cells ↦ called cells | Err broken ↦ None ])
+      → AtReading words read called (NoCell (cell_word words))
+  none_in_reading (Ok cells) called ok none = by (called cells) none
     where
-      by_called : (called : Option RawCell) → IsSomeAnd called P → AtCalled words called fault
-      by_called None held = absurd held
-      by_called (Some raw) held = next raw held
+      by : (found : Option RawCell) → IsNone found → AtCalled words found (NoCell (cell_word words))
+      by None none = refl
+      by (Some raw) none = absurd (true≢false none)
+  none_in_reading (Err broken) called ok none = absurd (true≢false (sym ok))
 
-      by : (read : Result (List Subcircuit) SpiceFault)
-          → IsSomeAnd (elim read as (λ _. Option RawCell) [
-            | Ok cells ↦ called_among cells (upper_case (cell_word words))
-            | Err broken ↦ None
-          ]) P → AtLibrary words read fault
-      by (Ok cells) held = by_called (called_among cells (upper_case (cell_word words))) held
-      by (Err broken) held = absurd held
-
-  at_missing : (bytes : List ℕ) → LacksCell (cell_word words) bytes → AtLibrary words (library_of bytes) (NoCell (cell_word words))
-  at_missing bytes lacks = by (library_of bytes) lacks.0 lacks.1
-    where
-      by_called : (called : Option RawCell) → IsNone called → AtCalled words called (NoCell (cell_word words))
-      by_called None none = refl
-      by_called (Some raw) none = absurd (true≢false none)
-
-      by : (read : Result (List Subcircuit) SpiceFault) → IsOk read
-          → IsNone (elim read as (λ _. Option RawCell) [
-            | Ok cells ↦ called_among cells (upper_case (cell_word words))
-            | Err broken ↦ None
-          ]) → AtLibrary words read (NoCell (cell_word words))
-      by (Ok cells) ok none = by_called (called_among cells (upper_case (cell_word words))) none
-      by (Err broken) ok none = absurd (true≢false (sym ok))
+  at_missing : (bytes : List ℕ) → LacksCell (cell_word words) bytes → AtLibrary words bytes (NoCell (cell_word words))
+  at_missing bytes lacks =
+      none_in_reading (library_of bytes) (λ cells. called_among cells (upper_case (cell_word words))) lacks.0 lacks.1
 
   module _ (file : Option (List ℕ)) (outside : Outside) (tells : TellsFile words file outside) (before after : ℕ) where
     of_read : (fault : Fault) → IsInputFault fault → IsReadCause (cells_word words) outside.files MAX_CELLS before after fault → AtFile words file fault

@@ -6,7 +6,6 @@ use Rattle.ca_lex.specs.Words.{upper_case}
 use Rattle.ca_cell.specs.declared.raw.RawCell.{RawCell}
 use Rattle.ca_net.specs.Circuit.{Circuit}
 use Rattle.ca_spice.specs.declared.fault.SpiceFault.{SpiceFault}
-use Rattle.ca_spice.specs.declared.subcircuit.Subcircuit.{Subcircuit}
 use Rattle.ca_spice.specs.Reading.{library_of}
 use Rattle.ca_spice.specs.Called.{called_among, cell_called}
 use Rattle.ca_flow.specs.declared.inputs.TheConstants.{MAX_CELLS}
@@ -24,7 +23,7 @@ use Rattle.ca_flow.specs.Fault.{Outside, IsFirstUnfit, LacksDefect, IsCause}
 use Rattle.ca_flow.specs.Complete.{FitsPair, FitsCell, IsAnswerable}
 use Rattle.ca_flow.specs.Ends.{AreDefectNames, IsSoundMatrix, IsAsked, Ends}
 use Rattle.ca_flow.specs.Laws.{IsInputFault, TellsFile}
-use Rattle.ca_flow.proofs.ExactLemmas.{AreAsked, AtCell, AtCalled, AtLibrary, AtFile, AtWords, respond_or_pair, one_at_words, of_file, of_cause}
+use Rattle.ca_flow.proofs.ExactLemmas.{AreAsked, AtCell, AtCalled, AtReading, AtLibrary, AtFile, AtWords, respond_or_pair, one_at_words, of_file, of_cause}
 
 -- the file is there and no longer than it may be, and in it the words name a subcircuit that they fit
 abbrev FitsFile : List (List ℕ) → Option (List ℕ) → Type 0
@@ -63,13 +62,11 @@ module _ (words : List (List ℕ)) (fault : Fault) where
   fits_called None held told = held
   fits_called (Some raw) fits told = fits_cell raw fits told
 
-  fits_reading : (read : Result (List Subcircuit) SpiceFault)
-      → IsSomeAnd (elim read as (λ _. Option RawCell) [
-        | Ok cells ↦ called_among cells (upper_case (cell_word words))
-        | Err broken ↦ None
-      ]) (FitsCell words) → AtLibrary words read fault → ⊥
-  fits_reading (Ok cells) fits told = fits_called (called_among cells (upper_case (cell_word words))) fits told
-  fits_reading (Err broken) fits told = fits
+  fits_reading : {S : Type 0} (read : Result S SpiceFault) (called : S → Option RawCell)
+      → IsSomeAnd (elim read as (λ _. Option RawCell) [ Ok cells ↦ called cells | Err broken ↦ None ]) (FitsCell words)
+      → AtReading words read called fault → ⊥
+  fits_reading (Ok cells) called fits told = fits_called (called cells) fits told
+  fits_reading (Err broken) called fits told = fits
 
   fits_command : (called : Option RawCell) → IsSomeAnd called (FitsCell words) → (raw : RawCell) × FitsCell words raw
   fits_command None held = absurd held
@@ -80,7 +77,8 @@ module _ (words : List (List ℕ)) (fault : Fault) where
   fits_file (Some bytes) fits (inl told) = told.0 (fits_command (cell_called bytes (cell_word words)) fits.1).1.is
   fits_file (Some bytes) fits (inr (is, inl past)) =
       let long = past.0 in let within = fits.0 in omega (arith, long, within)
-  fits_file (Some bytes) fits (inr (is, inr told)) = fits_reading (library_of bytes) fits.1 told.1
+  fits_file (Some bytes) fits (inr (is, inr told)) =
+      fits_reading (library_of bytes) (λ cells. called_among cells (upper_case (cell_word words))) fits.1 told.1
 
 -- the file of words that can be answered
 pub no_cause : (words : List (List ℕ)) (before after : Outside) (fault : Fault) → IsAnswerable words before.files

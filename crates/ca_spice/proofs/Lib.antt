@@ -15,7 +15,7 @@ pub mod CardLemmas
 pub mod DistinctLemmas
 pub mod WritableLemmas
 pub mod ReadableLemmas
-pub mod PlainLemmas
 pub mod RoleLemmas
 pub mod RoundTripLemmas
 pub mod FoundLemmas
+pub mod PlainLemmas

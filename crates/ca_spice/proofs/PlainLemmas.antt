@@ -1,6 +1,8 @@
 -- The names of a subcircuit that was read are plain.
-use Rattle.std.proofs.Common.{◌≡◌, ◌≢◌, ℕ, zero, suc, ◌+◌, ◌≤◌, ◌⊎◌, inl, inr, true, false, true≢false, eqb, List, [], ◌∷◌, ◌++◌, length, map, Some, refl, sym, ◌∙◌, ap, subst, arith}
-use Rattle.std.specs.Prelude.{slice_get}
+use Rattle.std.proofs.Common.{◌≡◌, ◌≢◌, ℕ, zero, suc, ◌+◌, ◌≤◌, ◌⊎◌, inl, inr, Bool, true, false, true≢false, cond, eqb, List, [], ◌∷◌, ◌++◌, length, map, Option, Some, None, Result, Ok, Err, refl, sym, ◌∙◌, ap, subst, arith}
+use Rattle.std.specs.Prelude.{slice_get, Contains}
+use Rattle.std.specs.Str.{bytes_eq}
+use Rattle.std.proofs.lemmas.Slice.Eq.{bytes_eq-Decides}
 use Rattle.std.specs.List.{All, AllByRecursion}
 use Rattle.std.proofs.lemmas.Bool.Decides.{Decides-eqb}
 use Rattle.std.proofs.lemmas.List.{length-map, length-append}
@@ -10,10 +12,15 @@ use Rattle.ca_cell.specs.declared.raw.RawDevice.{RawDevice}
 use Rattle.ca_cell.specs.declared.raw.RawPin.{RawPin}
 use Rattle.ca_cell.specs.declared.raw.RawCell.{RawCell}
 use Rattle.ca_cell.specs.PlainNames.{IsPlain, Differ, device_names, HasPlainNames}
+use Rattle.ca_spice.specs.declared.fault.SpiceFault.{SpiceFault}
+use Rattle.ca_spice.specs.declared.subcircuit.Subcircuit.{Subcircuit}
+use Rattle.ca_spice.specs.Reading.{library_of}
+use Rattle.ca_spice.specs.Called.{called_among, cell_called}
 use Rattle.ca_spice.specs.Writing.{pin_names, IsReadable}
 use Rattle.ca_spice.proofs.SpelledLemmas.{IsInside, IsOneWord, IsSpelled, not_sign}
 use Rattle.ca_spice.proofs.CardLemmas.{IsCard}
 use Rattle.ca_spice.proofs.DistinctLemmas.{AreDistinct}
+use Rattle.ca_spice.proofs.FoundLemmas.{later}
 use Rattle.ca_spice.proofs.ReadableLemmas.{readable_writable}
 
 no_sign : (byte : ℕ) → IsInside byte → byte ≢ 61
@@ -55,10 +62,35 @@ spelled_devices : (nets : List (List ℕ)) (devices : List RawDevice) → AllByR
 spelled_devices nets [] all = tt
 spelled_devices nets (device ∷ devices) all = (all.0.named.spelled, spelled_devices nets devices all.1)
 
--- the names of a subcircuit that some text reads as are plain
-pub plain_names : (name : List ℕ) (raw : RawCell) → IsReadable name raw → HasPlainNames raw
-plain_names name raw it =
-    let writable = readable_writable name raw it in
+-- the subcircuit that has the name is among them
+held_among : (cells : List Subcircuit) (name : List ℕ) (raw : RawCell) → called_among cells name ≡ Some raw
+    → Contains cells (record { name = name; raw = raw })
+held_among [] name raw is = absurd cc
+held_among (cell ∷ cells) name raw is = by (bytes_eq name cell.name) refl is (held_among cells name raw)
+  where
+    by : (same : Bool) → bytes_eq name cell.name ≡ same → cond same (Some cell.raw) (called_among cells name) ≡ Some raw
+        → (called_among cells name ≡ Some raw → Contains cells (record { name = name; raw = raw }))
+        → Contains (cell ∷ cells) (record { name = name; raw = raw })
+    by true names is rest =
+        let same_name : cell.name ≡ name = sym ((bytes_eq-Decides name cell.name).0 names) in
+        let same_raw : cell.raw ≡ raw = cc in
+        (0, omega arith, λ j. record { name = same_name j; raw = same_raw j })
+    by false names is rest = later cell cells (record { name = name; raw = raw }) (rest is)
+
+-- a subcircuit that a word names in a text is one that some text reads as
+readable : (bytes word : List ℕ) (raw : RawCell) → cell_called bytes word ≡ Some raw → IsReadable word raw
+readable bytes word raw called = by (library_of bytes) refl called
+  where
+    by : (read : Result (List Subcircuit) SpiceFault) → library_of bytes ≡ read
+        → elim read as (λ _. Option RawCell) [ Ok cells ↦ called_among cells (upper_case word) | Err fault ↦ None ] ≡ Some raw
+        → IsReadable word raw
+    by (Ok cells) read called = record { text = bytes; cells = cells; read = read; holds = held_among cells (upper_case word) raw called }
+    by (Err fault) read called = absurd cc
+
+-- the names of a subcircuit that a word names in a text are plain
+pub plain_names : (bytes word : List ℕ) (raw : RawCell) → cell_called bytes word ≡ Some raw → HasPlainNames raw
+plain_names bytes word raw called =
+    let writable = readable_writable word raw (readable bytes word raw called) in
     let names = writable.names in
     let devices = spelled_devices raw.nets raw.devices writable.cards in
     record {
