@@ -10,13 +10,12 @@ use Rattle.ca_cell.specs.Rules.{KeepsRules, IsFirstBroken}
 use Rattle.ca_spice.specs.declared.fault.SpiceFault.{SpiceFault}
 use Rattle.ca_spice.specs.declared.fault.SpiceFault.TheVariants as spice
 use Rattle.ca_spice.specs.Reading.{library_of}
-use Rattle.ca_spice.specs.Called.{called_among, cell_called}
+use Rattle.ca_spice.specs.Called.{called_among}
 use Rattle.ca_flow.specs.declared.inputs.TheConstants.{MAX_CELLS}
 use Rattle.ca_flow.specs.declared.fault.LimitKind.TheVariants as limit
 use Rattle.ca_flow.specs.declared.fault.Fault.{Fault}
 use Rattle.ca_flow.specs.declared.fault.Fault.TheVariants.{BadWords, Cells, NoCell, Cell, BadVector, NoDefect, TooLong, Limit, StoreFailed, SinkFailed, NoMemory}
 use Rattle.ca_flow.specs.Words.{cells_word, cell_word, vector_word, first_word, last_word, defect_word, dash, IsRespond, IsPair, IsDefects, IsMatrix, IsCommand}
-use Rattle.ca_flow.specs.Outputs.{Fits}
 use Rattle.ca_flow.specs.Cells.{OfFile, HasCell, LacksCell}
 use Rattle.ca_flow.specs.Fault.{Outside, IsReadCause, IsTextCause, IsCellsCause, IsNameCause, IsFirstUnfit, LacksDefect, IsPairCause, IsVectorCause, IsCellCause, IsValueCause, IsWordsCause, IsWriteCause, IsPrintCause, IsWorkCause, IsCause}
 use Rattle.ca_flow.specs.Laws.{IsInputFault, TellsFile}
@@ -172,7 +171,8 @@ one_at_file words (Some bytes) fault other (inr here) (inr there) = one_at_libra
 abbrev pub AtWords : List (List ℕ) → Option (List ℕ) → Fault → Type 0
 AtWords words file fault = ((¬ (IsCommand words)) × (fault ≡ BadWords)) ⊎ (IsOnCell words × AtFile words file fault)
 
-on_cell : (words : List (List ℕ)) → IsOnCell words → IsCommand words
+-- a command on a cell is a command
+pub on_cell : (words : List (List ℕ)) → IsOnCell words → IsCommand words
 on_cell words (inl is) = inl is
 on_cell words (inr (inl is)) = inr (inl is)
 on_cell words (inr (inr (inl is))) = inr (inr (inl is))

@@ -1,29 +1,26 @@
 -- Words that their file fits have no cause of a fault of input.
-use Rattle.std.proofs.Common.{ℕ, ◌≡◌, ◌≤◌, ◌⊎◌, ◌∙◌, inl, inr, refl, sym, ap, subst, arith, List, length, Option, Some, None, Result, Ok, Err, true≢false}
+use Rattle.std.proofs.Common.{ℕ, ◌≡◌, ◌≤◌, ◌∙◌, inl, inr, refl, sym, ap, subst, arith, List, length, Option, Some, None, Result, Ok, Err, true≢false}
 use Rattle.std.specs.Prelude.{IfSome, IsSome, IsNone, IsSomeAnd}
 use Rattle.ca_store.specs.Store.{Files}
 use Rattle.ca_lex.specs.Words.{upper_case}
 use Rattle.ca_cell.specs.declared.raw.RawCell.{RawCell}
-use Rattle.ca_net.specs.Circuit.{Circuit}
 use Rattle.ca_spice.specs.declared.fault.SpiceFault.{SpiceFault}
 use Rattle.ca_spice.specs.Reading.{library_of}
 use Rattle.ca_spice.specs.Called.{called_among, cell_called}
 use Rattle.ca_flow.specs.declared.inputs.TheConstants.{MAX_CELLS}
 use Rattle.ca_flow.specs.declared.fault.Fault.{Fault}
-use Rattle.ca_flow.specs.declared.fault.Fault.TheVariants.{SinkFailed, StoreFailed}
-use Rattle.ca_flow.specs.declared.pin_values.PinValue.{PinValue}
 use Rattle.ca_flow.specs.declared.finished.Done.{Done}
 use Rattle.ca_flow.specs.declared.finished.Done.TheVariants.{Respond, Pair, Defects, Matrix}
 use Rattle.ca_flow.specs.declared.finished.Finished.{Finished}
-use Rattle.ca_flow.specs.Words.{cells_word, cell_word, vector_word, first_word, last_word, defect_word, dash, word_at, IsRespond, IsPair, IsDefects, IsMatrix}
-use Rattle.ca_flow.specs.Outputs.{Fits, asked_network, AreEnds, AreValues}
-use Rattle.ca_flow.specs.Cells.{OfCell, HasCell}
+use Rattle.ca_flow.specs.Words.{cells_word, cell_word, vector_word, first_word, last_word, defect_word, dash, IsRespond, IsPair, IsDefects, IsMatrix}
+use Rattle.ca_flow.specs.Outputs.{asked_network, AreValues}
+use Rattle.ca_flow.specs.Cells.{HasCell}
 use Rattle.ca_flow.specs.Finished.{status_told}
 use Rattle.ca_flow.specs.Fault.{Outside, IsFirstUnfit, LacksDefect, IsCause}
-use Rattle.ca_flow.specs.Complete.{FitsPair, FitsCell, IsAnswerable}
+use Rattle.ca_flow.specs.Complete.{FitsCell, IsAnswerable}
 use Rattle.ca_flow.specs.Ends.{AreDefectNames, IsSoundMatrix, IsAsked, Ends}
 use Rattle.ca_flow.specs.Laws.{IsInputFault, TellsFile}
-use Rattle.ca_flow.proofs.ExactLemmas.{AreAsked, AtCell, AtCalled, AtReading, AtLibrary, AtFile, AtWords, respond_or_pair, one_at_words, of_file, of_cause}
+use Rattle.ca_flow.proofs.ExactLemmas.{AreAsked, AtCell, AtCalled, AtReading, AtWords, on_cell, respond_or_pair, one_at_words, of_file, of_cause}
 
 -- the file is there and no longer than it may be, and in it the words name a subcircuit that they fit
 abbrev FitsFile : List (List ℕ) → Option (List ℕ) → Type 0
@@ -127,7 +124,7 @@ module _ (words : List (List ℕ)) (file : Option (List ℕ)) (outside : Outside
   asked_fits (Respond values) (is, asked) =
       let P : RawCell → Type 0 = AreValues (vector_word words) (vector_word words) dash values in
       weaker words file P (λ raw held. record {
-        is = inl is;
+        is = on_cell words (inl is);
         kept = held.kept;
         respond = λ _. held.first_fits;
         pair = λ pair. absurd (respond_or_pair words is pair);
@@ -135,7 +132,7 @@ module _ (words : List (List ℕ)) (file : Option (List ℕ)) (outside : Outside
   asked_fits (Pair values) (is, asked) =
       let P : RawCell → Type 0 = AreValues (first_word words) (last_word words) (defect_word words) values in
       weaker words file P (λ raw held. record {
-        is = inr (inl is);
+        is = on_cell words (inr (inl is));
         kept = held.kept;
         respond = λ respond. absurd (respond_or_pair words respond is);
         pair = λ _. record {
@@ -147,7 +144,7 @@ module _ (words : List (List ℕ)) (file : Option (List ℕ)) (outside : Outside
   asked_fits (Defects names) (is, asked) =
       let P : RawCell → Type 0 = AreDefectNames names in
       weaker words file P (λ raw held. record {
-        is = inr (inr (inl is));
+        is = on_cell words (inr (inr (inl is)));
         kept = held.0;
         respond = λ respond. absurd (respond_or_defects words respond is);
         pair = λ pair. absurd (pair_or_defects words pair is);
@@ -155,7 +152,7 @@ module _ (words : List (List ℕ)) (file : Option (List ℕ)) (outside : Outside
   asked_fits (Matrix matrix) (is, asked) =
       let P : RawCell → Type 0 = IsSoundMatrix matrix in
       weaker words file P (λ raw held. record {
-        is = inr (inr (inr is));
+        is = on_cell words (inr (inr (inr is)));
         kept = held.0;
         respond = λ respond. absurd (respond_or_matrix words respond is);
         pair = λ pair. absurd (pair_or_matrix words pair is);
