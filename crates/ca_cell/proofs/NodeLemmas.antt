@@ -14,7 +14,7 @@ use Rattle.ca_cell.specs.declared.raw.RawDevice.{RawDevice}
 use Rattle.ca_cell.specs.declared.raw.RawCell.{RawCell}
 use Rattle.ca_cell.specs.declared.rule.CellRule.TheVariants.{NoRail, TooManyDevices, TooManyInputs, NoOutput, TooManyOutputs, InputDrivesChannel}
 use Rattle.ca_cell.specs.Raw.{is_input, is_output, is_power, is_ground, role_count, pin_node, node_at, node_of, nodes_of, device_of}
-use Rattle.ca_cell.specs.Rules.{IsRaw, node_count, input_role, input_at, input_node, either, channel_pin, DrivesChannel, KeepsRules}
+use Rattle.ca_cell.specs.Rules.{node_count, input_role, input_at, input_node, either, channel_pin, DrivesChannel, KeepsRules}
 use Rattle.ca_cell.specs.declared.rule.TheConstants.{MOST_DEVICES, MOST_NODES, MOST_INPUTS, MOST_OUTPUTS}
 use Rattle.ca_net.specs.declared.node.NodeKind.{NodeKind}
 use Rattle.ca_cell.specs.Nodes.{IsInputPin, IsOffInputPins, GatesOnly, free_count}
@@ -97,19 +97,18 @@ pub record HasNet (raw : RawCell) (n : ℕ) : Type 0 where
   pub is_node : node_of raw.pins place ≡ n
 
 -- the net of a pin
-net_of_pin : (raw : RawCell) (n place : ℕ) (pin : RawPin) → IsRaw raw → slice_get raw.pins place ≡ Some pin
+net_of_pin : (raw : RawCell) (n place : ℕ) (pin : RawPin) → length raw.pins ≤ length raw.nets → slice_get raw.pins place ≡ Some pin
     → pin_node raw.pins place pin.role ≡ n → HasNet raw n
-net_of_pin raw n place pin is_raw there is = record {
+net_of_pin raw n place pin pins there is = record {
   place = place;
-  within = let on_list = slice_get_within raw.pins place pin there in let pins = is_raw.pins in omega arith;
+  within = let on_list = slice_get_within raw.pins place pin there in omega arith;
   is_node = ap (node_at raw.pins place) there ∙ is;
 }
 
 -- an inner net is behind the pins
-inner_net : (raw : RawCell) (n : ℕ) → IsRaw raw → 2 + role_count is_input raw.pins + role_count is_output raw.pins ≤ n
+inner_net : (raw : RawCell) (n : ℕ) → length raw.pins ≤ length raw.nets → 2 + role_count is_input raw.pins + role_count is_output raw.pins ≤ n
     → n < node_count raw → HasNet raw n
-inner_net raw n is_raw from to =
-    let pins = is_raw.pins in
+inner_net raw n pins from to =
     let place : ℕ = length raw.pins + (n - (2 + role_count is_input raw.pins + role_count is_output raw.pins)) in
     record {
       place = place;
@@ -174,27 +173,27 @@ length-free raw nodes inputs are count =
     omega arith
 
 -- each node of a cell has a net
-pub has_net : (raw : RawCell) → IsRaw raw → KeepsRules raw → (n : ℕ) → n < node_count raw → HasNet raw n
-has_net raw is_raw keeps zero within =
+pub has_net : (raw : RawCell) → length raw.pins ≤ length raw.nets → KeepsRules raw → (n : ℕ) → n < node_count raw → HasNet raw n
+has_net raw pins keeps zero within =
     let found = has_pin is_power raw.pins 0 (some_power raw keeps) in
-    net_of_pin raw 0 found.place found.pin is_raw found.there (power_node raw.pins found.place found.pin.role found.has)
-has_net raw is_raw keeps (suc zero) within =
+    net_of_pin raw 0 found.place found.pin pins found.there (power_node raw.pins found.place found.pin.role found.has)
+has_net raw pins keeps (suc zero) within =
     let found = has_pin is_ground raw.pins 0 (some_ground raw keeps) in
-    net_of_pin raw 1 found.place found.pin is_raw found.there (ground_node raw.pins found.place found.pin.role found.has)
-has_net raw is_raw keeps (suc (suc m)) within =
+    net_of_pin raw 1 found.place found.pin pins found.there (ground_node raw.pins found.place found.pin.role found.has)
+has_net raw pins keeps (suc (suc m)) within =
     elim (dec_le (m + 1) (role_count is_input raw.pins)) [
       | yes input ↦
           let found = has_pin is_input raw.pins m (omega arith) in
           let count : role_count is_input (take found.place raw.pins) ≡ m = found.count in
           let node = input_pin_node raw.pins found.place found.pin.role found.has in
-          net_of_pin raw (suc (suc m)) found.place found.pin is_raw found.there (node ∙ omega arith)
+          net_of_pin raw (suc (suc m)) found.place found.pin pins found.there (node ∙ omega arith)
       | no behind ↦ elim (dec_le (m + 1) (role_count is_input raw.pins + role_count is_output raw.pins)) [
         | yes output ↦
             let found = has_pin is_output raw.pins (m - role_count is_input raw.pins) (omega arith) in
             let count : role_count is_output (take found.place raw.pins) ≡ m - role_count is_input raw.pins = found.count in
             let node = output_node raw.pins found.place found.pin.role found.has in
-            net_of_pin raw (suc (suc m)) found.place found.pin is_raw found.there (node ∙ omega arith)
-        | no inner ↦ inner_net raw (suc (suc m)) is_raw (omega arith) within
+            net_of_pin raw (suc (suc m)) found.place found.pin pins found.there (node ∙ omega arith)
+        | no inner ↦ inner_net raw (suc (suc m)) pins (omega arith) within
       ]
     ]
 

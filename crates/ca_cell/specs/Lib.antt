@@ -3,3 +3,5 @@ pub mod Rules
 pub mod Library
 pub mod Entries
 pub mod Nodes
+pub mod PlainNames
+pub mod Limits

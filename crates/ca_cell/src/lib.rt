@@ -4,6 +4,7 @@
 
 mod cell;
 mod check;
+mod laws;
 mod library;
 mod raw;
 mod rule;
@@ -11,6 +12,7 @@ mod rule;
 mod tests;
 
 pub use cell::Cell;
+pub use laws::limits;
 pub use library::{Entry, Library, LibraryFault, MOST_CELLS};
 pub use raw::{RawCell, RawDevice, RawDevices, RawPin, RawPins, Role};
 pub use rule::{CellFault, CellRule, MOST_DEVICES, MOST_INPUTS, MOST_NODES, MOST_OUTPUTS};

@@ -6,3 +6,6 @@ pub mod CountLemmas
 pub mod CaseLemmas
 pub mod NameLemmas
 pub mod FindLemmas
+pub mod PlainLemmas
+pub mod DifferLemmas
+pub mod DistinctLemmas

@@ -5,3 +5,4 @@ pub mod Name
 pub mod Overlay
 pub mod Row
 pub mod Exposes
+pub mod Laws

@@ -14,7 +14,7 @@ mod search;
 mod tests;
 
 pub use defect::{Defect, changed_device};
-pub use laws::lists_defects;
+pub use laws::{defect_names_differ, lists_defects};
 pub use list::DefectList;
 pub use listing::defects;
 pub use names::{defect_names, name};

@@ -6,3 +6,7 @@ pub mod FileLemmas
 pub mod CauseLemmas
 pub mod CompleteLemmas
 pub mod EndLemmas
+pub mod RuleLemmas
+pub mod ExactLemmas
+pub mod FitsLemmas
+pub mod NameLemmas

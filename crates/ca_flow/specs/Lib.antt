@@ -12,3 +12,4 @@ pub mod Complete
 pub mod Ends
 pub mod Work
 pub mod Answer
+pub mod Laws

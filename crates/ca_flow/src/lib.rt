@@ -5,6 +5,7 @@ mod answering;
 mod fault;
 mod finished;
 mod inputs;
+mod laws;
 mod lines;
 mod listing;
 mod outputs;
@@ -20,6 +21,9 @@ mod work;
 pub use answering::{answer, tell};
 pub use fault::{Fault, LimitKind};
 pub use finished::{Done, Finished};
+pub use laws::{
+    answerable_has_no_cause, cause_is_told, names_mean_one_defect, one_cause, size_is_limited,
+};
 pub use pin_values::{PinValue, PinValues};
 pub use top::run;
 

@@ -12,7 +12,7 @@ use Rattle.ca_spice.specs.Reading.{library_of}
 use Rattle.ca_spice.specs.Views.{subcircuit_seen}
 use Rattle.ca_spice.specs.Writing.{IsReadable}
 
-later : (first : Subcircuit) (cells : List Subcircuit) (cell : Subcircuit) → Contains cells cell → Contains (first ∷ cells) cell
+pub later : (first : Subcircuit) (cells : List Subcircuit) (cell : Subcircuit) → Contains cells cell → Contains (first ∷ cells) cell
 later first cells cell has = (suc has.0, omega (arith, has.1), has.2)
 
 found_in : (name : List ℕ) (library : List Named) (raw : RawCell) → entry_of library name ≡ Some (Sound raw)

@@ -12,8 +12,10 @@ pub mod ShownLemmas
 pub mod SizeLemmas
 pub mod WrittenLemmas
 pub mod CardLemmas
+pub mod DistinctLemmas
 pub mod WritableLemmas
 pub mod ReadableLemmas
 pub mod RoleLemmas
 pub mod RoundTripLemmas
 pub mod FoundLemmas
+pub mod PlainLemmas

@@ -28,6 +28,7 @@ use Rattle.ca_spice.specs.Writing.{pin_names, kept_as, IsReadable}
 use Rattle.ca_spice.proofs.SpelledLemmas.{IsSpelled, all_append}
 use Rattle.ca_spice.proofs.ShownLemmas.{IsShownText, words_spelled, lines_shown}
 use Rattle.ca_spice.proofs.CardLemmas.{kept_rule, kept_value, mos_found, wiring_found}
+use Rattle.ca_spice.proofs.DistinctLemmas.{names_begun}
 use Rattle.ca_spice.proofs.WritableLemmas.{IsWritable, first_step, writable_grown, names_shown, pin_info_names, behind_names}
 
 -- a subcircuit that was read can be written
@@ -70,6 +71,7 @@ begun name pins name_is header spelled distinct = record {
   distinct = distinct;
   cards = tt;
   again = λ p_bulk n_bulk later line shown p_is n_is. refl;
+  names = names_begun pins spelled distinct;
 }
 
 named_step : (line : ℕ) (name : List ℕ) (pins : List (List ℕ)) (reading next : Reading) → named line name pins reading ≡ Ok next → IsWritableReading reading

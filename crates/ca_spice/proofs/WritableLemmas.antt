@@ -22,6 +22,7 @@ use Rattle.ca_spice.specs.OpenCell.{OpenCell, with_drain, with_gate, with_source
 use Rattle.ca_spice.specs.Reading.{is_header, named}
 use Rattle.ca_spice.specs.Writing.{pin_names, bulk_of}
 use Rattle.ca_spice.proofs.SpelledLemmas.{IsSpelled, all_append}
+use Rattle.ca_spice.proofs.DistinctLemmas.{AreNames, names_grown}
 use Rattle.ca_spice.proofs.CardLemmas.{IsNameWord, IsCard, Extends, net_more, card_more, cards_more, net_name-at, with_name-extends, extends_further, net_placed, card_words, card_params, written_wiring, written_sizes, mos-written, IsWired, kept_rule, kept_value, sizes_found}
 
 -- a subcircuit that is being read
@@ -45,6 +46,7 @@ pub record IsWritable (name : List ℕ) (pins nets : List (List ℕ)) (devices :
   pub distinct : has_double pins ≡ false
   pub cards : AllByRecursion (IsCard nets) devices
   pub again : ReadsAgain name pins nets devices
+  pub names : AreNames pins nets devices
 
 -- one step more
 steps_push : {State Item Fault : Type 0} (step : Item → State → Result State Fault) (start middle last : State) (items : List Item) (item : Item)
@@ -149,6 +151,7 @@ writable_grown cell_name pins nets devices name wiring sizes it named mos wired 
           (subst (λ (names : List (List ℕ)). AllByRecursion (IsCard names) devices) (sym grown.is) (cards_more nets grown.more devices it.cards))
           (new_card name wiring sizes nets named mos wired sized, tt);
       again = again_grown cell_name pins nets devices name wiring sizes it.again named mos wired sized new;
+      names = names_grown pins nets devices name wiring sizes it.names wired new;
     }
 
 -- the names of pins that are being read

@@ -7,6 +7,8 @@ ghost use Rattle.ca_lex.specs.Words.{upper_case};
 ghost use Rattle.ca_cell.specs.declared.library.Entry.TheVariants.{Sound};
 ghost use Rattle.ca_cell.specs.declared.raw.RawCell.{RawCell};
 ghost use Rattle.ca_cell.specs.Library.{Named, entry_of};
+ghost use Rattle.ca_cell.specs.PlainNames.{HasPlainNames};
+ghost use Rattle.ca_spice.specs.Called.{cell_called};
 ghost use Rattle.ca_spice.specs.Laws.{IsFirstFaulty};
 ghost use Rattle.ca_spice.specs.Views.{subcircuit_seen};
 ghost use Rattle.ca_spice.specs.Writing.{IsReadable};
@@ -25,4 +27,9 @@ pub fn found_cell()
     ensures { (text name : List ℕ) (library : List Named) (raw : RawCell)
         → library_of text ≡ Ok (map subcircuit_seen library)
         → entry_of library (upper_case name) ≡ Some (Sound raw) → IsReadable name raw }
+{}
+
+/// The nets and the devices of each cell of a text that was read have names by which they are told apart.
+pub fn plain_names()
+    ensures { (text name : List ℕ) (raw : RawCell) → cell_called text name ≡ Some raw → HasPlainNames raw }
 {}

@@ -18,6 +18,6 @@ mod tests;
 mod writing;
 
 pub use fault::{SpiceFault, SpiceKind};
-pub use laws::{first_faulty_line, found_cell};
+pub use laws::{first_faulty_line, found_cell, plain_names};
 pub use library::read_library;
 pub use writing::write_cell;

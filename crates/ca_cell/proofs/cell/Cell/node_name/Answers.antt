@@ -14,6 +14,6 @@ pub unreachable-requires : goal.unreachable-requires
 unreachable-requires c =
     let cell = c.args.self.now in
     let within : c.args.n.0 < node_count cell = subst (λ count. c.args.n.0 < count) (length-nodes_of cell) c.requires in
-    let net = has_net cell c.raw-raw.ensures.is_raw c.raw-raw.ensures.kept c.args.n.0 within in
+    let net = has_net cell c.raw-raw.ensures.is_raw.pins c.raw-raw.ensures.kept c.args.n.0 within in
     let all = c.len-place-end.ensures ∙ ap (λ (raw : RawCell). length raw.nets) c.raw-raw.ensures.same in
     c.loop-place.invariant net.place (omega arith) net.is_node

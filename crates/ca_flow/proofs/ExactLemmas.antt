@@ -1,0 +1,344 @@
+-- Of one list of words and one file no two faults of input have a cause.
+use Rattle.std.proofs.Common.{ℕ, ◌≡◌, ◌≤◌, ◌<◌, ◌+◌, ◌⊎◌, ◌∙◌, inl, inr, refl, sym, ap, subst, arith, List, length, Option, Some, None, Result, Ok, Err, true≢false}
+use Rattle.std.specs.Prelude.{IsNone, IsOk, IsSomeAnd}
+use Rattle.std.specs.Option.{ForSome}
+use Rattle.ca_lex.specs.Words.{upper_case}
+use Rattle.ca_store.specs.Store.{Files}
+use Rattle.ca_cell.specs.declared.raw.RawCell.{RawCell}
+use Rattle.ca_cell.specs.declared.rule.CellRule.{CellRule}
+use Rattle.ca_cell.specs.Rules.{KeepsRules, IsFirstBroken}
+use Rattle.ca_spice.specs.declared.fault.SpiceFault.{SpiceFault}
+use Rattle.ca_spice.specs.declared.fault.SpiceFault.TheVariants as spice
+use Rattle.ca_spice.specs.Reading.{library_of}
+use Rattle.ca_spice.specs.Called.{called_among}
+use Rattle.ca_flow.specs.declared.inputs.TheConstants.{MAX_CELLS}
+use Rattle.ca_flow.specs.declared.fault.LimitKind.TheVariants as limit
+use Rattle.ca_flow.specs.declared.fault.Fault.{Fault}
+use Rattle.ca_flow.specs.declared.fault.Fault.TheVariants.{BadWords, Cells, NoCell, Cell, BadVector, NoDefect, TooLong, Limit, StoreFailed, SinkFailed, NoMemory}
+use Rattle.ca_flow.specs.Words.{cells_word, cell_word, vector_word, first_word, last_word, defect_word, dash, IsRespond, IsPair, IsDefects, IsMatrix, IsCommand}
+use Rattle.ca_flow.specs.Cells.{OfFile, HasCell, LacksCell}
+use Rattle.ca_flow.specs.Fault.{Outside, IsReadCause, IsTextCause, IsCellsCause, IsNameCause, IsFirstUnfit, LacksDefect, IsPairCause, IsVectorCause, IsCellCause, IsValueCause, IsWordsCause, IsWriteCause, IsPrintCause, IsWorkCause, IsCause}
+use Rattle.ca_flow.specs.Laws.{IsInputFault, TellsFile}
+use Rattle.ca_flow.proofs.RuleLemmas.{one_broken}
+
+-- the words are those of a command on a cell
+abbrev pub IsOnCell : List (List ℕ) → Type 0
+IsOnCell words = IsRespond words ⊎ (IsPair words ⊎ (IsDefects words ⊎ IsMatrix words))
+
+-- the words ask for these vectors and this defect
+abbrev pub AreAsked : List (List ℕ) → List ℕ → List ℕ → List ℕ → Type 0
+AreAsked words first last defect =
+    (IsRespond words × ((first ≡ vector_word words) × ((last ≡ vector_word words) × (defect ≡ dash))))
+    ⊎ (IsPair words × ((first ≡ first_word words) × ((last ≡ last_word words) × (defect ≡ defect_word words))))
+
+pub respond_or_pair : (words : List (List ℕ)) → IsRespond words → IsPair words → ⊥
+respond_or_pair words respond pair = let four = respond.four in let six = pair.six in omega (arith, four, six)
+
+-- words ask for one pair of vectors and one defect
+one_asked : (words : List (List ℕ)) (first last defect again later other : List ℕ) → AreAsked words first last defect
+    → AreAsked words again later other → (first ≡ again) × ((last ≡ later) × (defect ≡ other))
+one_asked words first last defect again later other (inl here) (inl there) =
+    (here.1.0 ∙ sym there.1.0, (here.1.1.0 ∙ sym there.1.1.0, here.1.1.1 ∙ sym there.1.1.1))
+one_asked words first last defect again later other (inl here) (inr there) = absurd (respond_or_pair words here.0 there.0)
+one_asked words first last defect again later other (inr here) (inl there) = absurd (respond_or_pair words there.0 here.0)
+one_asked words first last defect again later other (inr here) (inr there) =
+    (here.1.0 ∙ sym there.1.0, (here.1.1.0 ∙ sym there.1.1.0, here.1.1.1 ∙ sym there.1.1.1))
+
+-- the subcircuit that was found breaks a rule
+pub record BreaksOne (words : List (List ℕ)) (raw : RawCell) (fault : Fault) : Type 0 where
+  pub rule : CellRule
+  pub broken : IsFirstBroken raw rule
+  pub is : fault ≡ Cell (upper_case (cell_word words)) rule
+
+-- it breaks none, and a vector doesn't fit
+pub record Misfits (words : List (List ℕ)) (raw : RawCell) (fault : Fault) : Type 0 where
+  pub first : List ℕ
+  pub last : List ℕ
+  pub defect : List ℕ
+  pub typed : List ℕ
+  pub asked : AreAsked words first last defect
+  pub kept : KeepsRules raw
+  pub unfit : IsFirstUnfit raw first last typed
+  pub is : fault ≡ BadVector typed
+
+-- the vectors fit, and it lacks the defect
+pub record LacksOne (words : List (List ℕ)) (raw : RawCell) (fault : Fault) : Type 0 where
+  pub first : List ℕ
+  pub last : List ℕ
+  pub defect : List ℕ
+  pub asked : AreAsked words first last defect
+  pub kept : KeepsRules raw
+  pub lacks : LacksDefect raw first last defect
+  pub is : fault ≡ NoDefect defect
+
+abbrev pub AtCell : List (List ℕ) → RawCell → Fault → Type 0
+AtCell words raw fault = BreaksOne words raw fault ⊎ (Misfits words raw fault ⊎ LacksOne words raw fault)
+
+-- one vector is the first that doesn't fit
+one_unfit : (raw : RawCell) (first last typed other : List ℕ) → IsFirstUnfit raw first last typed → IsFirstUnfit raw first last other
+    → typed ≡ other
+one_unfit raw first last typed other (inl here) (inl there) = here.0 ∙ sym there.0
+one_unfit raw first last typed other (inl here) (inr there) = absurd (here.1 there.1.0)
+one_unfit raw first last typed other (inr here) (inl there) = absurd (there.1 here.1.0)
+one_unfit raw first last typed other (inr here) (inr there) = here.0 ∙ sym there.0
+
+-- a vector that doesn't fit is told before a defect
+fits_before : (raw : RawCell) (first last defect typed : List ℕ) → IsFirstUnfit raw first last typed → LacksDefect raw first last defect → ⊥
+fits_before raw first last defect typed (inl unfit) lacks = unfit.1 lacks.0
+fits_before raw first last defect typed (inr unfit) lacks = unfit.1.1 lacks.1.0
+
+-- what is told of a cell is one fault
+module _ (words : List (List ℕ)) (raw : RawCell) (fault other : Fault) where
+  both_misfit : Misfits words raw fault → Misfits words raw other → fault ≡ other
+  both_misfit here there =
+      let same = one_asked words here.first here.last here.defect there.first there.last there.defect here.asked there.asked in
+      let unfit : IsFirstUnfit raw there.first there.last here.typed = rw (same.0, same.1.0) at here.unfit in
+      here.is ∙ ap BadVector (one_unfit raw there.first there.last here.typed there.typed unfit there.unfit) ∙ sym there.is
+
+  both_lack : LacksOne words raw fault → LacksOne words raw other → fault ≡ other
+  both_lack here there =
+      let same = one_asked words here.first here.last here.defect there.first there.last there.defect here.asked there.asked in
+      here.is ∙ ap NoDefect same.1.1 ∙ sym there.is
+
+misfits_or_lacks : (words : List (List ℕ)) (raw : RawCell) (fault other : Fault) → Misfits words raw fault → LacksOne words raw other → ⊥
+misfits_or_lacks words raw fault other here there =
+    let same = one_asked words here.first here.last here.defect there.first there.last there.defect here.asked there.asked in
+    let unfit : IsFirstUnfit raw there.first there.last here.typed = rw (same.0, same.1.0) at here.unfit in
+    fits_before raw there.first there.last there.defect here.typed unfit there.lacks
+
+one_at_cell : (words : List (List ℕ)) (raw : RawCell) (fault other : Fault) → AtCell words raw fault → AtCell words raw other → fault ≡ other
+one_at_cell words raw fault other (inl here) (inl there) =
+    here.is ∙ ap (Cell (upper_case (cell_word words))) (one_broken raw here.rule there.rule here.broken there.broken) ∙ sym there.is
+one_at_cell words raw fault other (inl here) (inr (inl there)) = absurd (there.kept here.rule here.broken.broken)
+one_at_cell words raw fault other (inl here) (inr (inr there)) = absurd (there.kept here.rule here.broken.broken)
+one_at_cell words raw fault other (inr (inl here)) (inl there) = absurd (here.kept there.rule there.broken.broken)
+one_at_cell words raw fault other (inr (inl here)) (inr (inl there)) = both_misfit words raw fault other here there
+one_at_cell words raw fault other (inr (inl here)) (inr (inr there)) = absurd (misfits_or_lacks words raw fault other here there)
+one_at_cell words raw fault other (inr (inr here)) (inl there) = absurd (here.kept there.rule there.broken.broken)
+one_at_cell words raw fault other (inr (inr here)) (inr (inl there)) = absurd (misfits_or_lacks words raw other fault there here)
+one_at_cell words raw fault other (inr (inr here)) (inr (inr there)) = both_lack words raw fault other here there
+
+-- what is told of the subcircuit that the words name in a library, where they name one
+abbrev pub AtCalled : List (List ℕ) → Option RawCell → Fault → Type 0
+AtCalled words None fault = fault ≡ NoCell (cell_word words)
+AtCalled words (Some raw) fault = AtCell words raw fault
+
+one_at_called : (words : List (List ℕ)) (called : Option RawCell) (fault other : Fault) → AtCalled words called fault
+    → AtCalled words called other → fault ≡ other
+one_at_called words None fault other here there = here ∙ sym there
+one_at_called words (Some raw) fault other here there = one_at_cell words raw fault other here there
+
+-- what is told of a reading, in which the words name a subcircuit or none
+abbrev pub AtReading : {S : Type 0} → List (List ℕ) → Result S SpiceFault → (S → Option RawCell) → Fault → Type 0
+AtReading words (Ok cells) called fault = AtCalled words (called cells) fault
+AtReading words (Err (spice.At line kind)) called fault = fault ≡ Cells line kind
+AtReading words (Err (spice.TooManyCells count)) called fault = fault ≡ Limit limit.Cells count
+AtReading words (Err spice.NoMemory) called fault = ⊥
+
+abbrev pub AtLibrary : List (List ℕ) → List ℕ → Fault → Type 0
+AtLibrary words bytes fault = AtReading words (library_of bytes) (λ cells. called_among cells (upper_case (cell_word words))) fault
+
+one_at_reading : {S : Type 0} (words : List (List ℕ)) (read : Result S SpiceFault) (called : S → Option RawCell) (fault other : Fault)
+    → AtReading words read called fault → AtReading words read called other → fault ≡ other
+one_at_reading words (Ok cells) called fault other here there = one_at_called words (called cells) fault other here there
+one_at_reading words (Err (spice.At line kind)) called fault other here there = here ∙ sym there
+one_at_reading words (Err (spice.TooManyCells count)) called fault other here there = here ∙ sym there
+one_at_reading words (Err spice.NoMemory) called fault other here there = absurd here
+
+one_at_library : (words : List (List ℕ)) (bytes : List ℕ) (fault other : Fault) → AtLibrary words bytes fault → AtLibrary words bytes other
+    → fault ≡ other
+one_at_library words bytes fault other here there =
+    one_at_reading words (library_of bytes) (λ cells. called_among cells (upper_case (cell_word words))) fault other here there
+
+-- what is told of a file: it is too long, or it isn't, and of its reading
+abbrev pub AtFile : List (List ℕ) → Option (List ℕ) → Fault → Type 0
+AtFile words None fault = ⊥
+AtFile words (Some bytes) fault =
+    ((MAX_CELLS < length bytes) × (fault ≡ TooLong (cells_word words) (MAX_CELLS + 1)))
+    ⊎ ((length bytes ≤ MAX_CELLS) × AtLibrary words bytes fault)
+
+one_at_file : (words : List (List ℕ)) (file : Option (List ℕ)) (fault other : Fault) → AtFile words file fault → AtFile words file other
+    → fault ≡ other
+one_at_file words None fault other here there = absurd here
+one_at_file words (Some bytes) fault other (inl here) (inl there) = here.1 ∙ sym there.1
+one_at_file words (Some bytes) fault other (inl here) (inr there) =
+    let past = here.0 in let within = there.0 in absurd (omega (arith, past, within))
+one_at_file words (Some bytes) fault other (inr here) (inl there) =
+    let past = there.0 in let within = here.0 in absurd (omega (arith, past, within))
+one_at_file words (Some bytes) fault other (inr here) (inr there) = one_at_library words bytes fault other here.1 there.1
+
+-- what is told of words and their file
+abbrev pub AtWords : List (List ℕ) → Option (List ℕ) → Fault → Type 0
+AtWords words file fault = ((¬ (IsCommand words)) × (fault ≡ BadWords)) ⊎ (IsOnCell words × AtFile words file fault)
+
+-- a command on a cell is a command
+pub on_cell : (words : List (List ℕ)) → IsOnCell words → IsCommand words
+on_cell words (inl is) = inl is
+on_cell words (inr (inl is)) = inr (inl is)
+on_cell words (inr (inr (inl is))) = inr (inr (inl is))
+on_cell words (inr (inr (inr is))) = inr (inr (inr is))
+
+pub one_at_words : (words : List (List ℕ)) (file : Option (List ℕ)) (fault other : Fault) → AtWords words file fault → AtWords words file other
+    → fault ≡ other
+one_at_words words file fault other (inl here) (inl there) = here.1 ∙ sym there.1
+one_at_words words file fault other (inl here) (inr there) = absurd (here.0 (on_cell words there.0))
+one_at_words words file fault other (inr here) (inl there) = absurd (there.0 (on_cell words here.0))
+one_at_words words file fault other (inr here) (inr there) = one_at_file words file fault other here.1 there.1
+
+-- what is said of a file that is told
+at_told : (name : List ℕ) (file : Option (List ℕ)) (files : Option Files) (P : Option (List ℕ) → Type 0)
+    → IsSomeAnd files (λ told. told name ≡ file) → ForSome files (λ told. P (told name)) → P file
+at_told name file None P tells held = absurd tells
+at_told name file (Some told) P tells held = subst P tells (held told refl)
+
+pub of_file : (words : List (List ℕ)) (file : Option (List ℕ)) (outside : Outside) (P : List ℕ → Type 0) → TellsFile words file outside
+    → OfFile outside.files (cells_word words) P → IsSomeAnd file (λ bytes. (length bytes ≤ MAX_CELLS) × P bytes)
+of_file words file outside P tells held =
+    at_told (cells_word words) file outside.files (λ there. IsSomeAnd there (λ bytes. (length bytes ≤ MAX_CELLS) × P bytes)) tells held
+
+-- the causes of each stage
+module _ (words : List (List ℕ)) where
+  at_bytes : (file : Option (List ℕ)) (P : List ℕ → Type 0) (fault : Fault)
+      → ((bytes : List ℕ) → P bytes → AtLibrary words bytes fault)
+      → IsSomeAnd file (λ bytes. (length bytes ≤ MAX_CELLS) × P bytes) → AtFile words file fault
+  at_bytes None P fault next held = absurd held
+  at_bytes (Some bytes) P fault next held = inr (held.0, next bytes held.1)
+
+  too_long : (file : Option (List ℕ)) → IsSomeAnd file (λ bytes. MAX_CELLS < length bytes)
+      → AtFile words file (TooLong (cells_word words) (MAX_CELLS + 1))
+  too_long None past = absurd past
+  too_long (Some bytes) past = inl (past, refl)
+
+  -- the reading in which the words name a subcircuit, or none
+  in_reading : {S : Type 0} (read : Result S SpiceFault) (called : S → Option RawCell) (P : RawCell → Type 0) (fault : Fault)
+      → ((raw : RawCell) → P raw → AtCell words raw fault)
+      → IsSomeAnd (elim read as (λ _. Option RawCell) [ Ok cells ↦ called cells | Err broken ↦ None ]) P
+      → AtReading words read called fault
+  in_reading (Ok cells) called P fault next held = by (called cells) held
+    where
+      by : (found : Option RawCell) → IsSomeAnd found P → AtCalled words found fault
+      by None held = absurd held
+      by (Some raw) held = next raw held
+  in_reading (Err broken) called P fault next held = absurd held
+
+  at_called : (bytes : List ℕ) (P : RawCell → Type 0) (fault : Fault) → ((raw : RawCell) → P raw → AtCell words raw fault)
+      → HasCell (cell_word words) P bytes → AtLibrary words bytes fault
+  at_called bytes P fault next held =
+      in_reading (library_of bytes) (λ cells. called_among cells (upper_case (cell_word words))) P fault next held
+
+  none_in_reading : {S : Type 0} (read : Result S SpiceFault) (called : S → Option RawCell) → IsOk read
+      → IsNone (elim read as (λ _. Option RawCell) [ Ok cells ↦ called cells | Err broken ↦ None ])
+      → AtReading words read called (NoCell (cell_word words))
+  none_in_reading (Ok cells) called ok none = by (called cells) none
+    where
+      by : (found : Option RawCell) → IsNone found → AtCalled words found (NoCell (cell_word words))
+      by None none = refl
+      by (Some raw) none = absurd (true≢false none)
+  none_in_reading (Err broken) called ok none = absurd (true≢false (sym ok))
+
+  at_missing : (bytes : List ℕ) → LacksCell (cell_word words) bytes → AtLibrary words bytes (NoCell (cell_word words))
+  at_missing bytes lacks =
+      none_in_reading (library_of bytes) (λ cells. called_among cells (upper_case (cell_word words))) lacks.0 lacks.1
+
+  module _ (file : Option (List ℕ)) (outside : Outside) (tells : TellsFile words file outside) (before after : ℕ) where
+    of_read : (fault : Fault) → IsInputFault fault → IsReadCause (cells_word words) outside.files MAX_CELLS before after fault → AtFile words file fault
+    of_read (TooLong typed taken) is (same, long) =
+        let past : IsSomeAnd file (λ bytes. MAX_CELLS < length bytes) =
+        at_told (cells_word words) file outside.files (λ there. IsSomeAnd there (λ bytes. MAX_CELLS < length bytes)) tells long.past in
+        let told : TooLong typed taken ≡ TooLong (cells_word words) (MAX_CELLS + 1) = λ j. TooLong (same j) (long.one_more j) in
+        subst (AtFile words file) (sym told) (too_long file past)
+    of_read (StoreFailed typed) is cause = absurd is
+    of_read NoMemory is cause = absurd is
+    of_read fault is cause = absurd cause
+
+    of_text : (fault : Fault) → IsCellsCause (cells_word words) outside.files fault → AtFile words file fault
+    of_text (Cells line kind) cause = at_bytes file (IsTextCause (Cells line kind)) (Cells line kind) (λ bytes reads. rw reads refl)
+        (of_file words file outside (IsTextCause (Cells line kind)) tells cause)
+    of_text (Limit limit.Cells count) cause = at_bytes file (IsTextCause (Limit limit.Cells count)) (Limit limit.Cells count) (λ bytes reads. rw reads refl)
+        (of_file words file outside (IsTextCause (Limit limit.Cells count)) tells cause)
+    of_text fault cause = absurd cause
+
+    of_name : (fault : Fault) → IsNameCause (cells_word words) (cell_word words) outside.files fault → AtFile words file fault
+    of_name (NoCell typed) (same, lacks) =
+        subst (λ word. AtFile words file (NoCell word)) (sym same)
+        (at_bytes file (LacksCell (cell_word words)) (NoCell (cell_word words)) at_missing (of_file words file outside (LacksCell (cell_word words)) tells lacks))
+    of_name (Cell cell rule) (same, broken) =
+        let P : RawCell → Type 0 = λ raw. IsFirstBroken raw rule in
+        at_bytes file (HasCell (cell_word words) P) (Cell cell rule)
+        (λ bytes. at_called bytes P (Cell cell rule) (λ raw first. inl (record { rule = rule; broken = first; is = ap (λ word. Cell word rule) same })))
+        (of_file words file outside (HasCell (cell_word words) P) tells broken)
+    of_name fault cause = absurd cause
+
+    of_vector : (first last defect : List ℕ) → AreAsked words first last defect → (fault : Fault)
+        → IsVectorCause (cells_word words) (cell_word words) first last defect outside.files fault → AtFile words file fault
+    of_vector first last defect asked (BadVector typed) cause =
+        let P : RawCell → Type 0 = IsPairCause first last defect (BadVector typed) in
+        at_bytes file (HasCell (cell_word words) P) (BadVector typed)
+        (λ bytes. at_called bytes P (BadVector typed) (λ raw held. inr (inl (record {
+          first = first;
+          last = last;
+          defect = defect;
+          typed = typed;
+          asked = asked;
+          kept = held.0;
+          unfit = held.1;
+          is = refl;
+        }))))
+        (of_file words file outside (HasCell (cell_word words) P) tells cause.1)
+    of_vector first last defect asked (NoDefect typed) cause =
+        let P : RawCell → Type 0 = IsPairCause first last defect (NoDefect typed) in
+        at_bytes file (HasCell (cell_word words) P) (NoDefect typed)
+        (λ bytes. at_called bytes P (NoDefect typed) (λ raw held. inr (inr (record {
+          first = first;
+          last = last;
+          defect = defect;
+          asked = asked;
+          kept = held.1.0;
+          lacks = held.1.1;
+          is = ap NoDefect held.0;
+        }))))
+        (of_file words file outside (HasCell (cell_word words) P) tells cause.1.1)
+    of_vector first last defect asked fault cause = absurd cause
+
+    of_cell : (fault : Fault) → IsInputFault fault → IsCellCause (cells_word words) (cell_word words) outside.files before after fault → AtFile words file fault
+    of_cell fault is (inl (inl read)) = of_read fault is read
+    of_cell fault is (inl (inr text)) = of_text fault text
+    of_cell fault is (inr name) = of_name fault name
+
+    of_value : (first last defect : List ℕ) → AreAsked words first last defect → (fault : Fault) → IsInputFault fault
+        → IsValueCause (cells_word words) (cell_word words) first last defect outside.files before after fault → AtFile words file fault
+    of_value first last defect asked fault is (inl cell) = of_cell fault is cell
+    of_value first last defect asked fault is (inr own) = of_vector first last defect asked fault own
+
+    of_work : (fault : Fault) → IsInputFault fault → IsWorkCause words outside.files before after fault → AtWords words file fault
+    of_work fault is (inl (respond, cause)) =
+        inr (inl respond, of_value (vector_word words) (vector_word words) dash (inl (respond, (refl, (refl, refl)))) fault is cause)
+    of_work fault is (inr (inl (pair, cause))) =
+        inr (inr (inl pair), of_value (first_word words) (last_word words) (defect_word words) (inr (pair, (refl, (refl, refl)))) fault is cause)
+    of_work fault is (inr (inr (inl (defects, cause)))) = inr (inr (inr (inl defects)), of_cell fault is cause)
+    of_work fault is (inr (inr (inr (matrix, cause)))) = inr (inr (inr (inr matrix)), of_cell fault is cause)
+
+  of_words : (file : Option (List ℕ)) (fault : Fault) → IsWordsCause words fault → AtWords words file fault
+  of_words file BadWords cause = inl (cause, refl)
+  of_words file fault cause = absurd cause
+
+  -- writing and printing have no cause that is a fault of input
+  no_write : (before after : ℕ) (fault : Fault) → IsInputFault fault → IsWriteCause words before after fault → ⊥
+  no_write before after (StoreFailed name) is cause = is
+  no_write before after fault is cause = cause
+
+  no_print : (before after : ℕ) (fault : Fault) → IsInputFault fault → IsPrintCause before after fault → ⊥
+  no_print before after SinkFailed is cause = is
+  no_print before after NoMemory is cause = is
+  no_print before after fault is cause = cause
+
+  -- the cause of a fault of input is in the words or in their file
+  pub of_cause : (file : Option (List ℕ)) (before after : Outside) (fault : Fault) → TellsFile words file before → IsInputFault fault
+      → IsCause words before after fault → AtWords words file fault
+  of_cause file before after fault tells is (inl cause) = of_words file fault cause
+  of_cause file before after fault tells is (inr (inl cause)) =
+      of_work file before tells before.store_faults after.store_faults fault is cause
+  of_cause file before after fault tells is (inr (inr (inl cause))) =
+      absurd (no_write before.store_faults after.store_faults fault is cause)
+  of_cause file before after fault tells is (inr (inr (inr cause))) =
+      absurd (no_print before.sink_faults after.sink_faults fault is cause)

@@ -1,0 +1,64 @@
+-- Laws of causes, of names and of a limit, each the contract of a function that does nothing (src/laws.rt).
+use Rattle.std.specs.Prelude.{◌≡◌, ℕ, List, Option, Some, IsSomeAnd, ⊤}
+use Rattle.ca_cell.specs.declared.raw.RawCell.{RawCell}
+use Rattle.ca_cell.specs.Rules.{KeepsRules}
+use Rattle.ca_defect.specs.Laws.{DefectsDiffer}
+use Rattle.ca_spice.specs.Called.{cell_called}
+use Rattle.ca_flow.specs.declared.inputs.TheConstants.{MAX_CELLS}
+use Rattle.ca_flow.specs.declared.fault.Fault.{Fault}
+use Rattle.ca_flow.specs.declared.fault.Fault.TheVariants.{BadWords, Cells, NoCell, Cell, BadVector, NoDefect, TooLong, Limit, StoreFailed, SinkFailed, NoMemory}
+use Rattle.ca_flow.specs.declared.finished.Finished.{Finished}
+use Rattle.ca_flow.specs.Words.{cells_word}
+use Rattle.ca_flow.specs.Fault.{Outside, IsCause}
+use Rattle.ca_flow.specs.Complete.{IsAnswerable}
+use Rattle.ca_flow.specs.Ends.{Ends}
+
+-- the faults of what a command was given: of its words, and of the contents and the size of its file
+abbrev pub IsInputFault : Fault → Type 0
+IsInputFault BadWords = ⊤
+IsInputFault (Cells line kind) = ⊤
+IsInputFault (NoCell word) = ⊤
+IsInputFault (Cell cell rule) = ⊤
+IsInputFault (BadVector word) = ⊤
+IsInputFault (NoDefect word) = ⊤
+IsInputFault (TooLong name taken) = ⊤
+IsInputFault (Limit kind count) = ⊤
+IsInputFault (StoreFailed name) = ⊥
+IsInputFault SinkFailed = ⊥
+IsInputFault NoMemory = ⊥
+
+-- the store tells what stands under the name of the cell netlist: these bytes, or no file
+abbrev pub TellsFile : List (List ℕ) → Option (List ℕ) → Outside → Type 0
+TellsFile words file outside = IsSomeAnd outside.files (λ told. told (cells_word words) ≡ file)
+
+-- of one list of words and one file no two faults of input have a cause, whatever else the store holds and
+-- however often calls failed
+abbrev pub HasOneCause : List (List ℕ) → Option (List ℕ) → Type 0
+HasOneCause words file =
+    (before after again later : Outside) (fault other : Fault)
+    → TellsFile words file before → TellsFile words file again → IsInputFault fault → IsInputFault other
+    → IsCause words before after fault → IsCause words again later other → fault ≡ other
+
+-- where a command can be answered no fault of input has a cause
+abbrev pub AnswerableHasNoCause : Type 0
+AnswerableHasNoCause =
+    (words : List (List ℕ)) (before after : Outside) (fault : Fault) → IsAnswerable words before.files
+    → IsInputFault fault → IsCause words before after fault → ⊥
+
+-- a command of whose words and file a fault of input has a cause ends with this fault, or with one of the
+-- store, the output or memory
+abbrev pub CauseIsTold : Type 0
+CauseIsTold =
+    (words : List (List ℕ)) (file : Option (List ℕ)) (before after : Outside) (end : Finished) (fault : Fault)
+    → TellsFile words file before → Ends words before after end → IsInputFault fault
+    → IsCause words before after fault → IsSomeAnd end.fault (λ told. IsInputFault told → told ≡ fault)
+
+-- of each cell that a word names in a text, and that keeps the rules, the defects have names that differ
+abbrev pub NamesMeanOneDefect : Type 0
+NamesMeanOneDefect =
+    (bytes word : List ℕ) (raw : RawCell) → cell_called bytes word ≡ Some raw → KeepsRules raw
+    → DefectsDiffer raw
+
+-- a cell netlist has at most 16 MiB
+abbrev pub SizeIsLimited : Type 0
+SizeIsLimited = MAX_CELLS ≡ 16777216

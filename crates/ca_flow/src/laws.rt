@@ -1,0 +1,31 @@
+//! What the definitions imply, each law the contract of a function that does nothing.
+
+ghost use Rattle.std.specs.Prelude.{ℕ, List, Option};
+ghost use Rattle.ca_flow.specs.Laws.{HasOneCause, AnswerableHasNoCause, CauseIsTold};
+ghost use Rattle.ca_flow.specs.Laws.{NamesMeanOneDefect, SizeIsLimited};
+
+/// Of one list of words and one file at most one fault of the words or of the contents has a cause.
+pub fn one_cause()
+    ensures { (words : List (List ℕ)) (file : Option (List ℕ)) → HasOneCause words file }
+{}
+
+/// Where a command can be answered no fault of the words or of the contents has a cause.
+pub fn answerable_has_no_cause()
+    ensures { AnswerableHasNoCause }
+{}
+
+/// Where a fault of the words or of the contents has a cause, the command doesn't end well, and tells no other
+/// such fault.
+pub fn cause_is_told()
+    ensures { CauseIsTold }
+{}
+
+/// A name means one defect of a cell that was read, on the command line and in the header of a matrix's file.
+pub fn names_mean_one_defect()
+    ensures { NamesMeanOneDefect }
+{}
+
+/// The greatest size of a cell netlist.
+pub fn size_is_limited()
+    ensures { SizeIsLimited }
+{}

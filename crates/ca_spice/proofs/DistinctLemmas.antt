@@ -1,0 +1,122 @@
+-- The nets and the devices of a subcircuit that is being read have different names.
+use Rattle.std.proofs.Common.{◌≡◌, ◌≢◌, ℕ, zero, suc, ◌+◌, ◌⊎◌, inl, inr, Bool, true, false, true≢false, ◌||◌, cond, List, [], ◌∷◌, ◌++◌, length, map, Some, refl, sym, ◌∙◌, ap, subst, append_assoc}
+use Rattle.std.specs.Prelude.{slice_get}
+use Rattle.std.specs.Str.{bytes_eq}
+use Rattle.std.specs.List.{AllByRecursion}
+use Rattle.std.proofs.lemmas.List.{append-nil, map-append}
+use Rattle.std.proofs.lemmas.Slice.Eq.{bytes_eq-Decides}
+use Rattle.ca_cell.specs.declared.raw.RawDevice.{RawDevice}
+use Rattle.ca_spice.specs.Names.{has_name, with_name, repeats, has_double}
+use Rattle.ca_spice.specs.Mos.{Wiring, Sizes}
+use Rattle.ca_spice.specs.OpenCell.{with_drain, with_gate, with_source, device_of, has_device}
+use Rattle.ca_spice.proofs.SpelledLemmas.{IsSpelled, all_append}
+use Rattle.ca_spice.proofs.CardLemmas.{Extends, with_name-extends, extends_further, IsWired}
+
+-- a name stands at one place
+abbrev pub AreDistinct : List (List ℕ) → Type 0
+AreDistinct names = (one other : ℕ) (name : List ℕ) → slice_get names one ≡ Some name → slice_get names other ≡ Some name → one ≡ other
+
+-- the names of devices
+abbrev pub names_of : List RawDevice → List (List ℕ)
+names_of devices = map (λ (device : RawDevice). device.name) devices
+
+-- the names of a subcircuit: the pins are the first nets, and no name stands twice
+pub record AreNames (pins nets : List (List ℕ)) (devices : List RawDevice) : Type 0 where
+  pub pins_first : Extends pins nets
+  pub spelled : AllByRecursion IsSpelled nets
+  pub nets_distinct : AreDistinct nets
+  pub devices_distinct : AreDistinct (names_of devices)
+
+left_false : (one other : Bool) → (one || other) ≡ false → one ≡ false
+left_false true other is = absurd cc
+left_false false other is = refl
+
+right_false : (one other : Bool) → (one || other) ≡ false → other ≡ false
+right_false true other is = absurd cc
+right_false false other is = is
+
+-- a name that names don't have stands nowhere among them
+absent : (name : List ℕ) (names : List (List ℕ)) → has_name name names ≡ false → (place : ℕ) → slice_get names place ≡ Some name → ⊥
+absent name [] lacks place there = cc
+absent name (first ∷ names) lacks zero there =
+    let same : name ≡ first = cc in
+    true≢false (sym ((bytes_eq-Decides name first).1 same) ∙ left_false (bytes_eq name first) (has_name name names) lacks)
+absent name (first ∷ names) lacks (suc place) there =
+    absent name names (right_false (bytes_eq name first) (has_name name names) lacks) place there
+
+-- where a name stands among names with one more
+in_pushed : (names : List (List ℕ)) (last name : List ℕ) (place : ℕ) → slice_get (names ++ last ∷ []) place ≡ Some name
+    → (slice_get names place ≡ Some name) ⊎ ((place ≡ length names) × (last ≡ name))
+in_pushed [] last name zero there = inr (refl, cc)
+in_pushed [] last name (suc place) there = absurd cc
+in_pushed (first ∷ names) last name zero there = inl there
+in_pushed (first ∷ names) last name (suc place) there = elim (in_pushed names last name place there) [
+  | inl before ↦ inl before
+  | inr (at_end, same) ↦ inr (ap suc at_end, same)
+]
+
+pub distinct_pushed : (names : List (List ℕ)) (last : List ℕ) → AreDistinct names → has_name last names ≡ false → AreDistinct (names ++ last ∷ [])
+distinct_pushed names last distinct lacks one other name there there_too = by (in_pushed names last name one there) (in_pushed names last name other there_too)
+  where
+    by : (slice_get names one ≡ Some name) ⊎ ((one ≡ length names) × (last ≡ name))
+        → (slice_get names other ≡ Some name) ⊎ ((other ≡ length names) × (last ≡ name)) → one ≡ other
+    by (inl before) (inl before_too) = distinct one other name before before_too
+    by (inl before) (inr (at_end, same)) = absurd (absent last names lacks one (before ∙ ap Some (sym same)))
+    by (inr (at_end, same)) (inl before) = absurd (absent last names lacks other (before ∙ ap Some (sym same)))
+    by (inr (at_end, same)) (inr (at_end_too, same_too)) = at_end ∙ sym at_end_too
+
+distinct_with : (name : List ℕ) (names : List (List ℕ)) → AreDistinct names → AreDistinct (with_name name names)
+distinct_with name names distinct = by (has_name name names) refl
+  where
+    by : (found : Bool) → has_name name names ≡ found → AreDistinct (cond found names (names ++ name ∷ []))
+    by true has = distinct
+    by false lacks = distinct_pushed names name distinct lacks
+
+spelled_with : (name : List ℕ) (names : List (List ℕ)) → IsSpelled name → AllByRecursion IsSpelled names → AllByRecursion IsSpelled (with_name name names)
+spelled_with name names is all = by (has_name name names)
+  where
+    by : (found : Bool) → AllByRecursion IsSpelled (cond found names (names ++ name ∷ []))
+    by true = all
+    by false = all_append IsSpelled names (name ∷ []) all (is, tt)
+
+-- words of which none stands twice
+distinct_behind : (seen words : List (List ℕ)) → repeats seen words ≡ false → AreDistinct seen → AreDistinct (seen ++ words)
+unfolding repeats
+distinct_behind seen [] none distinct = subst AreDistinct (sym (append-nil seen)) distinct
+distinct_behind seen (word ∷ words) none distinct =
+    subst AreDistinct (append_assoc seen (word ∷ []) words)
+    (distinct_behind (seen ++ word ∷ []) words (right_false (has_name word seen) (repeats (seen ++ word ∷ []) words) none)
+    (distinct_pushed seen word distinct (left_false (has_name word seen) (repeats (seen ++ word ∷ []) words) none)))
+
+distinct_pins : (pins : List (List ℕ)) → has_double pins ≡ false → AreDistinct pins
+distinct_pins pins none = distinct_behind [] pins none (λ one other name there. absurd cc)
+
+-- the names of a subcircuit without devices
+pub names_begun : (pins : List (List ℕ)) → AllByRecursion IsSpelled pins → has_double pins ≡ false → AreNames pins pins []
+names_begun pins spelled none = record {
+  pins_first = record { more = []; is = sym (append-nil pins) };
+  spelled = spelled;
+  nets_distinct = distinct_pins pins none;
+  devices_distinct = λ one other name there. absurd cc;
+}
+
+has_device-named : (name : List ℕ) (devices : List RawDevice) → has_device name devices ≡ has_name name (names_of devices)
+has_device-named name [] = refl
+has_device-named name (device ∷ devices) = ap (λ (more : Bool). bytes_eq name device.name || more) (has_device-named name devices)
+
+-- and with one device more
+pub names_grown : (pins nets : List (List ℕ)) (devices : List RawDevice) (name : List ℕ) (wiring : Wiring) (sizes : Sizes) → AreNames pins nets devices
+    → IsWired name wiring → has_device name devices ≡ false → AreNames pins (with_source wiring nets) (devices ++ device_of name wiring sizes nets ∷ [])
+names_grown pins nets devices name wiring sizes it wired new =
+    let with_one : List (List ℕ) = with_drain wiring nets in
+    let with_two : List (List ℕ) = with_gate wiring nets in
+    record {
+      pins_first = extends_further pins nets (with_source wiring nets) it.pins_first
+          (extends_further nets with_one (with_source wiring nets) (with_name-extends wiring.drain nets)
+          (extends_further with_one with_two (with_source wiring nets) (with_name-extends wiring.gate with_one) (with_name-extends wiring.source with_two)));
+      spelled = spelled_with wiring.source with_two wired.source.spelled
+          (spelled_with wiring.gate with_one wired.gate.spelled (spelled_with wiring.drain nets wired.drain.spelled it.spelled));
+      nets_distinct = distinct_with wiring.source with_two (distinct_with wiring.gate with_one (distinct_with wiring.drain nets it.nets_distinct));
+      devices_distinct = subst AreDistinct (sym (map-append (λ (device : RawDevice). device.name) devices (device_of name wiring sizes nets ∷ [])))
+          (distinct_pushed (names_of devices) name it.devices_distinct (sym (has_device-named name devices) ∙ new));
+    }
