@@ -168,7 +168,7 @@ module _ (words : List (List ℕ)) (files : Option Files) (seen : HasSeen words 
     at_work (inr (inr (inl (is, cause)))) = at_cell cause
     at_work (inr (inr (inr (is, cause)))) = at_cell cause
 
-at_words : (words : List (List ℕ)) → IsCommand words → (fault : Fault) → IsWordsCause words fault → ⊥
+pub at_words : (words : List (List ℕ)) → IsCommand words → (fault : Fault) → IsWordsCause words fault → ⊥
 at_words words is BadWords cause = cause is
 at_words words is (Cells line kind) cause = cause
 at_words words is (NoCell typed) cause = cause
@@ -227,7 +227,7 @@ one_word words (inl help) = help.one
 one_word words (inr version) = version.one
 
 -- words that ask for no file have no work that is refused
-no_asking_work : (words : List (List ℕ)) (files : Option Files) (before after : ℕ) (fault : Fault) → AsksNoFile words
+pub no_asking_work : (words : List (List ℕ)) (files : Option Files) (before after : ℕ) (fault : Fault) → AsksNoFile words
     → IsWorkCause words files before after fault → ⊥
 no_asking_work words files before after fault asks (inl (is, cause)) = omega (arith, one_word words asks, is.four)
 no_asking_work words files before after fault asks (inr (inl (is, cause))) = omega (arith, one_word words asks, is.six)

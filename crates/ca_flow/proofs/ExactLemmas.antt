@@ -176,7 +176,7 @@ pub on_cell : (words : List (List ℕ)) → IsOnCell words → IsCommand words
 on_cell words (inl is) = inl is
 on_cell words (inr (inl is)) = inr (inl is)
 on_cell words (inr (inr (inl is))) = inr (inr (inl is))
-on_cell words (inr (inr (inr is))) = inr (inr (inr is))
+on_cell words (inr (inr (inr is))) = inr (inr (inr (inl is)))
 
 pub one_at_words : (words : List (List ℕ)) (file : Option (List ℕ)) (fault other : Fault) → AtWords words file fault → AtWords words file other
     → fault ≡ other
@@ -323,11 +323,11 @@ module _ (words : List (List ℕ)) where
   of_words file fault cause = absurd cause
 
   -- writing and printing have no cause that is a fault of input
-  no_write : (before after : ℕ) (fault : Fault) → IsInputFault fault → IsWriteCause words before after fault → ⊥
+  pub no_write : (before after : ℕ) (fault : Fault) → IsInputFault fault → IsWriteCause words before after fault → ⊥
   no_write before after (StoreFailed name) is cause = is
   no_write before after fault is cause = cause
 
-  no_print : (before after : ℕ) (fault : Fault) → IsInputFault fault → IsPrintCause before after fault → ⊥
+  pub no_print : (before after : ℕ) (fault : Fault) → IsInputFault fault → IsPrintCause before after fault → ⊥
   no_print before after SinkFailed is cause = is
   no_print before after NoMemory is cause = is
   no_print before after fault is cause = cause

@@ -10,9 +10,9 @@ use Rattle.ca_spice.specs.Called.{called_among, cell_called}
 use Rattle.ca_flow.specs.declared.inputs.TheConstants.{MAX_CELLS}
 use Rattle.ca_flow.specs.declared.fault.Fault.{Fault}
 use Rattle.ca_flow.specs.declared.finished.Done.{Done}
-use Rattle.ca_flow.specs.declared.finished.Done.TheVariants.{Respond, Pair, Defects, Matrix}
+use Rattle.ca_flow.specs.declared.finished.Done.TheVariants.{Respond, Pair, Defects, Matrix, Help, Version}
 use Rattle.ca_flow.specs.declared.finished.Finished.{Finished}
-use Rattle.ca_flow.specs.Words.{cells_word, cell_word, vector_word, first_word, last_word, defect_word, dash, IsRespond, IsPair, IsDefects, IsMatrix}
+use Rattle.ca_flow.specs.Words.{cells_word, cell_word, vector_word, first_word, last_word, defect_word, dash, IsRespond, IsPair, IsDefects, IsMatrix, AsksNoFile}
 use Rattle.ca_flow.specs.Outputs.{asked_network, AreValues}
 use Rattle.ca_flow.specs.Cells.{HasCell}
 use Rattle.ca_flow.specs.Finished.{status_told}
@@ -20,7 +20,8 @@ use Rattle.ca_flow.specs.Fault.{Outside, IsFirstUnfit, LacksDefect, IsCause}
 use Rattle.ca_flow.specs.Complete.{FitsCell, IsAnswerable}
 use Rattle.ca_flow.specs.Ends.{AreDefectNames, IsSoundMatrix, IsAsked, Ends}
 use Rattle.ca_flow.specs.Laws.{IsInputFault, TellsFile}
-use Rattle.ca_flow.proofs.ExactLemmas.{AreAsked, AtCell, AtCalled, AtReading, AtWords, on_cell, respond_or_pair, one_at_words, of_file, of_cause}
+use Rattle.ca_flow.proofs.CompleteLemmas.{at_words, no_asking_work}
+use Rattle.ca_flow.proofs.ExactLemmas.{no_write, no_print, AreAsked, AtCell, AtCalled, AtReading, AtWords, on_cell, respond_or_pair, one_at_words, of_file, of_cause}
 
 -- the file is there and no longer than it may be, and in it the words name a subcircuit that they fit
 abbrev FitsFile : List (List ℕ) → Option (List ℕ) → Type 0
@@ -77,10 +78,22 @@ module _ (words : List (List ℕ)) (fault : Fault) where
   fits_file (Some bytes) fits (inr (is, inr told)) =
       fits_reading (library_of bytes) (λ cells. called_among cells (upper_case (cell_word words))) fits.1 told.1
 
+-- words that ask for no file have no cause of a fault of input
+asking_cause : (words : List (List ℕ)) (before after : Outside) (fault : Fault) → AsksNoFile words → IsInputFault fault
+    → IsCause words before after fault → ⊥
+asking_cause words before after fault asks is (inl cause) = at_words words (inr (inr (inr (inr asks)))) fault cause
+asking_cause words before after fault asks is (inr (inl cause)) =
+    no_asking_work words before.files before.store_faults after.store_faults fault asks cause
+asking_cause words before after fault asks is (inr (inr (inl cause))) =
+    no_write words before.store_faults after.store_faults fault is cause
+asking_cause words before after fault asks is (inr (inr (inr cause))) =
+    no_print words before.sink_faults after.sink_faults fault is cause
+
 -- the file of words that can be answered
 pub no_cause : (words : List (List ℕ)) (before after : Outside) (fault : Fault) → IsAnswerable words before.files
     → IsInputFault fault → IsCause words before after fault → ⊥
-no_cause words before after fault answerable is cause = by before.files answerable refl
+no_cause words before after fault (inl asks) is cause = asking_cause words before after fault asks is cause
+no_cause words before after fault (inr answerable) is cause = by before.files answerable refl
   where
     by : (files : Option Files)
         → IsSomeAnd files (λ told. FitsFile words (told (cells_word words)))
@@ -120,18 +133,20 @@ respond_or_matrix words one other = omega (arith, ap length (sym one.command ∙
 
 -- work that was asked for is that of words that their file fits
 module _ (words : List (List ℕ)) (file : Option (List ℕ)) (outside : Outside) (tells : TellsFile words file outside) where
-  asked_fits : (done : Done) → IsAsked words outside.files done → FitsFile words file
+  asked_fits : (done : Done) → IsAsked words outside.files done → AsksNoFile words ⊎ FitsFile words file
+  asked_fits Help is = inl (inl is)
+  asked_fits Version is = inl (inr is)
   asked_fits (Respond values) (is, asked) =
       let P : RawCell → Type 0 = AreValues (vector_word words) (vector_word words) dash values in
-      weaker words file P (λ raw held. record {
+      inr (weaker words file P (λ raw held. record {
         is = on_cell words (inl is);
         kept = held.kept;
         respond = λ _. held.first_fits;
         pair = λ pair. absurd (respond_or_pair words is pair);
-      }) (of_file words file outside (HasCell (cell_word words) P) tells asked)
+      }) (of_file words file outside (HasCell (cell_word words) P) tells asked))
   asked_fits (Pair values) (is, asked) =
       let P : RawCell → Type 0 = AreValues (first_word words) (last_word words) (defect_word words) values in
-      weaker words file P (λ raw held. record {
+      inr (weaker words file P (λ raw held. record {
         is = on_cell words (inr (inl is));
         kept = held.kept;
         respond = λ respond. absurd (respond_or_pair words respond is);
@@ -140,23 +155,23 @@ module _ (words : List (List ℕ)) (file : Option (List ℕ)) (outside : Outside
           last = held.last_fits;
           defect = some_of _ (asked_network raw (defect_word words)) held.ends;
         };
-      }) (of_file words file outside (HasCell (cell_word words) P) tells asked)
+      }) (of_file words file outside (HasCell (cell_word words) P) tells asked))
   asked_fits (Defects names) (is, asked) =
       let P : RawCell → Type 0 = AreDefectNames names in
-      weaker words file P (λ raw held. record {
+      inr (weaker words file P (λ raw held. record {
         is = on_cell words (inr (inr (inl is)));
         kept = held.0;
         respond = λ respond. absurd (respond_or_defects words respond is);
         pair = λ pair. absurd (pair_or_defects words pair is);
-      }) (of_file words file outside (HasCell (cell_word words) P) tells asked)
+      }) (of_file words file outside (HasCell (cell_word words) P) tells asked))
   asked_fits (Matrix matrix) (is, asked) =
       let P : RawCell → Type 0 = IsSoundMatrix matrix in
-      weaker words file P (λ raw held. record {
+      inr (weaker words file P (λ raw held. record {
         is = on_cell words (inr (inr (inr is)));
         kept = held.0;
         respond = λ respond. absurd (respond_or_matrix words respond is);
         pair = λ pair. absurd (pair_or_matrix words pair is);
-      }) (of_file words file outside (HasCell (cell_word words) P) tells asked)
+      }) (of_file words file outside (HasCell (cell_word words) P) tells asked))
 
 -- no two faults of input have a cause
 pub one_cause : (words : List (List ℕ)) (file : Option (List ℕ)) (before after again later : Outside) (fault other : Fault)
@@ -174,8 +189,10 @@ told_cause words file before after end fault tells ends is cause = by end.fault 
   where
     by_done : (done : Option Done) → IsSome done → IfSome done (IsAsked words before.files) → ⊥
     by_done None some asked = true≢false (sym some)
-    by_done (Some done) some asked = fits_file words fault file (asked_fits words file before tells done asked)
-        (of_cause words file before after fault tells is cause)
+    by_done (Some done) some asked = elim (asked_fits words file before tells done asked) [
+      | inl asks ↦ asking_cause words before after fault asks is cause
+      | inr fits ↦ fits_file words fault file fits (of_cause words file before after fault tells is cause)
+    ]
 
     by : (told : Option Fault) → end.fault ≡ told → IfSome told (IsCause words before after)
         → IsSomeAnd told (λ told. IsInputFault told → told ≡ fault)
