@@ -5,7 +5,7 @@ use Rattle.std.specs.Str.{bytes_eq}
 use Rattle.std.specs.List.{list_any, position_or_len, IsDistinct, AllByRecursion}
 use Rattle.std.proofs.lemmas.List.{map-append, length-map}
 use Rattle.indexmap.specs.IndexSet.{insert_key}
-use Rattle.ca_spice.specs.Names.{has_name, place_of, with_name, place_with}
+use Rattle.ca_names.specs.Names.{has_name, place_of, with_name, place_with}
 
 -- the names of these keys
 abbrev pub named : List (Vec ℕ Global) → List (List ℕ)

@@ -1,13 +1,9 @@
 //! Different names in the order in which they were added.
-ghost use Rattle.std.specs.Prelude.{◌≡◌, ◌<◌, ◌^◌, [], length, IfOk, OnOk, Ok};
+ghost use Rattle.std.specs.Prelude.{◌≡◌, ◌<◌, ◌^◌, [], length, map, IfOk, OnOk};
 ghost use Rattle.std.specs.List.{IsDistinct};
 ghost use Rattle.std.specs.Str.{bytes_eq};
-ghost use Rattle.ca_lex.specs.Reading.{Gives, unless};
-ghost use Rattle.ca_spice.specs.declared.fault.SpiceKind.TheVariants.{DoubleName};
-ghost use Rattle.ca_spice.specs.SpiceFault.{kind_told};
-ghost use Rattle.ca_spice.specs.Names.{texts, has_name, place_of, with_name, place_with, has_double};
+ghost use Rattle.ca_names.specs.Names.{has_name, place_of, with_name, place_with};
 
-use crate::fault::{Refusal, SpiceKind};
 use ca_base::NoMemory;
 use ca_lex::{Names, Text};
 use indexmap::IndexSet;
@@ -17,10 +13,10 @@ use std::marker::Model;
 /// The most names of a set.
 const MOST_NAMES: usize = u32::MAX as usize;
 
-/// Different names in the order in which they were added, fewer than 2^32. A name is found without a search through the others.
-/// Contracts see a list.
+/// Different names in the order in which they were added, fewer than 2^32. A name is found without a search through
+/// the others. Contracts see a list.
 #[derive(Drop)]
-pub(crate) struct NameSet {
+pub struct NameSet {
     names: IndexSet<Vec<u8>>,
 }
 
@@ -36,7 +32,7 @@ impl Model for NameSet {
 
 impl NameSet {
     /// The set of no names.
-    pub(crate) fn new(alloc: Global) -> Self
+    pub fn new(alloc: Global) -> Self
         ensures { result ≡ [] }
     {
         NameSet {
@@ -45,7 +41,7 @@ impl NameSet {
     }
 
     /// The number of names.
-    pub(crate) fn len(&self) -> usize
+    pub fn len(&self) -> usize
         ensures count { result ≡ length self.now }
         ensures few { result < 2 ^ 32 }
         ensures distinct { IsDistinct bytes_eq self.now }
@@ -53,22 +49,32 @@ impl NameSet {
         self.names.len()
     }
 
-    pub(crate) fn has(&self, name: &[u8]) -> bool
+    pub fn has(&self, name: &[u8]) -> bool
         ensures { result ≡ has_name name.now self.now }
     {
         self.names.contains(name)
     }
 
     /// The place of a name, counted from 0.
-    pub(crate) fn place_of(&self, name: &[u8]) -> Option<usize>
+    pub fn place_of(&self, name: &[u8]) -> Option<u32>
         ensures { result ≡ place_of name.now self.now }
     {
-        self.names.get_index_of(name)
+        match self.names.get_index_of(name) {
+            Some(place) => Some(place as u32),
+            None => None,
+        }
     }
 
-    /// Adds a name, if it isn't there, and answers its place. A set of 2^32 - 1 names answers as though there were no memory for
-    /// another.
-    pub(crate) fn add(&mut self, alloc: Global, name: &[u8]) -> Result<u32, NoMemory>
+    /// The names as a slice.
+    pub fn as_slice(&self) -> &[Vec<u8>]
+        ensures { map (λ name. name.items) result.now ≡ self.now }
+    {
+        self.names.as_slice()
+    }
+
+    /// Adds a name, if it isn't there, and answers its place. A set of 2^32 - 1 names answers as though there were no
+    /// memory for another.
+    pub fn add(&mut self, alloc: Global, name: &[u8]) -> Result<u32, NoMemory>
         ensures names { OnOk result (self.new ≡ with_name name.now self.old) }
         ensures place { IfOk result (λ place. place ≡ place_with name.now self.old) }
         ensures within { IfOk result (λ place. place < length self.new) }
@@ -83,7 +89,7 @@ impl NameSet {
     }
 
     /// The names as a list.
-    pub(crate) fn list(&self, alloc: Global) -> Result<Names, NoMemory>
+    pub fn list(&self, alloc: Global) -> Result<Names, NoMemory>
         ensures { IfOk result (λ names. names ≡ self.now) }
     {
         let mut names = Names::new(alloc);
@@ -94,23 +100,4 @@ impl NameSet {
         }
         Ok(names)
     }
-}
-
-/// The set of these words, if none stands twice.
-#[tactic(auto, unfolding(crate::specs::Names::repeats))]
-pub(crate) fn set_of(alloc: Global, words: &[&[u8]]) -> Result<NameSet, Refusal>
-    ensures read { Gives kind_told (λ names. names) result
-        (unless (has_double (texts words.now)) DoubleName (Ok (texts words.now))) }
-    ensures few { IfOk result (λ names. length names < 2 ^ 32) }
-{
-    let mut names = NameSet::new(alloc);
-    let mut rest = words;
-    'words: while let [word, more @ ..] = rest {
-        if names.has(word) {
-            return Err(Refusal::Kind(SpiceKind::DoubleName));
-        }
-        names.add(alloc, word)?;
-        rest = more;
-    }
-    Ok(names)
 }

@@ -1,7 +1,7 @@
 use Rattle.std.proofs.Common.{◌∙◌, ap}
-use Rattle.ca_spice.specs.Names.{has_name}
-use Rattle.ca_spice.proofs.NameLemmas.{has_name-named}
-use Rattle.ca_spice.proofs.name_set.NameSet.has.Goals as goal
+use Rattle.ca_names.specs.Names.{has_name}
+use Rattle.ca_names.proofs.NameLemmas.{has_name-named}
+use Rattle.ca_names.proofs.name_set.NameSet.has.Goals as goal
 
 pub returns : goal.returns
 returns c =

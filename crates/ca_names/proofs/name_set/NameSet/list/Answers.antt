@@ -1,6 +1,6 @@
 use Rattle.std.proofs.Common.{◌∙◌, ◌++◌, List, ℕ, ap}
-use Rattle.ca_spice.proofs.NameLemmas.{named}
-use Rattle.ca_spice.proofs.name_set.NameSet.list.Goals as goal
+use Rattle.ca_names.proofs.NameLemmas.{named}
+use Rattle.ca_names.proofs.name_set.NameSet.list.Goals as goal
 
 pub names-init : goal.names-init
 names-init c =

@@ -1,7 +1,7 @@
 use Rattle.std.proofs.Common.{◌≡◌, ◌∙◌, ap, rules}
-use Rattle.ca_spice.specs.Names.{with_name, place_with}
-use Rattle.ca_spice.proofs.NameLemmas.{named, insert_key-named, place_with-named}
-use Rattle.ca_spice.proofs.name_set.NameSet.add.Goals as goal
+use Rattle.ca_names.specs.Names.{with_name, place_with}
+use Rattle.ca_names.proofs.NameLemmas.{named, insert_key-named, place_with-named}
+use Rattle.ca_names.proofs.name_set.NameSet.add.Goals as goal
 
 pub returns-clause-names : goal.returns-clause-names
 returns-clause-names c =
