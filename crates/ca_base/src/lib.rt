@@ -1,7 +1,9 @@
-//! What every crate shares: the error of a call that can fail for want of memory alone, and in specs/ the word for
+//! What every crate shares: lists, the error of a call that can fail for want of memory alone, and in specs/ the word for
 //! "the first that".
 #![tactic(auto)]
 
+mod list;
 mod no_memory;
 
+pub use list::List;
 pub use no_memory::NoMemory;

@@ -1,12 +1,11 @@
 //! Subcircuits as they were read.
 
-ghost use Rattle.std.specs.Prelude.{◌≡◌, ◌<◌, ◌↔◌, [], ◌∷◌, ◌++◌, length, slice_get, IsTrue, IfOk, OnOk, OnErr};
+ghost use Rattle.std.specs.Prelude.{◌≡◌, ◌<◌, ◌↔◌, length, IsTrue, IfOk};
 
-use ca_base::NoMemory;
+use ca_base::{List, NoMemory};
 use ca_lex::{Length, Names, Text};
 use ca_net::{BRIDGE, DeviceKind, STRONG, WEAK};
 use std::alloc::Global;
-use std::marker::Model;
 
 /// What a pin is for.
 #[derive(Clone, Copy, Debug, PartialEq, Eq)]
@@ -85,134 +84,43 @@ impl RawDevice {
 }
 
 /// The pins of a subcircuit, in order.
-#[derive(Drop)]
-pub struct RawPins {
-    pins: Vec<RawPin>,
-}
-
-impl Model for RawPins {
-    ghost use Rattle.std.specs.Prelude.{List};
-    ghost use Rattle.ca_cell.specs.declared.raw.RawPin.{RawPin};
-
-    ghost Value = { List RawPin };
-
-    ghost view = { λ list. list.pins.items };
-}
-
-impl RawPins {
-    ghost use Rattle.ca_cell.specs.Raw.{output_names};
-
-    /// The list of no pins.
-    pub fn new(alloc: Global) -> Self
-        ensures { result ≡ [] }
-    {
-        RawPins {
-            pins: Vec::new(alloc),
-        }
-    }
-
-    /// The pins as a slice.
-    pub fn as_slice(&self) -> &[RawPin]
-        ensures { result.now ≡ self.now }
-    {
-        &self.pins
-    }
-
-    /// Appends a pin. A pin that finds no memory is dropped.
-    pub fn push(&mut self, pin: RawPin) -> Result<(), NoMemory>
-        ensures ok { OnOk result (self.new ≡ self.old ++ pin ∷ []) }
-        ensures err { OnErr result (self.new ≡ self.old) }
-    {
-        Ok(self.pins.push(pin)?)
-    }
-
-    /// The names of the output pins, in pin order.
-    pub fn output_names(&self, alloc: Global) -> Result<Names, NoMemory>
-        ensures ok { IfOk result (λ names. names ≡ output_names self.now) }
-    {
-        let mut names = Names::new(alloc);
-        for pin in self.as_slice() {
-            if pin.role.is_output() {
-                names.push(pin.name.copy(alloc)?)?;
-            }
-        }
-        Ok(names)
-    }
-
-    /// A list of its own with the same pins.
-    pub fn copy(&self, alloc: Global) -> Result<Self, NoMemory>
-        ensures ok { IfOk result (λ pins. pins ≡ self.now) }
-    {
-        let mut pins = RawPins::new(alloc);
-        for pin in self.as_slice() {
-            pins.push(RawPin {
-                name: pin.name.copy(alloc)?,
-                role: pin.role,
-            })?;
-        }
-        Ok(pins)
-    }
-}
+pub type RawPins = List<RawPin>;
 
 /// The transistors of a subcircuit, in the order of their cards.
-#[derive(Drop)]
-pub struct RawDevices {
-    devices: Vec<RawDevice>,
+pub type RawDevices = List<RawDevice>;
+
+// A list of its own with the same pins.
+fn copy_pins(alloc: Global, old: &RawPins) -> Result<RawPins, NoMemory>
+    ensures ok { IfOk result (λ pins. pins ≡ old.now) }
+{
+    let mut pins = RawPins::new(alloc);
+    for pin in old.as_slice() {
+        pins.push(RawPin {
+            name: pin.name.copy(alloc)?,
+            role: pin.role,
+        })?;
+    }
+    Ok(pins)
 }
 
-impl Model for RawDevices {
-    ghost use Rattle.std.specs.Prelude.{List};
-    ghost use Rattle.ca_cell.specs.declared.raw.RawDevice.{RawDevice};
-
-    ghost Value = { List RawDevice };
-
-    ghost view = { λ list. list.devices.items };
-}
-
-impl RawDevices {
-    /// The list of no transistors.
-    pub fn new(alloc: Global) -> Self
-        ensures { result ≡ [] }
-    {
-        RawDevices {
-            devices: Vec::new(alloc),
-        }
+// A list of its own with the same transistors.
+fn copy_devices(alloc: Global, old: &RawDevices) -> Result<RawDevices, NoMemory>
+    ensures ok { IfOk result (λ devices. devices ≡ old.now) }
+{
+    let mut devices = RawDevices::new(alloc);
+    for device in old.as_slice() {
+        devices.push(RawDevice {
+            name: device.name.copy(alloc)?,
+            kind: device.kind,
+            strength: device.strength,
+            width: device.width,
+            length: device.length,
+            drain: device.drain,
+            gate: device.gate,
+            source: device.source,
+        })?;
     }
-
-    /// The transistors as a slice.
-    pub fn as_slice(&self) -> &[RawDevice]
-        ensures { result.now ≡ self.now }
-    {
-        &self.devices
-    }
-
-    /// Appends a transistor. One that finds no memory is dropped.
-    pub fn push(&mut self, device: RawDevice) -> Result<(), NoMemory>
-        ensures ok { OnOk result (self.new ≡ self.old ++ device ∷ []) }
-        ensures err { OnErr result (self.new ≡ self.old) }
-    {
-        Ok(self.devices.push(device)?)
-    }
-
-    /// A list of its own with the same transistors.
-    pub fn copy(&self, alloc: Global) -> Result<Self, NoMemory>
-        ensures ok { IfOk result (λ devices. devices ≡ self.now) }
-    {
-        let mut devices = RawDevices::new(alloc);
-        for device in self.as_slice() {
-            devices.push(RawDevice {
-                name: device.name.copy(alloc)?,
-                kind: device.kind,
-                strength: device.strength,
-                width: device.width,
-                length: device.length,
-                drain: device.drain,
-                gate: device.gate,
-                source: device.source,
-            })?;
-        }
-        Ok(devices)
-    }
+    Ok(devices)
 }
 
 /// A subcircuit as it was read. `nets` has the names of the pins in pin order and then those of the inner nets in the order
@@ -225,6 +133,7 @@ pub struct RawCell {
 }
 
 impl RawCell {
+    ghost use Rattle.ca_cell.specs.Raw.{output_names};
     ghost use Rattle.ca_cell.specs.Rules.{IsRaw};
 
     /// Whether each transistor's terminals are places in the list of nets and its strength is one of the scale, and there are
@@ -240,14 +149,27 @@ impl RawCell {
             && devices.iter().all(|device| device.is_placed(nets))
     }
 
+    /// The names of the output pins, in pin order.
+    pub fn output_names(&self, alloc: Global) -> Result<Names, NoMemory>
+        ensures ok { IfOk result (λ names. names ≡ output_names self.now.pins) }
+    {
+        let mut names = Names::new(alloc);
+        for pin in self.pins.as_slice() {
+            if pin.role.is_output() {
+                names.push(pin.name.copy(alloc)?)?;
+            }
+        }
+        Ok(names)
+    }
+
     /// A subcircuit of its own that is the same.
     pub fn copy(&self, alloc: Global) -> Result<Self, NoMemory>
         ensures ok { IfOk result (λ raw. raw ≡ self.now) }
     {
         Ok(RawCell {
-            pins: self.pins.copy(alloc)?,
+            pins: copy_pins(alloc, &self.pins)?,
             nets: self.nets.copy(alloc)?,
-            devices: self.devices.copy(alloc)?,
+            devices: copy_devices(alloc, &self.devices)?,
         })
     }
 }

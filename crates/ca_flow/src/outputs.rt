@@ -26,7 +26,7 @@ pub(crate) fn values_of<N: CellNet>(
     let first = trits(alloc, first)?;
     let last = trits(alloc, last)?;
     let cell = net.cell();
-    let pins = cell.raw().pins.output_names(alloc)?;
+    let pins = cell.raw().output_names(alloc)?;
     let mut work = Work::reserve(alloc, net.node_count(), net.device_count())?;
     let waves = respond(net, pairs(&first, &last).as_slice(), &mut work);
     let mut values = PinValues::new(alloc);

@@ -5,12 +5,13 @@ use Rattle.std.specs.List.{slice_set}
 use native.Mathlib.Decide.{ℕ_discrete}
 use Rattle.std.proofs.lemmas.Option.{slice_get_within, get_or_from_slice_get, slice_get-get_or}
 use Rattle.std.proofs.lemmas.List.{get_or-replicate, length-replicate}
-use Rattle.ca_net.specs.declared.search.PathKind.{PathKind}
+use Rattle.ca_net.specs.declared.path_kind.PathKind.{PathKind}
 use Rattle.ca_net.specs.declared.trit.Trit.{Trit}
 use Rattle.ca_net.specs.Circuit.{Circuit, IsWellFormed, IsStorage}
 use Rattle.ca_net.specs.State.{value_at}
 use Rattle.ca_net.specs.Path.{Path, Root, Via, root_of, end_of, strength_of, IsOn, IsPath}
-use Rattle.ca_net.specs.Search.{PassesAt, IsHop, Leads, Here, Onward}
+use Rattle.ca_net.specs.Walk.{IsHop, Leads, Here, Onward}
+use Rattle.ca_net.specs.Passing.{PassesAt}
 use Rattle.ca_net.proofs.Hops.{links_within, named_at}
 
 -- the marks of a path's nodes, among n

@@ -5,14 +5,15 @@ use Rattle.std.specs.List.{count_by}
 use Rattle.std.proofs.lemmas.List.Sums.{sum_by-set}
 use Rattle.std.proofs.lemmas.List.{set-set, set-get_or}
 use Rattle.std.proofs.lemmas.Option.{slice_get_within, get_or_from_slice_get, slice_get-get_or}
-use Rattle.ca_net.specs.declared.search.PathKind.{PathKind}
+use Rattle.ca_net.specs.declared.path_kind.PathKind.{PathKind}
 use Rattle.ca_net.specs.declared.trit.Trit.{Trit}
 use Rattle.ca_net.specs.declared.node.NodeId.{NodeId}
 use Rattle.ca_net.specs.declared.device.Device.{Device}
 use Rattle.ca_net.specs.Circuit.{Circuit, IsWellFormed, IsStorage, NamesWithin}
 use Rattle.ca_net.specs.State.{value_at}
 use Rattle.ca_net.specs.Conduction.{Links}
-use Rattle.ca_net.specs.Search.{IsHop, PassesAt}
+use Rattle.ca_net.specs.Walk.{IsHop}
+use Rattle.ca_net.specs.Passing.{PassesAt}
 
 pub named_at : (net : Circuit) (i : ℕ) (d : Device) → IsWellFormed net → slice_get net.devices i ≡ Some d → NamesWithin (length net.nodes) d
 named_at net i d well_formed e =

@@ -5,11 +5,11 @@ use Rattle.std.specs.List.{slice_set}
 use Rattle.std.proofs.Math.Decide.{dec_le}
 use native.Mathlib.Decide.{ℕ_discrete}
 use Rattle.std.proofs.lemmas.Option.{slice_get_within}
-use Rattle.ca_net.specs.declared.search.PathKind.{PathKind}
+use Rattle.ca_net.specs.declared.path_kind.PathKind.{PathKind}
 use Rattle.ca_net.specs.declared.search.PathEnd.{PathEnd}
 use Rattle.ca_net.specs.declared.trit.Trit.{Trit}
 use Rattle.ca_net.specs.Circuit.{Circuit}
-use Rattle.ca_net.specs.Search.{IsHop, Leads, Here, Onward, Explores}
+use Rattle.ca_net.specs.Walk.{IsHop, Leads, Here, Onward, Explores}
 
 -- the end of a path at a node
 abbrev pub path_end : ℕ → ℕ → PathEnd

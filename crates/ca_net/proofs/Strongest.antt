@@ -4,14 +4,14 @@ use Rattle.std.specs.Prelude.{Some}
 use Rattle.std.proofs.Math.Decide.{dec_le}
 use native.Mathlib.Decide.{ℕ_discrete}
 use Rattle.std.proofs.lemmas.List.{get_or-replicate, length-replicate, get_or_past}
-use Rattle.ca_net.specs.declared.search.PathKind.TheVariants.{Definite, Potential}
+use Rattle.ca_net.specs.declared.path_kind.PathKind.TheVariants.{Definite, Potential}
 use Rattle.ca_net.specs.declared.trit.Trit.{Trit}
 use Rattle.ca_net.specs.declared.node.NodeKind.{NodeKind}
 use Rattle.ca_net.specs.declared.node.NodeKind.TheVariants.{Input, Storage}
 use Rattle.ca_net.specs.Circuit.{Circuit, IsWellFormed, HasSize, HasStrength, kind_at}
 use Rattle.ca_net.specs.Path.{Path, Root, Via, root_of, end_of, strength_of, root_strength, IsPath, IsPotential, IsDefinite}
 use Rattle.ca_net.specs.Response.{HasStronger, IsBlocked}
-use Rattle.ca_net.specs.Search.{IsInner, Leads, Explores, HasDefinite, AreStrongest, AreStrongestFrom, RootReaches}
+use Rattle.ca_net.specs.Walk.{IsInner, Leads, Explores, HasDefinite, AreStrongest, AreStrongestFrom, RootReaches}
 use Rattle.std.proofs.lemmas.Option.{get_or_from_slice_get, slice_get-get_or}
 use Rattle.ca_net.proofs.Hops.{unmark}
 use Rattle.ca_net.proofs.ScaleLemmas.{size_pos, strength_pos, input_pos}

@@ -2,7 +2,7 @@
 use Rattle.std.proofs.Common.{◌≡◌, ℕ, ◌<◌, ◌≤◌, ◌⊎◌, List, length, min, inl, inr, refl, sym, ◌∙◌, subst, arith, get_or}
 use Rattle.std.specs.List.{Contains}
 use native.Mathlib.Decide.{ℕ_discrete}
-use Rattle.ca_net.specs.declared.search.PathKind.{PathKind}
+use Rattle.ca_net.specs.declared.path_kind.PathKind.{PathKind}
 use Rattle.ca_net.specs.declared.trit.Trit.{Trit}
 use Rattle.ca_net.specs.Circuit.{Circuit}
 use Rattle.ca_net.specs.Conduction.{Links}

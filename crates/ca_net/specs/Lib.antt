@@ -10,4 +10,5 @@ pub mod Limits
 pub mod Wave
 pub mod Laws
 pub mod NetFault
-pub mod Search
+pub mod Passing
+pub mod Walk

@@ -13,6 +13,10 @@ pub record IsWave (wave : Wave) : Type 0 where
   pub below_last : IsBelow wave.mid wave.last
 
 -- the wave of an input that changes from one value to another, or keeps it
+abbrev pub pair_of : Trit → Trit → Wave
+pair_of first last = record { first = first; mid = meet_of first last; last = last }
+
+-- the wave is that of an input that changes from its first value to its last, or keeps it
 abbrev pub IsPair : Wave → Type 0
 IsPair wave = wave.mid ≡ meet_of wave.first wave.last
 

@@ -3,39 +3,19 @@
 ghost use Rattle.std.specs.Prelude.{◌≡◌, ◌≢◌, ◌<◌, ◌≤◌, ℕ, length, false, IsTrue, ◌↔◌, IfSome, replicate};
 ghost use Rattle.ca_net.specs.Circuit.{IsWellFormed};
 ghost use Rattle.ca_net.specs.Conduction.{Links};
-ghost use Rattle.ca_net.specs.Path.{root_strength};
-ghost use Rattle.ca_net.specs.Search.{PassesAt, IsHop, Explores, AreStrongest, RootReaches};
+ghost use Rattle.ca_net.specs.Walk.{IsHop, Explores, AreStrongest, RootReaches};
 
-use crate::device::{Device, DeviceId, DeviceKind};
+use crate::device::{Device, DeviceId};
 use crate::network::Network;
 use crate::node::{NodeId, NodeKind};
-use crate::scale::INPUT;
+use crate::path_kind::PathKind;
 use crate::state::State;
-use crate::trit::Trit;
-
-/// Which paths are looked for: definite ones, whose devices conduct, or potential ones, none of whose devices is open.
-#[derive(Clone, Copy, Debug, PartialEq, Eq)]
-pub(crate) enum PathKind {
-    Definite,
-    Potential,
-}
 
 /// The end of a path: its node, and the strength of the path.
 #[derive(Clone, Copy, Debug, PartialEq, Eq)]
 pub(crate) struct PathEnd {
     pub node: NodeId,
     pub strength: u8,
-}
-
-// Whether a path of this kind may go through a device with this value of its gate.
-fn passes(kind: PathKind, device: DeviceKind, gate: Trit) -> bool
-    ensures { IsTrue result ↔ PassesAt kind device gate }
-{
-    match (device, gate) {
-        (DeviceKind::N, Trit::One) | (DeviceKind::P, Trit::Zero) | (DeviceKind::D, _) => true,
-        (DeviceKind::N, Trit::Zero) | (DeviceKind::P, Trit::One) => false,
-        (DeviceKind::N | DeviceKind::P, Trit::X) => kind == PathKind::Potential,
-    }
 }
 
 // The node to which the device leads from another.
@@ -57,16 +37,6 @@ fn is_storage(kind: NodeKind) -> bool
     ensures { IsTrue result ↔ (kind ≢ NodeKind.Input) }
 {
     matches!(kind, NodeKind::Storage(_))
-}
-
-// What a node gives to the paths that begin at it.
-fn own_strength(kind: NodeKind) -> u8
-    ensures { result ≡ root_strength kind }
-{
-    match kind {
-        NodeKind::Input => INPUT,
-        NodeKind::Storage(size) => size,
-    }
 }
 
 // The end of the path that goes on by the device at place i, if it may.
@@ -96,7 +66,7 @@ fn hop<N: Network>(
     let gate = state.get(device.gate.0 as usize);
     if is_storage(net.kind(next))
         && !on_path[next.0 as usize]
-        && passes(kind, device.kind, gate)
+        && kind.passes(device.kind, gate)
         && floor[next.0 as usize] <= strength
     {
         Some(PathEnd {
@@ -158,7 +128,7 @@ pub(crate) fn find_strongest<N: Network>(
 {
     for root in 0..net.node_count() {
         let node = NodeId(root as u32);
-        let strength = own_strength(net.kind(node));
+        let strength = net.kind(node).root_strength();
         on_path[root] = true;
         spread(
             net,
@@ -194,7 +164,7 @@ pub(crate) fn reaches_from<N: Network>(
     ensures on_path { on_path.new ≡ on_path.old }
     ensures reaches { IsTrue result ↔ RootReaches (N.circuit net.now) state.now root.0 node.0 }
 {
-    let strength = own_strength(net.kind(root));
+    let strength = net.kind(root).root_strength();
     if strength < strongest[root.0 as usize] {
         return false;
     }

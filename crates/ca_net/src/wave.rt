@@ -1,7 +1,7 @@
 //! The three limits of a node.
 
 ghost use Rattle.std.specs.Prelude.{◌≡◌};
-ghost use Rattle.ca_net.specs.Trit.{meet_of};
+ghost use Rattle.ca_net.specs.Wave.{pair_of};
 
 use crate::trit::{Trit, meet};
 
@@ -32,7 +32,7 @@ impl Default for Wave {
 impl Wave {
     /// The wave of an input that changes from one value to another, or keeps it: its middle is the meet of the two.
     pub fn pair(first: Trit, last: Trit) -> Wave
-        ensures { result ≡ record { first = first; mid = meet_of first last; last = last } }
+        ensures { result ≡ pair_of first last }
     {
         Wave {
             first,

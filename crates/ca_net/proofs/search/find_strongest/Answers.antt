@@ -1,5 +1,5 @@
 use Rattle.std.proofs.Common.{◌≡◌, ◌<◌, length, arith, subst}
-use Rattle.ca_net.specs.Search.{AreStrongestFrom}
+use Rattle.ca_net.specs.Walk.{AreStrongestFrom}
 use Rattle.ca_net.proofs.Strongest.{own_is, restored, strongest_turn, strongest_all}
 use Rattle.ca_net.proofs.search.find_strongest.Goals as goal
 
@@ -8,9 +8,9 @@ loop-root-preserved g c =
     let lt = subst (λ n. c.loop-root.root < n) c.node_count-root-end.ensures.count c.loop-root-test.true in
     record {
       same = restored _ c.loop-root.root c.args.on_path.now c.loop-root.on_path c.spread.new.on_path lt c.requires.on_path c.loop-root.invariant.same c.spread.ensures.on_path;
-      strongest = strongest_turn _ c.node_count-root-end.ensures.well_formed c.args.state.now c.args.zeros.now c.args.on_path.now c.loop-root.on_path c.own_strength-strength.result c.loop-root.root
+      strongest = strongest_turn _ c.node_count-root-end.ensures.well_formed c.args.state.now c.args.zeros.now c.args.on_path.now c.loop-root.on_path c.root_strength-strength.result c.loop-root.root
           c.loop-root.strongest c.spread.new.reached c.requires.zeros c.requires.on_path c.loop-root.invariant.same
-          (own_is (g.N.Network.circuit c.args.net.now) c.loop-root.root c.own_strength-strength.result c.kind.result c.kind.ensures c.own_strength-strength.ensures) lt c.loop-root.invariant.strongest c.spread.ensures.explores;
+          (own_is (g.N.Network.circuit c.args.net.now) c.loop-root.root c.root_strength-strength.result c.kind.result c.kind.ensures c.root_strength-strength.ensures) lt c.loop-root.invariant.strongest c.spread.ensures.explores;
     }
 
 pub returns-clause-strongest : goal.returns-clause-strongest

@@ -1,7 +1,7 @@
 use Rattle.std.proofs.Common.{◌≡◌, ◌≢◌, ◌≤◌, get_or, arith, subst, false, sym, ap, ◌∙◌}
 use Rattle.std.proofs.lemmas.Option.{get_or_from_slice_get}
 use Rattle.ca_net.specs.declared.node.NodeKind.TheVariants.{Input}
-use Rattle.ca_net.specs.Search.{PassesAt}
+use Rattle.ca_net.specs.Passing.{PassesAt}
 use Rattle.ca_net.specs.Circuit.{kind_at}
 use Rattle.ca_net.proofs.Hops.{named_at, links_within, hop_by, same_node, unmarked_at}
 use Rattle.ca_net.proofs.search.hop.Goals as goal

@@ -1,5 +1,5 @@
 use Rattle.std.proofs.Common.{◌≡◌, take}
-use Rattle.ca_cell.proofs.raw.RawPins.copy.Given as goal
+use Rattle.ca_cell.proofs.raw.copy_pins.Given as goal
 
 abbrev pub invariant-loop-pin : goal.invariant-loop-pin
 invariant-loop-pin l = l.pins ≡ take l.pin-index l.pin-items

@@ -1,20 +1,14 @@
 -- What the search for paths does, from the end of one path onwards. Only the proofs of the code cite this.
 use Rattle.std.specs.Prelude.{ℕ, Bool, true, false, ◌≡◌, ◌<◌, ◌≤◌, ◌⊎◌, List, min, slice_get, slice_index, slice_set, Some}
 use Rattle.ca_net.specs.declared.trit.Trit.{Trit}
-use Rattle.ca_net.specs.declared.device.DeviceKind.{DeviceKind}
 use Rattle.ca_net.specs.declared.device.Device.{Device}
-use Rattle.ca_net.specs.declared.search.PathKind.{PathKind}
-use Rattle.ca_net.specs.declared.search.PathKind.TheVariants.{Definite, Potential}
+use Rattle.ca_net.specs.declared.path_kind.PathKind.{PathKind}
 use Rattle.ca_net.specs.Circuit.{Circuit, IsStorage}
 use Rattle.ca_net.specs.State.{value_at}
-use Rattle.ca_net.specs.Conduction.{OpenAt, ConductsAt, Links}
+use Rattle.ca_net.specs.Conduction.{Links}
+use Rattle.ca_net.specs.Passing.{PassesAt}
 use Rattle.ca_net.specs.Path.{Path, Root, Via, root_of, end_of, strength_of, IsPath, IsDefinite}
 use Rattle.ca_net.specs.Response.{Reaches}
-
--- a definite path goes through a device that conducts, a potential one through a device that isn't open
-abbrev pub PassesAt : PathKind → DeviceKind → Trit → Type 0
-PassesAt Definite device gate = ConductsAt device gate
-PassesAt Potential device gate = OpenAt device gate → ⊥
 
 -- all nodes of the path but its root are storage nodes: the path stops at an input node
 abbrev pub IsInner : Circuit → Path → Type 0
