@@ -17,7 +17,8 @@ use Rattle.ca_spice.specs.declared.card.Card.TheVariants as card
 use Rattle.ca_spice.specs.declared.fault.SpiceKind.{SpiceKind}
 use Rattle.ca_spice.specs.declared.fault.SpiceKind.TheVariants.{BadCard, BadLength, DoubleName}
 use Rattle.ca_spice.specs.Card.{card_of}
-use Rattle.ca_spice.specs.Names.{is_name, has_name, with_name, place_with}
+use Rattle.ca_names.specs.Names.{has_name, with_name, place_with}
+use Rattle.ca_spice.specs.Names.{is_name}
 use Rattle.ca_spice.specs.Mos.{Wiring, Sizes, are_params, count_of, value_of, are_sound, kind_of, wiring_with, wiring_of, length_at, sizes_of}
 use Rattle.ca_spice.specs.OpenCell.{OpenCell, has_device, with_device, wired, mos}
 use Rattle.ca_spice.specs.Writing.{net_name, model_of}

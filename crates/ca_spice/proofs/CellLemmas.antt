@@ -14,7 +14,7 @@ use Rattle.ca_cell.specs.declared.raw.RawCell.{RawCell}
 use Rattle.ca_cell.specs.Rules.{PlacesWithin, IsRaw}
 use Rattle.ca_spice.specs.declared.pin.Pin.{Pin}
 use Rattle.ca_spice.specs.declared.subcircuit.Subcircuit.{Subcircuit}
-use Rattle.ca_spice.specs.Names.{has_name, with_name}
+use Rattle.ca_names.specs.Names.{has_name, with_name}
 use Rattle.ca_spice.specs.Mos.{strength_of}
 use Rattle.ca_spice.specs.OpenCell.{has_device, pins_behind}
 use Rattle.ca_spice.specs.Reading.{has_cell}

@@ -1,4 +1,3 @@
-pub mod NameLemmas
 pub mod MosLemmas
 pub mod CellLemmas
 pub mod UpperLemmas

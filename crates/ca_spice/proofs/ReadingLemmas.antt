@@ -15,7 +15,8 @@ use Rattle.ca_spice.specs.declared.fault.Refusal.{Refusal}
 use Rattle.ca_spice.specs.declared.open_cell.OpenCell as code
 use Rattle.ca_spice.specs.declared.pin.Pin.{Pin}
 use Rattle.ca_spice.specs.declared.subcircuit.Subcircuit.{Subcircuit}
-use Rattle.ca_spice.specs.Names.{texts, has_name, with_name, has_double}
+use Rattle.ca_names.specs.Names.{has_name, with_name, has_double}
+use Rattle.ca_spice.specs.Names.{texts}
 use Rattle.ca_spice.specs.Mos.{Wiring, Sizes, wiring_of, sizes_of}
 use Rattle.ca_spice.specs.OpenCell.{OpenCell, new_cell, has_device, with_device, wired, mos, pins_behind}
 use Rattle.ca_spice.specs.SpiceFault.{kind_told}

@@ -19,7 +19,8 @@ use Rattle.ca_cell.specs.declared.raw.RawPin.{RawPin}
 use Rattle.ca_spice.specs.declared.fault.SpiceKind.{SpiceKind}
 use Rattle.ca_spice.specs.declared.fault.SpiceKind.TheVariants.{BadRole}
 use Rattle.ca_spice.specs.declared.pin.Pin.{Pin}
-use Rattle.ca_spice.specs.Names.{is_text_byte, is_text, is_name, has_name, place_of, place_with, repeats, has_double}
+use Rattle.ca_names.specs.Names.{has_name, place_of, place_with, repeats, has_double}
+use Rattle.ca_spice.specs.Names.{is_text_byte, is_text, is_name}
 use Rattle.ca_spice.specs.Mos.{is_sign}
 use Rattle.ca_spice.specs.PinInfo.{last_colon, colon_place, pin_part, role_part, is_pin_word, are_pin_words, role_of, with_role, role_step, pin_info}
 use Rattle.ca_spice.specs.OpenCell.{pin_of, pins_behind}

@@ -27,7 +27,8 @@ use Rattle.ca_spice.specs.declared.fault.SpiceKind.TheVariants.{NotText, BadCard
 use Rattle.ca_spice.specs.declared.fault.SpiceFault.{SpiceFault}
 use Rattle.ca_spice.specs.declared.pin.Pin.{Pin}
 use Rattle.ca_spice.specs.declared.subcircuit.Subcircuit.{Subcircuit}
-use Rattle.ca_spice.specs.Names.{is_text, has_double}
+use Rattle.ca_names.specs.Names.{has_double}
+use Rattle.ca_spice.specs.Names.{is_text}
 use Rattle.ca_spice.specs.Card.{card_by_letter, is_ignored, card_of}
 use Rattle.ca_spice.specs.PinInfo as info
 use Rattle.ca_spice.specs.OpenCell.{OpenCell, new_cell, has_roles, pin_info, mos, subcircuit_with, ended}

@@ -14,7 +14,7 @@ use Rattle.ca_spice.specs.declared.card.Card.TheVariants as card
 use Rattle.ca_spice.specs.declared.fault.SpiceKind.{SpiceKind}
 use Rattle.ca_spice.specs.declared.fault.SpiceKind.TheVariants.{BadCard, BadRole}
 use Rattle.ca_spice.specs.declared.pin.Pin.{Pin}
-use Rattle.ca_spice.specs.Names.{place_of, has_double}
+use Rattle.ca_names.specs.Names.{place_of, has_double}
 use Rattle.ca_spice.specs.Card.{card_of}
 use Rattle.ca_spice.specs.Mos.{Wiring, Sizes, sizes_of}
 use Rattle.ca_spice.specs.PinInfo as info

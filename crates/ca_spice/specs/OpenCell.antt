@@ -9,7 +9,7 @@ use Rattle.ca_spice.specs.declared.fault.SpiceKind.{SpiceKind}
 use Rattle.ca_spice.specs.declared.fault.SpiceKind.TheVariants.{BadCard, BadLength, DoubleName, NoPinInfo}
 use Rattle.ca_spice.specs.declared.pin.Pin.{Pin}
 use Rattle.ca_spice.specs.declared.subcircuit.Subcircuit.{Subcircuit}
-use Rattle.ca_spice.specs.Names.{with_name, place_with}
+use Rattle.ca_names.specs.Names.{with_name, place_with}
 use Rattle.ca_spice.specs.PinInfo as info
 use Rattle.ca_spice.specs.Mos.{Wiring, Sizes, wiring_of, sizes_of, strength_of}
 

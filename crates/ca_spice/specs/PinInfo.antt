@@ -9,7 +9,8 @@ use Rattle.ca_cell.specs.declared.raw.Role.TheVariants as role
 use Rattle.ca_spice.specs.declared.fault.SpiceKind.{SpiceKind}
 use Rattle.ca_spice.specs.declared.fault.SpiceKind.TheVariants.{BadCard, BadRole}
 use Rattle.ca_spice.specs.declared.pin.Pin.{Pin}
-use Rattle.ca_spice.specs.Names.{is_name, place_of}
+use Rattle.ca_names.specs.Names.{place_of}
+use Rattle.ca_spice.specs.Names.{is_name}
 
 -- the place of the last `:` of a text whose first byte has this place, or `found` if it has none
 unfoldable pub last_colon : ℕ → ℕ → List ℕ → ℕ

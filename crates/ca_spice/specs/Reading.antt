@@ -15,7 +15,8 @@ use Rattle.ca_spice.specs.declared.fault.SpiceKind.TheVariants.{NotText, Unknown
 use Rattle.ca_spice.specs.declared.fault.SpiceFault.{SpiceFault}
 use Rattle.ca_spice.specs.declared.fault.SpiceFault.TheVariants.{At, TooManyCells}
 use Rattle.ca_spice.specs.declared.subcircuit.Subcircuit.{Subcircuit}
-use Rattle.ca_spice.specs.Names.{is_text, is_name, has_double}
+use Rattle.ca_names.specs.Names.{has_double}
+use Rattle.ca_spice.specs.Names.{is_text, is_name}
 use Rattle.ca_spice.specs.Card.{card_of}
 use Rattle.ca_spice.specs.Mos.{is_sign}
 use Rattle.ca_spice.specs.OpenCell.{OpenCell, new_cell, pin_info, mos, ended}

@@ -6,7 +6,6 @@ mod fault;
 mod laws;
 mod library;
 mod mos;
-mod name_set;
 mod names;
 mod open_cell;
 mod pin;

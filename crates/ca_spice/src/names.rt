@@ -1,8 +1,15 @@
-//! Which words may stand in a text, and which are names.
-ghost use Rattle.std.specs.Prelude.{◌≡◌};
+//! Which words may stand in a text, which are names, and sets of words.
+ghost use Rattle.std.specs.Prelude.{◌≡◌, ◌<◌, ◌^◌, length, IfOk, Ok};
 ghost use Rattle.std.specs.List.{list_all};
-ghost use Rattle.ca_spice.specs.Names.{is_text_byte, is_text, is_name_byte, is_name};
-ghost use Rattle.ca_spice.specs.Names.{texts};
+ghost use Rattle.ca_lex.specs.Reading.{Gives, unless};
+ghost use Rattle.ca_names.specs.Names.{has_double};
+ghost use Rattle.ca_spice.specs.declared.fault.SpiceKind.TheVariants.{DoubleName};
+ghost use Rattle.ca_spice.specs.SpiceFault.{kind_told};
+ghost use Rattle.ca_spice.specs.Names.{texts, is_text_byte, is_text, is_name_byte, is_name};
+
+use crate::fault::{Refusal, SpiceKind};
+use ca_names::NameSet;
+use std::alloc::Global;
 
 fn is_text_byte(byte: u8) -> bool
     ensures { result ≡ is_text_byte byte }
@@ -52,4 +59,23 @@ pub(crate) fn all_names(words: &[&[u8]]) -> bool
         rest = more;
     }
     true
+}
+
+/// The set of these words, if none stands twice.
+#[tactic(auto, unfolding(ca_names::specs::Names::repeats))]
+pub(crate) fn set_of(alloc: Global, words: &[&[u8]]) -> Result<NameSet, Refusal>
+    ensures read { Gives kind_told (λ names. names) result
+        (unless (has_double (texts words.now)) DoubleName (Ok (texts words.now))) }
+    ensures few { IfOk result (λ names. length names < 2 ^ 32) }
+{
+    let mut names = NameSet::new(alloc);
+    let mut rest = words;
+    'words: while let [word, more @ ..] = rest {
+        if names.has(word) {
+            return Err(Refusal::Kind(SpiceKind::DoubleName));
+        }
+        names.add(alloc, word)?;
+        rest = more;
+    }
+    Ok(names)
 }

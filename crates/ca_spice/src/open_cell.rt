@@ -6,13 +6,14 @@ ghost use Rattle.ca_spice.specs.OpenCell.{is_ended_by};
 
 use crate::fault::{Refusal, SpiceKind};
 use crate::mos::{Sizes, Wiring, sizes_of, wiring_of};
-use crate::name_set::{NameSet, set_of};
+use crate::names::set_of;
 use crate::pin::{Pin, pins_of, raw_pins};
 use crate::pin_info::pin_info;
 use crate::subcircuit::Subcircuit;
 use ca_base::NoMemory;
 use ca_cell::{RawCell, RawDevice, RawDevices};
 use ca_lex::Text;
+use ca_names::NameSet;
 use std::alloc::Global;
 
 /// A subcircuit whose `.ENDS` has not come. The nets are the pins and then the inner nets in the order of first mention.
@@ -33,7 +34,8 @@ impl OpenCell {
     ghost use Rattle.ca_lex.specs.Reading.{Gives, unless};
     ghost use Rattle.ca_spice.specs.declared.fault.SpiceKind.TheVariants.{DoubleName};
     ghost use Rattle.ca_spice.specs.SpiceFault.{kind_told};
-    ghost use Rattle.ca_spice.specs.Names.{has_double, texts};
+    ghost use Rattle.ca_names.specs.Names.{has_double};
+    ghost use Rattle.ca_spice.specs.Names.{texts};
     ghost use Rattle.ca_spice.specs.OpenCell.{new_cell, pin_info, has_device, with_device, wired, mos, ended};
     ghost use Rattle.ca_spice.specs.Kept.{IsPlacedCell};
     ghost use Rattle.ca_spice.specs.Views.{cell_seen, wiring_seen, sizes_seen};

@@ -7,10 +7,10 @@ ghost use Rattle.ca_spice.specs.Names.{texts};
 ghost use Rattle.ca_spice.specs.PinInfo.{colon_place, is_pin_word, are_pin_words, role_of, with_role, role_step, pin_info};
 
 use crate::fault::{Refusal, SpiceKind};
-use crate::name_set::NameSet;
 use crate::names::is_name;
 use crate::pin::Pin;
 use ca_cell::Role;
+use ca_names::NameSet;
 
 // The place of the last `:` of a word, or the word's length if it has none.
 #[tactic(auto, unfolding(crate::specs::PinInfo::last_colon))]
@@ -106,7 +106,7 @@ fn take_role(pins: &mut Vec<Pin>, nets: &NameSet, word: &[u8]) -> Result<(), Ref
     let Some(place) = nets.place_of(&word[..place]) else {
         return Err(Refusal::Kind(SpiceKind::BadRole));
     };
-    give_role(pins, place, role)
+    give_role(pins, place as usize, role)
 }
 
 /// The pins with the roles that these words name. The pins are the first of the nets.

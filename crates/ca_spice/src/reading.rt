@@ -9,11 +9,11 @@ ghost use Rattle.ca_spice.specs.Reading.{is_header_word, is_header};
 use crate::card::{Card, card_of};
 use crate::fault::{Refusal, SpiceFault, SpiceKind};
 use crate::mos::is_sign;
-use crate::name_set::NameSet;
 use crate::names::{all_text, is_name};
 use crate::open_cell::OpenCell;
 use crate::subcircuit::Subcircuit;
 use ca_lex::{Line, fold, spice_words};
+use ca_names::NameSet;
 use std::alloc::Global;
 
 /// What was read so far.

@@ -1,5 +1,5 @@
 use Rattle.std.proofs.Common.{◌≡◌, ◌∷◌, ◌++◌, [], map, ap, ◌∙◌}
-use Rattle.ca_spice.specs.Names.{with_name, place_with}
+use Rattle.ca_names.specs.Names.{with_name, place_with}
 use Rattle.ca_spice.specs.OpenCell.{device_of, with_source}
 use Rattle.ca_spice.specs.Views.{wiring_seen, sizes_seen}
 use Rattle.ca_spice.proofs.CellLemmas.{longer, named_grown, placed_grown}

@@ -2,7 +2,8 @@ use Rattle.std.proofs.Common.{◌≡◌, ◌∙◌, ◌++◌, ◌∷◌, [], Lis
 use Rattle.std.specs.List.{All}
 use Rattle.std.proofs.lemmas.List.Elements.{All-push}
 use Rattle.ca_spice.specs.SpiceFault.{kind_told}
-use Rattle.ca_spice.specs.Names.{texts, has_name}
+use Rattle.ca_names.specs.Names.{has_name}
+use Rattle.ca_spice.specs.Names.{texts}
 use Rattle.ca_spice.specs.Reading.{has_cell}
 use Rattle.ca_spice.specs.Kept.{IsUpper, names_of}
 use Rattle.ca_spice.specs.Views.{cell_seen, reading_seen}

@@ -1,0 +1,14 @@
+pub mod KnownLemmas
+pub mod TextLemmas
+pub mod BitLemmas
+pub mod LawLemmas
+pub mod PathLemmas
+pub mod WayLemmas
+pub mod ModuleLemmas
+pub mod NumberLemmas
+pub mod DistinctLemmas
+pub mod GrowLemmas
+pub mod RowLemmas
+pub mod KeptLemmas
+pub mod PlaceLemmas
+pub mod SoundLemmas

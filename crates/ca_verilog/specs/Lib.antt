@@ -1,0 +1,17 @@
+pub mod VerilogFault
+pub mod Lexeme
+pub mod Table
+pub mod Known
+pub mod Bus
+pub mod Instance
+pub mod Reading
+pub mod Views
+pub mod Joins
+pub mod Netlist
+pub mod Text
+pub mod Laws
+pub mod Grammar
+pub mod Path
+pub mod Module
+pub mod Kept
+pub mod IsNetlist
