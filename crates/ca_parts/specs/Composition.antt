@@ -24,11 +24,13 @@ PartLimits c to first middle last =
     AreLimits c (part_state c to first) (part_state c to middle) (part_state c to last)
     (part_state c to first) (part_state c to middle) (part_state c to last)
 
--- three states over the vectors are the limits of the whole exactly where they are limits in each of its parts
+-- three states over the vectors are the limits of the whole exactly where they are limits in each of its
+-- parts
 abbrev pub LimitsCompose : Type 0
 LimitsCompose =
     (f : Circuit) (cell : ℕ → Circuit) (to : ℕ → ℕ → ℕ) (count : ℕ) (rank : ℕ → ℕ)
-    (v1 vm v2 first middle last : List Trit) → IsWellFormed f → IsSplit f cell to count rank → InputsUnder f vm v1 → InputsUnder f vm v2
+    (v1 vm v2 first middle last : List Trit) → IsWellFormed f → IsSplit f cell to count rank
+    → InputsUnder f vm v1 → InputsUnder f vm v2
     → IsOver f v1 first → IsOver f vm middle → IsOver f v2 last
     → AreLimits f v1 vm v2 first middle last
     ↔ ((u : ℕ) → u < count → PartLimits (cell u) (to u) first middle last)
@@ -37,7 +39,8 @@ LimitsCompose =
 abbrev pub LimitsAreGlued : Type 0
 LimitsAreGlued =
     (f : Circuit) (cell : ℕ → Circuit) (to : ℕ → ℕ → ℕ) (count : ℕ) (rank : ℕ → ℕ) (v1 vm v2 : List Trit)
-    (w1 wm w2 first middle last : ℕ → List Trit) → IsWellFormed f → IsSplit f cell to count rank → InputsUnder f vm v1 → InputsUnder f vm v2
+    (w1 wm w2 first middle last : ℕ → List Trit) → IsWellFormed f → IsSplit f cell to count rank
+    → InputsUnder f vm v1 → InputsUnder f vm v2
     → ((u : ℕ) → u < count → AreLimits (cell u) (w1 u) (wm u) (w2 u) (first u) (middle u) (last u))
     → Agree f cell to count v1 first → Agree f cell to count vm middle → Agree f cell to count v2 last
     → (s : List Trit) × (t : List Trit) × (u : List Trit) × AreLimits f v1 vm v2 s t u
@@ -48,10 +51,11 @@ abbrev pub LimitsAreUnique : Type 0
 LimitsAreUnique =
     (net : Circuit) (v1 vm v2 first middle last s t u : List Trit) → AreLimits net v1 vm v2 first middle last
     → AreLimits net v1 vm v2 s t u
-    → (n : ℕ) → (value_at first n ≡ value_at s n) × (value_at middle n ≡ value_at t n) × (value_at last n ≡ value_at u n)
+    → (n : ℕ)
+    → (value_at first n ≡ value_at s n) × (value_at middle n ≡ value_at t n) × (value_at last n ≡ value_at u n)
 
--- locality: a storage node of a part responds in the whole as it does in the part, under the values of the part's
--- own nodes
+-- locality: a storage node of a part responds in the whole as it does in the part, under the values of the
+-- part's own nodes
 abbrev pub ResponsesAreLocal : Type 0
 ResponsesAreLocal =
     (c f : Circuit) (to : ℕ → ℕ) (s t : List Trit) (n : ℕ) (v : Trit) → IsWellFormed c → IsWellFormed f

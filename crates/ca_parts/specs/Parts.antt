@@ -22,8 +22,8 @@ pub record Owner (cell : ℕ → Circuit) (to : ℕ → ℕ → ℕ) (count x : 
   pub storage : IsStorage (cell part) node
   pub at : to part node ≡ x
 
--- f is made of count parts. Each storage node is one part's, and each input node of a part is an input of f or a
--- storage node of a part of lower rank.
+-- f is made of count parts. Each storage node is one part's, and each input node of a part is an input of f or
+-- a storage node of a part of lower rank.
 pub record IsSplit (f : Circuit) (cell : ℕ → Circuit) (to : ℕ → ℕ → ℕ) (count : ℕ) (rank : ℕ → ℕ)
     : Type 0 where
   pub well_formed : (u : ℕ) → u < count → IsWellFormed (cell u)
@@ -34,8 +34,8 @@ pub record IsSplit (f : Circuit) (cell : ℕ → Circuit) (to : ℕ → ℕ → 
   pub fed : (u n : ℕ) → u < count → IsInput (cell u) n
       → IsInput f (to u n) ⊎ ((o : Owner cell to count (to u n)) × (rank o.part < rank u))
 
--- the parts' states agree over the vector v: an input node of a part has what v has there, or what the part with
--- that node has
+-- the parts' states agree over the vector v: an input node of a part has what v has there, or what the part
+-- with that node has
 pub record Agree (f : Circuit) (cell : ℕ → Circuit) (to : ℕ → ℕ → ℕ) (count : ℕ) (v : List Trit)
     (states : ℕ → List Trit) : Type 0 where
   pub from_input : (u n : ℕ) → u < count → IsInput (cell u) n → IsInput f (to u n)

@@ -1,5 +1,5 @@
--- Laws of the limits of one network: that there are some, that they rise with their waves, and what a wave that
--- stays gives.
+-- Laws of the limits of one network: that there are some, that they rise with their waves, and what a wave
+-- that stays gives.
 use Rattle.std.specs.Prelude.{ℕ, ◌≡◌, List}
 use Rattle.ca_net.specs.declared.trit.Trit.{Trit}
 use Rattle.ca_net.specs.Circuit.{Circuit, IsWellFormed}
@@ -13,7 +13,8 @@ pub record AreBelow (first middle last high_first high_middle high_last : List T
   pub middle_below : IsStateBelow middle high_middle
   pub last_below : IsStateBelow last high_last
 
--- limits rise with their waves: where each input's wave is at or below another in all three frames, so are the limits
+-- limits rise with their waves: where each input's wave is at or below another in all three frames, so are the
+-- limits
 abbrev pub LimitsRise : Type 0
 LimitsRise =
     (net : Circuit) (v1 vm v2 w1 wm w2 first middle last high_first high_middle high_last : List Trit)
@@ -32,5 +33,6 @@ LimitsExist =
 -- where every input stays, the last limit is the first
 abbrev pub SteadyLimits : Type 0
 SteadyLimits =
-    (net : Circuit) (v first middle last : List Trit) → IsWellFormed net → AreLimits net v v v first middle last
+    (net : Circuit) (v first middle last : List Trit) → IsWellFormed net
+    → AreLimits net v v v first middle last
     → (n : ℕ) → value_at last n ≡ value_at first n
