@@ -1,4 +1,4 @@
-use Rattle.std.proofs.Common.{◌≡◌, ◌<◌, length, ◌∙◌, ap, subst, sym, arith, get_or, length-set}
+use Rattle.std.proofs.Common.{◌≡◌, ◌<◌, length, ◌∙◌, ap, arith, get_or, length-set}
 use Rattle.ca_net.specs.Path.{Root, strength_of}
 use Rattle.ca_relax.proofs.OthersLemmas.{respond_more}
 use Rattle.ca_relax.proofs.relax.respond.Goals as goal
