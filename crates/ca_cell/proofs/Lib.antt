@@ -3,3 +3,4 @@ pub mod CircuitLemmas
 pub mod LibraryLemmas
 pub mod NodeLemmas
 pub mod OutputNameLemmas
+pub mod BrokenLemmas

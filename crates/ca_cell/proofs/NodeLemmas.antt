@@ -226,7 +226,7 @@ source_on None source is = is
 source_on (Some node) source is = refl
 
 -- a test fails at each entry of a list, or there is a first at which it passes
-none_or_first : {X : Type 0} (test : X → Bool) (xs : List X)
+pub none_or_first : {X : Type 0} (test : X → Bool) (xs : List X)
     → All (λ x. ¬ (test x ≡ true)) xs ⊎ ((place : ℕ) × IsFirst (λ x. test x ≡ true) xs place)
 none_or_first test [] = inl (All-nil (λ x. ¬ (test x ≡ true)))
 none_or_first {X} test (first ∷ xs) = by (test first) refl (none_or_first test xs)
@@ -246,7 +246,7 @@ none_or_first {X} test (first ∷ xs) = by (test first) refl (none_or_first test
     )
 
 -- the first device on an input pin breaks a rule
-breaks_at : (raw : RawCell) (device : ℕ) → IsFirst (λ d. IsSome (channel_pin raw.pins d)) raw.devices device
+pub breaks_at : (raw : RawCell) (device : ℕ) → IsFirst (λ d. IsSome (channel_pin raw.pins d)) raw.devices device
     → (pin : ℕ) × DrivesChannel raw pin device
 breaks_at raw device first = by (slice_get raw.devices device) refl
   where

@@ -12,7 +12,7 @@ use Rattle.ca_cell.specs.declared.rule.TheConstants.{MOST_NODES}
 use Rattle.ca_cell.specs.Rules.{node_count, channel_pin, DrivesChannel, KeepsCounts, KeepsRules}
 
 -- where no device has its drain or its source on an input pin, none is the first that has
-none_drives : (raw : RawCell) → All (λ d. ¬ (IsSome (channel_pin raw.pins d))) raw.devices → (pin device : ℕ) → DrivesChannel raw pin device → ⊥
+pub none_drives : (raw : RawCell) → All (λ d. ¬ (IsSome (channel_pin raw.pins d))) raw.devices → (pin device : ℕ) → DrivesChannel raw pin device → ⊥
 none_drives raw none pin device drives = elim (slice_get_cases raw.devices device).1 [
   | inl there ↦
       let on : IsSome (channel_pin raw.pins there.0) =

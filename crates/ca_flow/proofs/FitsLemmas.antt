@@ -119,16 +119,16 @@ some_of P None held = absurd held
 some_of P (Some it) held = refl
 
 -- words of two commands
-respond_or_defects : (words : List (List ℕ)) → IsRespond words → IsDefects words → ⊥
+pub respond_or_defects : (words : List (List ℕ)) → IsRespond words → IsDefects words → ⊥
 respond_or_defects words one other = let four = one.four in let three = other.three in omega (arith, four, three)
 
-pair_or_defects : (words : List (List ℕ)) → IsPair words → IsDefects words → ⊥
+pub pair_or_defects : (words : List (List ℕ)) → IsPair words → IsDefects words → ⊥
 pair_or_defects words one other = let six = one.six in let three = other.three in omega (arith, six, three)
 
-pair_or_matrix : (words : List (List ℕ)) → IsPair words → IsMatrix words → ⊥
+pub pair_or_matrix : (words : List (List ℕ)) → IsPair words → IsMatrix words → ⊥
 pair_or_matrix words one other = let six = one.six in let four = other.four in omega (arith, six, four)
 
-respond_or_matrix : (words : List (List ℕ)) → IsRespond words → IsMatrix words → ⊥
+pub respond_or_matrix : (words : List (List ℕ)) → IsRespond words → IsMatrix words → ⊥
 respond_or_matrix words one other = omega (arith, ap length (sym one.command ∙ other.command))
 
 -- work that was asked for is that of words that their file fits

@@ -10,3 +10,4 @@ pub mod RuleLemmas
 pub mod ExactLemmas
 pub mod FitsLemmas
 pub mod NameLemmas
+pub mod SomeLemmas

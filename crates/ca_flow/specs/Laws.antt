@@ -1,5 +1,5 @@
 -- Laws of causes, of names and of a limit, each the contract of a function that does nothing (src/laws.rt).
-use Rattle.std.specs.Prelude.{◌≡◌, ℕ, List, Option, Some, IsSomeAnd, ⊤}
+use Rattle.std.specs.Prelude.{◌≡◌, ◌⊎◌, ℕ, List, Option, Some, IsSomeAnd, ⊤}
 use Rattle.ca_cell.specs.declared.raw.RawCell.{RawCell}
 use Rattle.ca_cell.specs.Rules.{KeepsRules}
 use Rattle.ca_defect.specs.Laws.{DefectsDiffer}
@@ -8,7 +8,7 @@ use Rattle.ca_flow.specs.declared.inputs.TheConstants.{MAX_CELLS}
 use Rattle.ca_flow.specs.declared.fault.Fault.{Fault}
 use Rattle.ca_flow.specs.declared.fault.Fault.TheVariants.{BadWords, Cells, NoCell, Cell, BadVector, NoDefect, TooLong, Limit, StoreFailed, SinkFailed, NoMemory}
 use Rattle.ca_flow.specs.declared.finished.Finished.{Finished}
-use Rattle.ca_flow.specs.Words.{cells_word}
+use Rattle.ca_flow.specs.Words.{cells_word, IsCommand}
 use Rattle.ca_flow.specs.Fault.{Outside, IsCause}
 use Rattle.ca_flow.specs.Complete.{IsAnswerable}
 use Rattle.ca_flow.specs.Ends.{Ends}
@@ -44,6 +44,16 @@ abbrev pub AnswerableHasNoCause : Type 0
 AnswerableHasNoCause =
     (words : List (List ℕ)) (before after : Outside) (fault : Fault) → IsAnswerable words before.files
     → IsInputFault fault → IsCause words before after fault → ⊥
+
+-- some fault of input has a cause, where no call failed
+abbrev pub HasInputCause : List (List ℕ) → Outside → Type 0
+HasInputCause words outside = (fault : Fault) × (IsInputFault fault × IsCause words outside outside fault)
+
+-- a command whose file is there can be answered, or a fault of input has a cause
+abbrev pub SomeCauseOrAnswer : Type 0
+SomeCauseOrAnswer =
+    (words : List (List ℕ)) (bytes : List ℕ) (outside : Outside) → TellsFile words (Some bytes) outside
+    → IsCommand words → IsAnswerable words outside.files ⊎ HasInputCause words outside
 
 -- a command of whose words and file a fault of input has a cause ends with this fault, or with one of the
 -- store, the output or memory

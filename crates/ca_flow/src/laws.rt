@@ -1,7 +1,7 @@
 //! What the definitions imply, each law the contract of a function that does nothing.
 
 ghost use Rattle.std.specs.Prelude.{ℕ, List, Option};
-ghost use Rattle.ca_flow.specs.Laws.{HasOneCause, AnswerableHasNoCause, CauseIsTold};
+ghost use Rattle.ca_flow.specs.Laws.{HasOneCause, AnswerableHasNoCause, SomeCauseOrAnswer, CauseIsTold};
 ghost use Rattle.ca_flow.specs.Laws.{NamesMeanOneDefect, SizeIsLimited};
 
 /// Of one list of words and one file at most one fault of the words or of the contents has a cause.
@@ -12,6 +12,11 @@ pub fn one_cause()
 /// Where a command can be answered no fault of the words or of the contents has a cause.
 pub fn answerable_has_no_cause()
     ensures { AnswerableHasNoCause }
+{}
+
+/// A command whose file is there can be answered, or a fault of the contents has a cause.
+pub fn some_cause_or_answer()
+    ensures { SomeCauseOrAnswer }
 {}
 
 /// Where a fault of the words or of the contents has a cause, the command doesn't end well, and tells no other

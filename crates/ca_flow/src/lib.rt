@@ -23,6 +23,7 @@ pub use fault::{Fault, LimitKind};
 pub use finished::{Done, Finished};
 pub use laws::{
     answerable_has_no_cause, cause_is_told, names_mean_one_defect, one_cause, size_is_limited,
+    some_cause_or_answer,
 };
 pub use pin_values::{PinValue, PinValues};
 pub use top::run;

@@ -18,3 +18,4 @@ pub mod RoleLemmas
 pub mod RoundTripLemmas
 pub mod FoundLemmas
 pub mod PlainLemmas
+pub mod AnswerLemmas

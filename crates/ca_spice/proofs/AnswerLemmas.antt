@@ -1,0 +1,46 @@
+-- A text has a reading, or a line or the number of its subcircuits is at fault.
+use Rattle.std.proofs.Common.{◌≡◌, ℕ, List, Bool, true, false, cond, Option, Some, None, Result, Ok, Err, refl, ap, ◌∙◌, length}
+use Rattle.std.specs.Prelude.{nat_lt}
+use Rattle.ca_lex.specs.declared.lines.Line.{Line}
+use Rattle.ca_lex.specs.Lines.{spice_lines}
+use Rattle.ca_lex.specs.FirstFault.{located, IsFirstFault}
+use Rattle.ca_lex.proofs.FirstFaultLemmas as first
+use Rattle.ca_cell.specs.declared.library.TheConstants.{MOST_CELLS}
+use Rattle.ca_spice.specs.declared.fault.SpiceKind.TheVariants.{Unended}
+use Rattle.ca_spice.specs.declared.fault.SpiceFault.{SpiceFault}
+use Rattle.ca_spice.specs.declared.fault.SpiceFault.TheVariants.{At, TooManyCells, NoMemory}
+use Rattle.ca_spice.specs.declared.subcircuit.Subcircuit.{Subcircuit}
+use Rattle.ca_spice.specs.OpenCell.{OpenCell}
+use Rattle.ca_spice.specs.Reading.{Reading, Step, nothing, line_step, at_line, lines_from, limited, library_from, library_of}
+
+not_limited : (cells : List Subcircuit) → limited cells ≡ Err NoMemory → ⊥
+not_limited cells = by (nat_lt MOST_CELLS (length cells))
+  where
+    by : (many : Bool) → cond many (Err (TooManyCells (length cells))) (Ok cells) ≡ Err NoMemory → ⊥
+    by true told = cc
+    by false told = cc
+
+not_line : (here : Line) (step : Step)
+    → elim step as (λ _. Result Reading SpiceFault) [ Ok next ↦ Ok next | Err told ↦ Err (at_line here told) ] ≡ Err NoMemory → ⊥
+not_line here (Ok next) told = cc
+not_line here (Err kind) told = cc
+
+not_given : (text : List ℕ) (given : Result Reading SpiceFault) → lines_from nothing (spice_lines text) ≡ given
+    → library_from given ≡ Err NoMemory → ⊥
+unfolding library_from
+not_given text (Ok reading) read told = by reading.current told
+  where
+    by : (current : Option OpenCell)
+        → elim current as (λ _. Result (List Subcircuit) SpiceFault) [ None ↦ limited reading.cells | Some cell ↦ Err (At cell.line Unended) ] ≡ Err NoMemory
+        → ⊥
+    by None told = not_limited reading.cells told
+    by (Some cell) told = cc
+not_given text (Err fault) read told =
+    let same : fault ≡ NoMemory = cc in
+    let it : IsFirstFault (located at_line line_step) nothing (spice_lines text) NoMemory =
+    first.found (located at_line line_step) nothing (spice_lines text) NoMemory (read ∙ ap (λ (f : SpiceFault). Err f) same) in
+    not_line it.here (line_step it.here it.so_far) it.broken
+
+-- the definition of a reading never says that memory was wanting
+pub reading_has_memory : (text : List ℕ) → library_of text ≡ Err NoMemory → ⊥
+reading_has_memory text told = not_given text (lines_from nothing (spice_lines text)) refl told
