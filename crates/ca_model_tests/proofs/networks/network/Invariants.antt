@@ -1,7 +1,7 @@
 use Rattle.std.proofs.Common.{◌≡◌, length}
 use Rattle.std.specs.List.{All}
 use Rattle.ca_net.specs.Circuit.{HasSize, HasStrength, GateIsDrain}
-use Rattle.ca_net.proofs.tests.network.Given as goal
+use Rattle.ca_model_tests.proofs.networks.network.Given as goal
 
 abbrev pub invariant-loop-place : goal.invariant-loop-place
 invariant-loop-place l = record {

@@ -1,5 +1,5 @@
 use Rattle.std.proofs.Common.{◌≡◌, take}
-use Rattle.ca_net.proofs.tests.state_of.Given as goal
+use Rattle.ca_model_tests.proofs.responses.state_of.Given as goal
 
 abbrev pub invariant-loop-value : goal.invariant-loop-value
 invariant-loop-value l = l.state ≡ take l.value-index l.values
