@@ -1,8 +1,8 @@
 //! Libraries at the limit of their size, and long cards.
 
-use crate::*;
 use ca_base::NoMemory;
 use ca_lex::Text;
+use ca_spice::{SpiceFault, SpiceKind, read_library};
 use std::alloc::Global;
 use std::test::Fail;
 

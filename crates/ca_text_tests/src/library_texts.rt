@@ -1,8 +1,8 @@
 //! Cells that are written, and read again.
 
-use crate::*;
 use ca_cell::Entry;
 use ca_lex::Text;
+use ca_spice::{read_library, write_cell};
 use std::alloc::Global;
 use std::test::Fail;
 
@@ -71,8 +71,8 @@ M Z G V G NCH W=1000000000000000000000000e-18 L=1e-18
 ];
 
 /// The text of a cell that is read from a text.
-#[tactic(auto, using(crate::proofs::FoundLemmas::found))]
-pub(super) fn rewritten(alloc: Global, text: &[u8], name: &[u8]) -> Result<Text, Fail> {
+#[tactic(auto, using(ca_spice::proofs::FoundLemmas::found))]
+pub(crate) fn rewritten(alloc: Global, text: &[u8], name: &[u8]) -> Result<Text, Fail> {
     let Ok(library) = read_library(alloc, text) else {
         return Err(Fail::from("the text reads"));
     };

@@ -1,14 +1,15 @@
 //! Texts with a fault, and texts that have a reading.
 
-use crate::*;
-use SpiceKind::{
+use ca_spice::SpiceKind::{
     BadCard, BadLength, BadRole, DoubleName, NoPinInfo, NotText, Unended, UnknownCard,
 };
+use ca_spice::{SpiceFault, SpiceKind, read_library};
+use std::alloc::Global;
 
 const COUNT: usize = 62;
 
 /// Each text with the line and the kind of its fault.
-const FAULTS: [(&[u8], usize, SpiceKind); COUNT] = [
+static FAULTS: [(&[u8], usize, SpiceKind); COUNT] = [
     // One fault of each kind, in each form.
     (b".SUBCKT A \x80\n", 1, NotText),
     (b"C1 \x7f\n", 1, NotText),
@@ -92,61 +93,62 @@ const FAULTS: [(&[u8], usize, SpiceKind); COUNT] = [
     (b".SUBCKT A B\nM1 B B B B XCH W=0 L=1U\n\x80\n", 2, BadCard),
 ];
 
-#[test]
-fn first_faulty_lines(rt: HostRuntime) {
-    for (text, line, kind) in FAULTS {
-        match read_library(rt.alloc(), text) {
-            Err(fault) => assert_eq!(rt; fault, SpiceFault::At { line, kind }, "{text:?}"),
-            Ok(_) => assert!(rt; false, "read: {text:?}"),
-        }
-    }
+/// Texts that have a reading, with the number of their cells.
+static READINGS: [(&[u8], usize); 13] = [
+    (b"", 0),
+    (b"* a comment \x80\n\n$ another \x80\n", 0),
+    (b"*.PININFO \x80 X\n", 0),
+    (
+        b"C1 ( = , $ \x80\nD1 A B\n+ C\n.OPTION X=Y\n.options\n.PARAM\n.END\n",
+        0,
+    ),
+    (b".SUBCKT A B\n*.PININFO B:I\n.ENDS", 1),
+    (b".subckt a b\r\n*.pininfo B:i\r\n.ends A\r\n.end\r\n", 1),
+    (
+        b"\t.SUBCKT A\n+ B $ \x80\n+$X\n*.PININFO B:I $ C\n.ENDS\n",
+        1,
+    ),
+    (
+        b".SUBCKT A B C:\n*.PININFO B:I\n* between\n*.PININFO C::O\n.ENDS\n",
+        1,
+    ),
+    (
+        b".SUBCKT A B\n*.PININFO B:I\nM1 B B B = N W = 1U\n+ L\n+ =1U X = = Y=( \n.ENDS\n",
+        1,
+    ),
+    (
+        b".SUBCKT A B\n*.PININFO B:I\nM = = = = P L=1U AD=1 AD=2 W=1U\n.ENDS\n",
+        1,
+    ),
+    (
+        b".SUBCKT A V1 V2 G1 G2\n*.PININFO V1:P V2:P G1:G G2:G\n.ENDS\n",
+        1,
+    ),
+    (
+        b".SUBCKT A A\n*.PININFO A:I\n.ENDS\n.SUBCKT B A\n*.PININFO A:I\n.ENDS\n",
+        2,
+    ),
+    (
+        b".SUBCKT A A\nMA A A A A N W=1U L=1U\n*.PININFO A:I\n.ENDS\n*.PININFO X\n",
+        1,
+    ),
+];
+
+/// The number of cells that a text has, or its fault.
+fn told(alloc: Global, text: &[u8]) -> Result<usize, SpiceFault> {
+    Ok(read_library(alloc, text)?.len())
 }
 
 #[test]
-fn readings(rt: HostRuntime) {
-    let texts: [(&[u8], usize); 13] = [
-        (b"", 0),
-        (b"* a comment \x80\n\n$ another \x80\n", 0),
-        (b"*.PININFO \x80 X\n", 0),
-        (
-            b"C1 ( = , $ \x80\nD1 A B\n+ C\n.OPTION X=Y\n.options\n.PARAM\n.END\n",
-            0,
-        ),
-        (b".SUBCKT A B\n*.PININFO B:I\n.ENDS", 1),
-        (b".subckt a b\r\n*.pininfo B:i\r\n.ends A\r\n.end\r\n", 1),
-        (
-            b"\t.SUBCKT A\n+ B $ \x80\n+$X\n*.PININFO B:I $ C\n.ENDS\n",
-            1,
-        ),
-        (
-            b".SUBCKT A B C:\n*.PININFO B:I\n* between\n*.PININFO C::O\n.ENDS\n",
-            1,
-        ),
-        (
-            b".SUBCKT A B\n*.PININFO B:I\nM1 B B B = N W = 1U\n+ L\n+ =1U X = = Y=( \n.ENDS\n",
-            1,
-        ),
-        (
-            b".SUBCKT A B\n*.PININFO B:I\nM = = = = P L=1U AD=1 AD=2 W=1U\n.ENDS\n",
-            1,
-        ),
-        (
-            b".SUBCKT A V1 V2 G1 G2\n*.PININFO V1:P V2:P G1:G G2:G\n.ENDS\n",
-            1,
-        ),
-        (
-            b".SUBCKT A A\n*.PININFO A:I\n.ENDS\n.SUBCKT B A\n*.PININFO A:I\n.ENDS\n",
-            2,
-        ),
-        (
-            b".SUBCKT A A\nMA A A A A N W=1U L=1U\n*.PININFO A:I\n.ENDS\n*.PININFO X\n",
-            1,
-        ),
-    ];
-    for (text, cells) in texts {
-        match read_library(rt.alloc(), text) {
-            Ok(library) => assert_eq!(rt; library.len(), cells, "{text:?}"),
-            Err(fault) => assert!(rt; false, "{fault:?}: {text:?}"),
-        }
+fn first_faulty_lines_and_readings(rt: HostRuntime) {
+    for (text, line, kind) in &FAULTS {
+        let fault = SpiceFault::At {
+            line: *line,
+            kind: *kind,
+        };
+        assert_eq!(rt; told(rt.alloc(), text), Err(fault), "{text:?}");
+    }
+    for (text, cells) in &READINGS {
+        assert_eq!(rt; told(rt.alloc(), text), Ok(*cells), "{text:?}");
     }
 }
