@@ -7,8 +7,6 @@ mod length;
 mod lines;
 mod names;
 mod physical;
-#[cfg(test)]
-mod tests;
 mod text;
 mod token;
 mod words;

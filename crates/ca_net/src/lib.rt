@@ -30,6 +30,3 @@ pub use scale::{BRIDGE, INNER_NODE, INPUT, OUTPUT_NET, STRONG, WEAK};
 pub use state::State;
 pub use trit::{Trit, below, letter, meet};
 pub use wave::Wave;
-
-#[cfg(test)]
-mod tests;

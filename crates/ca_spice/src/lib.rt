@@ -12,8 +12,6 @@ mod pin;
 mod pin_info;
 mod reading;
 mod subcircuit;
-#[cfg(test)]
-mod tests;
 mod writing;
 
 pub use fault::{SpiceFault, SpiceKind};

@@ -13,8 +13,6 @@ mod shelf;
 mod sink;
 mod std_sink;
 mod store;
-#[cfg(test)]
-mod tests;
 mod writing;
 
 pub use fail_list::{FailList, StoreCall};

@@ -1,4 +1,0 @@
-//! Cases worked out by hand.
-
-mod netlists;
-mod texts;
