@@ -6,7 +6,7 @@ use Rattle.std.specs.List.{AllByRecursion}
 use Rattle.std.proofs.lemmas.List.{append-nil, map-append}
 use Rattle.std.proofs.lemmas.Slice.Eq.{bytes_eq-Decides}
 use Rattle.ca_cell.specs.declared.raw.RawDevice.{RawDevice}
-use Rattle.ca_spice.specs.Names.{has_name, with_name, repeats, has_double}
+use Rattle.ca_names.specs.Names.{has_name, with_name, repeats, has_double}
 use Rattle.ca_spice.specs.Mos.{Wiring, Sizes}
 use Rattle.ca_spice.specs.OpenCell.{with_drain, with_gate, with_source, device_of, has_device}
 use Rattle.ca_spice.proofs.SpelledLemmas.{IsSpelled, all_append}
