@@ -29,9 +29,9 @@ KeepsBelow raw rank = (rule : CellRule) → rank_of rule < rank → Breaks raw r
 
 -- each rank by itself
 no_rail : (raw : RawCell) → 0 < role_count is_power raw.pins → 0 < role_count is_ground raw.pins → NoneAt raw 0
-no_rail raw power ground NoRail ranked (inl none) = omega (arith, power, none)
-no_rail raw power ground NoRail ranked (inr none) = omega (arith, ground, none)
-no_rail raw power ground rule ranked breaks = absurd (omega (arith, ranked))
+no_rail raw powered grounded NoRail ranked (inl none) = omega (arith, powered, none)
+no_rail raw powered grounded NoRail ranked (inr none) = omega (arith, grounded, none)
+no_rail raw powered grounded rule ranked breaks = absurd (omega (arith, ranked))
 
 few_devices : (raw : RawCell) → length raw.devices ≤ MOST_DEVICES → NoneAt raw 1
 few_devices raw few (TooManyDevices count) ranked breaks = let same = breaks.0 in let many = breaks.1 in omega (arith, few, same, many)
@@ -69,9 +69,9 @@ zero_or_some (suc n) = inr (omega arith)
 at_rank : (raw : RawCell) (rank : ℕ) → HasBroken raw rank ⊎ NoneAt raw rank
 at_rank raw zero = elim (zero_or_some (role_count is_power raw.pins)) [
   | inl none ↦ inl (record { rule = NoRail; ranked = refl; broken = inl none })
-  | inr power ↦ elim (zero_or_some (role_count is_ground raw.pins)) [
+  | inr powered ↦ elim (zero_or_some (role_count is_ground raw.pins)) [
     | inl none ↦ inl (record { rule = NoRail; ranked = refl; broken = inr none })
-    | inr ground ↦ inr (no_rail raw power ground)
+    | inr grounded ↦ inr (no_rail raw powered grounded)
   ]
 ]
 at_rank raw (suc zero) = elim (dec_le (length raw.devices) MOST_DEVICES) [

@@ -1,5 +1,5 @@
 -- Where the file of a command is there, the command can be answered, or a fault of input has a cause.
-use Rattle.std.proofs.Common.{ℕ, ◌≡◌, ◌≤◌, ◌<◌, ◌+◌, ◌⊎◌, ◌∙◌, inl, inr, refl, sym, ap, subst, arith, List, length, Option, Some, None, Result, Ok, Err, true≢false}
+use Rattle.std.proofs.Common.{ℕ, ◌≡◌, ◌≤◌, ◌<◌, ◌+◌, ◌⊎◌, ◌∙◌, inl, inr, refl, sym, subst, arith, List, length, Option, Some, None, Result, Ok, Err, true≢false}
 use Rattle.std.specs.Prelude.{IsSome, IsNone, IsOk, IsSomeAnd}
 use Rattle.std.proofs.Math.Decide.{dec_le}
 use Rattle.std.proofs.lemmas.Option.{same_Some}
@@ -22,7 +22,7 @@ use Rattle.ca_flow.specs.declared.fault.Fault.TheVariants.{Cells, NoCell, Cell, 
 use Rattle.ca_flow.specs.Words.{cells_word, cell_word, vector_word, first_word, last_word, defect_word, dash, IsCommand}
 use Rattle.ca_flow.specs.Outputs.{letters_of, Fits, asked_network}
 use Rattle.ca_flow.specs.Cells.{OfFile, HasCell, LacksCell, OfCell}
-use Rattle.ca_flow.specs.Fault.{Outside, IsTextCause, IsFirstUnfit, IsPairCause, IsVectorCause, IsCellCause, IsValueCause, IsCause}
+use Rattle.ca_flow.specs.Fault.{Outside, IsTextCause, IsPairCause, IsVectorCause, IsCellCause, IsCause}
 use Rattle.ca_flow.specs.Complete.{FitsCell, IsAnswerable}
 use Rattle.ca_flow.specs.Laws.{IsInputFault, TellsFile, HasInputCause}
 use Rattle.ca_flow.proofs.ExactLemmas.{IsOnCell, on_cell, respond_or_pair}
