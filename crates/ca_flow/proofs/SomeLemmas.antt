@@ -19,7 +19,7 @@ use Rattle.ca_flow.specs.declared.inputs.TheConstants.{MAX_CELLS}
 use Rattle.ca_flow.specs.declared.fault.LimitKind.TheVariants as limit
 use Rattle.ca_flow.specs.declared.fault.Fault.{Fault}
 use Rattle.ca_flow.specs.declared.fault.Fault.TheVariants.{Cells, NoCell, Cell, BadVector, NoDefect, TooLong, Limit}
-use Rattle.ca_flow.specs.Words.{cells_word, cell_word, vector_word, first_word, last_word, defect_word, dash, IsCommand}
+use Rattle.ca_flow.specs.Words.{cells_word, cell_word, vector_word, first_word, last_word, defect_word, dash, AsksNoFile, IsCommand}
 use Rattle.ca_flow.specs.Outputs.{letters_of, Fits, asked_network}
 use Rattle.ca_flow.specs.Cells.{OfFile, HasCell, LacksCell, OfCell}
 use Rattle.ca_flow.specs.Fault.{Outside, IsTextCause, IsPairCause, IsVectorCause, IsCellCause, IsCause}
@@ -103,7 +103,7 @@ module _ (words : List (List ℕ)) (bytes : List ℕ) (outside : Outside) (told 
       fits : FitsCell words raw → Stands words outside
       fits held =
           let has : HasCell (cell_word words) (FitsCell words) bytes = rw called held in
-          inl (rw (are, there) (within, has))
+          inl (inr (rw (are, there) (within, has)))
 
       breaks : (rule : CellRule) → IsFirstBroken raw rule → Stands words outside
       breaks rule first = cell_cause (Cell (upper_case (cell_word words)) rule) tt (inr (refl, of_cell (λ raw. IsFirstBroken raw rule) first))
@@ -183,17 +183,23 @@ module _ (words : List (List ℕ)) (bytes : List ℕ) (outside : Outside) (told 
   stands : Stands words outside
   stands = elim (dec_le (length bytes) MAX_CELLS) [ yes within ↦ at_bytes within | no past ↦ too_long (omega (arith, past)) ]
 
-of_command : (words : List (List ℕ)) → IsCommand words → IsOnCell words
-of_command words (inl respond) = inl respond
-of_command words (inr (inl pair)) = inr (inl pair)
-of_command words (inr (inr (inl defects))) = inr (inr (inl defects))
-of_command words (inr (inr (inr matrix))) = inr (inr (inr matrix))
+of_command : (words : List (List ℕ)) → IsCommand words → IsOnCell words ⊎ AsksNoFile words
+of_command words (inl respond) = inl (inl respond)
+of_command words (inr (inl pair)) = inl (inr (inl pair))
+of_command words (inr (inr (inl defects))) = inl (inr (inr (inl defects)))
+of_command words (inr (inr (inr (inl matrix)))) = inl (inr (inr (inr matrix)))
+of_command words (inr (inr (inr (inr asks)))) = inr asks
 
 -- a command on a cell whose file is there can be answered, or a fault of input has a cause
 pub some_cause : (words : List (List ℕ)) (bytes : List ℕ) (outside : Outside) → TellsFile words (Some bytes) outside → IsCommand words
     → IsAnswerable words outside.files ⊎ HasInputCause words outside
-some_cause words bytes outside tells command = by outside.files refl tells
+some_cause words bytes outside tells command = by_command (of_command words command)
   where
-    by : (files : Option Files) → outside.files ≡ files → IsSomeAnd files (λ told. told (cells_word words) ≡ Some bytes) → Stands words outside
-    by None are tells = absurd tells
-    by (Some told) are tells = stands words bytes outside told are tells (of_command words command)
+    by : IsOnCell words → (files : Option Files) → outside.files ≡ files
+        → IsSomeAnd files (λ told. told (cells_word words) ≡ Some bytes) → Stands words outside
+    by on None are tells = absurd tells
+    by on (Some told) are tells = stands words bytes outside told are tells on
+
+    by_command : IsOnCell words ⊎ AsksNoFile words → Stands words outside
+    by_command (inl on) = by on outside.files refl tells
+    by_command (inr asks) = inl (inl asks)
