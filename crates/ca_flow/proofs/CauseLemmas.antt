@@ -1,5 +1,5 @@
 -- How the causes of a command follow from those of its stages.
-use Rattle.std.proofs.Common.{ℕ, ◌≡◌, ◌≢◌, ◌⊎◌, inl, inr, refl, sym, ap, List, map, Option, Some, None, Ok, true≢false, subst}
+use Rattle.std.proofs.Common.{ℕ, ◌≡◌, ◌≢◌, ◌⊎◌, inl, inr, sym, List, map, Option, Some, Ok, true≢false, subst}
 use Rattle.std.specs.Prelude.{IsNone}
 use Rattle.ca_store.specs.Store.{Files}
 use Rattle.ca_lex.specs.Words.{upper_case}
@@ -12,7 +12,6 @@ use Rattle.ca_spice.specs.Views.{subcircuit_seen}
 use Rattle.ca_matrix.specs.Matrix.{Entries}
 use Rattle.ca_flow.specs.declared.fault.Fault.{Fault}
 use Rattle.ca_flow.specs.declared.fault.Fault.TheVariants.{BadWords, Cells, NoCell, Cell, BadVector, NoDefect, TooLong, Limit, StoreFailed, SinkFailed, NoMemory}
-use Rattle.ca_flow.specs.declared.finished.Done.{Done}
 use Rattle.ca_flow.specs.Words.{cells_word, cell_word, vector_word, first_word, last_word, defect_word, dash}
 use Rattle.ca_flow.specs.Cells.{OfFile, OfCell}
 use Rattle.ca_flow.specs.declared.finished.Done.TheVariants.{Defects, Matrix}
@@ -22,7 +21,7 @@ use Rattle.ca_flow.specs.Command.{IsSpelledDefects, IsSpelledMatrix}
 use Rattle.ca_flow.specs.Outputs.{asked_network}
 use Rattle.ca_flow.specs.Ends.{AreDefectNames, IsSoundMatrix, IsAsked}
 use Rattle.ca_flow.specs.Fault.{IsLibraryCause, IsCellCause, IsFirstUnfit, IsPairCause, IsVectorCause, IsValueCause, IsWorkCause}
-use Rattle.ca_flow.specs.Stages.{IsReadingCause, IsEntryCause, IsEvaluationCause}
+use Rattle.ca_flow.specs.Stages.{IsEntryCause, IsEvaluationCause}
 use Rattle.ca_flow.proofs.FileLemmas.{of_entry, of_none}
 
 -- a vector that doesn't fit is the first or the last

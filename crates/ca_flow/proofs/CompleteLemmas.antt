@@ -1,11 +1,11 @@
 -- A command that can be answered is refused only for want of memory, where no call failed.
-use Rattle.std.proofs.Common.{ℕ, ◌≡◌, ◌≤◌, ◌<◌, ◌⊎◌, ◌∙◌, inl, inr, refl, sym, ap, List, length, Option, Some, None, Ok, Err, arith, true≢false}
+use Rattle.std.proofs.Common.{ℕ, ◌≡◌, ◌≤◌, ◌<◌, ◌⊎◌, ◌∙◌, inl, inr, refl, sym, ap, List, length, Option, Some, None, Err, arith, true≢false}
 use Rattle.std.proofs.lemmas.Option.{same_Some}
 use Rattle.std.specs.Prelude.{IfSome, IsSome, IsNone, IsSomeAnd}
 use Rattle.ca_store.specs.Store.{Files, Rose, MayHave}
 use Rattle.ca_cell.specs.declared.raw.RawCell.{RawCell}
 use Rattle.ca_cell.specs.declared.rule.CellRule.{CellRule}
-use Rattle.ca_cell.specs.Rules.{KeepsRules, IsFirstBroken}
+use Rattle.ca_cell.specs.Rules.{IsFirstBroken}
 use Rattle.ca_spice.specs.declared.fault.SpiceFault.{SpiceFault}
 use Rattle.ca_spice.specs.declared.fault.SpiceFault.TheVariants as spice
 use Rattle.ca_spice.specs.Reading.{library_of}
@@ -18,7 +18,7 @@ use Rattle.ca_flow.specs.declared.finished.Finished.{Finished}
 use Rattle.ca_flow.specs.Finished.{IsAnswer, status_told}
 use Rattle.ca_flow.specs.Words.{cells_word, cell_word, vector_word, first_word, last_word, defect_word, dash, AsksNoFile, IsCommand}
 use Rattle.ca_flow.specs.Outputs.{Fits, asked_network}
-use Rattle.ca_flow.specs.Cells.{IsFileWith, OfFile, HasCell, LacksCell}
+use Rattle.ca_flow.specs.Cells.{OfFile, HasCell, LacksCell}
 use Rattle.ca_flow.specs.Complete.{FitsCell, FitsFile, IsAnswerable, Completes}
 use Rattle.ca_flow.specs.Fault.{Outside, IsReadCause, IsTextCause, IsCellsCause, IsNameCause, IsFirstUnfit, IsPairCause, IsVectorCause, IsCellCause, IsValueCause, IsWordsCause, IsWriteCause, IsPrintCause, IsWorkCause, IsCause}
 

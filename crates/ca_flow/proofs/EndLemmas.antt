@@ -1,11 +1,10 @@
 -- How a command ends, from how its work, its writing and its printing do.
-use Rattle.std.proofs.Common.{ℕ, ◌<◌, ◌≤◌, ◌≡◌, ◌≢◌, ◌⊎◌, ◌∙◌, inl, inr, refl, sym, ap, subst, List, Option, Some, None, Bool, true, false, true≢false, arith, is_some}
+use Rattle.std.proofs.Common.{ℕ, ◌≤◌, ◌≡◌, ◌≢◌, ◌⊎◌, ◌∙◌, inl, inr, refl, sym, ap, subst, List, Option, Some, None, true≢false, arith, is_some}
 use Rattle.std.proofs.lemmas.Option.{same_Some}
 use Rattle.std.specs.Prelude.{IfSome, IsSome, IsNone, IsSomeAnd}
 use Rattle.std.specs.Option.{ForSome}
 use Rattle.ca_store.specs.Store.{Files, Rose}
-use Rattle.ca_store.specs.Writing.{ChangesOnly, MayWrite}
-use Rattle.ca_matrix.specs.Matrix.{Entries}
+use Rattle.ca_store.specs.Writing.{MayWrite}
 use Rattle.ca_matrix.specs.Text.{text_of}
 use Rattle.ca_flow.specs.declared.fault.Fault.{Fault}
 use Rattle.ca_flow.specs.declared.fault.Fault.TheVariants.{BadWords, Cells, NoCell, Cell, BadVector, NoDefect, TooLong, Limit, StoreFailed, SinkFailed, NoMemory}
@@ -14,11 +13,11 @@ use Rattle.ca_flow.specs.declared.finished.Done.TheVariants.{Respond, Pair, Defe
 use Rattle.ca_flow.specs.declared.finished.Finished.{Finished}
 use Rattle.ca_flow.specs.declared.work.OutFile.{OutFile}
 use Rattle.ca_flow.specs.FaultLine.{status_of}
-use Rattle.ca_flow.specs.Words.{out_word, cells_word, IsMatrix}
+use Rattle.ca_flow.specs.Words.{out_word, IsMatrix}
 use Rattle.ca_flow.specs.Finished.{status_told, IsTold, IsOutFault, IsAnswer, Prints, LeavesFiles, Writes, TellsSinkFault}
 use Rattle.ca_flow.specs.Fault.{Outside, IsWorkCause, IsWriteCause, IsPrintCause, IsCause}
 use Rattle.ca_flow.specs.Ends.{TellsStoreFault, IsAsked}
-use Rattle.ca_flow.specs.Work.{HasFile, IsOutFile, HasWritten, FailsToWrite, HasPrinted, FailsToPrint, EndsWork}
+use Rattle.ca_flow.specs.Work.{HasFile, HasWritten, FailsToWrite, HasPrinted, FailsToPrint, EndsWork}
 use Rattle.ca_flow.proofs.CauseLemmas.{unread_is_cells}
 
 -- no fault has the status of work that is whole

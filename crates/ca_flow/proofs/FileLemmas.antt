@@ -1,7 +1,6 @@
 -- What is said of a library that was read from a file, said of the file.
-use Rattle.std.proofs.Common.{ℕ, ◌≡◌, ◌≤◌, ◌∙◌, refl, sym, ap, List, length, map, Option, Some, None, Result, Ok, Err, rules}
-use Rattle.std.specs.Prelude.{IfOk, IsOk, IsNone, IsSomeAnd, option_map}
-use Rattle.std.specs.Option.{ForSome}
+use Rattle.std.proofs.Common.{ℕ, ◌≡◌, ◌≤◌, refl, List, length, map, Option, Some, None, Result, Ok, Err}
+use Rattle.std.specs.Prelude.{IfOk, IsSomeAnd}
 use Rattle.ca_store.specs.Store.{Files}
 use Rattle.ca_store.specs.ReadFault.{IsWhole}
 use Rattle.ca_lex.specs.Words.{upper_case}
@@ -10,10 +9,9 @@ use Rattle.ca_cell.specs.declared.library.Entry.{Entry}
 use Rattle.ca_cell.specs.Library.{Named, entry_of, raw_of}
 use Rattle.ca_spice.specs.Reading.{library_of}
 use Rattle.ca_spice.specs.Views.{subcircuit_seen}
-use Rattle.ca_spice.specs.Called.{cell_called}
 use Rattle.ca_spice.proofs.CalledLemmas.{called_of_library}
 use Rattle.ca_flow.specs.declared.inputs.TheConstants.{MAX_CELLS}
-use Rattle.ca_flow.specs.Cells.{IsFileWith, OfFile, HasCell, LacksCell, OfCell}
+use Rattle.ca_flow.specs.Cells.{OfFile, HasCell, LacksCell, OfCell}
 
 -- what holds of the bytes that were read holds of the file
 pub of_whole : (files : Option Files) (name bytes : List ℕ) (Holds : List ℕ → Type 0) → IsWhole files name MAX_CELLS bytes

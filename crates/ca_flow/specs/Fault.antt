@@ -1,5 +1,5 @@
 -- Why a command is refused: each stage of a command has its own causes, and a command's are those of its stages.
-use Rattle.std.specs.Prelude.{◌≡◌, ◌≢◌, ◌⊎◌, ℕ, List, Option, Some, Err, IsNone, ⊤}
+use Rattle.std.specs.Prelude.{◌≡◌, ◌≢◌, ◌⊎◌, ℕ, List, Option, Err, IsNone, ⊤}
 use Rattle.ca_store.specs.Store.{Files, MayHave, Rose}
 use Rattle.ca_store.specs.ReadFault.{IsTooLong}
 use Rattle.ca_lex.specs.Words.{upper_case}

@@ -2,7 +2,7 @@
 use Rattle.std.specs.Prelude.{◌≡◌, ◌≢◌, ◌<◌, ◌≤◌, ◌⊎◌, ◌↔◌, ℕ, List, Option, Some, None, IsSome, IsNone, IfSome}
 use Rattle.std.specs.List.{flat_map}
 use Rattle.std.specs.Option.{ForSome}
-use Rattle.ca_store.specs.Store.{Files, Rose, appended, AppendsPart}
+use Rattle.ca_store.specs.Store.{Files, appended, AppendsPart}
 use Rattle.ca_store.specs.Writing.{ChangesOnly, MayWrite}
 use Rattle.ca_matrix.specs.Text.{text_of}
 use Rattle.ca_flow.specs.declared.fault.Fault.{Fault}
