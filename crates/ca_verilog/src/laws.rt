@@ -41,8 +41,8 @@ pub fn number_of_digits()
         ≡ (if nat_lt MOST (number_of digits) then Large else Number (number_of digits)) }
 {}
 
-/// A text whose tokens are a module of the grammar has a netlist, or it has too many bits, or its first fault is
-/// one of names and ranges.
+/// A text whose tokens are a module of the grammar has a netlist, or it has too many bits, or its first fault
+/// is one of names and ranges.
 pub fn module_is_refused_for_names_alone()
     ensures { (text : List ℕ) (line : ℕ) (kind : VerilogKind) → HasModule text
         → netlist_of text ≡ Err (At line kind) → IsOfNames kind }
