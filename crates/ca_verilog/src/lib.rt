@@ -7,6 +7,7 @@ mod instance;
 mod laws;
 mod lexeme;
 mod netlist;
+mod pin_rows;
 mod raw;
 mod reading;
 mod table;
