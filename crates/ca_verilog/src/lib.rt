@@ -2,6 +2,7 @@
 #![tactic(auto)]
 
 mod bus;
+mod declaration_rows;
 mod fault;
 mod instance;
 mod laws;
