@@ -1,18 +1,16 @@
 -- Tokens of a text, one after the other.
 use Rattle.std.proofs.Common.{◌≡◌, ℕ, zero, suc, ◌+◌, ◌-◌, ◌<◌, ◌≤◌, Bool, true, false, ◌||◌, ◌==◌, List}
-use Rattle.std.proofs.Common.{[], ◌∷◌, ◌++◌, length, take, drop, get_or, Option, Some, None, arith, refl}
+use Rattle.std.proofs.Common.{[], ◌∷◌, length, drop, get_or, arith, refl}
 use Rattle.std.proofs.Common.{sym, ap, ◌∙◌, subst}
 use Rattle.std.proofs.lemmas.List.{drop_more, length-drop, drop-drop}
 use Rattle.std.proofs.Math.ListN.{drop_of_length-le}
 use Rattle.std.proofs.lemmas.Bool.{eqb-true}
-use Rattle.ca_lex.specs.declared.token.Token.{Token}
 use Rattle.ca_lex.specs.declared.token.TokenKind.{TokenKind}
 use Rattle.ca_token.specs.declared.fault.LexKind.{LexKind}
 use Rattle.ca_token.specs.declared.piece.Piece.{Piece}
 use Rattle.ca_token.specs.declared.piece.Piece.TheVariants.{Blank, Skipped, Found, Broken}
 use Rattle.ca_token.specs.Piece.{piece_of, IsWithin}
 use Rattle.ca_token.specs.Next.{IsNextToken, IsNextFlaw}
-use Rattle.ca_token.specs.declared.fault.Flaw as fault
 use Rattle.ca_token.specs.Scan.{Scan, nothing, broken_at, with_token, token_at, scan_from, tokens_behind}
 
 -- bytes of a piece are passed over

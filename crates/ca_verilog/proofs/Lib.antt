@@ -12,3 +12,4 @@ pub mod RowLemmas
 pub mod KeptLemmas
 pub mod PlaceLemmas
 pub mod SoundLemmas
+pub mod NameRuleLemmas

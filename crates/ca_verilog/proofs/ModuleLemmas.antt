@@ -82,7 +82,7 @@ moved (Err kind) name it next is = absurd cc
 moved (Ok row) name it next is = ap (λ (at : Place). Ok at) (act_place row.action name (at_place row.place it) next is)
 
 -- a token that is taken goes along its row
-step_led : (lexeme : Lexeme) (name : List ℕ) (it next : Reading) → lexeme_step lexeme name it ≡ Ok next → place_step lexeme it.place ≡ Ok next.place
+pub step_led : (lexeme : Lexeme) (name : List ℕ) (it next : Reading) → lexeme_step lexeme name it ≡ Ok next → place_step lexeme it.place ≡ Ok next.place
 unfolding lexeme_step
 step_led lexeme name it next is = moved (row_of it.place lexeme) name it next is
 
@@ -98,7 +98,7 @@ led_behind text token tokens it last (Ok next) is later read =
 led_behind text token tokens it last (Err kind) is later read = absurd cc
 
 -- tokens that are read go along the table
-tokens_led : (text : List ℕ) (tokens : List Token) (it last : Reading) → tokens_from text it tokens ≡ Ok last
+pub tokens_led : (text : List ℕ) (tokens : List Token) (it last : Reading) → tokens_from text it tokens ≡ Ok last
     → places_from it.place (map (lexeme_at text) tokens) ≡ Ok last.place
 unfolding steps_from
 tokens_led text [] it last read = ap (λ (at : Place). Ok at) (by_value it last read)

@@ -1,10 +1,10 @@
 -- The first fault of a text, in a reader's words.
-use Rattle.std.specs.Prelude.{ℕ, ◌-◌, ◌≡◌, ◌⊎◌, false, List, ◌∷◌, ◌++◌, length, Some, None, Ok, Err}
+use Rattle.std.specs.Prelude.{ℕ, ◌-◌, ◌≡◌, ◌⊎◌, false, List, ◌∷◌, ◌++◌, length, Some, None, Ok, Err, ⊤}
 use Rattle.ca_lex.specs.declared.token.Token.{Token}
 use Rattle.ca_token.specs.declared.fault.Flaw.{Flaw}
 use Rattle.ca_token.specs.Scan.{scan_of, line_at}
 use Rattle.ca_verilog.specs.declared.fault.VerilogKind.{VerilogKind}
-use Rattle.ca_verilog.specs.declared.fault.VerilogKind.TheVariants.{Syntax}
+use Rattle.ca_verilog.specs.declared.fault.VerilogKind.TheVariants.{Syntax, Undeclared, DoubleName, BadRange}
 use Rattle.ca_verilog.specs.Reading.{Reading, nothing}
 use Rattle.ca_verilog.specs.Text.{token_step, tokens_from, is_end}
 use Rattle.ca_verilog.specs.VerilogFault.{kind_of}
@@ -44,3 +44,10 @@ pub record EndsEarly (text : List ℕ) (line : ℕ) (kind : VerilogKind) : Type 
 abbrev pub IsFirstFaulty : List ℕ → ℕ → VerilogKind → Type 0
 IsFirstFaulty text line kind =
     BreaksRule text line kind ⊎ (IsFlawed text line kind ⊎ EndsEarly text line kind)
+
+-- a rule on names and ranges, and not on the order of tokens
+abbrev pub IsOfNames : VerilogKind → Type 0
+IsOfNames Undeclared = ⊤
+IsOfNames DoubleName = ⊤
+IsOfNames BadRange = ⊤
+IsOfNames _ = ⊥

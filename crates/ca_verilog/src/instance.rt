@@ -2,7 +2,7 @@
 ghost use Rattle.std.specs.Prelude.{◌≡◌, [], ◌∷◌, ◌++◌, IfOk};
 ghost use Rattle.ca_verilog.specs.Instance.{has_pin, has_instance};
 
-use ca_base::NoMemory;
+use ca_base::{List, NoMemory};
 use ca_lex::Text;
 use ca_names::NameSet;
 use std::alloc::Global;
@@ -37,7 +37,7 @@ pub(crate) struct Use {
 #[derive(Drop)]
 pub(crate) struct Uses {
     names: NameSet,
-    uses: Vec<Use>,
+    uses: List<Use>,
 }
 
 impl Model for Uses {
@@ -47,9 +47,9 @@ impl Model for Uses {
 
     ghost Value = { List Use };
 
-    ghost view = { λ list. list.uses.items };
+    ghost view = { λ list. list.uses };
 
-    ghost invariant = { λ list. Knows list.names (map (λ used. used.pin) list.uses.items) };
+    ghost invariant = { λ list. Knows list.names (map (λ used. used.pin) list.uses) };
 }
 
 impl Uses {
@@ -59,15 +59,16 @@ impl Uses {
     {
         Uses {
             names: NameSet::new(alloc),
-            uses: Vec::new(alloc),
+            uses: List::new(alloc),
         }
     }
 
-    /// The pins as a slice.
-    pub(crate) fn as_slice(&self) -> &[Use]
-        ensures { result.now ≡ self.now }
+    /// The pins alone, where none is to be found among them any more.
+    pub(crate) fn into_list(self) -> List<Use>
+        ensures { result ≡ self }
     {
-        &self.uses
+        let Uses { names: _, uses } = self;
+        uses
     }
 
     pub(crate) fn has(&self, pin: &[u8]) -> bool
@@ -100,7 +101,7 @@ impl Uses {
 pub(crate) struct Instance {
     pub name: Text,
     pub cell: Text,
-    pub uses: Uses,
+    pub uses: List<Use>,
 }
 
 /// The instances, in order. One is found without a search through the others. Contracts see a list.

@@ -13,7 +13,7 @@ ghost use Rattle.ca_verilog.specs.declared.raw.RawNetlist.{RawNetlist};
 ghost use Rattle.ca_verilog.specs.declared.fault.VerilogKind.{VerilogKind};
 ghost use Rattle.ca_verilog.specs.declared.fault.VerilogFault.TheVariants.{At};
 ghost use Rattle.ca_verilog.specs.Text.{netlist_of};
-ghost use Rattle.ca_verilog.specs.Laws.{IsFirstFaulty};
+ghost use Rattle.ca_verilog.specs.Laws.{IsFirstFaulty, IsOfNames};
 
 /// A text has a fault on a line exactly where that is its first: a token that can't follow those before it,
 /// which were read, a fault that no token begins with, or an end that comes too early.
@@ -39,4 +39,11 @@ pub fn read_text_is_a_module()
 pub fn number_of_digits()
     ensures { (digits : List ℕ) → number_from 0 digits
         ≡ (if nat_lt MOST (number_of digits) then Large else Number (number_of digits)) }
+{}
+
+/// A text whose tokens are a module of the grammar has a netlist, or it has too many bits, or its first fault
+/// is one of names and ranges.
+pub fn module_is_refused_for_names_alone()
+    ensures { (text : List ℕ) (line : ℕ) (kind : VerilogKind) → HasModule text
+        → netlist_of text ≡ Err (At line kind) → IsOfNames kind }
 {}

@@ -236,7 +236,7 @@ impl Reading {
         let instance = Instance {
             name: mem::replace(&mut self.hand.name, Text::new(alloc)),
             cell: mem::replace(&mut self.hand.cell, Text::new(alloc)),
-            uses: mem::replace(&mut self.hand.uses, Uses::new(alloc)),
+            uses: mem::replace(&mut self.hand.uses, Uses::new(alloc)).into_list(),
         };
         let instances = mem::replace(&mut self.instances, Instances::new(alloc));
         self.instances = instances.with(alloc, instance)?;

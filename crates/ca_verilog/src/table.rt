@@ -2,15 +2,19 @@
 ghost use Rattle.std.specs.Prelude.{◌≡◌};
 ghost use Rattle.ca_verilog.specs.Table.{act, go, stray, start_row, module_name_row, header_row, port_row};
 ghost use Rattle.ca_verilog.specs.Table.{first_port_row, port_end_row, header_end_row, item_row, end_row};
-ghost use Rattle.ca_verilog.specs.Table.{declaration_row, range_left_row, range_colon_row, range_right_row};
-ghost use Rattle.ca_verilog.specs.Table.{range_end_row, declared_row, declared_end_row, operand_row};
-ghost use Rattle.ca_verilog.specs.Table.{operand_end_row, name_end_row, index_row, index_end_row};
-ghost use Rattle.ca_verilog.specs.Table.{instance_name_row, pins_row, next_pin_row, first_pin_row};
-ghost use Rattle.ca_verilog.specs.Table.{pin_name_row, pin_open_row, pin_value_row, pin_end_row};
-ghost use Rattle.ca_verilog.specs.Table.{instance_end_row, row_of};
+ghost use Rattle.ca_verilog.specs.Table.{row_of};
 
+use crate::declaration_rows::{
+    declaration_row, declared_end_row, declared_row, range_colon_row, range_end_row,
+    range_left_row, range_right_row,
+};
 use crate::fault::VerilogKind;
 use crate::lexeme::Lexeme;
+use crate::pin_rows::{
+    first_pin_row, index_end_row, index_row, instance_end_row, instance_name_row, name_end_row,
+    next_pin_row, operand_end_row, operand_row, pin_end_row, pin_name_row, pin_open_row,
+    pin_value_row, pins_row,
+};
 
 /// What a name is declared as.
 #[derive(Clone, Copy, Debug, PartialEq, Eq)]
@@ -165,21 +169,21 @@ pub(crate) struct Row {
 }
 
 // The token leads there, and does nothing else.
-fn go(place: Place) -> Result<Row, VerilogKind>
+pub(crate) fn go(place: Place) -> Result<Row, VerilogKind>
     ensures { result ≡ go place }
 {
     act(place, Action::Nothing)
 }
 
 // The token leads there and does this.
-fn act(place: Place, action: Action) -> Result<Row, VerilogKind>
+pub(crate) fn act(place: Place, action: Action) -> Result<Row, VerilogKind>
     ensures { result ≡ act place action }
 {
     Ok(Row { place, action })
 }
 
 // No row has the token.
-fn stray(lexeme: Lexeme) -> Result<Row, VerilogKind>
+pub(crate) fn stray(lexeme: Lexeme) -> Result<Row, VerilogKind>
     ensures { result ≡ stray lexeme }
 {
     match lexeme {
@@ -284,243 +288,6 @@ fn end_row(lexeme: Lexeme) -> Result<Row, VerilogKind>
 {
     match lexeme {
         Lexeme::Module => Err(VerilogKind::Unsupported),
-        _ => stray(lexeme),
-    }
-}
-
-// A range, or the first name.
-fn declaration_row(direction: Direction, lexeme: Lexeme) -> Result<Row, VerilogKind>
-    ensures { result ≡ declaration_row direction lexeme }
-{
-    match lexeme {
-        Lexeme::OpenBracket => go(Place::RangeLeft(direction)),
-        Lexeme::Name => act(
-            Place::DeclaredEnd(direction, None),
-            Action::Declare(direction, None),
-        ),
-        _ => stray(lexeme),
-    }
-}
-
-// The left number of a range.
-fn range_left_row(direction: Direction, lexeme: Lexeme) -> Result<Row, VerilogKind>
-    ensures { result ≡ range_left_row direction lexeme }
-{
-    match lexeme {
-        Lexeme::Number(left) => go(Place::RangeColon(direction, left)),
-        _ => stray(lexeme),
-    }
-}
-
-// The `:` of a range.
-fn range_colon_row(direction: Direction, left: u32, lexeme: Lexeme) -> Result<Row, VerilogKind>
-    ensures { result ≡ range_colon_row direction left lexeme }
-{
-    match lexeme {
-        Lexeme::Colon => go(Place::RangeRight(direction, left)),
-        _ => stray(lexeme),
-    }
-}
-
-// The right number of a range.
-fn range_right_row(direction: Direction, left: u32, lexeme: Lexeme) -> Result<Row, VerilogKind>
-    ensures { result ≡ range_right_row direction left lexeme }
-{
-    match lexeme {
-        Lexeme::Number(right) => go(Place::RangeEnd(direction, Range { left, right })),
-        _ => stray(lexeme),
-    }
-}
-
-// The `]` of a range.
-fn range_end_row(direction: Direction, range: Range, lexeme: Lexeme) -> Result<Row, VerilogKind>
-    ensures { result ≡ range_end_row direction range lexeme }
-{
-    match lexeme {
-        Lexeme::CloseBracket => go(Place::Declared(direction, Some(range))),
-        _ => stray(lexeme),
-    }
-}
-
-// A name behind a range or a `,`.
-fn declared_row(
-    direction: Direction,
-    range: Option<Range>,
-    lexeme: Lexeme,
-) -> Result<Row, VerilogKind>
-    ensures { result ≡ declared_row direction range lexeme }
-{
-    match lexeme {
-        Lexeme::Name => act(
-            Place::DeclaredEnd(direction, range),
-            Action::Declare(direction, range),
-        ),
-        _ => stray(lexeme),
-    }
-}
-
-// A further name, or the declaration's end.
-fn declared_end_row(
-    direction: Direction,
-    range: Option<Range>,
-    lexeme: Lexeme,
-) -> Result<Row, VerilogKind>
-    ensures { result ≡ declared_end_row direction range lexeme }
-{
-    match lexeme {
-        Lexeme::Comma => go(Place::Declared(direction, range)),
-        Lexeme::Semicolon => go(Place::Item),
-        _ => stray(lexeme),
-    }
-}
-
-// An operand; another constant is of the larger language.
-fn operand_row(side: Side, lexeme: Lexeme) -> Result<Row, VerilogKind>
-    ensures { result ≡ operand_row side lexeme }
-{
-    match lexeme {
-        Lexeme::Name => act(Place::NameEnd(side), Action::Refer),
-        Lexeme::Constant(value) => act(Place::OperandEnd(side), Action::TakeConstant(value)),
-        Lexeme::Number(_) => Err(VerilogKind::Unsupported),
-        Lexeme::Large => Err(VerilogKind::Unsupported),
-        _ => stray(lexeme),
-    }
-}
-
-// What follows an operand.
-fn operand_end_row(side: Side, lexeme: Lexeme) -> Result<Row, VerilogKind>
-    ensures { result ≡ operand_end_row side lexeme }
-{
-    match (side, lexeme) {
-        (Side::Left, Lexeme::Equals) => act(Place::Operand(Side::Right), Action::KeepLeft),
-        (Side::Right, Lexeme::Semicolon) => act(Place::Item, Action::Join),
-        (Side::Pin, Lexeme::Close) => act(Place::PinEnd, Action::Connect),
-        _ => stray(lexeme),
-    }
-}
-
-// A bit of the name, or what follows an operand.
-fn name_end_row(side: Side, lexeme: Lexeme) -> Result<Row, VerilogKind>
-    ensures { result ≡ name_end_row side lexeme }
-{
-    match lexeme {
-        Lexeme::OpenBracket => act(Place::Index(side), Action::OpenIndex),
-        _ => operand_end_row(side, lexeme),
-    }
-}
-
-// The number of a bit.
-fn index_row(side: Side, lexeme: Lexeme) -> Result<Row, VerilogKind>
-    ensures { result ≡ index_row side lexeme }
-{
-    match lexeme {
-        Lexeme::Number(index) => act(Place::IndexEnd(side), Action::Select(index)),
-        _ => stray(lexeme),
-    }
-}
-
-// The `]` behind it; a part select is of the larger language.
-fn index_end_row(side: Side, lexeme: Lexeme) -> Result<Row, VerilogKind>
-    ensures { result ≡ index_end_row side lexeme }
-{
-    match lexeme {
-        Lexeme::CloseBracket => go(Place::OperandEnd(side)),
-        Lexeme::Colon => Err(VerilogKind::Unsupported),
-        _ => stray(lexeme),
-    }
-}
-
-// The name of an instance.
-fn instance_name_row(lexeme: Lexeme) -> Result<Row, VerilogKind>
-    ensures { result ≡ instance_name_row lexeme }
-{
-    match lexeme {
-        Lexeme::Name => act(Place::Pins, Action::TakeInstance),
-        _ => stray(lexeme),
-    }
-}
-
-// The `(` before the pins.
-fn pins_row(lexeme: Lexeme) -> Result<Row, VerilogKind>
-    ensures { result ≡ pins_row lexeme }
-{
-    match lexeme {
-        Lexeme::Open => go(Place::FirstPin),
-        _ => stray(lexeme),
-    }
-}
-
-// A pin; one without its name is of the larger language.
-fn next_pin_row(lexeme: Lexeme) -> Result<Row, VerilogKind>
-    ensures { result ≡ next_pin_row lexeme }
-{
-    match lexeme {
-        Lexeme::Dot => go(Place::PinName),
-        Lexeme::Name => Err(VerilogKind::Unsupported),
-        Lexeme::Number(_) => Err(VerilogKind::Unsupported),
-        Lexeme::Large => Err(VerilogKind::Unsupported),
-        Lexeme::Constant(_) => Err(VerilogKind::Unsupported),
-        _ => stray(lexeme),
-    }
-}
-
-// The first pin, or the end of the pins.
-fn first_pin_row(lexeme: Lexeme) -> Result<Row, VerilogKind>
-    ensures { result ≡ first_pin_row lexeme }
-{
-    match lexeme {
-        Lexeme::Close => go(Place::InstanceEnd),
-        _ => next_pin_row(lexeme),
-    }
-}
-
-// The name of a pin.
-fn pin_name_row(lexeme: Lexeme) -> Result<Row, VerilogKind>
-    ensures { result ≡ pin_name_row lexeme }
-{
-    match lexeme {
-        Lexeme::Name => act(Place::PinOpen, Action::TakePin),
-        _ => stray(lexeme),
-    }
-}
-
-// The `(` behind it.
-fn pin_open_row(lexeme: Lexeme) -> Result<Row, VerilogKind>
-    ensures { result ≡ pin_open_row lexeme }
-{
-    match lexeme {
-        Lexeme::Open => go(Place::PinValue),
-        _ => stray(lexeme),
-    }
-}
-
-// What is on the pin, or nothing.
-fn pin_value_row(lexeme: Lexeme) -> Result<Row, VerilogKind>
-    ensures { result ≡ pin_value_row lexeme }
-{
-    match lexeme {
-        Lexeme::Close => act(Place::PinEnd, Action::LeaveOpen),
-        _ => operand_row(Side::Pin, lexeme),
-    }
-}
-
-// A further pin, or the end of the pins.
-fn pin_end_row(lexeme: Lexeme) -> Result<Row, VerilogKind>
-    ensures { result ≡ pin_end_row lexeme }
-{
-    match lexeme {
-        Lexeme::Comma => go(Place::NextPin),
-        Lexeme::Close => go(Place::InstanceEnd),
-        _ => stray(lexeme),
-    }
-}
-
-// The `;` behind the pins.
-fn instance_end_row(lexeme: Lexeme) -> Result<Row, VerilogKind>
-    ensures { result ≡ instance_end_row lexeme }
-{
-    match lexeme {
-        Lexeme::Semicolon => act(Place::Item, Action::EndInstance),
         _ => stray(lexeme),
     }
 }

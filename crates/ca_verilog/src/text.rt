@@ -67,8 +67,8 @@ fn read_text(alloc: Global, bytes: &[u8], reading: &mut Reading) -> Result<(), V
 /// The most instances of a netlist.
 pub const MOST_INSTANCES: usize = 1_073_741_823;
 
-/// The netlist that a text reads as. More than 2^30 - 1 instances are answered as though there were no memory for
-/// them.
+/// The netlist that a text reads as. More than 2^30 - 1 instances are answered as though there were no memory
+/// for them.
 pub fn read_netlist(alloc: Global, bytes: &[u8]) -> Result<RawNetlist, VerilogFault>
     ensures exact { Gives fault_told (λ netlist. netlist) result (netlist_of bytes.now) }
     ensures kept { IfOk result IsNetlist }

@@ -6,5 +6,5 @@ use Rattle.ca_verilog.proofs.instance.Uses.with.Goals as goal
 
 pub invariant_of-result : goal.invariant_of-result
 invariant_of-result c =
-    known_with (λ (used : Use). used.pin) c.self.inside.names c.add.new.self _ c.push.new.self.items _ c.self.invariant
-    (c.in_ok-add.ensures.names ∙ ap (λ name. with_name name c.self.inside.names) c.as_bytes.ensures) c.in_ok-push.ensures.items
+    known_with (λ (used : Use). used.pin) c.self.inside.names c.add.new.self _ c.push.new.self _ c.self.invariant
+    (c.in_ok-add.ensures.names ∙ ap (λ name. with_name name c.self.inside.names) c.as_bytes.ensures) c.in_ok-push.ensures.ok

@@ -1,0 +1,9 @@
+//! Tests of the readers of gate netlists, as tables.
+#![tactic(auto)]
+
+#[cfg(test)]
+mod faults;
+#[cfg(test)]
+mod readings;
+#[cfg(test)]
+mod tokens;
