@@ -14,10 +14,11 @@ use Rattle.ca_cell.specs.declared.raw.Role.{Role}
 use Rattle.ca_cell.specs.declared.raw.Role.TheVariants.{Input, Output, Power, Ground}
 use Rattle.ca_cell.specs.declared.raw.RawPin.{RawPin}
 use Rattle.ca_cell.specs.declared.raw.RawCell.{RawCell}
-use Rattle.ca_cell.specs.declared.rule.CellRule.TheVariants.{TooManyNodes}
+use Rattle.ca_cell.specs.declared.rule.CellRule.{CellRule}
+use Rattle.ca_cell.specs.declared.rule.CellRule.TheVariants.{TooManyNodes, NoOutput}
 use Rattle.ca_cell.specs.declared.rule.TheConstants.{MOST_NODES}
 use Rattle.ca_cell.specs.Raw.{is_input, is_output, role_count, inner_count, pin_node, node_at, node_of, nodes_of, device_of, circuit_of}
-use Rattle.ca_cell.specs.Rules.{IsRaw, node_count, KeepsRules}
+use Rattle.ca_cell.specs.Rules.{IsRaw, node_count, KeepsRules, KeepsAllBut}
 
 -- fewer pins with a role stand before a pin with it than there are in all
 role_count-take : (is_role : Role → Bool) (pins : List RawPin) (place : ℕ) (pin : RawPin) → slice_get pins place ≡ Some pin
@@ -58,12 +59,19 @@ node_of-within raw place is_raw within = elim (slice_get_cases raw.pins place).1
 pub length-nodes_of : (raw : RawCell) → length (nodes_of raw) ≡ node_count raw
 length-nodes_of raw = simp (length-append, length-replicate) (omega arith)
 
--- a subcircuit that keeps the rules has few nodes
-pub few_nodes : (raw : RawCell) → KeepsRules raw → node_count raw ≤ MOST_NODES
-few_nodes raw keeps = elim (dec_le (node_count raw) MOST_NODES) [
+-- a subcircuit that keeps the rules keeps all but one
+pub all_but : (but : CellRule) (raw : RawCell) → KeepsRules raw → KeepsAllBut but raw
+all_but but raw keeps = λ rule other broken. keeps rule broken
+
+-- a subcircuit that keeps the rules has few nodes; that it has an output pin isn't needed for it
+pub few_nodes_all_but : (raw : RawCell) → KeepsAllBut NoOutput raw → node_count raw ≤ MOST_NODES
+few_nodes_all_but raw keeps = elim (dec_le (node_count raw) MOST_NODES) [
   | yes few ↦ few
-  | no many ↦ absurd (keeps (TooManyNodes (node_count raw)) (refl, omega arith))
+  | no many ↦ absurd (keeps (TooManyNodes (node_count raw)) (λ same. cc) (refl, omega arith))
 ]
+
+pub few_nodes : (raw : RawCell) → KeepsRules raw → node_count raw ≤ MOST_NODES
+few_nodes raw keeps = few_nodes_all_but raw (all_but NoOutput raw keeps)
 
 -- each node has a size of the scale
 sizes_of : (raw : RawCell) → All HasSize (nodes_of raw)
@@ -75,9 +83,10 @@ sizes_of raw =
     (All-append HasSize outputs inner (All-replicate HasSize (role_count is_output raw.pins) (node.Storage OUTPUT_NET) (inr refl))
     (All-replicate HasSize (inner_count raw) (node.Storage INNER_NODE) (inl refl)))
 
-pub well_formed : (raw : RawCell) → IsRaw raw → KeepsRules raw → IsWellFormed (circuit_of raw)
-well_formed raw is_raw keeps = record {
-  few_nodes = let count = length-nodes_of raw in let few = few_nodes raw keeps in omega arith;
+-- so is its network well formed
+pub well_formed_all_but : (raw : RawCell) → IsRaw raw → KeepsAllBut NoOutput raw → IsWellFormed (circuit_of raw)
+well_formed_all_but raw is_raw keeps = record {
+  few_nodes = let count = length-nodes_of raw in let few = few_nodes_all_but raw keeps in omega arith;
   few_devices = let few = is_raw.few_devices in subst (λ n. n < 2 ^ 32) (sym (length-map raw.devices (device_of raw.pins))) few;
   named = subst (λ n. All (NamesWithin n) (map (device_of raw.pins) raw.devices)) (sym (length-nodes_of raw))
       (All-map (NamesWithin (node_count raw)) (device_of raw.pins) raw.devices (λ i d within.
@@ -86,3 +95,6 @@ well_formed raw is_raw keeps = record {
   sizes = sizes_of raw;
   strengths = All-map HasStrength (device_of raw.pins) raw.devices (λ i d within. is_raw.strengths i d within);
 }
+
+pub well_formed : (raw : RawCell) → IsRaw raw → KeepsRules raw → IsWellFormed (circuit_of raw)
+well_formed raw is_raw keeps = well_formed_all_but raw is_raw (all_but NoOutput raw keeps)

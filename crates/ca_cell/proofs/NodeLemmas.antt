@@ -14,11 +14,11 @@ use Rattle.ca_cell.specs.declared.raw.RawDevice.{RawDevice}
 use Rattle.ca_cell.specs.declared.raw.RawCell.{RawCell}
 use Rattle.ca_cell.specs.declared.rule.CellRule.TheVariants.{NoRail, TooManyDevices, TooManyInputs, NoOutput, TooManyOutputs, InputDrivesChannel}
 use Rattle.ca_cell.specs.Raw.{is_input, is_output, is_power, is_ground, role_count, pin_node, node_at, node_of, nodes_of, device_of}
-use Rattle.ca_cell.specs.Rules.{node_count, input_role, input_at, input_node, either, channel_pin, DrivesChannel, KeepsRules}
+use Rattle.ca_cell.specs.Rules.{node_count, input_role, input_at, input_node, either, channel_pin, DrivesChannel, KeepsRules, KeepsAllBut}
 use Rattle.ca_cell.specs.declared.rule.TheConstants.{MOST_DEVICES, MOST_NODES, MOST_INPUTS, MOST_OUTPUTS}
 use Rattle.ca_net.specs.declared.node.NodeKind.{NodeKind}
 use Rattle.ca_cell.specs.Nodes.{IsInputPin, IsOffInputPins, GatesOnly, free_count}
-use Rattle.ca_cell.proofs.CircuitLemmas.{few_nodes, length-nodes_of}
+use Rattle.ca_cell.proofs.CircuitLemmas.{all_but, few_nodes, length-nodes_of}
 
 -- a pin with a role, with so many of its role before it
 pub record HasPin (is_role : Role → Bool) (pins : List RawPin) (before : ℕ) : Type 0 where
@@ -152,11 +152,14 @@ few_outputs raw keeps = elim (dec_le (role_count is_output raw.pins) MOST_OUTPUT
   | no many ↦ absurd (keeps (TooManyOutputs (role_count is_output raw.pins)) (refl, omega arith))
 ]
 
-pub few_devices : (raw : RawCell) → KeepsRules raw → length raw.devices ≤ MOST_DEVICES
-few_devices raw keeps = elim (dec_le (length raw.devices) MOST_DEVICES) [
+pub few_devices_all_but : (raw : RawCell) → KeepsAllBut NoOutput raw → length raw.devices ≤ MOST_DEVICES
+few_devices_all_but raw keeps = elim (dec_le (length raw.devices) MOST_DEVICES) [
   | yes few ↦ few
-  | no many ↦ absurd (keeps (TooManyDevices (length raw.devices)) (refl, omega arith))
+  | no many ↦ absurd (keeps (TooManyDevices (length raw.devices)) (λ same. cc) (refl, omega arith))
 ]
+
+pub few_devices : (raw : RawCell) → KeepsRules raw → length raw.devices ≤ MOST_DEVICES
+few_devices raw keeps = few_devices_all_but raw (all_but NoOutput raw keeps)
 
 -- power, ground and an output pin are no input pins, and no more nodes than there are
 pub some_free : (raw : RawCell) → KeepsRules raw → 3 ≤ free_count raw
@@ -262,17 +265,20 @@ breaks_at raw device first = by (slice_get raw.devices device) refl
         (subst (λ (found : Option RawDevice). IsSomeAnd found (λ d. IsSome (channel_pin raw.pins d))) is first.here)
 
 -- no device of a cell has its drain or its source on an input pin
-none_on : (raw : RawCell) → KeepsRules raw → All (λ d. ¬ (IsSome (channel_pin raw.pins d))) raw.devices
+none_on : (raw : RawCell) → KeepsAllBut NoOutput raw → All (λ d. ¬ (IsSome (channel_pin raw.pins d))) raw.devices
 none_on raw keeps = elim (none_or_first (λ (d : RawDevice). is_some (channel_pin raw.pins d)) raw.devices) [
   | inl none ↦ none
   | inr found ↦
       let broken = breaks_at raw found.0 found.1 in
-      absurd (keeps (InputDrivesChannel (record { 0 = broken.0 }) (record { 0 = found.0 })) broken.1)
+      absurd (keeps (InputDrivesChannel (record { 0 = broken.0 }) (record { 0 = found.0 })) (λ same. cc) broken.1)
 ]
 
-pub gates_only : (raw : RawCell) → KeepsRules raw → GatesOnly raw
-gates_only raw keeps = All-map (IsOffInputPins raw) (device_of raw.pins) raw.devices (λ i d within.
+pub gates_only_all_but : (raw : RawCell) → KeepsAllBut NoOutput raw → GatesOnly raw
+gates_only_all_but raw keeps = All-map (IsOffInputPins raw) (device_of raw.pins) raw.devices (λ i d within.
     let none = none_on raw keeps i d within in (
       λ on. none (drain_on _ _ (on_input raw _ on)),
       λ on. none (source_on _ _ (on_input raw _ on)),
     ))
+
+pub gates_only : (raw : RawCell) → KeepsRules raw → GatesOnly raw
+gates_only raw keeps = gates_only_all_but raw (all_but NoOutput raw keeps)

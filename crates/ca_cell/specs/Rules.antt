@@ -91,6 +91,10 @@ pub record IsFirstBroken (raw : RawCell) (rule : CellRule) : Type 0 where
 abbrev pub KeepsRules : RawCell → Type 0
 KeepsRules raw = (rule : CellRule) → Breaks raw rule → ⊥
 
+-- the subcircuit breaks no rule but this, if any
+abbrev pub KeepsAllBut : CellRule → RawCell → Type 0
+KeepsAllBut but raw = (rule : CellRule) → (rule ≡ but → ⊥) → Breaks raw rule → ⊥
+
 -- a broken rule is told as the first that is broken; want of memory may come with any subcircuit that breaks none
 abbrev pub IsCause : RawCell → CellFault → Type 0
 IsCause raw (Rule rule) = IsFirstBroken raw rule
