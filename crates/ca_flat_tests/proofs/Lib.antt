@@ -1,0 +1,3 @@
+pub mod Inverters
+pub mod BareCells
+pub mod TiedReadings

@@ -1,0 +1,3 @@
+pub mod Inverter
+pub mod Bare
+pub mod Tied

@@ -1,0 +1,8 @@
+//! Examples and tests of the definitions of chips, pairs and codes.
+#![tactic(auto)]
+
+mod laws;
+
+pub use laws::{
+    bare_cells_are_cells, inverter_is_chip, inverter_is_flat, tied_reads, tied_support,
+};
