@@ -1,3 +1,4 @@
 pub mod Inverters
 pub mod BareCells
 pub mod TiedReadings
+pub mod WaveLemmas

@@ -2,6 +2,8 @@
 #![tactic(auto)]
 
 mod laws;
+#[cfg(test)]
+mod tests;
 
 pub use laws::{
     bare_cells_are_cells, inverter_is_chip, inverter_is_flat, tied_reads, tied_support,
