@@ -2,3 +2,4 @@ pub mod Inverters
 pub mod BareCells
 pub mod TiedReadings
 pub mod WaveLemmas
+pub mod Blinds

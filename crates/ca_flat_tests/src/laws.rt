@@ -2,6 +2,7 @@
 
 ghost use Rattle.ca_flat_tests.specs.Inverter.{InverterIsChip, InverterIsFlat};
 ghost use Rattle.ca_flat_tests.specs.Bare.{BareCellsAreCells};
+ghost use Rattle.ca_flat_tests.specs.Blind.{BlindIsRuledOut};
 ghost use Rattle.ca_flat_tests.specs.Tied.{TiedSupport, TiedReads};
 
 /// A chip of one inverter is a chip.
@@ -27,4 +28,9 @@ pub fn tied_support()
 /// A whole code of the tied netlist, read token by token, and codes that are none.
 pub fn tied_reads()
     ensures { TiedReads }
+{}
+
+/// Where nothing is observed, a leaf is a whole code.
+pub fn blind_is_ruled_out()
+    ensures { BlindIsRuledOut }
 {}
