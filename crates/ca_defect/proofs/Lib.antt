@@ -9,3 +9,4 @@ pub mod FindLemmas
 pub mod PlainLemmas
 pub mod DifferLemmas
 pub mod DistinctLemmas
+pub mod NumberLemmas

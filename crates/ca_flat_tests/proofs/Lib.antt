@@ -1,0 +1,5 @@
+pub mod Inverters
+pub mod BareCells
+pub mod TiedReadings
+pub mod WaveLemmas
+pub mod Blinds

@@ -1,0 +1,5 @@
+use Rattle.ca_flat_tests.proofs.Inverters.{inverter_is_flat_lem}
+use Rattle.ca_flat_tests.proofs.laws.inverter_is_flat.Goals as goal
+
+pub returns : goal.returns
+returns c = inverter_is_flat_lem

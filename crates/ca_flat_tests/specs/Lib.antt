@@ -1,0 +1,4 @@
+pub mod Inverter
+pub mod Bare
+pub mod Tied
+pub mod Blind

@@ -1,0 +1,10 @@
+//! Examples and tests of the definitions of chips, pairs and codes.
+#![tactic(auto)]
+
+mod laws;
+#[cfg(test)]
+mod tests;
+
+pub use laws::{
+    bare_cells_are_cells, blind_is_ruled_out, inverter_is_chip, inverter_is_flat, tied_reads, tied_support,
+};
