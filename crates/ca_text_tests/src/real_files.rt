@@ -45,14 +45,36 @@ fn faults_of_real_files_count(rt: HostRuntime) {
 #[test]
 fn real_files_are_written_and_read_back(rt: HostRuntime) -> Result<(), Fail> {
     let alloc = rt.alloc();
-    let mut store = FileStore::new(rt);
     for bytes in ["hello", "", "hi"] {
+        let mut store = FileStore::new(rt);
         let done = write_file(&mut store, "written by a test", bytes.as_bytes());
         assert_eq!(rt; done, Ok(()), "{bytes}");
         let got = read_file(alloc, &mut store, "written by a test", 9);
         assert!(rt; is_as_wanted(got, Ok(bytes)), "{bytes}");
+        assert_eq!(rt; store.faults(), 0, "{bytes}");
     }
     fs::remove_file(&rt, "written by a test")?;
-    assert_eq!(rt; store.faults(), 0);
+    Ok(())
+}
+
+// Neither under its own name nor by another path or link: it stands as it was. A store that hasn't read it may.
+#[test]
+fn a_file_that_was_read_is_not_created(rt: HostRuntime) -> Result<(), Fail> {
+    let alloc = rt.alloc();
+    let mut first = FileStore::new(rt);
+    assert_eq!(rt; write_file(&mut first, "read by a test", b"kept"), Ok(()));
+    fs::hard_link(&rt, "read by a test", "link of a test")?;
+    let names = ["read by a test", "./read by a test", "link of a test"];
+    for name in names {
+        let mut store = FileStore::new(rt);
+        let got = read_file(alloc, &mut store, "read by a test", 9);
+        assert!(rt; is_as_wanted(got, Ok("kept")), "{name}");
+        let done = write_file(&mut store, name, b"lost");
+        assert_eq!(rt; done, Err(Failed), "{name}");
+        assert_eq!(rt; store.faults(), 1, "{name}");
+    }
+    assert_eq!(rt; write_file(&mut first, "link of a test", b"new"), Ok(()));
+    fs::remove_file(&rt, "link of a test")?;
+    fs::remove_file(&rt, "read by a test")?;
     Ok(())
 }
