@@ -22,8 +22,10 @@ abbrev pub Tells : Option Fault → Errors → Errors → Type 0
 Tells None old new = new ≡ old
 Tells (Some fault) old new = TellsLine fault old new
 
--- The command of these words ended, the answer is the exit status of its end, and the error output tells its fault.
-pub record Answers (words : List (List ℕ)) (before after : Outside) (old new : Errors) (status : ℕ) : Type 0 where
+-- The command of these words ended, the answer is the exit status of its end, and the error output tells its
+-- fault.
+pub record Answers (words : List (List ℕ)) (before after : Outside) (old new : Errors) (status : ℕ)
+    : Type 0 where
   pub end : Finished
   pub ends : Ends words before after end
   pub status_is : status ≡ end.status

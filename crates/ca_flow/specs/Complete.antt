@@ -23,7 +23,8 @@ pub record FitsCell (words : List (List ℕ)) (raw : RawCell) : Type 0 where
   pub respond : IsRespond words → Fits raw (vector_word words)
   pub pair : IsPair words → FitsPair words raw
 
--- the file that the words name is there, is no longer than it may be and has a reading, in which they name a subcircuit that they fit
+-- the file that the words name is there, is no longer than it may be and has a reading, in which they name a
+-- subcircuit that they fit
 abbrev pub FitsFile : List (List ℕ) → Files → Type 0
 FitsFile words told = IsFileWith told (cells_word words) (HasCell (cell_word words) (FitsCell words))
 

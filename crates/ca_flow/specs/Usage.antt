@@ -5,26 +5,26 @@ use Rattle.std.specs.Prelude.{ℕ, List, ◌++◌, codes}
 abbrev pub command_lines : List ℕ
 command_lines =
     codes "  cellaware respond CELLS CELL VECTOR          the value of each output pin of CELL under VECTOR\n"
-    ++ (codes "  cellaware pair CELLS CELL FIRST LAST DEFECT  the same after FIRST and then LAST, with DEFECT or none (-)\n"
+    ++ (codes "  cellaware pair CELLS CELL FIRST LAST DEFECT  the same after FIRST and LAST, with DEFECT or -\n"
     ++ (codes "  cellaware defects CELLS CELL                 the names of the defects of CELL\n"
-    ++ (codes "  cellaware matrix CELLS CELL OUT              write the defect matrix of CELL to OUT, as CSV\n"
+    ++ (codes "  cellaware matrix CELLS CELL OUT              the defect matrix of CELL to OUT, as CSV\n"
     ++ (codes "  cellaware --help                             this text\n"
     ++ codes "  cellaware --version                          the version\n"))))
 
 -- what the exit statuses mean
 abbrev pub status_lines : List ℕ
 status_lines =
-    codes "Exit status: 0 done, 1 bad command line, 2 wrong contents, 3 a limit, 4 a file or the output failed,\n"
-    ++ codes "5 out of memory. One line on the standard error says why.\n"
+    codes "Exit status: 0 done, 1 bad command line, 2 wrong contents, 3 a limit, 4 a file or the output\n"
+    ++ codes "failed, 5 out of memory. One line on the standard error says why.\n"
 
 -- how the program is used
 abbrev pub usage_text : List ℕ
 usage_text =
     codes "usage: cellaware COMMAND WORDS\n\n"
     ++ (command_lines
-    ++ (codes "\nCELLS is a transistor netlist in SPICE or CDL; a vector has a letter 0, 1 or X per input pin.\n"
+    ++ (codes "\nCELLS is a netlist of transistors, in SPICE or CDL; a vector has 0, 1 or X per input pin.\n"
     ++ (status_lines
-    ++ codes "Documents: README.md, docs/TUTORIAL.md, docs/FAULTS.md and docs/cellaware.1 of the sources.\n")))
+    ++ codes "Documents in the sources: README.md, docs/TUTORIAL.md, docs/FAULTS.md, docs/cellaware.1.\n")))
 
 -- which version the program is
 abbrev pub version_text : List ℕ

@@ -10,8 +10,8 @@ use crate::top::run;
 use ca_store::{Sink, Store};
 use std::alloc::Global;
 
-/// Does one command, whose words come without the program's name, and prints the line of its fault on `err`, if there is one. The
-/// answer is the exit status.
+/// Does one command, whose words come without the program's name, and prints the line of its fault on `err`, if
+/// there is one. The answer is the exit status.
 pub fn answer<S: Store, W: Sink, E: Sink>(
     alloc: Global,
     words: &[String],
@@ -56,7 +56,8 @@ fn tell_end<E: Sink>(fault: &Option<Fault>, err: &mut E)
     let _status = tell(fault, err);
 }
 
-/// Prints the line of a fault, and answers its exit status. Where the output fails the status alone tells the fault.
+/// Prints the line of a fault, and answers its exit status. Where the output fails the status alone tells the
+/// fault.
 pub fn tell<E: Sink>(fault: &Fault, err: &mut E) -> u8
     ensures status { result ≡ status_of fault.now }
     ensures tells { TellsLine fault.now

@@ -25,8 +25,8 @@ use std::alloc::Global;
 /// The greatest number of bytes of a cell netlist: 16 MiB.
 pub(crate) const MAX_CELLS: usize = 16_777_216;
 
-/// What a fault says of the file and the cell of a command. It stands in memory of its own before the file is opened, so that no
-/// fault of the file or of the cell's name is told as want of memory.
+/// What a fault says of the file and the cell of a command. It stands in memory of its own before the file is
+/// opened, so that no fault of the file or of the cell's name is told as want of memory.
 #[derive(Drop)]
 pub(crate) struct TypedWords {
     pub cells: Text,
@@ -111,8 +111,8 @@ fn library_in(alloc: Global, bytes: &[u8]) -> Result<Library, Fault>
     }
 }
 
-/// The cell of a name, which may be in any case. It takes no memory: the word stands in memory of its own, as it was typed and in
-/// upper case.
+/// The cell of a name, which may be in any case. It takes no memory: the word stands in memory of its own, as it
+/// was typed and in upper case.
 pub(crate) fn find_cell<'a>(
     library: &'a Library,
     word: &str,

@@ -19,8 +19,8 @@ pub fn some_cause_or_answer()
     ensures { SomeCauseOrAnswer }
 {}
 
-/// Where a fault of the words or of the contents has a cause, the command doesn't end well, and tells no other
-/// such fault.
+/// Where a fault of the words or of the contents has a cause, the command doesn't end well, and tells no
+/// other such fault.
 pub fn cause_is_told()
     ensures { CauseIsTold }
 {}

@@ -16,16 +16,16 @@ pub(crate) fn usage(alloc: Global) -> Result<Text, NoMemory>
 usage: cellaware COMMAND WORDS
 
   cellaware respond CELLS CELL VECTOR          the value of each output pin of CELL under VECTOR
-  cellaware pair CELLS CELL FIRST LAST DEFECT  the same after FIRST and then LAST, with DEFECT or none (-)
+  cellaware pair CELLS CELL FIRST LAST DEFECT  the same after FIRST and LAST, with DEFECT or -
   cellaware defects CELLS CELL                 the names of the defects of CELL
-  cellaware matrix CELLS CELL OUT              write the defect matrix of CELL to OUT, as CSV
+  cellaware matrix CELLS CELL OUT              the defect matrix of CELL to OUT, as CSV
   cellaware --help                             this text
   cellaware --version                          the version
 
-CELLS is a transistor netlist in SPICE or CDL; a vector has a letter 0, 1 or X per input pin.
-Exit status: 0 done, 1 bad command line, 2 wrong contents, 3 a limit, 4 a file or the output failed,
-5 out of memory. One line on the standard error says why.
-Documents: README.md, docs/TUTORIAL.md, docs/FAULTS.md and docs/cellaware.1 of the sources.
+CELLS is a netlist of transistors, in SPICE or CDL; a vector has 0, 1 or X per input pin.
+Exit status: 0 done, 1 bad command line, 2 wrong contents, 3 a limit, 4 a file or the output
+failed, 5 out of memory. One line on the standard error says why.
+Documents in the sources: README.md, docs/TUTORIAL.md, docs/FAULTS.md, docs/cellaware.1.
 ",
     )
 }

@@ -31,7 +31,8 @@ fn answer_to(alloc: Global, line: &str, room: usize) -> Result<Answered, NoMemor
     })
 }
 
-// A command line, the room of the error output, the status, what is printed, and what stands in the error output.
+// A command line, the room of the error output, the status, what is printed, and what stands in the error
+// output.
 type Row = (&'static str, usize, u8, &'static str, &'static str);
 
 static ROWS: [Row; 7] = [
