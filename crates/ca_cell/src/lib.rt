@@ -7,8 +7,6 @@ mod check;
 mod library;
 mod raw;
 mod rule;
-#[cfg(test)]
-mod tests;
 
 pub use cell::Cell;
 pub use library::{Entry, Library, LibraryFault, MOST_CELLS};
