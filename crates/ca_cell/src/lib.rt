@@ -8,8 +8,6 @@ mod laws;
 mod library;
 mod raw;
 mod rule;
-#[cfg(test)]
-mod tests;
 
 pub use cell::Cell;
 pub use laws::limits;

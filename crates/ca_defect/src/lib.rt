@@ -10,8 +10,6 @@ mod names;
 mod overlay;
 mod row;
 mod search;
-#[cfg(test)]
-mod tests;
 
 pub use defect::{Defect, changed_device};
 pub use laws::{defect_names_differ, lists_defects};

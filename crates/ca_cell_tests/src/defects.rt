@@ -1,0 +1,142 @@
+//! A two-input NAND's defects by name, names that are typed, and its network with one defect of each kind.
+
+use crate::examples::{LOWER_NAND2, Part, cell_of, try_network};
+use ca_defect::{Defect, Overlay, Row, Rows, defects, name, parse};
+use ca_net::DeviceKind::{D, N, P};
+use ca_net::{BRIDGE, DeviceId, INNER_NODE, NodeId, NodeKind, OUTPUT_NET, STRONG};
+
+static NAMES: [&[u8]; 19] = [
+    b"MP1(D)", b"MP1(S)", b"MP1(G)", b"MP2(D)", b"MP2(S)", b"MP2(G)", b"MN1(D)", b"MN1(S)",
+    b"MN1(G)", b"MN2(D)", b"MN2(S)", b"MN2(G)", b"A1(P)", b"A2(P)", b"VDD=ZN", b"VDD=N1",
+    b"VSS=ZN", b"VSS=N1", b"ZN=N1",
+];
+
+static TYPED: [(&[u8], Option<Defect>); 12] = [
+    (b"mp1(d)", Some(Defect::OpenDrain(DeviceId(0)))),
+    (b"Mn2(s)", Some(Defect::OpenSource(DeviceId(3)))),
+    (b"a2(p)", Some(Defect::OpenPin(NodeId(3)))),
+    (b"zn=N1", Some(Defect::Short(NodeId(4), NodeId(5)))),
+    (b"A9(P)", None),
+    (b"VDD=VSS", None),
+    (b"ZN=VDD", None),
+    (b"A1=ZN", None),
+    (b"ZN(P)", None),
+    (b"MP1(D) ", None),
+    (b"MP1", None),
+    (b"", None),
+];
+
+// The inner net is kept in lower case, and its name is in upper case all the same.
+#[test]
+fn defects_of_a_nand_by_name_in_order(rt: HostRuntime) {
+    let cell = cell_of(&rt, rt.alloc(), &LOWER_NAND2);
+    let list = defects(rt.alloc(), &cell).expect(&rt, "memory");
+    assert_eq!(rt; list.len(), NAMES.len());
+    assert!(rt; !list.is_empty());
+    for i in 0..list.len() {
+        assert!(rt; i < NAMES.len());
+        let text = name(rt.alloc(), &cell, list.get(i)).expect(&rt, "memory");
+        assert!(rt; text.is(NAMES[i]), "{i}");
+        assert_eq!(rt; parse(&cell, NAMES[i]), Some(list.get(i)), "{i}");
+    }
+}
+
+#[test]
+fn typed_names_are_found_in_any_case(rt: HostRuntime) {
+    let cell = cell_of(&rt, rt.alloc(), &LOWER_NAND2);
+    for (text, expected) in &TYPED {
+        assert_eq!(rt; parse(&cell, text), *expected, "{text:?}");
+    }
+}
+
+// The nodes of the NAND, and a new one for an open.
+static NODES: [NodeKind; 7] = [
+    NodeKind::Input,
+    NodeKind::Input,
+    NodeKind::Input,
+    NodeKind::Input,
+    NodeKind::Storage(OUTPUT_NET),
+    NodeKind::Storage(INNER_NODE),
+    NodeKind::Storage(INNER_NODE),
+];
+
+// One defect of each kind with its place in the list, and the devices of the NAND that have it.
+static CHANGED: [(usize, Defect, &[Part]); 5] = [
+    (
+        0,
+        Defect::OpenDrain(DeviceId(0)),
+        &[
+            (P, STRONG, 2, 6, 0),
+            (P, STRONG, 3, 4, 0),
+            (N, STRONG, 2, 4, 5),
+            (N, STRONG, 3, 5, 1),
+        ],
+    ),
+    (
+        7,
+        Defect::OpenSource(DeviceId(2)),
+        &[
+            (P, STRONG, 2, 4, 0),
+            (P, STRONG, 3, 4, 0),
+            (N, STRONG, 2, 4, 6),
+            (N, STRONG, 3, 5, 1),
+        ],
+    ),
+    (
+        11,
+        Defect::OpenGate(DeviceId(3)),
+        &[
+            (P, STRONG, 2, 4, 0),
+            (P, STRONG, 3, 4, 0),
+            (N, STRONG, 2, 4, 5),
+            (N, STRONG, 6, 5, 1),
+        ],
+    ),
+    (
+        12,
+        Defect::OpenPin(NodeId(2)),
+        &[
+            (P, STRONG, 6, 4, 0),
+            (P, STRONG, 3, 4, 0),
+            (N, STRONG, 6, 4, 5),
+            (N, STRONG, 3, 5, 1),
+        ],
+    ),
+    (
+        15,
+        Defect::Short(NodeId(0), NodeId(5)),
+        &[
+            (P, STRONG, 2, 4, 0),
+            (P, STRONG, 3, 4, 0),
+            (N, STRONG, 2, 4, 5),
+            (N, STRONG, 3, 5, 1),
+            (D, BRIDGE, 0, 0, 5),
+        ],
+    ),
+];
+
+#[test]
+fn networks_with_one_defect_of_each_kind(rt: HostRuntime) {
+    let cell = cell_of(&rt, rt.alloc(), &LOWER_NAND2);
+    let list = defects(rt.alloc(), &cell).expect(&rt, "memory");
+    for (place, defect, parts) in &CHANGED {
+        assert!(rt; *place < list.len());
+        assert_eq!(rt; list.get(*place), *defect);
+        let overlay = Overlay::new(&cell, list.get(*place));
+        assert_eq!(rt; overlay.defect(), *defect);
+        assert_eq!(rt; overlay.cell().inputs(), 2);
+        let nodes = if defect.new_node().is_some() { 7 } else { 6 };
+        try_network(&rt, &overlay, &NODES[..nodes], parts);
+    }
+}
+
+#[test]
+fn rows_are_kept_in_order(rt: HostRuntime) {
+    let mut rows = Rows::new(rt.alloc());
+    assert!(rt; rows.is_empty());
+    rows.push(Row { first: 1, last: 3 }).expect(&rt, "memory");
+    rows.push(Row { first: 2, last: 0 }).expect(&rt, "memory");
+    assert_eq!(rt; rows.len(), 2);
+    assert_eq!(rt; rows.get(1), Row { first: 2, last: 0 });
+    assert_eq!(rt; rows.as_slice().len(), 2);
+}
