@@ -1,5 +1,5 @@
 -- A net that is driven by a cell without devices is unknown.
-use Rattle.std.proofs.Common.{◌≡◌, ℕ, ◌+◌, ◌<◌, List, [], length, Option, inl, inr, refl, sym, ◌∙◌, ap, subst, arith}
+use Rattle.std.proofs.Common.{◌≡◌, ℕ, ◌+◌, ◌<◌, List, [], length, inl, inr, refl, sym, ◌∙◌, ap, subst, arith}
 use Rattle.std.specs.List.{Contains}
 use Rattle.ca_net.specs.declared.scale.TheConstants.{OUTPUT_NET}
 use Rattle.ca_net.specs.declared.node.NodeKind.{NodeKind}
@@ -15,8 +15,6 @@ use Rattle.ca_net.specs.Response.{Reaches, ResponseAt, IsResponse}
 use Rattle.ca_net.specs.Limits.{IsFixed, AreLimits}
 use Rattle.ca_net.proofs.StateLemmas.{storage_within}
 use Rattle.ca_net.proofs.EndsAbove.{base, base_state, base_inputs, base_storage}
-use Rattle.ca_parts.proofs.Climb.{IsLeastAbove}
-use Rattle.ca_flat.specs.declared.chip_defect.ChipDefect.{ChipDefect}
 use Rattle.ca_flat.specs.Chip.{inputs_at, output_net}
 use Rattle.ca_flat.specs.Flat.{circuit_in}
 use Rattle.ca_flat.specs.Waves.{wave_of, unknown_wave, UndrivenIsUnknown}

@@ -1,9 +1,8 @@
 -- A cell without devices gives no value at an output pin, and so its net has no plain value.
-use Rattle.std.proofs.Common.{◌≡◌, ℕ, ◌+◌, ◌<◌, List, [], sym, ◌∙◌, arith}
+use Rattle.std.proofs.Common.{◌≡◌, ℕ, ◌+◌, List, [], sym, ◌∙◌, arith}
 use Rattle.ca_net.specs.declared.scale.TheConstants.{OUTPUT_NET}
 use Rattle.ca_net.specs.declared.node.NodeKind.TheVariants.{Storage}
 use Rattle.ca_net.specs.declared.trit.Trit.{Trit}
-use Rattle.ca_net.specs.declared.trit.Trit.TheVariants.{X}
 use Rattle.ca_net.specs.Circuit.{Circuit, IsWellFormed, IsStorage, kind_at}
 use Rattle.ca_net.specs.State.{value_at}
 use Rattle.ca_net.specs.PairRun.{EndsAt}
