@@ -6,5 +6,6 @@ mod laws;
 mod tests;
 
 pub use laws::{
-    bare_cells_are_cells, blind_is_ruled_out, inverter_is_chip, inverter_is_flat, tied_reads, tied_support,
+    bare_cells_are_cells, blind_is_ruled_out, inverter_is_chip, inverter_is_flat, tied_reads,
+    tied_support,
 };
