@@ -3,3 +3,5 @@ pub mod BareCells
 pub mod TiedReadings
 pub mod WaveLemmas
 pub mod Blinds
+pub mod HandFlats
+pub mod KeeperFlats

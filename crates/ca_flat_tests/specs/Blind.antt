@@ -1,4 +1,5 @@
--- A chip of one inverter of which nothing is observed: its defects can't be detected, and a leaf is a whole code.
+-- A chip of one inverter of which nothing is observed: its defects can't be detected, and a leaf is a whole
+-- code.
 use Rattle.std.specs.Prelude.{ℕ, List, [], ◌∷◌}
 use Rattle.ca_net.specs.declared.trit.Trit.{Trit}
 use Rattle.ca_flat.specs.declared.token.Token.{Token}

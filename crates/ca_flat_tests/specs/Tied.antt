@@ -1,5 +1,5 @@
--- Codes of a netlist whose one NAND2 has both pins on the port a: bit 0 is a in the first vector, bit 1 is a in
--- the last one.
+-- Codes of a netlist whose one NAND2 has both pins on the port a: bit 0 is a in the first vector, bit 1 is a
+-- in the last one.
 use Rattle.std.specs.Prelude.{ℕ, ◌≡◌, ◌≢◌, true, false, List, [], ◌∷◌, ◌++◌}
 use Rattle.ca_net.specs.declared.scale.TheConstants.{OUTPUT_NET, STRONG}
 use Rattle.ca_net.specs.declared.trit.Trit.{Trit}

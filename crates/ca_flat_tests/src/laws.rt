@@ -2,6 +2,8 @@
 
 ghost use Rattle.ca_flat_tests.specs.Inverter.{InverterIsChip, InverterIsFlat};
 ghost use Rattle.ca_flat_tests.specs.Bare.{BareCellsAreCells};
+ghost use Rattle.ca_flat_tests.specs.ByHand.{AreByHand};
+ghost use Rattle.ca_flat_tests.specs.Keeper.{KeeperIsByHand};
 ghost use Rattle.ca_flat_tests.specs.Blind.{BlindIsRuledOut};
 ghost use Rattle.ca_flat_tests.specs.Tied.{TiedSupport, TiedReads};
 
@@ -33,4 +35,14 @@ pub fn tied_reads()
 /// Where nothing is observed, a leaf is a whole code.
 pub fn blind_is_ruled_out()
     ensures { BlindIsRuledOut }
+{}
+
+/// Flat networks, good and with defects, are those that were worked out by hand.
+pub fn are_by_hand()
+    ensures { AreByHand }
+{}
+
+/// The flat network that the tests build by hand is that of a chip.
+pub fn keeper_is_by_hand()
+    ensures { KeeperIsByHand }
 {}

@@ -6,6 +6,6 @@ mod laws;
 mod tests;
 
 pub use laws::{
-    bare_cells_are_cells, blind_is_ruled_out, inverter_is_chip, inverter_is_flat, tied_reads,
-    tied_support,
+    are_by_hand, bare_cells_are_cells, blind_is_ruled_out, inverter_is_chip, inverter_is_flat,
+    keeper_is_by_hand, tied_reads, tied_support,
 };

@@ -1,5 +1,5 @@
-//! A defect that a chip shows though the pair at its instance doesn't expose it: a cell downstream keeps a value of
-//! the first vector. Only the row of the first vector alone exposes the defect.
+//! A defect that a chip shows though the pair at its instance doesn't expose it: a cell downstream keeps a
+//! value of the first vector. Only the row of the first vector alone exposes the defect.
 
 ghost use Rattle.std.specs.Prelude.{◌≡◌, ◌+◌, ◌<◌, ◌≤◌, ◌^◌, length, OnOk, IfOk};
 ghost use Rattle.std.specs.List.{All};
@@ -161,8 +161,9 @@ fn cell(alloc: Global, faulty: bool) -> Result<FlatNet, NetFault>
     FlatNet::new(nodes, devices)
 }
 
-// The chip, flattened by hand: the observed net 7 z is behind e and y, and the inner nodes are 8 m, 9 p and 10 n. The
-// second cell has a transistor from power to z with its gate on y, and one from ground to z with its gate on e.
+// The chip, flattened by hand: the observed net 7 z is behind e and y, and the inner nodes are 8 m, 9 p and
+// 10 n. The second cell has a transistor from power to z with its gate on y, and one from ground to z with
+// its gate on e.
 fn chip(alloc: Global, faulty: bool) -> Result<FlatNet, NetFault>
     ensures count { IfOk result (λ net. length net.nodes ≡ 11) }
     ensures inputs { IfOk result (λ net. input_count net.nodes ≡ 5) }
