@@ -1,0 +1,11 @@
+pub mod Order
+pub mod Walk
+pub mod Linked
+pub mod Drivers
+pub mod Feeding
+pub mod Paths
+pub mod Reading
+pub mod Kept
+pub mod Wired
+pub mod Core
+pub mod Laws

@@ -1,0 +1,24 @@
+//! Chips whose nets are numbered: one driver for each net, the scan path, and an order of the library instances in which
+//! each comes after those that drive its inputs.
+#![tactic(auto)]
+
+mod chip;
+mod draft;
+mod drivers;
+mod feeding;
+mod instances;
+mod laws;
+mod marks;
+mod order;
+mod parts;
+mod paths;
+mod readers;
+mod wiring;
+
+pub use chip::Chip;
+pub use draft::Draft;
+pub use drivers::Sources;
+pub use instances::{InstanceId, InstanceList};
+pub use laws::{core_is_flat, order_has_no_loop};
+pub use parts::{Body, NetId, NetList, Part, PortBit, ScanNets, Source};
+pub use wiring::{WireFault, wire};
