@@ -5,6 +5,7 @@ pub mod Drivers
 pub mod Feeding
 pub mod Paths
 pub mod Reading
+pub mod Ends
 pub mod Kept
 pub mod Wired
 pub mod Core

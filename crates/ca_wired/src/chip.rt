@@ -5,7 +5,6 @@ ghost use Rattle.ca_wired.specs.Linked.{net_count, is_scan_path, IsWired, IsLibr
 ghost use Rattle.ca_wired.specs.Reading.{AreReadersOf};
 
 use crate::drivers::Drivers;
-
 use crate::instances::{InstanceId, InstanceList};
 use crate::marks::NetMarks;
 use crate::parts::{NetId, Part, PortBit, Source};

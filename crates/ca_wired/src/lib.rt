@@ -5,6 +5,7 @@
 mod chip;
 mod draft;
 mod drivers;
+mod ends;
 mod feeding;
 mod instances;
 mod laws;

@@ -1,6 +1,6 @@
 //! The instances, port bits and drivers of a linked chip.
 
-ghost use Rattle.std.specs.Prelude.{◌≡◌, ◌<◌, ◌↔◌, ◌++◌, [], ◌∷◌, length, IsTrue, Some, slice_get, OnOk, OnErr};
+ghost use Rattle.std.specs.Prelude.{◌≡◌, ◌<◌, ◌↔◌, ◌++◌, [], ◌∷◌, if◌then◌else◌, length, IsTrue, Some, slice_get, OnOk, OnErr};
 ghost use Rattle.ca_wired.specs.Linked.{Scan, input_nets, output_nets, IsGate};
 
 use ca_base::NoMemory;
@@ -64,6 +64,13 @@ impl NetList {
         ensures err { OnErr result (self.new ≡ self.old) }
     {
         Ok(self.numbers.push(net)?)
+    }
+
+    /// Appends a net, if it passed a test.
+    pub fn push_if(&mut self, passed: bool, net: u32) -> Result<(), NoMemory>
+        ensures { OnOk result (self.new ≡ self.old ++ (if passed then net ∷ [] else [])) }
+    {
+        if passed { self.push(net) } else { Ok(()) }
     }
 }
 
