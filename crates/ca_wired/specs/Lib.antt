@@ -4,6 +4,7 @@ pub mod Linked
 pub mod Drivers
 pub mod Feeding
 pub mod Paths
+pub mod Controls
 pub mod Reading
 pub mod Ends
 pub mod Kept

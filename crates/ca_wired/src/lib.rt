@@ -3,6 +3,7 @@
 #![tactic(auto)]
 
 mod chip;
+mod controls;
 mod draft;
 mod drivers;
 mod ends;
@@ -17,6 +18,7 @@ mod readers;
 mod wiring;
 
 pub use chip::Chip;
+pub use controls::Misused;
 pub use draft::Draft;
 pub use drivers::Sources;
 pub use instances::{InstanceId, InstanceList};

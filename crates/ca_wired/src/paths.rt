@@ -68,8 +68,8 @@ fn data_of(alloc: Global, draft: &Draft) -> Result<NetMarks, NoMemory>
     Ok(marks)
 }
 
-// The nets of the port bits of one direction.
-fn ports_of(alloc: Global, draft: &Draft, is_input: bool) -> Result<NetMarks, NoMemory>
+/// The nets of the port bits of one direction.
+pub(crate) fn ports_of(alloc: Global, draft: &Draft, is_input: bool) -> Result<NetMarks, NoMemory>
     requires { IsDrafted draft.now }
     ensures { IfOk result (AreMarks (net_count draft.now) (is_on_port draft.now is_input)) }
 {
