@@ -12,7 +12,7 @@ use Rattle.ca_wired.specs.Feeding.{IsDrivenBy, AreSingle, IsOrderCause}
 use Rattle.ca_wired.specs.Paths.{is_on_data, is_on_port}
 use Rattle.ca_wired.specs.declared.order.SortFault.{SortFault}
 use Rattle.ca_wired.specs.declared.order.SortFault.TheVariants.{Loop, NoMemory}
-use Rattle.ca_wired.specs.Wired.{wire_fault, IsWireCause, IsFirstMisdriven, AreDriven, AreUnobserved}
+use Rattle.ca_wired.specs.Wired.{wire_fault, IsWireCause, IsFirstMisdriven, AreDriven, AreUnobserved, KeepsNetRules}
 use Rattle.ca_wired.proofs.CoreLemmas.{contains_has}
 use Rattle.ca_wired.proofs.CorePartLemmas.{of_all}
 use Rattle.ca_wired.proofs.DriverLemmas.{of_get, some_within}
@@ -120,9 +120,9 @@ module _ (chip : Chip) (drafted : IsDrafted chip) where
     }
 
 -- why there is no order is why the chip isn't wired
-pub order_cause : (chip : Chip) (broken : SortFault) → AreDriven chip → AreUnobserved chip → IsOrderCause chip broken → IsWireCause chip (wire_fault broken)
-order_cause chip (Loop loop) driven unobserved is = (driven, unobserved, is)
-order_cause chip NoMemory driven unobserved is = tt
+pub order_cause : (chip : Chip) (broken : SortFault) → KeepsNetRules chip → IsOrderCause chip broken → IsWireCause chip (wire_fault broken)
+order_cause chip (Loop loop) kept is = (kept, is)
+order_cause chip NoMemory kept is = tt
 
 -- the drivers are those of the chip that has the order
 pub single_too : (chip : Chip) (table : List Sources) → AreSingle chip table → (order : List ℕ) → AreSingle (record chip { order = order }) table

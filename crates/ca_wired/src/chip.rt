@@ -1,13 +1,13 @@
 //! Linked chips.
 
 ghost use Rattle.std.specs.Prelude.{◌≡◌, ◌<◌, Bool, length, Some, slice_get, IsSomeAnd, IfSome, IfNone};
-ghost use Rattle.ca_wired.specs.Linked.{net_count, is_scan_path, IsWired, IsLibrary, FromConstant, Drives, input_nets, output_nets};
+ghost use Rattle.ca_wired.specs.Linked.{net_count, is_scan_path, IsWired, IsLibrary, FromConstant, Drives, input_nets, output_nets, inputs_of, outputs_of};
 ghost use Rattle.ca_wired.specs.Reading.{AreReadersOf};
 
 use crate::drivers::Drivers;
 use crate::instances::{InstanceId, InstanceList};
 use crate::marks::NetMarks;
-use crate::parts::{NetId, Part, PortBit, Source};
+use crate::parts::{NetId, NetList, Part, PortBit, Source};
 use crate::readers::Readers;
 use ca_cell::Library;
 use std::marker::Model;
@@ -27,6 +27,8 @@ pub struct Chip {
     pub(crate) drivers: Drivers,
     pub(crate) places: Vec<usize>,
     pub(crate) readers: Readers,
+    pub(crate) inputs: NetList,
+    pub(crate) outputs: NetList,
 }
 
 impl Model for Chip {
@@ -55,7 +57,7 @@ impl Model for Chip {
       parts = chip.parts.items;
       ports = chip.ports.items;
       order = chip.order;
-    }) (record { path = chip.path; drivers = chip.drivers; places = chip.places.items; readers = chip.readers }) };
+    }) (record { path = chip.path; drivers = chip.drivers; places = chip.places.items; readers = chip.readers; inputs = chip.inputs; outputs = chip.outputs }) };
 }
 
 impl Chip {
@@ -113,6 +115,38 @@ impl Chip {
         ensures { AreReadersOf self.now net.0 result.now }
     {
         self.readers.get(net.0)
+    }
+
+    /// The number of chip inputs: the bits of input ports off the scan path in header order, and then the outputs of scan
+    /// instances in netlist order.
+    pub fn inputs(&self) -> usize
+        ensures { result ≡ length (inputs_of self.now) }
+    {
+        self.inputs.len()
+    }
+
+    /// The net of a chip input.
+    pub fn input(&self, i: usize) -> NetId
+        requires { i < length (inputs_of self.now) }
+        ensures { slice_get (inputs_of self.now) i ≡ Some result.0 }
+    {
+        NetId(self.inputs.get(i))
+    }
+
+    /// The number of observed outputs: the bits of output ports off the scan path in header order, and then the data pins of
+    /// scan instances in netlist order.
+    pub fn outputs(&self) -> usize
+        ensures { result ≡ length (outputs_of self.now) }
+    {
+        self.outputs.len()
+    }
+
+    /// The net of an observed output.
+    pub fn output(&self, o: usize) -> NetId
+        requires { o < length (outputs_of self.now) }
+        ensures { slice_get (outputs_of self.now) o ≡ Some result.0 }
+    {
+        NetId(self.outputs.get(o))
     }
 
     /// The number of instances, scan instances included.

@@ -1,17 +1,22 @@
 //! Wiring: the drivers of the nets, the scan path, and the order of the library instances.
 
-ghost use Rattle.std.specs.Prelude.{◌≡◌, ◌<◌, length, IfOk, IfErr};
+ghost use Rattle.std.specs.Prelude.{◌≡◌, ◌<◌, length, IfOk, OnOk, IfErr};
 ghost use Rattle.std.specs.List.{All};
-ghost use Rattle.ca_wired.specs.Linked.{IsWired};
-ghost use Rattle.ca_wired.specs.Drivers.{IsDrafted};
+ghost use Rattle.ca_wired.specs.Linked.{net_count, is_scan_path, IsWired};
+ghost use Rattle.ca_wired.specs.Drivers.{AreDrivers, IsDrafted};
+ghost use Rattle.ca_wired.specs.Feeding.{AreSingle};
+ghost use Rattle.ca_wired.specs.Paths.{AreMarks};
 ghost use Rattle.ca_wired.specs.Kept.{IsOnce, ArePlaces};
-ghost use Rattle.ca_wired.specs.Wired.{wire_fault, IsWireCause};
+ghost use Rattle.ca_wired.specs.Wired.{wire_fault, KeepsNetRules, IsWireCause};
 
 use crate::chip::Chip;
 use crate::draft::Draft;
-use crate::drivers::{Sources, drivers_of};
+use crate::controls::{Misused, first_misused};
+use crate::drivers::{Drivers, Sources, drivers_of};
+use crate::ends::{inputs_of, outputs_of};
 use crate::feeding::order_of;
 use crate::instances::InstanceList;
+use crate::marks::NetMarks;
 use crate::order::SortFault;
 use crate::paths::{first_observed, path_of};
 use crate::readers::readers_of;
@@ -23,6 +28,8 @@ use std::alloc::Global;
 pub enum WireFault {
     /// Nothing drives the net, or two do.
     Misdriven(u32, Sources),
+    /// A control pin of a scan instance is not on the input port that it is to be on, or its inverted output has a load.
+    Misused(Misused),
     /// The net is of the scan path, and is on a data pin or leads from an input port to an output port.
     Observed(u32),
     /// Each of these drives the next, and the last the first.
@@ -65,22 +72,43 @@ fn places_of(alloc: Global, order: &InstanceList, instances: usize) -> Result<Ve
     Ok(places)
 }
 
+// The rules on nets but that on loops, in the order in which they are tried.
+fn judge(alloc: Global, draft: &Draft, drivers: &Drivers, path: &NetMarks) -> Result<(), WireFault>
+    requires drafted { IsDrafted draft.now }
+    requires drivers { AreDrivers draft.now drivers.now }
+    requires path { AreMarks (net_count draft.now) (is_scan_path draft.now) path.now }
+    ensures ok { OnOk result (KeepsNetRules draft.now) }
+    ensures single { OnOk result (AreSingle draft.now drivers.now) }
+    ensures cause { IfErr result (IsWireCause draft.now) }
+{
+    if let Some(net) = drivers.first_flaw() {
+        return Err(WireFault::Misdriven(net, drivers.get(net)));
+    }
+    if let Some(misused) = first_misused(alloc, draft)? {
+        return Err(WireFault::Misused(misused));
+    }
+    if let Some(net) = first_observed(alloc, draft, path)? {
+        return Err(WireFault::Observed(net));
+    }
+    Ok(())
+}
+
 /// The chip with an order of its library instances.
 pub fn wire(alloc: Global, draft: Draft) -> Result<Chip, WireFault>
     requires { IsDrafted draft }
     ensures ok { IfOk result (λ chip. chip ≡ record draft { order = chip.order }) }
     ensures wired { IfOk result IsWired }
+    ensures kept { OnOk result (KeepsNetRules draft) }
     ensures cause { IfErr result (IsWireCause draft) }
 {
     let drivers = drivers_of(alloc, &draft)?;
-    if let Some(net) = drivers.first_flaw() {
-        return Err(WireFault::Misdriven(net, drivers.get(net)));
-    }
     let path = path_of(alloc, &draft)?;
-    if let Some(net) = first_observed(alloc, &draft, &path)? {
-        return Err(WireFault::Observed(net));
+    if let Err(fault) = judge(alloc, &draft, &drivers, &path) {
+        return Err(fault);
     }
     let readers = readers_of(alloc, &draft)?;
+    let inputs = inputs_of(alloc, &draft, &path)?;
+    let outputs = outputs_of(alloc, &draft, &path)?;
     match order_of(alloc, &draft, &drivers) {
         Err(fault) => Err(WireFault::of(fault)),
         Ok(order) => {
@@ -105,6 +133,8 @@ pub fn wire(alloc: Global, draft: Draft) -> Result<Chip, WireFault>
                 drivers,
                 places,
                 readers,
+                inputs,
+                outputs,
             })
         }
     }
