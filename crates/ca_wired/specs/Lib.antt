@@ -7,6 +7,7 @@ pub mod Paths
 pub mod Controls
 pub mod Reading
 pub mod Ends
+pub mod Instances
 pub mod Kept
 pub mod Wired
 pub mod Core

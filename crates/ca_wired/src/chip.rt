@@ -29,6 +29,8 @@ pub struct Chip {
     pub(crate) readers: Readers,
     pub(crate) inputs: NetList,
     pub(crate) outputs: NetList,
+    pub(crate) gates: InstanceList,
+    pub(crate) scans: InstanceList,
 }
 
 impl Model for Chip {
@@ -57,7 +59,7 @@ impl Model for Chip {
       parts = chip.parts.items;
       ports = chip.ports.items;
       order = chip.order;
-    }) (record { path = chip.path; drivers = chip.drivers; places = chip.places.items; readers = chip.readers; inputs = chip.inputs; outputs = chip.outputs }) };
+    }) (record { path = chip.path; drivers = chip.drivers; places = chip.places.items; readers = chip.readers; inputs = chip.inputs; outputs = chip.outputs; gates = chip.gates; scans = chip.scans }) };
 }
 
 impl Chip {

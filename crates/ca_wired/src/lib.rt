@@ -14,6 +14,7 @@ mod marks;
 mod order;
 mod parts;
 mod paths;
+mod pins;
 mod readers;
 mod wiring;
 
@@ -24,4 +25,5 @@ pub use drivers::Sources;
 pub use instances::{InstanceId, InstanceList};
 pub use laws::{core_is_flat, order_has_no_loop};
 pub use parts::{Body, NetId, NetList, Part, PortBit, ScanNets, Source};
+pub use pins::ScanPin;
 pub use wiring::{WireFault, wire};

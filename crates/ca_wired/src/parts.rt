@@ -180,6 +180,19 @@ impl Body {
         }
     }
 
+    /// The net of a pin, the input pins first.
+    pub fn pin(&self, pin: usize) -> u32
+        requires { pin < length (input_nets self.now ++ output_nets self.now) }
+        ensures { slice_get (input_nets self.now ++ output_nets self.now) pin ≡ Some result }
+    {
+        let inputs = self.input_count();
+        if pin < inputs {
+            self.input(pin)
+        } else {
+            self.output(pin - inputs)
+        }
+    }
+
     /// Whether the instance is of a library cell.
     pub fn is_gate(&self) -> bool
         ensures { IsTrue result ↔ IsGate self.now }

@@ -19,6 +19,7 @@ use crate::instances::InstanceList;
 use crate::marks::NetMarks;
 use crate::order::SortFault;
 use crate::paths::{first_observed, path_of};
+use crate::pins::{gates_of, scans_of};
 use crate::readers::readers_of;
 use ca_base::NoMemory;
 use std::alloc::Global;
@@ -109,6 +110,8 @@ pub fn wire(alloc: Global, draft: Draft) -> Result<Chip, WireFault>
     let readers = readers_of(alloc, &draft)?;
     let inputs = inputs_of(alloc, &draft, &path)?;
     let outputs = outputs_of(alloc, &draft, &path)?;
+    let gates = gates_of(alloc, &draft)?;
+    let scans = scans_of(alloc, &draft)?;
     match order_of(alloc, &draft, &drivers) {
         Err(fault) => Err(WireFault::of(fault)),
         Ok(order) => {
@@ -135,6 +138,8 @@ pub fn wire(alloc: Global, draft: Draft) -> Result<Chip, WireFault>
                 readers,
                 inputs,
                 outputs,
+                gates,
+                scans,
             })
         }
     }

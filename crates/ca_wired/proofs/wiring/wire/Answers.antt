@@ -20,6 +20,8 @@ invariant_of-result c =
       readers = c.in_ok-readers.readers;
       inputs = c.in_ok-inputs.inputs;
       outputs = c.in_ok-outputs.outputs;
+      gates = c.in_ok-gates.gates;
+      scans = c.in_ok-scans.scans;
     } in
     let kept : IsKept (record c.args.draft { order = c.in-Ok.order }) tables = record {
       wired = wired c.args.draft c.requires c.in_ok-drivers.drivers judged.single judged.ok.unobserved c.in-Ok.order c.in-Ok.ensures.ok;
@@ -29,6 +31,8 @@ invariant_of-result c =
       placed = subst (λ count. ArePlaces c.in-Ok.order (length c.in-Ok.order) count c.in_ok-places-in-Ok.places.items) c.parts.ensures c.in_ok-places-in-Ok.ensures;
       are_inputs = c.in_ok-inputs.ensures;
       are_outputs = c.in_ok-outputs.ensures;
+      are_gates = c.in_ok-gates.ensures;
+      are_scans = c.in_ok-scans.ensures;
     } in
     subst (λ (d : Chip). IsKept (record d { order = c.in-Ok.order }) tables) (sym c.draft.view_is) kept
 
