@@ -5,3 +5,4 @@ pub mod NumberLemmas
 pub mod NetLemmas
 pub mod SameLemmas
 pub mod PinLemmas
+pub mod WireLemmas

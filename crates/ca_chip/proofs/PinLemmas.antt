@@ -20,6 +20,7 @@ use Rattle.ca_chip.specs.Wiring.{Meaning, input_names, names_with, bit_on, row_o
 use Rattle.ca_chip.specs.InstanceRules.{pin_names, HasStrayPin, LacksPin}
 use Rattle.ca_chip.specs.Pins.{first_open, first_stray, has_pin, TellsStray, TellsOpen, NoStray, IsFirstStray}
 use Rattle.ca_wired.proofs.DriverLemmas.{some_inj}
+use Rattle.ca_wired.proofs.EndLemmas.{take_more}
 
 or_assoc : (a b c : Bool) → (a || (b || c)) ≡ ((a || b) || c)
 or_assoc true b c = refl
@@ -211,12 +212,6 @@ map-take : {X Y : Type 0} (f : X → Y) (k : ℕ) (xs : List X) → map f (take 
 map-take f zero xs = refl
 map-take f (suc k) [] = refl
 map-take f (suc k) (x ∷ xs) = ap (λ l. f x ∷ l) (map-take f k xs)
-
-take_more : {X : Type 0} (xs : List X) (k : ℕ) (x : X) → slice_get xs k ≡ Some x → take (k + 1) xs ≡ take k xs ++ x ∷ []
-take_more [] k x at = absurd (let lt = slice_get_within [] k x at in omega (arith, lt))
-take_more (first ∷ xs) zero x at = let same : first ≡ x = cc in ap (λ y. y ∷ []) same
-take_more (first ∷ xs) (suc k) x at =
-    ap (λ n. take n (first ∷ xs)) (let s : suc k + 1 ≡ suc (k + 1) = omega arith in s) ∙ ap (λ l. first ∷ l) (take_more xs k x at)
 
 -- a name of different names doesn't stand before its place
 pub new_name : (names : List (List ℕ)) → IsDistinct bytes_eq names → (k : ℕ) (name : List ℕ) → slice_get names k ≡ Some name

@@ -9,6 +9,7 @@ mod numbers;
 mod pins;
 mod scan_row;
 mod spans;
+mod wires;
 
 pub use ca_wired::{Chip, InstanceId, InstanceList, NetId};
 pub use fault::{

@@ -37,6 +37,38 @@ impl Model for Draft {
 }
 
 impl Draft {
+    ghost use Rattle.std.specs.Prelude.{[], map};
+    ghost use Rattle.ca_cell.specs.Library.{raw_of};
+
+    /// A draft of so many nets, with those that the constants 0 and 1 drive, the instances and the port bits.
+    pub fn new(
+        library: Library,
+        nets: usize,
+        zero: Option<u32>,
+        one: Option<u32>,
+        parts: Vec<Part>,
+        ports: Vec<PortBit>,
+    ) -> Self
+        ensures { result ≡ record {
+          cells = map (λ named. raw_of named.entry) library;
+          nets = nets;
+          zero = zero;
+          one = one;
+          parts = parts.items;
+          ports = ports.items;
+          order = [];
+        } }
+    {
+        Draft {
+            library,
+            nets,
+            zero,
+            one,
+            parts,
+            ports,
+        }
+    }
+
     /// The number of nets.
     pub fn nets(&self) -> usize
         ensures { result ≡ net_count self.now }
