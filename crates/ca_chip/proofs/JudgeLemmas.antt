@@ -1,6 +1,6 @@
 -- The first rule that an instance breaks is the first of the netlist, where those before it keep theirs.
-use Rattle.std.proofs.Common.{◌≡◌, ℕ, zero, suc, ◌+◌, ◌<◌, List, [], ◌∷◌, Bool, inl, inr, refl, sym, ◌∙◌, ap, subst, arith, ◌⊎◌}
-use Rattle.std.specs.Prelude.{Some, IsSomeAnd, slice_get}
+use Rattle.std.proofs.Common.{◌≡◌, ℕ, ◌+◌, ◌<◌, List, [], ◌∷◌, inl, inr, refl, sym, ◌∙◌, ap, subst, arith, ◌⊎◌}
+use Rattle.std.specs.Prelude.{Some, slice_get}
 use native.Mathlib.Decide.{ℕ_discrete}
 use Rattle.ca_cell.specs.declared.rule.CellRule.{CellRule}
 use Rattle.ca_cell.specs.Library.{Named}
@@ -11,8 +11,8 @@ use Rattle.ca_chip.specs.declared.scan_row.ScanRow.{ScanRow}
 use Rattle.ca_chip.specs.declared.fault.ChipFault.{ChipFault}
 use Rattle.ca_chip.specs.declared.fault.ChipFault.TheVariants as fault
 use Rattle.ca_chip.specs.Wiring.{Meaning, Unknown, Broken, Library, ScanCell, meaning_of}
-use Rattle.ca_chip.specs.InstanceRules.{IsKnown, HasStrayPin, LacksPin, IsSound, AreSound}
-use Rattle.ca_chip.specs.Rules.{IsEarlier, OfInstance, BreaksAt, IsFirstBroken, IsCause}
+use Rattle.ca_chip.specs.InstanceRules.{IsKnown, HasStrayPin, LacksPin, IsSound}
+use Rattle.ca_chip.specs.Rules.{IsEarlier, OfInstance, BreaksAt, IsCause}
 use Rattle.ca_chip.specs.Pins.{NoStray, IsFirstStray, IsFirstOpen, IsInstanceCause, AreSoundFirst}
 use Rattle.ca_wired.proofs.FeedingLemmas.{item_of}
 use Rattle.ca_wired.proofs.DriverLemmas.{to_some}

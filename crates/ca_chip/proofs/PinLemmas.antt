@@ -2,7 +2,7 @@
 use Rattle.std.proofs.Common.{◌≡◌, ℕ, zero, suc, ◌+◌, ◌<◌, ◌≤◌, List, [], ◌∷◌, ◌++◌, Bool, true, false, length, map, refl, sym, ◌∙◌, ap, subst, arith, ◌||◌, true≢false, cond, get_or, inl, inr}
 use Rattle.std.specs.Prelude.{Option, Some, None, is_none, slice_get, take, nat_lt, if◌then◌else◌, not, ◌&&◌}
 use Rattle.std.specs.Str.{bytes_eq}
-use Rattle.std.specs.List.{list_any, position_or_len, IsDistinct, AllByRecursion}
+use Rattle.std.specs.List.{position_or_len, IsDistinct, AllByRecursion}
 use Rattle.std.proofs.lemmas.List.Folds.{list_any-append}
 use Rattle.std.proofs.lemmas.Slice.Eq.{bytes_eq-Decides}
 use Rattle.std.proofs.lemmas.Bool.{ltb-true, ltb-false}
@@ -17,7 +17,7 @@ use Rattle.ca_verilog.specs.declared.raw.RawBit.{RawBit}
 use Rattle.ca_verilog.specs.declared.raw.RawUse.{RawUse}
 use Rattle.ca_chip.specs.declared.scan_row.ScanRow.{ScanRow}
 use Rattle.ca_chip.specs.Wiring.{Meaning, input_names, names_with, bit_on, row_of}
-use Rattle.ca_chip.specs.InstanceRules.{pin_names, HasStrayPin, LacksPin}
+use Rattle.ca_chip.specs.InstanceRules.{pin_names, HasStrayPin}
 use Rattle.ca_chip.specs.Pins.{first_open, first_stray, has_pin, TellsStray, TellsOpen, NoStray, IsFirstStray}
 use Rattle.ca_wired.proofs.DriverLemmas.{some_inj}
 use Rattle.ca_wired.proofs.EndLemmas.{take_more}

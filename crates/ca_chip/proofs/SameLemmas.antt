@@ -12,7 +12,6 @@ use Rattle.ca_wired.specs.declared.parts.Source.{Source}
 use Rattle.ca_wired.specs.declared.parts.Part.{Part}
 use Rattle.ca_wired.specs.declared.parts.Source.TheVariants.{FromPort, FromConstant, FromPin}
 use Rattle.ca_wired.specs.Linked.{Chip, output_nets, Drives}
-use Rattle.ca_wired.specs.Linked as linked
 use Rattle.ca_wired.specs.declared.parts.PortBit as parts
 use Rattle.ca_chip.specs.Linking.{IsLinkOf}
 use Rattle.ca_wired.specs.Drivers.{ComesBefore}

@@ -1,6 +1,6 @@
 -- The joins of spans are those of their netlist.
-use Rattle.std.proofs.Common.{◌≡◌, ℕ, zero, suc, ◌+◌, ◌<◌, ◌≤◌, ◌||◌, List, [], ◌∷◌, ◌++◌, Bool, true, false, length, map, inl, inr, refl, sym, ◌∙◌, ap, subst, arith, get_or, true≢false}
-use Rattle.std.specs.Prelude.{Some, slice_get, flat_map, ◌⊎◌, if◌then◌else◌, ◌&&◌, eqb}
+use Rattle.std.proofs.Common.{◌≡◌, ℕ, zero, suc, ◌+◌, ◌<◌, ◌≤◌, ◌||◌, List, [], ◌∷◌, ◌++◌, Bool, true, false, length, inl, inr, refl, sym, ◌∙◌, ap, subst, arith, get_or, true≢false}
+use Rattle.std.specs.Prelude.{Some, slice_get, flat_map, if◌then◌else◌, ◌&&◌, eqb}
 use Rattle.std.specs.List.{Contains, All, list_any}
 use mathlib.Core.Bool.{beq}
 use Rattle.std.proofs.lemmas.Bool.{ne_eqb}

@@ -1,5 +1,5 @@
 -- The wires of the input pins from one on.
-use Rattle.std.proofs.Common.{◌≡◌, ℕ, ◌+◌, ◌<◌, List, [], ◌∷◌, ◌++◌, Bool, true, false, refl, sym, ◌∙◌, ap}
+use Rattle.std.proofs.Common.{◌≡◌, ℕ, ◌+◌, List, [], ◌∷◌, ◌++◌, Bool, true, false, refl, sym, ◌∙◌, ap}
 use Rattle.std.specs.Prelude.{Some, slice_get, drop, if◌then◌else◌}
 use Rattle.std.proofs.lemmas.List.{append_assoc}
 use Rattle.ca_cell.specs.declared.raw.RawPin.{RawPin}
@@ -19,7 +19,7 @@ module _ (bits : ℕ) (uses : List RawUse) (pins : List RawPin) where
 
   with_pin : (is : Bool) (pin : RawPin) (names : List (List ℕ))
       → input_wires bits uses (if is then pin.name ∷ names else names)
-        ≡ (if is then input_wire bits (bit_on uses pin.name) ∷ [] else []) ++ input_wires bits uses names
+      ≡ (if is then input_wire bits (bit_on uses pin.name) ∷ [] else []) ++ input_wires bits uses names
   with_pin true pin names = refl
   with_pin false pin names = refl
 

@@ -1,5 +1,5 @@
 -- The rules of linking, in the order in which they are tried.
-use Rattle.std.specs.Prelude.{ℕ, ◌+◌, ◌≡◌, ◌<◌, ◌⊎◌, List, [], ◌∷◌, ◌++◌, length, take, drop, ◌-◌, Some, None, IsSomeAnd, slice_get}
+use Rattle.std.specs.Prelude.{ℕ, ◌+◌, ◌≡◌, ◌<◌, ◌⊎◌, List, [], ◌∷◌, ◌++◌, length, take, drop, ◌-◌, Some, IsSomeAnd, slice_get}
 use Rattle.std.specs.List.{Contains, flat_map, sum_by}
 use Rattle.ca_base.specs.First.{IsFirst}
 use Rattle.ca_cell.specs.Library.{Named}

@@ -10,8 +10,8 @@ ghost use Rattle.ca_wired.specs.Kept.{IsOnce, ArePlaces};
 ghost use Rattle.ca_wired.specs.Wired.{wire_fault, KeepsNetRules, IsWireCause};
 
 use crate::chip::Chip;
-use crate::draft::Draft;
 use crate::controls::{Misused, first_misused};
+use crate::draft::Draft;
 use crate::drivers::{Drivers, Sources, drivers_of};
 use crate::ends::{inputs_of, outputs_of};
 use crate::feeding::order_of;

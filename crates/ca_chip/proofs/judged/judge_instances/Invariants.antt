@@ -1,4 +1,3 @@
-use Rattle.std.proofs.Common.{ℕ, ◌≡◌, ◌<◌}
 use Rattle.ca_chip.specs.Pins.{AreSoundFirst}
 use Rattle.ca_chip.proofs.judged.judge_instances.Given as goal
 

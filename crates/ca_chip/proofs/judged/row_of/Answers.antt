@@ -1,6 +1,5 @@
-use Rattle.std.proofs.Common.{◌≡◌, ◌∙◌, ap, ap₂, sym, map, Some, None}
+use Rattle.std.proofs.Common.{◌∙◌, ap₂, sym}
 use Rattle.ca_names.specs.Names.{place_of}
-use Rattle.ca_chip.specs.declared.scan_row.ScanRow.{ScanRow}
 use Rattle.ca_chip.proofs.PinLemmas.{row_told, no_row}
 use Rattle.ca_chip.proofs.judged.row_of.Goals as goal
 

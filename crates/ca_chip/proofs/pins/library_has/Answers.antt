@@ -1,5 +1,4 @@
 use Rattle.std.proofs.Common.{◌∙◌, ap}
-use Rattle.ca_cell.specs.declared.raw.RawPin.{RawPin}
 use Rattle.ca_chip.specs.Pins.{has_pin}
 use Rattle.ca_chip.proofs.PinLemmas.{has_pin-names}
 use Rattle.ca_chip.proofs.pins.library_has.Goals as goal

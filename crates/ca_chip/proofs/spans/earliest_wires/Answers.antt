@@ -1,11 +1,11 @@
-use Rattle.std.proofs.Common.{◌≡◌, subst, sym, ◌∙◌, ap, length}
+use Rattle.std.proofs.Common.{subst, sym, ap, length}
 use Rattle.std.specs.Prelude.{flat_map}
 use Rattle.std.specs.List.{All}
 use Rattle.ca_verilog.specs.Joins.{pairs_of}
 use Rattle.ca_verilog.specs.IsNetlist.{IsJoinOf}
 use Rattle.ca_chip.specs.Wiring.{joins_of}
 use Rattle.ca_chip.specs.Joined.{AreEarliest}
-use Rattle.ca_chip.specs.Spans.{AreSpansOf, AreJoinsOf}
+use Rattle.ca_chip.specs.Spans.{AreSpansOf}
 use Rattle.ca_chip.proofs.SpanLemmas.{are_joins, spans_within}
 use Rattle.ca_chip.proofs.spans.earliest_wires.Goals as goal
 

@@ -1,8 +1,8 @@
-use Rattle.std.proofs.Common.{◌≡◌, subst, sym, ◌∙◌, arith}
+use Rattle.std.proofs.Common.{subst, arith}
 use Rattle.std.proofs.lemmas.Option.{slice_get-get_or}
 use Rattle.ca_chip.specs.declared.joined.Span.{Span}
 use Rattle.ca_chip.specs.Spans.{IsWith}
-use Rattle.ca_chip.proofs.SpanLemmas.{spans_more, spans_end, no_spans}
+use Rattle.ca_chip.proofs.SpanLemmas.{spans_more, spans_end}
 use Rattle.ca_chip.proofs.spans.spans_of.Goals as goal
 
 pub loop-k-preserved : goal.loop-k-preserved

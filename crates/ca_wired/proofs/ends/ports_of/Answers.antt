@@ -1,5 +1,4 @@
-use Rattle.std.proofs.Common.{◌≡◌, ◌∙◌, ◌++◌, [], ◌∷◌, ap, ap₂, sym, ◌<◌, if◌then◌else◌}
-use Rattle.std.specs.List.{flat_map}
+use Rattle.std.proofs.Common.{◌∙◌, ◌++◌, [], ◌∷◌, ap₂, sym, ◌<◌, if◌then◌else◌}
 use Rattle.ca_wired.specs.declared.parts.PortBit.{PortBit}
 use Rattle.ca_wired.specs.Linked.{net_count}
 use Rattle.ca_wired.specs.Ends.{end_nets}

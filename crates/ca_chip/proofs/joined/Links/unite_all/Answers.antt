@@ -1,4 +1,3 @@
-use Rattle.std.proofs.Common.{arith}
 use Rattle.std.proofs.lemmas.Option.{slice_get-get_or}
 use Rattle.ca_chip.proofs.ForestLemmas.{first_none, first_more}
 use Rattle.ca_chip.proofs.joined.Links.unite_all.Goals as goal
