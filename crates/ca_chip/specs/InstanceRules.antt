@@ -1,4 +1,5 @@
--- The rules on instances: the cell is known and sound, each connection is to a pin of it, and each input pin is connected.
+-- The rules on instances: the cell is known and sound, each connection is to a pin of it, and each input pin
+-- is connected.
 use Rattle.std.specs.Prelude.{ℕ, ◌≡◌, false, List, ◌++◌, Some, None, slice_get, ⊤}
 use Rattle.ca_names.specs.Names.{has_name}
 use Rattle.ca_cell.specs.Library.{Named}

@@ -9,8 +9,8 @@ use Rattle.ca_wired.specs.Linked.{input_nets, output_nets, Chip, constant_net}
 use Rattle.ca_chip.specs.Wiring.{Meaning, Unknown, Broken, Library, ScanCell, WiredPart, HeaderBit, Wiring}
 use Rattle.ca_chip.specs.Nets.{ConstantBit, Drives, AreNets, IsNetOf, AreNetsOf}
 
--- the body is that of an instance with this meaning: of the cell that its name means, or of a scan cell with its inverted output
--- exactly where the row names one
+-- the body is that of an instance with this meaning: of the cell that its name means, or of a scan cell with
+-- its inverted output exactly where the row names one
 abbrev pub HasMeaning : List RawCell → Meaning → Body → Type 0
 HasMeaning cells Unknown body = ⊥
 HasMeaning cells (Broken rule) body = ⊥
@@ -20,7 +20,8 @@ HasMeaning cells (ScanCell row) (Gate cell inputs outputs) = ⊥
 HasMeaning cells (ScanCell row) (Scan pins) = IsNone pins.qn ↔ (row.qn ≡ [])
 
 -- the instance is that of the wiring, with its name, its cell and the net of each pin
-pub record IsPartOf (wiring : Wiring) (nets : List ℕ) (cells : List RawCell) (wired : WiredPart) (part : Part) : Type 0 where
+pub record IsPartOf (wiring : Wiring) (nets : List ℕ) (cells : List RawCell) (wired : WiredPart)
+    (part : Part) : Type 0 where
   pub name : part.name ≡ wired.name
   pub cell : part.cell ≡ wired.cell
   pub meaning : HasMeaning cells wired.meaning part.body
@@ -33,8 +34,8 @@ pub record IsPortOf (wiring : Wiring) (nets : List ℕ) (bit : HeaderBit) (port 
   pub is_input : port.is_input ≡ bit.is_input
   pub net : IsNetOf wiring nets bit.wire port.net
 
--- the nets of the chip are those of the wiring, in net order; each constant drives its net; and so have the instances
--- their pins
+-- the nets of the chip are those of the wiring, in net order; each constant drives its net; and so have the
+-- instances their pins
 pub record IsLinkOf (wiring : Wiring) (chip : Chip) : Type 0 where
   pub nets : List ℕ
   pub are : AreNets wiring nets
@@ -42,8 +43,10 @@ pub record IsLinkOf (wiring : Wiring) (chip : Chip) : Type 0 where
   pub constants : (net wire : ℕ) (value : Bool) → slice_get nets net ≡ Some wire
       → (constant_net chip value ≡ Some net) ↔ Drives wiring wire (ConstantBit value)
   pub same_parts : length chip.parts ≡ length wiring.parts
-  pub parts : (u : ℕ) (wired : WiredPart) (part : Part) → slice_get wiring.parts u ≡ Some wired → slice_get chip.parts u ≡ Some part
+  pub parts : (u : ℕ) (wired : WiredPart) (part : Part) → slice_get wiring.parts u ≡ Some wired
+      → slice_get chip.parts u ≡ Some part
       → IsPartOf wiring nets chip.cells wired part
   pub same_ports : length chip.ports ≡ length wiring.header
-  pub ports : (p : ℕ) (bit : HeaderBit) (port : PortBit) → slice_get wiring.header p ≡ Some bit → slice_get chip.ports p ≡ Some port
+  pub ports : (p : ℕ) (bit : HeaderBit) (port : PortBit) → slice_get wiring.header p ≡ Some bit
+      → slice_get chip.ports p ≡ Some port
       → IsPortOf wiring nets bit port

@@ -15,7 +15,8 @@ pub record IsNamed (wiring : Wiring) (wire : ℕ) : Type 0 where
   pub named : Contains (flat_map (λ part. part.inputs ++ part.outputs) wiring.parts) wire
       ⊎ Contains (flat_map (λ join. join.left ∷ join.right ∷ []) wiring.joins) wire
 
--- what drives, and the wire that it drives: an input port's bit, by its place in the header; a constant that is named; an output pin
+-- what drives, and the wire that it drives: an input port's bit, by its place in the header; a constant that
+-- is named; an output pin
 pub data Driving : Type 0 where
   PortBit : ℕ → Driving
   ConstantBit : Bool → Driving
@@ -23,13 +24,14 @@ pub data Driving : Type 0 where
 
 -- what drives, drives this very wire
 abbrev pub DrivesWire : Wiring → Driving → ℕ → Type 0
-DrivesWire wiring (PortBit p) wire = IsSomeAnd (slice_get wiring.header p) (λ port. IsTrue port.is_input × (port.wire ≡ wire))
+DrivesWire wiring (PortBit p) wire =
+    IsSomeAnd (slice_get wiring.header p) (λ port. IsTrue port.is_input × (port.wire ≡ wire))
 DrivesWire wiring (ConstantBit value) wire = (constant_wire wiring value ≡ wire) × IsNamed wiring wire
 DrivesWire wiring (OutputPin u pin) wire =
     (part : WiredPart) × (slice_get wiring.parts u ≡ Some part) × (slice_get part.outputs pin ≡ Some wire)
 
--- the first of the two comes before the second: port bits in header order, the constants 0 and 1, and output pins
--- in netlist and pin order
+-- the first of the two comes before the second: port bits in header order, the constants 0 and 1, and output
+-- pins in netlist and pin order
 abbrev pub ComesBefore : Driving → Driving → Type 0
 ComesBefore (PortBit a) (PortBit b) = a < b
 ComesBefore (PortBit a) (ConstantBit b) = Unit {0}
@@ -74,7 +76,8 @@ abbrev pub AreNetsOf : Wiring → List ℕ → List ℕ → List ℕ → Type 0
 AreNetsOf wiring nets [] [] = Unit {0}
 AreNetsOf wiring nets [] (net ∷ more) = ⊥
 AreNetsOf wiring nets (wire ∷ wires) [] = ⊥
-AreNetsOf wiring nets (wire ∷ wires) (net ∷ more) = IsNetOf wiring nets wire net × AreNetsOf wiring nets wires more
+AreNetsOf wiring nets (wire ∷ wires) (net ∷ more) =
+    IsNetOf wiring nets wire net × AreNetsOf wiring nets wires more
 
 -- w drives a net on an input pin of u; both are of library cells
 abbrev pub IsLibraryCell : Meaning → Type 0

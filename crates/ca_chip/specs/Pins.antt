@@ -22,7 +22,8 @@ first_open uses (name ∷ names) = if is_none (bit_on uses name) then Some name 
 -- a library cell has an input or output pin of this name
 abbrev pub has_pin : List RawPin → List ℕ → Bool
 has_pin [] name = false
-has_pin (pin ∷ pins) name = ((is_input pin.role || is_output pin.role) && bytes_eq name pin.name) || has_pin pins name
+has_pin (pin ∷ pins) name =
+    ((is_input pin.role || is_output pin.role) && bytes_eq name pin.name) || has_pin pins name
 
 -- the pin of the first connection to a pin that isn't among these
 abbrev pub first_stray : List (List ℕ) → List RawUse → Option (List ℕ)
@@ -61,14 +62,16 @@ TellsOpen meaning uses None = NoOpen meaning uses
 
 -- the first instances of the netlist keep their rules
 abbrev pub AreSoundFirst : ℕ → RawNetlist → List Named → List ScanRow → Type 0
-AreSoundFirst count raw library scan = (u : ℕ) (instance : RawInstance) → u < count → slice_get raw.instances u ≡ Some instance
+AreSoundFirst count raw library scan =
+    (u : ℕ) (instance : RawInstance) → u < count → slice_get raw.instances u ≡ Some instance
     → IsSound (meaning_of library scan instance.cell) instance.pins
 
 -- the first rule that the instance u breaks; or there was no memory
 abbrev pub IsInstanceCause : ℕ → Meaning → List RawUse → ChipFault → Type 0
 IsInstanceCause u meaning uses (fault.UnknownCell v) = (v.0 ≡ u) × (meaning ≡ Unknown)
 IsInstanceCause u meaning uses (fault.Cell v rule) = (v.0 ≡ u) × (meaning ≡ Broken rule)
-IsInstanceCause u meaning uses (fault.UnknownPin v pin) = (v.0 ≡ u) × IsKnown meaning × IsFirstStray meaning uses pin
+IsInstanceCause u meaning uses (fault.UnknownPin v pin) =
+    (v.0 ≡ u) × IsKnown meaning × IsFirstStray meaning uses pin
 IsInstanceCause u meaning uses (fault.MissingPin v pin) =
     (v.0 ≡ u) × IsKnown meaning × NoStray meaning uses × IsFirstOpen meaning uses pin
 IsInstanceCause u meaning uses (fault.DoubleDriven net first second) = ⊥

@@ -30,7 +30,8 @@ IsEarlier (a ∷ rest) (b ∷ later) = (a < b) ⊎ ((a ≡ b) × IsEarlier rest 
 -- the instance has the property, which is said of what its cell's name means and of its connections
 abbrev pub OfInstance : RawNetlist → List Named → List ScanRow → ℕ → (Meaning → List RawUse → Type 0) → Type 0
 OfInstance raw library scan u P =
-    IsSomeAnd (slice_get raw.instances u) (λ instance. P (meaning_of library scan instance.cell) instance.pins)
+    IsSomeAnd (slice_get raw.instances u) (λ instance. P
+    (meaning_of library scan instance.cell) instance.pins)
 
 -- the net at this place in net order has this wire as its earliest
 pub record IsNetAt (wiring : Wiring) (net wire : ℕ) : Type 0 where
@@ -42,7 +43,8 @@ pub record IsNetAt (wiring : Wiring) (net wire : ℕ) : Type 0 where
 abbrev pub IsDriver : Wiring → ℕ → Driving → Driver → Type 0
 IsDriver wiring net (PortBit bit) told = told ≡ driver.Port (record { 0 = net })
 IsDriver wiring net (ConstantBit value) told = told ≡ driver.Constant value
-IsDriver wiring net (OutputPin u pin) told = (part : WiredPart) × (name : List ℕ) × (slice_get wiring.parts u ≡ Some part)
+IsDriver wiring net (OutputPin u pin) told =
+    (part : WiredPart) × (name : List ℕ) × (slice_get wiring.parts u ≡ Some part)
     × (slice_get (output_names part.meaning) pin ≡ Some name) × (told ≡ driver.Pin (record { 0 = u }) name)
 
 -- two drive the net, the first two of all that do
@@ -69,7 +71,8 @@ pub record IsUndriven (wiring : Wiring) (net : ℕ) : Type 0 where
 abbrev pub IsOnInputPort : Wiring → ℕ → Type 0
 IsOnInputPort wiring wire = (bit : ℕ) × Drives wiring wire (PortBit bit)
 
--- the names of the scan enable, the clock and the hold of a scan cell, and so their places behind d and si among the input pins
+-- the names of the scan enable, the clock and the hold of a scan cell, and so their places behind d and si
+-- among the input pins
 abbrev pub control_names : Meaning → List (List ℕ)
 control_names Unknown = []
 control_names (Broken rule) = []
@@ -91,14 +94,15 @@ pub record IsControl (wiring : Wiring) (u k wire : ℕ) : Type 0 where
   pub few : k < 3
   pub at : slice_get part.inputs (2 + k) ≡ Some wire
 
--- the control pin is on no input port, on another net than the same pin of the first scan instance, or on the net of an earlier
--- control pin of its instance
+-- the control pin is on no input port, on another net than the same pin of the first scan instance, or on the
+-- net of an earlier control pin of its instance
 pub record BreaksControl (wiring : Wiring) (u k : ℕ) (pin : List ℕ) : Type 0 where
   pub wire : ℕ
   pub control : IsControl wiring u k wire
   pub named : slice_get (control_names control.part.meaning) k ≡ Some pin
   pub broken : (IsOnInputPort wiring wire → ⊥)
-      ⊎ (((first other : ℕ) × IsFirst (λ (part : WiredPart). IsScan part.meaning) wiring.parts first × IsControl wiring first k other × (AreJoined wiring.joins wire other → ⊥))
+      ⊎ (((first other : ℕ) × IsFirst (λ (part : WiredPart). IsScan part.meaning) wiring.parts first
+      × IsControl wiring first k other × (AreJoined wiring.joins wire other → ⊥))
       ⊎ ((j other : ℕ) × (j < k) × IsControl wiring u j other × AreJoined wiring.joins wire other))
 
 -- the inverted output of a scan instance, which its row names, is on a net with a load
@@ -176,40 +180,52 @@ abbrev pub library_count : List WiredPart → ℕ
 library_count [] = 0
 library_count (part ∷ more) = count_library part.meaning + library_count more
 
--- The netlist breaks the rule, at a place in the order in which the rules are tried: first instance by instance its cell, its
--- connections and its input pins; then net by net; then scan instance by scan instance, and the nets of the scan path; then the
--- loop, and the limits.
+-- The netlist breaks the rule, at a place in the order in which the rules are tried: first instance by
+-- instance its cell, its connections and its input pins; then net by net; then scan instance by scan
+-- instance, and the nets of the scan path; then the loop, and the limits.
 abbrev pub BreaksAt : RawNetlist → List Named → List ScanRow → List ℕ → ChipFault → Type 0
 BreaksAt raw library scan at (fault.UnknownCell u) =
     (at ≡ 1 ∷ u.0 ∷ 0 ∷ []) × OfInstance raw library scan u.0 (λ meaning uses. meaning ≡ Unknown)
 BreaksAt raw library scan at (fault.Cell u rule) =
     (at ≡ 1 ∷ u.0 ∷ 0 ∷ []) × OfInstance raw library scan u.0 (λ meaning uses. meaning ≡ Broken rule)
 BreaksAt raw library scan at (fault.UnknownPin u pin) =
-    (k : ℕ) × (at ≡ 1 ∷ u.0 ∷ 1 ∷ k ∷ []) × OfInstance raw library scan u.0 (λ meaning uses. HasStrayPin meaning uses k pin)
+    (k : ℕ) × (at ≡ 1 ∷ u.0 ∷ 1 ∷ k ∷ []) × OfInstance raw library scan u.0
+    (λ meaning uses. HasStrayPin meaning uses k pin)
 BreaksAt raw library scan at (fault.MissingPin u pin) =
-    (k : ℕ) × (at ≡ 1 ∷ u.0 ∷ 2 ∷ k ∷ []) × OfInstance raw library scan u.0 (λ meaning uses. LacksPin meaning uses k pin)
+    (k : ℕ) × (at ≡ 1 ∷ u.0 ∷ 2 ∷ k ∷ []) × OfInstance raw library scan u.0
+    (λ meaning uses. LacksPin meaning uses k pin)
 BreaksAt raw library scan at (fault.DoubleDriven net first second) =
     (at ≡ 2 ∷ net.0 ∷ []) × IsDoubleDriven (wiring_of raw library scan) net.0 first second
-BreaksAt raw library scan at (fault.Undriven net) = (at ≡ 2 ∷ net.0 ∷ []) × IsUndriven (wiring_of raw library scan) net.0
-BreaksAt raw library scan at (fault.ControlPin u pin) = (k : ℕ) × (at ≡ 3 ∷ u.0 ∷ k ∷ []) × BreaksControl (wiring_of raw library scan) u.0 k pin
-BreaksAt raw library scan at (fault.QnUsed u) = (at ≡ 3 ∷ u.0 ∷ 3 ∷ []) × UsesInverted (wiring_of raw library scan) u.0
-BreaksAt raw library scan at (fault.ControlObserved net) = (at ≡ 4 ∷ net.0 ∷ []) × IsObservedPath (wiring_of raw library scan) net.0
-BreaksAt raw library scan at (fault.Loop instances) = (at ≡ 5 ∷ []) × IsLoop (FeedsWire (wiring_of raw library scan)) instances
+BreaksAt raw library scan at (fault.Undriven net) =
+    (at ≡ 2 ∷ net.0 ∷ []) × IsUndriven (wiring_of raw library scan) net.0
+BreaksAt raw library scan at (fault.ControlPin u pin) =
+    (k : ℕ) × (at ≡ 3 ∷ u.0 ∷ k ∷ []) × BreaksControl (wiring_of raw library scan) u.0 k pin
+BreaksAt raw library scan at (fault.QnUsed u) =
+    (at ≡ 3 ∷ u.0 ∷ 3 ∷ []) × UsesInverted (wiring_of raw library scan) u.0
+BreaksAt raw library scan at (fault.ControlObserved net) =
+    (at ≡ 4 ∷ net.0 ∷ []) × IsObservedPath (wiring_of raw library scan) net.0
+BreaksAt raw library scan at (fault.Loop instances) =
+    (at ≡ 5 ∷ []) × IsLoop (FeedsWire (wiring_of raw library scan)) instances
 BreaksAt raw library scan at (fault.TooManyInstances count) =
     (at ≡ 6 ∷ 0 ∷ []) × (count ≡ library_count (wiring_of raw library scan).parts) × (MOST_INSTANCES < count)
 BreaksAt raw library scan at (fault.TooManyInputs count) =
-    (at ≡ 6 ∷ 1 ∷ []) × ((chip : Chip) × IsLinkOf (wiring_of raw library scan) chip × (count ≡ length (inputs_of chip)) × (MOST_CHIP_INPUTS < count))
+    (at ≡ 6 ∷ 1 ∷ []) × ((chip : Chip) × IsLinkOf (wiring_of raw library scan) chip × (count
+    ≡ length (inputs_of chip)) × (MOST_CHIP_INPUTS < count))
 BreaksAt raw library scan at (fault.TooManyOutputs count) =
-    (at ≡ 6 ∷ 2 ∷ []) × ((chip : Chip) × IsLinkOf (wiring_of raw library scan) chip × (count ≡ length (outputs_of chip)) × (MOST_CHIP_OUTPUTS < count))
+    (at ≡ 6 ∷ 2 ∷ []) × ((chip : Chip) × IsLinkOf (wiring_of raw library scan) chip × (count
+    ≡ length (outputs_of chip)) × (MOST_CHIP_OUTPUTS < count))
 BreaksAt raw library scan at (fault.TooManyDefects count) = (at ≡ 6 ∷ 3 ∷ [])
-    × (count ≡ sum_by (λ part. defects_of part.meaning) (wiring_of raw library scan).parts) × (MOST_CHIP_DEFECTS < count)
+    × (count ≡ sum_by (λ part. defects_of part.meaning) (wiring_of raw library scan).parts)
+    × (MOST_CHIP_DEFECTS < count)
 BreaksAt raw library scan at fault.NoMemory = ⊥
 
 -- the netlist breaks the rule, and no rule at an earlier place
-pub record IsFirstBroken (raw : RawNetlist) (library : List Named) (scan : List ScanRow) (broken : ChipFault) : Type 0 where
+pub record IsFirstBroken (raw : RawNetlist) (library : List Named) (scan : List ScanRow)
+    (broken : ChipFault) : Type 0 where
   pub at : List ℕ
   pub breaks : BreaksAt raw library scan at broken
-  pub none_before : (before : List ℕ) (other : ChipFault) → IsEarlier before at → BreaksAt raw library scan before other → ⊥
+  pub none_before : (before : List ℕ) (other : ChipFault) → IsEarlier before at
+      → BreaksAt raw library scan before other → ⊥
 
 -- the netlist breaks no rule and passes no limit
 abbrev pub KeepsRules : RawNetlist → List Named → List ScanRow → Type 0
@@ -221,14 +237,20 @@ IsCause raw library scan (fault.UnknownCell u) = IsFirstBroken raw library scan 
 IsCause raw library scan (fault.Cell u rule) = IsFirstBroken raw library scan (fault.Cell u rule)
 IsCause raw library scan (fault.UnknownPin u pin) = IsFirstBroken raw library scan (fault.UnknownPin u pin)
 IsCause raw library scan (fault.MissingPin u pin) = IsFirstBroken raw library scan (fault.MissingPin u pin)
-IsCause raw library scan (fault.DoubleDriven net first second) = IsFirstBroken raw library scan (fault.DoubleDriven net first second)
+IsCause raw library scan (fault.DoubleDriven net first second) =
+    IsFirstBroken raw library scan (fault.DoubleDriven net first second)
 IsCause raw library scan (fault.Undriven net) = IsFirstBroken raw library scan (fault.Undriven net)
 IsCause raw library scan (fault.ControlPin u pin) = IsFirstBroken raw library scan (fault.ControlPin u pin)
-IsCause raw library scan (fault.ControlObserved net) = IsFirstBroken raw library scan (fault.ControlObserved net)
+IsCause raw library scan (fault.ControlObserved net) =
+    IsFirstBroken raw library scan (fault.ControlObserved net)
 IsCause raw library scan (fault.QnUsed u) = IsFirstBroken raw library scan (fault.QnUsed u)
 IsCause raw library scan (fault.Loop instances) = IsFirstBroken raw library scan (fault.Loop instances)
-IsCause raw library scan (fault.TooManyInstances count) = IsFirstBroken raw library scan (fault.TooManyInstances count)
-IsCause raw library scan (fault.TooManyInputs count) = IsFirstBroken raw library scan (fault.TooManyInputs count)
-IsCause raw library scan (fault.TooManyOutputs count) = IsFirstBroken raw library scan (fault.TooManyOutputs count)
-IsCause raw library scan (fault.TooManyDefects count) = IsFirstBroken raw library scan (fault.TooManyDefects count)
+IsCause raw library scan (fault.TooManyInstances count) =
+    IsFirstBroken raw library scan (fault.TooManyInstances count)
+IsCause raw library scan (fault.TooManyInputs count) =
+    IsFirstBroken raw library scan (fault.TooManyInputs count)
+IsCause raw library scan (fault.TooManyOutputs count) =
+    IsFirstBroken raw library scan (fault.TooManyOutputs count)
+IsCause raw library scan (fault.TooManyDefects count) =
+    IsFirstBroken raw library scan (fault.TooManyDefects count)
 IsCause raw library scan fault.NoMemory = Unit {0}

@@ -17,7 +17,9 @@ driving_of (FromPin u pin) = OutputPin u pin
 
 -- the same drives the net in the chip, and the wires of that net in the wiring
 abbrev pub HasSameDrivers : Type 0
-HasSameDrivers = (wiring : Wiring) (chip : Chip) (link : IsLinkOf wiring chip) (net wire : ℕ) → slice_get link.nets net ≡ Some wire
+HasSameDrivers =
+    (wiring : Wiring) (chip : Chip) (link : IsLinkOf wiring chip) (net wire : ℕ) → slice_get link.nets net
+    ≡ Some wire
     → (source : Source) → Drives chip net source ↔ nets.Drives wiring wire (driving_of source)
 
 -- two drive the wires of a net, the first two of all that do
@@ -25,9 +27,13 @@ pub record AreFirstDrivings (wiring : Wiring) (wire : ℕ) (one two : Driving) :
   pub drives_one : nets.Drives wiring wire one
   pub drives_two : nets.Drives wiring wire two
   pub in_order : nets.ComesBefore one two
-  pub none_before : (other : Driving) → nets.Drives wiring wire other → nets.ComesBefore other two → other ≡ one
+  pub none_before : (other : Driving) → nets.Drives wiring wire other → nets.ComesBefore other two → other
+      ≡ one
 
 -- the first two that drive a net of the chip are the first two in the wiring
 abbrev pub HasSameFirstTwo : Type 0
-HasSameFirstTwo = (wiring : Wiring) (chip : Chip) (link : IsLinkOf wiring chip) (net wire : ℕ) → slice_get link.nets net ≡ Some wire
-    → (one two : Source) → AreFirstTwo (Drives chip net) one two → AreFirstDrivings wiring wire (driving_of one) (driving_of two)
+HasSameFirstTwo =
+    (wiring : Wiring) (chip : Chip) (link : IsLinkOf wiring chip) (net wire : ℕ) → slice_get link.nets net
+    ≡ Some wire
+    → (one two : Source) → AreFirstTwo (Drives chip net) one two
+    → AreFirstDrivings wiring wire (driving_of one) (driving_of two)

@@ -1,4 +1,5 @@
--- The wires of a gate netlist: which wire each pin of an instance is on, which wires `assign`s join, and the ports.
+-- The wires of a gate netlist: which wire each pin of an instance is on, which wires `assign`s join, and the
+-- ports.
 use Rattle.std.specs.Prelude.{ℕ, zero, suc, ◌+◌, ◌-◌, Bool, true, false, List, [], ◌∷◌, ◌++◌, map, Option, Some, None, is_none, count_by, take, nat_le, slice_get, codes, if◌then◌else◌}
 use Rattle.std.specs.List.{flat_map}
 use Rattle.std.specs.Fmt.{decimal}
@@ -25,7 +26,8 @@ use Rattle.ca_verilog.specs.IsNetlist.{range_width, bit_count}
 use Rattle.ca_chip.specs.declared.scan_row.ScanRow.{ScanRow}
 use Rattle.ca_chip.specs.declared.joined.Join.{Join}
 
--- what the cell's name of an instance means: a scan cell, a cell of the library, a subcircuit that breaks a rule, or nothing
+-- what the cell's name of an instance means: a scan cell, a cell of the library, a subcircuit that breaks a
+-- rule, or nothing
 pub data Meaning : Type 0 where
   Unknown : Meaning
   Broken : CellRule → Meaning
@@ -55,7 +57,8 @@ meaning_of library scan cell = meaning_with (row_of scan cell) (entry_of library
 -- the names of the pins that have a role, in pin order
 abbrev pub names_with : (Role → Bool) → List RawPin → List (List ℕ)
 names_with is_role [] = []
-names_with is_role (pin ∷ pins) = if is_role pin.role then pin.name ∷ names_with is_role pins else names_with is_role pins
+names_with is_role (pin ∷ pins) =
+    if is_role pin.role then pin.name ∷ names_with is_role pins else names_with is_role pins
 
 -- the names of the input pins, in pin order
 abbrev pub input_names : Meaning → List (List ℕ)
@@ -81,8 +84,8 @@ abbrev pub bit_on : List RawUse → List ℕ → Option RawBit
 bit_on [] pin = None
 bit_on (connection ∷ more) pin = if bytes_eq pin connection.pin then connection.bit else bit_on more pin
 
--- The wires are numbered: the declared bits in declaration order, the constants 0 and 1, and a wire of its own for each output pin
--- that is connected to nothing, in instance order and then pin order.
+-- The wires are numbered: the declared bits in declaration order, the constants 0 and 1, and a wire of its
+-- own for each output pin that is connected to nothing, in instance order and then pin order.
 abbrev pub wire_of : ℕ → RawBit → ℕ
 wire_of bits (Bit number) = number
 wire_of bits (Constant false) = bits
@@ -135,12 +138,14 @@ bit_name bus (Some range) k = bus.name ++ (codes "[" ++ (decimal (index_at range
 abbrev pub header_bits_from : RawBus → ℕ → ℕ → ℕ → List HeaderBit
 header_bits_from bus first k zero = []
 header_bits_from bus first k (suc count) =
-    record { name = bit_name bus bus.range k; is_input = is_input_port bus.direction; wire = first + k } ∷ header_bits_from bus first (k + 1) count
+    record { name = bit_name bus bus.range k; is_input = is_input_port bus.direction; wire = first + k } ∷
+    header_bits_from bus first (k + 1) count
 
 -- the bits of the declared name at a place
 abbrev pub header_bits_of : List RawBus → ℕ → Option RawBus → List HeaderBit
 header_bits_of buses place None = []
-header_bits_of buses place (Some bus) = header_bits_from bus (bit_count (take place buses)) 0 (range_width bus.range)
+header_bits_of buses place (Some bus) =
+    header_bits_from bus (bit_count (take place buses)) 0 (range_width bus.range)
 
 -- the port bits in header order
 abbrev pub header_bits : List RawBus → List ℕ → List HeaderBit
@@ -154,7 +159,8 @@ pub record WiredPart : Type 0 where
   pub inputs : List ℕ
   pub outputs : List ℕ
 
--- the number of declared bits; the joins of wires; the instances in netlist order; and the port bits in header order
+-- the number of declared bits; the joins of wires; the instances in netlist order; and the port bits in
+-- header order
 pub record Wiring : Type 0 where
   pub bits : ℕ
   pub joins : List Join
@@ -180,11 +186,13 @@ abbrev pub wired_parts : List Named → List ScanRow → ℕ → ℕ → List Ra
 wired_parts library scan bits own [] = []
 wired_parts library scan bits own (instance ∷ more) =
     wired_part bits own (meaning_of library scan instance.cell) instance
-    ∷ wired_parts library scan bits (own + open_count instance.pins (output_names (meaning_of library scan instance.cell))) more
+    ∷ wired_parts library scan bits (own + open_count instance.pins (output_names
+    (meaning_of library scan instance.cell))) more
 
 -- the wires that `assign`s join, where so many bits are declared
 abbrev pub joins_of : ℕ → List RawJoin → List Join
-joins_of bits joins = map (λ join. record { left = wire_of bits join.left; right = wire_of bits join.right }) joins
+joins_of bits joins =
+    map (λ join. record { left = wire_of bits join.left; right = wire_of bits join.right }) joins
 
 -- the wiring of a netlist, with this library and this scan table
 abbrev pub wiring_of : RawNetlist → List Named → List ScanRow → Wiring

@@ -49,8 +49,8 @@ impl Span {
     }
 }
 
-/// Wires, each linked to an earlier one that it is joined with, or to itself. Contracts see the list of those that they are
-/// linked to.
+/// Wires, each linked to an earlier one that it is joined with, or to itself. Contracts see the list of those
+/// that they are linked to.
 #[derive(Drop)]
 struct Links {
     parents: Vec<u32>,
@@ -207,7 +207,8 @@ impl Links {
 pub(crate) fn earliest(alloc: Global, wires: usize, spans: &[Span]) -> Result<Vec<u32>, NoMemory>
     requires few { wires < 2 ^ 32 }
     requires within { All (IsSpanWithin wires) spans.now }
-    ensures { IfOk result (λ list. (joins : List Join) → AreJoinsOf spans.now joins → AreEarliest joins wires list.items) }
+    ensures { IfOk result (λ list. (joins : List Join) → AreJoinsOf spans.now joins
+        → AreEarliest joins wires list.items) }
 {
     let mut links = Links::begin(alloc, wires)?;
     links.unite_all(spans);

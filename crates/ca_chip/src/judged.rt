@@ -95,7 +95,8 @@ fn judge(
 ) -> Result<(), ChipFault>
     requires { cells.now ≡ map (λ row. row.cell) scan.now }
     ensures ok { OnOk result (IsSound (meaning_of library.now scan.now instance.now.cell) instance.now.pins) }
-    ensures cause { IfErr result (IsInstanceCause u (meaning_of library.now scan.now instance.now.cell) instance.now.pins) }
+    ensures cause { IfErr result (IsInstanceCause u
+        (meaning_of library.now scan.now instance.now.cell) instance.now.pins) }
 {
     let uses = instance.pins.as_slice();
     if let Some(row) = row_of(scan, cells, &instance.cell) {
@@ -113,8 +114,8 @@ fn judge(
     }
 }
 
-/// Whether each instance's cell is known and keeps its rules, each connection is to a pin of it, and each input pin is
-/// connected; else the first rule that is broken.
+/// Whether each instance's cell is known and keeps its rules, each connection is to a pin of it, and each
+/// input pin is connected; else the first rule that is broken.
 pub fn judge_instances(
     alloc: Global,
     raw: &RawNetlist,

@@ -18,13 +18,14 @@ abbrev pub is_used : Chip → Option ℕ → Bool
 is_used chip None = false
 is_used chip (Some net) = is_loaded chip net
 
--- the first pin of a scan instance that breaks its rule: 0, 1 and 2 are the scan enable, the clock and the hold, each of
--- which is misplaced or on the net of an earlier one; 3 is the inverted output
+-- the first pin of a scan instance that breaks its rule: 0, 1 and 2 are the scan enable, the clock and the
+-- hold, each of which is misplaced or on the net of an earlier one; 3 is the inverted output
 abbrev pub pin_fault : Chip → ScanNets → ScanNets → Option ℕ
 pin_fault chip first nets =
     if is_misplaced chip first.se nets.se then Some 0
     else (if is_misplaced chip first.ck nets.ck || eqb nets.ck nets.se then Some 1
-    else (if is_misplaced chip first.hold nets.hold || (eqb nets.hold nets.se || eqb nets.hold nets.ck) then Some 2
+    else (if is_misplaced chip first.hold nets.hold || (eqb nets.hold nets.se || eqb nets.hold nets.ck)
+    then Some 2
     else (if is_used chip nets.qn then Some 3 else None)))
 
 -- the nets of a scan instance, or else those of a later one
@@ -51,13 +52,15 @@ misused_or u (Some pin) later = Some (record { instance = u; pin = pin })
 -- the first of these instances, of which the first is the instance u, that has such a pin
 abbrev pub misused_from : Chip → Option ScanNets → ℕ → List Part → Option Misused
 misused_from chip first u [] = None
-misused_from chip first u (part ∷ more) = misused_or u (body_fault chip first part.body) (misused_from chip first (u + 1) more)
+misused_from chip first u (part ∷ more) =
+    misused_or u (body_fault chip first part.body) (misused_from chip first (u + 1) more)
 
 -- the first scan instance with a pin that breaks its rule, and the first such pin
 abbrev pub misused_of : Chip → Option Misused
 misused_of chip = misused_from chip (first_scan chip.parts) 0 chip.parts
 
--- the marks of the nets that are on input pins, on input ports and on output ports; only the proofs of the code cite this
+-- the marks of the nets that are on input pins, on input ports and on output ports; only the proofs of the
+-- code cite this
 pub record AreLoadMarks (chip : Chip) (marks : LoadMarks) : Type 0 where
   pub pins_are : AreMarks (net_count chip) (is_among input_nets chip.parts) marks.pins
   pub inputs_are : AreMarks (net_count chip) (is_on_port chip true) marks.inputs

@@ -1,5 +1,6 @@
--- The core of a linked chip, which the flat network stands on: its nets off the scan path, numbered anew, and an instance for each
--- of the chip's. A scan instance has a cell without devices, whose one pin drives the net of the inverted output, if it has one.
+-- The core of a linked chip, which the flat network stands on: its nets off the scan path, numbered anew, and
+-- an instance for each of the chip's. A scan instance has a cell without devices, whose one pin drives the
+-- net of the inverted output, if it has one.
 use Rattle.std.specs.Prelude.{ℕ, zero, suc, ◌+◌, ◌≡◌, ◌<◌, Bool, true, false, List, [], ◌∷◌, ◌++◌, map, length, option_to_list, Option, Some, None, slice_index_or, slice_get, if◌then◌else◌}
 use Rattle.std.specs.List.{list_any, Contains, position_or_len}
 use Rattle.std.specs.Prelude.{eqb, nat_lt}
@@ -28,7 +29,8 @@ pub record Constant : Type 0 where
   pub net : ℕ
   pub value : Trit
 
--- the kinds of the nets, the instances in netlist order, the nets of the chip inputs, the constants, and the observed nets
+-- the kinds of the nets, the instances in netlist order, the nets of the chip inputs, the constants, and the
+-- observed nets
 pub record Core : Type 0 where
   pub nets : List NodeKind
   pub instances : List Instance
@@ -88,11 +90,13 @@ pub record IsCell (raw : RawCell) : Type 0 where
 -- each net is an input or has one driver, and each input pin's driver has a lower rank
 pub record IsCore (core : Core) (rank : ℕ → ℕ) : Type 0 where
   pub cells : (u : ℕ) → u < count_of core → IsCell (cell_at core u)
-  pub on_nets : (u pin : ℕ) → u < count_of core → pin < inputs_at core u + outputs_at core u → net_of core u pin < length core.nets
+  pub on_nets : (u pin : ℕ) → u < count_of core → pin < inputs_at core u + outputs_at core u
+      → net_of core u pin < length core.nets
   pub driven : (net : ℕ) → net < length core.nets → (net_kind core net ≡ node.Input → ⊥) → PinDrives core net
   pub drives : (net : ℕ) → PinDrives core net → net_kind core net ≡ node.Storage OUTPUT_NET
   pub one_driver : (net : ℕ) (p q : PinDrives core net) → (p.instance ≡ q.instance) × (p.output ≡ q.output)
-  pub ranked : (u pin : ℕ) → u < count_of core → pin < inputs_at core u → (p : PinDrives core (net_of core u pin))
+  pub ranked : (u pin : ℕ) → u < count_of core → pin < inputs_at core u
+      → (p : PinDrives core (net_of core u pin))
       → rank p.instance < rank u
   pub observed : (net : ℕ) → Contains core.outputs net → net < length core.nets
 
@@ -109,12 +113,14 @@ stored_nets (Scan nets) = option_to_list nets.qn
 -- a net that an instance drives is an output net; any other is an input
 abbrev pub kind_of : Chip → ℕ → NodeKind
 kind_of chip net =
-    if list_any (λ part. has (stored_nets part.body) net) chip.parts then node.Storage OUTPUT_NET else node.Input
+    if list_any (λ part. has (stored_nets part.body) net) chip.parts then node.Storage OUTPUT_NET
+    else node.Input
 
 -- the kinds of the first nets, without those on the scan path
 unfoldable pub core_kinds : Chip → ℕ → List NodeKind
 core_kinds chip zero = []
-core_kinds chip (suc net) = core_kinds chip net ++ (if is_scan_path chip net then [] else kind_of chip net ∷ [])
+core_kinds chip (suc net) =
+    core_kinds chip net ++ (if is_scan_path chip net then [] else kind_of chip net ∷ [])
 
 -- a pin without a name
 abbrev pub bare_pin : Role → RawPin
@@ -131,8 +137,10 @@ empty_cell (Some net) = record {
 
 -- the core's instance for one of the chip
 abbrev pub core_instance : Chip → Body → Instance
-core_instance chip (Gate cell inputs outputs) = record { cell = cell_of chip.cells cell; pins = map (core_net chip) (inputs ++ outputs) }
-core_instance chip (Scan nets) = record { cell = empty_cell nets.qn; pins = map (core_net chip) (option_to_list nets.qn) }
+core_instance chip (Gate cell inputs outputs) =
+    record { cell = cell_of chip.cells cell; pins = map (core_net chip) (inputs ++ outputs) }
+core_instance chip (Scan nets) =
+    record { cell = empty_cell nets.qn; pins = map (core_net chip) (option_to_list nets.qn) }
 
 -- the value of a constant
 abbrev pub trit_of : Bool → Trit
@@ -142,7 +150,8 @@ trit_of false = Zero
 -- a constant that drives a net off the scan path
 abbrev pub constant_on : Chip → Bool → Option ℕ → List Constant
 constant_on chip value None = []
-constant_on chip value (Some net) = if is_scan_path chip net then [] else record { net = core_net chip net; value = trit_of value } ∷ []
+constant_on chip value (Some net) =
+    if is_scan_path chip net then [] else record { net = core_net chip net; value = trit_of value } ∷ []
 
 -- the constants, that on the earlier net first
 abbrev pub in_net_order : List Constant → List Constant → List Constant

@@ -9,7 +9,8 @@ abbrev pub constant_place : Bool → ℕ
 constant_place false = 0
 constant_place true = 1
 
--- the first of the two comes before the second: port bits in header order, the constants 0 and 1, and output pins in netlist and pin order
+-- the first of the two comes before the second: port bits in header order, the constants 0 and 1, and output
+-- pins in netlist and pin order
 abbrev pub ComesBefore : Source → Source → Type 0
 ComesBefore (FromPort a) (FromPort b) = a < b
 ComesBefore (FromPort a) (FromConstant b) = Unit {0}
@@ -62,7 +63,8 @@ first_instance (Some source) = instance_of source
 -- for each net the first two of those that drive it
 pub record AreDrivers (chip : Chip) (table : List Sources) : Type 0 where
   pub count : length table ≡ net_count chip
-  pub first : (net : ℕ) → net < net_count chip → AreFirst (Drives chip net) (sources_at table net).first (sources_at table net).second
+  pub first : (net : ℕ) → net < net_count chip → AreFirst (Drives chip net) (sources_at table net).first
+      (sources_at table net).second
 
 -- a later one is noted
 abbrev pub noted_second : Source → Source → Option Source → Sources
@@ -93,7 +95,8 @@ noted source (Some first) second = noted_second source first second
 pub record AreNoted (chip : Chip) (Seen : ℕ → Source → Type 0) (table : List Sources) : Type 0 where
   pub count : length table ≡ net_count chip
   pub first : (net : ℕ) → net < net_count chip
-      → AreFirst (λ source. Drives chip net source × Seen net source) (sources_at table net).first (sources_at table net).second
+      → AreFirst (λ source. Drives chip net source × Seen net source) (sources_at table net).first
+      (sources_at table net).second
 
 -- those before this one were seen
 abbrev pub IsSeen : Source → ℕ → Source → Type 0

@@ -7,9 +7,9 @@ use Rattle.ca_wired.specs.Feeding.{AreSingle}
 use Rattle.ca_wired.specs.Reading.{AreReaders}
 use Rattle.ca_wired.specs.Paths.{AreMarks}
 
--- for each net whether it is on the scan path, and its driver; for each library instance its place in the order; for each net its
--- readers; and the nets of the chip inputs and of the observed outputs;
--- and the library instances and the scan instances in netlist order
+-- for each net whether it is on the scan path, and its driver; for each library instance its place in the
+-- order; for each net its readers; and the nets of the chip inputs and of the observed outputs; and the
+-- library instances and the scan instances in netlist order
 pub record KeptTables : Type 0 where
   pub path : List Bool
   pub drivers : List Sources

@@ -13,9 +13,9 @@ pub use Rattle.ca_wired.specs.declared.parts.PortBit.{PortBit}
 pub use Rattle.ca_wired.specs.declared.parts.Source.{Source}
 pub use Rattle.ca_wired.specs.declared.parts.Source.TheVariants.{FromPort, FromConstant, FromPin}
 
--- The cells of the library, which instances name by their places; the number of nets; the nets that the constants 0 and 1 drive; the
--- instances in netlist order; the port bits in header order; and the library instances in an order in which each comes after those
--- that drive its inputs.
+-- The cells of the library, which instances name by their places; the number of nets; the nets that the
+-- constants 0 and 1 drive; the instances in netlist order; the port bits in header order; and the library
+-- instances in an order in which each comes after those that drive its inputs.
 pub record Chip : Type 0 where
   pub cells : List RawCell
   pub nets : ℕ
@@ -82,9 +82,11 @@ is_scan_path chip net = list_any (λ part. has (path_nets part.body) net) chip.p
 
 -- the source drives the net
 abbrev pub Drives : Chip → ℕ → Source → Type 0
-Drives chip net (FromPort p) = IsSomeAnd (slice_get chip.ports p) (λ port. IsTrue port.is_input × (port.net ≡ net))
+Drives chip net (FromPort p) =
+    IsSomeAnd (slice_get chip.ports p) (λ port. IsTrue port.is_input × (port.net ≡ net))
 Drives chip net (FromConstant value) = constant_net chip value ≡ Some net
-Drives chip net (FromPin u pin) = IsSomeAnd (slice_get chip.parts u) (λ part. slice_get (output_nets part.body) pin ≡ Some net)
+Drives chip net (FromPin u pin) =
+    IsSomeAnd (slice_get chip.parts u) (λ part. slice_get (output_nets part.body) pin ≡ Some net)
 
 -- the instance is of a library cell
 abbrev pub IsGate : Body → Type 0
@@ -130,7 +132,8 @@ pub record IsWired (chip : Chip) : Type 0 where
 -- the port bits of one direction that are off the scan path
 abbrev pub port_nets : Chip → Bool → List ℕ
 port_nets chip input = flat_map
-    (λ port. if (if port.is_input then input else not input) && not (is_scan_path chip port.net) then port.net ∷ [] else []) chip.ports
+    (λ port. if (if port.is_input then input
+    else not input) && not (is_scan_path chip port.net) then port.net ∷ [] else []) chip.ports
 
 -- the net that a scan cell's output drives
 abbrev pub q_nets : Body → List ℕ

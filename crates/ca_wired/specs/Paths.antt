@@ -17,7 +17,8 @@ is_on_port chip input net = list_any (is_port_on input net) chip.ports
 
 -- whether a net of the scan path is on a data pin, or leads from an input port to an output port
 abbrev pub is_observed : Chip → ℕ → Bool
-is_observed chip net = is_scan_path chip net && (is_on_data chip net || (is_on_port chip true net && is_on_port chip false net))
+is_observed chip net =
+    is_scan_path chip net && (is_on_data chip net || (is_on_port chip true net && is_on_port chip false net))
 
 -- the first net that is observed although it is on the scan path; or there is none
 pub record IsFirstObserved (chip : Chip) (net : ℕ) : Type 0 where

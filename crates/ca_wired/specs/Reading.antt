@@ -27,9 +27,11 @@ pub record IsOnPin (inputs : List ℕ) (count net : ℕ) : Type 0 where
   pub before : pin < count
   pub at : slice_get inputs pin ≡ Some net
 
--- one of the instances before the current one reads the net, or one of the first pins of the current one is on it
+-- one of the instances before the current one reads the net, or one of the first pins of the current one is
+-- on it
 abbrev pub ReadsSoFar : Chip → ℕ → List ℕ → ℕ → ℕ → ℕ → Type 0
-ReadsSoFar chip current inputs count net u = ReadsAmong chip current net u ⊎ ((u ≡ current) × IsOnPin inputs count net)
+ReadsSoFar chip current inputs count net u =
+    ReadsAmong chip current net u ⊎ ((u ≡ current) × IsOnPin inputs count net)
 
 -- the table has for each net the library instances that read it
 abbrev pub AreReaders : Chip → List (List ℕ) → Type 0

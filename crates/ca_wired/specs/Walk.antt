@@ -39,17 +39,21 @@ pub record IsWalk (feeders : List (List ℕ)) (Has : ℕ → Type 0) (walk : Wal
   pub room : length walk.marks ≡ length feeders
   pub listed : (u : ℕ) → Stands walk.order u ↔ (mark_of walk.marks u ≡ Done)
   pub once : (j k u : ℕ) → slice_get walk.order j ≡ Some u → slice_get walk.order k ≡ Some u → j ≡ k
-  pub after : (k u w : ℕ) → slice_get walk.order k ≡ Some u → IsFeeder feeders w u → (j : ℕ) × (j < k) × (slice_get walk.order j ≡ Some w)
+  pub after : (k u w : ℕ) → slice_get walk.order k ≡ Some u → IsFeeder feeders w u → (j : ℕ) × (j < k)
+      × (slice_get walk.order j ≡ Some w)
   pub on_trail : (u : ℕ) → mark_of walk.marks u ≡ Open → (i : ℕ) × ((done : ℕ) × IsVisit walk.trail i u done)
   pub opened : (i u done : ℕ) → IsVisit walk.trail i u done → mark_of walk.marks u ≡ Open
   pub alone : (i j u a b : ℕ) → IsVisit walk.trail i u a → IsVisit walk.trail j u b → i ≡ j
-  pub linked : (i u w a b : ℕ) → IsVisit walk.trail i u a → IsVisit walk.trail (suc i) w b → slice_get (row_of feeders u) a ≡ Some w
-  pub past : (i u done k w : ℕ) → IsVisit walk.trail i u done → k < done → slice_get (row_of feeders u) k ≡ Some w → mark_of walk.marks w ≡ Done
+  pub linked : (i u w a b : ℕ) → IsVisit walk.trail i u a → IsVisit walk.trail (suc i) w b
+      → slice_get (row_of feeders u) a ≡ Some w
+  pub past : (i u done k w : ℕ) → IsVisit walk.trail i u done → k < done → slice_get (row_of feeders u) k
+      ≡ Some w → mark_of walk.marks w ≡ Done
   pub has : (u : ℕ) → (mark_of walk.marks u ≡ New → ⊥) → Has u
 
 -- the last of the trail, if any, is to go on to w
 abbrev pub LeadsOn : List (List ℕ) → List Visit → ℕ → Type 0
-LeadsOn feeders trail w = (i u a : ℕ) → suc i ≡ length trail → IsVisit trail i u a → slice_get (row_of feeders u) a ≡ Some w
+LeadsOn feeders trail w =
+    (i u a : ℕ) → suc i ≡ length trail → IsVisit trail i u a → slice_get (row_of feeders u) a ≡ Some w
 
 -- all that feed others are among the roots, and have a row of their own
 abbrev pub AreClosed : List (List ℕ) → List ℕ → Type 0
@@ -63,7 +67,8 @@ HaveRows feeders roots = (u : ℕ) → Contains roots u → u < length feeders
 abbrev pub KeepsReached : WalkState → WalkState → Type 0
 KeepsReached old new = (u : ℕ) → (mark_of old.marks u ≡ New → ⊥) → mark_of new.marks u ≡ New → ⊥
 
--- what is left to do: for each new instance more than all that feed any, and for each on the trail those that aren't done
+-- what is left to do: for each new instance more than all that feed any, and for each on the trail those that
+-- aren't done
 abbrev pub mark_work : ℕ → Mark → ℕ
 mark_work most New = most
 mark_work most Open = 0
@@ -75,7 +80,9 @@ visit_work feeders visit = 1 + (length (row_of feeders visit.instance) - visit.d
 
 -- what is left to do in all
 abbrev pub work_of : List (List ℕ) → WalkState → ℕ
-work_of feeders walk = sum_by (mark_work (2 + sum_by (λ row. length row) feeders)) walk.marks + sum_by (visit_work feeders) walk.trail
+work_of feeders walk =
+    sum_by (mark_work (2 + sum_by (λ row. length row) feeders)) walk.marks + sum_by
+    (visit_work feeders) walk.trail
 
 -- a walk goes on to a walk, with less left to do
 pub record GoesOn (feeders : List (List ℕ)) (roots : List ℕ) (old new : WalkState) : Type 0 where
@@ -107,7 +114,8 @@ IsVisited feeders root walk (Some w) = Meets feeders walk w
 
 -- no root is new, and the trail was left; or one of the trail was met
 abbrev pub AreVisited : List (List ℕ) → List ℕ → WalkState → Option ℕ → Type 0
-AreVisited feeders roots walk None = (walk.trail ≡ []) × ((k : ℕ) → k < length roots → mark_of walk.marks (slice_index roots k) ≡ New → ⊥)
+AreVisited feeders roots walk None =
+    (walk.trail ≡ []) × ((k : ℕ) → k < length roots → mark_of walk.marks (slice_index roots k) ≡ New → ⊥)
 AreVisited feeders roots walk (Some w) = Meets feeders walk w
 
 -- u is visited at this place of the trail
@@ -133,7 +141,9 @@ back_from trail place (suc more) = instance_at trail (place + more) ∷ back_fro
 
 -- the number at this place is the lowest
 abbrev pub IsLowestAt : List ℕ → ℕ → Type 0
-IsLowestAt numbers place = (place < length numbers) × ((k : ℕ) → k < length numbers → slice_index numbers place ≤ slice_index numbers k)
+IsLowestAt numbers place =
+    (place < length numbers) × ((k : ℕ) → k < length numbers
+    → slice_index numbers place ≤ slice_index numbers k)
 
 -- the numbers from the lowest on, and then those before it
 pub record IsTurned (numbers turned : List ℕ) : Type 0 where

@@ -1,4 +1,5 @@
--- Why a chip's nets aren't wired: the rules on drivers, on control pins, on the scan path and on loops, in the order in which they are tried.
+-- Why a chip's nets aren't wired: the rules on drivers, on control pins, on the scan path and on loops, in
+-- the order in which they are tried.
 use Rattle.std.specs.Prelude.{ℕ, ◌≡◌, ◌<◌, false, Some, None}
 use Rattle.ca_wired.specs.declared.drivers.Sources.{Sources}
 use Rattle.ca_wired.specs.declared.order.SortFault.{SortFault}
@@ -36,7 +37,8 @@ abbrev pub wire_fault : SortFault → WireFault
 wire_fault (sort_fault.Loop loop) = Loop loop
 wire_fault sort_fault.NoMemory = NoMemory
 
--- each net has one driver, each control pin and inverted output keeps its rule, and no net of the scan path is observed
+-- each net has one driver, each control pin and inverted output keeps its rule, and no net of the scan path
+-- is observed
 pub record KeepsNetRules (chip : Chip) : Type 0 where
   pub driven : AreDriven chip
   pub used : misused_of chip ≡ None

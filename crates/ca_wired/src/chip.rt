@@ -12,8 +12,8 @@ use crate::readers::Readers;
 use ca_cell::Library;
 use std::marker::Model;
 
-/// A linked chip: each net has one driver, no scan path touches a data pin, and the library instances have an order in which
-/// each comes after those that drive its inputs.
+/// A linked chip: each net has one driver, no scan path touches a data pin, and the library instances have an
+/// order in which each comes after those that drive its inputs.
 #[derive(Drop)]
 pub struct Chip {
     pub(crate) library: Library,
@@ -59,7 +59,17 @@ impl Model for Chip {
       parts = chip.parts.items;
       ports = chip.ports.items;
       order = chip.order;
-    }) (record { path = chip.path; drivers = chip.drivers; places = chip.places.items; readers = chip.readers; inputs = chip.inputs; outputs = chip.outputs; gates = chip.gates; scans = chip.scans }) };
+    }) (record {
+      path = chip.path;
+      drivers = chip.drivers;
+      places = chip.places.items;
+      readers =
+          chip.readers;
+      inputs = chip.inputs;
+      outputs = chip.outputs;
+      gates = chip.gates;
+      scans = chip.scans;
+    }) };
 }
 
 impl Chip {
@@ -119,8 +129,8 @@ impl Chip {
         self.readers.get(net.0)
     }
 
-    /// The number of chip inputs: the bits of input ports off the scan path in header order, and then the outputs of scan
-    /// instances in netlist order.
+    /// The number of chip inputs: the bits of input ports off the scan path in header order, and then the
+    /// outputs of scan instances in netlist order.
     pub fn inputs(&self) -> usize
         ensures { result ≡ length (inputs_of self.now) }
     {
@@ -135,8 +145,8 @@ impl Chip {
         NetId(self.inputs.get(i))
     }
 
-    /// The number of observed outputs: the bits of output ports off the scan path in header order, and then the data pins of
-    /// scan instances in netlist order.
+    /// The number of observed outputs: the bits of output ports off the scan path in header order, and then
+    /// the data pins of scan instances in netlist order.
     pub fn outputs(&self) -> usize
         ensures { result ≡ length (outputs_of self.now) }
     {
@@ -200,7 +210,8 @@ impl Chip {
     /// The net of an input pin of an instance.
     pub fn input_net(&self, u: InstanceId, pin: usize) -> NetId
         requires { IsSomeAnd (slice_get self.now.parts u.0) (λ part. pin < length (input_nets part.body)) }
-        ensures { IsSomeAnd (slice_get self.now.parts u.0) (λ part. slice_get (input_nets part.body) pin ≡ Some result.0) }
+        ensures { IsSomeAnd (slice_get self.now.parts u.0) (λ part. slice_get (input_nets part.body) pin
+            ≡ Some result.0) }
     {
         NetId(self.parts[u.0 as usize].body.input(pin))
     }
@@ -208,7 +219,8 @@ impl Chip {
     /// The net of an output pin of an instance.
     pub fn output_net(&self, u: InstanceId, pin: usize) -> NetId
         requires { IsSomeAnd (slice_get self.now.parts u.0) (λ part. pin < length (output_nets part.body)) }
-        ensures { IsSomeAnd (slice_get self.now.parts u.0) (λ part. slice_get (output_nets part.body) pin ≡ Some result.0) }
+        ensures { IsSomeAnd (slice_get self.now.parts u.0) (λ part. slice_get (output_nets part.body) pin
+            ≡ Some result.0) }
     {
         NetId(self.parts[u.0 as usize].body.output(pin))
     }

@@ -14,8 +14,8 @@ use crate::paths::ports_of;
 use ca_base::NoMemory;
 use std::alloc::Global;
 
-/// A pin of a scan instance that breaks its rule: 0, 1 and 2 are the scan enable, the clock and the hold, 3 is the inverted
-/// output.
+/// A pin of a scan instance that breaks its rule: 0, 1 and 2 are the scan enable, the clock and the hold, 3
+/// is the inverted output.
 #[derive(Clone, Copy, Debug)]
 pub struct Misused {
     pub instance: u32,

@@ -111,7 +111,8 @@ impl Drivers {
     // One more drives a net.
     fn note(&mut self, net: u32, source: Source)
         requires { net < length self.old }
-        ensures { self.new ≡ slice_set self.old net (noted source (sources_at self.old net).first (sources_at self.old net).second) }
+        ensures { self.new ≡ slice_set self.old net (noted source (sources_at self.old net).first
+            (sources_at self.old net).second) }
     {
         self.table[net as usize] = self.get(net).with(source);
     }

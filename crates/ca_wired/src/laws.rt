@@ -2,7 +2,8 @@
 
 ghost use Rattle.ca_wired.specs.Laws.{OrderHasNoLoop, CoreIsFlat};
 
-/// Where there is an order, no list of instances, each driving a net on an input pin of the next, returns to its first.
+/// Where there is an order, no list of instances, each driving a net on an input pin of the next, returns to
+/// its first.
 pub fn order_has_no_loop()
     ensures { OrderHasNoLoop }
 {}

@@ -1,5 +1,5 @@
-//! Chips whose nets are numbered: one driver for each net, the scan path, and an order of the library instances in which
-//! each comes after those that drive its inputs.
+//! Chips whose nets are numbered: one driver for each net, the scan path, and an order of the library
+//! instances in which each comes after those that drive its inputs.
 #![tactic(auto)]
 
 mod chip;

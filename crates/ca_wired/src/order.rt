@@ -104,13 +104,22 @@ impl Model for Walk {
 
     ghost Value = { WalkState };
 
-    ghost view = { λ walk. record { marks = walk.marks.items; trail = walk.trail.items; order = walk.order.items } };
+    ghost view = { λ walk. record {
+      marks = walk.marks.items;
+      trail = walk.trail.items;
+      order =
+          walk.order.items;
+    } };
 }
 
 impl Walk {
     // The walk that has begun nowhere.
     fn begin(alloc: Global, instances: usize) -> Result<Self, NoMemory>
-        ensures ok { IfOk result (λ walk. walk ≡ record { marks = replicate instances mark.New; trail = []; order = [] }) }
+        ensures ok { IfOk result (λ walk. walk ≡ record {
+          marks = replicate instances mark.New;
+          trail = [];
+          order = [];
+        }) }
     {
         Ok(Walk {
             marks: vec![in alloc; Mark::New; instances]?,
@@ -142,7 +151,8 @@ impl Walk {
         requires few { visit.done < usize.MAX }
         ensures { self.new ≡ record {
           marks = self.old.marks;
-          trail = slice_set self.old.trail (length self.old.trail - 1) (record { instance = visit.instance; done = visit.done + 1 });
+          trail = slice_set self.old.trail (length self.old.trail - 1)
+              (record { instance = visit.instance; done = visit.done + 1 });
           order = self.old.order;
         } }
     {
@@ -208,8 +218,8 @@ impl Walk {
         matches!(self.mark(u), Mark::New)
     }
 
-    // Goes on from the last of the trail: to the next that feeds it, or, once all of those are in order, back to the one before.
-    // Where the next is on the trail, it is told.
+    // Goes on from the last of the trail: to the next that feeds it, or, once all of those are in order, back
+    // to the one before. Where the next is on the trail, it is told.
     fn step(&mut self, feeders: &Feeders, roots: &[u32]) -> Result<Option<u32>, NoMemory>
         requires walk { IsWalk feeders.now (Contains roots.now) self.old }
         requires closed { AreClosed feeders.now roots.now }
@@ -313,7 +323,8 @@ impl Walk {
     // The instances of the trail from the last back to the one at a place.
     fn back_to(&self, alloc: Global, place: usize) -> Result<Vec<u32>, NoMemory>
         requires { place < length self.now.trail }
-        ensures { IfOk result (λ back. back.items ≡ back_from self.now.trail place (length self.now.trail - place)) }
+        ensures { IfOk result (λ back. back.items ≡ back_from self.now.trail place
+            (length self.now.trail - place)) }
     {
         let mut back = Vec::new(alloc);
         let count = self.trail_len();

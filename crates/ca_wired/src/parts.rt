@@ -87,8 +87,8 @@ pub struct ScanNets {
     pub so: u32,
 }
 
-/// What an instance is of: a library cell, by its place in the library, with the net of each input pin and of each output pin;
-/// or a scan cell.
+/// What an instance is of: a library cell, by its place in the library, with the net of each input pin and of
+/// each output pin; or a scan cell.
 #[derive(Drop)]
 pub enum Body {
     Gate {

@@ -144,7 +144,8 @@ impl Chip {
     /// The net of a pin of an instance: the input pins come first, each kind in pin order.
     pub fn pin_net(&self, u: InstanceId, pin: usize) -> NetId
         requires { IsSomeAnd (slice_get self.now.parts u.0) (λ part. pin < length (pin_nets part.body)) }
-        ensures { IsSomeAnd (slice_get self.now.parts u.0) (λ part. slice_get (pin_nets part.body) pin ≡ Some result.0) }
+        ensures { IsSomeAnd (slice_get self.now.parts u.0) (λ part. slice_get (pin_nets part.body) pin
+            ≡ Some result.0) }
     {
         NetId(self.parts[u.0 as usize].body.pin(pin))
     }

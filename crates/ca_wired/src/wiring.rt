@@ -29,7 +29,8 @@ use std::alloc::Global;
 pub enum WireFault {
     /// Nothing drives the net, or two do.
     Misdriven(u32, Sources),
-    /// A control pin of a scan instance is not on the input port that it is to be on, or its inverted output has a load.
+    /// A control pin of a scan instance is not on the input port that it is to be on, or its inverted output
+    /// has a load.
     Misused(Misused),
     /// The net is of the scan path, and is on a data pin or leads from an input port to an output port.
     Observed(u32),
