@@ -1,0 +1,11 @@
+pub mod Joined
+pub mod Wiring
+pub mod Nets
+pub mod Linking
+pub mod InstanceRules
+pub mod Rules
+pub mod Same
+pub mod Pins
+pub mod Spans
+pub mod Forest
+pub mod Numbers

@@ -1,0 +1,5 @@
+//! Tests of linking, as tables.
+#![tactic(auto)]
+
+#[cfg(test)]
+mod instances;

@@ -1,0 +1,187 @@
+-- The core of a linked chip, which the flat network stands on: its nets off the scan path, numbered anew, and
+-- an instance for each of the chip's. A scan instance has a cell without devices, whose one pin drives the
+-- net of the inverted output, if it has one.
+use Rattle.std.specs.Prelude.{ℕ, zero, suc, ◌+◌, ◌≡◌, ◌<◌, Bool, true, false, List, [], ◌∷◌, ◌++◌, map, length, option_to_list, Option, Some, None, slice_index_or, slice_get, if◌then◌else◌}
+use Rattle.std.specs.List.{list_any, Contains, position_or_len}
+use Rattle.std.specs.Prelude.{eqb, nat_lt}
+use Rattle.ca_net.specs.declared.trit.Trit.{Trit}
+use Rattle.ca_net.specs.declared.trit.Trit.TheVariants.{Zero, One}
+use Rattle.ca_net.specs.declared.scale.TheConstants.{OUTPUT_NET}
+use Rattle.ca_net.specs.declared.node.NodeKind.{NodeKind}
+use Rattle.ca_net.specs.declared.node.NodeKind.TheVariants as node
+use Rattle.ca_cell.specs.declared.raw.Role.{Role}
+use Rattle.ca_cell.specs.declared.raw.Role.TheVariants.{Output, Power, Ground}
+use Rattle.ca_cell.specs.declared.raw.RawPin.{RawPin}
+use Rattle.ca_cell.specs.declared.raw.RawCell.{RawCell}
+use Rattle.ca_cell.specs.declared.rule.CellRule.{CellRule}
+use Rattle.ca_cell.specs.declared.rule.CellRule.TheVariants.{NoOutput}
+use Rattle.ca_cell.specs.Raw.{is_input, is_output, role_count}
+use Rattle.ca_cell.specs.Rules.{IsRaw, Breaks}
+use Rattle.ca_wired.specs.Linked.{no_cell, cell_of, Body, Gate, Scan, Part, Chip, net_count, has, is_scan_path, inputs_of, outputs_of}
+
+-- a cell, and the net of each input pin and then of each output pin
+pub record Instance : Type 0 where
+  pub cell : RawCell
+  pub pins : List ℕ
+
+-- an input net whose value is fixed
+pub record Constant : Type 0 where
+  pub net : ℕ
+  pub value : Trit
+
+-- the kinds of the nets, the instances in netlist order, the nets of the chip inputs, the constants, and the
+-- observed nets
+pub record Core : Type 0 where
+  pub nets : List NodeKind
+  pub instances : List Instance
+  pub inputs : List ℕ
+  pub constants : List Constant
+  pub outputs : List ℕ
+
+-- what stands past the last instance
+abbrev pub no_instance : Instance
+no_instance = record { cell = no_cell; pins = [] }
+
+-- the instance at a place
+abbrev pub instance_at : Core → ℕ → Instance
+instance_at core u = slice_index_or core.instances u no_instance
+
+-- its cell
+abbrev pub cell_at : Core → ℕ → RawCell
+cell_at core u = (instance_at core u).cell
+
+-- the number of its input pins
+abbrev pub inputs_at : Core → ℕ → ℕ
+inputs_at core u = role_count is_input (cell_at core u).pins
+
+-- the number of its output pins
+abbrev pub outputs_at : Core → ℕ → ℕ
+outputs_at core u = role_count is_output (cell_at core u).pins
+
+-- the net of a pin of the instance u: the input pins come first
+abbrev pub net_of : Core → ℕ → ℕ → ℕ
+net_of core u pin = slice_index_or (instance_at core u).pins pin 0
+
+-- the net of an output pin of the instance u
+abbrev pub output_net : Core → ℕ → ℕ → ℕ
+output_net core u output = net_of core u (inputs_at core u + output)
+
+-- how many instances there are
+abbrev pub count_of : Core → ℕ
+count_of core = length core.instances
+
+-- the kind of a net; past the list it is an input
+abbrev pub net_kind : Core → ℕ → NodeKind
+net_kind core net = slice_index_or core.nets net node.Input
+
+-- an output pin of an instance, on the net
+pub record PinDrives (core : Core) (net : ℕ) : Type 0 where
+  pub instance : ℕ
+  pub output : ℕ
+  pub known : instance < count_of core
+  pub within : output < outputs_at core instance
+  pub on : output_net core instance output ≡ net
+
+-- the subcircuit is that of a cell, or it has no output pin and keeps the other rules
+pub record IsCell (raw : RawCell) : Type 0 where
+  pub is_raw : IsRaw raw
+  pub keeps : (rule : CellRule) → (rule ≡ NoOutput → ⊥) → Breaks raw rule → ⊥
+
+-- each net is an input or has one driver, and each input pin's driver has a lower rank
+pub record IsCore (core : Core) (rank : ℕ → ℕ) : Type 0 where
+  pub cells : (u : ℕ) → u < count_of core → IsCell (cell_at core u)
+  pub on_nets : (u pin : ℕ) → u < count_of core → pin < inputs_at core u + outputs_at core u
+      → net_of core u pin < length core.nets
+  pub driven : (net : ℕ) → net < length core.nets → (net_kind core net ≡ node.Input → ⊥) → PinDrives core net
+  pub drives : (net : ℕ) → PinDrives core net → net_kind core net ≡ node.Storage OUTPUT_NET
+  pub one_driver : (net : ℕ) (p q : PinDrives core net) → (p.instance ≡ q.instance) × (p.output ≡ q.output)
+  pub ranked : (u pin : ℕ) → u < count_of core → pin < inputs_at core u
+      → (p : PinDrives core (net_of core u pin))
+      → rank p.instance < rank u
+  pub observed : (net : ℕ) → Contains core.outputs net → net < length core.nets
+
+-- how many of the nets before this one are off the scan path: its number among those
+unfoldable pub core_net : Chip → ℕ → ℕ
+core_net chip zero = 0
+core_net chip (suc net) = core_net chip net + (if is_scan_path chip net then 0 else 1)
+
+-- the nets that storage nodes stand for: those that library instances drive, and those of inverted outputs
+abbrev pub stored_nets : Body → List ℕ
+stored_nets (Gate cell inputs outputs) = outputs
+stored_nets (Scan nets) = option_to_list nets.qn
+
+-- a net that an instance drives is an output net; any other is an input
+abbrev pub kind_of : Chip → ℕ → NodeKind
+kind_of chip net =
+    if list_any (λ part. has (stored_nets part.body) net) chip.parts then node.Storage OUTPUT_NET
+    else node.Input
+
+-- the kinds of the first nets, without those on the scan path
+unfoldable pub core_kinds : Chip → ℕ → List NodeKind
+core_kinds chip zero = []
+core_kinds chip (suc net) =
+    core_kinds chip net ++ (if is_scan_path chip net then [] else kind_of chip net ∷ [])
+
+-- a pin without a name
+abbrev pub bare_pin : Role → RawPin
+bare_pin role = record { name = []; role = role }
+
+-- a cell without devices: power, ground, and so many output pins
+abbrev pub empty_cell : Option ℕ → RawCell
+empty_cell None = record { pins = bare_pin Power ∷ bare_pin Ground ∷ []; nets = [] ∷ [] ∷ []; devices = [] }
+empty_cell (Some net) = record {
+  pins = bare_pin Power ∷ bare_pin Ground ∷ bare_pin Output ∷ [];
+  nets = [] ∷ [] ∷ [] ∷ [];
+  devices = [];
+}
+
+-- the core's instance for one of the chip
+abbrev pub core_instance : Chip → Body → Instance
+core_instance chip (Gate cell inputs outputs) =
+    record { cell = cell_of chip.cells cell; pins = map (core_net chip) (inputs ++ outputs) }
+core_instance chip (Scan nets) =
+    record { cell = empty_cell nets.qn; pins = map (core_net chip) (option_to_list nets.qn) }
+
+-- the value of a constant
+abbrev pub trit_of : Bool → Trit
+trit_of true = One
+trit_of false = Zero
+
+-- a constant that drives a net off the scan path
+abbrev pub constant_on : Chip → Bool → Option ℕ → List Constant
+constant_on chip value None = []
+constant_on chip value (Some net) =
+    if is_scan_path chip net then [] else record { net = core_net chip net; value = trit_of value } ∷ []
+
+-- the constants, that on the earlier net first
+abbrev pub in_net_order : List Constant → List Constant → List Constant
+in_net_order (low ∷ []) (high ∷ []) = if nat_lt low.net high.net then low ∷ high ∷ [] else high ∷ low ∷ []
+in_net_order lows highs = lows ++ highs
+
+-- the constants in net order
+abbrev pub core_constants : Chip → List Constant
+core_constants chip = in_net_order (constant_on chip false chip.zero) (constant_on chip true chip.one)
+
+-- the core of a chip
+abbrev pub core_of : Chip → Core
+core_of chip = record {
+  nets = core_kinds chip (net_count chip);
+  instances = map (λ part. core_instance chip part.body) chip.parts;
+  inputs = map (core_net chip) (inputs_of chip);
+  constants = core_constants chip;
+  outputs = map (core_net chip) (outputs_of chip);
+}
+
+-- a library instance is ranked by its place in the order, behind all scan instances
+abbrev pub body_rank : ℕ → Body → ℕ
+body_rank place (Gate cell inputs outputs) = suc place
+body_rank place (Scan nets) = 0
+
+-- the rank of a library instance is behind those of scan instances, in order
+abbrev pub rank_in : Chip → ℕ → Option Part → ℕ
+rank_in chip u None = 0
+rank_in chip u (Some part) = body_rank (position_or_len (eqb u) chip.order) part.body
+
+-- the rank of an instance of the chip
+abbrev pub rank_of : Chip → ℕ → ℕ
+rank_of chip u = rank_in chip u (slice_get chip.parts u)

@@ -1,0 +1,14 @@
+pub mod Order
+pub mod Walk
+pub mod Linked
+pub mod Drivers
+pub mod Feeding
+pub mod Paths
+pub mod Controls
+pub mod Reading
+pub mod Ends
+pub mod Instances
+pub mod Kept
+pub mod Wired
+pub mod Core
+pub mod Laws

@@ -1,0 +1,53 @@
+-- Why a chip's nets aren't wired: the rules on drivers, on control pins, on the scan path and on loops, in
+-- the order in which they are tried.
+use Rattle.std.specs.Prelude.{ℕ, ◌≡◌, ◌<◌, false, Some, None}
+use Rattle.ca_wired.specs.declared.drivers.Sources.{Sources}
+use Rattle.ca_wired.specs.declared.order.SortFault.{SortFault}
+use Rattle.ca_wired.specs.declared.order.SortFault.TheVariants as sort_fault
+use Rattle.ca_wired.specs.declared.wiring.WireFault.{WireFault}
+use Rattle.ca_wired.specs.declared.wiring.WireFault.TheVariants.{Misdriven, Misused, Observed, Loop, NoMemory}
+use Rattle.ca_wired.specs.Order.{IsLoop}
+use Rattle.ca_wired.specs.Linked.{Source, Chip, net_count, Drives, Feeds}
+use Rattle.ca_wired.specs.Drivers.{IsOnly, AreFirst, IsSingle}
+use Rattle.ca_wired.specs.Paths.{is_observed, IsFirstObserved}
+use Rattle.ca_wired.specs.Controls.{misused_of}
+
+-- the net has one driver
+pub record HasOneDriver (chip : Chip) (net : ℕ) : Type 0 where
+  pub source : Source
+  pub only : IsOnly (Drives chip net) source
+
+-- nothing drives the net, or these two are the first that do; each net before it has one driver
+pub record IsFirstMisdriven (chip : Chip) (net : ℕ) (sources : Sources) : Type 0 where
+  pub within : net < net_count chip
+  pub first : AreFirst (Drives chip net) sources.first sources.second
+  pub flawed : IsSingle sources → ⊥
+  pub none_before : (before : ℕ) → before < net → HasOneDriver chip before
+
+-- each net has one driver
+abbrev pub AreDriven : Chip → Type 0
+AreDriven chip = (net : ℕ) → net < net_count chip → HasOneDriver chip net
+
+-- no net of the scan path is observed
+abbrev pub AreUnobserved : Chip → Type 0
+AreUnobserved chip = (net : ℕ) → net < net_count chip → is_observed chip net ≡ false
+
+-- what a fault of the order is a fault of
+abbrev pub wire_fault : SortFault → WireFault
+wire_fault (sort_fault.Loop loop) = Loop loop
+wire_fault sort_fault.NoMemory = NoMemory
+
+-- each net has one driver, each control pin and inverted output keeps its rule, and no net of the scan path
+-- is observed
+pub record KeepsNetRules (chip : Chip) : Type 0 where
+  pub driven : AreDriven chip
+  pub used : misused_of chip ≡ None
+  pub unobserved : AreUnobserved chip
+
+-- the first rule that is broken; or there was no memory
+abbrev pub IsWireCause : Chip → WireFault → Type 0
+IsWireCause chip (Misdriven net sources) = IsFirstMisdriven chip net sources
+IsWireCause chip (Misused misused) = AreDriven chip × (misused_of chip ≡ Some misused)
+IsWireCause chip (Observed net) = AreDriven chip × (misused_of chip ≡ None) × IsFirstObserved chip net
+IsWireCause chip (Loop loop) = KeepsNetRules chip × IsLoop (Feeds chip) loop
+IsWireCause chip NoMemory = Unit {0}

@@ -1,0 +1,147 @@
+//! Wiring: the drivers of the nets, the scan path, and the order of the library instances.
+
+ghost use Rattle.std.specs.Prelude.{◌≡◌, ◌<◌, length, IfOk, OnOk, IfErr};
+ghost use Rattle.std.specs.List.{All};
+ghost use Rattle.ca_wired.specs.Linked.{net_count, is_scan_path, IsWired};
+ghost use Rattle.ca_wired.specs.Drivers.{AreDrivers, IsDrafted};
+ghost use Rattle.ca_wired.specs.Feeding.{AreSingle};
+ghost use Rattle.ca_wired.specs.Paths.{AreMarks};
+ghost use Rattle.ca_wired.specs.Kept.{IsOnce, ArePlaces};
+ghost use Rattle.ca_wired.specs.Wired.{wire_fault, KeepsNetRules, IsWireCause};
+
+use crate::chip::Chip;
+use crate::controls::{Misused, first_misused};
+use crate::draft::Draft;
+use crate::drivers::{Drivers, Sources, drivers_of};
+use crate::ends::{inputs_of, outputs_of};
+use crate::feeding::order_of;
+use crate::instances::InstanceList;
+use crate::marks::NetMarks;
+use crate::order::SortFault;
+use crate::paths::{first_observed, path_of};
+use crate::pins::{gates_of, scans_of};
+use crate::readers::readers_of;
+use ca_base::NoMemory;
+use std::alloc::Global;
+
+/// The first rule on nets that a netlist breaks.
+#[derive(Drop)]
+pub enum WireFault {
+    /// Nothing drives the net, or two do.
+    Misdriven(u32, Sources),
+    /// A control pin of a scan instance is not on the input port that it is to be on, or its inverted output
+    /// has a load.
+    Misused(Misused),
+    /// The net is of the scan path, and is on a data pin or leads from an input port to an output port.
+    Observed(u32),
+    /// Each of these drives the next, and the last the first.
+    Loop(InstanceList),
+    NoMemory,
+}
+
+impl From<NoMemory> for WireFault {
+    ghost use Rattle.ca_wired.specs.declared.wiring.WireFault.TheVariants as fault;
+
+    ghost from_gives = { λ _ e. e ≡ fault.NoMemory };
+
+    fn from(_: NoMemory) -> Self {
+        WireFault::NoMemory
+    }
+}
+
+impl WireFault {
+    // Why there is no order.
+    fn of(fault: SortFault) -> Self
+        ensures { result ≡ wire_fault fault }
+    {
+        match fault {
+            SortFault::Loop(instances) => WireFault::Loop(instances),
+            SortFault::NoMemory => WireFault::NoMemory,
+        }
+    }
+}
+
+// The place of each instance in the order.
+fn places_of(alloc: Global, order: &InstanceList, instances: usize) -> Result<Vec<usize>, NoMemory>
+    requires within { All (λ u. u < instances) order.now }
+    requires once { IsOnce order.now }
+    ensures { IfOk result (λ places. ArePlaces order.now (length order.now) instances places.items) }
+{
+    let mut places = vec![in alloc; 0; instances]?;
+    for k in 0..order.len() {
+        places[order.get(k).0 as usize] = k;
+    }
+    Ok(places)
+}
+
+// The rules on nets but that on loops, in the order in which they are tried.
+fn judge(alloc: Global, draft: &Draft, drivers: &Drivers, path: &NetMarks) -> Result<(), WireFault>
+    requires drafted { IsDrafted draft.now }
+    requires drivers { AreDrivers draft.now drivers.now }
+    requires path { AreMarks (net_count draft.now) (is_scan_path draft.now) path.now }
+    ensures ok { OnOk result (KeepsNetRules draft.now) }
+    ensures single { OnOk result (AreSingle draft.now drivers.now) }
+    ensures cause { IfErr result (IsWireCause draft.now) }
+{
+    if let Some(net) = drivers.first_flaw() {
+        return Err(WireFault::Misdriven(net, drivers.get(net)));
+    }
+    if let Some(misused) = first_misused(alloc, draft)? {
+        return Err(WireFault::Misused(misused));
+    }
+    if let Some(net) = first_observed(alloc, draft, path)? {
+        return Err(WireFault::Observed(net));
+    }
+    Ok(())
+}
+
+/// The chip with an order of its library instances.
+pub fn wire(alloc: Global, draft: Draft) -> Result<Chip, WireFault>
+    requires { IsDrafted draft }
+    ensures ok { IfOk result (λ chip. chip ≡ record draft { order = chip.order }) }
+    ensures wired { IfOk result IsWired }
+    ensures kept { OnOk result (KeepsNetRules draft) }
+    ensures cause { IfErr result (IsWireCause draft) }
+{
+    let drivers = drivers_of(alloc, &draft)?;
+    let path = path_of(alloc, &draft)?;
+    if let Err(fault) = judge(alloc, &draft, &drivers, &path) {
+        return Err(fault);
+    }
+    let readers = readers_of(alloc, &draft)?;
+    let inputs = inputs_of(alloc, &draft, &path)?;
+    let outputs = outputs_of(alloc, &draft, &path)?;
+    let gates = gates_of(alloc, &draft)?;
+    let scans = scans_of(alloc, &draft)?;
+    match order_of(alloc, &draft, &drivers) {
+        Err(fault) => Err(WireFault::of(fault)),
+        Ok(order) => {
+            let places = places_of(alloc, &order, draft.parts())?;
+            let Draft {
+                library,
+                nets,
+                zero,
+                one,
+                parts,
+                ports,
+            } = draft;
+            Ok(Chip {
+                library,
+                nets,
+                zero,
+                one,
+                parts,
+                ports,
+                order,
+                path,
+                drivers,
+                places,
+                readers,
+                inputs,
+                outputs,
+                gates,
+                scans,
+            })
+        }
+    }
+}
