@@ -42,19 +42,14 @@ fn words_of(alloc: Global, line: &str) -> Result<Vec<String>, NoMemory> {
     Ok(words)
 }
 
-// A store with one file, n.sp, and this space for others.
-fn store_with(
-    alloc: Global,
-    bytes: &str,
-    space: usize,
-    fail: FailList,
-) -> Result<MemStore, NoMemory> {
+// One file, n.sp.
+fn file_with(alloc: Global, bytes: &str) -> Result<FileMap, NoMemory> {
     let mut files = FileMap::new(alloc);
     files.add(File {
         name: Text::from_bytes(alloc, b"n.sp")?,
         bytes: Text::from_bytes(alloc, bytes.as_bytes())?,
     })?;
-    MemStore::new(alloc, files, 60, space, fail)
+    Ok(files)
 }
 
 // One command over a store with one file, n.sp, and room for others, and a sink of this room.
@@ -77,7 +72,8 @@ fn outcome_in(
     fail: FailList,
 ) -> Result<Outcome, NoMemory> {
     let words = words_of(alloc, line)?;
-    let mut store = store_with(alloc, bytes, space, fail)?;
+    let files = file_with(alloc, bytes)?;
+    let mut store = MemStore::new(alloc, files, 60, space, fail)?;
     let mut printed = MemSink::new(alloc, room, FailList::new(alloc))?;
     let end = run(alloc, &words, &mut store, &mut printed);
     let mut line = MemSink::new(alloc, 100, FailList::new(alloc))?;

@@ -1,10 +1,10 @@
 //! What the program answers, and the texts that it has of itself.
 
 use super::rows::LIBRARY;
-use super::{store_with, words_of};
+use super::{file_with, words_of};
 use crate::{Fault, answer, tell};
 use ca_base::NoMemory;
-use ca_store::{FailList, MemSink};
+use ca_store::{FailList, MemSink, MemStore};
 use std::alloc::Global;
 use std::process::Abort;
 use std::test::Fail;
@@ -20,7 +20,8 @@ struct Answered {
 // A command over a store with the library, and an error output of this room.
 fn answer_to(alloc: Global, line: &str, room: usize) -> Result<Answered, NoMemory> {
     let words = words_of(alloc, line)?;
-    let mut store = store_with(alloc, LIBRARY, 10_000, FailList::new(alloc))?;
+    let files = file_with(alloc, LIBRARY)?;
+    let mut store = MemStore::new(alloc, files, 60, 10_000, FailList::new(alloc))?;
     let mut printed = MemSink::new(alloc, 2_000, FailList::new(alloc))?;
     let mut told = MemSink::new(alloc, room, FailList::new(alloc))?;
     let status = answer(alloc, &words, &mut store, &mut printed, &mut told);
