@@ -10,3 +10,4 @@ pub mod PathLemmas
 pub mod WiredLemmas
 pub mod ReaderLemmas
 pub mod EndLemmas
+pub mod CellLemmas

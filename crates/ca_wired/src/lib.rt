@@ -2,6 +2,7 @@
 //! instances in which each comes after those that drive its inputs.
 #![tactic(auto)]
 
+mod cells;
 mod chip;
 mod controls;
 mod draft;
