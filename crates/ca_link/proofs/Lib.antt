@@ -1,0 +1,3 @@
+pub mod NetsLemmas
+pub mod LoopLemmas
+pub mod DriverLemmas
