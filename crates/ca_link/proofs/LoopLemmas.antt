@@ -10,7 +10,7 @@ use Rattle.ca_wired.specs.Order.{IsChain, IsLoop, HasNoLoop}
 use Rattle.ca_wired.specs.declared.parts.Body.{Body}
 use Rattle.ca_wired.specs.declared.parts.Body.TheVariants.{Gate, Scan}
 use Rattle.ca_wired.specs.Linked.{Chip, Feeds, IsWired, input_nets, output_nets, gate_inputs, gate_outputs}
-use Rattle.ca_wired.proofs.CoreIsChip.{no_feeding_loop}
+use Rattle.ca_wired.proofs.NoLoopLemmas.{no_feeding_loop}
 use Rattle.ca_wired.proofs.OrderLemmas.{contained_at, place_of}
 use Rattle.ca_link.proofs.NetsLemmas.{wire_at, net_at, one_net_joined, joined_one_net, also_there}
 
