@@ -38,7 +38,7 @@ invariant_of-result c =
     } in
     subst (λ (d : Chip). IsKept (record d { order = order }) tables) (sym c.draft.view_is) kept
 
-pub returns-clause-wired : goal.returns-in_ok-places-clause-wired
+pub returns-clause-wired : goal.returns-clause-wired
 returns-clause-wired c =
     let judged = c.requires.judged in
     let order = c.args.judged.order in
