@@ -1,1 +1,4 @@
 pub mod Telling
+pub mod Names
+pub mod Told
+pub mod Limits
