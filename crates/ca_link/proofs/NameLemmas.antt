@@ -1,6 +1,6 @@
 -- The names of a link's pins are those of its wiring, and so is what is told of what drives a net.
 use Rattle.std.proofs.Common.{◌≡◌, ℕ, zero, suc, ◌+◌, List, [], ◌∷◌, length, refl, sym, ◌∙◌, ap, subst, arith}
-use Rattle.std.specs.Prelude.{Option, Some, None, slice_get}
+use Rattle.std.specs.Prelude.{Option, Some, None, IsSomeAnd, slice_get}
 use Rattle.std.proofs.lemmas.Option.{slice_get_within, get_or_from_slice_get}
 use Rattle.ca_cell.specs.declared.library.Entry.{Entry}
 use Rattle.ca_cell.specs.declared.library.Entry.TheVariants.{Sound, Refused}
@@ -25,7 +25,8 @@ use Rattle.ca_wired.specs.declared.parts.Part.{Part}
 use Rattle.ca_wired.specs.declared.parts.Source.{Source}
 use Rattle.ca_wired.specs.declared.parts.Source.TheVariants.{FromPort, FromConstant, FromPin}
 use Rattle.ca_wired.specs.Linked.{Chip, output_nets, no_cell}
-use Rattle.ca_wired.proofs.DriverLemmas.{some_inj}
+use Rattle.ca_wired.specs.Instances.{IsScan}
+use Rattle.ca_wired.proofs.DriverLemmas.{some_inj, of_some}
 use Rattle.ca_link.specs.Names.{body_outputs, part_outputs, HaveNames, TellsSource}
 use Rattle.ca_link.specs.Told.{IsControlName}
 use Rattle.ca_link.proofs.NetsLemmas.{nets_length, also_there}
@@ -126,3 +127,14 @@ module _ (raw : RawNetlist) (library : List Named) (scan : List ScanRow) (chip :
         at = is.at;
         named = subst (λ m. slice_get (control_names m) k ≡ Some name) (sym meaning) is_name.named;
       }
+
+-- where each output pin has a name, the cell of a scan instance has a row
+pub no_row : (chip : Chip) (scan : List ScanRow) → HaveNames chip scan → (u : ℕ) (part : Part) → slice_get chip.parts u ≡ Some part
+    → IsSomeAnd (slice_get chip.parts u) (λ (p : Part). IsScan p.body) → row_of scan part.cell ≡ None → ⊥
+no_row chip scan have u part at is_scan none =
+    by part.body (of_some (λ (p : Part). IsScan p.body) (slice_get chip.parts u) part at is_scan)
+    (subst (λ row. length (body_outputs chip.cells row part.body) ≡ length (output_nets part.body)) none (have u part at))
+  where
+    by : (body : Body) → IsScan body → length (body_outputs chip.cells None body) ≡ length (output_nets body) → ⊥
+    by (Gate cell inputs outputs) is same = is
+    by (Scan nets) is same = omega (arith, same)

@@ -1,12 +1,12 @@
-//! Linking a gate netlist: the chip that it gives with a library and a table of scan cells, or the first rule that
-//! is broken.
+//! Linking: the chip that a gate netlist, a library and a table of scan cells give, or the first rule that they
+//! break.
 #![tactic(auto)]
 
-ghost use Rattle.std.specs.Prelude.{◌≡◌};
+mod controls;
+mod draft;
+mod limits;
+mod linking;
+mod names;
+mod telling;
 
-/// A placeholder.
-pub fn nothing() -> u32
-    ensures { result ≡ 0 }
-{
-    0
-}
+pub use linking::link;
