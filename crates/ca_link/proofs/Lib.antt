@@ -1,0 +1,4 @@
+pub mod JoinedLemmas
+pub mod LoadLemmas
+pub mod ScanLemmas
+pub mod ControlLemmas

@@ -1,0 +1,7 @@
+//! Linking: the chip that a gate netlist, a library and a table of scan cells give, or the first rule that
+//! they break.
+#![tactic(auto)]
+
+mod controls;
+
+pub use controls::control_name;
