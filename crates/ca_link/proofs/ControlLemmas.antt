@@ -23,7 +23,8 @@ use Rattle.ca_chip.specs.Linking.{IsPartOf, IsLinkOf}
 use Rattle.ca_chip.specs.Rules.{IsOnInputPort, control_names, IsScan, IsControl, BreaksControl, UsesInverted}
 use Rattle.ca_wired.proofs.DriverLemmas.{some_inj, to_some}
 use Rattle.ca_wired.proofs.FeedingLemmas.{item_of}
-use Rattle.ca_link.proofs.JoinedLemmas.{also_there, wire_at, net_at, net_joined, joined_net}
+use Rattle.ca_link.proofs.NetsLemmas.{wire_at, net_at, one_net_joined, joined_one_net, also_there}
+
 use Rattle.ca_link.proofs.LoadLemmas.{on_input, input_on, loaded_wire, wire_loaded}
 use Rattle.ca_link.proofs.ScanLemmas.{all_before, before_all, scan_body, body_scan, is_scan, IsFirstScan, first_scan_at, some_first, IsMisusedAt, misused_at, none_misused, control_net, control_input, breaks_pin, IsFirstPin, first_pin, no_pin, breaks_cases, misplaced_breaks, shared_breaks}
 
@@ -151,13 +152,13 @@ module _ (wiring : Wiring) (chip : Chip) (link : IsLinkOf wiring chip) where
               | inr differs ↦
                   let other = control_of place first is_first.scan k few in
                   inr (inl (place, other.wire, is_first.is_first, other.control, λ joined.
-                      let same = joined_net wiring link.nets link.are own.wire other.wire (control_net nets k) (control_net first k) own.is_net other.is_net joined in
+                      let same = joined_one_net wiring link.nets link.are.ascending own.wire other.wire (control_net nets k) (control_net first k) own.is_net other.is_net joined in
                       true≢false (sym differs ∙ ap not (eq-eqb (control_net nets k) (control_net first k) same))))
             ]
             | inr (j, before, same) ↦
                 let other = control_of u nets scan j (omega (arith, few, before)) in
                 inr (inr (j, other.wire, before, other.control,
-                    net_joined wiring link.nets own.wire other.wire (control_net nets j)
+                    one_net_joined wiring link.nets own.wire other.wire (control_net nets j)
                     (subst (IsNetOf wiring link.nets own.wire) (eqb-true (control_net nets k) (control_net nets j) same) own.is_net) other.is_net))
           ];
         }
@@ -180,7 +181,7 @@ module _ (wiring : Wiring) (chip : Chip) (link : IsLinkOf wiring chip) where
               misplaced_breaks chip first nets k few
               (or_right (not (is_on_port chip true (control_net nets k))) (not (eqb (control_net nets k) (control_net first k)))
               (elim (cases_Bool (eqb (control_net nets k) (control_net first k))) [
-                | inl equal ↦ absurd (apart (net_joined wiring link.nets breaks.wire other (control_net first k)
+                | inl equal ↦ absurd (apart (one_net_joined wiring link.nets breaks.wire other (control_net first k)
                     (subst (IsNetOf wiring link.nets breaks.wire) (eqb-true (control_net nets k) (control_net first k) equal) own) there))
                 | inr differs ↦ ap not differs
               ]))
@@ -188,7 +189,7 @@ module _ (wiring : Wiring) (chip : Chip) (link : IsLinkOf wiring chip) where
               let there = net_of_control u nets scan j other control in
               shared_breaks chip first nets k j few before
               (eq-eqb (control_net nets k) (control_net nets j)
-              (joined_net wiring link.nets link.are breaks.wire other (control_net nets k) (control_net nets j) own there joined))
+              (joined_one_net wiring link.nets link.are.ascending breaks.wire other (control_net nets k) (control_net nets j) own there joined))
         ]
 
     -- an inverted output with a load has one in the wiring

@@ -1,4 +1,6 @@
+pub mod NetsLemmas
 pub mod JoinedLemmas
 pub mod LoadLemmas
 pub mod ScanLemmas
 pub mod ControlLemmas
+pub mod PathLemmas

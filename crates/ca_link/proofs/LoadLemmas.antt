@@ -17,10 +17,11 @@ use Rattle.ca_chip.specs.Rules.{IsOnInputPort, IsJoinedWithOne}
 use Rattle.ca_chip.proofs.ForestLemmas.{joined_trans}
 use Rattle.ca_wired.proofs.DriverLemmas.{to_some}
 use Rattle.ca_wired.proofs.FeedingLemmas.{item_of}
-use Rattle.ca_link.proofs.JoinedLemmas.{also_there, any_at, at_any, flat_at, at_flat, net_joined, joined_net, list_joined, joined_list, Matches, one_joined, joined_one}
+use Rattle.ca_link.proofs.NetsLemmas.{one_net_joined, joined_one_net, also_there}
+use Rattle.ca_link.proofs.JoinedLemmas.{any_at, at_any, flat_at, at_flat, list_joined, joined_list, Matches, one_joined, joined_one}
 
 -- a list of one
-only_one : (x y : ℕ) → Contains (x ∷ []) y → x ≡ y
+pub only_one : (x y : ℕ) → Contains (x ∷ []) y → x ≡ y
 only_one x y contains = by contains.0 contains.1 contains.2
   where
     by : (k : ℕ) → k < 1 → get_or (x ∷ []) k y ≡ y → x ≡ y
@@ -58,7 +59,7 @@ module _ (wiring : Wiring) (chip : Chip) (link : IsLinkOf wiring chip) (net wire
         at = bit.0.wire;
         drives = to_some (λ (b : HeaderBit). IsTrue b.is_input × (b.wire ≡ bit.0.wire)) (slice_get wiring.header p) bit.0 bit.1
             (subst IsTrue of.is_input (input_as port.is_input both.0), refl);
-        joined = net_joined wiring link.nets bit.0.wire wire net
+        joined = one_net_joined wiring link.nets bit.0.wire wire net
             (subst (IsNetOf wiring link.nets bit.0.wire) (sym (eqb-true net port.net both.1)) of.net) is;
       })
 
@@ -68,7 +69,7 @@ module _ (wiring : Wiring) (chip : Chip) (link : IsLinkOf wiring chip) (net wire
       let bit = found.item in
       let port = also_there chip.ports wiring.header p bit (sym link.same_ports) found.at in
       let of = link.ports p bit port.0 found.at port.1 in
-      let same : port.0.net ≡ net = joined_net wiring link.nets link.are bit.wire wire port.0.net net of.net is
+      let same : port.0.net ≡ net = joined_one_net wiring link.nets link.are.ascending bit.wire wire port.0.net net of.net is
       (subst (λ w. AreJoined wiring.joins w wire) (sym found.has.1) drives.joined) in
       at_any (is_port_on true net) chip.ports p port.0 port.1
       (and_from (if port.0.is_input then true else not true) (eqb net port.0.net)
@@ -87,7 +88,7 @@ module _ (wiring : Wiring) (chip : Chip) (link : IsLinkOf wiring chip) (net wire
         bit.0.wire,
         at_flat (λ (b : HeaderBit). if b.is_input then [] else b.wire ∷ []) wiring.header p bit.0 bit.0.wire bit.1
             (output_as bit.0.is_input bit.0.wire (ap (λ b. if b then false else not false) (sym of.is_input) ∙ both.0)),
-        net_joined wiring link.nets bit.0.wire wire net
+        one_net_joined wiring link.nets bit.0.wire wire net
             (subst (IsNetOf wiring link.nets bit.0.wire) (sym (eqb-true net port.net both.1)) of.net) is,
       )
 
@@ -99,7 +100,7 @@ module _ (wiring : Wiring) (chip : Chip) (link : IsLinkOf wiring chip) (net wire
       let told = as_output bit.is_input bit.wire other found.3 in
       let port = also_there chip.ports wiring.header p bit (sym link.same_ports) found.2 in
       let of = link.ports p bit port.0 found.2 port.1 in
-      let same : port.0.net ≡ net = joined_net wiring link.nets link.are bit.wire wire port.0.net net of.net is
+      let same : port.0.net ≡ net = joined_one_net wiring link.nets link.are.ascending bit.wire wire port.0.net net of.net is
       (subst (λ w. AreJoined wiring.joins w wire) (sym told.1) joined) in
       at_any (is_port_on false net) chip.ports p port.0 port.1
       (and_from (if port.0.is_input then false else not false) (eqb net port.0.net)
