@@ -1,10 +1,7 @@
 -- Control pins and inverted outputs: a linked chip has the first that breaks its rule where its wiring has it.
-use Rattle.std.proofs.Common.{◌≡◌, ℕ, zero, suc, ◌+◌, ◌<◌, List, [], ◌∷◌, ◌++◌, Bool, true, false, length, inl, inr, refl, sym, ◌∙◌, ap, subst, arith, true≢false}
-use Rattle.std.specs.Prelude.{Option, Some, None, IsSomeAnd, IsTrue, slice_get, eqb, not, ◌||◌, ◌⊎◌, option_to_list}
-use Rattle.std.specs.List.{All}
+use Rattle.std.proofs.Common.{◌≡◌, ℕ, ◌+◌, ◌<◌, List, [], ◌∷◌, ◌++◌, true, inl, inr, refl, sym, ◌∙◌, ap, subst, arith, true≢false}
+use Rattle.std.specs.Prelude.{Option, Some, None, IsSomeAnd, slice_get, eqb, not, ◌⊎◌, option_to_list}
 use Rattle.std.proofs.lemmas.Bool.{cases_lt, cases_Bool, or_cases, or_left, or_right, eqb-true, eq-eqb}
-use Rattle.std.proofs.lemmas.Option.{slice_get_within}
-use native.Mathlib.Decide.{ℕ_discrete}
 use Rattle.ca_base.specs.First.{IsFirst}
 use Rattle.ca_wired.specs.declared.controls.Misused.{Misused}
 use Rattle.ca_wired.specs.declared.parts.ScanNets.{ScanNets}
@@ -14,19 +11,20 @@ use Rattle.ca_wired.specs.declared.parts.Part.{Part}
 use Rattle.ca_wired.specs.Linked.{Chip, input_nets, output_nets, IsGate}
 use Rattle.ca_wired.specs.Instances as instances
 use Rattle.ca_wired.specs.Paths.{is_on_port}
-use Rattle.ca_wired.specs.Controls.{is_misplaced, is_loaded, is_used, pin_fault, first_scan, body_fault, misused_of}
+use Rattle.ca_wired.specs.Controls.{is_used, pin_fault, first_scan, body_fault, misused_of}
 use Rattle.ca_chip.specs.declared.scan_row.ScanRow.{ScanRow}
-use Rattle.ca_chip.specs.Joined.{AreJoined}
-use Rattle.ca_chip.specs.Wiring.{ScanCell, WiredPart, Wiring}
-use Rattle.ca_chip.specs.Nets.{IsNetOf, AreNetsOf, IsLoaded}
+use Rattle.ca_cell.specs.Library.{Named}
+use Rattle.ca_verilog.specs.declared.raw.RawNetlist.{RawNetlist}
+use Rattle.ca_chip.specs.Wiring.{ScanCell, WiredPart, Wiring, row_of, wiring_of}
+use Rattle.ca_chip.specs.Nets.{IsNetOf, AreNetsOf}
 use Rattle.ca_chip.specs.Linking.{IsPartOf, IsLinkOf}
-use Rattle.ca_chip.specs.Rules.{IsOnInputPort, control_names, IsScan, IsControl, BreaksControl, UsesInverted}
+use Rattle.ca_chip.specs.Rules.{control_names, IsScan, IsControl, BreaksControl, UsesInverted}
 use Rattle.ca_wired.proofs.DriverLemmas.{some_inj, to_some}
 use Rattle.ca_wired.proofs.FeedingLemmas.{item_of}
 use Rattle.ca_link.proofs.NetsLemmas.{wire_at, net_at, one_net_joined, joined_one_net, also_there}
-
 use Rattle.ca_link.proofs.LoadLemmas.{on_input, input_on, loaded_wire, wire_loaded}
-use Rattle.ca_link.proofs.ScanLemmas.{all_before, before_all, scan_body, body_scan, is_scan, IsFirstScan, first_scan_at, some_first, IsMisusedAt, misused_at, none_misused, control_net, control_input, breaks_pin, IsFirstPin, first_pin, no_pin, breaks_cases, misplaced_breaks, shared_breaks}
+use Rattle.ca_link.proofs.RowLemmas.{row_means, means_row}
+use Rattle.ca_link.proofs.ScanLemmas.{all_before, before_all, scan_body, body_scan, is_scan, first_scan_at, some_first, IsMisusedAt, misused_at, none_misused, control_net, control_input, breaks_pin, IsFirstPin, first_pin, no_pin, breaks_cases, misplaced_breaks, shared_breaks}
 
 module _ (wiring : Wiring) (chip : Chip) (link : IsLinkOf wiring chip) where
   -- the instance is of a scan cell, with these nets
@@ -107,19 +105,22 @@ module _ (wiring : Wiring) (chip : Chip) (link : IsLinkOf wiring chip) where
       let found = first_scan_at chip.parts some.0 some.1 in
       let place = found.0 in
       let first = found.1 in
-      let here = scan_of_part place first.part some.0 first.at first.body in
-      (place, some.0, record {
-        told = some.1;
-        scan = here;
-        is_first = record {
-          here = to_some (λ (part : WiredPart). IsScan part.meaning) (slice_get wiring.parts place) here.wired here.is_wired
-              (is_scan here.wired.meaning here.row here.meaning);
-          none_before = all_before (λ (part : WiredPart). IsScan part.meaning → ⊥) wiring.parts place
-              (λ k wired lt at is.
-                  let other = scan_of_wired k wired at is in
-                  gate_unscanned k other.0 other.1.part other.1 other.1.is_part (first.none_before k other.1.part lt other.1.is_part));
-        };
-      })
+      let here = scan_of_part place first.part some.0 first.at first.body in (
+        place,
+        some.0,
+        record {
+          told = some.1;
+          scan = here;
+          is_first = record {
+            here = to_some (λ (part : WiredPart). IsScan part.meaning) (slice_get wiring.parts place) here.wired here.is_wired
+                (is_scan here.wired.meaning here.row here.meaning);
+            none_before = all_before (λ (part : WiredPart). IsScan part.meaning → ⊥) wiring.parts place
+                (λ k wired lt at is.
+                let other = scan_of_wired k wired at is in
+                gate_unscanned k other.0 other.1.part other.1 other.1.is_part (first.none_before k other.1.part lt other.1.is_part));
+          };
+        },
+      )
 
   pub one_first : (place other : ℕ) (first : ScanNets) → IsFirstAt place first
       → IsFirst (λ (part : WiredPart). IsScan part.meaning) wiring.parts other → other ≡ place
@@ -151,15 +152,26 @@ module _ (wiring : Wiring) (chip : Chip) (link : IsLinkOf wiring chip) where
               | inl off ↦ inl (λ on. true≢false (sym off ∙ ap not (input_on wiring chip link (control_net nets k) own.wire own.is_net on)))
               | inr differs ↦
                   let other = control_of place first is_first.scan k few in
-                  inr (inl (place, other.wire, is_first.is_first, other.control, λ joined.
-                      let same = joined_one_net wiring link.nets link.are.ascending own.wire other.wire (control_net nets k) (control_net first k) own.is_net other.is_net joined in
-                      true≢false (sym differs ∙ ap not (eq-eqb (control_net nets k) (control_net first k) same))))
+                  inr (inl (
+                    place,
+                    other.wire,
+                    is_first.is_first,
+                    other.control,
+                    λ joined.
+                        let same = joined_one_net wiring link.nets link.are.ascending own.wire other.wire (control_net nets k) (control_net first k) own.is_net other.is_net joined in
+                        true≢false (sym differs ∙ ap not (eq-eqb (control_net nets k) (control_net first k) same)),
+                  ))
             ]
             | inr (j, before, same) ↦
                 let other = control_of u nets scan j (omega (arith, few, before)) in
-                inr (inr (j, other.wire, before, other.control,
-                    one_net_joined wiring link.nets own.wire other.wire (control_net nets j)
-                    (subst (IsNetOf wiring link.nets own.wire) (eqb-true (control_net nets k) (control_net nets j) same) own.is_net) other.is_net))
+                inr (inr (
+                  j,
+                  other.wire,
+                  before,
+                  other.control,
+                  one_net_joined wiring link.nets own.wire other.wire (control_net nets j)
+                      (subst (IsNetOf wiring link.nets own.wire) (eqb-true (control_net nets k) (control_net nets j) same) own.is_net) other.is_net,
+                ))
           ];
         }
 
@@ -384,3 +396,32 @@ pub inverted_kept : (wiring : Wiring) (chip : Chip) (link : IsLinkOf wiring chip
 inverted_kept wiring chip link none u uses =
     let found = inverted_breaks wiring chip link u uses in
     none_at_all wiring chip link none u 3 found.0 found.1
+
+-- The instance that is told has a row in the scan table, and the control pin its name there.
+module _ (raw : RawNetlist) (library : List Named) (scan : List ScanRow) (chip : Chip) (link : IsLinkOf (wiring_of raw library scan) chip)
+    (misused : Misused) (told : misused_of chip ≡ Some misused) (part : Part) (at : slice_get chip.parts misused.instance ≡ Some part) where
+  told_scan : (nets : ScanNets) × IsScanAt (wiring_of raw library scan) chip link misused.instance nets
+  told_scan =
+      let here = (told_here (wiring_of raw library scan) chip link misused told).0 in
+      (here.nets, here.scan)
+
+  pub control_row : (row : ScanRow) × (row_of scan part.cell ≡ Some row)
+  control_row =
+      let here = told_scan.1 in
+      let same : here.part ≡ part = some_inj here.part part (sym here.is_part ∙ at) in (
+        here.row,
+        ap (λ (p : Part). row_of scan p.cell) (sym same) ∙ ap (row_of scan) here.of.cell
+            ∙ means_row raw library scan misused.instance here.wired here.is_wired here.row here.meaning,
+      )
+
+  pub control_told_by : (row : ScanRow) → row_of scan part.cell ≡ Some row → misused.pin < 3
+      → (pin : List ℕ) → slice_get (control_names (ScanCell row)) misused.pin ≡ Some pin
+      → BreaksControl (wiring_of raw library scan) misused.instance misused.pin pin
+  control_told_by row is few pin named =
+      let here = told_scan.1 in
+      let same : here.part ≡ part = some_inj here.part part (sym here.is_part ∙ at) in
+      let there : row_of scan here.wired.cell ≡ Some row =
+      ap (row_of scan) (sym here.of.cell) ∙ ap (λ (p : Part). row_of scan p.cell) same ∙ is in
+      control_broken (wiring_of raw library scan) chip link misused told few here.wired here.is_wired pin
+      (ap (λ meaning. slice_get (control_names meaning) misused.pin)
+      (row_means raw library scan misused.instance here.wired here.is_wired row there) ∙ named)

@@ -1,20 +1,17 @@
 -- Which nets of a linked chip have a load, or are on ports, and which wires.
-use Rattle.std.proofs.Common.{◌≡◌, ℕ, zero, suc, ◌<◌, List, [], ◌∷◌, ◌++◌, Bool, true, false, inl, inr, refl, sym, ◌∙◌, ap, subst, arith, get_or}
-use Rattle.std.specs.Prelude.{Some, slice_get, eqb, not, ◌||◌, ◌&&◌, if◌then◌else◌, IsTrue, ◌↔◌, ◌⊎◌}
+use Rattle.std.proofs.Common.{◌≡◌, ℕ, zero, suc, ◌<◌, [], ◌∷◌, Bool, true, false, inl, inr, refl, sym, ◌∙◌, ap, subst, arith, get_or}
+use Rattle.std.specs.Prelude.{slice_get, eqb, not, if◌then◌else◌, IsTrue}
 use Rattle.std.specs.List.{Contains, flat_map}
 use Rattle.std.proofs.lemmas.Bool.{or_cases, or_left, or_right, and_parts, and_from, eqb-true, eq-eqb}
 use Rattle.std.proofs.lemmas.List.Elements.{Contains-append_left, Contains-append_right, Contains-append_cases}
-use Rattle.std.proofs.lemmas.Option.{slice_get_within}
-use Rattle.ca_wired.specs.declared.parts.PortBit.{PortBit}
 use Rattle.ca_wired.specs.Linked.{Chip, input_nets}
 use Rattle.ca_wired.specs.Paths.{is_among, is_port_on, is_on_port}
 use Rattle.ca_wired.specs.Controls.{is_loaded}
 use Rattle.ca_chip.specs.Joined.{AreJoined}
 use Rattle.ca_chip.specs.Wiring.{HeaderBit, WiredPart, Wiring, out_bits}
 use Rattle.ca_chip.specs.Nets.{IsNetOf, IsLoaded}
-use Rattle.ca_chip.specs.Linking.{IsPartOf, IsLinkOf}
+use Rattle.ca_chip.specs.Linking.{IsLinkOf}
 use Rattle.ca_chip.specs.Rules.{IsOnInputPort, IsJoinedWithOne}
-use Rattle.ca_chip.proofs.ForestLemmas.{joined_trans}
 use Rattle.ca_wired.proofs.DriverLemmas.{to_some}
 use Rattle.ca_wired.proofs.FeedingLemmas.{item_of}
 use Rattle.ca_link.proofs.NetsLemmas.{one_net_joined, joined_one_net, also_there}
@@ -54,14 +51,16 @@ module _ (wiring : Wiring) (chip : Chip) (link : IsLinkOf wiring chip) (net wire
       let port = found.1 in
       let both = and_parts (if port.is_input then true else not true) (eqb net port.net) found.3 in
       let bit = also_there wiring.header chip.ports p port link.same_ports found.2 in
-      let of = link.ports p bit.0 port bit.1 found.2 in
-      (p, record {
-        at = bit.0.wire;
-        drives = to_some (λ (b : HeaderBit). IsTrue b.is_input × (b.wire ≡ bit.0.wire)) (slice_get wiring.header p) bit.0 bit.1
-            (subst IsTrue of.is_input (input_as port.is_input both.0), refl);
-        joined = one_net_joined wiring link.nets bit.0.wire wire net
-            (subst (IsNetOf wiring link.nets bit.0.wire) (sym (eqb-true net port.net both.1)) of.net) is;
-      })
+      let of = link.ports p bit.0 port bit.1 found.2 in (
+        p,
+        record {
+          at = bit.0.wire;
+          drives = to_some (λ (b : HeaderBit). IsTrue b.is_input × (b.wire ≡ bit.0.wire)) (slice_get wiring.header p) bit.0 bit.1
+              (subst IsTrue of.is_input (input_as port.is_input both.0), refl);
+          joined = one_net_joined wiring link.nets bit.0.wire wire net
+              (subst (IsNetOf wiring link.nets bit.0.wire) (sym (eqb-true net port.net both.1)) of.net) is;
+        },
+      )
 
   pub input_on : IsOnInputPort wiring wire → is_on_port chip true net ≡ true
   input_on (p, drives) =
@@ -83,8 +82,7 @@ module _ (wiring : Wiring) (chip : Chip) (link : IsLinkOf wiring chip) (net wire
       let port = found.1 in
       let both = and_parts (if port.is_input then false else not false) (eqb net port.net) found.3 in
       let bit = also_there wiring.header chip.ports p port link.same_ports found.2 in
-      let of = link.ports p bit.0 port bit.1 found.2 in
-      (
+      let of = link.ports p bit.0 port bit.1 found.2 in (
         bit.0.wire,
         at_flat (λ (b : HeaderBit). if b.is_input then [] else b.wire ∷ []) wiring.header p bit.0 bit.0.wire bit.1
             (output_as bit.0.is_input bit.0.wire (ap (λ b. if b then false else not false) (sym of.is_input) ∙ both.0)),

@@ -1,10 +1,9 @@
 -- The scan path: a linked chip has its first observed net where its wiring has it.
-use Rattle.std.proofs.Common.{◌≡◌, ℕ, zero, suc, ◌<◌, List, [], ◌∷◌, ◌++◌, Bool, true, false, inl, inr, refl, sym, ◌∙◌, ap, subst, arith, true≢false}
+use Rattle.std.proofs.Common.{◌≡◌, ℕ, zero, suc, ◌<◌, List, [], ◌∷◌, ◌++◌, true, false, inl, inr, refl, sym, ◌∙◌, ap, arith, true≢false}
 use Rattle.std.specs.Prelude.{Option, Some, None, slice_get, take, drop, ◌||◌, ◌&&◌, ◌⊎◌, ◌↔◌, option_to_list}
-use Rattle.std.specs.List.{Contains, list_any, flat_map}
+use Rattle.std.specs.List.{Contains}
 use Rattle.std.proofs.lemmas.Bool.{or_cases, or_left, or_right, and_parts, and_from}
 use Rattle.std.proofs.lemmas.List.Elements.{Contains-append_left, Contains-append_cases}
-use Rattle.ca_cell.specs.declared.raw.RawCell.{RawCell}
 use Rattle.ca_wired.specs.declared.parts.ScanNets.{ScanNets}
 use Rattle.ca_wired.specs.declared.parts.Body.{Body}
 use Rattle.ca_wired.specs.declared.parts.Body.TheVariants.{Gate, Scan}
@@ -14,12 +13,12 @@ use Rattle.ca_wired.specs.declared.parts.Source.TheVariants.{FromPort, FromConst
 use Rattle.ca_wired.specs.Linked.{Chip, net_count, path_nets, data_nets, input_nets, output_nets, has, is_scan_path, Drives}
 use Rattle.ca_wired.specs.Drivers.{instance_of}
 use Rattle.ca_wired.specs.Paths.{is_among, is_on_data, is_on_port, is_observed, IsFirstObserved}
-use Rattle.ca_wired.specs.Controls.{is_loaded, is_used, pin_fault, first_scan, body_fault, misused_of}
+use Rattle.ca_wired.specs.Controls.{is_used, pin_fault, first_scan, body_fault, misused_of}
 use Rattle.ca_wired.specs.Wired.{AreDriven, AreUnobserved}
-use Rattle.ca_chip.specs.Wiring.{Meaning, Unknown, Broken, Library, ScanCell, WiredPart, Wiring, out_bits}
+use Rattle.ca_chip.specs.Wiring.{Meaning, Unknown, Broken, Library, ScanCell, Wiring}
 use Rattle.ca_chip.specs.Nets.{IsNetOf, AreNetsOf}
-use Rattle.ca_chip.specs.Linking.{HasMeaning, IsPartOf, IsLinkOf}
-use Rattle.ca_chip.specs.Rules.{last_of, path_inputs, path_outputs, path_wires, data_wires_with, data_wires, IsOnInputPort, IsJoinedWithOne, IsObservedPath}
+use Rattle.ca_chip.specs.Linking.{HasMeaning, IsLinkOf}
+use Rattle.ca_chip.specs.Rules.{last_of, path_inputs, path_outputs, path_wires, data_wires_with, data_wires, IsJoinedWithOne, IsObservedPath}
 use Rattle.ca_wired.proofs.DriverLemmas.{some_inj, to_some}
 use Rattle.ca_link.proofs.NetsLemmas.{net_of_chip, net_of_wiring, net_within, wire_of_net}
 use Rattle.ca_link.proofs.JoinedLemmas.{any_at, at_any, has_contains, contains_has, known_by, list_joined, joined_list, Matches, one_joined, joined_one}
@@ -134,10 +133,9 @@ module _ (wiring : Wiring) (chip : Chip) (link : IsLinkOf wiring chip) where
   path_with (ScanCell row) (Gate cell ins_of outs_of) inputs outputs has ins outs net wire is = absurd has
   path_with (ScanCell row) (Scan nets) inputs outputs has ins outs net wire is =
       let of = nets_append wiring link.nets (drop 1 inputs) (last_of outputs) (nets.si ∷ nets.se ∷ nets.ck ∷ nets.hold ∷ []) (nets.so ∷ [])
-          (nets_behind wiring link.nets inputs (nets.si ∷ nets.se ∷ nets.ck ∷ nets.hold ∷ []) nets.d ins)
-          (nets_last wiring link.nets outputs nets.q nets.so nets.qn outs) in
-      let all = nets.si ∷ nets.se ∷ nets.ck ∷ nets.hold ∷ nets.so ∷ [] in
-      (
+      (nets_behind wiring link.nets inputs (nets.si ∷ nets.se ∷ nets.ck ∷ nets.hold ∷ []) nets.d ins)
+      (nets_last wiring link.nets outputs nets.q nets.so nets.qn outs) in
+      let all = nets.si ∷ nets.se ∷ nets.ck ∷ nets.hold ∷ nets.so ∷ [] in (
         λ contains. list_joined wiring link.nets (drop 1 inputs ++ last_of outputs) all net wire of is
             (fourth_first nets.se nets.ck nets.hold nets.si nets.so net contains),
         λ joined. first_fourth nets.se nets.ck nets.hold nets.si nets.so net
@@ -155,8 +153,7 @@ module _ (wiring : Wiring) (chip : Chip) (link : IsLinkOf wiring chip) where
   data_with Unknown body inputs outputs has ins outs net wire is = absurd has
   data_with (Broken rule) body inputs outputs has ins outs net wire is = absurd has
   data_with (Library raw) (Gate cell ins_of outs_of) inputs outputs has ins outs net wire is =
-      let of = nets_append wiring link.nets inputs outputs ins_of outs_of ins outs in
-      (
+      let of = nets_append wiring link.nets inputs outputs ins_of outs_of ins outs in (
         list_joined wiring link.nets (inputs ++ outputs) (ins_of ++ outs_of) net wire of is,
         joined_list wiring link.nets link.are (inputs ++ outputs) (ins_of ++ outs_of) net wire of is,
       )
@@ -164,9 +161,8 @@ module _ (wiring : Wiring) (chip : Chip) (link : IsLinkOf wiring chip) where
   data_with (ScanCell row) (Gate cell ins_of outs_of) inputs outputs has ins outs net wire is = absurd has
   data_with (ScanCell row) (Scan nets) inputs outputs has ins outs net wire is =
       let of = nets_append wiring link.nets (take 1 inputs) (take 1 outputs) (nets.d ∷ []) (nets.q ∷ [])
-          (nets_first wiring link.nets inputs (nets.si ∷ nets.se ∷ nets.ck ∷ nets.hold ∷ []) nets.d ins)
-          (nets_first wiring link.nets outputs (option_to_list nets.qn ++ nets.so ∷ []) nets.q outs) in
-      (
+      (nets_first wiring link.nets inputs (nets.si ∷ nets.se ∷ nets.ck ∷ nets.hold ∷ []) nets.d ins)
+      (nets_first wiring link.nets outputs (option_to_list nets.qn ++ nets.so ∷ []) nets.q outs) in (
         list_joined wiring link.nets (take 1 inputs ++ take 1 outputs) (nets.d ∷ nets.q ∷ []) net wire of is,
         joined_list wiring link.nets link.are (take 1 inputs ++ take 1 outputs) (nets.d ∷ nets.q ∷ []) net wire of is,
       )
@@ -271,15 +267,14 @@ path_observed : (wiring : Wiring) (chip : Chip) (link : IsLinkOf wiring chip) (n
 path_observed wiring chip link net observed =
     let at = net_of_chip wiring chip link net observed.wire observed.is_net in
     let is = known_by wiring link.nets link.are net observed.wire at in
-    let through = is_on_port chip true net && is_on_port chip false net in
-    (
+    let through = is_on_port chip true net && is_on_port chip false net in (
       net_within wiring chip link net observed.wire at,
       and_from (is_scan_path chip net) (is_on_data chip net || through)
           (joined_one wiring chip link path_nets path_wires (path_matches wiring chip link) net observed.wire is observed.path)
           (elim observed.observed [
             | inl on_data ↦
                 let named = any_at (λ (p : Part). has (named_nets p.body) net) chip.parts
-                    (joined_one wiring chip link named_nets data_wires (data_matches wiring chip link) net observed.wire is on_data) in
+                (joined_one wiring chip link named_nets data_wires (data_matches wiring chip link) net observed.wire is on_data) in
                 or_left (is_on_data chip net) through
                 (at_any (λ (p : Part). has (data_nets p.body) net) chip.parts named.0 named.1 named.2
                 (contains_has (data_nets named.1.body) net (named_data named.1.body net (has_contains (named_nets named.1.body) net named.3))))

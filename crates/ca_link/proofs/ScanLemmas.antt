@@ -1,13 +1,11 @@
 -- The scan instances of a linked chip, and which of their pins break a rule first.
-use Rattle.std.proofs.Common.{◌≡◌, ℕ, zero, suc, ◌+◌, ◌<◌, List, [], ◌∷◌, ◌++◌, Bool, true, false, length, inl, inr, refl, sym, ◌∙◌, ap, subst, arith, true≢false}
-use Rattle.std.specs.Prelude.{Option, Some, None, IsNone, slice_get, take, eqb, ◌||◌, ◌⊎◌, ◌↔◌, if◌then◌else◌}
+use Rattle.std.proofs.Common.{◌≡◌, ℕ, zero, suc, ◌+◌, ◌<◌, List, [], ◌∷◌, Bool, true, false, inl, inr, refl, sym, ◌∙◌, ap, subst, arith}
+use Rattle.std.specs.Prelude.{Option, Some, None, slice_get, take, eqb, ◌||◌, ◌⊎◌, if◌then◌else◌}
 use Rattle.std.specs.List.{All}
 use Rattle.std.proofs.lemmas.Bool.{or_cases, or_left, or_right}
 use Rattle.std.proofs.lemmas.List.Elements.{All-nil, All-cons, All-head, All-tail}
 use Rattle.std.proofs.lemmas.Option.{slice_get_within}
 use Rattle.ca_cell.specs.declared.raw.RawCell.{RawCell}
-use Rattle.ca_cell.specs.Library.{Named}
-use Rattle.ca_verilog.specs.declared.raw.RawInstance.{RawInstance}
 use Rattle.ca_wired.specs.declared.controls.Misused.{Misused}
 use Rattle.ca_wired.specs.declared.parts.ScanNets.{ScanNets}
 use Rattle.ca_wired.specs.declared.parts.Body.{Body}
@@ -16,7 +14,7 @@ use Rattle.ca_wired.specs.declared.parts.Part.{Part}
 use Rattle.ca_wired.specs.Linked.{Chip, input_nets, IsGate}
 use Rattle.ca_wired.specs.Controls.{is_misplaced, is_used, pin_fault, scan_or, first_scan, body_fault, misused_or, misused_from}
 use Rattle.ca_chip.specs.declared.scan_row.ScanRow.{ScanRow}
-use Rattle.ca_chip.specs.Wiring.{Meaning, Unknown, Broken, Library, ScanCell, meaning_of, output_names, open_count, WiredPart, wired_part, wired_parts}
+use Rattle.ca_chip.specs.Wiring.{Meaning, Unknown, Broken, Library, ScanCell}
 use Rattle.ca_chip.specs.Linking.{HasMeaning}
 use Rattle.ca_chip.specs.Rules.{IsScan}
 use Rattle.ca_wired.proofs.DriverLemmas.{some_inj}
@@ -38,26 +36,6 @@ before_all P (first ∷ xs) zero k x all lt at = absurd (omega (arith, lt))
 before_all P (first ∷ xs) (suc place) zero x all lt at = subst P (some_inj first x at) (All-head P first (take place xs) all)
 before_all P (first ∷ xs) (suc place) (suc k) x all lt at =
     before_all P xs place k x (All-tail P first (take place xs) all) (omega (arith, lt)) at
-
-module _ (library : List Named) (scan : List ScanRow) (bits : ℕ) where
-  -- an instance of a wiring is one of the netlist
-  pub record IsWiredAt (instances : List RawInstance) (u : ℕ) (wired : WiredPart) : Type 0 where
-    pub instance : RawInstance
-    pub at : slice_get instances u ≡ Some instance
-    pub meaning : wired.meaning ≡ meaning_of library scan instance.cell
-
-  pub wired_at : (own : ℕ) (instances : List RawInstance) (u : ℕ) (wired : WiredPart)
-      → slice_get (wired_parts library scan bits own instances) u ≡ Some wired → IsWiredAt instances u wired
-  wired_at own [] u wired at = absurd (let lt = slice_get_within [] u wired at in omega (arith, lt))
-  wired_at own (instance ∷ more) zero wired at = record {
-    instance = instance;
-    at = refl;
-    meaning = ap (λ (w : WiredPart). w.meaning)
-        (sym (some_inj (wired_part bits own (meaning_of library scan instance.cell) instance) wired at));
-  }
-  wired_at own (instance ∷ more) (suc u) wired at =
-      let found = wired_at (own + open_count instance.pins (output_names (meaning_of library scan instance.cell))) more u wired at in
-      record { instance = found.instance; at = found.at; meaning = found.meaning }
 
 -- an instance of a scan cell has the body of one
 pub scan_body : (cells : List RawCell) (meaning : Meaning) (body : Body) → HasMeaning cells meaning body → IsScan meaning
@@ -90,7 +68,9 @@ pub first_scan_at : (parts : List Part) (nets : ScanNets) → first_scan parts �
 first_scan_at [] nets e = absurd (let clash : None ≡ Some nets = e in cc)
 first_scan_at (part ∷ more) nets e = by (λ told. first_scan_at more nets told) part.body refl e
   where
-    by : (first_scan more ≡ Some nets → (place : ℕ) × IsFirstScan more place nets) → (body : Body) → part.body ≡ body → scan_or body (first_scan more) ≡ Some nets → (place : ℕ) × IsFirstScan (part ∷ more) place nets
+    by : (first_scan more ≡ Some nets → (place : ℕ) × IsFirstScan more place nets) → (body : Body) → part.body ≡ body
+        → scan_or body (first_scan more) ≡ Some nets
+        → (place : ℕ) × IsFirstScan (part ∷ more) place nets
     by rest (Gate cell inputs outputs) is told =
         let found = rest told in
         let later = found.1 in
@@ -100,12 +80,15 @@ first_scan_at (part ∷ more) nets e = by (λ told. first_scan_at more nets told
             → (before : ℕ) (other : Part) → before < suc place → slice_get (part ∷ more) before ≡ Some other → IsGate other.body
         none each zero other lt at = subst (λ (p : Part). IsGate p.body) (some_inj part other at) (subst IsGate (sym is) tt)
         none each (suc before) other lt at = each before other (omega (arith, lt)) at
-    by rest (Scan first) is told = (0, record {
-      part = part;
-      at = refl;
-      body = is ∙ ap Scan (some_inj first nets told);
-      none_before = λ before other lt at. absurd (omega (arith, lt));
-    })
+    by rest (Scan first) is told = (
+      0,
+      record {
+        part = part;
+        at = refl;
+        body = is ∙ ap Scan (some_inj first nets told);
+        none_before = λ before other lt at. absurd (omega (arith, lt));
+      },
+    )
 
 pub some_first : (parts : List Part) (u : ℕ) (part : Part) (nets : ScanNets) → slice_get parts u ≡ Some part
     → part.body ≡ Scan nets → (first : ScanNets) × (first_scan parts ≡ Some first)
@@ -151,13 +134,16 @@ module _ (chip : Chip) (first : Option ScanNets) where
           none each (suc before) other lt at = each before other (omega (arith, lt)) at
       by rest (Some pin) is told =
           let same : (record { instance = u; pin = pin }) ≡ misused = some_inj (record { instance = u; pin = pin }) misused told in
-          let there : u ≡ misused.instance = ap (λ (m : Misused). m.instance) same in
-          (0, omega (arith, there), record {
-            part = part;
-            at = refl;
-            broken = is ∙ ap Some (ap (λ (m : Misused). m.pin) same);
-            none_before = λ before other lt at. absurd (omega (arith, lt));
-          })
+          let there : u ≡ misused.instance = ap (λ (m : Misused). m.instance) same in (
+            0,
+            omega (arith, there),
+            record {
+              part = part;
+              at = refl;
+              broken = is ∙ ap Some (ap (λ (m : Misused). m.pin) same);
+              none_before = λ before other lt at. absurd (omega (arith, lt));
+            },
+          )
 
   pub none_misused : (parts : List Part) (u place : ℕ) (part : Part) → misused_from chip first u parts ≡ None
       → slice_get parts place ≡ Some part → body_fault chip first part.body ≡ None

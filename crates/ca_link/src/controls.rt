@@ -10,7 +10,7 @@ use ca_lex::Text;
 use std::alloc::Global;
 
 /// The name of a control pin of a scan cell: 0, 1 and 2 are the scan enable, the clock and the hold.
-pub fn control_name(alloc: Global, row: &ScanRow, k: u32) -> Result<Text, NoMemory>
+pub(crate) fn control_name(alloc: Global, row: &ScanRow, k: u32) -> Result<Text, NoMemory>
     requires { k < 3 }
     ensures { IfOk result (λ name. slice_get (control_names (ScanCell row.now)) k ≡ Some name) }
 {

@@ -3,5 +3,3 @@
 #![tactic(auto)]
 
 mod controls;
-
-pub use controls::control_name;
