@@ -38,6 +38,7 @@ module _ (wiring : Wiring) (chip : Chip) (link : IsLinkOf wiring chip) where
     pub row : ScanRow
     pub meaning : wired.meaning ≡ ScanCell row
 
+  -- so is one with such a body, and one with such a meaning
   pub scan_of_part : (u : ℕ) (part : Part) (nets : ScanNets) → slice_get chip.parts u ≡ Some part → part.body ≡ Scan nets → IsScanAt u nets
   scan_of_part u part nets at is =
       let wired = also_there wiring.parts chip.parts u part link.same_parts at in
@@ -94,11 +95,13 @@ module _ (wiring : Wiring) (chip : Chip) (link : IsLinkOf wiring chip) where
     pub scan : IsScanAt place first
     pub is_first : IsFirst (λ (part : WiredPart). IsScan part.meaning) wiring.parts place
 
+  -- a library instance is no scan instance
   gate_unscanned : (u : ℕ) (nets : ScanNets) (part : Part) → IsScanAt u nets → slice_get chip.parts u ≡ Some part → IsGate part.body → ⊥
   gate_unscanned u nets part scan at is =
       let same : part ≡ scan.part = some_inj part scan.part (sym at ∙ scan.is_part) in
       subst IsGate scan.body (subst (λ (p : Part). IsGate p.body) same is)
 
+  -- where there is a scan instance, there is a first
   pub first_of : (u : ℕ) (nets : ScanNets) → IsScanAt u nets → (place : ℕ) × (first : ScanNets) × IsFirstAt place first
   first_of u nets scan =
       let some = some_first chip.parts u scan.part nets scan.is_part scan.body in
@@ -122,6 +125,7 @@ module _ (wiring : Wiring) (chip : Chip) (link : IsLinkOf wiring chip) where
         },
       )
 
+  -- and no other is the first
   pub one_first : (place other : ℕ) (first : ScanNets) → IsFirstAt place first
       → IsFirst (λ (part : WiredPart). IsScan part.meaning) wiring.parts other → other ≡ place
   one_first place other first is_first is =
@@ -262,6 +266,7 @@ pub record HasPin (chip : Chip) (body : Body) (pin : ℕ) : Type 0 where
   pub is_first : first_scan chip.parts ≡ Some first
   pub broken : IsFirstPin chip first nets pin
 
+-- an instance with such a pin is a scan instance, beside a first one
 pub has_pin : (chip : Chip) (body : Body) (pin : ℕ) → body_fault chip (first_scan chip.parts) body ≡ Some pin → HasPin chip body pin
 has_pin chip body pin e = by body (first_scan chip.parts) refl refl e
   where
@@ -272,11 +277,13 @@ has_pin chip body pin e = by body (first_scan chip.parts) refl refl e
     by (Scan nets) (Some first) is is_first told =
         record { nets = nets; is = is; first = first; is_first = is_first; broken = first_pin chip first nets pin told }
 
+-- the pin is one of four
 pub misused_pin : (chip : Chip) (misused : Misused) → misused_of chip ≡ Some misused → misused.pin < 4
 misused_pin chip misused told =
     let at = told_at chip misused told in
     (has_pin chip at.part.body misused.pin at.broken).broken.few
 
+-- of a scan instance
 pub misused_scan : (chip : Chip) (misused : Misused) → misused_of chip ≡ Some misused
     → IsSomeAnd (slice_get chip.parts misused.instance) (λ part. instances.IsScan part.body)
 misused_scan chip misused told =
@@ -295,6 +302,7 @@ module _ (wiring : Wiring) (chip : Chip) (link : IsLinkOf wiring chip) where
     pub is_first : IsFirstAt wiring chip link place first
     pub fault : body_fault chip (first_scan chip.parts) scan.part.body ≡ pin_fault chip first nets
 
+  -- each is
   pub judged : (u : ℕ) (nets : ScanNets) → IsScanAt wiring chip link u nets → IsJudged u
   judged u nets scan =
       let found = first_of wiring chip link u nets scan in
@@ -317,6 +325,7 @@ module _ (wiring : Wiring) (chip : Chip) (link : IsLinkOf wiring chip) where
       let here = judged_wired u breaks.control.part breaks.control.is_part breaks.control.scan in
       (here, told_control wiring chip link u here.nets here.scan here.place here.first here.is_first k pin breaks)
 
+  -- and so does an inverted output with a load
   inverted_breaks : (u : ℕ) → UsesInverted wiring u → (here : IsJudged u) × (breaks_pin chip here.first here.nets 3 ≡ true)
   inverted_breaks u uses =
       let here = judged_wired u uses.part uses.is_part uses.scan in
@@ -348,11 +357,13 @@ module _ (wiring : Wiring) (chip : Chip) (link : IsLinkOf wiring chip) where
         true≢false (sym broken ∙ no_pin chip here.first here.nets (sym here.fault ∙ none) k)
     none_earlier u k here (inr (same, before)) broken = true≢false (sym broken ∙ (first_told u here same).none_before k before)
 
+  -- where none is told, none breaks its rule
   none_at_all : misused_of chip ≡ None → (u k : ℕ) (here : IsJudged u) → breaks_pin chip here.first here.nets k ≡ true → ⊥
   none_at_all none u k here broken =
       let fault = none_misused chip (first_scan chip.parts) chip.parts 0 u here.scan.part none here.scan.is_part in
       true≢false (sym broken ∙ no_pin chip here.first here.nets (sym here.fault ∙ fault) k)
 
+-- the control pin that is told breaks its rule in the wiring
 pub control_broken : (wiring : Wiring) (chip : Chip) (link : IsLinkOf wiring chip) (misused : Misused) → misused_of chip ≡ Some misused
     → misused.pin < 3 → (part : WiredPart) → slice_get wiring.parts misused.instance ≡ Some part
     → (pin : List ℕ) → slice_get (control_names part.meaning) misused.pin ≡ Some pin → BreaksControl wiring misused.instance misused.pin pin
@@ -364,6 +375,7 @@ control_broken wiring chip link misused told few part at pin named =
     control_told wiring chip link misused.instance here.nets here.scan here.place here.first here.is_first misused.pin few first.here pin
     (subst (λ (p : WiredPart). slice_get (control_names p.meaning) misused.pin ≡ Some pin) same named)
 
+-- and so does the inverted output that is told
 pub inverted_used : (wiring : Wiring) (chip : Chip) (link : IsLinkOf wiring chip) (misused : Misused) → misused_of chip ≡ Some misused
     → misused.pin ≡ 3 → UsesInverted wiring misused.instance
 inverted_used wiring chip link misused told last =
@@ -373,24 +385,28 @@ inverted_used wiring chip link misused told last =
     inverted_told wiring chip link misused.instance here.nets here.scan here.place here.first here.is_first
     (subst (λ pin. breaks_pin chip here.first here.nets pin ≡ true) last first.here)
 
+-- no control pin before what is told breaks its rule in the wiring
 pub no_earlier_control : (wiring : Wiring) (chip : Chip) (link : IsLinkOf wiring chip) (misused : Misused) → misused_of chip ≡ Some misused
     → (u k : ℕ) (pin : List ℕ) → (u < misused.instance) ⊎ ((u ≡ misused.instance) × (k < misused.pin)) → BreaksControl wiring u k pin → ⊥
 no_earlier_control wiring chip link misused told u k pin before breaks =
     let found = control_breaks wiring chip link u k pin breaks in
     none_earlier wiring chip link misused told u k found.0 before found.1
 
+-- and no inverted output before it has a load
 pub no_earlier_inverted : (wiring : Wiring) (chip : Chip) (link : IsLinkOf wiring chip) (misused : Misused) → misused_of chip ≡ Some misused
     → (u : ℕ) → u < misused.instance → UsesInverted wiring u → ⊥
 no_earlier_inverted wiring chip link misused told u before uses =
     let found = inverted_breaks wiring chip link u uses in
     none_earlier wiring chip link misused told u 3 found.0 (inl before) found.1
 
+-- where none is told, each control pin keeps its rule in the wiring
 pub controls_kept : (wiring : Wiring) (chip : Chip) (link : IsLinkOf wiring chip) → misused_of chip ≡ None
     → (u k : ℕ) (pin : List ℕ) → BreaksControl wiring u k pin → ⊥
 controls_kept wiring chip link none u k pin breaks =
     let found = control_breaks wiring chip link u k pin breaks in
     none_at_all wiring chip link none u k found.0 found.1
 
+-- and no inverted output has a load
 pub inverted_kept : (wiring : Wiring) (chip : Chip) (link : IsLinkOf wiring chip) → misused_of chip ≡ None
     → (u : ℕ) → UsesInverted wiring u → ⊥
 inverted_kept wiring chip link none u uses =

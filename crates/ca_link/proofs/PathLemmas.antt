@@ -54,6 +54,7 @@ data_cases (Scan nets) net contains = elim (Contains-append_cases (nets.d ∷ ne
     by None none = absurd (let lt = none.1 in omega (arith, lt))
     by (Some qn) one = ap Some (only_one qn net one)
 
+-- and a net that the rule names is one
 named_data : (body : Body) (net : ℕ) → Contains (named_nets body) net → Contains (data_nets body) net
 named_data (Gate cell inputs outputs) net contains = contains
 named_data (Scan nets) net contains = Contains-append_left (nets.d ∷ nets.q ∷ []) (option_to_list nets.qn) net contains
@@ -119,6 +120,7 @@ module _ (wiring : Wiring) (chip : Chip) (link : IsLinkOf wiring chip) where
   abbrev IsOn : ℕ → ℕ → Type 0
   IsOn wire net = IsNetOf wiring link.nets wire net
 
+  -- an instance puts a net on the scan path where its wiring puts the wires of that net there
   path_with : (meaning : Meaning) (body : Body) (inputs outputs : List ℕ) → HasMeaning chip.cells meaning body
       → AreNetsOf wiring link.nets inputs (input_nets body) → AreNetsOf wiring link.nets outputs (output_nets body)
       → (net wire : ℕ) → IsOn wire net
@@ -146,6 +148,7 @@ module _ (wiring : Wiring) (chip : Chip) (link : IsLinkOf wiring chip) where
   path_matches wired part of net wire is =
       path_with wired.meaning part.body wired.inputs wired.outputs of.meaning of.inputs of.outputs net wire is
 
+  -- and it has a net on a data pin that the rule names where its wiring has the wires of that net on one
   data_with : (meaning : Meaning) (body : Body) (inputs outputs : List ℕ) → HasMeaning chip.cells meaning body
       → AreNetsOf wiring link.nets inputs (input_nets body) → AreNetsOf wiring link.nets outputs (output_nets body)
       → (net wire : ℕ) → IsOn wire net
@@ -176,6 +179,7 @@ abbrev last_place : Option ℕ → ℕ
 last_place None = 1
 last_place (Some qn) = 2
 
+-- the scan output stands there
 last_output : (nets : ScanNets) → slice_get (output_nets (Scan nets)) (last_place nets.qn) ≡ Some nets.so
 last_output nets = by nets.qn
   where
@@ -183,6 +187,7 @@ last_output nets = by nets.qn
     by None = refl
     by (Some qn) = refl
 
+-- the output pin that drives
 abbrev pin_of : Source → ℕ
 pin_of (FromPort p) = 0
 pin_of (FromConstant value) = 0
@@ -222,6 +227,7 @@ module _ (chip : Chip) (driven : AreDriven chip) (used : misused_of chip ≡ Non
         let two : last_place out.nets.qn ≡ 2 = ap last_place (ap (λ (n : ScanNets). n.qn) nets ∙ inverted.at) in
         omega (arith, pin, two)
 
+    -- so it is no net of the scan path
     off_path : is_scan_path chip net ≡ true → ⊥
     off_path on =
         let found = any_at (λ (p : Part). has (path_nets p.body) net) chip.parts on in
@@ -241,6 +247,7 @@ module _ (chip : Chip) (driven : AreDriven chip) (used : misused_of chip ≡ Non
         | inr inverted ↦ absurd (off_path found.0 found.1 found.2 inverted path)
       ]
 
+-- the first net that is observed is observed in the wiring
 pub observed_path : (wiring : Wiring) (chip : Chip) (link : IsLinkOf wiring chip) (driven : AreDriven chip) (used : misused_of chip ≡ None)
     (net : ℕ) → IsFirstObserved chip net → IsObservedPath wiring net
 observed_path wiring chip link driven used net first =
@@ -284,11 +291,13 @@ path_observed wiring chip link net observed =
           ]),
     )
 
+-- and none before it is
 pub none_observed_before : (wiring : Wiring) (chip : Chip) (link : IsLinkOf wiring chip) (net : ℕ) → IsFirstObserved chip net
     → (before : ℕ) → before < net → IsObservedPath wiring before → ⊥
 none_observed_before wiring chip link net first before lt observed =
     true≢false (sym (path_observed wiring chip link before observed).1 ∙ first.none_before before lt)
 
+-- where none is observed, none is in the wiring
 pub unobserved : (wiring : Wiring) (chip : Chip) (link : IsLinkOf wiring chip) → AreUnobserved chip → (net : ℕ)
     → IsObservedPath wiring net → ⊥
 unobserved wiring chip link none net observed =

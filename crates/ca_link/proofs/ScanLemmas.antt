@@ -29,6 +29,7 @@ all_before P (x ∷ xs) (suc place) each =
     All-cons P x (take place xs) (each 0 x (omega arith) refl)
     (all_before P xs place (λ k y lt at. each (suc k) y (omega (arith, lt)) at))
 
+-- and the other way round
 pub before_all : {X : Type 0} (P : X → Type 0) (xs : List X) (place k : ℕ) (x : X) → All P (take place xs)
     → k < place → slice_get xs k ≡ Some x → P x
 before_all P [] place k x all lt at = absurd (let within = slice_get_within [] k x at in omega (arith, within))
@@ -46,6 +47,7 @@ scan_body cells (Library raw) body has is = absurd is
 scan_body cells (ScanCell row) (Gate cell inputs outputs) has is = absurd has
 scan_body cells (ScanCell row) (Scan nets) has is = (nets, refl)
 
+-- an instance with the body of a scan cell is of one
 pub body_scan : (cells : List RawCell) (meaning : Meaning) (body : Body) (nets : ScanNets) → HasMeaning cells meaning body
     → body ≡ Scan nets → (row : ScanRow) × (meaning ≡ ScanCell row)
 body_scan cells Unknown body nets has is = absurd has
@@ -64,6 +66,7 @@ pub record IsFirstScan (parts : List Part) (place : ℕ) (nets : ScanNets) : Typ
   pub body : part.body ≡ Scan nets
   pub none_before : (before : ℕ) (other : Part) → before < place → slice_get parts before ≡ Some other → IsGate other.body
 
+-- the first that is told stands there
 pub first_scan_at : (parts : List Part) (nets : ScanNets) → first_scan parts ≡ Some nets → (place : ℕ) × IsFirstScan parts place nets
 first_scan_at [] nets e = absurd (let clash : None ≡ Some nets = e in cc)
 first_scan_at (part ∷ more) nets e = by (λ told. first_scan_at more nets told) part.body refl e
@@ -90,6 +93,7 @@ first_scan_at (part ∷ more) nets e = by (λ told. first_scan_at more nets told
       },
     )
 
+-- where there is a scan instance, a first is told
 pub some_first : (parts : List Part) (u : ℕ) (part : Part) (nets : ScanNets) → slice_get parts u ≡ Some part
     → part.body ≡ Scan nets → (first : ScanNets) × (first_scan parts ≡ Some first)
 some_first [] u part nets at is = absurd (let lt = slice_get_within [] u part at in omega (arith, lt))
@@ -111,6 +115,7 @@ module _ (chip : Chip) (first : Option ScanNets) where
     pub none_before : (before : ℕ) (other : Part) → before < place → slice_get parts before ≡ Some other
         → body_fault chip first other.body ≡ None
 
+  -- the one that is told is
   pub misused_at : (parts : List Part) (u : ℕ) (misused : Misused) → misused_from chip first u parts ≡ Some misused
       → (place : ℕ) × (misused.instance ≡ u + place) × IsMisusedAt parts place misused.pin
   misused_at [] u misused e = absurd (let clash : None ≡ Some misused = e in cc)
@@ -145,6 +150,7 @@ module _ (chip : Chip) (first : Option ScanNets) where
             },
           )
 
+  -- where none is told, no instance has one
   pub none_misused : (parts : List Part) (u place : ℕ) (part : Part) → misused_from chip first u parts ≡ None
       → slice_get parts place ≡ Some part → body_fault chip first part.body ≡ None
   none_misused [] u place part e at = absurd (let lt = slice_get_within [] place part at in omega (arith, lt))
@@ -164,6 +170,7 @@ control_net nets zero = nets.se
 control_net nets (suc zero) = nets.ck
 control_net nets (suc (suc k)) = nets.hold
 
+-- it is that of an input pin, behind d and si
 pub control_input : (nets : ScanNets) (k : ℕ) → k < 3 → slice_get (input_nets (Scan nets)) (2 + k) ≡ Some (control_net nets k)
 control_input nets zero lt = refl
 control_input nets (suc zero) lt = refl
@@ -187,6 +194,7 @@ module _ (chip : Chip) (first nets : ScanNets) where
   abbrev told_by : Bool → Bool → Bool → Bool → Option ℕ
   told_by a b c d = if a then Some 0 else (if b then Some 1 else (if c then Some 2 else (if d then Some 3 else None)))
 
+  -- the pin that is told is the first
   pub first_pin : (pin : ℕ) → pin_fault chip first nets ≡ Some pin → IsFirstPin pin
   first_pin pin e = by (breaks_pin 0) (breaks_pin 1) (breaks_pin 2) (breaks_pin 3) refl refl refl refl e
     where
@@ -217,6 +225,7 @@ module _ (chip : Chip) (first nets : ScanNets) where
           none (suc (suc (suc before))) lt = absurd (omega (arith, lt))
       by false false false false is_a is_b is_c is_d told = absurd (let clash : None ≡ Some pin = told in cc)
 
+  -- where none is told, none breaks its rule
   pub no_pin : pin_fault chip first nets ≡ None → (pin : ℕ) → breaks_pin pin ≡ false
   no_pin e = by (breaks_pin 0) (breaks_pin 1) (breaks_pin 2) (breaks_pin 3) refl refl refl refl e
     where
@@ -250,6 +259,7 @@ module _ (chip : Chip) (first nets : ScanNets) where
       ]
   breaks_cases (suc (suc (suc k))) lt e = absurd (omega (arith, lt))
 
+  -- and where it is so, it does
   pub misplaced_breaks : (k : ℕ) → k < 3 → is_misplaced chip (control_net first k) (control_net nets k) ≡ true → breaks_pin k ≡ true
   misplaced_breaks zero lt e = e
   misplaced_breaks (suc zero) lt e = or_left (is_misplaced chip first.ck nets.ck) (eqb nets.ck nets.se) e
