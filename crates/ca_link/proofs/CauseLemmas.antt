@@ -1,30 +1,29 @@
 -- What is told of a fault is the first rule that is broken; where nothing is, none is.
 use Rattle.std.proofs.Common.{◌≡◌, ℕ, ◌+◌, ◌<◌, ◌⊎◌, List, [], ◌∷◌, length, inl, inr, refl, sym, ◌∙◌, ap, ap₂, subst, arith}
-use Rattle.std.specs.Prelude.{Option, Some, None, slice_get}
+use Rattle.std.specs.Prelude.{Option, Some, None}
 use Rattle.ca_cell.specs.Library.{Named}
 use Rattle.ca_verilog.specs.declared.raw.RawNetlist.{RawNetlist}
 use Rattle.ca_chip.specs.declared.scan_row.ScanRow.{ScanRow}
 use Rattle.ca_chip.specs.declared.fault.ChipFault.{ChipFault}
 use Rattle.ca_chip.specs.declared.fault.ChipFault.TheVariants as fault
-use Rattle.ca_chip.specs.declared.fault.TheConstants.{MOST_INSTANCES, MOST_CHIP_INPUTS, MOST_CHIP_OUTPUTS, MOST_CHIP_DEFECTS}
 use Rattle.ca_chip.specs.InstanceRules.{AreSound}
 use Rattle.ca_chip.specs.Wiring.{Wiring, wiring_of}
 use Rattle.ca_chip.specs.Nets.{FeedsWire}
 use Rattle.ca_chip.specs.Linking.{IsLinkOf}
-use Rattle.ca_chip.specs.Rules.{IsEarlier, IsObservedPath, IsFirstBroken, KeepsRules, IsCause}
+use Rattle.ca_chip.specs.Rules.{IsEarlier, KeepsRules, IsCause}
 use Rattle.ca_wired.specs.declared.controls.Misused.{Misused}
 use Rattle.ca_wired.specs.declared.drivers.Sources.{Sources}
 use Rattle.ca_wired.specs.declared.parts.Source.{Source}
 use Rattle.ca_wired.specs.declared.wiring.WireFault.{WireFault}
 use Rattle.ca_wired.specs.declared.wiring.WireFault.TheVariants as wire_fault
 use Rattle.ca_wired.specs.Order.{IsLoop}
-use Rattle.ca_wired.specs.Linked.{Chip, IsWired, Drives, Feeds, inputs_of, outputs_of}
+use Rattle.ca_wired.specs.Linked.{Chip, IsWired, Drives, inputs_of, outputs_of}
 use Rattle.ca_wired.specs.Instances.{gates_of}
 use Rattle.ca_wired.specs.Drivers.{AreFirst, IsSingle}
 use Rattle.ca_wired.specs.Controls.{misused_of}
 use Rattle.ca_wired.specs.Paths.{IsFirstObserved}
-use Rattle.ca_wired.specs.Wired.{IsFirstMisdriven, AreDriven, AreUnobserved, KeepsNetRules, IsWireCause}
-use Rattle.ca_link.specs.Telling.{IsMisdriven, IsMisused, PassesLimit}
+use Rattle.ca_wired.specs.Wired.{IsFirstMisdriven, AreDriven, KeepsNetRules, IsWireCause}
+use Rattle.ca_link.specs.Stages.{IsMisused, PassesLimit}
 use Rattle.ca_link.specs.Told.{TellsMisdriven, TellsMisused, TellsFault}
 use Rattle.ca_link.specs.Limits.{chip_defects, first_limit}
 use Rattle.ca_link.proofs.ControlLemmas.{control_broken, inverted_used, misused_pin, no_earlier_control, no_earlier_inverted, controls_kept, inverted_kept}
@@ -33,7 +32,7 @@ use Rattle.ca_link.proofs.LimitLemmas.{instances_are, defects_are, keeps_limits,
 use Rattle.ca_link.proofs.LoopLemmas.{loop_is, no_loop}
 use Rattle.ca_link.proofs.NameLemmas.{told_driver, told_control}
 use Rattle.ca_link.proofs.PathLemmas.{observed_path, none_observed_before, unobserved}
-use Rattle.ca_link.proofs.StageLemmas.{KeepsAt, none_broken, keeps_rules, first_broken, no_later, earlier_place, earlier_pin, not_earlier_alone}
+use Rattle.ca_link.proofs.StageLemmas.{KeepsAt, keeps_rules, first_broken, no_later, earlier_place, earlier_pin, not_earlier_alone}
 
 module _ (raw : RawNetlist) (library : List Named) (scan : List ScanRow) (chip : Chip) (link : IsLinkOf (wiring_of raw library scan) chip) where
   -- a control pin or an inverted output before this place breaks no rule
@@ -109,9 +108,11 @@ module _ (raw : RawNetlist) (library : List Named) (scan : List ScanRow) (chip :
         absurd (flawed (record { some = refl; no_second = refl }))
     misdriven_cause net sources first told (Some one) (Some two) are flawed (left, right, tells_left, tells_right, tells) =
         subst (IsCause raw library scan) (sym tells)
-        (first_broken raw library scan (2 ∷ net ∷ []) (fault.DoubleDriven (record { 0 = net }) left right)
-        (refl, is_double_driven (wiring_of raw library scan) chip link net first.within one two are left right
-        (told_driver raw library scan chip link net one left tells_left) (told_driver raw library scan chip link net two right tells_right))
+        (first_broken raw library scan (2 ∷ net ∷ []) (fault.DoubleDriven (record { 0 = net }) left right) (
+          refl,
+          is_double_driven (wiring_of raw library scan) chip link net first.within one two are left right
+              (told_driver raw library scan chip link net one left tells_left) (told_driver raw library scan chip link net two right tells_right),
+        )
         (before_net net sources first))
 
     misused_cause : AreDriven chip → (misused : Misused) → misused_of chip ≡ Some misused → (told : ChipFault) → TellsMisused chip scan misused told

@@ -1,6 +1,6 @@
 -- A net of a link that nothing drives, or two do, breaks a rule of its wiring; one with one driver breaks none.
-use Rattle.std.proofs.Common.{◌≡◌, ℕ, ◌<◌, ◌⊎◌, List, inl, inr, refl, sym, ◌∙◌, ap, subst, arith}
-use Rattle.std.specs.Prelude.{Bool, true, false, Option, Some, None, slice_get}
+use Rattle.std.proofs.Common.{◌≡◌, ℕ, ◌<◌, ◌⊎◌, inl, inr, refl, sym, ◌∙◌, ap, subst, arith}
+use Rattle.std.specs.Prelude.{Some, slice_get}
 use Rattle.ca_chip.specs.declared.fault.Driver.{Driver}
 use Rattle.ca_chip.specs.Wiring.{Wiring}
 use Rattle.ca_chip.specs.Nets.{Driving, PortBit, ConstantBit, OutputPin, IsNet, IsLoaded}
@@ -13,10 +13,10 @@ use Rattle.ca_wired.specs.declared.drivers.Sources.{Sources}
 use Rattle.ca_wired.specs.declared.parts.Source.{Source}
 use Rattle.ca_wired.specs.declared.parts.Source.TheVariants.{FromPort, FromConstant, FromPin}
 use Rattle.ca_wired.specs.Linked.{Chip, net_count, Drives}
-use Rattle.ca_wired.specs.Drivers.{AreFirst, IsSingle}
+use Rattle.ca_wired.specs.Drivers.{AreFirst}
 use Rattle.ca_wired.specs.Wired.{HasOneDriver, IsFirstMisdriven, AreDriven}
 use Rattle.ca_wired.proofs.OrderLemmas.{contained_at}
-use Rattle.ca_link.specs.Telling.{IsMisdriven}
+use Rattle.ca_link.specs.Stages.{IsMisdriven}
 use Rattle.ca_link.proofs.NetsLemmas.{net_of_chip, net_of_wiring, net_within, wire_of_net}
 
 -- each that drives is that of a source
@@ -47,7 +47,7 @@ module _ (wiring : Wiring) (chip : Chip) (link : IsLinkOf wiring chip) where
       let a = drives_net net double.wire at double.one double.drives_one in
       let b = drives_net net double.wire at double.two double.drives_two in
       let same : double.one ≡ double.two =
-          sym a.1 ∙ ap driving_of (one.only.none_other a.0 a.2 ∙ sym (one.only.none_other b.0 b.2)) ∙ b.1 in
+      sym a.1 ∙ ap driving_of (one.only.none_other a.0 a.2 ∙ sym (one.only.none_other b.0 b.2)) ∙ b.1 in
       not_before double.two (subst (λ d. nets.ComesBefore d double.two) same double.in_order)
   one_driver_keeps net one (inr undriven) =
       let at = net_of_chip wiring chip link net undriven.wire undriven.is_net in

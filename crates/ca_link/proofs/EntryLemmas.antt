@@ -1,9 +1,9 @@
 -- The cells of a library, by their places.
-use Rattle.std.proofs.Common.{◌≡◌, ℕ, ◌+◌, ◌-◌, ◌*◌, ◌/◌, ◌<◌, ◌≤◌, ◌⊎◌, List, [], ◌∷◌, length, map, inl, inr, refl, sym, ◌∙◌, ap, subst, arith, get_or}
+use Rattle.std.proofs.Common.{◌≡◌, ℕ, ◌+◌, ◌-◌, ◌<◌, ◌≤◌, List, length, map, inl, inr, refl, sym, ◌∙◌, ap, subst, arith, get_or}
 use Rattle.std.specs.Prelude.{Some, IsSomeAnd, slice_get, option_map, take}
 use Rattle.std.specs.List.{sum_by}
 use Rattle.std.proofs.lemmas.Bool.{cases_lt}
-use Rattle.std.proofs.lemmas.List.{get_or_past, length-map}
+use Rattle.std.proofs.lemmas.List.{get_or_past}
 use Rattle.std.proofs.lemmas.List.Sums.{sum_by_more}
 use Rattle.std.proofs.lemmas.Nat.{mul-le}
 use Rattle.std.proofs.lemmas.Option.{slice_get-map, slice_get_within, get_or_from_slice_get}
@@ -11,15 +11,14 @@ use Rattle.ca_cell.specs.declared.library.Entry.{Entry}
 use Rattle.ca_cell.specs.declared.library.Entry.TheVariants.{Refused}
 use Rattle.ca_cell.specs.declared.raw.RawCell.{RawCell}
 use Rattle.ca_cell.specs.declared.rule.CellRule.{CellRule}
-use Rattle.ca_cell.specs.declared.rule.CellRule.TheVariants.{TooManyDevices, TooManyNodes, TooManyInputs, NoOutput}
-use Rattle.ca_cell.specs.declared.rule.TheConstants.{MOST_DEVICES, MOST_NODES, MOST_INPUTS}
+use Rattle.ca_cell.specs.declared.rule.CellRule.TheVariants.{TooManyDevices, TooManyNodes, NoOutput}
 use Rattle.ca_cell.specs.Library.{Named, raw_of, IsEntry}
-use Rattle.ca_cell.specs.Nodes.{free_count, pair_count, defect_count}
+use Rattle.ca_cell.specs.Nodes.{free_count, defect_count}
 use Rattle.ca_cell.specs.Raw.{is_input, is_output, role_count}
 use Rattle.ca_cell.specs.Rules.{KeepsRules, node_count}
 use Rattle.ca_chip.specs.Wiring.{names_with}
 use Rattle.ca_wired.specs.declared.parts.Body.{Body}
-use Rattle.ca_wired.specs.declared.parts.Body.TheVariants.{Gate, Scan}
+use Rattle.ca_wired.specs.declared.parts.Body.TheVariants.{Gate}
 use Rattle.ca_wired.specs.declared.parts.Part.{Part}
 use Rattle.ca_wired.specs.Linked.{cell_of, no_cell, IsBody}
 use Rattle.ca_wired.proofs.FeedingLemmas.{item_of}
@@ -88,5 +87,5 @@ pub defects_more : (cells : List RawCell) (parts : List Part) (u : ℕ) (part : 
 defects_more cells parts u part defects more at before next =
     let sum = sum_by_more (λ (p : Part). body_defects cells p.body) parts u part (slice_get_within parts u part at) in
     let last : body_defects cells (get_or parts u part).body ≡ body_defects cells part.body =
-        ap (λ (p : Part). body_defects cells p.body) (get_or_from_slice_get parts u part part at) in
+    ap (λ (p : Part). body_defects cells p.body) (get_or_from_slice_get parts u part part at) in
     omega (arith, sum, last, before, next)

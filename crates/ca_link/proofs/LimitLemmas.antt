@@ -1,5 +1,5 @@
 -- What is counted of a link is counted of its wiring, so that the limits are the same for all links of one.
-use Rattle.std.proofs.Common.{◌≡◌, ℕ, zero, suc, ◌+◌, ◌<◌, ◌⊎◌, Bool, true, false, List, [], ◌∷◌, ◌++◌, length, map, inl, inr, refl, sym, ◌∙◌, ap, ap₂, subst, arith, length-append}
+use Rattle.std.proofs.Common.{◌≡◌, ℕ, suc, ◌+◌, ◌<◌, ◌⊎◌, Bool, true, false, List, [], ◌∷◌, ◌++◌, length, map, inl, inr, refl, sym, ◌∙◌, ap, ap₂, subst, arith, length-append}
 use Rattle.std.specs.Prelude.{Option, Some, None, slice_get, option_to_list, ◌&&◌, ◌||◌, not, if◌then◌else◌, nat_lt}
 use Rattle.std.specs.List.{list_any, flat_map, sum_by}
 use Rattle.std.proofs.lemmas.Bool.{ltb-true, ltb-false}
@@ -20,7 +20,7 @@ use Rattle.ca_wired.specs.declared.parts.PortBit.{PortBit}
 use Rattle.ca_wired.specs.declared.parts.ScanNets.{ScanNets}
 use Rattle.ca_wired.specs.Linked.{Chip, has, input_nets, output_nets, path_nets, q_nets, d_nets, is_scan_path, port_nets, inputs_of, outputs_of, no_cell}
 use Rattle.ca_wired.specs.Instances.{if_gate, gates_from, gates_of}
-use Rattle.ca_link.specs.Telling.{PassesLimit}
+use Rattle.ca_link.specs.Stages.{PassesLimit}
 use Rattle.ca_link.specs.Limits.{body_defects, chip_defects, first_limit}
 use Rattle.ca_link.proofs.NetsLemmas.{same_nets, nets_once, net_once, also_there}
 
@@ -45,7 +45,7 @@ module _ (cells : List RawCell) where
   counts_all (wired ∷ wireds) [] u same means = absurd (omega (arith, same))
   counts_all (wired ∷ wireds) (part ∷ parts) u same means =
       ap₂ (λ m n. m + n) (counts_one wired.meaning part.body u (means 0 wired part refl refl))
-          (counts_all wireds parts (u + 1) (omega (arith, same)) (λ k w p at_w at_p. means (suc k) w p at_w at_p))
+      (counts_all wireds parts (u + 1) (omega (arith, same)) (λ k w p at_w at_p. means (suc k) w p at_w at_p))
       ∙ sym (length-append (if_gate u part.body) (gates_from (u + 1) parts))
 
   defects_one : (meaning : Meaning) (body : Body) → HasMeaning cells meaning body → defects_of meaning ≡ body_defects cells body
@@ -64,7 +64,7 @@ module _ (cells : List RawCell) where
   defects_all (wired ∷ wireds) (part ∷ parts) same means =
       sum_by-cons (λ (w : WiredPart). defects_of w.meaning) wired wireds
       ∙ ap₂ (λ m n. m + n) (defects_one wired.meaning part.body (means 0 wired part refl refl))
-          (defects_all wireds parts (omega (arith, same)) (λ k w p at_w at_p. means (suc k) w p at_w at_p))
+      (defects_all wireds parts (omega (arith, same)) (λ k w p at_w at_p. means (suc k) w p at_w at_p))
       ∙ sym (sum_by-cons (λ (p : Part). body_defects cells p.body) part parts)
 
 module _ (wiring : Wiring) (chip : Chip) (link : IsLinkOf wiring chip) where
@@ -167,7 +167,7 @@ module _ (wiring : Wiring) (one two : Chip) (link : IsLinkOf wiring one) (other 
       let is = link.ports p bit.0 x bit.1 at_x in
       let too = other.ports p bit.0 y bit.1 at_y in
       let net : x.net ≡ y.net = net_once wiring other.nets other.are.ascending bit.0.wire x.net y.net
-          (subst (λ nets. IsNetOf wiring nets bit.0.wire x.net) nets_same is.net) too.net in
+      (subst (λ nets. IsNetOf wiring nets bit.0.wire x.net) nets_same is.net) too.net in
       let way : x.is_input ≡ y.is_input = is.is_input ∙ sym too.is_input in
       ap₂ (λ i b. if (if i then input else not input) && not b then x.net ∷ [] else []) way (path_same x.net)
       ∙ ap (λ n. if (if y.is_input then input else not input) && not (is_scan_path two n) then n ∷ [] else []) net
@@ -216,14 +216,14 @@ abbrev pub TellsLimit : Chip → ℕ → Option ChipFault → Type 0
 TellsLimit chip defects told =
     ((told ≡ Some (fault.TooManyInstances (length (gates_of chip)))) × (MOST_INSTANCES < length (gates_of chip)))
     ⊎ (((told ≡ Some (fault.TooManyInputs (length (inputs_of chip)))) × (MOST_CHIP_INPUTS < length (inputs_of chip))
-      × (MOST_INSTANCES < length (gates_of chip) → ⊥))
+    × (MOST_INSTANCES < length (gates_of chip) → ⊥))
     ⊎ (((told ≡ Some (fault.TooManyOutputs (length (outputs_of chip)))) × (MOST_CHIP_OUTPUTS < length (outputs_of chip))
-      × (MOST_INSTANCES < length (gates_of chip) → ⊥) × (MOST_CHIP_INPUTS < length (inputs_of chip) → ⊥))
+    × (MOST_INSTANCES < length (gates_of chip) → ⊥) × (MOST_CHIP_INPUTS < length (inputs_of chip) → ⊥))
     ⊎ (((told ≡ Some (fault.TooManyDefects defects)) × (MOST_CHIP_DEFECTS < defects)
-      × (MOST_INSTANCES < length (gates_of chip) → ⊥) × (MOST_CHIP_INPUTS < length (inputs_of chip) → ⊥)
-      × (MOST_CHIP_OUTPUTS < length (outputs_of chip) → ⊥))
+    × (MOST_INSTANCES < length (gates_of chip) → ⊥) × (MOST_CHIP_INPUTS < length (inputs_of chip) → ⊥)
+    × (MOST_CHIP_OUTPUTS < length (outputs_of chip) → ⊥))
     ⊎ ((told ≡ None) × (MOST_INSTANCES < length (gates_of chip) → ⊥) × (MOST_CHIP_INPUTS < length (inputs_of chip) → ⊥)
-      × (MOST_CHIP_OUTPUTS < length (outputs_of chip) → ⊥) × (MOST_CHIP_DEFECTS < defects → ⊥)))))
+    × (MOST_CHIP_OUTPUTS < length (outputs_of chip) → ⊥) × (MOST_CHIP_DEFECTS < defects → ⊥)))))
 
 not_less : (a b : ℕ) → nat_lt a b ≡ false → a < b → ⊥
 not_less a b off lt = let ge = ltb-false a b off in omega (arith, ge, lt)

@@ -1,12 +1,12 @@
 -- What feeds what in a link is what feeds what in its wiring, so loops are the same.
-use Rattle.std.proofs.Common.{◌≡◌, ℕ, List, [], ◌∷◌, refl, sym, ◌∙◌, subst, arith}
+use Rattle.std.proofs.Common.{◌≡◌, ℕ, List, [], ◌∷◌, refl, sym, subst, arith}
 use Rattle.std.specs.Prelude.{Some, slice_get}
 use Rattle.std.specs.List.{Contains}
 use Rattle.ca_cell.specs.declared.raw.RawCell.{RawCell}
-use Rattle.ca_chip.specs.Wiring.{Meaning, Unknown, Broken, Library, ScanCell, WiredPart, Wiring}
-use Rattle.ca_chip.specs.Nets.{IsNetOf, IsLibraryCell, FeedsWire}
+use Rattle.ca_chip.specs.Wiring.{Meaning, Unknown, Broken, Library, ScanCell, Wiring}
+use Rattle.ca_chip.specs.Nets.{IsLibraryCell, FeedsWire}
 use Rattle.ca_chip.specs.Linking.{HasMeaning, IsLinkOf}
-use Rattle.ca_wired.specs.Order.{IsChain, IsLoop, HasNoLoop}
+use Rattle.ca_wired.specs.Order.{IsChain, IsLoop}
 use Rattle.ca_wired.specs.declared.parts.Body.{Body}
 use Rattle.ca_wired.specs.declared.parts.Body.TheVariants.{Gate, Scan}
 use Rattle.ca_wired.specs.Linked.{Chip, Feeds, IsWired, input_nets, output_nets, gate_inputs, gate_outputs}
@@ -58,9 +58,9 @@ module _ (wiring : Wiring) (chip : Chip) (link : IsLinkOf wiring chip) where
       let out = gate_is_library chip.cells driver.0.meaning feeds.driver.body feeds.net drives.meaning feeds.driven in
       let into = read_is_library chip.cells reader.0.meaning feeds.reader.body feeds.net reads.meaning feeds.read in
       let from = wire_at wiring link.nets driver.0.outputs (output_nets feeds.driver.body) out.1.0 feeds.net drives.outputs
-          (place_of (output_nets feeds.driver.body) feeds.net out.1) in
+      (place_of (output_nets feeds.driver.body) feeds.net out.1) in
       let to = wire_at wiring link.nets reader.0.inputs (input_nets feeds.reader.body) into.1.0 feeds.net reads.inputs
-          (place_of (input_nets feeds.reader.body) feeds.net into.1) in
+      (place_of (input_nets feeds.reader.body) feeds.net into.1) in
       record {
         driver = driver.0;
         reader = reader.0;
@@ -81,9 +81,9 @@ module _ (wiring : Wiring) (chip : Chip) (link : IsLinkOf wiring chip) where
       let drives = link.parts w feeds.driver driver.0 feeds.is_driver driver.1 in
       let reads = link.parts u feeds.reader reader.0 feeds.is_reader reader.1 in
       let from = net_at wiring link.nets feeds.driver.outputs (output_nets driver.0.body) feeds.driven.0 feeds.from drives.outputs
-          (place_of feeds.driver.outputs feeds.from feeds.driven) in
+      (place_of feeds.driver.outputs feeds.from feeds.driven) in
       let to = net_at wiring link.nets feeds.reader.inputs (input_nets reader.0.body) feeds.read.0 feeds.to reads.inputs
-          (place_of feeds.reader.inputs feeds.to feeds.read) in
+      (place_of feeds.reader.inputs feeds.to feeds.read) in
       let same = joined_one_net wiring link.nets link.are.ascending feeds.from feeds.to from.net to.net from.is_net to.is_net feeds.joined in
       record {
         driver = driver.0;

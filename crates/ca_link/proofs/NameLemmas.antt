@@ -14,7 +14,7 @@ use Rattle.ca_verilog.specs.declared.raw.RawInstance.{RawInstance}
 use Rattle.ca_verilog.specs.declared.raw.RawNetlist.{RawNetlist}
 use Rattle.ca_chip.specs.declared.scan_row.ScanRow.{ScanRow}
 use Rattle.ca_chip.specs.declared.fault.Driver.{Driver}
-use Rattle.ca_chip.specs.Wiring.{Meaning, ScanCell, WiredPart, Wiring, meaning_with, meaning_of, row_of, names_with, output_names, output_wires, open_count, bit_on, wire_of, wired_part, wired_parts, wiring_of}
+use Rattle.ca_chip.specs.Wiring.{ScanCell, WiredPart, meaning_with, meaning_of, row_of, names_with, output_names, output_wires, open_count, bit_on, wire_of, wired_part, wired_parts, wiring_of}
 use Rattle.ca_chip.specs.Linking.{HasMeaning, IsLinkOf}
 use Rattle.ca_chip.specs.Rules.{IsDriver, control_names}
 use Rattle.ca_chip.specs.Same.{driving_of}
@@ -39,9 +39,9 @@ length-output_wires bits uses own (name ∷ names) =
   where
     by : (bit : Option RawBit) → length (output_wires bits uses (own + 1) names) ≡ length names → length (output_wires bits uses own names) ≡ length names
         → length {A = ℕ} (elim bit [
-      | None ↦ own ∷ output_wires bits uses (own + 1) names
-      | Some b ↦ wire_of bits b ∷ output_wires bits uses own names
-    ]) ≡ suc (length names)
+          | None ↦ own ∷ output_wires bits uses (own + 1) names
+          | Some b ↦ wire_of bits b ∷ output_wires bits uses own names
+        ]) ≡ suc (length names)
     by None next same = ap suc next
     by (Some b) next same = ap suc same
 
@@ -121,7 +121,7 @@ module _ (raw : RawNetlist) (library : List Named) (scan : List ScanRow) (chip :
   told_control u k name is_name =
       let is = wired_at u is_name.part is_name.at in
       let meaning : is.wired.meaning ≡ ScanCell is_name.row =
-          is.meaning ∙ ap (λ row. meaning_with row (entry_of library (upper_case is_name.part.cell))) is_name.is_row in
+      is.meaning ∙ ap (λ row. meaning_with row (entry_of library (upper_case is_name.part.cell))) is_name.is_row in
       record {
         wired = is.wired;
         at = is.at;

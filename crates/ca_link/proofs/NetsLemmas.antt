@@ -1,7 +1,7 @@
 -- The nets of a wiring are its own, and what is on them stands in a link where it stands in the wiring.
-use Rattle.std.proofs.Common.{◌≡◌, ℕ, zero, suc, ◌+◌, ◌<◌, ◌⊎◌, List, [], ◌∷◌, length, inl, inr, refl, sym, ◌∙◌, ap, subst, arith}
-use Rattle.std.specs.Prelude.{Some, slice_get, ◌↔◌}
-use Rattle.std.specs.List.{AllPairs, Contains}
+use Rattle.std.proofs.Common.{◌≡◌, ℕ, zero, suc, ◌<◌, ◌⊎◌, List, [], ◌∷◌, length, inl, inr, refl, sym, ◌∙◌, ap, subst, arith}
+use Rattle.std.specs.Prelude.{Some, slice_get}
+use Rattle.std.specs.List.{AllPairs}
 use Rattle.std.proofs.lemmas.Bool.{cases_lt}
 use Rattle.std.proofs.lemmas.Option.{slice_get_within, get_or_from_slice_get, slice_get_cases}
 use Rattle.ca_chip.specs.Joined.{AreJoined, Same}
@@ -163,9 +163,9 @@ module _ (wiring : Wiring) (nets : List ℕ) where
     pub joined_one_net : (a b m n : ℕ) → IsNetOf wiring nets a m → IsNetOf wiring nets b n → AreJoined wiring.joins a b → m ≡ n
     joined_one_net a b m n is_a is_b joined =
         let below = is_b.is_earliest.none_before is_a.earliest
-            (joined_trans wiring.joins b a is_a.earliest (joined_sym wiring.joins a b joined) is_a.is_earliest.joined) in
+        (joined_trans wiring.joins b a is_a.earliest (joined_sym wiring.joins a b joined) is_a.is_earliest.joined) in
         let above = is_a.is_earliest.none_before is_b.earliest
-            (joined_trans wiring.joins a b is_b.earliest joined is_b.is_earliest.joined) in
+        (joined_trans wiring.joins a b is_b.earliest joined is_b.is_earliest.joined) in
         let same : is_a.earliest ≡ is_b.earliest = omega (arith, below, above) in
         ascending_once nets m n is_b.earliest ascending (is_a.at ∙ ap Some same) is_b.at
 

@@ -1,6 +1,5 @@
 -- No rule is broken at an earlier place, where each stage before keeps its rules.
-use Rattle.std.proofs.Common.{◌≡◌, ℕ, ◌<◌, ◌⊎◌, List, [], ◌∷◌, length, inl, inr, refl, sym, ◌∙◌, ap, subst, arith}
-use Rattle.std.specs.Prelude.{Option, Some, None, slice_get}
+use Rattle.std.proofs.Common.{◌≡◌, ℕ, ◌<◌, ◌⊎◌, List, [], ◌∷◌, inl, inr, refl, sym, ◌∙◌, subst, arith}
 use Rattle.ca_cell.specs.Library.{Named}
 use Rattle.ca_verilog.specs.declared.raw.RawNetlist.{RawNetlist}
 use Rattle.ca_chip.specs.declared.scan_row.ScanRow.{ScanRow}
@@ -10,10 +9,10 @@ use Rattle.ca_chip.specs.declared.fault.TheConstants.{MOST_INSTANCES, MOST_CHIP_
 use Rattle.ca_chip.specs.InstanceRules.{AreSound}
 use Rattle.ca_chip.specs.Wiring.{meaning_of, wiring_of}
 use Rattle.ca_chip.specs.Nets.{FeedsWire}
-use Rattle.ca_chip.specs.Rules.{IsEarlier, IsObservedPath, BreaksAt, IsFirstBroken, KeepsRules, IsCause}
+use Rattle.ca_chip.specs.Rules.{IsEarlier, IsObservedPath, BreaksAt, IsFirstBroken, KeepsRules}
 use Rattle.ca_chip.proofs.JudgeLemmas.{IsBehind, stage_of, sound_keeps}
 use Rattle.ca_wired.specs.Order.{IsLoop}
-use Rattle.ca_link.specs.Telling.{IsMisdriven, IsMisused, PassesLimit}
+use Rattle.ca_link.specs.Stages.{IsMisdriven, IsMisused, PassesLimit}
 
 module _ (raw : RawNetlist) (library : List Named) (scan : List ScanRow) where
   -- no rule is broken at a place that passes the test

@@ -1,4 +1,4 @@
-pub mod Telling
+pub mod Stages
 pub mod Names
 pub mod Told
 pub mod Limits

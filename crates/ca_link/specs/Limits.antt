@@ -1,5 +1,5 @@
--- What is counted of a link, and the first limit that it passes.
-use Rattle.std.specs.Prelude.{ℕ, ◌≡◌, ◌<◌, ◌⊎◌, List, length, Option, Some, None, nat_lt, if◌then◌else◌}
+-- What is counted of a link, and the first limit that it passes. Only the proofs of the code cite this.
+use Rattle.std.specs.Prelude.{ℕ, List, length, Option, Some, None, nat_lt, if◌then◌else◌}
 use Rattle.std.specs.List.{sum_by}
 use Rattle.ca_cell.specs.declared.raw.RawCell.{RawCell}
 use Rattle.ca_cell.specs.Nodes.{defect_count}

@@ -1,4 +1,4 @@
--- What is told of a fault of nets.
+-- What is told of a fault of nets. Only the proofs of the code cite this.
 use Rattle.std.specs.Prelude.{ℕ, ◌≡◌, ◌<◌, ◌⊎◌, List, Option, Some, None, slice_get}
 use Rattle.ca_chip.specs.declared.scan_row.ScanRow.{ScanRow}
 use Rattle.ca_chip.specs.declared.fault.Driver.{Driver}

@@ -6,9 +6,7 @@ ghost use Rattle.ca_wired.specs.Linked.{IsBody};
 ghost use Rattle.ca_link.specs.Limits as limits;
 
 use ca_cell::Entry;
-use ca_chip::{
-    ChipFault, MOST_CHIP_DEFECTS, MOST_CHIP_INPUTS, MOST_CHIP_OUTPUTS, MOST_INSTANCES,
-};
+use ca_chip::{ChipFault, MOST_CHIP_DEFECTS, MOST_CHIP_INPUTS, MOST_CHIP_OUTPUTS, MOST_INSTANCES};
 use ca_wired::{Body, Chip, Draft};
 
 // The number of defects of an instance.

@@ -42,7 +42,7 @@ fn driver_of(
 }
 
 // A net that nothing drives, or two do.
-fn misdriven(
+fn tell_misdriven(
     alloc: Global,
     draft: &Draft,
     scan: &[ScanRow],
@@ -88,7 +88,7 @@ fn control_of(
 }
 
 // A pin of a scan instance that breaks its rule.
-fn misused(
+fn tell_misused(
     alloc: Global,
     draft: &Draft,
     scan: &[ScanRow],
@@ -120,8 +120,8 @@ pub(crate) fn tell(
     ensures { IfOk result (TellsFault draft.now scan.now fault) }
 {
     match fault {
-        WireFault::Misdriven(net, sources) => misdriven(alloc, draft, scan, net, sources),
-        WireFault::Misused(pin) => misused(alloc, draft, scan, pin),
+        WireFault::Misdriven(net, sources) => tell_misdriven(alloc, draft, scan, net, sources),
+        WireFault::Misused(misused) => tell_misused(alloc, draft, scan, misused),
         WireFault::Observed(net) => Ok(ChipFault::ControlObserved { net: NetId(net) }),
         WireFault::Loop(instances) => Ok(ChipFault::Loop { instances }),
         WireFault::NoMemory => Ok(ChipFault::NoMemory),

@@ -1,5 +1,5 @@
--- Which rules of a stage a wiring breaks at a place, and how a fault names what drives a net.
-use Rattle.std.specs.Prelude.{ℕ, ◌≡◌, ◌<◌, ◌⊎◌, List, Option, Some, None, slice_get, length}
+-- What breaks a rule of a stage at a place. Only the proofs of the code cite this.
+use Rattle.std.specs.Prelude.{ℕ, ◌≡◌, ◌<◌, ◌⊎◌, List, length}
 use Rattle.std.specs.List.{sum_by}
 use Rattle.ca_chip.specs.declared.fault.Driver.{Driver}
 use Rattle.ca_chip.specs.declared.fault.TheConstants.{MOST_INSTANCES, MOST_CHIP_INPUTS, MOST_CHIP_OUTPUTS, MOST_CHIP_DEFECTS}
