@@ -1,0 +1,4 @@
+//! From a gate netlist whose instances keep their rules to a draft, whose nets have numbers.
+#![tactic(auto)]
+
+mod pins;
