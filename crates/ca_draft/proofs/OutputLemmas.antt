@@ -3,6 +3,7 @@ use Rattle.std.proofs.Common.{◌≡◌, ℕ, ◌+◌, List, [], ◌∷◌, ◌+
 use Rattle.std.specs.Prelude.{Option, Some, None, slice_get, drop, is_none, cond, if◌then◌else◌}
 use Rattle.std.specs.List.{sum_by}
 use Rattle.std.proofs.lemmas.List.{append_assoc}
+use Rattle.std.proofs.lemmas.List.Sums.{sum_by-cons}
 use Rattle.ca_cell.specs.declared.raw.RawPin.{RawPin}
 use Rattle.ca_cell.specs.Raw.{is_output}
 use Rattle.ca_verilog.specs.declared.raw.RawBit.{RawBit}
@@ -25,7 +26,9 @@ module _ (bits : ℕ) (uses : List RawUse) where
 
   pub open_cons : (own : ℕ) (name : List ℕ) (names : List (List ℕ))
       → next_own own (bit_on uses name) + open_count uses names ≡ own + open_count uses (name ∷ names)
-  open_cons own name names = by (bit_on uses name) (open_count uses names)
+  open_cons own name names =
+      by (bit_on uses name) (open_count uses names)
+      ∙ ap (λ n. own + n) (sym (sum_by-cons (λ (pin : List ℕ). cond (is_none (bit_on uses pin)) 1 0) name names))
     where
       by : (bit : Option RawBit) (rest : ℕ) → next_own own bit + rest ≡ own + (cond (is_none bit) 1 0 + rest)
       by None rest = omega arith

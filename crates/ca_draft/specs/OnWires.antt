@@ -12,7 +12,11 @@ use Rattle.ca_verilog.specs.declared.raw.RawSpan.{RawSpan}
 use Rattle.ca_verilog.specs.declared.raw.RawUse.{RawUse}
 use Rattle.ca_verilog.specs.declared.raw.RawInstance.{RawInstance}
 use Rattle.ca_verilog.specs.IsNetlist.{bit_count}
-use Rattle.ca_wired.specs.Linked.{Body, Gate, Scan, Part, PortBit, input_nets, output_nets, IsBody}
+use Rattle.ca_wired.specs.declared.parts.Body.{Body}
+use Rattle.ca_wired.specs.declared.parts.Body.TheVariants.{Gate, Scan}
+use Rattle.ca_wired.specs.declared.parts.Part.{Part}
+use Rattle.ca_wired.specs.declared.parts.PortBit.{PortBit}
+use Rattle.ca_wired.specs.Linked.{input_nets, output_nets, IsBody}
 use Rattle.ca_chip.specs.declared.scan_row.ScanRow.{ScanRow}
 use Rattle.ca_chip.specs.Wiring.{Meaning, meaning_of, input_names, output_names, wire_of, input_wires, output_wires, open_count, WiredPart, HeaderBit, wired_parts}
 use Rattle.ca_chip.specs.InstanceRules.{IsSound}

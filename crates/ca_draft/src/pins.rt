@@ -2,7 +2,8 @@
 
 ghost use Rattle.std.specs.Prelude.{◌≡◌, ◌<◌, ◌+◌, ◌++◌, ◌^◌, ◌↔◌, [], ◌∷◌, Some, IsNone, option_to_list, if◌then◌else◌, IfOk, OnOk};
 ghost use Rattle.ca_cell.specs.Raw.{is_output};
-ghost use Rattle.ca_wired.specs.Linked.{Scan, input_nets, output_nets};
+ghost use Rattle.ca_wired.specs.declared.parts.Body.TheVariants.{Scan};
+ghost use Rattle.ca_wired.specs.Linked.{input_nets, output_nets};
 ghost use Rattle.ca_chip.specs.Wiring.{ScanCell, bit_on, input_names, input_wires, inverted_name, names_with, open_count, output_names, output_wires};
 ghost use Rattle.ca_draft.specs.OnWires.{next_own, output_wire};
 
