@@ -2,9 +2,8 @@ pub mod OrderLemmas
 pub mod WalkLemmas
 pub mod WorkLemmas
 pub mod LoopLemmas
-pub mod CoreLemmas
-pub mod CorePartLemmas
-pub mod CoreIsChip
+pub mod NoLoopLemmas
+pub mod PartLemmas
 pub mod DriverLemmas
 pub mod FeedingLemmas
 pub mod PathLemmas
