@@ -26,6 +26,10 @@ use Rattle.ca_chip.specs.Linking.{HasMeaning}
 abbrev pub cells_of : List Named → List RawCell
 cells_of library = map (λ named. raw_of named.entry) library
 
+-- the cell stands at this place of the library
+abbrev pub IsCellAt : List Named → ℕ → RawCell → Type 0
+IsCellAt library place raw = slice_get (cells_of library) place ≡ Some raw
+
 -- what is on the pins of an instance, the input pins first
 abbrev pub pins_of : Body → List ℕ
 pins_of body = input_nets body ++ output_nets body

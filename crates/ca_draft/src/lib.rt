@@ -1,4 +1,5 @@
 //! From a gate netlist whose instances keep their rules to a draft, whose nets have numbers.
 #![tactic(auto)]
 
+mod instances;
 mod pins;
