@@ -1,3 +1,5 @@
 pub mod OutputLemmas
 pub mod InstanceLemmas
 pub mod HeaderLemmas
+pub mod MarkLemmas
+pub mod DraftLemmas

@@ -3,4 +3,7 @@
 
 mod header;
 mod instances;
+mod marks;
 mod pins;
+mod renumber;
+mod touched;
