@@ -19,6 +19,9 @@ use Rattle.ca_wired.specs.declared.parts.PortBit.{PortBit}
 use Rattle.ca_wired.specs.Linked.{input_nets, output_nets, IsBody}
 use Rattle.ca_chip.specs.declared.scan_row.ScanRow.{ScanRow}
 use Rattle.ca_chip.specs.Wiring.{Meaning, meaning_of, input_names, output_names, wire_of, input_wires, output_wires, open_count, WiredPart, HeaderBit, wired_parts}
+use Rattle.ca_chip.specs.declared.joined.Join.{Join}
+use Rattle.ca_chip.specs.Joined.{AreEarliest}
+use Rattle.ca_chip.specs.Numbers.{WireMarks, NetNumbers, AreNumbered}
 use Rattle.ca_chip.specs.InstanceRules.{IsSound}
 use Rattle.ca_chip.specs.Linking.{HasMeaning}
 
@@ -164,3 +167,16 @@ constant_number numbers is_named wire = if is_named then Some (number_of numbers
 -- the wire of a constant, if the constant is named
 abbrev pub constant_wires : ℕ → Bool → List ℕ
 constant_wires wire is_named = if is_named then wire ∷ [] else []
+
+-- the wires that nets stand on: those of pins, of port bits, and of the constants that are named
+abbrev pub touched_of : List Part → List PortBit → ℕ → Bool → Bool → List ℕ
+touched_of parts ports bits has_zero has_one =
+    flat_map (λ part. pins_of part.body) parts
+    ++ (map (λ port. port.net) ports ++ (constant_wires bits has_zero ++ constant_wires (bits + 1) has_one))
+
+-- the table has the nets that stand on these wires, and the numbers of their nets
+pub record IsNumbering (joins : List Join) (wires : ℕ) (touched : List ℕ) (table : NetNumbers) : Type 0 where
+  pub marks : WireMarks
+  pub are : AreEarliest joins wires marks.earliest
+  pub used : AreMarks marks.earliest touched marks.used
+  pub numbered : AreNumbered marks wires table
