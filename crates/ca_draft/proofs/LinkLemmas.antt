@@ -28,7 +28,7 @@ use Rattle.ca_wired.proofs.FeedingLemmas.{item_of}
 use Rattle.ca_chip.proofs.ForestLemmas.{joined_trans, joined_sym}
 use Rattle.ca_chip.proofs.NetLemmas.{nets_are, net_is}
 use Rattle.ca_chip.proofs.SameLemmas.{joined_net, net_joined}
-use Rattle.ca_draft.specs.OnWires.{cells_of, pins_of, wired_of, header_of, IsKept, AreMarks, number_of, numbered, numbered_option, numbered_part, numbered_port, constant_number, constant_wires, touched_of, IsNumbering}
+use Rattle.ca_draft.specs.OnWires.{cells_of, pins_of, wired_of, header_of, IsKept, AreMarks, number_of, numbered, numbered_option, numbered_part, numbered_port, constant_number, constant_wires, touched_of, wiring_on, chip_on, IsNumbering}
 use Rattle.ca_draft.proofs.ConstantLemmas.{in_part, in_all, value_of, value_at}
 
 -- an instance's pins, once their wires are numbered
@@ -74,7 +74,7 @@ at_place xs n has = (has.0, place_of xs n has)
 module _ (library : List Named) (scan : List ScanRow) (parts : List Part) (ports : List PortBit) (bits : ℕ) (joins : List Join) where
   -- the wiring that has these instances and port bits
   abbrev pub wiring : Wiring
-  wiring = record { bits = bits; joins = joins; parts = map (wired_of library scan) parts; header = map header_of ports }
+  wiring = wiring_on library scan parts ports bits joins
 
   pub named_pins : flat_map (λ (part : WiredPart). part.inputs ++ part.outputs) wiring.parts ≡ flat_map (λ (part : Part). pins_of part.body) parts
   named_pins = flat_map-map (λ (part : WiredPart). part.inputs ++ part.outputs) (wired_of library scan) parts
@@ -268,15 +268,7 @@ module _ (library : List Named) (scan : List ScanRow) (parts : List Part) (ports
 
       -- the chip on nets
       abbrev pub chip : Chip
-      chip = record {
-        cells = cells_of library;
-        nets = length table.nets;
-        zero = constant_number table.numbers has_zero bits;
-        one = constant_number table.numbers has_one (bits + 1);
-        parts = map (numbered_part table.numbers) parts;
-        ports = map (numbered_port table.numbers) ports;
-        order = [];
-      }
+      chip = chip_on library parts ports bits has_zero has_one table
 
       pin_touched : (u : ℕ) (part : Part) → slice_get parts u ≡ Some part → (m : ℕ) → Contains (pins_of part.body) m → Contains touched m
       pin_touched u part at m has = in_pins m (in_all (λ (p : Part). pins_of p.body) parts u part m at has)

@@ -1,6 +1,6 @@
 -- Instances and port bits before the nets are numbered: where a net will stand, there stands the number of the
 -- wire. Only the proofs of the code cite this.
-use Rattle.std.specs.Prelude.{ℕ, ◌+◌, ◌≡◌, ◌<◌, ◌^◌, ◌↔◌, ◌||◌, ◌&&◌, Bool, true, false, List, [], ◌∷◌, ◌++◌, map, length, drop, take, Option, Some, None, slice_get, slice_index, slice_index_or, nat_lt, if◌then◌else◌}
+use Rattle.std.specs.Prelude.{ℕ, ◌+◌, ◌≡◌, ◌<◌, ◌^◌, ◌↔◌, ◌⊎◌, ◌||◌, ◌&&◌, Bool, IsTrue, true, false, List, [], ◌∷◌, ◌++◌, map, length, drop, take, Option, Some, None, slice_get, slice_index, slice_index_or, nat_lt, if◌then◌else◌}
 use Rattle.std.specs.List.{All, Contains, list_any, flat_map}
 use mathlib.Core.Bool.{beq}
 use Rattle.ca_cell.specs.declared.raw.RawCell.{RawCell}
@@ -11,19 +11,22 @@ use Rattle.ca_verilog.specs.declared.raw.RawBus.{RawBus}
 use Rattle.ca_verilog.specs.declared.raw.RawSpan.{RawSpan}
 use Rattle.ca_verilog.specs.declared.raw.RawUse.{RawUse}
 use Rattle.ca_verilog.specs.declared.raw.RawInstance.{RawInstance}
-use Rattle.ca_verilog.specs.IsNetlist.{bit_count}
+use Rattle.ca_verilog.specs.declared.raw.RawNetlist.{RawNetlist}
+use Rattle.ca_verilog.specs.IsNetlist.{bit_count, IsJoinOf}
 use Rattle.ca_wired.specs.declared.parts.Body.{Body}
 use Rattle.ca_wired.specs.declared.parts.Body.TheVariants.{Gate, Scan}
 use Rattle.ca_wired.specs.declared.parts.Part.{Part}
 use Rattle.ca_wired.specs.declared.parts.PortBit.{PortBit}
-use Rattle.ca_wired.specs.Linked.{input_nets, output_nets, IsBody}
+use Rattle.ca_wired.specs.Linked.{Chip, input_nets, output_nets, IsBody}
 use Rattle.ca_chip.specs.declared.scan_row.ScanRow.{ScanRow}
-use Rattle.ca_chip.specs.Wiring.{Meaning, meaning_of, input_names, output_names, wire_of, input_wires, output_wires, open_count, WiredPart, HeaderBit, wired_parts}
+use Rattle.ca_chip.specs.Wiring.{Meaning, meaning_of, input_names, output_names, wire_of, input_wires, output_wires, open_count, WiredPart, HeaderBit, Wiring, wired_parts, joins_of, wiring_of}
+use Rattle.ca_chip.specs.Nets.{IsNamed}
 use Rattle.ca_chip.specs.declared.joined.Join.{Join}
 use Rattle.ca_chip.specs.Joined.{AreEarliest}
 use Rattle.ca_chip.specs.Numbers.{WireMarks, NetNumbers, AreNumbered}
 use Rattle.ca_chip.specs.InstanceRules.{IsSound}
 use Rattle.ca_chip.specs.Linking.{HasMeaning}
+use Rattle.ca_draft.specs.declared.draft.OnWires.{OnWires}
 
 -- the cells of a library
 abbrev pub cells_of : List Named → List RawCell
@@ -180,3 +183,42 @@ pub record IsNumbering (joins : List Join) (wires : ℕ) (touched : List ℕ) (t
   pub are : AreEarliest joins wires marks.earliest
   pub used : AreMarks marks.earliest touched marks.used
   pub numbered : AreNumbered marks wires table
+
+-- the wiring that has these instances, port bits and joins
+abbrev pub wiring_on : List Named → List ScanRow → List Part → List PortBit → ℕ → List Join → Wiring
+wiring_on library scan parts ports bits joins =
+    record { bits = bits; joins = joins; parts = map (wired_of library scan) parts; header = map header_of ports }
+
+-- the wire is on a pin, or some span has the constant
+abbrev pub IsNamedBy : List Part → List RawSpan → ℕ → Bool → Type 0
+IsNamedBy parts spans wire value =
+    Contains (flat_map (λ part. pins_of part.body) parts) wire ⊎ (list_any (has_constant value) spans ≡ true)
+
+-- instances, port bits, the wires that nets stand on, and whether each constant is named: all this of the netlist
+pub record IsNetlistOnWires (raw : RawNetlist) (library : List Named) (scan : List ScanRow) (made : OnWires) : Type 0 where
+  pub is_wiring : wiring_on library scan made.parts.items made.ports.items made.bits (joins_of made.bits raw.joins)
+      ≡ wiring_of raw library scan
+  pub kept : All (IsKept library scan) made.parts.items
+  pub joined : All (IsJoinOf made.bits) raw.joins
+  pub zero_is : IsTrue made.touched.zero ↔ IsNamed (wiring_on library scan made.parts.items made.ports.items made.bits
+      (joins_of made.bits raw.joins)) made.bits
+  pub one_is : IsTrue made.touched.one ↔ IsNamed (wiring_on library scan made.parts.items made.ports.items made.bits
+      (joins_of made.bits raw.joins)) (made.bits + 1)
+  pub wires : made.touched.wires.items
+      ≡ touched_of made.parts.items made.ports.items made.bits made.touched.zero made.touched.one
+  pub within : All (λ wire. wire < made.wires) made.touched.wires.items
+  pub constants : made.bits + 1 < made.wires
+  pub few_parts : length made.parts.items < 2 ^ 32
+  pub few_ports : length made.ports.items < 2 ^ 32
+
+-- the chip with the number of each wire in its place
+abbrev pub chip_on : List Named → List Part → List PortBit → ℕ → Bool → Bool → NetNumbers → Chip
+chip_on library parts ports bits has_zero has_one table = record {
+  cells = cells_of library;
+  nets = length table.nets;
+  zero = constant_number table.numbers has_zero bits;
+  one = constant_number table.numbers has_one (bits + 1);
+  parts = map (numbered_part table.numbers) parts;
+  ports = map (numbered_port table.numbers) ports;
+  order = [];
+}

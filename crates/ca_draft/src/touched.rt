@@ -1,9 +1,9 @@
 //! The wires that nets stand on: those of pins, of port bits, and of the constants that are named.
 
-ghost use Rattle.std.specs.Prelude.{◌≡◌, ◌↔◌, ◌++◌, IsTrue, map, IfOk, OnOk};
+ghost use Rattle.std.specs.Prelude.{◌≡◌, ◌<◌, ◌+◌, ◌^◌, ◌⊎◌, ◌↔◌, ◌++◌, true, false, IsTrue, map, IfOk, OnOk};
 ghost use Rattle.std.specs.List.{Contains, flat_map, list_any};
 ghost use Rattle.ca_wired.specs.Linked.{input_nets, output_nets};
-ghost use Rattle.ca_draft.specs.OnWires.{constant_wires, has_constant, is_constant, pins_of};
+ghost use Rattle.ca_draft.specs.OnWires.{IsNamedBy, constant_wires, has_constant, is_constant, pins_of, touched_of};
 
 use ca_base::NoMemory;
 use ca_verilog::{RawBit, RawSpan};
@@ -38,8 +38,8 @@ fn push_pins(body: &Body, wires: &mut Vec<u32>) -> Result<(), NoMemory>
     push_outputs(body, wires)
 }
 
-/// The wires of all pins, instance by instance.
-pub(crate) fn wires_of_pins(alloc: Global, parts: &[Part]) -> Result<Vec<u32>, NoMemory>
+// The wires of all pins, instance by instance.
+fn wires_of_pins(alloc: Global, parts: &[Part]) -> Result<Vec<u32>, NoMemory>
     ensures { IfOk result (λ wires. wires.items ≡ flat_map (λ part. pins_of part.body) parts.now) }
 {
     let mut wires = Vec::new(alloc);
@@ -66,8 +66,8 @@ fn has_constant(value: bool, span: &RawSpan) -> bool
     0 < span.count && (is_constant(value, span.left) || is_constant(value, span.right))
 }
 
-/// Whether some `assign` names this constant.
-pub(crate) fn is_joined(value: bool, spans: &[RawSpan]) -> bool
+// Whether some `assign` names this constant.
+fn is_joined(value: bool, spans: &[RawSpan]) -> bool
     ensures { result ≡ list_any (has_constant value) spans.now }
 {
     for k in 0..spans.len() {
@@ -78,15 +78,15 @@ pub(crate) fn is_joined(value: bool, spans: &[RawSpan]) -> bool
     false
 }
 
-/// Whether the wire is among these.
-pub(crate) fn has_wire(wires: &[u32], wire: u32) -> bool
+// Whether the wire is among these.
+fn has_wire(wires: &[u32], wire: u32) -> bool
     ensures { IsTrue result ↔ Contains wires.now wire }
 {
     wires.contains(&wire)
 }
 
-/// Appends the wires of port bits.
-pub(crate) fn push_ports(ports: &[PortBit], wires: &mut Vec<u32>) -> Result<(), NoMemory>
+// Appends the wires of port bits.
+fn push_ports(ports: &[PortBit], wires: &mut Vec<u32>) -> Result<(), NoMemory>
     ensures { OnOk result (wires.new.items ≡ wires.old.items ++ map (λ port. port.net) ports.now) }
 {
     for p in 0..ports.len() {
@@ -95,8 +95,8 @@ pub(crate) fn push_ports(ports: &[PortBit], wires: &mut Vec<u32>) -> Result<(), 
     Ok(())
 }
 
-/// Appends the wire of a constant, if the constant is named.
-pub(crate) fn push_constant(wire: u32, is_named: bool, wires: &mut Vec<u32>) -> Result<(), NoMemory>
+// Appends the wire of a constant, if the constant is named.
+fn push_constant(wire: u32, is_named: bool, wires: &mut Vec<u32>) -> Result<(), NoMemory>
     ensures { OnOk result (wires.new.items ≡ wires.old.items ++ constant_wires wire is_named) }
 {
     if is_named {
@@ -104,4 +104,42 @@ pub(crate) fn push_constant(wire: u32, is_named: bool, wires: &mut Vec<u32>) -> 
     } else {
         Ok(())
     }
+}
+
+// Whether a constant is named: its wire is among those of pins, or an `assign` names it.
+fn is_named(pins: &[u32], spans: &[RawSpan], wire: u32, value: bool) -> bool
+    ensures { IsTrue result ↔ (Contains pins.now wire ⊎ (list_any (has_constant value) spans.now ≡ true)) }
+{
+    has_wire(pins, wire) || is_joined(value, spans)
+}
+
+/// The wires that nets stand on, and whether each constant is named.
+#[derive(Drop)]
+pub(crate) struct Touched {
+    pub wires: Vec<u32>,
+    pub zero: bool,
+    pub one: bool,
+}
+
+/// The wires that nets stand on, where so many bits are declared.
+pub(crate) fn touched_of(
+    alloc: Global,
+    bits: u32,
+    parts: &[Part],
+    ports: &[PortBit],
+    spans: &[RawSpan],
+) -> Result<Touched, NoMemory>
+    requires { bits + 1 < 2 ^ 32 }
+    ensures wires { IfOk result (λ touched.
+        touched.wires.items ≡ touched_of parts.now ports.now bits touched.zero touched.one) }
+    ensures zero { IfOk result (λ touched. IsTrue touched.zero ↔ IsNamedBy parts.now spans.now bits false) }
+    ensures one { IfOk result (λ touched. IsTrue touched.one ↔ IsNamedBy parts.now spans.now (bits + 1) true) }
+{
+    let mut wires = wires_of_pins(alloc, parts)?;
+    let zero = is_named(&wires, spans, bits, false);
+    let one = is_named(&wires, spans, bits + 1, true);
+    push_ports(ports, &mut wires)?;
+    push_constant(bits, zero, &mut wires)?;
+    push_constant(bits + 1, one, &mut wires)?;
+    Ok(Touched { wires, zero, one })
 }
