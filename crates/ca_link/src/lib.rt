@@ -3,7 +3,6 @@
 #![tactic(auto)]
 
 mod controls;
-mod draft;
 mod limits;
 mod linking;
 mod names;

@@ -9,11 +9,11 @@ ghost use Rattle.ca_chip.specs.Wiring.{wiring_of};
 ghost use Rattle.ca_chip.specs.Linking.{IsLinkOf};
 ghost use Rattle.ca_chip.specs.Rules.{KeepsRules, IsCause};
 
-use crate::draft::draft_of;
 use crate::limits::{defects_of, first_limit};
 use crate::telling::tell;
 use ca_cell::Library;
 use ca_chip::{ChipFault, ScanTable, judge_instances};
+use ca_draft::draft_of;
 use ca_verilog::RawNetlist;
 use ca_wired::{Chip, judge, wire};
 use std::alloc::Global;
