@@ -1,14 +1,12 @@
 -- Members of lists, and the constants that `assign`s name.
-use Rattle.std.proofs.Common.{◌≡◌, ℕ, zero, suc, ◌+◌, ◌<◌, ◌≤◌, List, [], ◌∷◌, ◌++◌, Bool, true, false, length, map, inl, inr, refl, sym, ◌∙◌, ap, subst, arith, get_or, true≢false}
-use Rattle.std.specs.Prelude.{◌⊎◌, ◌↔◌, ◌||◌, ◌&&◌, Option, Some, None, slice_get, option_map, nat_lt}
+use Rattle.std.proofs.Common.{◌≡◌, ℕ, zero, suc, ◌+◌, ◌<◌, List, [], ◌∷◌, Bool, true, false, map, inl, inr, refl, sym, ◌∙◌, ap, subst, arith, true≢false}
+use Rattle.std.specs.Prelude.{◌⊎◌, ◌||◌, ◌&&◌, Some, slice_get, option_map, nat_lt}
 use Rattle.std.specs.List.{Contains, All, list_any, flat_map}
-use mathlib.Core.Bool.{beq}
 use Rattle.std.proofs.lemmas.Bool.{ltb-true, lt-ltb}
 use Rattle.std.proofs.lemmas.List.Elements.{Contains-append_left, Contains-append_right, Contains-append_cases}
 use Rattle.std.proofs.lemmas.Option.{slice_get_within, slice_get-map, slice_get-get_or, get_or_from_slice_get}
 use Rattle.ca_verilog.specs.declared.raw.RawBit.{RawBit}
 use Rattle.ca_verilog.specs.declared.raw.RawBit.TheVariants.{Bit, Constant}
-use Rattle.ca_verilog.specs.declared.raw.RawJoin.{RawJoin}
 use Rattle.ca_verilog.specs.declared.raw.RawSpan.{RawSpan}
 use Rattle.ca_verilog.specs.Joins.{bit_behind, pairs_of}
 use Rattle.ca_verilog.specs.IsNetlist.{IsBit, IsJoinOf}

@@ -1,7 +1,7 @@
 -- What is made of instances and port bits on their wires.
 use Rattle.std.proofs.Common.{◌≡◌, ℕ, ◌+◌, ◌<◌, ◌≤◌, ◌^◌, List, [], ◌∷◌, ◌++◌, Bool, true, false, length, map, inl, inr, refl, sym, ◌∙◌, ap, arith, subst, get_or, length-append}
 use Rattle.std.specs.Prelude.{◌⊎◌, ◌↔◌, Option, Some, None, IsTrue, drop, if◌then◌else◌}
-use Rattle.std.specs.List.{All, Contains, flat_map, list_any}
+use Rattle.std.specs.List.{All, Contains, flat_map}
 use Rattle.std.specs.Str.{bytes_eq}
 use Rattle.std.proofs.lemmas.List.{get_or_append_left, get_or-append-add, append-nil}
 use Rattle.std.proofs.lemmas.List.Elements.{All-nil, All-cons, All-head, All-tail, All-append, All-map, All-contains, Contains-get_or, Contains-append_left}
@@ -29,7 +29,7 @@ use Rattle.ca_chip.specs.Numbers.{NetNumbers, LeadsToEarliest}
 use Rattle.ca_chip.proofs.NetLemmas.{leads}
 use Rattle.ca_wired.specs.Linked.{Chip}
 use Rattle.ca_wired.specs.Drivers.{IsDrafted}
-use Rattle.ca_draft.specs.OnWires.{pins_of, output_wire, next_own, wired_of, header_of, open_counts, AreOnWires, constant_wires, touched_of, wiring_on, has_constant, AreMarks, IsNamedBy, IsNumbering, IsNetlistOnWires, chip_on, cells_of, constant_number, numbered_part, numbered_port}
+use Rattle.ca_draft.specs.OnWires.{pins_of, output_wire, next_own, wired_of, header_of, open_counts, AreOnWires, constant_wires, touched_of, wiring_on, AreMarks, IsNamedBy, IsNumbering, IsNetlistOnWires, chip_on, cells_of, constant_number, numbered_part, numbered_port}
 use Rattle.ca_draft.specs.declared.draft.OnWires.{OnWires}
 use Rattle.ca_draft.proofs.OutputLemmas.{outputs_cons, open_cons}
 use Rattle.ca_draft.proofs.HeaderLemmas.{header_within}
@@ -266,7 +266,7 @@ module _ (raw : RawNetlist) (library : List Named) (scan : List ScanRow) (made :
   parts_within k d lt = λ j e less.
       let part = get_or made.parts.items k d in
       let has = in_all (λ (p : Part). pins_of p.body) made.parts.items k part (get_or (pins_of part.body) j e) (slice_get-get_or made.parts.items k d lt)
-          (Contains-get_or (pins_of part.body) j e less) in
+      (Contains-get_or (pins_of part.body) j e less) in
       below_numbers (get_or (pins_of part.body) j e)
       (Contains-append_left (flat_map (λ (p : Part). pins_of p.body) made.parts.items) (map (λ (port : PortBit). port.net) made.ports.items
       ++ (constant_wires made.bits made.touched.zero ++ constant_wires (made.bits + 1) made.touched.one)) (get_or (pins_of part.body) j e) has)
@@ -280,9 +280,9 @@ module _ (raw : RawNetlist) (library : List Named) (scan : List ScanRow) (made :
   pub ports_within : All (λ (port : PortBit). port.net < length table.numbers) made.ports.items
   ports_within k d lt =
       let rest = behind_all (λ (w : ℕ). w < made.wires) (flat_map (λ (p : Part). pins_of p.body) made.parts.items) (map (λ (port : PortBit). port.net) made.ports.items
-          ++ (constant_wires made.bits made.touched.zero ++ constant_wires (made.bits + 1) made.touched.one)) within_so in
+      ++ (constant_wires made.bits made.touched.zero ++ constant_wires (made.bits + 1) made.touched.one)) within_so in
       let ports = front_all (λ (w : ℕ). w < made.wires) (map (λ (port : PortBit). port.net) made.ports.items) (constant_wires made.bits made.touched.zero
-          ++ constant_wires (made.bits + 1) made.touched.one) rest in
+      ++ constant_wires (made.bits + 1) made.touched.one) rest in
       let here = map_all (λ (port : PortBit). port.net) (λ (w : ℕ). w < made.wires) made.ports.items ports k d lt in
       let room = numbering.numbered.room in
       omega (arith, here, room)

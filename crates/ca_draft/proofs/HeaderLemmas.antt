@@ -1,12 +1,12 @@
 -- The declared bits, and the port bits among them.
 use Rattle.std.proofs.Common.{◌≡◌, ℕ, zero, suc, ◌+◌, ◌-◌, ◌<◌, ◌≤◌, List, [], ◌∷◌, ◌++◌, length, map, refl, sym, ◌∙◌, ap, ap₂, subst, arith, get_or}
-use Rattle.std.specs.Prelude.{Option, Some, None, slice_get, take, drop}
-use Rattle.std.specs.List.{All, flat_map}
+use Rattle.std.specs.Prelude.{Option, Some, None, slice_get, take}
+use Rattle.std.specs.List.{All}
 use Rattle.std.proofs.lemmas.List.{append_assoc, append-nil, map-append, length_push, get_or_push, get_or_append_left}
 use native.Mathlib.Decide.{ℕ_discrete}
 use Rattle.std.proofs.lemmas.Grind.{flat_map-append}
 use Rattle.std.proofs.lemmas.List.Elements.{All-append, All-nil, All-cons}
-use Rattle.std.proofs.lemmas.Option.{slice_get_within, get_or_from_slice_get, slice_get-get_or}
+use Rattle.std.proofs.lemmas.Option.{slice_get_within}
 use Rattle.ca_verilog.specs.declared.raw.RawBus.{RawBus}
 use Rattle.ca_verilog.specs.IsNetlist.{range_width, bit_count, IsPort}
 use Rattle.ca_wired.specs.declared.parts.PortBit.{PortBit}

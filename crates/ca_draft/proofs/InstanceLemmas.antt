@@ -1,32 +1,27 @@
 -- Instances on their wires, one after another.
 use Rattle.std.proofs.Common.{◌≡◌, ℕ, ◌+◌, ◌<◌, ◌≤◌, ◌^◌, List, [], ◌∷◌, ◌++◌, Bool, true, false, length, map, refl, sym, ◌∙◌, ap, ap₂, subst, arith}
-use Rattle.std.specs.Prelude.{Option, Some, None, IsNone, slice_get, drop, option_to_list, cond, if◌then◌else◌, IsSomeAnd, ◌↔◌}
-use Rattle.std.specs.List.{All, sum_by}
+use Rattle.std.specs.Prelude.{Option, Some, None, IsNone, slice_get, drop, option_to_list, cond, if◌then◌else◌, ◌↔◌}
 use Rattle.std.proofs.lemmas.List.{append_assoc, map-append, length-map, length_push}
 use Rattle.std.proofs.lemmas.List.Sums.{sum_by-cons}
 use Rattle.std.proofs.lemmas.List.Elements.{All-push, All-nil}
-use Rattle.std.proofs.lemmas.Option.{slice_get_within, get_or_from_slice_get, slice_get-map}
-use Rattle.ca_cell.specs.declared.library.Entry.{Entry}
-use Rattle.ca_cell.specs.declared.library.Entry.TheVariants.{Sound, Refused}
+use Rattle.std.proofs.lemmas.Option.{get_or_from_slice_get}
 use Rattle.ca_cell.specs.declared.raw.Role.{Role}
 use Rattle.ca_cell.specs.declared.raw.RawPin.{RawPin}
 use Rattle.ca_cell.specs.declared.raw.RawCell.{RawCell}
-use Rattle.ca_cell.specs.Library.{Named, raw_of}
+use Rattle.ca_cell.specs.Library.{Named}
 use Rattle.ca_cell.specs.Raw.{is_input, is_output, role_count}
 use Rattle.ca_cell.specs.Rules.{IsRaw, KeepsRules}
-use Rattle.ca_verilog.specs.declared.raw.RawBit.{RawBit}
 use Rattle.ca_verilog.specs.declared.raw.RawUse.{RawUse}
 use Rattle.ca_verilog.specs.declared.raw.RawInstance.{RawInstance}
-use Rattle.ca_wired.specs.declared.parts.Body.{Body}
 use Rattle.ca_wired.specs.declared.parts.Body.TheVariants.{Gate, Scan}
 use Rattle.ca_wired.specs.declared.parts.Part.{Part}
 use Rattle.ca_wired.specs.declared.parts.ScanNets.{ScanNets}
-use Rattle.ca_wired.specs.Linked.{IsBody, IsGateOf, cell_of, no_cell, input_nets, output_nets}
+use Rattle.ca_wired.specs.Linked.{IsGateOf, no_cell, input_nets, output_nets}
 use Rattle.ca_chip.specs.declared.scan_row.ScanRow.{ScanRow}
 use Rattle.ca_chip.specs.Linking.{HasMeaning}
 use Rattle.ca_chip.specs.Wiring as wiring
 use Rattle.ca_chip.specs.Wiring.{Meaning, ScanCell, bit_on, names_with, input_wire, input_wires, output_wires, input_names, output_names, open_count, meaning_of, entry_meaning, WiredPart, wired_part, wired_parts}
-use Rattle.ca_draft.specs.OnWires.{cells_of, IsCellAt, IsOnWires, IsPartOnWires, wired_of, open_counts, IsKept, AreOnWires, output_wire, next_own}
+use Rattle.ca_draft.specs.OnWires.{cells_of, IsCellAt, IsOnWires, IsPartOnWires, wired_of, open_counts, IsKept, AreOnWires, next_own}
 use Rattle.ca_wired.proofs.EndLemmas.{drop_at}
 use Rattle.ca_draft.proofs.OutputLemmas.{outputs_cons}
 

@@ -1,8 +1,8 @@
 -- The nets of a netlist on its wires are those of its wiring.
-use Rattle.std.proofs.Common.{◌≡◌, ℕ, zero, suc, ◌+◌, ◌<◌, ◌≤◌, ◌^◌, List, [], ◌∷◌, ◌++◌, Bool, true, false, length, map, inl, inr, refl, sym, ◌∙◌, ap, subst, arith, get_or, true≢false, length-append}
-use Rattle.std.specs.Prelude.{◌⊎◌, ◌↔◌, Option, Some, None, IsNone, IsTrue, slice_get, slice_index_or, option_to_list, if◌then◌else◌}
+use Rattle.std.proofs.Common.{◌≡◌, ℕ, zero, suc, ◌+◌, ◌<◌, ◌^◌, List, [], ◌∷◌, ◌++◌, Bool, true, false, length, map, inl, inr, refl, sym, ◌∙◌, ap, subst, arith, get_or, true≢false}
+use Rattle.std.specs.Prelude.{◌⊎◌, ◌↔◌, Option, Some, None, IsNone, IsTrue, slice_get, option_to_list, if◌then◌else◌}
 use Rattle.std.specs.List.{Contains, All, flat_map}
-use Rattle.std.proofs.lemmas.List.{length-map, map-append}
+use Rattle.std.proofs.lemmas.List.{length-map}
 use Rattle.std.proofs.lemmas.List.Folds.{flat_map-map}
 use Rattle.std.proofs.lemmas.List.Elements.{All-map, Contains-get_or, Contains-append_left, Contains-append_right, Contains-append_cases}
 use Rattle.std.proofs.lemmas.Option.{none-some, slice_get_within, slice_get-get_or, get_or_from_slice_get}
@@ -12,23 +12,23 @@ use Rattle.ca_wired.specs.declared.parts.Body.{Body}
 use Rattle.ca_wired.specs.declared.parts.Body.TheVariants.{Gate, Scan}
 use Rattle.ca_wired.specs.declared.parts.Part.{Part}
 use Rattle.ca_wired.specs.declared.parts.PortBit.{PortBit}
-use Rattle.ca_wired.specs.Linked.{Chip, constant_net, input_nets, output_nets, IsBody, IsGateOf, cell_of}
+use Rattle.ca_wired.specs.Linked.{Chip, constant_net, input_nets, output_nets, IsBody}
 use Rattle.ca_wired.specs.Drivers.{IsDrafted}
 use Rattle.ca_chip.specs.declared.scan_row.ScanRow.{ScanRow}
 use Rattle.ca_chip.specs.declared.joined.Join.{Join}
-use Rattle.ca_chip.specs.Joined.{AreJoined, Same, IsEarliest, AreEarliest}
+use Rattle.ca_chip.specs.Joined.{AreJoined, Same, IsEarliest}
 use Rattle.ca_chip.specs.Wiring.{Meaning, Unknown, Broken, Library, ScanCell, meaning_of, WiredPart, HeaderBit, Wiring, out_bits}
 use Rattle.ca_chip.specs.Nets.{Driving, ConstantBit, OutputPin, DrivesWire, Drives, IsNamed, IsLoaded, IsNet, AreNets, IsNetOf, AreNetsOf, constant_wire}
 use Rattle.ca_chip.specs.Nets as nets
 use Rattle.ca_chip.specs.Linking.{HasMeaning, IsPartOf, IsPortOf, IsLinkOf}
-use Rattle.ca_chip.specs.Numbers.{WireMarks, NetNumbers, earliest_of, IsUsed, AreNumbered, TellsUsed}
+use Rattle.ca_chip.specs.Numbers.{WireMarks, NetNumbers, earliest_of, IsUsed, TellsUsed}
 use Rattle.ca_wired.proofs.OrderLemmas.{place_of, contained_at}
 use Rattle.ca_wired.proofs.DriverLemmas.{some_inj, to_some}
 use Rattle.ca_wired.proofs.FeedingLemmas.{item_of}
 use Rattle.ca_chip.proofs.ForestLemmas.{joined_trans, joined_sym}
 use Rattle.ca_chip.proofs.NetLemmas.{nets_are, net_is}
 use Rattle.ca_chip.proofs.SameLemmas.{joined_net, net_joined}
-use Rattle.ca_draft.specs.OnWires.{cells_of, pins_of, wired_of, header_of, IsKept, AreMarks, number_of, numbered, numbered_option, numbered_part, numbered_port, constant_number, constant_wires, touched_of, wiring_on, chip_on, IsNumbering}
+use Rattle.ca_draft.specs.OnWires.{cells_of, pins_of, wired_of, header_of, IsKept, number_of, numbered, numbered_option, numbered_part, numbered_port, constant_number, constant_wires, touched_of, wiring_on, chip_on, IsNumbering}
 use Rattle.ca_draft.proofs.ConstantLemmas.{in_part, in_all, value_of, value_at}
 
 -- an instance's pins, once their wires are numbered
@@ -116,9 +116,11 @@ module _ (library : List Named) (scan : List ScanRow) (parts : List Part) (ports
         by here.0 found.item found.at found.is found.item.is_input refl
       where
         by : (p : ℕ) (port : PortBit) → slice_get ports p ≡ Some port → port.net ≡ m → (input : Bool) → port.is_input ≡ input → Touches m
-        by p port at is true e = inl (nets.PortBit p,
-            to_some (λ (bit : HeaderBit). IsTrue bit.is_input × (bit.wire ≡ m)) (slice_get wiring.header p) (header_of port) (value_at header_of ports p port at)
-            (e, is))
+        by p port at is true e = inl (
+          nets.PortBit p,
+          to_some (λ (bit : HeaderBit). IsTrue bit.is_input × (bit.wire ≡ m)) (slice_get wiring.header p) (header_of port) (value_at header_of ports p port at)
+              (e, is),
+        )
         by p port at is false e = inr (Contains-append_right (flat_map (λ (part : WiredPart). part.inputs) wiring.parts) (out_bits wiring) m
             (in_all (λ (bit : HeaderBit). if bit.is_input then [] else bit.wire ∷ []) wiring.header p (header_of port) m (value_at header_of ports p port at)
             (subst (λ (b : Bool). Contains (if b then [] else port.net ∷ []) m) (sym e) (0, omega arith, is))))
@@ -207,7 +209,7 @@ module _ (library : List Named) (scan : List ScanRow) (parts : List Part) (ports
       same_first m w lt lt_w own joined =
           let le = (is.are.each m lt).none_before w joined in
           let ge = (is.are.each w lt_w).none_before (earliest_of marks m)
-              (joined_trans joins w m (earliest_of marks m) (joined_sym joins m w joined) (is.are.each m lt).joined) in
+          (joined_trans joins w m (earliest_of marks m) (joined_sym joins m w joined) (is.are.each m lt).joined) in
           omega (arith, le, ge, own)
 
       used_when : (m : ℕ) → Contains touched m → IsUsed marks (earliest_of marks m)
@@ -374,9 +376,9 @@ module _ (library : List Named) (scan : List ScanRow) (parts : List Part) (ports
           one_on_net = λ net e. constant_below has_one (bits + 1) net one_touched e;
           few_pins = each_part (λ (p : Part). length (output_nets p.body) < 2 ^ 32)
               (λ u part at.
-                  let few = (kept_at u part at).few in
-                  let same = ap length (outputs_numbered table.numbers part.body) ∙ length-map (output_nets part.body) (number_of table.numbers) in
-                  omega (arith, few, same));
+              let few = (kept_at u part at).few in
+              let same = ap length (outputs_numbered table.numbers part.body) ∙ length-map (output_nets part.body) (number_of table.numbers) in
+              omega (arith, few, same));
           few_parts = let l = length-map parts (numbered_part table.numbers) in omega (arith, l, few_parts);
           few_ports = let l = length-map ports (numbered_port table.numbers) in omega (arith, l, few_ports);
           few_nets = let few = is.numbered.few in omega (arith, few, few_wires);

@@ -1,8 +1,8 @@
 -- Marks, one more; and parts of a list that are changed one by one.
 use Rattle.std.proofs.Common.{◌≡◌, ℕ, zero, suc, ◌+◌, ◌<◌, ◌≤◌, List, [], ◌∷◌, ◌++◌, Bool, true, false, length, map, inl, inr, refl, sym, ◌∙◌, ap, ap₂, subst, arith, get_or, set, true≢false, get_or-set_same, get_or-set_other}
 use Rattle.std.specs.Prelude.{Some, slice_get, take, drop, replicate}
-use Rattle.std.specs.List.{Contains, All}
-use Rattle.std.proofs.lemmas.List.{append_assoc, append-nil, map-append, length-set, length-replicate, get_or-replicate, take_more_set, take_all, drop-set-lt, drop-drop}
+use Rattle.std.specs.List.{All}
+use Rattle.std.proofs.lemmas.List.{map-append, length-set, length-replicate, get_or-replicate, take_more_set, take_all, drop-set-lt, drop-drop}
 use Rattle.std.proofs.lemmas.List.Elements.{Contains-append_left, Contains-push, Contains-push_cases}
 use Rattle.std.proofs.lemmas.Option.{slice_get_within, slice_get-get_or, get_or_from_slice_get}
 use native.Mathlib.Decide.{ℕ_discrete}
@@ -25,10 +25,10 @@ module _ (earliest : List ℕ) where
     count = length-set old first true ∙ are.count;
     each = λ w less. elim (ℕ_discrete w first) [
       | yes e ↦ (
-          λ used. (wire, Contains-push (take k wires) wire, sym is ∙ sym e),
-          λ found. ap (λ n. get_or (set old first true) n false) e
-              ∙ get_or-set_same old first true false (let c = are.count in omega (arith, c, lt)),
-        )
+        λ used. (wire, Contains-push (take k wires) wire, sym is ∙ sym e),
+        λ found. ap (λ n. get_or (set old first true) n false) e
+            ∙ get_or-set_same old first true false (let c = are.count in omega (arith, c, lt)),
+      )
       | no ne ↦
           let other : get_or (set old first true) w false ≡ get_or old w false = get_or-set_other old first w true false ne in (
             λ used.

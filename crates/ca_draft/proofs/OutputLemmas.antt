@@ -1,7 +1,6 @@
 -- The wires of output pins, one after another.
-use Rattle.std.proofs.Common.{◌≡◌, ℕ, ◌+◌, List, [], ◌∷◌, ◌++◌, Bool, true, false, length, refl, sym, ◌∙◌, ap, ap₂, subst, arith}
+use Rattle.std.proofs.Common.{◌≡◌, ℕ, ◌+◌, List, [], ◌∷◌, ◌++◌, Bool, true, false, refl, sym, ◌∙◌, ap, ap₂, arith}
 use Rattle.std.specs.Prelude.{Option, Some, None, slice_get, drop, is_none, cond, if◌then◌else◌}
-use Rattle.std.specs.List.{sum_by}
 use Rattle.std.proofs.lemmas.List.{append_assoc}
 use Rattle.std.proofs.lemmas.List.Sums.{sum_by-cons}
 use Rattle.ca_cell.specs.declared.raw.RawPin.{RawPin}
@@ -19,7 +18,7 @@ module _ (bits : ℕ) (uses : List RawUse) where
       ≡ output_wire bits own (bit_on uses name) ∷ output_wires bits uses (next_own own (bit_on uses name)) names
   outputs_cons own name names = by (bit_on uses name)
     where
-      by : (bit : Option RawBit) → elim bit [ | None ↦ own ∷ output_wires bits uses (own + 1) names | Some bit ↦ output_wire bits own (Some bit) ∷ output_wires bits uses own names ]
+      by : (bit : Option RawBit) → elim bit [ None ↦ own ∷ output_wires bits uses (own + 1) names | Some bit ↦ output_wire bits own (Some bit) ∷ output_wires bits uses own names ]
           ≡ output_wire bits own bit ∷ output_wires bits uses (next_own own bit) names
       by None = refl
       by (Some bit) = refl

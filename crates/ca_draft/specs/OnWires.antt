@@ -1,5 +1,5 @@
--- Instances and port bits before the nets are numbered: where a net will stand, there stands the number of the
--- wire. Only the proofs of the code cite this.
+-- Instances and port bits before the nets are numbered: where a net will stand, there stands the number of
+-- the wire. Only the proofs of the code cite this.
 use Rattle.std.specs.Prelude.{ℕ, ◌+◌, ◌≡◌, ◌<◌, ◌^◌, ◌↔◌, ◌⊎◌, ◌||◌, ◌&&◌, Bool, IsTrue, true, false, List, [], ◌∷◌, ◌++◌, map, length, drop, take, Option, Some, None, slice_get, slice_index, slice_index_or, nat_lt, if◌then◌else◌}
 use Rattle.std.specs.List.{All, Contains, list_any, flat_map}
 use mathlib.Core.Bool.{beq}
@@ -52,8 +52,8 @@ next_own own (Some bit) = own
 
 -- the body is that of an instance with this meaning, on its wires, where its wires of its own have the
 -- numbers from `own` to `behind`
-pub record IsOnWires (library : List Named) (bits : ℕ) (meaning : Meaning) (uses : List RawUse) (own behind : ℕ)
-    (body : Body) : Type 0 where
+pub record IsOnWires (library : List Named) (bits : ℕ) (meaning : Meaning) (uses : List RawUse)
+    (own behind : ℕ) (body : Body) : Type 0 where
   pub inputs : input_nets body ≡ input_wires bits uses (input_names meaning)
   pub outputs : output_nets body ≡ output_wires bits uses own (output_names meaning)
   pub counted : behind ≡ own + open_count uses (output_names meaning)
@@ -128,7 +128,8 @@ has_constant value span = nat_lt 0 span.count && (is_constant value span.left ||
 pub record AreMarks (earliest wires : List ℕ) (used : List Bool) : Type 0 where
   pub count : length used ≡ length earliest
   pub each : (w : ℕ) → w < length earliest
-      → (slice_index_or used w false ≡ true) ↔ ((wire : ℕ) × Contains wires wire × (slice_index earliest wire ≡ w))
+      → (slice_index_or used w false ≡ true)
+      ↔ ((wire : ℕ) × Contains wires wire × (slice_index earliest wire ≡ w))
 
 -- the number that is told of a wire
 abbrev pub number_of : List ℕ → ℕ → ℕ
@@ -187,23 +188,32 @@ pub record IsNumbering (joins : List Join) (wires : ℕ) (touched : List ℕ) (t
 -- the wiring that has these instances, port bits and joins
 abbrev pub wiring_on : List Named → List ScanRow → List Part → List PortBit → ℕ → List Join → Wiring
 wiring_on library scan parts ports bits joins =
-    record { bits = bits; joins = joins; parts = map (wired_of library scan) parts; header = map header_of ports }
+    record {
+      bits = bits;
+      joins = joins;
+      parts = map (wired_of library scan) parts;
+      header = map header_of ports;
+    }
 
 -- the wire is on a pin, or some span has the constant
 abbrev pub IsNamedBy : List Part → List RawSpan → ℕ → Bool → Type 0
 IsNamedBy parts spans wire value =
     Contains (flat_map (λ part. pins_of part.body) parts) wire ⊎ (list_any (has_constant value) spans ≡ true)
 
--- instances, port bits, the wires that nets stand on, and whether each constant is named: all this of the netlist
-pub record IsNetlistOnWires (raw : RawNetlist) (library : List Named) (scan : List ScanRow) (made : OnWires) : Type 0 where
-  pub is_wiring : wiring_on library scan made.parts.items made.ports.items made.bits (joins_of made.bits raw.joins)
-      ≡ wiring_of raw library scan
+-- the wiring that has what was made
+abbrev pub wiring_made : RawNetlist → List Named → List ScanRow → OnWires → Wiring
+wiring_made raw library scan made =
+    wiring_on library scan made.parts.items made.ports.items made.bits (joins_of made.bits raw.joins)
+
+-- what was made is of the netlist: its instances, its port bits, the wires that nets stand on, and whether
+-- each constant is named
+pub record IsNetlistOnWires (raw : RawNetlist) (library : List Named) (scan : List ScanRow)
+    (made : OnWires) : Type 0 where
+  pub is_wiring : wiring_made raw library scan made ≡ wiring_of raw library scan
   pub kept : All (IsKept library scan) made.parts.items
   pub joined : All (IsJoinOf made.bits) raw.joins
-  pub zero_is : IsTrue made.touched.zero ↔ IsNamed (wiring_on library scan made.parts.items made.ports.items made.bits
-      (joins_of made.bits raw.joins)) made.bits
-  pub one_is : IsTrue made.touched.one ↔ IsNamed (wiring_on library scan made.parts.items made.ports.items made.bits
-      (joins_of made.bits raw.joins)) (made.bits + 1)
+  pub zero_is : IsTrue made.touched.zero ↔ IsNamed (wiring_made raw library scan made) made.bits
+  pub one_is : IsTrue made.touched.one ↔ IsNamed (wiring_made raw library scan made) (made.bits + 1)
   pub wires : made.touched.wires.items
       ≡ touched_of made.parts.items made.ports.items made.bits made.touched.zero made.touched.one
   pub within : All (λ wire. wire < made.wires) made.touched.wires.items

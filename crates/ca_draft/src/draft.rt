@@ -49,8 +49,20 @@ fn on_wires(
     let buses = netlist.buses.as_slice();
     let bits = bits_of(alloc, buses)?;
     let ports = ports_of(alloc, buses, &bits.firsts, netlist.ports.as_slice())?;
-    let made = instances_of(alloc, library, scan, bits.count, netlist.instances.as_slice())?;
-    let touched = touched_of(alloc, bits.count, &made.parts, &ports, netlist.joins.spans())?;
+    let made = instances_of(
+        alloc,
+        library,
+        scan,
+        bits.count,
+        netlist.instances.as_slice(),
+    )?;
+    let touched = touched_of(
+        alloc,
+        bits.count,
+        &made.parts,
+        &ports,
+        netlist.joins.spans(),
+    )?;
     Ok(OnWires {
         bits: bits.count,
         wires: made.wires,
@@ -96,7 +108,13 @@ pub fn draft_of(
     ensures cells { IfOk result (λ draft. draft.cells ≡ map (λ named. raw_of named.entry) library) }
 {
     let made = on_wires(alloc, &library, netlist, scan.as_slice())?;
-    let table = numbering_of(alloc, made.bits, made.wires, &netlist.joins, &made.touched.wires)?;
+    let table = numbering_of(
+        alloc,
+        made.bits,
+        made.wires,
+        &netlist.joins,
+        &made.touched.wires,
+    )?;
     let zero = number_constant(made.touched.zero, made.bits, &table);
     let one = number_constant(made.touched.one, made.bits + 1, &table);
     let OnWires {

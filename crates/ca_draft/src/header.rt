@@ -114,8 +114,8 @@ fn add_port(
     Ok(())
 }
 
-/// The port bits of a netlist on their wires, in header order. As many as 2^32 are told as a list that finds no
-/// memory.
+/// The port bits of a netlist on their wires, in header order. A list of 2^32 or more is told as one for
+/// which there is no memory.
 pub(crate) fn ports_of(
     alloc: Global,
     buses: &[RawBus],

@@ -60,8 +60,8 @@ fn library_body(
 ) -> Result<Body, NoMemory>
     requires bits { bits + 1 < 2 ^ 32 }
     requires known { IsKnown (entry_meaning (entry_of library.now (upper_case cell.now))) }
-    ensures { IfOk result (IsOnWires library.now bits (entry_meaning (entry_of library.now (upper_case cell.now)))
-        uses.now own.old own.new) }
+    ensures { IfOk result (IsOnWires library.now bits
+        (entry_meaning (entry_of library.now (upper_case cell.now))) uses.now own.old own.new) }
 {
     match library.place(cell.as_bytes()) {
         Some(place) => match library.entry(place) {

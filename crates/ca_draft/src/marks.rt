@@ -8,7 +8,11 @@ use ca_base::NoMemory;
 use std::alloc::Global;
 
 /// Marks the earliest wire of each that is listed.
-pub(crate) fn marks_of(alloc: Global, earliest: &[u32], wires: &[u32]) -> Result<Vec<bool>, NoMemory>
+pub(crate) fn marks_of(
+    alloc: Global,
+    earliest: &[u32],
+    wires: &[u32],
+) -> Result<Vec<bool>, NoMemory>
     requires listed { All (λ wire. slice_index earliest.now wire < length earliest.now) wires.now }
     requires within { All (λ wire. wire < length earliest.now) wires.now }
     ensures { IfOk result (λ used. AreMarks earliest.now wires.now used.items) }

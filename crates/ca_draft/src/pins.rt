@@ -15,8 +15,9 @@ use ca_verilog::{RawBit, RawUse};
 use ca_wired::{NetList, ScanNets};
 use std::alloc::Global;
 
-// The wire of an output pin, where the next wire of its own has the number `own`. The last number is never given,
-// so that the number of wires fits too: a netlist that reaches it is told as one that finds no memory.
+// The wire of an output pin, where the next wire of its own has the number `own`. The last number isn't
+// given, so that the number of wires fits too: a netlist that reaches it is told as one for which there is
+// no memory.
 fn output_wire(bits: u32, own: &mut u32, bit: Option<RawBit>) -> Result<u32, NoMemory>
     requires { bits + 1 < 2 ^ 32 }
     ensures wire { IfOk result (λ wire. wire ≡ output_wire bits own.old bit) }
@@ -44,8 +45,8 @@ fn add_output(
     uses: &[RawUse],
 ) -> Result<(), NoMemory>
     requires { bits + 1 < 2 ^ 32 }
-    ensures wires { OnOk result (wires.new ≡ wires.old ++
-        (if is_output pin.now.role then output_wire bits own.old (bit_on uses.now pin.now.name) ∷ [] else [])) }
+    ensures wires { OnOk result (wires.new ≡ wires.old ++ (if is_output pin.now.role
+        then output_wire bits own.old (bit_on uses.now pin.now.name) ∷ [] else [])) }
     ensures next { OnOk result (own.new ≡
         (if is_output pin.now.role then next_own own.old (bit_on uses.now pin.now.name) else own.old)) }
 {
@@ -57,8 +58,8 @@ fn add_output(
     }
 }
 
-/// The wires of the output pins of a library cell, in pin order, where the next wire of its own has the number
-/// `own`.
+/// The wires of the output pins of a library cell, in pin order, where the next wire of its own has the
+/// number `own`.
 pub(crate) fn library_outputs(
     alloc: Global,
     bits: u32,

@@ -71,8 +71,13 @@ fn number_body(alloc: Global, body: &Body, table: &NetTable) -> Result<Body, NoM
 }
 
 /// Puts the instances on nets.
-pub(crate) fn number_parts(alloc: Global, parts: &mut Vec<Part>, table: &NetTable) -> Result<(), NoMemory>
-    requires { All (λ part. All (λ wire. wire < length table.now.numbers) (pins_of part.body)) parts.old.items }
+pub(crate) fn number_parts(
+    alloc: Global,
+    parts: &mut Vec<Part>,
+    table: &NetTable,
+) -> Result<(), NoMemory>
+    requires { All (λ part. All (λ wire. wire < length table.now.numbers) (pins_of part.body))
+        parts.old.items }
     ensures { OnOk result (parts.new.items ≡ map (numbered_part table.now.numbers) parts.old.items) }
 {
     for u in 0..parts.len() {
@@ -98,5 +103,9 @@ pub(crate) fn number_constant(is_named: bool, wire: u32, table: &NetTable) -> Op
     requires { wire < length table.now.numbers }
     ensures { result ≡ constant_number table.now.numbers is_named wire }
 {
-    if is_named { Some(table.number(wire)) } else { None }
+    if is_named {
+        Some(table.number(wire))
+    } else {
+        None
+    }
 }

@@ -133,7 +133,8 @@ pub(crate) fn touched_of(
     ensures wires { IfOk result (λ touched.
         touched.wires.items ≡ touched_of parts.now ports.now bits touched.zero touched.one) }
     ensures zero { IfOk result (λ touched. IsTrue touched.zero ↔ IsNamedBy parts.now spans.now bits false) }
-    ensures one { IfOk result (λ touched. IsTrue touched.one ↔ IsNamedBy parts.now spans.now (bits + 1) true) }
+    ensures one { IfOk result (λ touched.
+        IsTrue touched.one ↔ IsNamedBy parts.now spans.now (bits + 1) true) }
 {
     let mut wires = wires_of_pins(alloc, parts)?;
     let zero = is_named(&wires, spans, bits, false);

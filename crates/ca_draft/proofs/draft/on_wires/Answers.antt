@@ -1,4 +1,4 @@
-use Rattle.std.proofs.Common.{◌≡◌, ◌∙◌, ◌+◌, ap, ap₂, sym, subst, List, ℕ, length, map, true, false}
+use Rattle.std.proofs.Common.{◌∙◌, ◌+◌, ap, ap₂, sym, subst, List, ℕ, length, true, false}
 use Rattle.std.specs.Prelude.{◌↔◌, IsTrue}
 use Rattle.std.specs.List.{All}
 use Rattle.ca_verilog.specs.declared.raw.RawBus.{RawBus}
@@ -7,7 +7,7 @@ use Rattle.ca_verilog.specs.IsNetlist.{bit_count, IsPort}
 use Rattle.ca_wired.specs.declared.parts.Part.{Part}
 use Rattle.ca_wired.specs.declared.parts.PortBit.{PortBit}
 use Rattle.ca_chip.specs.Wiring.{header_bits}
-use Rattle.ca_draft.specs.OnWires.{AreOnWires, IsNamedBy, header_of, touched_of}
+use Rattle.ca_draft.specs.OnWires.{AreOnWires, IsNamedBy, touched_of}
 use Rattle.ca_draft.proofs.DraftLemmas.{netlist_is}
 use Rattle.ca_draft.proofs.draft.on_wires.Goals as goal
 

@@ -1,4 +1,4 @@
-use Rattle.std.proofs.Common.{◌≡◌, ◌<◌, ◌∙◌, ap, sym, subst, arith, refl, map, ◌++◌}
+use Rattle.std.proofs.Common.{◌<◌, arith, refl, map, ◌++◌}
 use Rattle.ca_verilog.specs.IsNetlist.{range_width}
 use Rattle.ca_chip.specs.Wiring.{header_bits_from}
 use Rattle.ca_draft.specs.OnWires.{header_of}

@@ -1,9 +1,6 @@
-use Rattle.std.proofs.Common.{◌≡◌, ◌<◌, ◌≤◌, ◌+◌, ◌∙◌, ap, sym, arith}
-use Rattle.std.specs.Prelude.{Some, slice_get, take}
+use Rattle.std.proofs.Common.{arith}
 use Rattle.std.proofs.lemmas.Option.{slice_get-get_or}
-use Rattle.ca_verilog.specs.declared.raw.RawBus.{RawBus}
-use Rattle.ca_verilog.specs.IsNetlist.{bit_count, range_width}
-use Rattle.ca_draft.proofs.HeaderLemmas.{count_more, count_within, count_all, firsts_more}
+use Rattle.ca_draft.proofs.HeaderLemmas.{count_more, count_within, firsts_more}
 use Rattle.ca_draft.proofs.header.bits_of.Goals as goal
 
 pub range_width-count-requires : goal.range_width-count-requires

@@ -1,9 +1,6 @@
-use Rattle.std.proofs.Common.{◌≡◌, ◌<◌, ◌≤◌, ◌+◌, ◌∙◌, ap, sym, subst, arith, length, get_or}
-use Rattle.std.specs.Prelude.{Some, slice_get, take}
+use Rattle.std.proofs.Common.{◌<◌, ◌∙◌, ap, sym, arith, length, get_or}
+use Rattle.std.specs.Prelude.{Some}
 use Rattle.std.proofs.lemmas.Option.{slice_get-get_or}
-use Rattle.ca_verilog.specs.declared.raw.RawBus.{RawBus}
-use Rattle.ca_verilog.specs.IsNetlist.{bit_count}
-use Rattle.ca_draft.specs.OnWires.{header_of}
 use Rattle.ca_draft.proofs.HeaderLemmas.{count_within, header_more, port_within}
 use Rattle.ca_draft.proofs.header.ports_of.Goals as goal
 
