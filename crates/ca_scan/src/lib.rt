@@ -3,8 +3,17 @@
 
 mod fault;
 mod fields;
+mod follow;
+mod joints;
+mod laws;
+mod pins;
 mod table;
+mod takers;
+mod tally;
+mod whole;
 
 pub use ca_chip::{ScanRow, ScanTable};
-pub use fault::ScanFault;
+pub use fault::{ChainFault, ScanFault};
+pub use laws::chains_are_one;
 pub use table::read_table;
+pub use whole::{Chains, MOST_CHAINS, trace};
