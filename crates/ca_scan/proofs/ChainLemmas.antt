@@ -1,5 +1,5 @@
 -- Runs of scan instances from a net that is driven: there is one at most, and no instance is twice on it.
-use Rattle.std.proofs.Common.{◌≡◌, ℕ, zero, suc, ◌+◌, ◌<◌, ◌≤◌, Bool, true, false, ◌||◌, List, [], ◌∷◌, ◌++◌, length, refl, sym, ap, ◌∙◌, subst, arith}
+use Rattle.std.proofs.Common.{◌≡◌, ℕ, zero, suc, ◌<◌, ◌≤◌, Bool, true, false, ◌||◌, List, [], ◌∷◌, length, refl, sym, ap, ◌∙◌, subst, arith}
 use Rattle.std.specs.Prelude.{eqb, Option, Some, None, IsSomeAnd, slice_get, option_to_list}
 use Rattle.std.specs.List.{list_any, flat_map, IsDistinct, AllByRecursion}
 use Rattle.std.proofs.lemmas.Bool.{eqb-true, eq-eqb}
@@ -14,7 +14,7 @@ use Rattle.ca_wired.specs.declared.parts.PortBit.{PortBit}
 use Rattle.ca_wired.specs.Linked.{Chip, has, path_nets, is_scan_path}
 use Rattle.ca_wired.specs.Instances.{HasOnPin}
 use Rattle.ca_scan.specs.Chain.{IsLink, IsOnPin, IsAtPort, IsOut, RunsOut, IsChainFrom, IsChainAt, AreChains}
-use Rattle.ca_scan.specs.Kept.{drivers_of, takers_of, outs_of}
+use Rattle.ca_scan.specs.Kept.{drivers_of, takers_of}
 use Rattle.ca_scan.proofs.CountLemmas.{item_of, enough, so_drives, takes, one_taker, port_drives, goes_out}
 
 -- one net is on a pin

@@ -1,15 +1,14 @@
 -- How often a net is in a list, and which ends are on it.
-use Rattle.std.proofs.Common.{◌≡◌, ℕ, zero, suc, ◌+◌, ◌<◌, ◌≤◌, Bool, true, false, List, [], ◌∷◌, ◌++◌, length, refl, sym, ap, ◌∙◌, subst, arith}
+use Rattle.std.proofs.Common.{◌≡◌, ℕ, zero, suc, ◌+◌, ◌≤◌, Bool, true, false, List, [], ◌∷◌, ◌++◌, refl, sym, ap, subst, arith}
 use Rattle.std.specs.Prelude.{eqb, map, Option, Some, None, IsSomeAnd, slice_get, if◌then◌else◌, option_to_list}
-use Rattle.std.specs.List.{All, flat_map}
-use Rattle.std.proofs.lemmas.Bool.{eqb-true, eq-eqb}
-use Rattle.std.proofs.lemmas.List.Elements.{All-head, All-tail}
+use Rattle.std.specs.List.{flat_map}
+use Rattle.std.proofs.lemmas.Bool.{eq-eqb}
 use Rattle.ca_wired.specs.declared.pins.ScanPin.TheVariants.{Si, So}
 use Rattle.ca_wired.specs.declared.parts.Body.{Body}
 use Rattle.ca_wired.specs.declared.parts.Body.TheVariants.{Gate, Scan}
 use Rattle.ca_wired.specs.declared.parts.Part.{Part}
 use Rattle.ca_wired.specs.declared.parts.PortBit.{PortBit}
-use Rattle.ca_wired.specs.Linked.{Chip, data_nets, path_nets}
+use Rattle.ca_wired.specs.Linked.{Chip}
 use Rattle.ca_wired.specs.Instances.{HasOnPin, pin_nets}
 use Rattle.ca_scan.specs.Chain.{count_of, ends_of, IsOnPin, IsAtPort, IsOut}
 use Rattle.ca_scan.specs.Kept.{so_nets, si_nets, in_nets, out_nets, drivers_of, takers_of, outs_of}

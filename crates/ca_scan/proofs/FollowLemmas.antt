@@ -13,7 +13,7 @@ use Rattle.ca_wired.specs.Linked.{Chip, IsWired, is_scan_path}
 use Rattle.ca_wired.specs.Instances.{HasOnPin, IsScan, scans_of}
 use Rattle.ca_scan.specs.declared.joints.Joints.{Joints}
 use Rattle.ca_scan.specs.Chain.{count_of, ends_of, IsLink, IsOnPin, IsAtPort, IsOut, IsScanAt, RunsOut, IsChainFrom}
-use Rattle.ca_scan.specs.Kept.{drivers_of, out_nets, up_to_three, tally_at, Counts, taker_at, IsTakerAmong, AreJoints, IsRun, IsFollowed}
+use Rattle.ca_scan.specs.Kept.{drivers_of, out_nets, up_to_three, tally_at, taker_at, IsTakerAmong, AreJoints, IsFollowed}
 use Rattle.ca_scan.proofs.CountLemmas.{count-append, so_drives, port_drives, goes_out}
 use Rattle.ca_scan.proofs.ChainLemmas.{one_net, one_run, so_on_path, si_on_path, not_both, same_taker, run_length}
 use Rattle.ca_scan.proofs.TallyLemmas.{append_nil}

@@ -1,5 +1,5 @@
 -- What is kept of the nets, as it is gathered, and what it says of a chip.
-use Rattle.std.proofs.Common.{◌≡◌, ℕ, zero, suc, ◌+◌, ◌<◌, ◌≤◌, Bool, true, false, List, [], ◌∷◌, ◌++◌, length, take, get_or, refl, sym, ap, ◌∙◌, subst, arith, append_assoc, length-append}
+use Rattle.std.proofs.Common.{◌≡◌, ℕ, zero, suc, ◌+◌, ◌<◌, ◌≤◌, Bool, true, false, List, [], ◌∷◌, ◌++◌, length, take, refl, sym, ap, ◌∙◌, subst, arith, append_assoc, length-append}
 use Rattle.std.specs.Prelude.{eqb, map, Option, Some, None, IsSomeAnd, slice_get, slice_index, if◌then◌else◌, option_to_list}
 use Rattle.std.specs.List.{All, flat_map}
 use Rattle.std.proofs.lemmas.Bool.{eqb-true, eq-eqb}
@@ -16,10 +16,10 @@ use Rattle.ca_wired.specs.declared.parts.PortBit.{PortBit}
 use Rattle.ca_wired.specs.Linked.{Chip, IsWired, is_scan_path, data_nets, path_nets}
 use Rattle.ca_wired.specs.Instances.{HasOnPin, IsScan, if_scan, pin_nets, scans_from, scans_of}
 use Rattle.ca_scan.specs.Chain.{count_of, ends_of, IsOnPin, IsScanAt}
-use Rattle.ca_scan.specs.Kept.{nets_at, nets_of, out_nets, Counts, Adds, up_to_three, IsTakerAmong, AreTakersAmong, taker_at, SetsTaker}
+use Rattle.ca_scan.specs.Kept.{nets_at, nets_of, out_nets, Counts, Adds, IsTakerAmong, AreTakersAmong, taker_at, SetsTaker}
 use Rattle.ca_scan.proofs.CountLemmas.{item_of, count-append}
 use Rattle.ca_scan.proofs.ChainLemmas.{one_net}
-use Rattle.ca_scan.proofs.TallyLemmas.{adds_both, take_more}
+use Rattle.ca_scan.proofs.TallyLemmas.{take_more}
 
 -- the list with the instance at one place more
 module _ {X : Type 0} (f : X → List ℕ) (xs : List X) (k : ℕ) (x : X) (at : slice_get xs k ≡ Some x) where

@@ -5,3 +5,4 @@ pub mod TallyLemmas
 pub mod JointLemmas
 pub mod FollowLemmas
 pub mod OffLemmas
+pub mod AnswerLemmas

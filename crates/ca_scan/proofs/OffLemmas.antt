@@ -1,5 +1,5 @@
 -- The whole chains, as they are listed, and which scan instances are on one.
-use Rattle.std.proofs.Common.{◌≡◌, ℕ, zero, suc, ◌+◌, ◌<◌, ◌≤◌, Bool, true, false, ◌||◌, List, [], ◌∷◌, ◌++◌, length, take, refl, sym, ap, ◌∙◌, subst, arith, append_assoc, length-append}
+use Rattle.std.proofs.Common.{◌≡◌, ℕ, zero, suc, ◌+◌, ◌<◌, ◌≤◌, Bool, true, false, ◌||◌, List, [], ◌∷◌, ◌++◌, length, take, refl, sym, ap, ◌∙◌, subst, arith, length-append}
 use Rattle.std.specs.Prelude.{eqb, Option, Some, None, IsSomeAnd, slice_get, if◌then◌else◌, option_to_list}
 use Rattle.std.specs.List.{flat_map}
 use Rattle.std.proofs.lemmas.Bool.{eqb-true, eq-eqb}
@@ -8,11 +8,10 @@ use Rattle.std.proofs.lemmas.Grind.{flat_map-append}
 use Rattle.ca_wired.specs.declared.parts.PortBit.{PortBit}
 use Rattle.ca_wired.specs.Linked.{Chip, has}
 use Rattle.ca_wired.specs.Instances.{scans_of}
-use Rattle.ca_scan.specs.Chain.{count_of, IsChainFrom, IsChainAt, AreChainsOf, AreChains, IsScanAt, IsOnChain, AreOnChains, IsFirstOff}
+use Rattle.ca_scan.specs.Chain.{count_of, IsChainAt, AreChainsOf, AreChains, IsOnChain, AreOnChains, IsFirstOff}
 use Rattle.ca_scan.specs.Kept.{up_to_three, tally_at, Counts, Adds, all_of, AreOnChainsBefore}
-use Rattle.ca_scan.proofs.CountLemmas.{count-append, counted, item_of}
+use Rattle.ca_scan.proofs.CountLemmas.{counted, item_of}
 use Rattle.ca_scan.proofs.ChainLemmas.{one_found}
-use Rattle.ca_scan.proofs.TallyLemmas.{append_nil}
 use Rattle.ca_scan.proofs.JointLemmas.{counts_more, scan_at, scan_place, scans_rise}
 use Rattle.ca_scan.proofs.FollowLemmas.{IsFound, found_in}
 

@@ -1,5 +1,5 @@
 -- What the chains of a chip are, and why it has none.
-use Rattle.std.specs.Prelude.{ℕ, ◌≡◌, ◌<◌, ◌≤◌, List, length}
+use Rattle.std.specs.Prelude.{ℕ, ◌≡◌, ◌≢◌, ◌<◌, ◌≤◌, List, length}
 use Rattle.ca_scan.specs.declared.fault.ChainFault.{ChainFault}
 use Rattle.ca_scan.specs.declared.fault.ChainFault.TheVariants.{ChainBroken, TooManyChains, NoMemory}
 use Rattle.ca_scan.specs.declared.whole.TheConstants.{MOST_CHAINS}
@@ -25,3 +25,12 @@ abbrev pub IsChainCause : Chip → ChainFault → Type 0
 IsChainCause chip (ChainBroken instance) = IsFirstOff chip instance.0
 IsChainCause chip (TooManyChains count) = AreTooMany chip count
 IsChainCause chip NoMemory = Unit {0}
+
+-- a chip has one list of chains at most, one cause at most to have none, and never both; want of memory aside
+pub record HasOneAnswer (chip : Chip) : Type 0 where
+  pub one_list : (chains others : List (List ℕ)) → AreAllChains chip chains → AreAllChains chip others
+      → chains ≡ others
+  pub one_cause : (fault other : ChainFault) → IsChainCause chip fault → IsChainCause chip other
+      → fault ≢ NoMemory → other ≢ NoMemory → fault ≡ other
+  pub not_both : (chains : List (List ℕ)) (fault : ChainFault) → AreAllChains chip chains
+      → IsChainCause chip fault → fault ≡ NoMemory

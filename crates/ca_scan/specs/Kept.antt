@@ -1,8 +1,8 @@
 -- What the code keeps for each net, and how it goes along a chain. Only the proofs of the code cite this.
-use Rattle.std.specs.Prelude.{ℕ, zero, suc, ◌≡◌, ◌<◌, ◌≤◌, ◌+◌, Bool, true, false, eqb, if◌then◌else◌, List, [], ◌∷◌, ◌++◌, map, length, Option, Some, None, slice_get, slice_index, get_or}
+use Rattle.std.specs.Prelude.{ℕ, zero, suc, ◌≡◌, ◌<◌, ◌≤◌, ◌+◌, true, eqb, if◌then◌else◌, List, [], ◌∷◌, ◌++◌, map, length, Option, Some, None, slice_get, slice_index, get_or}
 use Rattle.std.specs.List.{flat_map}
 use Rattle.ca_wired.specs.declared.instances.InstanceId.{InstanceId}
-use Rattle.ca_wired.specs.declared.pins.ScanPin.TheVariants.{Si, So}
+use Rattle.ca_wired.specs.declared.pins.ScanPin.TheVariants.{Si}
 use Rattle.ca_wired.specs.declared.parts.Body.{Body}
 use Rattle.ca_wired.specs.declared.parts.Body.TheVariants.{Gate, Scan}
 use Rattle.ca_wired.specs.declared.parts.Part.{Part}
@@ -12,7 +12,7 @@ use Rattle.ca_wired.specs.Instances.{scans_of}
 use Rattle.ca_scan.specs.declared.joints.Joints.{Joints}
 use Rattle.ca_scan.specs.declared.follow.Step.{Step}
 use Rattle.ca_scan.specs.declared.follow.Step.TheVariants.{Broken, Out, Taken}
-use Rattle.ca_scan.specs.Chain.{count_of, IsLink, IsOnPin, IsOut, RunsOut, IsOnChain, AreOnChains, IsFirstOff}
+use Rattle.ca_scan.specs.Chain.{count_of, IsLink, IsOnPin, RunsOut, IsOnChain, AreOnChains, IsFirstOff}
 
 -- the net of the scan-in of a scan instance
 abbrev pub si_nets : Body → List ℕ

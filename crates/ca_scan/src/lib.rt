@@ -14,6 +14,6 @@ mod whole;
 
 pub use ca_chip::{ScanRow, ScanTable};
 pub use fault::{ChainFault, ScanFault};
-pub use laws::chains_are_one;
+pub use laws::{chains_are_one, chips_have_one_answer, runs_are_short};
 pub use table::read_table;
 pub use whole::{Chains, MOST_CHAINS, trace};
