@@ -1,5 +1,5 @@
--- Whole chains: scan instances from an input port to an output port, the scan-in of each on the scan-out of the
--- one before. The nets between them join these ends alone.
+-- Whole chains: scan instances from an input port to an output port, the scan-in of each on the scan-out of
+-- the one before. Nothing else is on these nets.
 use Rattle.std.specs.Prelude.{ℕ, ◌≡◌, ◌<◌, ◌≤◌, ◌+◌, Bool, true, false, eqb, if◌then◌else◌, List, [], ◌∷◌, length, map, Option, Some, None, IsSomeAnd, slice_get, option_to_list}
 use Rattle.std.specs.List.{flat_map}
 use Rattle.ca_wired.specs.declared.pins.ScanPin.{ScanPin}
@@ -35,16 +35,16 @@ IsAtPort chip input p net =
 abbrev pub IsOut : Chip → ℕ → Type 0
 IsOut chip net = (p : ℕ) × IsAtPort chip false p net
 
--- from the net these scan instances run to an output port: the scan-in of the first is on the net, that of each
--- next one is on the scan-out of the one before, the scan-out of the last is on an output port, and each of
--- these nets is a link
+-- from the net these scan instances run to an output port: the scan-in of the first is on the net, that of
+-- each next one is on the scan-out of the one before, the scan-out of the last is on an output port, and each
+-- of these nets is a link
 abbrev pub RunsOut : Chip → ℕ → List ℕ → Type 0
 RunsOut chip net [] = IsLink chip net × IsOut chip net
 RunsOut chip net (u ∷ chain) =
     (next : ℕ) × IsLink chip net × IsOnPin chip Si u net × IsOnPin chip So u next × RunsOut chip next chain
 
--- a whole chain from bit p of the ports, an input: it has a scan instance, and runs from the net of the bit to
--- an output port
+-- a whole chain from bit p of the ports, an input: it has a scan instance, and runs from the net of the bit
+-- to an output port
 pub record IsChainFrom (chip : Chip) (p : ℕ) (chain : List ℕ) : Type 0 where
   pub net : ℕ
   pub at : IsAtPort chip true p net

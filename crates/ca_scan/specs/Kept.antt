@@ -35,7 +35,8 @@ out_nets port = if port.is_input then [] else port.net ∷ []
 -- how many input ports and scan-outs are on the net
 abbrev pub drivers_of : Chip → ℕ → ℕ
 drivers_of chip net =
-    count_of net (flat_map in_nets chip.ports) + count_of net (flat_map (λ part. so_nets part.body) chip.parts)
+    count_of net (flat_map in_nets chip.ports)
+    + count_of net (flat_map (λ part. so_nets part.body) chip.parts)
 
 -- how many scan-ins are on the net
 abbrev pub takers_of : Chip → ℕ → ℕ
@@ -84,13 +85,14 @@ SetsTaker net u old new = (n : ℕ) → taker_at new n ≡ (if eqb n net then So
 -- this instance has its scan-in on the net; or none of the first scan instances has
 abbrev pub IsTakerAmong : Chip → ℕ → ℕ → Option ℕ → Type 0
 IsTakerAmong chip count net (Some u) = IsOnPin chip Si u net
-IsTakerAmong chip count net None = (k u : ℕ) → k < count → slice_get (scans_of chip) k ≡ Some u → IsOnPin chip Si u net → ⊥
+IsTakerAmong chip count net None =
+    (k u : ℕ) → k < count → slice_get (scans_of chip) k ≡ Some u → IsOnPin chip Si u net → ⊥
 
 abbrev pub AreTakersAmong : Chip → ℕ → List (Option ℕ) → Type 0
 AreTakersAmong chip count takers = (net : ℕ) → IsTakerAmong chip count net (taker_at takers net)
 
--- what is kept of the nets: how many ends are on each net of the scan path, how many output ports on each net,
--- and for each net a scan instance that has its scan-in there
+-- what is kept of the nets: how many ends are on each net of the scan path, how many output ports on each
+-- net, and for each net a scan instance that has its scan-in there
 pub record AreJoints (chip : Chip) (joints : Joints) : Type 0 where
   pub ends : Counts joints.ends (nets_of chip (scans_of chip) ++ map (λ port. port.net) chip.ports)
   pub outs : Counts joints.outs (flat_map out_nets chip.ports)
@@ -107,7 +109,7 @@ abbrev pub IsRun : Chip → ℕ → Option (List ℕ) → Type 0
 IsRun chip net (Some chain) = RunsOut chip net chain
 IsRun chip net None = (chain : List ℕ) → RunsOut chip net chain → ⊥
 
--- these scan instances lead from the first net to the other one, and each run from the first goes on from there
+-- these scan instances lead from the first net to the other one, where each run from the first one goes on
 pub record IsFollowed (chip : Chip) (start : ℕ) (done : List ℕ) (net : ℕ) : Type 0 where
   pub driven : 1 ≤ drivers_of chip net
   pub on_path : is_scan_path chip net ≡ true

@@ -12,7 +12,9 @@ use Rattle.ca_lex.specs.FirstFault.{steps_from}
 
 -- the first record, letter by letter
 abbrev pub header : List (List ℕ)
-header = codes "cell" ∷ codes "d" ∷ codes "q" ∷ codes "qn" ∷ codes "si" ∷ codes "so" ∷ codes "se" ∷ codes "ck" ∷ codes "hold" ∷ []
+header =
+    codes "cell" ∷ codes "d" ∷ codes "q" ∷ codes "qn" ∷ codes "si" ∷ codes "so" ∷ codes "se" ∷ codes "ck"
+    ∷ codes "hold" ∷ []
 
 -- these are the same texts
 unfoldable pub same_texts : List (List ℕ) → List (List ℕ) → Bool
@@ -29,6 +31,7 @@ is_header fields = same_texts fields header
 abbrev pub is_text : List ℕ → Bool
 is_text field = list_all (λ byte. nat_le 33 byte && nat_le byte 126) field
 
+-- no byte
 abbrev pub is_empty : List ℕ → Bool
 is_empty field = length field == 0
 
@@ -47,10 +50,12 @@ are_pins pins = not (list_any is_empty pins) && is_distinct pins
 
 -- nothing but `qn` is empty, and the pins are distinct
 abbrev pub is_row : ScanRow → Bool
-is_row row = not (is_empty row.cell) && (are_pins (pins_of row) && (is_empty row.qn || not (list_any (bytes_eq row.qn) (pins_of row))))
+is_row row =
+    not (is_empty row.cell)
+    && (are_pins (pins_of row) && (is_empty row.qn || not (list_any (bytes_eq row.qn) (pins_of row))))
 
 -- the row of these fields, in upper case
-unfoldable pub row_of : List ℕ → List ℕ → List ℕ → List ℕ → List ℕ → List ℕ → List ℕ → List ℕ → List ℕ → ScanRow
+unfoldable pub row_of : (cell d q qn si so se ck hold : List ℕ) → ScanRow
 row_of cell d q qn si so se ck hold = record {
   cell = upper_case cell;
   d = upper_case d;
@@ -72,7 +77,8 @@ row_with _ = None
 abbrev pub cells_of : List ScanRow → List (List ℕ)
 cells_of rows = map (λ row. row.cell) rows
 
--- the row of these fields may join those of the cells: it is one, its fields are texts, and its cell is another
+-- the row of these fields may join those of the cells: it is one, its fields are texts, and its cell is
+-- another
 abbrev pub may_join : List (List ℕ) → List (List ℕ) → ScanRow → Bool
 may_join cells fields row = list_all is_text fields && (is_row row && not (has_name row.cell cells))
 
@@ -88,6 +94,7 @@ pub record Numbered : Type 0 where
   pub row : ℕ
   pub fields : List (List ℕ)
 
+-- the records with their numbers, from this one on
 unfoldable pub numbered : ℕ → List (List (List ℕ)) → List Numbered
 numbered row [] = []
 numbered row (fields ∷ records) = record { row = row; fields = fields } ∷ numbered (row + 1) records
@@ -96,15 +103,19 @@ numbered row (fields ∷ records) = record { row = row; fields = fields } ∷ nu
 abbrev pub record_step : Numbered → List ScanRow → Result (List ScanRow) ℕ
 record_step here rows = elim (with_fields rows here.fields) [ None ↦ Err here.row | Some more ↦ Ok more ]
 
--- the rows of a table, or the number of the first record that breaks the form: 1 where the header is missing or another
+-- the rows of a table, or the number of the first record that breaks the form: 1 where the header is missing
+-- or another
 abbrev pub rows_of : List (List (List ℕ)) → Result (List ScanRow) ℕ
 rows_of [] = Err 1
-rows_of (fields ∷ records) = if is_header fields then steps_from record_step [] (numbered 2 records) else Err 1
+rows_of (fields ∷ records) =
+    if is_header fields then steps_from record_step [] (numbered 2 records) else Err 1
 
+-- the table that a text is
 unfoldable pub table_of : List ℕ → Result (List ScanRow) ℕ
 table_of text = rows_of (text_records text)
 
--- what the code answers: the rows that the text reads as, or the number of the record that breaks the form; want of memory is free
+-- what the code answers: the rows that the text reads as, or the number of the first record that breaks the
+-- form; want of memory is free
 abbrev pub Reads : Result (List ScanRow) ScanFault → Result (List ScanRow) ℕ → Type 0
 Reads (Ok rows) wanted = wanted ≡ Ok rows
 Reads (Err (fault.BadScanRow row)) wanted = wanted ≡ Err row

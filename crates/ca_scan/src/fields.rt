@@ -191,7 +191,8 @@ fn row_of(
     ck: &[u8],
     hold: &[u8],
 ) -> Result<ScanRow, NoMemory>
-    ensures { IfOk result (λ row. row ≡ row_of cell.now d.now q.now qn.now si.now so.now se.now ck.now hold.now) }
+    ensures { IfOk result (λ row. row ≡ row_of cell.now d.now q.now qn.now si.now so.now se.now ck.now
+        hold.now) }
 {
     Ok(ScanRow {
         cell: fold(alloc, cell)?,

@@ -12,8 +12,8 @@ use ca_base::NoMemory;
 use ca_wired::Chip;
 use std::alloc::Global;
 
-/// How many pins and ports are on each net of the scan path, how many output ports on each net, and for each net
-/// a scan instance that has its scan-in there.
+/// How many pins and ports are on each net of the scan path, how many output ports on each net, and for each
+/// net a scan instance that has its scan-in there.
 #[derive(Drop)]
 pub(crate) struct Joints {
     pub(crate) ends: Tally,

@@ -75,8 +75,8 @@ fn first_off(alloc: Global, chip: &Chip, chains: &Chains) -> Result<Option<Insta
     Ok(None)
 }
 
-/// The whole chains of a chip, in the order of their scan-in ports in the header: lists of scan instances, from
-/// the scan-in to the scan-out. Each scan instance is on one.
+/// The whole chains of a chip, in the order of their scan-in ports in the header. Each is a list of scan
+/// instances, from the scan-in to the scan-out, and each scan instance is on one.
 pub fn trace(alloc: Global, chip: &Chip) -> Result<Chains, ChainFault>
     ensures ok { IfOk result (AreAllChains chip.now) }
     ensures cause { IfErr result (IsChainCause chip.now) }
