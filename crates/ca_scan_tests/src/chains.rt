@@ -10,11 +10,7 @@ use std::alloc::Global;
 
 /// A scan instance, by the nets of its output, its scan-in and its scan-out.
 #[derive(Clone, Copy)]
-struct Scan {
-    q: u32,
-    si: u32,
-    so: u32,
-}
+struct Scan(u32, u32, u32);
 
 /// A bit of a port.
 #[derive(Clone, Copy)]
@@ -32,18 +28,19 @@ enum Told {
 
 // A scan instance; its data input is on the net of its output.
 fn part(alloc: Global, scan: Scan) -> Part {
+    let Scan(q, si, so) = scan;
     Part {
         name: Text::new(alloc),
         cell: Text::new(alloc),
         body: Body::Scan(ScanNets {
-            d: scan.q,
-            si: scan.si,
+            d: q,
+            si,
             se: 0,
             ck: 1,
             hold: 2,
-            q: scan.q,
+            q,
             qn: None,
-            so: scan.so,
+            so,
         }),
     }
 }
@@ -131,10 +128,6 @@ fn tells(alloc: Global, chip: &Chip, told: Told) -> bool {
     }
 }
 
-const fn scan(q: u32, si: u32, so: u32) -> Scan {
-    Scan { q, si, so }
-}
-
 const CHIPS: [(usize, &[Scan], &[Port], Told); 13] = [
     // No scan instances: no chains, also where an input port is an output port.
     (3, &[], &[], Listed(&[])),
@@ -142,68 +135,68 @@ const CHIPS: [(usize, &[Scan], &[Port], Told); 13] = [
     // A chain, in the order in which it is shifted, whatever the order of the netlist.
     (
         8,
-        &[scan(3, 5, 6), scan(4, 6, 7)],
+        &[Scan(3, 5, 6), Scan(4, 6, 7)],
         &[Port::Input(5), Port::Output(7)],
         Listed(&[&[0, 1]]),
     ),
     (
         8,
-        &[scan(3, 6, 7), scan(4, 5, 6)],
+        &[Scan(3, 6, 7), Scan(4, 5, 6)],
         &[Port::Output(7), Port::Input(5)],
         Listed(&[&[1, 0]]),
     ),
     // Two chains, in the order of their scan-in ports.
     (
         9,
-        &[scan(3, 5, 6), scan(4, 7, 8)],
+        &[Scan(3, 5, 6), Scan(4, 7, 8)],
         &[Port::Input(7), Port::Output(6), Port::Input(5), Port::Output(8)],
         Listed(&[&[1], &[0]]),
     ),
     // The output of a scan instance may be at a port.
     (
         6,
-        &[scan(3, 4, 5)],
+        &[Scan(3, 4, 5)],
         &[Port::Input(4), Port::Output(5), Port::Output(3)],
         Listed(&[&[0]]),
     ),
     // The last scan-out is at no port.
     (
         8,
-        &[scan(3, 5, 6), scan(4, 6, 7)],
+        &[Scan(3, 5, 6), Scan(4, 6, 7)],
         &[Port::Input(5)],
         Broken(0),
     ),
     // A loop of one beside a chain, and a loop of two.
     (
         8,
-        &[scan(3, 5, 6), scan(4, 7, 7)],
+        &[Scan(3, 5, 6), Scan(4, 7, 7)],
         &[Port::Input(5), Port::Output(6)],
         Broken(1),
     ),
-    (7, &[scan(3, 5, 6), scan(4, 6, 5)], &[], Broken(0)),
+    (7, &[Scan(3, 5, 6), Scan(4, 6, 5)], &[], Broken(0)),
     // A scan-out that is also at an output port, or at two; two scan-ins at one input port.
     (
         8,
-        &[scan(3, 5, 6), scan(4, 6, 7)],
+        &[Scan(3, 5, 6), Scan(4, 6, 7)],
         &[Port::Input(5), Port::Output(6), Port::Output(7)],
         Broken(0),
     ),
     (
         6,
-        &[scan(3, 4, 5)],
+        &[Scan(3, 4, 5)],
         &[Port::Input(4), Port::Output(5), Port::Output(5)],
         Broken(0),
     ),
     (
         8,
-        &[scan(3, 5, 6), scan(4, 5, 7)],
+        &[Scan(3, 5, 6), Scan(4, 5, 7)],
         &[Port::Input(5), Port::Output(6), Port::Output(7)],
         Broken(0),
     ),
     // Two scan-ins on one scan-out, behind a chain that is whole.
     (
         13,
-        &[scan(3, 7, 8), scan(4, 9, 10), scan(5, 10, 11), scan(6, 10, 12)],
+        &[Scan(3, 7, 8), Scan(4, 9, 10), Scan(5, 10, 11), Scan(6, 10, 12)],
         &[Port::Input(7), Port::Output(8), Port::Input(9), Port::Output(11), Port::Output(12)],
         Broken(1),
     ),
@@ -218,7 +211,7 @@ fn chip_of_chains(alloc: Global, count: u32) -> Option<Chip> {
     let mut ports = Vec::new(alloc);
     for k in 0..count {
         let si = 3 + count + 2 * k;
-        if scans.push(scan(3 + k, si, si + 1)).is_err() {
+        if scans.push(Scan(3 + k, si, si + 1)).is_err() {
             return None;
         }
         if ports.push(Port::Input(si)).is_err() || ports.push(Port::Output(si + 1)).is_err() {
