@@ -152,9 +152,9 @@ pub run_length : (chip : Chip) (net : ℕ) (chain : List ℕ) → RunsOut chip n
 run_length chip net chain runs =
     length-le_from_distinct_below chain (length chip.parts) (distinct chip net chain runs)
     (λ u there.
-        let found = behind chip net chain u runs there in
-        let at = item_of chip.parts u (λ (part : Part). HasOnPin So found.next part.body) found.there in
-        slice_get_within chip.parts u at.item at.at)
+    let found = behind chip net chain u runs there in
+    let at = item_of chip.parts u (λ (part : Part). HasOnPin So found.next part.body) found.there in
+    slice_get_within chip.parts u at.item at.at)
 
 -- one whole chain at most begins at a bit of the ports
 pub one_chain : (chip : Chip) (p : ℕ) (chain other : List ℕ) → IsChainFrom chip p chain → IsChainFrom chip p other → chain ≡ other

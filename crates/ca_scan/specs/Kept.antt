@@ -88,6 +88,7 @@ IsTakerAmong chip count net (Some u) = IsOnPin chip Si u net
 IsTakerAmong chip count net None =
     (k u : ℕ) → k < count → slice_get (scans_of chip) k ≡ Some u → IsOnPin chip Si u net → ⊥
 
+-- each net has its taker
 abbrev pub AreTakersAmong : Chip → ℕ → List (Option ℕ) → Type 0
 AreTakersAmong chip count takers = (net : ℕ) → IsTakerAmong chip count net (taker_at takers net)
 

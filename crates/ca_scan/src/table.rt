@@ -39,12 +39,7 @@ fn push(
 }
 
 // Adds the row that these fields make, and answers whether they make one that may join the others.
-#[tactic(auto, using(
-    crate::proofs::TableLemmas::no_row,
-    crate::proofs::TableLemmas::may_not,
-    crate::proofs::TableLemmas::may,
-    crate::proofs::TableLemmas::is_new
-))]
+#[tactic(auto, using(crate::proofs::TableLemmas::no_row, crate::proofs::TableLemmas::may_not, crate::proofs::TableLemmas::may, crate::proofs::TableLemmas::is_new))]
 fn add(
     alloc: Global,
     rows: &mut ScanTable,

@@ -1,7 +1,7 @@
 //! Chains: scan instances and ports by the numbers of their nets, each chip with its chains or the fault.
 
-use Told::{Broken, Listed};
 use crate::drafts::is_drafted;
+use Told::{Broken, Listed};
 use ca_cell::Library;
 use ca_lex::Text;
 use ca_scan::{ChainFault, MOST_CHAINS, trace};
@@ -149,7 +149,12 @@ const CHIPS: [(usize, &[Scan], &[Port], Told); 13] = [
     (
         9,
         &[Scan(3, 5, 6), Scan(4, 7, 8)],
-        &[Port::Input(7), Port::Output(6), Port::Input(5), Port::Output(8)],
+        &[
+            Port::Input(7),
+            Port::Output(6),
+            Port::Input(5),
+            Port::Output(8),
+        ],
         Listed(&[&[1], &[0]]),
     ),
     // The output of a scan instance may be at a port.
@@ -196,8 +201,19 @@ const CHIPS: [(usize, &[Scan], &[Port], Told); 13] = [
     // Two scan-ins on one scan-out, behind a chain that is whole.
     (
         13,
-        &[Scan(3, 7, 8), Scan(4, 9, 10), Scan(5, 10, 11), Scan(6, 10, 12)],
-        &[Port::Input(7), Port::Output(8), Port::Input(9), Port::Output(11), Port::Output(12)],
+        &[
+            Scan(3, 7, 8),
+            Scan(4, 9, 10),
+            Scan(5, 10, 11),
+            Scan(6, 10, 12),
+        ],
+        &[
+            Port::Input(7),
+            Port::Output(8),
+            Port::Input(9),
+            Port::Output(11),
+            Port::Output(12),
+        ],
         Broken(1),
     ),
 ];

@@ -107,10 +107,7 @@ const BROKEN: [(&[u8], usize); 19] = [
         b"cell,d,q,qn,si,so,se,ck,hold\nSDFF,D,,QN,SI,SO,SE,CK,HOLD\n",
         2,
     ),
-    (
-        b"cell,d,q,qn,si,so,se,ck,hold\nSDFF,D,Q,,SI,SO,SE,CK,\n",
-        2,
-    ),
+    (b"cell,d,q,qn,si,so,se,ck,hold\nSDFF,D,Q,,SI,SO,SE,CK,\n", 2),
     // A pin twice, also in the other case, and the inverted output as another pin.
     (
         b"cell,d,q,qn,si,so,se,ck,hold\nSDFF,D,Q,,SI,SO,SE,CK,se\n",
