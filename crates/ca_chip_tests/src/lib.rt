@@ -3,3 +3,5 @@
 
 #[cfg(test)]
 mod instances;
+#[cfg(test)]
+mod linking;

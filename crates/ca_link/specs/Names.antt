@@ -1,5 +1,5 @@
--- The names of the output pins of a link, and how a fault names what drives a net. Only the proofs of the code
--- cite this.
+-- The names of the output pins of a link, and how a fault names what drives a net. Only the proofs of the
+-- code cite this.
 use Rattle.std.specs.Prelude.{ℕ, ◌≡◌, List, [], length, Option, Some, None, slice_get}
 use Rattle.ca_cell.specs.declared.raw.RawCell.{RawCell}
 use Rattle.ca_cell.specs.Raw.{is_output}

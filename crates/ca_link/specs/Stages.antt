@@ -10,7 +10,8 @@ use Rattle.ca_wired.specs.Linked.{Chip, inputs_of, outputs_of}
 
 -- two drive the net, or nothing does
 abbrev pub IsMisdriven : Wiring → ℕ → Type 0
-IsMisdriven wiring net = ((first second : Driver) × IsDoubleDriven wiring net first second) ⊎ IsUndriven wiring net
+IsMisdriven wiring net =
+    ((first second : Driver) × IsDoubleDriven wiring net first second) ⊎ IsUndriven wiring net
 
 -- a control pin of a scan instance breaks its rule, or its inverted output, behind the three, does
 abbrev pub IsMisused : Wiring → ℕ → ℕ → Type 0

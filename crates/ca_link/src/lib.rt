@@ -1,5 +1,5 @@
-//! Linking: the chip that a gate netlist, a library and a table of scan cells give, or the first rule that they
-//! break.
+//! Linking: the chip that a gate netlist, a library and a table of scan cells give, or the first rule that
+//! they break.
 #![tactic(auto)]
 
 mod controls;

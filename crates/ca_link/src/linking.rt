@@ -18,8 +18,8 @@ use ca_verilog::RawNetlist;
 use ca_wired::{Chip, judge, wire};
 use std::alloc::Global;
 
-/// The chip of a netlist, which takes the library over; or the first rule that is broken, and then the library
-/// is dropped. Different rows of the scan table are of different cells.
+/// The chip of a netlist, which takes the library over; or the first rule that is broken, and then the
+/// library is dropped. Different rows of the scan table are of different cells.
 pub fn link(
     alloc: Global,
     netlist: &RawNetlist,
