@@ -1,0 +1,4 @@
+pub mod ReadLemmas
+pub mod NameLemmas
+pub mod DeclareLemmas
+pub mod SeenLemmas

@@ -1,0 +1,4 @@
+use Rattle.ca_syntax.proofs.laws.large_tree_is_refused.Goals as goal
+
+pub returns : goal.returns
+returns c = ?

@@ -1,0 +1,4 @@
+use Rattle.ca_syntax.proofs.laws.right_tree_is_read.Goals as goal
+
+pub returns : goal.returns
+returns c = ?

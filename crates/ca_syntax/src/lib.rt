@@ -1,0 +1,6 @@
+//! Gate netlists as syntax trees with names: the laws by which a right tree has a netlist, and this one.
+#![tactic(auto)]
+
+mod laws;
+
+pub use laws::{large_tree_is_refused, right_tree_is_read};
