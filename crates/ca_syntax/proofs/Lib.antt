@@ -2,3 +2,5 @@ pub mod ReadLemmas
 pub mod NameLemmas
 pub mod DeclareLemmas
 pub mod SeenLemmas
+pub mod OperandLemmas
+pub mod ItemLemmas
