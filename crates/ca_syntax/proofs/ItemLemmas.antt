@@ -35,7 +35,7 @@ use Rattle.ca_syntax.proofs.OperandLemmas.{behind_operand, operand_read, one_sym
 use Rattle.ca_syntax.proofs.OperandLemmas.{connections_read, HasInHand, in_hand}
 
 -- names that are declared further on
-abbrev commas : List (List Symbol) → List Symbol
+abbrev pub commas : List (List Symbol) → List Symbol
 commas parts = flat_map (λ (part : List Symbol). Symbol.other lexeme.Comma ∷ part) parts
 
 -- the reading with these names

@@ -4,3 +4,4 @@ pub mod DeclareLemmas
 pub mod SeenLemmas
 pub mod OperandLemmas
 pub mod ItemLemmas
+pub mod TreeLemmas

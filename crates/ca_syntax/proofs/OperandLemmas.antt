@@ -190,7 +190,7 @@ pins_grow whole uses on more is =
     subst (λ (seen : List (List ℕ)). repeats seen (pins_of more) ≡ false) (sym (map-append (λ (used : Use). used.pin) uses (seen_use whole on ∷ []))) is
 
 -- the word is new, and so are those behind it
-first_new : (seen : List (List ℕ)) (word : List ℕ) (words : List (List ℕ)) → repeats seen (word ∷ words) ≡ false
+pub first_new : (seen : List (List ℕ)) (word : List ℕ) (words : List (List ℕ)) → repeats seen (word ∷ words) ≡ false
     → (has_name word seen ≡ false) × (repeats (seen ++ word ∷ []) words ≡ false)
 unfolding repeats
 first_new seen word words is = or_false (has_name word seen) (repeats (seen ++ word ∷ []) words) is
