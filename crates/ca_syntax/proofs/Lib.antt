@@ -5,3 +5,4 @@ pub mod SeenLemmas
 pub mod OperandLemmas
 pub mod ItemLemmas
 pub mod TreeLemmas
+pub mod NetlistLemmas

@@ -117,7 +117,7 @@ moved tree before here hand declared assigned listed first second third = λ j.
     ((third ∙ grown instance_by before here) j) place.Item hand
 
 -- all declarations, as those before an item and those from it on
-parted : {Part : Type 0} (give : Item → List Part) (items before after : List Item) (here : Item) → items ≡ before ++ here ∷ after
+pub parted : {Part : Type 0} (give : Item → List Part) (items before after : List Item) (here : Item) → items ≡ before ++ here ∷ after
     → flat_map give items ≡ flat_map give before ++ (give here ++ flat_map give after)
 parted give items before after here is = ap (flat_map give) is ∙ flat_map-append give before (here ∷ after)
 
@@ -201,3 +201,71 @@ items_read tree before (here ∷ items) hand right is =
     let rest = items_read tree (before ++ here ∷ []) items one.0 right (is ∙ sym (append_assoc before (here ∷ []) items)) in
     (rest.0, joined (item_symbols here) (flat_map item_symbols items) _ (behind tree (before ++ here ∷ []) one.0) _ one.1
     (rest.1 ∙ ap (λ (all : List Item). Ok (behind tree all rest.0)) (append_assoc before (here ∷ []) items)))
+
+-- a name with a direction is declared
+directed_declared : (name : List ℕ) (declared : List Declared) → is_directed name declared ≡ true → is_declared name declared ≡ true
+directed_declared name declared is = by (is_declared name declared) refl
+  where
+    by : (found : Bool) → is_declared name declared ≡ found → found ≡ true
+    by true has = refl
+    by false has = absurd (true≢false (sym is ∙ names.not_directed name declared has))
+
+-- it is no inner one
+directed_outer : (name : List ℕ) (declared : List Declared) → is_directed name declared ≡ true → is_inner (direction_of name declared) ≡ false
+directed_outer name [] is = absurd cc
+directed_outer name (it ∷ more) is = by (directs name it) refl is (directed_outer name more)
+  where
+    outer : (x y : Bool) → (x && not y) ≡ true → y ≡ false
+    outer true true is = absurd cc
+    outer true false is = refl
+    outer false y is = absurd cc
+    by : (found : Bool) → directs name it ≡ found → (found || is_directed name more) ≡ true
+        → (is_directed name more ≡ true → is_inner (direction_of name more) ≡ false)
+        → is_inner (cond found it.direction (direction_of name more)) ≡ false
+    by true found either later = outer _ (is_inner it.direction) found
+    by false found either later = later either
+
+port_directed : (name : List ℕ) (declared : List Declared) → is_directed name declared ≡ true → has_direction (seen_buses declared) name ≡ true
+port_directed name declared is =
+    let found = place_seen name declared (directed_declared name declared is) in
+    ap (λ (place : Option ℕ). elim place as (λ _. Bool) [ None ↦ false | Some place ↦ bus_directed (slice_get (seen_buses declared) place) ])
+    (bus_found name declared ∙ found.2)
+    ∙ ap bus_directed (got_map (seen_bus declared) (names_in declared) found.0 name found.1)
+    ∙ ap not (directed_outer name declared is)
+
+ports_directed : (declared : List Declared) (ports : List (List ℕ)) → All (λ name. is_directed name declared ≡ true) ports
+    → list_all (has_direction (seen_buses declared)) ports ≡ true
+ports_directed declared [] all = refl
+ports_directed declared (name ∷ ports) all = λ j.
+    port_directed name declared (All-head (λ name. is_directed name declared ≡ true) name ports all) j
+    && ports_directed declared ports (All-tail (λ name. is_directed name declared ≡ true) name ports all) j
+
+end_step : (it : Reading) → list_all (has_direction it.buses) it.ports ≡ true
+    → symbol_step (Symbol.other lexeme.Endmodule) (at_place place.Item it) ≡ Ok (at_place place.End it)
+unfolding lexeme_step row_of act
+end_step it all = unbroken (not (list_all (has_direction it.buses) it.ports)) Undeclared _ _ (ap not all) refl
+
+module_step : symbol_step (Symbol.other lexeme.Module) nothing ≡ Ok (at_place place.ModuleName nothing)
+unfolding lexeme_step row_of act
+module_step = refl
+
+title_step : (name : List ℕ) (it : Reading) → symbol_step (Symbol.identifier name) (at_place place.ModuleName it) ≡ Ok (at_place place.Header it)
+unfolding lexeme_step row_of act
+title_step name it = refl
+
+-- the reading of a whole tree
+abbrev pub tree_reading : Module → Hand → Reading
+tree_reading tree hand = at_place place.End (behind tree tree.items hand)
+
+-- a right tree is read
+pub tree_read : (tree : Module) → IsRight tree → (last : Hand) × Reads nothing (module_symbols tree) (tree_reading tree last)
+tree_read tree right =
+    let items = items_read tree [] tree.items nothing.hand right refl in
+    (items.0,
+    joined (Symbol.other lexeme.Module ∷ Symbol.identifier tree.name ∷ header_symbols tree.header ++ Symbol.other lexeme.Semicolon ∷ flat_map item_symbols tree.items)
+    (Symbol.other lexeme.Endmodule ∷ []) _ (behind tree tree.items items.0) _
+    (joined (Symbol.other lexeme.Module ∷ Symbol.identifier tree.name ∷ header_symbols tree.header) (Symbol.other lexeme.Semicolon ∷ flat_map item_symbols tree.items) _
+    (at_place (behind_header tree.header) (with_ports (ports_of tree) nothing)) _
+    (then_more _ _ _ _ _ module_step (then_more _ _ _ _ _ (title_step tree.name nothing) (header_read tree.header right.ports)))
+    (then_more _ _ _ _ _ (header_over tree.header (with_ports (ports_of tree) nothing)) items.1))
+    (one_symbol _ _ _ (end_step (behind tree tree.items items.0) (ports_directed (declarations tree.items) (ports_of tree) right.directed))))
