@@ -6,3 +6,5 @@ pub mod OperandLemmas
 pub mod ItemLemmas
 pub mod TreeLemmas
 pub mod NetlistLemmas
+pub mod BehindLemmas
+pub mod ParseLemmas

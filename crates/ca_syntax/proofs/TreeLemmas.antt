@@ -24,7 +24,7 @@ use Rattle.ca_syntax.specs.Tree.{Operand, Connection, Assign, Instance, Item, Mo
 use Rattle.ca_syntax.specs.Tree.{declared_by, declarations, assigned_by, assigns, instance_by, instances}
 use Rattle.ca_syntax.specs.Symbols.{Symbol, listed, name_symbols, header_symbols, item_symbols, module_symbols}
 use Rattle.ca_syntax.specs.Names.{names_in, is_declared, directs, is_directed, direction_of, range_of}
-use Rattle.ca_syntax.specs.Rules.{IsRight, IsRightItem, IsRightAssign, IsRightInstance, IsRightValue, IsScalar}
+use Rattle.ca_syntax.specs.Rules.{EachBehind, IsRightDeclared, IsRight, IsRightItem, IsRightAssign, IsRightInstance, IsRightValue, IsScalar}
 use Rattle.ca_syntax.specs.TreeNetlist.{port_of}
 use Rattle.ca_syntax.proofs.NameLemmas as names
 use Rattle.ca_syntax.proofs.ReadLemmas.{symbol_step, Reads, nothing_read, then_more, joined}
@@ -143,26 +143,24 @@ placed_names : (whole : List Declared) (listed : List Instance)
 placed_names whole [] = refl
 placed_names whole (it ∷ listed) = ap (λ more. it.name ∷ more) (placed_names whole listed)
 
-instance_new : (tree : Module) (before after : List Item) (here : Instance) → IsRight tree → tree.items ≡ before ++ Item.instance here ∷ after
-    → has_instance here.name (map (seen_instance (declarations tree.items)) (instances before)) ≡ false
-instance_new tree before after here right is =
-    ap (has_name here.name) (placed_names (declarations tree.items) (instances before))
-    ∙ new_behind [] (map (λ (it : Instance). it.name) (instances before)) (map (λ (it : Instance). it.name) (instances after)) here.name
-    (subst (λ (listed : List (List ℕ)). repeats [] listed ≡ false)
-    (ap (map (λ (it : Instance). it.name)) (parted instance_by tree.items before after (Item.instance here) is)
-    ∙ map-append (λ (it : Instance). it.name) (instances before) (here ∷ instances after)) right.instances)
+-- an item that is right behind those before it, told for itself
+abbrev pub IsNextItem : Module → List Item → Item → Type 0
+IsNextItem tree before (Item.declaration here) =
+    EachBehind (IsRightDeclared (ports_of tree)) (declarations before ++ declared_by (Item.declaration here))
+IsNextItem tree before (Item.assign here) = IsRightAssign (declarations before) here
+IsNextItem tree before (Item.instance here) = IsRightInstance (declarations before) here
+    × (has_name here.name (map (λ (it : Instance). it.name) (instances before)) ≡ false)
 
 -- an item is read
-item_read : (tree : Module) (before after : List Item) (here : Item) (hand : Hand) → IsRight tree → tree.items ≡ before ++ here ∷ after
+pub item_read : (tree : Module) (before after : List Item) (here : Item) (hand : Hand) → IsNextItem tree before here → tree.items ≡ before ++ here ∷ after
     → (next : Hand) × Reads (behind tree before hand) (item_symbols here) (behind tree (before ++ here ∷ []) next)
-item_read tree before after (Item.declaration here) hand right is =
-    (hand, declaration_read (declarations tree.items) here (declarations before) (declarations after) (behind tree before hand) right.declared
-    (parted declared_by tree.items before after (Item.declaration here) is)
+item_read tree before after (Item.declaration here) hand rule is =
+    (hand, declaration_read (declarations before ++ declared_by (Item.declaration here)) here (declarations before) [] (behind tree before hand) rule
+    (ap (λ more. declarations before ++ more) (sym (append-nil (declared_by (Item.declaration here)))))
     ∙ ap (λ (next : Reading). Ok next) (moved tree before (Item.declaration here) hand _ _ _ refl (sym (append-nil (assigns before))) (sym (append-nil (instances before)))))
-item_read tree before after (Item.assign here) hand right is =
+item_read tree before after (Item.assign here) hand rule is =
     let whole : List Declared = declarations tree.items in
     let later : List Declared = declarations after in
-    let rule : IsRightAssign (declarations before) here = right.items before (Item.assign here) after is in
     let parts : whole ≡ declarations before ++ later = parted declared_by tree.items before after (Item.assign here) is in
     ((with_sides whole here (behind tree before hand)).hand,
     assign_read whole here (behind tree before hand)
@@ -175,21 +173,41 @@ item_read tree before after (Item.assign here) hand right is =
       joins = sym (map-append (seen_join whole) (assigns before) (here ∷ [])) j;
     })
     ∙ moved tree before (Item.assign here) _ _ _ _ (sym (append-nil (declarations before))) refl (sym (append-nil (instances before)))))
-item_read tree before after (Item.instance here) hand right is =
+item_read tree before after (Item.instance here) hand rule is =
     let whole : List Declared = declarations tree.items in
     let later : List Declared = declarations after in
-    let rule : IsRightInstance (declarations before) here = right.items before (Item.instance here) after is in
     let parts : whole ≡ declarations before ++ later = parted declared_by tree.items before after (Item.instance here) is in
     let last : Hand = emptied (hands_after whole (hand_of here hand) here.connections) in
     (last,
-    instance_read whole here (behind tree before hand) (instance_new tree before after here right is) rule.different
+    instance_read whole here (behind tree before hand)
+    (ap (has_name here.name) (placed_names whole (instances before)) ∙ rule.1) rule.0.different
     (All-weaker (λ (on : Connection). IsRightValue (declarations before) on.value) (λ (on : Connection). IsSeenValue whole (seen_buses (declarations before)) on.value)
-    (λ on. value_seen whole (declarations before) later on.value parts) here.connections rule.values)
+    (λ on. value_seen whole (declarations before) later on.value parts) here.connections rule.0.values)
     ∙ ap (λ (next : Reading). Ok next)
     ((λ j. record (behind tree before last) {
       instances = sym (map-append (seen_instance whole) (instances before) (here ∷ [])) j;
     })
     ∙ moved tree before (Item.instance here) last _ _ _ (sym (append-nil (declarations before))) (sym (append-nil (assigns before))) refl))
+
+-- those at the front are right behind each other too
+front_behind : {T : Type 0} (P : List T → T → Type 0) (list front more : List T) → list ≡ front ++ more → EachBehind P list → EachBehind P front
+front_behind P list front more is right = λ before here after parts.
+    right before here (after ++ more) (is ∙ ap (λ one. one ++ more) parts ∙ append_assoc before (here ∷ after) more)
+
+-- the items of a right tree
+next_item : (tree : Module) (before after : List Item) (here : Item) → IsRight tree → tree.items ≡ before ++ here ∷ after
+    → IsNextItem tree before here
+next_item tree before after (Item.declaration here) right is =
+    front_behind (IsRightDeclared (ports_of tree)) (declarations tree.items) (declarations before ++ declared_by (Item.declaration here)) (declarations after)
+    (parted declared_by tree.items before after (Item.declaration here) is
+    ∙ sym (append_assoc (declarations before) (declared_by (Item.declaration here)) (declarations after))) right.declared
+next_item tree before after (Item.assign here) right is = right.items before (Item.assign here) after is
+next_item tree before after (Item.instance here) right is =
+    (right.items before (Item.instance here) after is,
+    new_behind [] (map (λ (it : Instance). it.name) (instances before)) (map (λ (it : Instance). it.name) (instances after)) here.name
+    (subst (λ (listed : List (List ℕ)). repeats [] listed ≡ false)
+    (ap (map (λ (it : Instance). it.name)) (parted instance_by tree.items before after (Item.instance here) is)
+    ∙ map-append (λ (it : Instance). it.name) (instances before) (here ∷ instances after)) right.instances))
 
 -- items are read
 items_read : (tree : Module) (before items : List Item) (hand : Hand) → IsRight tree → tree.items ≡ before ++ items
@@ -197,7 +215,7 @@ items_read : (tree : Module) (before items : List Item) (hand : Hand) → IsRigh
 items_read tree before [] hand right is =
     (hand, nothing_read _ ∙ ap (λ (all : List Item). Ok (behind tree all hand)) (sym (append-nil before)))
 items_read tree before (here ∷ items) hand right is =
-    let one = item_read tree before items here hand right is in
+    let one = item_read tree before items here hand (next_item tree before items here right is) is in
     let rest = items_read tree (before ++ here ∷ []) items one.0 right (is ∙ sym (append_assoc before (here ∷ []) items)) in
     (rest.0, joined (item_symbols here) (flat_map item_symbols items) _ (behind tree (before ++ here ∷ []) one.0) _ one.1
     (rest.1 ∙ ap (λ (all : List Item). Ok (behind tree all rest.0)) (append_assoc before (here ∷ []) items)))
