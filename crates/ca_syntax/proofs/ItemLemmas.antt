@@ -42,40 +42,40 @@ commas parts = flat_map (λ (part : List Symbol). Symbol.other lexeme.Comma ∷ 
 abbrev pub with_declared : List Declared → Reading → Reading
 with_declared declared it = with_buses (seen_buses declared) it
 
-keyword_step : (way : Direction) (it : Reading) → symbol_step (Symbol.other (keyword_of way)) (at_place place.Item it) ≡ Ok (at_place (place.Declaration way) it)
+pub keyword_step : (way : Direction) (it : Reading) → symbol_step (Symbol.other (keyword_of way)) (at_place place.Item it) ≡ Ok (at_place (place.Declaration way) it)
 unfolding lexeme_step row_of act
 keyword_step direction.Input it = refl
 keyword_step direction.Output it = refl
 keyword_step direction.Inner it = refl
 
 -- where the first name of a declaration stands
-abbrev behind_range : Direction → Option Range → Place
+abbrev pub behind_range : Direction → Option Range → Place
 behind_range way None = place.Declaration way
 behind_range way (Some range) = place.Declared way (Some range)
 
-range_read : (way : Direction) (range : Option Range) (it : Reading)
+pub range_read : (way : Direction) (range : Option Range) (it : Reading)
     → Reads (at_place (place.Declaration way) it) (range_symbols range) (at_place (behind_range way range) it)
 unfolding steps_from lexeme_step row_of act
 range_read way None it = refl
 range_read way (Some range) it = refl
 
-declared_comma : (way : Direction) (range : Option Range) (it : Reading)
+pub declared_comma : (way : Direction) (range : Option Range) (it : Reading)
     → symbol_step (Symbol.other lexeme.Comma) (at_place (place.DeclaredEnd way range) it) ≡ Ok (at_place (place.Declared way range) it)
 unfolding lexeme_step row_of act
 declared_comma way range it = refl
 
-declared_over : (way : Direction) (range : Option Range) (it : Reading)
+pub declared_over : (way : Direction) (range : Option Range) (it : Reading)
     → symbol_step (Symbol.other lexeme.Semicolon) (at_place (place.DeclaredEnd way range) it) ≡ Ok (at_place place.Item it)
 unfolding lexeme_step row_of act
 declared_over way range it = refl
 
-name_step : (way : Direction) (range : Option Range) (name : List ℕ) (it : Reading) (buses : List Bus)
+pub name_step : (way : Direction) (range : Option Range) (name : List ℕ) (it : Reading) (buses : List Bus)
     → declare way range name it.ports it.buses ≡ Ok buses
     → symbol_step (Symbol.identifier name) (at_place (place.Declared way range) it) ≡ Ok (at_place (place.DeclaredEnd way range) (with_buses buses it))
 unfolding lexeme_step row_of act
 name_step way range name it buses is = ap (given_buses (at_place (place.DeclaredEnd way range) it)) is
 
-first_step : (way : Direction) (range : Option Range) (name : List ℕ) (it : Reading) (buses : List Bus)
+pub first_step : (way : Direction) (range : Option Range) (name : List ℕ) (it : Reading) (buses : List Bus)
     → declare way range name it.ports it.buses ≡ Ok buses
     → symbol_step (Symbol.identifier name) (at_place (behind_range way range) it) ≡ Ok (at_place (place.DeclaredEnd way range) (with_buses buses it))
 unfolding lexeme_step row_of act
@@ -123,11 +123,11 @@ declaration_read whole here before later it right is =
     (append_assoc before (one ∷ []) rest))))
     (one_symbol _ _ _ (declared_over here.direction here.range (with_declared (before ++ map (declared_as here.direction here.range) (here.first ∷ here.more)) it)))
 
-assign_step : (it : Reading) → symbol_step (Symbol.other lexeme.Assign) (at_place place.Item it) ≡ Ok (at_place (place.Operand side.Left) it)
+pub assign_step : (it : Reading) → symbol_step (Symbol.other lexeme.Assign) (at_place place.Item it) ≡ Ok (at_place (place.Operand side.Left) it)
 unfolding lexeme_step row_of act
 assign_step it = refl
 
-equals_step : (left : Operand) (it : Reading)
+pub equals_step : (left : Operand) (it : Reading)
     → symbol_step (Symbol.other lexeme.Equals) (at_place (behind_operand side.Left left) it) ≡ Ok (at_place (place.Operand side.Right) (keep_left it))
 unfolding lexeme_step row_of act
 equals_step (Operand.whole name) it = refl
@@ -143,7 +143,7 @@ abbrev pub with_sides : List Declared → Assign → Reading → Reading
 with_sides whole here it =
     with_operand (seen_operand whole here.right) (keep_left (with_operand (seen_operand whole here.left) it))
 
-join_closes : (right : Operand) (it : Reading)
+pub join_closes : (right : Operand) (it : Reading)
     → not (reader_width it.buses it.hand.left == reader_width it.buses it.hand.operand) ≡ false
     → symbol_step (Symbol.other lexeme.Semicolon) (at_place (behind_operand side.Right right) it)
     ≡ Ok (at_place place.Item (record it { joins = it.joins ++ record { left = it.hand.left; right = it.hand.operand } ∷ [] }))
@@ -174,17 +174,17 @@ assign_read whole here it left right same =
     (operand_read whole side.Right here.right (keep_left (with_operand (seen_operand whole here.left) it)) right)))
     (one_symbol _ _ _ (join_step whole here it same))
 
-cell_step : (cell : List ℕ) (it : Reading)
+pub cell_step : (cell : List ℕ) (it : Reading)
     → symbol_step (Symbol.identifier cell) (at_place place.Item it) ≡ Ok (at_place place.InstanceName (with_hand (record it.hand { cell = upper_case cell }) it))
 unfolding lexeme_step row_of act
 cell_step cell it = refl
 
-instance_step : (name : List ℕ) (it : Reading) → has_instance name it.instances ≡ false
+pub instance_step : (name : List ℕ) (it : Reading) → has_instance name it.instances ≡ false
     → symbol_step (Symbol.identifier name) (at_place place.InstanceName it) ≡ Ok (at_place place.Pins (with_hand (record it.hand { name = name; uses = [] }) it))
 unfolding lexeme_step row_of act
 instance_step name it new = unbroken (has_instance name it.instances) DoubleName _ _ new refl
 
-pins_step : (it : Reading) → symbol_step (Symbol.other lexeme.Open) (at_place place.Pins it) ≡ Ok (at_place place.FirstPin it)
+pub pins_step : (it : Reading) → symbol_step (Symbol.other lexeme.Open) (at_place place.Pins it) ≡ Ok (at_place place.FirstPin it)
 unfolding lexeme_step row_of act
 pins_step it = refl
 

@@ -8,3 +8,4 @@ pub mod TreeLemmas
 pub mod NetlistLemmas
 pub mod BehindLemmas
 pub mod ParseLemmas
+pub mod OnlyLemmas

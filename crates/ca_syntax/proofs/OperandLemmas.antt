@@ -39,14 +39,14 @@ behind_operand at (Operand.bit name index) = place.OperandEnd at
 behind_operand at (Operand.constant value) = place.OperandEnd at
 
 -- a declared name is taken
-name_step : (at : Side) (name : List ℕ) (it : Reading) (found : ℕ) → bus_of name it.buses ≡ Some found
+pub name_step : (at : Side) (name : List ℕ) (it : Reading) (found : ℕ) → bus_of name it.buses ≡ Some found
     → symbol_step (Symbol.identifier name) (at_place (place.Operand at) it) ≡ Ok (at_place (place.NameEnd at) (with_operand (operand.Whole found) it))
 unfolding lexeme_step row_of act
 name_step at name it found is =
     ap (λ (given : Option ℕ). elim given as (λ _. Step) [ None ↦ Err Undeclared | Some found ↦ Ok (at_place (place.NameEnd at) (with_operand (operand.Whole found) it)) ]) is
 
 -- the `[` behind a vector
-open_step : (at : Side) (it : Reading) (found : ℕ) (range : Range) → range_at found it.buses ≡ Some range
+pub open_step : (at : Side) (it : Reading) (found : ℕ) (range : Range) → range_at found it.buses ≡ Some range
     → symbol_step (Symbol.other lexeme.OpenBracket) (at_place (place.NameEnd at) (with_operand (operand.Whole found) it))
     ≡ Ok (at_place (place.Index at) (with_operand (operand.Whole found) it))
 unfolding lexeme_step row_of act
@@ -54,7 +54,7 @@ open_step at it found range is =
     unbroken (not (is_some (range_at found it.buses))) BadRange _ _ (ap (λ (given : Option Range). not (is_some given)) is) refl
 
 -- the index of a bit of it
-index_step : (at : Side) (it : Reading) (found index : ℕ) (range : Range) → range_at found it.buses ≡ Some range
+pub index_step : (at : Side) (it : Reading) (found index : ℕ) (range : Range) → range_at found it.buses ≡ Some range
     → has_index index range ≡ true
     → symbol_step (Symbol.other (lexeme.Number index)) (at_place (place.Index at) (with_operand (operand.Whole found) it))
     ≡ Ok (at_place (place.IndexEnd at) (with_operand (operand.Bit found index) it))
@@ -114,16 +114,16 @@ hand_after whole hand it = record hand {
   operand = operand_after whole hand.operand it.value;
 }
 
-dot_step : (it : Reading) → symbol_step (Symbol.other lexeme.Dot) (at_place place.NextPin it) ≡ Ok (at_place place.PinName it)
+pub dot_step : (it : Reading) → symbol_step (Symbol.other lexeme.Dot) (at_place place.NextPin it) ≡ Ok (at_place place.PinName it)
 unfolding lexeme_step row_of act
 dot_step it = refl
 
-pin_step : (pin : List ℕ) (it : Reading) → has_pin (upper_case pin) it.hand.uses ≡ false
+pub pin_step : (pin : List ℕ) (it : Reading) → has_pin (upper_case pin) it.hand.uses ≡ false
     → symbol_step (Symbol.identifier pin) (at_place place.PinName it) ≡ Ok (at_place place.PinOpen (with_hand (record it.hand { pin = upper_case pin }) it))
 unfolding lexeme_step row_of act
 pin_step pin it new = unbroken (has_pin (upper_case pin) it.hand.uses) DoubleName _ _ new refl
 
-pin_open_step : (it : Reading) → symbol_step (Symbol.other lexeme.Open) (at_place place.PinOpen it) ≡ Ok (at_place place.PinValue it)
+pub pin_open_step : (it : Reading) → symbol_step (Symbol.other lexeme.Open) (at_place place.PinOpen it) ≡ Ok (at_place place.PinValue it)
 unfolding lexeme_step row_of act
 pin_open_step it = refl
 
@@ -135,7 +135,7 @@ pin_read pin it new =
     (one_symbol _ _ _ (pin_open_step (with_hand (record it.hand { pin = upper_case pin }) it))))
 
 -- the `)` behind an operand
-connect_step : (on : Operand) (it : Reading) → is_vector it.buses it.hand.operand ≡ false
+pub connect_step : (on : Operand) (it : Reading) → is_vector it.buses it.hand.operand ≡ false
     → symbol_step (Symbol.other lexeme.Close) (at_place (behind_operand side.Pin on) it) ≡ Ok (at_place place.PinEnd (with_use (Some it.hand.operand) it))
 unfolding lexeme_step row_of act
 connect_step (Operand.whole name) it scalar = unbroken (is_vector it.buses it.hand.operand) BadRange _ _ scalar refl
@@ -159,7 +159,7 @@ value_read whole (Some on) pin it (seen, scalar) =
     (one_symbol _ _ _ (connect_step on (with_operand (seen_operand whole on) (with_hand (record it.hand { pin = upper_case pin }) it)) scalar))
 
 -- a connection is read
-connection_read : (whole : List Declared) (on : Connection) (it : Reading) → has_pin (upper_case on.pin) it.hand.uses ≡ false
+pub connection_read : (whole : List Declared) (on : Connection) (it : Reading) → has_pin (upper_case on.pin) it.hand.uses ≡ false
     → IsSeenValue whole it.buses on.value
     → Reads (at_place place.NextPin it) (connection_symbols on) (at_place place.PinEnd (with_hand (hand_after whole it.hand on) it))
 connection_read whole on it new seen =
@@ -179,11 +179,11 @@ pins_of connections = map (λ (on : Connection). upper_case on.pin) connections
 abbrev pub used_pins : List Use → List (List ℕ)
 used_pins uses = map (λ (used : Use). used.pin) uses
 
-comma_step : (it : Reading) → symbol_step (Symbol.other lexeme.Comma) (at_place place.PinEnd it) ≡ Ok (at_place place.NextPin it)
+pub comma_step : (it : Reading) → symbol_step (Symbol.other lexeme.Comma) (at_place place.PinEnd it) ≡ Ok (at_place place.NextPin it)
 unfolding lexeme_step row_of act
 comma_step it = refl
 
-pins_grow : (whole : List Declared) (uses : List Use) (on : Connection) (more : List Connection)
+pub pins_grow : (whole : List Declared) (uses : List Use) (on : Connection) (more : List Connection)
     → repeats (used_pins uses ++ upper_case on.pin ∷ []) (pins_of more) ≡ false
     → repeats (used_pins (uses ++ seen_use whole on ∷ [])) (pins_of more) ≡ false
 pins_grow whole uses on more is =
@@ -211,7 +211,7 @@ more_connections whole (on ∷ more) hand it new seen =
     (more_connections whole more (hand_after whole hand on) it (pins_grow whole hand.uses on more fresh.1)
     (All-tail (λ (on : Connection). IsSeenValue whole it.buses on.value) on more seen))
 
-first_begins : (on : Connection) (it : Reading)
+pub first_begins : (on : Connection) (it : Reading)
     → steps_from symbol_step (at_place place.FirstPin it) (connection_symbols on) ≡ steps_from symbol_step (at_place place.NextPin it) (connection_symbols on)
 unfolding steps_from lexeme_step row_of act
 first_begins on it = refl
