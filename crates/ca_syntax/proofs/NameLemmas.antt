@@ -1,6 +1,6 @@
 -- What names are declared as, with one declaration more.
 use Rattle.std.proofs.Common.{◌≡◌, ℕ, zero, suc, ◌+◌, ◌<◌, ◌≤◌, List, [], ◌∷◌, ◌++◌, map, length, Bool, true, false, cond, not, ◌&&◌}
-use Rattle.std.proofs.Common.{◌||◌, Option, Some, None, arith, refl, sym, ap, ◌∙◌, subst, append-nil}
+use Rattle.std.proofs.Common.{◌||◌, Option, Some, None, arith, refl, sym, ap, ◌∙◌, subst, append-nil, true≢false}
 use Rattle.std.specs.Prelude.{fold, slice_get, slice_set, nat_lt}
 use Rattle.std.specs.List.{list_any, IsDistinct, AllByRecursion, position_or_len}
 use Rattle.std.specs.Str.{bytes_eq}
@@ -173,3 +173,26 @@ pub got_once : (seen names : List (List ℕ)) (name : List ℕ) (at : ℕ) → s
     → slice_get (once_behind seen names) at ≡ Some name
 got_once seen [] name at is = is
 got_once seen (other ∷ names) name at is = got_once (with_name other seen) names name at (got_with seen name other at is)
+
+-- a name with a direction is declared
+pub directed_declared : (name : List ℕ) (declared : List Declared) → is_directed name declared ≡ true → is_declared name declared ≡ true
+directed_declared name declared is = by (is_declared name declared) refl
+  where
+    by : (found : Bool) → is_declared name declared ≡ found → found ≡ true
+    by true has = refl
+    by false has = absurd (true≢false (sym is ∙ not_directed name declared has))
+
+-- it is no inner one
+pub directed_outer : (name : List ℕ) (declared : List Declared) → is_directed name declared ≡ true → is_inner (direction_of name declared) ≡ false
+directed_outer name [] is = absurd cc
+directed_outer name (it ∷ more) is = by (directs name it) refl is (directed_outer name more)
+  where
+    outer : (x y : Bool) → (x && not y) ≡ true → y ≡ false
+    outer true true is = absurd cc
+    outer true false is = refl
+    outer false y is = absurd cc
+    by : (found : Bool) → directs name it ≡ found → (found || is_directed name more) ≡ true
+        → (is_directed name more ≡ true → is_inner (direction_of name more) ≡ false)
+        → is_inner (cond found it.direction (direction_of name more)) ≡ false
+    by true found either later = outer _ (is_inner it.direction) found
+    by false found either later = later either

@@ -29,6 +29,7 @@ use Rattle.ca_verilog.specs.Instance.{has_pin}
 use Rattle.ca_verilog.specs.Reading.{Hand, Reading, Step, act, at_place, with_buses, with_hand, with_operand, lexeme_step, given_buses, given_operand}
 use Rattle.ca_verilog.specs.Reading.{bit_in, has_index, is_vector}
 use Rattle.ca_verilog.specs.Table.{row_of}
+use Rattle.ca_verilog.proofs.PlaceLemmas.{got_map}
 use Rattle.ca_syntax.specs.Tree.{Operand, Connection, Declaration, Declared, declared_as}
 use Rattle.ca_syntax.specs.Symbols.{Symbol, listed, name_symbols, keyword_of, range_symbols, operand_symbols, value_symbols, connection_symbols}
 use Rattle.ca_syntax.specs.Names.{names_in, is_declared, is_directed, direction_of, range_of}
@@ -189,3 +190,212 @@ value_only declared (Some on) it last rest is whole =
     let taken = first_taken _ _ _ _ behind in
     let scalar = connected on (with_operand (seen_operand declared on) it) taken.0 taken.1 in
     (right, scalar_only declared on right (ap (λ (buses : List Bus). is_vector buses (seen_operand declared on)) (sym is) ∙ scalar))
+
+pinned : (pin : List ℕ) (it next : Reading) → symbol_step (Symbol.identifier pin) (at_place place.PinName it) ≡ Ok next
+    → has_pin (upper_case pin) it.hand.uses ≡ false
+unfolding lexeme_step row_of act
+pinned pin it next is = (passed (has_pin (upper_case pin) it.hand.uses) DoubleName _ next is).0
+
+-- a connection that is read is right, and its pin is new
+connection_only : (declared : List Declared) (on : Connection) (it last : Reading) (rest : List Symbol) → it.buses ≡ seen_buses declared
+    → Reads (at_place place.NextPin it) (connection_symbols on ++ rest) last
+    → (has_pin (upper_case on.pin) it.hand.uses ≡ false) × IsRightValue declared on.value
+connection_only declared on it last rest is whole =
+    let spread = subst (λ (symbols : List Symbol). Reads (at_place place.NextPin it) symbols last)
+    (append_assoc (Symbol.other lexeme.Dot ∷ Symbol.identifier on.pin ∷ Symbol.other lexeme.Open ∷ value_symbols on.value) (Symbol.other lexeme.Close ∷ []) rest) whole in
+    let named = next_read _ _ _ _ last (operands.dot_step it) spread in
+    let taken = first_taken _ _ _ _ named in
+    let new = pinned on.pin it taken.0 taken.1 in
+    let opens = next_read _ _ _ _ last (operands.pin_step on.pin it new) named in
+    let value = next_read _ _ _ _ last (operands.pin_open_step (with_hand (record it.hand { pin = upper_case on.pin }) it)) opens in
+    (new, value_only declared on.value (with_hand (record it.hand { pin = upper_case on.pin }) it) last rest is value)
+
+-- a right value, as the reading sees it
+value_right : (declared : List Declared) (value : Option Operand) → IsRightValue declared value → operands.IsSeenValue declared (seen_buses declared) value
+value_right declared None right = tt
+value_right declared (Some (Operand.whole name)) (right, scalar) =
+    (operand_seen declared declared [] (Operand.whole name) (sym (append-nil declared)) right,
+    ap is_some ((found_in declared declared [] name (sym (append-nil declared)) right).range ∙ scalar))
+value_right declared (Some (Operand.bit name index)) (right, scalar) =
+    (operand_seen declared declared [] (Operand.bit name index) (sym (append-nil declared)) right, refl)
+value_right declared (Some (Operand.constant value)) (right, scalar) = (tt, refl)
+
+new_first : (seen : List (List ℕ)) (word : List ℕ) (words : List (List ℕ)) → has_name word seen ≡ false → repeats (seen ++ word ∷ []) words ≡ false
+    → repeats seen (word ∷ words) ≡ false
+unfolding repeats
+new_first seen word words new more = λ j. (new j) || (more j)
+
+none_new : (seen : List (List ℕ)) → repeats seen [] ≡ false
+unfolding repeats
+none_new seen = refl
+
+grown_pins : (declared : List Declared) (uses : List Use) (on : Connection) (more : List Connection)
+    → repeats (used_pins (uses ++ seen_use declared on ∷ [])) (pins_of more) ≡ false
+    → repeats (used_pins uses ++ upper_case on.pin ∷ []) (pins_of more) ≡ false
+grown_pins declared uses on more is =
+    subst (λ (seen : List (List ℕ)). repeats seen (pins_of more) ≡ false) (map-append (λ (used : Use). used.pin) uses (seen_use declared on ∷ [])) is
+
+-- connections that are read are right
+abbrev AreRightOn : List Declared → List (List ℕ) → List Connection → Type 0
+AreRightOn declared seen connections = (repeats seen (pins_of connections) ≡ false)
+    × All (λ (on : Connection). IsRightValue declared on.value) connections
+
+one_more : (declared : List Declared) (hand : Hand) (on : Connection) (more : List Connection)
+    → (has_pin (upper_case on.pin) hand.uses ≡ false) × IsRightValue declared on.value
+    → AreRightOn declared (used_pins (hand_after declared hand on).uses) more → AreRightOn declared (used_pins hand.uses) (on ∷ more)
+one_more declared hand on more one others =
+    (new_first (used_pins hand.uses) (upper_case on.pin) (pins_of more) one.0 (grown_pins declared hand.uses on more others.0),
+    All-cons (λ (on : Connection). IsRightValue declared on.value) on more one.1 others.1)
+
+more_only : (declared : List Declared) (connections : List Connection) (hand : Hand) (it last : Reading) (rest : List Symbol) → it.buses ≡ seen_buses declared
+    → Reads (at_place place.PinEnd (with_hand hand it)) (commas (map connection_symbols connections) ++ rest) last
+    → AreRightOn declared (used_pins hand.uses) connections
+more_only declared [] hand it last rest is whole = (none_new (used_pins hand.uses), All-nil (λ (on : Connection). IsRightValue declared on.value))
+more_only declared (on ∷ more) hand it last rest is whole =
+    let spread = subst (λ (symbols : List Symbol). Reads (at_place place.PinEnd (with_hand hand it)) symbols last)
+    (append_assoc (Symbol.other lexeme.Comma ∷ connection_symbols on) (commas (map connection_symbols more)) rest) whole in
+    let here = next_read _ _ _ _ last (operands.comma_step (with_hand hand it)) spread in
+    let right = connection_only declared on (with_hand hand it) last (commas (map connection_symbols more) ++ rest) is here in
+    let seen = subst (λ (buses : List Bus). operands.IsSeenValue declared buses on.value) (sym is) (value_right declared on.value right.1) in
+    let behind = rest_read (connection_symbols on) (commas (map connection_symbols more) ++ rest) _ _ last
+    (operands.connection_read declared on (with_hand hand it) right.0 seen) here in
+    one_more declared hand on more right (more_only declared more (hand_after declared hand on) it last rest is behind)
+
+begins_with : (on : Connection) (it : Reading) (rest : List Symbol)
+    → steps_from symbol_step (at_place place.FirstPin it) (connection_symbols on ++ rest) ≡ steps_from symbol_step (at_place place.NextPin it) (connection_symbols on ++ rest)
+unfolding steps_from lexeme_step row_of act
+begins_with on it rest = refl
+
+pub connections_only : (declared : List Declared) (connections : List Connection) (hand : Hand) (it last : Reading) (rest : List Symbol) → it.buses ≡ seen_buses declared
+    → Reads (at_place place.FirstPin (with_hand hand it)) (listed (map connection_symbols connections) ++ rest) last
+    → AreRightOn declared (used_pins hand.uses) connections
+connections_only declared [] hand it last rest is whole = (none_new (used_pins hand.uses), All-nil (λ (on : Connection). IsRightValue declared on.value))
+connections_only declared (on ∷ more) hand it last rest is whole =
+    let spread = subst (λ (symbols : List Symbol). Reads (at_place place.FirstPin (with_hand hand it)) symbols last)
+    (append_assoc (connection_symbols on) (commas (map connection_symbols more)) rest) whole in
+    let here = sym (begins_with on (with_hand hand it) (commas (map connection_symbols more) ++ rest)) ∙ spread in
+    let right = connection_only declared on (with_hand hand it) last (commas (map connection_symbols more) ++ rest) is here in
+    let seen = subst (λ (buses : List Bus). operands.IsSeenValue declared buses on.value) (sym is) (value_right declared on.value right.1) in
+    let behind = rest_read (connection_symbols on) (commas (map connection_symbols more) ++ rest) _ _ last
+    (operands.connection_read declared on (with_hand hand it) right.0 seen) here in
+    one_more declared hand on more right (more_only declared more (hand_after declared hand on) it last rest is behind)
+
+-- the range is the same
+range_only : (one other : Option Range) → same_range one other ≡ true → one ≡ other
+range_only None None is = refl
+range_only None (Some other) is = absurd cc
+range_only (Some one) None is = absurd cc
+range_only (Some one) (Some other) is =
+    let both = both_true (one.left == other.left) (one.right == other.right) is in
+    λ j. Some (record { left = eqb-true one.left other.left both.0 j; right = eqb-true one.right other.right both.1 j })
+  where
+    both_true : (x y : Bool) → (x && y) ≡ true → (x ≡ true) × (y ≡ true)
+    both_true true y is = (refl, is)
+    both_true false y is = absurd cc
+
+known_only : (inner has : Bool) → (not inner && not has) ≡ false → inner ≡ false → has ≡ true
+known_only true has is outer = absurd cc
+known_only false has is outer = not_false has is
+
+undirected_only : (before : List Declared) (name : List ℕ) → not (is_inner (direction_of name before)) ≡ false → is_directed name before ≡ false
+undirected_only before name is = by (is_directed name before) refl
+  where
+    by : (has : Bool) → is_directed name before ≡ has → has ≡ false
+    by false told = refl
+    by true told = absurd (true≢false (ap not (sym (names.directed_outer name before told)) ∙ is))
+
+-- a first declaration of a name is none again
+fresh : (before : List Declared) (way : Direction) (range : Option Range) (name : List ℕ) → is_declared name before ≡ false
+    → is_again before (declared_as way range name) ≡ false
+fresh before direction.Inner range name is = names.not_wire name before is
+fresh before direction.Input range name is = names.not_directed name before is
+fresh before direction.Output range name is = names.not_directed name before is
+
+once_only : (before : List Declared) (way : Direction) (range : Option Range) (name : List ℕ) → is_twice way (seen_bus before name) ≡ false
+    → is_again before (declared_as way range name) ≡ false
+once_only before direction.Inner range name is = is
+once_only before direction.Input range name is = undirected_only before name is
+once_only before direction.Output range name is = undirected_only before name is
+
+-- a declaration that is taken is right
+declare_only : (ports : List (List ℕ)) (before : List Declared) (way : Direction) (range : Option Range) (name : List ℕ) (buses : List Bus)
+    → declare way range name ports (seen_buses before) ≡ Ok buses → IsRightDeclared ports before (declared_as way range name)
+unfolding declare
+declare_only ports before way range name buses taken =
+    let first = passed (not (is_inner way) && not (has_name name ports)) Undeclared _ buses taken in
+    by (is_declared name before) refl (known_only (is_inner way) (has_name name ports) first.0) first.1
+  where
+    by : (has : Bool) → is_declared name before ≡ has → (is_inner way ≡ false → has_name name ports ≡ true)
+        → elim (bus_of name (seen_buses before)) as (λ _. Result (List Bus) VerilogKind) [
+          | None ↦ Ok (seen_buses before ++ new_bus way range name ∷ [])
+          | Some place ↦ again_at way range (seen_buses before) place (slice_get (seen_buses before) place)
+        ] ≡ Ok buses → IsRightDeclared ports before (declared_as way range name)
+    by false is known behind = record {
+      of_header = known;
+      once = fresh before way range name is;
+      same_range = λ other. absurd (true≢false (sym other ∙ is));
+    }
+    by true is known behind =
+        let found = place_seen name before is in
+        let again : again_at way range (seen_buses before) found.0 (Some (seen_bus before name)) ≡ Ok buses =
+        sym (ap (λ (place : Option ℕ). elim place as (λ _. Result (List Bus) VerilogKind) [
+          | None ↦ Ok (seen_buses before ++ new_bus way range name ∷ [])
+          | Some place ↦ again_at way range (seen_buses before) place (slice_get (seen_buses before) place)
+        ]) (bus_found name before ∙ found.2)
+        ∙ ap (again_at way range (seen_buses before) found.0) (got_map (seen_bus before) (names_in before) found.0 name found.1)) ∙ behind in
+        let second = passed (is_twice way (seen_bus before name)) DoubleName _ buses again in
+        let third = passed (not (same_range range (range_of name before))) BadRange _ buses second.1 in
+        record {
+          of_header = known;
+          once = once_only before way range name second.0;
+          same_range = λ other. range_only range (range_of name before) (not_false (same_range range (range_of name before)) third.0);
+        }
+
+given : (it next : Reading) (given : Result (List Bus) VerilogKind) → given_buses it given ≡ Ok next → (buses : List Bus) × (given ≡ Ok buses)
+given it next (Ok buses) is = (buses, refl)
+given it next (Err kind) is = absurd cc
+
+named : (way : Direction) (range : Option Range) (name : List ℕ) (it next : Reading)
+    → symbol_step (Symbol.identifier name) (at_place (place.Declared way range) it) ≡ Ok next
+    → (buses : List Bus) × (declare way range name it.ports it.buses ≡ Ok buses)
+unfolding lexeme_step row_of act
+named way range name it next is = given (at_place (place.DeclaredEnd way range) it) next (declare way range name it.ports it.buses) is
+
+first_named : (way : Direction) (range : Option Range) (name : List ℕ) (it next : Reading)
+    → symbol_step (Symbol.identifier name) (at_place (behind_range way range) it) ≡ Ok next
+    → (buses : List Bus) × (declare way range name it.ports it.buses ≡ Ok buses)
+unfolding lexeme_step row_of act
+first_named way None name it next is = given (at_place (place.DeclaredEnd way None) it) next (declare way None name it.ports it.buses) is
+first_named way (Some range) name it next is =
+    given (at_place (place.DeclaredEnd way (Some range)) it) next (declare way (Some range) name it.ports it.buses) is
+
+names_only : (way : Direction) (range : Option Range) (listed : List (List ℕ)) (before : List Declared) (it last : Reading) (rest : List Symbol)
+    → Reads (at_place (place.DeclaredEnd way range) (with_declared before it)) (commas (map name_symbols listed) ++ rest) last
+    → OneByOne (IsRightDeclared it.ports) before (map (declared_as way range) listed)
+names_only way range [] before it last rest whole = tt
+names_only way range (name ∷ listed) before it last rest whole =
+    let here = next_read _ _ _ _ last (items.declared_comma way range (with_declared before it)) whole in
+    let taken = first_taken _ _ _ _ here in
+    let buses = named way range name (with_declared before it) taken.0 taken.1 in
+    let right = declare_only it.ports before way range name buses.0 buses.1 in
+    let behind = next_read _ _ _ _ last (items.name_step way range name (with_declared before it) _ (declare_right it.ports before way range name right)) here in
+    (right, names_only way range listed (before ++ declared_as way range name ∷ []) it last rest behind)
+
+-- a declaration that is read is right
+pub declaration_only : (here : Declaration) (before : List Declared) (it last : Reading) (rest : List Symbol)
+    → Reads (at_place place.Item (with_declared before it))
+    ((Symbol.other (keyword_of here.direction) ∷ range_symbols here.range ++ listed (map name_symbols (here.first ∷ here.more)) ++ Symbol.other lexeme.Semicolon ∷ []) ++ rest) last
+    → OneByOne (IsRightDeclared it.ports) before (map (declared_as here.direction here.range) (here.first ∷ here.more))
+declaration_only here before it last rest whole =
+    let way = here.direction in
+    let range = here.range in
+    let spread = subst (λ (symbols : List Symbol). Reads (at_place place.Item (with_declared before it)) symbols last)
+    (append_assoc (Symbol.other (keyword_of way) ∷ range_symbols range ++ listed (map name_symbols (here.first ∷ here.more))) (Symbol.other lexeme.Semicolon ∷ []) rest
+    ∙ append_assoc (Symbol.other (keyword_of way) ∷ range_symbols range) (listed (map name_symbols (here.first ∷ here.more))) (Symbol.other lexeme.Semicolon ∷ rest)) whole in
+    let ranged = next_read _ _ _ _ last (items.keyword_step way (with_declared before it)) spread in
+    let named = rest_read (range_symbols range) _ _ _ last (items.range_read way range (with_declared before it)) ranged in
+    let taken = first_taken _ _ _ _ named in
+    let buses = first_named way range here.first (with_declared before it) taken.0 taken.1 in
+    let right = declare_only it.ports before way range here.first buses.0 buses.1 in
+    let behind = next_read _ _ _ _ last (items.first_step way range here.first (with_declared before it) _ (declare_right it.ports before way range here.first right)) named in
+    (right, names_only way range here.more (before ++ declared_as way range here.first ∷ []) it last (Symbol.other lexeme.Semicolon ∷ rest) behind)

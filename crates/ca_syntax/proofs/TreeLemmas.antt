@@ -220,36 +220,13 @@ items_read tree before (here ∷ items) hand right is =
     (rest.0, joined (item_symbols here) (flat_map item_symbols items) _ (behind tree (before ++ here ∷ []) one.0) _ one.1
     (rest.1 ∙ ap (λ (all : List Item). Ok (behind tree all rest.0)) (append_assoc before (here ∷ []) items)))
 
--- a name with a direction is declared
-directed_declared : (name : List ℕ) (declared : List Declared) → is_directed name declared ≡ true → is_declared name declared ≡ true
-directed_declared name declared is = by (is_declared name declared) refl
-  where
-    by : (found : Bool) → is_declared name declared ≡ found → found ≡ true
-    by true has = refl
-    by false has = absurd (true≢false (sym is ∙ names.not_directed name declared has))
-
--- it is no inner one
-directed_outer : (name : List ℕ) (declared : List Declared) → is_directed name declared ≡ true → is_inner (direction_of name declared) ≡ false
-directed_outer name [] is = absurd cc
-directed_outer name (it ∷ more) is = by (directs name it) refl is (directed_outer name more)
-  where
-    outer : (x y : Bool) → (x && not y) ≡ true → y ≡ false
-    outer true true is = absurd cc
-    outer true false is = refl
-    outer false y is = absurd cc
-    by : (found : Bool) → directs name it ≡ found → (found || is_directed name more) ≡ true
-        → (is_directed name more ≡ true → is_inner (direction_of name more) ≡ false)
-        → is_inner (cond found it.direction (direction_of name more)) ≡ false
-    by true found either later = outer _ (is_inner it.direction) found
-    by false found either later = later either
-
 port_directed : (name : List ℕ) (declared : List Declared) → is_directed name declared ≡ true → has_direction (seen_buses declared) name ≡ true
 port_directed name declared is =
-    let found = place_seen name declared (directed_declared name declared is) in
+    let found = place_seen name declared (names.directed_declared name declared is) in
     ap (λ (place : Option ℕ). elim place as (λ _. Bool) [ None ↦ false | Some place ↦ bus_directed (slice_get (seen_buses declared) place) ])
     (bus_found name declared ∙ found.2)
     ∙ ap bus_directed (got_map (seen_bus declared) (names_in declared) found.0 name found.1)
-    ∙ ap not (directed_outer name declared is)
+    ∙ ap not (names.directed_outer name declared is)
 
 ports_directed : (declared : List Declared) (ports : List (List ℕ)) → All (λ name. is_directed name declared ≡ true) ports
     → list_all (has_direction (seen_buses declared)) ports ≡ true
