@@ -180,7 +180,7 @@ again_as before direction.Output range name is once = λ j. record {
     kept false true = refl
     kept false false = refl
 
-undirected : (before : List Declared) (name : List ℕ) → is_directed name before ≡ false → direction_of name before ≡ direction.Inner
+pub undirected : (before : List Declared) (name : List ℕ) → is_directed name before ≡ false → direction_of name before ≡ direction.Inner
 undirected [] name is = refl
 undirected (first ∷ more) name is =
     let parts : (directs name first ≡ false) × (is_directed name more ≡ false) = or_false (directs name first) (is_directed name more) is in

@@ -9,3 +9,5 @@ pub mod NetlistLemmas
 pub mod BehindLemmas
 pub mod ParseLemmas
 pub mod OnlyLemmas
+pub mod TreeOnlyLemmas
+pub mod FoundLemmas

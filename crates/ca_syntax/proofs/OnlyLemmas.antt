@@ -220,12 +220,12 @@ value_right declared (Some (Operand.bit name index)) (right, scalar) =
     (operand_seen declared declared [] (Operand.bit name index) (sym (append-nil declared)) right, refl)
 value_right declared (Some (Operand.constant value)) (right, scalar) = (tt, refl)
 
-new_first : (seen : List (List ℕ)) (word : List ℕ) (words : List (List ℕ)) → has_name word seen ≡ false → repeats (seen ++ word ∷ []) words ≡ false
+pub new_first : (seen : List (List ℕ)) (word : List ℕ) (words : List (List ℕ)) → has_name word seen ≡ false → repeats (seen ++ word ∷ []) words ≡ false
     → repeats seen (word ∷ words) ≡ false
 unfolding repeats
 new_first seen word words new more = λ j. (new j) || (more j)
 
-none_new : (seen : List (List ℕ)) → repeats seen [] ≡ false
+pub none_new : (seen : List (List ℕ)) → repeats seen [] ≡ false
 unfolding repeats
 none_new seen = refl
 
@@ -236,7 +236,7 @@ grown_pins declared uses on more is =
     subst (λ (seen : List (List ℕ)). repeats seen (pins_of more) ≡ false) (map-append (λ (used : Use). used.pin) uses (seen_use declared on ∷ [])) is
 
 -- connections that are read are right
-abbrev AreRightOn : List Declared → List (List ℕ) → List Connection → Type 0
+abbrev pub AreRightOn : List Declared → List (List ℕ) → List Connection → Type 0
 AreRightOn declared seen connections = (repeats seen (pins_of connections) ≡ false)
     × All (λ (on : Connection). IsRightValue declared on.value) connections
 

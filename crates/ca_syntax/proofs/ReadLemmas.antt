@@ -151,3 +151,27 @@ tokens_read text (token ∷ tokens) it last read =
         ∙ ap (λ (step : Result Reading VerilogFault). after_step (located (at_token text) (token_step text)) step tokens)
         (located_value (at_token text) (token_step text) token it next taken)
         ∙ later next behind
+
+-- symbols are read as their tokens are
+pub symbols_read : (text : List ℕ) (tokens : List Token) (it last : Reading) → tokens_from text it tokens ≡ Ok last
+    → Reads it (map (symbol_at text) tokens) last
+unfolding steps_from
+symbols_read text [] it last read = by_value it last read
+  where
+    by_value : (it last : Reading) → ◌≡◌ {A = Result Reading VerilogFault} (Ok it) (Ok last) → ◌≡◌ {A = Step} (Ok it) (Ok last)
+    by_value it last is =
+        let same : it ≡ last = cc in
+        ap (λ (one : Reading). Ok one) same
+symbols_read text (token ∷ tokens) it last read =
+    by (token_step text token it) refl (λ next. symbols_read text tokens next last)
+    (sym (steps_from-cons (located (at_token text) (token_step text)) it token tokens) ∙ read)
+  where
+    by : (given : Step) → token_step text token it ≡ given
+        → ((next : Reading) → tokens_from text next tokens ≡ Ok last → Reads next (map (symbol_at text) tokens) last)
+        → after_step (located (at_token text) (token_step text))
+        (elim given as (λ _. Result Reading VerilogFault) [ Ok next ↦ Ok next | Err kind ↦ Err (at_token text token kind) ]) tokens ≡ Ok last
+        → Reads it (symbol_at text token ∷ map (symbol_at text) tokens) last
+    by (Err kind) is later behind = absurd cc
+    by (Ok next) is later behind =
+        then_more (symbol_at text token) (map (symbol_at text) tokens) it next last
+        (symbol_does (lexeme_at text token) (name_of token.kind (text_of token text)) it ∙ is) (later next behind)

@@ -40,17 +40,17 @@ port_given : (name : List ℕ) (it : Reading) → has_name name it.ports ≡ fal
 port_given name it new =
     ap (λ (found : Bool). Ok (at_place place.PortEnd (with_ports (cond found it.ports (it.ports ++ name ∷ [])) it))) new
 
-port_step : (name : List ℕ) (it : Reading) → has_name name it.ports ≡ false
+pub port_step : (name : List ℕ) (it : Reading) → has_name name it.ports ≡ false
     → symbol_step (Symbol.identifier name) (at_place place.Port it) ≡ Ok (at_place place.PortEnd (with_ports (it.ports ++ name ∷ []) it))
 unfolding lexeme_step row_of act
 port_step name it new = unbroken (has_name name it.ports) DoubleName _ _ new (port_given name it new)
 
-first_port : (name : List ℕ) (it : Reading) → has_name name it.ports ≡ false
+pub first_port : (name : List ℕ) (it : Reading) → has_name name it.ports ≡ false
     → symbol_step (Symbol.identifier name) (at_place place.FirstPort it) ≡ Ok (at_place place.PortEnd (with_ports (it.ports ++ name ∷ []) it))
 unfolding lexeme_step row_of act
 first_port name it new = unbroken (has_name name it.ports) DoubleName _ _ new (port_given name it new)
 
-port_comma : (it : Reading) → symbol_step (Symbol.other lexeme.Comma) (at_place place.PortEnd it) ≡ Ok (at_place place.Port it)
+pub port_comma : (it : Reading) → symbol_step (Symbol.other lexeme.Comma) (at_place place.PortEnd it) ≡ Ok (at_place place.Port it)
 unfolding lexeme_step row_of act
 port_comma it = refl
 
@@ -66,11 +66,11 @@ more_ports (name ∷ listed) seen it new =
     ∙ ap (λ (ports : List (List ℕ)). Ok (at_place place.PortEnd (with_ports ports it))) (append_assoc seen (name ∷ []) listed))
 
 -- the place behind the header
-abbrev behind_header : Option (List (List ℕ)) → Place
+abbrev pub behind_header : Option (List (List ℕ)) → Place
 behind_header None = place.Header
 behind_header (Some names) = place.HeaderEnd
 
-header_opens : (it : Reading) → symbol_step (Symbol.other lexeme.Open) (at_place place.Header it) ≡ Ok (at_place place.FirstPort it)
+pub header_opens : (it : Reading) → symbol_step (Symbol.other lexeme.Open) (at_place place.Header it) ≡ Ok (at_place place.FirstPort it)
 unfolding lexeme_step row_of act
 header_opens it = refl
 
@@ -82,13 +82,13 @@ header_closes : (it : Reading) → symbol_step (Symbol.other lexeme.Close) (at_p
 unfolding lexeme_step row_of act
 header_closes it = refl
 
-header_over : (header : Option (List (List ℕ))) (it : Reading)
+pub header_over : (header : Option (List (List ℕ))) (it : Reading)
     → symbol_step (Symbol.other lexeme.Semicolon) (at_place (behind_header header) it) ≡ Ok (at_place place.Item it)
 unfolding lexeme_step row_of act
 header_over None it = refl
 header_over (Some names) it = refl
 
-header_read : (header : Option (List (List ℕ))) → has_double (header_names header) ≡ false
+pub header_read : (header : Option (List (List ℕ))) → has_double (header_names header) ≡ false
     → Reads (at_place place.Header nothing) (header_symbols header) (at_place (behind_header header) (with_ports (header_names header) nothing))
 header_read None new = nothing_read _
 header_read (Some []) new = then_more _ _ _ _ _ (header_opens nothing) (one_symbol _ _ _ (bare_closes nothing))
@@ -103,7 +103,7 @@ header_read (Some (name ∷ listed)) new =
 abbrev pub behind : Module → List Item → Hand → Reading
 behind tree before hand = state (declarations tree.items) (ports_of tree) (declarations before) (assigns before) (instances before) place.Item hand
 
-grown : {Part : Type 0} (give : Item → List Part) (before : List Item) (here : Item)
+pub grown : {Part : Type 0} (give : Item → List Part) (before : List Item) (here : Item)
     → flat_map give before ++ give here ≡ flat_map give (before ++ here ∷ [])
 grown give before here =
     ap (λ more. flat_map give before ++ more) (sym (append-nil (give here))) ∙ sym (flat_map-append give before (here ∷ []))
@@ -138,7 +138,7 @@ new_behind seen (first ∷ before) after here new =
     ap (has_name here) (sym (append_assoc seen (first ∷ []) before))
     ∙ new_behind (seen ++ first ∷ []) before after here (first_new seen first (before ++ here ∷ after) new).1
 
-placed_names : (whole : List Declared) (listed : List Instance)
+pub placed_names : (whole : List Declared) (listed : List Instance)
     → map (λ (it : placed.Instance). it.name) (map (seen_instance whole) listed) ≡ map (λ (it : Instance). it.name) listed
 placed_names whole [] = refl
 placed_names whole (it ∷ listed) = ap (λ more. it.name ∷ more) (placed_names whole listed)
@@ -240,11 +240,11 @@ end_step : (it : Reading) → list_all (has_direction it.buses) it.ports ≡ tru
 unfolding lexeme_step row_of act
 end_step it all = unbroken (not (list_all (has_direction it.buses) it.ports)) Undeclared _ _ (ap not all) refl
 
-module_step : symbol_step (Symbol.other lexeme.Module) nothing ≡ Ok (at_place place.ModuleName nothing)
+pub module_step : symbol_step (Symbol.other lexeme.Module) nothing ≡ Ok (at_place place.ModuleName nothing)
 unfolding lexeme_step row_of act
 module_step = refl
 
-title_step : (name : List ℕ) (it : Reading) → symbol_step (Symbol.identifier name) (at_place place.ModuleName it) ≡ Ok (at_place place.Header it)
+pub title_step : (name : List ℕ) (it : Reading) → symbol_step (Symbol.identifier name) (at_place place.ModuleName it) ≡ Ok (at_place place.Header it)
 unfolding lexeme_step row_of act
 title_step name it = refl
 

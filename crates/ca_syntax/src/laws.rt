@@ -1,6 +1,6 @@
 //! Laws of syntax trees, each the contract of a function that does nothing.
 
-ghost use Rattle.ca_syntax.specs.Laws.{RightTreeIsRead, LargeTreeIsRefused};
+ghost use Rattle.ca_syntax.specs.Laws.{RightTreeIsRead, LargeTreeIsRefused, ReadTextHasTree, ReadTreeIsRight};
 
 /// The text of a tree whose names and ranges are right reads as the netlist of the tree.
 pub fn right_tree_is_read()
@@ -10,4 +10,14 @@ pub fn right_tree_is_read()
 /// One that declares too many bits is refused for their number alone.
 pub fn large_tree_is_refused()
     ensures { LargeTreeIsRefused }
+{}
+
+/// What a text reads as is the netlist of a right tree, of which it is the text.
+pub fn read_text_has_tree()
+    ensures { ReadTextHasTree }
+{}
+
+/// A tree whose text reads as a netlist is right.
+pub fn read_tree_is_right()
+    ensures { ReadTreeIsRight }
 {}

@@ -3,4 +3,4 @@
 
 mod laws;
 
-pub use laws::{large_tree_is_refused, right_tree_is_read};
+pub use laws::{large_tree_is_refused, read_text_has_tree, read_tree_is_right, right_tree_is_read};
