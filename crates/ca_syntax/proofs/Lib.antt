@@ -11,3 +11,4 @@ pub mod ParseLemmas
 pub mod OnlyLemmas
 pub mod TreeOnlyLemmas
 pub mod FoundLemmas
+pub mod ExampleLemmas

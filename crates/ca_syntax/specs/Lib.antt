@@ -4,3 +4,4 @@ pub mod Names
 pub mod Rules
 pub mod TreeNetlist
 pub mod Laws
+pub mod Example

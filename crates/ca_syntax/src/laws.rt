@@ -1,6 +1,7 @@
 //! Laws of syntax trees, each the contract of a function that does nothing.
 
 ghost use Rattle.ca_syntax.specs.Laws.{RightTreeIsRead, LargeTreeIsRefused, ReadTextHasTree, ReadTreeIsRight};
+ghost use Rattle.ca_syntax.specs.Example.{ExampleIsRead};
 
 /// The text of a tree whose names and ranges are right reads as the netlist of the tree.
 pub fn right_tree_is_read()
@@ -20,4 +21,9 @@ pub fn read_text_has_tree()
 /// A tree whose text reads as a netlist is right.
 pub fn read_tree_is_right()
     ensures { ReadTreeIsRight }
+{}
+
+/// The example is the text of its tree, and reads as the netlist that is written out.
+pub fn example_is_read()
+    ensures { ExampleIsRead }
 {}

@@ -3,4 +3,6 @@
 
 mod laws;
 
-pub use laws::{large_tree_is_refused, read_text_has_tree, read_tree_is_right, right_tree_is_read};
+pub use laws::{
+    example_is_read, large_tree_is_refused, read_text_has_tree, read_tree_is_right, right_tree_is_read,
+};
