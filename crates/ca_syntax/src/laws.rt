@@ -1,6 +1,7 @@
 //! Laws of syntax trees, each the contract of a function that does nothing.
 
-ghost use Rattle.ca_syntax.specs.Laws.{RightTreeIsRead, LargeTreeIsRefused, ReadTextHasTree, ReadTreeIsRight};
+ghost use Rattle.ca_syntax.specs.Laws.{RightTreeIsRead, LargeTreeIsRefused, ReadTextHasTree, LargeTextHasTree};
+ghost use Rattle.ca_syntax.specs.Laws.{ReadTreeIsRight};
 ghost use Rattle.ca_syntax.specs.Example.{ExampleIsRead};
 
 /// The text of a tree whose names and ranges are right reads as the netlist of the tree.
@@ -16,6 +17,11 @@ pub fn large_tree_is_refused()
 /// What a text reads as is the netlist of a right tree, of which it is the text.
 pub fn read_text_has_tree()
     ensures { ReadTextHasTree }
+{}
+
+/// A text that is refused for the number of its bits is that of a right tree with so many.
+pub fn large_text_has_tree()
+    ensures { LargeTextHasTree }
 {}
 
 /// A tree whose text reads as a netlist is right.
