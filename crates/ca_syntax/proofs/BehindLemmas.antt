@@ -1,5 +1,5 @@
 -- Each of a list is right behind those before it: one after another, and at any place.
-use Rattle.std.proofs.Common.{◌≡◌, List, [], ◌∷◌, ◌++◌, refl, sym, ap, ◌∙◌, subst, append_assoc, append-nil}
+use Rattle.std.proofs.Common.{◌≡◌, List, [], ◌∷◌, ◌++◌, refl, sym, subst, append_assoc, append-nil}
 use Rattle.std.specs.Prelude.{⊤}
 use Rattle.ca_syntax.specs.Rules.{EachBehind}
 
@@ -29,6 +29,7 @@ each_behind P list right = λ before here after is. at_place P [] list before he
 
 pub one_by_one : {T : Type 0} (P : List T → T → Type 0) (seen list : List T) → EachBehind P (seen ++ list) → OneByOne P seen list
 one_by_one P seen [] right = tt
-one_by_one {T} P seen (here ∷ more) right =
-    (right seen here more refl,
-    one_by_one P (seen ++ here ∷ []) more (subst (EachBehind P) (sym (append_assoc seen (here ∷ []) more)) right))
+one_by_one {T} P seen (here ∷ more) right = (
+  right seen here more refl,
+  one_by_one P (seen ++ here ∷ []) more (subst (EachBehind P) (sym (append_assoc seen (here ∷ []) more)) right),
+)

@@ -1,24 +1,27 @@
 -- A right declaration is taken, and makes the names that the tree has.
-use Rattle.std.proofs.Common.{◌≡◌, ℕ, zero, suc, List, [], ◌∷◌, ◌++◌, map, Bool, true, false, cond, not, ◌&&◌, ◌||◌, ◌==◌}
-use Rattle.std.proofs.Common.{Option, Some, None, Result, Ok, Err, refl, sym, ap, ◌∙◌, subst, true≢false}
+use Rattle.std.proofs.Common.{◌≡◌, ℕ, zero, suc, List, [], ◌∷◌, ◌++◌, map, Bool, true, false, cond, not, ◌&&◌}
+use Rattle.std.proofs.Common.{◌||◌}
+use Rattle.std.proofs.Common.{Option, Some, None, Result, Ok, refl, sym, ap, ◌∙◌, subst}
 use Rattle.std.specs.Prelude.{slice_get, slice_set}
 use Rattle.std.specs.List.{IsDistinct, AllByRecursion}
 use Rattle.std.specs.Str.{bytes_eq}
 use Rattle.std.proofs.lemmas.Bool.{eq-eqb}
 use Rattle.std.proofs.lemmas.List.{map-append}
 use Rattle.ca_lex.specs.Reading.{unless}
-use Rattle.ca_names.specs.Names.{has_name, place_of, with_name}
+use Rattle.ca_names.specs.Names.{has_name, place_of}
 use Rattle.ca_verilog.specs.declared.bus.Bus.{Bus}
 use Rattle.ca_verilog.specs.declared.fault.VerilogKind.{VerilogKind}
 use Rattle.ca_verilog.specs.declared.fault.VerilogKind.TheVariants.{Undeclared, DoubleName, BadRange}
 use Rattle.ca_verilog.specs.declared.table.Direction.{Direction}
 use Rattle.ca_verilog.specs.declared.table.Direction.TheVariants as direction
 use Rattle.ca_verilog.specs.declared.table.Range.{Range}
-use Rattle.ca_verilog.specs.Bus.{is_inner, same_range, bus_of, is_twice, new_bus, declared_again, again_at, declare}
+use Rattle.ca_verilog.specs.Bus.{is_inner, same_range, bus_of, is_twice, new_bus, declared_again, again_at}
+use Rattle.ca_verilog.specs.Bus.{declare}
 use Rattle.ca_verilog.proofs.DistinctLemmas.{or_false, same_name, differ}
 use Rattle.ca_verilog.proofs.PlaceLemmas.{got_map, place_told, found_at}
 use Rattle.ca_syntax.specs.Tree.{Declared, declared_as}
-use Rattle.ca_syntax.specs.Names.{names_in, is_declared, directs, is_directed, is_wire, direction_of, range_of}
+use Rattle.ca_syntax.specs.Names.{names_in, is_declared, directs, is_directed, is_wire, direction_of}
+use Rattle.ca_syntax.specs.Names.{range_of}
 use Rattle.ca_syntax.specs.Rules.{is_again, IsRightDeclared}
 use Rattle.ca_syntax.proofs.NameLemmas as names
 
@@ -56,12 +59,15 @@ apart declared it name is = λ j. record {
     both : (x y : Bool) → x ≡ false → (x && y) ≡ false
     both true y is = absurd cc
     both false y is = refl
+
     undirected : directs name it ≡ false
     undirected = both (bytes_eq name it.name) (not (is_inner it.direction)) is
+
     nothing : (x y : Bool) → y ≡ false → (x || (y || false)) ≡ x
     nothing x true is = absurd cc
     nothing true false is = refl
     nothing false false is = refl
+
     wire : is_wire name (declared ++ it ∷ []) ≡ is_wire name declared
     wire = names.wire_grown name declared it
         ∙ nothing (is_wire name declared) (bytes_eq name it.name && is_inner it.direction)
@@ -152,6 +158,7 @@ again_as before direction.Inner range name is once = λ j. record {
     left_over : (x : Bool) → (x && false) ≡ false
     left_over true = refl
     left_over false = refl
+
     last_true : (x : Bool) → (x || true) ≡ true
     last_true true = refl
     last_true false = refl
@@ -221,6 +228,7 @@ declare_right ports before way range name right =
     known : (inner has : Bool) → (inner ≡ false → has ≡ true) → (not inner && not has) ≡ false
     known true has is = refl
     known false has is = ap not (is refl)
+
     by : (found : Bool) → is_declared name before ≡ found
         → elim (bus_of name (seen_buses before)) as (λ _. Result (List Bus) VerilogKind) [
           | None ↦ Ok (seen_buses before ++ new_bus way range name ∷ [])

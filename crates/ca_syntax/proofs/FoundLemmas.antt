@@ -1,5 +1,6 @@
 -- A text that is read is the text of a right tree.
-use Rattle.std.proofs.Common.{◌≡◌, ℕ, ◌-◌, ◌<◌, ◌≤◌, List, [], ◌∷◌, map, length, Bool, true, false, Option, Some, None, Result, Ok, Err}
+use Rattle.std.proofs.Common.{◌≡◌, ℕ, ◌-◌, ◌<◌, ◌≤◌, List, [], ◌∷◌, map, length, Bool, true, false, Option}
+use Rattle.std.proofs.Common.{Some, None, Result, Ok, Err}
 use Rattle.std.proofs.Common.{refl, sym, ap, ◌∙◌, subst}
 use Rattle.std.specs.Prelude.{nat_lt}
 use Rattle.std.proofs.lemmas.Bool.{ltb-true, ltb-false}
@@ -15,15 +16,15 @@ use Rattle.ca_verilog.specs.declared.netlist.TheConstants.{MOST_BITS}
 use Rattle.ca_verilog.specs.declared.raw.RawNetlist.{RawNetlist}
 use Rattle.ca_verilog.specs.declared.table.Place.{Place}
 use Rattle.ca_verilog.specs.declared.table.Place.TheVariants as place
-use Rattle.ca_verilog.specs.Grammar.{IsModule}
 use Rattle.ca_verilog.specs.Module.{lexeme_at}
 use Rattle.ca_verilog.specs.Path.{places_from}
 use Rattle.ca_verilog.specs.Reading.{Reading, Step, nothing}
-use Rattle.ca_verilog.specs.Text.{token_step, at_token, tokens_from, then_flaw, is_end, ended, reading_of, limited_of, netlist_of}
+use Rattle.ca_verilog.specs.Text.{token_step, at_token, tokens_from, then_flaw, is_end, ended, reading_of}
+use Rattle.ca_verilog.specs.Text.{limited_of, netlist_of}
 use Rattle.ca_verilog.proofs.ModuleLemmas.{tokens_led}
 use Rattle.ca_verilog.proofs.WayLemmas.{module_way}
 use Rattle.ca_syntax.specs.Tree.{Module}
-use Rattle.ca_syntax.specs.Symbols.{Symbol, IsTextOf, module_symbols}
+use Rattle.ca_syntax.specs.Symbols.{Symbol, IsTextOf}
 use Rattle.ca_syntax.specs.Rules.{IsRight}
 use Rattle.ca_syntax.specs.TreeNetlist.{tree_netlist}
 use Rattle.ca_syntax.specs.Laws.{tree_bits, IsTreeOf, IsLargeTreeOf}
@@ -50,6 +51,7 @@ read_as text last is = by_flaw (scan_of text).flaw (tokens_from text nothing (sc
         → (it ≡ last) × (is_end it.place ≡ true)
     by_end it true told is = (value_same it last is, told)
     by_end it false told is = absurd cc
+
     by_flaw : (flaw : Option Flaw) (given : Result Reading VerilogFault) → (scan_of text).flaw ≡ flaw
         → tokens_from text nothing (scan_of text).tokens ≡ given → ended text (then_flaw text flaw given) ≡ Ok last → IsReadAs text last
     by_flaw None (Ok it) whole told is =
@@ -101,8 +103,10 @@ netlist_of_tree text tree raw of_tree right is = by (nat_lt MOST_BITS (tree_bits
   where
     same_netlist : (one other : RawNetlist) → ◌≡◌ {A = Result RawNetlist VerilogFault} (Ok one) (Ok other) → one ≡ other
     same_netlist one other told = cc
+
     never : (fault : VerilogFault) → ◌≡◌ {A = Result RawNetlist VerilogFault} (Err fault) (Ok raw) → ⊥
     never fault told = cc
+
     by : (many : Bool) → nat_lt MOST_BITS (tree_bits tree) ≡ many → IsTreeOf text raw tree
     by true told =
         absurd (never (TooManyNets (tree_bits tree)) (sym (large_refused text tree of_tree right (ltb-true MOST_BITS (tree_bits tree) told)) ∙ is))
@@ -145,8 +149,10 @@ reading_counts text count is = by_flaw (scan_of text).flaw (tokens_from text not
         → ⊥
     by_end it true is = absurd cc
     by_end it false is = absurd cc
+
     inside : (fault : VerilogFault) → ◌≡◌ {A = Result Reading VerilogFault} (Err fault) (Err (TooManyNets count)) → fault ≡ TooManyNets count
     inside fault is = cc
+
     by_flaw : (flaw : Option Flaw) (given : Result Reading VerilogFault) → tokens_from text nothing (scan_of text).tokens ≡ given
         → ended text (then_flaw text flaw given) ≡ Err (TooManyNets count) → ⊥
     by_flaw None (Ok it) told is = by_end it (is_end it.place) is
@@ -161,9 +167,16 @@ count_read text count is = by (reading_of text) refl is
   where
     inside : (fault : VerilogFault) → ◌≡◌ {A = Result RawNetlist VerilogFault} (Err fault) (Err (TooManyNets count)) → fault ≡ TooManyNets count
     inside fault is = cc
+
     by : (given : Result Reading VerilogFault) → reading_of text ≡ given → limited_of given ≡ Err (TooManyNets count) → (last : Reading) × IsReadAs text last
     by (Ok last) told read = (last, read_as text last told)
     by (Err fault) told read = absurd (reading_counts text count (told ∙ ap (λ (one : VerilogFault). Err one) (inside fault read)))
+
+-- a tree whose text is refused for the number of its bits is right
+pub large_right : (text : List ℕ) (tree : Module) (count : ℕ) → IsTextOf text tree → netlist_of text ≡ Err (TooManyNets count) → IsRight tree
+large_right text tree count of_tree is =
+    let read = count_read text count is in
+    right_of text read.0 tree read.1 of_tree
 
 large_tree : (text : List ℕ) (tree : Module) (count : ℕ) → IsTextOf text tree → IsRight tree → netlist_of text ≡ Err (TooManyNets count)
     → IsLargeTreeOf text count tree
@@ -171,8 +184,10 @@ large_tree text tree count of_tree right is = by (nat_lt MOST_BITS (tree_bits tr
   where
     same_count : (one other : ℕ) → ◌≡◌ {A = Result RawNetlist VerilogFault} (Err (TooManyNets one)) (Err (TooManyNets other)) → one ≡ other
     same_count one other told = cc
+
     never : (raw : RawNetlist) → ◌≡◌ {A = Result RawNetlist VerilogFault} (Ok raw) (Err (TooManyNets count)) → ⊥
     never raw told = cc
+
     by : (many : Bool) → nat_lt MOST_BITS (tree_bits tree) ≡ many → IsLargeTreeOf text count tree
     by true told =
         let large : MOST_BITS < tree_bits tree = ltb-true MOST_BITS (tree_bits tree) told in

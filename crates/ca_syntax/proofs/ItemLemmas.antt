@@ -1,18 +1,15 @@
 -- Items are read.
-use Rattle.std.proofs.Common.{◌≡◌, ℕ, ◌==◌, List, [], ◌∷◌, ◌++◌, map, Bool, true, false, not, ◌||◌, Option, Some, None, Result, Ok, Err, refl, sym, ap}
-use Rattle.std.proofs.Common.{◌∙◌, subst, append_assoc, append-nil}
+use Rattle.std.proofs.Common.{◌≡◌, ℕ, ◌==◌, List, [], ◌∷◌, ◌++◌, map, false, not, Option, Some, None, Ok}
+use Rattle.std.proofs.Common.{refl, sym, ap}
+use Rattle.std.proofs.Common.{◌∙◌, append_assoc, append-nil}
 use Rattle.std.specs.Prelude.{flat_map}
 use Rattle.std.specs.List.{All}
 use Rattle.std.proofs.lemmas.Bool.{eq-eqb}
-use Rattle.std.proofs.lemmas.List.{map-append}
 use Rattle.ca_lex.specs.FirstFault.{steps_from}
 use Rattle.ca_lex.specs.Words.{upper_case}
-use Rattle.ca_names.specs.Names.{has_name, repeats}
+use Rattle.ca_names.specs.Names.{repeats}
 use Rattle.ca_verilog.specs.declared.bus.Bus.{Bus}
-use Rattle.ca_verilog.specs.declared.fault.VerilogKind.{VerilogKind}
-use Rattle.ca_verilog.specs.declared.fault.VerilogKind.TheVariants.{Undeclared, DoubleName, BadRange}
-use Rattle.ca_verilog.specs.declared.instance.Operand as reader
-use Rattle.ca_verilog.specs.declared.instance.Instance as placed
+use Rattle.ca_verilog.specs.declared.fault.VerilogKind.TheVariants.{DoubleName, BadRange}
 use Rattle.ca_verilog.specs.declared.lexeme.Lexeme.TheVariants as lexeme
 use Rattle.ca_verilog.specs.declared.table.Direction.{Direction}
 use Rattle.ca_verilog.specs.declared.table.Direction.TheVariants as direction
@@ -22,16 +19,19 @@ use Rattle.ca_verilog.specs.declared.table.Place.TheVariants as place
 use Rattle.ca_verilog.specs.declared.table.Range.{Range}
 use Rattle.ca_verilog.specs.Bus.{declare}
 use Rattle.ca_verilog.specs.Instance.{has_instance}
-use Rattle.ca_verilog.specs.Reading.{Hand, Reading, Step, act, at_place, with_buses, with_hand, with_operand, with_use, lexeme_step, given_buses}
-use Rattle.ca_verilog.specs.Reading.{keep_left, join, width_of as reader_width, end_instance}
+use Rattle.ca_verilog.specs.Reading.{Hand, Reading, act, at_place, with_buses, with_hand, with_operand}
+use Rattle.ca_verilog.specs.Reading.{lexeme_step, given_buses}
+use Rattle.ca_verilog.specs.Reading.{keep_left, width_of as reader_width, end_instance}
 use Rattle.ca_verilog.specs.Table.{row_of}
 use Rattle.ca_syntax.specs.Tree.{Operand, Connection, Declaration, Assign, Instance, Declared, declared_as}
-use Rattle.ca_syntax.specs.Symbols.{Symbol, listed, name_symbols, keyword_of, range_symbols, operand_symbols, connection_symbols, item_symbols}
+use Rattle.ca_syntax.specs.Symbols.{Symbol, listed, name_symbols, keyword_of, range_symbols, operand_symbols}
+use Rattle.ca_syntax.specs.Symbols.{connection_symbols}
 use Rattle.ca_syntax.specs.Rules.{EachBehind, IsRightDeclared}
 use Rattle.ca_syntax.proofs.ReadLemmas.{symbol_step, Reads, nothing_read, then_more, joined}
 use Rattle.ca_syntax.proofs.DeclareLemmas.{unbroken, seen_buses, declare_right}
-use Rattle.ca_syntax.proofs.SeenLemmas.{seen_operand, seen_join, seen_use, seen_instance, IsSeen}
-use Rattle.ca_syntax.proofs.OperandLemmas.{behind_operand, operand_read, one_symbol, IsSeenValue, hands_after, pins_of, behind_connections}
+use Rattle.ca_syntax.proofs.SeenLemmas.{seen_operand, seen_join, seen_instance, IsSeen}
+use Rattle.ca_syntax.proofs.OperandLemmas.{behind_operand, operand_read, one_symbol, IsSeenValue, hands_after}
+use Rattle.ca_syntax.proofs.OperandLemmas.{pins_of, behind_connections}
 use Rattle.ca_syntax.proofs.OperandLemmas.{connections_read, HasInHand, in_hand}
 
 -- names that are declared further on

@@ -1,21 +1,22 @@
 -- What names are declared as, with one declaration more.
-use Rattle.std.proofs.Common.{◌≡◌, ℕ, zero, suc, ◌+◌, ◌<◌, ◌≤◌, List, [], ◌∷◌, ◌++◌, map, length, Bool, true, false, cond, not, ◌&&◌}
-use Rattle.std.proofs.Common.{◌||◌, Option, Some, None, arith, refl, sym, ap, ◌∙◌, subst, append-nil, true≢false}
-use Rattle.std.specs.Prelude.{fold, slice_get, slice_set, nat_lt}
-use Rattle.std.specs.List.{list_any, IsDistinct, AllByRecursion, position_or_len}
+use Rattle.std.proofs.Common.{◌≡◌, ℕ, zero, suc, ◌+◌, ◌≤◌, List, [], ◌∷◌, ◌++◌, map, length, Bool, true}
+use Rattle.std.proofs.Common.{false, cond, not, ◌&&◌}
+use Rattle.std.proofs.Common.{◌||◌, Some, None, arith, refl, sym, ap, ◌∙◌, true≢false}
+use Rattle.std.specs.Prelude.{fold, slice_get}
+use Rattle.std.specs.List.{list_any, IsDistinct, position_or_len}
 use Rattle.std.specs.Str.{bytes_eq}
 use Rattle.std.proofs.lemmas.Bool.{le-ltb}
 use Rattle.std.proofs.lemmas.List.{map-append}
 use Rattle.std.proofs.lemmas.List.Folds.{list_any-append}
 use Rattle.std.proofs.lemmas.List.Sums.{fold-append}
 use Rattle.ca_names.specs.Names.{has_name, place_of, with_name}
-use Rattle.ca_verilog.specs.declared.table.Direction.{Direction}
 use Rattle.ca_verilog.specs.declared.table.Direction.TheVariants as direction
 use Rattle.ca_verilog.specs.Bus.{is_inner}
-use Rattle.ca_verilog.proofs.DistinctLemmas.{or_false, same_name, differ, distinct_grown}
+use Rattle.ca_verilog.proofs.DistinctLemmas.{or_false, distinct_grown}
 use Rattle.ca_verilog.proofs.KnownLemmas.{known_grown}
 use Rattle.ca_syntax.specs.Tree.{Declared}
-use Rattle.ca_syntax.specs.Names.{names_in, is_declared, directs, is_directed, is_wire, direction_of, range_of}
+use Rattle.ca_syntax.specs.Names.{names_in, is_declared, directs, is_directed, is_wire, direction_of}
+use Rattle.ca_syntax.specs.Names.{range_of}
 
 -- names, each once, behind those seen
 abbrev pub once_behind : List (List ℕ) → List (List ℕ) → List (List ℕ)
@@ -191,6 +192,7 @@ directed_outer name (it ∷ more) is = by (directs name it) refl is (directed_ou
     outer true true is = absurd cc
     outer true false is = refl
     outer false y is = absurd cc
+
     by : (found : Bool) → directs name it ≡ found → (found || is_directed name more) ≡ true
         → (is_directed name more ≡ true → is_inner (direction_of name more) ≡ false)
         → is_inner (cond found it.direction (direction_of name more)) ≡ false

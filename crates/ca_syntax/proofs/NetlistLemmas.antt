@@ -1,7 +1,9 @@
 -- The netlist of what is read of a right tree is the tree's.
-use Rattle.std.proofs.Common.{◌≡◌, ℕ, zero, suc, ◌+◌, ◌<◌, ◌≤◌, List, [], ◌∷◌, ◌++◌, map, Bool, true, false, cond, Option, Some, None}
-use Rattle.std.proofs.Common.{Result, Ok, Err, arith, refl, sym, ap, ◌∙◌, subst, append-nil, append_assoc, zero-add, ◌||◌}
-use Rattle.std.specs.Prelude.{option_map, unwrap_or, flat_map, slice_get, nat_lt}
+use Rattle.std.proofs.Common.{◌≡◌, ℕ, zero, suc, ◌+◌, ◌<◌, ◌≤◌, List, [], ◌∷◌, ◌++◌, map, true, false, cond}
+use Rattle.std.proofs.Common.{Option, Some, None}
+use Rattle.std.proofs.Common.{Result, Ok, Err, arith, refl, sym, ap, ◌∙◌, subst, append-nil, append_assoc}
+use Rattle.std.proofs.Common.{zero-add, ◌||◌}
+use Rattle.std.specs.Prelude.{option_map, unwrap_or, flat_map, slice_get}
 use Rattle.std.specs.List.{All, IsDistinct, AllByRecursion}
 use Rattle.std.specs.Str.{bytes_eq}
 use Rattle.std.proofs.lemmas.Bool.{lt-ltb, le-ltb}
@@ -9,39 +11,38 @@ use Rattle.std.proofs.lemmas.List.Elements.{All-head, All-tail}
 use Rattle.std.proofs.lemmas.List.{map-append}
 use Rattle.std.proofs.lemmas.List.Folds.{list_any-append}
 use Rattle.ca_lex.specs.Words.{upper_case}
-use Rattle.ca_names.specs.Names.{has_name, place_of}
+use Rattle.ca_names.specs.Names.{has_name}
 use Rattle.ca_token.specs.declared.fault.Flaw.{Flaw}
 use Rattle.ca_token.specs.Scan.{scan_of}
-use Rattle.ca_verilog.specs.declared.bus.Bus.{Bus}
 use Rattle.ca_verilog.specs.declared.fault.VerilogFault.{VerilogFault}
 use Rattle.ca_verilog.specs.declared.fault.VerilogFault.TheVariants.{TooManyNets}
 use Rattle.ca_verilog.specs.declared.netlist.TheConstants.{MOST_BITS}
-use Rattle.ca_verilog.specs.declared.raw.RawBus.{RawBus}
 use Rattle.ca_verilog.specs.declared.raw.RawBit.{RawBit}
 use Rattle.ca_verilog.specs.declared.raw.RawBit.TheVariants as bit
-use Rattle.ca_verilog.specs.declared.raw.RawJoin.{RawJoin}
-use Rattle.ca_verilog.specs.declared.raw.RawUse.{RawUse}
-use Rattle.ca_verilog.specs.declared.raw.RawInstance.{RawInstance}
 use Rattle.ca_verilog.specs.declared.raw.RawNetlist.{RawNetlist}
 use Rattle.ca_verilog.specs.declared.table.Range.{Range}
-use Rattle.ca_verilog.specs.Bus.{range_at}
 use Rattle.ca_verilog.specs.IsNetlist.{range_width, bit_count}
 use Rattle.ca_verilog.specs.Joins.{pairs_of}
-use Rattle.ca_verilog.specs.Netlist.{bits_with, first_bits, first_at, first_bit, offset_in, raw_range, raw_bus, raw_use, raw_instance, raw_joins}
+use Rattle.ca_verilog.specs.Netlist.{bits_with, first_bits, first_at, first_bit, offset_in, raw_range}
+use Rattle.ca_verilog.specs.Netlist.{raw_bus, raw_use, raw_instance, raw_joins}
 use Rattle.ca_verilog.specs.Netlist.{port_place, netlist_with, limited}
-use Rattle.ca_verilog.specs.Reading.{Hand, Reading, nothing, width_in, width_of as reader_width}
+use Rattle.ca_verilog.specs.Reading.{Hand, Reading, nothing, width_in}
 use Rattle.ca_verilog.specs.Text.{tokens_from, then_flaw, ended, limited_of, netlist_of}
 use Rattle.ca_verilog.proofs.DistinctLemmas.{same_name, differ}
 use Rattle.ca_verilog.proofs.BitLemmas.{counted}
-use Rattle.ca_syntax.specs.Tree.{Operand, Connection, Assign, Instance, Item, Module, Declared, declarations, assigns, instances, ports_of, declared_by}
+use Rattle.ca_syntax.specs.Tree.{Operand, Connection, Assign, Instance, Item, Module, Declared, declarations}
+use Rattle.ca_syntax.specs.Tree.{assigns, instances, ports_of, declared_by}
 use Rattle.ca_syntax.specs.Symbols.{Symbol, IsTextOf}
 use Rattle.ca_syntax.specs.Names.{names_in, is_declared, range_of}
-use Rattle.ca_syntax.specs.Rules.{IsRight, IsRightOperand, IsRightValue, IsRightAssign, IsRightInstance, IsIndexOf, width_of}
-use Rattle.ca_syntax.specs.TreeNetlist.{bus_in, buses_of, bits_before, bit_of, joins_of, use_of, instance_of, port_of, tree_netlist}
+use Rattle.ca_syntax.specs.Rules.{IsRight, IsRightOperand, IsRightValue, IsRightAssign, IsRightInstance}
+use Rattle.ca_syntax.specs.Rules.{IsIndexOf}
+use Rattle.ca_syntax.specs.TreeNetlist.{bus_in, buses_of, bits_before, bit_of, joins_of, use_of, instance_of}
+use Rattle.ca_syntax.specs.TreeNetlist.{port_of, tree_netlist}
 use Rattle.ca_syntax.specs.Laws.{tree_bits}
 use Rattle.ca_syntax.proofs.NameLemmas as names
 use Rattle.ca_syntax.proofs.DeclareLemmas.{seen_bus, seen_buses, bus_found}
-use Rattle.ca_syntax.proofs.SeenLemmas.{seen_operand, seen_join, seen_use, seen_instance, IsFoundIn, found_in, width_seen}
+use Rattle.ca_syntax.proofs.SeenLemmas.{seen_operand, seen_join, seen_use, seen_instance, found_in}
+use Rattle.ca_syntax.proofs.SeenLemmas.{width_seen}
 use Rattle.ca_syntax.proofs.ReadLemmas.{Reads, tokens_read}
 use Rattle.ca_syntax.proofs.TreeLemmas.{parted, tree_reading, tree_read}
 
@@ -79,8 +80,12 @@ first_seen declared (first ∷ listed) bits (suc at) name distinct is =
     let some : cond (bytes_eq name first) 0 (range_width (bus_in declared first).range + bits_before name (map (bus_in declared) listed))
     ≡ range_width (bus_in declared first).range + bits_before name (map (bus_in declared) listed) =
     ap (λ found. cond found 0 (range_width (bus_in declared first).range + bits_before name (map (bus_in declared) listed))) other in
-    omega (arith, some, width_told (range_of first declared),
-    first_seen declared listed (bits + width_in (range_of first declared)) at name distinct.1 is)
+    omega (
+      arith,
+      some,
+      width_told (range_of first declared),
+      first_seen declared listed (bits + width_in (range_of first declared)) at name distinct.1 is,
+    )
 
 -- the first bit of a declared name
 name_bit : (whole : List Declared) (name : List ℕ) → is_declared name whole ≡ true
@@ -203,10 +208,11 @@ text_read text tree is right =
     let read = tree_read tree right in
     let tokens : tokens_from text nothing (scan_of text).tokens ≡ Ok (tree_reading tree read.0) =
     tokens_read text (scan_of text).tokens nothing (tree_reading tree read.0)
-    (subst (λ (symbols : List Symbol). Reads nothing symbols (tree_reading tree read.0)) (sym is.spelled) read.1) in
-    (read.0,
-    ap (λ (given : Result Reading VerilogFault). limited_of (ended text (then_flaw text (scan_of text).flaw given))) tokens
-    ∙ ap (λ (flaw : Option Flaw). limited_of (ended text (then_flaw text flaw (Ok (tree_reading tree read.0))))) is.whole)
+    (subst (λ (symbols : List Symbol). Reads nothing symbols (tree_reading tree read.0)) (sym is.spelled) read.1) in (
+      read.0,
+      ap (λ (given : Result Reading VerilogFault). limited_of (ended text (then_flaw text (scan_of text).flaw given))) tokens
+          ∙ ap (λ (flaw : Option Flaw). limited_of (ended text (then_flaw text flaw (Ok (tree_reading tree read.0))))) is.whole,
+    )
 
 pub right_read : (text : List ℕ) (tree : Module) → IsTextOf text tree → IsRight tree → tree_bits tree ≤ MOST_BITS
     → netlist_of text ≡ Ok (tree_netlist tree)

@@ -1,7 +1,8 @@
 -- Operands, declarations and connections that are read are right.
-use Rattle.std.proofs.Common.{◌≡◌, ℕ, ◌==◌, List, [], ◌∷◌, ◌++◌, map, Bool, true, false, not, ◌&&◌, ◌||◌, Option, Some, None, Result, Ok, Err}
+use Rattle.std.proofs.Common.{◌≡◌, ℕ, ◌==◌, List, [], ◌∷◌, ◌++◌, map, Bool, true, false, not, ◌&&◌, ◌||◌}
+use Rattle.std.proofs.Common.{Option, Some, None, Result, Ok, Err}
 use Rattle.std.proofs.Common.{refl, sym, ap, ◌∙◌, subst, append_assoc, append-nil, true≢false}
-use Rattle.std.specs.Prelude.{is_some, slice_get, ⊤}
+use Rattle.std.specs.Prelude.{is_some, slice_get}
 use Rattle.std.specs.List.{All}
 use Rattle.std.proofs.lemmas.Bool.{eqb-true}
 use Rattle.std.proofs.lemmas.List.{map-append}
@@ -14,7 +15,6 @@ use Rattle.ca_names.specs.Names.{has_name, repeats}
 use Rattle.ca_verilog.specs.declared.bus.Bus.{Bus}
 use Rattle.ca_verilog.specs.declared.fault.VerilogKind.{VerilogKind}
 use Rattle.ca_verilog.specs.declared.fault.VerilogKind.TheVariants.{Undeclared, DoubleName, BadRange}
-use Rattle.ca_verilog.specs.declared.instance.Operand as reader
 use Rattle.ca_verilog.specs.declared.instance.Operand.TheVariants as operand
 use Rattle.ca_verilog.specs.declared.instance.Use.{Use}
 use Rattle.ca_verilog.specs.declared.lexeme.Lexeme.TheVariants as lexeme
@@ -24,16 +24,19 @@ use Rattle.ca_verilog.specs.declared.table.Side.{Side}
 use Rattle.ca_verilog.specs.declared.table.Side.TheVariants as side
 use Rattle.ca_verilog.specs.declared.table.Place.TheVariants as place
 use Rattle.ca_verilog.specs.declared.table.Range.{Range}
-use Rattle.ca_verilog.specs.Bus.{is_inner, same_range, bus_of, range_at, is_twice, new_bus, declared_again, again_at, declare}
+use Rattle.ca_verilog.specs.Bus.{is_inner, same_range, bus_of, range_at, is_twice, new_bus, again_at, declare}
 use Rattle.ca_verilog.specs.Instance.{has_pin}
-use Rattle.ca_verilog.specs.Reading.{Hand, Reading, Step, act, at_place, with_buses, with_hand, with_operand, lexeme_step, given_buses, given_operand}
+use Rattle.ca_verilog.specs.Reading.{Hand, Reading, Step, act, at_place, with_hand, with_operand, lexeme_step}
+use Rattle.ca_verilog.specs.Reading.{given_buses, given_operand}
 use Rattle.ca_verilog.specs.Reading.{bit_in, has_index, is_vector}
 use Rattle.ca_verilog.specs.Table.{row_of}
 use Rattle.ca_verilog.proofs.PlaceLemmas.{got_map}
 use Rattle.ca_syntax.specs.Tree.{Operand, Connection, Declaration, Declared, declared_as}
-use Rattle.ca_syntax.specs.Symbols.{Symbol, listed, name_symbols, keyword_of, range_symbols, operand_symbols, value_symbols, connection_symbols}
+use Rattle.ca_syntax.specs.Symbols.{Symbol, listed, name_symbols, keyword_of, range_symbols, operand_symbols}
+use Rattle.ca_syntax.specs.Symbols.{value_symbols, connection_symbols}
 use Rattle.ca_syntax.specs.Names.{names_in, is_declared, is_directed, direction_of, range_of}
-use Rattle.ca_syntax.specs.Rules.{is_again, IsRightDeclared, IsRightOperand, IsRightValue, IsScalar, IsIndexOf}
+use Rattle.ca_syntax.specs.Rules.{is_again, IsRightDeclared, IsRightOperand, IsRightValue, IsScalar}
+use Rattle.ca_syntax.specs.Rules.{IsIndexOf}
 use Rattle.ca_syntax.specs.TreeNetlist.{port_of}
 use Rattle.ca_syntax.proofs.NameLemmas as names
 use Rattle.ca_syntax.proofs.ReadLemmas.{symbol_step, Reads}
@@ -213,9 +216,10 @@ connection_only declared on it last rest is whole =
 -- a right value, as the reading sees it
 value_right : (declared : List Declared) (value : Option Operand) → IsRightValue declared value → operands.IsSeenValue declared (seen_buses declared) value
 value_right declared None right = tt
-value_right declared (Some (Operand.whole name)) (right, scalar) =
-    (operand_seen declared declared [] (Operand.whole name) (sym (append-nil declared)) right,
-    ap is_some ((found_in declared declared [] name (sym (append-nil declared)) right).range ∙ scalar))
+value_right declared (Some (Operand.whole name)) (right, scalar) = (
+  operand_seen declared declared [] (Operand.whole name) (sym (append-nil declared)) right,
+  ap is_some ((found_in declared declared [] name (sym (append-nil declared)) right).range ∙ scalar),
+)
 value_right declared (Some (Operand.bit name index)) (right, scalar) =
     (operand_seen declared declared [] (Operand.bit name index) (sym (append-nil declared)) right, refl)
 value_right declared (Some (Operand.constant value)) (right, scalar) = (tt, refl)
@@ -243,9 +247,10 @@ AreRightOn declared seen connections = (repeats seen (pins_of connections) ≡ f
 one_more : (declared : List Declared) (hand : Hand) (on : Connection) (more : List Connection)
     → (has_pin (upper_case on.pin) hand.uses ≡ false) × IsRightValue declared on.value
     → AreRightOn declared (used_pins (hand_after declared hand on).uses) more → AreRightOn declared (used_pins hand.uses) (on ∷ more)
-one_more declared hand on more one others =
-    (new_first (used_pins hand.uses) (upper_case on.pin) (pins_of more) one.0 (grown_pins declared hand.uses on more others.0),
-    All-cons (λ (on : Connection). IsRightValue declared on.value) on more one.1 others.1)
+one_more declared hand on more one others = (
+  new_first (used_pins hand.uses) (upper_case on.pin) (pins_of more) one.0 (grown_pins declared hand.uses on more others.0),
+  All-cons (λ (on : Connection). IsRightValue declared on.value) on more one.1 others.1,
+)
 
 more_only : (declared : List Declared) (connections : List Connection) (hand : Hand) (it last : Reading) (rest : List Symbol) → it.buses ≡ seen_buses declared
     → Reads (at_place place.PinEnd (with_hand hand it)) (commas (map connection_symbols connections) ++ rest) last

@@ -1,7 +1,8 @@
 -- Operands and connections are read.
-use Rattle.std.proofs.Common.{◌≡◌, ℕ, List, [], ◌∷◌, ◌++◌, map, Bool, true, false, not, ◌||◌, Option, Some, None, Ok, Err, refl, sym, ap}
+use Rattle.std.proofs.Common.{◌≡◌, ℕ, List, [], ◌∷◌, ◌++◌, map, Bool, true, false, not, Option, Some, None}
+use Rattle.std.proofs.Common.{Ok, Err, refl, sym, ap}
 use Rattle.std.proofs.Common.{◌∙◌, subst, append_assoc, append-nil}
-use Rattle.std.specs.Prelude.{option_map, flat_map, fold, is_some, ⊤}
+use Rattle.std.specs.Prelude.{flat_map, is_some, ⊤}
 use Rattle.std.specs.List.{All}
 use Rattle.std.proofs.lemmas.List.{map-append}
 use Rattle.std.proofs.lemmas.List.Elements.{All-head, All-tail}
@@ -21,8 +22,9 @@ use Rattle.ca_verilog.specs.declared.table.Place.TheVariants as place
 use Rattle.ca_verilog.specs.declared.table.Range.{Range}
 use Rattle.ca_verilog.specs.Bus.{bus_of, range_at}
 use Rattle.ca_verilog.specs.Instance.{has_pin}
-use Rattle.ca_verilog.specs.Reading.{Hand, Reading, Step, act, at_place, with_hand, with_operand, with_use, lexeme_step, has_index, is_vector}
-use Rattle.ca_verilog.specs.Reading.{selected, bit_in, given_operand}
+use Rattle.ca_verilog.specs.Reading.{Hand, Reading, Step, act, at_place, with_hand, with_operand, with_use}
+use Rattle.ca_verilog.specs.Reading.{lexeme_step, has_index, is_vector}
+use Rattle.ca_verilog.specs.Reading.{bit_in, given_operand}
 use Rattle.ca_verilog.specs.Table.{row_of}
 use Rattle.ca_verilog.proofs.DistinctLemmas.{or_false}
 use Rattle.ca_syntax.specs.Tree.{Operand, Connection, Declared}

@@ -1,5 +1,6 @@
 -- Tokens of the grammar are those of a tree.
-use Rattle.std.proofs.Common.{◌≡◌, ℕ, List, [], ◌∷◌, ◌++◌, map, Bool, true, false, Option, Some, None, refl, sym, ap, ◌∙◌, subst, append_assoc, append-nil}
+use Rattle.std.proofs.Common.{◌≡◌, ℕ, List, [], ◌∷◌, ◌++◌, map, Bool, true, false, Option, Some, None, refl}
+use Rattle.std.proofs.Common.{sym, ap, ◌∙◌, subst, append_assoc, append-nil}
 use Rattle.std.specs.Prelude.{flat_map}
 use Rattle.ca_lex.specs.declared.token.Token.{Token}
 use Rattle.ca_token.specs.Scan.{text_of}
@@ -9,13 +10,14 @@ use Rattle.ca_verilog.specs.declared.table.Direction.{Direction}
 use Rattle.ca_verilog.specs.declared.table.Direction.TheVariants as direction
 use Rattle.ca_verilog.specs.declared.table.Range.{Range}
 use Rattle.ca_verilog.specs.Grammar as grammar
-use Rattle.ca_verilog.specs.Grammar.{IsNames, IsRange, IsOperand, IsPin, IsPins, IsDirection, IsItem, IsItems, IsHeader, IsModule}
+use Rattle.ca_verilog.specs.Grammar.{IsNames, IsRange, IsOperand, IsPin, IsPins, IsDirection, IsItem, IsItems}
+use Rattle.ca_verilog.specs.Grammar.{IsHeader, IsModule}
 use Rattle.ca_verilog.specs.Lexeme.{name_of}
 use Rattle.ca_verilog.specs.Module.{lexeme_at}
-use Rattle.ca_syntax.specs.Tree.{Operand, Connection, Declaration, Item, Module}
-use Rattle.ca_syntax.specs.Symbols.{Symbol, symbol_of, symbol_at, listed, name_symbols, header_symbols, keyword_of, range_symbols, operand_symbols}
+use Rattle.ca_syntax.specs.Tree.{Operand, Connection, Item, Module}
+use Rattle.ca_syntax.specs.Symbols.{Symbol, symbol_of, symbol_at, listed, name_symbols, header_symbols}
+use Rattle.ca_syntax.specs.Symbols.{keyword_of, range_symbols, operand_symbols}
 use Rattle.ca_syntax.specs.Symbols.{connection_symbols, item_symbols, module_symbols}
-use Rattle.ca_syntax.proofs.ItemLemmas.{commas}
 
 -- the tokens are these symbols, and then others that are this rest to the grammar
 record Parsed (text : List ℕ) (tokens : List Token) (symbols : List Symbol) (rest : List Lexeme) : Type 0 where
@@ -66,13 +68,15 @@ parsed_name : (text : List ℕ) (tokens : List Token) (rest : List Lexeme) → l
     → (name : List ℕ) × Parsed text tokens (Symbol.identifier name ∷ []) rest
 parsed_name text [] rest is = absurd cc
 parsed_name text (token ∷ tokens) rest is =
-    let same = first_same lexeme.Name (lexeme_at text token) rest (map (lexeme_at text) tokens) is in
-    (name_of token.kind (text_of token text), record {
-      left = tokens;
-      spelled = ap (λ (symbol : Symbol). symbol ∷ map (symbol_at text) tokens)
-          (ap (λ (one : Lexeme). symbol_of one (name_of token.kind (text_of token text))) (sym same.0));
-      after = same.1;
-    })
+    let same = first_same lexeme.Name (lexeme_at text token) rest (map (lexeme_at text) tokens) is in (
+      name_of token.kind (text_of token text),
+      record {
+        left = tokens;
+        spelled = ap (λ (symbol : Symbol). symbol ∷ map (symbol_at text) tokens)
+            (ap (λ (one : Lexeme). symbol_of one (name_of token.kind (text_of token text))) (sym same.0));
+        after = same.1;
+      },
+    )
 
 names_parsed : (text : List ℕ) (tokens : List Token) {names rest : List Lexeme} → IsNames names rest → names ≡ map (lexeme_at text) tokens
     → (first : List ℕ) × (more : List (List ℕ)) × Parsed text tokens (listed (map name_symbols (first ∷ more))) rest
@@ -82,10 +86,12 @@ names_parsed text tokens (grammar.IsNames.last {rest}) is =
 names_parsed text tokens (grammar.IsNames.more {names} {rest} later) is =
     let name = parsed_name text tokens (lexeme.Comma ∷ names) is in
     let comma = parsed_other text name.1.left lexeme.Comma names refl name.1.after in
-    let others = names_parsed text comma.left later comma.after in
-    (name.0, others.0 ∷ others.1,
-    parsed_both text tokens (Symbol.identifier name.0 ∷ []) (Symbol.other lexeme.Comma ∷ listed (map name_symbols (others.0 ∷ others.1))) _ rest name.1
-    (parsed_both text name.1.left (Symbol.other lexeme.Comma ∷ []) (listed (map name_symbols (others.0 ∷ others.1))) _ rest comma others.2))
+    let others = names_parsed text comma.left later comma.after in (
+      name.0,
+      others.0 ∷ others.1,
+      parsed_both text tokens (Symbol.identifier name.0 ∷ []) (Symbol.other lexeme.Comma ∷ listed (map name_symbols (others.0 ∷ others.1))) _ rest name.1
+          (parsed_both text name.1.left (Symbol.other lexeme.Comma ∷ []) (listed (map name_symbols (others.0 ∷ others.1))) _ rest comma others.2),
+    )
 
 range_parsed : (text : List ℕ) (tokens : List Token) {range rest : List Lexeme} → IsRange range rest → range ≡ map (lexeme_at text) tokens
     → (given : Option Range) × Parsed text tokens (range_symbols given) rest
@@ -95,12 +101,13 @@ range_parsed text tokens (grammar.IsRange.some {left} {right} {rest}) is =
     let one = parsed_other text opens.left (lexeme.Number left) _ refl opens.after in
     let colon = parsed_other text one.left lexeme.Colon _ refl one.after in
     let two = parsed_other text colon.left (lexeme.Number right) _ refl colon.after in
-    let closes = parsed_other text two.left lexeme.CloseBracket rest refl two.after in
-    (Some (record { left = left; right = right }),
-    parsed_both text tokens (Symbol.other lexeme.OpenBracket ∷ []) _ _ rest opens
-    (parsed_both text opens.left (Symbol.other (lexeme.Number left) ∷ []) _ _ rest one
-    (parsed_both text one.left (Symbol.other lexeme.Colon ∷ []) _ _ rest colon
-    (parsed_both text colon.left (Symbol.other (lexeme.Number right) ∷ []) _ _ rest two closes))))
+    let closes = parsed_other text two.left lexeme.CloseBracket rest refl two.after in (
+      Some (record { left = left; right = right }),
+      parsed_both text tokens (Symbol.other lexeme.OpenBracket ∷ []) _ _ rest opens
+          (parsed_both text opens.left (Symbol.other (lexeme.Number left) ∷ []) _ _ rest one
+          (parsed_both text one.left (Symbol.other lexeme.Colon ∷ []) _ _ rest colon
+          (parsed_both text colon.left (Symbol.other (lexeme.Number right) ∷ []) _ _ rest two closes))),
+    )
 
 operand_parsed : (text : List ℕ) (tokens : List Token) {operand rest : List Lexeme} → IsOperand operand rest → operand ≡ map (lexeme_at text) tokens
     → (on : Operand) × Parsed text tokens (operand_symbols on) rest
@@ -111,11 +118,12 @@ operand_parsed text tokens (grammar.IsOperand.bit {index} {rest}) is =
     let name = parsed_name text tokens _ is in
     let opens = parsed_other text name.1.left lexeme.OpenBracket _ refl name.1.after in
     let one = parsed_other text opens.left (lexeme.Number index) _ refl opens.after in
-    let closes = parsed_other text one.left lexeme.CloseBracket rest refl one.after in
-    (Operand.bit name.0 index,
-    parsed_both text tokens (Symbol.identifier name.0 ∷ []) _ _ rest name.1
-    (parsed_both text name.1.left (Symbol.other lexeme.OpenBracket ∷ []) _ _ rest opens
-    (parsed_both text opens.left (Symbol.other (lexeme.Number index) ∷ []) _ _ rest one closes)))
+    let closes = parsed_other text one.left lexeme.CloseBracket rest refl one.after in (
+      Operand.bit name.0 index,
+      parsed_both text tokens (Symbol.identifier name.0 ∷ []) _ _ rest name.1
+          (parsed_both text name.1.left (Symbol.other lexeme.OpenBracket ∷ []) _ _ rest opens
+          (parsed_both text opens.left (Symbol.other (lexeme.Number index) ∷ []) _ _ rest one closes)),
+    )
 operand_parsed text tokens (grammar.IsOperand.constant {value} {rest}) is =
     (Operand.constant value, parsed_other text tokens (lexeme.Constant value) rest refl is)
 
@@ -125,22 +133,24 @@ pin_parsed text tokens (grammar.IsPin.open_pin {rest}) is =
     let dot = parsed_other text tokens lexeme.Dot _ refl is in
     let name = parsed_name text dot.left _ dot.after in
     let opens = parsed_other text name.1.left lexeme.Open _ refl name.1.after in
-    let closes = parsed_other text opens.left lexeme.Close rest refl opens.after in
-    (record { pin = name.0; value = None },
-    parsed_both text tokens (Symbol.other lexeme.Dot ∷ []) _ _ rest dot
-    (parsed_both text dot.left (Symbol.identifier name.0 ∷ []) _ _ rest name.1
-    (parsed_both text name.1.left (Symbol.other lexeme.Open ∷ []) _ _ rest opens closes)))
+    let closes = parsed_other text opens.left lexeme.Close rest refl opens.after in (
+      record { pin = name.0; value = None },
+      parsed_both text tokens (Symbol.other lexeme.Dot ∷ []) _ _ rest dot
+          (parsed_both text dot.left (Symbol.identifier name.0 ∷ []) _ _ rest name.1
+          (parsed_both text name.1.left (Symbol.other lexeme.Open ∷ []) _ _ rest opens closes)),
+    )
 pin_parsed text tokens (grammar.IsPin.on {operand} {rest} value) is =
     let dot = parsed_other text tokens lexeme.Dot _ refl is in
     let name = parsed_name text dot.left _ dot.after in
     let opens = parsed_other text name.1.left lexeme.Open _ refl name.1.after in
     let on = operand_parsed text opens.left value opens.after in
-    let closes = parsed_other text on.1.left lexeme.Close rest refl on.1.after in
-    (record { pin = name.0; value = Some on.0 },
-    parsed_both text tokens (Symbol.other lexeme.Dot ∷ []) _ _ rest dot
-    (parsed_both text dot.left (Symbol.identifier name.0 ∷ []) _ _ rest name.1
-    (parsed_both text name.1.left (Symbol.other lexeme.Open ∷ []) _ _ rest opens
-    (parsed_both text opens.left (operand_symbols on.0) (Symbol.other lexeme.Close ∷ []) _ rest on.1 closes))))
+    let closes = parsed_other text on.1.left lexeme.Close rest refl on.1.after in (
+      record { pin = name.0; value = Some on.0 },
+      parsed_both text tokens (Symbol.other lexeme.Dot ∷ []) _ _ rest dot
+          (parsed_both text dot.left (Symbol.identifier name.0 ∷ []) _ _ rest name.1
+          (parsed_both text name.1.left (Symbol.other lexeme.Open ∷ []) _ _ rest opens
+          (parsed_both text opens.left (operand_symbols on.0) (Symbol.other lexeme.Close ∷ []) _ rest on.1 closes))),
+    )
 
 pins_parsed : (text : List ℕ) (tokens : List Token) {pins rest : List Lexeme} → IsPins pins rest → pins ≡ map (lexeme_at text) tokens
     → (first : Connection) × (more : List Connection) × Parsed text tokens (listed (map connection_symbols (first ∷ more))) rest
@@ -150,10 +160,12 @@ pins_parsed text tokens (grammar.IsPins.last {pin} {rest} only) is =
 pins_parsed text tokens (grammar.IsPins.more {pin} {pins} {rest} only later) is =
     let on = pin_parsed text tokens only is in
     let comma = parsed_other text on.1.left lexeme.Comma pins refl on.1.after in
-    let others = pins_parsed text comma.left later comma.after in
-    (on.0, others.0 ∷ others.1,
-    parsed_both text tokens (connection_symbols on.0) (Symbol.other lexeme.Comma ∷ listed (map connection_symbols (others.0 ∷ others.1))) _ rest on.1
-    (parsed_both text on.1.left (Symbol.other lexeme.Comma ∷ []) (listed (map connection_symbols (others.0 ∷ others.1))) _ rest comma others.2))
+    let others = pins_parsed text comma.left later comma.after in (
+      on.0,
+      others.0 ∷ others.1,
+      parsed_both text tokens (connection_symbols on.0) (Symbol.other lexeme.Comma ∷ listed (map connection_symbols (others.0 ∷ others.1))) _ rest on.1
+          (parsed_both text on.1.left (Symbol.other lexeme.Comma ∷ []) (listed (map connection_symbols (others.0 ∷ others.1))) _ rest comma others.2),
+    )
 
 direction_parsed : {here : Lexeme} → IsDirection here → (way : Direction) × (here ≡ keyword_of way)
 direction_parsed grammar.IsDirection.input = (direction.Input, refl)
@@ -174,10 +186,11 @@ item_parsed text tokens (grammar.IsItem.declaration {direction} {range} {names} 
     let listing = names_parsed text bits.1.left named bits.1.after in
     let over = parsed_other text listing.2.left lexeme.Semicolon rest refl listing.2.after in
     let first = parsed_both text tokens (Symbol.other (keyword_of given.0) ∷ []) (range_symbols bits.0) _ _ keyword bits.1 in
-    let second = parsed_both text tokens (Symbol.other (keyword_of given.0) ∷ range_symbols bits.0) (listed (map name_symbols (listing.0 ∷ listing.1))) _ _ first listing.2 in
-    (Item.declaration (record { direction = given.0; range = bits.0; first = listing.0; more = listing.1 }),
-    parsed_both text tokens (Symbol.other (keyword_of given.0) ∷ range_symbols bits.0 ++ listed (map name_symbols (listing.0 ∷ listing.1))) (Symbol.other lexeme.Semicolon ∷ []) _ rest
-    second over)
+    let second = parsed_both text tokens (Symbol.other (keyword_of given.0) ∷ range_symbols bits.0) (listed (map name_symbols (listing.0 ∷ listing.1))) _ _ first listing.2 in (
+      Item.declaration (record { direction = given.0; range = bits.0; first = listing.0; more = listing.1 }),
+      parsed_both text tokens (Symbol.other (keyword_of given.0) ∷ range_symbols bits.0 ++ listed (map name_symbols (listing.0 ∷ listing.1))) (Symbol.other lexeme.Semicolon ∷ []) _ rest
+          second over,
+    )
 item_parsed text tokens (grammar.IsItem.assign {left} {right} {rest} one two) is =
     let keyword = parsed_other text tokens lexeme.Assign left refl is in
     let first = operand_parsed text keyword.left one keyword.after in
@@ -186,33 +199,36 @@ item_parsed text tokens (grammar.IsItem.assign {left} {right} {rest} one two) is
     let over = parsed_other text second.1.left lexeme.Semicolon rest refl second.1.after in
     let left_side = parsed_both text tokens (Symbol.other lexeme.Assign ∷ []) (operand_symbols first.0) _ _ keyword first.1 in
     let right_side = parsed_both text first.1.left (Symbol.other lexeme.Equals ∷ []) (operand_symbols second.0) _ _ equals second.1 in
-    let both = parsed_both text tokens (Symbol.other lexeme.Assign ∷ operand_symbols first.0) (Symbol.other lexeme.Equals ∷ operand_symbols second.0) _ _ left_side right_side in
-    (Item.assign (record { left = first.0; right = second.0 }),
-    parsed_both text tokens (Symbol.other lexeme.Assign ∷ operand_symbols first.0 ++ Symbol.other lexeme.Equals ∷ operand_symbols second.0) (Symbol.other lexeme.Semicolon ∷ []) _ rest both over)
+    let both = parsed_both text tokens (Symbol.other lexeme.Assign ∷ operand_symbols first.0) (Symbol.other lexeme.Equals ∷ operand_symbols second.0) _ _ left_side right_side in (
+      Item.assign (record { left = first.0; right = second.0 }),
+      parsed_both text tokens (Symbol.other lexeme.Assign ∷ operand_symbols first.0 ++ Symbol.other lexeme.Equals ∷ operand_symbols second.0) (Symbol.other lexeme.Semicolon ∷ []) _ rest both over,
+    )
 item_parsed text tokens (grammar.IsItem.bare {rest}) is =
     let cell = parsed_name text tokens _ is in
     let name = parsed_name text cell.1.left _ cell.1.after in
     let opens = parsed_other text name.1.left lexeme.Open _ refl name.1.after in
     let closes = parsed_other text opens.left lexeme.Close _ refl opens.after in
-    let over = parsed_other text closes.left lexeme.Semicolon rest refl closes.after in
-    (Item.instance (record { cell = cell.0; name = name.0; connections = [] }),
-    parsed_both text tokens (Symbol.identifier cell.0 ∷ []) _ _ rest cell.1
-    (parsed_both text cell.1.left (Symbol.identifier name.0 ∷ []) _ _ rest name.1
-    (parsed_both text name.1.left (Symbol.other lexeme.Open ∷ []) _ _ rest opens
-    (parsed_both text opens.left (Symbol.other lexeme.Close ∷ []) _ _ rest closes over))))
+    let over = parsed_other text closes.left lexeme.Semicolon rest refl closes.after in (
+      Item.instance (record { cell = cell.0; name = name.0; connections = [] }),
+      parsed_both text tokens (Symbol.identifier cell.0 ∷ []) _ _ rest cell.1
+          (parsed_both text cell.1.left (Symbol.identifier name.0 ∷ []) _ _ rest name.1
+          (parsed_both text name.1.left (Symbol.other lexeme.Open ∷ []) _ _ rest opens
+          (parsed_both text opens.left (Symbol.other lexeme.Close ∷ []) _ _ rest closes over))),
+    )
 item_parsed text tokens (grammar.IsItem.instance {pins} {rest} connected) is =
     let cell = parsed_name text tokens _ is in
     let name = parsed_name text cell.1.left _ cell.1.after in
     let opens = parsed_other text name.1.left lexeme.Open _ refl name.1.after in
     let on = pins_parsed text opens.left connected opens.after in
     let closes = parsed_other text on.2.left lexeme.Close _ refl on.2.after in
-    let over = parsed_other text closes.left lexeme.Semicolon rest refl closes.after in
-    (Item.instance (record { cell = cell.0; name = name.0; connections = on.0 ∷ on.1 }),
-    parsed_both text tokens (Symbol.identifier cell.0 ∷ []) _ _ rest cell.1
-    (parsed_both text cell.1.left (Symbol.identifier name.0 ∷ []) _ _ rest name.1
-    (parsed_both text name.1.left (Symbol.other lexeme.Open ∷ []) _ _ rest opens
-    (parsed_both text opens.left (listed (map connection_symbols (on.0 ∷ on.1))) (Symbol.other lexeme.Close ∷ Symbol.other lexeme.Semicolon ∷ []) _ rest on.2
-    (parsed_both text on.2.left (Symbol.other lexeme.Close ∷ []) _ _ rest closes over)))))
+    let over = parsed_other text closes.left lexeme.Semicolon rest refl closes.after in (
+      Item.instance (record { cell = cell.0; name = name.0; connections = on.0 ∷ on.1 }),
+      parsed_both text tokens (Symbol.identifier cell.0 ∷ []) _ _ rest cell.1
+          (parsed_both text cell.1.left (Symbol.identifier name.0 ∷ []) _ _ rest name.1
+          (parsed_both text name.1.left (Symbol.other lexeme.Open ∷ []) _ _ rest opens
+          (parsed_both text opens.left (listed (map connection_symbols (on.0 ∷ on.1))) (Symbol.other lexeme.Close ∷ Symbol.other lexeme.Semicolon ∷ []) _ rest on.2
+          (parsed_both text on.2.left (Symbol.other lexeme.Close ∷ []) _ _ rest closes over)))),
+    )
 
 items_parsed : (text : List ℕ) (tokens : List Token) {lexemes rest : List Lexeme} → IsItems lexemes rest → lexemes ≡ map (lexeme_at text) tokens
     → (items : List Item) × Parsed text tokens (flat_map item_symbols items) rest
@@ -228,10 +244,11 @@ header_parsed text tokens (grammar.IsHeader.none {rest}) is = (None, parsed_othe
 header_parsed text tokens (grammar.IsHeader.bare {rest}) is =
     let opens = parsed_other text tokens lexeme.Open _ refl is in
     let closes = parsed_other text opens.left lexeme.Close _ refl opens.after in
-    let over = parsed_other text closes.left lexeme.Semicolon rest refl closes.after in
-    (Some [],
-    parsed_both text tokens (Symbol.other lexeme.Open ∷ []) _ _ rest opens
-    (parsed_both text opens.left (Symbol.other lexeme.Close ∷ []) _ _ rest closes over))
+    let over = parsed_other text closes.left lexeme.Semicolon rest refl closes.after in (
+      Some [],
+      parsed_both text tokens (Symbol.other lexeme.Open ∷ []) _ _ rest opens
+          (parsed_both text opens.left (Symbol.other lexeme.Close ∷ []) _ _ rest closes over),
+    )
 header_parsed text tokens (grammar.IsHeader.ports {names} {rest} named) is =
     let opens = parsed_other text tokens lexeme.Open _ refl is in
     let listing = names_parsed text opens.left named opens.after in
@@ -270,13 +287,14 @@ module_parsed text tokens (grammar.IsModule.module_of {header} {items} first lat
     let name = parsed_name text keyword.left header keyword.after in
     let head = header_parsed text name.1.left first name.1.after in
     let body = items_parsed text head.1.left later head.1.after in
-    let over = parsed_other text body.1.left lexeme.Endmodule [] refl body.1.after in
-    (record { name = name.0; header = head.0; items = body.0 },
-    module_whole text tokens name.0 head.0 body.0
-    (parsed_both text tokens (Symbol.other lexeme.Module ∷ []) _ _ [] keyword
-    (parsed_both text keyword.left (Symbol.identifier name.0 ∷ []) _ _ [] name.1
-    (parsed_both text name.1.left (header_symbols head.0 ++ Symbol.other lexeme.Semicolon ∷ []) (flat_map item_symbols body.0 ++ Symbol.other lexeme.Endmodule ∷ []) _ [] head.1
-    (parsed_both text head.1.left (flat_map item_symbols body.0) (Symbol.other lexeme.Endmodule ∷ []) _ [] body.1 over)))))
+    let over = parsed_other text body.1.left lexeme.Endmodule [] refl body.1.after in (
+      record { name = name.0; header = head.0; items = body.0 },
+      module_whole text tokens name.0 head.0 body.0
+          (parsed_both text tokens (Symbol.other lexeme.Module ∷ []) _ _ [] keyword
+          (parsed_both text keyword.left (Symbol.identifier name.0 ∷ []) _ _ [] name.1
+          (parsed_both text name.1.left (header_symbols head.0 ++ Symbol.other lexeme.Semicolon ∷ []) (flat_map item_symbols body.0 ++ Symbol.other lexeme.Endmodule ∷ []) _ [] head.1
+          (parsed_both text head.1.left (flat_map item_symbols body.0) (Symbol.other lexeme.Endmodule ∷ []) _ [] body.1 over)))),
+    )
 
 pub tree_parsed : (text : List ℕ) (tokens : List Token) → IsModule (map (lexeme_at text) tokens)
     → (tree : Module) × (map (symbol_at text) tokens ≡ module_symbols tree)

@@ -1,10 +1,10 @@
 -- A text is read as its symbols are.
-use Rattle.std.proofs.Common.{◌≡◌, ℕ, List, [], ◌∷◌, ◌++◌, map, Bool, true, false, Result, Ok, Err, refl, sym, ap, ◌∙◌}
+use Rattle.std.proofs.Common.{◌≡◌, ℕ, List, [], ◌∷◌, ◌++◌, map, Bool, true, false, Result, Ok, Err, refl, sym}
+use Rattle.std.proofs.Common.{ap, ◌∙◌}
 use Rattle.ca_lex.specs.declared.token.Token.{Token}
 use Rattle.ca_lex.specs.FirstFault.{steps_from, located}
 use Rattle.ca_lex.proofs.FirstFaultLemmas.{steps_from-cons, after_step, located_value, over}
 use Rattle.ca_token.specs.Scan.{text_of}
-use Rattle.ca_verilog.specs.declared.fault.VerilogKind.{VerilogKind}
 use Rattle.ca_verilog.specs.declared.fault.VerilogFault.{VerilogFault}
 use Rattle.ca_verilog.specs.declared.lexeme.Lexeme.{Lexeme}
 use Rattle.ca_verilog.specs.declared.lexeme.Lexeme.TheVariants as lexeme

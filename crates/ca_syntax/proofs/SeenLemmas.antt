@@ -1,8 +1,7 @@
 -- What the reading keeps of a tree, and where a name of it is found.
-use Rattle.std.proofs.Common.{◌≡◌, ℕ, List, [], ◌∷◌, ◌++◌, map, Bool, true, false, Option, Some, None, refl, sym, ap, ◌∙◌, subst}
+use Rattle.std.proofs.Common.{◌≡◌, ℕ, List, ◌++◌, map, true, Option, Some, None, refl, sym, ap, ◌∙◌}
 use Rattle.std.specs.Prelude.{option_map, unwrap_or, slice_get, ⊤}
 use Rattle.ca_lex.specs.Words.{upper_case}
-use Rattle.ca_names.specs.Names.{place_of}
 use Rattle.ca_verilog.specs.declared.bus.Bus.{Bus}
 use Rattle.ca_verilog.specs.declared.instance.Operand as reader
 use Rattle.ca_verilog.specs.declared.instance.Operand.TheVariants as operand

@@ -1,37 +1,37 @@
 -- A right tree is read.
-use Rattle.std.proofs.Common.{◌≡◌, ℕ, List, [], ◌∷◌, ◌++◌, map, Bool, true, false, cond, not, ◌&&◌, ◌||◌, Option, Some, None, Ok, refl, sym, ap}
-use Rattle.std.proofs.Common.{◌∙◌, subst, append_assoc, append-nil, true≢false}
+use Rattle.std.proofs.Common.{◌≡◌, ℕ, List, [], ◌∷◌, ◌++◌, map, Bool, true, false, cond, not, ◌&&◌, Option}
+use Rattle.std.proofs.Common.{Some, None, Ok, refl, sym, ap}
+use Rattle.std.proofs.Common.{◌∙◌, subst, append_assoc, append-nil}
 use Rattle.std.specs.Prelude.{flat_map, is_some, slice_get}
 use Rattle.std.specs.List.{All, list_all}
 use Rattle.std.proofs.lemmas.List.{map-append}
 use Rattle.std.proofs.lemmas.List.Concat.{flat_map-append}
 use Rattle.std.proofs.lemmas.List.Elements.{All-head, All-tail, All-weaker}
-use Rattle.ca_names.specs.Names.{has_name, place_of, repeats, has_double}
-use Rattle.ca_verilog.specs.declared.bus.Bus.{Bus}
+use Rattle.ca_names.specs.Names.{has_name, repeats, has_double}
 use Rattle.ca_verilog.specs.declared.fault.VerilogKind.TheVariants.{Undeclared, DoubleName}
 use Rattle.ca_verilog.specs.declared.instance.Instance as placed
 use Rattle.ca_verilog.specs.declared.lexeme.Lexeme.TheVariants as lexeme
 use Rattle.ca_verilog.specs.declared.table.Place.{Place}
 use Rattle.ca_verilog.specs.declared.table.Place.TheVariants as place
-use Rattle.ca_verilog.specs.declared.table.Direction.{Direction}
-use Rattle.ca_verilog.specs.Bus.{is_inner, bus_of, has_direction, is_directed as bus_directed}
-use Rattle.ca_verilog.specs.Instance.{has_instance}
-use Rattle.ca_verilog.specs.Reading.{Hand, Reading, Step, nothing, act, at_place, with_ports, lexeme_step, is_vector}
+use Rattle.ca_verilog.specs.Bus.{has_direction, is_directed as bus_directed}
+use Rattle.ca_verilog.specs.Reading.{Hand, Reading, Step, nothing, act, at_place, with_ports, lexeme_step}
 use Rattle.ca_verilog.specs.Table.{row_of}
-use Rattle.ca_verilog.proofs.DistinctLemmas.{or_false}
 use Rattle.ca_verilog.proofs.PlaceLemmas.{got_map}
-use Rattle.ca_syntax.specs.Tree.{Operand, Connection, Assign, Instance, Item, Module, Declared, header_names, ports_of}
+use Rattle.ca_syntax.specs.Tree.{Operand, Connection, Assign, Instance, Item, Module, Declared, header_names}
+use Rattle.ca_syntax.specs.Tree.{ports_of}
 use Rattle.ca_syntax.specs.Tree.{declared_by, declarations, assigned_by, assigns, instance_by, instances}
-use Rattle.ca_syntax.specs.Symbols.{Symbol, listed, name_symbols, header_symbols, item_symbols, module_symbols}
-use Rattle.ca_syntax.specs.Names.{names_in, is_declared, directs, is_directed, direction_of, range_of}
-use Rattle.ca_syntax.specs.Rules.{EachBehind, IsRightDeclared, IsRight, IsRightItem, IsRightAssign, IsRightInstance, IsRightValue, IsScalar}
-use Rattle.ca_syntax.specs.TreeNetlist.{port_of}
+use Rattle.ca_syntax.specs.Symbols.{Symbol, listed, name_symbols, header_symbols, item_symbols}
+use Rattle.ca_syntax.specs.Symbols.{module_symbols}
+use Rattle.ca_syntax.specs.Names.{names_in, is_directed}
+use Rattle.ca_syntax.specs.Rules.{EachBehind, IsRightDeclared, IsRight, IsRightAssign, IsRightInstance}
+use Rattle.ca_syntax.specs.Rules.{IsRightValue}
 use Rattle.ca_syntax.proofs.NameLemmas as names
 use Rattle.ca_syntax.proofs.ReadLemmas.{symbol_step, Reads, nothing_read, then_more, joined}
 use Rattle.ca_syntax.proofs.DeclareLemmas.{unbroken, seen_bus, seen_buses, bus_found, place_seen}
-use Rattle.ca_syntax.proofs.SeenLemmas.{seen_operand, seen_join, seen_instance, state, found_in, operand_seen, width_seen}
+use Rattle.ca_syntax.proofs.SeenLemmas.{seen_join, seen_instance, state, found_in, operand_seen, width_seen}
 use Rattle.ca_syntax.proofs.OperandLemmas.{one_symbol, first_new, IsSeenValue, hands_after}
-use Rattle.ca_syntax.proofs.ItemLemmas.{commas, declaration_read, assign_read, with_sides, instance_read, hand_of, emptied}
+use Rattle.ca_syntax.proofs.ItemLemmas.{commas, declaration_read, assign_read, with_sides, instance_read}
+use Rattle.ca_syntax.proofs.ItemLemmas.{hand_of, emptied}
 
 -- a name of the header
 port_given : (name : List ℕ) (it : Reading) → has_name name it.ports ≡ false
@@ -154,40 +154,44 @@ IsNextItem tree before (Item.instance here) = IsRightInstance (declarations befo
 -- an item is read
 pub item_read : (tree : Module) (before after : List Item) (here : Item) (hand : Hand) → IsNextItem tree before here → tree.items ≡ before ++ here ∷ after
     → (next : Hand) × Reads (behind tree before hand) (item_symbols here) (behind tree (before ++ here ∷ []) next)
-item_read tree before after (Item.declaration here) hand rule is =
-    (hand, declaration_read (declarations before ++ declared_by (Item.declaration here)) here (declarations before) [] (behind tree before hand) rule
-    (ap (λ more. declarations before ++ more) (sym (append-nil (declared_by (Item.declaration here)))))
-    ∙ ap (λ (next : Reading). Ok next) (moved tree before (Item.declaration here) hand _ _ _ refl (sym (append-nil (assigns before))) (sym (append-nil (instances before)))))
+item_read tree before after (Item.declaration here) hand rule is = (
+  hand,
+  declaration_read (declarations before ++ declared_by (Item.declaration here)) here (declarations before) [] (behind tree before hand) rule
+      (ap (λ more. declarations before ++ more) (sym (append-nil (declared_by (Item.declaration here)))))
+      ∙ ap (λ (next : Reading). Ok next) (moved tree before (Item.declaration here) hand _ _ _ refl (sym (append-nil (assigns before))) (sym (append-nil (instances before)))),
+)
 item_read tree before after (Item.assign here) hand rule is =
     let whole : List Declared = declarations tree.items in
     let later : List Declared = declarations after in
-    let parts : whole ≡ declarations before ++ later = parted declared_by tree.items before after (Item.assign here) is in
-    ((with_sides whole here (behind tree before hand)).hand,
-    assign_read whole here (behind tree before hand)
-    (operand_seen whole (declarations before) later here.left parts rule.left_side)
-    (operand_seen whole (declarations before) later here.right parts rule.right_side)
-    (width_seen whole (declarations before) later here.left parts rule.left_side ∙ rule.same_width
-    ∙ sym (width_seen whole (declarations before) later here.right parts rule.right_side))
-    ∙ ap (λ (next : Reading). Ok next)
-    ((λ j. record (behind tree before (with_sides whole here (behind tree before hand)).hand) {
-      joins = sym (map-append (seen_join whole) (assigns before) (here ∷ [])) j;
-    })
-    ∙ moved tree before (Item.assign here) _ _ _ _ (sym (append-nil (declarations before))) refl (sym (append-nil (instances before)))))
+    let parts : whole ≡ declarations before ++ later = parted declared_by tree.items before after (Item.assign here) is in (
+      (with_sides whole here (behind tree before hand)).hand,
+      assign_read whole here (behind tree before hand)
+          (operand_seen whole (declarations before) later here.left parts rule.left_side)
+          (operand_seen whole (declarations before) later here.right parts rule.right_side)
+          (width_seen whole (declarations before) later here.left parts rule.left_side ∙ rule.same_width
+          ∙ sym (width_seen whole (declarations before) later here.right parts rule.right_side))
+          ∙ ap (λ (next : Reading). Ok next)
+          ((λ j. record (behind tree before (with_sides whole here (behind tree before hand)).hand) {
+            joins = sym (map-append (seen_join whole) (assigns before) (here ∷ [])) j;
+          })
+          ∙ moved tree before (Item.assign here) _ _ _ _ (sym (append-nil (declarations before))) refl (sym (append-nil (instances before)))),
+    )
 item_read tree before after (Item.instance here) hand rule is =
     let whole : List Declared = declarations tree.items in
     let later : List Declared = declarations after in
     let parts : whole ≡ declarations before ++ later = parted declared_by tree.items before after (Item.instance here) is in
-    let last : Hand = emptied (hands_after whole (hand_of here hand) here.connections) in
-    (last,
-    instance_read whole here (behind tree before hand)
-    (ap (has_name here.name) (placed_names whole (instances before)) ∙ rule.1) rule.0.different
-    (All-weaker (λ (on : Connection). IsRightValue (declarations before) on.value) (λ (on : Connection). IsSeenValue whole (seen_buses (declarations before)) on.value)
-    (λ on. value_seen whole (declarations before) later on.value parts) here.connections rule.0.values)
-    ∙ ap (λ (next : Reading). Ok next)
-    ((λ j. record (behind tree before last) {
-      instances = sym (map-append (seen_instance whole) (instances before) (here ∷ [])) j;
-    })
-    ∙ moved tree before (Item.instance here) last _ _ _ (sym (append-nil (declarations before))) (sym (append-nil (assigns before))) refl))
+    let last : Hand = emptied (hands_after whole (hand_of here hand) here.connections) in (
+      last,
+      instance_read whole here (behind tree before hand)
+          (ap (has_name here.name) (placed_names whole (instances before)) ∙ rule.1) rule.0.different
+          (All-weaker (λ (on : Connection). IsRightValue (declarations before) on.value) (λ (on : Connection). IsSeenValue whole (seen_buses (declarations before)) on.value)
+          (λ on. value_seen whole (declarations before) later on.value parts) here.connections rule.0.values)
+          ∙ ap (λ (next : Reading). Ok next)
+          ((λ j. record (behind tree before last) {
+            instances = sym (map-append (seen_instance whole) (instances before) (here ∷ [])) j;
+          })
+          ∙ moved tree before (Item.instance here) last _ _ _ (sym (append-nil (declarations before))) (sym (append-nil (assigns before))) refl),
+    )
 
 -- those at the front are right behind each other too
 front_behind : {T : Type 0} (P : List T → T → Type 0) (list front more : List T) → list ≡ front ++ more → EachBehind P list → EachBehind P front
@@ -202,12 +206,13 @@ next_item tree before after (Item.declaration here) right is =
     (parted declared_by tree.items before after (Item.declaration here) is
     ∙ sym (append_assoc (declarations before) (declared_by (Item.declaration here)) (declarations after))) right.declared
 next_item tree before after (Item.assign here) right is = right.items before (Item.assign here) after is
-next_item tree before after (Item.instance here) right is =
-    (right.items before (Item.instance here) after is,
-    new_behind [] (map (λ (it : Instance). it.name) (instances before)) (map (λ (it : Instance). it.name) (instances after)) here.name
-    (subst (λ (listed : List (List ℕ)). repeats [] listed ≡ false)
-    (ap (map (λ (it : Instance). it.name)) (parted instance_by tree.items before after (Item.instance here) is)
-    ∙ map-append (λ (it : Instance). it.name) (instances before) (here ∷ instances after)) right.instances))
+next_item tree before after (Item.instance here) right is = (
+  right.items before (Item.instance here) after is,
+  new_behind [] (map (λ (it : Instance). it.name) (instances before)) (map (λ (it : Instance). it.name) (instances after)) here.name
+      (subst (λ (listed : List (List ℕ)). repeats [] listed ≡ false)
+      (ap (map (λ (it : Instance). it.name)) (parted instance_by tree.items before after (Item.instance here) is)
+      ∙ map-append (λ (it : Instance). it.name) (instances before) (here ∷ instances after)) right.instances),
+)
 
 -- items are read
 items_read : (tree : Module) (before items : List Item) (hand : Hand) → IsRight tree → tree.items ≡ before ++ items
@@ -216,9 +221,11 @@ items_read tree before [] hand right is =
     (hand, nothing_read _ ∙ ap (λ (all : List Item). Ok (behind tree all hand)) (sym (append-nil before)))
 items_read tree before (here ∷ items) hand right is =
     let one = item_read tree before items here hand (next_item tree before items here right is) is in
-    let rest = items_read tree (before ++ here ∷ []) items one.0 right (is ∙ sym (append_assoc before (here ∷ []) items)) in
-    (rest.0, joined (item_symbols here) (flat_map item_symbols items) _ (behind tree (before ++ here ∷ []) one.0) _ one.1
-    (rest.1 ∙ ap (λ (all : List Item). Ok (behind tree all rest.0)) (append_assoc before (here ∷ []) items)))
+    let rest = items_read tree (before ++ here ∷ []) items one.0 right (is ∙ sym (append_assoc before (here ∷ []) items)) in (
+      rest.0,
+      joined (item_symbols here) (flat_map item_symbols items) _ (behind tree (before ++ here ∷ []) one.0) _ one.1
+          (rest.1 ∙ ap (λ (all : List Item). Ok (behind tree all rest.0)) (append_assoc before (here ∷ []) items)),
+    )
 
 port_directed : (name : List ℕ) (declared : List Declared) → is_directed name declared ≡ true → has_direction (seen_buses declared) name ≡ true
 port_directed name declared is =
@@ -255,12 +262,13 @@ tree_reading tree hand = at_place place.End (behind tree tree.items hand)
 -- a right tree is read
 pub tree_read : (tree : Module) → IsRight tree → (last : Hand) × Reads nothing (module_symbols tree) (tree_reading tree last)
 tree_read tree right =
-    let items = items_read tree [] tree.items nothing.hand right refl in
-    (items.0,
-    joined (Symbol.other lexeme.Module ∷ Symbol.identifier tree.name ∷ header_symbols tree.header ++ Symbol.other lexeme.Semicolon ∷ flat_map item_symbols tree.items)
-    (Symbol.other lexeme.Endmodule ∷ []) _ (behind tree tree.items items.0) _
-    (joined (Symbol.other lexeme.Module ∷ Symbol.identifier tree.name ∷ header_symbols tree.header) (Symbol.other lexeme.Semicolon ∷ flat_map item_symbols tree.items) _
-    (at_place (behind_header tree.header) (with_ports (ports_of tree) nothing)) _
-    (then_more _ _ _ _ _ module_step (then_more _ _ _ _ _ (title_step tree.name nothing) (header_read tree.header right.ports)))
-    (then_more _ _ _ _ _ (header_over tree.header (with_ports (ports_of tree) nothing)) items.1))
-    (one_symbol _ _ _ (end_step (behind tree tree.items items.0) (ports_directed (declarations tree.items) (ports_of tree) right.directed))))
+    let items = items_read tree [] tree.items nothing.hand right refl in (
+      items.0,
+      joined (Symbol.other lexeme.Module ∷ Symbol.identifier tree.name ∷ header_symbols tree.header ++ Symbol.other lexeme.Semicolon ∷ flat_map item_symbols tree.items)
+          (Symbol.other lexeme.Endmodule ∷ []) _ (behind tree tree.items items.0) _
+          (joined (Symbol.other lexeme.Module ∷ Symbol.identifier tree.name ∷ header_symbols tree.header) (Symbol.other lexeme.Semicolon ∷ flat_map item_symbols tree.items) _
+          (at_place (behind_header tree.header) (with_ports (ports_of tree) nothing)) _
+          (then_more _ _ _ _ _ module_step (then_more _ _ _ _ _ (title_step tree.name nothing) (header_read tree.header right.ports)))
+          (then_more _ _ _ _ _ (header_over tree.header (with_ports (ports_of tree) nothing)) items.1))
+          (one_symbol _ _ _ (end_step (behind tree tree.items items.0) (ports_directed (declarations tree.items) (ports_of tree) right.directed))),
+    )

@@ -1,41 +1,43 @@
 -- A tree that is read is right.
-use Rattle.std.proofs.Common.{◌≡◌, ℕ, ◌==◌, List, [], ◌∷◌, ◌++◌, map, Bool, true, false, not, ◌&&◌, ◌||◌, Option, Some, None, Result, Ok, Err}
+use Rattle.std.proofs.Common.{◌≡◌, ℕ, ◌==◌, List, [], ◌∷◌, ◌++◌, map, Bool, true, false, not, ◌&&◌, Option}
+use Rattle.std.proofs.Common.{Some, None, Ok}
 use Rattle.std.proofs.Common.{refl, sym, ap, ◌∙◌, subst, append_assoc, append-nil, true≢false}
-use Rattle.std.specs.Prelude.{flat_map, slice_get, ⊤}
+use Rattle.std.specs.Prelude.{flat_map, slice_get}
 use Rattle.std.specs.List.{All, list_all}
 use Rattle.std.proofs.lemmas.Bool.{eqb-true}
 use Rattle.std.proofs.lemmas.List.{map-append}
-use Rattle.std.proofs.lemmas.List.Concat.{flat_map-append}
 use Rattle.std.proofs.lemmas.List.Elements.{All-nil, All-cons}
 use Rattle.ca_lex.specs.Words.{upper_case}
-use Rattle.ca_names.specs.Names.{has_name, place_of, repeats, has_double}
+use Rattle.ca_names.specs.Names.{has_name, repeats, has_double}
 use Rattle.ca_verilog.specs.declared.fault.VerilogKind.TheVariants.{Undeclared, DoubleName, BadRange}
 use Rattle.ca_verilog.specs.declared.lexeme.Lexeme.TheVariants as lexeme
-use Rattle.ca_verilog.specs.declared.table.Direction.TheVariants as direction
 use Rattle.ca_verilog.specs.declared.table.Side.TheVariants as side
 use Rattle.ca_verilog.specs.declared.table.Place.TheVariants as place
-use Rattle.ca_verilog.specs.Bus.{is_inner, bus_of, has_direction, is_directed as bus_directed}
+use Rattle.ca_verilog.specs.Bus.{is_inner, has_direction, is_directed as bus_directed}
 use Rattle.ca_verilog.specs.Instance.{has_instance}
-use Rattle.ca_verilog.specs.Reading.{Hand, Reading, Step, nothing, act, at_place, with_ports, with_hand, with_operand, keep_left, lexeme_step}
+use Rattle.ca_verilog.specs.Reading.{Hand, Reading, nothing, act, at_place, with_ports, with_hand}
+use Rattle.ca_verilog.specs.Reading.{with_operand, keep_left, lexeme_step}
 use Rattle.ca_verilog.specs.Reading.{width_of as reader_width}
 use Rattle.ca_verilog.specs.Table.{row_of}
 use Rattle.ca_verilog.proofs.PlaceLemmas.{got_map}
-use Rattle.ca_syntax.specs.Tree.{Operand, Connection, Assign, Instance, Item, Module, Declared, header_names, ports_of}
-use Rattle.ca_syntax.specs.Tree.{declared_by, declarations, assigned_by, assigns, instance_by, instances}
-use Rattle.ca_syntax.specs.Symbols.{Symbol, listed, name_symbols, header_symbols, operand_symbols, connection_symbols, item_symbols, module_symbols}
-use Rattle.ca_syntax.specs.Names.{names_in, is_declared, is_directed, direction_of}
-use Rattle.ca_syntax.specs.Rules.{EachBehind, IsRightDeclared, IsRight, IsRightItem, IsRightAssign, IsRightInstance, IsRightValue, width_of}
+use Rattle.ca_syntax.specs.Tree.{Operand, Assign, Instance, Item, Module, Declared, header_names, ports_of}
+use Rattle.ca_syntax.specs.Tree.{declared_by, declarations, instance_by, instances}
+use Rattle.ca_syntax.specs.Symbols.{Symbol, listed, name_symbols, header_symbols, operand_symbols}
+use Rattle.ca_syntax.specs.Symbols.{connection_symbols, item_symbols, module_symbols}
+use Rattle.ca_syntax.specs.Names.{names_in, is_declared, is_directed}
+use Rattle.ca_syntax.specs.Rules.{IsRightDeclared, IsRight, IsRightItem, IsRightAssign, IsRightInstance}
 use Rattle.ca_syntax.proofs.NameLemmas as names
 use Rattle.ca_syntax.proofs.ReadLemmas.{symbol_step, Reads}
 use Rattle.ca_syntax.proofs.BehindLemmas.{OneByOne, each_behind}
 use Rattle.ca_syntax.proofs.DeclareLemmas.{seen_bus, seen_buses, bus_found, place_seen, undirected}
-use Rattle.ca_syntax.proofs.SeenLemmas.{seen_operand, seen_instance, operand_seen, width_seen, IsSeen}
+use Rattle.ca_syntax.proofs.SeenLemmas.{seen_operand, operand_seen, width_seen, IsSeen}
 use Rattle.ca_syntax.proofs.OperandLemmas.{operand_read, behind_operand, first_new}
 use Rattle.ca_syntax.proofs.ItemLemmas as items
 use Rattle.ca_syntax.proofs.ItemLemmas.{commas, with_sides, hand_of}
 use Rattle.ca_syntax.proofs.TreeLemmas as trees
 use Rattle.ca_syntax.proofs.TreeLemmas.{behind, behind_header, IsNextItem, parted, placed_names, grown}
-use Rattle.ca_syntax.proofs.OnlyLemmas.{rest_read, next_read, first_taken, passed, not_false, operand_only, connections_only, declaration_only, new_first, none_new}
+use Rattle.ca_syntax.proofs.OnlyLemmas.{rest_read, next_read, first_taken, passed, not_false, operand_only}
+use Rattle.ca_syntax.proofs.OnlyLemmas.{connections_only, declaration_only, new_first, none_new}
 
 joined : (right : Operand) (it next : Reading)
     → symbol_step (Symbol.other lexeme.Semicolon) (at_place (behind_operand side.Right right) it) ≡ Ok next
@@ -97,9 +99,11 @@ instance_only declared here it last rest is whole =
 one_append : {T : Type 0} (P : List T → T → Type 0) (seen front more : List T) → OneByOne P seen front → OneByOne P (seen ++ front) more
     → OneByOne P seen (front ++ more)
 one_append {T} P seen [] more first second = subst (λ (all : List T). OneByOne P all more) (append-nil seen) second
-one_append {T} P seen (here ∷ front) more first second =
-    (first.0, one_append P (seen ++ here ∷ []) front more first.1
-    (subst (λ (all : List T). OneByOne P all more) (sym (append_assoc seen (here ∷ []) front)) second))
+one_append {T} P seen (here ∷ front) more first second = (
+  first.0,
+  one_append P (seen ++ here ∷ []) front more first.1
+      (subst (λ (all : List T). OneByOne P all more) (sym (append_assoc seen (here ∷ []) front)) second),
+)
 
 repeats_append : (seen front more : List (List ℕ)) → repeats seen front ≡ false → repeats (seen ++ front) more ≡ false
     → repeats seen (front ++ more) ≡ false
@@ -181,9 +185,10 @@ items_only : (tree : Module) (before listed : List Item) (hand : Hand) (last : R
     → OneByOne (IsRightDeclared (ports_of tree)) [] (declarations before)
     → Reads (behind tree before hand) (flat_map item_symbols listed ++ rest) last
     → AreNext tree before listed × ((next : Hand) × Reads (behind tree (before ++ listed) next) rest last)
-items_only tree before [] hand last rest is so_far whole =
-    (record { declared = tt; right = tt; new = none_new (instance_names (instances before)) },
-    (hand, subst (λ (all : List Item). Reads (behind tree all hand) rest last) (sym (append-nil before)) whole))
+items_only tree before [] hand last rest is so_far whole = (
+  record { declared = tt; right = tt; new = none_new (instance_names (instances before)) },
+  (hand, subst (λ (all : List Item). Reads (behind tree all hand) rest last) (sym (append-nil before)) whole),
+)
 items_only tree before (here ∷ more) hand last rest is so_far whole =
     let spread = subst (λ (symbols : List Symbol). Reads (behind tree before hand) symbols last)
     (append_assoc (item_symbols here) (flat_map item_symbols more) rest) whole in
@@ -191,9 +196,10 @@ items_only tree before (here ∷ more) hand last rest is so_far whole =
     let read = trees.item_read tree before more here hand (next_of tree before here so_far one) is in
     let behind_it = rest_read (item_symbols here) (flat_map item_symbols more ++ rest) _ _ last read.1 spread in
     let others = items_only tree (before ++ here ∷ []) more read.0 last rest (is ∙ sym (append_assoc before (here ∷ []) more))
-    (declared_so_far tree before here so_far one) behind_it in
-    (next_more tree before more here one others.0,
-    (others.1.0, subst (λ (all : List Item). Reads (behind tree all others.1.0) rest last) (append_assoc before (here ∷ []) more) others.1.1))
+    (declared_so_far tree before here so_far one) behind_it in (
+      next_more tree before more here one others.0,
+      (others.1.0, subst (λ (all : List Item). Reads (behind tree all others.1.0) rest last) (append_assoc before (here ∷ []) more) others.1.1),
+    )
 
 port_only : (name : List ℕ) (it next : Reading) → symbol_step (Symbol.identifier name) (at_place place.Port it) ≡ Ok next → has_name name it.ports ≡ false
 unfolding lexeme_step row_of act
@@ -238,6 +244,7 @@ directed_only name declared is = by (is_directed name declared) refl
         (bus_found name declared ∙ found.2)
         ∙ ap bus_directed (got_map (seen_bus declared) (names_in declared) found.0 name found.1)
         ∙ ap (λ way. not (is_inner way)) (undirected declared name unset)
+
     by : (has : Bool) → is_directed name declared ≡ has → has ≡ true
     by true told = refl
     by false told = absurd (true≢false (sym is ∙ none (is_declared name declared) refl told))

@@ -52,3 +52,8 @@ LargeTextHasTree = (text : List ℕ) (count : ℕ) → netlist_of text ≡ Err (
 abbrev pub ReadTreeIsRight : Type 0
 ReadTreeIsRight = (text : List ℕ) (tree : Module) (netlist : RawNetlist) → IsTextOf text tree
     → netlist_of text ≡ Ok netlist → IsRight tree
+
+-- and so is each whose text is refused for its number of bits
+abbrev pub LargeTreeIsRight : Type 0
+LargeTreeIsRight = (text : List ℕ) (tree : Module) (count : ℕ) → IsTextOf text tree
+    → netlist_of text ≡ Err (TooManyNets count) → IsRight tree

@@ -7,7 +7,7 @@ use Rattle.ca_names.specs.Names.{has_name, has_double}
 use Rattle.ca_verilog.specs.declared.table.Range.{Range}
 use Rattle.ca_verilog.specs.Bus.{is_inner}
 use Rattle.ca_verilog.specs.Reading.{has_index, width_in}
-use Rattle.ca_syntax.specs.Tree.{Operand, Connection, Assign, Instance, Item, Module, Declared, declarations}
+use Rattle.ca_syntax.specs.Tree.{Operand, Assign, Instance, Item, Module, Declared, declarations}
 use Rattle.ca_syntax.specs.Tree.{instances, ports_of}
 use Rattle.ca_syntax.specs.Names.{is_declared, is_directed, is_wire, range_of}
 

@@ -1,6 +1,6 @@
 -- The netlist of a tree.
 use Rattle.std.specs.Prelude.{ℕ, ◌+◌, if◌then◌else◌, List, [], ◌∷◌, map, flat_map}
-use Rattle.std.specs.Prelude.{Option, None, option_map, unwrap_or}
+use Rattle.std.specs.Prelude.{option_map, unwrap_or}
 use Rattle.std.specs.Str.{bytes_eq}
 use Rattle.ca_lex.specs.Words.{upper_case}
 use Rattle.ca_names.specs.Names.{place_of}

@@ -1,7 +1,7 @@
 //! Laws of syntax trees, each the contract of a function that does nothing.
 
-ghost use Rattle.ca_syntax.specs.Laws.{RightTreeIsRead, LargeTreeIsRefused, ReadTextHasTree, LargeTextHasTree};
-ghost use Rattle.ca_syntax.specs.Laws.{ReadTreeIsRight};
+ghost use Rattle.ca_syntax.specs.Laws.{RightTreeIsRead, LargeTreeIsRefused, ReadTextHasTree};
+ghost use Rattle.ca_syntax.specs.Laws.{LargeTextHasTree, ReadTreeIsRight, LargeTreeIsRight};
 ghost use Rattle.ca_syntax.specs.Example.{ExampleIsRead};
 
 /// The text of a tree whose names and ranges are right reads as the netlist of the tree.
@@ -24,9 +24,10 @@ pub fn large_text_has_tree()
     ensures { LargeTextHasTree }
 {}
 
-/// A tree whose text reads as a netlist is right.
+/// A tree whose text reads as a netlist, or is refused for the number of its bits, is right.
 pub fn read_tree_is_right()
-    ensures { ReadTreeIsRight }
+    ensures read { ReadTreeIsRight }
+    ensures large { LargeTreeIsRight }
 {}
 
 /// The example is the text of its tree, and reads as the netlist that is written out.
