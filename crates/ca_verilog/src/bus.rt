@@ -15,7 +15,7 @@ use std::marker::Model;
 
 /// A declared name.
 #[derive(Drop)]
-pub(crate) struct Bus {
+pub struct Bus {
     pub name: Text,
     /// Inner until a direction is declared.
     pub direction: Direction,

@@ -10,7 +10,7 @@ use std::marker::Model;
 
 /// What stands on a side of an `assign` or on a pin. Declared names are told by their places.
 #[derive(Clone, Copy, Debug, PartialEq, Eq)]
-pub(crate) enum Operand {
+pub enum Operand {
     /// A name as a whole.
     Whole(u32),
     /// The bit of a vector that has this index.
@@ -20,14 +20,14 @@ pub(crate) enum Operand {
 
 /// What an `assign` joins.
 #[derive(Clone, Copy, Debug, PartialEq, Eq)]
-pub(crate) struct Join {
+pub struct Join {
     pub left: Operand,
     pub right: Operand,
 }
 
 /// A pin with what is on it, if anything is.
 #[derive(Drop)]
-pub(crate) struct Use {
+pub struct Use {
     pub pin: Text,
     pub operand: Option<Operand>,
 }
@@ -98,7 +98,7 @@ impl Uses {
 
 /// An instance of a cell.
 #[derive(Drop)]
-pub(crate) struct Instance {
+pub struct Instance {
     pub name: Text,
     pub cell: Text,
     pub uses: List<Use>,

@@ -10,7 +10,7 @@ pub(crate) const MOST: u32 = 131_071;
 
 /// What a token is to the grammar.
 #[derive(Clone, Copy, Debug, PartialEq, Eq)]
-pub(crate) enum Lexeme {
+pub enum Lexeme {
     Module,
     Endmodule,
     Input,

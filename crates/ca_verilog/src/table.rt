@@ -27,7 +27,7 @@ pub enum Direction {
 
 /// The bits of a vector, from its left index to its right one.
 #[derive(Clone, Copy, Debug, PartialEq, Eq)]
-pub(crate) struct Range {
+pub struct Range {
     pub left: u32,
     pub right: u32,
 }
@@ -54,7 +54,7 @@ impl Range {
 
 /// Where an operand stands: on the left or the right side of an `assign`, or on a pin.
 #[derive(Clone, Copy, Debug, PartialEq, Eq)]
-pub(crate) enum Side {
+pub enum Side {
     Left,
     Right,
     Pin,
@@ -62,7 +62,7 @@ pub(crate) enum Side {
 
 /// Where the reading stands in the grammar, by what is due there.
 #[derive(Clone, Copy, Debug, PartialEq, Eq)]
-pub(crate) enum Place {
+pub enum Place {
     /// `module`.
     Start,
     /// The module's name.
@@ -127,7 +127,7 @@ pub(crate) enum Place {
 
 /// What a token does beside leading to another place.
 #[derive(Clone, Copy, Debug, PartialEq, Eq)]
-pub(crate) enum Action {
+pub enum Action {
     Nothing,
     /// The name is one of the header's.
     AddPort,
@@ -163,7 +163,7 @@ pub(crate) enum Action {
 
 /// A row of the table: where a token leads, and what it does.
 #[derive(Clone, Copy, Debug, PartialEq, Eq)]
-pub(crate) struct Row {
+pub struct Row {
     pub place: Place,
     pub action: Action,
 }

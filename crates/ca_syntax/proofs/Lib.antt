@@ -1,0 +1,14 @@
+pub mod ReadLemmas
+pub mod NameLemmas
+pub mod DeclareLemmas
+pub mod SeenLemmas
+pub mod OperandLemmas
+pub mod ItemLemmas
+pub mod TreeLemmas
+pub mod NetlistLemmas
+pub mod BehindLemmas
+pub mod ParseLemmas
+pub mod OnlyLemmas
+pub mod TreeOnlyLemmas
+pub mod FoundLemmas
+pub mod ExampleLemmas
