@@ -1,0 +1,10 @@
+pub mod NetWaves
+pub mod Changes
+pub mod Laws
+pub mod PlaceSet
+pub mod Linked
+pub mod Cache
+pub mod Cells
+pub mod Marking
+pub mod Network
+pub mod Sim

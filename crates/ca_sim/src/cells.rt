@@ -1,0 +1,130 @@
+//! How the instances of a chip respond.
+
+ghost use Rattle.std.specs.Prelude.{◌≡◌, ◌<◌, length};
+ghost use Rattle.std.specs.List.{All};
+ghost use Rattle.ca_net.specs.Wave.{IsWave};
+ghost use Rattle.ca_flat.specs.Chip.{cell_at, inputs_at, count_of, IsChipDefect};
+ghost use Rattle.ca_flat.specs.Flat.{circuit_in};
+ghost use Rattle.ca_table.specs.Gives.{Gives};
+
+use crate::cache::{Cache, Entry, copied};
+use crate::linked::Linked;
+use ca_table::Rooms;
+use ca_defect::Defect;
+use ca_flat::ChipDefect;
+use ca_net::{Trit, Wave};
+use ca_response::{OutWaves, PinWaves};
+
+/// The room for the cells of a chip, by their numbers.
+#[derive(Drop)]
+pub struct Cells {
+    pub(crate) rooms: Vec<Rooms>,
+    pub(crate) cache: Cache,
+}
+
+impl Cells {
+    ghost use Rattle.ca_sim.specs.Cells.{AreCellRooms, AreCells};
+
+    /// How an instance responds, without a look at the cache.
+    fn compute<C: Linked>(
+        &mut self,
+        chip: &C,
+        u: usize,
+        aim: Option<ChipDefect>,
+        pins: &[Wave],
+    ) -> OutWaves
+        requires known { u < count_of (C.core chip.now) }
+        requires listed { IsChipDefect (C.core chip.now) aim }
+        requires pins { length pins.now ≡ inputs_at (C.core chip.now) u }
+        requires waves { All IsWave pins.now }
+        requires rooms { AreCellRooms (C.core chip.now) (C.number_of chip.now) self.old.rooms.items }
+        ensures gives { Gives (cell_at (C.core chip.now) u) (circuit_in (C.core chip.now) aim u) pins.now result.items }
+        ensures waves { All IsWave result.items }
+        ensures rooms { AreCellRooms (C.core chip.now) (C.number_of chip.now) self.new.rooms.items }
+        ensures cache { self.new.cache ≡ self.old.cache }
+    {
+        let cell = chip.cell(u);
+        let rooms = &mut self.rooms[chip.number(u)];
+        match aim {
+            Some(aim) if aim.instance as usize == u => rooms.respond_faulty(cell, aim.defect, pins),
+            _ => rooms.respond_good(cell, pins),
+        }
+    }
+
+    /// How an instance responds to waves of its input pins, good or with the defect that is aimed at.
+    pub(crate) fn respond<C: Linked>(
+        &mut self,
+        chip: &C,
+        u: usize,
+        aim: Option<ChipDefect>,
+        pins: PinWaves,
+    ) -> OutWaves
+        requires known { u < count_of (C.core chip.now) }
+        requires listed { IsChipDefect (C.core chip.now) aim }
+        requires pins { length pins.items ≡ inputs_at (C.core chip.now) u }
+        requires waves { All IsWave pins.items }
+        requires cells { AreCells (C.core chip.now) (C.number_of chip.now) self.old }
+        ensures gives { Gives (cell_at (C.core chip.now) u) (circuit_in (C.core chip.now) aim u) pins.items result.items }
+        ensures waves { All IsWave result.items }
+        ensures cells { AreCells (C.core chip.now) (C.number_of chip.now) self.new }
+    {
+        let number = chip.number(u);
+        let defect = defect_here(aim, u);
+        let slot = slot_of(
+            number,
+            defect.is_some(),
+            pins.as_slice(),
+            self.cache.slots.len(),
+        );
+        if let Some(outputs) = self
+            .cache
+            .get(chip, u, slot, number, defect, pins.as_slice())
+        {
+            return outputs;
+        }
+        let outputs = self.compute(chip, u, aim, pins.as_slice());
+        let entry = Entry {
+            number,
+            defect,
+            pins,
+            outputs: copied(outputs.as_slice()),
+        };
+        self.cache.put(chip, u, slot, entry);
+        outputs
+    }
+}
+
+ghost use Rattle.ca_flat.specs.Flat.{defect_at};
+
+// The defect of an instance.
+pub(crate) fn defect_here(aim: Option<ChipDefect>, u: usize) -> Option<Defect>
+    ensures { result ≡ defect_at aim u }
+{
+    match aim {
+        Some(aim) if aim.instance as usize == u => Some(aim.defect),
+        _ => None,
+    }
+}
+
+// The slot of a question: a mix of the cell's number, whether it has a defect, and the waves.
+fn slot_of(number: usize, faulty: bool, pins: &[Wave], slots: usize) -> usize
+    requires { 0 < slots }
+    ensures { result < slots }
+{
+    let mut mix = number.wrapping_mul(2).wrapping_add(faulty as usize);
+    for pin in pins {
+        let wave = 9 * digit(pin.first) + 3 * digit(pin.mid) + digit(pin.last);
+        mix = mix.wrapping_mul(31).wrapping_add(wave);
+    }
+    mix % slots
+}
+
+fn digit(value: Trit) -> usize
+    ensures { result < 3 }
+{
+    match value {
+        Trit::Zero => 0,
+        Trit::One => 1,
+        Trit::X => 2,
+    }
+}

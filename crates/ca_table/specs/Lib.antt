@@ -1,0 +1,4 @@
+pub mod Gives
+pub mod Table
+pub mod Rooms
+pub mod Decoding

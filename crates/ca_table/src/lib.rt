@@ -1,0 +1,8 @@
+//! What the output pins of one cell give, in room that was taken before, and tables of it.
+#![tactic(auto)]
+
+mod rooms;
+mod table;
+
+pub use rooms::Rooms;
+pub use table::{MOST_TABLE_INPUTS, Table, copied};
