@@ -5,11 +5,11 @@ use Rattle.std.proofs.lemmas.List.{get_or-set_same, get_or-set_other, length-set
 use Rattle.ca_cell.specs.declared.raw.RawCell.{RawCell}
 use Rattle.ca_flat.specs.Chip.{Chip, cell_at, count_of}
 use Rattle.ca_table.specs.declared.rooms.Rooms.{Rooms}
-use Rattle.ca_sim.specs.Linked.{IsLinked}
+use Rattle.ca_sim.specs.Linked.{IsLinked, IsPlaced}
 use Rattle.ca_table.specs.Rooms.{AreRoomsOf}
 use Rattle.ca_sim.specs.Cells.{AreCellRooms}
 
-module _ (chip : Chip) (place_of number_of : ℕ → ℕ) (rooms : List Rooms) (are : AreCellRooms chip number_of rooms) (u : ℕ) (lt : u < count_of chip) where
+module _ (chip : Chip) (place_of number_of : ℕ → ℕ) (rooms : List Rooms) (are : AreCellRooms chip place_of number_of rooms) (u : ℕ) (lt : IsPlaced chip place_of u) where
   -- the rooms at the number of the instance's cell are its cell's
   pub rooms_of : (number : ℕ) (cell : RawCell) (room : Rooms) → number ≡ number_of u → cell ≡ cell_at chip u → room ≡ get_or rooms number room → AreRoomsOf cell room
   rooms_of number cell room number_is cell_is read =
@@ -17,7 +17,7 @@ module _ (chip : Chip) (place_of number_of : ℕ → ℕ) (rooms : List Rooms) (
 
   -- they may be replaced by others of that cell
   pub rooms_kept : IsLinked chip place_of number_of → (number : ℕ) (cell : RawCell) (room : Rooms) → number ≡ number_of u → cell ≡ cell_at chip u → AreRoomsOf cell room
-      → AreCellRooms chip number_of (slice_set rooms number room)
+      → AreCellRooms chip place_of number_of (slice_set rooms number room)
   rooms_kept linked number cell room number_is cell_is here = record {
     within = λ w known. let l = length-set rooms number room in let i = are.within w known in omega arith;
     each = λ w past known. elim (cases_eq (number_of w) number) [

@@ -24,9 +24,11 @@ use Rattle.ca_flat.proofs.PairLemmas.{middle_under_first, middle_under_last}
 use Rattle.ca_flat.proofs.NetInduction.{net_induction}
 use Rattle.ca_flat.proofs.InstanceWaves.{at_instance, output_value, rail_value, input_wave, part_limits, ends_last, last_ends}
 use Rattle.ca_table.specs.Gives.{wave_at}
-use Rattle.ca_sim.specs.NetWaves.{input_waves, output_waves, IsSimulated}
+use Rattle.ca_sim.specs.Current.{input_waves, output_waves, IsSimulated}
 use Rattle.ca_flat.specs.Simulation.{IsFlattened}
-use Rattle.ca_sim.specs.Laws.{none_due, WavesAreExact, DefiniteLastIsEnd, WavesAreThere}
+use Rattle.ca_sim.specs.Current.{none_due}
+use Rattle.ca_sim.specs.Laws.{DefiniteLastIsEnd, WavesAreThere}
+use Rattle.ca_sim.specs.Seen.{AreNetWaves}
 use Rattle.ca_sim.proofs.LimitLemmas.{SameInputs, limits_over, at_first_inputs}
 use Rattle.ca_sim.proofs.WaveLemmas.{wave_at-waves_from, value_at-firsts, value_at-mids, value_at-lasts}
 
@@ -86,7 +88,8 @@ module _ (chip : Chip) (rank : ℕ → ℕ) (o : Option ChipDefect) (is : IsFlat
         (λ net within kind. sim.inputs net within kind ∙ sym (input_wave chip rank o is pair flat_waves net within kind))
         step
 
-pub waves_are_exact_lem : WavesAreExact
+pub waves_are_exact_lem : (chip : Chip) (rank : ℕ → ℕ) (o : Option ChipDefect) (pair : List Trit) (waves : List Wave) → IsFlattened chip rank o
+    → IsSimulated chip o pair none_due waves → AreNetWaves chip o pair waves
 waves_are_exact_lem chip rank o pair waves is sim = record {
   count = sim.count;
   exact = λ flat_waves net within. exact_at chip rank o is pair waves flat_waves sim net within;

@@ -11,11 +11,12 @@ use Rattle.ca_flat.specs.declared.chip_defect.ChipDefect.{ChipDefect}
 use Rattle.ca_flat.specs.Chip.{Chip, count_of, net_kind}
 use Rattle.ca_flat.specs.Pair.{input_value, constant_value, net_value}
 use Rattle.ca_table.specs.Gives.{wave_at}
-use Rattle.ca_sim.specs.NetWaves.{pair_wave, IsSimulated}
+use Rattle.ca_sim.specs.Current.{pair_wave, IsSimulated}
 use Rattle.ca_sim.specs.Linked.{IsPinned, IsLinked}
 use Rattle.ca_sim.specs.declared.network.Network.{Network}
 use Rattle.ca_sim.specs.Network.{IsDue, IsPut, IsFedAt, IsReady}
 use Rattle.ca_sim.proofs.StepLemmas.{fed}
+use Rattle.ca_sim.proofs.Putting.{reader_placed}
 
 neq-eqb : (a b : ℕ) → (a ≡ b → ⊥) → (a == b) ≡ false
 neq-eqb a b apart = at (a == b) refl
@@ -93,17 +94,17 @@ module _ (chip : Chip) (place_of number_of : ℕ → ℕ) (linked : IsLinked chi
       (λ w due. put.kept (place_of w) due) put.readers
 
   -- it is ready as before
-  pub put_ready : (net : ℕ) (wave : Wave) (old new : Network) → IsWave wave → IsPut chip place_of net wave old new → IsReady chip old → IsReady chip new
+  pub put_ready : (net : ℕ) (wave : Wave) (old new : Network) → IsWave wave → IsPut chip place_of net wave old new → IsReady chip place_of old → IsReady chip place_of new
   put_ready net wave old new is put ready = record {
     count = put.count ∙ ready.count;
     are_waves = λ n. elim (cases_eq n net) [
       | inl e ↦ subst (λ k. IsWave (wave_at new.waves k)) (sym e) (subst IsWave (sym put.here) is)
       | inr apart ↦ subst IsWave (sym (put.others n apart)) (ready.are_waves n)
     ];
-    room = put.room (count_of chip) ready.room;
+    room = put.room (count_of chip + 1) ready.room;
     within = λ place has. elim (put.added place has) [
       | inl before ↦ ready.within place before
-      | inr reader ↦ subst (λ x. x < count_of chip) reader.2 (linked.placed reader.0 reader.1.known)
+      | inr reader ↦ record { instance = reader.0; is_placed = reader_placed chip place_of number_of linked reader.0 _ reader.1; at = reader.2 }
     ];
   }
 

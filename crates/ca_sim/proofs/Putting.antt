@@ -5,7 +5,7 @@ use Rattle.std.proofs.lemmas.List.{get_or-set_same, get_or-set_other, length-set
 use Rattle.ca_net.specs.declared.wave.Wave.{Wave}
 use Rattle.ca_flat.specs.Chip.{Chip, outputs_at, net_of, output_net, count_of, Drives}
 use Rattle.ca_table.specs.Gives.{unknown_wave, wave_at}
-use Rattle.ca_sim.specs.Linked.{IsLinked}
+use Rattle.ca_sim.specs.Linked.{IsLinked, IsPlaced, IsPlace, Reads}
 use Rattle.ca_sim.specs.Changes.{HasReadersDue}
 use Rattle.ca_sim.specs.declared.network.Network.{Network}
 use Rattle.ca_sim.specs.PlaceSet.{Has, HoldsUpTo}
@@ -31,6 +31,13 @@ put_new chip place_of net wave old new within is marked = record {
     others : (other : ℕ) → other ≢ net → wave_at new.waves other ≡ wave_at old.waves other
     others other apart = ap (λ waves. wave_at waves other) is ∙ get_or-set_other old.waves net other wave unknown_wave apart
 
+-- what reads a net has a place
+pub reader_placed : (chip : Chip) (place_of number_of : ℕ → ℕ) → IsLinked chip place_of number_of → (u net : ℕ) → Reads chip u net → IsPlaced chip place_of u
+reader_placed chip place_of number_of linked u net reads = record { known = reads.known; placed = elim (cases_eq (place_of u) 0) [
+  | inl e ↦ absurd (let none = (linked.bare u reads.known e).no_pin in let within = reads.within in omega arith)
+  | inr some ↦ omega arith
+] }
+
 -- so many of an instance's output nets have their waves, and each other net has the wave that it had
 pub record IsWrittenTo (chip : Chip) (place_of : ℕ → ℕ) (u end : ℕ) (outputs : List Wave) (old new : Network) : Type 0 where
   pub count : length new.waves ≡ length old.waves
@@ -38,7 +45,7 @@ pub record IsWrittenTo (chip : Chip) (place_of : ℕ → ℕ) (u end : ℕ) (out
   pub others : (net : ℕ) → ((output : ℕ) → output < end → output_net chip u output ≡ net → ⊥) → wave_at new.waves net ≡ wave_at old.waves net
   pub kept : (place : ℕ) → Has old.due place → Has new.due place
   pub readers : HasReadersDue chip (IsDue place_of new.due) old.waves new.waves
-  pub added : (place : ℕ) → Has new.due place → Has old.due place ⊎ ((place_of u < place) × (place < count_of chip))
+  pub added : (place : ℕ) → Has new.due place → Has old.due place ⊎ ((place_of u < place) × IsPlace chip place_of place)
   pub room : (count : ℕ) → HoldsUpTo old.due count → HoldsUpTo new.due count
 
 module _ (chip : Chip) (place_of : ℕ → ℕ) (number_of : ℕ → ℕ) (linked : IsLinked chip place_of number_of) (u : ℕ) (lt : u < count_of chip) (outputs : List Wave) where
@@ -73,7 +80,8 @@ module _ (chip : Chip) (place_of : ℕ → ℕ) (number_of : ℕ → ℕ) (linke
       | inr reader ↦
           let reads = reader.1 in
           let later : place_of u < place_of reader.0 = linked.is_chip.ranked reader.0 reads.pin reads.known reads.within (driver end within (net_of chip reader.0 reads.pin) (sym reads.on)) in
-          inr (subst (λ x. (place_of u < x) × (x < count_of chip)) reader.2 (later, linked.placed reader.0 reads.known))
+          inr (subst (λ x. (place_of u < x) × IsPlace chip place_of x) reader.2
+              (later, record { instance = reader.0; is_placed = reader_placed chip place_of number_of linked reader.0 _ reads; at = refl }))
     ];
     room = λ count holds. put.room count (so_far.room count holds);
   }

@@ -1,18 +1,23 @@
 //! The waves of one network, of which due instances alone are evaluated again.
 
-ghost use Rattle.std.specs.Prelude.{ℕ, ◌≡◌, ◌≢◌, ◌<◌, ◌⊎◌, ◌↔◌, length, IfSome};
+ghost use Rattle.std.specs.Prelude.{ℕ, ◌≡◌, ◌≢◌, ◌<◌, ◌+◌, ◌⊎◌, ◌↔◌, length, IfOk, IfSome, Some, Option};
+ghost use Rattle.std.specs.Option.{ForSome};
+ghost use Rattle.ca_net.specs.Wave.{pair_of};
 ghost use Rattle.ca_flat.specs.Chip.{count_of, outputs_at, IsChipDefect};
 ghost use Rattle.ca_flat.specs.Pair.{bit_count};
-ghost use Rattle.ca_sim.specs.Linked.{Reads};
+ghost use Rattle.ca_flat.specs.Code.{unset_pair};
+ghost use Rattle.ca_sim.specs.Linked.{Reads, IsPlaced, IsAim, place_in};
 
 use crate::cache::same_waves;
 use crate::cells::{Cells, defect_here};
 use crate::linked::Linked;
 use crate::place_set::PlaceSet;
 use crate::waves::Waves;
+use ca_base::NoMemory;
 use ca_flat::ChipDefect;
 use ca_net::{State, Wave};
 use ca_response::{OutWaves, PinWaves};
+use std::alloc::Global;
 
 /// A wave for each net, and the places in the order whose instances are due.
 #[derive(Drop, Debug)]
@@ -23,16 +28,38 @@ pub struct Network {
 
 impl Network {
     ghost use Rattle.ca_sim.specs.PlaceSet.{Has, HoldsUpTo};
-    ghost use Rattle.ca_sim.specs.Network.{IsPut, IsWrittenOut, IsFedAt, IsTurned, IsReady, IsSettled, IsTwin, IsGiven};
-    ghost use Rattle.ca_sim.specs.NetWaves.{input_waves, output_waves};
+    ghost use Rattle.ca_sim.specs.Network.{IsPut, IsWrittenOut, IsFedAt, IsTurned, IsReady, IsSettled, IsTwin, IsGiven, IsUnderway, IsRestingCopy};
+    ghost use Rattle.ca_sim.specs.Current.{input_waves, output_waves};
     ghost use Rattle.ca_sim.specs.Cells.{AreCells};
+
+    /// Takes the room for the waves of a chip's nets. No bit is set, and each instance with a place is due.
+    pub(crate) fn reserve<C: Linked>(alloc: Global, chip: &C) -> Result<Self, NoMemory>
+        ensures { IfOk result
+            (IsUnderway (C.core chip.now) (place_in (C.places chip.now)) None (unset_pair (C.core chip.now))) }
+    {
+        Ok(Network {
+            waves: constant_waves(alloc, chip)?,
+            due: all_places(alloc, chip)?,
+        })
+    }
+
+    /// The same waves, and nothing is due.
+    pub(crate) fn copy<C: Linked>(&self, alloc: Global, chip: &C) -> Result<Self, NoMemory>
+        ensures { IfOk result (IsRestingCopy (C.core chip.now) self.now) }
+    {
+        Ok(Network {
+            waves: self.waves.copy(alloc)?,
+            due: PlaceSet::reserve(alloc, chip.instances() + 1)?,
+        })
+    }
 
     /// Gives a net a wave; if that is another one, its readers are due.
     pub(crate) fn put<C: Linked>(&mut self, chip: &C, net: usize, wave: Wave)
         requires known { net < length (C.core chip.now).nets }
         requires count { length self.old.waves ≡ length (C.core chip.now).nets }
-        requires room { HoldsUpTo self.old.due (count_of (C.core chip.now)) }
-        ensures { IsPut (C.core chip.now) (C.place_of chip.now) net wave self.old self.new }
+        requires room { HoldsUpTo self.old.due (count_of (C.core chip.now) + 1) }
+
+        ensures { IsPut (C.core chip.now) (place_in (C.places chip.now)) net wave self.old self.new }
     {
         if self.waves.get(net) == wave {
             return;
@@ -45,9 +72,10 @@ impl Network {
     pub(crate) fn feed<C: Linked>(&mut self, chip: &C, input: usize, bits: &State)
         requires known { input < length (C.core chip.now).inputs }
         requires bits { length bits.now ≡ bit_count (C.core chip.now) }
-        requires ready { IsReady (C.core chip.now) self.old }
-        ensures fed { IsFedAt (C.core chip.now) (C.place_of chip.now) input bits.now self.old self.new }
-        ensures ready { IsReady (C.core chip.now) self.new }
+        requires ready { IsReady (C.core chip.now) (place_in (C.places chip.now)) self.old }
+
+        ensures fed { IsFedAt (C.core chip.now) (place_in (C.places chip.now)) input bits.now self.old self.new }
+        ensures ready { IsReady (C.core chip.now) (place_in (C.places chip.now)) self.new }
     {
         let last = chip.inputs() + input;
         self.put(
@@ -59,9 +87,10 @@ impl Network {
 
     /// The instance of a defect becomes due.
     pub(crate) fn turn<C: Linked>(&mut self, chip: &C, aim: Option<ChipDefect>)
-        requires listed { IsChipDefect (C.core chip.now) aim }
-        requires ready { IsReady (C.core chip.now) self.old }
-        ensures { IsTurned (C.core chip.now) (C.place_of chip.now) aim self.old self.new }
+        requires aim { IsAim (C.core chip.now) (place_in (C.places chip.now)) aim }
+        requires ready { IsReady (C.core chip.now) (place_in (C.places chip.now)) self.old }
+
+        ensures { IsTurned (C.core chip.now) (place_in (C.places chip.now)) aim self.old self.new }
     {
         if let Some(aim) = aim {
             self.due.insert(chip.place(aim.instance as usize));
@@ -70,11 +99,12 @@ impl Network {
 
     /// Gives the output nets of an instance their waves.
     fn write<C: Linked>(&mut self, chip: &C, u: usize, outputs: &[Wave])
-        requires known { u < count_of (C.core chip.now) }
+        requires placed { IsPlaced (C.core chip.now) (place_in (C.places chip.now)) u }
         requires outputs { length outputs.now ≡ outputs_at (C.core chip.now) u }
         requires count { length self.old.waves ≡ length (C.core chip.now).nets }
-        requires room { HoldsUpTo self.old.due (count_of (C.core chip.now)) }
-        ensures { IsWrittenOut (C.core chip.now) (C.place_of chip.now) u outputs.now self.old self.new }
+        requires room { HoldsUpTo self.old.due (count_of (C.core chip.now) + 1) }
+
+        ensures { IsWrittenOut (C.core chip.now) (place_in (C.places chip.now)) u outputs.now self.old self.new }
     {
         let first = chip.cell(u).inputs();
         for output in 0..outputs.len() {
@@ -84,7 +114,7 @@ impl Network {
 
     /// The waves of an instance's input pins.
     fn input_waves<C: Linked>(&self, chip: &C, u: usize) -> PinWaves
-        requires known { u < count_of (C.core chip.now) }
+        requires placed { IsPlaced (C.core chip.now) (place_in (C.places chip.now)) u }
         requires count { length self.now.waves ≡ length (C.core chip.now).nets }
         ensures { result.items ≡ input_waves (C.core chip.now) self.now.waves u }
     {
@@ -97,7 +127,7 @@ impl Network {
 
     /// The waves of an instance's output pins.
     fn output_waves<C: Linked>(&self, chip: &C, u: usize) -> OutWaves
-        requires known { u < count_of (C.core chip.now) }
+        requires placed { IsPlaced (C.core chip.now) (place_in (C.places chip.now)) u }
         requires count { length self.now.waves ≡ length (C.core chip.now).nets }
         ensures { result.items ≡ output_waves (C.core chip.now) self.now.waves u }
     {
@@ -109,7 +139,8 @@ impl Network {
         outputs
     }
 
-    /// What an instance gives for these waves, if it has no defect and has them in this network too, which is good and at rest.
+    /// What an instance gives for these waves, if it has no defect and has them in this network too, which is
+    /// good and at rest.
     fn twin_outputs<C: Linked>(
         &self,
         chip: &C,
@@ -117,7 +148,7 @@ impl Network {
         aim: Option<ChipDefect>,
         pins: &[Wave],
     ) -> Option<OutWaves>
-        requires known { u < count_of (C.core chip.now) }
+        requires placed { IsPlaced (C.core chip.now) (place_in (C.places chip.now)) u }
         requires twin { IsTwin (C.core chip.now) self.now }
         ensures { IfSome result (λ outputs. IsGiven (C.core chip.now) aim u pins.now outputs.items) }
     {
@@ -131,21 +162,23 @@ impl Network {
         Some(self.output_waves(chip, u))
     }
 
-    /// Evaluates the instances that are due, in the order, until none is. Where an instance has the waves of the good network at its
-    /// input pins, and no defect, it has those of the good network at its output pins.
-    pub(crate) fn settle_beside<C: Linked>(
+    /// Evaluates the instances that are due, in the order, until none is. Where there is a good network beside
+    /// this one, and an instance has its waves at the input pins and no defect, the instance has them at the
+    /// output pins too.
+    pub(crate) fn settle<C: Linked>(
         &mut self,
         chip: &C,
         aim: Option<ChipDefect>,
-        twin: &Network,
+        twin: Option<&Network>,
         cells: &mut Cells,
     )
         requires listed { IsChipDefect (C.core chip.now) aim }
-        requires ready { IsReady (C.core chip.now) self.old }
-        requires twin { IsTwin (C.core chip.now) twin.now }
-        requires cells { AreCells (C.core chip.now) (C.number_of chip.now) cells.old }
-        ensures settled { IsSettled (C.core chip.now) (C.place_of chip.now) aim self.old self.new }
-        ensures cells { AreCells (C.core chip.now) (C.number_of chip.now) cells.new }
+        requires ready { IsReady (C.core chip.now) (place_in (C.places chip.now)) self.old }
+        requires twin { ForSome twin (λ good. IsTwin (C.core chip.now) good.now) }
+        requires cells { AreCells (C.core chip.now) (place_in (C.places chip.now)) (C.number_of chip.now) cells.old }
+
+        ensures settled { IsSettled (C.core chip.now) (place_in (C.places chip.now)) aim self.old self.new }
+        ensures cells { AreCells (C.core chip.now) (place_in (C.places chip.now)) (C.number_of chip.now) cells.new }
     {
         let mut from = 0;
         while let Some(place) = self.due.next(from) {
@@ -157,35 +190,45 @@ impl Network {
             from = place + 1;
         }
     }
-
-    /// Evaluates the instances that are due, in the order, until none is.
-    pub(crate) fn settle<C: Linked>(&mut self, chip: &C, aim: Option<ChipDefect>, cells: &mut Cells)
-        requires listed { IsChipDefect (C.core chip.now) aim }
-        requires ready { IsReady (C.core chip.now) self.old }
-        requires cells { AreCells (C.core chip.now) (C.number_of chip.now) cells.old }
-        ensures settled { IsSettled (C.core chip.now) (C.place_of chip.now) aim self.old self.new }
-        ensures cells { AreCells (C.core chip.now) (C.number_of chip.now) cells.new }
-    {
-        let mut from = 0;
-        while let Some(place) = self.due.next(from) {
-            self.due.remove(place);
-            let u = chip.order(place);
-            let pins = self.input_waves(chip, u);
-            let outputs = cells.respond(chip, u, aim, pins);
-            self.write(chip, u, outputs.as_slice());
-            from = place + 1;
-        }
-    }
 }
 
 ghost use Rattle.ca_sim.specs.PlaceSet.{Has, HoldsUpTo};
-ghost use Rattle.ca_sim.specs.Marking.{IsMarked};
+ghost use Rattle.ca_sim.specs.Marking.{IsMarked, HasAllPlaces};
+ghost use Rattle.ca_sim.specs.Network.{HasConstants};
+
+// The waves of the nets while no bit is set and no instance has been evaluated: those of constants are known.
+fn constant_waves<C: Linked>(alloc: Global, chip: &C) -> Result<Waves, NoMemory>
+    ensures { IfOk result (HasConstants (C.core chip.now)) }
+{
+    let mut waves = Waves::unknown(alloc, chip.nets())?;
+    let count = chip.constants();
+    for k in 0..count {
+        // The first constant of a net counts, so it comes last.
+        let constant = chip.constant(count - 1 - k);
+        waves.set(constant.net, Wave::pair(constant.value, constant.value));
+    }
+    Ok(waves)
+}
+
+// The places of all instances.
+fn all_places<C: Linked>(alloc: Global, chip: &C) -> Result<PlaceSet, NoMemory>
+    ensures { IfOk result (HasAllPlaces (C.core chip.now) (place_in (C.places chip.now))) }
+{
+    let mut due = PlaceSet::reserve(alloc, chip.instances() + 1)?;
+    for u in 0..chip.instances() {
+        let place = chip.place(u);
+        if place > 0 {
+            due.insert(place);
+        }
+    }
+    Ok(due)
+}
 
 /// The instances that read a net become due.
 fn mark_readers<C: Linked>(chip: &C, net: usize, due: &mut PlaceSet)
     requires known { net < length (C.core chip.now).nets }
-    requires room { HoldsUpTo due.old (count_of (C.core chip.now)) }
-    ensures { IsMarked (C.core chip.now) (C.place_of chip.now) net due.old due.new }
+    requires room { HoldsUpTo due.old (count_of (C.core chip.now) + 1) }
+    ensures { IsMarked (C.core chip.now) (place_in (C.places chip.now)) net due.old due.new }
 {
     for u in chip.readers(net) {
         due.insert(chip.place(*u as usize));
@@ -194,9 +237,9 @@ fn mark_readers<C: Linked>(chip: &C, net: usize, due: &mut PlaceSet)
 
 ghost use Rattle.std.specs.List.{All};
 ghost use Rattle.ca_net.specs.Wave.{IsWave};
+ghost use Rattle.ca_table.specs.Gives.{Gives};
 ghost use Rattle.ca_flat.specs.Chip.{cell_at, inputs_at};
 ghost use Rattle.ca_flat.specs.Flat.{circuit_in};
-ghost use Rattle.ca_table.specs.Gives.{Gives};
 ghost use Rattle.ca_sim.specs.Network.{IsTwin};
 ghost use Rattle.ca_sim.specs.Cells.{AreCells};
 
@@ -206,21 +249,25 @@ fn respond_beside<C: Linked>(
     u: usize,
     aim: Option<ChipDefect>,
     pins: PinWaves,
-    twin: &Network,
+    twin: Option<&Network>,
     cells: &mut Cells,
 ) -> OutWaves
-    requires known { u < count_of (C.core chip.now) }
+    requires placed { IsPlaced (C.core chip.now) (place_in (C.places chip.now)) u }
     requires listed { IsChipDefect (C.core chip.now) aim }
     requires pins { length pins.items ≡ inputs_at (C.core chip.now) u }
     requires waves { All IsWave pins.items }
-    requires twin { IsTwin (C.core chip.now) twin.now }
-    requires cells { AreCells (C.core chip.now) (C.number_of chip.now) cells.old }
-    ensures gives { Gives (cell_at (C.core chip.now) u) (circuit_in (C.core chip.now) aim u) pins.items result.items }
+    requires twin { ForSome twin (λ good. IsTwin (C.core chip.now) good.now) }
+    requires cells { AreCells (C.core chip.now) (place_in (C.places chip.now)) (C.number_of chip.now) cells.old }
+
+    ensures gives { Gives (cell_at (C.core chip.now) u) (circuit_in (C.core chip.now) aim u) pins.items
+        result.items }
     ensures waves { All IsWave result.items }
-    ensures cells { AreCells (C.core chip.now) (C.number_of chip.now) cells.new }
+    ensures cells { AreCells (C.core chip.now) (place_in (C.places chip.now)) (C.number_of chip.now) cells.new }
 {
-    match twin.twin_outputs(chip, u, aim, pins.as_slice()) {
-        Some(outputs) => outputs,
-        None => cells.respond(chip, u, aim, pins),
+    if let Some(good) = twin {
+        if let Some(outputs) = good.twin_outputs(chip, u, aim, pins.as_slice()) {
+            return outputs;
+        }
     }
+    cells.respond(chip, u, aim, pins)
 }

@@ -1,112 +1,191 @@
 //! The simulator of a chip.
 
-ghost use Rattle.std.specs.Prelude.{◌+◌, ◌*◌, length, ◌≡◌, ◌<◌, ◌⊎◌, slice_set};
+ghost use Rattle.std.specs.Prelude.{◌+◌, ◌*◌, ◌^◌, ◌≡◌, ◌<◌, ◌⊎◌, length, slice_set, IfOk};
 ghost use Rattle.ca_net.specs.State.{value_at};
-ghost use Rattle.ca_flat.specs.Chip.{IsChipDefect};
-ghost use Rattle.ca_table.specs.Gives.{wave_at};
-ghost use Rattle.ca_flat.specs.Pair.{bit_count};
+ghost use Rattle.ca_sim.specs.Seen.{value_of};
 
+use crate::bits::{Bits, Unset};
 use crate::cells::Cells;
 use crate::linked::Linked;
+use crate::net_waves::NetWaves;
 use crate::network::Network;
+use crate::networks::Networks;
+use ca_base::NoMemory;
 use ca_flat::ChipDefect;
 use ca_net::{State, Trit, Wave};
+use std::alloc::Global;
+use std::marker::Model;
 
-/// The bits that are set, the defect that is aimed at, and the waves of all nets without it and with it.
+/// The bits that are set, the defect that is aimed at, and the waves of all nets of a chip without it and with
+/// it. All memory is taken by `reserve`.
 #[derive(Drop)]
-pub struct Sim {
-    pub(crate) bits: State,
-    pub(crate) aim: Option<ChipDefect>,
-    pub(crate) good: Network,
-    pub(crate) faulty: Network,
-    pub(crate) cells: Cells,
+pub struct Sim<'a, C: Linked> {
+    chip: &'a C,
+    aim: Option<ChipDefect>,
+    networks: Networks,
+    cells: Cells,
+    aimed: u64,
 }
 
-impl Sim {
-    ghost use Rattle.ca_sim.specs.Sim.{IsSim, value_of};
+impl<'a, C: Linked> Model for Sim<'a, C> {
+    ghost use Rattle.ca_sim.specs.Simulator.{Simulator};
+    ghost use Rattle.ca_sim.specs.Linked.{place_in};
+    ghost use Rattle.ca_sim.specs.Kept.{IsKept};
 
-    /// The wave of a net without a defect.
-    pub fn good(&self, net: usize) -> Wave
-        requires { net < length self.now.good.waves }
-        ensures { result ≡ wave_at self.now.good.waves net }
+    ghost Value = { Simulator };
+
+    ghost view = { λ sim. record {
+      seen = record {
+        chip = C.core sim.chip.now;
+        places = C.places sim.chip.now;
+        aim = sim.aim;
+        pair = sim.networks.bits;
+        good = sim.networks.good.waves;
+        faulty = sim.networks.faulty.waves;
+      };
+      evaluated = sim.cells.evaluated;
+      aimed = sim.aimed;
+    } };
+
+    ghost invariant = { λ sim. IsKept (C.core sim.chip.now) (place_in (C.places sim.chip.now))
+        (C.number_of sim.chip.now) sim.aim sim.networks sim.cells };
+}
+
+impl<'a, C: Linked> Sim<'a, C> {
+    ghost use Rattle.ca_flat.specs.Code.{unset_pair};
+    ghost use Rattle.ca_sim.specs.Linked.{IsAim, place_in};
+    ghost use Rattle.ca_sim.specs.Simulator.{IsFresh, KeepsAim, KeepsPair, counted_up};
+
+    /// Takes all memory. No bit is set, and no defect is aimed at.
+    pub fn reserve(alloc: Global, chip: &'a C) -> Result<Self, NoMemory>
+        ensures { IfOk result (IsFresh (C.core chip.now) (C.places chip.now)) }
     {
-        self.good.waves.get(net)
+        let bits = State::unknown(alloc, 2 * chip.inputs())?;
+        let mut cells = Cells::reserve(alloc, chip)?;
+        let mut good = Network::reserve(alloc, chip)?;
+        good.settle(chip, None, None, &mut cells);
+        let faulty = good.copy(alloc, chip)?;
+        Ok(Sim {
+            chip,
+            aim: None,
+            networks: Networks { bits, good, faulty },
+            cells: cells.counted_anew(),
+            aimed: 0,
+        })
     }
 
-    /// The wave of a net with the defect that is aimed at.
-    pub fn faulty(&self, net: usize) -> Wave
-        requires { net < length self.now.faulty.waves }
-        ensures { result ≡ wave_at self.now.faulty.waves net }
+    /// The chip.
+    pub fn chip(&self) -> &'a C
+        ensures { C.core result.now ≡ self.now.seen.chip }
     {
-        self.faulty.waves.get(net)
+        self.chip
     }
 
-    /// The value of a bit, if it is set.
-    pub fn bit(&self, bit: usize) -> Option<bool>
-        requires { bit < length self.now.bits }
-        ensures { value_of result ≡ value_at self.now.bits bit }
+    /// Sets a bit, or unsets it.
+    pub fn set(&mut self, bit: u16, value: Option<bool>)
+        requires { bit < length self.old.seen.pair }
+
+        ensures pair { self.new.seen.pair ≡ slice_set self.old.seen.pair bit (value_of value) }
+        ensures kept { KeepsAim self.old self.new }
     {
-        match self.bits.get(bit) {
+        let chip = self.chip;
+        let bit = bit as usize;
+        let inputs = chip.inputs();
+        let input = input_of(bit, inputs);
+        let value = trit_of(value);
+        let first = if bit < inputs {
+            value
+        } else {
+            self.networks.bits.get(input)
+        };
+        let last = if bit < inputs {
+            self.networks.bits.get(inputs + input)
+        } else {
+            value
+        };
+        self.networks.change(chip, input, first, last);
+        self.networks.settle(chip, self.aim, &mut self.cells);
+    }
+
+    /// Gives all bits their values, and evaluates the instances that are due after that.
+    pub fn load<B: Bits>(&mut self, bits: &B)
+        requires { length (B.bits bits.now) ≡ length self.old.seen.pair }
+
+        ensures pair { self.new.seen.pair ≡ B.bits bits.now }
+        ensures kept { KeepsAim self.old self.new }
+    {
+        let chip = self.chip;
+        let inputs = chip.inputs();
+        for input in 0..inputs {
+            self.networks
+                .change(chip, input, bits.value(input), bits.value(inputs + input));
+        }
+        self.networks.settle(chip, self.aim, &mut self.cells);
+    }
+
+    /// Unsets all bits.
+    pub fn clear(&mut self)
+        ensures pair { self.new.seen.pair ≡ unset_pair self.old.seen.chip }
+        ensures kept { KeepsAim self.old self.new }
+    {
+        let unset = Unset {
+            count: 2 * self.chip.inputs(),
+        };
+        self.load(&unset);
+    }
+
+    /// Aims at a defect, or at none. The bits stay.
+    pub fn aim(&mut self, defect: Option<ChipDefect>)
+        requires { IsAim self.old.seen.chip (place_in self.old.seen.places) defect }
+
+        ensures aim { self.new.seen.aim ≡ defect }
+        ensures aimed { self.new.aimed ≡ counted_up self.old.aimed }
+        ensures kept { KeepsPair self.old self.new }
+    {
+        let chip = self.chip;
+        self.networks.aim(chip, self.aim, defect, &mut self.cells);
+        self.aim = defect;
+        self.aimed = self.aimed.saturating_add(1);
+    }
+
+    /// How often an instance was evaluated since `reserve`, up to the type's greatest value.
+    pub fn evaluated(&self) -> u64
+        ensures { result ≡ self.now.evaluated }
+    {
+        self.cells.evaluated
+    }
+
+    /// How often was aimed since `reserve`, up to the type's greatest value.
+    pub fn aimed(&self) -> u64
+        ensures { result ≡ self.now.aimed }
+    {
+        self.aimed
+    }
+}
+
+impl<C: Linked> NetWaves for Sim<'_, C> {
+    ghost seen = { λ sim. sim.seen };
+
+    fn good(&self, net: usize) -> Wave {
+        self.networks.good.waves.get(net)
+    }
+
+    fn faulty(&self, net: usize) -> Wave {
+        self.networks.faulty.waves.get(net)
+    }
+
+    fn bit(&self, bit: usize) -> Option<bool> {
+        match self.networks.bits.get(bit) {
             Trit::One => Some(true),
             Trit::Zero => Some(false),
             Trit::X => None,
         }
     }
 
-    /// Sets all bits to those of a pair, and evaluates each instance that changes once.
-    pub fn load<C: Linked>(&mut self, chip: &C, pair: &State)
-        requires pair { length pair.now ≡ bit_count (C.core chip.now) }
-        requires sim { IsSim (C.core chip.now) (C.number_of chip.now) self.old }
-        ensures sim { IsSim (C.core chip.now) (C.number_of chip.now) self.new }
-        ensures bits { self.new.bits ≡ pair.now }
-        ensures aim { self.new.aim ≡ self.old.aim }
-    {
-        let inputs = chip.inputs();
-        for input in 0..inputs {
-            self.bits.set(input, pair.get(input));
-            self.bits.set(inputs + input, pair.get(inputs + input));
-            self.good.feed(chip, input, &self.bits);
-            self.faulty.feed(chip, input, &self.bits);
-        }
-        self.good.settle(chip, None, &mut self.cells);
-        self.faulty
-            .settle_beside(chip, self.aim, &self.good, &mut self.cells);
-    }
-
-    /// Sets a bit, or unsets it.
-    pub fn set<C: Linked>(&mut self, chip: &C, bit: usize, value: Option<bool>)
-        requires bit { bit < bit_count (C.core chip.now) }
-        requires sim { IsSim (C.core chip.now) (C.number_of chip.now) self.old }
-        ensures sim { IsSim (C.core chip.now) (C.number_of chip.now) self.new }
-        ensures bits { self.new.bits ≡ slice_set self.old.bits bit (value_of value) }
-        ensures aim { self.new.aim ≡ self.old.aim }
-    {
-        let input = input_of(bit, chip.inputs());
-        self.bits.set(bit, trit_of(value));
-        self.good.feed(chip, input, &self.bits);
-        self.faulty.feed(chip, input, &self.bits);
-        self.good.settle(chip, None, &mut self.cells);
-        self.faulty
-            .settle_beside(chip, self.aim, &self.good, &mut self.cells);
-    }
-
-    /// Aims at a defect, or at none.
-    pub fn aim<C: Linked>(&mut self, chip: &C, aim: Option<ChipDefect>)
-        requires listed { IsChipDefect (C.core chip.now) aim }
-        requires sim { IsSim (C.core chip.now) (C.number_of chip.now) self.old }
-        ensures sim { IsSim (C.core chip.now) (C.number_of chip.now) self.new }
-        ensures bits { self.new.bits ≡ self.old.bits }
-        ensures aim { self.new.aim ≡ aim }
-    {
-        self.faulty.turn(chip, self.aim);
-        self.faulty.turn(chip, aim);
-        self.aim = aim;
-        self.faulty
-            .settle_beside(chip, aim, &self.good, &mut self.cells);
+    fn exact(&self) {
+        let _ = &self.aim;
     }
 }
-
-ghost use Rattle.ca_sim.specs.Sim.{value_of};
 
 // The chip input of a bit.
 fn input_of(bit: usize, inputs: usize) -> usize

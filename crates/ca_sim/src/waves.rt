@@ -33,6 +33,15 @@ impl Waves {
         })
     }
 
+    /// The same waves.
+    pub fn copy(&self, alloc: Global) -> Result<Self, NoMemory>
+        ensures { IfOk result (λ waves. waves ≡ self.now) }
+    {
+        let mut waves = Vec::with_capacity(alloc, self.waves.len())?;
+        waves.extend_from_slice(self.waves.as_slice())?;
+        Ok(Waves { waves })
+    }
+
     /// The wave of a net.
     pub fn get(&self, net: usize) -> Wave
         requires { net < length self.now }

@@ -1,16 +1,14 @@
--- Waves of the nets of a chip, one per net, and what ties them to the flat network.
+-- What only proofs of code cite: instances that are current, and those that are due.
 use Rattle.std.specs.Prelude.{ℕ, zero, suc, ◌+◌, ◌≡◌, ◌<◌, List, [], ◌∷◌, length, Option}
 use Rattle.ca_net.specs.declared.trit.Trit.{Trit}
 use Rattle.ca_net.specs.declared.wave.Wave.{Wave}
 use Rattle.ca_net.specs.declared.node.NodeKind.TheVariants.{Input}
-use Rattle.ca_net.specs.Wave.{IsWave}
-use Rattle.ca_net.specs.Wave.{pair_of}
+use Rattle.ca_net.specs.Wave.{IsWave, pair_of}
+use Rattle.ca_table.specs.Gives.{wave_at, Gives}
 use Rattle.ca_flat.specs.declared.chip_defect.ChipDefect.{ChipDefect}
 use Rattle.ca_flat.specs.Chip.{Chip, cell_at, inputs_at, outputs_at, net_of, output_net, count_of, net_kind}
 use Rattle.ca_flat.specs.Flat.{circuit_in}
 use Rattle.ca_flat.specs.Pair.{net_value}
-use Rattle.ca_flat.specs.Waves.{FlatWaves, wave_of}
-use Rattle.ca_table.specs.Gives.{wave_at, Gives}
 
 -- the waves of the nets that so many pins are on, from a pin on
 unfoldable pub waves_from : (ℕ → ℕ) → List Wave → ℕ → ℕ → List Wave
@@ -27,20 +25,22 @@ output_waves chip waves u = waves_from (output_net chip u) waves 0 (outputs_at c
 
 -- the output nets of the instance have the waves that its cell gives for those of its input nets
 abbrev pub IsCurrent : Chip → Option ChipDefect → List Wave → ℕ → Type 0
-IsCurrent chip o waves u = Gives (cell_at chip u) (circuit_in chip o u) (input_waves chip waves u) (output_waves chip waves u)
+IsCurrent chip given waves u =
+    Gives (cell_at chip u) (circuit_in chip given u) (input_waves chip waves u) (output_waves chip waves u)
 
 -- the wave of an input net for a partial pair: what the pair gives it, or its constant
 abbrev pub pair_wave : Chip → List Trit → ℕ → Wave
 pair_wave chip pair net = pair_of (net_value chip pair 0 net) (net_value chip pair (length chip.inputs) net)
 
 -- a wave for each net; the input nets have those of the pair, and each instance that isn't due is current
-pub record IsSimulated (chip : Chip) (o : Option ChipDefect) (pair : List Trit) (due : ℕ → Type 0) (waves : List Wave) : Type 0 where
+pub record IsSimulated (chip : Chip) (given : Option ChipDefect) (pair : List Trit) (due : ℕ → Type 0)
+    (waves : List Wave) : Type 0 where
   pub count : length waves ≡ length chip.nets
   pub are_waves : (net : ℕ) → IsWave (wave_at waves net)
-  pub inputs : (net : ℕ) → net < length chip.nets → net_kind chip net ≡ Input → wave_at waves net ≡ pair_wave chip pair net
-  pub current : (u : ℕ) → u < count_of chip → (due u → ⊥) → IsCurrent chip o waves u
+  pub inputs : (net : ℕ) → net < length chip.nets → net_kind chip net ≡ Input
+      → wave_at waves net ≡ pair_wave chip pair net
+  pub current : (u : ℕ) → u < count_of chip → (due u → ⊥) → IsCurrent chip given waves u
 
--- a wave for each net: the one that the flat network, good or with the defect, has there for the pair
-pub record AreNetWaves (chip : Chip) (o : Option ChipDefect) (pair : List Trit) (waves : List Wave) : Type 0 where
-  pub count : length waves ≡ length chip.nets
-  pub exact : (flat : FlatWaves chip o pair) (net : ℕ) → net < length chip.nets → wave_at waves net ≡ wave_of flat net
+-- nothing is due
+abbrev pub none_due : ℕ → Type 0
+none_due u = ⊥
