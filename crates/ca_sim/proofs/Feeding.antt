@@ -18,7 +18,7 @@ use Rattle.ca_sim.specs.Network.{IsDue, IsPut, IsFedAt, IsReady}
 use Rattle.ca_sim.proofs.StepLemmas.{fed}
 use Rattle.ca_sim.proofs.Putting.{reader_placed}
 
-neq-eqb : (a b : ℕ) → (a ≡ b → ⊥) → (a == b) ≡ false
+pub neq-eqb : (a b : ℕ) → (a ≡ b → ⊥) → (a == b) ≡ false
 neq-eqb a b apart = at (a == b) refl
   where
     at : (c : Bool) → (a == b) ≡ c → c ≡ false

@@ -12,3 +12,6 @@ pub mod SimLemmas
 pub mod CacheLemmas
 pub mod Loading
 pub mod Twins
+pub mod Beginning
+pub mod RoomsTo
+pub mod Keeping

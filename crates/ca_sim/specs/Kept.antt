@@ -14,4 +14,4 @@ pub record IsKept (chip : Chip) (place_of number_of : ℕ → ℕ) (aim : Option
   pub linked : IsLinked chip place_of number_of
   pub aim_is : IsAim chip place_of aim
   pub rest : AreAtRest chip place_of aim nets
-  pub cells : AreCells chip place_of number_of cells
+  pub rooms : AreCells chip place_of number_of cells

@@ -5,6 +5,7 @@ ghost use Rattle.ca_net.specs.State.{value_at};
 ghost use Rattle.ca_flat.specs.Pair.{bit_count};
 ghost use Rattle.ca_flat.specs.declared.chip_defect.ChipDefect.{ChipDefect};
 
+use crate::bits::Bits;
 use crate::cells::Cells;
 use crate::linked::Linked;
 use crate::network::Network;
@@ -41,6 +42,22 @@ impl Networks {
         self.bits.set(chip.inputs() + input, last);
         self.good.feed(chip, input, &self.bits);
         self.faulty.feed(chip, input, &self.bits);
+    }
+
+    /// Gives all chip inputs their bits.
+    pub(crate) fn load<C: Linked, B: Bits>(&mut self, chip: &C, bits: &B)
+        requires count { length (B.bits bits.now) ≡ bit_count (C.core chip.now) }
+        requires ready { AreReady (C.core chip.now) (place_in (C.places chip.now)) self.old }
+
+        ensures bits { self.new.bits ≡ B.bits bits.now }
+        ensures underway { (aim : Option ChipDefect)
+            → AreUnderway (C.core chip.now) (place_in (C.places chip.now)) aim self.old
+            → AreUnderway (C.core chip.now) (place_in (C.places chip.now)) aim self.new }
+    {
+        let inputs = chip.inputs();
+        for input in 0..inputs {
+            self.change(chip, input, bits.value(input), bits.value(inputs + input));
+        }
     }
 
     /// Evaluates the instances that are due, in the order, until none is.

@@ -1,6 +1,6 @@
 //! The simulator of a chip.
 
-ghost use Rattle.std.specs.Prelude.{◌+◌, ◌*◌, ◌^◌, ◌≡◌, ◌<◌, ◌⊎◌, length, slice_set, IfOk};
+ghost use Rattle.std.specs.Prelude.{◌+◌, ◌*◌, ◌^◌, ◌≡◌, ◌≢◌, ◌<◌, ◌⊎◌, length, slice_set, IfOk};
 ghost use Rattle.ca_net.specs.State.{value_at};
 ghost use Rattle.ca_sim.specs.Seen.{value_of};
 
@@ -93,16 +93,9 @@ impl<'a, C: Linked> Sim<'a, C> {
         let inputs = chip.inputs();
         let input = input_of(bit, inputs);
         let value = trit_of(value);
-        let first = if bit < inputs {
-            value
-        } else {
-            self.networks.bits.get(input)
-        };
-        let last = if bit < inputs {
-            self.networks.bits.get(inputs + input)
-        } else {
-            value
-        };
+        let first = chosen(input, bit, value, self.networks.bits.get(input));
+        let place = inputs + input;
+        let last = chosen(place, bit, value, self.networks.bits.get(place));
         self.networks.change(chip, input, first, last);
         self.networks.settle(chip, self.aim, &mut self.cells);
     }
@@ -115,11 +108,7 @@ impl<'a, C: Linked> Sim<'a, C> {
         ensures kept { KeepsAim self.old self.new }
     {
         let chip = self.chip;
-        let inputs = chip.inputs();
-        for input in 0..inputs {
-            self.networks
-                .change(chip, input, bits.value(input), bits.value(inputs + input));
-        }
+        self.networks.load(chip, bits);
         self.networks.settle(chip, self.aim, &mut self.cells);
     }
 
@@ -194,6 +183,14 @@ fn input_of(bit: usize, inputs: usize) -> usize
     ensures of { (bit ≡ result) ⊎ (bit ≡ inputs + result) }
 {
     if bit < inputs { bit } else { bit - inputs }
+}
+
+// The value at a place, where one is given to the bit.
+fn chosen(place: usize, bit: usize, value: Trit, old: Trit) -> Trit
+    ensures here { place ≡ bit → result ≡ value }
+    ensures elsewhere { place ≢ bit → result ≡ old }
+{
+    if place == bit { value } else { old }
 }
 
 // The value of a bit.
