@@ -1,6 +1,6 @@
 -- A look-up in a library is one in its map.
 use Rattle.std.proofs.Common.{◌≡◌, ℕ, suc, ◌+◌, ◌<◌, List, Bool, true, false, [], ◌∷◌, ◌++◌, length, drop, get_or, refl, sym, ◌∙◌, ap, subst, drop-cons, add-one, true≢false, Bor, ◌≤◌, arith, length-append}
-use Rattle.std.specs.Prelude.{Option, Some, None, IsSome, IsNone, IfSome, Vec, cond, slice_get}
+use Rattle.std.specs.Prelude.{Option, Some, None, IsSome, IsSomeAnd, IsNone, IfSome, Vec, cond, slice_get}
 use Rattle.std.specs.Option.{option_copied, option_map}
 use Rattle.std.specs.List.{All}
 use Rattle.std.proofs.lemmas.List.{map-append, length-map}
@@ -16,7 +16,7 @@ use Rattle.std.specs.Map.{lookup}
 use Rattle.std.specs.declared.alloc.Global.{Global}
 use Rattle.ca_cell.specs.declared.library.Entry.{Entry}
 use Rattle.ca_cell.specs.declared.library.TheConstants.{MOST_CELLS}
-use Rattle.ca_cell.specs.Library.{Named, IsEntry, entry_of}
+use Rattle.ca_cell.specs.Library.{Named, IsEntry, entry_of, IsPlaceOf}
 use Rattle.ca_lex.specs.Words.{upper_case}
 use Rattle.ca_cell.specs.Entries.{named_entries, AllUpperCase, AllEntries}
 
@@ -95,6 +95,17 @@ pub named_at : (entries : List (Vec ℕ Global × Entry)) (i : ℕ) (key : Vec �
 named_at entries i key entry there =
     slice_get-map (λ (kept : Vec ℕ Global × Entry). record { name = kept.0.items; entry = kept.1 }) entries i
     ∙ ap (option_map (λ (kept : Vec ℕ Global × Entry). record { name = kept.0.items; entry = kept.1 })) there
+
+-- a place at which the entry of a name stands is its place
+pub place_found : (entries : List (Vec ℕ Global × Entry)) (library : List Named) (name : List ℕ) (place : ℕ)
+    (key : Vec ℕ Global) (entry : Entry) → named_entries entries ≡ library
+    → slice_get entries place ≡ Some (key, entry) → entry_of library name ≡ Some entry
+    → IsPlaceOf library name place
+place_found entries library name place key entry view there found =
+    let at : slice_get library place ≡ Some (record { name = key.items; entry = entry }) =
+    subst (λ (named : List Named). slice_get named place ≡ Some (record { name = key.items; entry = entry })) view
+    (named_at entries place key entry there) in
+    subst (λ (here : Option Named). IsSomeAnd here (λ named. entry_of library name ≡ Some named.entry)) (sym at) found
 
 -- what isn't there is none
 none : {T : Type 0} (found : Option T) → IsNone found → found ≡ None

@@ -1,5 +1,5 @@
 -- Libraries of cells by name.
-use Rattle.std.specs.Prelude.{ℕ, ◌+◌, ◌≡◌, List, [], ◌∷◌, length, Option, Some, None, IsSome, IsNone, if◌then◌else◌}
+use Rattle.std.specs.Prelude.{ℕ, ◌+◌, ◌≡◌, List, [], ◌∷◌, length, Option, Some, None, IsSome, IsNone, IsSomeAnd, slice_get, if◌then◌else◌}
 use Rattle.std.specs.Str.{bytes_eq}
 use Rattle.ca_lex.specs.Words.{upper_case}
 use Rattle.ca_cell.specs.declared.library.Entry.{Entry}
@@ -29,6 +29,10 @@ pub record Named : Type 0 where
 abbrev pub entry_of : List Named → List ℕ → Option Entry
 entry_of [] name = None
 entry_of (named ∷ more) name = if bytes_eq name named.name then Some named.entry else entry_of more name
+
+-- the entry at the place is that of the kept name
+abbrev pub IsPlaceOf : List Named → List ℕ → ℕ → Type 0
+IsPlaceOf library name place = IsSomeAnd (slice_get library place) (λ named. entry_of library name ≡ Some named.entry)
 
 -- why an entry wasn't added: its name is there; or it isn't, and the library is full, with one cell more than it may have; or there
 -- was no memory

@@ -1,6 +1,6 @@
 //! Libraries of cells by name.
 
-ghost use Rattle.std.specs.Prelude.{◌≡◌, ◌<◌, ◌≤◌, [], ◌∷◌, ◌++◌, length, map, ◌↔◌, IsTrue, IsSome, IsNone, IfSome, IfOk, IfErr, OnOk, OnErr};
+ghost use Rattle.std.specs.Prelude.{◌≡◌, ◌<◌, ◌≤◌, [], ◌∷◌, ◌++◌, length, map, ◌↔◌, IsTrue, IsSome, IsNone, IfSome, IsSomeAnd, slice_get, IfOk, IfErr, OnOk, OnErr};
 ghost use Rattle.std.specs.Option.{option_copied};
 ghost use Rattle.ca_lex.specs.Words.{upper_case};
 ghost use Rattle.ca_cell.specs.declared.library.LibraryFault.TheVariants as fault;
@@ -92,7 +92,7 @@ impl Model for Library {
 }
 
 impl Library {
-    ghost use Rattle.ca_cell.specs.Library.{Named, IsEntry, IsCause, entry_of};
+    ghost use Rattle.ca_cell.specs.Library.{Named, IsEntry, IsCause, entry_of, IsPlaceOf};
 
     /// The library of no cells.
     pub fn new(alloc: Global) -> Result<Self, NoMemory>
@@ -146,6 +146,55 @@ impl Library {
             }
         }
         None
+    }
+
+    /// The place of the entry of a name, which may be in any case, in the order in which entries were added.
+    pub fn place(&self, name: &[u8]) -> Option<usize>
+        ensures some { IfSome result (IsPlaceOf self.now (upper_case name.now)) }
+        ensures none { IsNone result → IsNone (entry_of self.now (upper_case name.now)) }
+    {
+        match self.kept_place(name) {
+            Some(place) => Some(place),
+            None => self.search_place(name),
+        }
+    }
+
+    // The place of the entry that is kept under this name.
+    fn kept_place(&self, name: &[u8]) -> Option<usize>
+        ensures some { IfSome result (IsPlaceOf self.now name.now) }
+        ensures upper { IsSome result → upper_case name.now ≡ name.now }
+    {
+        match self.entries.get_full(name) {
+            Some((place, _, _)) => Some(place),
+            None => None,
+        }
+    }
+
+    // The place of the first entry that is kept under this name in upper case.
+    fn search_place(&self, name: &[u8]) -> Option<usize>
+        ensures some { IfSome result (IsPlaceOf self.now (upper_case name.now)) }
+        ensures none { IsNone result → IsNone (entry_of self.now (upper_case name.now)) }
+    {
+        for i in 0..self.entries.len() {
+            if let Some((key, _)) = self.entries.get_index(i) {
+                if is_upper_case(key, name) {
+                    return Some(i);
+                }
+            }
+        }
+        None
+    }
+
+    /// The entry at a place, in the order in which entries were added.
+    pub fn entry(&self, place: usize) -> &Entry
+        requires { place < length self.now }
+        ensures at { IsSomeAnd (slice_get self.now place) (λ named. named.entry ≡ result.now) }
+        ensures entry { IsEntry result.now }
+    {
+        match self.entries.get_index(place) {
+            Some((_, entry)) => entry,
+            None => unreachable!(),
+        }
     }
 
     /// Adds an entry under a name.

@@ -2,12 +2,12 @@ pub mod OrderLemmas
 pub mod WalkLemmas
 pub mod WorkLemmas
 pub mod LoopLemmas
-pub mod CoreLemmas
-pub mod CorePartLemmas
-pub mod CoreIsChip
+pub mod NoLoopLemmas
+pub mod PartLemmas
 pub mod DriverLemmas
 pub mod FeedingLemmas
 pub mod PathLemmas
 pub mod WiredLemmas
 pub mod ReaderLemmas
 pub mod EndLemmas
+pub mod CellLemmas

@@ -13,8 +13,8 @@ use Rattle.ca_wired.specs.Paths.{is_on_data, is_on_port}
 use Rattle.ca_wired.specs.declared.order.SortFault.{SortFault}
 use Rattle.ca_wired.specs.declared.order.SortFault.TheVariants.{Loop, NoMemory}
 use Rattle.ca_wired.specs.Wired.{wire_fault, IsWireCause, IsFirstMisdriven, AreDriven, AreUnobserved, KeepsNetRules}
-use Rattle.ca_wired.proofs.CoreLemmas.{contains_has}
-use Rattle.ca_wired.proofs.CorePartLemmas.{of_all}
+use Rattle.ca_wired.proofs.PartLemmas.{contains_has}
+use Rattle.ca_wired.proofs.PartLemmas.{of_all}
 use Rattle.ca_wired.proofs.DriverLemmas.{of_get, some_within}
 use Rattle.ca_wired.proofs.FeedingLemmas.{item_of}
 use Rattle.ca_wired.proofs.PathLemmas.{data_within}

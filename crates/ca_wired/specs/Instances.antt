@@ -2,7 +2,8 @@
 use Rattle.std.specs.Prelude.{ℕ, ◌+◌, ◌≡◌, List, [], ◌∷◌, ◌++◌, Some, slice_get}
 use Rattle.ca_wired.specs.declared.pins.ScanPin.{ScanPin}
 use Rattle.ca_wired.specs.declared.pins.ScanPin.TheVariants.{D, Q, Si, So, Se, Ck, Hold}
-use Rattle.ca_wired.specs.Linked.{ScanNets, Body, Gate, Scan, Part, Chip, input_nets, output_nets}
+use Rattle.ca_wired.specs.Linked.{ScanNets, Body, Gate, Scan, Part, Chip, cell_of, input_nets, output_nets, IsGate}
+use Rattle.ca_cell.specs.declared.raw.RawCell.{RawCell}
 
 -- the place of an instance, if it is one of the library
 abbrev pub if_gate : ℕ → Body → List ℕ
@@ -56,9 +57,25 @@ abbrev pub IsScan : Body → Type 0
 IsScan (Gate cell inputs outputs) = ⊥
 IsScan (Scan nets) = Unit {0}
 
+-- the instance is of the library cell at this place
+abbrev pub IsOfCell : ℕ → Body → Type 0
+IsOfCell place (Gate cell inputs outputs) = cell ≡ place
+IsOfCell place (Scan nets) = ⊥
+
+-- the subcircuit is that of the instance's cell
+abbrev pub IsCellOf : List RawCell → Body → RawCell → Type 0
+IsCellOf cells (Gate cell inputs outputs) raw = raw ≡ cell_of cells cell
+IsCellOf cells (Scan nets) raw = ⊥
+
 -- a library instance of this name
 pub record IsNamedGate (chip : Chip) (name : List ℕ) (u : ℕ) : Type 0 where
   pub part : Part
   pub at : slice_get chip.parts u ≡ Some part
-  pub is_gate : if_gate u part.body ≡ u ∷ []
+  pub is_gate : IsGate part.body
   pub named : part.name ≡ name
+
+-- the library instance at a place of the order has this name
+pub record HasNamed (chip : Chip) (name : List ℕ) (k : ℕ) : Type 0 where
+  pub u : ℕ
+  pub at : slice_get chip.order k ≡ Some u
+  pub is : IsNamedGate chip name u

@@ -10,5 +10,4 @@ pub mod Ends
 pub mod Instances
 pub mod Kept
 pub mod Wired
-pub mod Core
 pub mod Laws

@@ -1,14 +1,9 @@
 //! Laws of linked chips.
 
-ghost use Rattle.ca_wired.specs.Laws.{OrderHasNoLoop, CoreIsFlat};
+ghost use Rattle.ca_wired.specs.Laws.{OrderHasNoLoop};
 
 /// Where there is an order, no list of instances, each driving a net on an input pin of the next, returns to
 /// its first.
 pub fn order_has_no_loop()
     ensures { OrderHasNoLoop }
-{}
-
-/// The core of a chip that links is one that a flat network can stand on.
-pub fn core_is_flat()
-    ensures { CoreIsFlat }
 {}

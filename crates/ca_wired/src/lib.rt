@@ -2,6 +2,7 @@
 //! instances in which each comes after those that drive its inputs.
 #![tactic(auto)]
 
+mod cells;
 mod chip;
 mod controls;
 mod draft;
@@ -23,7 +24,7 @@ pub use controls::Misused;
 pub use draft::Draft;
 pub use drivers::Sources;
 pub use instances::{InstanceId, InstanceList};
-pub use laws::{core_is_flat, order_has_no_loop};
+pub use laws::order_has_no_loop;
 pub use parts::{Body, NetId, NetList, Part, PortBit, ScanNets, Source};
 pub use pins::ScanPin;
 pub use wiring::{WireFault, wire};

@@ -3,7 +3,7 @@
 ghost use Rattle.std.specs.Prelude.{ℕ, ◌≡◌, ◌<◌, ◌^◌, ◌++◌, length, Some, slice_get, IsSomeAnd, IfSome, IfNone, IfOk, OnOk};
 ghost use Rattle.ca_wired.specs.Linked.{input_nets};
 ghost use Rattle.ca_wired.specs.Drivers.{IsDrafted};
-ghost use Rattle.ca_wired.specs.Instances.{if_gate, if_scan, gates_of, scans_of, net_of_pin, pin_nets, HasOnPin, IsScan, IsNamedGate};
+ghost use Rattle.ca_wired.specs.Instances.{if_gate, if_scan, gates_of, scans_of, net_of_pin, pin_nets, HasOnPin, IsScan};
 
 use crate::chip::Chip;
 use crate::draft::Draft;

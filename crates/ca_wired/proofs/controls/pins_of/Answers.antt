@@ -2,7 +2,7 @@ use Rattle.std.proofs.Common.{◌<◌, sym, subst}
 use Rattle.std.specs.List.{All}
 use Rattle.ca_wired.specs.declared.parts.Part.{Part}
 use Rattle.ca_wired.specs.Linked.{net_count, input_nets}
-use Rattle.ca_wired.proofs.CorePartLemmas.{of_all}
+use Rattle.ca_wired.proofs.PartLemmas.{of_all}
 use Rattle.ca_wired.proofs.PathLemmas.{part_marked}
 use Rattle.ca_wired.proofs.controls.pins_of.Goals as goal
 

@@ -2,7 +2,7 @@ use Rattle.std.proofs.Common.{◌∙◌, ◌++◌, [], ◌∷◌, ap₂, sym, �
 use Rattle.ca_wired.specs.declared.parts.PortBit.{PortBit}
 use Rattle.ca_wired.specs.Linked.{net_count}
 use Rattle.ca_wired.specs.Ends.{end_nets}
-use Rattle.ca_wired.proofs.CorePartLemmas.{of_all}
+use Rattle.ca_wired.proofs.PartLemmas.{of_all}
 use Rattle.ca_wired.proofs.EndLemmas.{flat_more}
 use Rattle.ca_wired.proofs.ends.ports_of.Goals as goal
 

@@ -1,4 +1,4 @@
-use Rattle.ca_wired.proofs.CoreIsChip.{no_feeding_loop}
+use Rattle.ca_wired.proofs.NoLoopLemmas.{no_feeding_loop}
 use Rattle.ca_wired.proofs.laws.order_has_no_loop.Goals as goal
 
 pub returns : goal.returns

@@ -1,7 +1,7 @@
 use Rattle.std.proofs.Common.{◌<◌, sym, subst}
 use Rattle.std.specs.List.{All}
 use Rattle.ca_wired.specs.Linked.{Part, net_count, input_nets, output_nets, data_nets}
-use Rattle.ca_wired.proofs.CorePartLemmas.{of_all}
+use Rattle.ca_wired.proofs.PartLemmas.{of_all}
 use Rattle.ca_wired.proofs.PathLemmas.{part_marked, data_within}
 use Rattle.ca_wired.proofs.paths.data_of.Goals as goal
 

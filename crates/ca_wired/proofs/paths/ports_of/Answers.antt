@@ -2,7 +2,7 @@ use Rattle.std.proofs.Common.{◌+◌, ◌<◌, sym, ◌∙◌, subst, take}
 use Rattle.std.specs.List.{list_any}
 use Rattle.ca_wired.specs.Linked.{PortBit, net_count}
 use Rattle.ca_wired.specs.Paths.{AreMarks, is_port_on}
-use Rattle.ca_wired.proofs.CorePartLemmas.{of_all}
+use Rattle.ca_wired.proofs.PartLemmas.{of_all}
 use Rattle.ca_wired.proofs.PathLemmas.{port_marked, port_unmarked, same_bool, other_bool}
 use Rattle.ca_wired.proofs.paths.ports_of.Goals as goal
 use Rattle.ca_wired.proofs.paths.ports_of.Goals.{then-port-is_input, else-port-is_input}

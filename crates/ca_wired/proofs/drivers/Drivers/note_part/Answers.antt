@@ -2,7 +2,7 @@ use Rattle.std.proofs.Common.{◌≡◌, ◌+◌, ◌<◌, sym, subst, arith, le
 use Rattle.std.specs.List.{All}
 use Rattle.ca_wired.specs.Linked.{Part, FromPin, net_count, output_nets}
 use Rattle.ca_wired.specs.Drivers.{AreNoted, IsSeen}
-use Rattle.ca_wired.proofs.CorePartLemmas.{of_all}
+use Rattle.ca_wired.proofs.PartLemmas.{of_all}
 use Rattle.ca_wired.proofs.DriverLemmas.{pin_seen, part_seen, of_get}
 use Rattle.ca_wired.proofs.drivers.Drivers.note_part.Goals as goal
 

@@ -2,7 +2,7 @@ use Rattle.std.proofs.Common.{◌≡◌, ◌+◌, ◌<◌, sym, ◌∙◌, subst
 use Rattle.std.specs.List.{All}
 use Rattle.ca_wired.specs.Linked.{Part, Body, net_count, input_nets}
 use Rattle.ca_wired.specs.Reading.{HaveReaders, ReadsSoFar}
-use Rattle.ca_wired.proofs.CorePartLemmas.{of_all}
+use Rattle.ca_wired.proofs.PartLemmas.{of_all}
 use Rattle.ca_wired.proofs.DriverLemmas.{of_get}
 use Rattle.ca_wired.proofs.ReaderLemmas.{pin_added, pins_begin, pins_seen, scan_passed}
 use Rattle.ca_wired.proofs.readers.Readers.add_part.Goals as goal

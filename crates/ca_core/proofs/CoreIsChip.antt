@@ -11,12 +11,19 @@ use Rattle.std.proofs.lemmas.Bool.{cases_lt, ne_eqb, eq-eqb}
 use Rattle.ca_net.specs.declared.scale.TheConstants.{OUTPUT_NET}
 use Rattle.ca_net.specs.declared.node.NodeKind.TheVariants as node
 use Rattle.ca_cell.specs.Raw.{is_input, is_output, role_count}
-use Rattle.ca_wired.specs.Order.{HasNoLoop}
-use Rattle.ca_wired.specs.Linked.{Body, Gate, Scan, Part, Chip, net_count, has, is_scan_path, gate_inputs, gate_outputs, data_nets, output_nets, outputs_of, FromPin, Drives, IsBody, Feeds, IsGate, IsLibrary, IsWired, PortBit, port_nets, d_nets}
-use Rattle.ca_wired.specs.Core.{Instance, cell_at, inputs_at, outputs_at, net_of, output_net, count_of, net_kind, PinDrives, IsCell, IsCore, core_net, core_kinds, stored_nets, kind_of, core_instance, core_of, body_rank, rank_in, rank_of}
-use Rattle.ca_wired.proofs.OrderLemmas.{place_of, contained_at, no_loop}
-use Rattle.ca_wired.proofs.CoreLemmas.{IsOutside, core_less, core_same, length-core_kinds, kind_at, net_of_number, has_contains, contains_has}
-use Rattle.ca_wired.proofs.CorePartLemmas.{pins_in, body_is_cell, stored_count, stored_pin, read_count, read_pin, stored_is_data, read_is_data, first_stored, stored_is_driven, core_at, part_at, of_all, of_list}
+use Rattle.ca_wired.specs.declared.parts.Body.{Body}
+use Rattle.ca_wired.specs.declared.parts.Part.{Part}
+use Rattle.ca_wired.specs.declared.parts.PortBit.{PortBit}
+use Rattle.ca_wired.specs.declared.parts.Source.TheVariants.{FromPin}
+use Rattle.ca_wired.specs.declared.parts.Body.TheVariants.{Gate, Scan}
+use Rattle.ca_wired.specs.Linked.{Chip, net_count, has, is_scan_path, gate_inputs, gate_outputs, data_nets, output_nets, outputs_of, Drives, IsBody, Feeds, IsGate, IsLibrary, IsWired, port_nets, d_nets}
+use Rattle.ca_flat.specs.Chip.{Instance, cell_at, inputs_at, outputs_at, net_of, output_net, count_of, net_kind, IsCell, IsChip}
+use Rattle.ca_flat.specs.Chip as flat
+use Rattle.ca_core.specs.Core.{core_net, core_kinds, stored_nets, kind_of, core_instance, core_of, body_rank, rank_in, rank_of}
+use Rattle.ca_wired.proofs.OrderLemmas.{place_of, contained_at}
+use Rattle.ca_core.proofs.CoreLemmas.{IsOutside, core_less, core_same, length-core_kinds, kind_at, net_of_number}
+use Rattle.ca_core.proofs.CorePartLemmas.{pins_in, body_is_cell, stored_count, stored_pin, read_count, read_pin, stored_is_data, read_is_data, first_stored, stored_is_driven, core_at, part_at}
+use Rattle.ca_wired.proofs.PartLemmas.{has_contains, contains_has, of_all, of_list}
 
 -- what the pieces of a list contain
 contains_piece : {X : Type 0} (f : X → List ℕ) (xs : List X) (n : ℕ) → Contains (flat_map f xs) n → (x : X) × Contains xs x × Contains (f x) n
@@ -102,13 +109,13 @@ module _ (chip : Chip) (is : IsWired chip) where
       ]
 
   -- the net of the linked chip that a pin of the core drives
-  record IsDriven (k : ℕ) (p : PinDrives (core_of chip) k) : Type 0 where
+  record IsDriven (k : ℕ) (p : flat.Drives (core_of chip) k) : Type 0 where
     part : Part
     at : slice_get chip.parts p.instance ≡ Some part
     within : p.output < length (stored_nets part.body)
     numbered : core_net chip (get_or (stored_nets part.body) p.output 0) ≡ k
 
-  driven_net : (k : ℕ) (p : PinDrives (core_of chip) k) → IsDriven k p
+  driven_net : (k : ℕ) (p : flat.Drives (core_of chip) k) → IsDriven k p
   driven_net k p =
       let found = part_at chip p.instance p.known in
       let lt : p.output < length (stored_nets found.part.body) = let e = outputs_are p.instance found.part found.at in let w = p.within in omega arith in
@@ -129,7 +136,7 @@ module _ (chip : Chip) (is : IsWired chip) where
   stored_at : (part : Part) (output : ℕ) → output < length (stored_nets part.body) → Contains (stored_nets part.body) (get_or (stored_nets part.body) output 0)
   stored_at part output lt = contained_at (stored_nets part.body) output _ (slice_get-get_or (stored_nets part.body) output 0 lt)
 
-  drives : (k : ℕ) → PinDrives (core_of chip) k → net_kind (core_of chip) k ≡ node.Storage OUTPUT_NET
+  drives : (k : ℕ) → flat.Drives (core_of chip) k → net_kind (core_of chip) k ≡ node.Storage OUTPUT_NET
   drives k p =
       let d = driven_net k p in
       let net = get_or (stored_nets d.part.body) p.output 0 in
@@ -146,7 +153,7 @@ module _ (chip : Chip) (is : IsWired chip) where
       by true e = e
       by false e = absurd (not_input (ap (λ b. if b then node.Storage OUTPUT_NET else node.Input) e))
 
-  driven : (k : ℕ) → k < length (core_of chip).nets → (net_kind (core_of chip) k ≡ node.Input → ⊥) → PinDrives (core_of chip) k
+  driven : (k : ℕ) → k < length (core_of chip).nets → (net_kind (core_of chip) k ≡ node.Input → ⊥) → flat.Drives (core_of chip) k
   driven k lt not_input =
       let found = net_of_number chip (net_count chip) k (let l = length-core_kinds chip (net_count chip) in omega arith) in
       let kind : net_kind (core_of chip) k ≡ kind_of chip found.net =
@@ -166,13 +173,13 @@ module _ (chip : Chip) (is : IsWired chip) where
       }
 
   -- the pin as a source of the linked chip
-  source_of : (k : ℕ) (p : PinDrives (core_of chip) k) (d : IsDriven k p)
+  source_of : (k : ℕ) (p : flat.Drives (core_of chip) k) (d : IsDriven k p)
       → Drives chip (get_or (stored_nets d.part.body) p.output 0) (FromPin p.instance (first_stored d.part.body + p.output))
   source_of k p d =
       subst (λ (o : Option Part). IsSomeAnd o (λ part. slice_get (output_nets part.body) (first_stored d.part.body + p.output) ≡ Some (get_or (stored_nets d.part.body) p.output 0)))
       (sym d.at) (stored_is_driven d.part.body p.output d.within)
 
-  same_net : (k : ℕ) (p q : PinDrives (core_of chip) k) (d : IsDriven k p) (e : IsDriven k q)
+  same_net : (k : ℕ) (p q : flat.Drives (core_of chip) k) (d : IsDriven k p) (e : IsDriven k q)
       → get_or (stored_nets d.part.body) p.output 0 ≡ get_or (stored_nets e.part.body) q.output 0
   same_net k p q d e =
       core_same chip _ _ (data_outside p.instance d.part _ d.at (stored_is_data d.part.body p.output d.within))
@@ -181,7 +188,7 @@ module _ (chip : Chip) (is : IsWired chip) where
   from_pins : (u w a b : ℕ) → FromPin u a ≡ FromPin w b → (u ≡ w) × (a ≡ b)
   from_pins u w a b e = (let first : u ≡ w = cc in first, let second : a ≡ b = cc in second)
 
-  one_driver : (k : ℕ) (p q : PinDrives (core_of chip) k) → (p.instance ≡ q.instance) × (p.output ≡ q.output)
+  one_driver : (k : ℕ) (p q : flat.Drives (core_of chip) k) → (p.instance ≡ q.instance) × (p.output ≡ q.output)
   one_driver k p q =
       let d = driven_net k p in
       let e = driven_net k q in
@@ -221,7 +228,7 @@ module _ (chip : Chip) (is : IsWired chip) where
       let lt = before.1 in
       omega arith
 
-  ranked : (u pin : ℕ) → u < count_of (core_of chip) → pin < inputs_at (core_of chip) u → (p : PinDrives (core_of chip) (net_of (core_of chip) u pin))
+  ranked : (u pin : ℕ) → u < count_of (core_of chip) → pin < inputs_at (core_of chip) u → (p : flat.Drives (core_of chip) (net_of (core_of chip) u pin))
       → rank_of chip p.instance < rank_of chip u
   ranked u pin lt pin_lt p =
       let found = part_at chip u lt in
@@ -304,7 +311,7 @@ module _ (chip : Chip) (is : IsWired chip) where
       let good = outputs_outside net (contained_at (outputs_of chip) has.0 net (slice_get-get_or (outputs_of chip) has.0 0 lt)) in
       subst (λ n. n < length (core_of chip).nets) same (number_within net good.0 good.1)
 
-  pub core_is : IsCore (core_of chip) (rank_of chip)
+  pub core_is : IsChip (core_of chip) (rank_of chip)
   core_is = record {
     cells = cells;
     on_nets = on_nets;
@@ -314,14 +321,3 @@ module _ (chip : Chip) (is : IsWired chip) where
     ranked = ranked;
     observed = observed;
   }
-
-  -- one that feeds is of a library cell
-  feeds_library : (w u : ℕ) → Feeds chip w u → IsLibrary chip w
-  feeds_library w u feeds = subst (λ (o : Option Part). IsSomeAnd o (λ part. IsGate part.body)) (sym feeds.is_driver) (by feeds.driver.body feeds.driven)
-    where
-      by : (body : Body) → Contains (gate_outputs body) feeds.net → IsGate body
-      by (Gate cell inputs outputs) has = tt
-      by (Scan nets) has = let lt = has.1 in omega arith
-
-  pub no_feeding_loop : HasNoLoop (Feeds chip)
-  no_feeding_loop = no_loop (Feeds chip) (IsLibrary chip) chip.order is.ordered feeds_library

@@ -1,15 +1,13 @@
 -- Nets off the scan path and their numbers.
-use Rattle.std.proofs.Common.{◌≡◌, ℕ, zero, suc, ◌+◌, ◌-◌, ◌<◌, ◌≤◌, List, [], ◌∷◌, ◌++◌, Bool, true, false, length, inl, inr, refl, sym, ◌∙◌, ap, subst, arith, get_or, length-append}
-use Rattle.std.specs.Prelude.{eqb, if◌then◌else◌}
-use Rattle.std.specs.List.{Contains}
+use Rattle.std.proofs.Common.{◌≡◌, ℕ, zero, suc, ◌+◌, ◌-◌, ◌<◌, ◌≤◌, [], ◌∷◌, ◌++◌, Bool, true, false, length, inl, inr, refl, sym, ◌∙◌, ap, subst, arith, get_or, length-append}
+use Rattle.std.specs.Prelude.{if◌then◌else◌}
 use Rattle.std.proofs.lemmas.List.{get_or_append_left, get_or-append-add}
-use Rattle.std.proofs.lemmas.Bool.{cases_lt, eqb-true, eq-eqb}
-use Rattle.std.proofs.lemmas.List.Folds.{Any-from_list_any, list_any-from_Any}
+use Rattle.std.proofs.lemmas.Bool.{cases_lt}
 use native.Mathlib.Decide.{ℕ_discrete}
 use Rattle.ca_net.specs.declared.node.NodeKind.{NodeKind}
 use Rattle.ca_net.specs.declared.node.NodeKind.TheVariants as node
-use Rattle.ca_wired.specs.Linked.{Chip, has, is_scan_path}
-use Rattle.ca_wired.specs.Core.{core_net, core_kinds, kind_of}
+use Rattle.ca_wired.specs.Linked.{Chip, is_scan_path}
+use Rattle.ca_core.specs.Core.{core_net, core_kinds, kind_of}
 
 abbrev pub IsOutside : Chip → ℕ → Type 0
 IsOutside chip net = is_scan_path chip net ≡ false
@@ -109,12 +107,3 @@ module _ (chip : Chip) where
         outside = e;
         numbered = let s = step_outside n e in omega (arith, lt, here);
       }
-
--- what a list has, it contains
-pub has_contains : (xs : List ℕ) (n : ℕ) → has xs n ≡ true → Contains xs n
-has_contains xs n h =
-    let at = Any-from_list_any (eqb n) xs h in
-    (at.0, at.2, subst (λ x. get_or xs at.0 x ≡ x) (sym (eqb-true n at.1 at.4)) at.3)
-
-pub contains_has : (xs : List ℕ) (n : ℕ) → Contains xs n → has xs n ≡ true
-contains_has xs n h = list_any-from_Any (eqb n) xs (h.0, n, h.1, h.2, eq-eqb n n refl)

@@ -1,7 +1,7 @@
 -- The instances of the core, and the nets that they drive and read.
-use Rattle.std.proofs.Common.{◌≡◌, ℕ, ◌+◌, ◌<◌, List, [], ◌∷◌, ◌++◌, length, length-append, map, inl, inr, refl, sym, ◌∙◌, ap, subst, arith, get_or}
+use Rattle.std.proofs.Common.{◌≡◌, ℕ, ◌+◌, ◌<◌, [], ◌∷◌, ◌++◌, length, length-append, map, inl, inr, refl, sym, ◌∙◌, ap, arith, get_or}
 use Rattle.std.specs.Prelude.{slice_get, Option, Some, None, option_to_list}
-use Rattle.std.specs.List.{All, Contains}
+use Rattle.std.specs.List.{Contains}
 use Rattle.std.proofs.lemmas.List.{get_or-map, length-map, get_or_append_left, get_or-append-add, get_or_default}
 use Rattle.std.proofs.lemmas.List.Elements.{Contains-append_left, Contains-append_right}
 use Rattle.std.proofs.lemmas.Option.{slice_get_within, slice_get-get_or, get_or_from_slice_get, slice_get_cases}
@@ -9,8 +9,12 @@ use Rattle.ca_cell.specs.declared.rule.CellRule.{CellRule}
 use Rattle.ca_cell.specs.declared.rule.CellRule.TheVariants.{NoRail, TooManyDevices, TooManyNodes, TooManyInputs, NoOutput, TooManyOutputs, InputDrivesChannel}
 use Rattle.ca_cell.specs.Raw.{is_input, is_output, role_count}
 use Rattle.ca_cell.specs.Rules.{Breaks}
-use Rattle.ca_wired.specs.Linked.{Body, Gate, Scan, Part, Chip, has, gate_inputs, data_nets, output_nets, IsBody}
-use Rattle.ca_wired.specs.Core.{no_instance, instance_at, IsCell, core_net, stored_nets, empty_cell, core_instance, core_of}
+use Rattle.ca_wired.specs.declared.parts.Body.{Body}
+use Rattle.ca_wired.specs.declared.parts.Part.{Part}
+use Rattle.ca_wired.specs.declared.parts.Body.TheVariants.{Gate, Scan}
+use Rattle.ca_wired.specs.Linked.{Chip, gate_inputs, data_nets, output_nets, IsBody}
+use Rattle.ca_flat.specs.Chip.{no_instance, instance_at, IsCell}
+use Rattle.ca_core.specs.Core.{core_net, stored_nets, empty_cell, core_instance, core_of}
 
 -- the numbers of input pins and of output pins of the core's instance
 abbrev pub pins_in : Chip → Body → ℕ
@@ -146,9 +150,3 @@ part_at chip u lt = elim (slice_get_cases chip.parts u).1 [
   | inl there ↦ record { part = there.0; at = there.2 }
   | inr past ↦ absurd (let l = length-map chip.parts (λ (p : Part). core_instance chip p.body) in let behind = past.0 in omega arith)
 ]
-
-pub of_all : {X : Type 0} (P : X → Type 0) (parts : List X) (u : ℕ) (part : X) → All P parts → slice_get parts u ≡ Some part → P part
-of_all P parts u part all at = subst P (get_or_from_slice_get parts u part part at) (all u part (slice_get_within parts u part at))
-
-pub of_list : (P : ℕ → Type 0) (xs : List ℕ) (x : ℕ) → All P xs → Contains xs x → P x
-of_list P xs x all has = subst P has.2 (all has.0 x has.1)

@@ -1,8 +1,8 @@
 -- The core of a linked chip, which the flat network stands on: its nets off the scan path, numbered anew, and
 -- an instance for each of the chip's. A scan instance has a cell without devices, whose one pin drives the
 -- net of the inverted output, if it has one.
-use Rattle.std.specs.Prelude.{ℕ, zero, suc, ◌+◌, ◌≡◌, ◌<◌, Bool, true, false, List, [], ◌∷◌, ◌++◌, map, length, option_to_list, Option, Some, None, slice_index_or, slice_get, if◌then◌else◌}
-use Rattle.std.specs.List.{list_any, Contains, position_or_len}
+use Rattle.std.specs.Prelude.{ℕ, zero, suc, ◌+◌, Bool, true, false, List, [], ◌∷◌, ◌++◌, map, option_to_list, Option, Some, None, slice_get, if◌then◌else◌}
+use Rattle.std.specs.List.{list_any, position_or_len}
 use Rattle.std.specs.Prelude.{eqb, nat_lt}
 use Rattle.ca_net.specs.declared.trit.Trit.{Trit}
 use Rattle.ca_net.specs.declared.trit.Trit.TheVariants.{Zero, One}
@@ -13,92 +13,12 @@ use Rattle.ca_cell.specs.declared.raw.Role.{Role}
 use Rattle.ca_cell.specs.declared.raw.Role.TheVariants.{Output, Power, Ground}
 use Rattle.ca_cell.specs.declared.raw.RawPin.{RawPin}
 use Rattle.ca_cell.specs.declared.raw.RawCell.{RawCell}
-use Rattle.ca_cell.specs.declared.rule.CellRule.{CellRule}
-use Rattle.ca_cell.specs.declared.rule.CellRule.TheVariants.{NoOutput}
-use Rattle.ca_cell.specs.Raw.{is_input, is_output, role_count}
-use Rattle.ca_cell.specs.Rules.{IsRaw, Breaks}
-use Rattle.ca_wired.specs.Linked.{no_cell, cell_of, Body, Gate, Scan, Part, Chip, net_count, has, is_scan_path, inputs_of, outputs_of}
-
--- a cell, and the net of each input pin and then of each output pin
-pub record Instance : Type 0 where
-  pub cell : RawCell
-  pub pins : List ℕ
-
--- an input net whose value is fixed
-pub record Constant : Type 0 where
-  pub net : ℕ
-  pub value : Trit
-
--- the kinds of the nets, the instances in netlist order, the nets of the chip inputs, the constants, and the
--- observed nets
-pub record Core : Type 0 where
-  pub nets : List NodeKind
-  pub instances : List Instance
-  pub inputs : List ℕ
-  pub constants : List Constant
-  pub outputs : List ℕ
-
--- what stands past the last instance
-abbrev pub no_instance : Instance
-no_instance = record { cell = no_cell; pins = [] }
-
--- the instance at a place
-abbrev pub instance_at : Core → ℕ → Instance
-instance_at core u = slice_index_or core.instances u no_instance
-
--- its cell
-abbrev pub cell_at : Core → ℕ → RawCell
-cell_at core u = (instance_at core u).cell
-
--- the number of its input pins
-abbrev pub inputs_at : Core → ℕ → ℕ
-inputs_at core u = role_count is_input (cell_at core u).pins
-
--- the number of its output pins
-abbrev pub outputs_at : Core → ℕ → ℕ
-outputs_at core u = role_count is_output (cell_at core u).pins
-
--- the net of a pin of the instance u: the input pins come first
-abbrev pub net_of : Core → ℕ → ℕ → ℕ
-net_of core u pin = slice_index_or (instance_at core u).pins pin 0
-
--- the net of an output pin of the instance u
-abbrev pub output_net : Core → ℕ → ℕ → ℕ
-output_net core u output = net_of core u (inputs_at core u + output)
-
--- how many instances there are
-abbrev pub count_of : Core → ℕ
-count_of core = length core.instances
-
--- the kind of a net; past the list it is an input
-abbrev pub net_kind : Core → ℕ → NodeKind
-net_kind core net = slice_index_or core.nets net node.Input
-
--- an output pin of an instance, on the net
-pub record PinDrives (core : Core) (net : ℕ) : Type 0 where
-  pub instance : ℕ
-  pub output : ℕ
-  pub known : instance < count_of core
-  pub within : output < outputs_at core instance
-  pub on : output_net core instance output ≡ net
-
--- the subcircuit is that of a cell, or it has no output pin and keeps the other rules
-pub record IsCell (raw : RawCell) : Type 0 where
-  pub is_raw : IsRaw raw
-  pub keeps : (rule : CellRule) → (rule ≡ NoOutput → ⊥) → Breaks raw rule → ⊥
-
--- each net is an input or has one driver, and each input pin's driver has a lower rank
-pub record IsCore (core : Core) (rank : ℕ → ℕ) : Type 0 where
-  pub cells : (u : ℕ) → u < count_of core → IsCell (cell_at core u)
-  pub on_nets : (u pin : ℕ) → u < count_of core → pin < inputs_at core u + outputs_at core u
-      → net_of core u pin < length core.nets
-  pub driven : (net : ℕ) → net < length core.nets → (net_kind core net ≡ node.Input → ⊥) → PinDrives core net
-  pub drives : (net : ℕ) → PinDrives core net → net_kind core net ≡ node.Storage OUTPUT_NET
-  pub one_driver : (net : ℕ) (p q : PinDrives core net) → (p.instance ≡ q.instance) × (p.output ≡ q.output)
-  pub ranked : (u pin : ℕ) → u < count_of core → pin < inputs_at core u
-      → (p : PinDrives core (net_of core u pin))
-      → rank p.instance < rank u
-  pub observed : (net : ℕ) → Contains core.outputs net → net < length core.nets
+use Rattle.ca_flat.specs.Chip.{Instance, Constant}
+use Rattle.ca_flat.specs.Chip as flat
+use Rattle.ca_wired.specs.declared.parts.Body.{Body}
+use Rattle.ca_wired.specs.declared.parts.Part.{Part}
+use Rattle.ca_wired.specs.declared.parts.Body.TheVariants.{Gate, Scan}
+use Rattle.ca_wired.specs.Linked.{cell_of, Chip, net_count, has, is_scan_path, inputs_of, outputs_of}
 
 -- how many of the nets before this one are off the scan path: its number among those
 unfoldable pub core_net : Chip → ℕ → ℕ
@@ -163,7 +83,7 @@ abbrev pub core_constants : Chip → List Constant
 core_constants chip = in_net_order (constant_on chip false chip.zero) (constant_on chip true chip.one)
 
 -- the core of a chip
-abbrev pub core_of : Chip → Core
+abbrev pub core_of : Chip → flat.Chip
 core_of chip = record {
   nets = core_kinds chip (net_count chip);
   instances = map (λ part. core_instance chip part.body) chip.parts;

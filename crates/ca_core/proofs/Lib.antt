@@ -1,0 +1,3 @@
+pub mod CoreLemmas
+pub mod CorePartLemmas
+pub mod CoreIsChip

@@ -1,0 +1,66 @@
+//! The cells of library instances, and library instances by name.
+
+ghost use Rattle.std.specs.Prelude.{ℕ, ◌≡◌, ◌<◌, ◌↔◌, length, IsTrue, IsSomeAnd, IfSome, IfNone, Some, slice_get};
+ghost use Rattle.ca_wired.specs.Linked.{IsLibrary, cell_of};
+ghost use Rattle.ca_wired.specs.Instances.{IsOfCell, IsCellOf, IsNamedGate, HasNamed};
+
+use crate::chip::Chip;
+use crate::instances::InstanceId;
+use crate::parts::Body;
+use ca_cell::{Cell, Entry};
+
+impl Chip {
+    /// The number of cells of the library.
+    pub fn cells(&self) -> usize
+        ensures { result ≡ length self.now.cells }
+    {
+        self.library.len()
+    }
+
+    /// The place of a library instance's cell in the library.
+    pub fn cell_number(&self, u: InstanceId) -> usize
+        requires { IsLibrary self.now u.0 }
+        ensures of { IsSomeAnd (slice_get self.now.parts u.0) (λ part. IsOfCell result part.body) }
+        ensures within { result < length self.now.cells }
+    {
+        match &self.parts[u.0 as usize].body {
+            Body::Gate { cell, .. } => *cell as usize,
+            Body::Scan(_) => unreachable!(),
+        }
+    }
+
+    /// The cell of a library instance.
+    pub fn cell_of(&self, u: InstanceId) -> &Cell
+        requires { IsLibrary self.now u.0 }
+        ensures { IsSomeAnd (slice_get self.now.parts u.0) (λ part. IsCellOf self.now.cells part.body result.now) }
+    {
+        match self.library.entry(self.cell_number(u)) {
+            Entry::Sound(cell) => cell,
+            Entry::Refused(_, _) => unreachable!(),
+        }
+    }
+
+    // Whether the instance at a place of the order has this name.
+    fn is_named(&self, k: usize, name: &[u8]) -> bool
+        requires { k < length self.now.order }
+        ensures named { IsTrue result → HasNamed self.now name.now k }
+        ensures other { (u : ℕ) → slice_get self.now.order k ≡ Some u → IsNamedGate self.now name.now u
+            → IsTrue result }
+    {
+        self.wired();
+        self.instance_name(self.order(k)).is(name)
+    }
+
+    /// A library instance of this name: those of a netlist have different names. It looks through all of them.
+    pub fn find_instance(&self, name: &[u8]) -> Option<InstanceId>
+        ensures some { IfSome result (λ u. IsNamedGate self.now name.now u.0) }
+        ensures none { IfNone result ((u : ℕ) → IsNamedGate self.now name.now u → ⊥) }
+    {
+        for k in 0..self.order.len() {
+            if self.is_named(k, name) {
+                return Some(self.order(k));
+            }
+        }
+        None
+    }
+}
