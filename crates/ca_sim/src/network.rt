@@ -230,8 +230,8 @@ fn mark_readers<C: Linked>(chip: &C, net: usize, due: &mut PlaceSet)
     requires room { HoldsUpTo due.old (count_of (C.core chip.now) + 1) }
     ensures { IsMarked (C.core chip.now) (place_in (C.places chip.now)) net due.old due.new }
 {
-    for u in chip.readers(net) {
-        due.insert(chip.place(*u as usize));
+    for k in 0..chip.reader_count(net) {
+        due.insert(chip.place(chip.reader(net, k)));
     }
 }
 

@@ -1,5 +1,7 @@
 -- What one has of the limits of a cell, each has.
-use Rattle.std.proofs.Common.{◌≡◌, ℕ, List, sym, ◌∙◌, ap}
+use Rattle.std.proofs.Common.{◌≡◌, List, sym, ◌∙◌, ap, arith}
+use Rattle.std.proofs.lemmas.List.{ext_get_or}
+use Rattle.ca_table.specs.Laws.{GivenIsResponse}
 use Rattle.std.proofs.lemmas.Option.{get_or_from_slice_get}
 use Rattle.ca_net.specs.declared.wave.Wave.{Wave}
 use Rattle.ca_net.specs.Circuit.{Circuit}
@@ -22,7 +24,15 @@ gives raw net pins outputs are = record {
   count = are.count;
   each = λ first middle last limits output within.
       let same = limits_are_unique_lem net _ _ _ are.first are.middle are.last first middle last
-          are.limits limits (output_node raw output) in
+      are.limits limits (output_node raw output) in
       get_or_from_slice_get outputs output _ unknown_wave (are.each output within)
       ∙ wave_ext _ (wave_in first middle last (output_node raw output)) same.0 same.1 same.2;
 }
+
+pub given_is_response_lem : GivenIsResponse
+given_is_response_lem raw net pins outputs given are gives_are =
+    let same = gives raw net pins outputs are in
+    ext_get_or unknown_wave given outputs (gives_are.count ∙ sym same.count)
+    (λ output within. let count = gives_are.count in
+    gives_are.each are.first are.middle are.last are.limits output (omega arith)
+    ∙ sym (same.each are.first are.middle are.last are.limits output (omega arith)))
