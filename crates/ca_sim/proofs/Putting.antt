@@ -33,10 +33,13 @@ put_new chip place_of net wave old new within is marked = record {
 
 -- what reads a net has a place
 pub reader_placed : (chip : Chip) (place_of number_of : ℕ → ℕ) → IsLinked chip place_of number_of → (u net : ℕ) → Reads chip u net → IsPlaced chip place_of u
-reader_placed chip place_of number_of linked u net reads = record { known = reads.known; placed = elim (cases_eq (place_of u) 0) [
-  | inl e ↦ absurd (let none = (linked.bare u reads.known e).no_pin in let within = reads.within in omega arith)
-  | inr some ↦ omega arith
-] }
+reader_placed chip place_of number_of linked u net reads = record {
+  known = reads.known;
+  placed = elim (cases_eq (place_of u) 0) [
+    | inl e ↦ absurd (let none = (linked.bare u reads.known e).no_pin in let within = reads.within in omega arith)
+    | inr some ↦ omega arith
+  ];
+}
 
 -- so many of an instance's output nets have their waves, and each other net has the wave that it had
 pub record IsWrittenTo (chip : Chip) (place_of : ℕ → ℕ) (u end : ℕ) (outputs : List Wave) (old new : Network) : Type 0 where
@@ -81,7 +84,7 @@ module _ (chip : Chip) (place_of : ℕ → ℕ) (number_of : ℕ → ℕ) (linke
           let reads = reader.1 in
           let later : place_of u < place_of reader.0 = linked.is_chip.ranked reader.0 reads.pin reads.known reads.within (driver end within (net_of chip reader.0 reads.pin) (sym reads.on)) in
           inr (subst (λ x. (place_of u < x) × IsPlace chip place_of x) reader.2
-              (later, record { instance = reader.0; is_placed = reader_placed chip place_of number_of linked reader.0 _ reads; at = refl }))
+          (later, record { instance = reader.0; is_placed = reader_placed chip place_of number_of linked reader.0 _ reads; at = refl }))
     ];
     room = λ count holds. put.room count (so_far.room count holds);
   }

@@ -57,11 +57,11 @@ pub record IsWrittenOut (chip : Chip) (place_of : ℕ → ℕ) (u : ℕ) (output
 
 -- Whatever the pair is: where each instance that wasn't due was current, each is, and none is due.
 pub record IsSettled (chip : Chip) (place_of : ℕ → ℕ) (given : Option ChipDefect) (old new : Network) : Type 0
-    where
-  pub ready : IsReady chip place_of new
-  pub none : (place : ℕ) → Has new.due place → ⊥
-  pub current : (pair : List Trit) → IsSimulated chip given pair (IsDue place_of old.due) old.waves
-      → IsSimulated chip given pair none_due new.waves
+  where
+    pub ready : IsReady chip place_of new
+    pub none : (place : ℕ) → Has new.due place → ⊥
+    pub current : (pair : List Trit) → IsSimulated chip given pair (IsDue place_of old.due) old.waves
+        → IsSimulated chip given pair none_due new.waves
 
 -- the net of a chip input is given the wave of its bits
 abbrev pub IsFedAt : Chip → (ℕ → ℕ) → ℕ → List Trit → Network → Network → Type 0
@@ -71,11 +71,11 @@ IsFedAt chip place_of input bits old new =
 
 -- the instance of the defect is due, and all that was due
 pub record IsTurned (chip : Chip) (place_of : ℕ → ℕ) (given : Option ChipDefect) (old new : Network) : Type 0
-    where
-  pub waves : new.waves ≡ old.waves
-  pub kept : (place : ℕ) → Has old.due place → Has new.due place
-  pub here : (defect : ChipDefect) → given ≡ Some defect → Has new.due (place_of defect.instance)
-  pub ready : IsReady chip place_of new
+  where
+    pub waves : new.waves ≡ old.waves
+    pub kept : (place : ℕ) → Has old.due place → Has new.due place
+    pub here : (defect : ChipDefect) → given ≡ Some defect → Has new.due (place_of defect.instance)
+    pub ready : IsReady chip place_of new
 
 -- the network has the waves of these bits, but for instances that are due
 pub record IsUnderway (chip : Chip) (place_of : ℕ → ℕ) (given : Option ChipDefect) (bits : List Trit)

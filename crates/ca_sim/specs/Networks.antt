@@ -14,10 +14,10 @@ pub record AreReady (chip : Chip) (place_of : ℕ → ℕ) (nets : Networks) : T
 
 -- both have the waves of the bits, but for instances that are due
 pub record AreUnderway (chip : Chip) (place_of : ℕ → ℕ) (aim : Option ChipDefect) (nets : Networks) : Type 0
-    where
-  pub bits : length nets.bits ≡ bit_count chip
-  pub good : IsUnderway chip place_of None nets.bits nets.good
-  pub faulty : IsUnderway chip place_of aim nets.bits nets.faulty
+  where
+    pub bits : length nets.bits ≡ bit_count chip
+    pub good : IsUnderway chip place_of None nets.bits nets.good
+    pub faulty : IsUnderway chip place_of aim nets.bits nets.faulty
 
 -- both have the waves of the bits
 pub record AreAtRest (chip : Chip) (place_of : ℕ → ℕ) (aim : Option ChipDefect) (nets : Networks) : Type 0 where
