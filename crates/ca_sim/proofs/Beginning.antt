@@ -1,7 +1,7 @@
 -- A network before any bit is set: nothing but constants is known, and each instance with a place is due.
-use Rattle.std.proofs.Common.{◌≡◌, ◌≢◌, ℕ, zero, suc, ◌+◌, ◌*◌, ◌-◌, ◌<◌, ◌≤◌, ◌==◌, List, [], ◌∷◌, length, drop, replicate, slice_set, get_or, Bool, true, false, None, Some, inl, inr, refl, sym, ◌∙◌, ap, subst, arith, eq-eqb}
+use Rattle.std.proofs.Common.{◌≡◌, ◌≢◌, ℕ, suc, ◌+◌, ◌<◌, ◌==◌, List, [], ◌∷◌, length, drop, replicate, slice_set, Bool, true, false, None, Some, inl, inr, refl, sym, ◌∙◌, ap, subst, arith, eq-eqb}
 use Rattle.std.specs.Prelude.{cond, slice_get}
-use Rattle.std.proofs.lemmas.Bool.{cases_eq, cases_lt, cond-true, cond-false, eqb-true}
+use Rattle.std.proofs.lemmas.Bool.{cases_eq, cases_lt, cond-true, cond-false}
 use Rattle.std.proofs.lemmas.List.{get_or-replicate, get_or_past, length-replicate, length-set, get_or-set_same, get_or-set_other}
 use Rattle.std.proofs.lemmas.Option.{get_or_from_slice_get, slice_get_within}
 use Rattle.std.proofs.Math.Seq.{drop-cons}
@@ -9,13 +9,13 @@ use Rattle.ca_net.specs.declared.scale.TheConstants.{OUTPUT_NET}
 use Rattle.ca_net.specs.declared.trit.Trit.{Trit}
 use Rattle.ca_net.specs.declared.trit.Trit.TheVariants.{X}
 use Rattle.ca_net.specs.declared.wave.Wave.{Wave}
-use Rattle.ca_net.specs.declared.node.NodeKind.TheVariants.{Input, Storage}
+use Rattle.ca_net.specs.declared.node.NodeKind.TheVariants.{Storage}
 use Rattle.ca_net.specs.Circuit.{Circuit, IsStorage, kind_at}
 use Rattle.ca_net.specs.State.{value_at}
 use Rattle.ca_net.specs.Wave.{IsWave, pair_of}
 use Rattle.ca_response.specs.Outputs.{wave_in, output_node}
 use Rattle.ca_response.proofs.PairLemmas.{pair_is_wave}
-use Rattle.ca_table.specs.Gives.{unknown_wave, wave_at, Gives}
+use Rattle.ca_table.specs.Gives.{unknown_wave, wave_at}
 use Rattle.ca_flat.specs.Chip.{Chip, Constant, cell_at, inputs_at, outputs_at, output_net, count_of, net_kind}
 use Rattle.ca_flat.specs.Flat.{circuit_in}
 use Rattle.ca_flat.specs.Pair.{bit_count, input_value, constant_value, net_value}
@@ -23,13 +23,12 @@ use Rattle.ca_flat.specs.Code.{unset_pair}
 use Rattle.ca_flat.proofs.Clashes.{wave_ext}
 use Rattle.ca_flat.proofs.Spots.{body}
 use Rattle.ca_flat.proofs.Undriven.{first_unknown, middle_unknown, last_unknown, not_input}
-use Rattle.ca_sim.specs.Linked.{IsLinked, IsPinned, IsPlaced, IsPlace}
-use Rattle.ca_sim.specs.Current.{output_waves, IsCurrent, pair_wave}
+use Rattle.ca_sim.specs.Linked.{IsLinked, IsPinned}
+use Rattle.ca_sim.specs.Current.{IsCurrent, pair_wave}
 use Rattle.ca_sim.specs.PlaceSet.{Has, HoldsUpTo}
 use Rattle.ca_sim.specs.Marking.{HasPlacesTo, HasAllPlaces}
 use Rattle.ca_sim.specs.declared.place_set.PlaceSet.{PlaceSet}
-use Rattle.ca_sim.specs.declared.network.Network.{Network}
-use Rattle.ca_sim.specs.Network.{IsDue, HasConstantsFrom, HasConstants, IsUnderway}
+use Rattle.ca_sim.specs.Network.{HasConstantsFrom, HasConstants, IsUnderway}
 use Rattle.ca_sim.proofs.Feeding.{neq-eqb}
 use Rattle.ca_sim.proofs.WaveLemmas.{length-waves_from, wave_at-waves_from}
 

@@ -1,9 +1,9 @@
 -- The room for all cells of a chip.
-use Rattle.std.proofs.Common.{◌≡◌, ℕ, ◌<◌, List, inl, inr, sym, ◌∙◌, ap, subst, arith, get_or, slice_set}
+use Rattle.std.proofs.Common.{◌≡◌, ℕ, List, inl, inr, sym, ◌∙◌, ap, subst, arith, get_or, slice_set}
 use Rattle.std.proofs.lemmas.Bool.{cases_eq}
 use Rattle.std.proofs.lemmas.List.{get_or-set_same, get_or-set_other, length-set}
 use Rattle.ca_cell.specs.declared.raw.RawCell.{RawCell}
-use Rattle.ca_flat.specs.Chip.{Chip, cell_at, count_of}
+use Rattle.ca_flat.specs.Chip.{Chip, cell_at}
 use Rattle.ca_table.specs.declared.rooms.Rooms.{Rooms}
 use Rattle.ca_sim.specs.Linked.{IsLinked, IsPlaced}
 use Rattle.ca_table.specs.Rooms.{AreRoomsOf}

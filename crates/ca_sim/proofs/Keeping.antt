@@ -1,12 +1,11 @@
 -- What a simulator keeps gives the waves of the flat networks.
-use Rattle.std.proofs.Common.{◌≡◌, ℕ, List, Option, None, Some, subst}
+use Rattle.std.proofs.Common.{ℕ, List, Option, None, Some}
 use Rattle.ca_flat.specs.declared.chip_defect.ChipDefect.{ChipDefect}
 use Rattle.ca_flat.specs.Chip.{Chip, IsChipDefect}
-use Rattle.ca_sim.specs.Linked.{IsAim, IsLinked}
-use Rattle.ca_sim.specs.Seen.{Seen, IsExact}
+use Rattle.ca_sim.specs.Linked.{IsAim}
+use Rattle.ca_sim.specs.Seen.{IsExact}
 use Rattle.ca_sim.specs.declared.cells.Cells.{Cells}
 use Rattle.ca_sim.specs.declared.networks.Networks.{Networks}
-use Rattle.ca_sim.specs.Networks.{AreAtRest}
 use Rattle.ca_sim.specs.Kept.{IsKept}
 use Rattle.ca_sim.proofs.Exact.{waves_are_exact_lem}
 

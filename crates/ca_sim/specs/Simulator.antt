@@ -1,5 +1,5 @@
 -- What contracts see of a simulator.
-use Rattle.std.specs.Prelude.{ℕ, ◌+◌, ◌-◌, ◌^◌, ◌≡◌, ◌<◌, List, Option, None, if◌then◌else◌, nat_lt}
+use Rattle.std.specs.Prelude.{ℕ, ◌+◌, ◌-◌, ◌^◌, ◌≡◌, List, None, if◌then◌else◌, nat_lt}
 use Rattle.ca_flat.specs.Chip.{Chip}
 use Rattle.ca_flat.specs.Code.{unset_pair}
 use Rattle.ca_sim.specs.Seen.{Seen}

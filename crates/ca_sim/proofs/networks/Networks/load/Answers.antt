@@ -1,4 +1,4 @@
-use Rattle.std.proofs.Common.{ℕ, ◌≡◌, ◌<◌, ◌+◌, ◌∙◌, ap, subst, arith, length, slice_set}
+use Rattle.std.proofs.Common.{◌≡◌, ◌<◌, ◌+◌, ◌∙◌, ap, subst, arith, length, slice_set}
 use Rattle.ca_net.specs.State.{value_at}
 use Rattle.ca_sim.proofs.Loading.{IsLoadedTo, loaded_more, loaded_all}
 use Rattle.ca_sim.proofs.networks.Networks.load.Goals as goal

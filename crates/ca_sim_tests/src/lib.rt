@@ -1,0 +1,13 @@
+//! Tests of the simulator, over chips that are built by hand.
+#![tactic(auto)]
+
+mod ladder;
+mod rung;
+
+pub use ladder::Ladder;
+pub use rung::Rung;
+
+#[cfg(test)]
+mod chips;
+#[cfg(test)]
+mod waves;
