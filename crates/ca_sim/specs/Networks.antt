@@ -20,7 +20,8 @@ pub record AreUnderway (chip : Chip) (place_of : ℕ → ℕ) (aim : Option Chip
     pub faulty : IsUnderway chip place_of aim nets.bits nets.faulty
 
 -- both have the waves of the bits
-pub record AreAtRest (chip : Chip) (place_of : ℕ → ℕ) (aim : Option ChipDefect) (nets : Networks) : Type 0 where
-  pub bits : length nets.bits ≡ bit_count chip
-  pub good : IsAtRest chip place_of None nets.bits nets.good
-  pub faulty : IsAtRest chip place_of aim nets.bits nets.faulty
+pub record AreAtRest (chip : Chip) (place_of : ℕ → ℕ) (aim : Option ChipDefect) (nets : Networks) : Type 0
+  where
+    pub bits : length nets.bits ≡ bit_count chip
+    pub good : IsAtRest chip place_of None nets.bits nets.good
+    pub faulty : IsAtRest chip place_of aim nets.bits nets.faulty

@@ -12,8 +12,8 @@ use Rattle.ca_flat.specs.Pair.{bit_count}
 use Rattle.ca_flat.specs.Code.{bit_trit}
 use Rattle.ca_flat.specs.Waves.{FlatWaves, wave_of}
 
--- the chip, the places of its instances in the order, the defect that is aimed at, the values of the bits with
--- X where one is unset, and the waves of the nets without a defect and with it
+-- the chip, the places of its instances in the order, the defect that is aimed at, the values of the bits
+-- with X where one is unset, and the waves of the nets without a defect and with it
 pub record Seen : Type 0 where
   pub chip : Chip
   pub places : List ℕ
@@ -27,7 +27,8 @@ abbrev pub value_of : Option Bool → Trit
 value_of None = X
 value_of (Some value) = bit_trit value
 
--- a wave for each net: the three limits that the flat network, good or with the defect, has there for the pair
+-- a wave for each net: the three limits that the flat network, good or with the defect, has there for the
+-- pair
 pub record AreNetWaves (chip : Chip) (given : Option ChipDefect) (pair : List Trit) (waves : List Wave)
     : Type 0 where
   pub count : length waves ≡ length chip.nets

@@ -34,7 +34,8 @@ impl Cells {
 
     /// Takes the room for the cells of all instances with a place, and builds their tables.
     pub(crate) fn reserve<C: Linked>(alloc: Global, chip: &C) -> Result<Self, NoMemory>
-        ensures { IfOk result (AreCells (C.core chip.now) (place_in (C.places chip.now)) (C.number_of chip.now)) }
+        ensures { IfOk result (AreCells (C.core chip.now) (place_in (C.places chip.now))
+            (C.number_of chip.now)) }
     {
         let mut rooms = Vec::new(alloc);
         for number in 0..chip.numbers() {
@@ -102,12 +103,14 @@ impl Cells {
         requires listed { IsChipDefect (C.core chip.now) aim }
         requires pins { length pins.items ≡ inputs_at (C.core chip.now) u }
         requires waves { All IsWave pins.items }
-        requires cells { AreCells (C.core chip.now) (place_in (C.places chip.now)) (C.number_of chip.now) self.old }
+        requires cells { AreCells (C.core chip.now) (place_in (C.places chip.now))
+            (C.number_of chip.now) self.old }
 
         ensures gives { Gives (cell_at (C.core chip.now) u) (circuit_in (C.core chip.now) aim u) pins.items
             result.items }
         ensures waves { All IsWave result.items }
-        ensures cells { AreCells (C.core chip.now) (place_in (C.places chip.now)) (C.number_of chip.now) self.new }
+        ensures cells { AreCells (C.core chip.now) (place_in (C.places chip.now))
+            (C.number_of chip.now) self.new }
     {
         self.evaluated = self.evaluated.saturating_add(1);
         let defect = defect_here(aim, u);

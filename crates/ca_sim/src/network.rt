@@ -35,7 +35,8 @@ impl Network {
     /// Takes the room for the waves of a chip's nets. No bit is set, and each instance with a place is due.
     pub(crate) fn reserve<C: Linked>(alloc: Global, chip: &C) -> Result<Self, NoMemory>
         ensures { IfOk result
-            (IsUnderway (C.core chip.now) (place_in (C.places chip.now)) None (unset_pair (C.core chip.now))) }
+            (IsUnderway (C.core chip.now) (place_in (C.places chip.now)) None
+            (unset_pair (C.core chip.now))) }
     {
         Ok(Network {
             waves: constant_waves(alloc, chip)?,
@@ -74,7 +75,8 @@ impl Network {
         requires bits { length bits.now ≡ bit_count (C.core chip.now) }
         requires ready { IsReady (C.core chip.now) (place_in (C.places chip.now)) self.old }
 
-        ensures fed { IsFedAt (C.core chip.now) (place_in (C.places chip.now)) input bits.now self.old self.new }
+        ensures fed { IsFedAt (C.core chip.now) (place_in (C.places chip.now)) input bits.now
+            self.old self.new }
         ensures ready { IsReady (C.core chip.now) (place_in (C.places chip.now)) self.new }
     {
         let last = chip.inputs() + input;
@@ -104,7 +106,8 @@ impl Network {
         requires count { length self.old.waves ≡ length (C.core chip.now).nets }
         requires room { HoldsUpTo self.old.due (count_of (C.core chip.now) + 1) }
 
-        ensures { IsWrittenOut (C.core chip.now) (place_in (C.places chip.now)) u outputs.now self.old self.new }
+        ensures { IsWrittenOut (C.core chip.now) (place_in (C.places chip.now)) u outputs.now
+            self.old self.new }
     {
         let first = chip.cell(u).inputs();
         for output in 0..outputs.len() {
@@ -162,8 +165,8 @@ impl Network {
         Some(self.output_waves(chip, u))
     }
 
-    /// Evaluates the instances that are due, in the order, until none is. Where there is a good network beside
-    /// this one, and an instance has its waves at the input pins and no defect, the instance has them at the
+    /// Evaluates the instances that are due, in the order, until none is. Where there is a good network
+    /// beside this one, and an instance has its waves at the input pins and no defect, the instance has them at the
     /// output pins too.
     pub(crate) fn settle<C: Linked>(
         &mut self,
@@ -175,10 +178,12 @@ impl Network {
         requires listed { IsChipDefect (C.core chip.now) aim }
         requires ready { IsReady (C.core chip.now) (place_in (C.places chip.now)) self.old }
         requires twin { ForSome twin (λ good. IsTwin (C.core chip.now) good.now) }
-        requires cells { AreCells (C.core chip.now) (place_in (C.places chip.now)) (C.number_of chip.now) cells.old }
+        requires cells { AreCells (C.core chip.now) (place_in (C.places chip.now))
+            (C.number_of chip.now) cells.old }
 
         ensures settled { IsSettled (C.core chip.now) (place_in (C.places chip.now)) aim self.old self.new }
-        ensures cells { AreCells (C.core chip.now) (place_in (C.places chip.now)) (C.number_of chip.now) cells.new }
+        ensures cells { AreCells (C.core chip.now) (place_in (C.places chip.now))
+            (C.number_of chip.now) cells.new }
     {
         let mut from = 0;
         while let Some(place) = self.due.next(from) {
@@ -257,12 +262,14 @@ fn respond_beside<C: Linked>(
     requires pins { length pins.items ≡ inputs_at (C.core chip.now) u }
     requires waves { All IsWave pins.items }
     requires twin { ForSome twin (λ good. IsTwin (C.core chip.now) good.now) }
-    requires cells { AreCells (C.core chip.now) (place_in (C.places chip.now)) (C.number_of chip.now) cells.old }
+    requires cells { AreCells (C.core chip.now) (place_in (C.places chip.now))
+        (C.number_of chip.now) cells.old }
 
     ensures gives { Gives (cell_at (C.core chip.now) u) (circuit_in (C.core chip.now) aim u) pins.items
         result.items }
     ensures waves { All IsWave result.items }
-    ensures cells { AreCells (C.core chip.now) (place_in (C.places chip.now)) (C.number_of chip.now) cells.new }
+    ensures cells { AreCells (C.core chip.now) (place_in (C.places chip.now))
+        (C.number_of chip.now) cells.new }
 {
     if let Some(good) = twin {
         if let Some(outputs) = good.twin_outputs(chip, u, aim, pins.as_slice()) {

@@ -64,11 +64,13 @@ impl Networks {
     pub(crate) fn settle<C: Linked>(&mut self, chip: &C, aim: Option<ChipDefect>, cells: &mut Cells)
         requires aim { IsAim (C.core chip.now) (place_in (C.places chip.now)) aim }
         requires underway { AreUnderway (C.core chip.now) (place_in (C.places chip.now)) aim self.old }
-        requires cells { AreCells (C.core chip.now) (place_in (C.places chip.now)) (C.number_of chip.now) cells.old }
+        requires cells { AreCells (C.core chip.now) (place_in (C.places chip.now))
+            (C.number_of chip.now) cells.old }
 
         ensures bits { self.new.bits ≡ self.old.bits }
         ensures rest { AreAtRest (C.core chip.now) (place_in (C.places chip.now)) aim self.new }
-        ensures cells { AreCells (C.core chip.now) (place_in (C.places chip.now)) (C.number_of chip.now) cells.new }
+        ensures cells { AreCells (C.core chip.now) (place_in (C.places chip.now))
+            (C.number_of chip.now) cells.new }
     {
         self.good.settle(chip, None, None, cells);
         self.faulty.settle(chip, aim, Some(&self.good), cells);
@@ -85,11 +87,13 @@ impl Networks {
         requires old { IsAim (C.core chip.now) (place_in (C.places chip.now)) old }
         requires new { IsAim (C.core chip.now) (place_in (C.places chip.now)) new }
         requires rest { AreAtRest (C.core chip.now) (place_in (C.places chip.now)) old self.old }
-        requires cells { AreCells (C.core chip.now) (place_in (C.places chip.now)) (C.number_of chip.now) cells.old }
+        requires cells { AreCells (C.core chip.now) (place_in (C.places chip.now))
+            (C.number_of chip.now) cells.old }
 
         ensures bits { self.new.bits ≡ self.old.bits }
         ensures rest { AreAtRest (C.core chip.now) (place_in (C.places chip.now)) new self.new }
-        ensures cells { AreCells (C.core chip.now) (place_in (C.places chip.now)) (C.number_of chip.now) cells.new }
+        ensures cells { AreCells (C.core chip.now) (place_in (C.places chip.now))
+            (C.number_of chip.now) cells.new }
     {
         self.faulty.turn(chip, old);
         self.faulty.turn(chip, new);

@@ -16,8 +16,8 @@ use ca_net::{State, Trit, Wave};
 use std::alloc::Global;
 use std::marker::Model;
 
-/// The bits that are set, the defect that is aimed at, and the waves of all nets of a chip without it and with
-/// it. All memory is taken by `reserve`.
+/// The bits that are set, the defect that is aimed at, and the waves of all nets of a chip without it and
+/// with it. All memory is taken by `reserve`.
 #[derive(Drop)]
 pub struct Sim<'a, C: Linked> {
     chip: &'a C,
@@ -76,7 +76,8 @@ impl<'a, C: Linked> Sim<'a, C> {
 
     /// The chip.
     pub fn chip(&self) -> &'a C
-        ensures { C.core result.now ≡ self.now.seen.chip }
+        ensures core { C.core result.now ≡ self.now.seen.chip }
+        ensures places { C.places result.now ≡ self.now.seen.places }
     {
         self.chip
     }

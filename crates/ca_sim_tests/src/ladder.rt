@@ -2,7 +2,7 @@
 
 ghost use Rattle.std.specs.Prelude.{◌+◌, ◌≡◌, ◌<◌, IsTrue, IfOk, length, ◌↔◌};
 ghost use Rattle.std.specs.List.{All, Contains};
-ghost use Rattle.ca_sim_tests.specs.Ladder.{IsRung, AreRungsTo, IsRowTo, AreRowsTo};
+ghost use Rattle.ca_sim_tests.specs.Ladder.{IsLadder, IsRung, AreRungsTo, IsRowTo, AreRowsTo};
 
 use crate::rung::Rung;
 use ca_base::NoMemory;
@@ -14,8 +14,6 @@ use std::alloc::Global;
 /// A chip: its inputs have the first nets, and each instance drives the next.
 #[derive(Drop)]
 pub struct Ladder {
-    ghost use Rattle.ca_sim_tests.specs.Ladder.{IsLadder};
-
     inputs: usize,
     cells: Vec<Cell>,
     rungs: Vec<Rung>,

@@ -6,6 +6,7 @@ use ca_defect::parse;
 use ca_flat::ChipDefect;
 use ca_net::{State, Trit, Wave};
 use ca_sim::{Linked, NetWaves, Sim};
+use std::alloc::Global;
 use std::process::Abort;
 
 const ZERO: Trit = Trit::Zero;
@@ -84,6 +85,7 @@ fn a_set_bit_evaluates_two_instances_of_a_thousand(rt: HostRuntime) {
 }
 
 // Numbers that look as if they were drawn by lot.
+#[derive(Drop)]
 struct Draw {
     state: u64,
 }

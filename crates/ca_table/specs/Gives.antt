@@ -25,7 +25,7 @@ wave_at waves place = slice_index_or waves place unknown_wave
 pub record Gives (raw : RawCell) (net : Circuit) (pins outputs : List Wave) : Type 0 where
   pub count : length outputs ≡ role_count is_output raw.pins
   pub each : (first middle last : List Trit)
-      → AreLimits net (pin_vector net (firsts pins)) (pin_vector net (mids pins)) (pin_vector net (lasts pins))
-      first middle last
+      → AreLimits net (pin_vector net (firsts pins)) (pin_vector net (mids pins))
+      (pin_vector net (lasts pins)) first middle last
       → (output : ℕ) → output < role_count is_output raw.pins
       → wave_at outputs output ≡ wave_in first middle last (output_node raw output)

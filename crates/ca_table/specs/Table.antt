@@ -35,8 +35,8 @@ place_of (wave ∷ pins) = code_of wave + 11 * place_of pins
 abbrev pub entry_at : List (List Wave) → ℕ → List Wave
 entry_at table place = slice_index_or table place []
 
--- The network has at most three input pins; for each choice of waves of them there is an entry, the waves that
--- the network gives for it.
+-- The network has at most three input pins; for each choice of waves of them there is an entry, the waves
+-- that the network gives for it.
 pub record IsTableOf (raw : RawCell) (net : Circuit) (table : List (List Wave)) : Type 0 where
   pub few : role_count is_input raw.pins ≤ 3
   pub count : length table ≡ 11 ^ role_count is_input raw.pins

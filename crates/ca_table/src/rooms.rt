@@ -17,8 +17,8 @@ use ca_response::{OutWaves, respond};
 use ca_settle::Work;
 use std::alloc::Global;
 
-/// The room for a cell, for the cell with one node more, and for the cell with one device more, and the cell's
-/// table, if it has few input pins.
+/// The room for a cell, for the cell with one node more, and for the cell with one device more, and the
+/// cell's table, if it has few input pins.
 #[derive(Drop)]
 pub struct Rooms {
     pub(crate) good: Work,
