@@ -82,6 +82,7 @@ impl Cells {
             self.new.rooms.items }
         ensures cache { self.new.cache ≡ self.old.cache }
     {
+        chip.linked();
         let cell = chip.cell(u);
         let rooms = &mut self.rooms[chip.number(u)];
         match aim {
@@ -149,6 +150,7 @@ fn rooms_for<C: Linked>(alloc: Global, chip: &C, number: usize) -> Result<Rooms,
     ensures { IfOk result
         (FitCellsOf (C.core chip.now) (place_in (C.places chip.now)) (C.number_of chip.now) number) }
 {
+    chip.linked();
     match instance_with(chip, number) {
         Some(u) => Rooms::reserve(alloc, chip.cell(u)),
         None => Rooms::none(alloc),

@@ -38,6 +38,7 @@ impl Network {
             (IsUnderway (C.core chip.now) (place_in (C.places chip.now)) None
             (unset_pair (C.core chip.now))) }
     {
+        chip.linked();
         Ok(Network {
             waves: constant_waves(alloc, chip)?,
             due: all_places(alloc, chip)?,
@@ -48,6 +49,7 @@ impl Network {
     pub(crate) fn copy<C: Linked>(&self, alloc: Global, chip: &C) -> Result<Self, NoMemory>
         ensures { IfOk result (IsRestingCopy (C.core chip.now) self.now) }
     {
+        chip.linked();
         Ok(Network {
             waves: self.waves.copy(alloc)?,
             due: PlaceSet::reserve(alloc, chip.instances() + 1)?,
@@ -79,6 +81,7 @@ impl Network {
             self.old self.new }
         ensures ready { IsReady (C.core chip.now) (place_in (C.places chip.now)) self.new }
     {
+        chip.linked();
         let last = chip.inputs() + input;
         self.put(
             chip,
@@ -94,6 +97,7 @@ impl Network {
 
         ensures { IsTurned (C.core chip.now) (place_in (C.places chip.now)) aim self.old self.new }
     {
+        chip.linked();
         if let Some(aim) = aim {
             self.due.insert(chip.place(aim.instance as usize));
         }
@@ -109,6 +113,7 @@ impl Network {
         ensures { IsWrittenOut (C.core chip.now) (place_in (C.places chip.now)) u outputs.now
             self.old self.new }
     {
+        chip.linked();
         let first = chip.cell(u).inputs();
         for output in 0..outputs.len() {
             self.put(chip, chip.pin_net(u, first + output), outputs[output]);
@@ -121,6 +126,7 @@ impl Network {
         requires count { length self.now.waves ≡ length (C.core chip.now).nets }
         ensures { result.items ≡ input_waves (C.core chip.now) self.now.waves u }
     {
+        chip.linked();
         let mut pins = PinWaves::new();
         for pin in 0..chip.cell(u).inputs() {
             pins.push(self.waves.get(chip.pin_net(u, pin)));
@@ -134,6 +140,7 @@ impl Network {
         requires count { length self.now.waves ≡ length (C.core chip.now).nets }
         ensures { result.items ≡ output_waves (C.core chip.now) self.now.waves u }
     {
+        chip.linked();
         let first = chip.cell(u).inputs();
         let mut outputs = OutWaves::new();
         for output in 0..chip.cell(u).outputs() {
@@ -185,6 +192,7 @@ impl Network {
         ensures cells { AreCells (C.core chip.now) (place_in (C.places chip.now))
             (C.number_of chip.now) cells.new }
     {
+        chip.linked();
         let mut from = 0;
         while let Some(place) = self.due.next(from) {
             self.due.remove(place);
@@ -205,6 +213,7 @@ ghost use Rattle.ca_sim.specs.Network.{HasConstants};
 fn constant_waves<C: Linked>(alloc: Global, chip: &C) -> Result<Waves, NoMemory>
     ensures { IfOk result (HasConstants (C.core chip.now)) }
 {
+    chip.linked();
     let mut waves = Waves::unknown(alloc, chip.nets())?;
     let count = chip.constants();
     for k in 0..count {
@@ -219,6 +228,7 @@ fn constant_waves<C: Linked>(alloc: Global, chip: &C) -> Result<Waves, NoMemory>
 fn all_places<C: Linked>(alloc: Global, chip: &C) -> Result<PlaceSet, NoMemory>
     ensures { IfOk result (HasAllPlaces (C.core chip.now) (place_in (C.places chip.now))) }
 {
+    chip.linked();
     let mut due = PlaceSet::reserve(alloc, chip.instances() + 1)?;
     for u in 0..chip.instances() {
         let place = chip.place(u);
@@ -235,6 +245,7 @@ fn mark_readers<C: Linked>(chip: &C, net: usize, due: &mut PlaceSet)
     requires room { HoldsUpTo due.old (count_of (C.core chip.now) + 1) }
     ensures { IsMarked (C.core chip.now) (place_in (C.places chip.now)) net due.old due.new }
 {
+    chip.linked();
     for k in 0..chip.reader_count(net) {
         due.insert(chip.place(chip.reader(net, k)));
     }

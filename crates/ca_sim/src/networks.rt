@@ -38,6 +38,7 @@ impl Networks {
             → AreUnderway (C.core chip.now) (place_in (C.places chip.now)) aim self.old
             → AreUnderway (C.core chip.now) (place_in (C.places chip.now)) aim self.new }
     {
+        chip.linked();
         self.bits.set(input, first);
         self.bits.set(chip.inputs() + input, last);
         self.good.feed(chip, input, &self.bits);
@@ -54,6 +55,7 @@ impl Networks {
             → AreUnderway (C.core chip.now) (place_in (C.places chip.now)) aim self.old
             → AreUnderway (C.core chip.now) (place_in (C.places chip.now)) aim self.new }
     {
+        chip.linked();
         let inputs = chip.inputs();
         for input in 0..inputs {
             self.change(chip, input, bits.value(input), bits.value(inputs + input));

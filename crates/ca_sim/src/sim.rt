@@ -60,6 +60,7 @@ impl<'a, C: Linked> Sim<'a, C> {
     pub fn reserve(alloc: Global, chip: &'a C) -> Result<Self, NoMemory>
         ensures { IfOk result (IsFresh (C.core chip.now) (C.places chip.now)) }
     {
+        chip.linked();
         let bits = State::unknown(alloc, 2 * chip.inputs())?;
         let mut cells = Cells::reserve(alloc, chip)?;
         let mut good = Network::reserve(alloc, chip)?;
@@ -90,6 +91,7 @@ impl<'a, C: Linked> Sim<'a, C> {
         ensures kept { KeepsAim self.old self.new }
     {
         let chip = self.chip;
+        chip.linked();
         let bit = bit as usize;
         let inputs = chip.inputs();
         let input = input_of(bit, inputs);
@@ -118,8 +120,10 @@ impl<'a, C: Linked> Sim<'a, C> {
         ensures pair { self.new.seen.pair ≡ unset_pair self.old.seen.chip }
         ensures kept { KeepsAim self.old self.new }
     {
+        let chip = self.chip;
+        chip.linked();
         let unset = Unset {
-            count: 2 * self.chip.inputs(),
+            count: 2 * chip.inputs(),
         };
         self.load(&unset);
     }

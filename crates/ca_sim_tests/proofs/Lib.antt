@@ -1,1 +1,1 @@
-pub mod LadderLemmas
+pub mod RowLemmas

@@ -1,8 +1,6 @@
 -- Chips for tests: instances with one output pin, each of which drives the net behind all nets before it.
 use Rattle.std.specs.Prelude.{ℕ, suc, ◌+◌, ◌*◌, ◌^◌, ◌≡◌, ◌<◌, List, [], ◌∷◌, ◌++◌, length, map, replicate, slice_get, slice_index, slice_index_or, Some}
 use Rattle.std.specs.List.{All, Contains, range_with_len}
-use Rattle.std.specs.Prelude.{Vec}
-use Rattle.std.specs.Global.{Global}
 use Rattle.ca_net.specs.declared.scale.TheConstants.{OUTPUT_NET}
 use Rattle.ca_net.specs.declared.node.NodeKind.TheVariants.{Input, Storage}
 use Rattle.ca_cell.specs.declared.raw.RawCell.{RawCell}
@@ -18,7 +16,7 @@ cell_of cells place = slice_index_or cells place no_instance.cell
 abbrev pub instances_from : List RawCell → ℕ → List Rung → List Instance
 instances_from cells net [] = []
 instances_from cells net (rung ∷ rungs) =
-    record { cell = cell_of cells rung.cell; pins = rung.pins.items ++ net ∷ [] }
+    record { cell = cell_of cells rung.cell; pins = rung.pins ++ net ∷ [] }
     ∷ instances_from cells (suc net) rungs
 
 -- the chip: the nets of its inputs come first
@@ -43,9 +41,9 @@ number_in rungs u = slice_index (map (λ rung. rung.cell) rungs) u
 pub record IsRung (cells : List RawCell) (net : ℕ) (rung : Rung) : Type 0 where
   pub listed : rung.cell < length cells
   pub is_cell : IsCell (cell_of cells rung.cell)
-  pub ins : length rung.pins.items ≡ role_count is_input (cell_of cells rung.cell).pins
+  pub ins : length rung.pins ≡ role_count is_input (cell_of cells rung.cell).pins
   pub out : role_count is_output (cell_of cells rung.cell).pins ≡ 1
-  pub before : All (λ pin. pin < net) rung.pins.items
+  pub before : All (λ pin. pin < net) rung.pins
 
 -- so are the first of them, the first driving the net behind the inputs
 abbrev pub AreRungsTo : List RawCell → ℕ → ℕ → List Rung → Type 0
@@ -54,24 +52,34 @@ AreRungsTo cells inputs end rungs =
 
 -- the list has those of the first instances that have a pin on the net
 pub record IsRowTo (rungs : List Rung) (end net : ℕ) (row : List ℕ) : Type 0 where
-  pub each : (u : ℕ) (rung : Rung) → u < end → slice_get rungs u ≡ Some rung → Contains rung.pins.items net
+  pub each : (u : ℕ) (rung : Rung) → u < end → slice_get rungs u ≡ Some rung → Contains rung.pins net
       → Contains row u
   pub only : (u : ℕ) → Contains row u
-      → (u < end) × (rung : Rung) × (slice_get rungs u ≡ Some rung) × Contains rung.pins.items net
+      → (u < end) × (rung : Rung) × (slice_get rungs u ≡ Some rung) × Contains rung.pins net
 
 -- the list of a net
-abbrev pub row_of : List (Vec ℕ Global) → ℕ → List ℕ
-row_of rows net = slice_index_or (map (λ row. row.items) rows) net []
+abbrev pub row_of : List (List ℕ) → ℕ → List ℕ
+row_of rows net = slice_index_or rows net []
 
 -- there is a list for each of the first nets
-pub record AreRowsTo (rungs : List Rung) (end : ℕ) (rows : List (Vec ℕ Global)) : Type 0 where
+pub record AreRowsTo (rungs : List Rung) (end : ℕ) (rows : List (List ℕ)) : Type 0 where
   pub count : length rows ≡ end
   pub each : (net : ℕ) → net < end → IsRowTo rungs (length rungs) net (row_of rows net)
 
--- a chip for tests is one
-pub record IsLadder (inputs : ℕ) (cells : List RawCell) (rungs : List Rung) (rows : List (Vec ℕ Global)) : Type 0
-    where
-  pub few_inputs : 2 * inputs < 2 ^ 32
-  pub few_rungs : inputs + length rungs < 2 ^ 32
-  pub are_rungs : AreRungsTo cells inputs (length rungs) rungs
-  pub are_rows : AreRowsTo rungs (inputs + length rungs) rows
+-- what a chip for tests is seen as: its inputs, its cells, its instances, and the readers of each net
+pub record Shape : Type 0 where
+  pub inputs : ℕ
+  pub cells : List RawCell
+  pub rungs : List Rung
+  pub rows : List (List ℕ)
+
+-- the chip of flat networks
+abbrev pub core_of : Shape → Chip
+core_of shape = ladder_of shape.inputs shape.cells shape.rungs
+
+-- it is one
+pub record IsLadder (shape : Shape) : Type 0 where
+  pub few_inputs : 2 * shape.inputs < 2 ^ 32
+  pub few_rungs : shape.inputs + length shape.rungs < 2 ^ 32
+  pub are_rungs : AreRungsTo shape.cells shape.inputs (length shape.rungs) shape.rungs
+  pub are_rows : AreRowsTo shape.rungs (shape.inputs + length shape.rungs) shape.rows

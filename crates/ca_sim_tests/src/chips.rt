@@ -1,6 +1,6 @@
 //! Chips for tests.
 
-use crate::{Ladder, Rung};
+use crate::{Ladder, Numbers, Rung};
 use ca_base::NoMemory;
 use ca_cell::{Cell, Entry};
 use ca_spice::read_library;
@@ -58,8 +58,10 @@ fn cells(rt: &impl Abort, alloc: Global) -> Result<Vec<Cell>, NoMemory> {
 pub(crate) fn chip(rt: &impl Abort, alloc: Global, inputs: usize, table: &[(usize, &[u32])]) -> Ladder {
     let mut rungs = Vec::new(alloc);
     for (cell, nets) in table {
-        let mut pins = Vec::new(alloc);
-        pins.extend_from_slice(nets).expect(rt, "memory");
+        let mut pins = Numbers::new(alloc);
+        for net in *nets {
+            pins.push(*net).expect(rt, "memory");
+        }
         rungs.push(Rung { cell: *cell, pins }).expect(rt, "memory");
     }
     ladder(rt, alloc, inputs, rungs)

@@ -2,14 +2,16 @@
 
 ghost use Rattle.std.specs.Prelude.{◌+◌, ◌≡◌, ◌<◌, IsTrue, IfOk, length, ◌↔◌};
 ghost use Rattle.std.specs.List.{All, Contains};
-ghost use Rattle.ca_sim_tests.specs.Ladder.{IsLadder, IsRung, AreRungsTo, IsRowTo, AreRowsTo};
+ghost use Rattle.ca_sim_tests.specs.Ladder.{IsRung, AreRungsTo, IsRowTo, AreRowsTo};
 
+use crate::numbers::Numbers;
 use crate::rung::Rung;
 use ca_base::NoMemory;
 use ca_cell::Cell;
 use ca_net::Trit;
 use ca_sim::{FixedNet, Linked};
 use std::alloc::Global;
+use std::marker::Model;
 
 /// A chip: its inputs have the first nets, and each instance drives the next.
 #[derive(Drop)]
@@ -17,8 +19,27 @@ pub struct Ladder {
     inputs: usize,
     cells: Vec<Cell>,
     rungs: Vec<Rung>,
-    rows: Vec<Vec<u32>>,
-    ghost kept: { IsLadder inputs cells.items rungs.items rows.items },
+    rows: Vec<Numbers>,
+}
+
+impl Model for Ladder {
+    ghost use Rattle.ca_sim_tests.specs.Ladder.{Shape, IsLadder};
+
+    ghost Value = { Shape };
+
+    ghost view = { λ l. record {
+      inputs = l.inputs;
+      cells = l.cells.items;
+      rungs = l.rungs.items;
+      rows = l.rows.items;
+    } };
+
+    ghost invariant = { λ l. IsLadder (record {
+      inputs = l.inputs;
+      cells = l.cells.items;
+      rungs = l.rungs.items;
+      rows = l.rows.items;
+    }) };
 }
 
 impl Ladder {
@@ -63,7 +84,7 @@ fn is_rung(cells: &[Cell], net: usize, rung: &Rung) -> bool
     }
     let cell = &cells[rung.cell];
     let _ = cell.raw();
-    cell.inputs() == rung.pins.len() && cell.outputs() == 1 && all_below(&rung.pins, net)
+    cell.inputs() == rung.pins.len() && cell.outputs() == 1 && all_below(rung.pins.as_slice(), net)
 }
 
 // Whether all instances are so.
@@ -81,17 +102,17 @@ fn are_rungs(cells: &[Cell], inputs: usize, rungs: &[Rung]) -> bool
 
 // Whether the instance has a pin on the net.
 fn reads(rung: &Rung, net: u32) -> bool
-    ensures { IsTrue result ↔ Contains rung.now.pins.items net }
+    ensures { IsTrue result ↔ Contains rung.now.pins net }
 {
-    rung.pins.contains(&net)
+    rung.pins.as_slice().contains(&net)
 }
 
 // The instances with a pin on the net.
-fn row_of(alloc: Global, net: u32, rungs: &[Rung]) -> Result<Vec<u32>, NoMemory>
+fn row_of(alloc: Global, net: u32, rungs: &[Rung]) -> Result<Numbers, NoMemory>
     requires few { length rungs.now < 65_536 }
-    ensures { IfOk result (λ row. IsRowTo rungs.now (length rungs.now) net row.items) }
+    ensures { IfOk result (λ row. IsRowTo rungs.now (length rungs.now) net row) }
 {
-    let mut row = Vec::new(alloc);
+    let mut row = Numbers::new(alloc);
     for u in 0..rungs.len() {
         if reads(&rungs[u], net) {
             row.push(u as u32)?;
@@ -101,7 +122,7 @@ fn row_of(alloc: Global, net: u32, rungs: &[Rung]) -> Result<Vec<u32>, NoMemory>
 }
 
 // For each net the instances with a pin on it.
-fn rows_of(alloc: Global, nets: usize, rungs: &[Rung]) -> Result<Vec<Vec<u32>>, NoMemory>
+fn rows_of(alloc: Global, nets: usize, rungs: &[Rung]) -> Result<Vec<Numbers>, NoMemory>
     requires few { nets < 131_072 }
     requires few_rungs { length rungs.now < 65_536 }
     ensures { IfOk result (λ rows. AreRowsTo rungs.now nets rows.items) }
@@ -114,16 +135,15 @@ fn rows_of(alloc: Global, nets: usize, rungs: &[Rung]) -> Result<Vec<Vec<u32>>, 
 }
 
 impl Linked for Ladder {
-    ghost use Rattle.ca_sim_tests.specs.Ladder.{ladder_of, places_of, number_in, row_of};
-    ghost use Rattle.ca_sim_tests.proofs.LadderLemmas.{ladder_pinned, ladder_linked, ladder_read};
+    ghost use Rattle.ca_sim_tests.specs.Ladder.{core_of, places_of, number_in, row_of};
 
-    ghost core = { λ l. ladder_of l.inputs l.cells.items l.rungs.items };
+    ghost core = { λ l. core_of l };
 
-    ghost places = { λ l. places_of l.rungs.items };
+    ghost places = { λ l. places_of l.rungs };
 
-    ghost number_of = { λ l. number_in l.rungs.items };
+    ghost number_of = { λ l. number_in l.rungs };
 
-    ghost readers = { λ l. row_of l.rows.items };
+    ghost readers = { λ l. row_of l.rows };
 
     fn nets(&self) -> usize {
         self.inputs + self.rungs.len()
@@ -148,7 +168,7 @@ impl Linked for Ladder {
     fn pin_net(&self, u: usize, pin: usize) -> usize {
         let pins = &self.rungs[u].pins;
         if pin < pins.len() {
-            pins[pin] as usize
+            pins.get(pin) as usize
         } else {
             self.inputs + u
         }
@@ -167,7 +187,7 @@ impl Linked for Ladder {
     }
 
     fn reader(&self, net: usize, k: usize) -> usize {
-        self.rows[net][k] as usize
+        self.rows[net].get(k) as usize
     }
 
     fn inputs(&self) -> usize {
@@ -189,9 +209,7 @@ impl Linked for Ladder {
         }
     }
 
-    ghost pinned = { λ l. ladder_pinned l.inputs l.cells.items l.rungs.items l.rows.items l.kept };
-
-    ghost read = { λ l. ladder_read l.inputs l.cells.items l.rungs.items l.rows.items l.kept };
-
-    ghost linked = { λ l. ladder_linked l.inputs l.cells.items l.rungs.items l.rows.items l.kept };
+    fn linked(&self) {
+        let _ = &self.inputs;
+    }
 }

@@ -2,9 +2,11 @@
 #![tactic(auto)]
 
 mod ladder;
+mod numbers;
 mod rung;
 
 pub use ladder::Ladder;
+pub use numbers::Numbers;
 pub use rung::Rung;
 
 #[cfg(test)]

@@ -1,7 +1,7 @@
 //! The waves of nets, by a simulator and worked out by hand, and how often an instance is evaluated.
 
 use crate::chips::{INV, NAND2, NOR4, chip, ladder};
-use crate::{Ladder, Rung};
+use crate::{Ladder, Numbers, Rung};
 use ca_defect::parse;
 use ca_flat::ChipDefect;
 use ca_net::{State, Trit, Wave};
@@ -67,7 +67,7 @@ fn hazard_destroys_the_charge(rt: HostRuntime) {
 fn a_set_bit_evaluates_two_instances_of_a_thousand(rt: HostRuntime) {
     let mut rungs = Vec::new(rt.alloc());
     for input in 0..1000_u32 {
-        let mut pins = Vec::new(rt.alloc());
+        let mut pins = Numbers::new(rt.alloc());
         pins.push(input).expect(&rt, "memory");
         rungs.push(Rung { cell: INV, pins }).expect(&rt, "memory");
     }
@@ -117,7 +117,7 @@ fn drawn(rt: &impl Abort, alloc: Global, draw: &mut Draw) -> Ladder {
             NAND2 => 2,
             _ => 4,
         };
-        let mut pins = Vec::new(alloc);
+        let mut pins = Numbers::new(alloc);
         for _pin in 0..count {
             pins.push(draw.below((INPUTS + u) as u64) as u32).expect(rt, "memory");
         }

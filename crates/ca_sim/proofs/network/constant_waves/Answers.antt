@@ -15,5 +15,5 @@ loop-k-preserved g c =
     subst (λ j. slice_get core.constants j ≡ Some constant) (let e : count - 1 - c.loop-k.k ≡ count - (c.loop-k.k + 1) = omega arith in e) c.constant-constant.ensures in
     let has = subst (λ j. HasConstantsFrom core (drop j core.constants) c.loop-k.waves)
     (let e : count - c.loop-k.k ≡ suc (count - (c.loop-k.k + 1)) = omega arith in e) c.loop-k.invariant in
-    constants_more core k constant c.pair.result c.loop-k.waves c.set.new.self at ((g.met.C.Linked.pinned c.args.chip.now).constant_within k constant at)
+    constants_more core k constant c.pair.result c.loop-k.waves c.set.new.self at (c.linked.ensures.pinned.constant_within k constant at)
     c.pair.ensures c.set.ensures has

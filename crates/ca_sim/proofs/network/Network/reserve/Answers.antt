@@ -5,5 +5,5 @@ use Rattle.ca_sim.proofs.network.Network.reserve.Goals as goal
 pub returns : goal.returns
 returns g c =
     begins (g.C.Linked.core c.args.chip.now) (place_in (g.C.Linked.places c.args.chip.now)) (g.C.Linked.number_of c.args.chip.now)
-    (g.met.C.Linked.linked c.args.chip.now) (g.met.C.Linked.pinned c.args.chip.now) c.in_ok-constant_waves.field-0 c.in_ok-constant_waves.ensures
+    c.linked.ensures.linked c.linked.ensures.pinned c.in_ok-constant_waves.field-0 c.in_ok-constant_waves.ensures
     c.in_ok-all_places.field-0 c.in_ok-all_places.ensures

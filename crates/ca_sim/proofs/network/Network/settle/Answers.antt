@@ -29,7 +29,7 @@ pub loop-place-preserved : goal.loop-place-preserved
 loop-place-preserved g c =
     let core = g.C.Linked.core c.args.chip.now in
     let place_of = place_in (g.C.Linked.places c.args.chip.now) in
-    let linked = g.met.C.Linked.linked c.args.chip.now in
+    let linked = c.linked.ensures.linked in
     let u = c.order-u.result in
     let mid = c.loop-place.self in
     let pins_are : c.input_waves-pins.result.items ≡ input_waves core mid.waves u = c.input_waves-pins.ensures in
@@ -49,5 +49,5 @@ loop-place-preserved g c =
 
 pub returns-clause-settled : goal.returns-clause-settled
 returns-clause-settled g c =
-    settled_all (g.C.Linked.core c.args.chip.now) (place_in (g.C.Linked.places c.args.chip.now)) (g.C.Linked.number_of c.args.chip.now) (g.met.C.Linked.linked c.args.chip.now)
+    settled_all (g.C.Linked.core c.args.chip.now) (place_in (g.C.Linked.places c.args.chip.now)) (g.C.Linked.number_of c.args.chip.now) c.linked.ensures.linked
     c.args.aim c.args.self.now c.loop-place.from (record { waves = c.loop-place.self.waves; due = c.loop-place.self.due }) c.loop-place.invariant.settled c.in_default.ensures

@@ -11,8 +11,8 @@ returns-clause-underway g c = λ aim under.
     let core : Chip = g.C.Linked.core c.args.chip.now in
     let place_of = place_in (g.C.Linked.places c.args.chip.now) in
     let number_of = g.C.Linked.number_of c.args.chip.now in
-    let linked = g.met.C.Linked.linked c.args.chip.now in
-    let pinned = g.met.C.Linked.pinned c.args.chip.now in
+    let linked = c.linked.ensures.linked in
+    let pinned = c.linked.ensures.pinned in
     let next_is = c.set-2.ensures ∙ ap (λ k. slice_set c.set.new.self (k + c.args.input) c.args.last) c.inputs.ensures
     ∙ ap (λ bits. slice_set bits (length core.inputs + c.args.input) c.args.last) c.set.ensures in
     let same = changed_same core c.args.self.now.bits c.set-2.new.self c.args.input c.args.first c.args.last c.requires.input next_is in

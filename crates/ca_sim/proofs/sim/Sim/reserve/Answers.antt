@@ -20,7 +20,7 @@ invariant_of-result g c =
     let good : IsAtRest core place_of None (unset_pair core) c.settle.new.self =
     at_rest core place_of None (unset_pair core) c.in_ok-good.good c.settle.new.self c.in_ok-good.ensures c.settle.ensures.settled in
     record {
-      linked = g.met.C.Linked.linked c.args.chip.now;
+      linked = c.linked.ensures.linked;
       aim_is = tt;
       rest = record {
         bits = ap length unset ∙ length-replicate (bit_count core) X;

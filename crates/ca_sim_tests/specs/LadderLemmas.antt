@@ -7,8 +7,6 @@ use Rattle.std.proofs.lemmas.List.{get_or_append_left, get_or-append_right, get_
 use Rattle.std.proofs.lemmas.List.FromFn.{get_or-range_with_len, length-range_with_len}
 use Rattle.std.proofs.lemmas.List.Elements.{All-get_or}
 use Rattle.std.proofs.lemmas.Option.{slice_get_within, slice_get_cases, get_or_from_slice_get}
-use Rattle.std.specs.Prelude.{Vec}
-use Rattle.std.specs.Global.{Global}
 use Rattle.ca_net.specs.declared.scale.TheConstants.{OUTPUT_NET}
 use Rattle.ca_net.specs.declared.node.NodeKind.{NodeKind}
 use Rattle.ca_net.specs.declared.node.NodeKind.TheVariants.{Input, Storage}
@@ -25,7 +23,7 @@ length-instances cells net (rung ∷ rungs) = ap suc (length-instances cells (su
 
 -- the instance of a rung
 abbrev pub instance_of : List RawCell → ℕ → Rung → Instance
-instance_of cells net rung = record { cell = cell_of cells rung.cell; pins = rung.pins.items ++ net ∷ [] }
+instance_of cells net rung = record { cell = cell_of cells rung.cell; pins = rung.pins ++ net ∷ [] }
 
 instance_here : (cells : List RawCell) (net : ℕ) (rungs : List Rung) (u : ℕ) (rung : Rung) → slice_get rungs u ≡ Some rung
     → get_or (instances_from cells net rungs) u no_instance ≡ instance_of cells (net + u) rung
@@ -70,21 +68,21 @@ module _ (inputs : ℕ) (cells : List RawCell) (rungs : List Rung) (are : AreRun
   rung_is : (u : ℕ) (rung : Rung) → slice_get rungs u ≡ Some rung → IsRung cells (inputs + u) rung
   rung_is u rung at = are u rung (slice_get_within rungs u rung at) at
 
-  pub ins_are : (u : ℕ) (rung : Rung) → slice_get rungs u ≡ Some rung → inputs_at (ladder_of inputs cells rungs) u ≡ length rung.pins.items
+  pub ins_are : (u : ℕ) (rung : Rung) → slice_get rungs u ≡ Some rung → inputs_at (ladder_of inputs cells rungs) u ≡ length rung.pins
   ins_are u rung at = ap (λ (i : Instance). role_count is_input i.cell.pins) (instance_is u rung at) ∙ sym (rung_is u rung at).ins
 
   pub outs_are : (u : ℕ) (rung : Rung) → slice_get rungs u ≡ Some rung → outputs_at (ladder_of inputs cells rungs) u ≡ 1
   outs_are u rung at = ap (λ (i : Instance). role_count is_output i.cell.pins) (instance_is u rung at) ∙ (rung_is u rung at).out
 
-  pub read_net : (u pin : ℕ) (rung : Rung) → slice_get rungs u ≡ Some rung → pin < length rung.pins.items
-      → net_of (ladder_of inputs cells rungs) u pin ≡ get_or rung.pins.items pin 0
+  pub read_net : (u pin : ℕ) (rung : Rung) → slice_get rungs u ≡ Some rung → pin < length rung.pins
+      → net_of (ladder_of inputs cells rungs) u pin ≡ get_or rung.pins pin 0
   read_net u pin rung at lt = ap (λ (i : Instance). get_or i.pins pin 0) (instance_is u rung at)
-      ∙ get_or_append_left rung.pins.items (inputs + u ∷ []) 0 pin lt
+      ∙ get_or_append_left rung.pins (inputs + u ∷ []) 0 pin lt
 
-  pub driven_net : (u pin : ℕ) (rung : Rung) → slice_get rungs u ≡ Some rung → pin ≡ length rung.pins.items
+  pub driven_net : (u pin : ℕ) (rung : Rung) → slice_get rungs u ≡ Some rung → pin ≡ length rung.pins
       → net_of (ladder_of inputs cells rungs) u pin ≡ inputs + u
   driven_net u pin rung at is = ap (λ (i : Instance). get_or i.pins pin 0) (instance_is u rung at)
-      ∙ get_or_push rung.pins.items (inputs + u) 0 pin (sym is)
+      ∙ get_or_push rung.pins (inputs + u) 0 pin (sym is)
 
   -- what an instance drives
   drives_net : (net : ℕ) (driver : Drives core net) → net ≡ inputs + driver.instance
@@ -118,7 +116,7 @@ module _ (inputs : ℕ) (cells : List RawCell) (rungs : List Rung) (are : AreRun
       let found = rung_at rungs u (let c = length-instances cells inputs rungs in omega arith) in
       let ins = ins_are u found.rung found.at in
       subst (λ n. n < inputs + u) (sym (read_net u pin found.rung found.at (omega arith)))
-      (All-get_or (λ p. p < inputs + u) found.rung.pins.items pin 0 (omega arith) (rung_is u found.rung found.at).before)
+      (All-get_or (λ p. p < inputs + u) found.rung.pins pin 0 (omega arith) (rung_is u found.rung found.at).before)
 
   place_is : (u : ℕ) → u < length rungs → place_in (places_of rungs) u ≡ 1 + u
   place_is u lt = get_or-range_with_len 1 (length rungs) u 0 lt
@@ -135,7 +133,7 @@ module _ (inputs : ℕ) (cells : List RawCell) (rungs : List Rung) (are : AreRun
         let found = rung_at rungs u (omega arith) in
         let ins = ins_are u found.rung found.at in
         let outs = outs_are u found.rung found.at in
-        elim (cases_lt pin (length found.rung.pins.items)) [
+        elim (cases_lt pin (length found.rung.pins)) [
           | inl input ↦ let before = reads_before u pin lt (omega arith) in omega arith
           | inr last ↦ let is = driven_net u pin found.rung found.at (omega arith) in omega arith
         ];
@@ -180,14 +178,13 @@ module _ (inputs : ℕ) (cells : List RawCell) (rungs : List Rung) (are : AreRun
   }
     where
       only_output : (net : ℕ) (driver : Drives core net) → driver.output ≡ 0
-      unfolding core
       only_output net driver =
           let lt : driver.instance < length rungs = let c = length-instances cells inputs rungs in let k = driver.known in omega arith in
           let found = rung_at rungs driver.instance lt in
           let outs = outs_are driver.instance found.rung found.at in
           let w = driver.within in omega arith
 
-module _ (inputs : ℕ) (cells : List RawCell) (rungs : List Rung) (rows : List (Vec ℕ Global)) (kept : IsLadder inputs cells rungs rows) where
+module _ (inputs : ℕ) (cells : List RawCell) (rungs : List Rung) (rows : List (List ℕ)) (kept : IsLadder (record { inputs = inputs; cells = cells; rungs = rungs; rows = rows })) where
   number_is : (u : ℕ) → u < length rungs → cell_at (ladder_of inputs cells rungs) u ≡ cell_of cells (number_in rungs u)
   number_is u lt =
       let found = rung_at rungs u lt in
@@ -195,6 +192,7 @@ module _ (inputs : ℕ) (cells : List RawCell) (rungs : List Rung) (rows : List 
       ∙ ap (cell_of cells) (sym (get_or-map (λ (r : Rung). r.cell) rungs u found.rung 0 lt ∙ ap (λ (r : Rung). r.cell) (get_or_from_slice_get rungs u found.rung found.rung found.at)))
 
   pub ladder_linked : IsLinked (ladder_of inputs cells rungs) (place_in (places_of rungs)) (number_in rungs)
+  unfolding core
   ladder_linked = record {
     is_chip = chip_is;
     few = let few = kept.few_rungs in let c = length-instances cells inputs rungs in omega arith;
@@ -215,10 +213,10 @@ module _ (inputs : ℕ) (cells : List RawCell) (rungs : List Rung) (rows : List 
   }
     where
       chip_is : IsChip (ladder_of inputs cells rungs) (place_in (places_of rungs))
-      unfolding core
       chip_is = is_chip inputs cells rungs kept.are_rungs
 
   pub ladder_pinned : IsPinned (ladder_of inputs cells rungs)
+  unfolding core
   ladder_pinned = record {
     few = let few = kept.few_inputs in let l = length-range_with_len 0 inputs in omega arith;
     few_nets = let few = kept.few_rungs in let count = nets_are in omega arith;
@@ -241,22 +239,21 @@ module _ (inputs : ℕ) (cells : List RawCell) (rungs : List Rung) (rows : List 
   }
     where
       nets_are : length (ladder_of inputs cells rungs).nets ≡ inputs + length rungs
-      unfolding core
       nets_are = net_count inputs cells rungs kept.are_rungs
 
       kind_is : (net : ℕ) → net < inputs → net_kind (ladder_of inputs cells rungs) net ≡ Input
-      unfolding core
       kind_is = input_kind inputs cells rungs kept.are_rungs
 
   pub ladder_read : (net : ℕ) → net < length (ladder_of inputs cells rungs).nets → AreReaders (ladder_of inputs cells rungs) net (row_of rows net)
+  unfolding core
   ladder_read net lt = record {
     each = λ u reads.
         let u_lt : u < length rungs = let c = length-instances cells inputs rungs in let k = reads.known in omega arith in
         let found = rung_at rungs u u_lt in
         let ins = ins_are inputs cells rungs kept.are_rungs u found.rung found.at in
-        let pin_lt : reads.pin < length found.rung.pins.items = let w = reads.within in omega arith in
+        let pin_lt : reads.pin < length found.rung.pins = let w = reads.within in omega arith in
         row.each u found.rung u_lt found.at
-        (contains_at found.rung.pins.items reads.pin net pin_lt (sym (read_net inputs cells rungs kept.are_rungs u reads.pin found.rung found.at pin_lt) ∙ reads.on));
+        (contains_at found.rung.pins reads.pin net pin_lt (sym (read_net inputs cells rungs kept.are_rungs u reads.pin found.rung found.at pin_lt) ∙ reads.on));
     only = λ u has.
         let told = row.only u has in
         let ins = ins_are inputs cells rungs kept.are_rungs u told.1 told.2 in
@@ -266,12 +263,11 @@ module _ (inputs : ℕ) (cells : List RawCell) (rungs : List Rung) (rows : List 
           known = let c = length-instances cells inputs rungs in let k = told.0 in omega arith;
           pin = at.0;
           within = omega arith;
-          on = read_net inputs cells rungs kept.are_rungs u at.0 told.1 told.2 at_lt ∙ get_or_same told.1.pins.items at.0 net at_lt at.2;
+          on = read_net inputs cells rungs kept.are_rungs u at.0 told.1 told.2 at_lt ∙ get_or_same told.1.pins at.0 net at_lt at.2;
         };
   }
     where
       nets_are : length (ladder_of inputs cells rungs).nets ≡ inputs + length rungs
-      unfolding core
       nets_are = net_count inputs cells rungs kept.are_rungs
 
       row : IsRowTo rungs (length rungs) net (row_of rows net)
