@@ -6,18 +6,18 @@ use Rattle.std.proofs.lemmas.Bool.{cases_lt}
 use Rattle.std.proofs.lemmas.List.{get_or_append_left, get_or-append_right, get_or_past, get_or-replicate, length-replicate, get_or-map, get_or_push, get_or_default}
 use Rattle.std.proofs.lemmas.List.FromFn.{get_or-range_with_len, length-range_with_len}
 use Rattle.std.proofs.lemmas.List.Elements.{All-get_or}
-use Rattle.std.proofs.lemmas.Option.{slice_get_within, slice_get_cases, get_or_from_slice_get}
+use Rattle.std.proofs.lemmas.Option.{slice_get_within, slice_get_cases, slice_get-get_or, get_or_from_slice_get}
 use Rattle.ca_net.specs.declared.scale.TheConstants.{OUTPUT_NET}
 use Rattle.ca_net.specs.declared.node.NodeKind.{NodeKind}
 use Rattle.ca_net.specs.declared.node.NodeKind.TheVariants.{Input, Storage}
 use Rattle.ca_cell.specs.declared.raw.RawCell.{RawCell}
 use Rattle.ca_cell.specs.Raw.{is_input, is_output, role_count}
 use Rattle.ca_flat.specs.Chip.{Chip, Instance, Constant, no_instance, instance_at, cell_at, inputs_at, outputs_at, net_of, output_net, count_of, net_kind, IsCell, IsChip, Drives}
-use Rattle.ca_sim.specs.Linked.{Reads, AreReaders, IsLinked, IsPinned, IsPlaced, place_in}
+use Rattle.ca_sim.specs.Linked.{Reads, AreReaders, IsLinked, IsPinned, IsPlaced, IsPlace, place_in}
 use Rattle.ca_sim_tests.specs.declared.rung.Rung.{Rung}
 use Rattle.ca_sim_tests.specs.Ladder.{cell_of, instances_from, ladder_of, places_of, number_in, IsRung, AreRungsTo, IsRowTo, row_of, IsLadder}
 
-length-instances : (cells : List RawCell) (net : ℕ) (rungs : List Rung) → length (instances_from cells net rungs) ≡ length rungs
+pub length-instances : (cells : List RawCell) (net : ℕ) (rungs : List Rung) → length (instances_from cells net rungs) ≡ length rungs
 length-instances cells net [] = refl
 length-instances cells net (rung ∷ rungs) = ap suc (length-instances cells (suc net) rungs)
 
@@ -44,16 +44,31 @@ rung_at rungs u lt = elim (slice_get_cases rungs u).1 [
   | inr past ↦ absurd (let behind = past.0 in omega arith)
 ]
 
+-- the place of an instance is behind its number
+pub place_here : (rungs : List Rung) (u : ℕ) → u < length rungs → place_in (places_of rungs) u ≡ 1 + u
+place_here rungs u lt = get_or-range_with_len 1 (length rungs) u 0 lt
+
+-- the instance at a place
+pub order_is : (inputs : ℕ) (cells : List RawCell) (rungs : List Rung) (place : ℕ)
+    → (p : IsPlace (ladder_of inputs cells rungs) (place_in (places_of rungs)) place) → place - 1 ≡ p.instance
+order_is inputs cells rungs place p =
+    let count = length-instances cells inputs rungs in
+    let k = p.is_placed.known in
+    let is = place_here rungs p.instance (omega arith) in
+    let at = p.at in omega arith
+
+-- what was read stands at its place
+pub at_read : (rungs : List Rung) (u : ℕ) (read : Rung) → u < length rungs → read ≡ get_or rungs u read → slice_get rungs u ≡ Some read
+at_read rungs u read lt is = slice_get-get_or rungs u read lt ∙ ap Some (sym is)
+
 module _ (inputs : ℕ) (cells : List RawCell) (rungs : List Rung) (are : AreRungsTo cells inputs (length rungs) rungs) where
-  core : Chip
+  abbrev core : Chip
   core = ladder_of inputs cells rungs
 
   counted : count_of core ≡ length rungs
-  unfolding core
   counted = length-instances cells inputs rungs
 
-  net_count : length core.nets ≡ inputs + length rungs
-  unfolding core
+  pub net_count : length core.nets ≡ inputs + length rungs
   net_count =
       let left = length-replicate inputs Input in
       let right = length-replicate (length rungs) (Storage OUTPUT_NET) in
@@ -77,7 +92,7 @@ module _ (inputs : ℕ) (cells : List RawCell) (rungs : List Rung) (are : AreRun
   pub read_net : (u pin : ℕ) (rung : Rung) → slice_get rungs u ≡ Some rung → pin < length rung.pins
       → net_of (ladder_of inputs cells rungs) u pin ≡ get_or rung.pins pin 0
   read_net u pin rung at lt = ap (λ (i : Instance). get_or i.pins pin 0) (instance_is u rung at)
-      ∙ get_or_append_left rung.pins (inputs + u ∷ []) 0 pin lt
+      ∙ get_or_append_left rung.pins ((inputs + u) ∷ []) 0 pin lt
 
   pub driven_net : (u pin : ℕ) (rung : Rung) → slice_get rungs u ≡ Some rung → pin ≡ length rung.pins
       → net_of (ladder_of inputs cells rungs) u pin ≡ inputs + u
@@ -86,7 +101,6 @@ module _ (inputs : ℕ) (cells : List RawCell) (rungs : List Rung) (are : AreRun
 
   -- what an instance drives
   drives_net : (net : ℕ) (driver : Drives core net) → net ≡ inputs + driver.instance
-  unfolding core
   drives_net net driver =
       let lt : driver.instance < length rungs = let c = length-instances cells inputs rungs in let k = driver.known in omega arith in
       let found = rung_at rungs driver.instance lt in
@@ -96,14 +110,12 @@ module _ (inputs : ℕ) (cells : List RawCell) (rungs : List Rung) (are : AreRun
       sym driver.on ∙ driven_net driver.instance (inputs_at (ladder_of inputs cells rungs) driver.instance + driver.output) found.rung found.at (omega arith)
 
   input_kind : (net : ℕ) → net < inputs → net_kind core net ≡ Input
-  unfolding core
   input_kind net lt =
       let l = length-replicate inputs Input in
       get_or_append_left (replicate inputs Input) (replicate (length rungs) (Storage OUTPUT_NET)) Input net (omega arith)
       ∙ get_or-replicate inputs net Input Input lt
 
   output_kind : (u : ℕ) → u < length rungs → net_kind core (inputs + u) ≡ Storage OUTPUT_NET
-  unfolding core
   output_kind u lt =
       get_or-append_right (replicate inputs Input) (replicate (length rungs) (Storage OUTPUT_NET)) inputs (inputs + u) Input
       (length-replicate inputs Input) (omega arith)
@@ -111,7 +123,6 @@ module _ (inputs : ℕ) (cells : List RawCell) (rungs : List Rung) (are : AreRun
       ∙ get_or-replicate (length rungs) u (Storage OUTPUT_NET) Input lt
 
   reads_before : (u pin : ℕ) → u < count_of core → pin < inputs_at core u → net_of core u pin < inputs + u
-  unfolding core
   reads_before u pin lt within =
       let found = rung_at rungs u (let c = length-instances cells inputs rungs in omega arith) in
       let ins = ins_are u found.rung found.at in
@@ -122,7 +133,6 @@ module _ (inputs : ℕ) (cells : List RawCell) (rungs : List Rung) (are : AreRun
   place_is u lt = get_or-range_with_len 1 (length rungs) u 0 lt
 
   is_chip : IsChip core (place_in (places_of rungs))
-  unfolding core
   is_chip = record {
     cells = λ u lt.
         let found = rung_at rungs u (let c = length-instances cells inputs rungs in omega arith) in
@@ -191,8 +201,15 @@ module _ (inputs : ℕ) (cells : List RawCell) (rungs : List Rung) (rows : List 
       ap (λ (i : Instance). i.cell) (instance_is inputs cells rungs kept.are_rungs u found.rung found.at)
       ∙ ap (cell_of cells) (sym (get_or-map (λ (r : Rung). r.cell) rungs u found.rung 0 lt ∙ ap (λ (r : Rung). r.cell) (get_or_from_slice_get rungs u found.rung found.rung found.at)))
 
+  -- cells are listed
+  pub number_within : (u : ℕ) → u < length rungs → number_in rungs u < length cells
+  number_within u lt =
+      let found = rung_at rungs u lt in
+      let is : number_in rungs u ≡ found.rung.cell = get_or-map (λ (r : Rung). r.cell) rungs u found.rung 0 lt
+      ∙ ap (λ (r : Rung). r.cell) (get_or_from_slice_get rungs u found.rung found.rung found.at) in
+      let listed = (kept.are_rungs u found.rung lt found.at).listed in omega arith
+
   pub ladder_linked : IsLinked (ladder_of inputs cells rungs) (place_in (places_of rungs)) (number_in rungs)
-  unfolding core
   ladder_linked = record {
     is_chip = chip_is;
     few = let few = kept.few_rungs in let c = length-instances cells inputs rungs in omega arith;
@@ -216,7 +233,6 @@ module _ (inputs : ℕ) (cells : List RawCell) (rungs : List Rung) (rows : List 
       chip_is = is_chip inputs cells rungs kept.are_rungs
 
   pub ladder_pinned : IsPinned (ladder_of inputs cells rungs)
-  unfolding core
   ladder_pinned = record {
     few = let few = kept.few_inputs in let l = length-range_with_len 0 inputs in omega arith;
     few_nets = let few = kept.few_rungs in let count = nets_are in omega arith;
@@ -226,7 +242,8 @@ module _ (inputs : ℕ) (cells : List RawCell) (rungs : List Rung) (rows : List 
         let count = nets_are in omega arith;
     kind = λ input lt.
         let l = length-range_with_len 0 inputs in
-        let is : slice_index (range_with_len 0 inputs) input ≡ input = get_or-range_with_len 0 inputs input 0 (omega arith) in
+        let sum = get_or-range_with_len 0 inputs input 0 (omega arith) in
+        let is : slice_index (range_with_len 0 inputs) input ≡ input = omega arith in
         ap (net_kind (ladder_of inputs cells rungs)) is ∙ kind_is input (omega arith);
     distinct = λ i j one other same.
         let l = length-range_with_len 0 inputs in
@@ -245,7 +262,6 @@ module _ (inputs : ℕ) (cells : List RawCell) (rungs : List Rung) (rows : List 
       kind_is = input_kind inputs cells rungs kept.are_rungs
 
   pub ladder_read : (net : ℕ) → net < length (ladder_of inputs cells rungs).nets → AreReaders (ladder_of inputs cells rungs) net (row_of rows net)
-  unfolding core
   ladder_read net lt = record {
     each = λ u reads.
         let u_lt : u < length rungs = let c = length-instances cells inputs rungs in let k = reads.known in omega arith in

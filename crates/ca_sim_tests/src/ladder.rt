@@ -179,6 +179,7 @@ impl Linked for Ladder {
     }
 
     fn place(&self, u: usize) -> usize {
+        let _ = &self.inputs;
         u + 1
     }
 
