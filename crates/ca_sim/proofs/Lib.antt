@@ -1,0 +1,17 @@
+pub mod LimitLemmas
+pub mod WaveLemmas
+pub mod Exact
+pub mod StepLemmas
+pub mod PlaceLemmas
+pub mod Marking
+pub mod Putting
+pub mod CellLemmas
+pub mod Settling
+pub mod Feeding
+pub mod SimLemmas
+pub mod CacheLemmas
+pub mod Loading
+pub mod Twins
+pub mod Beginning
+pub mod RoomsTo
+pub mod Keeping

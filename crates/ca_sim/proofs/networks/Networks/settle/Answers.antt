@@ -1,0 +1,23 @@
+use Rattle.std.specs.Prelude.{None}
+use Rattle.ca_sim.specs.Linked.{place_in}
+use Rattle.ca_sim.proofs.SimLemmas.{at_rest, twin_at_rest, twin_given}
+use Rattle.ca_sim.proofs.networks.Networks.settle.Goals as goal
+
+pub settle-requires-2-clause-twin : goal.settle-requires-2-clause-twin
+settle-requires-2-clause-twin g c = λ good is.
+    let core = g.C.Linked.core c.args.chip.now in
+    let place_of = place_in (g.C.Linked.places c.args.chip.now) in
+    let bits = c.args.self.now.bits in
+    twin_given core _ good is (twin_at_rest core place_of bits c.settle.new.self
+    (at_rest core place_of None bits c.args.self.now.good c.settle.new.self c.requires.underway.good c.settle.ensures.settled))
+
+pub returns-clause-rest : goal.returns-clause-rest
+returns-clause-rest g c =
+    let core = g.C.Linked.core c.args.chip.now in
+    let place_of = place_in (g.C.Linked.places c.args.chip.now) in
+    let bits = c.args.self.now.bits in
+    record {
+      bits = c.requires.underway.bits;
+      good = at_rest core place_of None bits c.args.self.now.good c.settle.new.self c.requires.underway.good c.settle.ensures.settled;
+      faulty = at_rest core place_of c.args.aim bits c.args.self.now.faulty c.settle-2.new.self c.requires.underway.faulty c.settle-2.ensures.settled;
+    }

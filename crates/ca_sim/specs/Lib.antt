@@ -1,0 +1,13 @@
+pub mod Linked
+pub mod Seen
+pub mod Simulator
+pub mod Laws
+pub mod Current
+pub mod Changes
+pub mod PlaceSet
+pub mod Marking
+pub mod Network
+pub mod Networks
+pub mod Cache
+pub mod Cells
+pub mod Kept

@@ -1,0 +1,203 @@
+//! How the instances of a chip respond.
+
+ghost use Rattle.std.specs.Prelude.{◌≡◌, ◌<◌, length, IfOk};
+ghost use Rattle.std.specs.List.{All};
+ghost use Rattle.ca_net.specs.Wave.{IsWave};
+ghost use Rattle.ca_table.specs.Gives.{Gives};
+ghost use Rattle.ca_flat.specs.Chip.{cell_at, inputs_at, count_of, IsChipDefect};
+ghost use Rattle.ca_flat.specs.Flat.{circuit_in, defect_at};
+ghost use Rattle.ca_sim.specs.Linked.{IsPlaced, place_in};
+
+use crate::cache::{Cache, Entry};
+use crate::linked::Linked;
+use ca_base::NoMemory;
+use ca_defect::Defect;
+use ca_flat::ChipDefect;
+use ca_net::{Trit, Wave};
+use ca_response::{OutWaves, PinWaves};
+use ca_table::{MOST_TABLE_INPUTS, Rooms, copied};
+use std::alloc::Global;
+
+// The number of slots of the cache: about a quarter of a MiB.
+const SLOTS: usize = 4096;
+
+/// The room for the cells of a chip, by their numbers, and the number of evaluations so far.
+#[derive(Drop)]
+pub struct Cells {
+    pub(crate) rooms: Vec<Rooms>,
+    pub(crate) cache: Cache,
+    pub(crate) evaluated: u64,
+}
+
+impl Cells {
+    ghost use Rattle.ca_sim.specs.Cells.{AreCellRooms, AreCells, AreRoomsTo};
+
+    /// Takes the room for the cells of all instances with a place, and builds their tables.
+    pub(crate) fn reserve<C: Linked>(alloc: Global, chip: &C) -> Result<Self, NoMemory>
+        ensures { IfOk result (AreCells (C.core chip.now) (place_in (C.places chip.now))
+            (C.number_of chip.now)) }
+    {
+        let mut rooms = Vec::new(alloc);
+        for number in 0..chip.numbers() {
+            rooms.push(rooms_for(alloc, chip, number)?)?;
+        }
+        Ok(Cells {
+            rooms,
+            cache: Cache::reserve(alloc, SLOTS)?,
+            evaluated: 0,
+        })
+    }
+
+    /// The same room and cache, and no evaluation is counted.
+    pub(crate) fn counted_anew(self) -> Self
+        ensures count { result.evaluated ≡ 0 }
+        ensures rooms { result.rooms.items ≡ self.rooms.items }
+        ensures cache { result.cache ≡ self.cache }
+    {
+        Cells {
+            evaluated: 0,
+            ..self
+        }
+    }
+
+    /// How an instance responds, without a look at the cache.
+    fn compute<C: Linked>(
+        &mut self,
+        chip: &C,
+        u: usize,
+        aim: Option<ChipDefect>,
+        pins: &[Wave],
+    ) -> OutWaves
+        requires placed { IsPlaced (C.core chip.now) (place_in (C.places chip.now)) u }
+        requires listed { IsChipDefect (C.core chip.now) aim }
+        requires pins { length pins.now ≡ inputs_at (C.core chip.now) u }
+        requires waves { All IsWave pins.now }
+        requires rooms { AreCellRooms (C.core chip.now) (place_in (C.places chip.now)) (C.number_of chip.now)
+            self.old.rooms.items }
+
+        ensures gives { Gives (cell_at (C.core chip.now) u) (circuit_in (C.core chip.now) aim u) pins.now
+            result.items }
+        ensures waves { All IsWave result.items }
+        ensures rooms { AreCellRooms (C.core chip.now) (place_in (C.places chip.now)) (C.number_of chip.now)
+            self.new.rooms.items }
+        ensures cache { self.new.cache ≡ self.old.cache }
+    {
+        chip.linked();
+        let cell = chip.cell(u);
+        let rooms = &mut self.rooms[chip.number(u)];
+        match aim {
+            Some(aim) if aim.instance as usize == u => rooms.respond_faulty(cell, aim.defect, pins),
+            _ => rooms.respond_good(cell, pins),
+        }
+    }
+
+    /// How an instance responds to waves of its input pins, good or with the defect that is aimed at: by the
+    /// table of its cell, or as the cache has it, or computed.
+    pub(crate) fn respond<C: Linked>(
+        &mut self,
+        chip: &C,
+        u: usize,
+        aim: Option<ChipDefect>,
+        pins: PinWaves,
+    ) -> OutWaves
+        requires placed { IsPlaced (C.core chip.now) (place_in (C.places chip.now)) u }
+        requires listed { IsChipDefect (C.core chip.now) aim }
+        requires pins { length pins.items ≡ inputs_at (C.core chip.now) u }
+        requires waves { All IsWave pins.items }
+        requires cells { AreCells (C.core chip.now) (place_in (C.places chip.now))
+            (C.number_of chip.now) self.old }
+
+        ensures gives { Gives (cell_at (C.core chip.now) u) (circuit_in (C.core chip.now) aim u) pins.items
+            result.items }
+        ensures waves { All IsWave result.items }
+        ensures cells { AreCells (C.core chip.now) (place_in (C.places chip.now))
+            (C.number_of chip.now) self.new }
+    {
+        self.evaluated = self.evaluated.saturating_add(1);
+        let defect = defect_here(aim, u);
+        if defect.is_none() && pins.len() <= MOST_TABLE_INPUTS {
+            return self.compute(chip, u, aim, pins.as_slice());
+        }
+        let number = chip.number(u);
+        let slot = slot_of(
+            number,
+            defect.is_some(),
+            pins.as_slice(),
+            self.cache.slots.len(),
+        );
+        if let Some(outputs) = self
+            .cache
+            .get(chip, u, slot, number, defect, pins.as_slice())
+        {
+            return outputs;
+        }
+        let outputs = self.compute(chip, u, aim, pins.as_slice());
+        let entry = Entry {
+            number,
+            defect,
+            pins,
+            outputs: copied(&outputs),
+        };
+        self.cache.put(chip, u, slot, entry);
+        outputs
+    }
+}
+
+ghost use Rattle.ca_sim.specs.Cells.{IsOneOf, FitCellsOf};
+
+// The room for the cell of a number, if some instance has it.
+fn rooms_for<C: Linked>(alloc: Global, chip: &C, number: usize) -> Result<Rooms, NoMemory>
+    ensures { IfOk result
+        (FitCellsOf (C.core chip.now) (place_in (C.places chip.now)) (C.number_of chip.now) number) }
+{
+    chip.linked();
+    match instance_with(chip, number) {
+        Some(u) => Rooms::reserve(alloc, chip.cell(u)),
+        None => Rooms::none(alloc),
+    }
+}
+
+// Some instance with a place whose cell has the number.
+fn instance_with<C: Linked>(chip: &C, number: usize) -> Option<usize>
+    ensures { IsOneOf (C.core chip.now) (place_in (C.places chip.now)) (C.number_of chip.now) number result }
+{
+    for u in 0..chip.instances() {
+        if chip.place(u) > 0 && chip.number(u) == number {
+            return Some(u);
+        }
+    }
+    None
+}
+
+// The defect of an instance.
+pub(crate) fn defect_here(aim: Option<ChipDefect>, u: usize) -> Option<Defect>
+    ensures { result ≡ defect_at aim u }
+{
+    match aim {
+        Some(aim) if aim.instance as usize == u => Some(aim.defect),
+        _ => None,
+    }
+}
+
+// The slot of a question: a mix of the cell's number, whether it has a defect, and the waves.
+fn slot_of(number: usize, faulty: bool, pins: &[Wave], slots: usize) -> usize
+    requires { 0 < slots }
+    ensures { result < slots }
+{
+    let mut mix = number.wrapping_mul(2).wrapping_add(faulty as usize);
+    for pin in pins {
+        let wave = 9 * digit(pin.first) + 3 * digit(pin.mid) + digit(pin.last);
+        mix = mix.wrapping_mul(31).wrapping_add(wave);
+    }
+    mix % slots
+}
+
+fn digit(value: Trit) -> usize
+    ensures { result < 3 }
+{
+    match value {
+        Trit::Zero => 0,
+        Trit::One => 1,
+        Trit::X => 2,
+    }
+}

@@ -1,0 +1,21 @@
+//! The simulator: the waves of all nets for a partial pair, without a defect and with one, of which changed
+//! instances alone are evaluated again.
+#![tactic(auto)]
+
+mod bits;
+mod cache;
+mod cells;
+mod laws;
+mod linked;
+mod net_waves;
+mod network;
+mod networks;
+mod place_set;
+mod sim;
+mod waves;
+
+pub use bits::Bits;
+pub use laws::{definite_last_is_end, waves_are_there};
+pub use linked::{FixedNet, Linked};
+pub use net_waves::NetWaves;
+pub use sim::Sim;

@@ -1,0 +1,210 @@
+//! The simulator of a chip.
+
+ghost use Rattle.std.specs.Prelude.{◌+◌, ◌*◌, ◌^◌, ◌≡◌, ◌≢◌, ◌<◌, ◌⊎◌, length, slice_set, IfOk};
+ghost use Rattle.ca_net.specs.State.{value_at};
+ghost use Rattle.ca_sim.specs.Seen.{value_of};
+
+use crate::bits::{Bits, Unset};
+use crate::cells::Cells;
+use crate::linked::Linked;
+use crate::net_waves::NetWaves;
+use crate::network::Network;
+use crate::networks::Networks;
+use ca_base::NoMemory;
+use ca_flat::ChipDefect;
+use ca_net::{State, Trit, Wave};
+use std::alloc::Global;
+use std::marker::Model;
+
+/// The bits that are set, the defect that is aimed at, and the waves of all nets of a chip without it and
+/// with it. All memory is taken by `reserve`.
+#[derive(Drop)]
+pub struct Sim<'a, C: Linked> {
+    chip: &'a C,
+    aim: Option<ChipDefect>,
+    networks: Networks,
+    cells: Cells,
+    aimed: u64,
+}
+
+impl<'a, C: Linked> Model for Sim<'a, C> {
+    ghost use Rattle.ca_sim.specs.Simulator.{Simulator};
+    ghost use Rattle.ca_sim.specs.Linked.{place_in};
+    ghost use Rattle.ca_sim.specs.Kept.{IsKept};
+
+    ghost Value = { Simulator };
+
+    ghost view = { λ sim. record {
+      seen = record {
+        chip = C.core sim.chip.now;
+        places = C.places sim.chip.now;
+        aim = sim.aim;
+        pair = sim.networks.bits;
+        good = sim.networks.good.waves;
+        faulty = sim.networks.faulty.waves;
+      };
+      evaluated = sim.cells.evaluated;
+      aimed = sim.aimed;
+    } };
+
+    ghost invariant = { λ sim. IsKept (C.core sim.chip.now) (place_in (C.places sim.chip.now))
+        (C.number_of sim.chip.now) sim.aim sim.networks sim.cells };
+}
+
+impl<'a, C: Linked> Sim<'a, C> {
+    ghost use Rattle.ca_flat.specs.Code.{unset_pair};
+    ghost use Rattle.ca_sim.specs.Linked.{IsAim, place_in};
+    ghost use Rattle.ca_sim.specs.Simulator.{IsFresh, KeepsAim, KeepsPair, counted_up};
+
+    /// Takes all memory. No bit is set, and no defect is aimed at.
+    pub fn reserve(alloc: Global, chip: &'a C) -> Result<Self, NoMemory>
+        ensures { IfOk result (IsFresh (C.core chip.now) (C.places chip.now)) }
+    {
+        chip.linked();
+        let bits = State::unknown(alloc, 2 * chip.inputs())?;
+        let mut cells = Cells::reserve(alloc, chip)?;
+        let mut good = Network::reserve(alloc, chip)?;
+        good.settle(chip, None, None, &mut cells);
+        let faulty = good.copy(alloc, chip)?;
+        Ok(Sim {
+            chip,
+            aim: None,
+            networks: Networks { bits, good, faulty },
+            cells: cells.counted_anew(),
+            aimed: 0,
+        })
+    }
+
+    /// The chip.
+    pub fn chip(&self) -> &'a C
+        ensures core { C.core result.now ≡ self.now.seen.chip }
+        ensures places { C.places result.now ≡ self.now.seen.places }
+    {
+        self.chip
+    }
+
+    /// Sets a bit, or unsets it.
+    pub fn set(&mut self, bit: u16, value: Option<bool>)
+        requires { bit < length self.old.seen.pair }
+
+        ensures pair { self.new.seen.pair ≡ slice_set self.old.seen.pair bit (value_of value) }
+        ensures kept { KeepsAim self.old self.new }
+    {
+        let chip = self.chip;
+        chip.linked();
+        let bit = bit as usize;
+        let inputs = chip.inputs();
+        let input = input_of(bit, inputs);
+        let value = trit_of(value);
+        let first = chosen(input, bit, value, self.networks.bits.get(input));
+        let place = inputs + input;
+        let last = chosen(place, bit, value, self.networks.bits.get(place));
+        self.networks.change(chip, input, first, last);
+        self.networks.settle(chip, self.aim, &mut self.cells);
+    }
+
+    /// Gives all bits their values, and evaluates the instances that are due after that.
+    pub fn load<B: Bits>(&mut self, bits: &B)
+        requires { length (B.bits bits.now) ≡ length self.old.seen.pair }
+
+        ensures pair { self.new.seen.pair ≡ B.bits bits.now }
+        ensures kept { KeepsAim self.old self.new }
+    {
+        let chip = self.chip;
+        self.networks.load(chip, bits);
+        self.networks.settle(chip, self.aim, &mut self.cells);
+    }
+
+    /// Unsets all bits.
+    pub fn clear(&mut self)
+        ensures pair { self.new.seen.pair ≡ unset_pair self.old.seen.chip }
+        ensures kept { KeepsAim self.old self.new }
+    {
+        let chip = self.chip;
+        chip.linked();
+        let unset = Unset {
+            count: 2 * chip.inputs(),
+        };
+        self.load(&unset);
+    }
+
+    /// Aims at a defect, or at none. The bits stay.
+    pub fn aim(&mut self, defect: Option<ChipDefect>)
+        requires { IsAim self.old.seen.chip (place_in self.old.seen.places) defect }
+
+        ensures aim { self.new.seen.aim ≡ defect }
+        ensures aimed { self.new.aimed ≡ counted_up self.old.aimed }
+        ensures kept { KeepsPair self.old self.new }
+    {
+        let chip = self.chip;
+        self.networks.aim(chip, self.aim, defect, &mut self.cells);
+        self.aim = defect;
+        self.aimed = self.aimed.saturating_add(1);
+    }
+
+    /// How often an instance was evaluated since `reserve`, up to the type's greatest value.
+    pub fn evaluated(&self) -> u64
+        ensures { result ≡ self.now.evaluated }
+    {
+        self.cells.evaluated
+    }
+
+    /// How often was aimed since `reserve`, up to the type's greatest value.
+    pub fn aimed(&self) -> u64
+        ensures { result ≡ self.now.aimed }
+    {
+        self.aimed
+    }
+}
+
+impl<C: Linked> NetWaves for Sim<'_, C> {
+    ghost seen = { λ sim. sim.seen };
+
+    fn good(&self, net: usize) -> Wave {
+        self.networks.good.waves.get(net)
+    }
+
+    fn faulty(&self, net: usize) -> Wave {
+        self.networks.faulty.waves.get(net)
+    }
+
+    fn bit(&self, bit: usize) -> Option<bool> {
+        match self.networks.bits.get(bit) {
+            Trit::One => Some(true),
+            Trit::Zero => Some(false),
+            Trit::X => None,
+        }
+    }
+
+    fn exact(&self) {
+        let _ = &self.aim;
+    }
+}
+
+// The chip input of a bit.
+fn input_of(bit: usize, inputs: usize) -> usize
+    requires { bit < 2 * inputs }
+    ensures within { result < inputs }
+    ensures of { (bit ≡ result) ⊎ (bit ≡ inputs + result) }
+{
+    if bit < inputs { bit } else { bit - inputs }
+}
+
+// The value at a place, where one is given to the bit.
+fn chosen(place: usize, bit: usize, value: Trit, old: Trit) -> Trit
+    ensures here { place ≡ bit → result ≡ value }
+    ensures elsewhere { place ≢ bit → result ≡ old }
+{
+    if place == bit { value } else { old }
+}
+
+// The value of a bit.
+fn trit_of(value: Option<bool>) -> Trit
+    ensures { result ≡ value_of value }
+{
+    match value {
+        Some(true) => Trit::One,
+        Some(false) => Trit::Zero,
+        None => Trit::X,
+    }
+}

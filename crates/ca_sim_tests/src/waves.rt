@@ -1,0 +1,188 @@
+//! The waves of nets, by a simulator and worked out by hand, and how often an instance is evaluated.
+
+use crate::chips::{INV, NAND2, NOR4, chip, ladder};
+use crate::{Ladder, Numbers, Rung};
+use ca_defect::parse;
+use ca_flat::ChipDefect;
+use ca_net::{State, Trit, Wave};
+use ca_sim::{Linked, NetWaves, Sim};
+use std::alloc::Global;
+use std::process::Abort;
+
+const ZERO: Trit = Trit::Zero;
+const ONE: Trit = Trit::One;
+const X: Trit = Trit::X;
+
+// Sets a bit.
+fn set(rt: &impl Abort, sim: &mut Sim<'_, Ladder>, bit: usize, value: Option<bool>) {
+    sim.exact();
+    let chip = sim.chip();
+    assert!(rt; chip.inputs() < 32_768 && bit < 2 * chip.inputs(), "bit {bit}");
+    sim.set(bit as u16, value);
+}
+
+// Aims at a defect of an instance, by its name.
+fn aim(rt: &impl Abort, sim: &mut Sim<'_, Ladder>, u: usize, name: &[u8]) {
+    let chip = sim.chip();
+    assert!(rt; u < 65_536 && u < chip.instances() && chip.place(u) > 0, "instance {u}");
+    let defect = parse(chip.cell(u), name).expect(rt, "a defect");
+    sim.aim(Some(ChipDefect {
+        instance: u as u32,
+        defect,
+    }));
+}
+
+// The good and the faulty wave of a net.
+fn both(rt: &impl Abort, sim: &Sim<'_, Ladder>, net: usize) -> (Wave, Wave) {
+    assert!(rt; net < sim.chip().nets(), "net {net}");
+    (sim.good(net), sim.faulty(net))
+}
+
+// A hazard of y lets the charge of z go, where the new branch of u4 closes before the old one opens.
+const GLITCH: [(usize, &[u32]); 5] = [
+    (INV, &[1]),
+    (NAND2, &[1, 2]),
+    (NAND2, &[3, 2]),
+    (NAND2, &[4, 5]),
+    (NAND2, &[0, 6]),
+];
+
+#[test]
+fn hazard_destroys_the_charge(rt: HostRuntime) {
+    let glitch = chip(&rt, rt.alloc(), 3, &GLITCH);
+    let mut sim = Sim::reserve(rt.alloc(), &glitch).expect(&rt, "memory");
+    for (bit, value) in [true, true, true, false, false, true].into_iter().enumerate() {
+        set(&rt, &mut sim, bit, Some(value));
+    }
+    aim(&rt, &mut sim, 4, b"MP1(D)");
+    let (y, _) = both(&rt, &sim, 6);
+    assert_eq!(rt; (y.first, y.mid, y.last), (ONE, X, ONE));
+    let (good, faulty) = both(&rt, &sim, 7);
+    assert_eq!(rt; good.last, ONE);
+    assert_eq!(rt; faulty.last, X);
+    assert_eq!(rt; sim.aimed(), 1);
+}
+
+#[test]
+fn a_set_bit_evaluates_two_instances_of_a_thousand(rt: HostRuntime) {
+    let mut rungs = Vec::new(rt.alloc());
+    for input in 0..1000_u32 {
+        let mut pins = Numbers::new(rt.alloc());
+        pins.push(input).expect(&rt, "memory");
+        rungs.push(Rung { cell: INV, pins }).expect(&rt, "memory");
+    }
+    let row = ladder(&rt, rt.alloc(), 1000, rungs);
+    let mut sim = Sim::reserve(rt.alloc(), &row).expect(&rt, "memory");
+    assert_eq!(rt; sim.evaluated(), 0);
+    for (bit, value) in [(3, Some(true)), (1003, Some(false)), (3, None), (7, None), (1999, Some(true))] {
+        let before = sim.evaluated();
+        set(&rt, &mut sim, bit, value);
+        assert!(rt; sim.evaluated() - before <= 2, "bit {bit}");
+    }
+    let (good, faulty) = both(&rt, &sim, 1999);
+    assert_eq!(rt; (good.first, good.mid, good.last), (X, X, ZERO));
+    assert_eq!(rt; faulty, good);
+}
+
+// Numbers that look as if they were drawn by lot.
+#[derive(Drop)]
+struct Draw {
+    state: u64,
+}
+
+impl Draw {
+    fn below(&mut self, bound: u64) -> u64 {
+        self.state = self
+            .state
+            .wrapping_mul(6_364_136_223_846_793_005)
+            .wrapping_add(1_442_695_040_888_963_407);
+        (self.state >> 33) % bound
+    }
+}
+
+const NAMES: [&[u8]; 6] = [
+    b"MP1(D)", b"MP1(S)", b"MP1(G)", b"MN1(D)", b"VDD=ZN", b"VSS=ZN",
+];
+
+const INPUTS: usize = 6;
+const INSTANCES: usize = 30;
+
+// Thirty instances, each of which reads nets before its own.
+fn drawn(rt: &impl Abort, alloc: Global, draw: &mut Draw) -> Ladder {
+    let mut rungs = Vec::new(alloc);
+    for u in 0..INSTANCES {
+        let cell = draw.below(3) as usize;
+        let count = match cell {
+            INV => 1,
+            NAND2 => 2,
+            _ => 4,
+        };
+        let mut pins = Numbers::new(alloc);
+        for _pin in 0..count {
+            pins.push(draw.below((INPUTS + u) as u64) as u32).expect(rt, "memory");
+        }
+        rungs.push(Rung { cell, pins }).expect(rt, "memory");
+    }
+    ladder(rt, alloc, INPUTS, rungs)
+}
+
+// Asserts that the waves are those of a simulator of which nothing but this was asked.
+fn is_as_fresh(
+    rt: &impl Abort,
+    alloc: Global,
+    chip: &Ladder,
+    sim: &Sim<'_, Ladder>,
+    bits: &State,
+    aimed: Option<(usize, usize)>,
+) {
+    let mut fresh = Sim::reserve(alloc, chip).expect(rt, "memory");
+    if let Some((u, name)) = aimed {
+        aim(rt, &mut fresh, u, NAMES[name]);
+    }
+    fresh.exact();
+    assert_eq!(rt; bits.len(), 2 * fresh.chip().inputs());
+    fresh.load(bits);
+    for net in 0..INPUTS + INSTANCES {
+        assert_eq!(rt; both(rt, sim, net), both(rt, &fresh, net), "net {net}");
+    }
+}
+
+#[test]
+fn waves_are_those_of_a_fresh_simulator(rt: HostRuntime) {
+    let mut draw = Draw { state: 1 };
+    let chip = drawn(&rt, rt.alloc(), &mut draw);
+    let mut sim = Sim::reserve(rt.alloc(), &chip).expect(&rt, "memory");
+    let mut bits = State::unknown(rt.alloc(), 2 * INPUTS).expect(&rt, "memory");
+    let mut aimed = None;
+    for step in 0..400 {
+        match draw.below(16) {
+            0 => {
+                sim.clear();
+                bits = State::unknown(rt.alloc(), 2 * INPUTS).expect(&rt, "memory");
+            }
+            1 => {
+                sim.aim(None);
+                aimed = None;
+            }
+            2 | 3 => {
+                let u = draw.below(INSTANCES as u64) as usize;
+                let name = draw.below(6) as usize;
+                aim(&rt, &mut sim, u, NAMES[name]);
+                aimed = Some((u, name));
+            }
+            _ => {
+                let bit = draw.below(2 * INPUTS as u64) as usize;
+                let (value, trit) = match draw.below(3) {
+                    0 => (Some(false), ZERO),
+                    1 => (Some(true), ONE),
+                    _ => (None, X),
+                };
+                set(&rt, &mut sim, bit, value);
+                bits.set(bit, trit);
+            }
+        }
+        if step % 4 == 0 {
+            is_as_fresh(&rt, rt.alloc(), &chip, &sim, &bits, aimed);
+        }
+    }
+}

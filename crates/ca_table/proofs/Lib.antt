@@ -1,0 +1,3 @@
+pub mod GivesLemmas
+pub mod RoomLemmas
+pub mod TableLemmas

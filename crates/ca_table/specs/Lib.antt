@@ -1,0 +1,5 @@
+pub mod Gives
+pub mod Laws
+pub mod Table
+pub mod Rooms
+pub mod Decoding
