@@ -2,7 +2,7 @@
 
 ghost use Rattle.std.specs.Prelude.{◌≡◌, ◌≤◌, ◌<◌, true, length, IfOk};
 ghost use Rattle.ca_wired.specs.Linked.{is_scan_path};
-ghost use Rattle.ca_scan.specs.Chain.{IsChainAt};
+ghost use Rattle.ca_scan.specs.Chain.{IsAtPort, IsChainAt};
 ghost use Rattle.ca_scan.specs.Kept.{drivers_of, AreJoints, IsStep, IsRun};
 
 use crate::joints::Joints;

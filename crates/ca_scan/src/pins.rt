@@ -2,7 +2,7 @@
 
 ghost use Rattle.std.specs.Prelude.{◌<◌, length, slice_get, slice_index, OnOk};
 ghost use Rattle.ca_wired.specs.Instances.{scans_of};
-ghost use Rattle.ca_scan.specs.Chain.{IsOnPin};
+ghost use Rattle.ca_scan.specs.Chain.{IsScanAt, IsOnPin};
 ghost use Rattle.ca_scan.specs.Kept.{nets_at, Adds};
 
 use crate::tally::Tally;

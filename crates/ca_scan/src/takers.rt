@@ -1,6 +1,6 @@
 //! Which scan instance has its scan-in on a net.
 
-ghost use Rattle.std.specs.Prelude.{◌≡◌, ◌<◌, ℕ, length, OnOk, IfOk};
+ghost use Rattle.std.specs.Prelude.{◌≡◌, ◌<◌, ℕ, [], length, OnOk, IfOk};
 ghost use Rattle.ca_wired.specs.Instances.{scans_of};
 ghost use Rattle.ca_scan.specs.Kept.{taker_at, SetsTaker, AreTakersAmong};
 

@@ -1,6 +1,6 @@
 //! How often numbers were added.
 
-ghost use Rattle.std.specs.Prelude.{◌≡◌, ◌<◌, ℕ, [], ◌∷◌, length, OnOk};
+ghost use Rattle.std.specs.Prelude.{◌≡◌, ◌<◌, ℕ, [], ◌∷◌, length, slice_index, OnOk};
 ghost use Rattle.ca_scan.specs.Kept.{tally_at, Counts, Adds};
 
 use ca_base::NoMemory;

@@ -1,6 +1,6 @@
 //! Netlists whose nets are numbered by hand: whether they may be wired.
 
-ghost use Rattle.std.specs.Prelude.{◌≡◌, ◌<◌, true};
+ghost use Rattle.std.specs.Prelude.{◌≡◌, ◌<◌, true, IsTrue};
 ghost use Rattle.std.specs.List.{All};
 ghost use Rattle.ca_wired.specs.Linked.{net_count, input_nets, output_nets};
 ghost use Rattle.ca_wired.specs.Drivers.{IsDrafted};
