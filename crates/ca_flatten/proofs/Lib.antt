@@ -4,3 +4,6 @@ pub mod ScanLemmas
 pub mod PlaceLemmas
 pub mod MarkLemmas
 pub mod KindLemmas
+pub mod ListLemmas
+pub mod LineLemmas
+pub mod NetworkLemmas

@@ -16,7 +16,8 @@ use Rattle.ca_defect.specs.declared.defect.Defect.TheVariants.{OpenDrain, OpenSo
 use Rattle.ca_defect.specs.List.{IsDefectOf}
 use Rattle.ca_flat.specs.declared.chip_defect.ChipDefect.{ChipDefect}
 use Rattle.ca_flat.specs.Chip.{Instance, instance_at, cell_at, circuit_at, inputs_at, outputs_at, net_of, IsDefectIn, IsChipDefect}
-use Rattle.ca_flat.specs.Flat.{new_nodes, defect_at, circuit_in, place, outer_count, devices_of}
+use Rattle.ca_parts.specs.Part.{moved}
+use Rattle.ca_flat.specs.Flat.{new_nodes, old_devices, defect_at, circuit_in, place, outer_count, devices_of}
 use Rattle.ca_flat.proofs.Shapes.{length-with_defect}
 use Rattle.ca_flat.proofs.Places.{place_pin}
 use Rattle.std.proofs.lemmas.Bool.{eqb-true}
@@ -150,3 +151,20 @@ module _ (chip : Chip) (u : ℕ) (v : InvertedAt chip u) where
       let has : All (λ net. net < net_count chip) (v.nets.d ∷ v.nets.q ∷ option_to_list (Some v.net)) =
       subst (λ (qn : Option ℕ). All (λ net. net < net_count chip) (v.nets.d ∷ v.nets.q ∷ option_to_list qn)) v.inverted on in
       of_list (λ net. net < net_count chip) (v.nets.d ∷ v.nets.q ∷ option_to_list (Some v.net)) v.net has (2, omega arith, refl)
+
+none_changed : (new : ℕ) (o : Option Defect) → old_devices [] new o ≡ []
+none_changed new None = refl
+none_changed new (Some defect) = refl
+
+none_there : (qn : Option ℕ) → (circuit_of (empty_cell qn)).devices ≡ []
+none_there None = refl
+none_there (Some net) = refl
+
+-- a scan instance has no devices
+pub scan_devices : (chip : Chip) (u : ℕ) (s : ScanAt chip u) (given : Option ChipDefect) → devices_of (core_of chip) given u ≡ []
+scan_devices chip u s given =
+    let core = core_of chip in
+    let none : (circuit_at core u).devices ≡ [] = ap (λ (i : Instance). (circuit_of i.cell).devices) (core_scan chip u s) ∙ none_there s.nets.qn in
+    ap (map (moved (place core u)))
+    (ap (λ devices. old_devices devices (length (circuit_at core u).nodes) (defect_at given u)) none
+    ∙ none_changed (length (circuit_at core u).nodes) (defect_at given u))

@@ -2,7 +2,7 @@
 
 ghost use Rattle.std.specs.Prelude.{◌≡◌, ◌+◌, ◌++◌, ◌<◌, length, slice_get, Some, option_to_list, IfOk, OnOk};
 ghost use Rattle.ca_cell.specs.Raw.{circuit_of};
-ghost use Rattle.ca_flat.specs.Chip.{IsChipDefect};
+ghost use Rattle.ca_flat.specs.Chip.{count_of, IsChipDefect};
 ghost use Rattle.ca_flat.specs.Flat.{flat, old_devices, defect_at, devices_of, bridge_of, inner_before};
 ghost use Rattle.ca_wired.specs.Linked.{IsLibrary};
 ghost use Rattle.ca_core.specs.Core.{core_of};
@@ -109,7 +109,7 @@ fn bridge_of(
     requires defect { IsChipDefect (core_of chip.now) defect }
     requires few { IsFew (core_of chip.now) defect }
     requires first { first ≡ 2 + length (core_of chip.now).nets }
-    requires new { new ≡ first + inner_before (core_of chip.now) (length chip.now.parts) }
+    requires new { new ≡ first + inner_before (core_of chip.now) (count_of (core_of chip.now)) }
     ensures { option_to_list result ≡ bridge_of (core_of chip.now) defect }
 {
     chip.wired();

@@ -8,5 +8,5 @@ mod network;
 mod nodes;
 mod spots;
 
-pub use laws::flat_is_well_formed;
+pub use laws::{flat_has_lines, flat_is_well_formed};
 pub use network::flatten;

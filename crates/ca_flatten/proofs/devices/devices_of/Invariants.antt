@@ -5,6 +5,6 @@ use Rattle.ca_flatten.proofs.devices.devices_of.Given as goal
 
 abbrev pub invariant-loop-u : goal.invariant-loop-u
 invariant-loop-u l = record {
-  devices : l.devices ≡ devices_before (core_of l.chip) l.defect l.u
-  inner : l.inner ≡ l.first + inner_before (core_of l.chip) l.u
+  devices : l.devices ≡ devices_before (core_of l.chip) l.defect l.u;
+  inner : l.inner ≡ l.first + inner_before (core_of l.chip) l.u;
 }

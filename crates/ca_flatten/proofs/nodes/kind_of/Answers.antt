@@ -1,5 +1,7 @@
 use Rattle.std.proofs.Common.{◌≡◌, ◌∙◌, inl, inr, sym, ap, subst, arith}
-use Rattle.ca_wired.specs.Linked.{FromConstant, FromPin, FromPort, Source, Drives}
+use Rattle.ca_wired.specs.declared.parts.Source.{Source}
+use Rattle.ca_wired.specs.declared.parts.Source.TheVariants.{FromPin}
+use Rattle.ca_wired.specs.Linked.{Drives}
 use Rattle.ca_flatten.proofs.KindLemmas.{port_kind, constant_kind, q_kind, stored_output}
 use Rattle.ca_flatten.proofs.nodes.kind_of.Goals as goal
 use Rattle.ca_flatten.proofs.nodes.kind_of.Goals.{else-pin-eq0-via-then-pin-eq0+else-not-has, else-pin-eq0-via-else-pin-eq0}
@@ -30,6 +32,6 @@ returns-else-pin-eq0 c =
     (subst (λ (s : Source). Drives chip net s) c.in-FromPin.is c.driver.ensures) c.requires.off_path
     (λ both. elim c.else-pin-eq0.branch [
       | else-pin-eq0-via-then-pin-eq0+else-not-has w ↦
-          both.1 ((c.requires.gates.each c.in-FromPin.u).0 ?)
-      | else-pin-eq0-via-else-pin-eq0 w ↦ ?
+          both.1 ((c.requires.gates.each c.in-FromPin.u).0 (sym (w.if-not-has.ensures {u = tt})))
+      | else-pin-eq0-via-else-pin-eq0 w ↦ w.if-pin-eq0.false both.0
     ]))
