@@ -87,12 +87,7 @@ fn push_size(text: &mut Text, strength: u8) -> Result<(), NoMemory>
 }
 
 // Appends the terminals, the bulk, the model and the size of a transistor.
-fn push_transistor(
-    text: &mut Text,
-    bulk: u32,
-    model: &[u8],
-    device: Device,
-) -> Result<(), NoMemory>
+fn push_transistor(text: &mut Text, bulk: u32, model: &[u8], device: Device) -> Result<(), NoMemory>
     ensures { OnOk result (text.new ≡ text.old ++ flat_map spaced (transistor_words bulk model.now device)) }
 {
     push_node(text, device.a)?;

@@ -1,18 +1,16 @@
 -- The kinds of nets, by what drives them.
-use Rattle.std.proofs.Common.{◌≡◌, ℕ, zero, suc, ◌+◌, ◌<◌, List, [], ◌∷◌, ◌++◌, length, Bool, true, false, inl, inr, refl, sym, ◌∙◌, ap, subst, arith, get_or}
+use Rattle.std.proofs.Common.{◌≡◌, ℕ, zero, suc, ◌+◌, ◌<◌, List, [], ◌∷◌, ◌++◌, length, Bool, true, false, refl, sym, ◌∙◌, ap, subst, arith, get_or}
 use Rattle.std.specs.Prelude.{slice_get, if◌then◌else◌, IsSomeAnd, Option, Some, None, option_to_list}
-use Rattle.std.specs.List.{All, Contains, list_any}
+use Rattle.std.specs.List.{Contains, list_any}
 use Rattle.std.proofs.lemmas.List.Folds.{Any-from_list_any, list_any-from_Any}
 use Rattle.std.proofs.lemmas.Option.{slice_get_within, slice_get-get_or, get_or_from_slice_get, same_Some}
 use Rattle.ca_net.specs.declared.scale.TheConstants.{OUTPUT_NET}
 use Rattle.ca_net.specs.declared.node.NodeKind.TheVariants as node
-use Rattle.ca_wired.specs.declared.parts.ScanNets.{ScanNets}
 use Rattle.ca_wired.specs.declared.parts.Body.{Body}
 use Rattle.ca_wired.specs.declared.parts.Part.{Part}
-use Rattle.ca_wired.specs.declared.parts.Source.{Source}
 use Rattle.ca_wired.specs.declared.parts.Source.TheVariants.{FromPort, FromConstant, FromPin}
 use Rattle.ca_wired.specs.declared.parts.Body.TheVariants.{Gate, Scan}
-use Rattle.ca_wired.specs.Linked.{Chip, net_count, has, path_nets, output_nets, is_scan_path, Drives, IsGate, IsLibrary, IsWired}
+use Rattle.ca_wired.specs.Linked.{Chip, has, path_nets, output_nets, is_scan_path, Drives, IsGate, IsLibrary, IsWired}
 use Rattle.ca_wired.proofs.OrderLemmas.{contained_at}
 use Rattle.ca_wired.proofs.PartLemmas.{contains_has, has_contains}
 use Rattle.ca_core.specs.Core.{stored_nets, kind_of}

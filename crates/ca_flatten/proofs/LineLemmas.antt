@@ -1,11 +1,10 @@
 -- Each device of the flat network of a library of transistors has a line.
-use Rattle.std.proofs.Common.{◌≡◌, ℕ, zero, suc, ◌+◌, ◌<◌, ◌≤◌, ◌⊎◌, List, [], ◌∷◌, ◌++◌, map, length, Bool, true, false, cond, inl, inr, refl, sym, ◌∙◌, ap, subst, arith, ◌==◌}
-use Rattle.std.specs.Prelude.{Option, Some, None, option_to_list, slice_get}
+use Rattle.std.proofs.Common.{ℕ, zero, suc, ◌+◌, ◌<◌, ◌≤◌, List, [], ◌∷◌, map, length, Bool, true, false, cond, inl, inr, refl, sym, subst, arith, ◌==◌}
+use Rattle.std.specs.Prelude.{Option, Some, None, option_to_list}
 use Rattle.std.specs.List.{All}
 use Rattle.std.proofs.lemmas.List.{get_or_past}
-use Rattle.std.proofs.lemmas.List.Elements.{All-nil, All-cons, All-append, All-map, All-same, All-weaker, All-get_or}
+use Rattle.std.proofs.lemmas.List.Elements.{All-nil, All-cons, All-append, All-map, All-weaker, All-get_or}
 use Rattle.std.proofs.lemmas.Bool.{cases_lt}
-use Rattle.ca_net.specs.declared.node.NodeId.{NodeId}
 use Rattle.ca_net.specs.declared.device.DeviceKind.{DeviceKind}
 use Rattle.ca_net.specs.declared.device.DeviceKind.TheVariants as kind
 use Rattle.ca_net.specs.declared.device.Device.{Device}
@@ -13,13 +12,13 @@ use Rattle.ca_flat_text.specs.FlatText.{HasLine, HasLineBy}
 use Rattle.ca_parts.specs.Part.{moved}
 use Rattle.ca_cell.specs.declared.raw.RawCell.{RawCell}
 use Rattle.ca_cell.specs.declared.raw.RawDevice.{RawDevice}
-use Rattle.ca_cell.specs.Raw.{device_of, circuit_of}
+use Rattle.ca_cell.specs.Raw.{device_of}
 use Rattle.ca_defect.specs.declared.defect.Defect.{Defect}
 use Rattle.ca_defect.specs.declared.defect.Defect.TheVariants.{OpenDrain, OpenSource, OpenGate, OpenPin, Short}
 use Rattle.ca_defect.specs.Defect.{drain_on, source_on, gate_on, device_with, changed_from, new_device}
 use Rattle.ca_flat.specs.declared.chip_defect.ChipDefect.{ChipDefect}
-use Rattle.ca_flat.specs.Chip.{Instance, instance_at, cell_at, circuit_at, count_of}
-use Rattle.ca_flat.specs.Flat.{place, old_devices, new_devices, defect_at, devices_of, devices_before, bridge_of, flat}
+use Rattle.ca_flat.specs.Chip.{Instance, cell_at, circuit_at, count_of}
+use Rattle.ca_flat.specs.Flat.{place, old_devices, defect_at, devices_of, devices_before, bridge_of, flat}
 use Rattle.ca_wired.specs.declared.parts.Body.{Body}
 use Rattle.ca_wired.specs.declared.parts.Body.TheVariants.{Gate, Scan}
 use Rattle.ca_wired.specs.Linked.{Chip, no_cell, cell_of}

@@ -1,6 +1,6 @@
 -- The library instances of a chip are those that are listed.
-use Rattle.std.proofs.Common.{◌≡◌, ℕ, zero, suc, ◌+◌, ◌^◌, ◌<◌, ◌≤◌, replicate, List, [], ◌∷◌, ◌++◌, Bool, true, false, length, inl, inr, refl, sym, ◌∙◌, ap, subst, arith, get_or}
-use Rattle.std.specs.Prelude.{slice_get, slice_set, IsSomeAnd, IsTrue, ◌↔◌, Option, Some, None}
+use Rattle.std.proofs.Common.{◌≡◌, ℕ, zero, suc, ◌+◌, ◌^◌, ◌<◌, ◌≤◌, replicate, List, [], ◌∷◌, Bool, true, false, length, inl, inr, refl, sym, ◌∙◌, ap, subst, arith, get_or}
+use Rattle.std.specs.Prelude.{slice_get, IsSomeAnd, IsTrue, Some}
 use Rattle.std.specs.List.{Contains}
 use Rattle.std.proofs.Math.ListN.{set, length-set}
 use Rattle.std.proofs.Common.{get_or-set_same, get_or-set_other}
@@ -100,9 +100,12 @@ pub all_marked : (chip : Chip) (k : ℕ) (marks : List Bool) → AreFirstMarks c
     → AreGateMarks chip marks
 all_marked chip k marks first all few = record {
   room = first.room;
-  each = λ u. (first.library u, λ library.
-      let has = gate_is_listed 0 chip.parts u library in
-      let at : slice_get (gates_of chip) has.0 ≡ Some (0 + u) = place_of (gates_of chip) (0 + u) has in
-      first.listed has.0 u (let lt = has.1 in omega arith) (at ∙ ap Some (let e : 0 + u ≡ u = omega arith in e)));
+  each = λ u. (
+    first.library u,
+    λ library.
+        let has = gate_is_listed 0 chip.parts u library in
+        let at : slice_get (gates_of chip) has.0 ≡ Some (0 + u) = place_of (gates_of chip) (0 + u) has in
+        first.listed has.0 u (let lt = has.1 in omega arith) (at ∙ ap Some (let e : 0 + u ≡ u = omega arith in e)),
+  );
   few = few;
 }

@@ -1,15 +1,14 @@
 -- The nodes and devices of a flat network make a network.
-use Rattle.std.proofs.Common.{◌≡◌, ℕ, ◌<◌, List, length, refl, sym, ◌∙◌, ap, subst, arith}
+use Rattle.std.proofs.Common.{◌≡◌, ℕ, List, refl, subst}
 use Rattle.std.specs.Prelude.{Option, Some, None, slice_get, IsSomeAnd}
 use Rattle.std.specs.List.{All}
 use Rattle.std.proofs.lemmas.List.Elements.{All-same, All-weaker, All-get_or}
 use Rattle.std.proofs.lemmas.Option.{slice_get_within, get_or_from_slice_get}
 use Rattle.ca_base.specs.First.{IsFirst}
-use Rattle.ca_net.specs.declared.node.NodeKind.{NodeKind}
 use Rattle.ca_net.specs.declared.device.DeviceKind.{DeviceKind}
 use Rattle.ca_net.specs.declared.device.DeviceKind.TheVariants as kind
 use Rattle.ca_net.specs.declared.device.Device.{Device}
-use Rattle.ca_net.specs.Circuit.{IsWellFormed, HasSize, HasStrength, NamesWithin, NamesPast, GateIsDrain, GateIsDrainOf}
+use Rattle.ca_net.specs.Circuit.{IsWellFormed, NamesWithin, NamesPast, GateIsDrain, GateIsDrainOf}
 use Rattle.ca_flat_text.specs.FlatText.{HasLine, HasLineBy}
 use Rattle.ca_flat.specs.declared.chip_defect.ChipDefect.{ChipDefect}
 use Rattle.ca_flat.specs.Chip.{IsChipDefect}

@@ -1,7 +1,7 @@
 -- Scan instances, and their instances of the core.
-use Rattle.std.proofs.Common.{◌≡◌, ℕ, ◌+◌, ◌<◌, ◌≤◌, List, [], ◌∷◌, ◌++◌, length, map, Bool, true, false, eqb, inl, inr, refl, sym, ◌∙◌, ap, subst, arith, get_or}
+use Rattle.std.proofs.Common.{◌≡◌, ℕ, ◌+◌, ◌<◌, ◌≤◌, [], ◌∷◌, ◌++◌, length, map, Bool, true, false, eqb, refl, sym, ◌∙◌, ap, subst, arith, get_or}
 use Rattle.std.specs.Prelude.{slice_get, cond, IsSomeAnd, IsSome, Option, Some, None, option_to_list}
-use Rattle.std.specs.List.{All, Contains}
+use Rattle.std.specs.List.{All}
 use Rattle.std.proofs.lemmas.Option.{same_Some}
 use Rattle.ca_cell.specs.Raw.{is_input, is_output, role_count, circuit_of}
 use Rattle.ca_wired.specs.declared.parts.ScanNets.{ScanNets}
@@ -15,11 +15,10 @@ use Rattle.ca_defect.specs.declared.defect.Defect.{Defect}
 use Rattle.ca_defect.specs.declared.defect.Defect.TheVariants.{OpenDrain, OpenSource, OpenGate, OpenPin, Short}
 use Rattle.ca_defect.specs.List.{IsDefectOf}
 use Rattle.ca_flat.specs.declared.chip_defect.ChipDefect.{ChipDefect}
-use Rattle.ca_flat.specs.Chip.{Instance, instance_at, cell_at, circuit_at, inputs_at, outputs_at, net_of, IsDefectIn, IsChipDefect}
+use Rattle.ca_flat.specs.Chip.{Instance, instance_at, cell_at, circuit_at, net_of, IsChipDefect}
 use Rattle.ca_parts.specs.Part.{moved}
 use Rattle.ca_flat.specs.Flat.{new_nodes, old_devices, defect_at, circuit_in, place, outer_count, devices_of}
 use Rattle.ca_flat.proofs.Shapes.{length-with_defect}
-use Rattle.ca_flat.proofs.Places.{place_pin}
 use Rattle.std.proofs.lemmas.Bool.{eqb-true}
 use Rattle.ca_core.specs.Core.{core_net, core_instance, core_of, empty_cell}
 use Rattle.ca_core.proofs.CorePartLemmas.{core_at, part_at}

@@ -1,5 +1,5 @@
 -- What the code keeps while it makes a flat network. Only the proofs of the code cite this.
-use Rattle.std.specs.Prelude.{ℕ, ◌+◌, ◌^◌, ◌≡◌, ◌<◌, ◌↔◌, Bool, IsTrue, false, List, [], ◌∷◌, if◌then◌else◌, length, slice_index_or, Option, Some, IsSome, map, take}
+use Rattle.std.specs.Prelude.{ℕ, zero, suc, ◌+◌, ◌^◌, ◌≡◌, ◌<◌, ◌↔◌, Bool, IsTrue, false, List, [], ◌∷◌, if◌then◌else◌, length, slice_index_or, Option, IsSome, map, take}
 use Rattle.ca_net.specs.declared.device.Device.{Device}
 use Rattle.ca_parts.specs.Part.{moved}
 use Rattle.ca_flat.specs.declared.chip_defect.ChipDefect.{ChipDefect}
@@ -41,3 +41,8 @@ core_kind chip net = if linked.is_scan_path chip net then [] else kind_of chip n
 abbrev pub first_devices : Chip → Option ChipDefect → ℕ → ℕ → List Device
 first_devices chip given u count = map (moved (place chip u)) (take count
     (old_devices (circuit_at chip u).devices (length (circuit_at chip u).nodes) (defect_at given u)))
+
+-- how many devices the instances before u have
+unfoldable pub device_total : Chip → ℕ → ℕ
+device_total chip zero = 0
+device_total chip (suc u) = device_total chip u + length (circuit_at chip u).devices

@@ -6,6 +6,7 @@ mod gates;
 mod laws;
 mod network;
 mod nodes;
+mod sizes;
 mod spots;
 
 pub use laws::{flat_has_lines, flat_is_well_formed};

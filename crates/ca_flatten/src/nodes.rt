@@ -54,7 +54,12 @@ fn push_net(nodes: &mut NodeList, chip: &Chip, gates: &Gates, net: NetId) -> Res
 }
 
 // Appends the kinds of the nets that are off the scan path.
-fn push_nets(nodes: &mut NodeList, chip: &Chip, nets: &CoreNets, gates: &Gates) -> Result<(), NoMemory>
+fn push_nets(
+    nodes: &mut NodeList,
+    chip: &Chip,
+    nets: &CoreNets,
+    gates: &Gates,
+) -> Result<(), NoMemory>
     requires nets { AreCoreNumbers chip.now nets.now }
     requires gates { AreGateMarks chip.now gates.now }
     ensures { OnOk result (nodes.new ≡ nodes.old ++ (core_of chip.now).nets) }

@@ -1,6 +1,6 @@
 //! Where the nodes of instances stand in the flat network.
 
-ghost use Rattle.std.specs.Prelude.{◌≡◌, ◌+◌, ◌<◌, ◌≤◌, length, slice_get, IsSomeAnd, IsTrue};
+ghost use Rattle.std.specs.Prelude.{◌≡◌, ◌+◌, ◌^◌, ◌<◌, ◌≤◌, length, slice_get, IsSomeAnd, IsTrue};
 ghost use Rattle.ca_net.specs.Circuit.{NamesWithin};
 ghost use Rattle.ca_parts.specs.Part.{moved};
 ghost use Rattle.ca_flat.specs.Chip.{cell_at, circuit_at, inputs_at, outputs_at, net_of, count_of, IsChipDefect};
@@ -61,7 +61,8 @@ fn inverted_net(chip: &Chip, nets: &CoreNets, u: InstanceId) -> u32
 // The number of inner nodes of a library instance: those behind the rails and the pins.
 fn gate_inner(chip: &Chip, u: InstanceId) -> usize
     requires { IsLibrary chip.now u.0 }
-    ensures { result ≡ inner_count (core_of chip.now) u.0 }
+    ensures count { result ≡ inner_count (core_of chip.now) u.0 }
+    ensures few { result < 2 ^ 32 }
 {
     let cell = cell_at(chip, u);
     cell.node_count() - (2 + cell.inputs() + cell.outputs())
@@ -71,7 +72,8 @@ fn gate_inner(chip: &Chip, u: InstanceId) -> usize
 pub(crate) fn inner_count(chip: &Chip, gates: &Gates, u: InstanceId) -> usize
     requires gates { AreGateMarks chip.now gates.now }
     requires within { u.0 < length chip.now.parts }
-    ensures { result ≡ inner_count (core_of chip.now) u.0 }
+    ensures count { result ≡ inner_count (core_of chip.now) u.0 }
+    ensures few { result < 2 ^ 32 }
 {
     if gates.has(u) { gate_inner(chip, u) } else { 0 }
 }
@@ -96,7 +98,13 @@ pub(crate) fn inner_before(
 }
 
 // The number of the flat node of a node of a library instance.
-fn gate_place(chip: &Chip, nets: &CoreNets, defect: Option<ChipDefect>, spot: Spot, n: usize) -> usize
+fn gate_place(
+    chip: &Chip,
+    nets: &CoreNets,
+    defect: Option<ChipDefect>,
+    spot: Spot,
+    n: usize,
+) -> usize
     requires nets { AreCoreNumbers chip.now nets.now }
     requires library { IsLibrary chip.now spot.instance.0 }
     requires spot { IsSpot (core_of chip.now) spot }
@@ -120,7 +128,13 @@ fn gate_place(chip: &Chip, nets: &CoreNets, defect: Option<ChipDefect>, spot: Sp
 }
 
 // The number of the flat node of a node of a scan instance: a rail, or the net of its inverted output.
-fn scan_place(chip: &Chip, nets: &CoreNets, defect: Option<ChipDefect>, u: InstanceId, n: usize) -> usize
+fn scan_place(
+    chip: &Chip,
+    nets: &CoreNets,
+    defect: Option<ChipDefect>,
+    u: InstanceId,
+    n: usize,
+) -> usize
     requires nets { AreCoreNumbers chip.now nets.now }
     requires scan { IsLibrary chip.now u.0 → ⊥ }
     requires known { u.0 < length chip.now.parts }

@@ -1,4 +1,3 @@
-use Rattle.std.proofs.Common.{◌≡◌, ◌∙◌, ap}
 use Rattle.ca_flat_text.specs.FlatText.{device_line}
 use Rattle.ca_flat_text.proofs.LineLemmas.{text_more}
 use Rattle.ca_flat_text.proofs.writing.push_devices.Goals as goal

@@ -1,4 +1,3 @@
-use Rattle.std.proofs.Common.{◌≡◌, ◌∙◌, ap}
 use Rattle.ca_flat_text.specs.FlatText.{node_line}
 use Rattle.ca_flat_text.proofs.LineLemmas.{text_more}
 use Rattle.ca_flat_text.proofs.writing.push_nodes.Goals as goal

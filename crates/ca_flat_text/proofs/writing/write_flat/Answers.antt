@@ -1,4 +1,4 @@
-use Rattle.std.proofs.Common.{◌≡◌, ◌∙◌, ◌++◌, ap}
+use Rattle.std.proofs.Common.{◌∙◌, ◌++◌, ap}
 use Rattle.std.specs.Prelude.{codes}
 use Rattle.ca_flat_text.specs.FlatText.{flat_text, lines_from, node_line, device_line}
 use Rattle.ca_flat_text.proofs.LineLemmas.{four_pieces}

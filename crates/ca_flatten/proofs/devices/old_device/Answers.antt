@@ -1,6 +1,5 @@
 use Rattle.std.proofs.Common.{◌≡◌, ◌∙◌, ◌+◌, sym, ap, arith}
 use Rattle.std.specs.Prelude.{Some, length, slice_get}
-use Rattle.ca_net.specs.declared.device.Device.{Device}
 use Rattle.ca_cell.specs.Raw.{circuit_of}
 use Rattle.ca_defect.specs.Defect.{device_with}
 use Rattle.ca_flat.specs.Flat.{old_devices}

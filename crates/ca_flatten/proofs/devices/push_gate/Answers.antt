@@ -1,5 +1,4 @@
-use Rattle.std.proofs.Common.{◌≡◌, ◌∙◌, ◌≤◌, ◌∷◌, [], ◌++◌, length, sym, ap, subst, arith}
-use Rattle.ca_parts.specs.Part.{moved}
+use Rattle.std.proofs.Common.{◌∙◌, ◌≤◌, ◌∷◌, [], ◌++◌, length, ap, subst}
 use Rattle.ca_cell.specs.declared.raw.RawCell.{RawCell}
 use Rattle.ca_cell.specs.Raw.{circuit_of}
 use Rattle.ca_core.specs.Core.{core_of}

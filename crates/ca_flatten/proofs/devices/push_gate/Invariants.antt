@@ -1,7 +1,4 @@
-use Rattle.std.proofs.Common.{◌≡◌, ◌++◌, take, length, map}
-use Rattle.ca_parts.specs.Part.{moved}
-use Rattle.ca_flat.specs.Chip.{circuit_at}
-use Rattle.ca_flat.specs.Flat.{place, old_devices, defect_at}
+use Rattle.std.proofs.Common.{◌≡◌, ◌++◌}
 use Rattle.ca_core.specs.Core.{core_of}
 use Rattle.ca_flatten.specs.Kept.{first_devices}
 use Rattle.ca_flatten.proofs.devices.push_gate.Given as goal

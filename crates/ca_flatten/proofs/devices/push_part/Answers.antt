@@ -1,4 +1,4 @@
-use Rattle.std.proofs.Common.{◌≡◌, ◌∙◌, ◌++◌, sym, ap}
+use Rattle.std.proofs.Common.{◌∙◌, ◌++◌, sym, ap}
 use Rattle.std.proofs.lemmas.List.{append-nil}
 use Rattle.ca_flatten.proofs.ScanLemmas.{scan_at, scan_devices}
 use Rattle.ca_flatten.proofs.devices.push_part.Goals as goal

@@ -1,7 +1,6 @@
-use Rattle.std.proofs.Common.{◌≡◌, ◌∙◌, ◌<◌, ◌≤◌, ◌^◌, length, sym, subst, arith}
-use Rattle.ca_wired.specs.Instances.{gates_of}
+use Rattle.std.proofs.Common.{arith}
 use Rattle.ca_flatten.proofs.GateLemmas.{library_known}
-use Rattle.ca_flatten.proofs.MarkLemmas.{listed_is_library, none_marked, marked_more, all_marked}
+use Rattle.ca_flatten.proofs.MarkLemmas.{listed_is_library, marked_more, all_marked}
 use Rattle.ca_flatten.proofs.gates.gates_of.Goals as goal
 
 pub index_mut-requires : goal.index_mut-requires

@@ -1,4 +1,4 @@
-use Rattle.std.proofs.Common.{◌≡◌, ◌∙◌, ◌<◌, ◌^◌, List, sym, ap, subst, length, arith}
+use Rattle.std.proofs.Common.{◌<◌, ◌^◌, List, sym, subst, length}
 use Rattle.std.specs.List.{All}
 use Rattle.std.proofs.lemmas.List.Elements.{All-same}
 use Rattle.ca_net.specs.declared.node.NodeKind.{NodeKind}

@@ -1,8 +1,7 @@
-use Rattle.std.proofs.Common.{◌≡◌, ◌∙◌, ◌+◌, ◌-◌, ◌<◌, ◌≤◌, ◌^◌, length, sym, ap, subst, arith}
+use Rattle.std.proofs.Common.{◌≡◌, ◌∙◌, ◌<◌, ◌≤◌, length, sym, ap, subst, arith}
 use Rattle.ca_cell.specs.declared.raw.RawCell.{RawCell}
 use Rattle.ca_cell.specs.Raw.{is_input, is_output, role_count, circuit_of}
-use Rattle.ca_flat.specs.Chip.{circuit_at, inputs_at, outputs_at}
-use Rattle.ca_flat.specs.Flat.{outer_count, place}
+use Rattle.ca_flat.specs.Chip.{circuit_at}
 use Rattle.ca_flat.proofs.Places.{place_rail}
 use Rattle.ca_flat.proofs.Spots.{shape}
 use Rattle.ca_core.specs.Core.{core_of, rank_of}

@@ -1,4 +1,4 @@
-use Rattle.std.proofs.Common.{◌≡◌, ◌<◌, arith}
+use Rattle.std.proofs.Common.{arith}
 use Rattle.ca_flatten.proofs.SizeLemmas.{place_fits}
 use Rattle.ca_flatten.proofs.spots.place.Goals as goal
 

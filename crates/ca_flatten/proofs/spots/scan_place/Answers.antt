@@ -1,4 +1,4 @@
-use Rattle.std.proofs.Common.{◌≡◌, ◌∙◌, ◌+◌, ◌<◌, sym, ap, subst, arith}
+use Rattle.std.proofs.Common.{◌≡◌, ◌∙◌, ◌+◌, sym, ap, arith}
 use Rattle.ca_flat.specs.Flat.{outer_count}
 use Rattle.ca_flat.proofs.Places.{place_rail, place_pin}
 use Rattle.ca_core.specs.Core.{core_of}
