@@ -40,15 +40,6 @@ inner_fits chip given few u lt =
     let nodes = few.nodes in
     omega arith
 
--- so are those of all instances
-pub all_fit : (chip : Chip) (given : Option ChipDefect) → IsFew (core_of chip) given
-    → 2 + length (core_of chip).nets + inner_before (core_of chip) (length chip.parts) < 2 ^ 32
-all_fit chip given few =
-    let same : inner_before (core_of chip) (length chip.parts) ≡ inner_before (core_of chip) (count_of (core_of chip)) = ap (inner_before (core_of chip)) (sym (core_count chip)) in
-    let total = flat_length (core_of chip) given in
-    let nodes = few.nodes in
-    omega arith
-
 module _ (chip : Chip) (is : IsWired chip) (given : Option ChipDefect) (fits : IsChipDefect (core_of chip) given) (few : IsFew (core_of chip) given) where
   -- the flat node of a node of an instance has a number of 32 bits
   pub place_fits : (u n : ℕ) → u < length chip.parts → n < length (circuit_in (core_of chip) given u).nodes → place (core_of chip) u n < 2 ^ 32

@@ -1,6 +1,5 @@
-use Rattle.std.proofs.Common.{◌≡◌, ◌∙◌, ◌+◌, ◌≤◌, ap, refl, sym, subst, arith}
+use Rattle.std.proofs.Common.{◌≡◌, ◌∙◌, ◌+◌, ap, sym, subst, arith}
 use Rattle.std.specs.Prelude.{if◌then◌else◌}
-use Rattle.ca_wired.specs.Linked.{is_scan_path, net_count}
 use Rattle.ca_core.proofs.NumberLemmas.{AreFirstNumbers, first_more, all_numbered}
 use Rattle.ca_core.proofs.nets.core_nets.Goals as goal
 use Rattle.ca_core.proofs.nets.core_nets.Goals.{then-not-is_scan_path, else-not-is_scan_path}
