@@ -1,3 +1,4 @@
 pub mod CoreLemmas
 pub mod CorePartLemmas
 pub mod CoreIsChip
+pub mod NumberLemmas

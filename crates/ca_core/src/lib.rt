@@ -2,5 +2,7 @@
 #![tactic(auto)]
 
 mod laws;
+mod nets;
 
 pub use laws::core_is_chip;
+pub use nets::{CoreNets, core_nets};

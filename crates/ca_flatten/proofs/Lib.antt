@@ -1,0 +1,9 @@
+pub mod GateLemmas
+pub mod SizeLemmas
+pub mod ScanLemmas
+pub mod PlaceLemmas
+pub mod MarkLemmas
+pub mod KindLemmas
+pub mod ListLemmas
+pub mod LineLemmas
+pub mod NetworkLemmas

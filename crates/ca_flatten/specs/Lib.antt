@@ -1,0 +1,4 @@
+pub mod Transistors
+pub mod Few
+pub mod Laws
+pub mod Kept

@@ -1,0 +1,59 @@
+//! The flat network of a linked chip.
+
+ghost use Rattle.std.specs.Prelude.{◌≡◌, IfOk};
+ghost use Rattle.ca_flat.specs.Chip.{IsChipDefect};
+ghost use Rattle.ca_flat.specs.Flat.{flat};
+ghost use Rattle.ca_core.specs.Core.{core_of};
+ghost use Rattle.ca_flatten.specs.Few.{IsFew};
+ghost use Rattle.ca_flatten.specs.Transistors.{HaveTransistors};
+
+use crate::devices::devices_of;
+use crate::gates::gates_of;
+use crate::nodes::nodes_of;
+use crate::sizes::is_few;
+use ca_base::NoMemory;
+use ca_core::core_nets;
+use ca_flat::ChipDefect;
+use ca_net::{DeviceList, FlatNet, NetFault, NodeList};
+use ca_wired::Chip;
+use std::alloc::Global;
+
+// The network of these nodes and devices, which are those of the flat network.
+fn network_of(
+    chip: &Chip,
+    defect: Option<ChipDefect>,
+    nodes: NodeList,
+    devices: DeviceList,
+) -> Result<FlatNet, NoMemory>
+    requires transistors { HaveTransistors chip.now.cells }
+    requires defect { IsChipDefect (core_of chip.now) defect }
+    requires few { IsFew (core_of chip.now) defect }
+    requires nodes { nodes ≡ (flat (core_of chip.now) defect).nodes }
+    requires devices { devices ≡ (flat (core_of chip.now) defect).devices }
+    ensures { IfOk result (λ net. net ≡ flat (core_of chip.now) defect) }
+{
+    chip.wired();
+    match FlatNet::new(nodes, devices) {
+        Ok(net) => Ok(net),
+        Err(NetFault::BadNode { .. }) => unreachable!(),
+        Err(NetFault::NoMemory) => Err(NoMemory),
+    }
+}
+
+/// The flat network of a linked chip, good or with one of its defects: power, ground, the nets off the scan path
+/// in net order, the inner nodes by instance and the node that the defect adds; the devices by instance, and the
+/// bridge of a short. Want of memory is also told of a network that may have 2^32 nodes or devices.
+pub fn flatten(alloc: Global, chip: &Chip, defect: Option<ChipDefect>) -> Result<FlatNet, NoMemory>
+    requires transistors { HaveTransistors chip.now.cells }
+    requires defect { IsChipDefect (core_of chip.now) defect }
+    ensures { IfOk result (λ net. net ≡ flat (core_of chip.now) defect) }
+{
+    let nets = core_nets(alloc, chip)?;
+    let gates = gates_of(alloc, chip)?;
+    if !is_few(chip, &nets, &gates, defect) {
+        return Err(NoMemory);
+    }
+    let nodes = nodes_of(alloc, chip, &nets, &gates, defect)?;
+    let devices = devices_of(alloc, chip, &nets, &gates, defect)?;
+    network_of(chip, defect, nodes, devices)
+}
