@@ -10,8 +10,8 @@ use Rattle.ca_cell.specs.Rules.{IsFirstBroken}
 use Rattle.ca_spice.specs.Reading.{library_of}
 use Rattle.ca_spice.specs.Views.{subcircuit_seen}
 use Rattle.ca_matrix.specs.Matrix.{Entries}
-use Rattle.ca_flow.specs.declared.fault.Fault.{Fault}
-use Rattle.ca_flow.specs.declared.fault.Fault.TheVariants.{BadWords, Cells, NoCell, Cell, BadVector, NoDefect, TooLong, Limit, StoreFailed, SinkFailed, NoMemory}
+use Rattle.ca_fault.specs.declared.fault.Fault.{Fault}
+use Rattle.ca_fault.specs.declared.fault.Fault.TheVariants.{BadWords, Cells, NoCell, Cell, BadVector, NoDefect, TooLong, Limit, StoreFailed, SinkFailed, NoMemory}
 use Rattle.ca_flow.specs.Words.{cells_word, cell_word, vector_word, first_word, last_word, defect_word, dash}
 use Rattle.ca_flow.specs.Cells.{OfFile, OfCell}
 use Rattle.ca_flow.specs.declared.finished.Done.TheVariants.{Defects, Matrix}
@@ -42,26 +42,14 @@ module _ (name word : List ℕ) (files : Option Files) (library : List Named)
     (read : OfFile files name (λ bytes. library_of bytes ≡ Ok (map subcircuit_seen library))) (before after : ℕ) where
   -- a word that finds no cell in the library that was read finds none in the file
   pub of_entry_cause : (fault : Fault) → IsEntryCause word library fault → IsCellCause name word files before after fault
-  of_entry_cause BadWords cause = absurd cause
-  of_entry_cause (Cells line kind) cause = absurd cause
   of_entry_cause (NoCell typed) (same, missing) = inr (same, of_none files name word library read missing)
   of_entry_cause (Cell cell rule) (same, refuses) =
       inr (same, of_entry files name word library read (Refused refuses.raw rule) (λ raw. IsFirstBroken raw rule) refuses.found refuses.broken)
-  of_entry_cause (BadVector typed) cause = absurd cause
-  of_entry_cause (NoDefect typed) cause = absurd cause
-  of_entry_cause (TooLong typed taken) cause = absurd cause
-  of_entry_cause (Limit kind count) cause = absurd cause
-  of_entry_cause (StoreFailed typed) cause = absurd cause
-  of_entry_cause SinkFailed cause = absurd cause
-  of_entry_cause NoMemory cause = inl (inl tt)
+  of_entry_cause fault cause = absurd cause
 
   -- a cell of the library without values is one of the file
   module _ (first last defect : List ℕ) (raw : RawCell) (found : entry_of library (upper_case word) ≡ Some (Sound raw)) where
     at_pair : (fault : Fault) → IsPairCause first last defect fault raw → IsVectorCause name word first last defect files fault
-    at_pair BadWords cause = absurd cause
-    at_pair (Cells line kind) cause = absurd cause
-    at_pair (NoCell typed) cause = absurd cause
-    at_pair (Cell cell rule) cause = absurd cause
     at_pair (BadVector typed) cause = (
       typed_of raw first last typed cause.1,
       of_entry files name word library read (Sound raw) (IsPairCause first last defect (BadVector typed)) found cause,
@@ -70,11 +58,7 @@ module _ (name word : List ℕ) (files : Option Files) (library : List Named)
       cause.0,
       (no_dash raw defect cause.1.1.1.1, of_entry files name word library read (Sound raw) (IsPairCause first last defect (NoDefect typed)) found cause),
     )
-    at_pair (TooLong typed taken) cause = absurd cause
-    at_pair (Limit kind count) cause = absurd cause
-    at_pair (StoreFailed typed) cause = absurd cause
-    at_pair SinkFailed cause = absurd cause
-    at_pair NoMemory cause = absurd cause
+    at_pair fault cause = absurd cause
 
     pub of_evaluation : (fault : Fault) → IsEvaluationCause first last defect raw fault
         → IsValueCause name word first last defect files before after fault

@@ -11,9 +11,9 @@ use Rattle.ca_spice.specs.declared.fault.SpiceFault.TheVariants as spice
 use Rattle.ca_spice.specs.Reading.{library_of}
 use Rattle.ca_spice.specs.Called.{cell_called}
 use Rattle.ca_flow.specs.declared.inputs.TheConstants.{MAX_CELLS}
-use Rattle.ca_flow.specs.declared.fault.LimitKind.TheVariants as limit
-use Rattle.ca_flow.specs.declared.fault.Fault.{Fault}
-use Rattle.ca_flow.specs.declared.fault.Fault.TheVariants.{BadWords, Cells, NoCell, Cell, BadVector, NoDefect, TooLong, Limit, StoreFailed, SinkFailed, NoMemory}
+use Rattle.ca_fault.specs.declared.fault.LimitKind.TheVariants as limit
+use Rattle.ca_fault.specs.declared.fault.Fault.{Fault}
+use Rattle.ca_fault.specs.declared.fault.Fault.TheVariants.{BadWords, Cells, NoCell, Cell, BadVector, NoDefect, TooLong, Limit, StoreFailed, SinkFailed, NoMemory}
 use Rattle.ca_flow.specs.declared.finished.Finished.{Finished}
 use Rattle.ca_flow.specs.Finished.{IsAnswer, status_told}
 use Rattle.ca_flow.specs.Words.{cells_word, cell_word, vector_word, first_word, last_word, defect_word, dash, AsksNoFile, IsCommand}
@@ -74,19 +74,12 @@ module _ (words : List (List ℕ)) (files : Option Files) (seen : HasSeen words 
 
   module _ (before after : ℕ) (quiet : ¬ (Rose before after)) where
     at_read : (fault : Fault) → IsReadCause (cells_word words) files MAX_CELLS before after fault → fault ≡ NoMemory
-    at_read BadWords cause = absurd cause
-    at_read (Cells line kind) cause = absurd cause
-    at_read (NoCell typed) cause = absurd cause
-    at_read (Cell cell rule) cause = absurd cause
-    at_read (BadVector typed) cause = absurd cause
-    at_read (NoDefect typed) cause = absurd cause
     at_read (TooLong typed taken) (same, long) =
         let past : IsSomeAnd (Some seen.bytes) (λ bytes. MAX_CELLS < length bytes) = rw seen.there at (long.past seen.told seen.told_are) in
         absurd (omega (arith, past, seen.within))
-    at_read (Limit kind count) cause = absurd cause
     at_read (StoreFailed typed) (same, rose) = absurd (quiet (rose is_there))
-    at_read SinkFailed cause = absurd cause
     at_read NoMemory cause = refl
+    at_read fault cause = absurd cause
 
   -- a text that names the cell has a reading
   has_reading : (fault : SpiceFault) → library_of seen.bytes ≡ Err fault → ⊥
@@ -95,21 +88,11 @@ module _ (words : List (List ℕ)) (files : Option Files) (seen : HasSeen words 
       cc
 
   at_text : (fault : Fault) → IsCellsCause (cells_word words) files fault → ⊥
-  at_text BadWords cause = cause
   at_text (Cells line kind) cause = has_reading (spice.At line kind) (at_bytes (IsTextCause (Cells line kind)) cause)
-  at_text (NoCell typed) cause = cause
-  at_text (Cell cell rule) cause = cause
-  at_text (BadVector typed) cause = cause
-  at_text (NoDefect typed) cause = cause
-  at_text (TooLong typed taken) cause = cause
   at_text (Limit limit.Cells count) cause = has_reading (spice.TooManyCells count) (at_bytes (IsTextCause (Limit limit.Cells count)) cause)
-  at_text (StoreFailed typed) cause = cause
-  at_text SinkFailed cause = cause
-  at_text NoMemory cause = cause
+  at_text fault cause = cause
 
   at_name : (fault : Fault) → IsNameCause (cells_word words) (cell_word words) files fault → ⊥
-  at_name BadWords cause = cause
-  at_name (Cells line kind) cause = cause
   at_name (NoCell typed) (same, lacks) =
       let missing : IsNone (Some seen.raw) = rw seen.called at (at_bytes (LacksCell (cell_word words)) lacks).1 in
       cc
@@ -117,20 +100,10 @@ module _ (words : List (List ℕ)) (files : Option Files) (seen : HasSeen words 
     where
       at_rule : (rule : CellRule) → IsFirstBroken seen.raw rule → ⊥
       at_rule rule first = seen.fits.kept rule first.broken
-  at_name (BadVector typed) cause = cause
-  at_name (NoDefect typed) cause = cause
-  at_name (TooLong typed taken) cause = cause
-  at_name (Limit kind count) cause = cause
-  at_name (StoreFailed typed) cause = cause
-  at_name SinkFailed cause = cause
-  at_name NoMemory cause = cause
+  at_name fault cause = cause
 
   at_vector : (first last defect : List ℕ) → Fits seen.raw first → Fits seen.raw last → IsSome (asked_network seen.raw defect) → (fault : Fault)
       → IsVectorCause (cells_word words) (cell_word words) first last defect files fault → ⊥
-  at_vector first last defect first_fits last_fits asks BadWords cause = cause
-  at_vector first last defect first_fits last_fits asks (Cells line kind) cause = cause
-  at_vector first last defect first_fits last_fits asks (NoCell typed) cause = cause
-  at_vector first last defect first_fits last_fits asks (Cell cell rule) cause = cause
   at_vector first last defect first_fits last_fits asks (BadVector typed) cause =
       at_unfit (at_raw (IsPairCause first last defect (BadVector typed)) cause.1).1
     where
@@ -140,11 +113,7 @@ module _ (words : List (List ℕ)) (files : Option Files) (seen : HasSeen words 
   at_vector first last defect first_fits last_fits asks (NoDefect typed) cause =
       let lacks = (at_raw (IsPairCause first last defect (NoDefect typed)) cause.1.1).1.1 in
       true≢false (sym asks ∙ lacks.1.1)
-  at_vector first last defect first_fits last_fits asks (TooLong typed taken) cause = cause
-  at_vector first last defect first_fits last_fits asks (Limit kind count) cause = cause
-  at_vector first last defect first_fits last_fits asks (StoreFailed typed) cause = cause
-  at_vector first last defect first_fits last_fits asks SinkFailed cause = cause
-  at_vector first last defect first_fits last_fits asks NoMemory cause = cause
+  at_vector first last defect first_fits last_fits asks fault cause = cause
 
   module _ (before after : Outside) (quiet_store : ¬ (Rose before.store_faults after.store_faults))
       (quiet_sink : ¬ (Rose before.sink_faults after.sink_faults)) (fault : Fault) where
@@ -170,43 +139,17 @@ module _ (words : List (List ℕ)) (files : Option Files) (seen : HasSeen words 
 
 pub at_words : (words : List (List ℕ)) → IsCommand words → (fault : Fault) → IsWordsCause words fault → ⊥
 at_words words is BadWords cause = cause is
-at_words words is (Cells line kind) cause = cause
-at_words words is (NoCell typed) cause = cause
-at_words words is (Cell cell rule) cause = cause
-at_words words is (BadVector typed) cause = cause
-at_words words is (NoDefect typed) cause = cause
-at_words words is (TooLong typed taken) cause = cause
-at_words words is (Limit kind count) cause = cause
-at_words words is (StoreFailed typed) cause = cause
-at_words words is SinkFailed cause = cause
-at_words words is NoMemory cause = cause
+at_words words is fault cause = cause
 
 at_print : (before after : ℕ) → ¬ (Rose before after) → (fault : Fault) → IsPrintCause before after fault → fault ≡ NoMemory
-at_print before after quiet BadWords cause = absurd cause
-at_print before after quiet (Cells line kind) cause = absurd cause
-at_print before after quiet (NoCell typed) cause = absurd cause
-at_print before after quiet (Cell cell rule) cause = absurd cause
-at_print before after quiet (BadVector typed) cause = absurd cause
-at_print before after quiet (NoDefect typed) cause = absurd cause
-at_print before after quiet (TooLong typed taken) cause = absurd cause
-at_print before after quiet (Limit kind count) cause = absurd cause
-at_print before after quiet (StoreFailed typed) cause = absurd cause
 at_print before after quiet SinkFailed rose = absurd (quiet rose)
 at_print before after quiet NoMemory cause = refl
+at_print before after quiet fault cause = absurd cause
 
 at_write : (words : List (List ℕ)) (before after : ℕ) → ¬ (Rose before after) → (fault : Fault)
     → IsWriteCause words before after fault → ⊥
-at_write words before after quiet BadWords cause = cause
-at_write words before after quiet (Cells line kind) cause = cause
-at_write words before after quiet (NoCell typed) cause = cause
-at_write words before after quiet (Cell cell rule) cause = cause
-at_write words before after quiet (BadVector typed) cause = cause
-at_write words before after quiet (NoDefect typed) cause = cause
-at_write words before after quiet (TooLong typed taken) cause = cause
-at_write words before after quiet (Limit kind count) cause = cause
 at_write words before after quiet (StoreFailed typed) (is, (same, rose)) = quiet rose
-at_write words before after quiet SinkFailed cause = cause
-at_write words before after quiet NoMemory cause = cause
+at_write words before after quiet fault cause = cause
 
 -- where its work was refused for want of memory alone, a command was
 only_memory : (words : List (List ℕ)) (before after : Outside) → IsCommand words

@@ -6,13 +6,13 @@ use Rattle.std.specs.Option.{ForSome}
 use Rattle.ca_store.specs.Store.{Files, Rose}
 use Rattle.ca_store.specs.Writing.{MayWrite}
 use Rattle.ca_matrix.specs.Text.{text_of}
-use Rattle.ca_flow.specs.declared.fault.Fault.{Fault}
-use Rattle.ca_flow.specs.declared.fault.Fault.TheVariants.{BadWords, Cells, NoCell, Cell, BadVector, NoDefect, TooLong, Limit, StoreFailed, SinkFailed, NoMemory}
+use Rattle.ca_fault.specs.declared.fault.Fault.{Fault}
+use Rattle.ca_fault.specs.declared.fault.Fault.TheVariants.{BadWords, Cells, Netlist, Scan, Chip, Chain, NoCell, Cell, BadVector, NoInstance, NoDefect, TooLong, Limit, StoreFailed, SinkFailed, NoMemory}
 use Rattle.ca_flow.specs.declared.finished.Done.{Done}
 use Rattle.ca_flow.specs.declared.finished.Done.TheVariants.{Respond, Pair, Defects, Matrix, Help, Version}
 use Rattle.ca_flow.specs.declared.finished.Finished.{Finished}
 use Rattle.ca_flow.specs.declared.work.OutFile.{OutFile}
-use Rattle.ca_flow.specs.FaultLine.{status_of}
+use Rattle.ca_fault.specs.FaultLine.{status_of}
 use Rattle.ca_flow.specs.Words.{out_word, IsMatrix}
 use Rattle.ca_flow.specs.Finished.{status_told, IsTold, IsOutFault, IsAnswer, Prints, LeavesFiles, Writes, TellsSinkFault}
 use Rattle.ca_flow.specs.Fault.{Outside, IsWorkCause, IsWriteCause, IsPrintCause, IsCause}
@@ -24,9 +24,14 @@ use Rattle.ca_flow.proofs.CauseLemmas.{unread_is_cells}
 status_is_told : (fault : Fault) → status_of fault ≡ 0 → ⊥
 status_is_told BadWords zero = cc
 status_is_told (Cells line kind) zero = cc
+status_is_told (Netlist line kind) zero = cc
+status_is_told (Scan row) zero = cc
+status_is_told (Chip rule) zero = cc
+status_is_told (Chain name) zero = cc
 status_is_told (NoCell typed) zero = cc
 status_is_told (Cell cell rule) zero = cc
 status_is_told (BadVector typed) zero = cc
+status_is_told (NoInstance typed) zero = cc
 status_is_told (NoDefect typed) zero = cc
 status_is_told (TooLong typed taken) zero = cc
 status_is_told (Limit kind count) zero = cc

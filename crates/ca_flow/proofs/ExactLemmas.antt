@@ -12,9 +12,9 @@ use Rattle.ca_spice.specs.declared.fault.SpiceFault.TheVariants as spice
 use Rattle.ca_spice.specs.Reading.{library_of}
 use Rattle.ca_spice.specs.Called.{called_among}
 use Rattle.ca_flow.specs.declared.inputs.TheConstants.{MAX_CELLS}
-use Rattle.ca_flow.specs.declared.fault.LimitKind.TheVariants as limit
-use Rattle.ca_flow.specs.declared.fault.Fault.{Fault}
-use Rattle.ca_flow.specs.declared.fault.Fault.TheVariants.{BadWords, Cells, NoCell, Cell, BadVector, NoDefect, TooLong, Limit, StoreFailed, SinkFailed, NoMemory}
+use Rattle.ca_fault.specs.declared.fault.LimitKind.TheVariants as limit
+use Rattle.ca_fault.specs.declared.fault.Fault.{Fault}
+use Rattle.ca_fault.specs.declared.fault.Fault.TheVariants.{BadWords, Cells, NoCell, Cell, BadVector, NoDefect, TooLong, Limit, StoreFailed, SinkFailed, NoMemory}
 use Rattle.ca_flow.specs.Words.{cells_word, cell_word, vector_word, first_word, last_word, defect_word, dash, IsRespond, IsPair, IsDefects, IsMatrix, IsCommand}
 use Rattle.ca_flow.specs.Cells.{OfFile, HasCell, LacksCell}
 use Rattle.ca_flow.specs.Fault.{Outside, IsReadCause, IsTextCause, IsCellsCause, IsNameCause, IsFirstUnfit, LacksDefect, IsPairCause, IsVectorCause, IsCellCause, IsValueCause, IsWordsCause, IsWriteCause, IsPrintCause, IsWorkCause, IsCause}

@@ -1,6 +1,5 @@
 pub mod WordLemmas
 pub mod LineLemmas
-pub mod PieceLemmas
 pub mod OutputLemmas
 pub mod FileLemmas
 pub mod CauseLemmas

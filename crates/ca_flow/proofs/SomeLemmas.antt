@@ -16,9 +16,9 @@ use Rattle.ca_spice.specs.Reading.{library_of}
 use Rattle.ca_spice.specs.Called.{cell_called}
 use Rattle.ca_spice.proofs.AnswerLemmas.{reading_has_memory}
 use Rattle.ca_flow.specs.declared.inputs.TheConstants.{MAX_CELLS}
-use Rattle.ca_flow.specs.declared.fault.LimitKind.TheVariants as limit
-use Rattle.ca_flow.specs.declared.fault.Fault.{Fault}
-use Rattle.ca_flow.specs.declared.fault.Fault.TheVariants.{Cells, NoCell, Cell, BadVector, NoDefect, TooLong, Limit}
+use Rattle.ca_fault.specs.declared.fault.LimitKind.TheVariants as limit
+use Rattle.ca_fault.specs.declared.fault.Fault.{Fault}
+use Rattle.ca_fault.specs.declared.fault.Fault.TheVariants.{Cells, NoCell, Cell, BadVector, NoDefect, TooLong, Limit}
 use Rattle.ca_flow.specs.Words.{cells_word, cell_word, vector_word, first_word, last_word, defect_word, dash, AsksNoFile, IsCommand}
 use Rattle.ca_flow.specs.Outputs.{letters_of, Fits, asked_network}
 use Rattle.ca_flow.specs.Cells.{OfFile, HasCell, LacksCell, OfCell}

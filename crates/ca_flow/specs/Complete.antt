@@ -3,7 +3,7 @@ use Rattle.std.specs.Prelude.{◌≡◌, ◌⊎◌, ℕ, List, Option, Some, IsS
 use Rattle.ca_store.specs.Store.{Files, Rose}
 use Rattle.ca_cell.specs.declared.raw.RawCell.{RawCell}
 use Rattle.ca_cell.specs.Rules.{KeepsRules}
-use Rattle.ca_flow.specs.declared.fault.Fault.TheVariants.{NoMemory}
+use Rattle.ca_fault.specs.declared.fault.Fault.TheVariants.{NoMemory}
 use Rattle.ca_flow.specs.declared.finished.Finished.{Finished}
 use Rattle.ca_flow.specs.Words.{cells_word, cell_word, vector_word, first_word, last_word, defect_word, IsRespond, IsPair, AsksNoFile, IsCommand}
 use Rattle.ca_flow.specs.Outputs.{Fits, asked_network}

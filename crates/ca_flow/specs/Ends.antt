@@ -6,8 +6,8 @@ use Rattle.ca_cell.specs.Rules.{KeepsRules}
 use Rattle.ca_defect.specs.Name.{names_of}
 use Rattle.ca_matrix.specs.Matrix.{Entries}
 use Rattle.ca_matrix.specs.Built.{IsMatrixOf}
-use Rattle.ca_flow.specs.declared.fault.Fault.{Fault}
-use Rattle.ca_flow.specs.declared.fault.Fault.TheVariants.{StoreFailed}
+use Rattle.ca_fault.specs.declared.fault.Fault.{Fault}
+use Rattle.ca_fault.specs.declared.fault.Fault.TheVariants.{StoreFailed}
 use Rattle.ca_flow.specs.declared.finished.Done.{Done}
 use Rattle.ca_flow.specs.declared.finished.Done.TheVariants.{Respond, Pair, Defects, Matrix, Help, Version}
 use Rattle.ca_flow.specs.declared.finished.Finished.{Finished}

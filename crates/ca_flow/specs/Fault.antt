@@ -8,9 +8,9 @@ use Rattle.ca_cell.specs.Rules.{KeepsRules, IsFirstBroken}
 use Rattle.ca_spice.specs.declared.fault.SpiceFault.TheVariants as spice
 use Rattle.ca_spice.specs.Reading.{library_of}
 use Rattle.ca_flow.specs.declared.inputs.TheConstants.{MAX_CELLS}
-use Rattle.ca_flow.specs.declared.fault.LimitKind.TheVariants as limit
-use Rattle.ca_flow.specs.declared.fault.Fault.{Fault}
-use Rattle.ca_flow.specs.declared.fault.Fault.TheVariants.{BadWords, Cells, NoCell, Cell, BadVector, NoDefect, TooLong, Limit, StoreFailed, SinkFailed, NoMemory}
+use Rattle.ca_fault.specs.declared.fault.LimitKind.TheVariants as limit
+use Rattle.ca_fault.specs.declared.fault.Fault.{Fault}
+use Rattle.ca_fault.specs.declared.fault.Fault.TheVariants.{BadWords, Cells, NoCell, Cell, BadVector, NoDefect, TooLong, Limit, StoreFailed, SinkFailed, NoMemory}
 use Rattle.ca_flow.specs.Cells.{OfFile, OfCell, LacksCell}
 use Rattle.ca_flow.specs.Outputs.{Fits, asked_network}
 use Rattle.ca_flow.specs.Words.{cells_word, cell_word, vector_word, first_word, last_word, defect_word, out_word, dash, IsRespond, IsPair, IsDefects, IsMatrix, IsCommand}

@@ -5,8 +5,8 @@ use Rattle.ca_cell.specs.Rules.{KeepsRules}
 use Rattle.ca_defect.specs.Laws.{DefectsDiffer}
 use Rattle.ca_spice.specs.Called.{cell_called}
 use Rattle.ca_flow.specs.declared.inputs.TheConstants.{MAX_CELLS}
-use Rattle.ca_flow.specs.declared.fault.Fault.{Fault}
-use Rattle.ca_flow.specs.declared.fault.Fault.TheVariants.{BadWords, Cells, NoCell, Cell, BadVector, NoDefect, TooLong, Limit, StoreFailed, SinkFailed, NoMemory}
+use Rattle.ca_fault.specs.declared.fault.Fault.{Fault}
+use Rattle.ca_fault.specs.declared.fault.Fault.TheVariants.{BadWords, Cells, Netlist, Scan, Chip, Chain, NoCell, Cell, BadVector, NoInstance, NoDefect, TooLong, Limit, StoreFailed, SinkFailed, NoMemory}
 use Rattle.ca_flow.specs.declared.finished.Finished.{Finished}
 use Rattle.ca_flow.specs.Words.{cells_word, IsCommand}
 use Rattle.ca_flow.specs.Fault.{Outside, IsCause}
@@ -17,9 +17,14 @@ use Rattle.ca_flow.specs.Ends.{Ends}
 abbrev pub IsInputFault : Fault → Type 0
 IsInputFault BadWords = ⊤
 IsInputFault (Cells line kind) = ⊤
+IsInputFault (Netlist line kind) = ⊤
+IsInputFault (Scan row) = ⊤
+IsInputFault (Chip rule) = ⊤
+IsInputFault (Chain name) = ⊤
 IsInputFault (NoCell word) = ⊤
 IsInputFault (Cell cell rule) = ⊤
 IsInputFault (BadVector word) = ⊤
+IsInputFault (NoInstance word) = ⊤
 IsInputFault (NoDefect word) = ⊤
 IsInputFault (TooLong name taken) = ⊤
 IsInputFault (Limit kind count) = ⊤

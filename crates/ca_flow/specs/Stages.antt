@@ -7,8 +7,8 @@ use Rattle.ca_cell.specs.declared.library.Entry.TheVariants.{Refused}
 use Rattle.ca_cell.specs.Library.{Named, entry_of}
 use Rattle.ca_cell.specs.Rules.{KeepsRules, IsFirstBroken}
 use Rattle.ca_flow.specs.declared.inputs.TypedWords.{TypedWords}
-use Rattle.ca_flow.specs.declared.fault.Fault.{Fault}
-use Rattle.ca_flow.specs.declared.fault.Fault.TheVariants.{NoCell, Cell, BadVector, NoMemory}
+use Rattle.ca_fault.specs.declared.fault.Fault.{Fault}
+use Rattle.ca_fault.specs.declared.fault.Fault.TheVariants.{NoCell, Cell, BadVector, NoMemory}
 use Rattle.ca_flow.specs.Outputs.{Fits}
 use Rattle.ca_flow.specs.Fault.{IsTextCause, IsPairCause}
 

@@ -4,8 +4,8 @@ use Rattle.std.specs.Option.{ForSome}
 use Rattle.ca_store.specs.Store.{Files, Rose, appended, AppendsPart}
 use Rattle.ca_store.specs.Writing.{ChangesOnly, MayWrite}
 use Rattle.ca_matrix.specs.Text.{text_of}
-use Rattle.ca_flow.specs.declared.fault.Fault.{Fault}
-use Rattle.ca_flow.specs.declared.fault.Fault.TheVariants.{StoreFailed, SinkFailed}
+use Rattle.ca_fault.specs.declared.fault.Fault.{Fault}
+use Rattle.ca_fault.specs.declared.fault.Fault.TheVariants.{StoreFailed, SinkFailed}
 use Rattle.ca_flow.specs.declared.finished.Done.{Done}
 use Rattle.ca_flow.specs.declared.finished.Done.TheVariants.{Respond, Pair, Defects, Matrix, Help, Version}
 use Rattle.ca_flow.specs.declared.finished.Finished.{Finished}

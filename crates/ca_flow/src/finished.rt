@@ -1,12 +1,12 @@
 //! How a command ends.
 ghost use Rattle.std.specs.Prelude.{◌≡◌, ◌⊎◌, ℕ, List, Some, IsNone, IfOk};
 ghost use Rattle.ca_store.specs.Store.{Nothing};
-ghost use Rattle.ca_flow.specs.FaultLine.{status_of};
+ghost use Rattle.ca_fault.specs.FaultLine.{status_of};
 ghost use Rattle.ca_flow.specs.Finished.{status_told, IsTold, TellsSinkFault};
 ghost use Rattle.ca_flow.specs.Ends.{IsAsked};
 ghost use Rattle.ca_flow.specs.Work.{HasFile, HasPrinted, FailsToPrint, EndsWork};
 
-use crate::fault::Fault;
+use ca_fault::Fault;
 use crate::lines::{lines_of_names, summary};
 use crate::pin_values::PinValues;
 use crate::usage::{usage, version};

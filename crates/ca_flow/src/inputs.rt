@@ -13,7 +13,7 @@ ghost use Rattle.ca_flow.specs.Fault.{IsReadCause, IsLibraryCause};
 ghost use Rattle.ca_flow.specs.Stages.{AreTyped, IsReadingCause, IsEntryCause};
 ghost use Rattle.ca_flow.specs.Ends.{TellsStoreFault};
 
-use crate::fault::{Fault, LimitKind};
+use ca_fault::{Fault, LimitKind};
 use crate::words::CellWords;
 use ca_base::NoMemory;
 use ca_cell::{Cell, Entry, Library};

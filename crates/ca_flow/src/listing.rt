@@ -6,7 +6,7 @@ ghost use Rattle.ca_flow.specs.Cells.{OfCell};
 ghost use Rattle.ca_flow.specs.Fault.{IsCellCause};
 ghost use Rattle.ca_flow.specs.Ends.{TellsStoreFault, AreDefectNames};
 
-use crate::fault::Fault;
+use ca_fault::Fault;
 use crate::inputs::{find_cell, open_library, typed_words};
 use crate::words::CellWords;
 use ca_base::NoMemory;

@@ -7,7 +7,7 @@ ghost use Rattle.ca_flow.specs.Fault.{IsCellCause};
 ghost use Rattle.ca_flow.specs.Ends.{TellsStoreFault, IsSoundMatrix};
 ghost use Rattle.ca_flow.specs.Work.{IsOutFile};
 
-use crate::fault::Fault;
+use ca_fault::Fault;
 use crate::inputs::{find_cell, open_library, typed_words};
 use crate::words::{CellWords, MatrixWords};
 use crate::work::OutFile;

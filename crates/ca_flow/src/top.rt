@@ -8,7 +8,7 @@ ghost use Rattle.ca_flow.specs.Fault.{IsWorkCause};
 ghost use Rattle.ca_flow.specs.Ends.{TellsStoreFault, IsAsked, Ends};
 ghost use Rattle.ca_flow.specs.Work.{HasFile};
 
-use crate::fault::Fault;
+use ca_fault::Fault;
 use crate::finished::{Done, Finished, finish, refused};
 use crate::listing::find_names;
 use crate::tables::{file_of, find_matrix};

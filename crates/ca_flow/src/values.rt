@@ -8,7 +8,7 @@ ghost use Rattle.ca_flow.specs.Fault.{IsValueCause};
 ghost use Rattle.ca_flow.specs.Stages.{IsEvaluationCause, IsUnfit};
 ghost use Rattle.ca_flow.specs.Ends.{TellsStoreFault};
 
-use crate::fault::Fault;
+use ca_fault::Fault;
 use crate::inputs::{find_cell, open_library, typed_words};
 use crate::outputs::values_of;
 use crate::pin_values::PinValues;

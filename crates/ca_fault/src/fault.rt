@@ -1,15 +1,18 @@
 //! What a command answers where it doesn't end well.
-ghost use Rattle.std.specs.Prelude.{◌≡◌, [], ◌++◌, codes, decimal, OnOk, OnErr};
-ghost use Rattle.ca_flow.specs.declared.fault.Fault.TheVariants as fault;
-ghost use Rattle.ca_flow.specs.FaultLine.{kind_text, rule_text};
+ghost use Rattle.std.specs.Prelude.{◌≡◌, ◌++◌, decimal, OnOk, OnErr};
+ghost use Rattle.ca_fault.specs.declared.fault.Fault.TheVariants as fault;
 ghost use Rattle.ca_store.specs.Store.{Rose, KeepsCount, appended, AppendsPart};
 
+use crate::kinds::{chip_text, kind_text, limit_text, netlist_text, rule_text};
 use crate::pieces::write_pieces;
+use crate::three::FaultText;
 use ca_base::NoMemory;
 use ca_cell::CellRule;
+use ca_chip::ChipFault;
 use ca_lex::Text;
 use ca_spice::SpiceKind;
 use ca_store::{Failed, Sink};
+use ca_verilog::VerilogKind;
 use itoa::Buffer;
 
 /// Why a command didn't end well. Words stand as they were typed.
@@ -19,12 +22,23 @@ pub enum Fault {
     BadWords,
     /// The cell netlist has no reading. Lines are counted from 1.
     Cells { line: usize, kind: SpiceKind },
+    /// The gate netlist has no reading. Lines are counted from 1.
+    Netlist { line: usize, kind: VerilogKind },
+    /// The table of scan cells breaks its form. Records are counted from 1, and the header is the first.
+    Scan { row: usize },
+    /// The gate netlist breaks a rule of linking, the first of those that it breaks. A rule that an instance's
+    /// cell breaks is told as `Cell`, a limit as `Limit`, and want of memory as `NoMemory`.
+    Chip(ChipFault),
+    /// The scan instance is on no whole chain, the first of those. Its name stands as in the netlist.
+    Chain { instance: Text },
     /// The cell netlist has no cell of this name.
     NoCell { word: Text },
     /// The cell breaks a rule of used cells, the first of those that it breaks. Its name stands in upper case.
     Cell { cell: Text, rule: CellRule },
     /// A vector has more or fewer letters than the cell has input pins.
     BadVector { word: Text },
+    /// The chip has no library instance of this name.
+    NoInstance { word: Text },
     /// The cell has no defect of this name.
     NoDefect { word: Text },
     /// A file has more bytes than it may have. So many were taken of it.
@@ -44,10 +58,22 @@ pub enum Fault {
 pub enum LimitKind {
     /// A cell netlist has more than 1,024 cells.
     Cells,
+    /// A gate netlist declares more than 131,072 bits.
+    Nets,
+    /// A chip has more than 32,768 library instances.
+    Instances,
+    /// A chip has more than 4,096 inputs.
+    Inputs,
+    /// A chip has more than 8,192 observed outputs.
+    Outputs,
+    /// A chip has more than 1,048,576 defects.
+    Defects,
+    /// A chip has more than 64 scan chains.
+    Chains,
 }
 
 impl Fault {
-    ghost use Rattle.ca_flow.specs.FaultLine.{status_of, number_of, text_of, line_of};
+    ghost use Rattle.ca_fault.specs.FaultLine.{status_of, number_of, text_of, line_of};
 
     /// The exit status that stands for the fault.
     pub fn status(&self) -> u8
@@ -56,9 +82,14 @@ impl Fault {
         match self {
             Fault::BadWords => 1,
             Fault::Cells { .. }
+            | Fault::Netlist { .. }
+            | Fault::Scan { .. }
+            | Fault::Chip(_)
+            | Fault::Chain { .. }
             | Fault::NoCell { .. }
             | Fault::Cell { .. }
             | Fault::BadVector { .. }
+            | Fault::NoInstance { .. }
             | Fault::NoDefect { .. } => 2,
             Fault::TooLong { .. } | Fault::Limit { .. } => 3,
             Fault::StoreFailed { .. } | Fault::SinkFailed => 4,
@@ -93,7 +124,8 @@ impl Fault {
         ensures { result ≡ number_of self.now }
     {
         match self {
-            Fault::Cells { line, .. } => *line,
+            Fault::Cells { line, .. } | Fault::Netlist { line, .. } => *line,
+            Fault::Scan { row } => *row,
             Fault::Limit { count, .. } => *count,
             _ => 0,
         }
@@ -111,6 +143,20 @@ impl Fault {
                 word: number,
                 end: kind_text(*kind),
             },
+            Fault::Netlist { kind, .. } => FaultText {
+                start: b"netlist: line ",
+                word: number,
+                end: netlist_text(*kind),
+            },
+            Fault::Scan { .. } => FaultText {
+                start: b"scan table: record ",
+                word: number,
+                end: &[],
+            },
+            Fault::Chip(fault) => FaultText::plain(chip_text(fault)),
+            Fault::Chain { instance } => {
+                FaultText::with_word(b"scan chain broken at ", instance)
+            }
             Fault::NoCell { word } => FaultText::with_word(b"no cell ", word),
             Fault::Cell { cell, rule } => FaultText {
                 start: b"cell ",
@@ -118,13 +164,11 @@ impl Fault {
                 end: rule_text(*rule),
             },
             Fault::BadVector { word } => FaultText::with_word(b"bad vector: ", word),
+            Fault::NoInstance { word } => FaultText::with_word(b"no instance ", word),
             Fault::NoDefect { word } => FaultText::with_word(b"no defect ", word),
             Fault::TooLong { name, .. } => FaultText::with_word(b"file too long: ", name),
-            Fault::Limit {
-                kind: LimitKind::Cells,
-                ..
-            } => FaultText {
-                start: b"limit: Cells ",
+            Fault::Limit { kind, .. } => FaultText {
+                start: limit_text(*kind),
                 word: number,
                 end: &[],
             },
@@ -132,67 +176,6 @@ impl Fault {
             Fault::SinkFailed => FaultText::plain(b"output fault"),
             Fault::NoMemory => FaultText::plain(b"out of memory"),
         }
-    }
-}
-
-// The text of a fault in three parts, the middle one a word or a number.
-#[derive(Clone, Copy)]
-struct FaultText<'a> {
-    start: &'a [u8],
-    word: &'a [u8],
-    end: &'a [u8],
-}
-
-impl<'a> FaultText<'a> {
-    fn plain(start: &'a [u8]) -> Self
-        ensures { (result.start.now ≡ start.now) × (result.word.now ≡ []) × (result.end.now ≡ []) }
-    {
-        FaultText {
-            start,
-            word: &[],
-            end: &[],
-        }
-    }
-
-    fn with_word(start: &'a [u8], word: &'a Text) -> Self
-        ensures { (result.start.now ≡ start.now) × (result.word.now ≡ word.now) × (result.end.now ≡ []) }
-    {
-        FaultText {
-            start,
-            word: word.as_bytes(),
-            end: &[],
-        }
-    }
-}
-
-// The text of a kind of faulty line, behind the line's number.
-fn kind_text(kind: SpiceKind) -> &'static [u8]
-    ensures { result.now ≡ codes ": " ++ kind_text kind }
-{
-    match kind {
-        SpiceKind::UnknownCard => b": UnknownCard",
-        SpiceKind::BadCard => b": BadCard",
-        SpiceKind::NoPinInfo => b": NoPinInfo",
-        SpiceKind::BadRole => b": BadRole",
-        SpiceKind::BadLength => b": BadLength",
-        SpiceKind::DoubleName => b": DoubleName",
-        SpiceKind::Unended => b": Unended",
-        SpiceKind::NotText => b": NotText",
-    }
-}
-
-// The text of a rule, behind the cell's name.
-fn rule_text(rule: CellRule) -> &'static [u8]
-    ensures { result.now ≡ codes ": " ++ rule_text rule }
-{
-    match rule {
-        CellRule::NoRail => b": NoRail",
-        CellRule::TooManyDevices { .. } => b": TooManyDevices",
-        CellRule::TooManyNodes { .. } => b": TooManyNodes",
-        CellRule::TooManyInputs { .. } => b": TooManyInputs",
-        CellRule::NoOutput => b": NoOutput",
-        CellRule::TooManyOutputs { .. } => b": TooManyOutputs",
-        CellRule::InputDrivesChannel { .. } => b": InputDrivesChannel",
     }
 }
 

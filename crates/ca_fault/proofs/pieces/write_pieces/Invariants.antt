@@ -1,7 +1,7 @@
 use Rattle.std.proofs.Common.{◌≡◌, take, map}
 use Rattle.std.specs.List.{concat}
 use Rattle.ca_store.specs.Store.{appended}
-use Rattle.ca_flow.proofs.pieces.write_pieces.Given as goal
+use Rattle.ca_fault.proofs.pieces.write_pieces.Given as goal
 
 abbrev pub invariant-loop-piece : goal.invariant-loop-piece
 invariant-loop-piece g l = record {

@@ -1,7 +1,7 @@
 use Rattle.std.proofs.Common.{◌∙◌, ap}
 use Rattle.ca_store.specs.Store.{appended}
-use Rattle.ca_flow.proofs.PieceLemmas.{line_joined, on_ok_from}
-use Rattle.ca_flow.proofs.fault.Fault.print.Goals as goal
+use Rattle.ca_fault.proofs.PieceLemmas.{line_joined, on_ok_from}
+use Rattle.ca_fault.proofs.fault.Fault.print.Goals as goal
 
 pub returns-clause-ok : goal.returns-clause-ok
 returns-clause-ok g c =

@@ -1,7 +1,7 @@
 use Rattle.std.proofs.Common.{◌∙◌}
 use Rattle.ca_store.proofs.Appends.{at_err}
-use Rattle.ca_flow.proofs.PieceLemmas.{pieces_written, part_of_pieces}
-use Rattle.ca_flow.proofs.pieces.write_pieces.Goals as goal
+use Rattle.ca_fault.proofs.PieceLemmas.{pieces_written, part_of_pieces}
+use Rattle.ca_fault.proofs.pieces.write_pieces.Goals as goal
 
 pub returns-in_err-write_all-clause-err : goal.returns-in_err-write_all-clause-err
 returns-in_err-write_all-clause-err g c =
