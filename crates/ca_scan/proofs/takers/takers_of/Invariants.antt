@@ -1,0 +1,5 @@
+use Rattle.ca_scan.specs.Kept.{AreTakersAmong}
+use Rattle.ca_scan.proofs.takers.takers_of.Given as goal
+
+abbrev pub invariant-loop-k : goal.invariant-loop-k
+invariant-loop-k l = AreTakersAmong l.chip l.k l.takers

@@ -1,0 +1,7 @@
+use Rattle.std.proofs.Common.{◌<◌}
+use Rattle.ca_wired.specs.Linked.{input_nets}
+use Rattle.ca_scan_tests.specs.Fits.{AllBefore}
+use Rattle.ca_scan_tests.proofs.drafts.inputs_fit.Given as goal
+
+abbrev pub invariant-loop-pin : goal.invariant-loop-pin
+invariant-loop-pin l = AllBefore (λ net. net < l.nets) l.pin (input_nets l.body)

@@ -1,0 +1,7 @@
+use Rattle.ca_wired.specs.declared.parts.Part.{Part}
+use Rattle.ca_wired.specs.Linked.{net_count}
+use Rattle.ca_scan_tests.specs.Fits.{AllBefore, IsFit}
+use Rattle.ca_scan_tests.proofs.drafts.parts_fit.Given as goal
+
+abbrev pub invariant-loop-u : goal.invariant-loop-u
+invariant-loop-u l = AllBefore (λ (part : Part). IsFit (net_count l.draft) part.body) l.u l.draft.parts
