@@ -38,7 +38,7 @@ IsTextCause _ bytes = ⊥
 -- the same of a file
 abbrev pub IsCellsCause : List ℕ → Option Files → Fault → Type 0
 IsCellsCause name files (Cells line kind) = OfFile files name (IsTextCause (Cells line kind))
-IsCellsCause name files (Limit kind count) = OfFile files name (IsTextCause (Limit kind count))
+IsCellsCause name files (Limit limit.Cells count) = OfFile files name (IsTextCause (Limit limit.Cells count))
 IsCellsCause name files _ = ⊥
 
 -- why a file gives no library: it could not be read, or its text has no reading
