@@ -71,11 +71,11 @@ module _ (wiring : Wiring) (nets : List ℕ) where
       record { net = found.net; at = found.at; is_net = found.is_net }
 
   -- a wire on the net is joined with the wire that the net is known by
-  net_joined : (from net wire : ℕ) → IsNetOf wiring nets from net → slice_get nets net ≡ Some wire → AreJoined wiring.joins from wire
+  pub net_joined : (from net wire : ℕ) → IsNetOf wiring nets from net → slice_get nets net ≡ Some wire → AreJoined wiring.joins from wire
   net_joined from net wire is at = subst (AreJoined wiring.joins from) (some_inj is.earliest wire (sym is.at ∙ at)) is.is_earliest.joined
 
   -- and a wire that is joined with it is on the net
-  joined_net : (are : AreNets wiring nets) (from told net wire : ℕ) → IsNetOf wiring nets from told → AreJoined wiring.joins from wire → slice_get nets net ≡ Some wire → told ≡ net
+  pub joined_net : (are : AreNets wiring nets) (from told net wire : ℕ) → IsNetOf wiring nets from told → AreJoined wiring.joins from wire → slice_get nets net ≡ Some wire → told ≡ net
   joined_net are from told net wire is joined at =
       let known : IsNet wiring wire = (are.has wire).0 (contained_at nets net wire at) in
       let le = is.is_earliest.none_before wire joined in

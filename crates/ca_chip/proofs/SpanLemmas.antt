@@ -28,11 +28,11 @@ module _ (bits : ℕ) where
   behind (Constant false) step = refl
 
   -- the join of a pair
-  abbrev join_of : RawJoin → Join
+  abbrev pub join_of : RawJoin → Join
   join_of pair = record { left = wire_of bits pair.left; right = wire_of bits pair.right }
 
   -- the pair so far to the right
-  abbrev pair_at : RawSpan → ℕ → RawJoin
+  abbrev pub pair_at : RawSpan → ℕ → RawJoin
   pair_at raw step = record { left = bit_behind step raw.left; right = bit_behind step raw.right }
 
   is_pair : (raw : RawSpan) (step : ℕ) → join_of (pair_at raw step) ≡ join_at (span_of bits raw) step
@@ -60,17 +60,17 @@ module _ (bits : ℕ) where
       (suc rest.0, (let l = rest.1 in omega (arith, l)), rest.2)
 
   -- the same of all pairs of a span
-  from_span : (raw : RawSpan) (pair : RawJoin) → Contains (pairs_of raw) pair → (k : ℕ) × (k < raw.count) × (pair_at raw k ≡ pair)
+  pub from_span : (raw : RawSpan) (pair : RawJoin) → Contains (pairs_of raw) pair → (k : ℕ) × (k < raw.count) × (pair_at raw k ≡ pair)
   from_span raw pair has =
       let from = from_pairs raw raw.count 0 pair has in
       (from.0, from.1, ap (pair_at raw) (let s : from.0 ≡ 0 + from.0 = omega arith in s) ∙ from.2)
 
-  to_span : (raw : RawSpan) (step : ℕ) → step < raw.count → Contains (pairs_of raw) (pair_at raw step)
+  pub to_span : (raw : RawSpan) (step : ℕ) → step < raw.count → Contains (pairs_of raw) (pair_at raw step)
   to_span raw step lt =
       subst (λ s. Contains (pairs_of raw) (pair_at raw s)) (let s : 0 + step ≡ step = omega arith in s) (to_pairs raw raw.count 0 step lt)
 
   -- what stands among the pairs of spans, stands among those of one
-  from_all : (raws : List RawSpan) (pair : RawJoin) → Contains (flat_map pairs_of raws) pair
+  pub from_all : (raws : List RawSpan) (pair : RawJoin) → Contains (flat_map pairs_of raws) pair
       → (place : ℕ) × (raw : RawSpan) × (slice_get raws place ≡ Some raw) × Contains (pairs_of raw) pair
   from_all [] pair has = absurd (let lt = has.1 in omega (arith, lt))
   from_all (raw ∷ raws) pair has = elim (Contains-append_cases (pairs_of raw) (flat_map pairs_of raws) pair has) [
@@ -78,7 +78,7 @@ module _ (bits : ℕ) where
     | inr later ↦ let rest = from_all raws pair later in (suc rest.0, rest.1, rest.2, rest.3)
   ]
 
-  to_all : (raws : List RawSpan) (place : ℕ) (raw : RawSpan) (pair : RawJoin) → slice_get raws place ≡ Some raw
+  pub to_all : (raws : List RawSpan) (place : ℕ) (raw : RawSpan) (pair : RawJoin) → slice_get raws place ≡ Some raw
       → Contains (pairs_of raw) pair → Contains (flat_map pairs_of raws) pair
   to_all [] place raw pair at has = absurd (let lt = slice_get_within [] place raw at in omega (arith, lt))
   to_all (first ∷ raws) zero raw pair at has =
@@ -88,7 +88,7 @@ module _ (bits : ℕ) where
       Contains-append_right (pairs_of first) (flat_map pairs_of raws) pair (to_all raws place raw pair at has)
 
   -- the join of a listed pair is listed, and each listed join is one's
-  from_joins : (pairs : List RawJoin) (join : Join) → Contains (joins_of bits pairs) join
+  pub from_joins : (pairs : List RawJoin) (join : Join) → Contains (joins_of bits pairs) join
       → (pair : RawJoin) × Contains pairs pair × (join_of pair ≡ join)
   from_joins [] join has = absurd (let lt = has.1 in omega (arith, lt))
   from_joins (pair ∷ pairs) join (zero, lt, e) = (pair, (0, omega arith, refl), e)
@@ -96,7 +96,7 @@ module _ (bits : ℕ) where
       let rest = from_joins pairs join (k, (let l = lt in omega (arith, l)), e) in
       (rest.0, (suc rest.1.0, (let l = rest.1.1 in omega (arith, l)), rest.1.2), rest.2)
 
-  to_joins : (pairs : List RawJoin) (pair : RawJoin) → Contains pairs pair → Contains (joins_of bits pairs) (join_of pair)
+  pub to_joins : (pairs : List RawJoin) (pair : RawJoin) → Contains pairs pair → Contains (joins_of bits pairs) (join_of pair)
   to_joins [] pair has = absurd (let lt = has.1 in omega (arith, lt))
   to_joins (first ∷ pairs) pair (zero, lt, e) = (0, omega arith, ap join_of e)
   to_joins (first ∷ pairs) pair (suc k, lt, e) =

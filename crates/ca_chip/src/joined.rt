@@ -13,7 +13,7 @@ use std::marker::Model;
 
 /// Two wires that an `assign` joins.
 #[derive(Clone, Copy, Debug)]
-pub(crate) struct Join {
+pub struct Join {
     pub left: u32,
     pub right: u32,
 }

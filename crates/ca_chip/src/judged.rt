@@ -61,8 +61,8 @@ fn judge_scan(alloc: Global, u: u32, row: &ScanRow, uses: &[RawUse]) -> Result<(
     }
 }
 
-// The cells of a scan table, by name.
-fn cells_of(alloc: Global, scan: &[ScanRow]) -> Result<NameSet, NoMemory>
+/// The cells of a scan table, by name.
+pub fn cells_of(alloc: Global, scan: &[ScanRow]) -> Result<NameSet, NoMemory>
     requires { IsDistinct bytes_eq (map (λ row. row.cell) scan.now) }
     ensures { IfOk result (λ cells. cells ≡ map (λ row. row.cell) scan.now) }
 {
@@ -73,8 +73,8 @@ fn cells_of(alloc: Global, scan: &[ScanRow]) -> Result<NameSet, NoMemory>
     Ok(cells)
 }
 
-// The row of the scan table for a cell.
-fn row_of<'a>(scan: &'a [ScanRow], cells: &NameSet, cell: &Text) -> Option<&'a ScanRow>
+/// The row of the scan table for a cell, which is found without a search through the rows.
+pub fn row_of<'a>(scan: &'a [ScanRow], cells: &NameSet, cell: &Text) -> Option<&'a ScanRow>
     requires { cells.now ≡ map (λ row. row.cell) scan.now }
     ensures { option_copied result ≡ row_of scan.now cell.now }
 {

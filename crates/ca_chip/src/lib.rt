@@ -16,6 +16,11 @@ pub use ca_wired::{Chip, InstanceId, InstanceList, NetId, ScanPin};
 pub use fault::{
     ChipFault, Driver, MOST_CHIP_DEFECTS, MOST_CHIP_INPUTS, MOST_CHIP_OUTPUTS, MOST_INSTANCES,
 };
-pub use judged::judge_instances;
+pub use joined::Join;
+pub use judged::{cells_of, judge_instances, row_of};
 pub use laws::drivers_are_the_wirings;
+pub use numbers::{NetTable, number_nets};
+pub use pins::{bit_on, wire_of};
 pub use scan_row::{ScanRow, ScanTable};
+pub use spans::earliest_wires;
+pub use wires::{input_wire, library_inputs};

@@ -14,7 +14,7 @@ use ca_lex::Text;
 use ca_verilog::{RawBit, RawUse};
 
 /// What is on the pin of this name, if anything is.
-pub(crate) fn bit_on(uses: &[RawUse], pin: &Text) -> Option<RawBit>
+pub fn bit_on(uses: &[RawUse], pin: &Text) -> Option<RawBit>
     ensures { result ≡ bit_on uses.now pin.now }
 {
     for k in 0..uses.len() {
@@ -26,7 +26,7 @@ pub(crate) fn bit_on(uses: &[RawUse], pin: &Text) -> Option<RawBit>
 }
 
 /// The wire of a bit, where so many bits are declared.
-pub(crate) fn wire_of(bits: u32, bit: RawBit) -> u32
+pub fn wire_of(bits: u32, bit: RawBit) -> u32
     requires { bits + 1 < 2 ^ 32 }
     ensures { result ≡ wire_of bits bit }
 {

@@ -92,7 +92,7 @@ fn spans_of(alloc: Global, bits: u32, raws: &[RawSpan]) -> Result<SpanSet, NoMem
 }
 
 /// For each of so many wires the earliest of those that are joined with it.
-pub(crate) fn earliest_wires(
+pub fn earliest_wires(
     alloc: Global,
     bits: u32,
     wires: usize,

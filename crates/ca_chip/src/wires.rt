@@ -12,8 +12,8 @@ use ca_verilog::{RawBit, RawUse};
 use ca_wired::NetList;
 use std::alloc::Global;
 
-// The wire of an input pin.
-fn input_wire(bits: u32, bit: Option<RawBit>) -> u32
+/// The wire of an input pin; one that is connected to nothing breaks a rule.
+pub fn input_wire(bits: u32, bit: Option<RawBit>) -> u32
     requires { bits + 1 < 2 ^ 32 }
     ensures { result ≡ input_wire bits bit }
 {

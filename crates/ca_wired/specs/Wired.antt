@@ -6,10 +6,12 @@ use Rattle.ca_wired.specs.declared.order.SortFault.{SortFault}
 use Rattle.ca_wired.specs.declared.order.SortFault.TheVariants as sort_fault
 use Rattle.ca_wired.specs.declared.wiring.WireFault.{WireFault}
 use Rattle.ca_wired.specs.declared.wiring.WireFault.TheVariants.{Misdriven, Misused, Observed, Loop, NoMemory}
-use Rattle.ca_wired.specs.Order.{IsLoop}
-use Rattle.ca_wired.specs.Linked.{Source, Chip, net_count, Drives, Feeds}
+use Rattle.ca_wired.specs.declared.wiring.Judged.{Judged}
+use Rattle.ca_wired.specs.Order.{IsLoop, IsOrder}
+use Rattle.ca_wired.specs.Linked.{Source, Chip, net_count, is_scan_path, Drives, Feeds, IsLibrary}
 use Rattle.ca_wired.specs.Drivers.{IsOnly, AreFirst, IsSingle}
-use Rattle.ca_wired.specs.Paths.{is_observed, IsFirstObserved}
+use Rattle.ca_wired.specs.Paths.{is_observed, IsFirstObserved, AreMarks}
+use Rattle.ca_wired.specs.Feeding.{AreSingle}
 use Rattle.ca_wired.specs.Controls.{misused_of}
 
 -- the net has one driver
@@ -51,3 +53,11 @@ IsWireCause chip (Misused misused) = AreDriven chip × (misused_of chip ≡ Some
 IsWireCause chip (Observed net) = AreDriven chip × (misused_of chip ≡ None) × IsFirstObserved chip net
 IsWireCause chip (Loop loop) = KeepsNetRules chip × IsLoop (Feeds chip) loop
 IsWireCause chip NoMemory = Unit {0}
+
+-- what was found is of this chip, which keeps the rules: the driver of each net, the nets of the scan path, and
+-- an order of the library instances
+pub record IsJudged (chip : Chip) (judged : Judged) : Type 0 where
+  pub kept : KeepsNetRules chip
+  pub single : AreSingle chip judged.drivers
+  pub path : AreMarks (net_count chip) (is_scan_path chip) judged.path
+  pub ordered : IsOrder (Feeds chip) (IsLibrary chip) judged.order

@@ -27,4 +27,4 @@ pub use instances::{InstanceId, InstanceList};
 pub use laws::order_has_no_loop;
 pub use parts::{Body, NetId, NetList, Part, PortBit, ScanNets, Source};
 pub use pins::ScanPin;
-pub use wiring::{WireFault, wire};
+pub use wiring::{Judged, WireFault, judge, wire};

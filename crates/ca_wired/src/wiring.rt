@@ -7,7 +7,7 @@ ghost use Rattle.ca_wired.specs.Drivers.{AreDrivers, IsDrafted};
 ghost use Rattle.ca_wired.specs.Feeding.{AreSingle};
 ghost use Rattle.ca_wired.specs.Paths.{AreMarks};
 ghost use Rattle.ca_wired.specs.Kept.{IsOnce, ArePlaces};
-ghost use Rattle.ca_wired.specs.Wired.{wire_fault, KeepsNetRules, IsWireCause};
+ghost use Rattle.ca_wired.specs.Wired.{wire_fault, KeepsNetRules, IsWireCause, IsJudged};
 
 use crate::chip::Chip;
 use crate::controls::{Misused, first_misused};
@@ -37,6 +37,15 @@ pub enum WireFault {
     /// Each of these drives the next, and the last the first.
     Loop(InstanceList),
     NoMemory,
+}
+
+/// What was found of a draft that keeps the rules on nets: its drivers, its scan path, and an order of its
+/// library instances.
+#[derive(Drop)]
+pub struct Judged {
+    drivers: Drivers,
+    path: NetMarks,
+    order: InstanceList,
 }
 
 impl From<NoMemory> for WireFault {
@@ -75,7 +84,12 @@ fn places_of(alloc: Global, order: &InstanceList, instances: usize) -> Result<Ve
 }
 
 // The rules on nets but that on loops, in the order in which they are tried.
-fn judge(alloc: Global, draft: &Draft, drivers: &Drivers, path: &NetMarks) -> Result<(), WireFault>
+fn judge_nets(
+    alloc: Global,
+    draft: &Draft,
+    drivers: &Drivers,
+    path: &NetMarks,
+) -> Result<(), WireFault>
     requires drafted { IsDrafted draft.now }
     requires drivers { AreDrivers draft.now drivers.now }
     requires path { AreMarks (net_count draft.now) (is_scan_path draft.now) path.now }
@@ -95,53 +109,69 @@ fn judge(alloc: Global, draft: &Draft, drivers: &Drivers, path: &NetMarks) -> Re
     Ok(())
 }
 
-/// The chip with an order of its library instances.
-pub fn wire(alloc: Global, draft: Draft) -> Result<Chip, WireFault>
-    requires { IsDrafted draft }
-    ensures ok { IfOk result (λ chip. chip ≡ record draft { order = chip.order }) }
-    ensures wired { IfOk result IsWired }
-    ensures kept { OnOk result (KeepsNetRules draft) }
-    ensures cause { IfErr result (IsWireCause draft) }
+/// The first rule on nets that a draft breaks; or what `wire` needs, where it breaks none.
+pub fn judge(alloc: Global, draft: &Draft) -> Result<Judged, WireFault>
+    requires { IsDrafted draft.now }
+    ensures ok { IfOk result (IsJudged draft.now) }
+    ensures kept { OnOk result (KeepsNetRules draft.now) }
+    ensures cause { IfErr result (IsWireCause draft.now) }
 {
-    let drivers = drivers_of(alloc, &draft)?;
-    let path = path_of(alloc, &draft)?;
-    if let Err(fault) = judge(alloc, &draft, &drivers, &path) {
+    let drivers = drivers_of(alloc, draft)?;
+    let path = path_of(alloc, draft)?;
+    if let Err(fault) = judge_nets(alloc, draft, &drivers, &path) {
         return Err(fault);
     }
+    match order_of(alloc, draft, &drivers) {
+        Err(fault) => Err(WireFault::of(fault)),
+        Ok(order) => Ok(Judged {
+            drivers,
+            path,
+            order,
+        }),
+    }
+}
+
+/// The chip of a draft that keeps the rules on nets.
+pub fn wire(alloc: Global, draft: Draft, judged: Judged) -> Result<Chip, NoMemory>
+    requires drafted { IsDrafted draft }
+    requires judged { IsJudged draft judged }
+    ensures ok { IfOk result (λ chip. chip ≡ record draft { order = chip.order }) }
+    ensures wired { IfOk result IsWired }
+{
+    let Judged {
+        drivers,
+        path,
+        order,
+    } = judged;
     let readers = readers_of(alloc, &draft)?;
     let inputs = inputs_of(alloc, &draft, &path)?;
     let outputs = outputs_of(alloc, &draft, &path)?;
     let gates = gates_of(alloc, &draft)?;
     let scans = scans_of(alloc, &draft)?;
-    match order_of(alloc, &draft, &drivers) {
-        Err(fault) => Err(WireFault::of(fault)),
-        Ok(order) => {
-            let places = places_of(alloc, &order, draft.parts())?;
-            let Draft {
-                library,
-                nets,
-                zero,
-                one,
-                parts,
-                ports,
-            } = draft;
-            Ok(Chip {
-                library,
-                nets,
-                zero,
-                one,
-                parts,
-                ports,
-                order,
-                path,
-                drivers,
-                places,
-                readers,
-                inputs,
-                outputs,
-                gates,
-                scans,
-            })
-        }
-    }
+    let places = places_of(alloc, &order, draft.parts())?;
+    let Draft {
+        library,
+        nets,
+        zero,
+        one,
+        parts,
+        ports,
+    } = draft;
+    Ok(Chip {
+        library,
+        nets,
+        zero,
+        one,
+        parts,
+        ports,
+        order,
+        path,
+        drivers,
+        places,
+        readers,
+        inputs,
+        outputs,
+        gates,
+        scans,
+    })
 }

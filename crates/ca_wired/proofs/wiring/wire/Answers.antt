@@ -8,36 +8,39 @@ use Rattle.ca_wired.proofs.wiring.wire.Goals as goal
 
 pub places_of-requires-clause-within : goal.places_of-requires-clause-within
 places_of-requires-clause-within c =
-    subst (λ count. All (λ u. u < count) c.in-Ok.order) (sym c.parts.ensures) (order_within c.args.draft c.in-Ok.order c.in-Ok.ensures.ok)
+    subst (λ count. All (λ u. u < count) c.args.judged.order) (sym c.parts.ensures)
+    (order_within c.args.draft c.args.judged.order c.requires.judged.ordered)
 
 pub invariant_of-result : goal.invariant_of-result
 invariant_of-result c =
-    let judged = c.in_default.ensures {u = tt} in
+    let judged = c.requires.judged in
+    let order = c.args.judged.order in
     let tables : KeptTables = record {
-      path = c.in_ok-path.path;
-      drivers = c.in_ok-drivers.drivers;
-      places = c.in_ok-places-in-Ok.places.items;
+      path = c.args.judged.path;
+      drivers = c.args.judged.drivers;
+      places = c.in_ok-places.places.items;
       readers = c.in_ok-readers.readers;
       inputs = c.in_ok-inputs.inputs;
       outputs = c.in_ok-outputs.outputs;
       gates = c.in_ok-gates.gates;
       scans = c.in_ok-scans.scans;
     } in
-    let kept : IsKept (record c.args.draft { order = c.in-Ok.order }) tables = record {
-      wired = wired c.args.draft c.requires c.in_ok-drivers.drivers judged.single judged.ok.unobserved c.in-Ok.order c.in-Ok.ensures.ok;
-      marked = c.in_ok-path.ensures;
-      single = single_too c.args.draft c.in_ok-drivers.drivers judged.single c.in-Ok.order;
-      read = readers_too c.args.draft c.in_ok-readers.readers c.in_ok-readers.ensures c.in-Ok.order;
-      placed = subst (λ count. ArePlaces c.in-Ok.order (length c.in-Ok.order) count c.in_ok-places-in-Ok.places.items) c.parts.ensures c.in_ok-places-in-Ok.ensures;
+    let kept : IsKept (record c.args.draft { order = order }) tables = record {
+      wired = wired c.args.draft c.requires.drafted c.args.judged.drivers judged.single judged.kept.unobserved order judged.ordered;
+      marked = judged.path;
+      single = single_too c.args.draft c.args.judged.drivers judged.single order;
+      read = readers_too c.args.draft c.in_ok-readers.readers c.in_ok-readers.ensures order;
+      placed = subst (λ count. ArePlaces order (length order) count c.in_ok-places.places.items) c.parts.ensures c.in_ok-places.ensures;
       are_inputs = c.in_ok-inputs.ensures;
       are_outputs = c.in_ok-outputs.ensures;
       are_gates = c.in_ok-gates.ensures;
       are_scans = c.in_ok-scans.ensures;
     } in
-    subst (λ (d : Chip). IsKept (record d { order = c.in-Ok.order }) tables) (sym c.draft.view_is) kept
+    subst (λ (d : Chip). IsKept (record d { order = order }) tables) (sym c.draft.view_is) kept
 
-pub returns-in_ok-places-in-Ok-clause-wired : goal.returns-in_ok-places-in-Ok-clause-wired
-returns-in_ok-places-in-Ok-clause-wired c =
-    let judged = c.in_default.ensures {u = tt} in
-    subst (λ (d : Chip). IsWired (record d { order = c.in-Ok.order })) (sym c.draft.view_is)
-    (wired c.args.draft c.requires c.in_ok-drivers.drivers judged.single judged.ok.unobserved c.in-Ok.order c.in-Ok.ensures.ok)
+pub returns-clause-wired : goal.returns-clause-wired
+returns-clause-wired c =
+    let judged = c.requires.judged in
+    let order = c.args.judged.order in
+    subst (λ (d : Chip). IsWired (record d { order = order })) (sym c.draft.view_is)
+    (wired c.args.draft c.requires.drafted c.args.judged.drivers judged.single judged.kept.unobserved order judged.ordered)

@@ -2,7 +2,7 @@ use Rattle.std.proofs.Common.{◌∙◌, sym, subst}
 use Rattle.ca_wired.specs.Wired.{IsFirstMisdriven}
 use Rattle.ca_wired.specs.Paths.{IsObservedAt}
 use Rattle.ca_wired.proofs.WiredLemmas.{all_single, misdriven, are_driven}
-use Rattle.ca_wired.proofs.wiring.judge.Goals as goal
+use Rattle.ca_wired.proofs.wiring.judge_nets.Goals as goal
 
 pub returns-in-Some-clause-cause : goal.returns-in-Some-clause-cause
 returns-in-Some-clause-cause c =

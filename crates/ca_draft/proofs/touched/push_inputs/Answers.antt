@@ -1,0 +1,12 @@
+use Rattle.std.proofs.Common.{◌∙◌, ap, sym, ◌++◌, [], ◌∷◌}
+use Rattle.std.specs.Prelude.{take}
+use Rattle.std.proofs.lemmas.List.{append_assoc}
+use Rattle.ca_wired.specs.Linked.{input_nets}
+use Rattle.ca_wired.proofs.EndLemmas.{take_more}
+use Rattle.ca_draft.proofs.touched.push_inputs.Goals as goal
+
+pub loop-pin-preserved : goal.loop-pin-preserved
+loop-pin-preserved c =
+    (c.in_ok-push.ensures {u = tt}).items ∙ ap (λ l. l ++ c.input.result ∷ []) c.loop-pin.invariant
+    ∙ append_assoc c.args.wires.now.items (take c.loop-pin.pin (input_nets c.args.body.now)) (c.input.result ∷ [])
+    ∙ ap (λ l. c.args.wires.now.items ++ l) (sym (take_more (input_nets c.args.body.now) c.loop-pin.pin c.input.result c.input.ensures))

@@ -1,0 +1,14 @@
+pub mod NetsLemmas
+pub mod LoopLemmas
+pub mod DriverLemmas
+pub mod JoinedLemmas
+pub mod LoadLemmas
+pub mod RowLemmas
+pub mod ScanLemmas
+pub mod ControlLemmas
+pub mod PathLemmas
+pub mod LimitLemmas
+pub mod NameLemmas
+pub mod EntryLemmas
+pub mod StageLemmas
+pub mod CauseLemmas

@@ -1,0 +1,51 @@
+//! Linking.
+
+ghost use Rattle.std.specs.Prelude.{◌≡◌, map, IfOk, IfErr, OnOk};
+ghost use Rattle.std.specs.List.{IsDistinct};
+ghost use Rattle.std.specs.Str.{bytes_eq};
+ghost use Rattle.ca_cell.specs.Library.{raw_of};
+ghost use Rattle.ca_verilog.specs.IsNetlist.{IsNetlist};
+ghost use Rattle.ca_chip.specs.Wiring.{wiring_of};
+ghost use Rattle.ca_chip.specs.Linking.{IsLinkOf};
+ghost use Rattle.ca_chip.specs.Rules.{KeepsRules, IsCause};
+
+use crate::limits::{defects_of, first_limit};
+use crate::telling::tell;
+use ca_cell::Library;
+use ca_chip::{ChipFault, ScanTable, judge_instances};
+use ca_draft::draft_of;
+use ca_verilog::RawNetlist;
+use ca_wired::{Chip, judge, wire};
+use std::alloc::Global;
+
+/// The chip of a netlist, which takes the library over; or the first rule that is broken, and then the library
+/// is dropped. Different rows of the scan table are of different cells.
+pub fn link(
+    alloc: Global,
+    netlist: &RawNetlist,
+    library: Library,
+    scan: &ScanTable,
+) -> Result<Chip, ChipFault>
+    requires netlist { IsNetlist netlist.now }
+    requires rows { IsDistinct bytes_eq (map (λ row. row.cell) scan.now) }
+    ensures ok { IfOk result (IsLinkOf (wiring_of netlist.now library scan.now)) }
+    ensures cells { IfOk result (λ chip. chip.cells ≡ map (λ named. raw_of named.entry) library) }
+    ensures kept { OnOk result (KeepsRules netlist.now library scan.now) }
+    ensures cause { IfErr result (IsCause netlist.now library scan.now) }
+{
+    if let Err(fault) = judge_instances(alloc, netlist, &library, scan.as_slice()) {
+        return Err(fault);
+    }
+    let draft = draft_of(alloc, library, netlist, scan)?;
+    match judge(alloc, &draft) {
+        Err(fault) => Err(tell(alloc, &draft, scan.as_slice(), fault)?),
+        Ok(judged) => {
+            let defects = defects_of(&draft);
+            let chip = wire(alloc, draft, judged)?;
+            match first_limit(&chip, defects) {
+                Some(fault) => Err(fault),
+                None => Ok(chip),
+            }
+        }
+    }
+}
