@@ -25,6 +25,3 @@ pub use laws::{
 };
 pub use pin_values::{PinValue, PinValues};
 pub use top::run;
-
-#[cfg(test)]
-mod tests;

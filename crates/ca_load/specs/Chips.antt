@@ -11,10 +11,11 @@ use Rattle.ca_chip.specs.Wiring.{wiring_of}
 use Rattle.ca_chip.specs.Linking.{IsLinkOf}
 use Rattle.ca_chip.specs.Rules.{IsFirstBroken, KeepsRules}
 use Rattle.ca_scan.specs.Chain.{IsFirstOff}
-use Rattle.ca_scan.specs.ChainFault.{AreTooMany}
+use Rattle.ca_scan.specs.ChainFault.{AreAllChains, AreTooMany}
 use Rattle.ca_fault.specs.declared.fault.LimitKind.TheVariants as limit
 use Rattle.ca_fault.specs.declared.fault.Fault.{Fault}
-use Rattle.ca_fault.specs.declared.fault.Fault.TheVariants.{Cell, Chip, Chain, Limit}
+use Rattle.ca_fault.specs.declared.fault.Fault.TheVariants.{Cell, Chain, Limit}
+use Rattle.ca_fault.specs.declared.fault.Fault.TheVariants as fault
 use Rattle.ca_load.specs.Texts.{Inputs}
 
 -- the chip is the link of the inputs, and they break no rule of linking and pass no limit
@@ -53,7 +54,7 @@ IsOfCell netlist u name = IsSomeAnd (slice_get netlist.instances u.0) (λ instan
 abbrev pub IsLinkingCause : Inputs → Fault → Type 0
 IsLinkingCause inputs (Cell name broken) =
     (u : InstanceId) × (IsOfCell inputs.netlist u name × BreakFirst inputs (rule.Cell u broken))
-IsLinkingCause inputs (Chip broken) = IsPlainRule broken × BreakFirst inputs broken
+IsLinkingCause inputs (fault.Chip broken) = IsPlainRule broken × BreakFirst inputs broken
 IsLinkingCause inputs (Limit limit.Instances count) = BreakFirst inputs (rule.TooManyInstances count)
 IsLinkingCause inputs (Limit limit.Inputs count) = BreakFirst inputs (rule.TooManyInputs count)
 IsLinkingCause inputs (Limit limit.Outputs count) = BreakFirst inputs (rule.TooManyOutputs count)
@@ -76,3 +77,8 @@ pub record LackChains (inputs : Inputs) (fault : Fault) : Type 0 where
 -- why the inputs give no chip with chains
 abbrev pub IsChipCause : Fault → Inputs → Type 0
 IsChipCause fault inputs = IsLinkingCause inputs fault ⊎ LackChains inputs fault
+
+-- the inputs break no rule of linking, pass no limit, and the chip that they give has chains
+pub record GiveChip (inputs : Inputs) : Type 0 where
+  pub kept : KeepsRules inputs.netlist inputs.library inputs.rows
+  pub chains : (chip : Chip) → IsChipOf inputs chip → (chains : List (List ℕ)) × AreAllChains chip chains

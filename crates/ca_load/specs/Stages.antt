@@ -1,23 +1,13 @@
 -- Why a stage fails, over what it was handed: a text, or what was read.
 use Rattle.std.specs.Prelude.{◌≡◌, ◌⊎◌, ℕ, List, [], unwrap_or, Option}
-use Rattle.std.specs.Option.{option_copied}
 use Rattle.ca_wired.specs.Linked.{Chip}
 use Rattle.ca_fault.specs.declared.fault.Fault.{Fault}
 use Rattle.ca_fault.specs.declared.fault.Fault.TheVariants.{NoMemory}
-use Rattle.ca_load.specs.declared.loading.FileNames.{FileNames}
 use Rattle.ca_load.specs.declared.reading.TypedNames.{TypedNames}
 use Rattle.ca_load.specs.declared.reading.Read.{Read}
 use Rattle.ca_load.specs.Texts.{InputFiles, Inputs}
 use Rattle.ca_load.specs.Chips.{IsLinkingCause, IsTracingCause, IsChipCause}
 use Rattle.ca_load.specs.Causes.{IsTextCause, IsModuleCause, IsRecordCause, IsChipFault}
-
--- the names, as they were typed
-abbrev pub names_of : FileNames → InputFiles
-names_of names = record {
-  cells = names.cells.now;
-  netlist = names.netlist.now;
-  scan = option_copied names.scan;
-}
 
 -- the names stand in memory of their own; where there is none it is empty
 pub record AreTyped (names : InputFiles) (typed : TypedNames) : Type 0 where

@@ -1,7 +1,7 @@
 -- What the files of a command on a chip read as.
 use Rattle.std.specs.Prelude.{◌≡◌, ℕ, List, [], map, Option, Some, None, Ok}
 use Rattle.std.specs.List.{All}
-use Rattle.std.specs.Option.{ForSome}
+use Rattle.std.specs.Option.{ForSome, option_copied}
 use Rattle.ca_store.specs.Store.{Files}
 use Rattle.ca_cell.specs.Library.{Named, IsEntry}
 use Rattle.ca_spice.specs.Reading.{library_of}
@@ -10,6 +10,7 @@ use Rattle.ca_verilog.specs.declared.raw.RawNetlist.{RawNetlist}
 use Rattle.ca_verilog.specs.Text.{netlist_of}
 use Rattle.ca_chip.specs.declared.scan_row.ScanRow.{ScanRow}
 use Rattle.ca_scan.specs.Table.{table_of}
+use Rattle.ca_load.specs.declared.loading.FileNames.{FileNames}
 use Rattle.ca_load.specs.declared.cells.TheConstants.{MAX_CELLS}
 use Rattle.ca_load.specs.declared.netlists.TheConstants.{MAX_NETLIST}
 use Rattle.ca_load.specs.declared.tables.TheConstants.{MAX_SCAN}
@@ -39,6 +40,14 @@ pub record InputFiles : Type 0 where
   pub cells : List ℕ
   pub netlist : List ℕ
   pub scan : Option (List ℕ)
+
+-- the names, as they were typed
+abbrev pub names_of : FileNames → InputFiles
+names_of names = record {
+  cells = names.cells.now;
+  netlist = names.netlist.now;
+  scan = option_copied names.scan;
+}
 
 -- a library, a gate netlist, and the rows of a table of scan cells
 pub record Inputs : Type 0 where

@@ -22,6 +22,7 @@ use ca_wired::{Chip, InstanceId};
 use std::alloc::Global;
 
 /// The chip of what was read, with its chains.
+#[tactic(auto, using(crate::proofs::LinkLemmas::at_link, crate::proofs::LinkLemmas::at_trace))]
 pub(crate) fn link_all(alloc: Global, read: Read) -> Result<Loaded, Fault>
     requires rules { IsNetlist read.netlist }
     requires distinct { IsDistinct bytes_eq (map (λ row. row.cell) read.scan) }

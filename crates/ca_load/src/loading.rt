@@ -3,10 +3,9 @@ ghost use Rattle.std.specs.Prelude.{◌≡◌, Some, IfErr, IfOk, OnOk};
 ghost use Rattle.ca_store.specs.Store.{Nothing};
 ghost use Rattle.ca_scan.specs.ChainFault.{AreAllChains};
 ghost use Rattle.ca_load.specs.Files.{TellsStoreFault};
-ghost use Rattle.ca_load.specs.Texts.{OfInputs};
+ghost use Rattle.ca_load.specs.Texts.{names_of, OfInputs};
 ghost use Rattle.ca_load.specs.Chips.{IsChipOf};
 ghost use Rattle.ca_load.specs.Causes.{IsLoadCause};
-ghost use Rattle.ca_load.specs.Stages.{names_of};
 
 use crate::linking::link_all;
 use crate::reading::read_all;
@@ -34,6 +33,7 @@ pub struct Loaded {
 /// The chip that the files give. The library is read and judged whole, then the netlist, then the table of scan
 /// cells; only then is the netlist linked, and last its chains are traced. Names that faults of files tell are in
 /// memory before the first file is opened.
+#[tactic(auto, using(crate::proofs::LinkLemmas::of_read, crate::proofs::LinkLemmas::at_inputs))]
 pub fn load<S: Store>(
     alloc: Global,
     names: &FileNames<'_>,

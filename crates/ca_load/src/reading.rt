@@ -5,9 +5,9 @@ ghost use Rattle.std.specs.Str.{bytes_eq};
 ghost use Rattle.ca_store.specs.Store.{Nothing};
 ghost use Rattle.ca_verilog.specs.IsNetlist.{IsNetlist};
 ghost use Rattle.ca_load.specs.Files.{TellsStoreFault};
-ghost use Rattle.ca_load.specs.Texts.{AreRead};
+ghost use Rattle.ca_load.specs.Texts.{names_of, AreRead};
 ghost use Rattle.ca_load.specs.Causes.{IsInputCause};
-ghost use Rattle.ca_load.specs.Stages.{names_of, inputs_of, AreTyped};
+ghost use Rattle.ca_load.specs.Stages.{inputs_of, AreTyped};
 
 use crate::cells::open_library;
 use crate::loading::FileNames;
@@ -55,6 +55,12 @@ fn typed_names(alloc: Global, names: &FileNames<'_>) -> Result<TypedNames, NoMem
 }
 
 /// The cell netlist, read and judged whole; then the gate netlist; and then the table of scan cells.
+#[tactic(auto, using(
+    crate::proofs::ReadLemmas::at_netlist,
+    crate::proofs::ReadLemmas::at_scan,
+    crate::proofs::ReadLemmas::are_read,
+    crate::proofs::ReadLemmas::told_since
+))]
 pub(crate) fn read_all<S: Store>(
     alloc: Global,
     names: &FileNames<'_>,

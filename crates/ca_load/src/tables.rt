@@ -31,9 +31,9 @@ pub(crate) fn open_table<S: Store>(
     requires closed { S.opened store.old ≡ Nothing }
     requires typed { typed ≡ unwrap_or (option_copied name) [] }
 
-    ensures ok { IfOk result (IsTableAt (S.files store.old) (option_copied name)) }
+    ensures ok { IfOk result (IsTableAt (S.files store.old) (option_copied name.entry)) }
     ensures distinct { IfOk result (λ table. IsDistinct bytes_eq (map (λ row. row.cell) table)) }
-    ensures cause { IfErr result (IsScanCause (option_copied name) (S.files store.old)
+    ensures cause { IfErr result (IsScanCause (option_copied name.entry) (S.files store.old)
         (S.faults store.old) (S.faults store.new)) }
     ensures quiet { OnOk result (S.faults store.new ≡ S.faults store.old) }
     ensures told { IfErr result (λ fault.
@@ -72,6 +72,7 @@ fn read_rows<S: Store>(
 }
 
 // The table that the bytes read as.
+#[tactic(auto, using(crate::proofs::RowLemmas::table_differs))]
 fn table_in(alloc: Global, bytes: &[u8]) -> Result<ScanTable, Fault>
     ensures reads { IfOk result (λ table. IsTableOf table bytes.now) }
     ensures distinct { IfOk result (λ table. IsDistinct bytes_eq (map (λ row. row.cell) table)) }

@@ -1,7 +1,7 @@
 //! A library of cells, the command lines over it, and how each ends.
 
 // An inverter, gates, a cell whose input pin is on a channel, and one whose transistor that is longer than wide loses.
-pub(super) const LIBRARY: &str = "\
+pub(crate) const LIBRARY: &str = "\
 * row library
 .GLOBAL VDD VSS
 .SUBCKT INV A ZN VDD VSS
@@ -54,9 +54,9 @@ MP1 Z VSS VDDA VDD pch W=1n L=1n
 ";
 
 // The words of a command behind its file, the status, what is printed, and the text of the fault.
-pub(super) type Row = (&'static str, u8, &'static str, &'static str);
+pub(crate) type Row = (&'static str, u8, &'static str, &'static str);
 
-pub(super) static RESPOND: [Row; 17] = [
+pub(crate) static RESPOND: [Row; 17] = [
     ("NAND2 00", 0, "ZN=1\n", ""),
     ("NAND2 01", 0, "ZN=1\n", ""),
     ("NAND2 10", 0, "ZN=1\n", ""),
@@ -77,7 +77,7 @@ pub(super) static RESPOND: [Row; 17] = [
 ];
 
 // An open keeps a charge, or none; its new node loses to the output; ground is blocked; equal strengths fight.
-pub(super) static PAIR: [Row; 19] = [
+pub(crate) static PAIR: [Row; 19] = [
     ("NAND2 11 01 -", 0, "ZN=1\n", ""),
     ("NAND2 10 01 -", 0, "ZN=1\n", ""),
     ("NAND2 01 01 -", 0, "ZN=1\n", ""),
@@ -99,7 +99,7 @@ pub(super) static PAIR: [Row; 19] = [
     ("NAND2 11 01", 1, "", "bad command line"),
 ];
 
-pub(super) static DEFECTS: [Row; 4] = [
+pub(crate) static DEFECTS: [Row; 4] = [
     (
         "inv",
         0,
@@ -111,7 +111,7 @@ pub(super) static DEFECTS: [Row; 4] = [
     ("INV -", 1, "", "bad command line"),
 ];
 
-pub(super) static MATRIX: [Row; 7] = [
+pub(crate) static MATRIX: [Row; 7] = [
     ("nand2 m.csv", 0, "defects 19, exposable 11, rows 16\n", ""),
     ("AND2 m.csv", 0, "defects 29, exposable 14, rows 16\n", ""),
     ("PSN m.csv", 0, "defects 9, exposable 6, rows 4\n", ""),
@@ -122,7 +122,7 @@ pub(super) static MATRIX: [Row; 7] = [
 ];
 
 // Lines of the matrix of NAND2: the header, and the records of 11 then 01 and of 11 then 11.
-pub(super) static NAND2_LINES: [(usize, &str); 3] = [
+pub(crate) static NAND2_LINES: [(usize, &str); 3] = [
     (
         0,
         "first,last,output,good,MP1(D),MP1(S),MP1(G),MP2(D),MP2(S),MP2(G),MN1(D),MN1(S),MN1(G),MN2(D),MN2(S),MN2(G),A1(P),A2(P),VDD=ZN,VDD=N1,VSS=ZN,VSS=N1,ZN=N1",
@@ -132,10 +132,10 @@ pub(super) static NAND2_LINES: [(usize, &str); 3] = [
 ];
 
 // The definite vectors of two inputs.
-pub(super) static DEFINITE: [&str; 4] = ["00", "01", "10", "11"];
+pub(crate) static DEFINITE: [&str; 4] = ["00", "01", "10", "11"];
 
 // Whole lines that are no command's, or whose file isn't there.
-pub(super) static LINES: [Row; 9] = [
+pub(crate) static LINES: [Row; 9] = [
     ("", 1, "", "bad command line"),
     ("respond", 1, "", "bad command line"),
     ("respond - NAND2 11", 1, "", "bad command line"),

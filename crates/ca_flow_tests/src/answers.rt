@@ -1,9 +1,9 @@
 //! What the program answers, and the texts that it has of itself.
 
-use super::rows::LIBRARY;
-use super::{file_with, words_of};
-use crate::{Fault, answer, tell};
+use crate::commands::{file_with, words_of};
+use crate::rows::LIBRARY;
 use ca_base::NoMemory;
+use ca_flow::{Fault, answer, tell};
 use ca_store::{FailList, MemSink, MemStore};
 use std::alloc::Global;
 use std::process::Abort;
@@ -68,11 +68,12 @@ fn the_status_and_the_line_are_those_of_the_end(rt: HostRuntime) -> Result<(), F
 }
 
 // What the text of `--help` names: each command with its words.
-static COMMANDS: [&str; 6] = [
+static COMMANDS: [&str; 7] = [
     "cellaware respond CELLS CELL VECTOR ",
     "cellaware pair CELLS CELL FIRST LAST DEFECT ",
     "cellaware defects CELLS CELL ",
     "cellaware matrix CELLS CELL OUT ",
+    "cellaware check CELLS NETLIST SCAN ",
     "cellaware --help ",
     "cellaware --version ",
 ];

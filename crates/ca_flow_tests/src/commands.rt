@@ -1,12 +1,9 @@
-//! Commands over a store and a sink in memory.
+//! Commands on one cell over a store and a sink in memory.
 
-mod answers;
-mod rows;
-
-use self::rows::{DEFECTS, DEFINITE, LIBRARY, LINES, MATRIX, NAND2_LINES, PAIR, RESPOND, Row};
-use crate::{Done, Fault, Finished, run};
+use crate::rows::{DEFECTS, DEFINITE, LIBRARY, LINES, MATRIX, NAND2_LINES, PAIR, RESPOND, Row};
 use ca_base::NoMemory;
 use ca_cell::CellRule;
+use ca_flow::{Done, Fault, Finished, run};
 use ca_lex::Text;
 use ca_net::{DeviceId, NodeId};
 use ca_store::{FailList, File, FileMap, MemSink, MemStore, StoreCall};
@@ -34,7 +31,7 @@ struct Outcome {
 }
 
 // The words of a command line, with one blank between two.
-fn words_of(alloc: Global, line: &str) -> Result<Vec<String>, NoMemory> {
+pub(crate) fn words_of(alloc: Global, line: &str) -> Result<Vec<String>, NoMemory> {
     let mut words = Vec::new(alloc);
     for word in line.split(' ') {
         words.push(String::from_str(alloc, word)?)?;
@@ -43,7 +40,7 @@ fn words_of(alloc: Global, line: &str) -> Result<Vec<String>, NoMemory> {
 }
 
 // One file, n.sp.
-fn file_with(alloc: Global, bytes: &str) -> Result<FileMap, NoMemory> {
+pub(crate) fn file_with(alloc: Global, bytes: &str) -> Result<FileMap, NoMemory> {
     let mut files = FileMap::new(alloc);
     files.add(File {
         name: Text::from_bytes(alloc, b"n.sp")?,
