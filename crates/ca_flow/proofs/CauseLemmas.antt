@@ -1,5 +1,5 @@
 -- How the causes of a command follow from those of its stages.
-use Rattle.std.proofs.Common.{ℕ, ◌≡◌, ◌≢◌, ◌⊎◌, inl, inr, sym, List, map, Option, Some, Ok, true≢false, subst}
+use Rattle.std.proofs.Common.{ℕ, ◌≡◌, ◌≢◌, ◌⊎◌, ◌∙◌, inl, inr, sym, ap, List, length, map, Option, Some, true≢false, subst, arith}
 use Rattle.std.specs.Prelude.{IsNone}
 use Rattle.ca_store.specs.Store.{Files}
 use Rattle.ca_lex.specs.Words.{upper_case}
@@ -7,20 +7,26 @@ use Rattle.ca_cell.specs.declared.raw.RawCell.{RawCell}
 use Rattle.ca_cell.specs.declared.library.Entry.TheVariants.{Sound, Refused}
 use Rattle.ca_cell.specs.Library.{Named, entry_of}
 use Rattle.ca_cell.specs.Rules.{IsFirstBroken}
-use Rattle.ca_spice.specs.Reading.{library_of}
-use Rattle.ca_spice.specs.Views.{subcircuit_seen}
 use Rattle.ca_matrix.specs.Matrix.{Entries}
-use Rattle.ca_flow.specs.declared.fault.Fault.{Fault}
-use Rattle.ca_flow.specs.declared.fault.Fault.TheVariants.{BadWords, Cells, NoCell, Cell, BadVector, NoDefect, TooLong, Limit, StoreFailed, SinkFailed, NoMemory}
-use Rattle.ca_flow.specs.Words.{cells_word, cell_word, vector_word, first_word, last_word, defect_word, dash}
+use Rattle.ca_fault.specs.declared.fault.Fault.{Fault}
+use Rattle.ca_fault.specs.declared.fault.Fault.TheVariants.{BadWords, Cells, NoCell, Cell, BadVector, NoDefect, TooLong, Limit, StoreFailed, SinkFailed, NoMemory}
+use Rattle.ca_load.specs.Texts.{IsLibraryOf}
+use Rattle.ca_load.specs.Causes.{IsLibraryCause}
+use Rattle.ca_flow.specs.Words.{cells_word, cell_word, vector_word, first_word, last_word, defect_word, dash, IsMatrix, IsCheck}
 use Rattle.ca_flow.specs.Cells.{OfFile, OfCell}
-use Rattle.ca_flow.specs.declared.finished.Done.TheVariants.{Defects, Matrix}
+use Rattle.ca_wired.specs.Linked.{Chip}
+use Rattle.ca_scan.specs.ChainFault.{AreAllChains}
+use Rattle.ca_load.specs.declared.loading.FileNames.{FileNames}
+use Rattle.ca_load.specs.Texts.{names_of, OfInputs}
+use Rattle.ca_load.specs.Chips.{IsChipOf}
+use Rattle.ca_load.specs.Causes.{IsLoadCause}
+use Rattle.ca_flow.specs.declared.finished.Done.TheVariants.{Defects, Matrix, Check}
 use Rattle.ca_flow.specs.declared.words.CellWords.{CellWords}
 use Rattle.ca_flow.specs.declared.words.MatrixWords.{MatrixWords}
-use Rattle.ca_flow.specs.Command.{IsSpelledDefects, IsSpelledMatrix}
+use Rattle.ca_flow.specs.Command.{IsSpelledDefects, IsSpelledMatrix, IsSpelledCheck}
 use Rattle.ca_flow.specs.Outputs.{asked_network}
 use Rattle.ca_flow.specs.Ends.{AreDefectNames, IsSoundMatrix, IsAsked}
-use Rattle.ca_flow.specs.Fault.{IsLibraryCause, IsCellCause, IsFirstUnfit, IsPairCause, IsVectorCause, IsValueCause, IsWorkCause}
+use Rattle.ca_flow.specs.Fault.{IsCellCause, IsFirstUnfit, IsPairCause, IsVectorCause, IsValueCause, IsWorkCause}
 use Rattle.ca_flow.specs.Stages.{IsEntryCause, IsEvaluationCause}
 use Rattle.ca_flow.proofs.FileLemmas.{of_entry, of_none}
 
@@ -39,29 +45,17 @@ pub no_memory_at_library : (name : List ℕ) (files : Option Files) (before afte
 no_memory_at_library name files before after fault is = rw is (inl tt)
 
 module _ (name word : List ℕ) (files : Option Files) (library : List Named)
-    (read : OfFile files name (λ bytes. library_of bytes ≡ Ok (map subcircuit_seen library))) (before after : ℕ) where
+    (read : OfFile files name (IsLibraryOf library)) (before after : ℕ) where
   -- a word that finds no cell in the library that was read finds none in the file
   pub of_entry_cause : (fault : Fault) → IsEntryCause word library fault → IsCellCause name word files before after fault
-  of_entry_cause BadWords cause = absurd cause
-  of_entry_cause (Cells line kind) cause = absurd cause
   of_entry_cause (NoCell typed) (same, missing) = inr (same, of_none files name word library read missing)
   of_entry_cause (Cell cell rule) (same, refuses) =
       inr (same, of_entry files name word library read (Refused refuses.raw rule) (λ raw. IsFirstBroken raw rule) refuses.found refuses.broken)
-  of_entry_cause (BadVector typed) cause = absurd cause
-  of_entry_cause (NoDefect typed) cause = absurd cause
-  of_entry_cause (TooLong typed taken) cause = absurd cause
-  of_entry_cause (Limit kind count) cause = absurd cause
-  of_entry_cause (StoreFailed typed) cause = absurd cause
-  of_entry_cause SinkFailed cause = absurd cause
-  of_entry_cause NoMemory cause = inl (inl tt)
+  of_entry_cause fault cause = absurd cause
 
   -- a cell of the library without values is one of the file
   module _ (first last defect : List ℕ) (raw : RawCell) (found : entry_of library (upper_case word) ≡ Some (Sound raw)) where
     at_pair : (fault : Fault) → IsPairCause first last defect fault raw → IsVectorCause name word first last defect files fault
-    at_pair BadWords cause = absurd cause
-    at_pair (Cells line kind) cause = absurd cause
-    at_pair (NoCell typed) cause = absurd cause
-    at_pair (Cell cell rule) cause = absurd cause
     at_pair (BadVector typed) cause = (
       typed_of raw first last typed cause.1,
       of_entry files name word library read (Sound raw) (IsPairCause first last defect (BadVector typed)) found cause,
@@ -70,11 +64,7 @@ module _ (name word : List ℕ) (files : Option Files) (library : List Named)
       cause.0,
       (no_dash raw defect cause.1.1.1.1, of_entry files name word library read (Sound raw) (IsPairCause first last defect (NoDefect typed)) found cause),
     )
-    at_pair (TooLong typed taken) cause = absurd cause
-    at_pair (Limit kind count) cause = absurd cause
-    at_pair (StoreFailed typed) cause = absurd cause
-    at_pair SinkFailed cause = absurd cause
-    at_pair NoMemory cause = absurd cause
+    at_pair fault cause = absurd cause
 
     pub of_evaluation : (fault : Fault) → IsEvaluationCause first last defect raw fault
         → IsValueCause name word first last defect files before after fault
@@ -93,15 +83,21 @@ at_value_stage : (name word first last defect typed : List ℕ) (files : Option 
 at_value_stage name word first last defect typed files before after (inl cell) = at_cell_stage name word typed files before after cell
 at_value_stage name word first last defect typed files before after (inr own) = absurd own
 
-pub unread_is_cells : (words : List (List ℕ)) (typed : List ℕ) (files : Option Files) (before after : ℕ)
+-- `matrix` is another command than `check`
+pub matrix_or_check : (words : List (List ℕ)) → IsMatrix words → IsCheck words → ⊥
+matrix_or_check words one other = omega (arith, ap length (sym one.command ∙ other.command))
+
+pub unread_is_cells : (words : List (List ℕ)) (typed : List ℕ) (files : Option Files) (before after : ℕ) → IsMatrix words
     → IsWorkCause words files before after (StoreFailed typed) → typed ≡ cells_word words
-unread_is_cells words typed files before after (inl (is, cause)) =
+unread_is_cells words typed files before after matrix (inl (is, cause)) =
     at_value_stage (cells_word words) (cell_word words) (vector_word words) (vector_word words) dash typed files before after cause
-unread_is_cells words typed files before after (inr (inl (is, cause))) =
+unread_is_cells words typed files before after matrix (inr (inl (is, cause))) =
     at_value_stage (cells_word words) (cell_word words) (first_word words) (last_word words) (defect_word words) typed files before after cause
-unread_is_cells words typed files before after (inr (inr (inl (is, cause)))) =
+unread_is_cells words typed files before after matrix (inr (inr (inl (is, cause)))) =
     at_cell_stage (cells_word words) (cell_word words) typed files before after cause
-unread_is_cells words typed files before after (inr (inr (inr (is, cause)))) =
+unread_is_cells words typed files before after matrix (inr (inr (inr (inr (is, cause))))) =
+    absurd (matrix_or_check words matrix is)
+unread_is_cells words typed files before after matrix (inr (inr (inr (inl (is, cause))))) =
     at_cell_stage (cells_word words) (cell_word words) typed files before after cause
 
 -- the names that the words of `defects` ask for
@@ -113,3 +109,17 @@ defects_asked words request files names spelled held = (spelled.is, rw (sym spel
 pub matrix_asked : (words : List (List ℕ)) (request : MatrixWords) (files : Option Files) (matrix : Entries) → IsSpelledMatrix words request
     → OfCell files request.of.cells.now request.of.cell.now (IsSoundMatrix matrix) → IsAsked words files (Matrix matrix)
 matrix_asked words request files matrix spelled held = (spelled.is, rw (sym spelled.of.cells, sym spelled.of.cell) held)
+
+-- the chip that the words of `check` ask for
+pub check_asked : (words : List (List ℕ)) (names : FileNames) (files : Option Files) (chip : Chip) (chains : List (List ℕ))
+    → IsSpelledCheck words names → AreAllChains chip chains
+    → OfInputs files (names_of names) (λ inputs. IsChipOf inputs chip) → IsAsked words files (Check chip chains)
+check_asked words names files chip chains spelled all held =
+    (spelled.is, (all, subst (λ asked. OfInputs files asked (λ inputs. IsChipOf inputs chip)) spelled.files held))
+
+-- why its files give none
+pub check_cause : (words : List (List ℕ)) (names : FileNames) (files : Option Files) (before after : ℕ) (fault : Fault)
+    → IsSpelledCheck words names → IsLoadCause (names_of names) files before after fault
+    → IsWorkCause words files before after fault
+check_cause words names files before after fault spelled cause =
+    inr (inr (inr (inr (spelled.is, subst (λ asked. IsLoadCause asked files before after fault) spelled.files cause))))

@@ -1,5 +1,5 @@
 -- A command that can be answered is refused only for want of memory, where no call failed.
-use Rattle.std.proofs.Common.{ℕ, ◌≡◌, ◌≤◌, ◌<◌, ◌⊎◌, ◌∙◌, inl, inr, refl, sym, ap, List, length, Option, Some, None, Err, arith, true≢false}
+use Rattle.std.proofs.Common.{ℕ, ◌≡◌, ◌≤◌, ◌<◌, ◌⊎◌, ◌∙◌, inl, inr, refl, sym, ap, subst, List, length, Option, Some, None, Err, arith, true≢false}
 use Rattle.std.proofs.lemmas.Option.{same_Some}
 use Rattle.std.specs.Prelude.{IfSome, IsSome, IsNone, IsSomeAnd}
 use Rattle.ca_store.specs.Store.{Files, Rose, MayHave}
@@ -10,17 +10,28 @@ use Rattle.ca_spice.specs.declared.fault.SpiceFault.{SpiceFault}
 use Rattle.ca_spice.specs.declared.fault.SpiceFault.TheVariants as spice
 use Rattle.ca_spice.specs.Reading.{library_of}
 use Rattle.ca_spice.specs.Called.{cell_called}
-use Rattle.ca_flow.specs.declared.inputs.TheConstants.{MAX_CELLS}
-use Rattle.ca_flow.specs.declared.fault.LimitKind.TheVariants as limit
-use Rattle.ca_flow.specs.declared.fault.Fault.{Fault}
-use Rattle.ca_flow.specs.declared.fault.Fault.TheVariants.{BadWords, Cells, NoCell, Cell, BadVector, NoDefect, TooLong, Limit, StoreFailed, SinkFailed, NoMemory}
+use Rattle.ca_load.specs.declared.cells.TheConstants.{MAX_CELLS}
+use Rattle.ca_load.specs.Files.{IsReadCause}
+use Rattle.ca_load.specs.Causes.{IsTextCause, IsCellsCause}
+use Rattle.ca_load.proofs.WholeLemmas.{IsOutsideFault, at_load}
+use Rattle.ca_fault.specs.declared.fault.LimitKind.TheVariants as limit
+use Rattle.ca_fault.specs.declared.fault.Fault.{Fault}
+use Rattle.ca_fault.specs.declared.fault.Fault.TheVariants.{BadWords, Cells, NoCell, Cell, BadVector, NoDefect, TooLong, Limit, StoreFailed, SinkFailed, NoMemory}
 use Rattle.ca_flow.specs.declared.finished.Finished.{Finished}
 use Rattle.ca_flow.specs.Finished.{IsAnswer, status_told}
-use Rattle.ca_flow.specs.Words.{cells_word, cell_word, vector_word, first_word, last_word, defect_word, dash, AsksNoFile, IsCommand}
+use Rattle.ca_flow.specs.Words.{cells_word, cell_word, vector_word, first_word, last_word, defect_word, dash, chip_files, IsRespond, IsPair, IsDefects, IsMatrix, IsCheck, AsksNoFile, IsOnCell, IsCommand}
 use Rattle.ca_flow.specs.Outputs.{Fits, asked_network}
 use Rattle.ca_flow.specs.Cells.{OfFile, HasCell, LacksCell}
-use Rattle.ca_flow.specs.Complete.{FitsCell, FitsFile, IsAnswerable, Completes}
-use Rattle.ca_flow.specs.Fault.{Outside, IsReadCause, IsTextCause, IsCellsCause, IsNameCause, IsFirstUnfit, IsPairCause, IsVectorCause, IsCellCause, IsValueCause, IsWordsCause, IsWriteCause, IsPrintCause, IsWorkCause, IsCause}
+use Rattle.ca_flow.specs.Complete.{FitsCell, FitsFile, FitsChip, IsAnswerable, Completes}
+use Rattle.ca_flow.proofs.CauseLemmas.{matrix_or_check}
+use Rattle.ca_flow.specs.Fault.{Outside, IsNameCause, IsFirstUnfit, IsPairCause, IsVectorCause, IsCellCause, IsValueCause, IsWordsCause, IsWriteCause, IsPrintCause, IsWorkCause, IsCause}
+
+-- `check` is no command on one cell
+pub no_check : (words : List (List ℕ)) → IsOnCell words → IsCheck words → ⊥
+no_check words (inl one) other = omega (arith, ap length (sym one.command ∙ other.command))
+no_check words (inr (inl one)) other = omega (arith, one.six, other.four)
+no_check words (inr (inr (inl one))) other = omega (arith, one.three, other.four)
+no_check words (inr (inr (inr one))) other = matrix_or_check words one other
 
 -- the file and the cell that the words name
 record HasSeen (words : List (List ℕ)) (files : Option Files) : Type 0 where
@@ -33,9 +44,8 @@ record HasSeen (words : List (List ℕ)) (files : Option Files) : Type 0 where
   pub called : cell_called bytes (cell_word words) ≡ Some raw
   pub fits : FitsCell words raw
 
-seen_of : (words : List (List ℕ)) (files : Option Files) → IsSomeAnd files (FitsFile words) → HasSeen words files
-seen_of words None held = absurd held
-seen_of words (Some told) held = at_file (told (cells_word words)) refl held
+seen_of : (words : List (List ℕ)) (told : Files) → FitsFile words told → HasSeen words (Some told)
+seen_of words told held = at_file (told (cells_word words)) refl held
   where
     at_cell : (bytes : List ℕ) → told (cells_word words) ≡ Some bytes → length bytes ≤ MAX_CELLS → (cell : Option RawCell)
         → cell_called bytes (cell_word words) ≡ cell → IsSomeAnd cell (FitsCell words) → HasSeen words (Some told)
@@ -74,19 +84,12 @@ module _ (words : List (List ℕ)) (files : Option Files) (seen : HasSeen words 
 
   module _ (before after : ℕ) (quiet : ¬ (Rose before after)) where
     at_read : (fault : Fault) → IsReadCause (cells_word words) files MAX_CELLS before after fault → fault ≡ NoMemory
-    at_read BadWords cause = absurd cause
-    at_read (Cells line kind) cause = absurd cause
-    at_read (NoCell typed) cause = absurd cause
-    at_read (Cell cell rule) cause = absurd cause
-    at_read (BadVector typed) cause = absurd cause
-    at_read (NoDefect typed) cause = absurd cause
     at_read (TooLong typed taken) (same, long) =
         let past : IsSomeAnd (Some seen.bytes) (λ bytes. MAX_CELLS < length bytes) = rw seen.there at (long.past seen.told seen.told_are) in
         absurd (omega (arith, past, seen.within))
-    at_read (Limit kind count) cause = absurd cause
     at_read (StoreFailed typed) (same, rose) = absurd (quiet (rose is_there))
-    at_read SinkFailed cause = absurd cause
     at_read NoMemory cause = refl
+    at_read fault cause = absurd cause
 
   -- a text that names the cell has a reading
   has_reading : (fault : SpiceFault) → library_of seen.bytes ≡ Err fault → ⊥
@@ -95,21 +98,11 @@ module _ (words : List (List ℕ)) (files : Option Files) (seen : HasSeen words 
       cc
 
   at_text : (fault : Fault) → IsCellsCause (cells_word words) files fault → ⊥
-  at_text BadWords cause = cause
   at_text (Cells line kind) cause = has_reading (spice.At line kind) (at_bytes (IsTextCause (Cells line kind)) cause)
-  at_text (NoCell typed) cause = cause
-  at_text (Cell cell rule) cause = cause
-  at_text (BadVector typed) cause = cause
-  at_text (NoDefect typed) cause = cause
-  at_text (TooLong typed taken) cause = cause
   at_text (Limit limit.Cells count) cause = has_reading (spice.TooManyCells count) (at_bytes (IsTextCause (Limit limit.Cells count)) cause)
-  at_text (StoreFailed typed) cause = cause
-  at_text SinkFailed cause = cause
-  at_text NoMemory cause = cause
+  at_text fault cause = cause
 
   at_name : (fault : Fault) → IsNameCause (cells_word words) (cell_word words) files fault → ⊥
-  at_name BadWords cause = cause
-  at_name (Cells line kind) cause = cause
   at_name (NoCell typed) (same, lacks) =
       let missing : IsNone (Some seen.raw) = rw seen.called at (at_bytes (LacksCell (cell_word words)) lacks).1 in
       cc
@@ -117,20 +110,10 @@ module _ (words : List (List ℕ)) (files : Option Files) (seen : HasSeen words 
     where
       at_rule : (rule : CellRule) → IsFirstBroken seen.raw rule → ⊥
       at_rule rule first = seen.fits.kept rule first.broken
-  at_name (BadVector typed) cause = cause
-  at_name (NoDefect typed) cause = cause
-  at_name (TooLong typed taken) cause = cause
-  at_name (Limit kind count) cause = cause
-  at_name (StoreFailed typed) cause = cause
-  at_name SinkFailed cause = cause
-  at_name NoMemory cause = cause
+  at_name fault cause = cause
 
   at_vector : (first last defect : List ℕ) → Fits seen.raw first → Fits seen.raw last → IsSome (asked_network seen.raw defect) → (fault : Fault)
       → IsVectorCause (cells_word words) (cell_word words) first last defect files fault → ⊥
-  at_vector first last defect first_fits last_fits asks BadWords cause = cause
-  at_vector first last defect first_fits last_fits asks (Cells line kind) cause = cause
-  at_vector first last defect first_fits last_fits asks (NoCell typed) cause = cause
-  at_vector first last defect first_fits last_fits asks (Cell cell rule) cause = cause
   at_vector first last defect first_fits last_fits asks (BadVector typed) cause =
       at_unfit (at_raw (IsPairCause first last defect (BadVector typed)) cause.1).1
     where
@@ -140,11 +123,7 @@ module _ (words : List (List ℕ)) (files : Option Files) (seen : HasSeen words 
   at_vector first last defect first_fits last_fits asks (NoDefect typed) cause =
       let lacks = (at_raw (IsPairCause first last defect (NoDefect typed)) cause.1.1).1.1 in
       true≢false (sym asks ∙ lacks.1.1)
-  at_vector first last defect first_fits last_fits asks (TooLong typed taken) cause = cause
-  at_vector first last defect first_fits last_fits asks (Limit kind count) cause = cause
-  at_vector first last defect first_fits last_fits asks (StoreFailed typed) cause = cause
-  at_vector first last defect first_fits last_fits asks SinkFailed cause = cause
-  at_vector first last defect first_fits last_fits asks NoMemory cause = cause
+  at_vector first last defect first_fits last_fits asks fault cause = cause
 
   module _ (before after : Outside) (quiet_store : ¬ (Rose before.store_faults after.store_faults))
       (quiet_sink : ¬ (Rose before.sink_faults after.sink_faults)) (fault : Fault) where
@@ -166,47 +145,22 @@ module _ (words : List (List ℕ)) (files : Option Files) (seen : HasSeen words 
         let fits = seen.fits.pair is in
         at_value (first_word words) (last_word words) (defect_word words) fits.first fits.last fits.defect cause
     at_work (inr (inr (inl (is, cause)))) = at_cell cause
-    at_work (inr (inr (inr (is, cause)))) = at_cell cause
+    at_work (inr (inr (inr (inl (is, cause))))) = at_cell cause
+    at_work (inr (inr (inr (inr (is, cause))))) = absurd (no_check words seen.fits.is is)
 
 pub at_words : (words : List (List ℕ)) → IsCommand words → (fault : Fault) → IsWordsCause words fault → ⊥
 at_words words is BadWords cause = cause is
-at_words words is (Cells line kind) cause = cause
-at_words words is (NoCell typed) cause = cause
-at_words words is (Cell cell rule) cause = cause
-at_words words is (BadVector typed) cause = cause
-at_words words is (NoDefect typed) cause = cause
-at_words words is (TooLong typed taken) cause = cause
-at_words words is (Limit kind count) cause = cause
-at_words words is (StoreFailed typed) cause = cause
-at_words words is SinkFailed cause = cause
-at_words words is NoMemory cause = cause
+at_words words is fault cause = cause
 
 at_print : (before after : ℕ) → ¬ (Rose before after) → (fault : Fault) → IsPrintCause before after fault → fault ≡ NoMemory
-at_print before after quiet BadWords cause = absurd cause
-at_print before after quiet (Cells line kind) cause = absurd cause
-at_print before after quiet (NoCell typed) cause = absurd cause
-at_print before after quiet (Cell cell rule) cause = absurd cause
-at_print before after quiet (BadVector typed) cause = absurd cause
-at_print before after quiet (NoDefect typed) cause = absurd cause
-at_print before after quiet (TooLong typed taken) cause = absurd cause
-at_print before after quiet (Limit kind count) cause = absurd cause
-at_print before after quiet (StoreFailed typed) cause = absurd cause
 at_print before after quiet SinkFailed rose = absurd (quiet rose)
 at_print before after quiet NoMemory cause = refl
+at_print before after quiet fault cause = absurd cause
 
 at_write : (words : List (List ℕ)) (before after : ℕ) → ¬ (Rose before after) → (fault : Fault)
     → IsWriteCause words before after fault → ⊥
-at_write words before after quiet BadWords cause = cause
-at_write words before after quiet (Cells line kind) cause = cause
-at_write words before after quiet (NoCell typed) cause = cause
-at_write words before after quiet (Cell cell rule) cause = cause
-at_write words before after quiet (BadVector typed) cause = cause
-at_write words before after quiet (NoDefect typed) cause = cause
-at_write words before after quiet (TooLong typed taken) cause = cause
-at_write words before after quiet (Limit kind count) cause = cause
 at_write words before after quiet (StoreFailed typed) (is, (same, rose)) = quiet rose
-at_write words before after quiet SinkFailed cause = cause
-at_write words before after quiet NoMemory cause = cause
+at_write words before after quiet fault cause = cause
 
 -- where its work was refused for want of memory alone, a command was
 only_memory : (words : List (List ℕ)) (before after : Outside) → IsCommand words
@@ -233,20 +187,49 @@ no_asking_work words files before after fault asks (inl (is, cause)) = omega (ar
 no_asking_work words files before after fault asks (inr (inl (is, cause))) = omega (arith, one_word words asks, is.six)
 no_asking_work words files before after fault asks (inr (inr (inl (is, cause)))) =
     omega (arith, one_word words asks, is.three)
-no_asking_work words files before after fault asks (inr (inr (inr (is, cause)))) =
+no_asking_work words files before after fault asks (inr (inr (inr (inl (is, cause))))) =
     omega (arith, one_word words asks, is.four)
+no_asking_work words files before after fault asks (inr (inr (inr (inr (is, cause))))) =
+    omega (arith, one_word words asks, is.four)
+
+-- work of `check` whose files give a chip is refused where the store failed, or for want of memory alone
+pub at_check : (words : List (List ℕ)) (files : Option Files) (told : Files) → files ≡ Some told → FitsChip words told
+    → (before after : ℕ) (fault : Fault) → IsWorkCause words files before after fault → IsOutsideFault fault before after
+at_check words files told are fits before after fault (inl (is, cause)) = absurd (no_check words (inl is) fits.is)
+at_check words files told are fits before after fault (inr (inl (is, cause))) =
+    absurd (no_check words (inr (inl is)) fits.is)
+at_check words files told are fits before after fault (inr (inr (inl (is, cause)))) =
+    absurd (no_check words (inr (inr (inl is))) fits.is)
+at_check words files told are fits before after fault (inr (inr (inr (inl (is, cause))))) =
+    absurd (no_check words (inr (inr (inr is))) fits.is)
+at_check words files told are fits before after fault (inr (inr (inr (inr (is, cause))))) =
+    at_load files told are before after (chip_files words) fits.inputs fits.read fits.gives fault cause
+
+only_outside : (fault : Fault) (before after : ℕ) → ¬ (Rose before after) → IsOutsideFault fault before after
+    → fault ≡ NoMemory
+only_outside fault before after quiet (inl memory) = memory
+only_outside fault before after quiet (inr (name, (is, rose))) = absurd (quiet rose)
 
 -- a command that can be answered is refused for want of memory alone
 answerable_memory : (words : List (List ℕ)) (before after : Outside) → IsAnswerable words before.files
     → ¬ (Rose before.store_faults after.store_faults) → ¬ (Rose before.sink_faults after.sink_faults) → (fault : Fault)
     → IsCause words before after fault → fault ≡ NoMemory
 answerable_memory words before after (inl asks) quiet_store quiet_sink fault cause =
-    only_memory words before after (inr (inr (inr (inr asks)))) quiet_store quiet_sink fault
+    only_memory words before after (inr (inr asks)) quiet_store quiet_sink fault
     (λ work. absurd (no_asking_work words before.files before.store_faults after.store_faults fault asks work)) cause
-answerable_memory words before after (inr fits) quiet_store quiet_sink fault cause =
-    let seen = seen_of words before.files fits in
-    only_memory words before after seen.fits.is quiet_store quiet_sink fault
-    (at_work words before.files seen before after quiet_store quiet_sink fault) cause
+answerable_memory words before after (inr fits) quiet_store quiet_sink fault cause = by before.files refl fits
+  where
+    by : (files : Option Files) → before.files ≡ files
+        → IsSomeAnd files (λ told. FitsFile words told ⊎ FitsChip words told) → fault ≡ NoMemory
+    by None are held = absurd held
+    by (Some told) are (inl file) =
+        let seen : HasSeen words before.files = subst (HasSeen words) (sym are) (seen_of words told file) in
+        only_memory words before after (inl seen.fits.is) quiet_store quiet_sink fault
+        (at_work words before.files seen before after quiet_store quiet_sink fault) cause
+    by (Some told) are (inr chip) =
+        only_memory words before after (inr (inl chip.is)) quiet_store quiet_sink fault
+        (λ work. only_outside fault before.store_faults after.store_faults quiet_store
+        (at_check words before.files told are chip before.store_faults after.store_faults fault work)) cause
 
 -- a command that was answered or refused for a cause completes
 pub completes : (words : List (List ℕ)) (before after : Outside) (end : Finished) → IsAnswer words end

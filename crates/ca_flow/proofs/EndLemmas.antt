@@ -6,17 +6,18 @@ use Rattle.std.specs.Option.{ForSome}
 use Rattle.ca_store.specs.Store.{Files, Rose}
 use Rattle.ca_store.specs.Writing.{MayWrite}
 use Rattle.ca_matrix.specs.Text.{text_of}
-use Rattle.ca_flow.specs.declared.fault.Fault.{Fault}
-use Rattle.ca_flow.specs.declared.fault.Fault.TheVariants.{BadWords, Cells, NoCell, Cell, BadVector, NoDefect, TooLong, Limit, StoreFailed, SinkFailed, NoMemory}
+use Rattle.ca_fault.specs.declared.fault.Fault.{Fault}
+use Rattle.ca_fault.specs.declared.fault.Fault.TheVariants.{BadWords, Cells, Netlist, Scan, Chip, Chain, NoCell, Cell, BadVector, NoInstance, NoDefect, TooLong, Limit, StoreFailed, SinkFailed, NoMemory}
 use Rattle.ca_flow.specs.declared.finished.Done.{Done}
-use Rattle.ca_flow.specs.declared.finished.Done.TheVariants.{Respond, Pair, Defects, Matrix, Help, Version}
+use Rattle.ca_flow.specs.declared.finished.Done.TheVariants.{Respond, Pair, Defects, Matrix, Check, Help, Version}
 use Rattle.ca_flow.specs.declared.finished.Finished.{Finished}
 use Rattle.ca_flow.specs.declared.work.OutFile.{OutFile}
-use Rattle.ca_flow.specs.FaultLine.{status_of}
+use Rattle.ca_fault.specs.FaultLine.{status_of}
 use Rattle.ca_flow.specs.Words.{out_word, IsMatrix}
 use Rattle.ca_flow.specs.Finished.{status_told, IsTold, IsOutFault, IsAnswer, Prints, LeavesFiles, Writes, TellsSinkFault}
 use Rattle.ca_flow.specs.Fault.{Outside, IsWorkCause, IsWriteCause, IsPrintCause, IsCause}
-use Rattle.ca_flow.specs.Ends.{TellsStoreFault, IsAsked}
+use Rattle.ca_load.specs.Files.{TellsStoreFault}
+use Rattle.ca_flow.specs.Ends.{IsAsked}
 use Rattle.ca_flow.specs.Work.{HasFile, HasWritten, FailsToWrite, HasPrinted, FailsToPrint, EndsWork}
 use Rattle.ca_flow.proofs.CauseLemmas.{unread_is_cells}
 
@@ -24,9 +25,14 @@ use Rattle.ca_flow.proofs.CauseLemmas.{unread_is_cells}
 status_is_told : (fault : Fault) → status_of fault ≡ 0 → ⊥
 status_is_told BadWords zero = cc
 status_is_told (Cells line kind) zero = cc
+status_is_told (Netlist line kind) zero = cc
+status_is_told (Scan row) zero = cc
+status_is_told (Chip rule) zero = cc
+status_is_told (Chain name) zero = cc
 status_is_told (NoCell typed) zero = cc
 status_is_told (Cell cell rule) zero = cc
 status_is_told (BadVector typed) zero = cc
+status_is_told (NoInstance typed) zero = cc
 status_is_told (NoDefect typed) zero = cc
 status_is_told (TooLong typed taken) zero = cc
 status_is_told (Limit kind count) zero = cc
@@ -81,7 +87,7 @@ pub read_is_not_written : (words : List (List ℕ)) (files : Option Files) (befo
     → IsWorkCause words files before after fault → ¬ (IsOutFault words (Some fault))
 read_is_not_written words files before after fault cause (is, same) =
     let store : fault ≡ StoreFailed (out_word words) = same_Some fault (StoreFailed (out_word words)) same in
-    is.others (unread_is_cells words (out_word words) files before after (subst (IsWorkCause words files before after) store cause))
+    is.others (unread_is_cells words (out_word words) files before after is (subst (IsWorkCause words files before after) store cause))
 
 -- where the file was written, the work left the files as it should
 leaves_written : (words : List (List ℕ)) (fault : Option Fault) (old new : Option Files) (done : Done) (file : Option OutFile)
@@ -92,6 +98,8 @@ leaves_written words fault old new (Pair values) None other fits written = writt
 leaves_written words fault old new (Pair values) (Some file) other fits written = absurd (true≢false fits)
 leaves_written words fault old new (Defects names) None other fits written = written
 leaves_written words fault old new (Defects names) (Some file) other fits written = absurd (true≢false fits)
+leaves_written words fault old new (Check chip chains) None other fits written = written
+leaves_written words fault old new (Check chip chains) (Some file) other fits written = absurd (true≢false fits)
 leaves_written words fault old new Help None other fits written = written
 leaves_written words fault old new Help (Some file) other fits written = absurd (true≢false fits)
 leaves_written words fault old new Version None other fits written = written
@@ -116,6 +124,8 @@ failed_writing words before after old new fault (Pair values) None fits asked fa
 failed_writing words before after old new fault (Pair values) (Some file) fits asked failed = absurd (true≢false fits)
 failed_writing words before after old new fault (Defects names) None fits asked failed = absurd failed
 failed_writing words before after old new fault (Defects names) (Some file) fits asked failed = absurd (true≢false fits)
+failed_writing words before after old new fault (Check chip chains) None fits asked failed = absurd failed
+failed_writing words before after old new fault (Check chip chains) (Some file) fits asked failed = absurd (true≢false fits)
 failed_writing words before after old new fault Help None fits asked failed = absurd failed
 failed_writing words before after old new fault Help (Some file) fits asked failed = absurd (true≢false fits)
 failed_writing words before after old new fault Version None fits asked failed = absurd failed
@@ -239,3 +249,22 @@ work_has_words words before after (Some fault) cause same = at fault cause (same
           | inl write ↦ write
           | inr print ↦ print
         ]
+
+memory_is_no_sink : NoMemory ≡ SinkFailed → ⊥
+memory_is_no_sink same = cc
+
+memory_is_no_out : (words : List (List ℕ)) → ¬ (IsOutFault words (Some NoMemory))
+memory_is_no_out words (is, same) = let bad = same_Some NoMemory (StoreFailed (out_word words)) same in cc
+
+-- work whose lines found no memory is refused before it is written
+pub refused_ends : (words : List (List ℕ)) (before : Outside) (done : Done) (end : Finished) → end.fault ≡ Some NoMemory
+    → end.status ≡ status_of NoMemory → IsNone end.done → EndsWork words before before done end
+refused_ends words before done end is status none = record {
+  answer = refused_answer words end NoMemory is status none memory_is_no_sink (memory_is_no_out words);
+  same = none_for end.done _ none;
+  prints = refused_prints words end NoMemory is status none before.bytes;
+  writes = refused_writes words end NoMemory is status none before.files;
+  cause = rw is (inr tt);
+  of_store = record { told = λ more. absurd (omega (arith, more)); later = omega arith };
+  of_sink = record { told = λ more. absurd (omega (arith, more)); later = omega arith };
+}

@@ -2,21 +2,14 @@
 use Rattle.std.proofs.Common.{ℕ, ◌≡◌, ◌≤◌, refl, List, length, map, Option, Some, None, Result, Ok, Err}
 use Rattle.std.specs.Prelude.{IfOk, IsSomeAnd}
 use Rattle.ca_store.specs.Store.{Files}
-use Rattle.ca_store.specs.ReadFault.{IsWhole}
 use Rattle.ca_lex.specs.Words.{upper_case}
 use Rattle.ca_cell.specs.declared.raw.RawCell.{RawCell}
 use Rattle.ca_cell.specs.declared.library.Entry.{Entry}
 use Rattle.ca_cell.specs.Library.{Named, entry_of, raw_of}
-use Rattle.ca_spice.specs.Reading.{library_of}
-use Rattle.ca_spice.specs.Views.{subcircuit_seen}
 use Rattle.ca_spice.proofs.CalledLemmas.{called_of_library}
-use Rattle.ca_flow.specs.declared.inputs.TheConstants.{MAX_CELLS}
+use Rattle.ca_load.specs.declared.cells.TheConstants.{MAX_CELLS}
+use Rattle.ca_load.specs.Texts.{IsLibraryOf}
 use Rattle.ca_flow.specs.Cells.{OfFile, HasCell, LacksCell, OfCell}
-
--- what holds of the bytes that were read holds of the file
-pub of_whole : (files : Option Files) (name bytes : List ℕ) (Holds : List ℕ → Type 0) → IsWhole files name MAX_CELLS bytes
-    → Holds bytes → OfFile files name Holds
-of_whole files name bytes Holds whole holds = λ told is. rw (whole.all told is) (whole.within, holds)
 
 -- what follows from the bytes' property holds of the file too
 pub of_file_then : (files : Option Files) (name : List ℕ) (P Q : List ℕ → Type 0) → ((bytes : List ℕ) → P bytes → Q bytes)
@@ -29,12 +22,12 @@ of_file_then files name P Q next held = λ told is. at (told name) (held told is
     at (Some bytes) (within, here) = (within, next bytes here)
 
 module _ (files : Option Files) (name word : List ℕ) (library : List Named)
-    (read : OfFile files name (λ bytes. library_of bytes ≡ Ok (map subcircuit_seen library))) where
+    (read : OfFile files name (IsLibraryOf library)) where
   -- what holds of an entry's subcircuit holds of the cell in the file
   pub of_entry : (entry : Entry) (Holds : RawCell → Type 0) → entry_of library (upper_case word) ≡ Some entry → Holds (raw_of entry)
       → OfCell files name word Holds
   of_entry entry Holds found holds = of_file_then files name _ (HasCell word Holds)
-      (λ bytes reads. rw (called_of_library bytes word library reads, found) holds) read
+      (λ bytes is. rw (called_of_library bytes word library is.reads, found) holds) read
 
   -- the same of an answer
   pub of_entry_answer : {T E : Type 0} (r : Result T E) (entry : Entry) (Holds : T → RawCell → Type 0)
@@ -46,4 +39,4 @@ module _ (files : Option Files) (name word : List ℕ) (library : List Named)
   -- a name that the library lacks
   pub of_none : entry_of library (upper_case word) ≡ None → OfFile files name (LacksCell word)
   of_none missing = of_file_then files name _ (LacksCell word)
-      (λ bytes reads. (rw reads refl, rw (called_of_library bytes word library reads, missing) refl)) read
+      (λ bytes is. (rw is.reads refl, rw (called_of_library bytes word library is.reads, missing) refl)) read

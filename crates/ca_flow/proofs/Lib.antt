@@ -1,12 +1,11 @@
 pub mod WordLemmas
 pub mod LineLemmas
-pub mod PieceLemmas
+pub mod ChipLemmas
 pub mod OutputLemmas
 pub mod FileLemmas
 pub mod CauseLemmas
 pub mod CompleteLemmas
 pub mod EndLemmas
-pub mod RuleLemmas
 pub mod ExactLemmas
 pub mod FitsLemmas
 pub mod NameLemmas

@@ -15,17 +15,18 @@ use Rattle.ca_spice.specs.declared.fault.SpiceFault.TheVariants as spice
 use Rattle.ca_spice.specs.Reading.{library_of}
 use Rattle.ca_spice.specs.Called.{cell_called}
 use Rattle.ca_spice.proofs.AnswerLemmas.{reading_has_memory}
-use Rattle.ca_flow.specs.declared.inputs.TheConstants.{MAX_CELLS}
-use Rattle.ca_flow.specs.declared.fault.LimitKind.TheVariants as limit
-use Rattle.ca_flow.specs.declared.fault.Fault.{Fault}
-use Rattle.ca_flow.specs.declared.fault.Fault.TheVariants.{Cells, NoCell, Cell, BadVector, NoDefect, TooLong, Limit}
-use Rattle.ca_flow.specs.Words.{cells_word, cell_word, vector_word, first_word, last_word, defect_word, dash, AsksNoFile, IsCommand}
+use Rattle.ca_load.specs.declared.cells.TheConstants.{MAX_CELLS}
+use Rattle.ca_load.specs.Causes.{IsTextCause}
+use Rattle.ca_fault.specs.declared.fault.LimitKind.TheVariants as limit
+use Rattle.ca_fault.specs.declared.fault.Fault.{Fault}
+use Rattle.ca_fault.specs.declared.fault.Fault.TheVariants.{Cells, NoCell, Cell, BadVector, NoDefect, TooLong, Limit}
+use Rattle.ca_flow.specs.Words.{cells_word, cell_word, vector_word, first_word, last_word, defect_word, dash, IsCheck, AsksNoFile, IsOnCell, IsCommand}
 use Rattle.ca_flow.specs.Outputs.{letters_of, Fits, asked_network}
 use Rattle.ca_flow.specs.Cells.{OfFile, HasCell, LacksCell, OfCell}
-use Rattle.ca_flow.specs.Fault.{Outside, IsTextCause, IsPairCause, IsVectorCause, IsCellCause, IsCause}
+use Rattle.ca_flow.specs.Fault.{Outside, IsPairCause, IsVectorCause, IsCellCause, IsCause}
 use Rattle.ca_flow.specs.Complete.{FitsCell, IsAnswerable}
 use Rattle.ca_flow.specs.Laws.{IsInputFault, TellsFile, HasInputCause}
-use Rattle.ca_flow.proofs.ExactLemmas.{IsOnCell, on_cell, respond_or_pair}
+use Rattle.ca_flow.proofs.ExactLemmas.{respond_or_pair}
 use Rattle.ca_flow.proofs.FitsLemmas.{respond_or_defects, pair_or_defects, pair_or_matrix, respond_or_matrix}
 
 -- a reading or a fault
@@ -61,7 +62,7 @@ module _ (words : List (List ℕ)) (bytes : List ℕ) (outside : Outside) (told 
       by (inl respond) = inr (inl (inl (respond, inl cause)))
       by (inr (inl pair)) = inr (inl (inr (inl (pair, inl cause))))
       by (inr (inr (inl defects))) = inr (inl (inr (inr (inl (defects, cause)))))
-      by (inr (inr (inr matrix))) = inr (inl (inr (inr (inr (matrix, cause)))))
+      by (inr (inr (inr matrix))) = inr (inl (inr (inr (inr (inl (matrix, cause))))))
 
   too_long : MAX_CELLS < length bytes → Stands words outside
   too_long past = cell_cause (TooLong (cells_word words) (MAX_CELLS + 1)) tt (inl (inl (
@@ -103,7 +104,7 @@ module _ (words : List (List ℕ)) (bytes : List ℕ) (outside : Outside) (told 
       fits : FitsCell words raw → Stands words outside
       fits held =
           let has : HasCell (cell_word words) (FitsCell words) bytes = rw called held in
-          inl (inr (rw (are, there) (within, has)))
+          inl (inr (rw (are, there) (inl (within, has))))
 
       breaks : (rule : CellRule) → IsFirstBroken raw rule → Stands words outside
       breaks rule first = cell_cause (Cell (upper_case (cell_word words)) rule) tt (inr (refl, of_cell (λ raw. IsFirstBroken raw rule) first))
@@ -139,7 +140,7 @@ module _ (words : List (List ℕ)) (bytes : List ℕ) (outside : Outside) (told 
           by : IsOnCell words → Stands words outside
           by (inl respond) = values kept (vector_word words) (vector_word words) dash
               (λ first last some. fits (record {
-                is = on_cell words (inl respond);
+                is = (inl respond);
                 kept = kept;
                 respond = λ _. first;
                 pair = λ pair. absurd (respond_or_pair words respond pair);
@@ -147,20 +148,20 @@ module _ (words : List (List ℕ)) (bytes : List ℕ) (outside : Outside) (told 
               (λ fault is cause. inr (fault, (is, inr (inl (inl (respond, inr cause))))))
           by (inr (inl pair)) = values kept (first_word words) (last_word words) (defect_word words)
               (λ first last some. fits (record {
-                is = on_cell words (inr (inl pair));
+                is = (inr (inl pair));
                 kept = kept;
                 respond = λ respond. absurd (respond_or_pair words respond pair);
                 pair = λ _. record { first = first; last = last; defect = some };
               }))
               (λ fault is cause. inr (fault, (is, inr (inl (inr (inl (pair, inr cause)))))))
           by (inr (inr (inl defects))) = fits (record {
-            is = on_cell words (inr (inr (inl defects)));
+            is = (inr (inr (inl defects)));
             kept = kept;
             respond = λ respond. absurd (respond_or_defects words respond defects);
             pair = λ pair. absurd (pair_or_defects words pair defects);
           })
           by (inr (inr (inr matrix))) = fits (record {
-            is = on_cell words (inr (inr (inr matrix)));
+            is = (inr (inr (inr matrix)));
             kept = kept;
             respond = λ respond. absurd (respond_or_matrix words respond matrix);
             pair = λ pair. absurd (pair_or_matrix words pair matrix);
@@ -183,17 +184,15 @@ module _ (words : List (List ℕ)) (bytes : List ℕ) (outside : Outside) (told 
   stands : Stands words outside
   stands = elim (dec_le (length bytes) MAX_CELLS) [ yes within ↦ at_bytes within | no past ↦ too_long (omega (arith, past)) ]
 
-of_command : (words : List (List ℕ)) → IsCommand words → IsOnCell words ⊎ AsksNoFile words
-of_command words (inl respond) = inl (inl respond)
-of_command words (inr (inl pair)) = inl (inr (inl pair))
-of_command words (inr (inr (inl defects))) = inl (inr (inr (inl defects)))
-of_command words (inr (inr (inr (inl matrix)))) = inl (inr (inr (inr matrix)))
-of_command words (inr (inr (inr (inr asks)))) = inr asks
+of_command : (words : List (List ℕ)) → ¬ (IsCheck words) → IsCommand words → IsOnCell words ⊎ AsksNoFile words
+of_command words not_check (inl on) = inl on
+of_command words not_check (inr (inl check)) = absurd (not_check check)
+of_command words not_check (inr (inr asks)) = inr asks
 
 -- a command on a cell whose file is there can be answered, or a fault of input has a cause
-pub some_cause : (words : List (List ℕ)) (bytes : List ℕ) (outside : Outside) → TellsFile words (Some bytes) outside → IsCommand words
+pub some_cause : (words : List (List ℕ)) (bytes : List ℕ) (outside : Outside) → TellsFile words (Some bytes) outside → ¬ (IsCheck words) → IsCommand words
     → IsAnswerable words outside.files ⊎ HasInputCause words outside
-some_cause words bytes outside tells command = by_command (of_command words command)
+some_cause words bytes outside tells not_check command = by_command (of_command words not_check command)
   where
     by : IsOnCell words → (files : Option Files) → outside.files ≡ files
         → IsSomeAnd files (λ told. told (cells_word words) ≡ Some bytes) → Stands words outside

@@ -1,9 +1,9 @@
 -- What the program answers.
 use Rattle.std.specs.Prelude.{◌≡◌, ◌⊎◌, ℕ, List, Option, Some, None}
 use Rattle.ca_store.specs.Store.{Rose, appended, AppendsPart}
-use Rattle.ca_flow.specs.declared.fault.Fault.{Fault}
+use Rattle.ca_fault.specs.declared.fault.Fault.{Fault}
 use Rattle.ca_flow.specs.declared.finished.Finished.{Finished}
-use Rattle.ca_flow.specs.FaultLine.{line_of}
+use Rattle.ca_fault.specs.FaultLine.{line_of}
 use Rattle.ca_flow.specs.Fault.{Outside}
 use Rattle.ca_flow.specs.Ends.{Ends}
 

@@ -1,19 +1,19 @@
 -- What a name finds in the file of a cell netlist.
-use Rattle.std.specs.Prelude.{◌≤◌, ℕ, List, length, Option, IsOk, IsNone, IsSomeAnd}
-use Rattle.std.specs.Option.{ForSome}
+use Rattle.std.specs.Prelude.{ℕ, List, Option, IsOk, IsNone, IsSomeAnd}
 use Rattle.ca_store.specs.Store.{Files}
 use Rattle.ca_cell.specs.declared.raw.RawCell.{RawCell}
 use Rattle.ca_spice.specs.Reading.{library_of}
 use Rattle.ca_spice.specs.Called.{cell_called}
-use Rattle.ca_flow.specs.declared.inputs.TheConstants.{MAX_CELLS}
+use Rattle.ca_load.specs.declared.cells.TheConstants.{MAX_CELLS}
+use Rattle.ca_load.specs.Files as files
 
 -- the file of this name is there and no longer than a cell netlist may be, and this holds of its bytes
 abbrev pub IsFileWith : Files → List ℕ → (List ℕ → Type 0) → Type 0
-IsFileWith told name Holds = IsSomeAnd (told name) (λ bytes. (length bytes ≤ MAX_CELLS) × Holds bytes)
+IsFileWith told name Holds = files.IsFileWith told name MAX_CELLS Holds
 
 -- the same, where the files are told
 abbrev pub OfFile : Option Files → List ℕ → (List ℕ → Type 0) → Type 0
-OfFile files name Holds = ForSome files (λ told. IsFileWith told name Holds)
+OfFile told name Holds = files.OfFile told name MAX_CELLS Holds
 
 -- the text has a reading, in which the word names a subcircuit of which this holds
 abbrev pub HasCell : List ℕ → (RawCell → Type 0) → List ℕ → Type 0

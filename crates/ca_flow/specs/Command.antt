@@ -1,11 +1,13 @@
 -- The command that words spell.
 use Rattle.std.specs.Prelude.{◌≡◌, ℕ, List}
+use Rattle.ca_load.specs.declared.loading.FileNames.{FileNames}
+use Rattle.ca_load.specs.Texts.{names_of}
 use Rattle.ca_flow.specs.declared.words.CellWords.{CellWords}
 use Rattle.ca_flow.specs.declared.words.PairWords.{PairWords}
 use Rattle.ca_flow.specs.declared.words.MatrixWords.{MatrixWords}
 use Rattle.ca_flow.specs.declared.words.Command.{Command}
-use Rattle.ca_flow.specs.declared.words.Command.TheVariants.{Respond, Pair, Defects, Matrix, Help, Version}
-use Rattle.ca_flow.specs.Words.{cells_word, cell_word, vector_word, first_word, last_word, defect_word, out_word, dash, IsRespond, IsPair, IsDefects, IsMatrix, IsHelp, IsVersion}
+use Rattle.ca_flow.specs.declared.words.Command.TheVariants.{Respond, Pair, Defects, Matrix, Check, Help, Version}
+use Rattle.ca_flow.specs.Words.{cells_word, cell_word, vector_word, first_word, last_word, defect_word, out_word, dash, chip_files, IsRespond, IsPair, IsDefects, IsMatrix, IsCheck, IsHelp, IsVersion}
 
 -- the file and the cell of a command are those of the words
 pub record HasCellWords (words : List (List ℕ)) (request : CellWords) : Type 0 where
@@ -39,11 +41,17 @@ pub record IsSpelledMatrix (words : List (List ℕ)) (request : MatrixWords) : T
   pub of : HasCellWords words request.of
   pub out : request.out.now ≡ out_word words
 
+-- the words are these of `check`
+pub record IsSpelledCheck (words : List (List ℕ)) (names : FileNames) : Type 0 where
+  pub is : IsCheck words
+  pub files : names_of names ≡ chip_files words
+
 -- the words spell the command
 abbrev pub IsSpelled : List (List ℕ) → Command → Type 0
 IsSpelled words (Respond request) = IsSpelledRespond words request
 IsSpelled words (Pair request) = IsSpelledPair words request
 IsSpelled words (Defects request) = IsSpelledDefects words request
 IsSpelled words (Matrix request) = IsSpelledMatrix words request
+IsSpelled words (Check names) = IsSpelledCheck words names
 IsSpelled words Help = IsHelp words
 IsSpelled words Version = IsVersion words

@@ -3,9 +3,11 @@ use Rattle.std.specs.Prelude.{◌≡◌, ◌⊎◌, ℕ, List, Option, Some, IsS
 use Rattle.ca_store.specs.Store.{Files, Rose}
 use Rattle.ca_cell.specs.declared.raw.RawCell.{RawCell}
 use Rattle.ca_cell.specs.Rules.{KeepsRules}
-use Rattle.ca_flow.specs.declared.fault.Fault.TheVariants.{NoMemory}
+use Rattle.ca_fault.specs.declared.fault.Fault.TheVariants.{NoMemory}
 use Rattle.ca_flow.specs.declared.finished.Finished.{Finished}
-use Rattle.ca_flow.specs.Words.{cells_word, cell_word, vector_word, first_word, last_word, defect_word, IsRespond, IsPair, AsksNoFile, IsCommand}
+use Rattle.ca_load.specs.Texts.{Inputs, ReadAs}
+use Rattle.ca_load.specs.Chips.{GiveChip}
+use Rattle.ca_flow.specs.Words.{cells_word, cell_word, vector_word, first_word, last_word, defect_word, chip_files, IsRespond, IsPair, IsCheck, AsksNoFile, IsOnCell}
 use Rattle.ca_flow.specs.Outputs.{Fits, asked_network}
 use Rattle.ca_flow.specs.Cells.{IsFileWith, HasCell}
 use Rattle.ca_flow.specs.Fault.{Outside}
@@ -16,9 +18,9 @@ pub record FitsPair (words : List (List ℕ)) (raw : RawCell) : Type 0 where
   pub last : Fits raw (last_word words)
   pub defect : IsSome (asked_network raw (defect_word words))
 
--- the words are those of a command, its cell keeps the rules of a used cell, and its own words fit the cell
+-- the words are those of a command on one cell, its cell keeps the rules of a used cell, and its own words fit the cell
 pub record FitsCell (words : List (List ℕ)) (raw : RawCell) : Type 0 where
-  pub is : IsCommand words
+  pub is : IsOnCell words
   pub kept : KeepsRules raw
   pub respond : IsRespond words → Fits raw (vector_word words)
   pub pair : IsPair words → FitsPair words raw
@@ -28,9 +30,17 @@ pub record FitsCell (words : List (List ℕ)) (raw : RawCell) : Type 0 where
 abbrev pub FitsFile : List (List ℕ) → Files → Type 0
 FitsFile words told = IsFileWith told (cells_word words) (HasCell (cell_word words) (FitsCell words))
 
--- the words ask for no file, or the files are told and the words fit the file that they name
+-- the words are those of a command on a chip, and the files that they name are there, are no longer than they may
+-- be, and read as what gives a chip with chains
+pub record FitsChip (words : List (List ℕ)) (told : Files) : Type 0 where
+  pub is : IsCheck words
+  pub inputs : Inputs
+  pub read : ReadAs (chip_files words) inputs told
+  pub gives : GiveChip inputs
+
+-- the words ask for no file, or the files are told and the words fit those that they name
 abbrev pub IsAnswerable : List (List ℕ) → Option Files → Type 0
-IsAnswerable words files = AsksNoFile words ⊎ IsSomeAnd files (FitsFile words)
+IsAnswerable words files = AsksNoFile words ⊎ IsSomeAnd files (λ told. FitsFile words told ⊎ FitsChip words told)
 
 -- where no call of the store or the sink failed, a command that can be answered does its work, or there was no memory
 abbrev pub Completes : List (List ℕ) → Outside → Outside → Finished → Type 0

@@ -1,32 +1,24 @@
 -- How a command ends.
-use Rattle.std.specs.Prelude.{◌≡◌, ◌<◌, ◌≤◌, ℕ, List, Option, IsSomeAnd, IfSome, ⊤}
+use Rattle.std.specs.Prelude.{◌≡◌, ℕ, List, Option, IfSome}
 use Rattle.ca_store.specs.Store.{Files}
 use Rattle.ca_cell.specs.declared.raw.RawCell.{RawCell}
 use Rattle.ca_cell.specs.Rules.{KeepsRules}
 use Rattle.ca_defect.specs.Name.{names_of}
 use Rattle.ca_matrix.specs.Matrix.{Entries}
 use Rattle.ca_matrix.specs.Built.{IsMatrixOf}
-use Rattle.ca_flow.specs.declared.fault.Fault.{Fault}
-use Rattle.ca_flow.specs.declared.fault.Fault.TheVariants.{StoreFailed}
+use Rattle.ca_scan.specs.ChainFault.{AreAllChains}
+use Rattle.ca_load.specs.Files.{TellsStoreFault}
+use Rattle.ca_load.specs.Texts.{OfInputs}
+use Rattle.ca_load.specs.Chips.{IsChipOf}
 use Rattle.ca_flow.specs.declared.finished.Done.{Done}
-use Rattle.ca_flow.specs.declared.finished.Done.TheVariants.{Respond, Pair, Defects, Matrix, Help, Version}
+use Rattle.ca_flow.specs.declared.finished.Done.TheVariants.{Respond, Pair, Defects, Matrix, Check, Help, Version}
 use Rattle.ca_flow.specs.declared.finished.Finished.{Finished}
-use Rattle.ca_flow.specs.Words.{cells_word, cell_word, vector_word, first_word, last_word, defect_word, dash, IsRespond, IsPair, IsDefects, IsMatrix, IsHelp, IsVersion}
+use Rattle.ca_flow.specs.Words.{cells_word, cell_word, vector_word, first_word, last_word, defect_word, dash, chip_files, IsRespond, IsPair, IsDefects, IsMatrix, IsCheck, IsHelp, IsVersion}
 use Rattle.ca_flow.specs.Outputs.{AreValues}
 use Rattle.ca_flow.specs.Finished.{IsAnswer, Prints, Writes, TellsSinkFault}
 use Rattle.ca_flow.specs.Cells.{OfCell}
 use Rattle.ca_flow.specs.Fault.{Outside, IsCause}
 use Rattle.ca_flow.specs.Complete.{Completes}
-
--- the fault is that of a file
-abbrev pub IsStoreFault : Fault → Type 0
-IsStoreFault (StoreFailed name) = ⊤
-IsStoreFault _ = ⊥
-
--- where the store's count of faults rose, the answer says so, and the count never falls
-pub record TellsStoreFault (fault : Option Fault) (before after : ℕ) : Type 0 where
-  pub told : before < after → IsSomeAnd fault IsStoreFault
-  pub later : before ≤ after
 
 -- the names are those of the defects of a subcircuit that keeps the rules of a used cell, in their order
 abbrev pub AreDefectNames : List (List ℕ) → RawCell → Type 0
@@ -36,7 +28,8 @@ AreDefectNames names raw = KeepsRules raw × (names ≡ names_of raw)
 abbrev pub IsSoundMatrix : Entries → RawCell → Type 0
 IsSoundMatrix matrix raw = KeepsRules raw × IsMatrixOf raw matrix
 
--- the work that is told is that of the command, on the cell that the words name in the file that they name
+-- the work that is told is that of the command, on the cell that the words name in the file that they name, or on the chip
+-- that their files give
 abbrev pub IsAsked : List (List ℕ) → Option Files → Done → Type 0
 IsAsked words files (Respond values) = IsRespond words × OfCell files (cells_word words) (cell_word words)
     (AreValues (vector_word words) (vector_word words) dash values)
@@ -44,6 +37,8 @@ IsAsked words files (Pair values) = IsPair words × OfCell files (cells_word wor
     (AreValues (first_word words) (last_word words) (defect_word words) values)
 IsAsked words files (Defects names) = IsDefects words × OfCell files (cells_word words) (cell_word words) (AreDefectNames names)
 IsAsked words files (Matrix matrix) = IsMatrix words × OfCell files (cells_word words) (cell_word words) (IsSoundMatrix matrix)
+IsAsked words files (Check chip chains) =
+    IsCheck words × (AreAllChains chip chains × OfInputs files (chip_files words) (λ inputs. IsChipOf inputs chip))
 IsAsked words files Help = IsHelp words
 IsAsked words files Version = IsVersion words
 

@@ -1,19 +1,15 @@
 -- Why a command is refused: each stage of a command has its own causes, and a command's are those of its stages.
-use Rattle.std.specs.Prelude.{◌≡◌, ◌≢◌, ◌⊎◌, ℕ, List, Option, Err, IsNone, ⊤}
-use Rattle.ca_store.specs.Store.{Files, MayHave, Rose}
-use Rattle.ca_store.specs.ReadFault.{IsTooLong}
+use Rattle.std.specs.Prelude.{◌≡◌, ◌≢◌, ◌⊎◌, ℕ, List, Option, IsNone, ⊤}
+use Rattle.ca_store.specs.Store.{Files, Rose}
 use Rattle.ca_lex.specs.Words.{upper_case}
 use Rattle.ca_cell.specs.declared.raw.RawCell.{RawCell}
 use Rattle.ca_cell.specs.Rules.{KeepsRules, IsFirstBroken}
-use Rattle.ca_spice.specs.declared.fault.SpiceFault.TheVariants as spice
-use Rattle.ca_spice.specs.Reading.{library_of}
-use Rattle.ca_flow.specs.declared.inputs.TheConstants.{MAX_CELLS}
-use Rattle.ca_flow.specs.declared.fault.LimitKind.TheVariants as limit
-use Rattle.ca_flow.specs.declared.fault.Fault.{Fault}
-use Rattle.ca_flow.specs.declared.fault.Fault.TheVariants.{BadWords, Cells, NoCell, Cell, BadVector, NoDefect, TooLong, Limit, StoreFailed, SinkFailed, NoMemory}
+use Rattle.ca_fault.specs.declared.fault.Fault.{Fault}
+use Rattle.ca_fault.specs.declared.fault.Fault.TheVariants.{BadWords, NoCell, Cell, BadVector, NoDefect, StoreFailed, SinkFailed, NoMemory}
+use Rattle.ca_load.specs.Causes.{IsLibraryCause, IsLoadCause}
 use Rattle.ca_flow.specs.Cells.{OfFile, OfCell, LacksCell}
 use Rattle.ca_flow.specs.Outputs.{Fits, asked_network}
-use Rattle.ca_flow.specs.Words.{cells_word, cell_word, vector_word, first_word, last_word, defect_word, out_word, dash, IsRespond, IsPair, IsDefects, IsMatrix, IsCommand}
+use Rattle.ca_flow.specs.Words.{cells_word, cell_word, vector_word, first_word, last_word, defect_word, out_word, dash, chip_files, IsRespond, IsPair, IsDefects, IsMatrix, IsCheck, IsCommand}
 
 -- what is seen of a store and a sink: the files and the bytes that the sink holds, where they are told, and how often each failed
 pub record Outside : Type 0 where
@@ -21,30 +17,6 @@ pub record Outside : Type 0 where
   pub store_faults : ℕ
   pub sink_faults : ℕ
   pub bytes : Option (List ℕ)
-
--- why the file of this name could not be read up to a limit, with the store's count of faults before and after
-abbrev pub IsReadCause : List ℕ → Option Files → ℕ → ℕ → ℕ → Fault → Type 0
-IsReadCause name files limit before after (TooLong word taken) = (word ≡ name) × IsTooLong files name limit taken before after
-IsReadCause name files limit before after (StoreFailed word) = (word ≡ name) × (MayHave files name → Rose before after)
-IsReadCause name files limit before after NoMemory = ⊤
-IsReadCause name files limit before after _ = ⊥
-
--- why the text of a cell netlist has no reading: its first faulty line, or its number of subcircuits where these are too many
-abbrev pub IsTextCause : Fault → List ℕ → Type 0
-IsTextCause (Cells line kind) bytes = library_of bytes ≡ Err (spice.At line kind)
-IsTextCause (Limit limit.Cells count) bytes = library_of bytes ≡ Err (spice.TooManyCells count)
-IsTextCause _ bytes = ⊥
-
--- the same of a file
-abbrev pub IsCellsCause : List ℕ → Option Files → Fault → Type 0
-IsCellsCause name files (Cells line kind) = OfFile files name (IsTextCause (Cells line kind))
-IsCellsCause name files (Limit kind count) = OfFile files name (IsTextCause (Limit kind count))
-IsCellsCause name files _ = ⊥
-
--- why a file gives no library: it could not be read, or its text has no reading
-abbrev pub IsLibraryCause : List ℕ → Option Files → ℕ → ℕ → Fault → Type 0
-IsLibraryCause name files before after fault =
-    IsReadCause name files MAX_CELLS before after fault ⊎ IsCellsCause name files fault
 
 -- why a word finds no cell in a file: it names none, or one that breaks a rule, the first of those that it breaks
 abbrev pub IsNameCause : List ℕ → List ℕ → Option Files → Fault → Type 0
@@ -106,7 +78,8 @@ IsWorkCause words files before after fault =
     (IsRespond words × IsValueCause (cells_word words) (cell_word words) (vector_word words) (vector_word words) dash files before after fault)
     ⊎ ((IsPair words × IsValueCause (cells_word words) (cell_word words) (first_word words) (last_word words) (defect_word words) files before after fault)
     ⊎ ((IsDefects words × IsCellCause (cells_word words) (cell_word words) files before after fault)
-    ⊎ (IsMatrix words × IsCellCause (cells_word words) (cell_word words) files before after fault)))
+    ⊎ ((IsMatrix words × IsCellCause (cells_word words) (cell_word words) files before after fault)
+    ⊎ (IsCheck words × IsLoadCause (chip_files words) files before after fault))))
 
 -- why a command of these words was refused
 abbrev pub IsCause : List (List ℕ) → Outside → Outside → Fault → Type 0

@@ -5,13 +5,13 @@ use Rattle.std.specs.Option.{ForSome}
 use Rattle.ca_store.specs.Store.{Files, appended, AppendsPart}
 use Rattle.ca_store.specs.Writing.{ChangesOnly, MayWrite}
 use Rattle.ca_matrix.specs.Text.{text_of}
-use Rattle.ca_flow.specs.declared.fault.Fault.{Fault}
-use Rattle.ca_flow.specs.declared.fault.Fault.TheVariants.{StoreFailed, SinkFailed}
+use Rattle.ca_fault.specs.declared.fault.Fault.{Fault}
+use Rattle.ca_fault.specs.declared.fault.Fault.TheVariants.{StoreFailed, SinkFailed}
 use Rattle.ca_flow.specs.declared.finished.Done.{Done}
-use Rattle.ca_flow.specs.declared.finished.Done.TheVariants.{Respond, Pair, Defects, Matrix, Help, Version}
+use Rattle.ca_flow.specs.declared.finished.Done.TheVariants.{Respond, Pair, Defects, Matrix, Check, Help, Version}
 use Rattle.ca_flow.specs.declared.finished.Finished.{Finished}
-use Rattle.ca_flow.specs.FaultLine.{status_of}
-use Rattle.ca_flow.specs.Lines.{line_of_pin, line_of_name, IsSummary}
+use Rattle.ca_fault.specs.FaultLine.{status_of}
+use Rattle.ca_flow.specs.Lines.{line_of_pin, line_of_name, IsSummary, check_text}
 use Rattle.ca_flow.specs.Usage.{usage_text, version_text}
 use Rattle.ca_flow.specs.Words.{out_word, IsMatrix}
 
@@ -21,6 +21,7 @@ IsTold (Respond values) text = text ≡ flat_map line_of_pin values
 IsTold (Pair values) text = text ≡ flat_map line_of_pin values
 IsTold (Defects names) text = text ≡ flat_map line_of_name names
 IsTold (Matrix matrix) text = IsSummary matrix text
+IsTold (Check chip chains) text = text ≡ check_text chip chains
 IsTold Help text = text ≡ usage_text
 IsTold Version text = text ≡ version_text
 
@@ -54,6 +55,7 @@ abbrev pub LeavesFiles : List (List ℕ) → Option Fault → Option Files → O
 LeavesFiles words fault old new (Respond values) = new ≡ old
 LeavesFiles words fault old new (Pair values) = new ≡ old
 LeavesFiles words fault old new (Defects names) = new ≡ old
+LeavesFiles words fault old new (Check chip chains) = new ≡ old
 LeavesFiles words fault old new Help = new ≡ old
 LeavesFiles words fault old new Version = new ≡ old
 LeavesFiles words fault old new (Matrix matrix) =

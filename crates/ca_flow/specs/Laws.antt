@@ -4,11 +4,13 @@ use Rattle.ca_cell.specs.declared.raw.RawCell.{RawCell}
 use Rattle.ca_cell.specs.Rules.{KeepsRules}
 use Rattle.ca_defect.specs.Laws.{DefectsDiffer}
 use Rattle.ca_spice.specs.Called.{cell_called}
-use Rattle.ca_flow.specs.declared.inputs.TheConstants.{MAX_CELLS}
-use Rattle.ca_flow.specs.declared.fault.Fault.{Fault}
-use Rattle.ca_flow.specs.declared.fault.Fault.TheVariants.{BadWords, Cells, NoCell, Cell, BadVector, NoDefect, TooLong, Limit, StoreFailed, SinkFailed, NoMemory}
+use Rattle.ca_load.specs.declared.cells.TheConstants.{MAX_CELLS}
+use Rattle.ca_load.specs.declared.netlists.TheConstants.{MAX_NETLIST}
+use Rattle.ca_load.specs.declared.tables.TheConstants.{MAX_SCAN}
+use Rattle.ca_fault.specs.declared.fault.Fault.{Fault}
+use Rattle.ca_fault.specs.declared.fault.Fault.TheVariants.{BadWords, Cells, Netlist, Scan, Chip, Chain, NoCell, Cell, BadVector, NoInstance, NoDefect, TooLong, Limit, StoreFailed, SinkFailed, NoMemory}
 use Rattle.ca_flow.specs.declared.finished.Finished.{Finished}
-use Rattle.ca_flow.specs.Words.{cells_word, IsCommand}
+use Rattle.ca_flow.specs.Words.{cells_word, IsCheck, IsCommand}
 use Rattle.ca_flow.specs.Fault.{Outside, IsCause}
 use Rattle.ca_flow.specs.Complete.{IsAnswerable}
 use Rattle.ca_flow.specs.Ends.{Ends}
@@ -17,9 +19,14 @@ use Rattle.ca_flow.specs.Ends.{Ends}
 abbrev pub IsInputFault : Fault → Type 0
 IsInputFault BadWords = ⊤
 IsInputFault (Cells line kind) = ⊤
+IsInputFault (Netlist line kind) = ⊤
+IsInputFault (Scan row) = ⊤
+IsInputFault (Chip rule) = ⊤
+IsInputFault (Chain name) = ⊤
 IsInputFault (NoCell word) = ⊤
 IsInputFault (Cell cell rule) = ⊤
 IsInputFault (BadVector word) = ⊤
+IsInputFault (NoInstance word) = ⊤
 IsInputFault (NoDefect word) = ⊤
 IsInputFault (TooLong name taken) = ⊤
 IsInputFault (Limit kind count) = ⊤
@@ -31,11 +38,11 @@ IsInputFault NoMemory = ⊥
 abbrev pub TellsFile : List (List ℕ) → Option (List ℕ) → Outside → Type 0
 TellsFile words file outside = IsSomeAnd outside.files (λ told. told (cells_word words) ≡ file)
 
--- of one list of words and one file no two faults of input have a cause, whatever else the store holds and
--- however often calls failed
+-- of one list of words, of any but a command on a chip, and one file no two faults of input have a cause, whatever
+-- else the store holds and however often calls failed
 abbrev pub HasOneCause : List (List ℕ) → Option (List ℕ) → Type 0
 HasOneCause words file =
-    (before after again later : Outside) (fault other : Fault)
+    ¬ (IsCheck words) → (before after again later : Outside) (fault other : Fault)
     → TellsFile words file before → TellsFile words file again → IsInputFault fault → IsInputFault other
     → IsCause words before after fault → IsCause words again later other → fault ≡ other
 
@@ -49,18 +56,18 @@ AnswerableHasNoCause =
 abbrev pub HasInputCause : List (List ℕ) → Outside → Type 0
 HasInputCause words outside = (fault : Fault) × (IsInputFault fault × IsCause words outside outside fault)
 
--- a command whose file is there can be answered, or a fault of input has a cause
+-- a command, but one on a chip, whose file is there can be answered, or a fault of input has a cause
 abbrev pub SomeCauseOrAnswer : Type 0
 SomeCauseOrAnswer =
     (words : List (List ℕ)) (bytes : List ℕ) (outside : Outside) → TellsFile words (Some bytes) outside
-    → IsCommand words → IsAnswerable words outside.files ⊎ HasInputCause words outside
+    → ¬ (IsCheck words) → IsCommand words → IsAnswerable words outside.files ⊎ HasInputCause words outside
 
--- a command of whose words and file a fault of input has a cause ends with this fault, or with one of the
--- store, the output or memory
+-- a command, but one on a chip, of whose words and file a fault of input has a cause ends with this fault, or with
+-- one of the store, the output or memory
 abbrev pub CauseIsTold : Type 0
 CauseIsTold =
     (words : List (List ℕ)) (file : Option (List ℕ)) (before after : Outside) (end : Finished) (fault : Fault)
-    → TellsFile words file before → Ends words before after end → IsInputFault fault
+    → ¬ (IsCheck words) → TellsFile words file before → Ends words before after end → IsInputFault fault
     → IsCause words before after fault → IsSomeAnd end.fault (λ told. IsInputFault told → told ≡ fault)
 
 -- of each cell that a word names in a text, and that keeps the rules, the defects have names that differ
@@ -69,6 +76,6 @@ NamesMeanOneDefect =
     (bytes word : List ℕ) (raw : RawCell) → cell_called bytes word ≡ Some raw → KeepsRules raw
     → DefectsDiffer raw
 
--- a cell netlist has at most 16 MiB
+-- a cell netlist has at most 16 MiB, a gate netlist 64 MiB, and a table of scan cells 1 MiB
 abbrev pub SizeIsLimited : Type 0
-SizeIsLimited = MAX_CELLS ≡ 16777216
+SizeIsLimited = (MAX_CELLS ≡ 16777216) × ((MAX_NETLIST ≡ 67108864) × (MAX_SCAN ≡ 1048576))

@@ -1,6 +1,5 @@
 pub mod Words
 pub mod Command
-pub mod FaultLine
 pub mod Lines
 pub mod Usage
 pub mod Finished

@@ -1,5 +1,13 @@
 -- The lines that tell the work of a command.
-use Rattle.std.specs.Prelude.{ℕ, ◌≡◌, List, ◌∷◌, ◌++◌, length, codes, decimal}
+use Rattle.std.specs.Prelude.{ℕ, ◌≡◌, List, [], ◌∷◌, ◌++◌, length, codes, decimal, Option, Some, None, slice_get}
+use Rattle.std.specs.List.{sum_by}
+use Rattle.ca_cell.specs.declared.raw.RawCell.{RawCell}
+use Rattle.ca_cell.specs.Nodes.{defect_count}
+use Rattle.ca_wired.specs.declared.parts.Body.{Body}
+use Rattle.ca_wired.specs.declared.parts.Body.TheVariants.{Gate, Scan}
+use Rattle.ca_wired.specs.declared.parts.Part.{Part}
+use Rattle.ca_wired.specs.Linked.{Chip, cell_of, inputs_of, outputs_of}
+use Rattle.ca_wired.specs.Instances.{gates_of, scans_of}
 use Rattle.ca_net.specs.Trit.{letter_of}
 use Rattle.ca_matrix.specs.Matrix.{Entries, shape_of, record_count}
 use Rattle.ca_matrix.specs.Showing.{IsNumberOf, IsShownDefect}
@@ -24,3 +32,31 @@ pub record IsSummary (matrix : Entries) (text : List ℕ) : Type 0 where
   pub exposable : ℕ
   pub counted : IsNumberOf (IsShownDefect matrix) exposable
   pub is : text ≡ summary_text (length matrix.defects) exposable (record_count (shape_of matrix))
+
+-- the number of defects of an instance: of the cell of a library instance, and none of a scan instance
+abbrev pub body_defects : List RawCell → Body → ℕ
+body_defects cells (Gate cell inputs outputs) = defect_count (cell_of cells cell)
+body_defects cells (Scan nets) = 0
+
+abbrev pub part_defects : List RawCell → Option Part → ℕ
+part_defects cells None = 0
+part_defects cells (Some part) = body_defects cells part.body
+
+-- the number of defects of a chip: those of the cells of its library instances, taken together
+abbrev pub chip_defects : Chip → ℕ
+chip_defects chip = sum_by (λ u. part_defects chip.cells (slice_get chip.parts u)) (gates_of chip)
+
+-- the text with a label and a number behind it
+abbrev pub with_count : List ℕ → List ℕ → ℕ → List ℕ
+with_count text label count = (text ++ label) ++ decimal count
+
+-- the line that tells how many library instances, scan instances, inputs, observed outputs, chains and defects a
+-- chip has
+abbrev pub check_text : Chip → List (List ℕ) → List ℕ
+check_text chip chains =
+    let instances = with_count [] (codes "instances ") (length (gates_of chip)) in
+    let scan = with_count instances (codes ", scan ") (length (scans_of chip)) in
+    let inputs = with_count scan (codes ", inputs ") (length (inputs_of chip)) in
+    let outputs = with_count inputs (codes ", outputs ") (length (outputs_of chip)) in
+    let all = with_count outputs (codes ", chains ") (length chains) in
+    with_count all (codes ", defects ") (chip_defects chip) ++ codes "\n"

@@ -1,4 +1,4 @@
--- Why a stage of a command fails, over what it was handed: a text, a library, a cell.
+-- Why a stage of a command on one cell fails, over what it was handed: a library, a cell.
 use Rattle.std.specs.Prelude.{◌≡◌, ◌⊎◌, ℕ, List, Some, None, ⊤}
 use Rattle.ca_lex.specs.Words.{upper_case}
 use Rattle.ca_cell.specs.declared.raw.RawCell.{RawCell}
@@ -7,20 +7,16 @@ use Rattle.ca_cell.specs.declared.library.Entry.TheVariants.{Refused}
 use Rattle.ca_cell.specs.Library.{Named, entry_of}
 use Rattle.ca_cell.specs.Rules.{KeepsRules, IsFirstBroken}
 use Rattle.ca_flow.specs.declared.inputs.TypedWords.{TypedWords}
-use Rattle.ca_flow.specs.declared.fault.Fault.{Fault}
-use Rattle.ca_flow.specs.declared.fault.Fault.TheVariants.{NoCell, Cell, BadVector, NoMemory}
+use Rattle.ca_fault.specs.declared.fault.Fault.{Fault}
+use Rattle.ca_fault.specs.declared.fault.Fault.TheVariants.{NoCell, Cell, BadVector, NoMemory}
 use Rattle.ca_flow.specs.Outputs.{Fits}
-use Rattle.ca_flow.specs.Fault.{IsTextCause, IsPairCause}
+use Rattle.ca_flow.specs.Fault.{IsPairCause}
 
 -- the words of a file and a cell as they were typed, and the cell's also in upper case
 pub record AreTyped (cells cell : List ℕ) (typed : TypedWords) : Type 0 where
   pub cells_is : typed.cells ≡ cells
   pub cell_is : typed.cell ≡ cell
   pub upper_is : typed.upper_cell ≡ upper_case cell
-
--- why a text gives no library
-abbrev pub IsReadingCause : List ℕ → Fault → Type 0
-IsReadingCause bytes fault = (fault ≡ NoMemory) ⊎ IsTextCause fault bytes
 
 -- the word names a subcircuit that breaks this rule first
 pub record RefusesCell (library : List Named) (word : List ℕ) (rule : CellRule) : Type 0 where

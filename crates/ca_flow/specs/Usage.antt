@@ -8,8 +8,9 @@ command_lines =
     ++ (codes "  cellaware pair CELLS CELL FIRST LAST DEFECT  the same after FIRST and LAST, with DEFECT or -\n"
     ++ (codes "  cellaware defects CELLS CELL                 the names of the defects of CELL\n"
     ++ (codes "  cellaware matrix CELLS CELL OUT              the defect matrix of CELL to OUT, as CSV\n"
+    ++ (codes "  cellaware check CELLS NETLIST SCAN           what the chip of NETLIST has, with SCAN or -\n"
     ++ (codes "  cellaware --help                             this text\n"
-    ++ codes "  cellaware --version                          the version\n"))))
+    ++ codes "  cellaware --version                          the version\n")))))
 
 -- what the exit statuses mean
 abbrev pub status_lines : List ℕ
@@ -23,8 +24,9 @@ usage_text =
     codes "usage: cellaware COMMAND WORDS\n\n"
     ++ (command_lines
     ++ (codes "\nCELLS is a netlist of transistors, in SPICE or CDL; a vector has 0, 1 or X per input pin.\n"
+    ++ (codes "NETLIST is a netlist of gates, in Verilog; SCAN is a table of scan cells, as CSV.\n"
     ++ (status_lines
-    ++ codes "Documents in the sources: README.md, docs/TUTORIAL.md, docs/FAULTS.md, docs/cellaware.1.\n")))
+    ++ codes "Documents in the sources: README.md, docs/TUTORIAL.md, docs/FAULTS.md, docs/cellaware.1.\n"))))
 
 -- which version the program is
 abbrev pub version_text : List ℕ

@@ -1,6 +1,8 @@
 -- The words of a command.
-use Rattle.std.specs.Prelude.{◌≡◌, ◌≢◌, ◌⊎◌, ℕ, List, [], length, codes, slice_index_or}
+use Rattle.std.specs.Prelude.{◌≡◌, ◌≢◌, ◌⊎◌, ℕ, List, [], length, codes, slice_index_or, Option, Some, None, if◌then◌else◌}
 use Rattle.std.specs.List.{All}
+use Rattle.std.specs.Str.{bytes_eq}
+use Rattle.ca_load.specs.Texts.{InputFiles}
 
 -- the word at a place, counted from 0
 abbrev pub word_at : List (List ℕ) → ℕ → List ℕ
@@ -34,7 +36,15 @@ defect_word words = word_at words 5
 abbrev pub out_word : List (List ℕ) → List ℕ
 out_word words = word_at words 3
 
--- the word that stands for no defect, and for the vector without letters
+-- the name of the gate netlist's file
+abbrev pub netlist_word : List (List ℕ) → List ℕ
+netlist_word words = word_at words 2
+
+-- the name of the file of the table of scan cells, or a dash
+abbrev pub scan_word : List (List ℕ) → List ℕ
+scan_word words = word_at words 3
+
+-- the word that stands for no defect, for no table, and for the vector without letters
 abbrev pub dash : List ℕ
 dash = codes "-"
 
@@ -42,6 +52,18 @@ dash = codes "-"
 pub record IsFileName (word : List ℕ) : Type 0 where
   pub some : word ≢ []
   pub no_dash : word ≢ dash
+
+-- the file that a word names, where a dash names none
+abbrev pub file_called : List ℕ → Option (List ℕ)
+file_called word = if bytes_eq word dash then None else Some word
+
+-- the files of a command on a chip
+abbrev pub chip_files : List (List ℕ) → InputFiles
+chip_files words = record {
+  cells = cells_word words;
+  netlist = netlist_word words;
+  scan = file_called (scan_word words);
+}
 
 -- a letter of a vector: 0, 1 or X
 abbrev pub IsLetter : ℕ → Type 0
@@ -80,6 +102,17 @@ pub record IsMatrix (words : List (List ℕ)) : Type 0 where
   pub out : IsFileName (out_word words)
   pub others : out_word words ≢ cells_word words
 
+-- the words are `check CELLS NETLIST SCAN`, where SCAN may be a dash, and the files have different names
+pub record IsCheck (words : List (List ℕ)) : Type 0 where
+  pub four : length words ≡ 4
+  pub command : word_at words 0 ≡ codes "check"
+  pub cells : IsFileName (cells_word words)
+  pub netlist : IsFileName (netlist_word words)
+  pub scan : scan_word words ≢ []
+  pub others : netlist_word words ≢ cells_word words
+  pub not_cells : scan_word words ≢ cells_word words
+  pub not_netlist : scan_word words ≢ netlist_word words
+
 -- the one word is `--help`
 pub record IsHelp (words : List (List ℕ)) : Type 0 where
   pub one : length words ≡ 1
@@ -94,6 +127,10 @@ pub record IsVersion (words : List (List ℕ)) : Type 0 where
 abbrev pub AsksNoFile : List (List ℕ) → Type 0
 AsksNoFile words = IsHelp words ⊎ IsVersion words
 
+-- the words are those of a command on one cell
+abbrev pub IsOnCell : List (List ℕ) → Type 0
+IsOnCell words = IsRespond words ⊎ (IsPair words ⊎ (IsDefects words ⊎ IsMatrix words))
+
 -- the words are those of a command
 abbrev pub IsCommand : List (List ℕ) → Type 0
-IsCommand words = IsRespond words ⊎ (IsPair words ⊎ (IsDefects words ⊎ (IsMatrix words ⊎ AsksNoFile words)))
+IsCommand words = IsOnCell words ⊎ (IsCheck words ⊎ AsksNoFile words)

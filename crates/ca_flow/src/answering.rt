@@ -2,10 +2,10 @@
 ghost use Rattle.std.specs.Prelude.{◌≡◌, map};
 ghost use Rattle.std.specs.String.{string_bytes};
 ghost use Rattle.ca_store.specs.Store.{Nothing};
-ghost use Rattle.ca_flow.specs.FaultLine.{status_of};
+ghost use Rattle.ca_fault.specs.FaultLine.{status_of};
 ghost use Rattle.ca_flow.specs.Answer.{TellsLine, Tells, Answers};
 
-use crate::fault::Fault;
+use ca_fault::Fault;
 use crate::top::run;
 use ca_store::{Sink, Store};
 use std::alloc::Global;

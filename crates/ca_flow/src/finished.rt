@@ -1,20 +1,22 @@
 //! How a command ends.
 ghost use Rattle.std.specs.Prelude.{◌≡◌, ◌⊎◌, ℕ, List, Some, IsNone, IfOk};
 ghost use Rattle.ca_store.specs.Store.{Nothing};
-ghost use Rattle.ca_flow.specs.FaultLine.{status_of};
+ghost use Rattle.ca_fault.specs.FaultLine.{status_of};
 ghost use Rattle.ca_flow.specs.Finished.{status_told, IsTold, TellsSinkFault};
 ghost use Rattle.ca_flow.specs.Ends.{IsAsked};
 ghost use Rattle.ca_flow.specs.Work.{HasFile, HasPrinted, FailsToPrint, EndsWork};
 
-use crate::fault::Fault;
-use crate::lines::{lines_of_names, summary};
+use ca_fault::Fault;
+use crate::lines::{check_line, lines_of_names, summary};
 use crate::pin_values::PinValues;
 use crate::usage::{usage, version};
 use crate::work::{Work, write_out};
 use ca_base::NoMemory;
 use ca_lex::{Names, Text};
 use ca_matrix::Matrix;
+use ca_scan::Chains;
 use ca_store::{Failed, Sink, Store, write_all};
+use ca_wired::Chip;
 use std::alloc::Global;
 
 /// The exit status, the fault where the status isn't 0, and what was done where the work was whole.
@@ -36,6 +38,8 @@ pub enum Done {
     Defects { names: Names },
     /// The matrix of a cell.
     Matrix { matrix: Matrix },
+    /// A linked chip, with its scan chains.
+    Check { chip: Chip, chains: Chains },
     /// How the program is used.
     Help,
     /// Which version the program is.
@@ -51,6 +55,7 @@ impl Done {
             Done::Respond { values } | Done::Pair { values } => values.lines(alloc),
             Done::Defects { names } => lines_of_names(alloc, names),
             Done::Matrix { matrix } => summary(alloc, matrix),
+            Done::Check { chip, chains } => check_line(alloc, chip, chains),
             Done::Help => usage(alloc),
             Done::Version => version(alloc),
         }

@@ -4,7 +4,7 @@ ghost use Rattle.std.specs.Prelude.{ℕ, List, Option};
 ghost use Rattle.ca_flow.specs.Laws.{HasOneCause, AnswerableHasNoCause, SomeCauseOrAnswer, CauseIsTold};
 ghost use Rattle.ca_flow.specs.Laws.{NamesMeanOneDefect, SizeIsLimited};
 
-/// Of one list of words and one file at most one fault of the words or of the contents has a cause.
+/// Of one list of words, of any but a command on a chip, and one file at most one fault of the words or of the contents has a cause.
 pub fn one_cause()
     ensures { (words : List (List ℕ)) (file : Option (List ℕ)) → HasOneCause words file }
 {}
@@ -14,12 +14,12 @@ pub fn answerable_has_no_cause()
     ensures { AnswerableHasNoCause }
 {}
 
-/// A command whose file is there can be answered, or a fault of the contents has a cause.
+/// A command, but one on a chip, whose file is there can be answered, or a fault of the contents has a cause.
 pub fn some_cause_or_answer()
     ensures { SomeCauseOrAnswer }
 {}
 
-/// Where a fault of the words or of the contents has a cause, the command doesn't end well, and tells no
+/// Where a fault of the words or of the contents has a cause, a command, but one on a chip, doesn't end well, and tells no
 /// other such fault.
 pub fn cause_is_told()
     ensures { CauseIsTold }
@@ -30,7 +30,7 @@ pub fn names_mean_one_defect()
     ensures { NamesMeanOneDefect }
 {}
 
-/// The greatest size of a cell netlist.
+/// The greatest sizes of files.
 pub fn size_is_limited()
     ensures { SizeIsLimited }
 {}

@@ -2,14 +2,12 @@
 #![tactic(auto)]
 
 mod answering;
-mod fault;
 mod finished;
 mod inputs;
 mod laws;
 mod lines;
 mod listing;
 mod outputs;
-mod pieces;
 mod pin_values;
 mod tables;
 mod top;
@@ -19,7 +17,7 @@ mod words;
 mod work;
 
 pub use answering::{answer, tell};
-pub use fault::{Fault, LimitKind};
+pub use ca_fault::{Fault, LimitKind};
 pub use finished::{Done, Finished};
 pub use laws::{
     answerable_has_no_cause, cause_is_told, names_mean_one_defect, one_cause, size_is_limited,
@@ -27,6 +25,3 @@ pub use laws::{
 };
 pub use pin_values::{PinValue, PinValues};
 pub use top::run;
-
-#[cfg(test)]
-mod tests;

@@ -1,10 +1,13 @@
-//! The lines that tell names, and what a matrix holds.
-ghost use Rattle.std.specs.Prelude.{◌≡◌, ◌++◌, decimal, flat_map, IfOk, OnOk};
-ghost use Rattle.ca_flow.specs.Lines.{line_of_name, IsSummary};
+//! The lines that tell names, what a matrix holds, and what a chip has.
+ghost use Rattle.std.specs.Prelude.{◌≡◌, ◌<◌, ◌++◌, length, decimal, flat_map, slice_get, slice_index, IfOk, OnOk};
+ghost use Rattle.ca_wired.specs.Instances.{gates_of};
+ghost use Rattle.ca_flow.specs.Lines.{line_of_name, IsSummary, part_defects, chip_defects, with_count, check_text};
 
 use ca_base::NoMemory;
 use ca_lex::{Names, Text};
 use ca_matrix::Matrix;
+use ca_scan::Chains;
+use ca_wired::Chip;
 use itoa::Buffer;
 use std::alloc::Global;
 
@@ -48,4 +51,52 @@ fn add_number(text: &mut Text, number: usize) -> Result<(), NoMemory>
     ensures { OnOk result (text.new ≡ text.old ++ decimal number) }
 {
     text.append(Buffer::new().format(number).as_bytes())
+}
+
+/// The line that tells what a chip has.
+pub(crate) fn check_line(alloc: Global, chip: &Chip, chains: &Chains) -> Result<Text, NoMemory>
+    ensures { IfOk result (λ text. text ≡ check_text chip.now chains.now) }
+{
+    let defects = count_defects(chip)?;
+    let mut text = Text::new(alloc);
+    add_count(&mut text, b"instances ", chip.instances())?;
+    add_count(&mut text, b", scan ", chip.scan_count())?;
+    add_count(&mut text, b", inputs ", chip.inputs())?;
+    add_count(&mut text, b", outputs ", chip.outputs())?;
+    add_count(&mut text, b", chains ", chains.len())?;
+    add_count(&mut text, b", defects ", defects)?;
+    text.append(b"\n")?;
+    Ok(text)
+}
+
+// Appends a label and a number's digits.
+fn add_count(text: &mut Text, label: &[u8], count: usize) -> Result<(), NoMemory>
+    ensures { OnOk result (text.new ≡ with_count text.old label.now count) }
+{
+    text.append(label)?;
+    add_number(text, count)
+}
+
+// The number of defects of a chip. One that no `usize` holds is answered as though there were no memory for it.
+fn count_defects(chip: &Chip) -> Result<usize, NoMemory>
+    ensures { IfOk result (λ count. count ≡ chip_defects chip.now) }
+{
+    let mut count: usize = 0;
+    for k in 0..chip.instances() {
+        let Some(more) = count.checked_add(gate_defects(chip, k)) else {
+            return Err(NoMemory);
+        };
+        count = more;
+    }
+    Ok(count)
+}
+
+// The number of defects of the k-th library instance.
+#[tactic(auto, using(crate::proofs::ChipLemmas::gate_is_library, crate::proofs::ChipLemmas::defects_are))]
+fn gate_defects(chip: &Chip, k: usize) -> usize
+    requires { k < length (gates_of chip.now) }
+    ensures { result ≡ part_defects chip.now.cells
+        (slice_get chip.now.parts (slice_index (gates_of chip.now) k)) }
+{
+    chip.cell_of(chip.instance(k)).defect_count()
 }

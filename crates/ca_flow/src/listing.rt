@@ -4,15 +4,17 @@ ghost use Rattle.ca_store.specs.Store.{Nothing};
 ghost use Rattle.ca_defect.specs.Name.{names_of};
 ghost use Rattle.ca_flow.specs.Cells.{OfCell};
 ghost use Rattle.ca_flow.specs.Fault.{IsCellCause};
-ghost use Rattle.ca_flow.specs.Ends.{TellsStoreFault, AreDefectNames};
+ghost use Rattle.ca_load.specs.Files.{TellsStoreFault};
+ghost use Rattle.ca_flow.specs.Ends.{AreDefectNames};
 
-use crate::fault::Fault;
-use crate::inputs::{find_cell, open_library, typed_words};
+use ca_fault::Fault;
+use crate::inputs::{find_cell, typed_words};
 use crate::words::CellWords;
 use ca_base::NoMemory;
 use ca_cell::Cell;
 use ca_defect::{defect_names, defects};
 use ca_lex::Names;
+use ca_load::open_library;
 use ca_store::Store;
 use std::alloc::Global;
 

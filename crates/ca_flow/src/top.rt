@@ -5,16 +5,18 @@ ghost use Rattle.ca_store.specs.Store.{Nothing};
 ghost use Rattle.ca_flow.specs.Words.{IsCommand};
 ghost use Rattle.ca_flow.specs.Command.{IsSpelled};
 ghost use Rattle.ca_flow.specs.Fault.{IsWorkCause};
-ghost use Rattle.ca_flow.specs.Ends.{TellsStoreFault, IsAsked, Ends};
+ghost use Rattle.ca_load.specs.Files.{TellsStoreFault};
+ghost use Rattle.ca_flow.specs.Ends.{IsAsked, Ends};
 ghost use Rattle.ca_flow.specs.Work.{HasFile};
 
-use crate::fault::Fault;
+use ca_fault::Fault;
 use crate::finished::{Done, Finished, finish, refused};
 use crate::listing::find_names;
 use crate::tables::{file_of, find_matrix};
 use crate::values::find_values;
 use crate::words::{Command, parse};
 use crate::work::Work;
+use ca_load::{Loaded, load};
 use ca_store::{Sink, Store};
 use std::alloc::Global;
 
@@ -94,6 +96,10 @@ fn work_of<'a, S: Store>(
                 done: Done::Matrix { matrix },
                 file: Some(file),
             })
+        }
+        Command::Check(names) => {
+            let Loaded { chip, chains } = load(alloc, names, store)?;
+            Ok(printed(Done::Check { chip, chains }))
         }
         Command::Help => Ok(printed(Done::Help)),
         Command::Version => Ok(printed(Done::Version)),

@@ -1,8 +1,11 @@
 //! The words of a command.
-ghost use Rattle.std.specs.Prelude.{◌≡◌, ℕ, List, map, IfSome, IsNone, IsTrue, ◌↔◌};
+ghost use Rattle.std.specs.Prelude.{◌≡◌, ◌≢◌, ℕ, List, map, IfSome, IsNone, IsTrue, ◌↔◌};
+ghost use Rattle.std.specs.Option.{option_copied};
 ghost use Rattle.std.specs.String.{string_bytes};
-ghost use Rattle.ca_flow.specs.Words.{IsFileName, IsVector, IsLetter, IsRespond, IsPair, IsDefects, IsMatrix, AsksNoFile, IsCommand};
-ghost use Rattle.ca_flow.specs.Command.{IsSpelledRespond, IsSpelledPair, IsSpelledDefects, IsSpelledMatrix, IsSpelled};
+ghost use Rattle.ca_flow.specs.Words.{file_called, IsFileName, IsVector, IsLetter, IsRespond, IsPair, IsDefects, IsMatrix, IsCheck, AsksNoFile, IsCommand};
+ghost use Rattle.ca_flow.specs.Command.{IsSpelledRespond, IsSpelledPair, IsSpelledDefects, IsSpelledMatrix, IsSpelledCheck, IsSpelled};
+
+use ca_load::FileNames;
 
 /// A command, with its words as they were typed.
 #[derive(Clone, Copy)]
@@ -15,6 +18,8 @@ pub(crate) enum Command<'a> {
     Defects(CellWords<'a>),
     /// `matrix CELLS CELL OUT`.
     Matrix(MatrixWords<'a>),
+    /// `check CELLS NETLIST SCAN`.
+    Check(FileNames<'a>),
     /// `--help`.
     Help,
     /// `--version`.
@@ -57,6 +62,8 @@ pub(crate) fn parse(words: &[String]) -> Option<Command<'_>>
         Some(Command::Defects(request))
     } else if let Some(request) = parse_matrix(words) {
         Some(Command::Matrix(request))
+    } else if let Some(names) = parse_check(words) {
+        Some(Command::Check(names))
     } else {
         parse_asking(words)
     }
@@ -162,6 +169,44 @@ fn parse_matrix(words: &[String]) -> Option<MatrixWords<'_>>
     } else {
         None
     }
+}
+
+fn parse_check(words: &[String]) -> Option<FileNames<'_>>
+    ensures found { IfSome result (IsSpelledCheck (map string_bytes words.now)) }
+    ensures none { IsNone result → ¬ (IsCheck (map string_bytes words.now)) }
+{
+    let [command, cells, netlist, scan] = words else {
+        return None;
+    };
+    if command.as_str() == "check"
+        && is_file_name(cells)
+        && is_file_name(netlist)
+        && !scan.is_empty()
+        && are_different(cells, netlist, scan)
+    {
+        Some(FileNames {
+            cells: cells.as_str(),
+            netlist: netlist.as_str(),
+            scan: file_called(scan),
+        })
+    } else {
+        None
+    }
+}
+
+// No two words are the same.
+fn are_different(cells: &str, netlist: &str, scan: &str) -> bool
+    ensures { IsTrue result
+        ↔ ((netlist.now ≢ cells.now) × ((scan.now ≢ cells.now) × (scan.now ≢ netlist.now))) }
+{
+    netlist != cells && scan != cells && scan != netlist
+}
+
+// The file that a word names, where a dash names none.
+fn file_called(word: &str) -> Option<&str>
+    ensures { option_copied result ≡ file_called word.now }
+{
+    if word == "-" { None } else { Some(word) }
 }
 
 fn is_file_name(word: &str) -> bool

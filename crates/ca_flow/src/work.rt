@@ -3,7 +3,7 @@ ghost use Rattle.std.specs.Prelude.{◌≡◌, IfErr, IsSomeAnd, OnOk};
 ghost use Rattle.ca_store.specs.Store.{Nothing, KeepsCount};
 ghost use Rattle.ca_flow.specs.Work.{HasWritten, FailsToWrite};
 
-use crate::fault::Fault;
+use ca_fault::Fault;
 use crate::finished::Done;
 use ca_lex::Text;
 use ca_store::{Store, write_file};

@@ -1,7 +1,7 @@
 use Rattle.std.proofs.Common.{Some, refl}
 use Rattle.ca_flow.specs.declared.finished.Finished.{Finished}
 use Rattle.ca_flow.specs.Fault.{Outside}
-use Rattle.ca_flow.proofs.EndLemmas.{printed_ends, unwritten_ends}
+use Rattle.ca_flow.proofs.EndLemmas.{printed_ends, unwritten_ends, refused_ends}
 use Rattle.ca_flow.proofs.finished.finish.Goals as goal
 
 pub returns-in-Ok-write_out-clause-ends : goal.returns-in-Ok-write_out-clause-ends
@@ -39,3 +39,14 @@ returns-clause-ends g c = λ words fits asked.
     let end : Finished = record { status = c.status.result; fault = Some c.in-Err.fault; done = Some c.args.work.done } in
     unwritten_ends words before after c.args.work.done c.args.work.file end fits asked refl c.status.ensures c.in-Err.fault refl
     (c.in-Err.ensures).cause (c.in-Err.ensures).count.later refl refl
+
+pub returns-in_default-clause-ends : goal.returns-in_default-clause-ends
+returns-in_default-clause-ends g c = λ words fits asked.
+    let before : Outside = record {
+      files = g.S.Store.files c.args.store.now;
+      store_faults = g.S.Store.faults c.args.store.now;
+      sink_faults = g.W.Sink.faults c.args.out.now;
+      bytes = g.W.Sink.bytes c.args.out.now;
+    } in
+    refused_ends words before c.args.work.done c.refused.result c.refused.ensures.fault c.refused.ensures.status
+    c.refused.ensures.done

@@ -1,0 +1,55 @@
+-- The exit status and the line of a fault.
+use Rattle.std.specs.Prelude.{ℕ, List, ◌++◌, codes, decimal}
+use Rattle.ca_fault.specs.declared.fault.Fault.{Fault}
+use Rattle.ca_fault.specs.declared.fault.Fault.TheVariants.{BadWords, Cells, Netlist, Scan, Chip, Chain, NoCell, Cell, BadVector, NoInstance, NoDefect, TooLong, Limit, StoreFailed, SinkFailed, NoMemory}
+use Rattle.ca_fault.specs.KindText.{kind_text, netlist_text, rule_text, chip_text, limit_text}
+
+-- the exit status that stands for a fault
+abbrev pub status_of : Fault → ℕ
+status_of BadWords = 1
+status_of (Cells line kind) = 2
+status_of (Netlist line kind) = 2
+status_of (Scan row) = 2
+status_of (Chip fault) = 2
+status_of (Chain name) = 2
+status_of (NoCell word) = 2
+status_of (Cell name rule) = 2
+status_of (BadVector word) = 2
+status_of (NoInstance word) = 2
+status_of (NoDefect word) = 2
+status_of (TooLong name taken) = 3
+status_of (Limit kind count) = 3
+status_of (StoreFailed name) = 4
+status_of SinkFailed = 4
+status_of NoMemory = 5
+
+-- the number in the text of a fault, and 0 where it has none
+abbrev pub number_of : Fault → ℕ
+number_of (Cells line kind) = line
+number_of (Netlist line kind) = line
+number_of (Scan row) = row
+number_of (Limit kind count) = count
+number_of _ = 0
+
+-- what a fault prints between the program's name and the line's end
+abbrev pub text_of : Fault → List ℕ
+text_of BadWords = codes "bad command line"
+text_of (Cells line kind) = codes "cells: line " ++ (decimal line ++ (codes ": " ++ kind_text kind))
+text_of (Netlist line kind) = codes "netlist: line " ++ (decimal line ++ (codes ": " ++ netlist_text kind))
+text_of (Scan row) = codes "scan table: record " ++ decimal row
+text_of (Chip fault) = codes "chip: " ++ chip_text fault
+text_of (Chain name) = codes "scan chain broken at " ++ name
+text_of (NoCell word) = codes "no cell " ++ word
+text_of (Cell name rule) = codes "cell " ++ (name ++ (codes ": " ++ rule_text rule))
+text_of (BadVector word) = codes "bad vector: " ++ word
+text_of (NoInstance word) = codes "no instance " ++ word
+text_of (NoDefect word) = codes "no defect " ++ word
+text_of (TooLong name taken) = codes "file too long: " ++ name
+text_of (Limit kind count) = codes "limit: " ++ (limit_text kind ++ (codes " " ++ decimal count))
+text_of (StoreFailed name) = codes "file fault: " ++ name
+text_of SinkFailed = codes "output fault"
+text_of NoMemory = codes "out of memory"
+
+-- the line of a fault
+abbrev pub line_of : Fault → List ℕ
+line_of fault = codes "cellaware: " ++ (text_of fault ++ codes "\n")

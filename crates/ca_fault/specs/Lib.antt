@@ -1,0 +1,2 @@
+pub mod KindText
+pub mod FaultLine

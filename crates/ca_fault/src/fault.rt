@@ -1,0 +1,188 @@
+//! What a command answers where it doesn't end well.
+ghost use Rattle.std.specs.Prelude.{◌≡◌, ◌++◌, decimal, OnOk, OnErr};
+ghost use Rattle.ca_fault.specs.declared.fault.Fault.TheVariants as fault;
+ghost use Rattle.ca_store.specs.Store.{Rose, KeepsCount, appended, AppendsPart};
+
+use crate::kinds::{chip_text, kind_text, limit_text, netlist_text, rule_text};
+use crate::pieces::write_pieces;
+use crate::three::FaultText;
+use ca_base::NoMemory;
+use ca_cell::CellRule;
+use ca_chip::ChipFault;
+use ca_lex::Text;
+use ca_spice::SpiceKind;
+use ca_store::{Failed, Sink};
+use ca_verilog::VerilogKind;
+use itoa::Buffer;
+
+/// Why a command didn't end well. Words stand as they were typed.
+#[derive(Drop)]
+pub enum Fault {
+    /// The words are those of no command.
+    BadWords,
+    /// The cell netlist has no reading. Lines are counted from 1.
+    Cells { line: usize, kind: SpiceKind },
+    /// The gate netlist has no reading. Lines are counted from 1.
+    Netlist { line: usize, kind: VerilogKind },
+    /// The table of scan cells breaks its form. Records are counted from 1, and the header is the first.
+    Scan { row: usize },
+    /// The gate netlist breaks a rule of linking, the first of those that it breaks. A rule that an instance's
+    /// cell breaks is told as `Cell`, a limit as `Limit`, and want of memory as `NoMemory`.
+    Chip(ChipFault),
+    /// The scan instance is on no whole chain, the first of those. Its name stands as in the netlist.
+    Chain { instance: Text },
+    /// The cell netlist has no cell of this name.
+    NoCell { word: Text },
+    /// The cell breaks a rule of used cells, the first of those that it breaks. Its name stands in upper case.
+    Cell { cell: Text, rule: CellRule },
+    /// A vector has more or fewer letters than the cell has input pins.
+    BadVector { word: Text },
+    /// The chip has no library instance of this name.
+    NoInstance { word: Text },
+    /// The cell has no defect of this name.
+    NoDefect { word: Text },
+    /// A file has more bytes than it may have. So many were taken of it.
+    TooLong { name: Text, taken: usize },
+    /// There is more of something than there may be.
+    Limit { kind: LimitKind, count: usize },
+    /// A file wasn't there, or the system failed at it.
+    StoreFailed { name: Text },
+    /// The output took no more bytes.
+    SinkFailed,
+    /// There was no memory.
+    NoMemory,
+}
+
+/// What there is too much of.
+#[derive(Clone, Copy, Debug, PartialEq, Eq)]
+pub enum LimitKind {
+    /// A cell netlist has more than 1,024 cells.
+    Cells,
+    /// A gate netlist declares more than 131,072 bits.
+    Nets,
+    /// A chip has more than 32,768 library instances.
+    Instances,
+    /// A chip has more than 4,096 inputs.
+    Inputs,
+    /// A chip has more than 8,192 observed outputs.
+    Outputs,
+    /// A chip has more than 1,048,576 defects.
+    Defects,
+    /// A chip has more than 64 scan chains.
+    Chains,
+}
+
+impl Fault {
+    ghost use Rattle.ca_fault.specs.FaultLine.{status_of, number_of, text_of, line_of};
+
+    /// The exit status that stands for the fault.
+    pub fn status(&self) -> u8
+        ensures { result ≡ status_of self.now }
+    {
+        match self {
+            Fault::BadWords => 1,
+            Fault::Cells { .. }
+            | Fault::Netlist { .. }
+            | Fault::Scan { .. }
+            | Fault::Chip(_)
+            | Fault::Chain { .. }
+            | Fault::NoCell { .. }
+            | Fault::Cell { .. }
+            | Fault::BadVector { .. }
+            | Fault::NoInstance { .. }
+            | Fault::NoDefect { .. } => 2,
+            Fault::TooLong { .. } | Fault::Limit { .. } => 3,
+            Fault::StoreFailed { .. } | Fault::SinkFailed => 4,
+            Fault::NoMemory => 5,
+        }
+    }
+
+    /// Appends the line of the fault. It takes no memory. After `Failed` some of its first bytes were appended.
+    pub fn print<W: Sink>(&self, err: &mut W) -> Result<(), Failed>
+        ensures ok { OnOk result (W.bytes err.new ≡ appended (line_of self.now) (W.bytes err.old)) }
+        ensures err { OnErr result
+            (AppendsPart (line_of self.now) (W.bytes err.old) (W.bytes err.new)) }
+        ensures cause { OnErr result (Rose (W.faults err.old) (W.faults err.new)) }
+        ensures count { KeepsCount result (W.faults err.old) (W.faults err.new) }
+    {
+        let mut buffer = Buffer::new();
+        let text = self.text(buffer.format(self.number()).as_bytes());
+        write_pieces(
+            err,
+            &[
+                b"cellaware: ".as_slice(),
+                text.start,
+                text.word,
+                text.end,
+                b"\n".as_slice(),
+            ],
+        )
+    }
+
+    // The number in the text of the fault.
+    fn number(&self) -> usize
+        ensures { result ≡ number_of self.now }
+    {
+        match self {
+            Fault::Cells { line, .. } | Fault::Netlist { line, .. } => *line,
+            Fault::Scan { row } => *row,
+            Fault::Limit { count, .. } => *count,
+            _ => 0,
+        }
+    }
+
+    // The text of the fault, for which its number is written already.
+    fn text<'a>(&'a self, number: &'a [u8]) -> FaultText<'a>
+        requires { number.now ≡ decimal (number_of self.now) }
+        ensures { result.start.now ++ (result.word.now ++ result.end.now) ≡ text_of self.now }
+    {
+        match self {
+            Fault::BadWords => FaultText::plain(b"bad command line"),
+            Fault::Cells { kind, .. } => FaultText {
+                start: b"cells: line ",
+                word: number,
+                end: kind_text(*kind),
+            },
+            Fault::Netlist { kind, .. } => FaultText {
+                start: b"netlist: line ",
+                word: number,
+                end: netlist_text(*kind),
+            },
+            Fault::Scan { .. } => FaultText {
+                start: b"scan table: record ",
+                word: number,
+                end: &[],
+            },
+            Fault::Chip(fault) => FaultText::plain(chip_text(fault)),
+            Fault::Chain { instance } => {
+                FaultText::with_word(b"scan chain broken at ", instance)
+            }
+            Fault::NoCell { word } => FaultText::with_word(b"no cell ", word),
+            Fault::Cell { cell, rule } => FaultText {
+                start: b"cell ",
+                word: cell.as_bytes(),
+                end: rule_text(*rule),
+            },
+            Fault::BadVector { word } => FaultText::with_word(b"bad vector: ", word),
+            Fault::NoInstance { word } => FaultText::with_word(b"no instance ", word),
+            Fault::NoDefect { word } => FaultText::with_word(b"no defect ", word),
+            Fault::TooLong { name, .. } => FaultText::with_word(b"file too long: ", name),
+            Fault::Limit { kind, .. } => FaultText {
+                start: limit_text(*kind),
+                word: number,
+                end: &[],
+            },
+            Fault::StoreFailed { name } => FaultText::with_word(b"file fault: ", name),
+            Fault::SinkFailed => FaultText::plain(b"output fault"),
+            Fault::NoMemory => FaultText::plain(b"out of memory"),
+        }
+    }
+}
+
+impl From<NoMemory> for Fault {
+    ghost from_gives = { λ _ e. e ≡ fault.NoMemory };
+
+    fn from(_: NoMemory) -> Self {
+        Fault::NoMemory
+    }
+}

@@ -1,0 +1,134 @@
+//! Gate netlists, tables of scan cells, and how `check` ends over them.
+
+// The smallest benchmark of its family: six gates.
+pub(crate) const C17: &str = "\
+module c17(N1, N2, N3, N6, N7, N22, N23);
+  input N1, N2, N3, N6, N7; output N22, N23; wire N10, N11, N16, N19;
+  NAND2 g0 (.A1(N1), .A2(N3), .ZN(N10));
+  NAND2 g1 (.A1(N3), .A2(N6), .ZN(N11));
+  NAND2 g2 (.A1(N2), .A2(N11), .ZN(N16));
+  NAND2 g3 (.A1(N11), .A2(N7), .ZN(N19));
+  NAND2 g4 (.A1(N10), .A2(N16), .ZN(N22));
+  NAND2 g5 (.A1(N16), .A2(N19), .ZN(N23)); endmodule
+";
+
+pub(crate) const GLITCH: &str = "\
+module glitch(a, s, d, z); input a, s, d; output z; wire sn, w1, w2, y;
+  INV u1 (.A(s), .ZN(sn));
+  NAND2 u2 (.A1(s), .A2(d), .ZN(w1));
+  NAND2 u3 (.A1(sn), .A2(d), .ZN(w2));
+  NAND2 u4 (.A1(w1), .A2(w2), .ZN(y));
+  NAND2 u5 (.A1(a), .A2(y), .ZN(z)); endmodule
+";
+
+// Two scan instances on one chain, between two inverters.
+pub(crate) const SHIFT: &str = "\
+module shift(a, se, ck, hold, si, z, so);
+  input a, se, ck, hold, si; output z, so; wire w, q, t, v;
+  INV u1 (.A(a), .ZN(w));
+  SFF r0 (.D(w), .Q(q), .SI(si), .SO(t), .SE(se), .CK(ck), .HOLD(hold));
+  SFF r1 (.D(q), .Q(v), .QN(), .SI(t), .SO(so), .SE(se), .CK(ck), .HOLD(hold));
+  INV u2 (.A(v), .ZN(z)); endmodule
+";
+
+pub(crate) const SCAN: &str = "\
+cell,d,q,qn,si,so,se,ck,hold
+SFF,D,Q,QN,SI,SO,SE,CK,HOLD
+";
+
+// A record of eight fields.
+pub(crate) const SHORT: &str = "\
+cell,d,q,qn,si,so,se,ck,hold
+SFF,D,Q,QN,SI,SO,SE,CK
+";
+
+// The words of a command behind the cells' file, the status, what is printed, and the text of the fault.
+pub(crate) type Row = (&'static str, u8, &'static str, &'static str);
+
+// Over files of the names of these texts.
+pub(crate) static WHOLE: [Row; 6] = [
+    (
+        "c17.v -",
+        0,
+        "instances 6, scan 0, inputs 5, outputs 2, chains 0, defects 114\n",
+        "",
+    ),
+    (
+        "c17.v scan.csv",
+        0,
+        "instances 6, scan 0, inputs 5, outputs 2, chains 0, defects 114\n",
+        "",
+    ),
+    (
+        "glitch.v -",
+        0,
+        "instances 5, scan 0, inputs 3, outputs 1, chains 0, defects 85\n",
+        "",
+    ),
+    (
+        "shift.v scan.csv",
+        0,
+        "instances 2, scan 2, inputs 3, outputs 3, chains 1, defects 18\n",
+        "",
+    ),
+    ("shift.v -", 2, "", "chip: UnknownCell"),
+    ("shift.v short.csv", 2, "", "scan table: record 2"),
+];
+
+// Words that are no command's, and files that aren't there.
+pub(crate) static WORDS: [Row; 11] = [
+    ("", 1, "", "bad command line"),
+    ("c17.v", 1, "", "bad command line"),
+    ("c17.v ", 1, "", "bad command line"),
+    ("- -", 1, "", "bad command line"),
+    ("n.sp -", 1, "", "bad command line"),
+    ("c17.v c17.v", 1, "", "bad command line"),
+    ("c17.v n.sp", 1, "", "bad command line"),
+    ("c17.v - -", 1, "", "bad command line"),
+    ("m.v -", 4, "", "file fault: m.v"),
+    ("m.v short.csv", 4, "", "file fault: m.v"),
+    ("c17.v m.csv", 4, "", "file fault: m.csv"),
+];
+
+// A piece of the chip with two scan instances, another in its place, and the text of the fault.
+pub(crate) type Change = (&'static str, &'static str, &'static str);
+
+pub(crate) static FAULTS: [Change; 17] = [
+    ("(.A(a), .ZN(w))", "(.A(b), .ZN(w))", "netlist: line 3: Undeclared"),
+    ("endmodule", "", "netlist: line 6: Syntax"),
+    ("wire w", "reg w", "netlist: line 2: Unsupported"),
+    ("INV u2", "INV u1", "netlist: line 6: DoubleName"),
+    ("wire w", "wire [1:0] w", "netlist: line 3: BadRange"),
+    ("INV u1", "INVX u1", "chip: UnknownCell"),
+    ("INV u1 (.A(a), .ZN(w))", "tg u1 (.A(a), .EN(a), .Z(w))", "cell TG: InputDrivesChannel"),
+    ("(.A(a), .ZN(w))", "(.A(a), .VDD(a), .ZN(w))", "chip: UnknownPin"),
+    ("(.A(a), .ZN(w))", "(.ZN(w))", "chip: MissingPin"),
+    ("(.A(a), .ZN(w))", "(.A(a), .ZN(z))", "chip: DoubleDriven"),
+    ("(.A(a), .ZN(w))", "(.A(a), .ZN())", "chip: Undriven"),
+    (".SE(se), .CK(ck), .HOLD(hold));\n  SFF", ".SE(w), .CK(ck), .HOLD(hold));\n  SFF", "chip: ControlPin"),
+    ("INV u1 (.A(a)", "INV u1 (.A(si)", "chip: ControlObserved"),
+    (".Q(v), .QN()", ".Q(), .QN(v)", "chip: QnUsed"),
+    ("INV u1 (.A(a)", "INV u1 (.A(w)", "chip: Loop"),
+    (".SI(t), .SO(so)", ".SI(si), .SO(so)", "scan chain broken at r0"),
+    (".SI(si), .SO(t)", ".SI(si), .SO()", "chip: Undriven"),
+];
+
+// The same over a table with a record of eight fields: the netlist is read before it, and linked behind it.
+pub(crate) static ORDERS: [Change; 3] = [
+    ("(.A(a), .ZN(w))", "(.A(b), .ZN(w))", "netlist: line 3: Undeclared"),
+    ("INV u1", "INVX u1", "scan table: record 2"),
+    (".SI(t), .SO(so)", ".SI(si), .SO(so)", "scan table: record 2"),
+];
+
+// Netlists past a limit.
+pub(crate) static LIMITS: [(&str, &str); 3] = [
+    (
+        "module m(a); input [131071:0] a; wire b; endmodule",
+        "limit: Nets 131073",
+    ),
+    ("module m(a); input [4096:0] a; endmodule", "limit: Inputs 4097"),
+    (
+        "module m(a, z); input a; output [8192:0] z; endmodule",
+        "chip: Undriven",
+    ),
+];

@@ -1,0 +1,6 @@
+pub mod RowLemmas
+pub mod ReadLemmas
+pub mod LinkLemmas
+pub mod RuleLemmas
+pub mod SameLemmas
+pub mod WholeLemmas

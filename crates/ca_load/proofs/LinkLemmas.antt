@@ -1,0 +1,39 @@
+-- The causes of a command on a chip, from those of its linking and its tracing.
+use Rattle.std.proofs.Common.{ℕ, ◌≡◌, ◌⊎◌, inl, inr, refl, sym, subst, List, Option, Result, Ok, Err, IsErrAnd, IfErr}
+use Rattle.ca_store.specs.Store.{Files}
+use Rattle.ca_wired.specs.Linked.{Chip}
+use Rattle.ca_fault.specs.declared.fault.Fault.{Fault}
+use Rattle.ca_fault.specs.declared.fault.Fault.TheVariants.{NoMemory}
+use Rattle.ca_load.specs.Texts.{InputFiles, Inputs, AreRead, OfInputs}
+use Rattle.ca_load.specs.Chips.{IsChipOf}
+use Rattle.ca_load.specs.Causes.{IsLoadCause}
+use Rattle.ca_load.specs.Stages.{IsLinkStage, IsTraceStage, IsLinkedStage}
+
+-- inputs that don't link
+pub at_link : (inputs : Inputs) (fault : Fault) → IsLinkStage inputs fault → IsLinkedStage inputs fault
+at_link inputs fault (inl memory) = inl memory
+at_link inputs fault (inr (is, cause)) = inr (is, inl cause)
+
+-- a chip without chains
+pub at_trace : (inputs : Inputs) (chip : Chip) (fault : Fault) → IsChipOf inputs chip → IsTraceStage chip fault
+    → IsLinkedStage inputs fault
+at_trace inputs chip fault of (inl memory) = inl memory
+at_trace inputs chip fault of (inr (is, cause)) = inr (is, inr (record { chip = chip; is = of; cause = cause }))
+
+-- what holds of the inputs that were read holds of what the files read as
+pub of_read : (files : Option Files) (names : InputFiles) (inputs : Inputs) (Holds : Inputs → Type 0)
+    → AreRead files names inputs → Holds inputs → OfInputs files names Holds
+of_read files names inputs Holds read holds = λ told is. (inputs, (read told is, holds))
+
+-- inputs that give no chip with chains
+pub at_inputs : (names : InputFiles) (files : Option Files) (before after : ℕ) (inputs : Inputs) (fault : Fault)
+    → AreRead files names inputs → IsLinkedStage inputs fault → IsLoadCause names files before after fault
+at_inputs names files before after inputs fault read (inl memory) = rw memory (inl (inl (inl tt)))
+at_inputs names files before after inputs fault read (inr (is, cause)) =
+    inr (is, of_read files names inputs _ read cause)
+
+-- a fault that is handed on has its cause
+pub handed_on : {T : Type 0} (result : Result T Fault) (fault : Fault) (P : Fault → Type 0)
+    → IsErrAnd result (λ other. other ≡ fault) → P fault → IfErr result P
+handed_on (Ok value) fault P is cause = absurd is
+handed_on (Err other) fault P is cause = subst P (sym is) cause

@@ -1,0 +1,73 @@
+-- How what is said of a file follows from what is said of its bytes, and the causes of the readings from those of
+-- the stages.
+use Rattle.std.proofs.Common.{ℕ, ◌≡◌, ◌≤◌, ◌⊎◌, inl, inr, refl, sym, subst, List, length, Option, Some, None, Ok}
+use Rattle.std.specs.Prelude.{IsOk, IsSomeAnd}
+use Rattle.ca_store.specs.Store.{Files}
+use Rattle.ca_store.specs.ReadFault.{IsWhole}
+use Rattle.ca_cell.specs.Library.{Named}
+use Rattle.ca_verilog.specs.declared.raw.RawNetlist.{RawNetlist}
+use Rattle.ca_chip.specs.declared.scan_row.ScanRow.{ScanRow}
+use Rattle.ca_fault.specs.declared.fault.Fault.{Fault}
+use Rattle.ca_load.specs.declared.cells.TheConstants.{MAX_CELLS}
+use Rattle.ca_load.specs.declared.netlists.TheConstants.{MAX_NETLIST}
+use Rattle.ca_load.specs.Files.{OfFile, TellsStoreFault}
+use Rattle.ca_load.specs.Texts.{IsLibraryOf, IsNetlistOf, IsTableAt, InputFiles, Inputs, AreRead}
+use Rattle.ca_load.specs.Causes.{HasLibrary, HasNetlist, IsLibraryCause, IsNetlistCause, IsScanCause, IsInputCause}
+
+-- what holds of the bytes that were read holds of the file
+pub of_whole : (files : Option Files) (name bytes : List ℕ) (limit : ℕ) (Holds : List ℕ → Type 0)
+    → IsWhole files name limit bytes → Holds bytes → OfFile files name limit Holds
+of_whole files name bytes limit Holds whole holds = λ told is. rw (whole.all told is) (whole.within, holds)
+
+-- what follows from the bytes' property holds of the file too
+pub of_file_then : (files : Option Files) (name : List ℕ) (limit : ℕ) (P Q : List ℕ → Type 0)
+    → ((bytes : List ℕ) → P bytes → Q bytes) → OfFile files name limit P → OfFile files name limit Q
+of_file_then files name limit P Q next held = λ told is. at (told name) (held told is)
+  where
+    at : (there : Option (List ℕ)) → IsSomeAnd there (λ bytes. (length bytes ≤ limit) × P bytes)
+        → IsSomeAnd there (λ bytes. (length bytes ≤ limit) × Q bytes)
+    at None missing = absurd missing
+    at (Some bytes) (within, here) = (within, next bytes here)
+
+pub has_library : (files : Option Files) (name : List ℕ) (library : List Named)
+    → OfFile files name MAX_CELLS (IsLibraryOf library) → HasLibrary files name
+has_library files name library read =
+    of_file_then files name MAX_CELLS (IsLibraryOf library) _ (λ bytes is. rw is.reads refl) read
+
+pub has_netlist : (files : Option Files) (name : List ℕ) (netlist : RawNetlist)
+    → OfFile files name MAX_NETLIST (IsNetlistOf netlist) → HasNetlist files name
+has_netlist files name netlist read =
+    of_file_then files name MAX_NETLIST (IsNetlistOf netlist) _ (λ bytes is. rw is refl) read
+
+-- the counts of a store may be told from an earlier one that is the same
+pub told_since : (fault : Option Fault) (before mid after : ℕ) → mid ≡ before → TellsStoreFault fault mid after
+    → TellsStoreFault fault before after
+told_since fault before mid after quiet told = subst (λ count. TellsStoreFault fault count after) quiet told
+
+module _ (names : InputFiles) (files mid : Option Files) (before between after : ℕ) (kept : mid ≡ files)
+    (quiet : between ≡ before) (library : List Named)
+    (cells : OfFile files names.cells MAX_CELLS (IsLibraryOf library)) (fault : Fault) where
+  -- a gate netlist that wasn't read, behind a cell netlist that was
+  pub at_netlist : IsNetlistCause names.netlist mid between after fault
+      → IsInputCause names files before after fault
+  at_netlist cause =
+      let here : IsNetlistCause names.netlist files before after fault = rw (kept, quiet) at cause in
+      inr (inl (has_library files names.cells library cells, here))
+
+  -- a table of scan cells that wasn't read, behind both
+  pub at_scan : (netlist : RawNetlist) → OfFile files names.netlist MAX_NETLIST (IsNetlistOf netlist)
+      → IsScanCause names.scan mid between after fault → IsInputCause names files before after fault
+  at_scan netlist read cause =
+      let here : IsScanCause names.scan files before after fault = rw (kept, quiet) at cause in
+      inr (inr (has_library files names.cells library cells, (has_netlist files names.netlist netlist read, here)))
+
+-- what was read is what the files read as
+pub are_read : (names : InputFiles) (files : Option Files) (library : List Named) (netlist : RawNetlist)
+    (rows : List ScanRow) → OfFile files names.cells MAX_CELLS (IsLibraryOf library)
+    → OfFile files names.netlist MAX_NETLIST (IsNetlistOf netlist) → IsTableAt files names.scan rows
+    → AreRead files names (record { library = library; netlist = netlist; rows = rows })
+are_read names files library netlist rows cells module_ table = λ told is. record {
+  library = cells told is;
+  netlist = module_ told is;
+  rows = subst (λ (some : Option Files). IsTableAt some names.scan rows) is table;
+}

@@ -1,0 +1,34 @@
+-- What is said of a file that was read, and why a file could not be read.
+use Rattle.std.specs.Prelude.{◌≡◌, ◌<◌, ◌≤◌, ℕ, List, length, Option, IsSomeAnd, ⊤}
+use Rattle.std.specs.Option.{ForSome}
+use Rattle.ca_store.specs.Store.{Files, MayHave, Rose}
+use Rattle.ca_store.specs.ReadFault.{IsTooLong}
+use Rattle.ca_fault.specs.declared.fault.Fault.{Fault}
+use Rattle.ca_fault.specs.declared.fault.Fault.TheVariants.{TooLong, StoreFailed, NoMemory}
+
+-- the file of this name is there with at most so many bytes, and this holds of them
+abbrev pub IsFileWith : Files → List ℕ → ℕ → (List ℕ → Type 0) → Type 0
+IsFileWith told name limit Holds = IsSomeAnd (told name) (λ bytes. (length bytes ≤ limit) × Holds bytes)
+
+-- the same, where the files are told
+abbrev pub OfFile : Option Files → List ℕ → ℕ → (List ℕ → Type 0) → Type 0
+OfFile files name limit Holds = ForSome files (λ told. IsFileWith told name limit Holds)
+
+-- why the file of this name could not be read up to a limit, with the store's count of faults before and after
+abbrev pub IsReadCause : List ℕ → Option Files → ℕ → ℕ → ℕ → Fault → Type 0
+IsReadCause name files limit before after (TooLong word taken) =
+    (word ≡ name) × IsTooLong files name limit taken before after
+IsReadCause name files limit before after (StoreFailed word) =
+    (word ≡ name) × (MayHave files name → Rose before after)
+IsReadCause name files limit before after NoMemory = ⊤
+IsReadCause name files limit before after _ = ⊥
+
+-- the fault is that of a file
+abbrev pub IsStoreFault : Fault → Type 0
+IsStoreFault (StoreFailed name) = ⊤
+IsStoreFault _ = ⊥
+
+-- where the store's count of faults rose, the answer says so, and the count never falls
+pub record TellsStoreFault (fault : Option Fault) (before after : ℕ) : Type 0 where
+  pub told : before < after → IsSomeAnd fault IsStoreFault
+  pub later : before ≤ after

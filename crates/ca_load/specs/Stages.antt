@@ -1,0 +1,44 @@
+-- Why a stage fails, over what it was handed: a text, or what was read.
+use Rattle.std.specs.Prelude.{◌≡◌, ◌⊎◌, ℕ, List, [], unwrap_or, Option}
+use Rattle.ca_wired.specs.Linked.{Chip}
+use Rattle.ca_fault.specs.declared.fault.Fault.{Fault}
+use Rattle.ca_fault.specs.declared.fault.Fault.TheVariants.{NoMemory}
+use Rattle.ca_load.specs.declared.reading.TypedNames.{TypedNames}
+use Rattle.ca_load.specs.declared.reading.Read.{Read}
+use Rattle.ca_load.specs.Texts.{InputFiles, Inputs}
+use Rattle.ca_load.specs.Chips.{IsLinkingCause, IsTracingCause, IsChipCause}
+use Rattle.ca_load.specs.Causes.{IsTextCause, IsModuleCause, IsRecordCause, IsChipFault}
+
+-- the names stand in memory of their own; where there is none it is empty
+pub record AreTyped (names : InputFiles) (typed : TypedNames) : Type 0 where
+  pub cells_is : typed.cells ≡ names.cells
+  pub netlist_is : typed.netlist ≡ names.netlist
+  pub scan_is : typed.scan ≡ unwrap_or names.scan []
+
+-- what was read
+abbrev pub inputs_of : Read → Inputs
+inputs_of read = record { library = read.library; netlist = read.netlist; rows = read.scan }
+
+-- why a text gives no library
+abbrev pub IsCellsStage : List ℕ → Fault → Type 0
+IsCellsStage bytes fault = (fault ≡ NoMemory) ⊎ IsTextCause fault bytes
+
+-- why a text gives no netlist
+abbrev pub IsNetlistStage : List ℕ → Fault → Type 0
+IsNetlistStage bytes fault = (fault ≡ NoMemory) ⊎ IsModuleCause fault bytes
+
+-- why a text gives no table of scan cells
+abbrev pub IsTableStage : List ℕ → Fault → Type 0
+IsTableStage bytes fault = (fault ≡ NoMemory) ⊎ IsRecordCause fault bytes
+
+-- why what was read doesn't link
+abbrev pub IsLinkStage : Inputs → Fault → Type 0
+IsLinkStage inputs fault = (fault ≡ NoMemory) ⊎ (IsChipFault fault × IsLinkingCause inputs fault)
+
+-- why a chip has no chains
+abbrev pub IsTraceStage : Chip → Fault → Type 0
+IsTraceStage chip fault = (fault ≡ NoMemory) ⊎ (IsChipFault fault × IsTracingCause fault chip)
+
+-- why what was read gives no chip with chains
+abbrev pub IsLinkedStage : Inputs → Fault → Type 0
+IsLinkedStage inputs fault = (fault ≡ NoMemory) ⊎ (IsChipFault fault × IsChipCause fault inputs)

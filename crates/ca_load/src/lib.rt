@@ -1,0 +1,16 @@
+//! What all commands on a chip begin with: the library, the netlist and the table of scan cells are read from their
+//! files, linked, and the chains are traced.
+#![tactic(auto)]
+
+mod cells;
+mod files;
+mod linking;
+mod loading;
+mod netlists;
+mod reading;
+mod tables;
+
+pub use cells::{MAX_CELLS, open_library};
+pub use loading::{FileNames, Loaded, load};
+pub use netlists::MAX_NETLIST;
+pub use tables::MAX_SCAN;

@@ -1,0 +1,57 @@
+//! The chip of the files that a command names.
+ghost use Rattle.std.specs.Prelude.{◌≡◌, Some, IfErr, IfOk, OnOk};
+ghost use Rattle.ca_store.specs.Store.{Nothing};
+ghost use Rattle.ca_scan.specs.ChainFault.{AreAllChains};
+ghost use Rattle.ca_load.specs.Files.{TellsStoreFault};
+ghost use Rattle.ca_load.specs.Texts.{names_of, OfInputs};
+ghost use Rattle.ca_load.specs.Chips.{IsChipOf};
+ghost use Rattle.ca_load.specs.Causes.{IsLoadCause};
+
+use crate::linking::link_all;
+use crate::reading::read_all;
+use ca_fault::Fault;
+use ca_scan::Chains;
+use ca_store::Store;
+use ca_wired::Chip;
+use std::alloc::Global;
+
+/// The names of the files of a command on a chip. One without scan cells may have no file for their table.
+#[derive(Clone, Copy)]
+pub struct FileNames<'a> {
+    pub cells: &'a str,
+    pub netlist: &'a str,
+    pub scan: Option<&'a str>,
+}
+
+/// A linked chip, with its scan chains in the order of their scan-in ports.
+#[derive(Drop)]
+pub struct Loaded {
+    pub chip: Chip,
+    pub chains: Chains,
+}
+
+/// The chip that the files give. The library is read and judged whole, then the netlist, then the table of scan
+/// cells; only then is the netlist linked, and last its chains are traced. Names that faults of files tell are in
+/// memory before the first file is opened.
+#[tactic(auto, using(crate::proofs::LinkLemmas::of_read, crate::proofs::LinkLemmas::at_inputs))]
+pub fn load<S: Store>(
+    alloc: Global,
+    names: &FileNames<'_>,
+    store: &mut S,
+) -> Result<Loaded, Fault>
+    requires closed { S.opened store.old ≡ Nothing }
+
+    ensures ok { IfOk result (λ loaded. OfInputs (S.files store.old) (names_of names.now)
+        (λ inputs. IsChipOf inputs loaded.chip)) }
+    ensures chains { IfOk result (λ loaded. AreAllChains loaded.chip loaded.chains) }
+    ensures cause { IfErr result (IsLoadCause (names_of names.now) (S.files store.old)
+        (S.faults store.old) (S.faults store.new)) }
+    ensures quiet { OnOk result (S.faults store.new ≡ S.faults store.old) }
+    ensures told { IfErr result (λ fault.
+        TellsStoreFault (Some fault) (S.faults store.old) (S.faults store.new)) }
+    ensures closed { S.opened store.new ≡ Nothing }
+    ensures kept { S.files store.new ≡ S.files store.old }
+{
+    let read = read_all(alloc, names, store)?;
+    link_all(alloc, read)
+}
