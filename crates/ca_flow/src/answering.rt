@@ -5,8 +5,8 @@ ghost use Rattle.ca_store.specs.Store.{Nothing};
 ghost use Rattle.ca_fault.specs.FaultLine.{status_of};
 ghost use Rattle.ca_flow.specs.Answer.{TellsLine, Tells, Answers};
 
-use ca_fault::Fault;
 use crate::top::run;
+use ca_fault::Fault;
 use ca_store::{Sink, Store};
 use std::alloc::Global;
 

@@ -6,12 +6,12 @@ ghost use Rattle.ca_flow.specs.Finished.{status_told, IsTold, TellsSinkFault};
 ghost use Rattle.ca_flow.specs.Ends.{IsAsked};
 ghost use Rattle.ca_flow.specs.Work.{HasFile, HasPrinted, FailsToPrint, EndsWork};
 
-use ca_fault::Fault;
 use crate::lines::{check_line, lines_of_names, summary};
 use crate::pin_values::PinValues;
 use crate::usage::{usage, version};
 use crate::work::{Work, write_out};
 use ca_base::NoMemory;
+use ca_fault::Fault;
 use ca_lex::{Names, Text};
 use ca_matrix::Matrix;
 use ca_scan::Chains;

@@ -7,12 +7,12 @@ ghost use Rattle.ca_flow.specs.Fault.{IsCellCause};
 ghost use Rattle.ca_load.specs.Files.{TellsStoreFault};
 ghost use Rattle.ca_flow.specs.Ends.{AreDefectNames};
 
-use ca_fault::Fault;
 use crate::inputs::{find_cell, typed_words};
 use crate::words::CellWords;
 use ca_base::NoMemory;
 use ca_cell::Cell;
 use ca_defect::{defect_names, defects};
+use ca_fault::Fault;
 use ca_lex::Names;
 use ca_load::open_library;
 use ca_store::Store;

@@ -8,12 +8,12 @@ ghost use Rattle.ca_load.specs.Files.{TellsStoreFault};
 ghost use Rattle.ca_flow.specs.Ends.{IsSoundMatrix};
 ghost use Rattle.ca_flow.specs.Work.{IsOutFile};
 
-use ca_fault::Fault;
 use crate::inputs::{find_cell, typed_words};
 use crate::words::{CellWords, MatrixWords};
 use crate::work::OutFile;
 use ca_base::NoMemory;
 use ca_cell::Cell;
+use ca_fault::Fault;
 use ca_lex::Text;
 use ca_load::open_library;
 use ca_matrix::Matrix;

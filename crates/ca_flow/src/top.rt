@@ -9,13 +9,13 @@ ghost use Rattle.ca_load.specs.Files.{TellsStoreFault};
 ghost use Rattle.ca_flow.specs.Ends.{IsAsked, Ends};
 ghost use Rattle.ca_flow.specs.Work.{HasFile};
 
-use ca_fault::Fault;
 use crate::finished::{Done, Finished, finish, refused};
 use crate::listing::find_names;
 use crate::tables::{file_of, find_matrix};
 use crate::values::find_values;
 use crate::words::{Command, parse};
 use crate::work::Work;
+use ca_fault::Fault;
 use ca_load::{Loaded, load};
 use ca_store::{Sink, Store};
 use std::alloc::Global;

@@ -8,13 +8,13 @@ ghost use Rattle.ca_flow.specs.Fault.{IsValueCause};
 ghost use Rattle.ca_flow.specs.Stages.{IsEvaluationCause, IsUnfit};
 ghost use Rattle.ca_load.specs.Files.{TellsStoreFault};
 
-use ca_fault::Fault;
 use crate::inputs::{find_cell, typed_words};
 use crate::outputs::values_of;
 use crate::pin_values::PinValues;
 use crate::words::PairWords;
 use ca_cell::Cell;
 use ca_defect::{Overlay, parse};
+use ca_fault::Fault;
 use ca_lex::Text;
 use ca_load::open_library;
 use ca_store::Store;

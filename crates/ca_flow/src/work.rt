@@ -3,8 +3,8 @@ ghost use Rattle.std.specs.Prelude.{◌≡◌, IfErr, IsSomeAnd, OnOk};
 ghost use Rattle.ca_store.specs.Store.{Nothing, KeepsCount};
 ghost use Rattle.ca_flow.specs.Work.{HasWritten, FailsToWrite};
 
-use ca_fault::Fault;
 use crate::finished::Done;
+use ca_fault::Fault;
 use ca_lex::Text;
 use ca_store::{Store, write_file};
 

@@ -43,12 +43,7 @@ fn files_with(alloc: Global, netlist: &str) -> Result<FileMap, NoMemory> {
 }
 
 // One command over these files and a sink of this room.
-fn outcome_of(
-    alloc: Global,
-    netlist: &str,
-    line: &str,
-    room: usize,
-) -> Result<Outcome, NoMemory> {
+fn outcome_of(alloc: Global, netlist: &str, line: &str, room: usize) -> Result<Outcome, NoMemory> {
     let words = words_of(alloc, line)?;
     let files = files_with(alloc, netlist)?;
     let mut store = MemStore::new(alloc, files, 60, 0, FailList::new(alloc))?;
@@ -92,12 +87,7 @@ fn check_refused(
 }
 
 // The chip with two scan instances, with one piece in place of another, is refused.
-fn check_change(
-    rt: &impl Abort,
-    alloc: Global,
-    change: &Change,
-    table: &str,
-) -> Result<(), Fail> {
+fn check_change(rt: &impl Abort, alloc: Global, change: &Change, table: &str) -> Result<(), Fail> {
     let (before, after) = SHIFT.split_once(change.0).expect(rt, "the piece is there");
     let text = format!(in alloc; "{before}{}{after}", change.1)?;
     let line = format!(in alloc; "check n.sp n.v {table}")?;
@@ -135,7 +125,13 @@ fn each_fault_of_a_chip_is_told(rt: HostRuntime) -> Result<(), Fail> {
 #[test]
 fn cells_come_first_and_a_rule_has_its_instance(rt: HostRuntime) -> Result<(), Fail> {
     let alloc = rt.alloc();
-    check_refused(&rt, alloc, C17, "check bad.sp m.v -", "cells: line 1: UnknownCard")?;
+    check_refused(
+        &rt,
+        alloc,
+        C17,
+        "check bad.sp m.v -",
+        "cells: line 1: UnknownCard",
+    )?;
     check_refused(&rt, alloc, C17, "check m.sp m.v -", "file fault: m.sp")?;
     let ended = outcome_of(alloc, C17, "check n.sp shift.v -", 100)?;
     assert!(rt; matches!(&ended.end.fault, Some(Fault::Chip(_))));

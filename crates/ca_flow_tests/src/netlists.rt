@@ -94,30 +94,58 @@ pub(crate) static WORDS: [Row; 11] = [
 pub(crate) type Change = (&'static str, &'static str, &'static str);
 
 pub(crate) static FAULTS: [Change; 17] = [
-    ("(.A(a), .ZN(w))", "(.A(b), .ZN(w))", "netlist: line 3: Undeclared"),
+    (
+        "(.A(a), .ZN(w))",
+        "(.A(b), .ZN(w))",
+        "netlist: line 3: Undeclared",
+    ),
     ("endmodule", "", "netlist: line 6: Syntax"),
     ("wire w", "reg w", "netlist: line 2: Unsupported"),
     ("INV u2", "INV u1", "netlist: line 6: DoubleName"),
     ("wire w", "wire [1:0] w", "netlist: line 3: BadRange"),
     ("INV u1", "INVX u1", "chip: UnknownCell"),
-    ("INV u1 (.A(a), .ZN(w))", "tg u1 (.A(a), .EN(a), .Z(w))", "cell TG: InputDrivesChannel"),
-    ("(.A(a), .ZN(w))", "(.A(a), .VDD(a), .ZN(w))", "chip: UnknownPin"),
+    (
+        "INV u1 (.A(a), .ZN(w))",
+        "tg u1 (.A(a), .EN(a), .Z(w))",
+        "cell TG: InputDrivesChannel",
+    ),
+    (
+        "(.A(a), .ZN(w))",
+        "(.A(a), .VDD(a), .ZN(w))",
+        "chip: UnknownPin",
+    ),
     ("(.A(a), .ZN(w))", "(.ZN(w))", "chip: MissingPin"),
     ("(.A(a), .ZN(w))", "(.A(a), .ZN(z))", "chip: DoubleDriven"),
     ("(.A(a), .ZN(w))", "(.A(a), .ZN())", "chip: Undriven"),
-    (".SE(se), .CK(ck), .HOLD(hold));\n  SFF", ".SE(w), .CK(ck), .HOLD(hold));\n  SFF", "chip: ControlPin"),
+    (
+        ".SE(se), .CK(ck), .HOLD(hold));\n  SFF",
+        ".SE(w), .CK(ck), .HOLD(hold));\n  SFF",
+        "chip: ControlPin",
+    ),
     ("INV u1 (.A(a)", "INV u1 (.A(si)", "chip: ControlObserved"),
     (".Q(v), .QN()", ".Q(), .QN(v)", "chip: QnUsed"),
     ("INV u1 (.A(a)", "INV u1 (.A(w)", "chip: Loop"),
-    (".SI(t), .SO(so)", ".SI(si), .SO(so)", "scan chain broken at r0"),
+    (
+        ".SI(t), .SO(so)",
+        ".SI(si), .SO(so)",
+        "scan chain broken at r0",
+    ),
     (".SI(si), .SO(t)", ".SI(si), .SO()", "chip: Undriven"),
 ];
 
 // The same over a table with a record of eight fields: the netlist is read before it, and linked behind it.
 pub(crate) static ORDERS: [Change; 3] = [
-    ("(.A(a), .ZN(w))", "(.A(b), .ZN(w))", "netlist: line 3: Undeclared"),
+    (
+        "(.A(a), .ZN(w))",
+        "(.A(b), .ZN(w))",
+        "netlist: line 3: Undeclared",
+    ),
     ("INV u1", "INVX u1", "scan table: record 2"),
-    (".SI(t), .SO(so)", ".SI(si), .SO(so)", "scan table: record 2"),
+    (
+        ".SI(t), .SO(so)",
+        ".SI(si), .SO(so)",
+        "scan table: record 2",
+    ),
 ];
 
 // Netlists past a limit.
@@ -126,7 +154,10 @@ pub(crate) static LIMITS: [(&str, &str); 3] = [
         "module m(a); input [131071:0] a; wire b; endmodule",
         "limit: Nets 131073",
     ),
-    ("module m(a); input [4096:0] a; endmodule", "limit: Inputs 4097"),
+    (
+        "module m(a); input [4096:0] a; endmodule",
+        "limit: Inputs 4097",
+    ),
     (
         "module m(a, z); input a; output [8192:0] z; endmodule",
         "chip: Undriven",

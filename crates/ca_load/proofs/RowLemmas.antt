@@ -51,7 +51,7 @@ steps_differ rows (here ∷ records) all differ is =
     by : (found : Option (List ScanRow)) → with_fields rows here.fields ≡ found
         → ((more : List ScanRow) → Differ more → steps_from record_step more records ≡ Ok all → Differ all)
         → elim (elim found as (λ _. Result (List ScanRow) ℕ) [ None ↦ Err here.row | Some more ↦ Ok more ])
-            as (λ _. Result (List ScanRow) ℕ) [
+        as (λ _. Result (List ScanRow) ℕ) [
           | Ok next ↦ steps_from record_step next records
           | Err fault ↦ Err fault
         ] ≡ Ok all → Differ all

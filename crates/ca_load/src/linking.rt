@@ -88,7 +88,10 @@ fn cell_name(alloc: Global, netlist: &RawNetlist, u: InstanceId) -> Result<Text,
     requires { u.0 < length netlist.now.instances }
     ensures { IfOk result (IsOfCell netlist.now u) }
 {
-    fold(alloc, netlist.instances.as_slice()[u.0 as usize].cell.as_bytes())
+    fold(
+        alloc,
+        netlist.instances.as_slice()[u.0 as usize].cell.as_bytes(),
+    )
 }
 
 // The chains of a chip.

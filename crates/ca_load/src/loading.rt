@@ -34,11 +34,7 @@ pub struct Loaded {
 /// cells; only then is the netlist linked, and last its chains are traced. Names that faults of files tell are in
 /// memory before the first file is opened.
 #[tactic(auto, using(crate::proofs::LinkLemmas::of_read, crate::proofs::LinkLemmas::at_inputs))]
-pub fn load<S: Store>(
-    alloc: Global,
-    names: &FileNames<'_>,
-    store: &mut S,
-) -> Result<Loaded, Fault>
+pub fn load<S: Store>(alloc: Global, names: &FileNames<'_>, store: &mut S) -> Result<Loaded, Fault>
     requires closed { S.opened store.old ≡ Nothing }
 
     ensures ok { IfOk result (λ loaded. OfInputs (S.files store.old) (names_of names.now)

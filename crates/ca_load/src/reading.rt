@@ -55,12 +55,7 @@ fn typed_names(alloc: Global, names: &FileNames<'_>) -> Result<TypedNames, NoMem
 }
 
 /// The cell netlist, read and judged whole; then the gate netlist; and then the table of scan cells.
-#[tactic(auto, using(
-    crate::proofs::ReadLemmas::at_netlist,
-    crate::proofs::ReadLemmas::at_scan,
-    crate::proofs::ReadLemmas::are_read,
-    crate::proofs::ReadLemmas::told_since
-))]
+#[tactic(auto, using(crate::proofs::ReadLemmas::at_netlist, crate::proofs::ReadLemmas::at_scan, crate::proofs::ReadLemmas::are_read, crate::proofs::ReadLemmas::told_since))]
 pub(crate) fn read_all<S: Store>(
     alloc: Global,
     names: &FileNames<'_>,
