@@ -34,7 +34,9 @@ MN4 ZN A4 VSS VSS NCH W=415n L=50n
 ";
 
 pub(crate) const INV: usize = 0;
+
 pub(crate) const NAND2: usize = 1;
+
 pub(crate) const NOR4: usize = 2;
 
 const NAMES: [&[u8]; 3] = [b"INV", b"NAND2", b"NOR4"];
@@ -55,7 +57,12 @@ fn cells(rt: &impl Abort, alloc: Global) -> Result<Vec<Cell>, NoMemory> {
 }
 
 // The chip of these instances: of each its cell and the nets that it reads.
-pub(crate) fn chip(rt: &impl Abort, alloc: Global, inputs: usize, table: &[(usize, &[u32])]) -> Ladder {
+pub(crate) fn chip(
+    rt: &impl Abort,
+    alloc: Global,
+    inputs: usize,
+    table: &[(usize, &[u32])],
+) -> Ladder {
     let mut rungs = Vec::new(alloc);
     for (cell, nets) in table {
         let mut pins = Numbers::new(alloc);

@@ -10,21 +10,29 @@ use std::alloc::Global;
 use std::process::Abort;
 
 const ZERO: Trit = Trit::Zero;
+
 const ONE: Trit = Trit::One;
+
 const X: Trit = Trit::X;
 
 // Sets a bit.
 fn set(rt: &impl Abort, sim: &mut Sim<'_, Ladder>, bit: usize, value: Option<bool>) {
     sim.exact();
     let chip = sim.chip();
-    assert!(rt; chip.inputs() < 32_768 && bit < 2 * chip.inputs(), "bit {bit}");
+    assert!(rt;
+        chip.inputs() < 32_768 && bit < 2 * chip.inputs(),
+        "bit {bit}"
+    );
     sim.set(bit as u16, value);
 }
 
 // Aims at a defect of an instance, by its name.
 fn aim(rt: &impl Abort, sim: &mut Sim<'_, Ladder>, u: usize, name: &[u8]) {
     let chip = sim.chip();
-    assert!(rt; u < 65_536 && u < chip.instances() && chip.place(u) > 0, "instance {u}");
+    assert!(rt;
+        u < 65_536 && u < chip.instances() && chip.place(u) > 0,
+        "instance {u}"
+    );
     let defect = parse(chip.cell(u), name).expect(rt, "a defect");
     sim.aim(Some(ChipDefect {
         instance: u as u32,
@@ -51,7 +59,10 @@ const GLITCH: [(usize, &[u32]); 5] = [
 fn hazard_destroys_the_charge(rt: HostRuntime) {
     let glitch = chip(&rt, rt.alloc(), 3, &GLITCH);
     let mut sim = Sim::reserve(rt.alloc(), &glitch).expect(&rt, "memory");
-    for (bit, value) in [true, true, true, false, false, true].into_iter().enumerate() {
+    for (bit, value) in [true, true, true, false, false, true]
+        .into_iter()
+        .enumerate()
+    {
         set(&rt, &mut sim, bit, Some(value));
     }
     aim(&rt, &mut sim, 4, b"MP1(D)");
@@ -74,7 +85,13 @@ fn a_set_bit_evaluates_two_instances_of_a_thousand(rt: HostRuntime) {
     let row = ladder(&rt, rt.alloc(), 1000, rungs);
     let mut sim = Sim::reserve(rt.alloc(), &row).expect(&rt, "memory");
     assert_eq!(rt; sim.evaluated(), 0);
-    for (bit, value) in [(3, Some(true)), (1003, Some(false)), (3, None), (7, None), (1999, Some(true))] {
+    for (bit, value) in [
+        (3, Some(true)),
+        (1003, Some(false)),
+        (3, None),
+        (7, None),
+        (1999, Some(true)),
+    ] {
         let before = sim.evaluated();
         set(&rt, &mut sim, bit, value);
         assert!(rt; sim.evaluated() - before <= 2, "bit {bit}");
@@ -105,6 +122,7 @@ const NAMES: [&[u8]; 6] = [
 ];
 
 const INPUTS: usize = 6;
+
 const INSTANCES: usize = 30;
 
 // Thirty instances, each of which reads nets before its own.
@@ -119,7 +137,8 @@ fn drawn(rt: &impl Abort, alloc: Global, draw: &mut Draw) -> Ladder {
         };
         let mut pins = Numbers::new(alloc);
         for _pin in 0..count {
-            pins.push(draw.below((INPUTS + u) as u64) as u32).expect(rt, "memory");
+            pins.push(draw.below((INPUTS + u) as u64) as u32)
+                .expect(rt, "memory");
         }
         rungs.push(Rung { cell, pins }).expect(rt, "memory");
     }
