@@ -5,7 +5,7 @@ use Told::{Broken, Listed};
 use ca_cell::Library;
 use ca_lex::Text;
 use ca_scan::{ChainFault, MOST_CHAINS, trace};
-use ca_wired::{Body, Chip, Draft, InstanceList, Part, PortBit, ScanNets, wire};
+use ca_wired::{Body, Chip, Draft, InstanceList, Part, PortBit, ScanNets, judge, wire};
 use std::alloc::Global;
 
 /// A scan instance, by the nets of its output, its scan-in and its scan-out.
@@ -92,7 +92,10 @@ fn chip(alloc: Global, nets: usize, scans: &[Scan], ports: &[Port]) -> Option<Ch
     if !is_drafted(&draft) {
         return None;
     }
-    wire(alloc, draft).ok()
+    match judge(alloc, &draft) {
+        Ok(judged) => wire(alloc, draft, judged).ok(),
+        Err(_) => None,
+    }
 }
 
 fn is_chain(chain: &InstanceList, list: &[u32]) -> bool {
