@@ -1,19 +1,18 @@
 -- Chips for tests are chips, and are linked.
-use Rattle.std.proofs.Common.{◌≡◌, ℕ, zero, suc, ◌+◌, ◌-◌, ◌*◌, ◌<◌, ◌≤◌, List, [], ◌∷◌, ◌++◌, length, map, replicate, Some, inl, inr, refl, sym, ◌∙◌, ap, subst, arith, get_or, length-append}
+use Rattle.std.proofs.Common.{◌≡◌, ℕ, zero, suc, ◌+◌, ◌-◌, ◌<◌, List, [], ◌∷◌, ◌++◌, length, replicate, Some, inl, inr, refl, sym, ◌∙◌, ap, subst, arith, get_or, length-append}
 use Rattle.std.specs.Prelude.{slice_get, slice_index}
 use Rattle.std.specs.List.{Contains, range_with_len}
 use Rattle.std.proofs.lemmas.Bool.{cases_lt}
-use Rattle.std.proofs.lemmas.List.{get_or_append_left, get_or-append_right, get_or_past, get_or-replicate, length-replicate, get_or-map, get_or_push, get_or_default}
+use Rattle.std.proofs.lemmas.List.{get_or_append_left, get_or-append_right, get_or-replicate, length-replicate, get_or-map, get_or_push, get_or_default}
 use Rattle.std.proofs.lemmas.List.FromFn.{get_or-range_with_len, length-range_with_len}
 use Rattle.std.proofs.lemmas.List.Elements.{All-get_or}
 use Rattle.std.proofs.lemmas.Option.{slice_get_within, slice_get_cases, slice_get-get_or, get_or_from_slice_get}
 use Rattle.ca_net.specs.declared.scale.TheConstants.{OUTPUT_NET}
-use Rattle.ca_net.specs.declared.node.NodeKind.{NodeKind}
 use Rattle.ca_net.specs.declared.node.NodeKind.TheVariants.{Input, Storage}
 use Rattle.ca_cell.specs.declared.raw.RawCell.{RawCell}
 use Rattle.ca_cell.specs.Raw.{is_input, is_output, role_count}
-use Rattle.ca_flat.specs.Chip.{Chip, Instance, Constant, no_instance, instance_at, cell_at, inputs_at, outputs_at, net_of, output_net, count_of, net_kind, IsCell, IsChip, Drives}
-use Rattle.ca_sim.specs.Linked.{Reads, AreReaders, IsLinked, IsPinned, IsPlaced, IsPlace, place_in}
+use Rattle.ca_flat.specs.Chip.{Chip, Instance, no_instance, instance_at, cell_at, inputs_at, outputs_at, net_of, count_of, net_kind, IsCell, IsChip, Drives}
+use Rattle.ca_sim.specs.Linked.{AreReaders, IsLinked, IsPinned, IsPlace, place_in}
 use Rattle.ca_sim_tests.specs.declared.rung.Rung.{Rung}
 use Rattle.ca_sim_tests.specs.Ladder.{cell_of, instances_from, ladder_of, places_of, number_in, IsRung, AreRungsTo, IsRowTo, row_of, IsLadder}
 

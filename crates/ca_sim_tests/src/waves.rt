@@ -1,5 +1,7 @@
 //! The waves of nets, by a simulator and worked out by hand, and how often an instance is evaluated.
 
+ghost use Rattle.std.specs.Prelude.{◌<◌};
+
 use crate::chips::{INV, NAND2, NOR4, chip, ladder};
 use crate::{Ladder, Numbers, Rung};
 use ca_defect::parse;
@@ -94,7 +96,7 @@ fn a_set_bit_evaluates_two_instances_of_a_thousand(rt: HostRuntime) {
     ] {
         let before = sim.evaluated();
         set(&rt, &mut sim, bit, value);
-        assert!(rt; sim.evaluated() - before <= 2, "bit {bit}");
+        assert!(rt; sim.evaluated().saturating_sub(before) <= 2, "bit {bit}");
     }
     let (good, faulty) = both(&rt, &sim, 1999);
     assert_eq!(rt; (good.first, good.mid, good.last), (X, X, ZERO));
@@ -108,7 +110,10 @@ struct Draw {
 }
 
 impl Draw {
-    fn below(&mut self, bound: u64) -> u64 {
+    fn below(&mut self, bound: u64) -> u64
+        requires { 0 < bound }
+        ensures { result < bound }
+    {
         self.state = self
             .state
             .wrapping_mul(6_364_136_223_846_793_005)
@@ -152,14 +157,15 @@ fn is_as_fresh(
     chip: &Ladder,
     sim: &Sim<'_, Ladder>,
     bits: &State,
-    aimed: Option<(usize, usize)>,
+    aimed: Option<(usize, &[u8])>,
 ) {
     let mut fresh = Sim::reserve(alloc, chip).expect(rt, "memory");
     if let Some((u, name)) = aimed {
-        aim(rt, &mut fresh, u, NAMES[name]);
+        aim(rt, &mut fresh, u, name);
     }
     fresh.exact();
-    assert_eq!(rt; bits.len(), 2 * fresh.chip().inputs());
+    let inputs = fresh.chip().inputs();
+    assert!(rt; inputs < 32_768 && bits.len() == 2 * inputs, "bits");
     fresh.load(bits);
     for net in 0..INPUTS + INSTANCES {
         assert_eq!(rt; both(rt, sim, net), both(rt, &fresh, net), "net {net}");
@@ -185,8 +191,8 @@ fn waves_are_those_of_a_fresh_simulator(rt: HostRuntime) {
             }
             2 | 3 => {
                 let u = draw.below(INSTANCES as u64) as usize;
-                let name = draw.below(6) as usize;
-                aim(&rt, &mut sim, u, NAMES[name]);
+                let name = NAMES[draw.below(6) as usize];
+                aim(&rt, &mut sim, u, name);
                 aimed = Some((u, name));
             }
             _ => {
@@ -197,6 +203,7 @@ fn waves_are_those_of_a_fresh_simulator(rt: HostRuntime) {
                     _ => (None, X),
                 };
                 set(&rt, &mut sim, bit, value);
+                assert!(rt; bit < bits.len(), "bit {bit}");
                 bits.set(bit, trit);
             }
         }
