@@ -1,7 +1,8 @@
 -- Chips for tests: instances with one output pin, each of which drives the net behind all nets before it.
-use Rattle.std.specs.Prelude.{ℕ, suc, ◌+◌, ◌*◌, ◌^◌, ◌≡◌, ◌<◌, List, [], ◌∷◌, ◌++◌, length, map, replicate, slice_get, slice_index, slice_index_or, Some}
+use Rattle.std.specs.Prelude.{ℕ, suc, ◌+◌, ◌-◌, ◌*◌, ◌≤◌, ◌^◌, ◌≡◌, ◌<◌, List, [], ◌∷◌, ◌++◌, length, map, replicate, slice_get, slice_index, slice_index_or, Some}
 use Rattle.std.specs.List.{All, Contains, range_with_len}
 use Rattle.ca_net.specs.declared.scale.TheConstants.{OUTPUT_NET}
+use Rattle.ca_net.specs.declared.trit.Trit.TheVariants.{Zero}
 use Rattle.ca_net.specs.declared.node.NodeKind.TheVariants.{Input, Storage}
 use Rattle.ca_cell.specs.declared.raw.RawCell.{RawCell}
 use Rattle.ca_cell.specs.Raw.{is_input, is_output, role_count}
@@ -19,13 +20,14 @@ instances_from cells net (rung ∷ rungs) =
     record { cell = cell_of cells rung.cell; pins = rung.pins ++ net ∷ [] }
     ∷ instances_from cells (suc net) rungs
 
--- the chip: the nets of its inputs come first
+-- The chip: the first net has the constant 0, and those of the chip inputs follow. So many nets in all are
+-- driven by no instance.
 abbrev pub ladder_of : ℕ → List RawCell → List Rung → Chip
 ladder_of inputs cells rungs = record {
   nets = replicate inputs Input ++ replicate (length rungs) (Storage OUTPUT_NET);
   instances = instances_from cells inputs rungs;
-  inputs = range_with_len 0 inputs;
-  constants = [];
+  inputs = range_with_len 1 (inputs - 1);
+  constants = record { net = 0; value = Zero } ∷ [];
   outputs = [];
 }
 
@@ -79,6 +81,7 @@ core_of shape = ladder_of shape.inputs shape.cells shape.rungs
 
 -- it is one
 pub record IsLadder (shape : Shape) : Type 0 where
+  pub some_input : 1 ≤ shape.inputs
   pub few_inputs : 2 * shape.inputs < 2 ^ 32
   pub few_rungs : shape.inputs + length shape.rungs < 2 ^ 32
   pub are_rungs : AreRungsTo shape.cells shape.inputs (length shape.rungs) shape.rungs

@@ -1,17 +1,19 @@
 -- Chips for tests are chips, and are linked.
 use Rattle.std.proofs.Common.{◌≡◌, ℕ, zero, suc, ◌+◌, ◌-◌, ◌<◌, List, [], ◌∷◌, ◌++◌, length, replicate, Some, inl, inr, refl, sym, ◌∙◌, ap, subst, arith, get_or, length-append}
-use Rattle.std.specs.Prelude.{slice_get, slice_index}
+use Rattle.std.specs.Prelude.{slice_get, slice_index, ◌==◌, if◌then◌else◌}
 use Rattle.std.specs.List.{Contains, range_with_len}
-use Rattle.std.proofs.lemmas.Bool.{cases_lt}
+use Rattle.std.proofs.lemmas.Bool.{cases_lt, ne_eqb}
 use Rattle.std.proofs.lemmas.List.{get_or_append_left, get_or-append_right, get_or-replicate, length-replicate, get_or-map, get_or_push, get_or_default}
 use Rattle.std.proofs.lemmas.List.FromFn.{get_or-range_with_len, length-range_with_len}
 use Rattle.std.proofs.lemmas.List.Elements.{All-get_or}
 use Rattle.std.proofs.lemmas.Option.{slice_get_within, slice_get_cases, slice_get-get_or, get_or_from_slice_get}
 use Rattle.ca_net.specs.declared.scale.TheConstants.{OUTPUT_NET}
+use Rattle.ca_net.specs.declared.trit.Trit.{Trit}
+use Rattle.ca_net.specs.declared.trit.Trit.TheVariants.{Zero}
 use Rattle.ca_net.specs.declared.node.NodeKind.TheVariants.{Input, Storage}
 use Rattle.ca_cell.specs.declared.raw.RawCell.{RawCell}
 use Rattle.ca_cell.specs.Raw.{is_input, is_output, role_count}
-use Rattle.ca_flat.specs.Chip.{Chip, Instance, no_instance, instance_at, cell_at, inputs_at, outputs_at, net_of, count_of, net_kind, IsCell, IsChip, Drives}
+use Rattle.ca_flat.specs.Chip.{Chip, Instance, Constant, no_instance, instance_at, cell_at, inputs_at, outputs_at, net_of, count_of, net_kind, IsCell, IsChip, Drives}
 use Rattle.ca_sim.specs.Linked.{AreReaders, IsLinked, IsPinned, IsPlace, place_in}
 use Rattle.ca_sim_tests.specs.declared.rung.Rung.{Rung}
 use Rattle.ca_sim_tests.specs.Ladder.{cell_of, instances_from, ladder_of, places_of, number_in, IsRung, AreRungsTo, IsRowTo, row_of, IsLadder}
@@ -233,27 +235,43 @@ module _ (inputs : ℕ) (cells : List RawCell) (rungs : List Rung) (rows : List 
 
   pub ladder_pinned : IsPinned (ladder_of inputs cells rungs)
   ladder_pinned = record {
-    few = let few = kept.few_inputs in let l = length-range_with_len 0 inputs in omega arith;
+    few = let few = kept.few_inputs in let l = length-range_with_len 1 (inputs - 1) in omega arith;
     few_nets = let few = kept.few_rungs in let count = nets_are in omega arith;
     within = λ input lt.
-        let l = length-range_with_len 0 inputs in
-        let is = get_or-range_with_len 0 inputs input 0 (omega arith) in
+        let is = input_is input lt in
+        let l = length-range_with_len 1 (inputs - 1) in
         let count = nets_are in omega arith;
     kind = λ input lt.
-        let l = length-range_with_len 0 inputs in
-        let sum = get_or-range_with_len 0 inputs input 0 (omega arith) in
-        let is : slice_index (range_with_len 0 inputs) input ≡ input = omega arith in
-        ap (net_kind (ladder_of inputs cells rungs)) is ∙ kind_is input (omega arith);
+        let l = length-range_with_len 1 (inputs - 1) in
+        ap (net_kind (ladder_of inputs cells rungs)) (input_is input lt) ∙ kind_is (1 + input) (omega arith);
     distinct = λ i j one other same.
-        let l = length-range_with_len 0 inputs in
-        let a = get_or-range_with_len 0 inputs i 0 (omega arith) in
-        let b = get_or-range_with_len 0 inputs j 0 (omega arith) in
+        let a = input_is i one in
+        let b = input_is j other in
         omega arith;
-    free = λ input value lt. refl;
-    constant_within = λ k constant at. absurd (let within = slice_get_within [] k constant at in omega arith);
-    constant_kind = λ k constant at. absurd (let within = slice_get_within [] k constant at in omega arith);
+    free = λ input value lt.
+        ap (λ net. if net == 0 then Zero else value) (input_is input lt) ∙ past input value;
+    constant_within = λ k constant at.
+        let some = kept.some_input in
+        let count = nets_are in
+        let net = fixed_net k constant at in omega arith;
+    constant_kind = λ k constant at.
+        ap (net_kind (ladder_of inputs cells rungs)) (fixed_net k constant at) ∙ kind_is 0 (let some = kept.some_input in omega arith);
   }
     where
+      input_is : (input : ℕ) → input < length (range_with_len 1 (inputs - 1))
+          → slice_index (range_with_len 1 (inputs - 1)) input ≡ 1 + input
+      input_is input lt =
+          let l = length-range_with_len 1 (inputs - 1) in
+          get_or-range_with_len 1 (inputs - 1) input 0 (omega arith)
+
+      past : (input : ℕ) (value : Trit) → (if (1 + input) == 0 then Zero else value) ≡ value
+      past input value = ap (λ b. if b then Zero else value) (ne_eqb (1 + input) 0 (λ e. let same = e in omega arith))
+
+      fixed_net : (k : ℕ) (constant : Constant) → slice_get (record { net = 0; value = Zero } ∷ []) k ≡ Some constant
+          → constant.net ≡ 0
+      fixed_net zero constant at = cc
+      fixed_net (suc k) constant at = absurd (let within = slice_get_within (record { net = 0; value = Zero } ∷ []) (suc k) constant at in omega arith)
+
       nets_are : length (ladder_of inputs cells rungs).nets ≡ inputs + length rungs
       nets_are = net_count inputs cells rungs kept.are_rungs
 

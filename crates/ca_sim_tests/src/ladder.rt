@@ -13,7 +13,8 @@ use ca_sim::{FixedNet, Linked};
 use std::alloc::Global;
 use std::marker::Model;
 
-/// A chip: its inputs have the first nets, and each instance drives the next.
+/// A chip: the first net has the constant 0, its inputs have the next ones, and each instance drives one more.
+/// `inputs` counts the nets before those of the instances.
 #[derive(Drop)]
 pub struct Ladder {
     inputs: usize,
@@ -50,7 +51,11 @@ impl Ladder {
         cells: Vec<Cell>,
         rungs: Vec<Rung>,
     ) -> Result<Option<Self>, NoMemory> {
-        if inputs >= 32_768 || rungs.len() >= 32_768 || !are_rungs(&cells, inputs, &rungs) {
+        if inputs == 0
+            || inputs >= 32_768
+            || rungs.len() >= 32_768
+            || !are_rungs(&cells, inputs, &rungs)
+        {
             return Ok(None);
         }
         let rows = rows_of(alloc, inputs + rungs.len(), &rungs)?;
@@ -192,21 +197,23 @@ impl Linked for Ladder {
     }
 
     fn inputs(&self) -> usize {
-        self.inputs
+        let _ = &self.rows;
+        self.inputs - 1
     }
 
     fn input(&self, input: usize) -> usize {
-        input
+        let _ = &self.inputs;
+        input + 1
     }
 
     fn constants(&self) -> usize {
-        0
+        1
     }
 
     fn constant(&self, _k: usize) -> FixedNet {
         FixedNet {
             net: 0,
-            value: Trit::X,
+            value: Trit::Zero,
         }
     }
 

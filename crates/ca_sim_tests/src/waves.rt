@@ -50,16 +50,16 @@ fn both(rt: &impl Abort, sim: &Sim<'_, Ladder>, net: usize) -> (Wave, Wave) {
 
 // A hazard of y lets the charge of z go, where the new branch of u4 closes before the old one opens.
 const GLITCH: [(usize, &[u32]); 5] = [
-    (INV, &[1]),
-    (NAND2, &[1, 2]),
-    (NAND2, &[3, 2]),
-    (NAND2, &[4, 5]),
-    (NAND2, &[0, 6]),
+    (INV, &[2]),
+    (NAND2, &[2, 3]),
+    (NAND2, &[4, 3]),
+    (NAND2, &[5, 6]),
+    (NAND2, &[1, 7]),
 ];
 
 #[test]
 fn hazard_destroys_the_charge(rt: HostRuntime) {
-    let glitch = chip(&rt, rt.alloc(), 3, &GLITCH);
+    let glitch = chip(&rt, rt.alloc(), 4, &GLITCH);
     let mut sim = Sim::reserve(rt.alloc(), &glitch).expect(&rt, "memory");
     for (bit, value) in [true, true, true, false, false, true]
         .into_iter()
@@ -68,9 +68,9 @@ fn hazard_destroys_the_charge(rt: HostRuntime) {
         set(&rt, &mut sim, bit, Some(value));
     }
     aim(&rt, &mut sim, 4, b"MP1(D)");
-    let (y, _) = both(&rt, &sim, 6);
+    let (y, _) = both(&rt, &sim, 7);
     assert_eq!(rt; (y.first, y.mid, y.last), (ONE, X, ONE));
-    let (good, faulty) = both(&rt, &sim, 7);
+    let (good, faulty) = both(&rt, &sim, 8);
     assert_eq!(rt; good.last, ONE);
     assert_eq!(rt; faulty.last, X);
     assert_eq!(rt; sim.aimed(), 1);
@@ -79,12 +79,12 @@ fn hazard_destroys_the_charge(rt: HostRuntime) {
 #[test]
 fn a_set_bit_evaluates_two_instances_of_a_thousand(rt: HostRuntime) {
     let mut rungs = Vec::new(rt.alloc());
-    for input in 0..1000_u32 {
+    for input in 1..1001_u32 {
         let mut pins = Numbers::new(rt.alloc());
         pins.push(input).expect(&rt, "memory");
         rungs.push(Rung { cell: INV, pins }).expect(&rt, "memory");
     }
-    let row = ladder(&rt, rt.alloc(), 1000, rungs);
+    let row = ladder(&rt, rt.alloc(), 1001, rungs);
     let mut sim = Sim::reserve(rt.alloc(), &row).expect(&rt, "memory");
     assert_eq!(rt; sim.evaluated(), 0);
     for (bit, value) in [
@@ -98,7 +98,7 @@ fn a_set_bit_evaluates_two_instances_of_a_thousand(rt: HostRuntime) {
         set(&rt, &mut sim, bit, value);
         assert!(rt; sim.evaluated().saturating_sub(before) <= 2, "bit {bit}");
     }
-    let (good, faulty) = both(&rt, &sim, 1999);
+    let (good, faulty) = both(&rt, &sim, 2000);
     assert_eq!(rt; (good.first, good.mid, good.last), (X, X, ZERO));
     assert_eq!(rt; faulty, good);
 }
@@ -126,7 +126,10 @@ const NAMES: [&[u8]; 6] = [
     b"MP1(D)", b"MP1(S)", b"MP1(G)", b"MN1(D)", b"VDD=ZN", b"VSS=ZN",
 ];
 
-const INPUTS: usize = 6;
+// The net of the constant and those of the chip inputs.
+const NETS: usize = 7;
+
+const BITS: usize = 12;
 
 const INSTANCES: usize = 30;
 
@@ -142,12 +145,12 @@ fn drawn(rt: &impl Abort, alloc: Global, draw: &mut Draw) -> Ladder {
         };
         let mut pins = Numbers::new(alloc);
         for _pin in 0..count {
-            pins.push(draw.below((INPUTS + u) as u64) as u32)
+            pins.push(draw.below((NETS + u) as u64) as u32)
                 .expect(rt, "memory");
         }
         rungs.push(Rung { cell, pins }).expect(rt, "memory");
     }
-    ladder(rt, alloc, INPUTS, rungs)
+    ladder(rt, alloc, NETS, rungs)
 }
 
 // Asserts that the waves are those of a simulator of which nothing but this was asked.
@@ -167,7 +170,7 @@ fn is_as_fresh(
     let inputs = fresh.chip().inputs();
     assert!(rt; inputs < 32_768 && bits.len() == 2 * inputs, "bits");
     fresh.load(bits);
-    for net in 0..INPUTS + INSTANCES {
+    for net in 0..NETS + INSTANCES {
         assert_eq!(rt; both(rt, sim, net), both(rt, &fresh, net), "net {net}");
     }
 }
@@ -177,13 +180,13 @@ fn waves_are_those_of_a_fresh_simulator(rt: HostRuntime) {
     let mut draw = Draw { state: 1 };
     let chip = drawn(&rt, rt.alloc(), &mut draw);
     let mut sim = Sim::reserve(rt.alloc(), &chip).expect(&rt, "memory");
-    let mut bits = State::unknown(rt.alloc(), 2 * INPUTS).expect(&rt, "memory");
+    let mut bits = State::unknown(rt.alloc(), BITS).expect(&rt, "memory");
     let mut aimed = None;
     for step in 0..400 {
         match draw.below(16) {
             0 => {
                 sim.clear();
-                bits = State::unknown(rt.alloc(), 2 * INPUTS).expect(&rt, "memory");
+                bits = State::unknown(rt.alloc(), BITS).expect(&rt, "memory");
             }
             1 => {
                 sim.aim(None);
@@ -196,7 +199,7 @@ fn waves_are_those_of_a_fresh_simulator(rt: HostRuntime) {
                 aimed = Some((u, name));
             }
             _ => {
-                let bit = draw.below(2 * INPUTS as u64) as usize;
+                let bit = draw.below(BITS as u64) as usize;
                 let (value, trit) = match draw.below(3) {
                     0 => (Some(false), ZERO),
                     1 => (Some(true), ONE),

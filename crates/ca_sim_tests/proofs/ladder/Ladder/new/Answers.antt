@@ -16,6 +16,7 @@ pub invariant_of-result : goal.invariant_of-result
 invariant_of-result c =
     let count : c.args.inputs + c.len-2.result ≡ c.args.inputs + length c.args.rungs.items = omega arith in
     record {
+      some_input = omega arith;
       few_inputs = omega arith;
       few_rungs = omega arith;
       are_rungs = lent c.args.cells.items c.deref.result.now c.args.inputs c.args.rungs.items c.deref-else-len-ge32768.result.now
