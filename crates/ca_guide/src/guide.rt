@@ -1,0 +1,208 @@
+//! The guide: plain rule-out, and else the next bit.
+
+ghost use Rattle.std.specs.Prelude.{◌≡◌, ◌<◌, ◌≤◌, ◌↔◌, length, IfOk, IsTrue};
+ghost use Rattle.std.specs.List.{Contains};
+ghost use Rattle.ca_flat.specs.Chip.{count_of};
+ghost use Rattle.ca_flat.specs.Pair.{IsOpenPair};
+ghost use Rattle.ca_flat.specs.Rows.{ListsExposingRows};
+ghost use Rattle.ca_guide.specs.NetLists.{AreNetsOf};
+ghost use Rattle.ca_guide.specs.Seen.{pair_of, Covers};
+ghost use Rattle.ca_guide.specs.Guide.{HasRoomFor, IsSupport, ShowsPair, IsStep, IsUnsetAnswer};
+
+use crate::chip::LinkedChip;
+use crate::number_set::NumberSet;
+use crate::open_chain::reaches_output;
+use crate::rows::is_some_row_allowed;
+use crate::support::find_support;
+use crate::waves::NetWaves;
+use ca_base::NoMemory;
+use ca_defect::Rows;
+use ca_flat::ChipDefect;
+use std::alloc::Global;
+use std::marker::Model;
+
+/// What to do at an open pair.
+#[derive(Clone, Copy, Debug, PartialEq, Eq)]
+pub enum Step {
+    Branch { bit: u16, first: bool },
+    RuledOut,
+}
+
+/// A bit that might be decided next, and its first value.
+#[derive(Clone, Copy, Debug, PartialEq, Eq)]
+pub struct Proposal {
+    pub bit: u16,
+    pub first: bool,
+}
+
+/// Which bit to decide next. Any answer serves: one that isn't an unset bit of the support is not taken.
+pub trait Choice {
+    /// A bit, and its first value, at a pair that neither its rows nor its chains rule out.
+    fn propose<C: LinkedChip, V: NetWaves>(
+        &mut self,
+        guide: &Guide,
+        chip: &C,
+        waves: &V,
+        rows: &Rows,
+        defect: ChipDefect,
+    ) -> Proposal;
+}
+
+/// The plainest choice: it leaves the bit to the guide, which takes the lowest unset one, and decides for 0.
+#[derive(Clone, Copy, Debug, Default)]
+pub struct LowestUnset;
+
+impl Choice for LowestUnset {
+    fn propose<C: LinkedChip, V: NetWaves>(
+        &mut self,
+        _guide: &Guide,
+        _chip: &C,
+        _waves: &V,
+        _rows: &Rows,
+        _defect: ChipDefect,
+    ) -> Proposal {
+        Proposal {
+            bit: u16::MAX,
+            first: false,
+        }
+    }
+}
+
+/// The room of a guide, and the support of the defect that it is aimed at.
+#[derive(Drop, Debug)]
+pub struct Guide {
+    // the nets that a flood has reached
+    nets: NumberSet,
+    // the observed ones among them
+    outputs: NumberSet,
+    // the nets that lead to these
+    leading: NumberSet,
+    support: NumberSet,
+}
+
+impl Model for Guide {
+    ghost use Rattle.std.specs.Prelude.{◌≡◌, ◌<◌};
+    ghost use Rattle.ca_guide.specs.Guide.{Guided};
+
+    ghost Value = { Guided };
+
+    ghost view = { λ guide. record {
+      nets = guide.nets.bound;
+      bits = guide.support.bound;
+      support = guide.support.members;
+    } };
+
+    ghost invariant = { λ guide. (guide.outputs.bound ≡ guide.nets.bound)
+        × (guide.leading.bound ≡ guide.nets.bound) × (guide.support.bound < 65536) };
+}
+
+impl Guide {
+    /// Takes the room for a chip. It is aimed at no defect.
+    pub fn reserve<C: LinkedChip>(alloc: Global, chip: &C) -> Result<Self, NoMemory>
+        ensures { IfOk result (HasRoomFor (C.lists chip.now)) }
+    {
+        let nets = chip.net_count();
+        let bits = 2 * chip.inputs().len();
+        Ok(Guide {
+            nets: NumberSet::reserve(alloc, nets)?,
+            outputs: NumberSet::reserve(alloc, nets)?,
+            leading: NumberSet::reserve(alloc, nets)?,
+            support: NumberSet::reserve(alloc, bits)?,
+        })
+    }
+
+    /// Aims at a defect: its support is found.
+    pub fn aim<C: LinkedChip>(&mut self, chip: &C, defect: ChipDefect)
+        requires room { HasRoomFor (C.lists chip.now) self.old }
+        requires linked { AreNetsOf (C.chip chip.now) (C.lists chip.now) }
+        requires defect { defect.instance < count_of (C.chip chip.now) }
+        ensures room { HasRoomFor (C.lists chip.now) self.new }
+        ensures support { IsSupport (C.chip chip.now) defect self.new.support }
+    {
+        find_support(
+            &mut self.nets,
+            &mut self.outputs,
+            &mut self.leading,
+            &mut self.support,
+            chip,
+            defect.instance,
+        );
+    }
+
+    /// The next step at an open pair. It takes no memory. What is said of the step is said under the limits of
+    /// the flat networks that the waves are: they are there, but no call hands them out.
+    pub fn next<C: LinkedChip, V: NetWaves, P: Choice>(
+        &mut self,
+        chip: &C,
+        waves: &V,
+        rows: &Rows,
+        defect: ChipDefect,
+        choice: &mut P,
+    ) -> Step
+        requires room { HasRoomFor (C.lists chip.now) self.old }
+        requires linked { AreNetsOf (C.chip chip.now) (C.lists chip.now) }
+        requires defect { defect.instance < count_of (C.chip chip.now) }
+        requires support { IsSupport (C.chip chip.now) defect self.old.support }
+        requires covers { Covers (C.lists chip.now) (V.seen waves.now) }
+        requires is_open { IsOpenPair (C.chip chip.now) defect (pair_of (V.seen waves.now)) }
+        requires rows { ListsExposingRows (C.chip chip.now) defect rows.now }
+        ensures same { self.new ≡ self.old }
+        ensures step { ShowsPair (C.chip chip.now) defect (V.seen waves.now)
+            → IsStep (C.chip chip.now) defect (pair_of (V.seen waves.now)) result }
+    {
+        if !is_some_row_allowed(waves, chip.input_pins(defect.instance), rows) {
+            return Step::RuledOut;
+        }
+        if !reaches_output(&mut self.nets, chip, waves, defect.instance) {
+            return Step::RuledOut;
+        }
+        let proposal = choice.propose(self, chip, waves, rows, defect);
+        match self.unset_bit(waves, proposal.bit) {
+            Some(bit) => Step::Branch {
+                bit,
+                first: proposal.first,
+            },
+            None => Step::RuledOut,
+        }
+    }
+
+    /// Whether the bit is one of the support.
+    pub fn supports(&self, bit: u16) -> bool
+        ensures within { IsTrue result → bit < self.now.bits }
+        ensures listed { IsTrue result ↔ Contains self.now.support bit }
+    {
+        self.support.has(u32::from(bit))
+    }
+
+    /// Whether the net leads to an observed output that the defect reaches.
+    pub fn leads(&self, net: u32) -> bool {
+        self.leading.has(net)
+    }
+
+    // The wanted bit if it is an unset bit of the support, else the lowest that is.
+    fn unset_bit<V: NetWaves>(&self, waves: &V, wanted: u16) -> Option<u16>
+        requires { length (V.seen waves.now).bits ≡ self.now.bits }
+        ensures { IsUnsetAnswer self.now.support (V.seen waves.now).bits result }
+    {
+        if self.supports(wanted) {
+            if waves.bit(wanted).is_none() {
+                return Some(wanted);
+            }
+        }
+        self.first_unset(waves)
+    }
+
+    // The first unset bit of the support.
+    fn first_unset<V: NetWaves>(&self, waves: &V) -> Option<u16>
+        requires { length (V.seen waves.now).bits ≡ self.now.bits }
+        ensures { IsUnsetAnswer self.now.support (V.seen waves.now).bits result }
+    {
+        for place in 0..self.support.len() {
+            let bit = self.support.get(place) as u16;
+            if waves.bit(bit).is_none() {
+                return Some(bit);
+            }
+        }
+        None
+    }
+}

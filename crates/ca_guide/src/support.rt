@@ -1,0 +1,98 @@
+//! The support of a defect: the bits on which its detection can depend.
+
+ghost use Rattle.std.specs.Prelude.{◌≡◌, ◌≤◌, ◌<◌, ◌+◌, slice_index_or, false, true, length};
+ghost use Rattle.std.specs.List.{Contains};
+ghost use Rattle.ca_flat.specs.declared.chip_defect.ChipDefect.{ChipDefect};
+ghost use Rattle.ca_flat.specs.Chip.{count_of};
+ghost use Rattle.ca_guide.specs.Guide.{IsSupport};
+ghost use Rattle.ca_guide.specs.NetLists.{AreNetsOf};
+ghost use Rattle.ca_guide.specs.NumberSet.{AddsIf};
+ghost use Rattle.ca_guide.specs.Support.{AreObserved, AddsBits};
+
+use crate::chip::{AllNets, Back, LinkedChip, Onward};
+use crate::flood::flood;
+use crate::number_set::NumberSet;
+
+// Finds the support of the instance's defects, in the last set. The three others are room: for the nets that the
+// instance reaches, the observed ones among them, and the nets that lead to these.
+pub(crate) fn find_support<C: LinkedChip>(
+    reached: &mut NumberSet,
+    outputs: &mut NumberSet,
+    leading: &mut NumberSet,
+    support: &mut NumberSet,
+    chip: &C,
+    instance: u32,
+)
+    requires linked { AreNetsOf (C.chip chip.now) (C.lists chip.now) }
+    requires instance { instance < count_of (C.chip chip.now) }
+    requires reached { reached.old.bound ≡ length (C.lists chip.now).onward }
+    requires outputs { outputs.old.bound ≡ length (C.lists chip.now).onward }
+    requires leading { leading.old.bound ≡ length (C.lists chip.now).onward }
+    requires support { support.old.bound
+        ≡ length (C.lists chip.now).inputs + length (C.lists chip.now).inputs }
+    ensures reached { reached.new.bound ≡ reached.old.bound }
+    ensures outputs { outputs.new.bound ≡ outputs.old.bound }
+    ensures leading { leading.new.bound ≡ leading.old.bound }
+    ensures room { support.new.bound ≡ support.old.bound }
+    ensures support { (defect : ChipDefect) → defect.instance ≡ instance
+        → IsSupport (C.chip chip.now) defect support.new.members }
+{
+    let nets = AllNets { chip };
+    let onward = Onward { chip };
+    flood(reached, &onward, &nets, chip.output_pins(instance));
+    keep_observed(outputs, chip, reached);
+    let back = Back { chip };
+    flood(leading, &back, &nets, outputs.as_slice());
+    support.clear();
+    let count = chip.inputs().len();
+    add_bits(support, chip, leading, 0);
+    add_bits(support, chip, leading, count);
+}
+
+// Keeps the reached nets that are observed.
+fn keep_observed<C: LinkedChip>(outputs: &mut NumberSet, chip: &C, reached: &NumberSet)
+    requires reached { reached.now.bound ≡ length (C.lists chip.now).onward }
+    requires room { outputs.old.bound ≡ length (C.lists chip.now).onward }
+    ensures room { outputs.new.bound ≡ outputs.old.bound }
+    ensures outputs { AreObserved (C.lists chip.now).observed reached.now.members outputs.new.members }
+{
+    outputs.clear();
+    for place in 0..reached.len() {
+        keep_if_observed(outputs, chip, reached.get(place));
+    }
+}
+
+// Keeps the net if it is observed.
+fn keep_if_observed<C: LinkedChip>(outputs: &mut NumberSet, chip: &C, net: u32)
+    requires net { net < outputs.old.bound }
+    requires room { outputs.old.bound ≡ length (C.lists chip.now).onward }
+    ensures { AddsIf (slice_index_or (C.lists chip.now).observed net false ≡ true) net outputs.old
+        outputs.new }
+{
+    if chip.is_observed(net) {
+        outputs.insert(net);
+    }
+}
+
+// Adds the bits of the inputs that lead to an output, so many behind the input's place.
+fn add_bits<C: LinkedChip>(bits: &mut NumberSet, chip: &C, leading: &NumberSet, from: usize)
+    requires room { from + length (C.lists chip.now).inputs ≤ bits.old.bound }
+    requires few { bits.old.bound < 4294967296 }
+    ensures room { bits.new.bound ≡ bits.old.bound }
+    ensures bits { AddsBits (C.lists chip.now).inputs leading.now.members from
+        (length (C.lists chip.now).inputs) bits.old.members bits.new.members }
+{
+    for (place, net) in chip.inputs().iter().enumerate() {
+        add_bit_if(bits, leading, *net, (from + place) as u32);
+    }
+}
+
+// Adds the bit if the net leads to an output.
+fn add_bit_if(bits: &mut NumberSet, leading: &NumberSet, net: u32, bit: u32)
+    requires { bit < bits.old.bound }
+    ensures { AddsIf (Contains leading.now.members net) bit bits.old bits.new }
+{
+    if leading.has(net) {
+        bits.insert(bit);
+    }
+}
