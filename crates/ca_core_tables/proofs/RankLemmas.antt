@@ -74,7 +74,7 @@ rank_of_other chip u part at other = ap (rank_in chip u) at ∙ by part.body oth
     by (Gate cell inputs outputs) none = absurd (none tt)
     by (Scan nets) none = refl
 
-unranked : (count u : ℕ) → get_or (replicate count 0) u 0 ≡ 0
+unranked : (count u : ℕ) → get_or {A = ℕ} (replicate count 0) u 0 ≡ 0
 unranked zero u = refl
 unranked (suc count) zero = refl
 unranked (suc count) (suc u) = unranked count u

@@ -101,3 +101,7 @@ module _ (chip : Chip) (is : IsWired chip) where
         each = λ u reads. (read u).1 (read_in_chip found.net u found.outside reads);
         only = λ u has. read_in_core found.net u ((read u).0 has);
       })
+
+-- the core has a row for each net
+pub row_count : (chip : Chip) (rows : List (List ℕ)) → AreRows chip rows → length rows ≡ length (core_of chip).nets
+row_count chip rows are = are.room ∙ sym (length-core_kinds chip (net_count chip))

@@ -20,7 +20,8 @@ fn is_driven_by(chip: &Chip, net: NetId, value: bool) -> bool
 {
     chip.wired();
     match chip.constant(net) {
-        Some(found) => found == value,
+        Some(true) => value,
+        Some(false) => !value,
         None => false,
     }
 }
