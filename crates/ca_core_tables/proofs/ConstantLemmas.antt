@@ -1,9 +1,8 @@
 -- The nets of the constants.
-use Rattle.std.proofs.Common.{◌≡◌, ℕ, ◌<◌, ◌≤◌, ◌++◌, List, [], ◌∷◌, Bool, true, false, refl, sym, ◌∙◌, ap, arith}
+use Rattle.std.proofs.Common.{◌≡◌, ℕ, ◌<◌, ◌≤◌, [], ◌∷◌, Bool, true, false, refl, sym, ap, arith}
 use Rattle.std.specs.Prelude.{IsTrue, not, Option, Some, None, if◌then◌else◌}
 use Rattle.ca_wired.specs.declared.parts.Source.TheVariants.{FromConstant}
 use Rattle.ca_wired.specs.Linked.{Chip, net_count, constant_net, is_scan_path, IsWired}
-use Rattle.ca_flat.specs.Chip.{Constant}
 use Rattle.ca_core.specs.Core.{core_net, trit_of, constant_on}
 use Rattle.ca_core_tables.specs.Tables.{HasConstantsOnNets}
 

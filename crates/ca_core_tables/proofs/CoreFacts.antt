@@ -1,17 +1,16 @@
 -- The instances and nets of the core of a wired chip.
-use Rattle.std.proofs.Common.{◌≡◌, ℕ, ◌+◌, ◌<◌, length, sym, ◌∙◌, ap, arith, get_or}
-use Rattle.std.specs.Prelude.{slice_get, Some, Option, None, option_to_list, refl}
+use Rattle.std.proofs.Common.{◌≡◌, ℕ, ◌<◌, length, sym, ◌∙◌, ap, arith, get_or}
+use Rattle.std.specs.Prelude.{slice_get, Some, Option, None, refl}
 use Rattle.std.specs.List.{All, Contains}
 use Rattle.std.proofs.lemmas.List.{length-map}
-use Rattle.ca_cell.specs.Raw.{is_input, role_count, circuit_of}
-use Rattle.ca_wired.specs.declared.parts.Body.{Body}
+use Rattle.ca_cell.specs.Raw.{is_input, role_count}
 use Rattle.ca_wired.specs.declared.parts.Part.{Part}
 use Rattle.ca_wired.specs.Linked.{Chip, net_count, gate_inputs, data_nets, IsBody, IsWired}
 use Rattle.ca_wired.proofs.PartLemmas.{of_all, of_list}
 use Rattle.ca_flat.specs.Chip.{Instance, inputs_at, net_of, count_of}
 use Rattle.ca_core.specs.Core.{core_net, core_instance, core_of, empty_cell}
 use Rattle.ca_core.proofs.CoreLemmas.{IsOutside, core_less, length-core_kinds}
-use Rattle.ca_core.proofs.CorePartLemmas.{pins_in, core_at, read_pin, read_count}
+use Rattle.ca_core.proofs.CorePartLemmas.{core_at, read_pin, read_count}
 
 -- the core has an instance for each of the chip
 pub core_count : (chip : Chip) → count_of (core_of chip) ≡ length chip.parts

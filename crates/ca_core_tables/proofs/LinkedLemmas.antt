@@ -1,25 +1,23 @@
 -- The core of a wired chip is linked in the sense of the simulator.
-use Rattle.std.proofs.Common.{◌≡◌, ℕ, suc, ◌+◌, ◌-◌, ◌^◌, ◌<◌, ◌≤◌, List, [], ◌∷◌, length, inl, inr, refl, sym, ◌∙◌, ap, subst, arith, get_or}
-use Rattle.std.specs.Prelude.{slice_get, slice_index, IsSomeAnd, Option, Some, None}
-use Rattle.std.proofs.lemmas.Option.{same_Some, slice_get_within, slice_get-get_or}
-use Rattle.ca_cell.specs.declared.raw.RawCell.{RawCell}
+use Rattle.std.proofs.Common.{◌≡◌, ℕ, ◌-◌, ◌^◌, ◌<◌, ◌≤◌, List, [], length, refl, sym, ◌∙◌, ap, subst, arith}
+use Rattle.std.specs.Prelude.{slice_get, IsSomeAnd, Option, Some, None}
+use Rattle.std.proofs.lemmas.Option.{same_Some}
 use Rattle.ca_cell.specs.Raw.{circuit_of}
-use Rattle.ca_net.specs.declared.device.Device.{Device}
 use Rattle.ca_wired.specs.declared.parts.Body.{Body}
 use Rattle.ca_wired.specs.declared.parts.Part.{Part}
 use Rattle.ca_wired.specs.declared.parts.Body.TheVariants.{Gate, Scan}
 use Rattle.ca_wired.specs.Linked.{Chip, cell_of, gate_inputs, IsGate, IsLibrary, IsWired}
 use Rattle.ca_wired.specs.Instances.{IsOfCell}
 use Rattle.ca_wired.proofs.CellLemmas.{gate_within}
-use Rattle.ca_flat.specs.Chip.{Instance, cell_at, circuit_at, inputs_at, net_of, count_of, Drives, IsChip}
-use Rattle.ca_core.specs.Core.{core_of, core_instance, empty_cell, rank_of}
+use Rattle.ca_flat.specs.Chip.{Instance, cell_at, count_of, IsChip}
+use Rattle.ca_core.specs.Core.{core_of, core_instance, empty_cell}
 use Rattle.ca_core.proofs.CoreIsChip.{core_is}
 use Rattle.ca_core.proofs.CorePartLemmas.{core_at, part_at}
 use Rattle.ca_sim.specs.Linked.{IsLinked, IsPlaced, IsPlace, IsBare, place_in}
 use Rattle.ca_core_tables.specs.Tables.{body_number, part_number, cell_number, AreRanks}
 use Rattle.ca_core_tables.proofs.CoreFacts.{core_count, inputs_are}
 use Rattle.ca_core_tables.proofs.PartFacts.{GateAt, gate_at, core_gate, some_at, at_some}
-use Rattle.ca_core_tables.proofs.RankLemmas.{HasPlace, library_place, ranked_is_library, rank_of_other, rank_at}
+use Rattle.ca_core_tables.proofs.RankLemmas.{library_place, ranked_is_library, rank_of_other}
 
 no_devices : (qn : Option ℕ) → (circuit_of (empty_cell qn)).devices ≡ []
 no_devices None = refl

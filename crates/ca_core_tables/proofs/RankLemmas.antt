@@ -2,9 +2,9 @@
 use Rattle.std.proofs.Common.{◌≡◌, ℕ, zero, suc, ◌+◌, ◌<◌, ◌≤◌, replicate, List, [], ◌∷◌, true, false, length, inl, inr, refl, sym, ◌∙◌, ap, subst, arith, get_or}
 use Rattle.std.proofs.Common.{get_or-set_same, get_or-set_other}
 use Rattle.std.specs.Prelude.{eqb, slice_get, IsSomeAnd, Option, Some}
-use Rattle.std.specs.List.{Contains, IsDistinct, list_any, position_or_len}
+use Rattle.std.specs.List.{Contains, list_any, position_or_len}
 use Rattle.std.proofs.Math.ListN.{set, length-set}
-use Rattle.std.proofs.lemmas.List.{length-replicate, get_or-replicate, get_or_past, get_or_default}
+use Rattle.std.proofs.lemmas.List.{length-replicate}
 use Rattle.std.proofs.lemmas.List.Elements.{Contains-append_cases, Contains-append_left, Contains-append_right}
 use Rattle.std.proofs.lemmas.List.Sums.{position_or_len_is}
 use Rattle.std.proofs.lemmas.Bool.{cases_lt, ne_eqb, eq-eqb}
@@ -20,7 +20,7 @@ use Rattle.ca_wired.specs.Instances.{if_gate, gates_from, gates_of}
 use Rattle.ca_wired.proofs.OrderLemmas.{place_of, contained_at}
 use Rattle.ca_wired.proofs.PartLemmas.{has_contains}
 use Rattle.ca_wired.proofs.CellLemmas.{library_within}
-use Rattle.ca_core.specs.Core.{core_of, body_rank, rank_in, rank_of}
+use Rattle.ca_core.specs.Core.{body_rank, rank_in, rank_of}
 use Rattle.ca_core.proofs.CorePartLemmas.{part_at}
 use Rattle.ca_core_tables.specs.Tables.{AreRanks}
 use Rattle.ca_core_tables.proofs.CoreFacts.{core_count}

@@ -1,24 +1,21 @@
 -- The readers of the first nets, and of a net of the core.
-use Rattle.std.proofs.Common.{◌≡◌, ℕ, zero, suc, ◌+◌, ◌<◌, ◌≤◌, List, [], ◌∷◌, ◌++◌, true, false, length, length-append, inl, inr, refl, sym, ◌∙◌, ap, subst, arith, get_or}
+use Rattle.std.proofs.Common.{◌≡◌, ℕ, zero, suc, ◌+◌, ◌<◌, List, [], ◌∷◌, ◌++◌, true, false, length, length-append, refl, sym, ◌∙◌, ap, subst, arith, get_or}
 use Rattle.std.specs.Prelude.{slice_get, IsSomeAnd, Option, Some, None, take, if◌then◌else◌}
 use Rattle.std.specs.List.{Contains}
 use Rattle.std.proofs.lemmas.List.{get_or_append_left, get_or_push, get_or_default}
-use Rattle.std.proofs.lemmas.Bool.{cases_lt}
 use Rattle.std.proofs.lemmas.Option.{slice_get_within}
 use native.Mathlib.Decide.{ℕ_discrete}
 use Rattle.ca_wired.specs.declared.parts.Part.{Part}
 use Rattle.ca_wired.specs.Linked.{Chip, net_count, gate_inputs, is_scan_path, IsWired}
 use Rattle.ca_wired.specs.Reading.{AreReadersOf}
 use Rattle.ca_wired.specs.Reading as wired
-use Rattle.ca_wired.proofs.OrderLemmas.{contained_at}
-use Rattle.ca_flat.specs.Chip.{inputs_at, net_of, count_of}
 use Rattle.ca_core.specs.Core.{core_net, core_of}
 use Rattle.ca_core.proofs.CoreLemmas.{IsOutside, core_less, core_same, length-core_kinds, net_of_number}
 use Rattle.ca_core.proofs.CorePartLemmas.{part_at, read_is_data}
 use Rattle.ca_sim.specs.Linked.{Reads, AreReaders}
 use Rattle.ca_core_tables.specs.Tables.{row_at, AreFirstRows, AreRows}
 use Rattle.ca_core_tables.proofs.CoreFacts.{core_count, data_outside, inputs_are, input_net_is}
-use Rattle.ca_core_tables.proofs.PartFacts.{some_at, at_some}
+use Rattle.ca_core_tables.proofs.PartFacts.{some_at}
 
 step : (chip : Chip) (net : ℕ) → core_net chip (net + 1) ≡ core_net chip net + (if is_scan_path chip net then 0 else 1)
 unfolding core_net
@@ -44,7 +41,7 @@ pub row_added : (chip : Chip) (net : ℕ) (rows new : List (List ℕ)) (row : Li
 row_added chip net rows new row first off read is = record {
   room = ap length is ∙ length-append rows (row ∷ [])
       ∙ (let room = first.room in let s = step chip net ∙ ap (λ b. core_net chip net + (if b then 0 else 1)) off in
-        let e : length rows + 1 ≡ core_net chip (net + 1) = omega arith in e);
+      let e : length rows + 1 ≡ core_net chip (net + 1) = omega arith in e);
   each = λ m lt outside. elim (ℕ_discrete m net) [
     | yes same ↦
         subst (AreReadersOf chip m) (sym (ap (λ (list : List (List ℕ)). row_at list (core_net chip m)) is ∙ get_or_push rows row [] (core_net chip m) (first.room ∙ ap (core_net chip) (sym same))))

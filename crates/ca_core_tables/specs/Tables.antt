@@ -6,7 +6,7 @@ use Rattle.ca_wired.specs.declared.parts.Body.TheVariants.{Gate, Scan}
 use Rattle.ca_wired.specs.Linked.{Chip, net_count, constant_net, is_scan_path, inputs_of, IsWired}
 use Rattle.ca_wired.specs.Reading.{AreReadersOf}
 use Rattle.ca_flat.specs.Chip.{Constant}
-use Rattle.ca_core.specs.Core.{core_net, core_of, core_constants, rank_of}
+use Rattle.ca_core.specs.Core.{core_net, core_constants, rank_of}
 use Rattle.ca_core.specs.Numbers.{Numbers, AreCoreNumbers}
 use Rattle.ca_sim.specs.declared.linked.FixedNet.{FixedNet}
 

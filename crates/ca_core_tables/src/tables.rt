@@ -112,7 +112,8 @@ impl<'a> Linked for CoreTables<'a> {
     }
 
     fn pin_net(&self, u: usize, pin: usize) -> usize {
-        self.numbers.get(self.chip.pin_net(InstanceId(u as u32), pin)) as usize
+        self.numbers
+            .get(self.chip.pin_net(InstanceId(u as u32), pin)) as usize
     }
 
     fn order(&self, place: usize) -> usize {

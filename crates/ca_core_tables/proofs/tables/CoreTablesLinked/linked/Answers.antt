@@ -1,7 +1,5 @@
-use Rattle.std.proofs.Common.{ℕ, ◌<◌, length, subst}
-use Rattle.ca_sim.specs.Linked.{IsLinked, IsPinned, AreReaders, place_in}
-use Rattle.ca_core.specs.Core.{core_of}
-use Rattle.ca_core_tables.specs.Tables.{Tables, AreTables, cell_number, row_at}
+use Rattle.std.proofs.Common.{subst}
+use Rattle.ca_core_tables.specs.Tables.{AreTables}
 use Rattle.ca_core_tables.proofs.InputLemmas.{core_pinned}
 use Rattle.ca_core_tables.proofs.RowLemmas.{rows_read}
 use Rattle.ca_core_tables.proofs.LinkedLemmas.{core_linked}

@@ -1,4 +1,4 @@
-use Rattle.std.proofs.Common.{◌<◌, length, ap, subst, arith}
+use Rattle.std.proofs.Common.{length, ap, subst, arith}
 use Rattle.ca_core_tables.specs.Tables.{Tables, AreTables}
 use Rattle.ca_core_tables.proofs.LinkedLemmas.{number_within}
 use Rattle.ca_core_tables.proofs.tables.CoreTablesLinked.numbers.Goals as goal

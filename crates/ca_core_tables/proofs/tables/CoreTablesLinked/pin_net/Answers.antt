@@ -1,4 +1,4 @@
-use Rattle.std.proofs.Common.{◌≡◌, ◌<◌, length, sym, ◌∙◌, ap, subst, arith}
+use Rattle.std.proofs.Common.{sym, ◌∙◌, ap, subst, arith}
 use Rattle.ca_flat.specs.Chip.{net_of}
 use Rattle.ca_core.specs.Core.{core_of}
 use Rattle.ca_sim.specs.Linked.{IsPlaced, place_in}
