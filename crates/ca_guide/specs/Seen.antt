@@ -29,7 +29,8 @@ pair_of seen = map set_trit seen.bits
 
 -- the waves are the limits of the flat networks for the bits, good and with the defect
 pub record ShowsWaves (chip : Chip) (defect : ChipDefect) (seen : Seen)
-    (good : FlatWaves chip None (pair_of seen)) (faulty : FlatWaves chip (Some defect) (pair_of seen)) : Type 0 where
+    (good : FlatWaves chip None (pair_of seen))
+    (faulty : FlatWaves chip (Some defect) (pair_of seen)) : Type 0 where
   pub good_is : (net : ℕ) → net < length chip.nets → slice_get seen.good net ≡ Some (wave_of good net)
   pub faulty_is : (net : ℕ) → net < length chip.nets → slice_get seen.faulty net ≡ Some (wave_of faulty net)
   pub good_count : length seen.good ≡ length chip.nets

@@ -41,8 +41,8 @@ pub trait Region {
         ensures { result ≡ (area self.now).ends net };
 }
 
-/// Fills the set with the nets that are reached from the roots, the roots among them; each has to be one that may
-/// be entered. It stops at the first net that is an end, and the answer is whether there was one.
+/// Fills the set with the nets that are reached from the roots, the roots among them; each has to be one that
+/// may be entered. It stops at the first net that is an end, and the answer is whether there was one.
 pub(crate) fn flood<L: Links, R: Region>(
     set: &mut NumberSet,
     links: &L,

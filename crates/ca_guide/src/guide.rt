@@ -129,8 +129,8 @@ impl Guide {
         );
     }
 
-    /// The next step at an open pair. It takes no memory. What is said of the step is said under the limits of
-    /// the flat networks that the waves are: they are there, but no call hands them out.
+    /// The next step at an open pair. It takes no memory. What is said of the step is said under the limits
+    /// of the flat networks that the waves are: they are there, but no call hands them out.
     pub fn next<C: LinkedChip, V: NetWaves, P: Choice>(
         &mut self,
         chip: &C,

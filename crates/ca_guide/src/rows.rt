@@ -32,8 +32,8 @@ pub(crate) fn is_some_row_allowed<V: NetWaves>(waves: &V, pins: &[u32], rows: &R
     false
 }
 
-// Whether the row's vectors are at or above the values of the pins, or it has one vector, which is at or above
-// the first ones.
+// Whether the row's vectors are at or above the values of the pins, or it has one vector, which is at or
+// above the first ones.
 fn is_row_allowed<V: NetWaves>(waves: &V, pins: &[u32], row: Row) -> bool
     requires few { length pins.now ≤ MOST_INPUTS }
     requires pins { All (λ net. net < length (V.seen waves.now).good) pins.now }

@@ -13,8 +13,8 @@ use crate::chip::{AllNets, Back, LinkedChip, Onward};
 use crate::flood::flood;
 use crate::number_set::NumberSet;
 
-// Finds the support of the instance's defects, in the last set. The three others are room: for the nets that the
-// instance reaches, the observed ones among them, and the nets that lead to these.
+// Finds the support of the instance's defects, in the last set. The three others are room: for the nets that
+// the instance reaches, the observed ones among them, and the nets that lead to these.
 pub(crate) fn find_support<C: LinkedChip>(
     reached: &mut NumberSet,
     outputs: &mut NumberSet,
