@@ -56,12 +56,12 @@ static ROWS: [Row; 7] = [
 fn the_status_and_the_line_are_those_of_the_end(rt: HostRuntime) -> Result<(), Fail> {
     let alloc = rt.alloc();
     for row in &ROWS {
-        let answered = answer_to(alloc, row.0, row.1)?;
+        let answered = answer_to(alloc, row.0, row.1).expect(&rt, "memory");
         assert_eq!(rt; answered.status, row.2, "at {}", row.0);
         assert_eq!(rt; answered.printed.bytes(), row.3.as_bytes(), "at {}", row.0);
         assert_eq!(rt; answered.told.bytes(), row.4.as_bytes(), "at {}", row.0);
     }
-    let mut told = MemSink::new(alloc, 100, FailList::new(alloc))?;
+    let mut told = MemSink::new(alloc, 100, FailList::new(alloc)).expect(&rt, "memory");
     assert_eq!(rt; tell(&Fault::NoMemory, &mut told), 5);
     assert_eq!(rt; told.bytes(), b"cellaware: out of memory\n".as_slice());
     Ok(())
@@ -81,7 +81,7 @@ static COMMANDS: [&str; 7] = [
 #[test]
 fn help_names_each_command(rt: HostRuntime) -> Result<(), Fail> {
     let alloc = rt.alloc();
-    let answered = answer_to(alloc, "--help", 100)?;
+    let answered = answer_to(alloc, "--help", 100).expect(&rt, "memory");
     assert_eq!(rt; answered.status, 0);
     let text = str::from_utf8(answered.printed.bytes()).expect(&rt, "the help is a text");
     for command in &COMMANDS {

@@ -13,10 +13,13 @@ use std::alloc::Global;
 use std::process::Abort;
 use std::test::Fail;
 
-// What a command left behind: its end, the bytes that it printed, and the line of its fault.
+// What a command left behind: its status, whether linking refused the chip, whether it has one, the bytes that
+// it printed, and the line of its fault.
 #[derive(Drop)]
 struct Outcome {
-    end: Finished,
+    status: u8,
+    is_of_linking: bool,
+    has_chip: bool,
     printed: MemSink,
     line: MemSink,
 }
@@ -48,24 +51,30 @@ fn outcome_of(alloc: Global, netlist: &str, line: &str, room: usize) -> Result<O
     let files = files_with(alloc, netlist)?;
     let mut store = MemStore::new(alloc, files, 60, 0, FailList::new(alloc))?;
     let mut printed = MemSink::new(alloc, room, FailList::new(alloc))?;
-    let end = run(alloc, &words, &mut store, &mut printed);
     let mut line = MemSink::new(alloc, 100, FailList::new(alloc))?;
+    let end = run(alloc, &words, &mut store, &mut printed);
     if let Some(fault) = &end.fault {
         let _ = fault.print(&mut line);
     }
-    Ok(Outcome { end, printed, line })
+    Ok(Outcome {
+        status: end.status,
+        is_of_linking: matches!(&end.fault, Some(Fault::Chip(_))),
+        has_chip: matches!(&end.done, Some(Done::Check { .. })),
+        printed,
+        line,
+    })
 }
 
 // The command of these words behind the library ends as the row says.
 fn check_row(rt: &impl Abort, alloc: Global, row: &Row) -> Result<(), Fail> {
-    let line = format!(in alloc; "check n.sp {}", row.0)?;
-    let ended = outcome_of(alloc, C17, &line, 100)?;
-    assert_eq!(rt; ended.end.status, row.1, "at {line}");
+    let line = format!(in alloc; "check n.sp {}", row.0).expect(rt, "memory");
+    let ended = outcome_of(alloc, C17, &line, 100).expect(rt, "memory");
+    assert_eq!(rt; ended.status, row.1, "at {line}");
     assert_eq!(rt; ended.printed.bytes(), row.2.as_bytes(), "at {line}");
     let told = if row.3.is_empty() {
         String::new(alloc)
     } else {
-        format!(in alloc; "cellaware: {}\n", row.3)?
+        format!(in alloc; "cellaware: {}\n", row.3).expect(rt, "memory")
     };
     assert_eq!(rt; ended.line.bytes(), told.as_bytes(), "at {line}");
     Ok(())
@@ -79,8 +88,8 @@ fn check_refused(
     line: &str,
     told: &str,
 ) -> Result<(), Fail> {
-    let ended = outcome_of(alloc, netlist, line, 100)?;
-    let wanted = format!(in alloc; "cellaware: {told}\n")?;
+    let ended = outcome_of(alloc, netlist, line, 100).expect(rt, "memory");
+    let wanted = format!(in alloc; "cellaware: {told}\n").expect(rt, "memory");
     assert_eq!(rt; ended.line.bytes(), wanted.as_bytes(), "at {told}");
     assert_eq!(rt; ended.printed.bytes(), b"".as_slice(), "at {told}");
     Ok(())
@@ -89,8 +98,8 @@ fn check_refused(
 // The chip with two scan instances, with one piece in place of another, is refused.
 fn check_change(rt: &impl Abort, alloc: Global, change: &Change, table: &str) -> Result<(), Fail> {
     let (before, after) = SHIFT.split_once(change.0).expect(rt, "the piece is there");
-    let text = format!(in alloc; "{before}{}{after}", change.1)?;
-    let line = format!(in alloc; "check n.sp n.v {table}")?;
+    let text = format!(in alloc; "{before}{}{after}", change.1).expect(rt, "memory");
+    let line = format!(in alloc; "check n.sp n.v {table}").expect(rt, "memory");
     check_refused(rt, alloc, &text, &line, change.2)
 }
 
@@ -133,11 +142,11 @@ fn cells_come_first_and_a_rule_has_its_instance(rt: HostRuntime) -> Result<(), F
         "cells: line 1: UnknownCard",
     )?;
     check_refused(&rt, alloc, C17, "check m.sp m.v -", "file fault: m.sp")?;
-    let ended = outcome_of(alloc, C17, "check n.sp shift.v -", 100)?;
-    assert!(rt; matches!(&ended.end.fault, Some(Fault::Chip(_))));
-    let mute = outcome_of(alloc, C17, "check n.sp c17.v -", 9)?;
-    assert_eq!(rt; mute.end.status, 4);
+    let ended = outcome_of(alloc, C17, "check n.sp shift.v -", 100).expect(&rt, "memory");
+    assert!(rt; ended.is_of_linking);
+    let mute = outcome_of(alloc, C17, "check n.sp c17.v -", 9).expect(&rt, "memory");
+    assert_eq!(rt; mute.status, 4);
     assert_eq!(rt; mute.printed.bytes(), b"instances".as_slice());
-    assert!(rt; matches!(&mute.end.done, Some(Done::Check { .. })));
+    assert!(rt; mute.has_chip);
     Ok(())
 }

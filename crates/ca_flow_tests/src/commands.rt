@@ -21,13 +21,25 @@ MN2 N1 A2 VSS VSS NCH W=415n L=50n
 .ENDS
 ";
 
-// What a command left behind: its end, the files, the bytes that it printed, and the line of its fault.
+// What a command left behind: its status, the rule that a cell broke, whether it has values and whether the
+// output failed, the files, the bytes that it printed, and the line of its fault.
 #[derive(Drop)]
 struct Outcome {
-    end: Finished,
+    status: u8,
+    rule: Option<CellRule>,
+    has_values: bool,
+    is_mute: bool,
     store: MemStore,
     printed: MemSink,
     line: MemSink,
+}
+
+// The rule that the cell of a command breaks.
+fn broken_rule(end: &Finished) -> Option<CellRule> {
+    match &end.fault {
+        Some(Fault::Cell { rule, .. }) => Some(*rule),
+        _ => None,
+    }
 }
 
 // The words of a command line, with one blank between two.
@@ -72,13 +84,16 @@ fn outcome_in(
     let files = file_with(alloc, bytes)?;
     let mut store = MemStore::new(alloc, files, 60, space, fail)?;
     let mut printed = MemSink::new(alloc, room, FailList::new(alloc))?;
-    let end = run(alloc, &words, &mut store, &mut printed);
     let mut line = MemSink::new(alloc, 100, FailList::new(alloc))?;
+    let end = run(alloc, &words, &mut store, &mut printed);
     if let Some(fault) = &end.fault {
         let _ = fault.print(&mut line);
     }
     Ok(Outcome {
-        end,
+        status: end.status,
+        rule: broken_rule(&end),
+        has_values: matches!(&end.done, Some(Done::Respond { .. })),
+        is_mute: matches!(&end.fault, Some(Fault::SinkFailed)),
         store,
         printed,
         line,
@@ -94,14 +109,14 @@ fn check_rows(rt: &impl Abort, alloc: Global, start: &str, rows: &[Row]) -> Resu
 }
 
 fn check_row(rt: &impl Abort, alloc: Global, start: &str, row: &Row) -> Result<(), Fail> {
-    let line = format!(in alloc; "{start}{}", row.0)?;
-    let ended = outcome_of(alloc, LIBRARY, &line, 100, FailList::new(alloc))?;
-    assert_eq!(rt; ended.end.status, row.1, "at {line}");
+    let line = format!(in alloc; "{start}{}", row.0).expect(rt, "memory");
+    let ended = outcome_of(alloc, LIBRARY, &line, 100, FailList::new(alloc)).expect(rt, "memory");
+    assert_eq!(rt; ended.status, row.1, "at {line}");
     assert_eq!(rt; ended.printed.bytes(), row.2.as_bytes(), "at {line}");
     let told = if row.3.is_empty() {
         String::new(alloc)
     } else {
-        format!(in alloc; "cellaware: {}\n", row.3)?
+        format!(in alloc; "cellaware: {}\n", row.3).expect(rt, "memory")
     };
     assert_eq!(rt; ended.line.bytes(), told.as_bytes(), "at {line}");
     Ok(())
@@ -121,7 +136,7 @@ fn each_command_ends_so(rt: HostRuntime) -> Result<(), Fail> {
 fn a_matrix_stands_in_its_file(rt: HostRuntime) -> Result<(), Fail> {
     let alloc = rt.alloc();
     let line = "matrix n.sp NAND2 m.csv";
-    let ended = outcome_of(alloc, LIBRARY, line, 100, FailList::new(alloc))?;
+    let ended = outcome_of(alloc, LIBRARY, line, 100, FailList::new(alloc)).expect(&rt, "memory");
     let bytes = ended.store.bytes("m.csv").expect(&rt, "the file is there");
     let text = str::from_utf8(bytes).expect(&rt, "the file is a text");
     for (number, wanted) in &NAND2_LINES {
@@ -137,11 +152,11 @@ fn a_matrix_stands_in_its_file(rt: HostRuntime) -> Result<(), Fail> {
 fn a_failed_writing_is_told(rt: HostRuntime) -> Result<(), Fail> {
     let alloc = rt.alloc();
     let line = "matrix n.sp NAND2 m.csv";
-    let whole = outcome_of(alloc, LIBRARY, line, 100, FailList::new(alloc))?;
+    let whole = outcome_of(alloc, LIBRARY, line, 100, FailList::new(alloc)).expect(&rt, "memory");
     let wanted = whole.store.bytes("m.csv").expect(&rt, "the file is there");
-    let cut = outcome_in(alloc, LIBRARY, line, 70, 100, FailList::new(alloc))?;
+    let cut = outcome_in(alloc, LIBRARY, line, 70, 100, FailList::new(alloc)).expect(&rt, "memory");
     let part = cut.store.bytes("m.csv").expect(&rt, "the file is there");
-    assert_eq!(rt; cut.end.status, 4);
+    assert_eq!(rt; cut.status, 4);
     assert_eq!(rt;
         cut.line.bytes(),
         b"cellaware: file fault: m.csv\n".as_slice()
@@ -149,7 +164,7 @@ fn a_failed_writing_is_told(rt: HostRuntime) -> Result<(), Fail> {
     assert_eq!(rt; cut.printed.bytes(), b"".as_slice());
     assert_eq!(rt; part.len(), 65);
     assert!(rt; wanted.starts_with(part));
-    let mute = outcome_of(alloc, LIBRARY, line, 0, FailList::new(alloc))?;
+    let mute = outcome_of(alloc, LIBRARY, line, 0, FailList::new(alloc)).expect(&rt, "memory");
     assert_eq!(rt; mute.line.bytes(), b"cellaware: output fault\n".as_slice());
     assert!(rt; mute.store.bytes("m.csv") == whole.store.bytes("m.csv"));
     Ok(())
@@ -160,13 +175,12 @@ fn a_failed_writing_is_told(rt: HostRuntime) -> Result<(), Fail> {
 fn a_refused_cell_has_its_pin_and_device(rt: HostRuntime) -> Result<(), Fail> {
     let alloc = rt.alloc();
     let line = "respond n.sp TG 11";
-    let ended = outcome_of(alloc, LIBRARY, line, 9, FailList::new(alloc))?;
+    let ended = outcome_of(alloc, LIBRARY, line, 9, FailList::new(alloc)).expect(&rt, "memory");
     let rule = CellRule::InputDrivesChannel {
         pin: NodeId(2),
         device: DeviceId(0),
     };
-    let told = matches!(&ended.end.fault, Some(Fault::Cell { rule: found, .. }) if *found == rule);
-    assert!(rt; told);
+    assert!(rt; ended.rule == Some(rule));
     Ok(())
 }
 
@@ -176,8 +190,12 @@ fn a_pair_that_shows_nothing_reads_x(rt: HostRuntime) -> Result<(), Fail> {
     let alloc = rt.alloc();
     for first in &DEFINITE {
         for last in &DEFINITE {
-            let line = format!(in alloc; "pair n.sp AND2 {first} {last} Z=NB")?;
-            let ended = outcome_of(alloc, LIBRARY, &line, 9, FailList::new(alloc))?;
+            let line = format!(in alloc; "pair n.sp AND2 {first} {last} Z=NB").expect(
+                &rt, "memory",
+            );
+            let ended = outcome_of(alloc, LIBRARY, &line, 9, FailList::new(alloc)).expect(
+                &rt, "memory",
+            );
             assert_eq!(rt; ended.printed.bytes(), b"Z=X\n".as_slice(), "at {line}");
         }
     }
@@ -192,9 +210,11 @@ fn a_file_may_have_16_mebibytes(rt: HostRuntime) -> Result<(), Fail> {
         (16_777_216, "cellaware: no cell A\n"),
         (16_777_217, "cellaware: file too long: n.sp\n"),
     ] {
-        let bytes = vec![in alloc; b'*'; length]?;
+        let bytes = vec![in alloc; b'*'; length].expect(&rt, "memory");
         let text = str::from_utf8(&bytes).expect(&rt, "the bytes are a text");
-        let ended = outcome_of(alloc, text, "respond n.sp A 1", 9, FailList::new(alloc))?;
+        let ended = outcome_of(alloc, text, "respond n.sp A 1", 9, FailList::new(alloc)).expect(
+            &rt, "memory",
+        );
         assert_eq!(rt; ended.line.bytes(), told.as_bytes());
     }
     Ok(())
@@ -223,11 +243,11 @@ fn a_faulty_text_is_refused(rt: HostRuntime) -> Result<(), Fail> {
         ("MP2 ZN", "MP2 A1", "cell NAND2: InputDrivesChannel"),
     ] {
         let (before, after) = NAND2.split_once(old).expect(&rt, "the piece is there");
-        let text = format!(in alloc; "{before}{new}{after}")?;
+        let text = format!(in alloc; "{before}{new}{after}").expect(&rt, "memory");
         let line = "respond n.sp NAND2 11";
-        let ended = outcome_of(alloc, &text, line, 100, FailList::new(alloc))?;
-        let wanted = format!(in alloc; "cellaware: {told}\n")?;
-        assert_eq!(rt; ended.end.status, 2, "at {told}");
+        let ended = outcome_of(alloc, &text, line, 100, FailList::new(alloc)).expect(&rt, "memory");
+        let wanted = format!(in alloc; "cellaware: {told}\n").expect(&rt, "memory");
+        assert_eq!(rt; ended.status, 2, "at {told}");
         assert_eq!(rt; ended.line.bytes(), wanted.as_bytes(), "at {told}");
         assert_eq!(rt; ended.printed.bytes(), b"".as_slice(), "at {told}");
     }
@@ -243,11 +263,15 @@ fn a_library_has_at_most_1024_cells(rt: HostRuntime) -> Result<(), Fail> {
     ] {
         let mut text = String::new(alloc);
         for cell in 0..cells {
-            text.push_str(".SUBCKT A")?;
-            text.push_str(&format!(in alloc; "{cell}")?)?;
-            text.push_str(" Z\n*.PININFO Z:O\n.ENDS\n")?;
+            text.push_str(".SUBCKT A").expect(&rt, "memory");
+            text.push_str(&format!(in alloc; "{cell}").expect(&rt, "memory"))
+                .expect(&rt, "memory");
+            text.push_str(" Z\n*.PININFO Z:O\n.ENDS\n")
+                .expect(&rt, "memory");
         }
-        let ended = outcome_of(alloc, &text, "respond n.sp B 1", 100, FailList::new(alloc))?;
+        let ended = outcome_of(alloc, &text, "respond n.sp B 1", 100, FailList::new(alloc)).expect(
+            &rt, "memory",
+        );
         assert_eq!(rt; ended.line.bytes(), told.as_bytes());
     }
     Ok(())
@@ -265,16 +289,14 @@ fn a_failed_call_is_told(rt: HostRuntime) -> Result<(), Fail> {
         (StoreCall::Read, 999, 2, "ZN", "cellaware: output fault\n"),
     ] {
         let mut fail = FailList::new(alloc);
-        fail.push(call, number)?;
-        let ended = outcome_of(alloc, NAND2, "respond n.sp NAND2 11", room, fail)?;
-        assert_eq!(rt; ended.end.status, 4);
+        fail.push(call, number).expect(&rt, "memory");
+        let ended = outcome_of(alloc, NAND2, "respond n.sp NAND2 11", room, fail).expect(
+            &rt, "memory",
+        );
+        assert_eq!(rt; ended.status, 4);
         assert_eq!(rt; ended.printed.bytes(), printed.as_bytes());
         assert_eq!(rt; ended.line.bytes(), told.as_bytes());
-        let told_work = matches!(&ended.end.done, Some(Done::Respond { .. }));
-        assert_eq!(rt;
-            told_work,
-            matches!(&ended.end.fault, Some(Fault::SinkFailed))
-        );
+        assert_eq!(rt; ended.has_values, ended.is_mute);
     }
     Ok(())
 }
