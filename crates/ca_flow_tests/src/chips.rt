@@ -6,7 +6,7 @@ use crate::netlists::{
 };
 use crate::rows::LIBRARY;
 use ca_base::NoMemory;
-use ca_flow::{Done, Fault, Finished, run};
+use ca_flow::{Done, Fault, run};
 use ca_lex::Text;
 use ca_store::{FailList, File, FileMap, MemSink, MemStore};
 use std::alloc::Global;
@@ -24,6 +24,18 @@ struct Outcome {
     line: MemSink,
 }
 
+// One file more, if none has its name.
+fn add_file(alloc: Global, files: &mut FileMap, name: &str, bytes: &str) -> Result<(), NoMemory> {
+    let file = File {
+        name: Text::from_bytes(alloc, name.as_bytes())?,
+        bytes: Text::from_bytes(alloc, bytes.as_bytes())?,
+    };
+    if files.place_of(file.name.as_bytes()).is_none() {
+        files.add(file)?;
+    }
+    Ok(())
+}
+
 // The files: the library, one netlist of this text, the other netlists and the tables.
 fn files_with(alloc: Global, netlist: &str) -> Result<FileMap, NoMemory> {
     let mut files = FileMap::new(alloc);
@@ -37,10 +49,7 @@ fn files_with(alloc: Global, netlist: &str) -> Result<FileMap, NoMemory> {
         ("scan.csv", SCAN),
         ("short.csv", SHORT),
     ] {
-        files.add(File {
-            name: Text::from_bytes(alloc, name.as_bytes())?,
-            bytes: Text::from_bytes(alloc, bytes.as_bytes())?,
-        })?;
+        add_file(alloc, &mut files, name, bytes)?;
     }
     Ok(files)
 }
