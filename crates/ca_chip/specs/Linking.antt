@@ -19,11 +19,19 @@ HasMeaning cells (Library raw) (Scan pins) = ⊥
 HasMeaning cells (ScanCell row) (Gate cell inputs outputs) = ⊥
 HasMeaning cells (ScanCell row) (Scan pins) = IsNone pins.qn ↔ (row.qn ≡ [])
 
--- the instance is that of the wiring, with its name, its cell and the net of each pin
+-- the name of the data pin of a cell with this meaning, if it is a scan cell
+abbrev pub data_name : Meaning → List ℕ
+data_name Unknown = []
+data_name (Broken rule) = []
+data_name (Library raw) = []
+data_name (ScanCell row) = row.d
+
+-- the instance is that of the wiring, with its name, its cell, the name of its data pin and the net of each pin
 pub record IsPartOf (wiring : Wiring) (nets : List ℕ) (cells : List RawCell) (wired : WiredPart)
     (part : Part) : Type 0 where
   pub name : part.name ≡ wired.name
   pub cell : part.cell ≡ wired.cell
+  pub data : part.data ≡ data_name wired.meaning
   pub meaning : HasMeaning cells wired.meaning part.body
   pub inputs : AreNetsOf wiring nets wired.inputs (input_nets part.body)
   pub outputs : AreNetsOf wiring nets wired.outputs (output_nets part.body)

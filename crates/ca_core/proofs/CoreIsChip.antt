@@ -42,21 +42,21 @@ d_is_data (Scan nets) net has =
     (0, omega arith, ap (λ k. get_or (nets.d ∷ []) k net) (sym first) ∙ has.2)
 
 module _ (chip : Chip) (is : IsWired chip) where
-  body_of : (u : ℕ) (part : Part) → slice_get chip.parts u ≡ Some part → IsBody chip.cells part.body
+  pub body_of : (u : ℕ) (part : Part) → slice_get chip.parts u ≡ Some part → IsBody chip.cells part.body
   body_of u part at = of_all (λ (p : Part). IsBody chip.cells p.body) chip.parts u part is.bodies at
 
   -- a data net of an instance is one of the core's
-  data_within : (u : ℕ) (part : Part) (net : ℕ) → slice_get chip.parts u ≡ Some part → Contains (data_nets part.body) net → net < net_count chip
+  pub data_within : (u : ℕ) (part : Part) (net : ℕ) → slice_get chip.parts u ≡ Some part → Contains (data_nets part.body) net → net < net_count chip
   data_within u part net at has =
       of_list (λ n. n < net_count chip) (data_nets part.body) net
       (of_all (λ (p : Part). All (λ n. n < net_count chip) (data_nets p.body)) chip.parts u part is.on_nets at) has
 
-  data_outside : (u : ℕ) (part : Part) (net : ℕ) → slice_get chip.parts u ≡ Some part → Contains (data_nets part.body) net → IsOutside chip net
+  pub data_outside : (u : ℕ) (part : Part) (net : ℕ) → slice_get chip.parts u ≡ Some part → Contains (data_nets part.body) net → IsOutside chip net
   data_outside u part net at has =
       of_list (IsOutside chip) (data_nets part.body) net
       (of_all (λ (p : Part). All (IsOutside chip) (data_nets p.body)) chip.parts u part is.off_path at) has
 
-  number_within : (net : ℕ) → net < net_count chip → IsOutside chip net → core_net chip net < length (core_of chip).nets
+  pub number_within : (net : ℕ) → net < net_count chip → IsOutside chip net → core_net chip net < length (core_of chip).nets
   number_within net lt outside =
       let less = core_less chip net (net_count chip) outside lt in
       let l = length-core_kinds chip (net_count chip) in
@@ -278,7 +278,7 @@ module _ (chip : Chip) (is : IsWired chip) where
           omega arith
 
   -- the observed nets are off the scan path
-  outputs_outside : (net : ℕ) → Contains (outputs_of chip) net → (net < net_count chip) × IsOutside chip net
+  pub outputs_outside : (net : ℕ) → Contains (outputs_of chip) net → (net < net_count chip) × IsOutside chip net
   outputs_outside net has = elim (Contains-append_cases (port_nets chip false) (flat_map (λ (p : Part). d_nets p.body) chip.parts) net has) [
     | inl of_port ↦
         let found = contains_piece (λ port. if (if port.is_input then false else not false) && not (is_scan_path chip port.net) then port.net ∷ [] else []) chip.ports net of_port in

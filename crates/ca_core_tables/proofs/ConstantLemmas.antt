@@ -4,7 +4,6 @@ use Rattle.std.specs.Prelude.{IsTrue, not, Option, Some, None, if◌then◌else�
 use Rattle.ca_wired.specs.declared.parts.Source.TheVariants.{FromConstant}
 use Rattle.ca_wired.specs.Linked.{Chip, net_count, constant_net, is_scan_path, IsWired}
 use Rattle.ca_core.specs.Core.{core_net, trit_of, constant_on}
-use Rattle.ca_core_tables.specs.Tables.{HasConstantsOnNets}
 
 -- one constant drives a net
 pub same_constant : (chip : Chip) → IsWired chip → (net : ℕ) (found value : Bool) → constant_net chip found ≡ Some net → constant_net chip value ≡ Some net
@@ -13,13 +12,13 @@ same_constant chip is net found value one other =
     let same = is.one_driver net (FromConstant found) (FromConstant value) one other in cc
 
 -- a constant that drives none of the nets drives nothing
-pub no_net : (chip : Chip) (value : Bool) (end : ℕ) → HasConstantsOnNets chip → ((m : ℕ) → m < end → constant_net chip value ≡ Some m → ⊥)
+pub no_net : (chip : Chip) (value : Bool) (end : ℕ) → IsWired chip → ((m : ℕ) → m < end → constant_net chip value ≡ Some m → ⊥)
     → net_count chip ≤ end → None ≡ constant_net chip value
-no_net chip value end on_nets none all = by (constant_net chip value) refl
+no_net chip value end is none all = by (constant_net chip value) refl
   where
     by : (o : Option ℕ) → constant_net chip value ≡ o → None ≡ o
     by None e = refl
-    by (Some net) e = absurd (none net (let lt = on_nets value net e in omega arith) e)
+    by (Some net) e = absurd (none net (let lt = is.constants_on_nets value net e in omega arith) e)
 
 -- the constant of the core on a net that the chip's drives
 pub constant_here : (chip : Chip) (value : Bool) (net : ℕ) → is_scan_path chip net ≡ false

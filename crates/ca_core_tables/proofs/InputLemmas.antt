@@ -25,7 +25,6 @@ use Rattle.ca_core.specs.Core.{core_net, stored_nets, trit_of, constant_on, in_n
 use Rattle.ca_core.proofs.CoreLemmas.{IsOutside, core_same, length-core_kinds, kind_at}
 use Rattle.ca_core.proofs.CorePartLemmas.{first_stored, stored_is_driven}
 use Rattle.ca_sim.specs.Linked.{IsPinned}
-use Rattle.ca_core_tables.specs.Tables.{HasConstantsOnNets}
 use Rattle.ca_core_tables.proofs.CoreFacts.{data_within, data_outside, number_within}
 use Rattle.ca_core_tables.proofs.PartFacts.{some_at}
 
@@ -289,8 +288,8 @@ module _ (chip : Chip) (is : IsWired chip) where
   constant_stored : (value : Bool) → IsNoStored chip (FromConstant value)
   constant_stored value u part output at lt e = absurd cc
 
-  pub core_pinned : HasConstantsOnNets chip → 2 * length (inputs_of chip) < 2 ^ 32 → net_count chip < 2 ^ 32 → IsPinned (core_of chip)
-  core_pinned on_nets few few_nets = record {
+  pub core_pinned : 2 * length (inputs_of chip) < 2 ^ 32 → net_count chip < 2 ^ 32 → IsPinned (core_of chip)
+  core_pinned few few_nets = record {
     few = (let l = length-map (inputs_of chip) (core_net chip) in omega arith);
     few_nets = (let l = length-core_kinds chip (net_count chip) in let less = few_core chip (net_count chip) in omega arith);
     within = λ i lt.
@@ -317,11 +316,11 @@ module _ (chip : Chip) (is : IsWired chip) where
     constant_within = λ k c at.
         let constant = constant_is c (contained k c at) in
         subst (λ n. n < length (core_of chip).nets) (sym constant.numbered)
-        (number_within chip is constant.net (on_nets constant.value constant.net constant.drives) constant.outside);
+        (number_within chip is constant.net (is.constants_on_nets constant.value constant.net constant.drives) constant.outside);
     constant_kind = λ k c at.
         let constant = constant_is c (contained k c at) in
         ap (net_kind (core_of chip)) constant.numbered
-        ∙ input_kind constant.net (FromConstant constant.value) (on_nets constant.value constant.net constant.drives) constant.outside constant.drives
+        ∙ input_kind constant.net (FromConstant constant.value) (is.constants_on_nets constant.value constant.net constant.drives) constant.outside constant.drives
         (constant_stored constant.value);
   }
     where

@@ -1,18 +1,14 @@
 -- The core of a linked chip as tables.
-use Rattle.std.specs.Prelude.{ℕ, ◌*◌, ◌^◌, ◌≡◌, ◌<◌, Bool, false, List, [], ◌∷◌, length, map, slice_index, slice_index_or, slice_get, Option, Some, None}
+use Rattle.std.specs.Prelude.{ℕ, ◌*◌, ◌^◌, ◌≡◌, ◌<◌, false, List, [], ◌∷◌, length, map, slice_index, slice_index_or, slice_get, Option, Some, None}
 use Rattle.ca_wired.specs.declared.parts.Body.{Body}
 use Rattle.ca_wired.specs.declared.parts.Part.{Part}
 use Rattle.ca_wired.specs.declared.parts.Body.TheVariants.{Gate, Scan}
-use Rattle.ca_wired.specs.Linked.{Chip, net_count, constant_net, is_scan_path, inputs_of, IsWired}
+use Rattle.ca_wired.specs.Linked.{Chip, net_count, is_scan_path, inputs_of, IsWired}
 use Rattle.ca_wired.specs.Reading.{AreReadersOf}
 use Rattle.ca_flat.specs.Chip.{Constant}
 use Rattle.ca_core.specs.Core.{core_net, core_constants, rank_of}
 use Rattle.ca_core.specs.Numbers.{Numbers, AreCoreNumbers}
 use Rattle.ca_sim.specs.declared.linked.FixedNet.{FixedNet}
-
--- a constant that drives a net drives one of the chip's
-abbrev pub HasConstantsOnNets : Chip → Type 0
-HasConstantsOnNets chip = (value : Bool) (net : ℕ) → constant_net chip value ≡ Some net → net < net_count chip
 
 -- the chip, the number of each of its nets, the rank of each instance, the readers of each net of the core,
 -- and the constants
@@ -68,11 +64,9 @@ pub record AreFirstRows (chip : Chip) (count : ℕ) (rows : List (List ℕ)) : T
 abbrev pub AreRows : Chip → List (List ℕ) → Type 0
 AreRows chip rows = AreFirstRows chip (net_count chip) rows
 
--- the chip is wired and has few instances and inputs, and the tables are its own
+-- the chip is wired and has few inputs, and the tables are its own
 pub record AreTables (tables : Tables) : Type 0 where
   pub wired : IsWired tables.chip
-  pub on_nets : HasConstantsOnNets tables.chip
-  pub few_parts : length tables.chip.parts < 2 ^ 32
   pub few_inputs : 2 * length (inputs_of tables.chip) < 2 ^ 32
   pub numbered : AreCoreNumbers tables.chip tables.numbers
   pub ranked : AreRanks tables.chip tables.ranks

@@ -1,10 +1,10 @@
 //! The constants of the core.
 
-ghost use Rattle.std.specs.Prelude.{◌^◌, ◌≡◌, ◌<◌, ◌++◌, ◌↔◌, if◌then◌else◌, IsTrue, Some, IfOk, OnOk};
+ghost use Rattle.std.specs.Prelude.{◌≡◌, ◌<◌, ◌++◌, ◌↔◌, if◌then◌else◌, IsTrue, Some, IfOk, OnOk};
 ghost use Rattle.ca_wired.specs.Linked.{net_count, constant_net};
 ghost use Rattle.ca_core.specs.Core.{trit_of, constant_on, in_net_order, core_constants};
 ghost use Rattle.ca_core.specs.Numbers.{AreCoreNumbers};
-ghost use Rattle.ca_core_tables.specs.Tables.{HasConstantsOnNets, fixed_of, constants_of};
+ghost use Rattle.ca_core_tables.specs.Tables.{fixed_of, constants_of};
 
 use ca_base::NoMemory;
 use ca_core::CoreNets;
@@ -28,10 +28,9 @@ fn is_driven_by(chip: &Chip, net: NetId, value: bool) -> bool
 
 // The net that a constant drives.
 fn constant_net(chip: &Chip, value: bool) -> Option<u32>
-    requires few { net_count chip.now < 2 ^ 32 }
-    requires on_nets { HasConstantsOnNets chip.now }
     ensures { result ≡ constant_net chip.now value }
 {
+    chip.wired();
     for net in 0..chip.nets() {
         if is_driven_by(chip, NetId(net as u32), value) {
             return Some(net as u32);
@@ -49,8 +48,7 @@ fn trit_of(value: bool) -> Trit
 
 // The net of the core that a constant drives.
 fn fixed_by(chip: &Chip, numbers: &CoreNets, value: bool) -> Option<FixedNet>
-    requires numbers { AreCoreNumbers chip.now numbers.now }
-    requires on_nets { HasConstantsOnNets chip.now }
+    requires { AreCoreNumbers chip.now numbers.now }
     ensures { fixed_of result ≡ constant_on chip.now value (constant_net chip.now value) }
 {
     match constant_net(chip, value) {
@@ -109,8 +107,7 @@ pub(crate) fn constants_of(
     chip: &Chip,
     numbers: &CoreNets,
 ) -> Result<Vec<FixedNet>, NoMemory>
-    requires numbers { AreCoreNumbers chip.now numbers.now }
-    requires on_nets { HasConstantsOnNets chip.now }
+    requires { AreCoreNumbers chip.now numbers.now }
     ensures { IfOk result (λ list. constants_of list.items ≡ core_constants chip.now) }
 {
     let low = fixed_by(chip, numbers, false);

@@ -1,7 +1,8 @@
 //! The core of a linked chip as tables.
 
-ghost use Rattle.std.specs.Prelude.{◌≡◌, IfOk};
-ghost use Rattle.ca_core_tables.specs.Tables.{HasConstantsOnNets, AreTablesOf};
+ghost use Rattle.std.specs.Prelude.{◌≡◌, ◌<◌, length, slice_index, IfOk};
+ghost use Rattle.ca_core.specs.Core.{core_of};
+ghost use Rattle.ca_core_tables.specs.Tables.{AreTablesOf};
 
 use crate::constants::constants_of;
 use crate::places::ranks_of;
@@ -48,14 +49,12 @@ impl<'a> Model for CoreTables<'a> {
 }
 
 impl<'a> CoreTables<'a> {
-    /// The tables of a chip. Want of memory is also told of a chip with 2^32 nets or instances, or with 2^31
-    /// chip inputs.
+    /// The tables of a chip. Want of memory is also told of a chip with 2^31 chip inputs.
     pub fn new(alloc: Global, chip: &'a Chip) -> Result<Self, NoMemory>
-        requires { HasConstantsOnNets chip.now }
         ensures { IfOk result (λ tables. AreTablesOf chip.now tables) }
     {
         chip.wired();
-        if chip.parts() > u32::MAX as usize || chip.inputs() > i32::MAX as usize {
+        if chip.inputs() > i32::MAX as usize {
             return Err(NoMemory);
         }
         let numbers = core_nets(alloc, chip)?;
@@ -77,10 +76,25 @@ impl<'a> CoreTables<'a> {
     {
         self.chip
     }
+
+    /// The number of observed outputs.
+    pub fn outputs(&self) -> usize
+        ensures { result ≡ length (core_of self.now.chip).outputs }
+    {
+        self.chip.outputs()
+    }
+
+    /// The net of the core that an observed output is on.
+    pub fn output(&self, o: usize) -> usize
+        requires { o < length (core_of self.now.chip).outputs }
+        ensures within { result < length (core_of self.now.chip).nets }
+        ensures net { result ≡ slice_index (core_of self.now.chip).outputs o }
+    {
+        self.numbers.get(self.chip.output(o)) as usize
+    }
 }
 
 impl<'a> Linked for CoreTables<'a> {
-    ghost use Rattle.ca_core.specs.Core.{core_of};
     ghost use Rattle.ca_core_tables.specs.Tables.{cell_number, row_at};
 
     ghost core = { λ t. core_of t.chip };

@@ -18,7 +18,7 @@ use Rattle.ca_wired.specs.declared.parts.Part.{Part}
 use Rattle.ca_wired.specs.declared.parts.ScanNets.{ScanNets}
 use Rattle.ca_wired.specs.Linked.{IsGateOf, no_cell, input_nets, output_nets}
 use Rattle.ca_chip.specs.declared.scan_row.ScanRow.{ScanRow}
-use Rattle.ca_chip.specs.Linking.{HasMeaning}
+use Rattle.ca_chip.specs.Linking.{HasMeaning, data_name}
 use Rattle.ca_chip.specs.Wiring as wiring
 use Rattle.ca_chip.specs.Wiring.{Meaning, ScanCell, bit_on, names_with, input_wire, input_wires, output_wires, input_names, output_names, open_count, meaning_of, entry_meaning, WiredPart, wired_part, wired_parts}
 use Rattle.ca_draft.specs.OnWires.{cells_of, IsCellAt, IsOnWires, IsPartOnWires, wired_of, open_counts, IsKept, AreOnWires, next_own}
@@ -112,7 +112,7 @@ module _ (library : List Named) (scan : List ScanRow) (bits : ℕ) (instances : 
 
   -- the next instance
   pub on_wires_more : (u own behind : ℕ) (instance : RawInstance) (part : Part) (old new : List Part) → slice_get instances u ≡ Some instance
-      → AreOnWires library scan bits instances u own old → IsPartOnWires library scan bits instance own behind part
+      → AreOnWires library scan bits instances u own old → IsPartOnWires library bits (meaning_of library scan instance.cell) instance own behind part
       → new ≡ old ++ part ∷ [] → AreOnWires library scan bits instances (u + 1) behind new
   on_wires_more u own behind instance part old new at before is push =
       subst (AreOnWires library scan bits instances (u + 1) behind) (sym push) (record {
@@ -130,6 +130,7 @@ module _ (library : List Named) (scan : List ScanRow) (bits : ℕ) (instances : 
             omega (arith, all, rest, here);
         count = let c = before.count in let l = length_push old part in omega (arith, c, l);
         kept = All-push (IsKept library scan) old part before.kept (record {
+          data = is.data ∙ ap (λ cell. data_name (meaning_of library scan cell)) (sym is.cell);
           meant = subst (λ cell. HasMeaning (cells_of library) (meaning_of library scan cell) part.body) (sym is.cell) is.body.meant;
           is_body = is.body.is_body;
           few = is.body.few;

@@ -25,7 +25,7 @@ use Rattle.ca_chip.specs.declared.joined.Join.{Join}
 use Rattle.ca_chip.specs.Joined.{AreEarliest}
 use Rattle.ca_chip.specs.Numbers.{WireMarks, NetNumbers, AreNumbered}
 use Rattle.ca_chip.specs.InstanceRules.{IsSound}
-use Rattle.ca_chip.specs.Linking.{HasMeaning}
+use Rattle.ca_chip.specs.Linking.{HasMeaning, data_name}
 use Rattle.ca_draft.specs.declared.draft.OnWires.{OnWires}
 
 -- the cells of a library
@@ -62,11 +62,12 @@ pub record IsOnWires (library : List Named) (bits : ℕ) (meaning : Meaning) (us
   pub few : length (output_nets body) < 2 ^ 32
 
 -- and the instance has its names
-pub record IsPartOnWires (library : List Named) (scan : List ScanRow) (bits : ℕ) (instance : RawInstance)
+pub record IsPartOnWires (library : List Named) (bits : ℕ) (meaning : Meaning) (instance : RawInstance)
     (own behind : ℕ) (part : Part) : Type 0 where
   pub name : part.name ≡ instance.name
   pub cell : part.cell ≡ instance.cell
-  pub body : IsOnWires library bits (meaning_of library scan instance.cell) instance.pins own behind part.body
+  pub data : part.data ≡ data_name meaning
+  pub body : IsOnWires library bits meaning instance.pins own behind part.body
 
 -- the instance of a wiring that this one is
 abbrev pub wired_of : List Named → List ScanRow → Part → WiredPart
@@ -90,8 +91,10 @@ abbrev pub AreSoundAll : List Named → List ScanRow → List RawInstance → Ty
 AreSoundAll library scan instances = (u : ℕ) (instance : RawInstance) → slice_get instances u ≡ Some instance
     → IsSound (meaning_of library scan instance.cell) instance.pins
 
--- what each part of a draft keeps: its body is of the cell that the name of its cell means
+-- what each part of a draft keeps: its body is of the cell that the name of its cell means, and so is its data
+-- pin
 pub record IsKept (library : List Named) (scan : List ScanRow) (part : Part) : Type 0 where
+  pub data : part.data ≡ data_name (meaning_of library scan part.cell)
   pub meant : HasMeaning (cells_of library) (meaning_of library scan part.cell) part.body
   pub is_body : IsBody (cells_of library) part.body
   pub few : length (output_nets part.body) < 2 ^ 32
@@ -157,7 +160,12 @@ numbered numbers (Scan pins) = Scan (record {
 
 -- the instance with the number of each wire in its place
 abbrev pub numbered_part : List ℕ → Part → Part
-numbered_part numbers part = record { name = part.name; cell = part.cell; body = numbered numbers part.body }
+numbered_part numbers part = record {
+  name = part.name;
+  cell = part.cell;
+  data = part.data;
+  body = numbered numbers part.body;
+}
 
 -- the port bit with the number of its wire
 abbrev pub numbered_port : List ℕ → PortBit → PortBit

@@ -72,6 +72,29 @@ fn library_body(
     }
 }
 
+// An instance of a library cell.
+fn library_part(
+    alloc: Global,
+    library: &Library,
+    bits: u32,
+    own: &mut u32,
+    instance: &RawInstance,
+) -> Result<Part, NoMemory>
+    requires bits { bits + 1 < 2 ^ 32 }
+    requires known { IsKnown (entry_meaning (entry_of library.now (upper_case instance.now.cell))) }
+    ensures { IfOk result (IsPartOnWires library.now bits
+        (entry_meaning (entry_of library.now (upper_case instance.now.cell))) instance.now own.old own.new) }
+{
+    let uses = instance.pins.as_slice();
+    let body = library_body(alloc, library, bits, own, &instance.cell, uses)?;
+    Ok(Part {
+        name: instance.name.copy(alloc)?,
+        cell: instance.cell.copy(alloc)?,
+        data: Text::new(alloc),
+        body,
+    })
+}
+
 // The body of an instance of a scan cell.
 fn scan_body(
     bits: u32,
@@ -87,30 +110,28 @@ fn scan_body(
     Ok(Body::Scan(pins))
 }
 
-// The body of an instance, where the next wire of its own has the number `own`.
-fn body_of(
+// An instance of a scan cell.
+fn scan_part(
     alloc: Global,
     library: &Library,
-    scan: &[ScanRow],
-    cells: &NameSet,
+    row: &ScanRow,
     bits: u32,
     own: &mut u32,
     instance: &RawInstance,
-) -> Result<Body, NoMemory>
-    requires bits { bits + 1 < 2 ^ 32 }
-    requires cells { cells.now ≡ map (λ row. row.cell) scan.now }
-    requires known { IsKnown (meaning_of library.now scan.now instance.now.cell) }
-    ensures { IfOk result (IsOnWires library.now bits (meaning_of library.now scan.now instance.now.cell)
-        instance.now.pins own.old own.new) }
+) -> Result<Part, NoMemory>
+    requires { bits + 1 < 2 ^ 32 }
+    ensures { IfOk result (IsPartOnWires library.now bits (ScanCell row.now) instance.now own.old own.new) }
 {
-    let uses = instance.pins.as_slice();
-    match row_of(scan, cells, &instance.cell) {
-        Some(row) => scan_body(bits, own, row, library, uses),
-        None => library_body(alloc, library, bits, own, &instance.cell, uses),
-    }
+    let body = scan_body(bits, own, row, library, instance.pins.as_slice())?;
+    Ok(Part {
+        name: instance.name.copy(alloc)?,
+        cell: instance.cell.copy(alloc)?,
+        data: row.d.copy(alloc)?,
+        body,
+    })
 }
 
-// An instance on its wires.
+// An instance on its wires, where the next wire of its own has the number `own`.
 fn part_of(
     alloc: Global,
     library: &Library,
@@ -123,14 +144,13 @@ fn part_of(
     requires bits { bits + 1 < 2 ^ 32 }
     requires cells { cells.now ≡ map (λ row. row.cell) scan.now }
     requires known { IsKnown (meaning_of library.now scan.now instance.now.cell) }
-    ensures { IfOk result (IsPartOnWires library.now scan.now bits instance.now own.old own.new) }
+    ensures { IfOk result (IsPartOnWires library.now bits (meaning_of library.now scan.now instance.now.cell)
+        instance.now own.old own.new) }
 {
-    let body = body_of(alloc, library, scan, cells, bits, own, instance)?;
-    Ok(Part {
-        name: instance.name.copy(alloc)?,
-        cell: instance.cell.copy(alloc)?,
-        body,
-    })
+    match row_of(scan, cells, &instance.cell) {
+        Some(row) => scan_part(alloc, library, row, bits, own, instance),
+        None => library_part(alloc, library, bits, own, instance),
+    }
 }
 
 /// Instances on their wires, and the number of all wires.

@@ -10,4 +10,4 @@ mod sizes;
 mod spots;
 
 pub use laws::{flat_has_lines, flat_is_well_formed};
-pub use network::flatten;
+pub use network::{flatten, judge_size};

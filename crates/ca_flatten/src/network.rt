@@ -1,6 +1,6 @@
 //! The flat network of a linked chip.
 
-ghost use Rattle.std.specs.Prelude.{◌≡◌, IfOk};
+ghost use Rattle.std.specs.Prelude.{◌≡◌, IfOk, OnOk};
 ghost use Rattle.ca_flat.specs.Chip.{IsChipDefect};
 ghost use Rattle.ca_flat.specs.Flat.{flat};
 ghost use Rattle.ca_core.specs.Core.{core_of};
@@ -37,6 +37,20 @@ fn network_of(
         Ok(net) => Ok(net),
         Err(NetFault::BadNode { .. }) => unreachable!(),
         Err(NetFault::NoMemory) => Err(NoMemory),
+    }
+}
+
+/// Whether a flat network is small enough for its nodes and devices to have numbers of 32 bits. Want of memory is
+/// also told of one that isn't, or that isn't with one more of each.
+pub fn judge_size(alloc: Global, chip: &Chip, defect: Option<ChipDefect>) -> Result<(), NoMemory>
+    ensures { OnOk result (IsFew (core_of chip.now) defect) }
+{
+    let nets = core_nets(alloc, chip)?;
+    let gates = gates_of(alloc, chip)?;
+    if is_few(chip, &nets, &gates, defect) {
+        Ok(())
+    } else {
+        Err(NoMemory)
     }
 }
 

@@ -6,7 +6,7 @@ use Rattle.std.proofs.lemmas.List.{get_or_default}
 use Rattle.std.proofs.lemmas.List.Folds.{list_any-from_Any}
 use Rattle.ca_wired.specs.declared.drivers.Sources.{Sources}
 use Rattle.ca_wired.specs.Order.{IsOrder}
-use Rattle.ca_wired.specs.Linked.{Source, FromPort, FromConstant, FromPin, Part, PortBit, Chip, net_count, has, is_scan_path, output_nets, data_nets, Drives, Feeds, IsGate, IsLibrary, IsWired}
+use Rattle.ca_wired.specs.Linked.{Source, FromPort, FromConstant, FromPin, Part, PortBit, Chip, net_count, constant_net, has, is_scan_path, output_nets, data_nets, Drives, Feeds, IsGate, IsLibrary, IsWired}
 use Rattle.ca_wired.specs.Drivers.{AreFirst, sources_at, AreDrivers, IsSingle, IsFirstFlaw, AreAllSingle, IsDrafted}
 use Rattle.ca_wired.specs.Feeding.{IsDrivenBy, AreSingle, IsOrderCause}
 use Rattle.ca_wired.specs.Paths.{is_on_data, is_on_port}
@@ -69,6 +69,10 @@ module _ (chip : Chip) (drafted : IsDrafted chip) where
       of_get (λ n. n < net_count chip) (output_nets found.item.body) pin net
       (of_all (λ (p : Part). All (λ n. n < net_count chip) (output_nets p.body)) chip.parts u found.item drafted.outputs_on_nets found.at) found.has
 
+  constants_within : (value : Bool) (net : ℕ) → constant_net chip value ≡ Some net → net < net_count chip
+  constants_within false = drafted.zero_on_net
+  constants_within true = drafted.one_on_net
+
   data_on_nets : All (λ (part : Part). All (λ net. net < net_count chip) (data_nets part.body)) chip.parts
   data_on_nets u part lt = data_within (λ net. net < net_count chip) (get_or chip.parts u part).body (drafted.inputs_on_nets u part lt) (drafted.outputs_on_nets u part lt)
 
@@ -107,7 +111,13 @@ module _ (chip : Chip) (drafted : IsDrafted chip) where
     wired = record {
       bodies = drafted.bodies;
       on_nets = data_on_nets;
+      inputs_on_nets = drafted.inputs_on_nets;
+      outputs_on_nets = drafted.outputs_on_nets;
       ports_on_nets = drafted.ports_on_nets;
+      constants_on_nets = constants_within;
+      few_parts = drafted.few_parts;
+      few_ports = drafted.few_ports;
+      few_nets = drafted.few_nets;
       driven = λ net lt. let is = single.each net lt in (is.source, is.only.has);
       one_driver = λ net s t drives_s drives_t.
           let is = single.each net (drives_within net s drives_s) in

@@ -1,5 +1,5 @@
 -- Linked chips: nets, instances with the net of each pin, port bits, and an order of the library instances.
-use Rattle.std.specs.Prelude.{ℕ, ◌≡◌, ◌<◌, Bool, true, false, not, ◌&&◌, eqb, IsTrue, List, [], ◌∷◌, ◌++◌, length, IsSomeAnd, Option, Some, slice_get, slice_index_or, option_to_list, if◌then◌else◌}
+use Rattle.std.specs.Prelude.{ℕ, ◌^◌, ◌≡◌, ◌<◌, Bool, true, false, not, ◌&&◌, eqb, IsTrue, List, [], ◌∷◌, ◌++◌, length, IsSomeAnd, Option, Some, slice_get, slice_index_or, option_to_list, if◌then◌else◌}
 use Rattle.std.specs.List.{All, Contains, list_any, flat_map}
 use Rattle.ca_cell.specs.declared.raw.RawCell.{RawCell}
 use Rattle.ca_cell.specs.Raw.{is_input, is_output, role_count}
@@ -119,11 +119,18 @@ abbrev pub IsBody : List RawCell → Body → Type 0
 IsBody cells (Gate cell inputs outputs) = IsGateOf (cell_of cells cell) inputs outputs
 IsBody cells (Scan nets) = Unit {0}
 
--- each net has one driver, the data pins are off the scan path, and there is an order
+-- the pins, ports and constants are on nets; each net has one driver, the data pins are off the scan path, and
+-- there is an order; and instances, port bits and nets are few enough for numbers of 32 bits
 pub record IsWired (chip : Chip) : Type 0 where
   pub bodies : All (λ part. IsBody chip.cells part.body) chip.parts
   pub on_nets : All (λ part. All (λ net. net < net_count chip) (data_nets part.body)) chip.parts
+  pub inputs_on_nets : All (λ part. All (λ net. net < net_count chip) (input_nets part.body)) chip.parts
+  pub outputs_on_nets : All (λ part. All (λ net. net < net_count chip) (output_nets part.body)) chip.parts
   pub ports_on_nets : All (λ port. port.net < net_count chip) chip.ports
+  pub constants_on_nets : (value : Bool) (net : ℕ) → constant_net chip value ≡ Some net → net < net_count chip
+  pub few_parts : length chip.parts < 2 ^ 32
+  pub few_ports : length chip.ports < 2 ^ 32
+  pub few_nets : net_count chip < 2 ^ 32
   pub driven : (net : ℕ) → net < net_count chip → (s : Source) × Drives chip net s
   pub one_driver : (net : ℕ) (s t : Source) → Drives chip net s → Drives chip net t → s ≡ t
   pub off_path : All (λ part. All (λ net. is_scan_path chip net ≡ false) (data_nets part.body)) chip.parts

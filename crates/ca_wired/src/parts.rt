@@ -201,11 +201,13 @@ impl Body {
     }
 }
 
-/// An instance, with its name and that of its cell.
+/// An instance, with its name, that of its cell and that of its data pin, which is empty where the cell is one
+/// of the library.
 #[derive(Drop)]
 pub struct Part {
     pub name: Text,
     pub cell: Text,
+    pub data: Text,
     pub body: Body,
 }
 

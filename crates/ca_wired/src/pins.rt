@@ -1,7 +1,7 @@
 //! Instances, their names, and the nets of their pins.
 
-ghost use Rattle.std.specs.Prelude.{ℕ, ◌≡◌, ◌<◌, ◌^◌, ◌++◌, length, Some, slice_get, IsSomeAnd, IfSome, IfNone, IfOk, OnOk};
-ghost use Rattle.ca_wired.specs.Linked.{input_nets};
+ghost use Rattle.std.specs.Prelude.{ℕ, ◌≡◌, ◌<◌, ◌↔◌, ◌^◌, ◌++◌, length, IsTrue, Some, slice_get, IsSomeAnd, IfSome, IfNone, IfOk, OnOk};
+ghost use Rattle.ca_wired.specs.Linked.{input_nets, IsLibrary};
 ghost use Rattle.ca_wired.specs.Drivers.{IsDrafted};
 ghost use Rattle.ca_wired.specs.Instances.{if_gate, if_scan, gates_of, scans_of, net_of_pin, pin_nets, HasOnPin, IsScan};
 
@@ -133,12 +133,28 @@ impl Chip {
         &self.parts[u.0 as usize].cell
     }
 
-    /// The name of a port bit.
-    pub fn port_name(&self, alloc: Global, p: usize) -> Result<Text, NoMemory>
-        requires { p < length self.now.ports }
-        ensures { IfOk result (λ name. IsSomeAnd (slice_get self.now.ports p) (λ port. port.name ≡ name)) }
+    /// The name of an instance's data pin; it is empty where the instance is of a library cell.
+    pub fn data_name(&self, u: InstanceId) -> &Text
+        requires { u.0 < length self.now.parts }
+        ensures { IsSomeAnd (slice_get self.now.parts u.0) (λ part. part.data ≡ result.now) }
     {
-        self.ports[p].name.copy(alloc)
+        &self.parts[u.0 as usize].data
+    }
+
+    /// The name of a port bit.
+    pub fn port_name(&self, p: usize) -> &Text
+        requires { p < length self.now.ports }
+        ensures { IsSomeAnd (slice_get self.now.ports p) (λ port. port.name ≡ result.now) }
+    {
+        &self.ports[p].name
+    }
+
+    /// Whether an instance is of a library cell.
+    pub fn is_library(&self, u: InstanceId) -> bool
+        requires { u.0 < length self.now.parts }
+        ensures { IsTrue result ↔ IsLibrary self.now u.0 }
+    {
+        self.parts[u.0 as usize].body.is_gate()
     }
 
     /// The net of a pin of an instance: the input pins come first, each kind in pin order.

@@ -8,12 +8,12 @@ use Rattle.ca_core_tables.proofs.tables.CoreTablesLinked.linked.Goals as goal
 pub returns-clause-linked : goal.returns-clause-linked
 returns-clause-linked c =
     let kept = subst AreTables c.self.view_is c.self.invariant in
-    core_linked c.args.self.now.chip kept.wired c.args.self.now.ranks kept.ranked kept.few_parts
+    core_linked c.args.self.now.chip kept.wired c.args.self.now.ranks kept.ranked kept.wired.few_parts
 
 pub returns-clause-pinned : goal.returns-clause-pinned
 returns-clause-pinned c =
     let kept = subst AreTables c.self.view_is c.self.invariant in
-    core_pinned c.args.self.now.chip kept.wired kept.on_nets kept.few_inputs kept.numbered.few
+    core_pinned c.args.self.now.chip kept.wired kept.few_inputs kept.numbered.few
 
 pub returns-clause-read : goal.returns-clause-read
 returns-clause-read c =
