@@ -7,6 +7,6 @@ use Rattle.ca_transistors.specs.Transistors.{HaveTransistors}
 
 -- the cells of a library that a text reads as have transistors alone, those too that break a rule of a used cell
 abbrev pub ReadCellsAreOfTransistors : Type 0
-ReadCellsAreOfTransistors = (bytes : List ℕ) (library : List Named)
-    → library_of bytes ≡ Ok (map subcircuit_seen library)
-    → HaveTransistors (map (λ named. raw_of named.entry) library)
+ReadCellsAreOfTransistors = (text : List ℕ) (cells : List Named)
+    → library_of text ≡ Ok (map subcircuit_seen cells)
+    → HaveTransistors (map (λ named. raw_of named.entry) cells)
