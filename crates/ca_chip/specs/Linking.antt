@@ -31,7 +31,7 @@ pub record IsPartOf (wiring : Wiring) (nets : List ℕ) (cells : List RawCell) (
     (part : Part) : Type 0 where
   pub name : part.name ≡ wired.name
   pub cell : part.cell ≡ wired.cell
-  pub data : part.data ≡ data_name wired.meaning
+  pub data_pin : part.«data» ≡ data_name wired.meaning
   pub meaning : HasMeaning cells wired.meaning part.body
   pub inputs : AreNetsOf wiring nets wired.inputs (input_nets part.body)
   pub outputs : AreNetsOf wiring nets wired.outputs (output_nets part.body)

@@ -130,7 +130,7 @@ module _ (library : List Named) (scan : List ScanRow) (bits : ℕ) (instances : 
             omega (arith, all, rest, here);
         count = let c = before.count in let l = length_push old part in omega (arith, c, l);
         kept = All-push (IsKept library scan) old part before.kept (record {
-          data = is.data ∙ ap (λ cell. data_name (meaning_of library scan cell)) (sym is.cell);
+          data_pin = is.data_pin ∙ ap (λ cell. data_name (meaning_of library scan cell)) (sym is.cell);
           meant = subst (λ cell. HasMeaning (cells_of library) (meaning_of library scan cell) part.body) (sym is.cell) is.body.meant;
           is_body = is.body.is_body;
           few = is.body.few;

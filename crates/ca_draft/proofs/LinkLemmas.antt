@@ -318,7 +318,7 @@ module _ (library : List Named) (scan : List ScanRow) (parts : List Part) (ports
         part_is u part at = record {
           name = refl;
           cell = refl;
-          data = (kept_at u part at).data;
+          data_pin = (kept_at u part at).data_pin;
           meaning = meaning_numbered (cells_of library) table.numbers (meaning_of library scan part.cell) part.body (kept_at u part at).meant;
           inputs = subst (AreNetsOf wiring table.nets (input_nets part.body)) (sym (inputs_numbered table.numbers part.body))
               (nets_at (input_nets part.body) (λ m has. pin_touched u part at m (Contains-append_left (input_nets part.body) (output_nets part.body) m has)));

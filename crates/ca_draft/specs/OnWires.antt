@@ -66,7 +66,7 @@ pub record IsPartOnWires (library : List Named) (bits : ℕ) (meaning : Meaning)
     (own behind : ℕ) (part : Part) : Type 0 where
   pub name : part.name ≡ instance.name
   pub cell : part.cell ≡ instance.cell
-  pub data : part.data ≡ data_name meaning
+  pub data_pin : part.«data» ≡ data_name meaning
   pub body : IsOnWires library bits meaning instance.pins own behind part.body
 
 -- the instance of a wiring that this one is
@@ -94,7 +94,7 @@ AreSoundAll library scan instances = (u : ℕ) (instance : RawInstance) → slic
 -- what each part of a draft keeps: its body is of the cell that the name of its cell means, and so is its data
 -- pin
 pub record IsKept (library : List Named) (scan : List ScanRow) (part : Part) : Type 0 where
-  pub data : part.data ≡ data_name (meaning_of library scan part.cell)
+  pub data_pin : part.«data» ≡ data_name (meaning_of library scan part.cell)
   pub meant : HasMeaning (cells_of library) (meaning_of library scan part.cell) part.body
   pub is_body : IsBody (cells_of library) part.body
   pub few : length (output_nets part.body) < 2 ^ 32
@@ -163,7 +163,7 @@ abbrev pub numbered_part : List ℕ → Part → Part
 numbered_part numbers part = record {
   name = part.name;
   cell = part.cell;
-  data = part.data;
+  «data» = part.«data»;
   body = numbered numbers part.body;
 }
 

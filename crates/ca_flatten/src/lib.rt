@@ -11,3 +11,4 @@ mod spots;
 
 pub use laws::{flat_has_lines, flat_is_well_formed};
 pub use network::{flatten, judge_size};
+pub use spots::cell_at;

@@ -1,6 +1,7 @@
 //! The flat network of a linked chip.
 
-ghost use Rattle.std.specs.Prelude.{◌≡◌, IfOk, OnOk};
+ghost use Rattle.std.specs.Prelude.{◌≡◌, Option, IfOk, OnOk};
+ghost use Rattle.ca_flat.specs.declared.chip_defect.ChipDefect.{ChipDefect};
 ghost use Rattle.ca_flat.specs.Chip.{IsChipDefect};
 ghost use Rattle.ca_flat.specs.Flat.{flat};
 ghost use Rattle.ca_core.specs.Core.{core_of};
@@ -40,14 +41,14 @@ fn network_of(
     }
 }
 
-/// Whether a flat network is small enough for its nodes and devices to have numbers of 32 bits. Want of memory is
-/// also told of one that isn't, or that isn't with one more of each.
-pub fn judge_size(alloc: Global, chip: &Chip, defect: Option<ChipDefect>) -> Result<(), NoMemory>
-    ensures { OnOk result (IsFew (core_of chip.now) defect) }
+/// Whether the flat networks of a chip, good and with each of its defects, are small enough for their nodes and
+/// devices to have numbers of 32 bits. Want of memory is told where one of them may be too large.
+pub fn judge_size(alloc: Global, chip: &Chip) -> Result<(), NoMemory>
+    ensures { OnOk result ((given : Option ChipDefect) → IsFew (core_of chip.now) given) }
 {
     let nets = core_nets(alloc, chip)?;
     let gates = gates_of(alloc, chip)?;
-    if is_few(chip, &nets, &gates, defect) {
+    if is_few(chip, &nets, &gates) {
         Ok(())
     } else {
         Err(NoMemory)
@@ -64,7 +65,7 @@ pub fn flatten(alloc: Global, chip: &Chip, defect: Option<ChipDefect>) -> Result
 {
     let nets = core_nets(alloc, chip)?;
     let gates = gates_of(alloc, chip)?;
-    if !is_few(chip, &nets, &gates, defect) {
+    if !is_few(chip, &nets, &gates) {
         return Err(NoMemory);
     }
     let nodes = nodes_of(alloc, chip, &nets, &gates, defect)?;

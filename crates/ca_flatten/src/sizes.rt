@@ -1,6 +1,7 @@
 //! Whether a flat network is small enough for its nodes and devices to have numbers.
 
-ghost use Rattle.std.specs.Prelude.{◌≡◌, ◌^◌, ◌<◌, length, true};
+ghost use Rattle.std.specs.Prelude.{◌≡◌, ◌^◌, ◌<◌, length, true, Option};
+ghost use Rattle.ca_flat.specs.declared.chip_defect.ChipDefect.{ChipDefect};
 ghost use Rattle.ca_flat.specs.Chip.{circuit_at};
 ghost use Rattle.ca_core.specs.Core.{core_of};
 ghost use Rattle.ca_core.specs.Numbers.{AreCoreNumbers};
@@ -10,7 +11,6 @@ ghost use Rattle.ca_flatten.specs.Kept.{AreGateMarks};
 use crate::gates::Gates;
 use crate::spots::{cell_at, inner_count};
 use ca_core::CoreNets;
-use ca_flat::ChipDefect;
 use ca_net::Network;
 use ca_wired::{Chip, InstanceId};
 
@@ -31,16 +31,12 @@ fn device_count(chip: &Chip, gates: &Gates, u: InstanceId) -> usize
     }
 }
 
-/// Whether the flat network has fewer than 2^32 nodes and devices, also with one more of each.
-pub(crate) fn is_few(
-    chip: &Chip,
-    nets: &CoreNets,
-    gates: &Gates,
-    defect: Option<ChipDefect>,
-) -> bool
+/// Whether the flat network has fewer than 2^32 nodes and devices, also with one more of each, which a defect
+/// may add.
+pub(crate) fn is_few(chip: &Chip, nets: &CoreNets, gates: &Gates) -> bool
     requires nets { AreCoreNumbers chip.now nets.now }
     requires gates { AreGateMarks chip.now gates.now }
-    ensures { result ≡ true → IsFew (core_of chip.now) defect }
+    ensures { result ≡ true → (given : Option ChipDefect) → IsFew (core_of chip.now) given }
 {
     let mut inner = 0;
     let mut devices = 0;

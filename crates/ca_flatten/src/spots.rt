@@ -27,7 +27,7 @@ pub(crate) struct Spot {
 }
 
 /// The cell of a library instance.
-pub(crate) fn cell_at(chip: &Chip, u: InstanceId) -> &Cell
+pub fn cell_at(chip: &Chip, u: InstanceId) -> &Cell
     requires { IsLibrary chip.now u.0 }
     ensures { result.now ≡ cell_at (core_of chip.now) u.0 }
 {

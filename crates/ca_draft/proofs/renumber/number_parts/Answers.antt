@@ -30,6 +30,6 @@ loop-u-preserved c =
     changed_more (numbered_part c.args.table.now.numbers) c.loop-u.u c.index_mut.result.now _ c.args.parts.now.items c.loop-u.parts.items _
     (unchanged_at (numbered_part c.args.table.now.numbers) c.loop-u.u c.index_mut.result.now c.args.parts.now.items c.loop-u.parts.items c.loop-u.invariant there)
     c.loop-u.invariant
-    (ap (λ (b : Body). let made : Part = record { name = c.index_mut.result.now.name; cell = c.index_mut.result.now.cell; data = c.index_mut.result.now.data; body = b } in made)
+    (ap (λ (b : Body). let made : Part = record { name = c.index_mut.result.now.name; cell = c.index_mut.result.now.cell; «data» = c.index_mut.result.now.«data»; body = b } in made)
     (c.in_ok-body.ensures {u = tt} ∙ ap (λ (p : Part). numbered c.args.table.now.numbers p.body) same))
     refl

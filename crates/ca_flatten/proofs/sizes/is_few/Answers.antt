@@ -15,6 +15,6 @@ loop-u-preserved c = record {
 }
 
 pub returns : goal.returns
-returns c = λ is. few_counted c.args.chip.now c.args.defect c.loop-u.u c.loop-u.inner c.loop-u.devices c.loop-u.invariant.counted
+returns c = λ is given. few_counted c.args.chip.now given c.loop-u.u c.loop-u.inner c.loop-u.devices c.loop-u.invariant.counted
     (let e = c.parts-u-end.ensures in let low = c.loop-u.auto.u-end in let high = c.loop-u-test.false in omega arith)
     (let e = c.count.ensures in let t = c.requires.nets.total in omega arith) (omega arith)

@@ -1,0 +1,59 @@
+//! The values of observed outputs under a pair.
+
+ghost use Rattle.std.specs.Prelude.{◌≡◌, ◌<◌, length, None, IfOk, OnOk};
+ghost use Rattle.ca_wired.specs.Linked.{inputs_of};
+ghost use Rattle.ca_core.specs.Core.{core_of};
+ghost use Rattle.ca_sim.specs.Seen.{IsExact};
+ghost use Rattle.ca_asked.specs.Asked.{IsLibraryDefect};
+ghost use Rattle.ca_simulate.specs.Simulated.{pair_of, AreOutputEnds, AreSimulated};
+
+use crate::letters::Letters;
+use ca_asked::Vectors;
+use ca_base::NoMemory;
+use ca_core_tables::CoreTables;
+use ca_flat::ChipDefect;
+use ca_flatten::judge_size;
+use ca_net::Trit;
+use ca_sim::{NetWaves, Sim};
+use ca_wired::Chip;
+use std::alloc::Global;
+
+/// What the observed outputs settle to, in their order, without a defect and with one: X where runs differ or
+/// end at X.
+#[derive(Drop)]
+pub struct OutputEnds {
+    pub good: Vec<Trit>,
+    pub faulty: Vec<Trit>,
+}
+
+/// What the observed outputs settle to under two vectors that have one letter for each chip input, without the
+/// defect and with it. Without a defect both are the same. Want of memory is also told of a chip whose flat
+/// network may have 2^32 nodes or devices, or that has 2^31 inputs.
+pub fn simulate(
+    alloc: Global,
+    chip: &Chip,
+    defect: Option<ChipDefect>,
+    vectors: Vectors<'_>,
+) -> Result<OutputEnds, NoMemory>
+    requires defect { IsLibraryDefect chip.now defect }
+    requires first { length vectors.first.now ≡ length (inputs_of chip.now) }
+    requires last { length vectors.last.now ≡ length (inputs_of chip.now) }
+    ensures { IfOk result (λ ends. AreSimulated (core_of chip.now) defect
+        (pair_of vectors.first.now vectors.last.now) ends.good.items ends.faulty.items) }
+{
+    judge_size(alloc, chip)?;
+    chip.wired();
+    let tables = CoreTables::new(alloc, chip)?;
+    let mut sim = Sim::reserve(alloc, &tables)?;
+    sim.aim(defect);
+    sim.load(&Letters { vectors });
+    sim.exact();
+    let mut good = Vec::new(alloc);
+    let mut faulty = Vec::new(alloc);
+    for o in 0..tables.outputs() {
+        let net = tables.output(o);
+        good.push(sim.good(net).last)?;
+        faulty.push(sim.faulty(net).last)?;
+    }
+    Ok(OutputEnds { good, faulty })
+}
