@@ -120,3 +120,9 @@ pub first_word : (given : Option (Bor (List ℕ))) (text word : List ℕ)
     → (words : List (List ℕ)) × (words_of text ≡ word ∷ words)
 first_word None text word is = ([], is)
 first_word (Some rest) text word is = (words_of rest.now, is.0)
+
+-- what a line of some words reads as, for a search
+pub ruleset lines = (no_words, settles, blurs, sets, no_event)
+
+-- what a setting of some words reads as
+pub ruleset settings = (set_one, set_two, set_more)

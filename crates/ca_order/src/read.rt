@@ -49,7 +49,7 @@ fn set_of(places: &[Place], node: Option<NodeId>, value: Option<Trit>) -> Option
 }
 
 // The setting that the words of a text make.
-#[tactic(auto, using(crate::proofs::EventLemmas::set_one, crate::proofs::EventLemmas::set_two, crate::proofs::EventLemmas::set_more))]
+#[tactic(auto, using(crate::proofs::EventLemmas::settings))]
 fn set_with(places: &[Place], text: &[u8]) -> Option<Event>
     requires few { length places.now ≤ 2 ^ 32 }
     ensures { result ≡ set_with places.now (words_of text.now) }
@@ -86,7 +86,7 @@ fn blurred(nodes: Option<List<NodeId>>) -> Option<Event>
 }
 
 // The event of a line.
-#[tactic(auto, using(crate::proofs::EventLemmas::no_words, crate::proofs::EventLemmas::settles, crate::proofs::EventLemmas::blurs, crate::proofs::EventLemmas::sets, crate::proofs::EventLemmas::no_event))]
+#[tactic(auto, using(crate::proofs::EventLemmas::lines))]
 fn event_of(alloc: Global, places: &[Place], text: &[u8]) -> Result<Option<Event>, NoMemory>
     requires few { length places.now ≤ 2 ^ 32 }
     ensures { IfOk result (λ event. event ≡ event_of places.now (words_of text.now)) }
