@@ -1,6 +1,6 @@
 -- The events of an order file may come.
-use Rattle.std.proofs.Common.{◌≡◌, ℕ, ◌<◌, Bool, true, false, List, [], ◌∷◌, ◌++◌, length, refl, subst, codes, Option, Some, None, Result, Ok, Err}
-use Rattle.std.specs.Prelude.{if◌then◌else◌, nat_lt, nat_le, slice_get}
+use Rattle.std.proofs.Common.{◌≡◌, ℕ, ◌<◌, Bool, true, false, List, [], ◌∷◌, ◌++◌, length, refl, sym, subst, codes, Option, Some, None, Result, Ok, Err, IfOk}
+use Rattle.std.specs.Prelude.{if◌then◌else◌, nat_lt, nat_le, slice_get, IsErrAnd}
 use Rattle.std.specs.List.{All}
 use Rattle.std.specs.Str.{bytes_eq}
 use Rattle.std.proofs.lemmas.Bool.{ltb-true}
@@ -17,7 +17,11 @@ use Rattle.ca_order.specs.declared.event.Place.{Place}
 use Rattle.ca_order.specs.declared.event.Place.TheVariants as place
 use Rattle.ca_order.specs.Lines.{lines_of, words_of, is_number, below, node_of, with_node, nodes_of, some_nodes, value_of}
 use Rattle.ca_order.specs.Order.{set_of, set_with, settled, blurred, event_of, event_at, Numbered, numbered, line_step, order_of, most_lines}
-use Rattle.ca_order.specs.Allowed.{numbers, ArePlaces, IsAllowed}
+use Rattle.ca_order.specs.Allowed.{numbers, ArePlaces, IsAllowed, ReadsFor}
+use Rattle.ca_order.specs.declared.event.OrderFault.{OrderFault}
+use Rattle.ca_order.specs.declared.event.OrderFault.TheVariants as fault
+use Rattle.ca_order.specs.OrderFault.{Reads}
+use Rattle.ca_order.proofs.PlaceLemmas.{some_places}
 use Rattle.ca_order.specs.Laws.{ReadEventsAreAllowed}
 
 -- the node is among the first `count`
@@ -158,3 +162,21 @@ pub read_events_are_allowed_lem : ReadEventsAreAllowed
 unfolding order_of
 read_events_are_allowed_lem net v1 v2 places text events are is =
     lines_allowed net v1 v2 places are (numbered 1 (lines_of text)) [] events (All-nil (IsAllowed net v1 v2)) is
+
+-- what is read by the places of a network is allowed there
+pub reads_allowed : (net : Circuit) (v1 v2 : List Trit) (places : List Place) (text : List ℕ) (answer : Result (List Event) OrderFault)
+    → ArePlaces net v1 v2 places → Reads answer (order_of places text) → IfOk answer (All (IsAllowed net v1 v2))
+reads_allowed net v1 v2 places text (Ok events) are reads = read_events_are_allowed_lem net v1 v2 places text events are reads
+reads_allowed net v1 v2 places text (Err fault) are reads = tt
+
+-- what is answered for want of memory is free
+pub memory_is_free : (net : Circuit) (v1 v2 : List Trit) (text : List ℕ) (answer : Result (List Event) OrderFault)
+    → IsErrAnd answer (λ given. given ≡ fault.NoMemory) → ReadsFor net v1 v2 text answer
+memory_is_free net v1 v2 text (Ok events) is = absurd is
+memory_is_free net v1 v2 text (Err given) is =
+    let found = some_places net v1 v2 in
+    record {
+      places = found.0;
+      are_places = found.1;
+      reads = subst (λ (told : OrderFault). Reads (Err told) (order_of found.0 text)) (sym is) tt;
+    }

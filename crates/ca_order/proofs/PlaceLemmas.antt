@@ -1,5 +1,5 @@
 -- The places of nodes, one node after another.
-use Rattle.std.proofs.Common.{◌≡◌, ℕ, ◌+◌, ◌<◌, List, [], ◌∷◌, ◌++◌, ◌∙◌, length, ap, sym, subst, arith, Some, None, Option, get_or, length-append}
+use Rattle.std.proofs.Common.{◌≡◌, ℕ, zero, suc, refl, ◌+◌, ◌<◌, ◌≤◌, List, [], ◌∷◌, ◌++◌, ◌∙◌, length, ap, sym, subst, arith, Some, None, Option, get_or, length-append}
 use Rattle.std.specs.Prelude.{◌↔◌, slice_get}
 use Rattle.std.proofs.Math.Decide.{dec_le}
 use native.Mathlib.Decide.{ℕ_discrete}
@@ -7,8 +7,9 @@ use Rattle.std.proofs.Math.Seq.{get_or-append_seam}
 use Rattle.std.proofs.lemmas.List.{get_or_append_left}
 use Rattle.std.proofs.lemmas.Option.{get_or_from_slice_get, slice_get-get_or, slice_get_past}
 use Rattle.ca_net.specs.declared.trit.Trit.{Trit}
+use Rattle.ca_net.specs.declared.trit.Trit.TheVariants.{Zero, One, X}
 use Rattle.ca_net.specs.declared.node.NodeKind.{NodeKind}
-use Rattle.ca_net.specs.declared.node.NodeKind.TheVariants.{Input}
+use Rattle.ca_net.specs.declared.node.NodeKind.TheVariants.{Input, Storage}
 use Rattle.ca_net.specs.Circuit.{Circuit, kind_at}
 use Rattle.ca_net.specs.State.{value_at}
 use Rattle.ca_order.specs.declared.event.Place.{Place}
@@ -76,3 +77,33 @@ module _ (net : Circuit) (v1 v2 : List Trit) (n : ℕ) (places : List Place) (be
       )
     ];
   }
+
+-- a node of each kind has a place
+place_for : (kind : NodeKind) (first last : Trit) → (here : Place) × ((here ≡ place.Free) ↔ IsFree kind first last)
+place_for (Storage size) first last = (place.Fixed, (λ e. cc, λ free. let e = free.0 in cc))
+place_for Input Zero Zero = (place.Fixed, (λ e. cc, λ free. let e : Zero ≡ X = free.1 refl in cc))
+place_for Input One One = (place.Fixed, (λ e. cc, λ free. let e : One ≡ X = free.1 refl in cc))
+place_for Input Zero One = (place.Free, (λ e. (refl, λ same. cc), λ free. refl))
+place_for Input Zero X = (place.Free, (λ e. (refl, λ same. cc), λ free. refl))
+place_for Input One Zero = (place.Free, (λ e. (refl, λ same. cc), λ free. refl))
+place_for Input One X = (place.Free, (λ e. (refl, λ same. cc), λ free. refl))
+place_for Input X last = (place.Free, (λ e. (refl, λ same. refl), λ free. refl))
+
+-- the nodes of each network have places
+first_places : (net : Circuit) (v1 v2 : List Trit) (n : ℕ) → n ≤ length net.nodes → (places : List Place) × HavePlaces net v1 v2 n places
+first_places net v1 v2 zero le = ([], record { each = refl; free = λ m lt. absurd (omega arith) })
+first_places net v1 v2 (suc n) le =
+    let before = first_places net v1 v2 n (omega arith) in
+    let kind = kind_at net n in
+    let here = place_for kind (value_at v1 n) (value_at v2 n) in
+    let next : n + 1 ≡ suc n = omega arith in (
+      before.0 ++ here.0 ∷ [],
+      subst (λ k. HavePlaces net v1 v2 k (before.0 ++ here.0 ∷ [])) next
+          (one_place net v1 v2 n before.0 before.1 kind (value_at v1 n) (value_at v2 n) here.0 (omega arith)
+          (slice_get-get_or net.nodes n Input (omega arith)) refl refl here.1),
+    )
+
+pub some_places : (net : Circuit) (v1 v2 : List Trit) → (places : List Place) × ArePlaces net v1 v2 places
+some_places net v1 v2 =
+    let found = first_places net v1 v2 (length net.nodes) (omega arith) in
+    (found.0, all_places net v1 v2 (length net.nodes) found.0 found.1 refl)

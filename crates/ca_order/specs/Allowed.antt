@@ -1,5 +1,5 @@
 -- What events do to a network, and which of them may come while its inputs change from one vector to another.
-use Rattle.std.specs.Prelude.{ℕ, ◌≡◌, ◌↔◌, List, length, map, slice_get, Some}
+use Rattle.std.specs.Prelude.{ℕ, ◌≡◌, ◌↔◌, List, length, map, slice_get, Some, Result}
 use Rattle.ca_net.specs.declared.trit.Trit.{Trit}
 use Rattle.ca_net.specs.declared.node.NodeId.{NodeId}
 use Rattle.ca_net.specs.declared.node.NodeKind.{NodeKind}
@@ -13,6 +13,9 @@ use Rattle.ca_order.specs.declared.event.Event.{Event}
 use Rattle.ca_order.specs.declared.event.Event.TheVariants as event
 use Rattle.ca_order.specs.declared.event.Place.{Place}
 use Rattle.ca_order.specs.declared.event.Place.TheVariants as place
+use Rattle.ca_order.specs.declared.event.OrderFault.{OrderFault}
+use Rattle.ca_order.specs.Order.{order_of}
+use Rattle.ca_order.specs.OrderFault.{Reads}
 
 -- the nodes as places in the network's list of nodes
 abbrev pub numbers : List NodeId → List ℕ
@@ -42,3 +45,10 @@ pub record ArePlaces (net : Circuit) (v1 v2 : List Trit) (places : List Place) :
 pub record IsAllowed (net : Circuit) (v1 v2 : List Trit) (event : Event) : Type 0 where
   pub is_event : model.IsEvent net (meaning event)
   pub may_come : MayCome v1 v2 (meaning event)
+
+-- what is answered where a text is read for a network whose inputs change from one vector to the other
+pub record ReadsFor (net : Circuit) (v1 v2 : List Trit) (text : List ℕ)
+    (answer : Result (List Event) OrderFault) : Type 0 where
+  pub places : List Place
+  pub are_places : ArePlaces net v1 v2 places
+  pub reads : Reads answer (order_of places text)

@@ -11,5 +11,5 @@ mod read;
 
 pub use event::{Event, OrderFault, Place};
 pub use laws::read_events_are_allowed;
-pub use order::read_order;
+pub use order::{read_order, read_order_for};
 pub use place::places;

@@ -2,6 +2,7 @@
 
 ghost use Rattle.std.specs.Prelude.{◌≡◌, length, map, IfOk};
 ghost use Rattle.std.specs.List.{All};
+ghost use Rattle.ca_net.specs.State.{IsState};
 ghost use Rattle.ca_net.specs.PairRun.{PairRun};
 ghost use Rattle.ca_order.specs.Allowed.{meaning, IsAllowed};
 ghost use Rattle.ca_replay.specs.Replay.{CoverInputs, IsReplay};
@@ -34,6 +35,7 @@ pub fn replay<N: Network>(
     requires events { All (IsAllowed (N.circuit net.now) first.now last.now) events.now }
     ensures run { IfOk result
         (IsReplay (N.circuit net.now) inputs.now first.now last.now (map meaning events.now)) }
+    ensures state { IfOk result (IsState (N.circuit net.now)) }
     ensures pair { IfOk result (PairRun (N.circuit net.now) first.now last.now) }
 {
     let nodes = net.node_count();
