@@ -2,12 +2,11 @@
 use Rattle.std.proofs.Common.{ℕ, ◌+◌, ◌^◌, ◌≤◌, List, sym, subst}
 use Rattle.ca_flat.specs.declared.chip_defect.ChipDefect.{ChipDefect}
 use Rattle.ca_flat.specs.declared.token.Token.{Token}
-use Rattle.ca_flat.specs.Chip.{Chip}
 use Rattle.ca_flat.specs.Code.{IsSpentCode}
 use Rattle.ca_flat.proofs.Codes.{no_code_is_spent_lem, pattern_bits_are_enough_lem}
 use Rattle.ca_flat.proofs.Filled.{detected_is_exposable_lem}
 use Rattle.ca_credit.specs.Defects.{Task, IsDefectAt}
-use Rattle.ca_credit.specs.Detection.{trits_of}
+use Rattle.ca_search.specs.Filled.{trits_of}
 use Rattle.ca_credit.specs.Good.{IsAmple}
 use Rattle.ca_credit.specs.Laws.{UnexposableIsUndetected, AmpleIsNeverAborted, PatternBitsAreNeverAborted}
 

@@ -11,7 +11,8 @@ use Rattle.ca_flat.specs.Pair.{DetectsAt}
 use Rattle.ca_credit.specs.declared.verdict.Verdict.{Verdict}
 use Rattle.ca_credit.specs.declared.verdict.Verdict.TheVariants.{Credited, Unexposable, Untestable, Aborted}
 use Rattle.ca_credit.specs.Defects.{Task, IsDefectAt}
-use Rattle.ca_credit.specs.Detection.{trits_of, IsFirstOutput}
+use Rattle.ca_search.specs.Filled.{trits_of}
+use Rattle.ca_credit.specs.Detection.{IsFirstOutput}
 use Rattle.ca_credit.specs.Table.{known_verdicts, AreAllKnown, verdict_at, is_open, credit_count, IsCredit, IsCreditOrKept, IsAfterPair, CreditsUpTo, CreditsOne}
 use Rattle.ca_credit.proofs.DetectionLemmas.{shown_by_first, get_or-other}
 

@@ -6,7 +6,7 @@ use Rattle.ca_flat.specs.declared.token.Token.{Token}
 use Rattle.ca_flat.specs.Chip.{Chip}
 use Rattle.ca_flat.specs.Chain.{IsSupportBit}
 use Rattle.ca_flat.specs.Code.{IsSpentBy, IsSpentCode}
-use Rattle.ca_flat.specs.CheckedCode.{checked_rules}
+use Rattle.ca_search.specs.SearchRules.{search_rules}
 use Rattle.ca_credit.specs.declared.verdict.Verdict.{Verdict}
 use Rattle.ca_credit.specs.declared.verdict.Verdict.TheVariants.{Credited, Unexposable, Untestable, Aborted}
 use Rattle.ca_credit.specs.Defects.{Task, IsDefectAt, IsExposableIn}
@@ -38,11 +38,10 @@ pub record IsRightlyAborted (task : Task) (pairs : List (List Bool)) (defect : C
   pub undetected : NoneDetects task.chip defect pairs
   pub spent : IsSpentCode task.chip defect task.budget code
 
--- A spent code of which each leaf stands at a settled or a plainly ruled out pair, and no branch, nor its next
--- partial pair, at a plainly ruled out one. These words hold the limits of the pairs, and that there are limits
--- is known by a double negation alone: so all that is said is that it can't be no such code.
+-- a spent code of which each leaf stands at a settled or a plainly ruled out pair, and no branch, nor its
+-- next partial pair, at a plainly ruled out one
 abbrev pub IsCheckedSpent : Chip → ChipDefect → ℕ → List Token → Type 0
-IsCheckedSpent chip defect budget code = ¬ (¬ (IsSpentBy (checked_rules chip defect) chip budget code))
+IsCheckedSpent chip defect budget code = IsSpentBy (search_rules chip defect) chip budget code
 
 -- some defect is credited to the pair
 pub record IsNeeded (verdicts : List Verdict) (pair : ℕ) : Type 0 where

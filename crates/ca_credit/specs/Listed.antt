@@ -8,7 +8,8 @@ use Rattle.ca_flat.specs.Chip.{Chip}
 use Rattle.ca_flat.specs.Pair.{IsShown}
 use Rattle.ca_flat.specs.Code.{branch_count, IsFront}
 use Rattle.ca_credit.specs.Defects.{Task, IsDefectAt}
-use Rattle.ca_credit.specs.Detection.{filled, Detects}
+use Rattle.ca_search.specs.Filled.{filled}
+use Rattle.ca_credit.specs.Detection.{Detects}
 
 -- a search found the pair for the defect: a partial pair that is shown, and that is the next one of a front
 -- with at most so many branches, gives it when its unset bits are filled with 0

@@ -1,9 +1,9 @@
 //! The table of credits.
 
-ghost use Rattle.std.specs.Prelude.{◌≡◌, ◌↔◌, ◌<◌, ◌≤◌, ◌^◌, ◌+◌, length, slice_set, replicate, true, None, Some};
-ghost use Rattle.std.specs.Prelude.{IfOk, IsTrue};
+ghost use Rattle.std.specs.Prelude.{◌≡◌, ◌↔◌, ◌<◌, ◌≤◌, ◌^◌, ◌+◌, length, slice_set, replicate};
+ghost use Rattle.std.specs.Prelude.{true, None, Some, IfOk, IsTrue};
 ghost use Rattle.ca_flat.specs.Pair.{bit_count};
-ghost use Rattle.ca_credit.specs.Detection.{trits_of};
+ghost use Rattle.ca_search.specs.Filled.{trits_of};
 ghost use Rattle.ca_credit.specs.Table.{known_verdicts, AreAllKnown, verdict_at, is_open, IsSettling};
 ghost use Rattle.ca_credit.specs.Table.{CreditsPair, CreditsOne, credit_count};
 

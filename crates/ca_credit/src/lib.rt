@@ -1,7 +1,6 @@
 //! Which pair detects which defect: verdicts, and the table in which they are gathered.
 #![tactic(auto)]
 
-mod code;
 mod credit;
 mod credits;
 mod laws;
@@ -9,7 +8,6 @@ mod simulator;
 mod verdict;
 mod verdicts;
 
-pub use code::Code;
 pub use credits::Credits;
 pub use laws::{ample_is_never_aborted, pattern_bits_are_never_aborted, unexposable_is_undetected};
 pub use simulator::Simulator;

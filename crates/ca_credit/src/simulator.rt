@@ -11,7 +11,8 @@ pub trait Simulator {
     ghost use Rattle.ca_flat.specs.declared.chip_defect.ChipDefect.{ChipDefect};
     ghost use Rattle.ca_flat.specs.Pair.{bit_count};
     ghost use Rattle.ca_credit.specs.Defects.{Task};
-    ghost use Rattle.ca_credit.specs.Detection.{trits_of, IsNetEnd};
+    ghost use Rattle.ca_search.specs.Filled.{trits_of};
+    ghost use Rattle.ca_credit.specs.Detection.{IsNetEnd};
 
     /// The chip, the list of its defects, and how many branches each search may have.
     ghost task: { Self → Task };

@@ -1,23 +1,24 @@
 -- What a front and a whole code say of definite pairs.
-use Rattle.std.proofs.Common.{◌≡◌, ℕ, zero, suc, ◌<◌, ◌≤◌, List, [], ◌∷◌, length, Bool, true, false, inl, inr, refl, sym, ◌∙◌, ap, subst, arith}
+use Rattle.std.proofs.Common.{◌≡◌, ℕ, zero, suc, ◌<◌, List, [], ◌∷◌, length, Bool, true, false, inl, refl, sym, ◌∙◌, ap, subst, arith}
 use Rattle.std.specs.Prelude.{not, replicate}
 use Rattle.std.proofs.lemmas.List.{length-replicate, length-set, length-map}
 use Rattle.ca_net.specs.declared.trit.Trit.{Trit}
-use Rattle.ca_net.specs.declared.trit.Trit.TheVariants.{Zero, One, X}
+use Rattle.ca_net.specs.declared.trit.Trit.TheVariants.{X}
 use Rattle.ca_net.specs.Trit.{IsBelow}
-use Rattle.ca_net.specs.State.{value_at, IsStateBelow}
+use Rattle.ca_net.specs.State.{value_at}
 use Rattle.ca_flat.specs.declared.chip_defect.ChipDefect.{ChipDefect}
 use Rattle.ca_flat.specs.declared.token.Token.{Token}
 use Rattle.ca_flat.specs.declared.token.Token.TheVariants.{Branch, Leaf}
 use Rattle.ca_flat.specs.Chip.{Chip}
 use Rattle.ca_flat.specs.Pair.{bit_count}
 use Rattle.ca_flat.specs.Code.{Reading, At, Ended, unset_pair, bit_trit, behind, Rules, Reads, IsFrontBy, IsWholeCode}
-use Rattle.ca_flat.proofs.Completions.{shown_is_kept_lem}
 use Rattle.ca_flat.proofs.Codes.{whole_is_ruled_out_lem}
 use Rattle.ca_credit.specs.Defects.{Task}
-use Rattle.ca_credit.specs.Detection.{trits_of, filled_bit, filled, Detects, IsUntestable}
+use Rattle.ca_search.specs.Filled.{trits_of, filled_bit, filled}
+use Rattle.ca_search.proofs.FilledLemmas.{filled_is_shown_lem}
+use Rattle.ca_credit.specs.Detection.{Detects, IsUntestable}
 use Rattle.ca_credit.specs.Listed.{IsFoundFor}
-use Rattle.ca_generate.specs.declared.bench.Outcome.TheVariants.{Found}
+use Rattle.ca_search.specs.declared.trail.Outcome.TheVariants.{Found}
 use Rattle.ca_generate.specs.Outcome.{IsSearch}
 
 -- all these pairs have so many bits
@@ -50,13 +51,6 @@ pub length-front : (rules : Rules) (chip : Chip) (code : List Token) (pair : Lis
 length-front rules chip code pair front =
     (reads_of rules (bit_count chip) code (At (unset_pair chip) []) (At pair front.later) (length-replicate (bit_count chip) X, tt) front.reads).0
 
-filled_above : (partial : List Trit) → IsStateBelow partial (trits_of (filled partial))
-filled_above [] n = inl refl
-filled_above (Zero ∷ partial) zero = inr refl
-filled_above (One ∷ partial) zero = inr refl
-filled_above (X ∷ partial) zero = inl refl
-filled_above (value ∷ partial) (suc n) = filled_above partial n
-
 known_bits : (pair : List Bool) (bit : ℕ) → bit < length pair → value_at (trits_of pair) bit ≡ X → ⊥
 known_bits [] bit within = absurd (omega arith)
 known_bits (true ∷ pair) zero within = λ e. cc
@@ -67,13 +61,8 @@ known_bits (value ∷ pair) (suc bit) within = known_bits pair bit (omega arith)
 pub found_detects : (task : Task) (defect : ChipDefect) (pair : List Bool)
     → IsFoundFor task.chip task.budget defect pair → Detects task.chip defect pair
 found_detects task defect pair found =
-    let sized = length-front _ task.chip found.code found.partial found.front in
-    subst (Detects task.chip defect) (sym found.fills)
-    (shown_is_kept_lem task.chip defect found.partial (trits_of (filled found.partial)) (record {
-      above = filled_above found.partial;
-      sets_all = λ bit within. known_bits (filled found.partial) bit
-          (let l = length-map found.partial filled_bit in omega arith);
-    }) found.shown)
+    subst (Detects task.chip defect) (sym found.fills) (filled_is_shown_lem task.chip defect found.partial
+    (length-front _ task.chip found.code found.partial found.front) found.shown)
 
 -- it has a value for each bit
 pub length-found : (task : Task) (defect : ChipDefect) (pair : List Bool)

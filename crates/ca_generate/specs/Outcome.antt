@@ -7,8 +7,8 @@ use Rattle.ca_flat.specs.Pair.{IsShown}
 use Rattle.ca_flat.specs.Code.{branch_count, IsFront, IsWholeCode, IsSpentCode}
 use Rattle.ca_credit.specs.Defects.{Task}
 use Rattle.ca_credit.specs.Good.{IsCheckedSpent}
-use Rattle.ca_generate.specs.declared.bench.Outcome.{Outcome}
-use Rattle.ca_generate.specs.declared.bench.Outcome.TheVariants.{Found, Exhausted, Spent}
+use Rattle.ca_search.specs.declared.trail.Outcome.{Outcome}
+use Rattle.ca_search.specs.declared.trail.Outcome.TheVariants.{Found, Exhausted, Spent}
 
 -- the code is a front, and the partial pair at which its reading stands is shown
 pub record IsShownFront (task : Task) (defect : ChipDefect) (code : List Token) (partial : List Trit) : Type 0

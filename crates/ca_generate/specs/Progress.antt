@@ -19,7 +19,8 @@ pub record IsWaiting (task : Task) (turns : ℕ) (pairs : List (List Bool)) (pla
   pub exposable : IsExposableIn task.chip defect
   pub undetected : NoneDetects task.chip defect pairs
 
--- a credit to the first listed pair that detects the defect; where the budget is ample, the pair's aim isn't a later defect
+-- a credit to the first listed pair that detects the defect; where the budget is ample, the pair's aim isn't
+-- a later defect
 pub record IsRightlyCredited (task : Task) (pairs : List (List Bool)) (aims : List ℕ) (place : ℕ)
     (defect : ChipDefect) (pair output : ℕ) : Type 0 where
   pub exposable : IsExposableIn task.chip defect

@@ -1,27 +1,18 @@
 //! What the work asks of the simulator, the guide and the search.
 
+use ca_base::NoMemory;
 use ca_credit::Simulator;
-use ca_flat::Token;
-
-/// How a search ended.
-#[derive(Clone, Copy, Debug, PartialEq, Eq)]
-pub enum Outcome {
-    /// At a partial pair that is shown.
-    Found,
-    /// With a code that shows that there is no pair.
-    Exhausted,
-    /// With its budget of branches.
-    Spent,
-}
+use ca_search::{Code, Outcome};
+use std::alloc::Global;
 
 /// A simulator, and searches with it for a pair that shows the defect that is aimed at.
 pub trait Bench: Simulator {
-    ghost use Rattle.std.specs.Prelude.{◌≡◌, ◌<◌, ◌↔◌, List, IsTrue, length, slice_get, Some};
+    ghost use Rattle.std.specs.Prelude.{◌≡◌, ◌<◌, ◌↔◌, List, IsTrue, IfOk, length, Some};
     ghost use Rattle.ca_net.specs.State.{value_at};
     ghost use Rattle.ca_flat.specs.declared.chip_defect.ChipDefect.{ChipDefect};
     ghost use Rattle.ca_flat.specs.declared.token.Token.{Token};
     ghost use Rattle.ca_credit.specs.Defects.{IsDefectAt, IsExposableIn};
-    ghost use Rattle.ca_credit.specs.Detection.{filled_bit};
+    ghost use Rattle.ca_search.specs.Filled.{filled_bit};
     ghost use Rattle.ca_generate.specs.Outcome.{IsSearch};
 
     /// The code that the last search wrote.
@@ -33,8 +24,8 @@ pub trait Bench: Simulator {
         ensures { (defect : ChipDefect) → IsDefectAt (Self.task self.now) place defect
             → IsTrue result ↔ IsExposableIn (Self.task self.now).chip defect };
 
-    /// Searches for a partial pair that shows the defect that is aimed at. Afterwards the bits are those of the
-    /// partial pair at which the search has ended.
+    /// Searches for a partial pair that shows the defect that is aimed at. Afterwards the bits are those of
+    /// the partial pair at which the search has ended.
     fn find(&mut self) -> Outcome
         ensures searched { (defect : ChipDefect) → Self.aimed self.old ≡ Some defect
             → IsSearch (Self.task self.old) defect (code self.new) (Self.bits self.new) result }
@@ -49,12 +40,7 @@ pub trait Bench: Simulator {
         requires { bit < length (Self.bits self.now) }
         ensures { result ≡ filled_bit (value_at (Self.bits self.now) bit) };
 
-    /// The number of tokens of the last search's code.
-    fn token_count(&self) -> usize
-        ensures { result ≡ length (code self.now) };
-
-    /// A token of it.
-    fn token(&self, place: usize) -> Token
-        requires { place < length (code self.now) }
-        ensures { slice_get (code self.now) place ≡ Some result };
+    /// The code that the last search wrote.
+    fn keep_code(&self, alloc: Global) -> Result<Code, NoMemory>
+        ensures { IfOk result (λ kept. kept ≡ code self.now) };
 }

@@ -25,8 +25,7 @@ pub fn generate<B: Bench>(alloc: Global, bench: &mut B) -> Result<Generated, Gen
     requires { length (B.task bench.old).defects < 2 ^ 32 }
 
     ensures good { IfOk result (λ made. IsGood (B.task bench.old) made.pairs made.aims made.verdicts) }
-    ensures cause { IfErr result
-        (IsCause (B.task bench.old)) }
+    ensures cause { IfErr result (IsCause (B.task bench.old)) }
 {
     let mut work = Work::begin(alloc, bench)?;
     for place in 0..bench.defect_count() {

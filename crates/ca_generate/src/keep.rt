@@ -1,11 +1,10 @@
-//! What is kept of a search.
+//! The pair that is kept of a search.
 
 ghost use Rattle.std.specs.Prelude.{◌≡◌, IfOk};
-ghost use Rattle.ca_credit.specs.Detection.{filled};
+ghost use Rattle.ca_search.specs.Filled.{filled};
 
 use crate::bench::Bench;
 use ca_base::NoMemory;
-use ca_credit::Code;
 use ca_pair::Pair;
 use std::alloc::Global;
 
@@ -18,15 +17,4 @@ pub(crate) fn keep_pair<B: Bench>(alloc: Global, bench: &B) -> Result<Pair, NoMe
         pair.push(bench.is_one(bit))?;
     }
     Ok(pair)
-}
-
-// The code that the last search wrote.
-pub(crate) fn keep_code<B: Bench>(alloc: Global, bench: &B) -> Result<Code, NoMemory>
-    ensures { IfOk result (λ code. code ≡ B.code bench.now) }
-{
-    let mut code = Code::new(alloc);
-    for place in 0..bench.token_count() {
-        code.push(bench.token(place))?;
-    }
-    Ok(code)
 }

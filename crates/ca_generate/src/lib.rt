@@ -5,8 +5,10 @@ mod bench;
 mod fault;
 mod generated;
 mod keep;
+mod laws;
 mod work;
 
-pub use bench::{Bench, Outcome};
+pub use bench::Bench;
 pub use fault::{Aims, GenerateFault, MOST_PAIRS};
 pub use generated::{Generated, generate};
+pub use laws::outcome_is_search;

@@ -6,12 +6,13 @@ ghost use Rattle.ca_credit.specs.Table.{verdict_at};
 ghost use Rattle.ca_generate.specs.GenerateFault.{IsCause};
 ghost use Rattle.ca_generate.specs.Progress.{WorkStands, IsScreened};
 
-use crate::bench::{Bench, Outcome};
+use crate::bench::Bench;
 use crate::fault::{Aims, GenerateFault, MOST_PAIRS};
-use crate::keep::{keep_code, keep_pair};
+use crate::keep::keep_pair;
 use ca_base::NoMemory;
 use ca_credit::{Credits, Verdict};
 use ca_pair::{Pair, Pairs};
+use ca_search::Outcome;
 use std::alloc::Global;
 
 /// The verdicts so far, the pairs that are listed, and the aim of each.
@@ -25,8 +26,7 @@ pub(crate) struct Work {
 impl Work {
     /// Before the first turn.
     pub(crate) fn begin<B: Bench>(alloc: Global, bench: &B) -> Result<Self, NoMemory>
-        ensures { IfOk result
-            (WorkStands (B.task bench.now) 0) }
+        ensures { IfOk result (WorkStands (B.task bench.now) 0) }
     {
         Ok(Work {
             credits: screen(alloc, bench)?,
@@ -44,12 +44,10 @@ impl Work {
     ) -> Result<Self, GenerateFault>
         requires within { place < length (B.task bench.old).defects }
         requires few { length (B.task bench.old).defects < 2 ^ 32 }
-        requires stands { WorkStands (B.task bench.old)
-            place self }
+        requires stands { WorkStands (B.task bench.old) place self }
 
         ensures ok { IfOk result (WorkStands (B.task bench.old) (place + 1)) }
-        ensures cause { IfErr result
-            (IsCause (B.task bench.old)) }
+        ensures cause { IfErr result (IsCause (B.task bench.old)) }
         ensures task { B.task bench.new ≡ B.task bench.old }
     {
         if !self.credits.is_waiting(place) {
@@ -67,7 +65,7 @@ impl Work {
                 Ok(work)
             }
             Outcome::Spent => {
-                let code = keep_code(alloc, bench)?;
+                let code = bench.keep_code(alloc)?;
                 work.credits.settle(place, Verdict::Aborted { code });
                 Ok(work)
             }
@@ -75,22 +73,14 @@ impl Work {
     }
 
     // Lists a pair that was found for the defect at a place, and credits it with all that it detects.
-    fn list<B: Bench>(
-        self,
-        bench: &mut B,
-        place: usize,
-        pair: Pair,
-    ) -> Result<Self, GenerateFault>
+    fn list<B: Bench>(self, bench: &mut B, place: usize, pair: Pair) -> Result<Self, GenerateFault>
         requires few { length (B.task bench.old).defects < 2 ^ 32 }
-        requires stands { WorkStands (B.task bench.old)
-            place self }
+        requires stands { WorkStands (B.task bench.old) place self }
         requires waiting { verdict_at self.credits place ≡ None }
-        requires found { IsFoundAt (B.task bench.old)
-            place pair }
+        requires found { IsFoundAt (B.task bench.old) place pair }
 
         ensures ok { IfOk result (WorkStands (B.task bench.old) (place + 1)) }
-        ensures cause { IfErr result
-            (IsCause (B.task bench.old)) }
+        ensures cause { IfErr result (IsCause (B.task bench.old)) }
         ensures task { B.task bench.new ≡ B.task bench.old }
     {
         let mut work = self;
@@ -114,8 +104,7 @@ impl Work {
 
 // The table in which each defect that can't be exposed is unexposable, and no other has a verdict.
 fn screen<B: Bench>(alloc: Global, bench: &B) -> Result<Credits, NoMemory>
-    ensures { IfOk result (λ table. IsScreened (B.task bench.now)
-        (length (B.task bench.now).defects) table) }
+    ensures { IfOk result (IsScreened (B.task bench.now) (length (B.task bench.now).defects)) }
 {
     let count = bench.defect_count();
     let mut credits = Credits::reserve(alloc, count)?;

@@ -1,5 +1,5 @@
 use Rattle.std.proofs.Common.{◌≡◌, take, map}
-use Rattle.ca_credit.specs.Detection.{filled_bit}
+use Rattle.ca_search.specs.Filled.{filled_bit}
 use Rattle.ca_generate.proofs.keep.keep_pair.Given as goal
 
 abbrev pub invariant-loop-bit : goal.invariant-loop-bit

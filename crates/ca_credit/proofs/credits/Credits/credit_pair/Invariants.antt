@@ -1,5 +1,5 @@
 use Rattle.std.proofs.Common.{◌≡◌, ◌≤◌, ◌+◌}
-use Rattle.ca_credit.specs.Detection.{trits_of}
+use Rattle.ca_search.specs.Filled.{trits_of}
 use Rattle.ca_credit.specs.Table.{CreditsUpTo, credit_count}
 use Rattle.ca_credit.proofs.credits.Credits.credit_pair.Given as goal
 

@@ -1,4 +1,4 @@
-use Rattle.std.proofs.Common.{◌≡◌, refl, ℕ, ◌+◌, ◌<◌, sym, ap, subst, arith, length, length-append, List, [], ◌∷◌, ◌++◌, Bool}
+use Rattle.std.proofs.Common.{◌≡◌, ℕ, ◌+◌, ◌<◌, sym, ap, subst, arith, length, length-append, List, [], ◌∷◌, ◌++◌, Bool}
 use Rattle.std.proofs.lemmas.Option.{slice_get_within}
 use Rattle.ca_credit.specs.Listed.{AreAims}
 use Rattle.ca_credit.specs.Table.{CreditsPair}

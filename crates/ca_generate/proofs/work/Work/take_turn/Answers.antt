@@ -1,10 +1,9 @@
-use Rattle.std.proofs.Common.{◌≡◌, ◌+◌, ◌∙◌, sym, subst, rules, List, Option, None}
+use Rattle.std.proofs.Common.{◌≡◌, ◌+◌, ◌∙◌, sym, subst, rules, List, None}
 use Rattle.ca_flat.specs.declared.token.Token.{Token}
-use Rattle.ca_credit.specs.declared.verdict.Verdict.{Verdict}
 use Rattle.ca_credit.specs.Defects.{Task}
 use Rattle.ca_credit.specs.Table.{verdict_at}
 use Rattle.ca_credit.proofs.TableLemmas.{some_within}
-use Rattle.ca_generate.specs.declared.bench.Outcome.TheVariants.{Exhausted, Spent}
+use Rattle.ca_search.specs.declared.trail.Outcome.TheVariants.{Exhausted, Spent}
 use Rattle.ca_generate.specs.Outcome.{IsSearch}
 use Rattle.ca_generate.specs.Progress.{StandsAfter}
 use Rattle.ca_generate.proofs.TurnLemmas.{turn_exhausted, turn_spent}
