@@ -10,9 +10,11 @@ use Rattle.ca_search.specs.declared.judge.Standing.{Standing}
 use Rattle.ca_search.specs.declared.judge.Standing.TheVariants.{Shown, Settled, Open}
 use Rattle.ca_search.specs.SearchRules.{IsPlainPair, MayLeaveFor, MayDecideFor}
 
--- a chip, the defect of it that is aimed at, if one is, and a partial pair
+-- a chip, with the places of its instances in the order of evaluation; the defect of it that is aimed at, if
+-- one is; and a partial pair
 pub record Judged : Type 0 where
   pub chip : Chip
+  pub places : List ℕ
   pub aim : Option ChipDefect
   pub pair : List Trit
 
