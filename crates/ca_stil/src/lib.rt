@@ -3,6 +3,7 @@
 #![tactic(auto)]
 
 mod chip;
+mod fits;
 mod frame;
 mod groups;
 mod pair;
@@ -14,5 +15,6 @@ mod words;
 mod write;
 
 pub use chip::{Signal, StilChain, StilChip};
+pub use fits::are_of;
 pub use patterns::{ExpectedValues, PatternBits};
 pub use write::write_stil;
