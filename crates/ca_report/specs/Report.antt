@@ -1,15 +1,9 @@
 -- The text of a report: a header, and a record for each defect of the chip.
 use Rattle.std.specs.Prelude.{ℕ, ◌<◌, List, [], ◌∷◌, map, codes, decimal, slice_get, unwrap_or}
 use Rattle.ca_csv.specs.Records.{written}
+use Rattle.ca_report.specs.declared.rows.ReportRow.{ReportRow}
 use Rattle.ca_report.specs.declared.verdict.Verdict.{Verdict}
 use Rattle.ca_report.specs.declared.verdict.Verdict.TheVariants.{Credited, Unexposable, Untestable, Aborted}
-
--- a defect: its instance, its cell, its name, and the verdict
-pub record Row : Type 0 where
-  pub instance : List ℕ
-  pub cell : List ℕ
-  pub defect : List ℕ
-  pub verdict : Verdict
 
 -- the first record
 abbrev pub header : List (List ℕ)
@@ -38,13 +32,13 @@ output_field outputs Untestable = []
 output_field outputs Aborted = []
 
 -- the record of a defect; `outputs` are the names of the observed outputs
-abbrev pub record_of : List (List ℕ) → Row → List (List ℕ)
+abbrev pub record_of : List (List ℕ) → ReportRow → List (List ℕ)
 record_of outputs row =
     row.instance ∷ row.cell ∷ row.defect
     ∷ word_of row.verdict ∷ pair_field row.verdict ∷ output_field outputs row.verdict ∷ []
 
 -- the text of a report
-unfoldable pub report_text : List (List ℕ) → List Row → List ℕ
+unfoldable pub report_text : List (List ℕ) → List ReportRow → List ℕ
 report_text outputs rows = written (header ∷ map (record_of outputs) rows)
 
 -- an output that is credited is one of so many
@@ -55,5 +49,5 @@ IsVerdictOf outputs Untestable = Unit {0}
 IsVerdictOf outputs Aborted = Unit {0}
 
 -- the output that the row credits, if it does, is one of so many
-abbrev pub IsRowOf : ℕ → Row → Type 0
+abbrev pub IsRowOf : ℕ → ReportRow → Type 0
 IsRowOf outputs row = IsVerdictOf outputs row.verdict
