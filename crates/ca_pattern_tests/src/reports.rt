@@ -6,14 +6,10 @@ use ca_report::{ReportRow, Verdict, are_of, write_report};
 use std::alloc::Global;
 
 // A defect: its instance, its cell, its name, and the verdict.
-type Line = (
-    &'static [u8],
-    &'static [u8],
-    &'static [u8],
-    Verdict,
-);
+type Line = (&'static [u8], &'static [u8], &'static [u8], Verdict);
 
 const FIRST: Verdict = Verdict::Credited { pair: 0, output: 0 };
+
 const SECOND: Verdict = Verdict::Credited { pair: 1, output: 0 };
 
 // Observed outputs, defects, and their report.

@@ -1,8 +1,8 @@
 -- The records of a report, one after another.
-use Rattle.std.proofs.Common.{◌≡◌, ℕ, suc, ◌+◌, ◌<◌, ◌≤◌, List, [], ◌∷◌, ◌++◌, ◌∙◌, length, map, drop, drop-cons, ap, subst, arith, sym, append_assoc, append-nil, get_or}
+use Rattle.std.proofs.Common.{◌≡◌, ℕ, suc, ◌+◌, ◌≤◌, List, ◌∷◌, ◌++◌, ◌∙◌, length, map, drop, drop-cons, ap, arith, sym, append_assoc, append-nil, get_or}
 use Rattle.std.specs.Prelude.{IsSomeAnd, slice_get}
 use Rattle.std.proofs.lemmas.List.{drop_all}
-use Rattle.std.proofs.lemmas.Option.{slice_get-get_or, get_or_from_slice_get, slice_get_within}
+use Rattle.std.proofs.lemmas.Option.{get_or_from_slice_get, slice_get_within}
 use Rattle.csv.specs.Writing.{default_writer, row_text}
 use Rattle.ca_csv.specs.Records.{written}
 use Rattle.ca_report.specs.declared.rows.ReportRow.{ReportRow}

@@ -1,11 +1,11 @@
 -- What is seen of pairs and expected values is of a chip where they have the lengths that the chip asks for.
-use Rattle.std.proofs.Common.{◌≡◌, ℕ, ◌+◌, ◌<◌, Bool, List, ◌∙◌, length, map, get_or, subst, arith, sym}
+use Rattle.std.proofs.Common.{◌≡◌, Bool, List, ◌∙◌, length, map, subst, arith, sym}
 use Rattle.std.specs.List.{All}
 use Rattle.std.proofs.lemmas.List.{get_or-map, length-map}
 use Rattle.std.proofs.lemmas.List.Elements.{All-map}
 use Rattle.ca_net.specs.declared.trit.Trit.{Trit}
 use Rattle.ca_stil.specs.declared.chip.StilChip.{StilChip}
-use Rattle.ca_stil.specs.Chip.{width_of, IsStilChip, IsPairOf, AreValuesOf, AreOf}
+use Rattle.ca_stil.specs.Chip.{IsStilChip, IsPairOf, AreValuesOf, AreOf}
 
 all_unseen : {X Y : Type 0} (view : X → Y) (P : Y → Type 0) (xs : List X) → All P (map view xs) → All (λ x. P (view x)) xs
 all_unseen view P xs all k d below =

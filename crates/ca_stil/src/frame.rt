@@ -52,9 +52,7 @@ fn push_scan_waves(text: &mut Text, chip: &StilChip) -> Result<(), NoMemory>
 pub(crate) fn push_timing(text: &mut Text, chip: &StilChip) -> Result<(), NoMemory>
     ensures { OnOk result (text.new ≡ text.old ++ timing_text chip.now) }
 {
-    text.append(
-        b"Timing {\n  WaveformTable \"_wft_\" {\n    Period '100ns';\n    Waveforms {\n",
-    )?;
+    text.append(b"Timing {\n  WaveformTable \"_wft_\" {\n    Period '100ns';\n    Waveforms {\n")?;
     push_input_waves(text, chip)?;
     push_output_waves(text, chip)?;
     push_scan_waves(text, chip)?;

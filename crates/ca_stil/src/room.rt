@@ -6,8 +6,11 @@ use ca_lex::Text;
 
 // Bytes of a text whose lists are empty, and of an entry beside its names, at most.
 const FIXED: usize = 1_200;
+
 const NAME: usize = 10;
+
 const CHAIN: usize = 160;
+
 const PAIR: usize = 320;
 
 // Bytes of these names, with what stands beside each.

@@ -1,7 +1,7 @@
 use Rattle.std.proofs.Common.{◌∙◌, ◌++◌, ◌≤◌, [], length, arith}
 use Rattle.csv.specs.Records.{fields_of}
 use Rattle.csv.specs.Writing.{default_writer, row_text}
-use Rattle.ca_report.specs.Report.{report_text, IsRowOf}
+use Rattle.ca_report.specs.Report.{report_text}
 use Rattle.ca_report.proofs.ReportLemmas.{one_more, header_first, no_more}
 use Rattle.ca_report.proofs.write.write_report.Goals as goal
 

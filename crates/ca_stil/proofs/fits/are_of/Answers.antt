@@ -11,8 +11,7 @@ returns g c =
     let width : c.len.result + chip.scan_count + (c.len.result + chip.scan_count) ≡ width_of chip + width_of chip =
     omega (arith, c.len.ensures) in
     let outputs : c.len-2.result + chip.scan_count ≡ length chip.outputs + chip.scan_count = omega (arith, c.len-2.ensures) in
-    let held : IsTrue true = search rules in
-    (
+    let held : IsTrue true = search rules in (
       λ yes. makes_of bits values chip c.args.pairs.now c.args.expected.now
           (c.if-not-are_within.ensures.0 held)
           (λ k d below. c.if-not-are_pairs.ensures.0 held k d below ∙ width)

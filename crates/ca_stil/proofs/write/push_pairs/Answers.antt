@@ -1,4 +1,4 @@
-use Rattle.std.proofs.Common.{◌≡◌, ◌∙◌, length, map, drop, sym, arith}
+use Rattle.std.proofs.Common.{map, arith}
 use Rattle.std.proofs.lemmas.List.{length-map}
 use Rattle.ca_stil.specs.Chip.{IsPairOf, AreValuesOf}
 use Rattle.ca_stil.specs.Text.{pairs_text}

@@ -1,4 +1,4 @@
-use Rattle.std.proofs.Common.{ℕ, List, ◌++◌, ◌∙◌, map, ap}
+use Rattle.std.proofs.Common.{ℕ, ◌++◌, ◌∙◌, map, ap}
 use Rattle.std.proofs.lemmas.Result.{on_ok_weaker}
 use Rattle.ca_stil.specs.Text.{pairs_text, patterns_text}
 use Rattle.ca_stil.proofs.Appending.{after_three}
