@@ -20,13 +20,15 @@ use Rattle.ca_core.proofs.CoreIsChip.{core_is}
 use Rattle.ca_flatten.specs.Few.{IsFew}
 use Rattle.ca_flatten.proofs.NetworkLemmas.{formed}
 use Rattle.ca_sim.specs.Linked.{IsAim, place_in}
-use Rattle.ca_sim.specs.Seen.{AreNetWaves}
+use Rattle.ca_net.specs.Circuit.{IsWellFormed}
+use Rattle.ca_flat.specs.Flat.{flat as flat_of}
+use Rattle.ca_sim.specs.Seen.{Seen, AreNetWaves, IsExact}
 use Rattle.ca_sim.proofs.Exact.{definite_last_is_end_lem}
 use Rattle.ca_core_tables.specs.Tables.{AreRanks}
 use Rattle.ca_core_tables.proofs.PartFacts.{library_known}
 use Rattle.ca_core_tables.proofs.RankLemmas.{library_place}
 use Rattle.ca_asked.specs.Asked.{IsLibraryDefect}
-use Rattle.ca_simulate.specs.Simulated.{AreOutputEnds}
+use Rattle.ca_simulate.specs.Simulated.{AreOutputEnds, AreSimulated}
 
 -- the values are the last ones of the waves of the first observed outputs
 pub record HaveLasts (outputs : List ℕ) (waves : List Wave) (count : ℕ) (values : List Trit) : Type 0 where
@@ -47,7 +49,7 @@ lasts_more outputs waves k old new value before is push = record {
         ∙ get_or_append_left old (value ∷ []) X o (let r = before.room in omega arith) ∙ before.each o low
     | inr high ↦
         let same : o ≡ k = omega arith in
-        let at : o ≡ length old = let r = before.room in omega arith in
+        let at : length old ≡ o = let r = before.room in omega arith in
         ap (λ list. value_at list o) push ∙ get_or_push old value X o at ∙ is
         ∙ ap (λ n. (wave_at waves (slice_index outputs n)).last) (sym same)
   ];
@@ -71,26 +73,45 @@ module _ (chip : Chip) (wired : IsWired chip) where
         omega arith;
   }
 
-  module _ (few : (given : Option ChipDefect) → IsFew (core_of chip) given) (given : Option ChipDefect)
-      (is : IsLibraryDefect chip given) where
-    pub flattened : IsFlattened (core_of chip) (rank_of chip) given
-    flattened = record {
+  module _ (few : (given : Option ChipDefect) → IsFew (core_of chip) given) where
+    flattened : (given : Option ChipDefect) → IsLibraryDefect chip given → IsFlattened (core_of chip) (rank_of chip) given
+    flattened given is = record {
       chip_is = core_is chip wired;
       defect_is = chip_defect given is;
       formed = formed chip given wired (chip_defect given is) (few given);
     }
 
     -- the last values of the waves of all observed outputs are what every run ends with
-    pub output_ends : (pair : List Trit) (waves : List Wave) (values : List Trit)
+    ends_of : (given : Option ChipDefect) → IsLibraryDefect chip given → (pair : List Trit) (waves : List Wave) (values : List Trit)
         → AreNetWaves (core_of chip) given pair waves
         → HaveLasts (core_of chip).outputs waves (length (core_of chip).outputs) values
         → AreOutputEnds (core_of chip) given pair values
-    output_ends pair waves values are have = record {
+    ends_of given is pair waves values are have = record {
       count = have.room;
       ends = λ o lt v.
           let net = slice_index (core_of chip).outputs o in
           let within = (core_is chip wired).observed net
-              (contained_at (core_of chip).outputs o net (slice_get-get_or (core_of chip).outputs o 0 lt)) in
-          let end = definite_last_is_end_lem (core_of chip) (rank_of chip) given pair waves net v flattened are within in
+          (contained_at (core_of chip).outputs o net (slice_get-get_or (core_of chip).outputs o 0 lt)) in
+          let end = definite_last_is_end_lem (core_of chip) (rank_of chip) given pair waves net v (flattened given is) are within in
           (λ h. end.0 (h.0, sym (have.each o lt) ∙ h.1), λ ends. let both = end.1 ends in (both.0, have.each o lt ∙ both.1));
     }
+
+    -- what the simulator that holds the pair and is aimed at the defect has at the observed outputs
+    pub simulated : (given : Option ChipDefect) → IsLibraryDefect chip given → (seen : Seen) (pair : List Trit) (n : ℕ) (good faulty : List Trit) → seen.chip ≡ core_of chip
+        → seen.pair ≡ pair → seen.aim ≡ given → IsExact seen → n ≡ length (core_of chip).outputs
+        → HaveLasts (core_of chip).outputs seen.good n good → HaveLasts (core_of chip).outputs seen.faulty n faulty
+        → AreSimulated (core_of chip) given pair good faulty
+    simulated given is seen pair n good faulty chip_is pair_is aim_is exact count goods faults = record {
+      good_ends = by_none (subst (λ p. AreNetWaves (core_of chip) None p seen.good) pair_is
+          (subst (λ (c : flat.Chip). IsWellFormed (flat_of c None) → AreNetWaves c None seen.pair seen.good) chip_is exact.good
+          (formed chip None wired tt (few None))));
+      faulty_ends = ends_of given is pair seen.faulty faulty
+          (subst (λ p. AreNetWaves (core_of chip) given p seen.faulty) pair_is
+          (subst (λ (o : Option ChipDefect). IsWellFormed (flat_of (core_of chip) o) → AreNetWaves (core_of chip) o seen.pair seen.faulty) aim_is
+          (subst (λ (c : flat.Chip). IsWellFormed (flat_of c seen.aim) → AreNetWaves c seen.aim seen.pair seen.faulty) chip_is exact.faulty)
+          (flattened given is).formed))
+          (subst (λ k. HaveLasts (core_of chip).outputs seen.faulty k faulty) count faults);
+    }
+      where
+        by_none : AreNetWaves (core_of chip) None pair seen.good → AreOutputEnds (core_of chip) None pair good
+        by_none are = ends_of None tt pair seen.good good are (subst (λ k. HaveLasts (core_of chip).outputs seen.good k good) count goods)
