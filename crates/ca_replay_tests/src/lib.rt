@@ -1,5 +1,5 @@
-//! What order files read as, and what runs end with, on a network that was worked out by hand. It has no code but
-//! its tests.
+//! What order files read as, and what runs end with, on a network that was worked out by hand. It has no code
+//! but its tests.
 #![tactic(auto)]
 
 #[cfg(test)]

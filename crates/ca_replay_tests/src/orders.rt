@@ -50,7 +50,7 @@ fn are_done(events: &[Event], done: &[Done]) -> bool {
 }
 
 // The good network, its input d at 1 in both vectors, a and s at 1 and then at 0.
-const READ: [(&[u8], &[Done]); 8] = [
+static READ: [(&[u8], &[Done]); 8] = [
     (b"", &[]),
     (b"settle 6", &[Done::Settle(&[6])]),
     (b"settle 6\n", &[Done::Settle(&[6])]),
@@ -69,7 +69,7 @@ const READ: [(&[u8], &[Done]); 8] = [
     ),
 ];
 
-const REFUSED: [(&[u8], usize); 28] = [
+static REFUSED: [(&[u8], usize); 28] = [
     // Lines without words, and words that are none.
     (b"\n", 1),
     (b"settle 6\n\n", 2),
@@ -109,13 +109,13 @@ fn lines_are_read_up_to_the_first_that_is_none(rt: HostRuntime) -> Result<(), Fa
     let net = network(alloc, &HAZARD, &GOOD).expect(&rt, "a network");
     let first = vector(alloc, net.node_count(), &[One, Zero, One, One, One])?;
     let last = vector(alloc, net.node_count(), &[One, Zero, Zero, Zero, One])?;
-    for (text, done) in READ {
+    for (text, done) in &READ {
         let events = read_order_for(alloc, &net, &first, &last, text).expect(&rt, "events");
         assert!(rt; are_done(events.as_slice(), done), "{text:?}");
     }
-    for (text, line) in REFUSED {
+    for (text, line) in &REFUSED {
         match read_order_for(alloc, &net, &first, &last, text) {
-            Err(fault) => assert_eq!(rt; fault, OrderFault::At { line }, "{text:?}"),
+            Err(fault) => assert_eq!(rt; fault, OrderFault::At { line: *line }, "{text:?}"),
             Ok(_) => assert!(rt; false, "{text:?}"),
         }
     }
