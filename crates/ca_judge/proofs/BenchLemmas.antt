@@ -1,17 +1,15 @@
 -- What the fields of a bench keep.
-use Rattle.std.proofs.Common.{◌≡◌, ◌≢◌, ◌↔◌, ◌<◌, ◌+◌, ◌*◌, ◌^◌, ℕ, List, length, Bool, true, false, Option, None, Some, refl, sym, ◌∙◌, ap, subst, arith}
+use Rattle.std.proofs.Common.{◌≡◌, ◌↔◌, ◌<◌, ◌^◌, ℕ, List, length, true, false, Option, None, Some, sym, ◌∙◌, ap, subst, arith}
 use Rattle.std.specs.Prelude.{slice_index_or, IsSome}
 use Rattle.std.specs.List.{All, Contains}
 use Rattle.std.proofs.lemmas.List.Elements.{Contains-get_or}
 use Rattle.ca_net.specs.declared.trit.Trit.{Trit}
 use Rattle.ca_flat.specs.declared.chip_defect.ChipDefect.{ChipDefect}
-use Rattle.ca_flat.specs.Chip.{Chip, IsChip, IsDefectIn, IsChipDefect, count_of}
-use Rattle.ca_flat.specs.Simulation.{IsFlattened}
+use Rattle.ca_flat.specs.Chip.{Chip, IsDefectIn, IsChipDefect, count_of}
 use Rattle.ca_net.specs.Circuit.{IsWellFormed}
 use Rattle.ca_flat.specs.Flat.{flat}
 use Rattle.ca_flat.specs.Pair.{IsOpenPair}
-use Rattle.ca_flat.specs.Waves.{FlatWaves, IsFlatChip}
-use Rattle.ca_flat.specs.Rows.{ListsExposingRows}
+use Rattle.ca_flat.specs.Waves.{IsFlatChip}
 use Rattle.ca_sim.specs.Seen.{Seen, IsExact, AreNetWaves}
 use Rattle.ca_sim.specs.Linked.{IsAim, IsLinked, IsPinned, place_in}
 use Rattle.ca_sim.specs.Simulator.{Simulator, IsFresh, KeepsAim, KeepsPair}
@@ -23,7 +21,7 @@ use Rattle.ca_guide.specs.declared.guide.Step.{Step}
 use Rattle.ca_guide.specs.declared.guide.Step.TheVariants.{Branch, RuledOut}
 use Rattle.ca_search.specs.declared.judge.Standing.{Standing}
 use Rattle.ca_search.specs.declared.judge.Standing.TheVariants.{Shown, Settled, Open}
-use Rattle.ca_search.specs.Judged.{Judged, with_pair, IsStanding, IsStep, IsOpenFor}
+use Rattle.ca_search.specs.Judged.{with_pair, IsStanding, IsStep, IsOpenFor}
 use Rattle.ca_judge.specs.Ends.{LooksSo}
 use Rattle.ca_judge.specs.Outputs.{AreObservedBelow}
 use Rattle.ca_judge.specs.GuideSeen.{guide_seen}

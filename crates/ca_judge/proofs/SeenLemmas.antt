@@ -9,8 +9,6 @@ use Rattle.ca_net.specs.declared.wave.Wave.{Wave}
 use Rattle.ca_net.specs.State.{value_at}
 use Rattle.ca_table.specs.Gives.{wave_at}
 use Rattle.ca_flat.specs.declared.chip_defect.ChipDefect.{ChipDefect}
-use Rattle.ca_flat.specs.Chip.{Chip}
-use Rattle.ca_flat.specs.Pair.{bit_count}
 use Rattle.ca_flat.specs.Waves.{FlatWaves, wave_of, unknown_wave}
 use Rattle.ca_guide.specs.Seen as guide
 use Rattle.ca_guide.specs.Guide.{ShowsPair}

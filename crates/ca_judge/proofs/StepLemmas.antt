@@ -1,5 +1,5 @@
 -- A step of the guide is one that a search takes.
-use Rattle.std.proofs.Common.{◌≡◌, ◌<◌, ℕ, zero, suc, inl, inr, List, [], ◌∷◌, length, Option, None, Some, refl, sym, ◌∙◌, ap, subst, arith}
+use Rattle.std.proofs.Common.{◌≡◌, ◌<◌, ℕ, zero, suc, inl, inr, List, [], ◌∷◌, length, None, Some, refl, arith}
 use Rattle.std.specs.Prelude.{◌⊎◌, slice_index_or}
 use Rattle.std.specs.List.{Contains}
 use native.Mathlib.Decide.{ℕ_discrete}
@@ -9,10 +9,8 @@ use Rattle.ca_net.specs.State.{value_at}
 use Rattle.ca_flat.specs.declared.chip_defect.ChipDefect.{ChipDefect}
 use Rattle.ca_flat.specs.Chip.{Chip}
 use Rattle.ca_flat.specs.Waves.{FlatWaves, IsFlatChip}
-use Rattle.ca_flat.specs.RuleOut.{IsPlainlyRuledOut}
 use Rattle.ca_flat.specs.CheckedCode.{IsPlain, IsCheckedBranch}
 use Rattle.ca_flat.specs.Pair.{IsOpenPair}
-use Rattle.ca_flat.specs.Chain.{IsSupportBit}
 use Rattle.ca_flat.proofs.CheckedCodes.{plain_is_of_pair_lem}
 use Rattle.ca_flat.proofs.Detected.{some_good, some_faulty}
 use Rattle.ca_guide.specs.declared.guide.Step.{Step}

@@ -90,7 +90,7 @@ impl<'a, L: Linked, C: LinkedChip, R: ExposingRows, P: Choice + Drop> Bench<'a, 
     }
 
     /// Aims at a defect, or at none. The bits stay.
-    #[tactic(auto, using(crate::proofs::BenchLemmas::aim_in_chip, crate::proofs::BenchLemmas::bench_aims, crate::proofs::BenchLemmas::nets_of_guide))]
+    #[tactic(auto, using(crate::proofs::BenchLemmas::bench_aims))]
     pub fn aim(&mut self, defect: Option<ChipDefect>)
         requires { IsAim self.old.seen.chip (place_in self.old.seen.places) defect }
         ensures aim { self.new.seen.aim ≡ defect }

@@ -1,6 +1,4 @@
-use Rattle.std.proofs.Common.{◌≡◌, ◌<◌, ℕ, true}
-use Rattle.std.specs.Prelude.{slice_index_or}
-use Rattle.ca_judge.specs.Ends.{is_opposite_at, IsNoneOppositeBelow}
+use Rattle.ca_judge.specs.Ends.{IsNoneOppositeBelow}
 use Rattle.ca_judge.proofs.standing.is_shown.Given as goal
 
 abbrev pub invariant-loop-net : goal.invariant-loop-net
