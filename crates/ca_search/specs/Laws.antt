@@ -9,7 +9,7 @@ use Rattle.ca_flat.specs.Code.{IsWholeBy, IsFrontBy, IsSpentBy, IsWholeCode, IsF
 use Rattle.ca_flat.specs.CheckedCode.{checked_rules}
 use Rattle.ca_search.specs.SearchRules.{search_rules}
 
--- a code by the rules of a search is a code: a whole one a whole one, a front a front, a spent one a spent one
+-- a code by the rules of a search is a code: a whole one is whole, a front is one, and a spent one is spent
 pub record SearchIsCode (chip : Chip) (defect : ChipDefect) (code : List Token) : Type 0 where
   pub whole : IsWholeBy (search_rules chip defect) chip code → IsWholeCode chip defect code
   pub front : (pair : List Trit) → IsFrontBy (search_rules chip defect) chip code pair

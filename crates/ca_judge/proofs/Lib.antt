@@ -1,0 +1,6 @@
+pub mod EndLemmas
+pub mod StandingLemmas
+pub mod SeenLemmas
+pub mod StepLemmas
+pub mod OutputLemmas
+pub mod BenchLemmas

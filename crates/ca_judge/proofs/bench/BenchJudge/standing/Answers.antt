@@ -1,0 +1,23 @@
+use Rattle.std.proofs.Common.{◌<◌, length, sym, subst}
+use Rattle.std.specs.Prelude.{IsSome}
+use Rattle.std.specs.List.{All}
+use Rattle.ca_search.specs.Judged.{IsStanding}
+use Rattle.ca_judge.specs.Bench.{judged_of}
+use Rattle.ca_judge.specs.Ends.{LooksSo}
+use Rattle.ca_judge.proofs.BenchLemmas.{outputs_within, bench_stands}
+use Rattle.ca_judge.proofs.bench.BenchJudge.standing.Goals as goal
+
+pub standing-requires : goal.standing-requires
+standing-requires g c =
+    subst (All (λ net. net < length c.self.inside.sim.seen.chip.nets)) (sym c.deref.ensures.value)
+    (outputs_within c.self.inside.sim.seen _ _ _ _ c.self.inside.outputs.items _ c.self.invariant)
+
+pub returns : goal.returns
+returns g c =
+    let inside = c.self.inside in
+    let some = subst (λ sim. IsSome sim.seen.aim) (sym c.self.view_is) c.requires in
+    let looks = subst (λ outputs. LooksSo inside.sim.seen outputs c.standing.result) c.deref.ensures.value
+    c.standing.ensures in
+    subst (λ sim. IsStanding (judged_of sim.seen) c.standing.result) c.self.view_is
+    (bench_stands inside.sim.seen _ _ _ _ inside.outputs.items _ c.self.invariant c.exact.ensures some
+    c.standing.result looks)

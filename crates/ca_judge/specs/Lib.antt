@@ -1,0 +1,4 @@
+pub mod Ends
+pub mod Outputs
+pub mod GuideSeen
+pub mod Bench

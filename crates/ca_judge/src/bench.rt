@@ -1,0 +1,173 @@
+//! The simulator and the guide of a chip.
+
+ghost use Rattle.std.specs.Prelude.{◌≡◌, length, IfOk};
+ghost use Rattle.ca_flat.specs.Chip.{IsChipDefect};
+ghost use Rattle.ca_guide.specs.NetLists.{AreNetsOf};
+ghost use Rattle.ca_guide.specs.Guide.{HasRoomFor};
+ghost use Rattle.ca_judge.specs.Bench.{IsGuidedTo};
+
+use crate::guide_waves::GuideWaves;
+use crate::outputs::observed_nets;
+use crate::rows::ExposingRows;
+use crate::standing::standing;
+use ca_base::NoMemory;
+use ca_flat::ChipDefect;
+use ca_guide::{Choice, Guide, LinkedChip, Step};
+use ca_net::Wave;
+use ca_search::{Judge, Standing};
+use ca_sim::{Bits, Linked, NetWaves, Sim};
+use std::alloc::Global;
+use std::marker::Model;
+
+// Aims the guide at a defect, if there is one.
+fn guide_to<C: LinkedChip>(guide: &mut Guide, chip: &C, defect: Option<ChipDefect>)
+    requires room { HasRoomFor (C.lists chip.now) guide.old }
+    requires linked { AreNetsOf (C.chip chip.now) (C.lists chip.now) }
+    requires defect { IsChipDefect (C.chip chip.now) defect }
+    ensures room { HasRoomFor (C.lists chip.now) guide.new }
+    ensures guided { IsGuidedTo (C.chip chip.now) guide.new defect }
+{
+    if let Some(defect) = defect {
+        guide.aim(chip, defect);
+    }
+}
+
+/// A simulator of a chip, and the guide of the defect that is aimed at. All memory is taken by `reserve`.
+#[derive(Drop)]
+pub struct Bench<'a, L: Linked, C: LinkedChip, R: ExposingRows, P: Choice + Drop> {
+    sim: Sim<'a, L>,
+    chip: &'a C,
+    rows: &'a R,
+    guide: Guide,
+    choice: P,
+    // the observed nets
+    outputs: Vec<u32>,
+    defect: Option<ChipDefect>,
+}
+
+impl<'a, L: Linked, C: LinkedChip, R: ExposingRows, P: Choice + Drop> Model
+    for Bench<'a, L, C, R, P> {
+    ghost use Rattle.ca_sim.specs.Simulator.{Simulator};
+    ghost use Rattle.ca_judge.specs.Bench.{IsBench};
+
+    ghost Value = { Simulator };
+
+    ghost view = { λ bench. bench.sim };
+
+    ghost invariant = { λ bench. IsBench bench.sim.seen.chip bench.sim.seen.aim (C.chip bench.chip.now)
+        (C.lists bench.chip.now) (R.chip bench.rows.now) bench.guide bench.outputs.items bench.defect };
+}
+
+impl<'a, L: Linked, C: LinkedChip, R: ExposingRows, P: Choice + Drop> Bench<'a, L, C, R, P> {
+    ghost use Rattle.ca_flat.specs.Code.{unset_pair};
+    ghost use Rattle.ca_sim.specs.Linked.{IsAim, place_in};
+    ghost use Rattle.ca_sim.specs.Simulator.{IsFresh, KeepsAim, KeepsPair, counted_up};
+    ghost use Rattle.ca_judge.specs.Bench.{IsSearchable};
+
+    /// Takes all memory. No bit is set, and no defect is aimed at.
+    #[tactic(auto, using(crate::proofs::BenchLemmas::bench_begins, crate::proofs::BenchLemmas::few_onward))]
+    pub fn reserve(
+        alloc: Global,
+        linked: &'a L,
+        chip: &'a C,
+        rows: &'a R,
+        choice: P,
+    ) -> Result<Self, NoMemory>
+        requires chip { IsSearchable (L.core linked.now) (C.chip chip.now) (C.lists chip.now) }
+        requires rows { R.chip rows.now ≡ L.core linked.now }
+        ensures { IfOk result (IsFresh (L.core linked.now) (L.places linked.now)) }
+    {
+        linked.linked();
+        Ok(Bench {
+            sim: Sim::reserve(alloc, linked)?,
+            chip,
+            rows,
+            guide: Guide::reserve(alloc, chip)?,
+            choice,
+            outputs: observed_nets(alloc, chip)?,
+            defect: None,
+        })
+    }
+
+    /// Aims at a defect, or at none. The bits stay.
+    #[tactic(auto, using(crate::proofs::BenchLemmas::bench_aims))]
+    pub fn aim(&mut self, defect: Option<ChipDefect>)
+        requires { IsAim self.old.seen.chip (place_in self.old.seen.places) defect }
+        ensures aim { self.new.seen.aim ≡ defect }
+        ensures aimed { self.new.aimed ≡ counted_up self.old.aimed }
+        ensures kept { KeepsPair self.old self.new }
+    {
+        self.sim.aim(defect);
+        guide_to(&mut self.guide, self.chip, defect);
+        self.defect = defect;
+    }
+
+    /// Gives all bits their values.
+    pub fn load<B: Bits>(&mut self, bits: &B)
+        requires { length (B.bits bits.now) ≡ length self.old.seen.pair }
+        ensures pair { self.new.seen.pair ≡ B.bits bits.now }
+        ensures kept { KeepsAim self.old self.new }
+    {
+        self.sim.load(bits);
+    }
+}
+
+impl<L: Linked, C: LinkedChip, R: ExposingRows, P: Choice + Drop> NetWaves
+    for Bench<'_, L, C, R, P> {
+    ghost seen = { λ bench. bench.seen };
+
+    fn good(&self, net: usize) -> Wave {
+        self.sim.good(net)
+    }
+
+    fn faulty(&self, net: usize) -> Wave {
+        self.sim.faulty(net)
+    }
+
+    fn bit(&self, bit: usize) -> Option<bool> {
+        self.sim.bit(bit)
+    }
+
+    fn exact(&self) {
+        self.sim.exact();
+    }
+}
+
+impl<L: Linked, C: LinkedChip, R: ExposingRows, P: Choice + Drop> Judge for Bench<'_, L, C, R, P> {
+    ghost use Rattle.ca_judge.specs.Bench.{judged_of};
+
+    ghost judged = { λ bench. judged_of bench.seen };
+
+    fn bit_count(&self) -> usize {
+        2 * self.chip.inputs().len()
+    }
+
+    fn clear(&mut self) {
+        self.sim.clear();
+    }
+
+    fn set(&mut self, bit: u16, value: Option<bool>) {
+        self.sim.exact();
+        self.sim.set(bit, value);
+    }
+
+    fn standing(&self) -> Standing {
+        self.sim.exact();
+        standing(&self.sim, &self.outputs)
+    }
+
+    fn next(&mut self) -> Step {
+        self.sim.exact();
+        let waves = GuideWaves { waves: &self.sim };
+        match self.defect {
+            Some(defect) => self.guide.next(
+                self.chip,
+                &waves,
+                self.rows.rows(defect),
+                defect,
+                &mut self.choice,
+            ),
+            None => Step::RuledOut,
+        }
+    }
+}

@@ -1,0 +1,11 @@
+//! The simulator and the guide as one: the judge that a search asks.
+#![tactic(auto)]
+
+mod bench;
+mod guide_waves;
+mod outputs;
+mod rows;
+mod standing;
+
+pub use bench::Bench;
+pub use rows::ExposingRows;
