@@ -15,8 +15,8 @@ use std::alloc::Global;
 /// Defects of a chip, in order.
 pub type ChipDefects = List<ChipDefect>;
 
-/// The defects of a chip: by instance, and then in the order of its cell's list. An instance that has no place
-/// in the order of evaluation, as that of a scan cell, has none.
+/// The defects of a chip: by instance, and then in the order of its cell's list. An instance that has no
+/// place in the order of evaluation, as that of a scan cell, has none.
 pub fn chip_defects<C: Linked>(alloc: Global, chip: &C) -> Result<ChipDefects, NoMemory>
     ensures exact { IfOk result (λ list. list ≡ chip_defects (C.core chip.now)
         (placed_instances (C.core chip.now) (C.places chip.now))) }
