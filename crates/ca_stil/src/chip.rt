@@ -34,7 +34,7 @@ pub struct StilChip {
 
 /// An end of a chain.
 #[derive(Clone, Copy)]
-pub(crate) enum End {
+pub enum End {
     In,
     Out,
 }

@@ -14,7 +14,7 @@ mod statement;
 mod words;
 mod write;
 
-pub use chip::{Signal, StilChain, StilChip};
+pub use chip::{End, Signal, StilChain, StilChip};
 pub use fits::are_of;
 pub use patterns::{ExpectedValues, PatternBits};
 pub use write::write_stil;

@@ -3,6 +3,8 @@ use Rattle.std.specs.Prelude.{ℕ, ◌-◌, ◌==◌, nat_le, max, Bool, true, f
 use Rattle.std.specs.List.{list_all, list_any}
 use Rattle.std.specs.Str.{bytes_eq}
 use Rattle.ca_stil_form.specs.Form.{Token}
+pub use Rattle.ca_stil.specs.Words.{quoted, joined}
+unfoldable pub use Rattle.ca_stil.specs.Words.{joined_more}
 
 -- a signal: its name, and whether it is an input
 abbrev pub Signal : Type 0
@@ -21,19 +23,6 @@ is_name_byte byte = nat_le 33 byte && nat_le byte 126 && not (byte == 34)
 
 abbrev pub is_name : List ℕ → Bool
 is_name name = not (length name == 0) && list_all is_name_byte name
-
--- a name in double quotes
-abbrev pub quoted : List ℕ → Token
-quoted name = 34 ∷ name ++ 34 ∷ []
-
--- further names of a group, and a group's names
-unfoldable pub joined_more : Names → List ℕ
-joined_more [] = []
-joined_more (name ∷ names) = codes " + " ++ quoted name ++ joined_more names
-
-abbrev pub joined : Names → List ℕ
-joined [] = []
-joined (name ∷ names) = quoted name ++ joined_more names
 
 -- a group's names in single quotes
 abbrev pub group_word : Names → Token

@@ -2,19 +2,10 @@
 use Rattle.std.specs.Prelude.{ℕ, ◌+◌, ◌==◌, Bool, true, false, List, [], ◌∷◌, ◌++◌, length, map, take, drop, replicate, codes, decimal, if◌then◌else◌}
 use Rattle.ca_net.specs.declared.trit.Trit.{Trit}
 use Rattle.ca_net.specs.declared.trit.Trit.TheVariants.{Zero, One, X}
+pub use Rattle.ca_stil.specs.Words.{digit_of, level_of}
 use Rattle.ca_stil_form.specs.Form.{Token}
 use Rattle.ca_stil_form.specs.Grammar.{Piece, fixed, blank, token, no_piece, ◌<>◌, pieces, Form, word, and_then, behind, before, for_each}
 use Rattle.ca_stil_form.specs.Frame.{Frame, Chain, Member, key_inputs, key_outputs, group_member, load_members, unload_members, quoted}
-
--- the digit of a bit, and the letter of an expected value
-abbrev pub digit_of : Bool → ℕ
-digit_of false = 48
-digit_of true = 49
-
-abbrev pub level_of : Trit → ℕ
-level_of Zero = 76
-level_of One = 72
-level_of X = 88
 
 -- the value that a letter stands for
 abbrev pub level_at : ℕ → Trit

@@ -3,6 +3,7 @@ use Rattle.std.specs.Prelude.{ℕ, ◌+◌, ◌==◌, Bool, true, false, not, �
 use Rattle.std.specs.List.{list_all}
 use Rattle.std.specs.Str.{bytes_eq}
 use Rattle.ca_lex.specs.Length.{is_digit, number_of}
+pub use Rattle.ca_stil.specs.Groups.{direction_word}
 use Rattle.ca_stil_form.specs.Form.{Token}
 use Rattle.ca_stil_form.specs.Grammar.{Piece, fixed, blank, token, no_piece, ◌<>◌, pieces, Form, word, and_then, behind, before, items_until, for_each, maybe}
 use Rattle.ca_stil_form.specs.Frame.{Signal, Names, Scan, Chain, Frame, is_name, quoted, group_word, quoted_from, names_of, fits_in_order, fits_in_number, has_some, key_inputs, key_outputs, key_controls}
@@ -15,10 +16,6 @@ name_in token = take (length token - 2) (drop 1 token)
 -- a signal's name, and its direction
 abbrev pub name_form : Form (List ℕ)
 name_form = word is_name quoted name_in
-
-abbrev pub direction_word : Bool → Token
-direction_word true = codes "In"
-direction_word false = codes "Out"
 
 abbrev pub direction_form : Form Bool
 direction_form = word (λ input. true) direction_word (bytes_eq (codes "In"))
