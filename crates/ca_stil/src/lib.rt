@@ -1,5 +1,5 @@
-//! The patterns of a chip as a text of STIL: its signals and scan chains, its pairs of vectors, and the values
-//! that are expected under each.
+//! The patterns of a chip as a text of STIL: its signals and scan chains, its pairs of vectors, and the
+//! values that are expected under each.
 #![tactic(auto)]
 
 mod chip;

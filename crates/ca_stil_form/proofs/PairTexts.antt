@@ -116,7 +116,6 @@ unfolding key_text
 one_steady most letter name rest count below =
     ap (λ (word : List ℕ). (key_text name ++ (word ++ codes ";")) ++ rest) (filled letter most count below)
 
-
 loads_steady : (letter most : ℕ) (chains : List StilChain) → AllByRecursion (IsUpTo most) chains
     → (pieces (steady letter) (map (load_member most) (map chain_seen chains))).text ≡ steady_text letter at.In most chains
 unfolding pieces steady_text
@@ -221,9 +220,19 @@ flat_six i q k m s x n v h a u t b e w y l =
 -- the statements of a pair of a chip without chains
 pub pair_two : (inputs outputs scans number : ℕ) (pair : List Bool) (expected : List Trit)
     → length pair ≡ inputs + scans + (inputs + scans) → length expected ≡ outputs + scans
-    → (pair_form (record { inputs = inputs; outputs = outputs; chains = [] }) number).text
-    ([], (values_of (part 0 inputs pair), ([], (values_of (part (inputs + scans) inputs pair),
-    (values_of (part 0 outputs expected), [])))))
+    → (pair_form (record { inputs = inputs; outputs = outputs; chains = [] }) number).text (
+      [],
+      (
+        values_of (part 0 inputs pair),
+        (
+          [],
+          (
+            values_of (part (inputs + scans) inputs pair),
+            (values_of (part 0 outputs expected), []),
+          ),
+        ),
+      ),
+    )
     ≡ codes "  " ++ (label_text number
     ++ (((codes "V {" ++ vector_text inputs (part 0 inputs pair)) ++ (unobserved_text outputs ++ codes " }\n"))
     ++ (codes "  " ++ (((codes "V {" ++ vector_text inputs (part (inputs + scans) inputs pair))
@@ -242,11 +251,22 @@ pair_two inputs outputs scans number pair expected pair_long expected_long =
 pub pair_six : (inputs outputs scans number : ℕ) (chain : StilChain) (others : List StilChain) (pair : List Bool) (expected : List Trit)
     → AllByRecursion (IsUpTo (longest (map chain_seen (chain ∷ others)))) (chain ∷ others)
     → length pair ≡ inputs + scans + (inputs + scans) → length expected ≡ outputs + scans
-    → (pair_form (record { inputs = inputs; outputs = outputs; chains = map chain_seen (chain ∷ others) }) number).text
-    (map (in_chain false (part inputs scans pair)) (chain ∷ others), (values_of (part 0 inputs pair),
-    (map (in_chain false (part (inputs + scans + inputs) scans pair)) (chain ∷ others),
-    (values_of (part (inputs + scans) inputs pair), (values_of (part 0 outputs expected),
-    map (in_chain X (part outputs scans expected)) (chain ∷ others))))))
+    → (pair_form (record { inputs = inputs; outputs = outputs; chains = map chain_seen (chain ∷ others) }) number).text (
+      map (in_chain false (part inputs scans pair)) (chain ∷ others),
+      (
+        values_of (part 0 inputs pair),
+        (
+          map (in_chain false (part (inputs + scans + inputs) scans pair)) (chain ∷ others),
+          (
+            values_of (part (inputs + scans) inputs pair),
+            (
+              values_of (part 0 outputs expected),
+              map (in_chain X (part outputs scans expected)) (chain ∷ others),
+            ),
+          ),
+        ),
+      ),
+    )
     ≡ codes "  " ++ (label_text number
     ++ (((load_of_text (longest (map chain_seen (chain ∷ others))) (part inputs scans pair) (chain ∷ others)
     ++ (codes "V {" ++ (codes " \"_ctl_\"=000;" ++ vector_text inputs (part 0 inputs pair))))

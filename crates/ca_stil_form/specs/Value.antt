@@ -23,8 +23,10 @@ group_of (name ∷ names) = Some (name ∷ names)
 abbrev pub scan_of : Names → List StilChain → Option Scan
 scan_of controls [] = None
 scan_of controls (chain ∷ chains) =
-    Some (controls,
-      (map (λ chain. chain.scan_in) (chain ∷ chains), map (λ chain. chain.scan_out) (chain ∷ chains)))
+    Some (
+      controls,
+      (map (λ chain. chain.scan_in) (chain ∷ chains), map (λ chain. chain.scan_out) (chain ∷ chains)),
+    )
 
 -- the values of a group that has members
 abbrev pub values_of : {Value : Type 0} → List Value → List (List Value)
@@ -36,8 +38,8 @@ values_of (value ∷ values) = (value ∷ values) ∷ []
 abbrev pub in_chain : {Value : Type 0} → Value → List Value → StilChain → List Value
 in_chain other values chain = reverse (map (λ place. get_or values place other) chain.places)
 
--- the values of a pair, in the order of its text: the first state, the first vector, the second state, the second
--- vector, and what is expected at the ports and in the cells
+-- the values of a pair, in the order of its text: the first state, the first vector, the second state, the
+-- second vector, and what is expected at the ports and in the cells
 abbrev pub pair_values : StilChip → List Bool → List Trit → PairValues
 pair_values chip pair expected =
     let ports : ℕ = length chip.inputs in
@@ -49,7 +51,11 @@ pair_values chip pair expected =
           map (in_chain false (part (width_of chip + ports) chip.scan_count pair)) chip.chains,
           (
             values_of (part (width_of chip) ports pair),
-            (values_of (part 0 outputs expected), map (in_chain X (part outputs chip.scan_count expected)) chip.chains),
+            (
+              values_of (part 0 outputs expected),
+              map
+                  (in_chain X (part outputs chip.scan_count expected)) chip.chains,
+            ),
           ),
         ),
       ),
@@ -59,7 +65,8 @@ pair_values chip pair expected =
 unfoldable pub all_values : StilChip → List (List Bool) → List (List Trit) → List PairValues
 all_values chip [] expected = []
 all_values chip (pair ∷ pairs) [] = []
-all_values chip (pair ∷ pairs) (values ∷ expected) = pair_values chip pair values ∷ all_values chip pairs expected
+all_values chip (pair ∷ pairs) (values ∷ expected) =
+    pair_values chip pair values ∷ all_values chip pairs expected
 
 -- the values of a whole text
 abbrev pub stil_value : StilChip → List (List Bool) → List (List Trit) → Stil

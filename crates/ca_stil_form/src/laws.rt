@@ -12,8 +12,8 @@ ghost use Rattle.ca_stil_form.specs.Whole.{Stil, stil_form};
 ghost use Rattle.ca_stil_form.specs.Value.{stil_value};
 
 /// Tokens read as some values exactly where they are the tokens of these values' text; and they are faulty
-/// exactly at their first token that no text of the form has behind the tokens before it, or at their end where
-/// they end too early.
+/// exactly at their first token that no text of the form has behind the tokens before it, or at their end
+/// where they end too early.
 pub fn stil_reading()
     ensures written { (tokens : List Token) (value : Stil) → IsWritten stil_form value tokens
         → whole stil_form tokens ≡ Ok value }
