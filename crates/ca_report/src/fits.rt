@@ -24,8 +24,8 @@ fn is_row_of<R: ReportRows>(outputs: &Names, rows: &R, k: usize) -> bool
     is_verdict_of(rows.verdict(k), outputs.len())
 }
 
-/// Whether each output that is credited is one of the observed outputs, of which these are the names: what the
-/// report is asked of.
+/// Whether each output that is credited is one of the observed outputs, of which these are the names: what
+/// the report is asked of.
 #[tactic(auto, using(crate::proofs::RowLemmas::all_here))]
 pub fn are_of<R: ReportRows>(outputs: &Names, rows: &R) -> bool
     ensures { IsTrue result ↔ All (IsRowOf (length outputs.now)) (R.rows rows.now) }

@@ -1,4 +1,5 @@
--- What stands between the groups and the patterns: the timing, the chains, the burst and the macro that shifts.
+-- What stands between the groups and the patterns: the timing, the chains, the burst and the macro that
+-- shifts.
 use Rattle.std.specs.Prelude.{ℕ, ◌+◌, List, [], ◌∷◌, ◌++◌, length, codes, decimal}
 use Rattle.ca_stil.specs.declared.chip.StilChain.{StilChain}
 use Rattle.ca_stil.specs.declared.chip.StilChip.{StilChip}
@@ -7,7 +8,8 @@ use Rattle.ca_stil.specs.declared.chip.End.TheVariants as at
 use Rattle.ca_stil.specs.Chip.{end_of}
 use Rattle.ca_stil.specs.Words.{quoted}
 
--- the waveforms of the chip inputs, of the observed outputs, and of the scan groups; each where it has members
+-- the waveforms of the chip inputs, of the observed outputs, and of the scan groups; each where there are
+-- members
 unfoldable pub input_waves : List (List ℕ) → List ℕ
 input_waves [] = []
 input_waves (name ∷ names) = codes "      \"_pi_\" { 01 { '0ns' D/U; } }\n"
@@ -46,7 +48,8 @@ port_line word end chain = word ++ (quoted (end_of end chain) ++ codes ";\n")
 unfoldable pub chain_text : ℕ → StilChain → List ℕ
 chain_text number chain =
     chain_begins number ++ (length_line chain
-    ++ (port_line (codes "    ScanIn ") at.In chain ++ (port_line (codes "    ScanOut ") at.Out chain ++ codes "  }\n")))
+    ++ (port_line (codes "    ScanIn ") at.In chain
+    ++ (port_line (codes "    ScanOut ") at.Out chain ++ codes "  }\n")))
 
 -- the blocks of the chains, the first of which has this number
 unfoldable pub chains_text : ℕ → List StilChain → List ℕ
@@ -63,7 +66,9 @@ structures_text (chain ∷ chains) = structures_of_text (chain ∷ chains)
 
 -- the blocks of the burst
 unfoldable pub burst_text : List ℕ
-burst_text = codes "PatternBurst \"_burst_\" {\n  PatList { \"_pattern_\"; }\n}\nPatternExec {\n  PatternBurst \"_burst_\";\n}\n"
+burst_text =
+    codes "PatternBurst \"_burst_\" {\n  PatList { \"_pattern_\"; }\n}\n"
+    ++ codes "PatternExec {\n  PatternBurst \"_burst_\";\n}\n"
 
 -- the ports of the chains at one end, as they are shifted
 unfoldable pub shifted_text : End → List StilChain → List ℕ

@@ -46,4 +46,5 @@ scan_groups_if_any controls (chain ∷ chains) = scan_groups_text controls (chai
 unfoldable pub groups_text : StilChip → List ℕ
 groups_text chip =
     codes "SignalGroups {\n" ++ (group_if_any (codes "_pi_") chip.inputs
-    ++ (group_if_any (codes "_po_") chip.outputs ++ (scan_groups_if_any chip.controls chip.chains ++ codes "}\n")))
+    ++ (group_if_any (codes "_po_") chip.outputs
+    ++ (scan_groups_if_any chip.controls chip.chains ++ codes "}\n")))

@@ -1,7 +1,7 @@
--- The statements of a pair of vectors. Of a chip with scan chains they are six: the first state is loaded, the
--- first vector is applied, the second state is loaded behind the hold, the second vector is applied and the
--- outputs are compared, the cells capture, and the chains are unloaded and compared. Of another chip they are
--- the two that apply the vectors.
+-- The statements of a pair of vectors. Of a chip with scan chains they are six: the first state is loaded,
+-- the first vector is applied, the second state is loaded behind the hold, the second vector is applied and
+-- the outputs are compared, the cells capture, and the chains are unloaded and compared. Of another chip
+-- they are the two that apply the vectors.
 use Rattle.std.specs.Prelude.{ℕ, ◌+◌, ◌-◌, ◌==◌, Bool, false, List, [], ◌∷◌, ◌++◌, length, map, replicate, codes, decimal, if◌then◌else◌}
 use Rattle.ca_net.specs.declared.trit.Trit.{Trit}
 use Rattle.ca_net.specs.declared.trit.Trit.TheVariants.{X}
@@ -35,7 +35,8 @@ levels_text most values chain =
 -- those of each chain
 unfoldable pub all_levels_text : ℕ → List Trit → List StilChain → List ℕ
 all_levels_text most values [] = []
-all_levels_text most values (chain ∷ chains) = levels_text most values chain ++ all_levels_text most values chains
+all_levels_text most values (chain ∷ chains) =
+    levels_text most values chain ++ all_levels_text most values chains
 
 -- for each chain the same letter throughout
 unfoldable pub steady_text : ℕ → End → ℕ → List StilChain → List ℕ
@@ -56,7 +57,8 @@ vector_text count bits = if count == 0 then [] else codes " \"_pi_\"=" ++ (map d
 
 -- the expected values at so many observed outputs
 unfoldable pub expected_text : ℕ → List Trit → List ℕ
-expected_text count values = if count == 0 then [] else codes " \"_po_\"=" ++ (map level_of values ++ codes ";")
+expected_text count values =
+    if count == 0 then [] else codes " \"_po_\"=" ++ (map level_of values ++ codes ";")
 
 -- nothing is compared at so many observed outputs
 unfoldable pub unobserved_text : ℕ → List ℕ
@@ -121,4 +123,5 @@ unfoldable pub pair_text : StilChip → ℕ → ℕ → List Bool → List Trit 
 pair_text chip most number pair expected =
     codes "  " ++ (label_text number ++ (first_text chip most pair
     ++ (codes "  " ++ (second_text chip most pair expected
-    ++ unload_text (length chip.outputs) most (part (length chip.outputs) chip.scan_count expected) chip.chains))))
+    ++ unload_text (length chip.outputs) most
+    (part (length chip.outputs) chip.scan_count expected) chip.chains))))

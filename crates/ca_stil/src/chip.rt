@@ -19,9 +19,9 @@ pub struct StilChain {
     pub places: List<usize>,
 }
 
-/// The bits of all ports in header order; the names of those that are chip inputs, of those that are observed,
-/// and of the ports of se, ck and hold, which only a chip with scan chains has; the chains in order; and how many
-/// scan instances there are.
+/// The bits of all ports in header order; the names of those that are chip inputs, of those that are
+/// observed, and of the ports of se, ck and hold, which only a chip with scan chains has; the chains in
+/// order; and how many scan instances there are.
 #[derive(Drop)]
 pub struct StilChip {
     pub signals: List<Signal>,
@@ -34,7 +34,7 @@ pub struct StilChip {
 
 /// An end of a chain.
 #[derive(Clone, Copy)]
-pub(crate) enum End {
+pub enum End {
     In,
     Out,
 }

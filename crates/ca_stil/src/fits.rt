@@ -35,8 +35,8 @@ fn are_values<E: ExpectedValues>(expected: &[E], count: u128) -> bool
     expected.iter().all(|values| values.len() as u128 == count)
 }
 
-/// Whether the chains are of the chip's scan instances, each pair has the chip's pattern bits, and there is an
-/// expected value for each observed output under each pair: what the text is asked of.
+/// Whether the chains are of the chip's scan instances, each pair has the chip's pattern bits, and there is
+/// an expected value for each observed output under each pair: what the text is asked of.
 #[tactic(auto, using(crate::proofs::FitLemmas::of_pairs, crate::proofs::FitLemmas::of_counted))]
 pub fn are_of<P: PatternBits, E: ExpectedValues>(
     chip: &StilChip,

@@ -142,7 +142,8 @@ pub(crate) fn push_burst(text: &mut Text) -> Result<(), NoMemory>
     ensures { OnOk result (text.new ≡ text.old ++ burst_text) }
 {
     text.append(
-        b"PatternBurst \"_burst_\" {\n  PatList { \"_pattern_\"; }\n}\nPatternExec {\n  PatternBurst \"_burst_\";\n}\n",
+        b"PatternBurst \"_burst_\" {\n  PatList { \"_pattern_\"; }\n}\n\
+          PatternExec {\n  PatternBurst \"_burst_\";\n}\n",
     )
 }
 

@@ -1,5 +1,5 @@
-//! The patterns of a chip as a text of STIL: its signals and scan chains, its pairs of vectors, and the values
-//! that are expected under each.
+//! The patterns of a chip as a text of STIL: its signals and scan chains, its pairs of vectors, and the
+//! values that are expected under each.
 #![tactic(auto)]
 
 mod chip;
@@ -14,7 +14,7 @@ mod statement;
 mod words;
 mod write;
 
-pub use chip::{Signal, StilChain, StilChip};
+pub use chip::{End, Signal, StilChain, StilChip};
 pub use fits::are_of;
 pub use patterns::{ExpectedValues, PatternBits};
 pub use write::write_stil;

@@ -9,8 +9,8 @@ use ca_net::Trit;
 pub trait PatternBits {
     ghost use Rattle.std.specs.Prelude.{List, Bool};
 
-    /// The pattern bits: those of the first vector, and then those of the second; in each first the chip inputs
-    /// among the ports, and then the scan instances in netlist order.
+    /// The pattern bits: those of the first vector, and then those of the second; in each first the chip
+    /// inputs among the ports, and then the scan instances in netlist order.
     ghost bits: { Self → List Bool };
 
     /// The number of bits.

@@ -60,7 +60,8 @@ fn push_state<P: PatternBits>(
 ) -> Result<(), NoMemory>
     requires within { IsWithin count chain.now }
     requires long { Spans from count (P.bits pair.now) }
-    ensures { OnOk result (text.new ≡ text.old ++ state_text most (part from count (P.bits pair.now)) chain.now) }
+    ensures { OnOk result (text.new
+        ≡ text.old ++ state_text most (part from count (P.bits pair.now)) chain.now) }
 {
     let places = chain.places.as_slice();
     push_key(text, chain.scan_in.as_bytes())?;
@@ -81,7 +82,8 @@ pub(crate) fn push_states<P: PatternBits>(
 ) -> Result<(), NoMemory>
     requires within { All (IsWithin count) chains.now }
     requires long { Spans from count (P.bits pair.now) }
-    ensures { OnOk result (text.new ≡ text.old ++ states_text most (part from count (P.bits pair.now)) chains.now) }
+    ensures { OnOk result (text.new
+        ≡ text.old ++ states_text most (part from count (P.bits pair.now)) chains.now) }
 {
     let mut rest = chains;
     'chains: while let [chain, more @ ..] = rest {

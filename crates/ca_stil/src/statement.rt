@@ -84,7 +84,8 @@ pub(crate) fn push_expected<E: ExpectedValues>(
     count: usize,
 ) -> Result<(), NoMemory>
     requires long { count ≤ length (E.values expected.now) }
-    ensures { OnOk result (text.new ≡ text.old ++ expected_text count (part 0 count (E.values expected.now))) }
+    ensures { OnOk result (text.new
+        ≡ text.old ++ expected_text count (part 0 count (E.values expected.now))) }
 {
     if count == 0 {
         return Ok(());
@@ -119,7 +120,8 @@ fn push_load_of<P: PatternBits>(
 ) -> Result<(), NoMemory>
     requires within { All (IsWithin count) chains.now }
     requires long { Spans from count (P.bits pair.now) }
-    ensures { OnOk result (text.new ≡ text.old ++ load_of_text most (part from count (P.bits pair.now)) chains.now) }
+    ensures { OnOk result (text.new
+        ≡ text.old ++ load_of_text most (part from count (P.bits pair.now)) chains.now) }
 {
     text.append(b"Macro \"_shift_\" {")?;
     push_states(text, most, pair, from, count, chains)?;
@@ -139,7 +141,8 @@ pub(crate) fn push_load<P: PatternBits>(
 ) -> Result<(), NoMemory>
     requires within { All (IsWithin count) chains.now }
     requires long { Spans from count (P.bits pair.now) }
-    ensures { OnOk result (text.new ≡ text.old ++ load_text most (part from count (P.bits pair.now)) chains.now) }
+    ensures { OnOk result (text.new
+        ≡ text.old ++ load_text most (part from count (P.bits pair.now)) chains.now) }
 {
     match chains {
         [] => Ok(()),

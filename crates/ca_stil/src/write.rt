@@ -79,8 +79,8 @@ fn push_patterns<P: PatternBits, E: ExpectedValues>(
     text.append(b"}\n")
 }
 
-/// The STIL text of a chip's pairs and of the values that are expected under each. Room for it is taken at once,
-/// before it is written.
+/// The STIL text of a chip's pairs and of the values that are expected under each. Room for it is taken at
+/// once, before it is written.
 #[tactic(auto, unfolding(crate::specs::Text::stil_text))]
 pub fn write_stil<P: PatternBits, E: ExpectedValues>(
     alloc: Global,

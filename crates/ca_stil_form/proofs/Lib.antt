@@ -8,3 +8,6 @@ mod SpelledLemmas
 mod StilSpelled
 mod StilLemmas
 mod ReadingLemmas
+mod TextLemmas
+mod PairTexts
+mod WholeText

@@ -3,6 +3,8 @@ use Rattle.std.specs.Prelude.{ℕ, ◌-◌, ◌==◌, nat_le, max, Bool, true, f
 use Rattle.std.specs.List.{list_all, list_any}
 use Rattle.std.specs.Str.{bytes_eq}
 use Rattle.ca_stil_form.specs.Form.{Token}
+pub use Rattle.ca_stil.specs.Words.{quoted, joined}
+unfoldable pub use Rattle.ca_stil.specs.Words.{joined_more}
 
 -- a signal: its name, and whether it is an input
 abbrev pub Signal : Type 0
@@ -22,19 +24,6 @@ is_name_byte byte = nat_le 33 byte && nat_le byte 126 && not (byte == 34)
 abbrev pub is_name : List ℕ → Bool
 is_name name = not (length name == 0) && list_all is_name_byte name
 
--- a name in double quotes
-abbrev pub quoted : List ℕ → Token
-quoted name = 34 ∷ name ++ 34 ∷ []
-
--- further names of a group, and a group's names
-unfoldable pub joined_more : Names → List ℕ
-joined_more [] = []
-joined_more (name ∷ names) = codes " + " ++ quoted name ++ joined_more names
-
-abbrev pub joined : Names → List ℕ
-joined [] = []
-joined (name ∷ names) = quoted name ++ joined_more names
-
 -- a group's names in single quotes
 abbrev pub group_word : Names → Token
 group_word names = 39 ∷ joined names ++ 39 ∷ []
@@ -43,7 +32,9 @@ group_word names = 39 ∷ joined names ++ 39 ∷ []
 unfoldable pub quoted_from : Option (List ℕ) → List ℕ → Names
 quoted_from place [] = []
 quoted_from None (byte ∷ bytes) = quoted_from (if byte == 34 then Some [] else None) bytes
-quoted_from (Some text) (byte ∷ bytes) = (if byte == 34 then text ∷ [] else []) ++ quoted_from (if byte == 34 then None else Some (text ++ byte ∷ [])) bytes
+quoted_from (Some text) (byte ∷ bytes) =
+    (if byte == 34 then text ∷ [] else [])
+    ++ quoted_from (if byte == 34 then None else Some (text ++ byte ∷ [])) bytes
 
 -- the signal goes in this direction: in, or else out
 abbrev pub goes : Bool → Signal → Bool
@@ -53,13 +44,15 @@ goes false signal = not signal.1
 -- the names of the signals of one direction, in order
 unfoldable pub names_of : Bool → List Signal → Names
 names_of input [] = []
-names_of input (signal ∷ signals) = if goes input signal then signal.0 ∷ names_of input signals else names_of input signals
+names_of input (signal ∷ signals) =
+    if goes input signal then signal.0 ∷ names_of input signals else names_of input signals
 
 -- the names stand among these, in this order
 unfoldable pub is_among : Names → Names → Bool
 is_among [] pool = true
 is_among (name ∷ names) [] = false
-is_among (name ∷ names) (other ∷ pool) = elim (bytes_eq name other) [ true ↦ is_among names pool | false ↦ is_among (name ∷ names) pool ]
+is_among (name ∷ names) (other ∷ pool) =
+    elim (bytes_eq name other) [ true ↦ is_among names pool | false ↦ is_among (name ∷ names) pool ]
 
 -- each name is one of these
 abbrev pub all_in : Names → Names → Bool
@@ -87,7 +80,8 @@ pub record Chain : Type 0 where
   pub scan_out : List ℕ
   pub cells : ℕ
 
--- what the patterns are made for: the number of chip inputs and of observed outputs among the ports, and the chains
+-- what the patterns are made for: the number of chip inputs and of observed outputs among the ports, and
+-- the chains
 pub record Frame : Type 0 where
   pub inputs : ℕ
   pub outputs : ℕ
@@ -119,10 +113,12 @@ group_member key count = if count == 0 then [] else record { key = key; used = c
 
 -- the members of a shift: the scan-in ports, and the scan-out ports
 abbrev pub load_member : ℕ → Chain → Member
-load_member length chain = record { key = quoted chain.scan_in; used = chain.cells; filled = length - chain.cells }
+load_member length chain =
+    record { key = quoted chain.scan_in; used = chain.cells; filled = length - chain.cells }
 
 abbrev pub unload_member : ℕ → Chain → Member
-unload_member length chain = record { key = quoted chain.scan_out; used = chain.cells; filled = length - chain.cells }
+unload_member length chain =
+    record { key = quoted chain.scan_out; used = chain.cells; filled = length - chain.cells }
 
 abbrev pub load_members : List Chain → List Member
 load_members chains = map (load_member (longest chains)) chains

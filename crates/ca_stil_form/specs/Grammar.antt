@@ -1,4 +1,5 @@
--- Forms put together: each says which values it allows, how a value's tokens and its text are written, and how tokens are read.
+-- Forms put together: each says which values it allows, how a value's tokens and its text are written, and
+-- how tokens are read.
 use Rattle.std.specs.Prelude.{ℕ, ◌+◌, Bool, ◌&&◌, List, [], ◌∷◌, ◌++◌, Option, Some, None, if◌then◌else◌}
 use Rattle.std.specs.Str.{bytes_eq}
 use Rattle.ca_stil_form.specs.Tokens.{tokens_of}
@@ -47,8 +48,10 @@ pub record IsExactForm {Value : Type 0} (form : Form Value) : Type 0 where
   pub exact : IsExact form.allowed form.written form.read
 
 -- the value that a token spells: the one that a first look gives, if it is allowed and spelled so
-abbrev pub spelled_value : {Value : Type 0} → (Value → Bool) → (Value → Token) → (Token → Value) → Token → Option Value
-spelled_value allowed spelled look token = if allowed (look token) && bytes_eq (spelled (look token)) token then Some (look token) else None
+abbrev pub spelled_value : {Value : Type 0} → (Value → Bool) → (Value → Token) → (Token → Value) → Token
+    → Option Value
+spelled_value allowed spelled look token =
+    if allowed (look token) && bytes_eq (spelled (look token)) token then Some (look token) else None
 
 -- one token, which spells a value
 abbrev pub word : {Value : Type 0} → (Value → Bool) → (Value → Token) → (Token → Value) → Form Value
@@ -96,7 +99,8 @@ text_each text [] items = []
 text_each text (part ∷ parts) [] = []
 text_each text (part ∷ parts) (item ∷ items) = text part item ++ text_each text parts items
 
-abbrev pub text_maybe : {First Second : Type 0} → (First → List ℕ) → (Option First → Second → List ℕ) → Option First → Second → List ℕ
+abbrev pub text_maybe : {First Second : Type 0} → (First → List ℕ) → (Option First → Second → List ℕ)
+    → Option First → Second → List ℕ
 text_maybe text_first text_second None second = text_second None second
 text_maybe text_first text_second (Some first) second = text_first first ++ text_second (Some first) second
 
@@ -118,8 +122,10 @@ for_each item parts = record {
   read = read_each (λ part. (item part).read) parts;
 }
 
--- a form that may be left out, told by its first token, where it is possible at all, and another one behind it
-abbrev pub maybe : {First Second : Type 0} → Bool → Token → Form First → (Option First → Form Second) → Form (Option First × Second)
+-- a form that may be left out, told by its first token, where it is possible at all, and another one behind
+-- it
+abbrev pub maybe : {First Second : Type 0} → Bool → Token → Form First → (Option First → Form Second)
+    → Form (Option First × Second)
 maybe possible key first second = record {
   allowed = λ both. allowed_maybe possible first.allowed (λ one. (second one).allowed) both.0 both.1;
   text = λ both. text_maybe first.text (λ one. (second one).text) both.0 both.1;

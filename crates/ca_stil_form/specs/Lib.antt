@@ -5,4 +5,5 @@ pub mod Grammar
 pub mod Frame
 pub mod Pattern
 pub mod Whole
+pub mod Value
 pub mod Reading

@@ -19,8 +19,8 @@ is_quote byte = byte == 34 || byte == 39
 abbrev pub is_inside : ℕ → Bool
 is_inside byte = not (is_space byte || is_mark byte || is_quote byte)
 
--- where the reading of a text stands, with what was read of the token there: between tokens, in a word, in a text in double quotes, and in
--- one in single quotes, outside and inside the double quotes in it
+-- where the reading of a text stands, with what was read of the token there: between tokens, in a word, in
+-- a text in double quotes, and in one in single quotes, outside and inside the double quotes in it
 pub data Place : Type 0 where
   Between : Place
   InWord : List ℕ → Place
@@ -30,7 +30,9 @@ pub data Place : Type 0 where
 
 -- where the reading stands behind a byte that begins something, and the token that such a byte is
 abbrev pub begun : ℕ → Place
-begun byte = if is_inside byte then InWord (byte ∷ []) else (if byte == 34 then InName (34 ∷ []) else (if byte == 39 then InGroup (39 ∷ []) else Between))
+begun byte =
+    if is_inside byte then InWord (byte ∷ [])
+    else (if byte == 34 then InName (34 ∷ []) else (if byte == 39 then InGroup (39 ∷ []) else Between))
 
 abbrev pub alone : ℕ → List Token
 alone byte = if is_mark byte then (byte ∷ []) ∷ [] else []
@@ -40,8 +42,11 @@ abbrev pub next_place : Place → ℕ → Place
 next_place Between byte = begun byte
 next_place (InWord text) byte = if is_inside byte then InWord (text ++ byte ∷ []) else begun byte
 next_place (InName text) byte = if byte == 34 then Between else InName (text ++ byte ∷ [])
-next_place (InGroup text) byte = if byte == 39 then Between else (if byte == 34 then InMember (text ++ 34 ∷ []) else InGroup (text ++ byte ∷ []))
-next_place (InMember text) byte = if byte == 34 then InGroup (text ++ 34 ∷ []) else InMember (text ++ byte ∷ [])
+next_place (InGroup text) byte =
+    if byte == 39 then Between
+    else (if byte == 34 then InMember (text ++ 34 ∷ []) else InGroup (text ++ byte ∷ []))
+next_place (InMember text) byte =
+    if byte == 34 then InGroup (text ++ 34 ∷ []) else InMember (text ++ byte ∷ [])
 
 -- the tokens that end with the next byte
 abbrev pub ended : Place → ℕ → List Token
@@ -92,7 +97,10 @@ BeginsToken (byte ∷ bytes) = is_space byte ≡ false
 -- how long the token is that a text begins with
 abbrev pub first_len : List ℕ → ℕ
 first_len [] = 0
-first_len (byte ∷ bytes) = if is_mark byte then 1 else (if byte == 34 then suc (name_len bytes) else (if byte == 39 then suc (group_len false bytes) else word_len (byte ∷ bytes)))
+first_len (byte ∷ bytes) =
+    if is_mark byte then 1 else
+    (if byte == 34 then suc (name_len bytes)
+    else (if byte == 39 then suc (group_len false bytes) else word_len (byte ∷ bytes)))
 
 -- the text without the spaces before its first token
 abbrev pub trimmed : List ℕ → List ℕ
