@@ -1,0 +1,4 @@
+pub mod PartFacts
+pub mod PinLemmas
+pub mod EndLemmas
+pub mod LinkLemmas

@@ -1,0 +1,2 @@
+pub mod CoreLinks
+pub mod Kept
