@@ -32,6 +32,7 @@ fn part(alloc: Global, scan: Scan) -> Part {
     Part {
         name: Text::new(alloc),
         cell: Text::new(alloc),
+        data: Text::new(alloc),
         body: Body::Scan(ScanNets {
             d: q,
             si,
