@@ -1,0 +1,9 @@
+//! Tests of the calls of linked chips, as tables.
+#![tactic(auto)]
+
+#[cfg(test)]
+mod calls;
+#[cfg(test)]
+mod described;
+#[cfg(test)]
+mod texts;
