@@ -1,5 +1,5 @@
 -- The lists of a chip's core are those that the guide asks for.
-use Rattle.std.proofs.Common.{◌≡◌, ℕ, ◌+◌, ◌*◌, ◌^◌, ◌<◌, ◌≤◌, List, Bool, length, refl, sym, ◌∙◌, ap, subst, arith}
+use Rattle.std.proofs.Common.{◌≡◌, ℕ, ◌<◌, ◌≤◌, List, Bool, length, refl, sym, ◌∙◌, subst, arith}
 use Rattle.std.proofs.lemmas.List.{length-map}
 use Rattle.std.proofs.Math.Decide.{dec_le}
 use Rattle.std.specs.List.{All}
@@ -8,11 +8,10 @@ use Rattle.ca_cell.specs.declared.rule.CellRule.TheVariants.{TooManyInputs}
 use Rattle.ca_cell.specs.declared.rule.TheConstants.{MOST_INPUTS}
 use Rattle.ca_cell.specs.Raw.{is_input, role_count}
 use Rattle.ca_wired.specs.Linked.{Chip, inputs_of, IsWired}
-use Rattle.ca_flat.specs.Chip.{count_of, IsCell}
-use Rattle.ca_flat.specs.Pair.{bit_count}
+use Rattle.ca_flat.specs.Chip.{IsCell}
 use Rattle.ca_core.specs.Core.{core_net, core_of}
 use Rattle.ca_core.proofs.CoreIsChip.{core_is}
-use Rattle.ca_guide.specs.NetLists.{NetLists, AreNetsOf}
+use Rattle.ca_guide.specs.NetLists.{NetLists}
 use Rattle.ca_links.specs.Links.{Pins, turned, LinksPins}
 use Rattle.ca_links.specs.Feeding.{LinksAreFeeds}
 use Rattle.ca_core_links.specs.Kept.{AreCorePins, AreMarked, AreLinks}

@@ -1,5 +1,5 @@
 -- The nets of the pins of the core's instances.
-use Rattle.std.proofs.Common.{◌≡◌, ℕ, ◌+◌, ◌<◌, List, [], ◌∷◌, ◌++◌, Bool, true, false, length, length-append, map, inl, inr, refl, sym, ◌∙◌, ap, subst, arith, get_or}
+use Rattle.std.proofs.Common.{◌≡◌, ℕ, ◌+◌, ◌<◌, List, [], ◌∷◌, ◌++◌, true, false, length, length-append, map, inl, inr, refl, sym, ◌∙◌, ap, subst, arith, get_or}
 use Rattle.std.specs.Prelude.{◌⊎◌, slice_get, IsSomeAnd, Option, Some, None, option_to_list, Vec}
 use Rattle.std.specs.Global.{Global}
 use Rattle.std.specs.List.{All, Contains}
@@ -12,8 +12,8 @@ use Rattle.ca_cell.specs.Raw.{is_input, is_output, role_count}
 use Rattle.ca_wired.specs.declared.parts.Body.{Body}
 use Rattle.ca_wired.specs.declared.parts.Part.{Part}
 use Rattle.ca_wired.specs.declared.parts.ScanNets.{ScanNets}
-use Rattle.ca_wired.specs.declared.parts.Body.TheVariants.{Gate, Scan}
-use Rattle.ca_wired.specs.Linked.{Chip, net_count, has, is_scan_path, path_nets, input_nets, output_nets, gate_inputs, data_nets, IsBody, IsWired}
+use Rattle.ca_wired.specs.declared.parts.Body.TheVariants.{Scan}
+use Rattle.ca_wired.specs.Linked.{Chip, net_count, has, is_scan_path, path_nets, input_nets, output_nets, gate_inputs, data_nets, IsWired}
 use Rattle.ca_wired.specs.Instances.{pin_nets, IsScan}
 use Rattle.ca_wired.proofs.OrderLemmas.{contained_at}
 use Rattle.ca_wired.proofs.PartLemmas.{contains_has, of_all, of_list}

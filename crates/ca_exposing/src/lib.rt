@@ -1,0 +1,6 @@
+//! The rows that expose the defects of a cell, kept once for all of them.
+#![tactic(auto)]
+
+mod cell_rows;
+
+pub use cell_rows::CellRows;
