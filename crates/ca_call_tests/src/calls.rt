@@ -11,11 +11,19 @@ use std::alloc::Global;
 
 // What is told of the chip of a netlist, if it links.
 fn told(alloc: Global, netlist: &[u8]) -> Option<Text> {
-    let library = read_library(alloc, LIBRARY).ok()?;
-    let raw = read_netlist(alloc, netlist).ok()?;
-    let scan = read_table(alloc, SCAN).ok()?;
-    let chip = link(alloc, &raw, library, &scan).ok()?;
-    described(alloc, &chip).ok()
+    let Ok(library) = read_library(alloc, LIBRARY) else {
+        return None;
+    };
+    let Ok(raw) = read_netlist(alloc, netlist) else {
+        return None;
+    };
+    let Ok(scan) = read_table(alloc, SCAN) else {
+        return None;
+    };
+    match link(alloc, &raw, library, &scan) {
+        Ok(chip) => described(alloc, &chip).ok(),
+        Err(_) => None,
+    }
 }
 
 #[test]
