@@ -43,9 +43,13 @@ bench_kept old new chip lists rows_chip guided outputs defect keeps is =
 pub judged_kept : (old new : Simulator) (pair : List Trit) → new.seen.pair ≡ pair → KeepsAim old new
     → judged_of new.seen ≡ with_pair (judged_of old.seen) pair
 judged_kept old new pair is keeps =
-    ap (λ c. record { chip = c; aim = new.seen.aim; pair = new.seen.pair }) keeps.chip.chip
-    ∙ ap (λ a. record { chip = old.seen.chip; aim = a; pair = new.seen.pair }) keeps.aim
-    ∙ ap (λ p. record { chip = old.seen.chip; aim = old.seen.aim; pair = p }) is
+    ap (λ c. record { chip = c; places = new.seen.places; aim = new.seen.aim; pair = new.seen.pair })
+    keeps.chip.chip
+    ∙ ap (λ at. record { chip = old.seen.chip; places = at; aim = new.seen.aim; pair = new.seen.pair })
+    keeps.chip.places
+    ∙ ap (λ a. record { chip = old.seen.chip; places = old.seen.places; aim = a; pair = new.seen.pair })
+    keeps.aim
+    ∙ ap (λ p. record { chip = old.seen.chip; places = old.seen.places; aim = old.seen.aim; pair = p }) is
 
 -- what the guide asks for a step
 pub record IsAsked (chip : Chip) (lists : NetLists) (guide_is : Guided) (d : ChipDefect) (seen : Seen) : Type 0 where
@@ -97,13 +101,13 @@ module _ (seen : Seen) (chip : Chip) (lists : NetLists) (rows_chip : Chip) (guid
         }
 
     so_standing : (d : ChipDefect) (standing : Standing) → StandsSo seen.chip d seen.pair standing
-        → IsStanding (record { chip = seen.chip; aim = Some d; pair = seen.pair }) standing
+        → IsStanding (record { chip = seen.chip; places = seen.places; aim = Some d; pair = seen.pair }) standing
     so_standing d Shown so = so
     so_standing d Settled so = so
     so_standing d Open so = so
 
     stands_for : (aim : Option ChipDefect) → defect ≡ aim → IsSome aim → (standing : Standing)
-        → LooksSo seen outputs standing → IsStanding (record { chip = seen.chip; aim = aim; pair = seen.pair }) standing
+        → LooksSo seen outputs standing → IsStanding (record { chip = seen.chip; places = seen.places; aim = aim; pair = seen.pair }) standing
     stands_for None e some standing looks = absurd (let clash : false ≡ true = some in cc)
     stands_for (Some d) e some standing looks = so_standing d standing
         (stands_so is.rank d seen (sees_both d e) outputs outputs_of (λ net at. is.chip_is.observed net at) standing looks)
@@ -131,7 +135,7 @@ module _ (seen : Seen) (chip : Chip) (lists : NetLists) (rows_chip : Chip) (guid
     })
 
     so_step : (d : ChipDefect) (step : Step) → IsSearchStep seen.chip d seen.pair step
-        → IsStep (record { chip = seen.chip; aim = Some d; pair = seen.pair }) step
+        → IsStep (record { chip = seen.chip; places = seen.places; aim = Some d; pair = seen.pair }) step
     so_step d (Branch bit first) so = so
     so_step d RuledOut so = so
 
@@ -143,7 +147,7 @@ module _ (seen : Seen) (chip : Chip) (lists : NetLists) (rows_chip : Chip) (guid
         let sees = sees_both d e in
         let at_core = subst (λ c. ShowsPair c d (guide_seen seen)
         → guided.IsStep c d (guide.pair_of (guide_seen seen)) step) is.searchable.same each in
-        subst (λ a. IsStep (record { chip = seen.chip; aim = a; pair = seen.pair }) step) (sym aimed)
+        subst (λ a. IsStep (record { chip = seen.chip; places = seen.places; aim = a; pair = seen.pair }) step) (sym aimed)
         (so_step d step (subst (λ p. IsSearchStep seen.chip d p step) (pair_again seen)
         (search_step seen.chip is.rank d (flat_chip d e) (guide.pair_of (guide_seen seen)) guide_is.support
         (subst (IsGuidedTo seen.chip guide_is) e is.guided_to).1

@@ -40,4 +40,4 @@ pub record IsBench (core : Chip) (aim : Option ChipDefect) (chip : Chip) (lists 
 
 -- what a search is told
 abbrev pub judged_of : Seen → Judged
-judged_of seen = record { chip = seen.chip; aim = seen.aim; pair = seen.pair }
+judged_of seen = record { chip = seen.chip; places = seen.places; aim = seen.aim; pair = seen.pair }
