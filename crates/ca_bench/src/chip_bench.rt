@@ -76,7 +76,8 @@ impl<'a, L: Linked, C: LinkedChip, R: ExposableDefects, P: Choice + Drop> ChipBe
         requires chip { IsSearchable (L.core linked.now) (C.chip chip.now) (C.lists chip.now) }
         requires rows { R.chip rows.now ≡ L.core linked.now }
         requires outputs { outputs.items ≡ (L.core linked.now).outputs }
-        ensures { IfOk result (λ bench. IsTaskOf (L.core linked.now) (L.places linked.now) budget bench.task) }
+        ensures { IfOk result
+            (λ bench. IsTaskOf (L.core linked.now) (L.places linked.now) budget bench.task) }
     {
         if outputs.len() > u32::MAX as usize {
             return Err(NoMemory);
