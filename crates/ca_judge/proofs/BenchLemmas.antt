@@ -43,9 +43,12 @@ bench_kept old new chip lists rows_chip guided outputs defect keeps is =
 pub judged_kept : (old new : Simulator) (pair : List Trit) → new.seen.pair ≡ pair → KeepsAim old new
     → judged_of new.seen ≡ with_pair (judged_of old.seen) pair
 judged_kept old new pair is keeps =
-    ap (λ c. record { chip = c; places = new.seen.places; aim = new.seen.aim; pair = new.seen.pair }) keeps.chip.chip
-    ∙ ap (λ l. record { chip = old.seen.chip; places = l; aim = new.seen.aim; pair = new.seen.pair }) keeps.chip.places
-    ∙ ap (λ a. record { chip = old.seen.chip; places = old.seen.places; aim = a; pair = new.seen.pair }) keeps.aim
+    ap (λ c. record { chip = c; places = new.seen.places; aim = new.seen.aim; pair = new.seen.pair })
+    keeps.chip.chip
+    ∙ ap (λ at. record { chip = old.seen.chip; places = at; aim = new.seen.aim; pair = new.seen.pair })
+    keeps.chip.places
+    ∙ ap (λ a. record { chip = old.seen.chip; places = old.seen.places; aim = a; pair = new.seen.pair })
+    keeps.aim
     ∙ ap (λ p. record { chip = old.seen.chip; places = old.seen.places; aim = old.seen.aim; pair = p }) is
 
 -- what the guide asks for a step

@@ -1,0 +1,41 @@
+-- What contracts see of the bench of a chip, and what it keeps.
+use Rattle.std.specs.Prelude.{ℕ, ◌^◌, ◌≡◌, ◌<◌, List, length, Option, None, Some}
+use Rattle.std.specs.List.{All}
+use Rattle.ca_net.specs.declared.trit.Trit.{Trit}
+use Rattle.ca_net.specs.Circuit.{IsWellFormed}
+use Rattle.ca_flat.specs.declared.chip_defect.ChipDefect.{ChipDefect}
+use Rattle.ca_flat.specs.declared.token.Token.{Token}
+use Rattle.ca_flat.specs.Chip.{Chip, IsChip, IsDefectIn, IsChipDefect}
+use Rattle.ca_flat.specs.Flat.{flat}
+use Rattle.ca_sim.specs.Linked.{IsPlacedDefect, place_in}
+use Rattle.ca_credit.specs.Defects.{Task}
+use Rattle.ca_chip_defects.specs.ChipDefects.{chip_defects, placed_instances}
+
+-- what is to be done, the bits that are set, the defect that is aimed at, and the code of the last search
+pub record Benched : Type 0 where
+  pub task : Task
+  pub bits : List Trit
+  pub aimed : Option ChipDefect
+  pub code : List Token
+
+-- what is to be done is to search, with at most so many branches, for each defect of an instance that has a
+-- place in the order
+pub record IsTaskOf (chip : Chip) (places : List ℕ) (budget : ℕ) (task : Task) : Type 0 where
+  pub chip_is : task.chip ≡ chip
+  pub defects_are : task.defects ≡ chip_defects chip (placed_instances chip places)
+  pub budget_is : task.budget ≡ budget
+
+-- The chip's flat networks are networks, the listed defects may be aimed at, the nets are those of the
+-- observed outputs, the rows are the chip's, and what is aimed at is a defect of it.
+pub record IsChipBench (chip : Chip) (places : List ℕ) (aim : Option ChipDefect) (rows_chip : Chip)
+    (defects : List ChipDefect) (outputs : List ℕ) (defect : Option ChipDefect) : Type 0 where
+  pub rank : ℕ → ℕ
+  pub chip_is : IsChip chip rank
+  pub good_is : IsWellFormed (flat chip None)
+  pub faulty_are : (one : ChipDefect) → IsDefectIn chip one → IsWellFormed (flat chip (Some one))
+  pub placed : All (IsPlacedDefect chip (place_in places)) defects
+  pub outputs_are : outputs ≡ chip.outputs
+  pub few : length outputs < 2 ^ 32
+  pub rows_are : rows_chip ≡ chip
+  pub aim_is : aim ≡ defect
+  pub aimed : IsChipDefect chip defect
