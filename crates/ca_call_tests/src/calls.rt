@@ -1,13 +1,33 @@
 //! What the calls of linked chips tell.
 
 use crate::described::described;
-use crate::texts::{CHIPS, LIBRARY, SCAN};
+use crate::texts::{CHIPS, LIBRARY};
+use ca_chip::{ScanRow, ScanTable};
 use ca_lex::Text;
 use ca_link::link;
-use ca_scan::read_table;
 use ca_spice::read_library;
 use ca_verilog::read_netlist;
 use std::alloc::Global;
+
+// A text of these bytes.
+fn text(alloc: Global, bytes: &[u8]) -> Option<Text> {
+    Text::from_bytes(alloc, bytes).ok()
+}
+
+// A scan cell with an inverted output.
+fn scan_cell(alloc: Global) -> Option<ScanRow> {
+    Some(ScanRow {
+        cell: text(alloc, b"SFF")?,
+        d: text(alloc, b"D")?,
+        q: text(alloc, b"Q")?,
+        qn: text(alloc, b"QN")?,
+        si: text(alloc, b"SI")?,
+        so: text(alloc, b"SO")?,
+        se: text(alloc, b"SE")?,
+        ck: text(alloc, b"CK")?,
+        hold: text(alloc, b"HOLD")?,
+    })
+}
 
 // What is told of the chip of a netlist, if it links.
 fn told(alloc: Global, netlist: &[u8]) -> Option<Text> {
@@ -17,7 +37,11 @@ fn told(alloc: Global, netlist: &[u8]) -> Option<Text> {
     let Ok(raw) = read_netlist(alloc, netlist) else {
         return None;
     };
-    let Ok(scan) = read_table(alloc, SCAN) else {
+    let Some(row) = scan_cell(alloc) else {
+        return None;
+    };
+    let mut scan = ScanTable::new(alloc);
+    let Ok(()) = scan.push(row) else {
         return None;
     };
     match link(alloc, &raw, library, &scan) {

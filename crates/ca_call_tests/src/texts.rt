@@ -23,11 +23,6 @@ MN2 S CI VSS VSS nch W=1u L=0.1u
 .ENDS
 ";
 
-/// A scan cell.
-pub(crate) const SCAN: &[u8] = b"cell,d,q,qn,si,so,se,ck,hold
-SFF,D,Q,QN,SI,SO,SE,CK,HOLD
-";
-
 /// A multiplexer with a hazard.
 const GLITCH: &[u8] = b"module glitch(a, s, d, z); input a, s, d; output z; wire sn, w1, w2, y;
 INV u1 (.A(s), .ZN(sn));
