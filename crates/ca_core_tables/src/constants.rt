@@ -51,6 +51,7 @@ fn fixed_by(chip: &Chip, numbers: &CoreNets, value: bool) -> Option<FixedNet>
     requires { AreCoreNumbers chip.now numbers.now }
     ensures { fixed_of result ≡ constant_on chip.now value (constant_net chip.now value) }
 {
+    chip.wired();
     match constant_net(chip, value) {
         Some(net) => {
             if chip.is_scan_path(NetId(net)) {

@@ -1,0 +1,2 @@
+pub mod Transistors
+pub mod Laws
