@@ -2,7 +2,7 @@
 use Rattle.std.proofs.Common.{ℕ, ◌≡◌, ◌⊎◌, inl, inr, refl, sym, subst, List, map, Option, Result, Ok, Err, IsErrAnd, IfErr}
 use Rattle.ca_store.specs.Store.{Files}
 use Rattle.ca_cell.specs.Library.{raw_of}
-use Rattle.ca_transistors.specs.Transistors.{HaveTransistors}
+use Rattle.ca_flatten.specs.Transistors.{HaveTransistors}
 use Rattle.ca_wired.specs.Linked.{Chip}
 use Rattle.ca_fault.specs.declared.fault.Fault.{Fault}
 use Rattle.ca_fault.specs.declared.fault.Fault.TheVariants.{NoMemory}

@@ -1,7 +1,7 @@
 //! The library in the file of a cell netlist.
 ghost use Rattle.std.specs.Prelude.{◌≡◌, Some, map, IfErr, IfOk, OnOk};
 ghost use Rattle.ca_cell.specs.Library.{raw_of};
-ghost use Rattle.ca_transistors.specs.Transistors.{HaveTransistors};
+ghost use Rattle.ca_flatten.specs.Transistors.{HaveTransistors};
 ghost use Rattle.ca_store.specs.Store.{Nothing};
 ghost use Rattle.ca_load.specs.Files.{OfFile, TellsStoreFault};
 ghost use Rattle.ca_load.specs.Texts.{IsLibraryOf};

@@ -9,7 +9,7 @@ use Rattle.ca_cell.specs.declared.raw.RawDevice.{RawDevice}
 use Rattle.ca_spice.specs.Names.{is_name}
 use Rattle.ca_spice.specs.Mos.{Wiring, Sizes, are_sound, kind_of, wiring_with, wiring_of, strength_of}
 use Rattle.ca_spice.specs.OpenCell.{device_of}
-use Rattle.ca_transistors.specs.Transistors.{IsTransistor}
+use Rattle.ca_flatten.specs.Transistors.{IsTransistor}
 
 -- the device is a transistor
 abbrev pub IsOwnTransistor : RawDevice → Type 0

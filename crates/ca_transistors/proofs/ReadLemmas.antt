@@ -27,7 +27,7 @@ use Rattle.ca_spice.specs.Views.{subcircuit_seen}
 use Rattle.ca_spice.proofs.SpelledLemmas.{all_append}
 use Rattle.ca_spice.proofs.CardLemmas.{kept_rule, kept_value, mos_found}
 use Rattle.ca_spice.proofs.WritableLemmas.{first_step}
-use Rattle.ca_transistors.specs.Transistors.{HaveTransistors}
+use Rattle.ca_flatten.specs.Transistors.{HaveTransistors}
 use Rattle.ca_transistors.proofs.DeviceLemmas.{IsOwnTransistor, card_transistor}
 
 -- the types of subcircuits, pins and cards, which the reader keeps to itself

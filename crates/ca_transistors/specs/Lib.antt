@@ -1,2 +1,1 @@
-pub mod Transistors
 pub mod Laws
