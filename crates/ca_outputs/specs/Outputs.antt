@@ -25,11 +25,12 @@ port_outputs chip port =
 abbrev pub pin_name : Part → List ℕ
 pin_name part = part.name ++ 47 ∷ part.data
 
--- the output at the data pin of a scan instance; a library instance has none
+-- the output of this name at the data pin of a scan instance; a library instance has none
 abbrev pub pin_outputs : List ℕ → Body → List Output
 pin_outputs name (Gate cell inputs outputs) = []
 pin_outputs name (Scan nets) = record { name = name; net = nets.d } ∷ []
 
+-- the output that an instance has at its data pin, if it has one
 abbrev pub part_outputs : Part → List Output
 part_outputs part = pin_outputs (pin_name part) part.body
 
@@ -45,15 +46,10 @@ observed_pins chip = flat_map part_outputs chip.parts
 abbrev pub named_outputs : Chip → List Output
 named_outputs chip = observed_ports chip ++ observed_pins chip
 
--- their names
+-- the names of outputs
 abbrev pub names_of : List Output → List (List ℕ)
 names_of outputs = map (λ output. output.name) outputs
 
-abbrev pub port_names : Chip → PortBit → List (List ℕ)
-port_names chip port = names_of (port_outputs chip port)
-
-abbrev pub part_names : Part → List (List ℕ)
-part_names part = names_of (part_outputs part)
-
+-- the names of the observed outputs, in their order
 abbrev pub output_names : Chip → List (List ℕ)
 output_names chip = names_of (named_outputs chip)

@@ -2,7 +2,8 @@
 
 ghost use Rattle.std.specs.Prelude.{◌≡◌, ◌<◌, ◌++◌, length, slice_get, IsSomeAnd, IfOk, OnOk};
 ghost use Rattle.ca_wired.specs.Linked.{outputs_of};
-ghost use Rattle.ca_outputs.specs.Outputs.{is_observed, observed_ports, names_of, port_names, part_names, pin_name, output_names};
+ghost use Rattle.ca_outputs.specs.Outputs.{is_observed, observed_ports, names_of, pin_name, output_names};
+ghost use Rattle.ca_outputs.specs.Kept.{port_names, part_names};
 
 use ca_base::NoMemory;
 use ca_lex::{Names, Text};
