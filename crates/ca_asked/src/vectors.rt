@@ -1,6 +1,6 @@
 //! The words that stand for vectors.
 
-ghost use Rattle.std.specs.Prelude.{◌≡◌, IfErr, IfOk, OnOk};
+ghost use Rattle.std.specs.Prelude.{◌≡◌, ◌↔◌, IsTrue, IfErr, IfOk, OnOk};
 ghost use Rattle.ca_asked.specs.Vectors.{letters_of, trit_of};
 ghost use Rattle.ca_asked.specs.Asked.{FitsInputs, IsVectorsStage};
 
@@ -41,8 +41,7 @@ pub struct Vectors<'a> {
 
 // Whether a vector has one letter for each chip input.
 fn fits(chip: &Chip, vector: &str) -> bool
-    ensures yes { result ≡ true → FitsInputs chip.now vector.now }
-    ensures no { result ≡ false → ¬ (FitsInputs chip.now vector.now) }
+    ensures { IsTrue result ↔ FitsInputs chip.now vector.now }
 {
     letters_of(vector).len() == chip.inputs()
 }

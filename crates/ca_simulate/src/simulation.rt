@@ -39,7 +39,7 @@ pub fn simulate(
     requires first { length vectors.first.now ≡ length (inputs_of chip.now) }
     requires last { length vectors.last.now ≡ length (inputs_of chip.now) }
     ensures { IfOk result (λ ends. AreSimulated (core_of chip.now) defect
-        (pair_of vectors.first.now vectors.last.now) ends.good.items ends.faulty.items) }
+        (pair_of vectors.entry.first.now vectors.entry.last.now) ends.good.items ends.faulty.items) }
 {
     judge_size(alloc, chip)?;
     chip.wired();

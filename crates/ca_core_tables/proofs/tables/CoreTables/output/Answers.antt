@@ -13,7 +13,7 @@ pub get-requires : goal.get-requires
 get-requires c =
     let chip = c.self.inside.chip.now in
     let off = outputs_outside chip c.self.invariant.wired c.output.result.0
-        (contained_at (outputs_of chip) c.args.o c.output.result.0 c.output.ensures) in
+    (contained_at (outputs_of chip) c.args.o c.output.result.0 c.output.ensures) in
     let within = off.0 in
     let room = c.self.invariant.numbered.room in
     omega arith
@@ -22,7 +22,7 @@ pub returns-clause-net : goal.returns-clause-net
 returns-clause-net c =
     let chip = c.self.inside.chip.now in
     let off = outputs_outside chip c.self.invariant.wired c.output.result.0
-        (contained_at (outputs_of chip) c.args.o c.output.result.0 c.output.ensures) in
+    (contained_at (outputs_of chip) c.args.o c.output.result.0 c.output.ensures) in
     c.get.ensures ∙ c.self.invariant.numbered.each c.output.result.0 off.0
     ∙ sym (get_or-map (core_net chip) (outputs_of chip) c.args.o 0 0 (slice_get_within (outputs_of chip) c.args.o c.output.result.0 c.output.ensures)
     ∙ ap (core_net chip) (get_or_from_slice_get (outputs_of chip) c.args.o c.output.result.0 0 c.output.ensures))
@@ -32,7 +32,7 @@ pub returns-clause-within : goal.returns-clause-within
 returns-clause-within c =
     let chip = c.self.inside.chip.now in
     let off = outputs_outside chip c.self.invariant.wired c.output.result.0
-        (contained_at (outputs_of chip) c.args.o c.output.result.0 c.output.ensures) in
+    (contained_at (outputs_of chip) c.args.o c.output.result.0 c.output.ensures) in
     subst (λ (t : Tables). c.get.result < length (core_of t.chip).nets) c.self.view_is
     (subst (λ n. n < length (core_of chip).nets) (sym (c.get.ensures ∙ c.self.invariant.numbered.each c.output.result.0 off.0))
     (number_within chip c.self.invariant.wired c.output.result.0 off.0 off.1))

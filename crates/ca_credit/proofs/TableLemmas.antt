@@ -1,0 +1,142 @@
+-- The table of verdicts: what is known, and what a pair makes of it.
+use Rattle.std.proofs.Common.{◌≡◌, ℕ, zero, suc, ◌+◌, ◌<◌, List, [], ◌∷◌, length, Bool, true, inl, refl, sym, ◌∙◌, ap, subst, arith, Some, None, Option, get_or, get_or-set_same, get_or-set_other}
+use native.Mathlib.Decide.{ℕ_discrete}
+use Rattle.std.proofs.lemmas.List.{length-set}
+use Rattle.std.specs.Prelude.{slice_get, slice_set}
+use Rattle.ca_base.specs.First.{IsFirst}
+use Rattle.ca_net.specs.declared.trit.Trit.{Trit}
+use Rattle.ca_flat.specs.declared.chip_defect.ChipDefect.{ChipDefect}
+use Rattle.ca_flat.specs.Chip.{Chip}
+use Rattle.ca_flat.specs.Pair.{DetectsAt}
+use Rattle.ca_credit.specs.declared.verdict.Verdict.{Verdict}
+use Rattle.ca_credit.specs.declared.verdict.Verdict.TheVariants.{Credited, Unexposable, Untestable, Aborted}
+use Rattle.ca_credit.specs.Defects.{Task, IsDefectAt}
+use Rattle.ca_search.specs.Filled.{trits_of}
+use Rattle.ca_credit.specs.Detection.{IsFirstOutput}
+use Rattle.ca_credit.specs.Table.{known_verdicts, AreAllKnown, verdict_at, is_open, credit_count, IsCredit, IsCreditOrKept, IsAfterPair, CreditsUpTo, CreditsOne}
+use Rattle.ca_credit.proofs.DetectionLemmas.{shown_by_first, get_or-other}
+
+-- what is known at a place is what stands there
+pub known_at : (table : List (Option Verdict)) (k : ℕ) → AreAllKnown table → slice_get (known_verdicts table) k ≡ verdict_at table k
+known_at [] k known = refl
+known_at (None ∷ table) k known = absurd known
+known_at (Some verdict ∷ table) zero known = refl
+known_at (Some verdict ∷ table) (suc k) known = known_at table k known
+
+pub length-known : (table : List (Option Verdict)) → AreAllKnown table → length (known_verdicts table) ≡ length table
+length-known [] known = refl
+length-known (None ∷ table) known = absurd known
+length-known (Some verdict ∷ table) known = ap suc (length-known table known)
+
+-- where each place has a verdict, all are known
+pub all_known : (table : List (Option Verdict)) → ((k : ℕ) → k < length table → verdict_at table k ≡ None → ⊥) → AreAllKnown table
+all_known [] each = tt
+all_known (None ∷ table) each = absurd (each zero (omega arith) refl)
+all_known (Some verdict ∷ table) each = all_known table (λ k lt none. each (suc k) (omega arith) none)
+
+-- a credit in place of an open verdict is one more
+pub credit_count-set : (table : List (Option Verdict)) (k pair output : ℕ) → k < length table → is_open (verdict_at table k) ≡ true
+    → credit_count (slice_set table k (Some (Credited pair output))) ≡ credit_count table + 1
+credit_count-set [] k pair output within may = absurd (omega arith)
+credit_count-set (None ∷ table) zero pair output within may = refl
+credit_count-set (Some (Credited p o) ∷ table) zero pair output within may = cc
+credit_count-set (Some Unexposable ∷ table) zero pair output within may = cc
+credit_count-set (Some Untestable ∷ table) zero pair output within may = cc
+credit_count-set (Some (Aborted code) ∷ table) zero pair output within may = refl
+credit_count-set (None ∷ table) (suc k) pair output within may = credit_count-set table k pair output (omega arith) may
+credit_count-set (Some (Credited p o) ∷ table) (suc k) pair output within may = omega (arith, credit_count-set table k pair output (omega arith) may)
+credit_count-set (Some Unexposable ∷ table) (suc k) pair output within may = credit_count-set table k pair output (omega arith) may
+credit_count-set (Some Untestable ∷ table) (suc k) pair output within may = credit_count-set table k pair output (omega arith) may
+credit_count-set (Some (Aborted code) ∷ table) (suc k) pair output within may = credit_count-set table k pair output (omega arith) may
+
+-- what a pair makes of an open verdict
+pub of_open : (chip : Chip) (pair : List Bool) (number : ℕ) (defect : ChipDefect) (old new : Option Verdict) → is_open old ≡ true
+    → IsCreditOrKept chip pair number defect old new → IsAfterPair chip pair number defect old new
+of_open chip pair number defect None new may is = is
+of_open chip pair number defect (Some (Credited p o)) new may is = cc
+of_open chip pair number defect (Some Unexposable) new may is = cc
+of_open chip pair number defect (Some Untestable) new may is = cc
+of_open chip pair number defect (Some (Aborted code)) new may is = is
+
+-- the defect at a place is one
+pub same_defect : (task : Task) (place : ℕ) (defect other : ChipDefect) → IsDefectAt task place defect
+    → IsDefectAt task place other → defect ≡ other
+same_defect task place defect other is also = let e : Some defect ≡ Some other = sym is ∙ also in cc
+
+-- the verdict that was written, and the others
+pub verdict_at-set : (table : List (Option Verdict)) (place : ℕ) (new : Option Verdict) → place < length table
+    → verdict_at (slice_set table place new) place ≡ new
+verdict_at-set table place new within = get_or-set_same table place new None within
+
+pub verdict_at-other : (table : List (Option Verdict)) (place other : ℕ) (new : Option Verdict) → (other ≡ place → ⊥)
+    → verdict_at (slice_set table place new) other ≡ verdict_at table other
+verdict_at-other table place other new differ = get_or-set_other table place other new None differ
+
+-- a pair that detects the defect at a place is credited with it
+pub credits_here : (task same : Task) (pair : List Bool) (bits : List Trit) (number place output : ℕ)
+    (defect : ChipDefect) (table : List (Option Verdict)) → same ≡ task → bits ≡ trits_of pair
+    → place < length table → is_open (verdict_at table place) ≡ true → IsDefectAt task place defect
+    → IsFirst (DetectsAt same.chip defect bits) same.chip.outputs output
+    → CreditsOne task pair number place true table (slice_set table place (Some (Credited number output)))
+credits_here task same pair bits number place output defect table same_is bits_are within may is_defect first =
+    let new = slice_set table place (Some (Credited number output)) in
+    let here : IsFirstOutput task.chip defect output pair =
+    subst (λ (x : Task). IsFirst (DetectsAt x.chip defect (trits_of pair)) x.chip.outputs output) same_is
+    (subst (λ (b : List Trit). IsFirst (DetectsAt same.chip defect b) same.chip.outputs output) bits_are first) in
+    record {
+      as_many = length-set table place (Some (Credited number output));
+      here = λ other is. of_open task.chip pair number other _ _ may
+          (inl (let e : defect ≡ other = same_defect task place defect other is_defect is in
+          subst (λ (d : ChipDefect). IsCredit task.chip pair number d (verdict_at new place)) e (record {
+            detects = shown_by_first task.chip defect (trits_of pair) output here;
+            output = output;
+            first = here;
+            credited = verdict_at-set table place (Some (Credited number output)) within;
+          })));
+      others = λ other differ. verdict_at-other table place other _ differ;
+      counted = credit_count-set table place number output within may;
+    }
+
+-- within a list there is an entry
+pub some_within : {T : Type 0} (xs : List T) (k : ℕ) → k < length xs → (x : T) × (slice_get xs k ≡ Some x)
+some_within [] k within = absurd (omega arith)
+some_within (x ∷ xs) zero within = (x, refl)
+some_within (x ∷ xs) (suc k) within = some_within xs k (omega arith)
+
+-- of a table that is known, seen as its verdicts: a place of them is one of the table, where a verdict stands
+pub known_within : (table : List (Option Verdict)) (verdicts : List Verdict) (k : ℕ) → AreAllKnown table → known_verdicts table ≡ verdicts
+    → k < length verdicts → k < length table
+known_within table verdicts k known is within = let l = length-known table known in let m = ap length is in omega arith
+
+pub known_there : (table : List (Option Verdict)) (verdicts : List Verdict) (k : ℕ) (d : Option Verdict) (verdict : Verdict) → AreAllKnown table
+    → known_verdicts table ≡ verdicts → k < length verdicts → get_or table k d ≡ Some verdict → slice_get verdicts k ≡ Some verdict
+known_there table verdicts k d verdict known is within there =
+    ap (λ (v : List Verdict). slice_get v k) (sym is) ∙ known_at table k known
+    ∙ get_or-other table k None d (known_within table verdicts k known is within) ∙ there
+
+pub not_unknown : (table : List (Option Verdict)) (verdicts : List Verdict) (k : ℕ) (d : Option Verdict) → AreAllKnown table
+    → known_verdicts table ≡ verdicts → k < length verdicts → get_or table k d ≡ None → ⊥
+not_unknown table verdicts k d known is within none =
+    let here : slice_get verdicts k ≡ None =
+    ap (λ (v : List Verdict). slice_get v k) (sym is) ∙ known_at table k known
+    ∙ get_or-other table k None d (known_within table verdicts k known is within) ∙ none in
+    let some : (v : Verdict) × (slice_get verdicts k ≡ Some v) = some_within verdicts k within in
+    cc
+
+-- what one more defect's turn makes of the table
+pub credits_more : (task same : Task) (pair : List Bool) (number count : ℕ) (given : Bool)
+    (old middle new : List (Option Verdict)) → same ≡ task → CreditsUpTo task pair number count old middle
+    → CreditsOne same pair number count given middle new → CreditsUpTo task pair number (count + 1) old new
+credits_more task same pair number count given old middle new same_is before one_of =
+    let one = subst (λ (x : Task). CreditsOne x pair number count given middle new) same_is one_of in
+    record {
+      as_many = one.as_many ∙ before.as_many;
+      each = λ place defect below is. elim (ℕ_discrete place count) [
+        | yes e ↦ subst (λ (k : ℕ). IsAfterPair task.chip pair number defect (verdict_at old k) (verdict_at new k)) (sym e)
+            (subst (λ (v : Option Verdict). IsAfterPair task.chip pair number defect v (verdict_at new count)) (before.others count (omega arith))
+            (one.here defect (subst (λ (k : ℕ). IsDefectAt task k defect) e is)))
+        | no differ ↦ subst (λ (v : Option Verdict). IsAfterPair task.chip pair number defect (verdict_at old place) v) (sym (one.others place differ))
+            (before.each place defect (let far : ¬ (place ≡ count) = differ in omega arith) is)
+      ];
+      others = λ place from. one.others place (λ e. absurd (omega arith)) ∙ before.others place (omega arith);
+    }

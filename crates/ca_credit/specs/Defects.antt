@@ -1,0 +1,26 @@
+-- What is to be done with the defects of a chip.
+use Rattle.std.specs.Prelude.{ℕ, ◌≡◌, Some, List, slice_get}
+use Rattle.ca_defect.specs.Exposes.{IsExposable}
+use Rattle.ca_flat.specs.declared.chip_defect.ChipDefect.{ChipDefect}
+use Rattle.ca_flat.specs.Chip.{Chip, cell_at}
+use Rattle.ca_flat.specs.Waves.{IsFlatChip}
+
+-- what is to be done: for each of these defects of the chip it is searched with at most so many branches
+pub record Task : Type 0 where
+  pub chip : Chip
+  pub defects : List ChipDefect
+  pub budget : ℕ
+
+-- the defect stands at this place of the list
+abbrev pub IsDefectAt : Task → ℕ → ChipDefect → Type 0
+IsDefectAt task place defect = slice_get task.defects place ≡ Some defect
+
+-- some pair of definite vectors exposes the defect in its cell
+abbrev pub IsExposableIn : Chip → ChipDefect → Type 0
+IsExposableIn chip defect = IsExposable (cell_at chip defect.instance) defect.defect
+
+-- the chip's drivers have lower ranks, the defect is one of the chip's, and the good and the faulty flat
+-- network are networks
+pub record IsSearchable (chip : Chip) (defect : ChipDefect) : Type 0 where
+  pub rank : ℕ → ℕ
+  pub is_flat : IsFlatChip chip rank defect

@@ -1,0 +1,140 @@
+//! The table of credits.
+
+ghost use Rattle.std.specs.Prelude.{◌≡◌, ◌↔◌, ◌<◌, ◌≤◌, ◌^◌, ◌+◌, length, slice_set, replicate};
+ghost use Rattle.std.specs.Prelude.{true, None, Some, IfOk, IsTrue};
+ghost use Rattle.ca_flat.specs.Pair.{bit_count};
+ghost use Rattle.ca_search.specs.Filled.{trits_of};
+ghost use Rattle.ca_credit.specs.Table.{known_verdicts, AreAllKnown, verdict_at, is_open, IsSettling};
+ghost use Rattle.ca_credit.specs.Table.{CreditsPair, CreditsOne, credit_count};
+
+use crate::credit::detecting_output;
+use crate::simulator::Simulator;
+use crate::verdict::Verdict;
+use crate::verdicts::Verdicts;
+use ca_base::NoMemory;
+use ca_pair::Pair;
+use std::alloc::Global;
+use std::marker::Model;
+
+/// A verdict for each defect of a chip, or none yet.
+#[derive(Drop, Debug)]
+pub struct Credits {
+    verdicts: Vec<Option<Verdict>>,
+}
+
+impl Model for Credits {
+    ghost use Rattle.std.specs.Prelude.{List, Option};
+    ghost use Rattle.ca_credit.specs.declared.verdict.Verdict.{Verdict};
+
+    ghost Value = { List (Option Verdict) };
+
+    ghost view = { λ credits. credits.verdicts.items };
+}
+
+impl Credits {
+    /// The table of so many defects, of which none has a verdict.
+    pub fn reserve(alloc: Global, count: usize) -> Result<Self, NoMemory>
+        ensures { IfOk result (λ credits. credits ≡ replicate count None) }
+    {
+        let mut verdicts = Vec::with_capacity(alloc, count)?;
+        for _ in 0..count {
+            verdicts.push_reserved(None);
+        }
+        Ok(Credits { verdicts })
+    }
+
+    /// Whether the defect has no verdict yet.
+    pub fn is_waiting(&self, place: usize) -> bool
+        requires { place < length self.now }
+        ensures { IsTrue result ↔ (verdict_at self.now place ≡ None) }
+    {
+        self.verdicts[place].is_none()
+    }
+
+    // Whether a pair may yet be credited with the defect.
+    fn is_open(&self, place: usize) -> bool
+        requires { place < length self.now }
+        ensures { result ≡ is_open (verdict_at self.now place) }
+    {
+        match &self.verdicts[place] {
+            None | Some(Verdict::Aborted { .. }) => true,
+            Some(Verdict::Credited { .. } | Verdict::Unexposable | Verdict::Untestable) => false,
+        }
+    }
+
+    /// Gives a defect that has no credit a verdict that isn't one.
+    pub fn settle(&mut self, place: usize, verdict: Verdict)
+        requires within { place < length self.old }
+        requires uncredited { is_open (verdict_at self.old place) ≡ true }
+        requires settling { IsSettling verdict }
+
+        ensures { self.new ≡ slice_set self.old place (Some verdict) }
+    {
+        self.verdicts[place] = Some(verdict);
+    }
+
+    /// Credits the pair, with its number, with each defect that it detects and that has no verdict yet or an
+    /// aborted search. Answers how many these are. The simulator has the bits of the pair afterwards, and is
+    /// aimed at no defect.
+    pub fn credit_pair<S: Simulator>(&mut self, sim: &mut S, pair: &Pair, number: u32) -> u32
+        requires same { length self.old ≡ length (S.task sim.old).defects }
+        requires few { length self.old < 2 ^ 32 }
+        requires bits { length pair.now ≡ bit_count (S.task sim.old).chip }
+
+        ensures credited { CreditsPair (S.task sim.old) pair.now number self.old self.new }
+        ensures counted { credit_count self.new ≡ credit_count self.old + result }
+        ensures task { S.task sim.new ≡ S.task sim.old }
+        ensures bits { S.bits sim.new ≡ trits_of pair.now }
+        ensures aimed { S.aimed sim.new ≡ None }
+    {
+        sim.load(pair);
+        let mut credited = 0;
+        for place in 0..self.verdicts.len() {
+            if self.credit_one(sim, pair, number, place) {
+                credited += 1;
+            }
+        }
+        sim.aim_at_none();
+        credited
+    }
+
+    // Credits the pair in hand with the defect at a place, if it is open and the pair detects it.
+    fn credit_one<S: Simulator>(
+        &mut self,
+        sim: &mut S,
+        pair: &Pair,
+        number: u32,
+        place: usize,
+    ) -> bool
+        requires within { place < length self.old }
+        requires same { length self.old ≡ length (S.task sim.old).defects }
+        requires bits { S.bits sim.old ≡ trits_of pair.now }
+
+        ensures credited { CreditsOne (S.task sim.old) pair.now number place result self.old self.new }
+        ensures task { S.task sim.new ≡ S.task sim.old }
+        ensures bits { S.bits sim.new ≡ trits_of pair.now }
+    {
+        if !self.is_open(place) {
+            return false;
+        }
+        sim.aim(place);
+        match detecting_output(sim) {
+            Some(output) => {
+                self.verdicts[place] = Some(Verdict::Credited {
+                    pair: number,
+                    output,
+                });
+                true
+            }
+            None => false,
+        }
+    }
+
+    /// The verdicts in order.
+    pub fn verdicts(self) -> Verdicts
+        requires { AreAllKnown self }
+        ensures { result ≡ known_verdicts self }
+    {
+        Verdicts::of(self.verdicts)
+    }
+}

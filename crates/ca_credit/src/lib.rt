@@ -1,0 +1,15 @@
+//! Which pair detects which defect: verdicts, and the table in which they are gathered.
+#![tactic(auto)]
+
+mod credit;
+mod credits;
+mod laws;
+mod simulator;
+mod verdict;
+mod verdicts;
+
+pub use credits::Credits;
+pub use laws::{ample_is_never_aborted, pattern_bits_are_never_aborted, unexposable_is_undetected};
+pub use simulator::Simulator;
+pub use verdict::Verdict;
+pub use verdicts::Verdicts;

@@ -1,0 +1,66 @@
+//! What credits ask of the simulator of a chip.
+
+use ca_net::Trit;
+use ca_pair::Pair;
+
+/// A chip with the list of its defects, the pattern bits that are set, the defect that is aimed at, and what
+/// every run of the flat network ends with.
+pub trait Simulator {
+    ghost use Rattle.std.specs.Prelude.{◌≡◌, ◌<◌, List, Option, None, length, slice_get, slice_index};
+    ghost use Rattle.ca_net.specs.declared.trit.Trit.{Trit};
+    ghost use Rattle.ca_flat.specs.declared.chip_defect.ChipDefect.{ChipDefect};
+    ghost use Rattle.ca_flat.specs.Pair.{bit_count};
+    ghost use Rattle.ca_credit.specs.Defects.{Task};
+    ghost use Rattle.ca_search.specs.Filled.{trits_of};
+    ghost use Rattle.ca_credit.specs.Detection.{IsNetEnd};
+
+    /// The chip, the list of its defects, and how many branches each search may have.
+    ghost task: { Self → Task };
+
+    /// The pattern bits, X where one is unset.
+    ghost bits: { Self → List Trit };
+
+    /// The defect that is aimed at.
+    ghost aimed: { Self → Option ChipDefect };
+
+    /// The number of the chip's defects.
+    fn defect_count(&self) -> usize
+        ensures { result ≡ length (task self.now).defects };
+
+    /// The number of observed outputs.
+    fn output_count(&self) -> u32
+        ensures { result ≡ length (task self.now).chip.outputs };
+
+    /// Sets all bits. The aim stays.
+    fn load(&mut self, pair: &Pair)
+        requires { length pair.now ≡ bit_count (task self.old).chip }
+
+        ensures task { task self.new ≡ task self.old }
+        ensures bits { bits self.new ≡ trits_of pair.now };
+
+    /// Aims at the defect at this place of the list. The bits stay.
+    fn aim(&mut self, place: usize)
+        requires { place < length (task self.old).defects }
+
+        ensures aimed { aimed self.new ≡ slice_get (task self.old).defects place }
+        ensures task { task self.new ≡ task self.old }
+        ensures bits { bits self.new ≡ bits self.old };
+
+    /// Aims at no defect. The bits stay.
+    fn aim_at_none(&mut self)
+        ensures aimed { aimed self.new ≡ None }
+        ensures task { task self.new ≡ task self.old }
+        ensures bits { bits self.new ≡ bits self.old };
+
+    /// What the good chip ends with at an observed output, X where runs differ.
+    fn good_end(&self, output: u32) -> Trit
+        requires { output < length (task self.now).chip.outputs }
+        ensures { IsNetEnd (task self.now).chip None (bits self.now)
+            (slice_index (task self.now).chip.outputs output) result };
+
+    /// What the chip with the defect that is aimed at ends with at an observed output, X where runs differ.
+    fn faulty_end(&self, output: u32) -> Trit
+        requires { output < length (task self.now).chip.outputs }
+        ensures { IsNetEnd (task self.now).chip (aimed self.now) (bits self.now)
+            (slice_index (task self.now).chip.outputs output) result };
+}

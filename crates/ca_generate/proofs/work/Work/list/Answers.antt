@@ -1,0 +1,54 @@
+use Rattle.std.proofs.Common.{◌≡◌, ℕ, ◌+◌, ◌<◌, sym, ap, subst, arith, length, length-append, List, [], ◌∷◌, ◌++◌, Bool}
+use Rattle.std.proofs.lemmas.Option.{slice_get_within}
+use Rattle.ca_credit.specs.Listed.{AreAims}
+use Rattle.ca_credit.specs.Table.{CreditsPair}
+use Rattle.ca_generate.specs.declared.fault.TheConstants.{MOST_PAIRS}
+use Rattle.ca_generate.specs.Progress.{StandsAfter}
+use Rattle.ca_generate.proofs.FoundLemmas.{length-found}
+use Rattle.ca_generate.proofs.TurnLemmas.{aims_found, turn_found}
+use Rattle.ca_generate.proofs.work.Work.list.Goals as goal
+
+pub returns-then-number-eq-MOST_PAIRS-clause-cause :
+    goal.returns-then-number-eq-MOST_PAIRS-clause-cause
+returns-then-number-eq-MOST_PAIRS-clause-cause g c =
+    let task = g.B.Simulator.task c.args.bench.now in
+    let pairs = c.args.self.pairs in
+    let listed = c.in_ok-push.ensures.ok in
+    let grown = length-append pairs (c.args.pair ∷ []) in
+    let more : length c.push.new.self ≡ length (pairs ++ c.args.pair ∷ []) = ap length listed in
+    let found = aims_found task c.args.place c.args.self.credits pairs c.args.self.aims c.args.pair
+    c.requires.stands c.requires.waiting c.requires.found in (
+      omega arith,
+      subst (λ (list : List (List Bool)). AreAims task list c.push-then-number-eq-MOST_PAIRS.new.self)
+          (sym listed)
+          (subst (AreAims task (pairs ++ c.args.pair ∷ [])) (sym c.in_ok-push-2.ensures.ok) found),
+    )
+
+pub credit_pair-requires-clause-bits : goal.credit_pair-requires-clause-bits
+credit_pair-requires-clause-bits g c =
+    length-found (g.B.Simulator.task c.args.bench.now) c.requires.found.defect c.args.pair
+    c.requires.found.found
+
+pub overflow_cast-place-2 : goal.overflow_cast-place-2
+overflow_cast-place-2 g c =
+    let within = slice_get_within (g.B.Simulator.task c.args.bench.now).defects c.args.place
+    c.requires.found.defect c.requires.found.is_defect in
+    let few = c.requires.few in
+    omega arith
+
+pub returns-clause-ok : goal.returns-clause-ok
+returns-clause-ok g c =
+    let task = g.B.Simulator.task c.args.bench.now in
+    let pairs = c.args.self.pairs in
+    let new = c.credit_pair.new.self in
+    let number : c.len-number.result ≡ length pairs = omega arith in
+    let few : length pairs < MOST_PAIRS =
+    (let le = c.requires.stands.within in let other = c.if-number-eq-MOST_PAIRS.false in omega arith) in
+    let turned = turn_found task c.args.place c.args.self.credits new pairs c.args.self.aims c.args.pair
+    c.requires.stands c.requires.waiting c.requires.found few
+    (subst (λ (n : ℕ). CreditsPair task c.args.pair n c.args.self.credits new) number
+    c.credit_pair.ensures.credited) in
+    subst (λ (list : List (List Bool)). StandsAfter task (c.args.place + 1) new list c.push-3.new.self)
+    (sym c.in_ok-push-3.ensures.ok)
+    (subst (StandsAfter task (c.args.place + 1) new (pairs ++ c.args.pair ∷ []))
+    (sym c.in_ok-push-4.ensures.ok) turned)

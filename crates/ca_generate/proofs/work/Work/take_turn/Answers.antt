@@ -1,0 +1,39 @@
+use Rattle.std.proofs.Common.{◌≡◌, ◌+◌, ◌∙◌, sym, subst, rules, List, None}
+use Rattle.ca_flat.specs.declared.token.Token.{Token}
+use Rattle.ca_credit.specs.Defects.{Task}
+use Rattle.ca_credit.specs.Table.{verdict_at}
+use Rattle.ca_credit.proofs.TableLemmas.{some_within}
+use Rattle.ca_search.specs.declared.trail.Outcome.TheVariants.{Exhausted, Spent}
+use Rattle.ca_generate.specs.Outcome.{IsSearch}
+use Rattle.ca_generate.specs.Progress.{StandsAfter}
+use Rattle.ca_generate.proofs.TurnLemmas.{turn_exhausted, turn_spent}
+use Rattle.ca_generate.proofs.work.Work.take_turn.Goals as goal
+
+pub returns-in-Exhausted-clause-ok : goal.returns-in-Exhausted-clause-ok
+returns-in-Exhausted-clause-ok g c =
+    let task = g.B.Simulator.task c.args.bench.now in
+    let listed = some_within task.defects c.args.place c.requires.within in
+    let waiting : verdict_at c.args.self.credits c.args.place ≡ None = search rules in
+    let search = subst (λ (t : Task). IsSearch t listed.0 (g.B.Bench.code c.find.new.self)
+    (g.B.Simulator.bits c.find.new.self) Exhausted) c.aim.ensures.task
+    (c.in-Exhausted.ensures.searched listed.0 (c.aim.ensures.aimed ∙ listed.1)) in
+    subst (λ table. StandsAfter task (c.args.place + 1) table c.args.self.pairs c.args.self.aims)
+    (sym c.settle.ensures)
+    (turn_exhausted task c.args.place c.args.self.credits c.args.self.pairs c.args.self.aims listed.0
+    (g.B.Bench.code c.find.new.self) c.requires.stands waiting listed.1 search.ends)
+
+pub returns-in_ok-code-in-Spent-clause-ok : goal.returns-in_ok-code-in-Spent-clause-ok
+returns-in_ok-code-in-Spent-clause-ok g c =
+    let task = g.B.Simulator.task c.args.bench.now in
+    let code = c.in_ok-code-in-Spent.code in
+    let listed = some_within task.defects c.args.place c.requires.within in
+    let waiting : verdict_at c.args.self.credits c.args.place ≡ None = search rules in
+    let search = subst (λ (tokens : List Token). IsSearch task listed.0 tokens
+    (g.B.Simulator.bits c.find.new.self) Spent) (sym c.in_ok-code-in-Spent.ensures)
+    (subst (λ (t : Task). IsSearch t listed.0 (g.B.Bench.code c.find.new.self)
+    (g.B.Simulator.bits c.find.new.self) Spent) c.aim.ensures.task
+    (c.in-Spent.ensures.searched listed.0 (c.aim.ensures.aimed ∙ listed.1))) in
+    subst (λ table. StandsAfter task (c.args.place + 1) table c.args.self.pairs c.args.self.aims)
+    (sym c.settle-in-Spent.ensures)
+    (turn_spent task c.args.place c.args.self.credits c.args.self.pairs c.args.self.aims listed.0 code
+    c.requires.stands waiting listed.1 search.ends.spent search.ends.checked)

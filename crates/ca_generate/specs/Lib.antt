@@ -1,0 +1,5 @@
+-- What the contracts of this crate say, in reading order.
+pub mod Outcome
+pub mod GenerateFault
+pub mod Laws
+pub mod Progress

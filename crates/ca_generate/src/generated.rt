@@ -1,0 +1,39 @@
+//! A verdict for each defect of a chip.
+
+ghost use Rattle.std.specs.Prelude.{◌<◌, ◌^◌, length, IfOk, IfErr};
+ghost use Rattle.ca_credit.specs.Good.{IsGood};
+ghost use Rattle.ca_generate.specs.GenerateFault.{IsCause};
+
+use crate::bench::Bench;
+use crate::fault::{Aims, GenerateFault};
+use crate::work::Work;
+use ca_credit::Verdicts;
+use ca_pair::Pairs;
+use std::alloc::Global;
+
+/// The listed pairs, for each the place of the defect for which it was found, and a verdict for each defect.
+#[derive(Drop)]
+pub struct Generated {
+    pub pairs: Pairs,
+    pub aims: Aims,
+    pub verdicts: Verdicts,
+}
+
+/// Searches for a pair for each defect that can be exposed and isn't credited to an earlier pair. Which bits
+/// are set afterwards, and which defect is aimed at, is open.
+pub fn generate<B: Bench>(alloc: Global, bench: &mut B) -> Result<Generated, GenerateFault>
+    requires { length (B.task bench.old).defects < 2 ^ 32 }
+
+    ensures good { IfOk result (λ made. IsGood (B.task bench.old) made.pairs made.aims made.verdicts) }
+    ensures cause { IfErr result (IsCause (B.task bench.old)) }
+{
+    let mut work = Work::begin(alloc, bench)?;
+    for place in 0..bench.defect_count() {
+        work = work.take_turn(alloc, bench, place)?;
+    }
+    Ok(Generated {
+        pairs: work.pairs,
+        aims: work.aims,
+        verdicts: work.credits.verdicts(),
+    })
+}

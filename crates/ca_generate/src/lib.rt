@@ -1,0 +1,14 @@
+//! The work of test generation: a verdict for each defect of a chip, and the pairs of vectors that show it.
+#![tactic(auto)]
+
+mod bench;
+mod fault;
+mod generated;
+mod keep;
+mod laws;
+mod work;
+
+pub use bench::Bench;
+pub use fault::{Aims, GenerateFault, MOST_PAIRS};
+pub use generated::{Generated, generate};
+pub use laws::outcome_is_search;

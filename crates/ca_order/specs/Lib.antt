@@ -1,0 +1,6 @@
+-- What the contracts of this crate say, in reading order.
+pub mod Lines
+pub mod Order
+pub mod OrderFault
+pub mod Allowed
+pub mod Laws

@@ -1,0 +1,7 @@
+//! Tests of patterns and verdicts as texts, as tables.
+#![tactic(auto)]
+
+#[cfg(test)]
+mod reports;
+#[cfg(test)]
+mod stil;

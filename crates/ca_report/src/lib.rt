@@ -1,0 +1,12 @@
+//! The report of a run: a CSV text with the verdict on each defect.
+#![tactic(auto)]
+
+mod fits;
+mod rows;
+mod verdict;
+mod write;
+
+pub use fits::are_of;
+pub use rows::{ReportRow, ReportRows};
+pub use verdict::Verdict;
+pub use write::write_report;

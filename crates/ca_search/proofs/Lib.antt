@@ -1,0 +1,6 @@
+pub mod TokenLemmas
+pub mod WalkLemmas
+pub mod StepLemmas
+pub mod TrailLemmas
+pub mod FilledLemmas
+pub mod RuleLemmas

@@ -1,0 +1,125 @@
+-- Decisions, the pairs that they leave, and the code that is written meanwhile.
+use Rattle.std.proofs.Common.{◌≡◌, ℕ, ◌+◌, ◌*◌, ◌<◌, ◌≤◌, List, [], ◌∷◌, ◌++◌, length, refl, sym, ◌∙◌, ap, subst, arith}
+use native.Mathlib.Decide.{ℕ_discrete}
+use Rattle.std.specs.Prelude.{not, cond, slice_set}
+use Rattle.std.proofs.lemmas.List.{length-set, ext_get_or, length-replicate}
+use Rattle.ca_net.specs.declared.trit.Trit.{Trit}
+use Rattle.ca_net.specs.declared.trit.Trit.TheVariants.{X}
+use Rattle.ca_net.specs.State.{value_at}
+use Rattle.ca_flat.specs.declared.token.Token.{Token}
+use Rattle.ca_flat.specs.declared.token.Token.TheVariants.{Branch, Leaf}
+use Rattle.ca_flat.specs.Chip.{Chip}
+use Rattle.ca_flat.specs.Pair.{bit_count}
+use Rattle.ca_flat.specs.Code.{Reading, At, Ended, unset_pair, with_bit, behind_tree, behind, Rules, Reads, branch_count}
+use Rattle.ca_flat.proofs.Codes.{bit_itself, bit_other, length-with_bit}
+use Rattle.ca_search.specs.declared.trail.Decision.{Decision}
+use Rattle.ca_search.specs.Steps.{pair_after, later_after, AreFresh}
+
+-- a first decision leaves the opposite for later
+abbrev pub left_for_later : Decision → List Trit → List (List Trit) → List (List Trit)
+left_for_later d pair later = cond d.is_second later (with_bit pair d.bit (not d.value) ∷ later)
+
+pub pair_after_push : (ds : List Decision) (d : Decision) (pair : List Trit)
+    → pair_after (ds ++ d ∷ []) pair ≡ with_bit (pair_after ds pair) d.bit d.value
+unfolding pair_after
+pair_after_push [] d pair = refl
+pair_after_push (e ∷ ds) d pair = pair_after_push ds d (with_bit pair e.bit e.value)
+
+pub later_after_push : (ds : List Decision) (d : Decision) (pair : List Trit) (later : List (List Trit))
+    → later_after (ds ++ d ∷ []) pair later ≡ left_for_later d (pair_after ds pair) (later_after ds pair later)
+unfolding pair_after later_after
+later_after_push [] d pair later = refl
+later_after_push (e ∷ ds) d pair later =
+    later_after_push ds d (with_bit pair e.bit e.value) (left_for_later e pair later)
+
+pub fresh_push : (ds : List Decision) (d : Decision) (pair : List Trit) → AreFresh ds pair
+    → d.bit < length (pair_after ds pair) → value_at (pair_after ds pair) d.bit ≡ X → AreFresh (ds ++ d ∷ []) pair
+unfolding pair_after AreFresh
+fresh_push [] d pair fresh within unset = (within, unset, tt)
+fresh_push (e ∷ ds) d pair fresh within unset =
+    (fresh.0, fresh.1, fresh_push ds d (with_bit pair e.bit e.value) fresh.2 within unset)
+
+-- what is known of decisions before the last, and of the last
+pub record FreshBefore (ds : List Decision) (d : Decision) (pair : List Trit) : Type 0 where
+  pub before : AreFresh ds pair
+  pub within : d.bit < length (pair_after ds pair)
+  pub unset : value_at (pair_after ds pair) d.bit ≡ X
+
+pub fresh_pop : (ds : List Decision) (d : Decision) (pair : List Trit) → AreFresh (ds ++ d ∷ []) pair
+    → FreshBefore ds d pair
+unfolding pair_after AreFresh
+fresh_pop [] d pair fresh = record { before = tt; within = fresh.0; unset = fresh.1 }
+fresh_pop (e ∷ ds) d pair fresh =
+    let rest = fresh_pop ds d (with_bit pair e.bit e.value) fresh.2 in
+    record { before = (fresh.0, fresh.1, rest.before); within = rest.within; unset = rest.unset }
+
+pub length-pair_after : (ds : List Decision) (pair : List Trit) → length (pair_after ds pair) ≡ length pair
+unfolding pair_after
+length-pair_after [] pair = refl
+length-pair_after (d ∷ ds) pair =
+    length-pair_after ds (with_bit pair d.bit d.value) ∙ length-with_bit pair d.bit d.value
+
+pub length-unset : (chip : Chip) → length (unset_pair chip) ≡ bit_count chip
+length-unset chip = length-replicate (bit_count chip) X
+
+-- a bit that is set twice has its latest value
+pub set_twice : (pair : List Trit) (bit : ℕ) (a b : Trit) → bit < length pair
+    → slice_set (slice_set pair bit a) bit b ≡ slice_set pair bit b
+set_twice pair bit a b within = ext_get_or X (slice_set (slice_set pair bit a) bit b) (slice_set pair bit b)
+    (length-set (slice_set pair bit a) bit b ∙ length-set pair bit a ∙ sym (length-set pair bit b))
+    (λ n lt. elim (ℕ_discrete n bit) [
+      | yes e ↦ subst (λ x. value_at (slice_set (slice_set pair bit a) bit b) x ≡ value_at (slice_set pair bit b) x)
+          (sym e) (bit_itself (slice_set pair bit a) bit b
+          (subst (λ k. bit < k) (sym (length-set pair bit a)) within) ∙ sym (bit_itself pair bit b within))
+      | no other ↦ bit_other (slice_set pair bit a) bit n b other ∙ bit_other pair bit n a other
+          ∙ sym (bit_other pair bit n b other)
+    ])
+
+-- a bit that was unset, and is unset again
+pub set_back : (pair : List Trit) (bit : ℕ) (a : Trit) → bit < length pair → value_at pair bit ≡ X
+    → slice_set (slice_set pair bit a) bit X ≡ pair
+set_back pair bit a within unset = set_twice pair bit a X within
+    ∙ ext_get_or X (slice_set pair bit X) pair (length-set pair bit X) (λ n lt. elim (ℕ_discrete n bit) [
+      | yes e ↦ subst (λ x. value_at (slice_set pair bit X) x ≡ value_at pair x) (sym e)
+          (bit_itself pair bit X within ∙ sym unset)
+      | no other ↦ bit_other pair bit n X other
+    ])
+
+-- codes one after another
+pub reads_append : (rules : Rules) (a b : List Token) (from mid to : Reading) → Reads rules a from mid
+    → Reads rules b mid to → Reads rules (a ++ b) from to
+reads_append rules [] b from mid to one two = subst (λ r. Reads rules b r to) (sym one) two
+reads_append rules (token ∷ a) b Ended mid to one two = absurd one
+reads_append rules (token ∷ a) b (At pair later) mid to one two =
+    (one.0, reads_append rules a b (behind token pair later) mid to one.1 two)
+
+pub branch_count-append : (a b : List Token) → branch_count (a ++ b) ≡ branch_count a + branch_count b
+branch_count-append [] b = omega arith
+branch_count-append (Branch bit first ∷ a) b = let h = branch_count-append a b in omega arith
+branch_count-append (Leaf ∷ a) b = branch_count-append a b
+
+-- how many pairs the reading still has
+abbrev pairs_left : Reading → ℕ
+pairs_left (At pair later) = 1 + length later
+pairs_left Ended = 0
+
+pairs_behind : (later : List (List Trit)) → pairs_left (behind_tree later) ≡ length later
+pairs_behind [] = refl
+pairs_behind (pair ∷ later) = omega arith
+
+-- each branch adds a pair, and each leaf takes one away
+reading_counted : (rules : Rules) (code : List Token) (from to : Reading) → Reads rules code from to
+    → length code + pairs_left to ≡ 2 * branch_count code + pairs_left from
+reading_counted rules [] from to reads = let e : pairs_left from ≡ pairs_left to = ap pairs_left reads in omega arith
+reading_counted rules (token ∷ code) Ended to reads = absurd reads
+reading_counted rules (Leaf ∷ code) (At pair later) to reads =
+    let h = reading_counted rules code (behind_tree later) to reads.1 in let p = pairs_behind later in omega arith
+reading_counted rules (Branch bit first ∷ code) (At pair later) to reads =
+    let behind = At (with_bit pair bit first) (with_bit pair bit (not first) ∷ later) in
+    let h = reading_counted rules code behind to reads.1 in omega arith
+
+-- a front has at most two tokens for each branch
+pub front_is_short : (rules : Rules) (code : List Token) (start pair : List Trit) (later : List (List Trit))
+    → Reads rules code (At start []) (At pair later) → length code ≤ 2 * branch_count code
+front_is_short rules code start pair later reads =
+    let h = reading_counted rules code (At start []) (At pair later) reads in omega arith

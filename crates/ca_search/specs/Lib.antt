@@ -1,0 +1,7 @@
+pub mod SearchRules
+pub mod Judged
+pub mod Tokens
+pub mod Filled
+pub mod Outcome
+pub mod Laws
+pub mod Steps

@@ -1,0 +1,67 @@
+//! The search, and what is kept of it.
+
+ghost use Rattle.std.specs.Prelude.{◌≡◌, ◌≤◌, IfOk, IsSome};
+ghost use Rattle.ca_flat.specs.Code.{branch_count};
+ghost use Rattle.ca_search.specs.Judged.{IsSameAim};
+ghost use Rattle.ca_search.specs.Outcome.{IsOutcome, IsKeptPair};
+ghost use Rattle.ca_search.specs.Filled.{filled};
+
+use crate::code::Code;
+use crate::judge::Judge;
+use crate::trail::{Outcome, Trail};
+use ca_base::NoMemory;
+use std::alloc::Global;
+use std::marker::Model;
+
+/// The room of a search for a budget of branches, the code that it wrote, and the partial pair at which it
+/// stands. All room is taken by `reserve`.
+#[derive(Drop, Debug)]
+pub struct Search {
+    trail: Trail,
+}
+
+impl Model for Search {
+    ghost use Rattle.ca_search.specs.Outcome.{Searched};
+    ghost use Rattle.ca_search.specs.Steps.{searched_of};
+
+    ghost Value = { Searched };
+
+    ghost view = { λ search. searched_of search.trail };
+}
+
+impl Search {
+    /// Takes the room for a search with so many branches at most.
+    pub fn reserve(alloc: Global, budget: u32) -> Result<Self, NoMemory>
+        ensures { IfOk result (λ search. search.budget ≡ budget) }
+    {
+        Ok(Search {
+            trail: Trail::reserve(alloc, budget)?,
+        })
+    }
+
+    /// Searches from the pair of which no bit is set. It places at most `budget` branches.
+    pub fn find<J: Judge>(&mut self, judge: &mut J) -> Outcome
+        requires aimed { IsSome (J.judged judge.old).aim }
+        ensures aim { IsSameAim (J.judged judge.old) (J.judged judge.new) }
+        ensures budget { self.new.budget ≡ self.old.budget }
+        ensures within { branch_count self.new.code ≤ self.new.budget }
+        ensures outcome { IsOutcome (J.judged judge.new) self.new.budget self.new.code result }
+        ensures pair { IsKeptPair (J.judged judge.new) self.new.pair result }
+    {
+        self.trail.find(judge)
+    }
+
+    /// The pair at which the search stands, with 0 for each bit that is unset.
+    pub fn keep_pair(&self, alloc: Global) -> Result<Vec<bool>, NoMemory>
+        ensures { IfOk result (λ bits. bits.items ≡ filled self.now.pair) }
+    {
+        self.trail.filled(alloc)
+    }
+
+    /// The code that the search wrote.
+    pub fn keep_code(&self, alloc: Global) -> Result<Code, NoMemory>
+        ensures { IfOk result (λ code. code ≡ self.now.code) }
+    {
+        Code::of(alloc, &self.trail.numbers)
+    }
+}

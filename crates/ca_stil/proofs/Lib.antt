@@ -1,0 +1,4 @@
+mod Appending
+mod CellLemmas
+mod FitLemmas
+mod PairLemmas

@@ -1,0 +1,10 @@
+mod FormLemmas
+mod ItemsLemmas
+mod MaybeLemmas
+mod GrammarLemmas
+mod NameLemmas
+mod SpellLemmas
+mod SpelledLemmas
+mod StilSpelled
+mod StilLemmas
+mod ReadingLemmas

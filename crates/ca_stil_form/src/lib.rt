@@ -1,0 +1,6 @@
+//! The texts of STIL that have this project's form, as a grammar, and the laws by which they read.
+#![tactic(auto)]
+
+mod laws;
+
+pub use laws::{stil_is_read_back, stil_reading};
