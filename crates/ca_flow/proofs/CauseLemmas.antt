@@ -205,9 +205,13 @@ pub flatten_cause : (words : List (List ℕ)) (request : FlattenWords) (files : 
     → IsWorkCause words files before after fault
 flatten_cause words request files before after fault spelled cause = inr (inr (inr (inr (
   inr (inl spelled.is),
-  by (rw (spelled.of.files, spelled.of.instance, spelled.of.defect) at cause),
+  by (rw (spelled.of.instance, spelled.of.defect) at at_files),
 ))))
   where
+    at_files : IsFlatCause (chip_files words) request.of.instance.now request.of.defect.now files before after fault
+    at_files = subst (λ asked. IsFlatCause asked request.of.instance.now request.of.defect.now files before after fault)
+        spelled.of.files cause
+
     by : IsFlatCause (chip_files words) (instance_word words) (chip_defect_word words) files before after fault
         → IsLoadCause (chip_files words) files before after fault ⊎ IsOwnCause words files fault
     by (inl load) = inl load
@@ -233,9 +237,14 @@ pub simulate_cause : (words : List (List ℕ)) (request : SimulateWords) (files 
     request.first.now request.last.now files before after fault → IsWorkCause words files before after fault
 simulate_cause words request files before after fault spelled cause = inr (inr (inr (inr (
   inr (inr spelled.is),
-  by (rw (spelled.of.files, spelled.of.instance, spelled.of.defect, spelled.first, spelled.last) at cause),
+  by (rw (spelled.of.instance, spelled.of.defect, spelled.first, spelled.last) at at_files),
 ))))
   where
+    at_files : IsEndsCause (chip_files words) request.of.instance.now request.of.defect.now request.first.now
+        request.last.now files before after fault
+    at_files = subst (λ asked. IsEndsCause asked request.of.instance.now request.of.defect.now request.first.now
+    request.last.now files before after fault) spelled.of.files cause
+
     by : IsEndsCause (chip_files words) (instance_word words) (chip_defect_word words) (chip_first_word words)
         (chip_last_word words) files before after fault
         → IsLoadCause (chip_files words) files before after fault ⊎ IsOwnCause words files fault

@@ -118,6 +118,7 @@ pub(crate) fn flatten_line(alloc: Global, net: &FlatNet) -> Result<Text, NoMemor
 }
 
 /// One line for each observed output of a chip.
+#[tactic(auto, using(crate::proofs::LineLemmas::output_pushed))]
 pub(crate) fn simulate_lines(
     alloc: Global,
     chip: &Chip,
