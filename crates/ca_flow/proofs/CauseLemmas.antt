@@ -242,8 +242,9 @@ simulate_cause words request files before after fault spelled cause = inr (inr (
   where
     at_files : IsEndsCause (chip_files words) request.of.instance.now request.of.defect.now request.first.now
         request.last.now files before after fault
-    at_files = subst (λ asked. IsEndsCause asked request.of.instance.now request.of.defect.now request.first.now
-    request.last.now files before after fault) spelled.of.files cause
+    at_files =
+        subst (λ asked. IsEndsCause asked request.of.instance.now request.of.defect.now request.first.now request.last.now files before after fault)
+        spelled.of.files cause
 
     by : IsEndsCause (chip_files words) (instance_word words) (chip_defect_word words) (chip_first_word words)
         (chip_last_word words) files before after fault

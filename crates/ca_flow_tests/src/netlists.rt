@@ -184,18 +184,8 @@ pub(crate) static LIMITS: [(&str, &str); 3] = [
 // The words of `flatten` behind the cells' file.
 pub(crate) static FLATTEN: [Row; 13] = [
     ("inv.v - - - f.sp", 0, "nodes 4, devices 2\n", ""),
-    (
-        "glitch.v - u5 MP1(D) f.sp",
-        0,
-        "nodes 15, devices 18\n",
-        "",
-    ),
-    (
-        "glitch.v - u5 zn=n1 f.sp",
-        0,
-        "nodes 14, devices 19\n",
-        "",
-    ),
+    ("glitch.v - u5 MP1(D) f.sp", 0, "nodes 15, devices 18\n", ""),
+    ("glitch.v - u5 zn=n1 f.sp", 0, "nodes 14, devices 19\n", ""),
     ("inv.v - u9 MP1(D) f.sp", 2, "", "no instance u9"),
     ("inv.v - u9 MP9(D) f.sp", 2, "", "no instance u9"),
     ("inv.v - u1 MP9(D) f.sp", 2, "", "no defect MP9(D)"),

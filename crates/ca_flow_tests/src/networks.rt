@@ -54,7 +54,9 @@ fn check_row(rt: &impl Abort, alloc: Global, start: &str, row: &Row) -> Result<(
 }
 
 #[test]
-fn a_network_and_its_outputs_are_told_or_the_words_are_refused(rt: HostRuntime) -> Result<(), Fail> {
+fn a_network_and_its_outputs_are_told_or_the_words_are_refused(
+    rt: HostRuntime,
+) -> Result<(), Fail> {
     let alloc = rt.alloc();
     for row in &FLATTEN {
         check_row(&rt, alloc, "flatten", row)?;
@@ -74,7 +76,10 @@ fn a_network_stands_in_its_file(rt: HostRuntime) -> Result<(), Fail> {
     assert_eq!(rt; bytes, FLAT.as_bytes());
     let short = outcome_of(alloc, "flatten n.sp inv.v - - - f.sp", 20).expect(&rt, "memory");
     assert_eq!(rt; short.status, 4);
-    assert_eq!(rt; short.line.bytes(), b"cellaware: file fault: f.sp\n".as_slice());
+    assert_eq!(rt;
+        short.line.bytes(),
+        b"cellaware: file fault: f.sp\n".as_slice()
+    );
     assert_eq!(rt; short.printed.bytes(), b"".as_slice());
     let part = short.store.bytes("f.sp").expect(&rt, "the file is there");
     assert_eq!(rt; part, b"* 0 input\n* 1 in".as_slice());
