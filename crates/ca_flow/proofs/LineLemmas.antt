@@ -33,6 +33,11 @@ index_is [] o name at = absurd cc
 index_is (first ∷ names) zero name at = same_Some first name at
 index_is (first ∷ names) (suc o) name at = index_is names o name at
 
+-- no output has no line
+pub output_none : (names : List (List ℕ)) (good faulty : List Trit) → output_lines names good faulty 0 ≡ []
+unfolding output_lines
+output_none names good faulty = refl
+
 -- the line of one output more is added at the end
 pub output_pushed : (names found : List (List ℕ)) (good faulty : List Trit) (o : ℕ) (name : List ℕ)
     (value other : Trit) (old new : List ℕ) → found ≡ names → old ≡ output_lines names good faulty o
