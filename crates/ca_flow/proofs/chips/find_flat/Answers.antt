@@ -1,3 +1,4 @@
+use Rattle.std.proofs.Common.{rules}
 use Rattle.ca_load.specs.Texts.{names_of}
 use Rattle.ca_load.proofs.LinkLemmas.{handed_on}
 use Rattle.ca_flow.specs.OnChip.{IsFlatCause}
@@ -14,5 +15,5 @@ returns-in_err-net-clause-cause g c =
     let fault = c.in_err-net.field-0.0 in
     handed_on c.from_residual-in_err-net.result fault
     (IsFlatCause names request.instance.now request.defect.now files before after) c.from_residual-in_err-net.ensures.1
-    (at_flat files names before after c.in_ok-load.field-0.chip request.instance.now request.defect.now fault
-    (c.in_ok-load.ensures).ok (c.in_err-net.ensures).cause)
+    (at_flat files names before after c.in_ok-chip.chip request.instance.now request.defect.now fault
+    (search rules) (c.in_err-net.ensures).cause)
