@@ -1,7 +1,7 @@
 -- What the fields of a bench keep.
-use Rattle.std.proofs.Common.{◌≡◌, ◌<◌, ◌≤◌, ◌^◌, ℕ, List, length, Option, None, Some, sym, refl, ◌∙◌, ap, subst, arith}
+use Rattle.std.proofs.Common.{◌≡◌, ◌<◌, ◌≤◌, ◌^◌, ℕ, List, length, Option, None, Some, sym, refl, ap, subst}
 use Rattle.std.specs.Prelude.{slice_get, slice_index}
-use Rattle.std.specs.List.{All, Contains}
+use Rattle.std.specs.List.{All}
 use Rattle.std.proofs.lemmas.Option.{get_or_from_slice_get}
 use Rattle.std.proofs.lemmas.List.Elements.{All-get_or, Contains-get_or}
 use Rattle.ca_net.specs.declared.trit.Trit.{Trit}
@@ -23,7 +23,7 @@ use Rattle.ca_search.specs.Judged.{IsSameAim}
 use Rattle.ca_search.specs.Outcome.{IsOutcome}
 use Rattle.ca_judge.specs.Bench.{judged_of}
 use Rattle.ca_judge.specs.Bench as judge
-use Rattle.ca_credit.specs.Defects.{Task, IsSearchable}
+use Rattle.ca_credit.specs.Defects.{IsSearchable}
 use Rattle.ca_credit.specs.Detection.{IsNetEnd}
 use Rattle.ca_generate.specs.Outcome.{IsSearch}
 use Rattle.ca_generate.specs.Laws.{OutcomeIsSearch}

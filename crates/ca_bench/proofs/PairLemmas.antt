@@ -1,7 +1,6 @@
 -- The bits of a pair as values.
-use Rattle.std.proofs.Common.{◌≡◌, ℕ, zero, suc, List, [], ◌∷◌, length, Bool, true, false, Some, slice_get, ap}
+use Rattle.std.proofs.Common.{◌≡◌, ℕ, zero, suc, List, [], ◌∷◌, length, Bool, Some, slice_get, ap}
 use Rattle.std.proofs.lemmas.List.{length-map}
-use Rattle.ca_net.specs.declared.trit.Trit.{Trit}
 use Rattle.ca_net.specs.State.{value_at}
 use Rattle.ca_flat.specs.Code.{bit_trit}
 use Rattle.ca_search.specs.Filled.{trits_of}

@@ -1,4 +1,4 @@
-use Rattle.std.proofs.Common.{◌≡◌, ◌<◌, ◌∙◌, length, slice_index, None, sym, ap, subst}
+use Rattle.std.proofs.Common.{◌<◌, ◌∙◌, length, slice_index, None, sym, ap, subst}
 use Rattle.std.proofs.lemmas.List.{get_or_read}
 use Rattle.ca_net.specs.declared.wave.Wave.{Wave}
 use Rattle.ca_table.specs.Gives.{wave_at}
