@@ -2,7 +2,6 @@
 #![tactic(auto)]
 
 mod answering;
-mod chips;
 mod finished;
 mod inputs;
 mod laws;

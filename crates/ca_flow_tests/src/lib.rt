@@ -10,6 +10,4 @@ mod commands;
 #[cfg(test)]
 mod netlists;
 #[cfg(test)]
-mod networks;
-#[cfg(test)]
 mod rows;
