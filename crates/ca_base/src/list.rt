@@ -1,6 +1,6 @@
 //! Lists.
 
-ghost use Rattle.std.specs.Prelude.{◌≡◌, ◌++◌, [], ◌∷◌, length, slice_get, OnOk, OnErr, IsTrue, ◌↔◌, ◌<◌, Some};
+ghost use Rattle.std.specs.Prelude.{◌≡◌, ◌++◌, [], ◌∷◌, length, slice_get, OnOk, OnErr, IfOk, IsTrue, ◌↔◌, ◌<◌, Some};
 
 use crate::no_memory::NoMemory;
 use std::alloc::Global;
@@ -28,6 +28,15 @@ impl<T: Drop> List<T> {
         List {
             entries: Vec::new(alloc),
         }
+    }
+
+    /// The list of no entries, with room for so many: the next `count` pushes take no memory.
+    pub fn with_room(alloc: Global, count: usize) -> Result<Self, NoMemory>
+        ensures { IfOk result (λ list. list ≡ []) }
+    {
+        Ok(List {
+            entries: Vec::with_capacity(alloc, count)?,
+        })
     }
 
     /// The number of entries.
