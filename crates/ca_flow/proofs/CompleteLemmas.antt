@@ -13,25 +13,24 @@ use Rattle.ca_spice.specs.Called.{cell_called}
 use Rattle.ca_load.specs.declared.cells.TheConstants.{MAX_CELLS}
 use Rattle.ca_load.specs.Files.{IsReadCause}
 use Rattle.ca_load.specs.Causes.{IsTextCause, IsCellsCause}
+use Rattle.ca_load.proofs.SameLemmas.{one_reading}
 use Rattle.ca_load.proofs.WholeLemmas.{IsOutsideFault, at_load}
+use Rattle.ca_wired.specs.Linked.{Chip}
+use Rattle.ca_asked.specs.Asked.{FitsInputs, IsDefectCause, IsVectorsCause}
 use Rattle.ca_fault.specs.declared.fault.LimitKind.TheVariants as limit
 use Rattle.ca_fault.specs.declared.fault.Fault.{Fault}
-use Rattle.ca_fault.specs.declared.fault.Fault.TheVariants.{BadWords, Cells, NoCell, Cell, BadVector, NoDefect, TooLong, Limit, StoreFailed, SinkFailed, NoMemory}
+use Rattle.ca_fault.specs.declared.fault.Fault.TheVariants.{BadWords, Cells, NoCell, Cell, BadVector, NoInstance, NoDefect, TooLong, Limit, StoreFailed, SinkFailed, NoMemory}
 use Rattle.ca_flow.specs.declared.finished.Finished.{Finished}
 use Rattle.ca_flow.specs.Finished.{IsAnswer, status_told}
-use Rattle.ca_flow.specs.Words.{cells_word, cell_word, vector_word, first_word, last_word, defect_word, dash, chip_files, IsRespond, IsPair, IsDefects, IsMatrix, IsCheck, AsksNoFile, IsOnCell, IsCommand}
+use Rattle.ca_flow.specs.Words.{cells_word, cell_word, vector_word, first_word, last_word, defect_word, dash}
+use Rattle.ca_flow.specs.Words.{chip_files, instance_word, chip_defect_word, chip_first_word, chip_last_word}
+use Rattle.ca_flow.specs.Words.{AsksNoFile, IsCommand}
 use Rattle.ca_flow.specs.Outputs.{Fits, asked_network}
 use Rattle.ca_flow.specs.Cells.{OfFile, HasCell, LacksCell}
-use Rattle.ca_flow.specs.Complete.{FitsCell, FitsFile, FitsChip, IsAnswerable, Completes}
-use Rattle.ca_flow.proofs.CauseLemmas.{matrix_or_check}
-use Rattle.ca_flow.specs.Fault.{Outside, IsNameCause, IsFirstUnfit, IsPairCause, IsVectorCause, IsCellCause, IsValueCause, IsWordsCause, IsWriteCause, IsPrintCause, IsWorkCause, IsCause}
-
--- `check` is no command on one cell
-pub no_check : (words : List (List ℕ)) → IsOnCell words → IsCheck words → ⊥
-no_check words (inl one) other = omega (arith, ap length (sym one.command ∙ other.command))
-no_check words (inr (inl one)) other = omega (arith, one.six, other.four)
-no_check words (inr (inr (inl one))) other = omega (arith, one.three, other.four)
-no_check words (inr (inr (inr one))) other = matrix_or_check words one other
+use Rattle.ca_flow.specs.OnChip.{GiveChipWith, OfChip, IsSimulationCause}
+use Rattle.ca_flow.specs.Complete.{FitsCell, FitsFile, FitsDefect, FitsSimulate, FitsChip, IsAnswerable, Completes}
+use Rattle.ca_flow.proofs.WordLemmas.{no_chip, one_word, no_asking_chip}
+use Rattle.ca_flow.specs.Fault.{Outside, IsNameCause, IsFirstUnfit, IsPairCause, IsVectorCause, IsCellCause, IsValueCause, IsWordsCause, IsWriteCause, IsPrintCause, IsOwnCause, IsWorkCause, IsCause}
 
 -- the file and the cell that the words name
 record HasSeen (words : List (List ℕ)) (files : Option Files) : Type 0 where
@@ -146,7 +145,7 @@ module _ (words : List (List ℕ)) (files : Option Files) (seen : HasSeen words 
         at_value (first_word words) (last_word words) (defect_word words) fits.first fits.last fits.defect cause
     at_work (inr (inr (inl (is, cause)))) = at_cell cause
     at_work (inr (inr (inr (inl (is, cause))))) = at_cell cause
-    at_work (inr (inr (inr (inr (is, cause))))) = absurd (no_check words seen.fits.is is)
+    at_work (inr (inr (inr (inr (is, cause))))) = absurd (no_chip words seen.fits.is is)
 
 pub at_words : (words : List (List ℕ)) → IsCommand words → (fault : Fault) → IsWordsCause words fault → ⊥
 at_words words is BadWords cause = cause is
@@ -159,7 +158,7 @@ at_print before after quiet fault cause = absurd cause
 
 at_write : (words : List (List ℕ)) (before after : ℕ) → ¬ (Rose before after) → (fault : Fault)
     → IsWriteCause words before after fault → ⊥
-at_write words before after quiet (StoreFailed typed) (is, (same, rose)) = quiet rose
+at_write words before after quiet (StoreFailed typed) (is, rose) = quiet rose
 at_write words before after quiet fault cause = cause
 
 -- where its work was refused for want of memory alone, a command was
@@ -175,11 +174,6 @@ only_memory words before after is quiet_store quiet_sink fault no_work (inr (inr
 only_memory words before after is quiet_store quiet_sink fault no_work (inr (inr (inr print))) =
     at_print before.sink_faults after.sink_faults quiet_sink fault print
 
--- one word asks for no file
-one_word : (words : List (List ℕ)) → AsksNoFile words → length words ≡ 1
-one_word words (inl help) = help.one
-one_word words (inr version) = version.one
-
 -- words that ask for no file have no work that is refused
 pub no_asking_work : (words : List (List ℕ)) (files : Option Files) (before after : ℕ) (fault : Fault) → AsksNoFile words
     → IsWorkCause words files before after fault → ⊥
@@ -189,21 +183,62 @@ no_asking_work words files before after fault asks (inr (inr (inl (is, cause))))
     omega (arith, one_word words asks, is.three)
 no_asking_work words files before after fault asks (inr (inr (inr (inl (is, cause))))) =
     omega (arith, one_word words asks, is.four)
-no_asking_work words files before after fault asks (inr (inr (inr (inr (is, cause))))) =
-    omega (arith, one_word words asks, is.four)
+no_asking_work words files before after fault asks (inr (inr (inr (inr (is, cause))))) = no_asking_chip words asks is
 
--- work of `check` whose files give a chip is refused where the store failed, or for want of memory alone
-pub at_check : (words : List (List ℕ)) (files : Option Files) (told : Files) → files ≡ Some told → FitsChip words told
-    → (before after : ℕ) (fault : Fault) → IsWorkCause words files before after fault → IsOutsideFault fault before after
-at_check words files told are fits before after fault (inl (is, cause)) = absurd (no_check words (inl is) fits.is)
-at_check words files told are fits before after fault (inr (inl (is, cause))) =
-    absurd (no_check words (inr (inl is)) fits.is)
-at_check words files told are fits before after fault (inr (inr (inl (is, cause)))) =
-    absurd (no_check words (inr (inr (inl is))) fits.is)
-at_check words files told are fits before after fault (inr (inr (inr (inl (is, cause))))) =
-    absurd (no_check words (inr (inr (inr is))) fits.is)
-at_check words files told are fits before after fault (inr (inr (inr (inr (is, cause))))) =
-    at_load files told are before after (chip_files words) fits.inputs fits.read fits.gives fault cause
+module _ (words : List (List ℕ)) (files : Option Files) (told : Files) (are : files ≡ Some told) (fits : FitsChip words told) where
+  -- what is said of the chip of the files holds of one of the chips that the inputs give
+  at_inputs : (P : Chip → Type 0) → OfChip files (chip_files words) P → GiveChipWith P fits.inputs
+  at_inputs P held =
+      let found = held told are in
+      subst (GiveChipWith P) (one_reading (chip_files words) told found.0 fits.inputs found.1.0 fits.read) found.1.1
+
+  no_defect : (chip : Chip) (fault : Fault) → FitsDefect words chip
+      → IsDefectCause chip (instance_word words) (chip_defect_word words) fault → ⊥
+  no_defect chip (NoInstance typed) (inl none) (same, (some, lacks)) = some none
+  no_defect chip (NoInstance typed) (inr has) (same, (some, lacks)) = lacks has.u has.named
+  no_defect chip (NoDefect typed) (inl none) (same, (some, lacks)) = some none
+  no_defect chip (NoDefect typed) (inr has) (same, (some, lacks)) =
+      true≢false (sym (has.called lacks.u lacks.named) ∙ lacks.lacks)
+  no_defect chip fault own cause = cause
+
+  no_vectors : (chip : Chip) (first last : List ℕ) (fault : Fault) → FitsInputs chip first → FitsInputs chip last
+      → IsVectorsCause chip first last fault → ⊥
+  no_vectors chip first last (BadVector typed) first_fits last_fits (inl (same, unfit)) = unfit first_fits
+  no_vectors chip first last (BadVector typed) first_fits last_fits (inr (same, (fit, unfit))) = unfit last_fits
+  no_vectors chip first last fault first_fits last_fits cause = cause
+
+  no_simulation : (chip : Chip) (fault : Fault) → FitsSimulate words chip
+      → IsSimulationCause (instance_word words) (chip_defect_word words) (chip_first_word words) (chip_last_word words)
+      fault chip → ⊥
+  no_simulation chip fault own (inl cause) =
+      no_vectors chip (chip_first_word words) (chip_last_word words) fault own.first own.last cause
+  no_simulation chip fault own (inr (first, (last, cause))) = no_defect chip fault own.defect cause
+
+  -- a command's own words are of the chip
+  no_own : (fault : Fault) → IsOwnCause words files fault → ⊥
+  no_own fault (inl (is, (word, held))) =
+      let found =
+      at_inputs (λ chip. IsDefectCause chip (instance_word words) (chip_defect_word words) fault) held in
+      let own = fits.own found.chip found.is in
+      no_defect found.chip fault (own.flatten is) found.holds
+  no_own fault (inr (is, (word, held))) =
+      let found =
+      at_inputs (IsSimulationCause (instance_word words) (chip_defect_word words) (chip_first_word words) (chip_last_word words) fault) held in
+      let own = fits.own found.chip found.is in
+      no_simulation found.chip fault (own.simulate is) found.holds
+
+  -- work on a chip that the files give, and that the words fit, is refused where the store failed, or for want of
+  -- memory alone
+  pub at_chip : (before after : ℕ) (fault : Fault) → IsWorkCause words files before after fault
+      → IsOutsideFault fault before after
+  at_chip before after fault (inl (is, cause)) = absurd (no_chip words (inl is) fits.is)
+  at_chip before after fault (inr (inl (is, cause))) = absurd (no_chip words (inr (inl is)) fits.is)
+  at_chip before after fault (inr (inr (inl (is, cause)))) = absurd (no_chip words (inr (inr (inl is))) fits.is)
+  at_chip before after fault (inr (inr (inr (inl (is, cause))))) =
+      absurd (no_chip words (inr (inr (inr is))) fits.is)
+  at_chip before after fault (inr (inr (inr (inr (is, inl load))))) =
+      at_load files told are before after (chip_files words) fits.inputs fits.read fits.gives fault load
+  at_chip before after fault (inr (inr (inr (inr (is, inr own))))) = absurd (no_own fault own)
 
 only_outside : (fault : Fault) (before after : ℕ) → ¬ (Rose before after) → IsOutsideFault fault before after
     → fault ≡ NoMemory
@@ -229,7 +264,7 @@ answerable_memory words before after (inr fits) quiet_store quiet_sink fault cau
     by (Some told) are (inr chip) =
         only_memory words before after (inr (inl chip.is)) quiet_store quiet_sink fault
         (λ work. only_outside fault before.store_faults after.store_faults quiet_store
-        (at_check words before.files told are chip before.store_faults after.store_faults fault work)) cause
+        (at_chip words before.files told are chip before.store_faults after.store_faults fault work)) cause
 
 -- a command that was answered or refused for a cause completes
 pub completes : (words : List (List ℕ)) (before after : Outside) (end : Finished) → IsAnswer words end

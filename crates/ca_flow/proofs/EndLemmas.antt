@@ -5,21 +5,22 @@ use Rattle.std.specs.Prelude.{IfSome, IsSome, IsNone, IsSomeAnd}
 use Rattle.std.specs.Option.{ForSome}
 use Rattle.ca_store.specs.Store.{Files, Rose}
 use Rattle.ca_store.specs.Writing.{MayWrite}
+use Rattle.ca_flat_text.specs.FlatText.{flat_text}
 use Rattle.ca_matrix.specs.Text.{text_of}
 use Rattle.ca_fault.specs.declared.fault.Fault.{Fault}
 use Rattle.ca_fault.specs.declared.fault.Fault.TheVariants.{BadWords, Cells, Netlist, Scan, Chip, Chain, NoCell, Cell, BadVector, NoInstance, NoDefect, TooLong, Limit, StoreFailed, SinkFailed, NoMemory}
 use Rattle.ca_flow.specs.declared.finished.Done.{Done}
-use Rattle.ca_flow.specs.declared.finished.Done.TheVariants.{Respond, Pair, Defects, Matrix, Check, Help, Version}
+use Rattle.ca_flow.specs.declared.finished.Done.TheVariants.{Respond, Pair, Defects, Matrix, Check, Flatten, Simulate, Help, Version}
 use Rattle.ca_flow.specs.declared.finished.Finished.{Finished}
 use Rattle.ca_flow.specs.declared.work.OutFile.{OutFile}
 use Rattle.ca_fault.specs.FaultLine.{status_of}
-use Rattle.ca_flow.specs.Words.{out_word, IsMatrix}
-use Rattle.ca_flow.specs.Finished.{status_told, IsTold, IsOutFault, IsAnswer, Prints, LeavesFiles, Writes, TellsSinkFault}
+use Rattle.ca_flow.specs.Words.{out_word, flat_out_word, HasOut}
+use Rattle.ca_flow.specs.Finished.{status_told, IsTold, IsOutFault, IsAnswer, Prints, LeavesText, LeavesFiles, Writes, TellsSinkFault}
 use Rattle.ca_flow.specs.Fault.{Outside, IsWorkCause, IsWriteCause, IsPrintCause, IsCause}
 use Rattle.ca_load.specs.Files.{TellsStoreFault}
 use Rattle.ca_flow.specs.Ends.{IsAsked}
-use Rattle.ca_flow.specs.Work.{HasFile, HasWritten, FailsToWrite, HasPrinted, FailsToPrint, EndsWork}
-use Rattle.ca_flow.proofs.CauseLemmas.{unread_is_cells}
+use Rattle.ca_flow.specs.Work.{IsOutFile, HasFile, HasWritten, FailsToWrite, HasPrinted, FailsToPrint, EndsWork}
+use Rattle.ca_flow.proofs.CauseLemmas.{out_is_unread}
 
 -- no fault has the status of work that is whole
 status_is_told : (fault : Fault) → status_of fault ≡ 0 → ⊥
@@ -85,9 +86,9 @@ module _ (words : List (List ℕ)) (end : Finished) (fault : Fault) (is : end.fa
 -- a file that could not be read is not the one that is written
 pub read_is_not_written : (words : List (List ℕ)) (files : Option Files) (before after : ℕ) (fault : Fault)
     → IsWorkCause words files before after fault → ¬ (IsOutFault words (Some fault))
-read_is_not_written words files before after fault cause (is, same) =
-    let store : fault ≡ StoreFailed (out_word words) = same_Some fault (StoreFailed (out_word words)) same in
-    is.others (unread_is_cells words (out_word words) files before after is (subst (IsWorkCause words files before after) store cause))
+read_is_not_written words files before after fault cause (name, (out, same)) =
+    let store : fault ≡ StoreFailed name = same_Some fault (StoreFailed name) same in
+    out_is_unread words name files before after out (subst (IsWorkCause words files before after) store cause)
 
 -- where the file was written, the work left the files as it should
 leaves_written : (words : List (List ℕ)) (fault : Option Fault) (old new : Option Files) (done : Done) (file : Option OutFile)
@@ -100,6 +101,8 @@ leaves_written words fault old new (Defects names) None other fits written = wri
 leaves_written words fault old new (Defects names) (Some file) other fits written = absurd (true≢false fits)
 leaves_written words fault old new (Check chip chains) None other fits written = written
 leaves_written words fault old new (Check chip chains) (Some file) other fits written = absurd (true≢false fits)
+leaves_written words fault old new (Simulate chip ends) None other fits written = written
+leaves_written words fault old new (Simulate chip ends) (Some file) other fits written = absurd (true≢false fits)
 leaves_written words fault old new Help None other fits written = written
 leaves_written words fault old new Help (Some file) other fits written = absurd (true≢false fits)
 leaves_written words fault old new Version None other fits written = written
@@ -107,17 +110,35 @@ leaves_written words fault old new Version (Some file) other fits written = absu
 leaves_written words fault old new (Matrix matrix) None other fits written = absurd fits
 leaves_written words fault old new (Matrix matrix) (Some file) other fits written =
     (λ out. absurd (other out), λ no. rw (fits.name_is, fits.bytes_are) at written)
+leaves_written words fault old new (Flatten chip net) None other fits written = absurd fits
+leaves_written words fault old new (Flatten chip net) (Some file) other fits written =
+    (λ out. absurd (other out), λ no. rw (fits.name_is, fits.bytes_are) at written)
 
--- what is known of a writing that failed: the words are of `matrix`, and a part of the matrix's text may stand in its file
-record HasFailed (words : List (List ℕ)) (before after : ℕ) (old new : Option Files) (fault : Fault) (done : Done) : Type 0 where
-  pub is : IsMatrix words
-  pub fault_is : fault ≡ StoreFailed (out_word words)
+-- what is known of a writing that failed: the command writes a file of this name, and a part of its text may stand in it
+record HasFailed (words : List (List ℕ)) (before after : ℕ) (fault : Fault) (Leaves : Type 0) : Type 0 where
+  pub name : List ℕ
+  pub out : HasOut words name
+  pub fault_is : fault ≡ StoreFailed name
   pub rose : Rose before after
-  pub leaves : LeavesFiles words (Some fault) old new done
+  pub leaves : Leaves
+
+failed_text : (words : List (List ℕ)) (before after : ℕ) (old new : Option Files) (fault : Fault) (name text : List ℕ)
+    (file : OutFile) → HasOut words name → IsOutFile name text file → FailsToWrite old new before after fault file
+    → HasFailed words before after fault (LeavesText words (Some fault) old new name text)
+failed_text words before after old new fault name text file out fits failed =
+    let named : fault ≡ StoreFailed name = failed.fault_is ∙ ap StoreFailed fits.typed_is in
+    let part : MayWrite old new name text = rw (fits.name_is, fits.bytes_are) at failed.part in
+    record {
+      name = name;
+      out = out;
+      fault_is = named;
+      rose = failed.rose;
+      leaves = (λ told. part, λ other. absurd (other (name, (out, ap Some named))));
+    }
 
 failed_writing : (words : List (List ℕ)) (before after : ℕ) (old new : Option Files) (fault : Fault) (done : Done) (file : Option OutFile)
     → HasFile words done file → IsAsked words old done → IsSomeAnd file (FailsToWrite old new before after fault)
-    → HasFailed words before after old new fault done
+    → HasFailed words before after fault (LeavesFiles words (Some fault) old new done)
 failed_writing words before after old new fault (Respond values) None fits asked failed = absurd failed
 failed_writing words before after old new fault (Respond values) (Some file) fits asked failed = absurd (true≢false fits)
 failed_writing words before after old new fault (Pair values) None fits asked failed = absurd failed
@@ -126,20 +147,18 @@ failed_writing words before after old new fault (Defects names) None fits asked 
 failed_writing words before after old new fault (Defects names) (Some file) fits asked failed = absurd (true≢false fits)
 failed_writing words before after old new fault (Check chip chains) None fits asked failed = absurd failed
 failed_writing words before after old new fault (Check chip chains) (Some file) fits asked failed = absurd (true≢false fits)
+failed_writing words before after old new fault (Simulate chip ends) None fits asked failed = absurd failed
+failed_writing words before after old new fault (Simulate chip ends) (Some file) fits asked failed = absurd (true≢false fits)
 failed_writing words before after old new fault Help None fits asked failed = absurd failed
 failed_writing words before after old new fault Help (Some file) fits asked failed = absurd (true≢false fits)
 failed_writing words before after old new fault Version None fits asked failed = absurd failed
 failed_writing words before after old new fault Version (Some file) fits asked failed = absurd (true≢false fits)
 failed_writing words before after old new fault (Matrix matrix) None fits asked failed = absurd failed
 failed_writing words before after old new fault (Matrix matrix) (Some file) fits asked failed =
-    let named : fault ≡ StoreFailed (out_word words) = failed.fault_is ∙ ap StoreFailed fits.typed_is in
-    let part : MayWrite old new (out_word words) (text_of matrix) = rw (fits.name_is, fits.bytes_are) at failed.part in
-    record {
-      is = asked.0;
-      fault_is = named;
-      rose = failed.rose;
-      leaves = (λ out. part, λ other. absurd (other (asked.0, ap Some named)));
-    }
+    failed_text words before after old new fault (out_word words) (text_of matrix) file (inl (asked.0, refl)) fits failed
+failed_writing words before after old new fault (Flatten chip net) None fits asked failed = absurd failed
+failed_writing words before after old new fault (Flatten chip net) (Some file) fits asked failed =
+    failed_text words before after old new fault (flat_out_word words) (flat_text net) file (inr (asked.0, refl)) fits failed
 
 module _ (words : List (List ℕ)) (before after : Outside) (done : Done) (file : Option OutFile) (end : Finished)
     (fits : HasFile words done file) (asked : IsAsked words before.files done) (told : end.done ≡ Some done)
@@ -165,7 +184,7 @@ module _ (words : List (List ℕ)) (before after : Outside) (done : Done) (file 
         ⊎ FailsToPrint text before.bytes after.bytes before.sink_faults after.sink_faults end → EndsWork words before after done end
     printed_ends (inl printed) =
         let zero : end.status ≡ 0 = status ∙ ap status_told printed.fault_is in
-        let other : ¬ (IsOutFault words end.fault) = λ out. none_is_some (sym printed.fault_is ∙ out.1) in
+        let other : ¬ (IsOutFault words end.fault) = λ out. none_is_some (sym printed.fault_is ∙ out.1.1) in
         record {
           answer = record { status = status; done = (λ some. inl zero, λ said. some_done) };
           same = only_done;
@@ -181,7 +200,7 @@ module _ (words : List (List ℕ)) (before after : Outside) (done : Done) (file 
         }
     printed_ends (inr failed) =
         let four : end.status ≡ 4 = status ∙ ap status_told failed.fault_is in
-        let other : ¬ (IsOutFault words end.fault) = λ out. sink_is_no_store (same_Some _ _ (sym failed.fault_is ∙ out.1)) in
+        let other : ¬ (IsOutFault words end.fault) = λ out. sink_is_no_store (same_Some _ _ (sym failed.fault_is ∙ out.1.1)) in
         record {
           answer = record { status = status; done = (λ some. inr (inl failed.fault_is), λ said. some_done) };
           same = only_done;
@@ -202,10 +221,10 @@ module _ (words : List (List ℕ)) (before after : Outside) (done : Done) (file 
       → EndsWork words before after done end
   unwritten_ends fault is failed later quiet kept =
       let facts = failed_writing words before.store_faults after.store_faults before.files after.files fault done file fits asked failed in
-      let fault_is : end.fault ≡ Some (StoreFailed (out_word words)) = is ∙ ap Some facts.fault_is in
+      let fault_is : end.fault ≡ Some (StoreFailed facts.name) = is ∙ ap Some facts.fault_is in
       let four : end.status ≡ 4 = status ∙ ap status_told fault_is in
       record {
-        answer = record { status = status; done = (λ some. inr (inr (facts.is, fault_is)), λ said. some_done) };
+        answer = record { status = status; done = (λ some. inr (inr (facts.name, (facts.out, fault_is))), λ said. some_done) };
         same = only_done;
         prints = record {
           all = λ it done_is zero. absurd (omega (arith, zero, four));
@@ -216,7 +235,7 @@ module _ (words : List (List ℕ)) (before after : Outside) (done : Done) (file 
           done = rw told (subst (λ shown. LeavesFiles words shown before.files after.files done) (sym is) facts.leaves);
           nothing = λ none. absurd (true≢false (sym some_done ∙ none));
         };
-        cause = rw fault_is (inl (facts.is, (refl, facts.rose)));
+        cause = rw fault_is (inl (facts.out, facts.rose));
         of_store = record { told = λ more. rw fault_is tt; later = later };
         of_sink = record { told = λ more. absurd (omega (arith, more, quiet)); later = omega (arith, quiet) };
       }
@@ -254,7 +273,7 @@ memory_is_no_sink : NoMemory ≡ SinkFailed → ⊥
 memory_is_no_sink same = cc
 
 memory_is_no_out : (words : List (List ℕ)) → ¬ (IsOutFault words (Some NoMemory))
-memory_is_no_out words (is, same) = let bad = same_Some NoMemory (StoreFailed (out_word words)) same in cc
+memory_is_no_out words (name, (out, same)) = let bad = same_Some NoMemory (StoreFailed name) same in cc
 
 -- work whose lines found no memory is refused before it is written
 pub refused_ends : (words : List (List ℕ)) (before : Outside) (done : Done) (end : Finished) → end.fault ≡ Some NoMemory

@@ -17,7 +17,7 @@ use Rattle.ca_load.specs.Causes.{IsTextCause, IsCellsCause}
 use Rattle.ca_fault.specs.declared.fault.LimitKind.TheVariants as limit
 use Rattle.ca_fault.specs.declared.fault.Fault.{Fault}
 use Rattle.ca_fault.specs.declared.fault.Fault.TheVariants.{BadWords, Cells, NoCell, Cell, BadVector, NoDefect, TooLong, Limit, StoreFailed, SinkFailed, NoMemory}
-use Rattle.ca_flow.specs.Words.{cells_word, cell_word, vector_word, first_word, last_word, defect_word, dash, IsRespond, IsPair, IsDefects, IsMatrix, IsCheck, IsOnCell, IsCommand}
+use Rattle.ca_flow.specs.Words.{cells_word, cell_word, vector_word, first_word, last_word, defect_word, dash, IsRespond, IsPair, IsDefects, IsMatrix, IsOnChip, IsOnCell, IsCommand}
 use Rattle.ca_flow.specs.Cells.{OfFile, HasCell, LacksCell}
 use Rattle.ca_flow.specs.Fault.{Outside, IsNameCause, IsFirstUnfit, LacksDefect, IsPairCause, IsVectorCause, IsCellCause, IsValueCause, IsWordsCause, IsWriteCause, IsPrintCause, IsWorkCause, IsCause}
 use Rattle.ca_flow.specs.Laws.{IsInputFault, TellsFile}
@@ -305,15 +305,15 @@ module _ (words : List (List ℕ)) where
     of_value first last defect asked fault is (inl cell) = of_cell fault is cell
     of_value first last defect asked fault is (inr own) = of_vector first last defect asked fault own
 
-    of_work : ¬ (IsCheck words) → (fault : Fault) → IsInputFault fault → IsWorkCause words outside.files before after fault
+    of_work : ¬ (IsOnChip words) → (fault : Fault) → IsInputFault fault → IsWorkCause words outside.files before after fault
         → AtWords words file fault
-    of_work not_check fault is (inl (respond, cause)) =
+    of_work not_chip fault is (inl (respond, cause)) =
         inr (inl respond, of_value (vector_word words) (vector_word words) dash (inl (respond, (refl, (refl, refl)))) fault is cause)
-    of_work not_check fault is (inr (inl (pair, cause))) =
+    of_work not_chip fault is (inr (inl (pair, cause))) =
         inr (inr (inl pair), of_value (first_word words) (last_word words) (defect_word words) (inr (pair, (refl, (refl, refl)))) fault is cause)
-    of_work not_check fault is (inr (inr (inl (defects, cause)))) = inr (inr (inr (inl defects)), of_cell fault is cause)
-    of_work not_check fault is (inr (inr (inr (inr (check, cause))))) = absurd (not_check check)
-    of_work not_check fault is (inr (inr (inr (inl (matrix, cause))))) = inr (inr (inr (inr matrix)), of_cell fault is cause)
+    of_work not_chip fault is (inr (inr (inl (defects, cause)))) = inr (inr (inr (inl defects)), of_cell fault is cause)
+    of_work not_chip fault is (inr (inr (inr (inr (chip, cause))))) = absurd (not_chip chip)
+    of_work not_chip fault is (inr (inr (inr (inl (matrix, cause))))) = inr (inr (inr (inr matrix)), of_cell fault is cause)
 
   of_words : (file : Option (List ℕ)) (fault : Fault) → IsWordsCause words fault → AtWords words file fault
   of_words file BadWords cause = inl (cause, refl)
@@ -330,12 +330,12 @@ module _ (words : List (List ℕ)) where
   no_print before after fault is cause = cause
 
   -- the cause of a fault of input is in the words or in their file
-  pub of_cause : (file : Option (List ℕ)) (before after : Outside) (fault : Fault) → ¬ (IsCheck words) → TellsFile words file before → IsInputFault fault
+  pub of_cause : (file : Option (List ℕ)) (before after : Outside) (fault : Fault) → ¬ (IsOnChip words) → TellsFile words file before → IsInputFault fault
       → IsCause words before after fault → AtWords words file fault
-  of_cause file before after fault not_check tells is (inl cause) = of_words file fault cause
-  of_cause file before after fault not_check tells is (inr (inl cause)) =
-      of_work file before tells before.store_faults after.store_faults not_check fault is cause
-  of_cause file before after fault not_check tells is (inr (inr (inl cause))) =
+  of_cause file before after fault not_chip tells is (inl cause) = of_words file fault cause
+  of_cause file before after fault not_chip tells is (inr (inl cause)) =
+      of_work file before tells before.store_faults after.store_faults not_chip fault is cause
+  of_cause file before after fault not_chip tells is (inr (inr (inl cause))) =
       absurd (no_write before.store_faults after.store_faults fault is cause)
-  of_cause file before after fault not_check tells is (inr (inr (inr cause))) =
+  of_cause file before after fault not_chip tells is (inr (inr (inr cause))) =
       absurd (no_print before.sink_faults after.sink_faults fault is cause)

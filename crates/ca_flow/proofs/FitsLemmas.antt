@@ -11,9 +11,9 @@ use Rattle.ca_load.specs.declared.cells.TheConstants.{MAX_CELLS}
 use Rattle.ca_load.proofs.WholeLemmas.{IsOutsideFault}
 use Rattle.ca_fault.specs.declared.fault.Fault.{Fault}
 use Rattle.ca_flow.specs.declared.finished.Done.{Done}
-use Rattle.ca_flow.specs.declared.finished.Done.TheVariants.{Respond, Pair, Defects, Matrix, Check, Help, Version}
+use Rattle.ca_flow.specs.declared.finished.Done.TheVariants.{Respond, Pair, Defects, Matrix, Check, Flatten, Simulate, Help, Version}
 use Rattle.ca_flow.specs.declared.finished.Finished.{Finished}
-use Rattle.ca_flow.specs.Words.{cells_word, cell_word, vector_word, first_word, last_word, defect_word, dash, IsRespond, IsPair, IsDefects, IsMatrix, IsCheck, AsksNoFile, IsOnCell}
+use Rattle.ca_flow.specs.Words.{cells_word, cell_word, vector_word, first_word, last_word, defect_word, dash, IsRespond, IsPair, IsDefects, IsMatrix, IsOnChip, AsksNoFile, IsOnCell}
 use Rattle.ca_flow.specs.Outputs.{asked_network, AreValues}
 use Rattle.ca_flow.specs.Cells.{HasCell}
 use Rattle.ca_flow.specs.Finished.{status_told}
@@ -21,7 +21,8 @@ use Rattle.ca_flow.specs.Fault.{Outside, IsFirstUnfit, LacksDefect, IsCause}
 use Rattle.ca_flow.specs.Complete.{FitsCell, FitsChip, IsAnswerable}
 use Rattle.ca_flow.specs.Ends.{AreDefectNames, IsSoundMatrix, IsAsked, Ends}
 use Rattle.ca_flow.specs.Laws.{IsInputFault, TellsFile}
-use Rattle.ca_flow.proofs.CompleteLemmas.{at_words, no_asking_work, no_check, at_check}
+use Rattle.ca_flow.proofs.WordLemmas.{no_chip}
+use Rattle.ca_flow.proofs.CompleteLemmas.{at_words, no_asking_work, at_chip}
 use Rattle.ca_flow.proofs.ExactLemmas.{no_write, no_print, AreAsked, AtCell, AtCalled, AtReading, AtWords, on_cell, respond_or_pair, one_at_words, of_file, of_cause}
 
 -- the file is there and no longer than it may be, and in it the words name a subcircuit that they fit
@@ -104,13 +105,13 @@ outside_input : (fault : Fault) (before after : ℕ) → IsInputFault fault → 
 outside_input fault before after is (inl memory) = subst IsInputFault memory is
 outside_input fault before after is (inr (name, (store, rose))) = subst IsInputFault store is
 
--- words of `check` whose files give a chip have no cause of a fault of input
+-- words that fit the chip of their files have no cause of a fault of input
 chip_cause : (words : List (List ℕ)) (before after : Outside) (fault : Fault) (told : Files) → before.files ≡ Some told
     → FitsChip words told → IsInputFault fault → IsCause words before after fault → ⊥
 chip_cause words before after fault told are fits is (inl cause) = at_words words (inr (inl fits.is)) fault cause
 chip_cause words before after fault told are fits is (inr (inl cause)) =
     outside_input fault before.store_faults after.store_faults is
-    (at_check words before.files told are fits before.store_faults after.store_faults fault cause)
+    (at_chip words before.files told are fits before.store_faults after.store_faults fault cause)
 chip_cause words before after fault told are fits is (inr (inr (inl cause))) =
     no_write words before.store_faults after.store_faults fault is cause
 chip_cause words before after fault told are fits is (inr (inr (inr cause))) =
@@ -130,7 +131,7 @@ no_cause words before after fault (inr answerable) is cause = by before.files an
         let tells : TellsFile words (told (cells_word words)) before = rw same refl in
         fits_file words fault (told (cells_word words)) fits
         (of_cause words (told (cells_word words)) before after fault
-        (no_check words (file_command words (told (cells_word words)) fits)) tells is cause)
+        (no_chip words (file_command words (told (cells_word words)) fits)) tells is cause)
     by (Some told) (inr chip) same = chip_cause words before after fault told same chip is cause
 
 -- what holds of the subcircuit, in another's place
@@ -162,11 +163,13 @@ respond_or_matrix words one other = omega (arith, ap length (sym one.command ∙
 
 -- work that was asked for is that of words that their file fits
 module _ (words : List (List ℕ)) (file : Option (List ℕ)) (outside : Outside) (tells : TellsFile words file outside) where
-  asked_fits : ¬ (IsCheck words) → (done : Done) → IsAsked words outside.files done → AsksNoFile words ⊎ FitsFile words file
-  asked_fits not_check (Check chip chains) (is, asked) = absurd (not_check is)
-  asked_fits not_check Help is = inl (inl is)
-  asked_fits not_check Version is = inl (inr is)
-  asked_fits not_check (Respond values) (is, asked) =
+  asked_fits : ¬ (IsOnChip words) → (done : Done) → IsAsked words outside.files done → AsksNoFile words ⊎ FitsFile words file
+  asked_fits not_chip (Check chip chains) (is, asked) = absurd (not_chip (inl is))
+  asked_fits not_chip (Flatten chip net) (is, asked) = absurd (not_chip (inr (inl is)))
+  asked_fits not_chip (Simulate chip ends) (is, asked) = absurd (not_chip (inr (inr is)))
+  asked_fits not_chip Help is = inl (inl is)
+  asked_fits not_chip Version is = inl (inr is)
+  asked_fits not_chip (Respond values) (is, asked) =
       let P : RawCell → Type 0 = AreValues (vector_word words) (vector_word words) dash values in
       inr (weaker words file P (λ raw held. record {
         is = inl is;
@@ -174,7 +177,7 @@ module _ (words : List (List ℕ)) (file : Option (List ℕ)) (outside : Outside
         respond = λ _. held.first_fits;
         pair = λ pair. absurd (respond_or_pair words is pair);
       }) (of_file words file outside (HasCell (cell_word words) P) tells asked))
-  asked_fits not_check (Pair values) (is, asked) =
+  asked_fits not_chip (Pair values) (is, asked) =
       let P : RawCell → Type 0 = AreValues (first_word words) (last_word words) (defect_word words) values in
       inr (weaker words file P (λ raw held. record {
         is = inr (inl is);
@@ -186,7 +189,7 @@ module _ (words : List (List ℕ)) (file : Option (List ℕ)) (outside : Outside
           defect = some_of _ (asked_network raw (defect_word words)) held.ends;
         };
       }) (of_file words file outside (HasCell (cell_word words) P) tells asked))
-  asked_fits not_check (Defects names) (is, asked) =
+  asked_fits not_chip (Defects names) (is, asked) =
       let P : RawCell → Type 0 = AreDefectNames names in
       inr (weaker words file P (λ raw held. record {
         is = inr (inr (inl is));
@@ -194,7 +197,7 @@ module _ (words : List (List ℕ)) (file : Option (List ℕ)) (outside : Outside
         respond = λ respond. absurd (respond_or_defects words respond is);
         pair = λ pair. absurd (pair_or_defects words pair is);
       }) (of_file words file outside (HasCell (cell_word words) P) tells asked))
-  asked_fits not_check (Matrix matrix) (is, asked) =
+  asked_fits not_chip (Matrix matrix) (is, asked) =
       let P : RawCell → Type 0 = IsSoundMatrix matrix in
       inr (weaker words file P (λ raw held. record {
         is = inr (inr (inr is));
@@ -204,24 +207,24 @@ module _ (words : List (List ℕ)) (file : Option (List ℕ)) (outside : Outside
       }) (of_file words file outside (HasCell (cell_word words) P) tells asked))
 
 -- no two faults of input have a cause
-pub one_cause : (words : List (List ℕ)) (file : Option (List ℕ)) → ¬ (IsCheck words) → (before after again later : Outside) (fault other : Fault)
+pub one_cause : (words : List (List ℕ)) (file : Option (List ℕ)) → ¬ (IsOnChip words) → (before after again later : Outside) (fault other : Fault)
     → TellsFile words file before → TellsFile words file again → IsInputFault fault → IsInputFault other
     → IsCause words before after fault → IsCause words again later other → fault ≡ other
-one_cause words file not_check before after again later fault other tells tells_too is is_too cause cause_too =
-    one_at_words words file fault other (of_cause words file before after fault not_check tells is cause)
-    (of_cause words file again later other not_check tells_too is_too cause_too)
+one_cause words file not_chip before after again later fault other tells tells_too is is_too cause cause_too =
+    one_at_words words file fault other (of_cause words file before after fault not_chip tells is cause)
+    (of_cause words file again later other not_chip tells_too is_too cause_too)
 
 -- a cause is told
 pub told_cause : (words : List (List ℕ)) (file : Option (List ℕ)) (before after : Outside) (end : Finished) (fault : Fault)
-    → ¬ (IsCheck words) → TellsFile words file before → Ends words before after end → IsInputFault fault → IsCause words before after fault
+    → ¬ (IsOnChip words) → TellsFile words file before → Ends words before after end → IsInputFault fault → IsCause words before after fault
     → IsSomeAnd end.fault (λ told. IsInputFault told → told ≡ fault)
-told_cause words file before after end fault not_check tells ends is cause = by end.fault refl ends.cause
+told_cause words file before after end fault not_chip tells ends is cause = by end.fault refl ends.cause
   where
     by_done : (done : Option Done) → IsSome done → IfSome done (IsAsked words before.files) → ⊥
     by_done None some asked = true≢false (sym some)
-    by_done (Some done) some asked = elim (asked_fits words file before tells not_check done asked) [
+    by_done (Some done) some asked = elim (asked_fits words file before tells not_chip done asked) [
       | inl asks ↦ asking_cause words before after fault asks is cause
-      | inr fits ↦ fits_file words fault file fits (of_cause words file before after fault not_check tells is cause)
+      | inr fits ↦ fits_file words fault file fits (of_cause words file before after fault not_chip tells is cause)
     ]
 
     by : (told : Option Fault) → end.fault ≡ told → IfSome told (IsCause words before after)
@@ -229,4 +232,4 @@ told_cause words file before after end fault not_check tells ends is cause = by 
     by None none told =
         let zero : end.status ≡ 0 = ends.answer.status ∙ ap status_told none in
         absurd (by_done end.done (ends.answer.done.1 (inl zero)) ends.asked)
-    by (Some other) some told = λ is_too. one_cause words file not_check before after before after other fault tells tells is_too is told cause
+    by (Some other) some told = λ is_too. one_cause words file not_chip before after before after other fault tells tells is_too is told cause

@@ -4,6 +4,7 @@ pub mod ChipLemmas
 pub mod OutputLemmas
 pub mod FileLemmas
 pub mod CauseLemmas
+pub mod AskedLemmas
 pub mod CompleteLemmas
 pub mod EndLemmas
 pub mod ExactLemmas

@@ -20,7 +20,7 @@ use Rattle.ca_load.specs.Causes.{IsTextCause}
 use Rattle.ca_fault.specs.declared.fault.LimitKind.TheVariants as limit
 use Rattle.ca_fault.specs.declared.fault.Fault.{Fault}
 use Rattle.ca_fault.specs.declared.fault.Fault.TheVariants.{Cells, NoCell, Cell, BadVector, NoDefect, TooLong, Limit}
-use Rattle.ca_flow.specs.Words.{cells_word, cell_word, vector_word, first_word, last_word, defect_word, dash, IsCheck, AsksNoFile, IsOnCell, IsCommand}
+use Rattle.ca_flow.specs.Words.{cells_word, cell_word, vector_word, first_word, last_word, defect_word, dash, IsOnChip, AsksNoFile, IsOnCell, IsCommand}
 use Rattle.ca_flow.specs.Outputs.{letters_of, Fits, asked_network}
 use Rattle.ca_flow.specs.Cells.{OfFile, HasCell, LacksCell, OfCell}
 use Rattle.ca_flow.specs.Fault.{Outside, IsPairCause, IsVectorCause, IsCellCause, IsCause}
@@ -184,15 +184,15 @@ module _ (words : List (List ℕ)) (bytes : List ℕ) (outside : Outside) (told 
   stands : Stands words outside
   stands = elim (dec_le (length bytes) MAX_CELLS) [ yes within ↦ at_bytes within | no past ↦ too_long (omega (arith, past)) ]
 
-of_command : (words : List (List ℕ)) → ¬ (IsCheck words) → IsCommand words → IsOnCell words ⊎ AsksNoFile words
-of_command words not_check (inl on) = inl on
-of_command words not_check (inr (inl check)) = absurd (not_check check)
-of_command words not_check (inr (inr asks)) = inr asks
+of_command : (words : List (List ℕ)) → ¬ (IsOnChip words) → IsCommand words → IsOnCell words ⊎ AsksNoFile words
+of_command words not_chip (inl on) = inl on
+of_command words not_chip (inr (inl chip)) = absurd (not_chip chip)
+of_command words not_chip (inr (inr asks)) = inr asks
 
 -- a command on a cell whose file is there can be answered, or a fault of input has a cause
-pub some_cause : (words : List (List ℕ)) (bytes : List ℕ) (outside : Outside) → TellsFile words (Some bytes) outside → ¬ (IsCheck words) → IsCommand words
+pub some_cause : (words : List (List ℕ)) (bytes : List ℕ) (outside : Outside) → TellsFile words (Some bytes) outside → ¬ (IsOnChip words) → IsCommand words
     → IsAnswerable words outside.files ⊎ HasInputCause words outside
-some_cause words bytes outside tells not_check command = by_command (of_command words not_check command)
+some_cause words bytes outside tells not_chip command = by_command (of_command words not_chip command)
   where
     by : IsOnCell words → (files : Option Files) → outside.files ≡ files
         → IsSomeAnd files (λ told. told (cells_word words) ≡ Some bytes) → Stands words outside

@@ -1,13 +1,19 @@
 -- The command that words spell.
-use Rattle.std.specs.Prelude.{◌≡◌, ℕ, List}
+use Rattle.std.specs.Prelude.{◌≡◌, ℕ, List, ⊤}
 use Rattle.ca_load.specs.declared.loading.FileNames.{FileNames}
 use Rattle.ca_load.specs.Texts.{names_of}
+use Rattle.ca_asked.specs.Asked.{AreBothOrNeither}
 use Rattle.ca_flow.specs.declared.words.CellWords.{CellWords}
 use Rattle.ca_flow.specs.declared.words.PairWords.{PairWords}
 use Rattle.ca_flow.specs.declared.words.MatrixWords.{MatrixWords}
+use Rattle.ca_flow.specs.declared.words.ChipWords.{ChipWords}
+use Rattle.ca_flow.specs.declared.words.FlattenWords.{FlattenWords}
+use Rattle.ca_flow.specs.declared.words.SimulateWords.{SimulateWords}
 use Rattle.ca_flow.specs.declared.words.Command.{Command}
-use Rattle.ca_flow.specs.declared.words.Command.TheVariants.{Respond, Pair, Defects, Matrix, Check, Help, Version}
-use Rattle.ca_flow.specs.Words.{cells_word, cell_word, vector_word, first_word, last_word, defect_word, out_word, dash, chip_files, IsRespond, IsPair, IsDefects, IsMatrix, IsCheck, IsHelp, IsVersion}
+use Rattle.ca_flow.specs.declared.words.Command.TheVariants.{Respond, Pair, Defects, Matrix, Check, Flatten, Simulate, Help, Version}
+use Rattle.ca_flow.specs.Words.{cells_word, cell_word, vector_word, first_word, last_word, defect_word, out_word, dash}
+use Rattle.ca_flow.specs.Words.{chip_files, instance_word, chip_defect_word, flat_out_word, chip_first_word, chip_last_word}
+use Rattle.ca_flow.specs.Words.{IsRespond, IsPair, IsDefects, IsMatrix, IsCheck, IsFlatten, IsSimulate, IsHelp, IsVersion}
 
 -- the file and the cell of a command are those of the words
 pub record HasCellWords (words : List (List ℕ)) (request : CellWords) : Type 0 where
@@ -46,6 +52,25 @@ pub record IsSpelledCheck (words : List (List ℕ)) (names : FileNames) : Type 0
   pub is : IsCheck words
   pub files : names_of names ≡ chip_files words
 
+-- the files, the instance and the defect of a command are those of the words
+pub record HasChipWords (words : List (List ℕ)) (request : ChipWords) : Type 0 where
+  pub files : names_of request.files ≡ chip_files words
+  pub instance : request.instance.now ≡ instance_word words
+  pub defect : request.defect.now ≡ chip_defect_word words
+
+-- the words are these of `flatten`
+pub record IsSpelledFlatten (words : List (List ℕ)) (request : FlattenWords) : Type 0 where
+  pub is : IsFlatten words
+  pub of : HasChipWords words request.of
+  pub out : request.out.now ≡ flat_out_word words
+
+-- the words are these of `simulate`
+pub record IsSpelledSimulate (words : List (List ℕ)) (request : SimulateWords) : Type 0 where
+  pub is : IsSimulate words
+  pub of : HasChipWords words request.of
+  pub first : request.first.now ≡ chip_first_word words
+  pub last : request.last.now ≡ chip_last_word words
+
 -- the words spell the command
 abbrev pub IsSpelled : List (List ℕ) → Command → Type 0
 IsSpelled words (Respond request) = IsSpelledRespond words request
@@ -53,5 +78,17 @@ IsSpelled words (Pair request) = IsSpelledPair words request
 IsSpelled words (Defects request) = IsSpelledDefects words request
 IsSpelled words (Matrix request) = IsSpelledMatrix words request
 IsSpelled words (Check names) = IsSpelledCheck words names
+IsSpelled words (Flatten request) = IsSpelledFlatten words request
+IsSpelled words (Simulate request) = IsSpelledSimulate words request
 IsSpelled words Help = IsHelp words
 IsSpelled words Version = IsVersion words
+
+-- both the instance and the defect of a command on a chip are a dash, or neither is
+abbrev pub NamesBoth : ChipWords → Type 0
+NamesBoth request = AreBothOrNeither request.instance.now request.defect.now
+
+-- the same of a command that has them
+abbrev pub IsWhole : Command → Type 0
+IsWhole (Flatten request) = NamesBoth request.of
+IsWhole (Simulate request) = NamesBoth request.of
+IsWhole _ = ⊤

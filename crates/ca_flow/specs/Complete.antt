@@ -6,8 +6,15 @@ use Rattle.ca_cell.specs.Rules.{KeepsRules}
 use Rattle.ca_fault.specs.declared.fault.Fault.TheVariants.{NoMemory}
 use Rattle.ca_flow.specs.declared.finished.Finished.{Finished}
 use Rattle.ca_load.specs.Texts.{Inputs, ReadAs}
-use Rattle.ca_load.specs.Chips.{GiveChip}
-use Rattle.ca_flow.specs.Words.{cells_word, cell_word, vector_word, first_word, last_word, defect_word, chip_files, IsRespond, IsPair, IsCheck, AsksNoFile, IsOnCell}
+use Rattle.ca_load.specs.Chips.{IsChipOf, GiveChip}
+use Rattle.ca_wired.specs.Linked.{Chip}
+use Rattle.ca_wired.specs.Instances.{IsNamedGate}
+use Rattle.ca_flat.specs.Chip.{cell_at}
+use Rattle.ca_core.specs.Core.{core_of}
+use Rattle.ca_asked.specs.Asked.{FitsInputs, defect_called}
+use Rattle.ca_flow.specs.Words.{cells_word, cell_word, vector_word, first_word, last_word, defect_word, dash}
+use Rattle.ca_flow.specs.Words.{chip_files, instance_word, chip_defect_word, chip_first_word, chip_last_word}
+use Rattle.ca_flow.specs.Words.{IsRespond, IsPair, IsFlatten, IsSimulate, AsksNoFile, IsOnCell, IsOnChip}
 use Rattle.ca_flow.specs.Outputs.{Fits, asked_network}
 use Rattle.ca_flow.specs.Cells.{IsFileWith, HasCell}
 use Rattle.ca_flow.specs.Fault.{Outside}
@@ -30,13 +37,36 @@ pub record FitsCell (words : List (List ℕ)) (raw : RawCell) : Type 0 where
 abbrev pub FitsFile : List (List ℕ) → Files → Type 0
 FitsFile words told = IsFileWith told (cells_word words) (HasCell (cell_word words) (FitsCell words))
 
--- the words are those of a command on a chip, and the files that they name are there, are no longer than they may
--- be, and read as what gives a chip with chains
+-- a library instance has the name, and each that has it is of a cell with the defect
+pub record HasDefect (chip : Chip) (instance defect : List ℕ) : Type 0 where
+  pub u : ℕ
+  pub named : IsNamedGate chip instance u
+  pub called : (v : ℕ) → IsNamedGate chip instance v → IsSome (defect_called (cell_at (core_of chip) v) defect)
+
+-- the words name no defect, or one of the chip
+abbrev pub FitsDefect : List (List ℕ) → Chip → Type 0
+FitsDefect words chip =
+    (instance_word words ≡ dash) ⊎ HasDefect chip (instance_word words) (chip_defect_word words)
+
+-- the vectors of `simulate` have one letter for each chip input, and its words name no defect, or one of the chip
+pub record FitsSimulate (words : List (List ℕ)) (chip : Chip) : Type 0 where
+  pub first : FitsInputs chip (chip_first_word words)
+  pub last : FitsInputs chip (chip_last_word words)
+  pub defect : FitsDefect words chip
+
+-- the own words of a command on a chip are of the chip
+pub record FitsOwn (words : List (List ℕ)) (chip : Chip) : Type 0 where
+  pub flatten : IsFlatten words → FitsDefect words chip
+  pub simulate : IsSimulate words → FitsSimulate words chip
+
+-- the words are those of a command on a chip, the files that they name are there, are no longer than they may be,
+-- and read as what gives a chip with chains, and the command's own words are of the chip
 pub record FitsChip (words : List (List ℕ)) (told : Files) : Type 0 where
-  pub is : IsCheck words
+  pub is : IsOnChip words
   pub inputs : Inputs
   pub read : ReadAs (chip_files words) inputs told
   pub gives : GiveChip inputs
+  pub own : (chip : Chip) → IsChipOf inputs chip → FitsOwn words chip
 
 -- the words ask for no file, or the files are told and the words fit those that they name
 abbrev pub IsAnswerable : List (List ℕ) → Option Files → Type 0

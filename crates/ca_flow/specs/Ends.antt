@@ -8,15 +8,16 @@ use Rattle.ca_matrix.specs.Matrix.{Entries}
 use Rattle.ca_matrix.specs.Built.{IsMatrixOf}
 use Rattle.ca_scan.specs.ChainFault.{AreAllChains}
 use Rattle.ca_load.specs.Files.{TellsStoreFault}
-use Rattle.ca_load.specs.Texts.{OfInputs}
-use Rattle.ca_load.specs.Chips.{IsChipOf}
 use Rattle.ca_flow.specs.declared.finished.Done.{Done}
-use Rattle.ca_flow.specs.declared.finished.Done.TheVariants.{Respond, Pair, Defects, Matrix, Check, Help, Version}
+use Rattle.ca_flow.specs.declared.finished.Done.TheVariants.{Respond, Pair, Defects, Matrix, Check, Flatten, Simulate, Help, Version}
 use Rattle.ca_flow.specs.declared.finished.Finished.{Finished}
-use Rattle.ca_flow.specs.Words.{cells_word, cell_word, vector_word, first_word, last_word, defect_word, dash, chip_files, IsRespond, IsPair, IsDefects, IsMatrix, IsCheck, IsHelp, IsVersion}
+use Rattle.ca_flow.specs.Words.{cells_word, cell_word, vector_word, first_word, last_word, defect_word, dash}
+use Rattle.ca_flow.specs.Words.{chip_files, instance_word, chip_defect_word, chip_first_word, chip_last_word}
+use Rattle.ca_flow.specs.Words.{IsRespond, IsPair, IsDefects, IsMatrix, IsCheck, IsFlatten, IsSimulate, IsHelp, IsVersion}
 use Rattle.ca_flow.specs.Outputs.{AreValues}
 use Rattle.ca_flow.specs.Finished.{IsAnswer, Prints, Writes, TellsSinkFault}
 use Rattle.ca_flow.specs.Cells.{OfCell}
+use Rattle.ca_flow.specs.OnChip.{IsChipOfFiles, IsFlatOf, AreEndsOf}
 use Rattle.ca_flow.specs.Fault.{Outside, IsCause}
 use Rattle.ca_flow.specs.Complete.{Completes}
 
@@ -38,7 +39,13 @@ IsAsked words files (Pair values) = IsPair words × OfCell files (cells_word wor
 IsAsked words files (Defects names) = IsDefects words × OfCell files (cells_word words) (cell_word words) (AreDefectNames names)
 IsAsked words files (Matrix matrix) = IsMatrix words × OfCell files (cells_word words) (cell_word words) (IsSoundMatrix matrix)
 IsAsked words files (Check chip chains) =
-    IsCheck words × (AreAllChains chip chains × OfInputs files (chip_files words) (λ inputs. IsChipOf inputs chip))
+    IsCheck words × (AreAllChains chip chains × IsChipOfFiles files (chip_files words) chip)
+IsAsked words files (Flatten chip net) = IsFlatten words
+    × (IsChipOfFiles files (chip_files words) chip × IsFlatOf (instance_word words) (chip_defect_word words) chip net)
+IsAsked words files (Simulate chip ends) = IsSimulate words
+    × (IsChipOfFiles files (chip_files words) chip
+    × AreEndsOf (instance_word words) (chip_defect_word words) (chip_first_word words) (chip_last_word words) chip
+    ends.good.items ends.faulty.items)
 IsAsked words files Help = IsHelp words
 IsAsked words files Version = IsVersion words
 

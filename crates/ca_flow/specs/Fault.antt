@@ -9,7 +9,10 @@ use Rattle.ca_fault.specs.declared.fault.Fault.TheVariants.{BadWords, NoCell, Ce
 use Rattle.ca_load.specs.Causes.{IsLibraryCause, IsLoadCause}
 use Rattle.ca_flow.specs.Cells.{OfFile, OfCell, LacksCell}
 use Rattle.ca_flow.specs.Outputs.{Fits, asked_network}
-use Rattle.ca_flow.specs.Words.{cells_word, cell_word, vector_word, first_word, last_word, defect_word, out_word, dash, chip_files, IsRespond, IsPair, IsDefects, IsMatrix, IsCheck, IsCommand}
+use Rattle.ca_flow.specs.Words.{cells_word, cell_word, vector_word, first_word, last_word, defect_word, dash}
+use Rattle.ca_flow.specs.Words.{chip_files, instance_word, chip_defect_word, chip_first_word, chip_last_word}
+use Rattle.ca_flow.specs.Words.{IsRespond, IsPair, IsDefects, IsMatrix, IsFlatten, IsSimulate, IsOnChip, IsCommand, HasOut}
+use Rattle.ca_flow.specs.OnChip.{IsFlattenCause, IsSimulateCause}
 
 -- what is seen of a store and a sink: the files and the bytes that the sink holds, where they are told, and how often each failed
 pub record Outside : Type 0 where
@@ -63,7 +66,7 @@ IsWordsCause words _ = ⊥
 
 -- why the file that the command writes could not be written
 abbrev pub IsWriteCause : List (List ℕ) → ℕ → ℕ → Fault → Type 0
-IsWriteCause words before after (StoreFailed name) = IsMatrix words × ((name ≡ out_word words) × Rose before after)
+IsWriteCause words before after (StoreFailed name) = HasOut words name × Rose before after
 IsWriteCause words before after _ = ⊥
 
 -- why nothing, or a part alone, was printed of work that was whole: there was no memory for its lines, or the output failed
@@ -72,6 +75,21 @@ IsPrintCause before after SinkFailed = Rose before after
 IsPrintCause before after NoMemory = ⊤
 IsPrintCause before after _ = ⊥
 
+-- why the own words of a command on a chip aren't of the chip of its files
+abbrev pub IsOwnCause : List (List ℕ) → Option Files → Fault → Type 0
+IsOwnCause words files fault =
+    (IsFlatten words
+    × IsFlattenCause (chip_files words) (instance_word words) (chip_defect_word words) files fault)
+    ⊎ (IsSimulate words
+    × IsSimulateCause (chip_files words) (instance_word words) (chip_defect_word words)
+    (chip_first_word words) (chip_last_word words) files fault)
+
+-- why a command on a chip did no work: its files give no chip, or its own words aren't of it
+abbrev pub IsChipWorkCause : List (List ℕ) → Option Files → ℕ → ℕ → Fault → Type 0
+IsChipWorkCause words files before after fault =
+    IsOnChip words
+    × (IsLoadCause (chip_files words) files before after fault ⊎ IsOwnCause words files fault)
+
 -- why the command that the words spell did no work
 abbrev pub IsWorkCause : List (List ℕ) → Option Files → ℕ → ℕ → Fault → Type 0
 IsWorkCause words files before after fault =
@@ -79,7 +97,7 @@ IsWorkCause words files before after fault =
     ⊎ ((IsPair words × IsValueCause (cells_word words) (cell_word words) (first_word words) (last_word words) (defect_word words) files before after fault)
     ⊎ ((IsDefects words × IsCellCause (cells_word words) (cell_word words) files before after fault)
     ⊎ ((IsMatrix words × IsCellCause (cells_word words) (cell_word words) files before after fault)
-    ⊎ (IsCheck words × IsLoadCause (chip_files words) files before after fault))))
+    ⊎ IsChipWorkCause words files before after fault)))
 
 -- why a command of these words was refused
 abbrev pub IsCause : List (List ℕ) → Outside → Outside → Fault → Type 0

@@ -4,16 +4,17 @@ use Rattle.std.specs.List.{flat_map}
 use Rattle.std.specs.Option.{ForSome}
 use Rattle.ca_store.specs.Store.{Files, appended, AppendsPart}
 use Rattle.ca_store.specs.Writing.{ChangesOnly, MayWrite}
+use Rattle.ca_flat_text.specs.FlatText.{flat_text}
 use Rattle.ca_matrix.specs.Text.{text_of}
 use Rattle.ca_fault.specs.declared.fault.Fault.{Fault}
 use Rattle.ca_fault.specs.declared.fault.Fault.TheVariants.{StoreFailed, SinkFailed}
 use Rattle.ca_flow.specs.declared.finished.Done.{Done}
-use Rattle.ca_flow.specs.declared.finished.Done.TheVariants.{Respond, Pair, Defects, Matrix, Check, Help, Version}
+use Rattle.ca_flow.specs.declared.finished.Done.TheVariants.{Respond, Pair, Defects, Matrix, Check, Flatten, Simulate, Help, Version}
 use Rattle.ca_flow.specs.declared.finished.Finished.{Finished}
 use Rattle.ca_fault.specs.FaultLine.{status_of}
-use Rattle.ca_flow.specs.Lines.{line_of_pin, line_of_name, IsSummary, check_text}
+use Rattle.ca_flow.specs.Lines.{line_of_pin, line_of_name, IsSummary, check_text, flatten_text, simulate_text}
 use Rattle.ca_flow.specs.Usage.{usage_text, version_text}
-use Rattle.ca_flow.specs.Words.{out_word, IsMatrix}
+use Rattle.ca_flow.specs.Words.{out_word, flat_out_word, HasOut}
 
 -- the text tells a command's work
 abbrev pub IsTold : Done → List ℕ → Type 0
@@ -22,6 +23,8 @@ IsTold (Pair values) text = text ≡ flat_map line_of_pin values
 IsTold (Defects names) text = text ≡ flat_map line_of_name names
 IsTold (Matrix matrix) text = IsSummary matrix text
 IsTold (Check chip chains) text = text ≡ check_text chip chains
+IsTold (Flatten chip net) text = text ≡ flatten_text net
+IsTold (Simulate chip ends) text = text ≡ simulate_text chip ends.good.items ends.faulty.items
 IsTold Help text = text ≡ usage_text
 IsTold Version text = text ≡ version_text
 
@@ -32,7 +35,7 @@ status_told (Some fault) = status_of fault
 
 -- the file that the command writes could not be written
 abbrev pub IsOutFault : List (List ℕ) → Option Fault → Type 0
-IsOutFault words fault = IsMatrix words × (fault ≡ Some (StoreFailed (out_word words)))
+IsOutFault words fault = (name : List ℕ) × (HasOut words name × (fault ≡ Some (StoreFailed name)))
 
 -- the status is that of the fault, and the work is told exactly where it is 0, or the output or the writing of a file failed
 pub record IsAnswer (words : List (List ℕ)) (end : Finished) : Type 0 where
@@ -49,18 +52,19 @@ pub record Prints (end : Finished) (old new : Option (List ℕ)) : Type 0 where
   pub part : ForSome end.done (λ done. end.fault ≡ Some SinkFailed → HasText done (λ text. AppendsPart text old new))
   pub nothing : end.status ≢ 0 → end.fault ≢ Some SinkFailed → new ≡ old
 
--- what work that is told leaves of the files: the text of a matrix stands in its file, or a part of it where the writing failed, and every
--- other file is as it was
+-- what work with a file leaves of the files: its text stands in the file, or a part of it where the writing failed, and
+-- every other file is as it was
+abbrev pub LeavesText : List (List ℕ) → Option Fault → Option Files → Option Files → List ℕ → List ℕ → Type 0
+LeavesText words fault old new name text =
+    (IsOutFault words fault → MayWrite old new name text)
+    × (¬ (IsOutFault words fault) → ChangesOnly old new name (Some text))
+
+-- what work that is told leaves of the files
 abbrev pub LeavesFiles : List (List ℕ) → Option Fault → Option Files → Option Files → Done → Type 0
-LeavesFiles words fault old new (Respond values) = new ≡ old
-LeavesFiles words fault old new (Pair values) = new ≡ old
-LeavesFiles words fault old new (Defects names) = new ≡ old
-LeavesFiles words fault old new (Check chip chains) = new ≡ old
-LeavesFiles words fault old new Help = new ≡ old
-LeavesFiles words fault old new Version = new ≡ old
-LeavesFiles words fault old new (Matrix matrix) =
-    (IsOutFault words fault → MayWrite old new (out_word words) (text_of matrix))
-    × (¬ (IsOutFault words fault) → ChangesOnly old new (out_word words) (Some (text_of matrix)))
+LeavesFiles words fault old new (Matrix matrix) = LeavesText words fault old new (out_word words) (text_of matrix)
+LeavesFiles words fault old new (Flatten chip net) =
+    LeavesText words fault old new (flat_out_word words) (flat_text net)
+LeavesFiles words fault old new _ = new ≡ old
 
 -- what a command leaves of the files: where no work is told they are as they were
 pub record Writes (words : List (List ℕ)) (end : Finished) (old new : Option Files) : Type 0 where

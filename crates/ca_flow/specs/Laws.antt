@@ -10,7 +10,7 @@ use Rattle.ca_load.specs.declared.tables.TheConstants.{MAX_SCAN}
 use Rattle.ca_fault.specs.declared.fault.Fault.{Fault}
 use Rattle.ca_fault.specs.declared.fault.Fault.TheVariants.{BadWords, Cells, Netlist, Scan, Chip, Chain, NoCell, Cell, BadVector, NoInstance, NoDefect, TooLong, Limit, StoreFailed, SinkFailed, NoMemory}
 use Rattle.ca_flow.specs.declared.finished.Finished.{Finished}
-use Rattle.ca_flow.specs.Words.{cells_word, IsCheck, IsCommand}
+use Rattle.ca_flow.specs.Words.{cells_word, IsOnChip, IsCommand}
 use Rattle.ca_flow.specs.Fault.{Outside, IsCause}
 use Rattle.ca_flow.specs.Complete.{IsAnswerable}
 use Rattle.ca_flow.specs.Ends.{Ends}
@@ -42,7 +42,7 @@ TellsFile words file outside = IsSomeAnd outside.files (λ told. told (cells_wor
 -- else the store holds and however often calls failed
 abbrev pub HasOneCause : List (List ℕ) → Option (List ℕ) → Type 0
 HasOneCause words file =
-    ¬ (IsCheck words) → (before after again later : Outside) (fault other : Fault)
+    ¬ (IsOnChip words) → (before after again later : Outside) (fault other : Fault)
     → TellsFile words file before → TellsFile words file again → IsInputFault fault → IsInputFault other
     → IsCause words before after fault → IsCause words again later other → fault ≡ other
 
@@ -60,14 +60,14 @@ HasInputCause words outside = (fault : Fault) × (IsInputFault fault × IsCause 
 abbrev pub SomeCauseOrAnswer : Type 0
 SomeCauseOrAnswer =
     (words : List (List ℕ)) (bytes : List ℕ) (outside : Outside) → TellsFile words (Some bytes) outside
-    → ¬ (IsCheck words) → IsCommand words → IsAnswerable words outside.files ⊎ HasInputCause words outside
+    → ¬ (IsOnChip words) → IsCommand words → IsAnswerable words outside.files ⊎ HasInputCause words outside
 
 -- a command, but one on a chip, of whose words and file a fault of input has a cause ends with this fault, or with
 -- one of the store, the output or memory
 abbrev pub CauseIsTold : Type 0
 CauseIsTold =
     (words : List (List ℕ)) (file : Option (List ℕ)) (before after : Outside) (end : Finished) (fault : Fault)
-    → ¬ (IsCheck words) → TellsFile words file before → Ends words before after end → IsInputFault fault
+    → ¬ (IsOnChip words) → TellsFile words file before → Ends words before after end → IsInputFault fault
     → IsCause words before after fault → IsSomeAnd end.fault (λ told. IsInputFault told → told ≡ fault)
 
 -- of each cell that a word names in a text, and that keeps the rules, the defects have names that differ

@@ -5,6 +5,7 @@ pub mod Usage
 pub mod Finished
 pub mod Outputs
 pub mod Cells
+pub mod OnChip
 pub mod Fault
 pub mod Stages
 pub mod Complete

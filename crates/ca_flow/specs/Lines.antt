@@ -1,5 +1,5 @@
 -- The lines that tell the work of a command.
-use Rattle.std.specs.Prelude.{ℕ, ◌≡◌, List, [], ◌∷◌, ◌++◌, length, codes, decimal, Option, Some, None, slice_get}
+use Rattle.std.specs.Prelude.{ℕ, zero, suc, ◌≡◌, List, [], ◌∷◌, ◌++◌, length, codes, decimal, Option, Some, None, slice_get, slice_index_or}
 use Rattle.std.specs.List.{sum_by}
 use Rattle.ca_cell.specs.declared.raw.RawCell.{RawCell}
 use Rattle.ca_cell.specs.Nodes.{defect_count}
@@ -8,7 +8,11 @@ use Rattle.ca_wired.specs.declared.parts.Body.TheVariants.{Gate, Scan}
 use Rattle.ca_wired.specs.declared.parts.Part.{Part}
 use Rattle.ca_wired.specs.Linked.{Chip, cell_of, inputs_of, outputs_of}
 use Rattle.ca_wired.specs.Instances.{gates_of, scans_of}
+use Rattle.ca_net.specs.declared.trit.Trit.{Trit}
 use Rattle.ca_net.specs.Trit.{letter_of}
+use Rattle.ca_net.specs.Circuit.{Circuit}
+use Rattle.ca_net.specs.State.{value_at}
+use Rattle.ca_outputs.specs.Outputs.{output_names}
 use Rattle.ca_matrix.specs.Matrix.{Entries, shape_of, record_count}
 use Rattle.ca_matrix.specs.Showing.{IsNumberOf, IsShownDefect}
 use Rattle.ca_flow.specs.declared.pin_values.PinValue.{PinValue}
@@ -60,3 +64,28 @@ check_text chip chains =
     let outputs = with_count inputs (codes ", outputs ") (length (outputs_of chip)) in
     let all = with_count outputs (codes ", chains ") (length chains) in
     with_count all (codes ", defects ") (chip_defects chip) ++ codes "\n"
+
+-- the line that tells how many nodes and devices a network has
+abbrev pub flatten_text : Circuit → List ℕ
+flatten_text net =
+    with_count (with_count [] (codes "nodes ") (length net.nodes)) (codes ", devices ") (length net.devices)
+    ++ codes "\n"
+
+-- the line of an observed output: its name, and the letters of its values without the defect and with it
+abbrev pub line_of_output : List ℕ → Trit → Trit → List ℕ
+line_of_output name good faulty = name ++ (32 ∷ letter_of good ∷ 32 ∷ letter_of faulty ∷ codes "\n")
+
+-- the line of the output at a place
+abbrev pub output_line : List (List ℕ) → List Trit → List Trit → ℕ → List ℕ
+output_line names good faulty o =
+    line_of_output (slice_index_or names o []) (value_at good o) (value_at faulty o)
+
+-- the lines of so many outputs
+unfoldable pub output_lines : List (List ℕ) → List Trit → List Trit → ℕ → List ℕ
+output_lines names good faulty zero = []
+output_lines names good faulty (suc o) = output_lines names good faulty o ++ output_line names good faulty o
+
+-- one line for each observed output of a chip
+abbrev pub simulate_text : Chip → List Trit → List Trit → List ℕ
+simulate_text chip good faulty =
+    let names = output_names chip in output_lines names good faulty (length names)

@@ -12,27 +12,12 @@ use Rattle.ca_defect.specs.List.{defects_of, faulty_of}
 use Rattle.ca_defect.specs.Name.{is_called}
 use Rattle.ca_defect.specs.Exposes.{CellEndsAt}
 use Rattle.ca_flow.specs.declared.pin_values.PinValue.{PinValue}
-use Rattle.ca_flow.specs.Words.{dash}
-
--- the letters of a vector, of which a dash has none
-abbrev pub letters_of : List ℕ → List ℕ
-letters_of word = if bytes_eq word dash then [] else word
-
--- the value of a letter: 0, 1, and X for any other
-abbrev pub trit_of : ℕ → Trit
-trit_of letter = if letter == 48 then Zero else (if letter == 49 then One else X)
-
--- the values of a vector's letters
-abbrev pub trits_of : List ℕ → List Trit
-trits_of word = map trit_of (letters_of word)
+pub use Rattle.ca_asked.specs.Vectors.{dash, letters_of, trit_of, trits_of}
+pub use Rattle.ca_asked.specs.Asked.{defect_called}
 
 -- the vector has one letter per input pin
 abbrev pub Fits : RawCell → List ℕ → Type 0
 Fits raw word = length (letters_of word) ≡ role_count is_input raw.pins
-
--- the defect that a word names, in any case
-abbrev pub defect_called : RawCell → List ℕ → Option Defect
-defect_called raw word = find (is_called raw word) (defects_of raw)
 
 -- the network that a word asks for: a dash for that of the cell, and the name of a defect for that of the cell with the defect
 abbrev pub asked_network : RawCell → List ℕ → Option Circuit

@@ -9,8 +9,12 @@ command_lines =
     ++ (codes "  cellaware defects CELLS CELL                 the names of the defects of CELL\n"
     ++ (codes "  cellaware matrix CELLS CELL OUT              the defect matrix of CELL to OUT, as CSV\n"
     ++ (codes "  cellaware check CELLS NETLIST SCAN           what the chip of NETLIST has, with SCAN or -\n"
+    ++ (codes "  cellaware flatten CELLS NETLIST SCAN INSTANCE DEFECT OUT\n"
+    ++ (codes "                                               the flat network, good or with DEFECT, to OUT\n"
+    ++ (codes "  cellaware simulate CELLS NETLIST SCAN INSTANCE DEFECT FIRST LAST\n"
+    ++ (codes "                                               each output after both, without and with DEFECT\n"
     ++ (codes "  cellaware --help                             this text\n"
-    ++ codes "  cellaware --version                          the version\n")))))
+    ++ codes "  cellaware --version                          the version\n")))))))))
 
 -- what the exit statuses mean
 abbrev pub status_lines : List ℕ
@@ -24,9 +28,10 @@ usage_text =
     codes "usage: cellaware COMMAND WORDS\n\n"
     ++ (command_lines
     ++ (codes "\nCELLS is a netlist of transistors, in SPICE or CDL; a vector has 0, 1 or X per input pin.\n"
-    ++ (codes "NETLIST is a netlist of gates, in Verilog; SCAN is a table of scan cells, as CSV.\n"
+    ++ (codes "NETLIST is a netlist of gates, in Verilog; SCAN is a table of scan cells, as CSV, or -.\n"
+    ++ (codes "INSTANCE is one of a cell, and DEFECT one of its defects, or both are -.\n"
     ++ (status_lines
-    ++ codes "Documents in the sources: README.md, docs/TUTORIAL.md, docs/FAULTS.md, docs/cellaware.1.\n"))))
+    ++ codes "Documents in the sources: README.md, docs/TUTORIAL.md, docs/FAULTS.md, docs/cellaware.1.\n")))))
 
 -- which version the program is
 abbrev pub version_text : List ℕ

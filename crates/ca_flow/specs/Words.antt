@@ -3,6 +3,8 @@ use Rattle.std.specs.Prelude.{◌≡◌, ◌≢◌, ◌⊎◌, ℕ, List, [], le
 use Rattle.std.specs.List.{All}
 use Rattle.std.specs.Str.{bytes_eq}
 use Rattle.ca_load.specs.Texts.{InputFiles}
+use Rattle.ca_asked.specs.Asked.{AreBothOrNeither}
+pub use Rattle.ca_asked.specs.Vectors.{dash}
 
 -- the word at a place, counted from 0
 abbrev pub word_at : List (List ℕ) → ℕ → List ℕ
@@ -44,9 +46,25 @@ netlist_word words = word_at words 2
 abbrev pub scan_word : List (List ℕ) → List ℕ
 scan_word words = word_at words 3
 
--- the word that stands for no defect, for no table, and for the vector without letters
-abbrev pub dash : List ℕ
-dash = codes "-"
+-- the name of the library instance that has the defect, or a dash
+abbrev pub instance_word : List (List ℕ) → List ℕ
+instance_word words = word_at words 4
+
+-- the defect of its cell, or a dash
+abbrev pub chip_defect_word : List (List ℕ) → List ℕ
+chip_defect_word words = word_at words 5
+
+-- the file that `flatten` writes
+abbrev pub flat_out_word : List (List ℕ) → List ℕ
+flat_out_word words = word_at words 6
+
+-- the first vector of `simulate`
+abbrev pub chip_first_word : List (List ℕ) → List ℕ
+chip_first_word words = word_at words 6
+
+-- the last vector of `simulate`
+abbrev pub chip_last_word : List (List ℕ) → List ℕ
+chip_last_word words = word_at words 7
 
 -- a file name is not empty and not a dash
 pub record IsFileName (word : List ℕ) : Type 0 where
@@ -102,16 +120,48 @@ pub record IsMatrix (words : List (List ℕ)) : Type 0 where
   pub out : IsFileName (out_word words)
   pub others : out_word words ≢ cells_word words
 
--- the words are `check CELLS NETLIST SCAN`, where SCAN may be a dash, and the files have different names
+-- the names of the files of a command on a chip differ, and the last may be a dash
+pub record AreChipFiles (cells netlist scan : List ℕ) : Type 0 where
+  pub cells_is : IsFileName cells
+  pub netlist_is : IsFileName netlist
+  pub scan_is : scan ≢ []
+  pub others : netlist ≢ cells
+  pub not_cells : scan ≢ cells
+  pub not_netlist : scan ≢ netlist
+
+-- the words begin with a command on a chip and CELLS, NETLIST and SCAN
+abbrev pub HasChipFiles : List (List ℕ) → Type 0
+HasChipFiles words = AreChipFiles (cells_word words) (netlist_word words) (scan_word words)
+
+-- a file to be written has a name that none of the files of a command on a chip has
+pub record IsOtherFile (out cells netlist scan : List ℕ) : Type 0 where
+  pub name : IsFileName out
+  pub not_cells : out ≢ cells
+  pub not_netlist : out ≢ netlist
+  pub not_scan : out ≢ scan
+
+-- the words are `check CELLS NETLIST SCAN`
 pub record IsCheck (words : List (List ℕ)) : Type 0 where
   pub four : length words ≡ 4
   pub command : word_at words 0 ≡ codes "check"
-  pub cells : IsFileName (cells_word words)
-  pub netlist : IsFileName (netlist_word words)
-  pub scan : scan_word words ≢ []
-  pub others : netlist_word words ≢ cells_word words
-  pub not_cells : scan_word words ≢ cells_word words
-  pub not_netlist : scan_word words ≢ netlist_word words
+  pub files : HasChipFiles words
+
+-- the words are `flatten CELLS NETLIST SCAN INSTANCE DEFECT OUT`
+pub record IsFlatten (words : List (List ℕ)) : Type 0 where
+  pub seven : length words ≡ 7
+  pub command : word_at words 0 ≡ codes "flatten"
+  pub files : HasChipFiles words
+  pub defect : AreBothOrNeither (instance_word words) (chip_defect_word words)
+  pub out : IsOtherFile (flat_out_word words) (cells_word words) (netlist_word words) (scan_word words)
+
+-- the words are `simulate CELLS NETLIST SCAN INSTANCE DEFECT FIRST LAST`
+pub record IsSimulate (words : List (List ℕ)) : Type 0 where
+  pub eight : length words ≡ 8
+  pub command : word_at words 0 ≡ codes "simulate"
+  pub files : HasChipFiles words
+  pub defect : AreBothOrNeither (instance_word words) (chip_defect_word words)
+  pub first : IsVector (chip_first_word words)
+  pub last : IsVector (chip_last_word words)
 
 -- the one word is `--help`
 pub record IsHelp (words : List (List ℕ)) : Type 0 where
@@ -131,6 +181,15 @@ AsksNoFile words = IsHelp words ⊎ IsVersion words
 abbrev pub IsOnCell : List (List ℕ) → Type 0
 IsOnCell words = IsRespond words ⊎ (IsPair words ⊎ (IsDefects words ⊎ IsMatrix words))
 
+-- the words are those of a command on a chip
+abbrev pub IsOnChip : List (List ℕ) → Type 0
+IsOnChip words = IsCheck words ⊎ (IsFlatten words ⊎ IsSimulate words)
+
 -- the words are those of a command
 abbrev pub IsCommand : List (List ℕ) → Type 0
-IsCommand words = IsOnCell words ⊎ (IsCheck words ⊎ AsksNoFile words)
+IsCommand words = IsOnCell words ⊎ (IsOnChip words ⊎ AsksNoFile words)
+
+-- the command writes the file of this name
+abbrev pub HasOut : List (List ℕ) → List ℕ → Type 0
+HasOut words name =
+    (IsMatrix words × (name ≡ out_word words)) ⊎ (IsFlatten words × (name ≡ flat_out_word words))

@@ -3,14 +3,15 @@ use Rattle.std.specs.Prelude.{◌≡◌, ◌⊎◌, ℕ, List, Option, Some, Non
 use Rattle.std.specs.Option.{ForSome}
 use Rattle.ca_store.specs.Store.{Files, Rose, appended, AppendsPart}
 use Rattle.ca_store.specs.Writing.{ChangesOnly, MayWrite}
+use Rattle.ca_flat_text.specs.FlatText.{flat_text}
 use Rattle.ca_matrix.specs.Text.{text_of}
 use Rattle.ca_fault.specs.declared.fault.Fault.{Fault}
 use Rattle.ca_fault.specs.declared.fault.Fault.TheVariants.{StoreFailed, SinkFailed}
 use Rattle.ca_flow.specs.declared.finished.Done.{Done}
-use Rattle.ca_flow.specs.declared.finished.Done.TheVariants.{Respond, Pair, Defects, Matrix, Check, Help, Version}
+use Rattle.ca_flow.specs.declared.finished.Done.TheVariants.{Matrix, Flatten}
 use Rattle.ca_flow.specs.declared.finished.Finished.{Finished}
 use Rattle.ca_flow.specs.declared.work.OutFile.{OutFile}
-use Rattle.ca_flow.specs.Words.{out_word}
+use Rattle.ca_flow.specs.Words.{out_word, flat_out_word}
 use Rattle.ca_flow.specs.Finished.{IsAnswer, Prints, Writes, TellsSinkFault}
 use Rattle.ca_flow.specs.Fault.{Outside, IsWriteCause, IsPrintCause}
 use Rattle.ca_load.specs.Files.{TellsStoreFault}
@@ -23,13 +24,9 @@ pub record IsOutFile (name bytes : List ℕ) (file : OutFile) : Type 0 where
 
 -- the file that work of these words is to be written to
 abbrev pub HasFile : List (List ℕ) → Done → Option OutFile → Type 0
-HasFile words (Respond values) file = IsNone file
-HasFile words (Pair values) file = IsNone file
-HasFile words (Defects names) file = IsNone file
-HasFile words (Check chip chains) file = IsNone file
-HasFile words Help file = IsNone file
-HasFile words Version file = IsNone file
 HasFile words (Matrix matrix) file = IsSomeAnd file (IsOutFile (out_word words) (text_of matrix))
+HasFile words (Flatten chip net) file = IsSomeAnd file (IsOutFile (flat_out_word words) (flat_text net))
+HasFile words _ file = IsNone file
 
 -- the file, if there is one, was written
 abbrev pub HasWritten : Option OutFile → Option Files → Option Files → Type 0

@@ -6,7 +6,7 @@ ghost use Rattle.ca_flow.specs.Finished.{status_told, IsTold, TellsSinkFault};
 ghost use Rattle.ca_flow.specs.Ends.{IsAsked};
 ghost use Rattle.ca_flow.specs.Work.{HasFile, HasPrinted, FailsToPrint, EndsWork};
 
-use crate::lines::{check_line, lines_of_names, summary};
+use crate::lines::{check_line, flatten_line, lines_of_names, simulate_lines, summary};
 use crate::pin_values::PinValues;
 use crate::usage::{usage, version};
 use crate::work::{Work, write_out};
@@ -14,7 +14,9 @@ use ca_base::NoMemory;
 use ca_fault::Fault;
 use ca_lex::{Names, Text};
 use ca_matrix::Matrix;
+use ca_net::FlatNet;
 use ca_scan::Chains;
+use ca_simulate::OutputEnds;
 use ca_store::{Failed, Sink, Store, write_all};
 use ca_wired::Chip;
 use std::alloc::Global;
@@ -40,6 +42,10 @@ pub enum Done {
     Matrix { matrix: Matrix },
     /// A linked chip, with its scan chains.
     Check { chip: Chip, chains: Chains },
+    /// A linked chip, with its flat network, good or with a defect.
+    Flatten { chip: Chip, net: FlatNet },
+    /// A linked chip, and what its observed outputs settle to under a pair of vectors.
+    Simulate { chip: Chip, ends: OutputEnds },
     /// How the program is used.
     Help,
     /// Which version the program is.
@@ -56,6 +62,8 @@ impl Done {
             Done::Defects { names } => lines_of_names(alloc, names),
             Done::Matrix { matrix } => summary(alloc, matrix),
             Done::Check { chip, chains } => check_line(alloc, chip, chains),
+            Done::Flatten { net, .. } => flatten_line(alloc, net),
+            Done::Simulate { chip, ends } => simulate_lines(alloc, chip, ends),
             Done::Help => usage(alloc),
             Done::Version => version(alloc),
         }

@@ -2,6 +2,7 @@
 #![tactic(auto)]
 
 mod answering;
+mod chips;
 mod finished;
 mod inputs;
 mod laws;

@@ -1,12 +1,17 @@
-//! The lines that tell names, what a matrix holds, and what a chip has.
+//! The lines that tell names, what a matrix holds, and what a chip and its network have.
 ghost use Rattle.std.specs.Prelude.{◌≡◌, ◌<◌, ◌++◌, length, decimal, flat_map, slice_get, slice_index, IfOk, OnOk};
 ghost use Rattle.ca_wired.specs.Instances.{gates_of};
+ghost use Rattle.ca_net.specs.State.{value_at};
 ghost use Rattle.ca_flow.specs.Lines.{line_of_name, IsSummary, part_defects, chip_defects, with_count, check_text};
+ghost use Rattle.ca_flow.specs.Lines.{flatten_text, line_of_output, simulate_text};
 
 use ca_base::NoMemory;
 use ca_lex::{Names, Text};
 use ca_matrix::Matrix;
+use ca_net::{FlatNet, Network, Trit, letter};
+use ca_outputs::output_names;
 use ca_scan::Chains;
+use ca_simulate::OutputEnds;
 use ca_wired::Chip;
 use itoa::Buffer;
 use std::alloc::Global;
@@ -99,4 +104,57 @@ fn gate_defects(chip: &Chip, k: usize) -> usize
         (slice_get chip.now.parts (slice_index (gates_of chip.now) k)) }
 {
     chip.cell_of(chip.instance(k)).defect_count()
+}
+
+/// The line that tells what a flat network has.
+pub(crate) fn flatten_line(alloc: Global, net: &FlatNet) -> Result<Text, NoMemory>
+    ensures { IfOk result (λ text. text ≡ flatten_text net.now) }
+{
+    let mut text = Text::new(alloc);
+    add_count(&mut text, b"nodes ", net.node_count())?;
+    add_count(&mut text, b", devices ", net.device_count())?;
+    text.append(b"\n")?;
+    Ok(text)
+}
+
+/// One line for each observed output of a chip.
+#[tactic(auto, using(crate::proofs::LineLemmas::output_pushed))]
+pub(crate) fn simulate_lines(
+    alloc: Global,
+    chip: &Chip,
+    ends: &OutputEnds,
+) -> Result<Text, NoMemory>
+    ensures { IfOk result (λ text. text ≡ simulate_text chip.now ends.now.good.items ends.now.faulty.items) }
+{
+    let names = output_names(alloc, chip)?;
+    let mut text = Text::new(alloc);
+    for o in 0..names.len() {
+        let good = value_at(&ends.good, o);
+        let faulty = value_at(&ends.faulty, o);
+        add_output(&mut text, names.get(o), good, faulty)?;
+    }
+    Ok(text)
+}
+
+// The value at a place; X past the end.
+fn value_at(values: &[Trit], place: usize) -> Trit
+    ensures { result ≡ value_at values.now place }
+{
+    if place < values.len() {
+        values[place]
+    } else {
+        Trit::X
+    }
+}
+
+// Appends the line of an observed output.
+fn add_output(text: &mut Text, name: &Text, good: Trit, faulty: Trit) -> Result<(), NoMemory>
+    ensures { OnOk result (text.new ≡ text.old ++ line_of_output name.now good faulty) }
+{
+    text.append(name.as_bytes())?;
+    text.push(b' ')?;
+    text.push(letter(good))?;
+    text.push(b' ')?;
+    text.push(letter(faulty))?;
+    text.append(b"\n")
 }

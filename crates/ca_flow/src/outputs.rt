@@ -4,6 +4,7 @@ ghost use Rattle.ca_cell.specs.Raw.{is_input, role_count};
 ghost use Rattle.ca_flow.specs.Outputs.{trit_of, AreEnds};
 
 use crate::pin_values::{PinValue, PinValues};
+use ca_asked::trit;
 use ca_base::NoMemory;
 use ca_net::Trit;
 use ca_response::{CellNet, pairs, respond};
@@ -49,15 +50,4 @@ fn trits(alloc: Global, letters: &[u8]) -> Result<Vec<Trit>, NoMemory>
         values.push(trit(*letter))?;
     }
     Ok(values)
-}
-
-// The value of a letter.
-fn trit(letter: u8) -> Trit
-    ensures { result ≡ trit_of letter }
-{
-    match letter {
-        b'0' => Trit::Zero,
-        b'1' => Trit::One,
-        _ => Trit::X,
-    }
 }

@@ -3,12 +3,13 @@ ghost use Rattle.std.specs.Prelude.{◌≡◌, ◌≢◌, ℕ, List, Some, map, 
 ghost use Rattle.std.specs.String.{string_bytes};
 ghost use Rattle.ca_store.specs.Store.{Nothing};
 ghost use Rattle.ca_flow.specs.Words.{IsCommand};
-ghost use Rattle.ca_flow.specs.Command.{IsSpelled};
+ghost use Rattle.ca_flow.specs.Command.{IsSpelled, IsWhole};
 ghost use Rattle.ca_flow.specs.Fault.{IsWorkCause};
 ghost use Rattle.ca_load.specs.Files.{TellsStoreFault};
 ghost use Rattle.ca_flow.specs.Ends.{IsAsked, Ends};
 ghost use Rattle.ca_flow.specs.Work.{HasFile};
 
+use crate::chips::{FlatChip, SimulatedChip, find_flat, find_simulation, flat_file};
 use crate::finished::{Done, Finished, finish, refused};
 use crate::listing::find_names;
 use crate::tables::{file_of, find_matrix};
@@ -23,6 +24,7 @@ use std::alloc::Global;
 /// Does one command, whose words come without the program's name. Nothing is written or printed before all inputs are judged,
 /// and all memory is taken before the first file is created and the first byte is printed. Words that are no command's leave the store and the sink
 /// uncalled.
+#[tactic(auto, using(crate::proofs::CauseLemmas::is_whole))]
 pub fn run<S: Store, W: Sink>(
     alloc: Global,
     words: &[String],
@@ -65,6 +67,7 @@ fn work_of<'a, S: Store>(
     store: &mut S,
 ) -> Result<Work<'a>, Fault>
     requires closed { S.opened store.old ≡ Nothing }
+    requires whole { IsWhole command.now }
 
     ensures asked { IfOk result (λ work. (words : List (List ℕ)) → IsSpelled words command.now
         → IsAsked words (S.files store.old) work.done) }
@@ -100,6 +103,18 @@ fn work_of<'a, S: Store>(
         Command::Check(names) => {
             let Loaded { chip, chains } = load(alloc, names, store)?;
             Ok(printed(Done::Check { chip, chains }))
+        }
+        Command::Flatten(request) => {
+            let FlatChip { chip, net } = find_flat(alloc, &request.of, store)?;
+            let file = flat_file(alloc, request.out, &net)?;
+            Ok(Work {
+                done: Done::Flatten { chip, net },
+                file: Some(file),
+            })
+        }
+        Command::Simulate(request) => {
+            let SimulatedChip { chip, ends } = find_simulation(alloc, request, store)?;
+            Ok(printed(Done::Simulate { chip, ends }))
         }
         Command::Help => Ok(printed(Done::Help)),
         Command::Version => Ok(printed(Done::Version)),

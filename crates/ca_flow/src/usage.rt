@@ -20,11 +20,16 @@ usage: cellaware COMMAND WORDS
   cellaware defects CELLS CELL                 the names of the defects of CELL
   cellaware matrix CELLS CELL OUT              the defect matrix of CELL to OUT, as CSV
   cellaware check CELLS NETLIST SCAN           what the chip of NETLIST has, with SCAN or -
+  cellaware flatten CELLS NETLIST SCAN INSTANCE DEFECT OUT
+                                               the flat network, good or with DEFECT, to OUT
+  cellaware simulate CELLS NETLIST SCAN INSTANCE DEFECT FIRST LAST
+                                               each output after both, without and with DEFECT
   cellaware --help                             this text
   cellaware --version                          the version
 
 CELLS is a netlist of transistors, in SPICE or CDL; a vector has 0, 1 or X per input pin.
-NETLIST is a netlist of gates, in Verilog; SCAN is a table of scan cells, as CSV.
+NETLIST is a netlist of gates, in Verilog; SCAN is a table of scan cells, as CSV, or -.
+INSTANCE is one of a cell, and DEFECT one of its defects, or both are -.
 Exit status: 0 done, 1 bad command line, 2 wrong contents, 3 a limit, 4 a file or the output
 failed, 5 out of memory. One line on the standard error says why.
 Documents in the sources: README.md, docs/TUTORIAL.md, docs/FAULTS.md, docs/cellaware.1.

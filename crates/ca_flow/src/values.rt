@@ -12,6 +12,7 @@ use crate::inputs::{find_cell, typed_words};
 use crate::outputs::values_of;
 use crate::pin_values::PinValues;
 use crate::words::PairWords;
+use ca_asked::letters_of;
 use ca_cell::Cell;
 use ca_defect::{Overlay, parse};
 use ca_fault::Fault;
@@ -78,16 +79,5 @@ fn vector_for<'a>(alloc: Global, cell: &Cell, vector: &'a str) -> Result<&'a [u8
         Err(Fault::BadVector {
             word: Text::from_bytes(alloc, vector.as_bytes())?,
         })
-    }
-}
-
-// The letters of a vector, of which a dash has none.
-fn letters_of(vector: &str) -> &[u8]
-    ensures { result.now ≡ letters_of vector.now }
-{
-    if vector == "-" {
-        &[]
-    } else {
-        vector.as_bytes()
     }
 }

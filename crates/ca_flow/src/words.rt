@@ -2,8 +2,13 @@
 ghost use Rattle.std.specs.Prelude.{◌≡◌, ◌≢◌, ℕ, List, map, IfSome, IsNone, IsTrue, ◌↔◌};
 ghost use Rattle.std.specs.Option.{option_copied};
 ghost use Rattle.std.specs.String.{string_bytes};
-ghost use Rattle.ca_flow.specs.Words.{file_called, IsFileName, IsVector, IsLetter, IsRespond, IsPair, IsDefects, IsMatrix, IsCheck, AsksNoFile, IsCommand};
-ghost use Rattle.ca_flow.specs.Command.{IsSpelledRespond, IsSpelledPair, IsSpelledDefects, IsSpelledMatrix, IsSpelledCheck, IsSpelled};
+ghost use Rattle.ca_load.specs.Texts.{names_of};
+ghost use Rattle.ca_asked.specs.Asked.{AreBothOrNeither};
+ghost use Rattle.ca_flow.specs.Words.{file_called, IsFileName, AreChipFiles, IsOtherFile, IsVector, IsLetter};
+ghost use Rattle.ca_flow.specs.Words.{IsRespond, IsPair, IsDefects, IsMatrix, IsCheck, IsFlatten, IsSimulate};
+ghost use Rattle.ca_flow.specs.Words.{IsOnCell, IsOnChip, AsksNoFile, IsCommand};
+ghost use Rattle.ca_flow.specs.Command.{IsSpelledRespond, IsSpelledPair, IsSpelledDefects, IsSpelledMatrix};
+ghost use Rattle.ca_flow.specs.Command.{IsSpelledCheck, IsSpelledFlatten, IsSpelledSimulate, IsSpelled};
 
 use ca_load::FileNames;
 
@@ -20,6 +25,10 @@ pub(crate) enum Command<'a> {
     Matrix(MatrixWords<'a>),
     /// `check CELLS NETLIST SCAN`.
     Check(FileNames<'a>),
+    /// `flatten CELLS NETLIST SCAN INSTANCE DEFECT OUT`.
+    Flatten(FlattenWords<'a>),
+    /// `simulate CELLS NETLIST SCAN INSTANCE DEFECT FIRST LAST`.
+    Simulate(SimulateWords<'a>),
     /// `--help`.
     Help,
     /// `--version`.
@@ -49,10 +58,47 @@ pub(crate) struct MatrixWords<'a> {
     pub out: &'a str,
 }
 
+/// The files of a command on a chip, and a library instance with a defect of its cell, or two dashes.
+#[derive(Clone, Copy)]
+pub(crate) struct ChipWords<'a> {
+    pub files: FileNames<'a>,
+    pub instance: &'a str,
+    pub defect: &'a str,
+}
+
+/// The words of a command that writes the flat network of a chip to a file.
+#[derive(Clone, Copy)]
+pub(crate) struct FlattenWords<'a> {
+    pub of: ChipWords<'a>,
+    pub out: &'a str,
+}
+
+/// The words of a command that asks for the values of a chip's outputs under two vectors.
+#[derive(Clone, Copy)]
+pub(crate) struct SimulateWords<'a> {
+    pub of: ChipWords<'a>,
+    pub first: &'a str,
+    pub last: &'a str,
+}
+
 /// The command that the words spell.
 pub(crate) fn parse(words: &[String]) -> Option<Command<'_>>
     ensures found { IfSome result (IsSpelled (map string_bytes words.now)) }
     ensures none { IsNone result → ¬ (IsCommand (map string_bytes words.now)) }
+{
+    if let Some(command) = parse_on_cell(words) {
+        Some(command)
+    } else if let Some(command) = parse_on_chip(words) {
+        Some(command)
+    } else {
+        parse_asking(words)
+    }
+}
+
+// The command on one cell.
+fn parse_on_cell(words: &[String]) -> Option<Command<'_>>
+    ensures found { IfSome result (IsSpelled (map string_bytes words.now)) }
+    ensures none { IsNone result → ¬ (IsOnCell (map string_bytes words.now)) }
 {
     if let Some(request) = parse_respond(words) {
         Some(Command::Respond(request))
@@ -62,10 +108,24 @@ pub(crate) fn parse(words: &[String]) -> Option<Command<'_>>
         Some(Command::Defects(request))
     } else if let Some(request) = parse_matrix(words) {
         Some(Command::Matrix(request))
-    } else if let Some(names) = parse_check(words) {
-        Some(Command::Check(names))
     } else {
-        parse_asking(words)
+        None
+    }
+}
+
+// The command on a chip.
+fn parse_on_chip(words: &[String]) -> Option<Command<'_>>
+    ensures found { IfSome result (IsSpelled (map string_bytes words.now)) }
+    ensures none { IsNone result → ¬ (IsOnChip (map string_bytes words.now)) }
+{
+    if let Some(names) = parse_check(words) {
+        Some(Command::Check(names))
+    } else if let Some(request) = parse_flatten(words) {
+        Some(Command::Flatten(request))
+    } else if let Some(request) = parse_simulate(words) {
+        Some(Command::Simulate(request))
+    } else {
+        None
     }
 }
 
@@ -178,20 +238,73 @@ fn parse_check(words: &[String]) -> Option<FileNames<'_>>
     let [command, cells, netlist, scan] = words else {
         return None;
     };
-    if command.as_str() == "check"
-        && is_file_name(cells)
-        && is_file_name(netlist)
-        && !scan.is_empty()
-        && are_different(cells, netlist, scan)
+    if command.as_str() == "check" && are_chip_files(cells, netlist, scan) {
+        Some(files_called(cells, netlist, scan))
+    } else {
+        None
+    }
+}
+
+fn parse_flatten(words: &[String]) -> Option<FlattenWords<'_>>
+    ensures found { IfSome result (IsSpelledFlatten (map string_bytes words.now)) }
+    ensures none { IsNone result → ¬ (IsFlatten (map string_bytes words.now)) }
+{
+    let [command, cells, netlist, scan, instance, defect, out] = words else {
+        return None;
+    };
+    if command.as_str() == "flatten"
+        && are_chip_files(cells, netlist, scan)
+        && are_both_or_neither(instance, defect)
+        && is_other_file(out, cells, netlist, scan)
     {
-        Some(FileNames {
-            cells: cells.as_str(),
-            netlist: netlist.as_str(),
-            scan: file_called(scan),
+        Some(FlattenWords {
+            of: ChipWords {
+                files: files_called(cells, netlist, scan),
+                instance: instance.as_str(),
+                defect: defect.as_str(),
+            },
+            out: out.as_str(),
         })
     } else {
         None
     }
+}
+
+fn parse_simulate(words: &[String]) -> Option<SimulateWords<'_>>
+    ensures found { IfSome result (IsSpelledSimulate (map string_bytes words.now)) }
+    ensures none { IsNone result → ¬ (IsSimulate (map string_bytes words.now)) }
+{
+    let [command, cells, netlist, scan, instance, defect, first, last] = words else {
+        return None;
+    };
+    if command.as_str() == "simulate"
+        && are_chip_files(cells, netlist, scan)
+        && are_both_or_neither(instance, defect)
+        && is_vector(first)
+        && is_vector(last)
+    {
+        Some(SimulateWords {
+            of: ChipWords {
+                files: files_called(cells, netlist, scan),
+                instance: instance.as_str(),
+                defect: defect.as_str(),
+            },
+            first: first.as_str(),
+            last: last.as_str(),
+        })
+    } else {
+        None
+    }
+}
+
+// Whether these may be the files of a command on a chip.
+fn are_chip_files(cells: &str, netlist: &str, scan: &str) -> bool
+    ensures { IsTrue result ↔ AreChipFiles cells.now netlist.now scan.now }
+{
+    is_file_name(cells)
+        && is_file_name(netlist)
+        && !scan.is_empty()
+        && are_different(cells, netlist, scan)
 }
 
 // No two words are the same.
@@ -200,6 +313,32 @@ fn are_different(cells: &str, netlist: &str, scan: &str) -> bool
         ↔ ((netlist.now ≢ cells.now) × ((scan.now ≢ cells.now) × (scan.now ≢ netlist.now))) }
 {
     netlist != cells && scan != cells && scan != netlist
+}
+
+// Whether this may be a file that is written, beside those of a command on a chip.
+fn is_other_file(out: &str, cells: &str, netlist: &str, scan: &str) -> bool
+    ensures { IsTrue result ↔ IsOtherFile out.now cells.now netlist.now scan.now }
+{
+    is_file_name(out) && out != cells && out != netlist && out != scan
+}
+
+// Both words are a dash, or neither is.
+fn are_both_or_neither(instance: &str, defect: &str) -> bool
+    ensures { IsTrue result ↔ AreBothOrNeither instance.now defect.now }
+{
+    (instance == "-") == (defect == "-")
+}
+
+// The files of a command on a chip.
+fn files_called<'a>(cells: &'a str, netlist: &'a str, scan: &'a str) -> FileNames<'a>
+    ensures { names_of result
+        ≡ record { cells = cells.now; netlist = netlist.now; scan = file_called scan.now } }
+{
+    FileNames {
+        cells,
+        netlist,
+        scan: file_called(scan),
+    }
 }
 
 // The file that a word names, where a dash names none.

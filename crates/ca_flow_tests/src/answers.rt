@@ -68,12 +68,14 @@ fn the_status_and_the_line_are_those_of_the_end(rt: HostRuntime) -> Result<(), F
 }
 
 // What the text of `--help` names: each command with its words.
-static COMMANDS: [&str; 7] = [
+static COMMANDS: [&str; 9] = [
     "cellaware respond CELLS CELL VECTOR ",
     "cellaware pair CELLS CELL FIRST LAST DEFECT ",
     "cellaware defects CELLS CELL ",
     "cellaware matrix CELLS CELL OUT ",
     "cellaware check CELLS NETLIST SCAN ",
+    "cellaware flatten CELLS NETLIST SCAN INSTANCE DEFECT OUT\n",
+    "cellaware simulate CELLS NETLIST SCAN INSTANCE DEFECT FIRST LAST\n",
     "cellaware --help ",
     "cellaware --version ",
 ];

@@ -2,7 +2,7 @@
 
 use crate::commands::words_of;
 use crate::netlists::{
-    C17, Change, FAULTS, GLITCH, LIMITS, ORDERS, Row, SCAN, SHIFT, SHORT, WHOLE, WORDS,
+    C17, Change, FAULTS, GLITCH, INV, LIMITS, ORDERS, Row, SCAN, SHIFT, SHORT, WHOLE, WORDS,
 };
 use crate::rows::LIBRARY;
 use ca_base::NoMemory;
@@ -37,13 +37,14 @@ fn add_file(alloc: Global, files: &mut FileMap, name: &str, bytes: &str) -> Resu
 }
 
 // The files: the library, one netlist of this text, the other netlists and the tables.
-fn files_with(alloc: Global, netlist: &str) -> Result<FileMap, NoMemory> {
+pub(crate) fn files_with(alloc: Global, netlist: &str) -> Result<FileMap, NoMemory> {
     let mut files = FileMap::new(alloc);
     for (name, bytes) in [
         ("n.sp", LIBRARY),
         ("bad.sp", "X\n"),
         ("n.v", netlist),
         ("c17.v", C17),
+        ("inv.v", INV),
         ("glitch.v", GLITCH),
         ("shift.v", SHIFT),
         ("scan.csv", SCAN),

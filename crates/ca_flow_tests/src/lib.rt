@@ -10,4 +10,6 @@ mod commands;
 #[cfg(test)]
 mod netlists;
 #[cfg(test)]
+mod networks;
+#[cfg(test)]
 mod rows;

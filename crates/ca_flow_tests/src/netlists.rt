@@ -1,4 +1,4 @@
-//! Gate netlists, tables of scan cells, and how `check` ends over them.
+//! Gate netlists, tables of scan cells, and how commands on a chip end over them.
 
 // The smallest benchmark of its family: six gates.
 pub(crate) const C17: &str = "\
@@ -10,6 +10,23 @@ module c17(N1, N2, N3, N6, N7, N22, N23);
   NAND2 g3 (.A1(N11), .A2(N7), .ZN(N19));
   NAND2 g4 (.A1(N10), .A2(N16), .ZN(N22));
   NAND2 g5 (.A1(N16), .A2(N19), .ZN(N23)); endmodule
+";
+
+pub(crate) const INV: &str = "\
+module inv1(a, z); input a; output z;
+  INV u1 (.A(a), .ZN(z)); endmodule
+";
+
+// An inverter's network.
+pub(crate) const FLAT: &str = "\
+* 0 input
+* 1 input
+* 2 input
+* 3 storage 2
+.SUBCKT FLAT N0 N1
+M0 N3 N2 N0 N0 PCH W=2u L=1u
+M1 N3 N2 N1 N1 NCH W=2u L=1u
+.ENDS
 ";
 
 pub(crate) const GLITCH: &str = "\
@@ -162,4 +179,50 @@ pub(crate) static LIMITS: [(&str, &str); 3] = [
         "module m(a, z); input a; output [8192:0] z; endmodule",
         "chip: Undriven",
     ),
+];
+
+// The words of `flatten` behind the cells' file.
+pub(crate) static FLATTEN: [Row; 13] = [
+    ("inv.v - - - f.sp", 0, "nodes 4, devices 2\n", ""),
+    ("glitch.v - u5 MP1(D) f.sp", 0, "nodes 15, devices 18\n", ""),
+    ("glitch.v - u5 zn=n1 f.sp", 0, "nodes 14, devices 19\n", ""),
+    ("inv.v - u9 MP1(D) f.sp", 2, "", "no instance u9"),
+    ("inv.v - u9 MP9(D) f.sp", 2, "", "no instance u9"),
+    ("inv.v - u1 MP9(D) f.sp", 2, "", "no defect MP9(D)"),
+    ("inv.v - u1 - f.sp", 1, "", "bad command line"),
+    ("inv.v - - MP1(D) f.sp", 1, "", "bad command line"),
+    ("inv.v - - - -", 1, "", "bad command line"),
+    ("inv.v - - - inv.v", 1, "", "bad command line"),
+    ("shift.v scan.csv - - scan.csv", 1, "", "bad command line"),
+    ("inv.v - - - n.sp", 1, "", "bad command line"),
+    ("inv.v - - -", 1, "", "bad command line"),
+];
+
+// The words of `simulate` behind the cells' file.
+pub(crate) static SIMULATE: [Row; 15] = [
+    ("glitch.v - u5 MP1(D) 111 001", 0, "z 1 X\n", ""),
+    ("glitch.v - u5 mp1(d) 111 001", 0, "z 1 X\n", ""),
+    ("glitch.v - - - 111 001", 0, "z 1 1\n", ""),
+    ("inv.v - - - X 1", 0, "z 0 0\n", ""),
+    ("inv.v - - - 1 X", 0, "z X X\n", ""),
+    (
+        "shift.v scan.csv u2 MP1(D) 011 010",
+        0,
+        "z 1 0\nr0/D 1 1\nr1/D 1 1\n",
+        "",
+    ),
+    (
+        "shift.v scan.csv - - 011 101",
+        0,
+        "z 0 0\nr0/D 0 0\nr1/D 0 0\n",
+        "",
+    ),
+    ("glitch.v - u9 MP1(D) 11 0", 2, "", "bad vector: 11"),
+    ("glitch.v - u9 MP1(D) 111 0", 2, "", "bad vector: 0"),
+    ("glitch.v - u9 MP9(D) 111 001", 2, "", "no instance u9"),
+    ("glitch.v - u5 MP9(D) 111 001", 2, "", "no defect MP9(D)"),
+    ("glitch.v - u5 - 111 001", 1, "", "bad command line"),
+    ("glitch.v - - - 111 002", 1, "", "bad command line"),
+    ("glitch.v - - - 111", 1, "", "bad command line"),
+    ("glitch.v m.csv - - - -", 4, "", "file fault: m.csv"),
 ];

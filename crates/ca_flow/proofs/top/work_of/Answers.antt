@@ -1,6 +1,11 @@
-use Rattle.std.proofs.Common.{subst}
-use Rattle.ca_flow.specs.Command.{IsSpelled, IsSpelledDefects, IsSpelledMatrix}
-use Rattle.ca_flow.proofs.CauseLemmas.{defects_asked, matrix_asked}
+use Rattle.std.proofs.Common.{◌≢◌, subst}
+use Rattle.std.specs.Prelude.{ℕ, List}
+use Rattle.ca_load.specs.Texts.{names_of}
+use Rattle.ca_load.proofs.LinkLemmas.{handed_on}
+use Rattle.ca_fault.specs.declared.fault.Fault.TheVariants.{SinkFailed}
+use Rattle.ca_flow.specs.Command.{IsSpelled, IsSpelledDefects, IsSpelledMatrix, IsSpelledSimulate}
+use Rattle.ca_flow.specs.Fault.{IsWorkCause}
+use Rattle.ca_flow.proofs.CauseLemmas.{defects_asked, matrix_asked, simulate_cause, no_flat_sink, no_ends_sink}
 use Rattle.ca_flow.proofs.top.work_of.Goals as goal
 
 pub returns-in_ok-find_names-in-Defects-clause-asked : goal.returns-in_ok-find_names-in-Defects-clause-asked
@@ -15,3 +20,37 @@ returns-in_ok-file-in-Matrix-clause-asked g c = λ words spelled.
     let said : IsSpelledMatrix words c.in-Matrix.request = subst (IsSpelled words) c.in-Matrix.is spelled in
     matrix_asked words c.in-Matrix.request (g.S.Store.files c.args.store.now) c.in_ok-matrix-in-Matrix.matrix said
     (c.in_ok-matrix-in-Matrix.ensures).matrix
+
+pub returns-in_err-chip-in-Flatten-clause-no_sink : goal.returns-in_err-chip-in-Flatten-clause-no_sink
+returns-in_err-chip-in-Flatten-clause-no_sink g c =
+    let request = c.in-Flatten.request in
+    let fault = c.in_err-chip-in-Flatten.field-0.0 in
+    handed_on c.from_residual-in_err-chip-in-Flatten.result fault (λ fault. fault ≢ SinkFailed)
+    c.from_residual-in_err-chip-in-Flatten.ensures.1
+    (no_flat_sink (names_of request.of.files) request.of.instance.now request.of.defect.now
+    (g.S.Store.files c.args.store.now) (g.S.Store.faults c.args.store.now) (g.S.Store.faults c.find_flat.new.store) fault
+    (c.in_err-chip-in-Flatten.ensures).cause)
+
+pub returns-in_err-chip-in-Simulate-clause-cause : goal.returns-in_err-chip-in-Simulate-clause-cause
+returns-in_err-chip-in-Simulate-clause-cause g c =
+    let files = g.S.Store.files c.args.store.now in
+    let before = g.S.Store.faults c.args.store.now in
+    let after = g.S.Store.faults c.find_simulation.new.store in
+    let request = c.in-Simulate.request in
+    let fault = c.in_err-chip-in-Simulate.field-0.0 in
+    handed_on c.from_residual-in_err-chip-in-Simulate.result fault
+    (λ fault. (words : List (List ℕ)) → IsSpelled words c.args.command.now → IsWorkCause words files before after fault)
+    c.from_residual-in_err-chip-in-Simulate.ensures.1
+    (λ words spelled.
+    let said : IsSpelledSimulate words request = subst (IsSpelled words) c.in-Simulate.is spelled in
+    simulate_cause words request files before after fault said (c.in_err-chip-in-Simulate.ensures).cause)
+
+pub returns-in_err-chip-in-Simulate-clause-no_sink : goal.returns-in_err-chip-in-Simulate-clause-no_sink
+returns-in_err-chip-in-Simulate-clause-no_sink g c =
+    let request = c.in-Simulate.request in
+    let fault = c.in_err-chip-in-Simulate.field-0.0 in
+    handed_on c.from_residual-in_err-chip-in-Simulate.result fault (λ fault. fault ≢ SinkFailed)
+    c.from_residual-in_err-chip-in-Simulate.ensures.1
+    (no_ends_sink (names_of request.of.files) request.of.instance.now request.of.defect.now request.first.now
+    request.last.now (g.S.Store.files c.args.store.now) (g.S.Store.faults c.args.store.now)
+    (g.S.Store.faults c.find_simulation.new.store) fault (c.in_err-chip-in-Simulate.ensures).cause)

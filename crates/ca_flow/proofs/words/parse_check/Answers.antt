@@ -1,12 +1,11 @@
-use Rattle.std.proofs.Common.{rules, arith, ◌≡◌, ◌≢◌, [], length, map, sym, ◌∙◌, subst}
+use Rattle.std.proofs.Common.{rules, arith, ◌≡◌, length, ◌∙◌}
 use Rattle.std.proofs.lemmas.List.{length-map}
 use Rattle.std.specs.String.{string_bytes}
-use Rattle.ca_flow.specs.Words.{IsFileName, netlist_word, scan_word}
 use Rattle.ca_flow.proofs.WordLemmas.{word_of}
 use Rattle.ca_flow.proofs.words.parse_check.Goals as goal
 
-pub returns-then-are_different-clause-found : goal.returns-then-are_different-clause-found
-returns-then-are_different-clause-found c =
+pub returns-then-are_chip_files-clause-found : goal.returns-then-are_chip_files-clause-found
+returns-then-are_chip_files-clause-found c =
     let four : length c.args.words.now ≡ 4 = omega (arith, c.in-len4.len_at_least, c.in-len4.len_below) in
     let command = word_of string_bytes c.args.words.now 0 c.command-item.result (omega (arith, four)) c.command-item.is in
     let cells = word_of string_bytes c.args.words.now 1 c.cells-item.result (omega (arith, four)) c.cells-item.is in
@@ -16,12 +15,7 @@ returns-then-are_different-clause-found c =
       is = record {
         four = length-map c.args.words.now string_bytes ∙ four;
         command = rw command (search rules);
-        cells = rw cells (search rules);
-        netlist = rw netlist (search rules);
-        scan = rw scan (search rules);
-        others = rw (netlist, cells) (search rules);
-        not_cells = rw (scan, cells) (search rules);
-        not_netlist = rw (scan, netlist) (search rules);
+        files = rw (cells, netlist, scan) (search rules);
       };
       files = rw (cells, netlist, scan) (search rules);
     }
