@@ -26,8 +26,8 @@ defect_called raw word = find (is_called raw word) (defects_of raw)
 abbrev pub AreBothOrNeither : List ℕ → List ℕ → Type 0
 AreBothOrNeither instance defect = (instance ≡ dash) ↔ (defect ≡ dash)
 
--- the words name the defect: its instance by the name of a library instance, and the defect by its name in the
--- instance's cell
+-- the words name the defect: its instance by the name of a library instance, and the defect by its name in
+-- the instance's cell
 pub record IsNamedDefect (chip : Chip) (instance defect : List ℕ) (given : ChipDefect) : Type 0 where
   pub some : instance ≢ dash
   pub named : IsNamedGate chip instance given.instance

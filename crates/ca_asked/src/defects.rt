@@ -39,8 +39,8 @@ fn defect_of(
     }
 }
 
-/// The defect that the words ask for; none where both are a dash. The instance is judged before the defect. It
-/// looks through all library instances.
+/// The defect that the words ask for; none where both are a dash. The instance is judged before the defect.
+/// It looks through all library instances.
 pub fn find_defect(
     alloc: Global,
     chip: &Chip,

@@ -1,7 +1,7 @@
 -- Library instances, and their instances of the core.
 use Rattle.std.proofs.Common.{◌≡◌, ℕ, ◌+◌, ◌<◌, List, ◌++◌, length, length-append, refl, sym, ◌∙◌, ap, subst, arith, get_or}
 use Rattle.std.specs.Prelude.{slice_get, IsSomeAnd, Option, Some, None}
-use Rattle.std.specs.List.{All}
+use Rattle.std.specs.List.{Contains}
 use Rattle.std.proofs.lemmas.List.{get_or-map}
 use Rattle.std.proofs.lemmas.Option.{slice_get_within, get_or_from_slice_get}
 use Rattle.ca_cell.specs.declared.raw.RawCell.{RawCell}
@@ -12,10 +12,10 @@ use Rattle.ca_wired.specs.declared.parts.Body.TheVariants.{Gate, Scan}
 use Rattle.ca_wired.specs.Linked.{Chip, cell_of, net_count, data_nets, IsBody, IsGateOf, IsGate, IsLibrary, IsWired}
 use Rattle.ca_wired.specs.Instances.{pin_nets, IsCellOf}
 use Rattle.ca_wired.proofs.OrderLemmas.{contained_at}
-use Rattle.ca_wired.proofs.PartLemmas.{of_all, of_list}
 use Rattle.ca_flat.specs.Chip.{Instance, instance_at, cell_at, inputs_at, outputs_at, net_of}
 use Rattle.ca_core.specs.Core.{core_net, core_instance, core_of}
 use Rattle.ca_core.proofs.CorePartLemmas.{core_at}
+use Rattle.ca_core.proofs.CoreIsChip.{body_of, data_within}
 
 -- a library instance, with its cell and its nets
 pub record GateAt (chip : Chip) (u : ℕ) : Type 0 where
@@ -64,11 +64,7 @@ module _ (chip : Chip) (is : IsWired chip) (u : ℕ) (library : IsLibrary chip u
   g = gate_at chip u library
 
   is_gate : IsGateOf (cell_of chip.cells g.cell) g.inputs g.outputs
-  is_gate = subst (IsBody chip.cells) g.body (of_all (λ (p : Part). IsBody chip.cells p.body) chip.parts u g.part is.bodies g.at)
-
-  on_nets : All (λ net. net < net_count chip) (g.inputs ++ g.outputs)
-  on_nets = subst (λ (b : Body). All (λ net. net < net_count chip) (data_nets b)) g.body
-      (of_all (λ (p : Part). All (λ net. net < net_count chip) (data_nets p.body)) chip.parts u g.part is.on_nets g.at)
+  is_gate = subst (IsBody chip.cells) g.body (body_of chip is u g.part g.at)
 
   input_count : inputs_at (core_of chip) u ≡ length g.inputs
   input_count = ap (λ (i : Instance). role_count is_input i.cell.pins) (core_gate chip u g) ∙ sym is_gate.net_per_input
@@ -91,7 +87,8 @@ module _ (chip : Chip) (is : IsWired chip) (u : ℕ) (library : IsLibrary chip u
   pub pin_on_net : (pin net : ℕ) → IsSomeAnd (slice_get chip.parts u) (λ part. slice_get (pin_nets part.body) pin ≡ Some net)
       → net < net_count chip
   pin_on_net pin net found =
-      of_list (λ n. n < net_count chip) (g.inputs ++ g.outputs) net on_nets (contained_at (g.inputs ++ g.outputs) pin net (pin_get pin net found))
+      data_within chip is u g.part net g.at (subst (λ (b : Body). Contains (data_nets b) net) (sym g.body)
+      (contained_at (g.inputs ++ g.outputs) pin net (pin_get pin net found)))
 
   pub pin_read : (pin net : ℕ) → IsSomeAnd (slice_get chip.parts u) (λ part. slice_get (pin_nets part.body) pin ≡ Some net)
       → core_net chip net ≡ net_of (core_of chip) u pin

@@ -1,7 +1,7 @@
 -- Scan instances, and their instances of the core.
 use Rattle.std.proofs.Common.{◌≡◌, ℕ, ◌+◌, ◌<◌, ◌≤◌, [], ◌∷◌, ◌++◌, length, map, Bool, true, false, eqb, refl, sym, ◌∙◌, ap, subst, arith, get_or}
 use Rattle.std.specs.Prelude.{slice_get, cond, IsSomeAnd, IsSome, Option, Some, None, option_to_list}
-use Rattle.std.specs.List.{All}
+use Rattle.std.specs.List.{Contains}
 use Rattle.std.proofs.lemmas.Option.{same_Some}
 use Rattle.ca_cell.specs.Raw.{is_input, is_output, role_count, circuit_of}
 use Rattle.ca_wired.specs.declared.parts.ScanNets.{ScanNets}
@@ -10,7 +10,6 @@ use Rattle.ca_wired.specs.declared.parts.Part.{Part}
 use Rattle.ca_wired.specs.declared.parts.Body.TheVariants.{Gate, Scan}
 use Rattle.ca_wired.specs.Linked.{Chip, net_count, data_nets, IsGate, IsLibrary, IsWired}
 use Rattle.ca_wired.specs.Instances.{pin_nets}
-use Rattle.ca_wired.proofs.PartLemmas.{of_all, of_list}
 use Rattle.ca_defect.specs.declared.defect.Defect.{Defect}
 use Rattle.ca_defect.specs.declared.defect.Defect.TheVariants.{OpenDrain, OpenSource, OpenGate, OpenPin, Short}
 use Rattle.ca_defect.specs.List.{IsDefectOf}
@@ -22,6 +21,7 @@ use Rattle.ca_flat.proofs.Shapes.{length-with_defect}
 use Rattle.std.proofs.lemmas.Bool.{eqb-true}
 use Rattle.ca_core.specs.Core.{core_net, core_instance, core_of, empty_cell}
 use Rattle.ca_core.proofs.CorePartLemmas.{core_at, part_at}
+use Rattle.ca_core.proofs.CoreIsChip.{data_within}
 use Rattle.ca_flatten.specs.Kept.{IsInverting}
 use Rattle.ca_flatten.proofs.GateLemmas.{some_at, at_some}
 use Rattle.ca_flatten.proofs.SizeLemmas.{core_count}
@@ -145,11 +145,9 @@ module _ (chip : Chip) (u : ℕ) (v : InvertedAt chip u) where
 
   pub inverted_on_net : IsWired chip → v.net < net_count chip
   inverted_on_net is =
-      let on : All (λ net. net < net_count chip) (data_nets (Scan v.nets)) = subst (λ (b : Body). All (λ net. net < net_count chip) (data_nets b)) v.body
-      (of_all (λ (p : Part). All (λ net. net < net_count chip) (data_nets p.body)) chip.parts u v.part is.on_nets v.at) in
-      let has : All (λ net. net < net_count chip) (v.nets.d ∷ v.nets.q ∷ option_to_list (Some v.net)) =
-      subst (λ (qn : Option ℕ). All (λ net. net < net_count chip) (v.nets.d ∷ v.nets.q ∷ option_to_list qn)) v.inverted on in
-      of_list (λ net. net < net_count chip) (v.nets.d ∷ v.nets.q ∷ option_to_list (Some v.net)) v.net has (2, omega arith, refl)
+      let has : Contains (data_nets (Scan v.nets)) v.net =
+      subst (λ (qn : Option ℕ). Contains (v.nets.d ∷ v.nets.q ∷ option_to_list qn) v.net) (sym v.inverted) (2, omega arith, refl) in
+      data_within chip is u v.part v.net v.at (subst (λ (b : Body). Contains (data_nets b) v.net) (sym v.body) has)
 
 none_changed : (new : ℕ) (o : Option Defect) → old_devices [] new o ≡ []
 none_changed new None = refl

@@ -25,7 +25,8 @@ use Rattle.ca_flat.proofs.Split.{place_within}
 use Rattle.ca_core.specs.Core.{core_of, core_instance, rank_of}
 use Rattle.ca_core.proofs.CoreIsChip.{core_is}
 use Rattle.ca_flatten.specs.Few.{IsFew}
-use Rattle.ca_flatten.specs.Kept.{device_total}
+use Rattle.ca_flatten.specs.declared.sizes.Sizes.{Sizes}
+use Rattle.ca_flatten.specs.Kept.{device_total, AreSizes}
 
 pub core_count : (chip : Chip) → count_of (core_of chip) ≡ length chip.parts
 core_count chip = length-map chip.parts (λ (p : Part). core_instance chip p.body)
@@ -108,7 +109,7 @@ bridge_length core (Some given) = by given.defect
     by (Short low high) = omega arith
 
 -- what is counted of all instances tells that the flat network isn't too large
-pub few_counted : (chip : Chip) (given : Option ChipDefect) (u inner devices : ℕ) → AreCounted (core_of chip) u inner devices → u ≡ length chip.parts
+few_counted : (chip : Chip) (given : Option ChipDefect) (u inner devices : ℕ) → AreCounted (core_of chip) u inner devices → u ≡ length chip.parts
     → 3 + length (core_of chip).nets + inner < 2 ^ 32 → devices + 1 < 2 ^ 32 → IsFew (core_of chip) given
 few_counted chip given u inner devices counted all few_nodes few_devices =
     let core = core_of chip in
@@ -125,3 +126,30 @@ few_counted chip given u inner devices counted all few_nodes few_devices =
           let bridge = bridge_length core given in
           omega arith;
     }
+
+-- what is counted of all instances are the sizes of the flat network
+pub all_sizes : (chip : Chip) (u inner devices : ℕ) → AreCounted (core_of chip) u inner devices → u ≡ length chip.parts
+    → 3 + length (core_of chip).nets + inner < 2 ^ 32 → devices + 1 < 2 ^ 32
+    → AreSizes (core_of chip) (record { inner = inner; devices = devices })
+all_sizes chip u inner devices counted all few_nodes few_devices =
+    let core = core_of chip in
+    let count : u ≡ count_of core = all ∙ sym (core_count chip) in
+    record {
+      inner = counted.is_inner ∙ ap (inner_before core) count;
+      devices = counted.is_devices ∙ ap (device_total core) count;
+      few = λ given. few_counted chip given u inner devices counted all few_nodes few_devices;
+    }
+
+-- sizes are small, with the nodes that are no inner ones
+pub sizes_fit : (core : flat.Chip) (sizes : Sizes) → AreSizes core sizes
+    → (2 + length core.nets + sizes.inner < 2 ^ 32) × (sizes.devices < 2 ^ 32)
+sizes_fit core sizes are =
+    let few = are.few None in
+    let inner = are.inner in
+    let devices = are.devices in
+    let all = flat_length core None in
+    let total = total_length core None (count_of core) in
+    let both = length-append (devices_before core None (count_of core)) (bridge_of core None) in
+    let few_nodes = few.nodes in
+    let few_devices = few.devices in
+    (omega arith, omega arith)

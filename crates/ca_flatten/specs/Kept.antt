@@ -1,5 +1,6 @@
 -- What the code keeps while it makes a flat network. Only the proofs of the code cite this.
-use Rattle.std.specs.Prelude.{ℕ, zero, suc, ◌+◌, ◌^◌, ◌≡◌, ◌<◌, ◌↔◌, Bool, IsTrue, false, List, [], ◌∷◌, if◌then◌else◌, length, slice_index_or, Option, IsSome, map, take}
+use Rattle.std.specs.Prelude.{ℕ, zero, suc, ◌+◌, ◌^◌, ◌≡◌, ◌<◌, ◌↔◌, Bool, IsTrue, false, if◌then◌else◌}
+use Rattle.std.specs.Prelude.{List, [], ◌∷◌, length, slice_index_or, Option, IsSome, map, take}
 use Rattle.ca_net.specs.declared.device.Device.{Device}
 use Rattle.ca_parts.specs.Part.{moved}
 use Rattle.ca_flat.specs.declared.chip_defect.ChipDefect.{ChipDefect}
@@ -7,7 +8,9 @@ use Rattle.ca_flat.specs.Chip.{Chip, circuit_at, count_of}
 use Rattle.ca_flat.specs.Flat.{inner_before, place, old_devices, defect_at}
 use Rattle.ca_net.specs.declared.node.NodeKind.{NodeKind}
 use Rattle.ca_core.specs.Core.{kind_of}
+use Rattle.ca_flatten.specs.declared.sizes.Sizes.{Sizes}
 use Rattle.ca_flatten.specs.declared.spots.Spot.{Spot}
+use Rattle.ca_flatten.specs.Few.{IsFew}
 use Rattle.ca_wired.specs.declared.parts.Body.{Body}
 use Rattle.ca_wired.specs.declared.parts.Body.TheVariants.{Gate, Scan}
 use Rattle.ca_wired.specs.Linked.{IsLibrary}
@@ -46,3 +49,9 @@ first_devices chip given u count = map (moved (place chip u)) (take count
 unfoldable pub device_total : Chip → ℕ → ℕ
 device_total chip zero = 0
 device_total chip (suc u) = device_total chip u + length (circuit_at chip u).devices
+
+-- how many inner nodes and devices the instances have, where no flat network is too large
+pub record AreSizes (chip : Chip) (sizes : Sizes) : Type 0 where
+  pub inner : sizes.inner ≡ inner_before chip (count_of chip)
+  pub devices : sizes.devices ≡ device_total chip (count_of chip)
+  pub few : (given : Option ChipDefect) → IsFew chip given

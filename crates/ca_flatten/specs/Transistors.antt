@@ -14,4 +14,5 @@ IsTransistor D strength = ⊥
 
 -- each device of each cell is a transistor
 abbrev pub HaveTransistors : List RawCell → Type 0
-HaveTransistors cells = All (λ raw. All (λ device. IsTransistor device.kind device.strength) raw.devices) cells
+HaveTransistors cells =
+    All (λ raw. All (λ device. IsTransistor device.kind device.strength) raw.devices) cells

@@ -8,9 +8,10 @@ ghost use Rattle.ca_wired.specs.Linked.{IsLibrary};
 ghost use Rattle.ca_core.specs.Core.{core_of};
 ghost use Rattle.ca_core.specs.Numbers.{AreCoreNumbers};
 ghost use Rattle.ca_flatten.specs.Few.{IsFew};
-ghost use Rattle.ca_flatten.specs.Kept.{AreGateMarks, IsSpot};
+ghost use Rattle.ca_flatten.specs.Kept.{AreGateMarks, AreSizes, IsSpot};
 
 use crate::gates::Gates;
+use crate::sizes::Sizes;
 use crate::spots::{Spot, cell_at, inner_before, inner_count, moved};
 use ca_base::NoMemory;
 use ca_cell::Cell;
@@ -34,8 +35,8 @@ fn defect_at(defect: Option<ChipDefect>, u: InstanceId) -> Option<Defect>
 // A device of a cell, with the defect.
 fn old_device(cell: &Cell, defect: Option<Defect>, d: DeviceId) -> Device
     requires { d.0 < length (circuit_of cell.now).devices }
-    ensures { slice_get (old_devices (circuit_of cell.now).devices (length (circuit_of cell.now).nodes) defect) d.0
-        ≡ Some result }
+    ensures { slice_get (old_devices (circuit_of cell.now).devices
+        (length (circuit_of cell.now).nodes) defect) d.0 ≡ Some result }
 {
     let device = cell.device(d);
     match defect {
@@ -59,7 +60,8 @@ fn push_gate(
     requires spot { IsSpot (core_of chip.now) spot }
     requires defect { IsChipDefect (core_of chip.now) defect }
     requires few { IsFew (core_of chip.now) defect }
-    ensures { OnOk result (devices.new ≡ devices.old ++ devices_of (core_of chip.now) defect spot.instance.0) }
+    ensures { OnOk result (devices.new
+        ≡ devices.old ++ devices_of (core_of chip.now) defect spot.instance.0) }
 {
     chip.wired();
     let cell = cell_at(chip, spot.instance);
@@ -86,7 +88,8 @@ fn push_part(
     requires spot { IsSpot (core_of chip.now) spot }
     requires defect { IsChipDefect (core_of chip.now) defect }
     requires few { IsFew (core_of chip.now) defect }
-    ensures { OnOk result (devices.new ≡ devices.old ++ devices_of (core_of chip.now) defect spot.instance.0) }
+    ensures { OnOk result (devices.new
+        ≡ devices.old ++ devices_of (core_of chip.now) defect spot.instance.0) }
 {
     if gates.has(spot.instance) {
         push_gate(devices, chip, nets, gates, defect, spot)
@@ -130,23 +133,26 @@ fn bridge_of(
     Some(moved(chip, nets, gates, defect, spot, device))
 }
 
-/// The devices of all instances in their order, and the bridge of a short.
+/// The devices of all instances in their order, and the bridge of a short. The memory for all of them is
+/// taken at once.
+#[tactic(auto, using(crate::proofs::SizeLemmas::sizes_fit))]
 pub(crate) fn devices_of(
     alloc: Global,
     chip: &Chip,
     nets: &CoreNets,
     gates: &Gates,
+    sizes: Sizes,
     defect: Option<ChipDefect>,
 ) -> Result<DeviceList, NoMemory>
     requires nets { AreCoreNumbers chip.now nets.now }
     requires gates { AreGateMarks chip.now gates.now }
+    requires sizes { AreSizes (core_of chip.now) sizes }
     requires defect { IsChipDefect (core_of chip.now) defect }
-    requires few { IsFew (core_of chip.now) defect }
     ensures { IfOk result (λ devices. devices ≡ (flat (core_of chip.now) defect).devices) }
 {
     let first = 2 + nets.count() as usize;
-    let new = first + inner_before(chip, gates, defect, chip.parts());
-    let mut devices = DeviceList::new(alloc);
+    let new = first + sizes.inner;
+    let mut devices = DeviceList::with_room(alloc, sizes.devices + 1)?;
     let mut inner = first;
     for u in 0..chip.parts() {
         let instance = InstanceId(u as u32);

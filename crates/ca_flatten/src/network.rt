@@ -11,7 +11,7 @@ ghost use Rattle.ca_flatten.specs.Transistors.{HaveTransistors};
 use crate::devices::devices_of;
 use crate::gates::gates_of;
 use crate::nodes::nodes_of;
-use crate::sizes::is_few;
+use crate::sizes::sizes_of;
 use ca_base::NoMemory;
 use ca_core::core_nets;
 use ca_flat::ChipDefect;
@@ -41,23 +41,22 @@ fn network_of(
     }
 }
 
-/// Whether the flat networks of a chip, good and with each of its defects, are small enough for their nodes and
-/// devices to have numbers of 32 bits. Want of memory is told where one of them may be too large.
+/// Whether the flat networks of a chip, good and with each of its defects, are small enough for their nodes
+/// and devices to have numbers of 32 bits. Want of memory is told where one of them may be too large.
 pub fn judge_size(alloc: Global, chip: &Chip) -> Result<(), NoMemory>
     ensures { OnOk result ((given : Option ChipDefect) → IsFew (core_of chip.now) given) }
 {
     let nets = core_nets(alloc, chip)?;
     let gates = gates_of(alloc, chip)?;
-    if is_few(chip, &nets, &gates) {
-        Ok(())
-    } else {
-        Err(NoMemory)
+    match sizes_of(chip, &nets, &gates) {
+        Some(_) => Ok(()),
+        None => Err(NoMemory),
     }
 }
 
-/// The flat network of a linked chip, good or with one of its defects: power, ground, the nets off the scan path
-/// in net order, the inner nodes by instance and the node that the defect adds; the devices by instance, and the
-/// bridge of a short. Want of memory is also told of a network that may have 2^32 nodes or devices.
+/// The flat network of a linked chip, good or with one of its defects: power, ground, the nets off the scan
+/// path in net order, the inner nodes by instance and the node that the defect adds; the devices by instance,
+/// and the bridge of a short. Want of memory is also told of a network that may have 2^32 nodes or devices.
 pub fn flatten(alloc: Global, chip: &Chip, defect: Option<ChipDefect>) -> Result<FlatNet, NoMemory>
     requires transistors { HaveTransistors chip.now.cells }
     requires defect { IsChipDefect (core_of chip.now) defect }
@@ -65,10 +64,10 @@ pub fn flatten(alloc: Global, chip: &Chip, defect: Option<ChipDefect>) -> Result
 {
     let nets = core_nets(alloc, chip)?;
     let gates = gates_of(alloc, chip)?;
-    if !is_few(chip, &nets, &gates) {
+    let Some(sizes) = sizes_of(chip, &nets, &gates) else {
         return Err(NoMemory);
-    }
-    let nodes = nodes_of(alloc, chip, &nets, &gates, defect)?;
-    let devices = devices_of(alloc, chip, &nets, &gates, defect)?;
+    };
+    let nodes = nodes_of(alloc, chip, &nets, &gates, sizes, defect)?;
+    let devices = devices_of(alloc, chip, &nets, &gates, sizes, defect)?;
     network_of(chip, defect, nodes, devices)
 }

@@ -3,16 +3,14 @@
 ghost use Rattle.std.specs.Prelude.{◌≡◌, ◌++◌, ◌<◌, length, replicate, false, IfOk, OnOk};
 ghost use Rattle.ca_net.specs.declared.scale.TheConstants.{INNER_NODE};
 ghost use Rattle.ca_net.specs.declared.node.NodeKind.TheVariants.{Storage};
-ghost use Rattle.ca_flat.specs.Chip.{IsChipDefect};
 ghost use Rattle.ca_flat.specs.Flat.{flat, new_nodes, defect_of};
 ghost use Rattle.ca_wired.specs.Linked.{net_count, is_scan_path};
 ghost use Rattle.ca_core.specs.Core.{core_of, kind_of};
 ghost use Rattle.ca_core.specs.Numbers.{AreCoreNumbers};
-ghost use Rattle.ca_flatten.specs.Few.{IsFew};
-ghost use Rattle.ca_flatten.specs.Kept.{AreGateMarks, core_kind};
+ghost use Rattle.ca_flatten.specs.Kept.{AreGateMarks, AreSizes, core_kind};
 
 use crate::gates::Gates;
-use crate::spots::inner_before;
+use crate::sizes::Sizes;
 use ca_base::NoMemory;
 use ca_core::CoreNets;
 use ca_flat::ChipDefect;
@@ -94,25 +92,28 @@ fn push_new(nodes: &mut NodeList, defect: Option<ChipDefect>) -> Result<(), NoMe
     }
 }
 
-/// Power, ground, the nets that are off the scan path, the inner nodes of all instances, and the node that the
-/// defect adds.
+/// Power, ground, the nets that are off the scan path, the inner nodes of all instances, and the node that
+/// the defect adds. The memory for all of them is taken at once.
+#[tactic(auto, using(crate::proofs::SizeLemmas::sizes_fit))]
 pub(crate) fn nodes_of(
     alloc: Global,
     chip: &Chip,
     nets: &CoreNets,
     gates: &Gates,
+    sizes: Sizes,
     defect: Option<ChipDefect>,
 ) -> Result<NodeList, NoMemory>
     requires nets { AreCoreNumbers chip.now nets.now }
     requires gates { AreGateMarks chip.now gates.now }
-    requires few { IsFew (core_of chip.now) defect }
+    requires sizes { AreSizes (core_of chip.now) sizes }
     ensures { IfOk result (λ nodes. nodes ≡ (flat (core_of chip.now) defect).nodes) }
 {
-    let mut nodes = NodeList::new(alloc);
+    let room = 3 + nets.count() as usize + sizes.inner;
+    let mut nodes = NodeList::with_room(alloc, room)?;
     nodes.push(NodeKind::Input)?;
     nodes.push(NodeKind::Input)?;
     push_nets(&mut nodes, chip, nets, gates)?;
-    push_inner(&mut nodes, inner_before(chip, gates, defect, chip.parts()))?;
+    push_inner(&mut nodes, sizes.inner)?;
     push_new(&mut nodes, defect)?;
     Ok(nodes)
 }

@@ -1,12 +1,10 @@
-//! Whether a flat network is small enough for its nodes and devices to have numbers.
+//! How many nodes and devices a flat network has, and whether these are few enough to have numbers.
 
-ghost use Rattle.std.specs.Prelude.{◌≡◌, ◌^◌, ◌<◌, length, true, Option};
-ghost use Rattle.ca_flat.specs.declared.chip_defect.ChipDefect.{ChipDefect};
+ghost use Rattle.std.specs.Prelude.{◌≡◌, ◌^◌, ◌<◌, length, IfSome};
 ghost use Rattle.ca_flat.specs.Chip.{circuit_at};
 ghost use Rattle.ca_core.specs.Core.{core_of};
 ghost use Rattle.ca_core.specs.Numbers.{AreCoreNumbers};
-ghost use Rattle.ca_flatten.specs.Few.{IsFew};
-ghost use Rattle.ca_flatten.specs.Kept.{AreGateMarks};
+ghost use Rattle.ca_flatten.specs.Kept.{AreGateMarks, AreSizes};
 
 use crate::gates::Gates;
 use crate::spots::{cell_at, inner_count};
@@ -31,12 +29,19 @@ fn device_count(chip: &Chip, gates: &Gates, u: InstanceId) -> usize
     }
 }
 
-/// Whether the flat network has fewer than 2^32 nodes and devices, also with one more of each, which a defect
-/// may add.
-pub(crate) fn is_few(chip: &Chip, nets: &CoreNets, gates: &Gates) -> bool
+/// How many inner nodes and devices the instances of a chip have.
+#[derive(Clone, Copy)]
+pub(crate) struct Sizes {
+    pub(crate) inner: usize,
+    pub(crate) devices: usize,
+}
+
+/// The sizes of the flat network, where it has fewer than 2^32 nodes and devices, also with one more of each,
+/// which a defect may add.
+pub(crate) fn sizes_of(chip: &Chip, nets: &CoreNets, gates: &Gates) -> Option<Sizes>
     requires nets { AreCoreNumbers chip.now nets.now }
     requires gates { AreGateMarks chip.now gates.now }
-    ensures { result ≡ true → (given : Option ChipDefect) → IsFew (core_of chip.now) given }
+    ensures { IfSome result (AreSizes (core_of chip.now)) }
 {
     let mut inner = 0;
     let mut devices = 0;
@@ -45,12 +50,12 @@ pub(crate) fn is_few(chip: &Chip, nets: &CoreNets, gates: &Gates) -> bool
         inner += inner_count(chip, gates, instance);
         devices += device_count(chip, gates, instance);
         if inner > MOST || devices > MOST {
-            return false;
+            return None;
         }
     }
     let nodes = 3 + nets.count() as usize + inner;
     if nodes > MOST || devices >= MOST {
-        return false;
+        return None;
     }
-    true
+    Some(Sizes { inner, devices })
 }

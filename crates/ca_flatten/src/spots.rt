@@ -3,7 +3,8 @@
 ghost use Rattle.std.specs.Prelude.{◌≡◌, ◌+◌, ◌^◌, ◌<◌, ◌≤◌, length, slice_get, IsSomeAnd, IsTrue};
 ghost use Rattle.ca_net.specs.Circuit.{NamesWithin};
 ghost use Rattle.ca_parts.specs.Part.{moved};
-ghost use Rattle.ca_flat.specs.Chip.{cell_at, circuit_at, inputs_at, outputs_at, net_of, count_of, IsChipDefect};
+ghost use Rattle.ca_flat.specs.Chip.{cell_at, circuit_at, inputs_at, outputs_at, net_of, count_of};
+ghost use Rattle.ca_flat.specs.Chip.{IsChipDefect};
 ghost use Rattle.ca_flat.specs.Flat.{circuit_in, inner_count, inner_before, place};
 ghost use Rattle.ca_wired.specs.Linked.{IsLibrary};
 ghost use Rattle.ca_core.specs.Core.{core_of};
@@ -211,7 +212,8 @@ pub(crate) fn moved(
     requires spot { IsSpot (core_of chip.now) spot }
     requires defect { IsChipDefect (core_of chip.now) defect }
     requires few { IsFew (core_of chip.now) defect }
-    requires within { NamesWithin (length (circuit_in (core_of chip.now) defect spot.instance.0).nodes) device }
+    requires within { NamesWithin
+        (length (circuit_in (core_of chip.now) defect spot.instance.0).nodes) device }
     ensures { result ≡ moved (place (core_of chip.now) spot.instance.0) device }
 {
     Device {

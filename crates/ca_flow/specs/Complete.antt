@@ -25,7 +25,8 @@ pub record FitsPair (words : List (List ℕ)) (raw : RawCell) : Type 0 where
   pub last : Fits raw (last_word words)
   pub defect : IsSome (asked_network raw (defect_word words))
 
--- the words are those of a command on one cell, its cell keeps the rules of a used cell, and its own words fit the cell
+-- the words are those of a command on one cell, its cell keeps the rules of a used cell, and its own words
+-- fit the cell
 pub record FitsCell (words : List (List ℕ)) (raw : RawCell) : Type 0 where
   pub is : IsOnCell words
   pub kept : KeepsRules raw
@@ -41,14 +42,16 @@ FitsFile words told = IsFileWith told (cells_word words) (HasCell (cell_word wor
 pub record HasDefect (chip : Chip) (instance defect : List ℕ) : Type 0 where
   pub u : ℕ
   pub named : IsNamedGate chip instance u
-  pub called : (v : ℕ) → IsNamedGate chip instance v → IsSome (defect_called (cell_at (core_of chip) v) defect)
+  pub called : (v : ℕ) → IsNamedGate chip instance v
+      → IsSome (defect_called (cell_at (core_of chip) v) defect)
 
 -- the words name no defect, or one of the chip
 abbrev pub FitsDefect : List (List ℕ) → Chip → Type 0
 FitsDefect words chip =
     (instance_word words ≡ dash) ⊎ HasDefect chip (instance_word words) (chip_defect_word words)
 
--- the vectors of `simulate` have one letter for each chip input, and its words name no defect, or one of the chip
+-- the vectors of `simulate` have one letter for each chip input, and its words name no defect, or one of the
+-- chip
 pub record FitsSimulate (words : List (List ℕ)) (chip : Chip) : Type 0 where
   pub first : FitsInputs chip (chip_first_word words)
   pub last : FitsInputs chip (chip_last_word words)
@@ -59,8 +62,8 @@ pub record FitsOwn (words : List (List ℕ)) (chip : Chip) : Type 0 where
   pub flatten : IsFlatten words → FitsDefect words chip
   pub simulate : IsSimulate words → FitsSimulate words chip
 
--- the words are those of a command on a chip, the files that they name are there, are no longer than they may be,
--- and read as what gives a chip with chains, and the command's own words are of the chip
+-- the words are those of a command on a chip, the files that they name are there, are no longer than they
+-- may be, and read as what gives a chip with chains, and the command's own words are of the chip
 pub record FitsChip (words : List (List ℕ)) (told : Files) : Type 0 where
   pub is : IsOnChip words
   pub inputs : Inputs
@@ -70,9 +73,12 @@ pub record FitsChip (words : List (List ℕ)) (told : Files) : Type 0 where
 
 -- the words ask for no file, or the files are told and the words fit those that they name
 abbrev pub IsAnswerable : List (List ℕ) → Option Files → Type 0
-IsAnswerable words files = AsksNoFile words ⊎ IsSomeAnd files (λ told. FitsFile words told ⊎ FitsChip words told)
+IsAnswerable words files =
+    AsksNoFile words ⊎ IsSomeAnd files (λ told. FitsFile words told ⊎ FitsChip words told)
 
--- where no call of the store or the sink failed, a command that can be answered does its work, or there was no memory
+-- where no call of the store or the sink failed, a command that can be answered does its work, or there was
+-- no memory
 abbrev pub Completes : List (List ℕ) → Outside → Outside → Finished → Type 0
-Completes words before after end = IsAnswerable words before.files → ¬ (Rose before.store_faults after.store_faults)
+Completes words before after end =
+    IsAnswerable words before.files → ¬ (Rose before.store_faults after.store_faults)
     → ¬ (Rose before.sink_faults after.sink_faults) → (end.status ≡ 0) ⊎ (end.fault ≡ Some NoMemory)

@@ -29,23 +29,26 @@ AreDefectNames names raw = KeepsRules raw × (names ≡ names_of raw)
 abbrev pub IsSoundMatrix : Entries → RawCell → Type 0
 IsSoundMatrix matrix raw = KeepsRules raw × IsMatrixOf raw matrix
 
--- the work that is told is that of the command, on the cell that the words name in the file that they name, or on the chip
--- that their files give
+-- the work that is told is that of the command, on the cell that the words name in the file that they name,
+-- or on the chip that their files give
 abbrev pub IsAsked : List (List ℕ) → Option Files → Done → Type 0
 IsAsked words files (Respond values) = IsRespond words × OfCell files (cells_word words) (cell_word words)
     (AreValues (vector_word words) (vector_word words) dash values)
 IsAsked words files (Pair values) = IsPair words × OfCell files (cells_word words) (cell_word words)
     (AreValues (first_word words) (last_word words) (defect_word words) values)
-IsAsked words files (Defects names) = IsDefects words × OfCell files (cells_word words) (cell_word words) (AreDefectNames names)
-IsAsked words files (Matrix matrix) = IsMatrix words × OfCell files (cells_word words) (cell_word words) (IsSoundMatrix matrix)
+IsAsked words files (Defects names) =
+    IsDefects words × OfCell files (cells_word words) (cell_word words) (AreDefectNames names)
+IsAsked words files (Matrix matrix) =
+    IsMatrix words × OfCell files (cells_word words) (cell_word words) (IsSoundMatrix matrix)
 IsAsked words files (Check chip chains) =
     IsCheck words × (AreAllChains chip chains × IsChipOfFiles files (chip_files words) chip)
 IsAsked words files (Flatten chip net) = IsFlatten words
-    × (IsChipOfFiles files (chip_files words) chip × IsFlatOf (instance_word words) (chip_defect_word words) chip net)
+    × (IsChipOfFiles files (chip_files words) chip
+    × IsFlatOf (instance_word words) (chip_defect_word words) chip net)
 IsAsked words files (Simulate chip ends) = IsSimulate words
     × (IsChipOfFiles files (chip_files words) chip
-    × AreEndsOf (instance_word words) (chip_defect_word words) (chip_first_word words) (chip_last_word words) chip
-    ends.good.items ends.faulty.items)
+    × AreEndsOf (instance_word words) (chip_defect_word words) (chip_first_word words) (chip_last_word words)
+    chip ends.good.items ends.faulty.items)
 IsAsked words files Help = IsHelp words
 IsAsked words files Version = IsVersion words
 

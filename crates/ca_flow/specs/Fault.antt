@@ -1,4 +1,5 @@
--- Why a command is refused: each stage of a command has its own causes, and a command's are those of its stages.
+-- Why a command is refused: each stage of a command has its own causes, and a command's are those of its
+-- stages.
 use Rattle.std.specs.Prelude.{◌≡◌, ◌≢◌, ◌⊎◌, ℕ, List, Option, IsNone, ⊤}
 use Rattle.ca_store.specs.Store.{Files, Rose}
 use Rattle.ca_lex.specs.Words.{upper_case}
@@ -14,39 +15,48 @@ use Rattle.ca_flow.specs.Words.{chip_files, instance_word, chip_defect_word, chi
 use Rattle.ca_flow.specs.Words.{IsRespond, IsPair, IsDefects, IsMatrix, IsFlatten, IsSimulate, IsOnChip, IsCommand, HasOut}
 use Rattle.ca_flow.specs.OnChip.{IsFlattenCause, IsSimulateCause}
 
--- what is seen of a store and a sink: the files and the bytes that the sink holds, where they are told, and how often each failed
+-- what is seen of a store and a sink: the files and the bytes that the sink holds, where they are told, and
+-- how often each failed
 pub record Outside : Type 0 where
   pub files : Option Files
   pub store_faults : ℕ
   pub sink_faults : ℕ
   pub bytes : Option (List ℕ)
 
--- why a word finds no cell in a file: it names none, or one that breaks a rule, the first of those that it breaks
+-- why a word finds no cell in a file: it names none, or one that breaks a rule, the first of those that it
+-- breaks
 abbrev pub IsNameCause : List ℕ → List ℕ → Option Files → Fault → Type 0
 IsNameCause name word files (NoCell typed) = (typed ≡ word) × OfFile files name (LacksCell word)
-IsNameCause name word files (Cell cell rule) = (cell ≡ upper_case word) × OfCell files name word (λ raw. IsFirstBroken raw rule)
+IsNameCause name word files (Cell cell rule) =
+    (cell ≡ upper_case word) × OfCell files name word (λ raw. IsFirstBroken raw rule)
 IsNameCause name word files _ = ⊥
 
 -- the first of the two vectors that has more or fewer letters than the cell has input pins
 abbrev pub IsFirstUnfit : RawCell → List ℕ → List ℕ → List ℕ → Type 0
-IsFirstUnfit raw first last typed = ((typed ≡ first) × ¬ (Fits raw first)) ⊎ ((typed ≡ last) × (Fits raw first × ¬ (Fits raw last)))
+IsFirstUnfit raw first last typed =
+    ((typed ≡ first) × ¬ (Fits raw first)) ⊎ ((typed ≡ last) × (Fits raw first × ¬ (Fits raw last)))
 
 -- both vectors fit, and the word for the defect is no dash and names no defect of the cell
 abbrev pub LacksDefect : RawCell → List ℕ → List ℕ → List ℕ → Type 0
 LacksDefect raw first last defect = Fits raw first × (Fits raw last × IsNone (asked_network raw defect))
 
--- why a cell has no values under these vectors with this defect: a vector doesn't fit, or the cell lacks the defect
+-- why a cell has no values under these vectors with this defect: a vector doesn't fit, or the cell lacks the
+-- defect
 abbrev pub IsPairCause : List ℕ → List ℕ → List ℕ → Fault → RawCell → Type 0
 IsPairCause first last defect (BadVector typed) raw = KeepsRules raw × IsFirstUnfit raw first last typed
-IsPairCause first last defect (NoDefect typed) raw = (typed ≡ defect) × (KeepsRules raw × LacksDefect raw first last defect)
+IsPairCause first last defect (NoDefect typed) raw =
+    (typed ≡ defect) × (KeepsRules raw × LacksDefect raw first last defect)
 IsPairCause first last defect _ raw = ⊥
 
--- the same of the cell that a word names in a file; the word told is one of those typed, whatever the store tells
+-- the same of the cell that a word names in a file; the word told is one of those typed, whatever the store
+-- tells
 abbrev pub IsVectorCause : List ℕ → List ℕ → List ℕ → List ℕ → List ℕ → Option Files → Fault → Type 0
 IsVectorCause name word first last defect files (BadVector typed) =
-    ((typed ≡ first) ⊎ (typed ≡ last)) × OfCell files name word (IsPairCause first last defect (BadVector typed))
+    ((typed ≡ first) ⊎ (typed ≡ last))
+    × OfCell files name word (IsPairCause first last defect (BadVector typed))
 IsVectorCause name word first last defect files (NoDefect typed) =
-    (typed ≡ defect) × ((defect ≢ dash) × OfCell files name word (IsPairCause first last defect (NoDefect typed)))
+    (typed ≡ defect)
+    × ((defect ≢ dash) × OfCell files name word (IsPairCause first last defect (NoDefect typed)))
 IsVectorCause name word first last defect files _ = ⊥
 
 -- why a command on one cell found no cell
@@ -69,7 +79,8 @@ abbrev pub IsWriteCause : List (List ℕ) → ℕ → ℕ → Fault → Type 0
 IsWriteCause words before after (StoreFailed name) = HasOut words name × Rose before after
 IsWriteCause words before after _ = ⊥
 
--- why nothing, or a part alone, was printed of work that was whole: there was no memory for its lines, or the output failed
+-- why nothing, or a part alone, was printed of work that was whole: there was no memory for its lines, or
+-- the output failed
 abbrev pub IsPrintCause : ℕ → ℕ → Fault → Type 0
 IsPrintCause before after SinkFailed = Rose before after
 IsPrintCause before after NoMemory = ⊤
@@ -93,8 +104,10 @@ IsChipWorkCause words files before after fault =
 -- why the command that the words spell did no work
 abbrev pub IsWorkCause : List (List ℕ) → Option Files → ℕ → ℕ → Fault → Type 0
 IsWorkCause words files before after fault =
-    (IsRespond words × IsValueCause (cells_word words) (cell_word words) (vector_word words) (vector_word words) dash files before after fault)
-    ⊎ ((IsPair words × IsValueCause (cells_word words) (cell_word words) (first_word words) (last_word words) (defect_word words) files before after fault)
+    (IsRespond words × IsValueCause (cells_word words) (cell_word words)
+    (vector_word words) (vector_word words) dash files before after fault)
+    ⊎ ((IsPair words × IsValueCause (cells_word words) (cell_word words)
+    (first_word words) (last_word words) (defect_word words) files before after fault)
     ⊎ ((IsDefects words × IsCellCause (cells_word words) (cell_word words) files before after fault)
     ⊎ ((IsMatrix words × IsCellCause (cells_word words) (cell_word words) files before after fault)
     ⊎ IsChipWorkCause words files before after fault)))

@@ -37,10 +37,12 @@ status_told (Some fault) = status_of fault
 abbrev pub IsOutFault : List (List ℕ) → Option Fault → Type 0
 IsOutFault words fault = (name : List ℕ) × (HasOut words name × (fault ≡ Some (StoreFailed name)))
 
--- the status is that of the fault, and the work is told exactly where it is 0, or the output or the writing of a file failed
+-- the status is that of the fault, and the work is told exactly where it is 0, or the output or the writing
+-- of a file failed
 pub record IsAnswer (words : List (List ℕ)) (end : Finished) : Type 0 where
   pub status : end.status ≡ status_told end.fault
-  pub done : IsSome end.done ↔ ((end.status ≡ 0) ⊎ ((end.fault ≡ Some SinkFailed) ⊎ IsOutFault words end.fault))
+  pub done : IsSome end.done
+      ↔ ((end.status ≡ 0) ⊎ ((end.fault ≡ Some SinkFailed) ⊎ IsOutFault words end.fault))
 
 -- this holds of a text that tells the work
 abbrev pub HasText : Done → (List ℕ → Type 0) → Type 0
@@ -49,11 +51,12 @@ HasText done Holds = (text : List ℕ) × (IsTold done text × Holds text)
 -- what was printed: the lines of the work, a part of them where the output failed, and else nothing
 pub record Prints (end : Finished) (old new : Option (List ℕ)) : Type 0 where
   pub all : ForSome end.done (λ done. end.status ≡ 0 → HasText done (λ text. new ≡ appended text old))
-  pub part : ForSome end.done (λ done. end.fault ≡ Some SinkFailed → HasText done (λ text. AppendsPart text old new))
+  pub part : ForSome end.done (λ done.
+      end.fault ≡ Some SinkFailed → HasText done (λ text. AppendsPart text old new))
   pub nothing : end.status ≢ 0 → end.fault ≢ Some SinkFailed → new ≡ old
 
--- what work with a file leaves of the files: its text stands in the file, or a part of it where the writing failed, and
--- every other file is as it was
+-- what work with a file leaves of the files: its text stands in the file, or a part of it where the writing
+-- failed, and every other file is as it was
 abbrev pub LeavesText : List (List ℕ) → Option Fault → Option Files → Option Files → List ℕ → List ℕ → Type 0
 LeavesText words fault old new name text =
     (IsOutFault words fault → MayWrite old new name text)
@@ -61,7 +64,8 @@ LeavesText words fault old new name text =
 
 -- what work that is told leaves of the files
 abbrev pub LeavesFiles : List (List ℕ) → Option Fault → Option Files → Option Files → Done → Type 0
-LeavesFiles words fault old new (Matrix matrix) = LeavesText words fault old new (out_word words) (text_of matrix)
+LeavesFiles words fault old new (Matrix matrix) =
+    LeavesText words fault old new (out_word words) (text_of matrix)
 LeavesFiles words fault old new (Flatten chip net) =
     LeavesText words fault old new (flat_out_word words) (flat_text net)
 LeavesFiles words fault old new _ = new ≡ old

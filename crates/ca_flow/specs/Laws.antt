@@ -38,8 +38,8 @@ IsInputFault NoMemory = ⊥
 abbrev pub TellsFile : List (List ℕ) → Option (List ℕ) → Outside → Type 0
 TellsFile words file outside = IsSomeAnd outside.files (λ told. told (cells_word words) ≡ file)
 
--- of one list of words, of any but a command on a chip, and one file no two faults of input have a cause, whatever
--- else the store holds and however often calls failed
+-- of one list of words, of any but a command on a chip, and one file no two faults of input have a cause,
+-- whatever else the store holds and however often calls failed
 abbrev pub HasOneCause : List (List ℕ) → Option (List ℕ) → Type 0
 HasOneCause words file =
     ¬ (IsOnChip words) → (before after again later : Outside) (fault other : Fault)
@@ -62,8 +62,8 @@ SomeCauseOrAnswer =
     (words : List (List ℕ)) (bytes : List ℕ) (outside : Outside) → TellsFile words (Some bytes) outside
     → ¬ (IsOnChip words) → IsCommand words → IsAnswerable words outside.files ⊎ HasInputCause words outside
 
--- a command, but one on a chip, of whose words and file a fault of input has a cause ends with this fault, or with
--- one of the store, the output or memory
+-- a command, but one on a chip, of whose words and file a fault of input has a cause ends with this fault,
+-- or with one of the store, the output or memory
 abbrev pub CauseIsTold : Type 0
 CauseIsTold =
     (words : List (List ℕ)) (file : Option (List ℕ)) (before after : Outside) (end : Finished) (fault : Fault)

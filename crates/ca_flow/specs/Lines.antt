@@ -28,10 +28,11 @@ line_of_name name = name ++ codes "\n"
 -- the numbers of defects, of those that are exposable, and of records
 abbrev pub summary_text : ℕ → ℕ → ℕ → List ℕ
 summary_text defects exposable records =
-    codes "defects " ++ (decimal defects ++ (codes ", exposable " ++ (decimal exposable ++ (codes ", rows " ++ (decimal records ++ codes "\n")))))
+    codes "defects " ++ (decimal defects
+    ++ (codes ", exposable " ++ (decimal exposable ++ (codes ", rows " ++ (decimal records ++ codes "\n")))))
 
--- the line that tells of a matrix how many defects it has, how many of them some row shows, and how many records stand in its text
--- behind the header
+-- the line that tells of a matrix how many defects it has, how many of them some row shows, and how many
+-- records stand in its text behind the header
 pub record IsSummary (matrix : Entries) (text : List ℕ) : Type 0 where
   pub exposable : ℕ
   pub counted : IsNumberOf (IsShownDefect matrix) exposable
@@ -54,8 +55,8 @@ chip_defects chip = sum_by (λ u. part_defects chip.cells (slice_get chip.parts 
 abbrev pub with_count : List ℕ → List ℕ → ℕ → List ℕ
 with_count text label count = (text ++ label) ++ decimal count
 
--- the line that tells how many library instances, scan instances, inputs, observed outputs, chains and defects a
--- chip has
+-- the line that tells how many library instances, scan instances, inputs, observed outputs, chains and
+-- defects a chip has
 abbrev pub check_text : Chip → List (List ℕ) → List ℕ
 check_text chip chains =
     let instances = with_count [] (codes "instances ") (length (gates_of chip)) in

@@ -36,9 +36,10 @@ pub record IsFlatOf (instance defect : List ℕ) (chip : Chip) (net : Circuit) :
   pub asked : IsAskedDefect chip instance defect given
   pub is : net ≡ flat (core_of chip) given
 
--- each vector has one letter for each chip input, and the values are those at which the observed outputs end under
--- the two vectors, without the defect that the words name and with it, if they name one
-pub record AreEndsOf (instance defect first last : List ℕ) (chip : Chip) (good faulty : List Trit) : Type 0 where
+-- each vector has one letter for each chip input, and the values are those at which the observed outputs end
+-- under the two vectors, without the defect that the words name and with it, if they name one
+pub record AreEndsOf (instance defect first last : List ℕ) (chip : Chip) (good faulty : List Trit)
+    : Type 0 where
   pub first_fits : FitsInputs chip first
   pub last_fits : FitsInputs chip last
   pub given : Option ChipDefect
@@ -79,7 +80,8 @@ IsFlatCause names instance defect files before after fault =
     IsLoadCause names files before after fault ⊎ IsFlattenCause names instance defect files fault
 
 -- why `simulate` found no values
-abbrev pub IsEndsCause : InputFiles → List ℕ → List ℕ → List ℕ → List ℕ → Option Files → ℕ → ℕ → Fault → Type 0
+abbrev pub IsEndsCause : InputFiles → List ℕ → List ℕ → List ℕ → List ℕ → Option Files → ℕ → ℕ
+    → Fault → Type 0
 IsEndsCause names instance defect first last files before after fault =
     IsLoadCause names files before after fault ⊎ IsSimulateCause names instance defect first last files fault
 

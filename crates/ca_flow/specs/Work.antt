@@ -34,7 +34,8 @@ HasWritten None old new = new ≡ old
 HasWritten (Some file) old new = ChangesOnly old new file.name.now (Some file.bytes)
 
 -- the writing of the file failed, and the fault names it
-pub record FailsToWrite (old new : Option Files) (before after : ℕ) (fault : Fault) (file : OutFile) : Type 0 where
+pub record FailsToWrite (old new : Option Files) (before after : ℕ) (fault : Fault) (file : OutFile)
+    : Type 0 where
   pub fault_is : fault ≡ StoreFailed file.typed
   pub part : MayWrite old new file.name.now file.bytes
   pub rose : Rose before after
@@ -45,13 +46,15 @@ pub record HasPrinted (text : List ℕ) (old new : Option (List ℕ)) (end : Fin
   pub all : new ≡ appended text old
 
 -- the output failed at the text
-pub record FailsToPrint (text : List ℕ) (old new : Option (List ℕ)) (before after : ℕ) (end : Finished) : Type 0 where
+pub record FailsToPrint (text : List ℕ) (old new : Option (List ℕ)) (before after : ℕ) (end : Finished)
+    : Type 0 where
   pub fault_is : end.fault ≡ Some SinkFailed
   pub part : AppendsPart text old new
   pub rose : Rose before after
 
 -- how a command of these words ends, once its work is whole
-pub record EndsWork (words : List (List ℕ)) (before after : Outside) (done : Done) (end : Finished) : Type 0 where
+pub record EndsWork (words : List (List ℕ)) (before after : Outside) (done : Done) (end : Finished)
+    : Type 0 where
   pub answer : IsAnswer words end
   pub same : ForSome end.done (λ it. it ≡ done)
   pub prints : Prints end before.bytes after.bytes

@@ -10,8 +10,8 @@ use ca_fault::Fault;
 use ca_store::{Sink, Store};
 use std::alloc::Global;
 
-/// Does one command, whose words come without the program's name, and prints the line of its fault on `err`, if
-/// there is one. The answer is the exit status.
+/// Does one command, whose words come without the program's name, and prints the line of its fault on `err`,
+/// if there is one. The answer is the exit status.
 pub fn answer<S: Store, W: Sink, E: Sink>(
     alloc: Global,
     words: &[String],

@@ -50,8 +50,10 @@ pub(crate) fn find_flat<S: Store>(
     requires closed { S.opened store.old ≡ Nothing }
     requires both { AreBothOrNeither request.now.instance.now request.now.defect.now }
 
-    ensures chip { IfOk result (λ found. IsChipOfFiles (S.files store.old) (names_of request.now.files) found.chip) }
-    ensures flat { IfOk result (λ found. IsFlatOf request.now.instance.now request.now.defect.now found.chip found.net) }
+    ensures chip { IfOk result (λ found.
+        IsChipOfFiles (S.files store.old) (names_of request.now.files) found.chip) }
+    ensures flat { IfOk result (λ found.
+        IsFlatOf request.now.instance.now request.now.defect.now found.chip found.net) }
     ensures lines { IfOk result (λ found. All HasLine found.net.devices) }
     ensures cause { IfErr result (IsFlatCause (names_of request.now.files)
         request.now.instance.now request.now.defect.now

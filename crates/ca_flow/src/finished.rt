@@ -34,7 +34,8 @@ pub struct Finished {
 pub enum Done {
     /// The value to which each output pin of a cell settles under a vector.
     Respond { values: PinValues },
-    /// The value to which each output pin of a cell, or of one with a defect, settles under a pair of vectors.
+    /// The value to which each output pin of a cell, or of one with a defect, settles under a pair of
+    /// vectors.
     Pair { values: PinValues },
     /// The names of the defects of a cell, in their order.
     Defects { names: Names },
@@ -83,8 +84,8 @@ pub(crate) fn refused(fault: Fault) -> Finished
     }
 }
 
-/// Writes the file of work that is whole, if it has one, and prints its lines. The memory for them is taken before the file is
-/// created. Where the writing fails nothing is printed.
+/// Writes the file of work that is whole, if it has one, and prints its lines. The memory for them is taken
+/// before the file is created. Where the writing fails nothing is printed.
 pub(crate) fn finish<S: Store, W: Sink>(
     alloc: Global,
     work: Work<'_>,
@@ -130,7 +131,8 @@ fn print_done<W: Sink>(done: Done, text: &Text, out: &mut W) -> Finished
     ensures status { result.status ≡ status_told result.fault }
     ensures done { result.done ≡ Some done }
     ensures ends { HasPrinted text.now (W.bytes out.old) (W.bytes out.new) result
-        ⊎ FailsToPrint text.now (W.bytes out.old) (W.bytes out.new) (W.faults out.old) (W.faults out.new) result }
+        ⊎ FailsToPrint text.now (W.bytes out.old) (W.bytes out.new)
+        (W.faults out.old) (W.faults out.new) result }
     ensures count { TellsSinkFault result.fault (W.faults out.old) (W.faults out.new) }
 {
     match write_all(out, text.as_bytes()) {

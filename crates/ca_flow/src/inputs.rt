@@ -33,8 +33,8 @@ pub(crate) fn typed_words(alloc: Global, words: &CellWords<'_>) -> Result<TypedW
     })
 }
 
-/// The cell of a name, which may be in any case. It takes no memory: the word stands in memory of its own, as it
-/// was typed and in upper case.
+/// The cell of a name, which may be in any case. It takes no memory: the word stands in memory of its own,
+/// as it was typed and in upper case.
 pub(crate) fn find_cell<'a>(
     library: &'a Library,
     word: &str,
@@ -44,7 +44,8 @@ pub(crate) fn find_cell<'a>(
     requires typed { typed ≡ word.now }
     requires upper { upper ≡ upper_case word.now }
 
-    ensures found { IfOk result (λ cell. entry_of library.now (upper_case word.now) ≡ Some (entry.Sound cell.now)) }
+    ensures found { IfOk result (λ cell.
+        entry_of library.now (upper_case word.now) ≡ Some (entry.Sound cell.now)) }
     ensures kept { IfOk result (λ cell. KeepsRules cell.now) }
     ensures cause { IfErr result (IsEntryCause word.now library.now) }
 {

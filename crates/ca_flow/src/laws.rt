@@ -4,7 +4,8 @@ ghost use Rattle.std.specs.Prelude.{ℕ, List, Option};
 ghost use Rattle.ca_flow.specs.Laws.{HasOneCause, AnswerableHasNoCause, SomeCauseOrAnswer, CauseIsTold};
 ghost use Rattle.ca_flow.specs.Laws.{NamesMeanOneDefect, SizeIsLimited};
 
-/// Of one list of words, of any but a command on a chip, and one file at most one fault of the words or of the contents has a cause.
+/// Of one list of words, of any but a command on a chip, and one file at most one fault of the words or of
+/// the contents has a cause.
 pub fn one_cause()
     ensures { (words : List (List ℕ)) (file : Option (List ℕ)) → HasOneCause words file }
 {}
@@ -19,8 +20,8 @@ pub fn some_cause_or_answer()
     ensures { SomeCauseOrAnswer }
 {}
 
-/// Where a fault of the words or of the contents has a cause, a command, but one on a chip, doesn't end well, and tells no
-/// other such fault.
+/// Where a fault of the words or of the contents has a cause, a command, but one on a chip, doesn't end
+/// well, and tells no other such fault.
 pub fn cause_is_told()
     ensures { CauseIsTold }
 {}

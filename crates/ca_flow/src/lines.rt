@@ -82,7 +82,8 @@ fn add_count(text: &mut Text, label: &[u8], count: usize) -> Result<(), NoMemory
     add_number(text, count)
 }
 
-// The number of defects of a chip. One that no `usize` holds is answered as though there were no memory for it.
+// The number of defects of a chip. One that no `usize` holds is answered as though there were no memory for
+// it.
 fn count_defects(chip: &Chip) -> Result<usize, NoMemory>
     ensures { IfOk result (λ count. count ≡ chip_defects chip.now) }
 {

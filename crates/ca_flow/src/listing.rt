@@ -27,7 +27,8 @@ pub(crate) fn find_names<S: Store>(
 ) -> Result<Names, Fault>
     requires closed { S.opened store.old ≡ Nothing }
 
-    ensures names { IfOk result (λ names. OfCell (S.files store.old) request.now.cells.now request.now.cell.now (AreDefectNames names)) }
+    ensures names { IfOk result (λ names.
+        OfCell (S.files store.old) request.now.cells.now request.now.cell.now (AreDefectNames names)) }
     ensures cause { IfErr result (IsCellCause request.now.cells.now request.now.cell.now
         (S.files store.old) (S.faults store.old) (S.faults store.new)) }
     ensures quiet { OnOk result (S.faults store.new ≡ S.faults store.old) }

@@ -22,7 +22,8 @@ pub(crate) fn values_of<N: CellNet>(
     requires last { length last.now ≡ role_count is_input (N.subcircuit net.now).pins }
 
     ensures values { IfOk result (λ values.
-        AreEnds (N.subcircuit net.now) (map trit_of first.now) (map trit_of last.now) values (N.circuit net.now)) }
+        AreEnds (N.subcircuit net.now) (map trit_of first.now) (map trit_of last.now) values
+        (N.circuit net.now)) }
 {
     let first = trits(alloc, first)?;
     let last = trits(alloc, last)?;

@@ -29,7 +29,8 @@ pub(crate) fn find_matrix<S: Store>(
 ) -> Result<Matrix, Fault>
     requires closed { S.opened store.old ≡ Nothing }
 
-    ensures matrix { IfOk result (λ matrix. OfCell (S.files store.old) request.now.cells.now request.now.cell.now (IsSoundMatrix matrix)) }
+    ensures matrix { IfOk result (λ matrix.
+        OfCell (S.files store.old) request.now.cells.now request.now.cell.now (IsSoundMatrix matrix)) }
     ensures cause { IfErr result (IsCellCause request.now.cells.now request.now.cell.now
         (S.files store.old) (S.faults store.old) (S.faults store.new)) }
     ensures quiet { OnOk result (S.faults store.new ≡ S.faults store.old) }

@@ -21,9 +21,9 @@ use ca_load::{Loaded, load};
 use ca_store::{Sink, Store};
 use std::alloc::Global;
 
-/// Does one command, whose words come without the program's name. Nothing is written or printed before all inputs are judged,
-/// and all memory is taken before the first file is created and the first byte is printed. Words that are no command's leave the store and the sink
-/// uncalled.
+/// Does one command, whose words come without the program's name. Nothing is written or printed before all
+/// inputs are judged, and all memory is taken before the first file is created and the first byte is
+/// printed. Words that are no command's leave the store and the sink uncalled.
 #[tactic(auto, using(crate::proofs::CauseLemmas::is_whole))]
 pub fn run<S: Store, W: Sink>(
     alloc: Global,

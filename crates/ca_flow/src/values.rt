@@ -30,7 +30,8 @@ pub(crate) fn find_values<S: Store>(
 ) -> Result<PinValues, Fault>
     requires closed { S.opened store.old ≡ Nothing }
 
-    ensures values { IfOk result (λ values. OfCell (S.files store.old) request.now.of.cells.now request.now.of.cell.now
+    ensures values { IfOk result (λ values.
+        OfCell (S.files store.old) request.now.of.cells.now request.now.of.cell.now
         (AreValues request.now.first.now request.now.last.now request.now.defect.now values)) }
     ensures cause { IfErr result (IsValueCause request.now.of.cells.now request.now.of.cell.now
         request.now.first.now request.now.last.now request.now.defect.now
@@ -49,8 +50,10 @@ pub(crate) fn find_values<S: Store>(
 
 // The values of the cell's output pins.
 fn evaluate(alloc: Global, cell: &Cell, request: &PairWords<'_>) -> Result<PinValues, Fault>
-    ensures values { IfOk result (λ values. AreValues request.now.first.now request.now.last.now request.now.defect.now values cell.now) }
-    ensures cause { IfErr result (IsEvaluationCause request.now.first.now request.now.last.now request.now.defect.now cell.now) }
+    ensures values { IfOk result (λ values. AreValues request.now.first.now request.now.last.now
+        request.now.defect.now values cell.now) }
+    ensures cause { IfErr result (IsEvaluationCause request.now.first.now request.now.last.now
+        request.now.defect.now cell.now) }
 {
     let first = vector_for(alloc, cell, request.first)?;
     let last = vector_for(alloc, cell, request.last)?;

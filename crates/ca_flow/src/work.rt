@@ -15,7 +15,8 @@ pub(crate) struct Work<'a> {
     pub file: Option<OutFile<'a>>,
 }
 
-/// A file to be written. Its name stands also in memory of its own, since the fault of a failed writing takes none.
+/// A file to be written. Its name stands also in memory of its own, since the fault of a failed writing
+/// takes none.
 #[derive(Drop)]
 pub(crate) struct OutFile<'a> {
     pub name: &'a str,
@@ -28,8 +29,8 @@ pub(crate) fn write_out<S: Store>(file: Option<OutFile<'_>>, store: &mut S) -> R
     requires closed { S.opened store.old ≡ Nothing }
 
     ensures ok { OnOk result (HasWritten file.entry (S.files store.old) (S.files store.new)) }
-    ensures cause { IfErr result (λ fault. IsSomeAnd file.entry (FailsToWrite (S.files store.old) (S.files store.new)
-        (S.faults store.old) (S.faults store.new) fault)) }
+    ensures cause { IfErr result (λ fault. IsSomeAnd file.entry
+        (FailsToWrite (S.files store.old) (S.files store.new) (S.faults store.old) (S.faults store.new) fault)) }
     ensures count { KeepsCount result (S.faults store.old) (S.faults store.new) }
     ensures closed { S.opened store.new ≡ Nothing }
 {

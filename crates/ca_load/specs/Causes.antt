@@ -16,8 +16,8 @@ use Rattle.ca_load.specs.Files.{OfFile, IsReadCause}
 use Rattle.ca_load.specs.Texts.{InputFiles, OfInputs}
 use Rattle.ca_load.specs.Chips.{IsPlainRule, IsChipCause}
 
--- why the text of a cell netlist has no reading: its first faulty line, or its number of subcircuits where these
--- are too many
+-- why the text of a cell netlist has no reading: its first faulty line, or its number of subcircuits where
+-- these are too many
 abbrev pub IsTextCause : Fault → List ℕ → Type 0
 IsTextCause (Cells line kind) bytes = library_of bytes ≡ Err (spice.At line kind)
 IsTextCause (Limit limit.Cells count) bytes = library_of bytes ≡ Err (spice.TooManyCells count)
@@ -35,8 +35,8 @@ abbrev pub IsLibraryCause : List ℕ → Option Files → ℕ → ℕ → Fault 
 IsLibraryCause name files before after fault =
     IsReadCause name files MAX_CELLS before after fault ⊎ IsCellsCause name files fault
 
--- why the text of a gate netlist has no reading: its first faulty token, or its number of bits where these are
--- too many
+-- why the text of a gate netlist has no reading: its first faulty token, or its number of bits where these
+-- are too many
 abbrev pub IsModuleCause : Fault → List ℕ → Type 0
 IsModuleCause (Netlist line kind) bytes = netlist_of bytes ≡ Err (verilog.At line kind)
 IsModuleCause (Limit limit.Nets count) bytes = netlist_of bytes ≡ Err (verilog.TooManyNets count)
@@ -44,7 +44,8 @@ IsModuleCause _ bytes = ⊥
 
 -- the same of a file
 abbrev pub IsTokensCause : List ℕ → Option Files → Fault → Type 0
-IsTokensCause name files (Netlist line kind) = OfFile files name MAX_NETLIST (IsModuleCause (Netlist line kind))
+IsTokensCause name files (Netlist line kind) =
+    OfFile files name MAX_NETLIST (IsModuleCause (Netlist line kind))
 IsTokensCause name files (Limit limit.Nets count) =
     OfFile files name MAX_NETLIST (IsModuleCause (Limit limit.Nets count))
 IsTokensCause name files _ = ⊥
@@ -82,8 +83,8 @@ HasLibrary files name = OfFile files name MAX_CELLS (λ bytes. IsOk (library_of 
 abbrev pub HasNetlist : Option Files → List ℕ → Type 0
 HasNetlist files name = OfFile files name MAX_NETLIST (λ bytes. IsOk (netlist_of bytes))
 
--- why the files were not read as what they should be: the cell netlist comes first, then the gate netlist, and
--- then the table of scan cells
+-- why the files were not read as what they should be: the cell netlist comes first, then the gate netlist,
+-- and then the table of scan cells
 abbrev pub IsInputCause : InputFiles → Option Files → ℕ → ℕ → Fault → Type 0
 IsInputCause names files before after fault =
     IsLibraryCause names.cells files before after fault

@@ -48,7 +48,8 @@ IsPlainRule rule.NoMemory = ⊥
 
 -- the instance at this place of the netlist is of a cell that is called so in upper case
 abbrev pub IsOfCell : RawNetlist → InstanceId → List ℕ → Type 0
-IsOfCell netlist u name = IsSomeAnd (slice_get netlist.instances u.0) (λ instance. name ≡ upper_case instance.cell)
+IsOfCell netlist u name =
+    IsSomeAnd (slice_get netlist.instances u.0) (λ instance. name ≡ upper_case instance.cell)
 
 -- why the inputs don't link: the first rule that they break, or the first limit that they pass
 abbrev pub IsLinkingCause : Inputs → Fault → Type 0
@@ -61,7 +62,8 @@ IsLinkingCause inputs (Limit limit.Outputs count) = BreakFirst inputs (rule.TooM
 IsLinkingCause inputs (Limit limit.Defects count) = BreakFirst inputs (rule.TooManyDefects count)
 IsLinkingCause inputs _ = ⊥
 
--- why a chip has no chains: its first scan instance that is on no whole chain, by its name; or there are too many
+-- why a chip has no chains: its first scan instance that is on no whole chain, by its name; or there are too
+-- many
 abbrev pub IsTracingCause : Fault → Chip → Type 0
 IsTracingCause (Chain name) chip =
     (u : ℕ) × (IsFirstOff chip u × IsSomeAnd (slice_get chip.parts u) (λ part. name ≡ part.name))

@@ -14,7 +14,8 @@ IsFileWith told name limit Holds = IsSomeAnd (told name) (λ bytes. (length byte
 abbrev pub OfFile : Option Files → List ℕ → ℕ → (List ℕ → Type 0) → Type 0
 OfFile files name limit Holds = ForSome files (λ told. IsFileWith told name limit Holds)
 
--- why the file of this name could not be read up to a limit, with the store's count of faults before and after
+-- why the file of this name could not be read up to a limit, with the store's count of faults before and
+-- after
 abbrev pub IsReadCause : List ℕ → Option Files → ℕ → ℕ → ℕ → Fault → Type 0
 IsReadCause name files limit before after (TooLong word taken) =
     (word ≡ name) × IsTooLong files name limit taken before after

@@ -35,7 +35,8 @@ abbrev pub IsTableAt : Option Files → Option (List ℕ) → List ScanRow → T
 IsTableAt files None rows = rows ≡ []
 IsTableAt files (Some name) rows = OfFile files name MAX_SCAN (IsTableOf rows)
 
--- the names of the files: those of a cell netlist and a gate netlist, and that of a table of scan cells or none
+-- the names of the files: those of a cell netlist and a gate netlist, and that of a table of scan cells or
+-- none
 pub record InputFiles : Type 0 where
   pub cells : List ℕ
   pub netlist : List ℕ
@@ -67,4 +68,5 @@ AreRead files names inputs = ForSome files (ReadAs names inputs)
 
 -- where the files are told, this holds of what they read as
 abbrev pub OfInputs : Option Files → InputFiles → (Inputs → Type 0) → Type 0
-OfInputs files names Holds = ForSome files (λ told. (inputs : Inputs) × (ReadAs names inputs told × Holds inputs))
+OfInputs files names Holds =
+    ForSome files (λ told. (inputs : Inputs) × (ReadAs names inputs told × Holds inputs))

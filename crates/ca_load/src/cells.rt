@@ -30,8 +30,10 @@ pub fn open_library<S: Store>(
     requires closed { S.opened store.old ≡ Nothing }
     requires typed { typed ≡ name.now }
 
-    ensures ok { IfOk result (λ library. OfFile (S.files store.old) name.now MAX_CELLS (IsLibraryOf library)) }
-    ensures transistors { IfOk result (λ library. HaveTransistors (map (λ named. raw_of named.entry) library)) }
+    ensures ok { IfOk result (λ library.
+        OfFile (S.files store.old) name.now MAX_CELLS (IsLibraryOf library)) }
+    ensures transistors { IfOk result (λ library.
+        HaveTransistors (map (λ named. raw_of named.entry) library)) }
     ensures cause { IfErr result (IsLibraryCause name.now (S.files store.old)
         (S.faults store.old) (S.faults store.new)) }
     ensures quiet { OnOk result (S.faults store.new ≡ S.faults store.old) }
@@ -47,7 +49,8 @@ pub fn open_library<S: Store>(
 // The library that the bytes read as.
 fn library_in(alloc: Global, bytes: &[u8]) -> Result<Library, Fault>
     ensures reads { IfOk result (λ library. IsLibraryOf library bytes.now) }
-    ensures transistors { IfOk result (λ library. HaveTransistors (map (λ named. raw_of named.entry) library)) }
+    ensures transistors { IfOk result (λ library.
+        HaveTransistors (map (λ named. raw_of named.entry) library)) }
     ensures cause { IfErr result (IsCellsStage bytes.now) }
 {
     read_cells_are_of_transistors();

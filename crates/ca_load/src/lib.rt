@@ -1,5 +1,5 @@
-//! What all commands on a chip begin with: the library, the netlist and the table of scan cells are read from their
-//! files, linked, and the chains are traced.
+//! What all commands on a chip begin with: the library, the netlist and the table of scan cells are read from
+//! their files, linked, and the chains are traced.
 #![tactic(auto)]
 
 mod cells;

@@ -27,7 +27,8 @@ pub(crate) fn open_netlist<S: Store>(
     requires closed { S.opened store.old ≡ Nothing }
     requires typed { typed ≡ name.now }
 
-    ensures ok { IfOk result (λ netlist. OfFile (S.files store.old) name.now MAX_NETLIST (IsNetlistOf netlist)) }
+    ensures ok { IfOk result (λ netlist.
+        OfFile (S.files store.old) name.now MAX_NETLIST (IsNetlistOf netlist)) }
     ensures rules { IfOk result IsNetlist }
     ensures cause { IfErr result (IsNetlistCause name.now (S.files store.old)
         (S.faults store.old) (S.faults store.new)) }

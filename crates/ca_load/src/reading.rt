@@ -32,8 +32,8 @@ pub(crate) struct Read {
     pub scan: ScanTable,
 }
 
-/// What faults say of the files. It stands in memory of its own before the first file is opened, so that no fault of
-/// a file is told as want of memory.
+/// What faults say of the files. It stands in memory of its own before the first file is opened, so that no
+/// fault of a file is told as want of memory.
 #[derive(Drop)]
 pub(crate) struct TypedNames {
     pub cells: Text,
@@ -66,7 +66,8 @@ pub(crate) fn read_all<S: Store>(
     requires closed { S.opened store.old ≡ Nothing }
 
     ensures ok { IfOk result (λ read. AreRead (S.files store.old) (names_of names.now) (inputs_of read)) }
-    ensures transistors { IfOk result (λ read. HaveTransistors (map (λ named. raw_of named.entry) read.library)) }
+    ensures transistors { IfOk result (λ read.
+        HaveTransistors (map (λ named. raw_of named.entry) read.library)) }
     ensures rules { IfOk result (λ read. IsNetlist read.netlist) }
     ensures distinct { IfOk result (λ read. IsDistinct bytes_eq (map (λ row. row.cell) read.scan)) }
     ensures cause { IfErr result (IsInputCause (names_of names.now) (S.files store.old)

@@ -20,8 +20,8 @@ use std::alloc::Global;
 /// The greatest number of bytes of a table of scan cells: 1 MiB.
 pub const MAX_SCAN: usize = 1_048_576;
 
-/// The table in the file of this name, if there is a name, and else the table of no scan cells. A fault of the
-/// file takes over the name as it was typed.
+/// The table in the file of this name, if there is a name, and else the table of no scan cells. A fault of
+/// the file takes over the name as it was typed.
 pub(crate) fn open_table<S: Store>(
     alloc: Global,
     name: Option<&str>,

@@ -12,8 +12,8 @@ use Rattle.ca_asked.specs.Vectors.{trit_of}
 abbrev pub pair_of : List ℕ → List ℕ → List Trit
 pair_of first last = map trit_of first ++ map trit_of last
 
--- the value is 0 or 1 exactly where every run of the flat network, good or with the defect, ends with it at the
--- net
+-- the value is 0 or 1 exactly where every run of the flat network, good or with the defect, ends with it at
+-- the net
 abbrev pub IsNetEnd : Chip → Option ChipDefect → List Trit → ℕ → Trit → Type 0
 IsNetEnd chip given pair net value = (v : Trit) → ((v ≢ X) × (value ≡ v)) ↔ NetEndsAt chip given pair net v
 
@@ -25,6 +25,7 @@ pub record AreOutputEnds (chip : Chip) (given : Option ChipDefect) (pair : List 
       → IsNetEnd chip given pair (slice_index chip.outputs o) (value_at values o)
 
 -- those without the defect, and those with it
-pub record AreSimulated (chip : Chip) (given : Option ChipDefect) (pair good faulty : List Trit) : Type 0 where
+pub record AreSimulated (chip : Chip) (given : Option ChipDefect) (pair good faulty : List Trit)
+    : Type 0 where
   pub good_ends : AreOutputEnds chip None pair good
   pub faulty_ends : AreOutputEnds chip given pair faulty

@@ -26,9 +26,9 @@ pub struct OutputEnds {
     pub faulty: Vec<Trit>,
 }
 
-/// What the observed outputs settle to under two vectors that have one letter for each chip input, without the
-/// defect and with it. Without a defect both are the same. Want of memory is also told of a chip whose flat
-/// network may have 2^32 nodes or devices, or that has 2^31 inputs.
+/// What the observed outputs settle to under two vectors that have one letter for each chip input, without
+/// the defect and with it. Without a defect both are the same. Want of memory is also told of a chip whose
+/// flat network may have 2^32 nodes or devices, or that has 2^31 inputs.
 pub fn simulate(
     alloc: Global,
     chip: &Chip,

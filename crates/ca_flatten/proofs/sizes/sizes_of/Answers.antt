@@ -1,7 +1,7 @@
 use Rattle.std.proofs.Common.{arith}
 use Rattle.ca_core.specs.Core.{core_of}
-use Rattle.ca_flatten.proofs.SizeLemmas.{none_counted, counted_more, few_counted}
-use Rattle.ca_flatten.proofs.sizes.is_few.Goals as goal
+use Rattle.ca_flatten.proofs.SizeLemmas.{none_counted, counted_more, all_sizes}
+use Rattle.ca_flatten.proofs.sizes.sizes_of.Goals as goal
 
 pub loop-u-init : goal.loop-u-init
 loop-u-init c = record { counted = none_counted (core_of c.args.chip.now); few_inner = omega arith; few_devices = omega arith }
@@ -15,6 +15,6 @@ loop-u-preserved c = record {
 }
 
 pub returns : goal.returns
-returns c = λ is given. few_counted c.args.chip.now given c.loop-u.u c.loop-u.inner c.loop-u.devices c.loop-u.invariant.counted
+returns c = all_sizes c.args.chip.now c.loop-u.u c.loop-u.inner c.loop-u.devices c.loop-u.invariant.counted
     (let e = c.parts-u-end.ensures in let low = c.loop-u.auto.u-end in let high = c.loop-u-test.false in omega arith)
     (let e = c.count.ensures in let t = c.requires.nets.total in omega arith) (omega arith)

@@ -1,7 +1,7 @@
 use Rattle.std.proofs.Common.{◌≤◌}
 use Rattle.ca_core.specs.Core.{core_of}
 use Rattle.ca_flatten.proofs.SizeLemmas.{AreCounted}
-use Rattle.ca_flatten.proofs.sizes.is_few.Given as goal
+use Rattle.ca_flatten.proofs.sizes.sizes_of.Given as goal
 
 abbrev pub invariant-loop-u : goal.invariant-loop-u
 invariant-loop-u l = record {
