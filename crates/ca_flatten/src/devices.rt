@@ -135,7 +135,6 @@ fn bridge_of(
 
 /// The devices of all instances in their order, and the bridge of a short. The memory for all of them is
 /// taken at once.
-#[tactic(auto, using(crate::proofs::SizeLemmas::sizes_fit))]
 pub(crate) fn devices_of(
     alloc: Global,
     chip: &Chip,

@@ -94,7 +94,6 @@ fn push_new(nodes: &mut NodeList, defect: Option<ChipDefect>) -> Result<(), NoMe
 
 /// Power, ground, the nets that are off the scan path, the inner nodes of all instances, and the node that
 /// the defect adds. The memory for all of them is taken at once.
-#[tactic(auto, using(crate::proofs::SizeLemmas::sizes_fit))]
 pub(crate) fn nodes_of(
     alloc: Global,
     chip: &Chip,
