@@ -1,12 +1,15 @@
 //! For each defect of a cell the rows that expose it.
 
-ghost use Rattle.std.specs.Prelude.{◌≡◌, ◌↔◌, IsTrue};
+ghost use Rattle.std.specs.Prelude.{◌≡◌, ◌↔◌, length, IsTrue, IfOk};
 ghost use Rattle.ca_defect.specs.List.{IsDefectOf};
 ghost use Rattle.ca_defect.specs.Exposes.{IsExposable};
-ghost use Rattle.ca_exposing.specs.CellTable.{ListsRows};
+ghost use Rattle.ca_exposing.specs.CellTable.{ListsRows, AreShown};
 
+use ca_base::NoMemory;
 use ca_cell::Cell;
-use ca_defect::{Defect, DefectList, Rows, lists_defects};
+use ca_defect::{Defect, DefectList, Rows, defects, lists_defects};
+use ca_matrix::Matrix;
+use std::alloc::Global;
 use std::marker::Model;
 
 /// For each defect of a cell the rows that expose it.
@@ -36,18 +39,18 @@ impl<'a> Model for CellRows<'a> {
 }
 
 impl<'a> CellRows<'a> {
-    ghost use Rattle.ca_exposing.specs.CellTable.{IsCellTable};
-
-    /// The rows of a cell's defects, which stand in the cell's list order beside the rows of each.
-    pub fn of(cell: &'a Cell, defects: DefectList, rows: Vec<Rows>) -> Self
-        requires { IsCellTable (record { cell = cell.now; defects = defects; rows = rows.items }) }
-        ensures { result ≡ record { cell = cell.now; defects = defects; rows = rows.items } }
+    /// The rows of all defects of a cell, from its matrix, which is let go of.
+    pub fn new(alloc: Global, cell: &'a Cell) -> Result<Self, NoMemory>
+        ensures { IfOk result (λ table. table.cell ≡ cell.now) }
     {
-        CellRows {
+        let defects = defects(alloc, cell)?;
+        let matrix = Matrix::build(alloc, cell)?;
+        let rows = all_rows(alloc, &matrix)?;
+        Ok(CellRows {
             cell,
             defects,
             rows,
-        }
+        })
     }
 
     /// The cell.
@@ -78,4 +81,15 @@ impl<'a> CellRows<'a> {
     {
         !self.rows(defect).is_empty()
     }
+}
+
+// The rows of each defect of a matrix.
+fn all_rows(alloc: Global, matrix: &Matrix) -> Result<Vec<Rows>, NoMemory>
+    ensures { IfOk result (λ rows. AreShown matrix.now (length matrix.now.defects) rows.items) }
+{
+    let mut rows = Vec::new(alloc);
+    for place in 0..matrix.defect_count() {
+        rows.push(matrix.rows(alloc, place)?)?;
+    }
+    Ok(rows)
 }

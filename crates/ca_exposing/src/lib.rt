@@ -1,4 +1,4 @@
-//! The rows that expose the defects of a cell, kept once for all of them.
+//! The rows that expose the defects of a cell, found once for all of them.
 #![tactic(auto)]
 
 mod cell_rows;

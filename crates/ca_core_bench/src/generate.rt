@@ -1,0 +1,34 @@
+//! Test generation on a linked chip.
+
+ghost use Rattle.std.specs.Prelude.{IfOk, IfErr};
+ghost use Rattle.ca_credit.specs.Good.{IsGood};
+ghost use Rattle.ca_generate.specs.GenerateFault.{IsCause};
+ghost use Rattle.ca_core_bench.specs.ChipTask.{task_of};
+
+use crate::bench::core_bench;
+use ca_chip_rows::ChipRows;
+use ca_core_links::CoreLinks;
+use ca_core_tables::CoreTables;
+use ca_credit::Simulator;
+use ca_generate::{GenerateFault, Generated, generate};
+use ca_guide::LowestUnset;
+use ca_wired::Chip;
+use std::alloc::Global;
+
+/// Searches for pairs that show the defects of a linked chip, with at most so many branches for each: the
+/// pairs, their aims, and a verdict for each defect of a library instance. Want of memory is also told of a
+/// chip with 2^14 chip inputs, with 2^32 defects or whose flat network may have 2^32 nodes or devices.
+pub fn generate_chip(alloc: Global, chip: &Chip, budget: u32) -> Result<Generated, GenerateFault>
+    ensures good { IfOk result
+        (λ made. IsGood (task_of chip.now budget) made.pairs made.aims made.verdicts) }
+    ensures cause { IfErr result (IsCause (task_of chip.now budget)) }
+{
+    let tables = CoreTables::new(alloc, chip)?;
+    let links = CoreLinks::new(alloc, chip)?;
+    let rows = ChipRows::new(alloc, chip)?;
+    let mut bench = core_bench(alloc, &tables, &links, &rows, LowestUnset, budget)?;
+    if bench.defect_count() > u32::MAX as usize {
+        return Err(GenerateFault::NoMemory);
+    }
+    generate(alloc, &mut bench)
+}

@@ -1,0 +1,9 @@
+//! Tests of test generation on linked chips, as tables.
+#![tactic(auto)]
+
+#[cfg(test)]
+mod chips;
+#[cfg(test)]
+mod told;
+#[cfg(test)]
+mod worked;

@@ -1,0 +1,76 @@
+//! What is generated for chips that were worked out by hand.
+
+use crate::chips::{COUNTED, HAZARD, LIBRARY, SPELT};
+use crate::told::{all, fault, summary, verdict};
+use ca_chip::ScanTable;
+use ca_core_bench::generate_chip;
+use ca_lex::Text;
+use ca_link::link;
+use ca_spice::read_library;
+use ca_verilog::read_netlist;
+use ca_wired::Chip;
+use std::alloc::Global;
+
+// The chip of a netlist, if it links.
+fn linked(alloc: Global, netlist: &[u8]) -> Option<Chip> {
+    let Ok(library) = read_library(alloc, LIBRARY) else {
+        return None;
+    };
+    let Ok(raw) = read_netlist(alloc, netlist) else {
+        return None;
+    };
+    link(alloc, &raw, library, &ScanTable::new(alloc)).ok()
+}
+
+// What is asked of what is generated: the counts, all of it, or the verdict on a defect.
+#[derive(Clone, Copy)]
+enum Asked {
+    Counts,
+    All,
+    Verdict(usize),
+}
+
+// What is generated for the chip of a netlist.
+fn told(alloc: Global, netlist: &[u8], budget: u32, asked: Asked) -> Option<Text> {
+    let Some(chip) = linked(alloc, netlist) else {
+        return None;
+    };
+    let made = match generate_chip(alloc, &chip, budget) {
+        Ok(made) => made,
+        Err(why) => return Text::from_bytes(alloc, fault(&why)).ok(),
+    };
+    match asked {
+        Asked::Counts => summary(alloc, &made).ok(),
+        Asked::All => all(alloc, &made).ok(),
+        Asked::Verdict(place) => verdict(alloc, &made, place).ok(),
+    }
+}
+
+#[test]
+fn counts_of_chips(rt: HostRuntime) {
+    for (netlist, budget, wanted) in COUNTED {
+        match told(rt.alloc(), netlist, budget, Asked::Counts) {
+            Some(text) => assert!(rt; text.is(wanted), "{:?}", text.as_bytes()),
+            None => assert!(rt; false, "{netlist:?}"),
+        }
+    }
+}
+
+#[test]
+fn pairs_and_verdicts_of_chips(rt: HostRuntime) {
+    for (netlist, budget, wanted) in SPELT {
+        match told(rt.alloc(), netlist, budget, Asked::All) {
+            Some(text) => assert!(rt; text.is(wanted), "{:?}", text.as_bytes()),
+            None => assert!(rt; false, "{netlist:?}"),
+        }
+    }
+}
+
+#[test]
+fn a_defect_behind_a_hazard(rt: HostRuntime) {
+    let (netlist, budget, place, wanted) = HAZARD;
+    match told(rt.alloc(), netlist, budget, Asked::Verdict(place)) {
+        Some(text) => assert!(rt; text.is(wanted), "{:?}", text.as_bytes()),
+        None => assert!(rt; false, "{netlist:?}"),
+    }
+}
