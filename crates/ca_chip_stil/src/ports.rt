@@ -1,0 +1,97 @@
+//! Which port is on a net.
+
+ghost use Rattle.std.specs.Prelude.{◌≡◌, ◌<◌, Bool, length, IfOk};
+ghost use Rattle.ca_wired.specs.Linked.{net_count};
+ghost use Rattle.ca_chip_stil.specs.ChipStil.{port_on};
+ghost use Rattle.ca_chip_stil.specs.Kept.{entry_of, port_at, AreFirstPorts, SetsPort, ArePorts};
+
+use ca_base::NoMemory;
+use ca_wired::{Chip, NetId};
+use std::alloc::Global;
+use std::marker::Model;
+
+/// For each net the first bit of a port of one direction that is on it, if one is. Contracts see a list.
+#[derive(Drop)]
+pub(crate) struct PortTable {
+    first: Vec<Option<u32>>,
+}
+
+impl Model for PortTable {
+    ghost use Rattle.std.specs.Prelude.{List, Option, ℕ};
+
+    ghost Value = { List (Option ℕ) };
+
+    ghost view = { λ table. table.first.items };
+}
+
+impl PortTable {
+    // The entry of a net.
+    fn get(&self, net: NetId) -> Option<u32>
+        ensures { result ≡ entry_of self.now net.0 }
+    {
+        if (net.0 as usize) < self.first.len() {
+            self.first[net.0 as usize]
+        } else {
+            None
+        }
+    }
+
+    // Makes a port bit the first on its net, if it is of this direction.
+    fn set(&mut self, chip: &Chip, input: bool, p: usize)
+        requires within { p < length chip.now.ports }
+        requires room { length self.old ≡ net_count chip.now }
+        ensures { SetsPort chip.now input p self.old self.new }
+    {
+        chip.wired();
+        let net = chip.port_net(p);
+        if chip.port_is_input(p) == input {
+            self.first[net.0 as usize] = Some(p as u32);
+        }
+    }
+
+    // The first ports of a direction, found from the last port bit to the first.
+    fn of(alloc: Global, chip: &Chip, input: bool) -> Result<Self, NoMemory>
+        ensures { IfOk result (AreFirstPorts chip.now input 0) }
+    {
+        let mut table = PortTable {
+            first: vec![in alloc; None; chip.nets()]?,
+        };
+        let mut left = chip.ports();
+        'ports: while left > 0 {
+            left -= 1;
+            table.set(chip, input, left);
+        }
+        Ok(table)
+    }
+}
+
+/// The first input port and the first output port on each net.
+#[derive(Drop)]
+pub(crate) struct Ports {
+    inputs: PortTable,
+    outputs: PortTable,
+}
+
+impl Ports {
+    /// Those of a chip.
+    pub(crate) fn of(alloc: Global, chip: &Chip) -> Result<Self, NoMemory>
+        ensures { IfOk result (ArePorts chip.now) }
+    {
+        let inputs = PortTable::of(alloc, chip, true)?;
+        let outputs = PortTable::of(alloc, chip, false)?;
+        Ok(Ports { inputs, outputs })
+    }
+
+    /// The first bit of a port of this direction on the net, if there is one.
+    pub(crate) fn get(&self, chip: &Chip, input: bool, net: NetId) -> Option<u32>
+        requires { ArePorts chip.now self.now }
+        ensures { port_at chip.now.ports result ≡ port_on input net.0 chip.now.ports }
+    {
+        let _ = chip;
+        if input {
+            self.inputs.get(net)
+        } else {
+            self.outputs.get(net)
+        }
+    }
+}
