@@ -1,10 +1,11 @@
 -- The names of port bits, one after another.
-use Rattle.std.proofs.Common.{◌≡◌, ℕ, ◌+◌, ◌<◌, ◌≤◌, Bool, List, [], ◌∷◌, ◌++◌, map, length, refl, sym, ap, ◌∙◌, arith, absurd}
+use Rattle.std.proofs.Common.{◌≡◌, ℕ, ◌+◌, ◌<◌, ◌≤◌, Bool, List, [], ◌∷◌, ◌++◌, map, length, refl, sym, ap, ◌∙◌, arith}
 use Rattle.std.specs.Prelude.{Option, Some, None, IsSomeAnd, slice_get, take}
 use Rattle.std.specs.List.{flat_map}
 use Rattle.std.proofs.lemmas.List.{take_all, append_assoc, append-nil, map-append}
 use Rattle.std.proofs.lemmas.Grind.{flat_map-append}
-use Rattle.ca_wired.specs.Linked.{PortBit, Chip}
+use Rattle.ca_wired.specs.declared.parts.PortBit.{PortBit}
+use Rattle.ca_wired.specs.Linked.{Chip}
 use Rattle.ca_wired.specs.Instances.{scans_of}
 use Rattle.ca_wired.proofs.EndLemmas.{take_more}
 use Rattle.ca_chip_stil.specs.Sites.{if_data_port, data_ports}
@@ -34,9 +35,6 @@ pub names_more : (chip : Chip) (input : Bool) (p : ℕ) (before after : List (Li
     → after ≡ names_of (flat_map (if_data_port chip input) (take (p + 1) chip.ports))
 names_more chip input p before after so_far grown = by (slice_get chip.ports p) refl grown
   where
-    of_port : PortBit → List PortBit
-    of_port = if_data_port chip input
-
     by : (there : Option PortBit) → slice_get chip.ports p ≡ there
         → IsSomeAnd there (λ port. after ≡ before ++ names_of (if_data_port chip input port))
         → after ≡ names_of (flat_map (if_data_port chip input) (take (p + 1) chip.ports))

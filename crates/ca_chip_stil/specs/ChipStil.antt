@@ -4,7 +4,11 @@ use Rattle.std.specs.List.{All, position_or_len}
 use Rattle.ca_net.specs.declared.trit.Trit.{Trit}
 use Rattle.ca_wired.specs.declared.pins.ScanPin.{ScanPin}
 use Rattle.ca_wired.specs.declared.pins.ScanPin.TheVariants.{Si, So, Se, Ck, Hold}
-use Rattle.ca_wired.specs.Linked.{Body, Gate, Scan, Part, PortBit, Chip, inputs_of, outputs_of}
+use Rattle.ca_wired.specs.declared.parts.Body.{Body}
+use Rattle.ca_wired.specs.declared.parts.Body.TheVariants.{Gate, Scan}
+use Rattle.ca_wired.specs.declared.parts.Part.{Part}
+use Rattle.ca_wired.specs.declared.parts.PortBit.{PortBit}
+use Rattle.ca_wired.specs.Linked.{Chip, inputs_of, outputs_of}
 use Rattle.ca_wired.specs.Paths.{is_port_on}
 use Rattle.ca_wired.specs.Instances.{net_of_pin, scans_of}
 use Rattle.ca_scan.specs.ChainFault.{AreAllChains}

@@ -1,7 +1,8 @@
 -- What the code keeps while it builds. Only the proofs of the code cite this.
 use Rattle.std.specs.Prelude.{ℕ, ◌≡◌, ◌<◌, ◌≤◌, ◌+◌, Bool, true, false, eqb, List, length, drop, Option, Some, None, slice_get, slice_index, get_or, if◌then◌else◌}
 use Rattle.std.specs.List.{All, position_or_len}
-use Rattle.ca_wired.specs.Linked.{PortBit, Chip, net_count}
+use Rattle.ca_wired.specs.declared.parts.PortBit.{PortBit}
+use Rattle.ca_wired.specs.Linked.{Chip, net_count}
 use Rattle.ca_wired.specs.Paths.{is_port_on}
 use Rattle.ca_wired.specs.Instances.{scans_of}
 use Rattle.ca_scan.specs.Chain.{IsScanAt}

@@ -2,7 +2,11 @@
 -- instance.
 use Rattle.std.specs.Prelude.{ℕ, Bool, true, false, not, ◌&&◌, List, [], ◌∷◌, ◌++◌, map, Option, Some, None, slice_get, if◌then◌else◌}
 use Rattle.std.specs.List.{flat_map}
-use Rattle.ca_wired.specs.Linked.{Body, Gate, Scan, Part, PortBit, Chip, is_scan_path}
+use Rattle.ca_wired.specs.declared.parts.Body.{Body}
+use Rattle.ca_wired.specs.declared.parts.Body.TheVariants.{Gate, Scan}
+use Rattle.ca_wired.specs.declared.parts.Part.{Part}
+use Rattle.ca_wired.specs.declared.parts.PortBit.{PortBit}
+use Rattle.ca_wired.specs.Linked.{Chip, is_scan_path}
 use Rattle.ca_wired.specs.Instances.{scans_of}
 
 -- a bit of a port, or the scan instance of this number
@@ -10,10 +14,13 @@ pub data Site : Type 0 where
   AtPort : PortBit → Site
   InScan : ℕ → Site
 
--- the port bit is of a port of this direction, and off the scan path
+-- the port bit is of a port of this direction
+abbrev pub is_directed : Bool → PortBit → Bool
+is_directed input port = if port.is_input then input else not input
+
+-- so it is, and off the scan path
 abbrev pub is_data_port : Chip → Bool → PortBit → Bool
-is_data_port chip input port =
-    (if port.is_input then input else not input) && not (is_scan_path chip port.net)
+is_data_port chip input port = is_directed input port && not (is_scan_path chip port.net)
 
 -- the port bit, if it is such a one
 abbrev pub if_data_port : Chip → Bool → PortBit → List PortBit

@@ -15,7 +15,7 @@ use ca_wired::{Chip, InstanceList, ScanPin};
 use std::alloc::Global;
 
 // For each scan instance its place among them, by its number among all instances.
-#[tactic(auto, using(crate::proofs::PlaceLemmas::scan_within))]
+#[tactic(auto, using(crate::proofs::PlaceLemmas::places_none))]
 fn places_of(alloc: Global, chip: &Chip) -> Result<Vec<usize>, NoMemory>
     ensures { IfOk result (λ table. ArePlacesFrom chip.now 0 table.items) }
 {

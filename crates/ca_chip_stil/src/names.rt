@@ -7,7 +7,7 @@ ghost use Rattle.ca_chip_stil.specs.Sites.{is_data_port, if_data_port, data_port
 ghost use Rattle.ca_chip_stil.specs.ChipStil.{signal_of, names_of, name_at, controls_of};
 ghost use Rattle.ca_chip_stil.specs.Kept.{ArePorts};
 
-use crate::ports::Ports;
+use crate::ports::{Ports, is_directed};
 use ca_base::{List, NoMemory};
 use ca_lex::{Names, Text};
 use ca_stil::Signal;
@@ -43,7 +43,7 @@ fn is_data_port(chip: &Chip, input: bool, p: usize) -> bool
     ensures { IsSomeAnd (slice_get chip.now.ports p) (λ port. is_data_port chip.now input port ≡ result) }
 {
     chip.wired();
-    chip.port_is_input(p) == input && !chip.is_scan_path(chip.port_net(p))
+    is_directed(chip, input, p) && !chip.is_scan_path(chip.port_net(p))
 }
 
 // Appends the name of a port bit, if it is of a port of this direction and off the scan path.

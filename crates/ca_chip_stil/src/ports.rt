@@ -1,7 +1,8 @@
 //! Which port is on a net.
 
-ghost use Rattle.std.specs.Prelude.{◌≡◌, ◌<◌, Bool, length, IfOk};
+ghost use Rattle.std.specs.Prelude.{◌≡◌, ◌<◌, Bool, length, slice_get, IsSomeAnd, IfOk};
 ghost use Rattle.ca_wired.specs.Linked.{net_count};
+ghost use Rattle.ca_chip_stil.specs.Sites.{is_directed};
 ghost use Rattle.ca_chip_stil.specs.ChipStil.{port_on};
 ghost use Rattle.ca_chip_stil.specs.Kept.{entry_of, port_at, AreFirstPorts, SetsPort, ArePorts};
 
@@ -24,6 +25,18 @@ impl Model for PortTable {
     ghost view = { λ table. table.first.items };
 }
 
+/// Whether a port bit is of a port of this direction.
+pub(crate) fn is_directed(chip: &Chip, input: bool, p: usize) -> bool
+    requires { p < length chip.now.ports }
+    ensures { IsSomeAnd (slice_get chip.now.ports p) (λ port. is_directed input port ≡ result) }
+{
+    if input {
+        chip.port_is_input(p)
+    } else {
+        !chip.port_is_input(p)
+    }
+}
+
 impl PortTable {
     // The entry of a net.
     fn get(&self, net: NetId) -> Option<u32>
@@ -37,6 +50,7 @@ impl PortTable {
     }
 
     // Makes a port bit the first on its net, if it is of this direction.
+    #[tactic(auto, using(crate::proofs::PortLemmas::port_set, crate::proofs::PortLemmas::port_kept))]
     fn set(&mut self, chip: &Chip, input: bool, p: usize)
         requires within { p < length chip.now.ports }
         requires room { length self.old ≡ net_count chip.now }
@@ -44,12 +58,13 @@ impl PortTable {
     {
         chip.wired();
         let net = chip.port_net(p);
-        if chip.port_is_input(p) == input {
+        if is_directed(chip, input, p) {
             self.first[net.0 as usize] = Some(p as u32);
         }
     }
 
     // The first ports of a direction, found from the last port bit to the first.
+    #[tactic(auto, using(crate::proofs::PortLemmas::ports_none, crate::proofs::PortLemmas::ports_more))]
     fn of(alloc: Global, chip: &Chip, input: bool) -> Result<Self, NoMemory>
         ensures { IfOk result (AreFirstPorts chip.now input 0) }
     {
