@@ -1,5 +1,5 @@
 -- The chains of a chip are runs of scan instances.
-use Rattle.std.proofs.Common.{◌≡◌, ℕ, zero, suc, ◌<◌, ◌≤◌, List, [], ◌∷◌, length, refl, sym, subst}
+use Rattle.std.proofs.Common.{◌≡◌, ℕ, zero, suc, ◌<◌, ◌≤◌, List, [], ◌∷◌, length, get_or, refl, sym, subst}
 use Rattle.std.specs.Prelude.{Option, Some, None, IsSomeAnd, slice_get, option_to_list}
 use Rattle.std.specs.List.{All, flat_map}
 use Rattle.std.proofs.lemmas.List.Elements.{All-nil, All-cons}
@@ -47,3 +47,8 @@ all_runs chip chains all =
   where
     of_chain : (p : ℕ) (chain : List ℕ) → IsChainFrom chip p chain → IsRun chip chain
     of_chain p chain whole = record { some = whole.some; scans = run_of_scans chip whole.net chain whole.runs }
+
+pub run_at : (chip : Chip) (chains others : List (List ℕ)) (k : ℕ) (chain : List ℕ) → AreAllChains chip chains
+    → others ≡ chains → k < length others → chain ≡ get_or others k chain → IsRun chip chain
+run_at chip chains others k chain all same below is =
+    subst (IsRun chip) (sym is) (all_runs chip others (subst (AreAllChains chip) (sym same) all) k chain below)

@@ -1,7 +1,8 @@
 -- The first port on each net, from the last port bit to the first.
 use Rattle.std.proofs.Common.{◌≡◌, ◌≢◌, ℕ, zero, suc, ◌+◌, ◌-◌, ◌<◌, ◌≤◌, Bool, true, false, ◌&&◌, not, List, [], ◌∷◌, length, drop, replicate, refl, sym, ap, ◌∙◌, subst, arith, get_or}
-use Rattle.std.specs.Prelude.{eqb, Option, Some, None, IsSomeAnd, slice_get, if◌then◌else◌}
+use Rattle.std.specs.Prelude.{eqb, Option, Some, None, IsSomeAnd, IfSome, slice_get, if◌then◌else◌}
 use Rattle.std.proofs.Math.ListN.{set, length-set}
+use Rattle.std.proofs.lemmas.Option.{slice_get_within}
 use Rattle.std.proofs.lemmas.Bool.{ne_eqb, eq-eqb}
 use native.Mathlib.Decide.{ℕ_discrete}
 use Rattle.std.proofs.lemmas.List.{drop_all, length-replicate, get_or-set_same, get_or-set_other}
@@ -24,9 +25,12 @@ pub ports_none : (chip : Chip) (input : Bool) (p : ℕ) → length chip.ports �
 unfolding port_on
 ports_none chip input p past table is = record {
   room = ap length is ∙ length-replicate (net_count chip) None;
-  each = λ net. ap (port_at chip.ports) (ap (λ (given : List (Option ℕ)). entry_of given net) is ∙ entry_none (net_count chip) net)
-      ∙ sym (ap (port_on input net) (drop_all p chip.ports past));
+  known = λ net. subst (λ entry. IfSome entry (λ port. port < length chip.ports)) (sym (none_at net)) tt;
+  each = λ net. ap (port_at chip.ports) (none_at net) ∙ sym (ap (port_on input net) (drop_all p chip.ports past));
 }
+  where
+    none_at : (net : ℕ) → entry_of table net ≡ None
+    none_at net = ap (λ (given : List (Option ℕ)). entry_of given net) is ∙ entry_none (net_count chip) net
 
 -- one port bit more
 pub ports_more : (chip : Chip) (input : Bool) (p : ℕ) (old new : List (Option ℕ)) → SetsPort chip input p old new
@@ -34,6 +38,9 @@ pub ports_more : (chip : Chip) (input : Bool) (p : ℕ) (old new : List (Option 
 unfolding port_on
 ports_more chip input p old new sets are = record {
   room = sets.room ∙ are.room;
+  known = λ net.
+      subst (λ entry. IfSome entry (λ port. port < length chip.ports)) (sym (sets.each net))
+      (one net (is_port_on input net sets.port) (are.known net));
   each = λ net.
       ap (port_at chip.ports) (sets.each net)
       ∙ by net (is_port_on input net sets.port) (are.each net)
@@ -45,6 +52,11 @@ ports_more chip input p old new sets are = record {
         ≡ (if test then Some sets.port else port_on input net (drop (p + 1) chip.ports))
     by net true later = sets.at
     by net false later = later
+
+    one : (net : ℕ) (test : Bool) → IfSome (entry_of old net) (λ port. port < length chip.ports)
+        → IfSome (if test then Some p else entry_of old net) (λ port. port < length chip.ports)
+    one net true known = slice_get_within chip.ports p sets.port sets.at
+    one net false known = known
 
 -- a port bit of this direction is set on its net
 pub port_set : (chip : Chip) (input : Bool) (p net : ℕ) (answer : Bool) (old : List (Option ℕ))

@@ -1,5 +1,5 @@
 -- What the code keeps while it builds. Only the proofs of the code cite this.
-use Rattle.std.specs.Prelude.{ℕ, ◌≡◌, ◌<◌, ◌≤◌, ◌+◌, Bool, true, false, eqb, List, length, drop, Option, Some, None, slice_get, slice_index, get_or, if◌then◌else◌}
+use Rattle.std.specs.Prelude.{ℕ, ◌≡◌, ◌<◌, ◌≤◌, ◌+◌, Bool, true, false, eqb, List, length, drop, Option, Some, None, IfSome, slice_get, slice_index, get_or, if◌then◌else◌}
 use Rattle.std.specs.List.{All, position_or_len}
 use Rattle.ca_wired.specs.declared.parts.PortBit.{PortBit}
 use Rattle.ca_wired.specs.Linked.{Chip, net_count}
@@ -21,6 +21,7 @@ entry_of table net = get_or table net None
 -- for each net the first of the port bits of this direction on it, from the bit p on
 pub record AreFirstPorts (chip : Chip) (input : Bool) (p : ℕ) (table : List (Option ℕ)) : Type 0 where
   pub room : length table ≡ net_count chip
+  pub known : (net : ℕ) → IfSome (entry_of table net) (λ port. port < length chip.ports)
   pub each : (net : ℕ) → port_at chip.ports (entry_of table net) ≡ port_on input net (drop p chip.ports)
 
 -- the port bit p is now the first on its net, if it is of this direction, and all else is as it was

@@ -1,6 +1,6 @@
 //! Which port is on a net.
 
-ghost use Rattle.std.specs.Prelude.{◌≡◌, ◌<◌, Bool, length, slice_get, IsSomeAnd, IfOk};
+ghost use Rattle.std.specs.Prelude.{◌≡◌, ◌<◌, Bool, None, length, replicate, slice_get, IsSomeAnd, IfSome, IfOk};
 ghost use Rattle.ca_wired.specs.Linked.{net_count};
 ghost use Rattle.ca_chip_stil.specs.Sites.{is_directed};
 ghost use Rattle.ca_chip_stil.specs.ChipStil.{port_on};
@@ -37,6 +37,17 @@ pub(crate) fn is_directed(chip: &Chip, input: bool, p: usize) -> bool
     }
 }
 
+// No port, so many times.
+fn no_ports(alloc: Global, count: usize) -> Result<Vec<Option<u32>>, NoMemory>
+    ensures { IfOk result (λ none. none.items ≡ replicate count None) }
+{
+    let mut none = Vec::with_capacity(alloc, count)?;
+    for k in 0..count {
+        none.push(None)?;
+    }
+    Ok(none)
+}
+
 impl PortTable {
     // The entry of a net.
     fn get(&self, net: NetId) -> Option<u32>
@@ -69,7 +80,7 @@ impl PortTable {
         ensures { IfOk result (AreFirstPorts chip.now input 0) }
     {
         let mut table = PortTable {
-            first: vec![in alloc; None; chip.nets()]?,
+            first: no_ports(alloc, chip.nets())?,
         };
         let mut left = chip.ports();
         'ports: while left > 0 {
@@ -100,7 +111,8 @@ impl Ports {
     /// The first bit of a port of this direction on the net, if there is one.
     pub(crate) fn get(&self, chip: &Chip, input: bool, net: NetId) -> Option<u32>
         requires { ArePorts chip.now self.now }
-        ensures { port_at chip.now.ports result ≡ port_on input net.0 chip.now.ports }
+        ensures first { port_at chip.now.ports result ≡ port_on input net.0 chip.now.ports }
+        ensures within { IfSome result (λ p. p < length chip.now.ports) }
     {
         let _ = chip;
         if input {

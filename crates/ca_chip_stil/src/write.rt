@@ -14,7 +14,6 @@ use std::alloc::Global;
 
 /// The STIL text of pairs of a chip, and of the values that its observed outputs end with under each. Which bit
 /// of a pair stands where is what the sites of the chip say.
-#[tactic(auto, using(crate::proofs::FitLemmas::made_of))]
 pub fn write_chip_stil<P: PatternBits, E: ExpectedValues>(
     alloc: Global,
     chip: &Chip,
