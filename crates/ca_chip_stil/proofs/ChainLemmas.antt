@@ -1,5 +1,5 @@
 -- The chains of a chip are runs of scan instances.
-use Rattle.std.proofs.Common.{◌≡◌, ℕ, zero, suc, ◌<◌, ◌≤◌, List, [], ◌∷◌, length, get_or, refl, sym, subst}
+use Rattle.std.proofs.Common.{◌≡◌, ℕ, suc, ◌<◌, List, [], ◌∷◌, length, get_or, refl, sym, subst}
 use Rattle.std.specs.Prelude.{Option, Some, None, IsSomeAnd, slice_get, option_to_list}
 use Rattle.std.specs.List.{All, flat_map}
 use Rattle.std.proofs.lemmas.List.Elements.{All-nil, All-cons}
@@ -9,7 +9,7 @@ use Rattle.ca_wired.specs.declared.parts.Body.TheVariants.{Gate, Scan}
 use Rattle.ca_wired.specs.declared.parts.Part.{Part}
 use Rattle.ca_wired.specs.Linked.{Chip}
 use Rattle.ca_wired.specs.Instances.{HasOnPin, IsScan}
-use Rattle.ca_scan.specs.Chain.{IsOnPin, RunsOut, IsChainFrom, AreChains, IsScanAt}
+use Rattle.ca_scan.specs.Chain.{IsOnPin, RunsOut, IsChainFrom, IsScanAt}
 use Rattle.ca_scan.specs.ChainFault.{AreAllChains}
 use Rattle.ca_chip_stil.specs.Kept.{AreScans, IsRun}
 

@@ -1,12 +1,11 @@
 -- Pairs and expected values of the chip are of what its text is made from.
-use Rattle.std.proofs.Common.{◌≡◌, ℕ, ◌+◌, ◌<◌, Bool, true, false, List, length, map, sym, subst, arith}
-use Rattle.std.specs.List.{All}
+use Rattle.std.proofs.Common.{◌≡◌, ℕ, ◌<◌, Bool, List, length, sym, subst, arith}
 use Rattle.std.proofs.lemmas.List.Elements.{All-map}
 use Rattle.ca_net.specs.declared.trit.Trit.{Trit}
-use Rattle.ca_wired.specs.Linked.{Chip, inputs_of, outputs_of}
+use Rattle.ca_wired.specs.Linked.{Chip}
 use Rattle.ca_wired.specs.Instances.{scans_of}
 use Rattle.ca_stil.specs.declared.chip.StilChip.{StilChip}
-use Rattle.ca_stil.specs.Chip.{IsWithin, IsStilChip, IsPairOf, AreValuesOf, AreOf}
+use Rattle.ca_stil.specs.Chip.{IsWithin, AreOf}
 use Rattle.ca_chip_stil.specs.ChipStil.{place_of, chain_of, stil_chip, AreOfChip}
 use Rattle.ca_chip_stil.specs.Kept.{IsRun}
 use Rattle.ca_chip_stil.proofs.PlaceLemmas.{place_within}

@@ -1,15 +1,14 @@
 -- The names of port bits, one after another.
-use Rattle.std.proofs.Common.{◌≡◌, ℕ, ◌+◌, ◌<◌, ◌≤◌, Bool, List, [], ◌∷◌, ◌++◌, map, length, refl, sym, ap, ◌∙◌, arith}
+use Rattle.std.proofs.Common.{◌≡◌, ℕ, ◌+◌, ◌≤◌, Bool, List, [], ◌∷◌, ◌++◌, map, length, refl, sym, ap, ◌∙◌}
 use Rattle.std.specs.Prelude.{Option, Some, None, IsSomeAnd, slice_get, take}
 use Rattle.std.specs.List.{flat_map}
-use Rattle.std.proofs.lemmas.List.{take_all, append_assoc, append-nil, map-append}
+use Rattle.std.proofs.lemmas.List.{take_all, append-nil, map-append}
 use Rattle.std.proofs.lemmas.Grind.{flat_map-append}
 use Rattle.ca_wired.specs.declared.parts.PortBit.{PortBit}
 use Rattle.ca_wired.specs.Linked.{Chip}
-use Rattle.ca_wired.specs.Instances.{scans_of}
 use Rattle.ca_wired.proofs.EndLemmas.{take_more}
-use Rattle.ca_chip_stil.specs.Sites.{if_data_port, data_ports}
-use Rattle.ca_chip_stil.specs.ChipStil.{names_of, controls_of}
+use Rattle.ca_chip_stil.specs.Sites.{if_data_port}
+use Rattle.ca_chip_stil.specs.ChipStil.{names_of}
 
 -- one entry more of a list that is made entry by entry
 pub made_more : {X Y : Type 0} (make : X → Y) (xs : List X) (k : ℕ) (made new : List Y) (y : Y)

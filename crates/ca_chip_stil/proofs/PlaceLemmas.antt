@@ -1,7 +1,7 @@
 -- The places of the scan instances, from the last one to the first.
-use Rattle.std.proofs.Common.{◌≡◌, ◌≢◌, ℕ, zero, suc, ◌+◌, ◌-◌, ◌<◌, ◌≤◌, Bool, true, false, not, cond, List, [], ◌∷◌, ◌++◌, length, map, drop, replicate, refl, sym, ap, ◌∙◌, subst, arith, get_or, inl, inr}
-use Rattle.std.specs.Prelude.{eqb, Option, Some, None, IsSomeAnd, slice_get, slice_index, take, if◌then◌else◌}
-use Rattle.std.specs.List.{All, position_or_len}
+use Rattle.std.proofs.Common.{◌≡◌, ℕ, ◌+◌, ◌<◌, true, false, not, cond, List, [], ◌∷◌, ◌++◌, length, map, drop, replicate, refl, sym, ap, ◌∙◌, subst, arith, get_or, inl, inr}
+use Rattle.std.specs.Prelude.{eqb, Option, Some, None, IsSomeAnd, slice_get, take}
+use Rattle.std.specs.List.{position_or_len}
 use Rattle.std.proofs.lemmas.Bool.{cases_lt, ne_eqb, eq-eqb}
 use Rattle.std.proofs.lemmas.List.{drop_all, get_or-set_same, get_or-set_other, length-replicate, get_or-replicate, map-append}
 use Rattle.std.proofs.lemmas.List.Sums.{fails_before_first}
@@ -53,9 +53,9 @@ places_more chip k u table at within are = record {
     here : (v : ℕ) → v ≡ u → get_or (set table u k) v 0 ≡ k + position_or_len (eqb v) (drop k (scans_of chip))
     here v same =
         let read = ap (λ n. get_or (set table u k) n 0) same
-            ∙ get_or-set_same table u k 0 (subst (λ n. u < n) (sym are.room) within) in
+        ∙ get_or-set_same table u k 0 (subst (λ n. u < n) (sym are.room) within) in
         let first = ap (position_or_len (eqb v)) (drop_at (scans_of chip) k u at)
-            ∙ ap (λ test. cond (not test) (1 + position_or_len (eqb v) (drop (k + 1) (scans_of chip))) 0) (eq-eqb v u same) in
+        ∙ ap (λ test. cond (not test) (1 + position_or_len (eqb v) (drop (k + 1) (scans_of chip))) 0) (eq-eqb v u same) in
         omega (arith, read, first)
 
     there : (v : ℕ) → v < length chip.parts → (v ≡ u → ⊥)
@@ -63,7 +63,7 @@ places_more chip k u table at within are = record {
     there v lt other =
         let read = get_or-set_other table u v k 0 other ∙ are.each v lt in
         let later = ap (position_or_len (eqb v)) (drop_at (scans_of chip) k u at)
-            ∙ ap (λ test. cond (not test) (1 + position_or_len (eqb v) (drop (k + 1) (scans_of chip))) 0) (ne_eqb v u other) in
+        ∙ ap (λ test. cond (not test) (1 + position_or_len (eqb v) (drop (k + 1) (scans_of chip))) 0) (ne_eqb v u other) in
         omega (arith, read, later)
 
 -- the place that the table has
@@ -76,14 +76,14 @@ pub place_within : (chip : Chip) (u : ℕ) → IsScanAt chip u → place_of chip
 place_within chip u there =
     let place = scan_place chip u there in
     elim (cases_lt place.0 (place_of chip u)) [
-    | inl before ↦
-        let fails = fails_before_first (eqb u) (scans_of chip) place.0 u before in
-        let is = get_or_from_slice_get (scans_of chip) place.0 u u place.1 in
-        let clash : true ≡ false = sym (eq-eqb u _ (sym is)) ∙ fails in
-        absurd cc
-    | inr not_before ↦
-        let lt = slice_get_within (scans_of chip) place.0 u place.1 in
-        omega (arith, not_before, lt)
+      | inl before ↦
+          let fails = fails_before_first (eqb u) (scans_of chip) place.0 u before in
+          let is = get_or_from_slice_get (scans_of chip) place.0 u u place.1 in
+          let clash : true ≡ false = sym (eq-eqb u _ (sym is)) ∙ fails in
+          absurd cc
+      | inr not_before ↦
+          let lt = slice_get_within (scans_of chip) place.0 u place.1 in
+          omega (arith, not_before, lt)
     ]
 
 -- the place of one scan instance more of a chain

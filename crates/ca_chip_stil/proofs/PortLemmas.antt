@@ -1,5 +1,5 @@
 -- The first port on each net, from the last port bit to the first.
-use Rattle.std.proofs.Common.{◌≡◌, ◌≢◌, ℕ, zero, suc, ◌+◌, ◌-◌, ◌<◌, ◌≤◌, Bool, true, false, ◌&&◌, not, List, [], ◌∷◌, length, drop, replicate, refl, sym, ap, ◌∙◌, subst, arith, get_or}
+use Rattle.std.proofs.Common.{◌≡◌, ℕ, zero, suc, ◌+◌, ◌<◌, ◌≤◌, Bool, true, false, ◌&&◌, List, length, drop, replicate, refl, sym, ap, ◌∙◌, subst}
 use Rattle.std.specs.Prelude.{eqb, Option, Some, None, IsSomeAnd, IfSome, slice_get, if◌then◌else◌}
 use Rattle.std.proofs.Math.ListN.{set, length-set}
 use Rattle.std.proofs.lemmas.Option.{slice_get_within}
@@ -73,12 +73,12 @@ port_set chip input p net answer old on directed is within = by (slice_get chip.
       at = at;
       room = length-set old net (Some p);
       each = λ n. elim (ℕ_discrete n net) [
-      | yes same ↦
-          ap (entry_of (set old net (Some p))) same ∙ get_or-set_same old net (Some p) None within
-          ∙ (λ j. if sym (tested n) j && sym (eq-eqb n port.net (same ∙ sym there)) j then Some p else entry_of old n)
-      | no other ↦
-          get_or-set_other old net n (Some p) None other
-          ∙ (λ j. if sym (tested n) j && sym (ne_eqb n port.net (λ same. other (same ∙ there))) j then Some p else entry_of old n)
+        | yes same ↦
+            ap (entry_of (set old net (Some p))) same ∙ get_or-set_same old net (Some p) None within
+            ∙ (λ j. if sym (tested n) j && sym (eq-eqb n port.net (same ∙ sym there)) j then Some p else entry_of old n)
+        | no other ↦
+            get_or-set_other old net n (Some p) None other
+            ∙ (λ j. if sym (tested n) j && sym (ne_eqb n port.net (λ same. other (same ∙ there))) j then Some p else entry_of old n)
       ];
     }
       where

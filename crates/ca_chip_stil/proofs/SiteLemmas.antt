@@ -9,7 +9,7 @@ use Rattle.ca_wired.specs.declared.parts.Part.{Part}
 use Rattle.ca_wired.specs.declared.parts.PortBit.{PortBit}
 use Rattle.ca_wired.specs.Linked.{Chip, is_scan_path, port_nets, q_nets, d_nets, inputs_of, outputs_of}
 use Rattle.ca_wired.specs.Instances.{if_scan, scans_from, scans_of}
-use Rattle.ca_chip_stil.specs.Sites.{Site, AtPort, InScan, if_data_port, data_ports, sites_of, body_net, part_net, site_net}
+use Rattle.ca_chip_stil.specs.Sites.{AtPort, InScan, if_data_port, data_ports, sites_of, body_net, part_net, site_net}
 use Rattle.ca_chip_stil.specs.ChipStil.{names_of}
 
 -- what each gives, all together
