@@ -1,9 +1,10 @@
 -- What is promised of verdicts is enough for a report; and the counts of a summary.
 use Rattle.std.proofs.Common.{◌≡◌, ℕ, zero, suc, ◌+◌, ◌<◌, ◌≤◌, Bool, true, false, cond, List, [], ◌∷◌, ◌++◌, length, map, take, get_or, refl, sym, ap, ◌∙◌, subst, arith}
 use Rattle.std.specs.Prelude.{Option, Some, None, IsSomeAnd, slice_get}
-use Rattle.std.specs.List.{All, count_by}
+use Rattle.std.specs.List.{All, filter}
+use Rattle.std.proofs.lemmas.List.Filters.{length-filter_more}
 use Rattle.std.proofs.lemmas.List.{length-map}
-use Rattle.std.proofs.lemmas.Option.{slice_get_within, slice_get-get_or}
+use Rattle.std.proofs.lemmas.Option.{slice_get_within, slice_get-get_or, get_or_from_slice_get}
 use Rattle.ca_base.specs.First.{IsFirst}
 use Rattle.ca_flat.specs.declared.chip_defect.ChipDefect.{ChipDefect}
 use Rattle.ca_flat.specs.Chip as flat
@@ -19,7 +20,6 @@ use Rattle.ca_credit.specs.declared.verdict.Verdict.TheVariants.{Credited, Unexp
 use Rattle.ca_credit.specs.Defects.{Task}
 use Rattle.ca_credit.specs.Detection.{IsFirstOutput, IsFirstDetection}
 use Rattle.ca_credit.specs.Good.{IsGood}
-use Rattle.ca_wired.proofs.EndLemmas.{take_more}
 use Rattle.ca_chip_report.specs.declared.summary.Kind.{Kind}
 use Rattle.ca_chip_report.specs.declared.summary.Kind.TheVariants as kind
 use Rattle.ca_chip_report.specs.ChipReport.{IsGateDefect, IsVerdictWithin, AreReported}
@@ -90,9 +90,14 @@ one_kind Untestable = refl
 one_kind (Aborted code) = refl
 
 -- the count with one more before
-count_cons : (test : Verdict → Bool) (verdict : Verdict) (verdicts : List Verdict)
-    → count_by test (verdict ∷ verdicts) ≡ cond (test verdict) 1 0 + count_by test verdicts
-count_cons test verdict verdicts = refl
+count_cons : (of : Kind) (verdict : Verdict) (verdicts : List Verdict)
+    → count_of of (verdict ∷ verdicts) ≡ cond (is_kind of verdict) 1 0 + count_of of verdicts
+count_cons of verdict verdicts = by (is_kind of verdict)
+  where
+    by : (test : Bool) → length (cond test (verdict ∷ filter (is_kind of) verdicts) (filter (is_kind of) verdicts))
+        ≡ cond test 1 0 + length (filter (is_kind of) verdicts)
+    by true = omega arith
+    by false = omega arith
 
 -- the counts of all kinds
 pub counted : (verdicts : List Verdict)
@@ -102,27 +107,18 @@ counted [] = refl
 counted (verdict ∷ verdicts) =
     let more = counted verdicts in
     let one = one_kind verdict in
-    let credited = count_cons (is_kind kind.Credited) verdict verdicts in
-    let unexposable = count_cons (is_kind kind.Unexposable) verdict verdicts in
-    let untestable = count_cons (is_kind kind.Untestable) verdict verdicts in
-    let aborted = count_cons (is_kind kind.Aborted) verdict verdicts in
+    let credited = count_cons kind.Credited verdict verdicts in
+    let unexposable = count_cons kind.Unexposable verdict verdicts in
+    let untestable = count_cons kind.Untestable verdict verdicts in
+    let aborted = count_cons kind.Aborted verdict verdicts in
     omega (arith, more, one, credited, unexposable, untestable, aborted)
 
--- the count with one more behind
-count_last : (test : Verdict → Bool) (verdicts : List Verdict) (verdict : Verdict)
-    → count_by test (verdicts ++ verdict ∷ []) ≡ count_by test verdicts + cond (test verdict) 1 0
-count_last test [] verdict = let one = count_cons test verdict [] in omega (arith, one)
-count_last test (first ∷ verdicts) verdict =
-    let more = count_last test verdicts verdict in
-    let with_last = count_cons test first (verdicts ++ verdict ∷ []) in
-    let without = count_cons test first verdicts in
-    omega (arith, more, with_last, without)
-
+-- the count of one verdict more
 pub counted_more : (of : Kind) (verdicts : List Verdict) (k count one : ℕ) (verdict : Verdict) (passed : Bool)
     → slice_get verdicts k ≡ Some verdict → passed ≡ is_kind of verdict → one ≡ cond passed 1 0
     → count ≡ count_of of (take k verdicts) → count + one ≡ count_of of (take (k + 1) verdicts)
 counted_more of verdicts k count one verdict passed at is tells before =
-    let last = count_last (is_kind of) (take k verdicts) verdict in
-    let front = ap (count_of of) (take_more verdicts k verdict at) in
-    let here = tells ∙ ap (λ test. cond test 1 0) is in
-    omega (arith, last, front, here, before)
+    let last = length-filter_more (is_kind of) verdicts k verdict (slice_get_within verdicts k verdict at) in
+    let read = ap (λ (given : Verdict). cond {A = ℕ} (is_kind of given) 1 0) (get_or_from_slice_get verdicts k verdict verdict at) in
+    let here = tells ∙ ap (λ (test : Bool). cond {A = ℕ} test 1 0) is in
+    omega (arith, last, read, here, before)

@@ -18,9 +18,11 @@ use Rattle.ca_core.specs.Core.{core_instance, core_of}
 use Rattle.ca_core.proofs.CorePartLemmas.{core_at}
 use Rattle.ca_credit.specs.declared.verdict.Verdict.{Verdict}
 use Rattle.ca_credit.specs.declared.verdict.Verdict.TheVariants.{Credited, Unexposable, Untestable, Aborted}
+use Rattle.ca_wired.proofs.PartLemmas.{of_all}
 use Rattle.ca_report.specs.declared.rows.ReportRow.{ReportRow}
+use Rattle.ca_report.specs.declared.verdict.Verdict as report
 use Rattle.ca_report.specs.Report.{IsRowOf}
-use Rattle.ca_chip_report.specs.ChipReport.{instance_name, cell_name, row_of, report_rows, IsGateDefect, IsVerdictWithin, AreReported}
+use Rattle.ca_chip_report.specs.ChipReport.{told_of, instance_name, cell_name, row_of, report_rows, IsGateDefect, IsVerdictWithin, AreReported}
 
 -- a library instance is one of the chip's
 pub gate_within : (chip : Chip) (defect : ChipDefect) → IsGateDefect chip defect → defect.instance < length chip.parts
@@ -79,23 +81,43 @@ row_at chip (first ∷ defects) (one ∷ verdicts) (suc k) defect verdict at als
 
 -- what holds of the row of a defect, whatever its verdict
 pub row_told : (P : ReportRow → Type 0) (chip : Chip) (defects : List ChipDefect) (verdicts : List Verdict) (k : ℕ)
-    (defect : ChipDefect) → AreReported chip defects verdicts → k < length defects → defect ≡ get_or defects k defect
-    → ((verdict : Verdict) → slice_get verdicts k ≡ Some verdict → P (row_of chip defect verdict))
+    (defect : ChipDefect) → AreReported chip defects verdicts → slice_get defects k ≡ Some defect
+    → ((verdict : Verdict) → P (row_of chip defect verdict))
     → IsSomeAnd (slice_get (report_rows chip defects verdicts) k) P
-row_told P chip defects verdicts k defect are below is holds = by (slice_get verdicts k) refl
+row_told P chip defects verdicts k defect are at holds = by (slice_get verdicts k) refl
   where
-    at : slice_get defects k ≡ Some defect
-    at = slice_get-get_or defects k defect below ∙ ap Some (sym is)
-
     by : (o : Option Verdict) → slice_get verdicts k ≡ o → IsSomeAnd (slice_get (report_rows chip defects verdicts) k) P
-    by None none = absurd (let past = none_past verdicts k none in omega (arith, past, are.one_each, below))
+    by None none =
+        let past = none_past verdicts k none in
+        let below = slice_get_within defects k defect at in
+        absurd (omega (arith, past, are.one_each, below))
     by (Some verdict) some =
-        subst (λ o. IsSomeAnd o P) (sym (row_at chip defects verdicts k defect verdict at some)) (holds verdict some)
+        subst (λ o. IsSomeAnd o P) (sym (row_at chip defects verdicts k defect verdict at some)) (holds verdict)
+
+-- what a row tells of a verdict
+pub verdict_told : (chip : Chip) (defects : List ChipDefect) (verdicts : List Verdict) (k : ℕ) (verdict : Verdict)
+    (told : report.Verdict) → AreReported chip defects verdicts → slice_get verdicts k ≡ Some verdict
+    → told_of verdict ≡ told → IsSomeAnd (slice_get (report_rows chip defects verdicts) k) (λ row. row.verdict ≡ told)
+verdict_told chip defects verdicts k verdict told are at is = by (slice_get defects k) refl
+  where
+    by : (o : Option ChipDefect) → slice_get defects k ≡ o
+        → IsSomeAnd (slice_get (report_rows chip defects verdicts) k) (λ row. row.verdict ≡ told)
+    by None none =
+        let past = none_past defects k none in
+        let below = slice_get_within verdicts k verdict at in
+        absurd (omega (arith, past, are.one_each, below))
+    by (Some defect) some =
+        subst (λ o. IsSomeAnd o (λ row. row.verdict ≡ told)) (sym (row_at chip defects verdicts k defect verdict some at)) is
 
 -- the defect of a row is one of a library instance
 pub gate_at : (chip : Chip) (defects : List ChipDefect) (verdicts : List Verdict) (k : ℕ) (defect : ChipDefect)
-    → AreReported chip defects verdicts → k < length defects → defect ≡ get_or defects k defect → IsGateDefect chip defect
-gate_at chip defects verdicts k defect are below is = subst (IsGateDefect chip) (sym is) (are.defects_are k defect below)
+    → AreReported chip defects verdicts → slice_get defects k ≡ Some defect → IsGateDefect chip defect
+gate_at chip defects verdicts k defect are at = of_all (IsGateDefect chip) defects k defect are.defects_are at
+
+-- there are as many rows as defects
+pub row_count : (chip : Chip) (defects : List ChipDefect) (verdicts : List Verdict) → AreReported chip defects verdicts
+    → length defects ≡ length (report_rows chip defects verdicts)
+row_count chip defects verdicts are = sym (length-zip2 (row_of chip) defects verdicts (sym are.one_each))
 
 -- each row credits an observed output, if it credits one
 pub rows_fit : (outputs : ℕ) (chip : Chip) (defects : List ChipDefect) (verdicts : List Verdict)

@@ -1,6 +1,6 @@
 -- The line that tells how many defects have which verdict, and how many pairs there are.
 use Rattle.std.specs.Prelude.{ℕ, Bool, true, false, List, [], ◌++◌, length, codes, decimal}
-use Rattle.std.specs.List.{count_by}
+use Rattle.std.specs.List.{filter}
 use Rattle.ca_credit.specs.declared.verdict.Verdict.{Verdict}
 use Rattle.ca_credit.specs.declared.verdict.Verdict.TheVariants.{Credited, Unexposable, Untestable, Aborted}
 use Rattle.ca_report.specs.declared.verdict.Verdict as report
@@ -18,7 +18,7 @@ is_kind _ _ = false
 
 -- how many of the verdicts are of the kind
 abbrev pub count_of : Kind → List Verdict → ℕ
-count_of kind verdicts = count_by (is_kind kind) verdicts
+count_of kind verdicts = length (filter (is_kind kind) verdicts)
 
 -- the numbers of all defects, of those with each verdict, and of the pairs
 abbrev pub summary_of : List Verdict → ℕ → Summary

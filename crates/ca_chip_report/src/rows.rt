@@ -1,6 +1,6 @@
 //! The defects of a linked chip, as rows of a report.
 
-ghost use Rattle.std.specs.Prelude.{◌≡◌, ◌<◌, length, slice_get, IsSomeAnd, IfOk};
+ghost use Rattle.std.specs.Prelude.{◌≡◌, ◌<◌, length, slice_get, Some, IfOk};
 ghost use Rattle.ca_defect.specs.Name.{name_of};
 ghost use Rattle.ca_flat.specs.Chip.{cell_at};
 ghost use Rattle.ca_core.specs.Core.{core_of};
@@ -58,6 +58,14 @@ fn told_of(verdict: &Verdict) -> ca_report::Verdict
     }
 }
 
+// The defect at a place.
+fn defect_at(defects: &[ChipDefect], k: usize) -> ChipDefect
+    requires { k < length defects.now }
+    ensures { slice_get defects.now k ≡ Some result }
+{
+    defects[k]
+}
+
 /// The defects of a chip with their verdicts. No name is copied before its row is written.
 #[derive(Clone, Copy)]
 pub(crate) struct ChipRows<'a> {
@@ -78,15 +86,16 @@ impl ReportRows for ChipRows<'_> {
     }
 
     fn instance(&self, k: usize) -> &[u8] {
-        instance_of(self.chip, self.defects[k])
+        instance_of(self.chip, defect_at(self.defects, k))
     }
 
     fn cell(&self, k: usize) -> &[u8] {
-        cell_of(self.chip, self.defects[k])
+        cell_of(self.chip, defect_at(self.defects, k))
     }
 
     fn defect(&self, alloc: Global, k: usize) -> Result<Text, NoMemory> {
-        name_of(alloc, self.chip, self.defects[k])
+        let name = name_of(alloc, self.chip, defect_at(self.defects, k))?;
+        Ok(name)
     }
 
     fn verdict(&self, k: usize) -> ca_report::Verdict {
