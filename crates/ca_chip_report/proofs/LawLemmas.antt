@@ -1,11 +1,10 @@
 -- What is promised of verdicts is enough for a report; and the counts of a summary.
-use Rattle.std.proofs.Common.{◌≡◌, ℕ, zero, suc, ◌+◌, ◌<◌, ◌≤◌, Bool, true, false, cond, List, [], ◌∷◌, ◌++◌, length, map, take, get_or, refl, sym, ap, ◌∙◌, subst, arith}
+use Rattle.std.proofs.Common.{◌≡◌, ℕ, ◌+◌, ◌<◌, Bool, true, false, cond, List, [], ◌∷◌, length, take, get_or, refl, ap, ◌∙◌, subst, arith}
 use Rattle.std.specs.Prelude.{Option, Some, None, IsSomeAnd, slice_get}
 use Rattle.std.specs.List.{All, filter}
 use Rattle.std.proofs.lemmas.List.Filters.{length-filter_more}
 use Rattle.std.proofs.lemmas.List.{length-map}
 use Rattle.std.proofs.lemmas.Option.{slice_get_within, slice_get-get_or, get_or_from_slice_get}
-use Rattle.ca_base.specs.First.{IsFirst}
 use Rattle.ca_flat.specs.declared.chip_defect.ChipDefect.{ChipDefect}
 use Rattle.ca_flat.specs.Chip as flat
 use Rattle.ca_flat.specs.Pair.{DetectsAt}
@@ -23,7 +22,7 @@ use Rattle.ca_credit.specs.Good.{IsGood}
 use Rattle.ca_chip_report.specs.declared.summary.Kind.{Kind}
 use Rattle.ca_chip_report.specs.declared.summary.Kind.TheVariants as kind
 use Rattle.ca_chip_report.specs.ChipReport.{IsGateDefect, IsVerdictWithin, AreReported}
-use Rattle.ca_chip_report.specs.Summary.{is_kind, count_of, summary_of}
+use Rattle.ca_chip_report.specs.Summary.{is_kind, count_of}
 use Rattle.ca_chip_report.proofs.RowLemmas.{none_past}
 
 -- a place that has something is within

@@ -1,5 +1,5 @@
 -- Verdicts that keep their promise may be reported, and each verdict is counted once.
-use Rattle.std.specs.Prelude.{ℕ, ◌+◌, ◌≡◌, ◌<◌, Bool, List, length}
+use Rattle.std.specs.Prelude.{ℕ, ◌+◌, ◌≡◌, ◌<◌, Bool, List}
 use Rattle.std.specs.List.{All}
 use Rattle.ca_wired.specs.Linked.{Chip, IsLibrary}
 use Rattle.ca_core.specs.Core.{core_of, rank_of}

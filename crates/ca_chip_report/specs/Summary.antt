@@ -3,7 +3,6 @@ use Rattle.std.specs.Prelude.{ℕ, Bool, true, false, List, [], ◌++◌, length
 use Rattle.std.specs.List.{filter}
 use Rattle.ca_credit.specs.declared.verdict.Verdict.{Verdict}
 use Rattle.ca_credit.specs.declared.verdict.Verdict.TheVariants.{Credited, Unexposable, Untestable, Aborted}
-use Rattle.ca_report.specs.declared.verdict.Verdict as report
 use Rattle.ca_chip_report.specs.declared.summary.Kind.{Kind}
 use Rattle.ca_chip_report.specs.declared.summary.Kind.TheVariants as kind
 use Rattle.ca_chip_report.specs.declared.summary.Summary.{Summary}
