@@ -1,2 +1,2 @@
-mod RowLemmas
-mod LawLemmas
+pub mod RowLemmas
+pub mod LawLemmas

@@ -72,7 +72,7 @@ pub(crate) struct ChipRows<'a> {
     pub(crate) chip: &'a Chip,
     pub(crate) defects: &'a [ChipDefect],
     pub(crate) verdicts: &'a Verdicts,
-    ghost reported: { AreReported chip.now defects.now verdicts.now } by { AreReported-prop chip.now defects.now verdicts.now },
+    ghost reported: { AreReported chip.now defects.now verdicts.now } by { AreReported-prop _ _ _ },
 }
 
 impl ReportRows for ChipRows<'_> {

@@ -78,8 +78,8 @@ stil_chip chip chains = record {
   scan_count = length (scans_of chip);
 }
 
--- the chains are the chip's; each pair has a bit for each chip input in both vectors; and there is a value for
--- each observed output under each pair
+-- the chains are the chip's; each pair has a bit for each chip input in both vectors; and there is a value
+-- for each observed output under each pair
 pub record AreOfChip (chip : Chip) (chains : List (List ℕ)) (pairs : List (List Bool))
     (expected : List (List Trit)) : Type 0 where
   pub chains_are : AreAllChains chip chains

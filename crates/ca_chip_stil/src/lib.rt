@@ -3,11 +3,13 @@
 
 mod build;
 mod chains;
+mod fits;
 mod laws;
 mod names;
 mod ports;
 mod write;
 
 pub use build::stil_chip;
+pub use fits::are_of_chip;
 pub use laws::sites_are_ends;
 pub use write::write_chip_stil;

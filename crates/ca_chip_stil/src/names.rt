@@ -17,7 +17,8 @@ use std::alloc::Global;
 // A bit of a port, with its name and its direction.
 fn signal_of(alloc: Global, chip: &Chip, p: usize) -> Result<Signal, NoMemory>
     requires { p < length chip.now.ports }
-    ensures { IfOk result (λ signal. IsSomeAnd (slice_get chip.now.ports p) (λ port. signal ≡ signal_of port)) }
+    ensures { IfOk result (λ signal. IsSomeAnd (slice_get chip.now.ports p)
+        (λ port. signal ≡ signal_of port)) }
 {
     let name = chip.port_name(p).copy(alloc)?;
     Ok(Signal {
@@ -96,7 +97,7 @@ pub(crate) fn name_at(
     }
 }
 
-/// The names of the ports of the scan enable, the clock and the hold of all scan instances, if there are some.
+/// The names of the ports of the scan enable, the clock and the hold of all scan instances, if there are any.
 pub(crate) fn controls_of(alloc: Global, chip: &Chip, ports: &Ports) -> Result<Names, NoMemory>
     requires { ArePorts chip.now ports.now }
     ensures { IfOk result (λ names. names ≡ controls_of chip.now (scans_of chip.now)) }
