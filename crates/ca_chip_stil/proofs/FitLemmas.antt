@@ -1,5 +1,6 @@
 -- Pairs and expected values of the chip are of what its text is made from.
 use Rattle.std.proofs.Common.{◌≡◌, ℕ, ◌<◌, Bool, List, length, sym, subst, arith, ◌∙◌, map, ◌+◌}
+use Rattle.std.specs.List.{All}
 use Rattle.std.proofs.lemmas.List.{get_or-map, length-map}
 use Rattle.std.proofs.lemmas.List.Elements.{All-map}
 use Rattle.ca_net.specs.declared.trit.Trit.{Trit}
