@@ -2,8 +2,6 @@
 #![tactic(auto)]
 
 #[cfg(test)]
-mod chips;
-#[cfg(test)]
 mod reports;
 #[cfg(test)]
 mod stil;

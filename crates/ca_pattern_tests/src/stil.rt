@@ -85,7 +85,7 @@ const STRAY: Drawn = Drawn {
 // Pairs, and the values that are expected under each.
 type Patterns = (&'static [&'static [u8]], &'static [&'static [u8]]);
 
-pub(crate) const INVERTER_TEXT: &[u8] = b"STIL 1.0;\n\
+const INVERTER_TEXT: &[u8] = b"STIL 1.0;\n\
     Signals {\n\
     \x20 \"a\" In;\n\
     \x20 \"z\" Out;\n\
@@ -117,7 +117,7 @@ pub(crate) const INVERTER_TEXT: &[u8] = b"STIL 1.0;\n\
     \x20 V { \"_pi_\"=1; \"_po_\"=L; }\n\
     }\n";
 
-pub(crate) const ACCUMULATOR_TEXT: &[u8] = b"STIL 1.0;\n\
+const ACCUMULATOR_TEXT: &[u8] = b"STIL 1.0;\n\
     Signals {\n\
     \x20 \"x[1]\" In;\n\
     \x20 \"x[0]\" In;\n\
@@ -338,7 +338,7 @@ fn bits_of(alloc: Global, digits: &[u8]) -> Result<List<bool>, NoMemory> {
     Ok(bits)
 }
 
-pub(crate) fn values_of(alloc: Global, letters: &[u8]) -> Result<List<Trit>, NoMemory> {
+fn values_of(alloc: Global, letters: &[u8]) -> Result<List<Trit>, NoMemory> {
     let mut values = List::new(alloc);
     for letter in letters {
         values.push(match *letter {
