@@ -1,2 +1,2 @@
 mod ReportLemmas
-mod RowLemmas
+pub mod RowLemmas

@@ -1,10 +1,11 @@
 //! What a report tells of, however it is kept.
 
-ghost use Rattle.std.specs.Prelude.{◌≡◌, ◌++◌, ◌<◌, length, slice_get, IsSomeAnd, OnOk};
+ghost use Rattle.std.specs.Prelude.{◌≡◌, ◌<◌, length, slice_get, IsSomeAnd, IfOk};
 
 use crate::verdict::Verdict;
 use ca_base::{List, NoMemory};
 use ca_lex::Text;
+use std::alloc::Global;
 
 /// A defect: the instance as the netlist spells it, the cell and the defect in upper case, and the verdict.
 #[derive(Drop)]
@@ -37,11 +38,10 @@ pub trait ReportRows {
         requires { k < length (rows self.now) }
         ensures { IsSomeAnd (slice_get (rows self.now) k) (λ row. row.cell ≡ result.now) };
 
-    /// Adds the name of a defect to a text.
-    fn push_defect(&self, k: usize, text: &mut Text) -> Result<(), NoMemory>
+    /// The name of a defect.
+    fn defect(&self, alloc: Global, k: usize) -> Result<Text, NoMemory>
         requires { k < length (rows self.now) }
-        ensures { OnOk result (IsSomeAnd (slice_get (rows self.now) k) (λ row.
-            text.new ≡ text.old ++ row.defect)) };
+        ensures { IfOk result (λ name. IsSomeAnd (slice_get (rows self.now) k) (λ row. row.defect ≡ name)) };
 
     /// The verdict on a defect.
     fn verdict(&self, k: usize) -> Verdict
@@ -64,8 +64,8 @@ impl ReportRows for List<ReportRow> {
         self.as_slice()[k].cell.as_bytes()
     }
 
-    fn push_defect(&self, k: usize, text: &mut Text) -> Result<(), NoMemory> {
-        text.append(self.as_slice()[k].defect.as_bytes())
+    fn defect(&self, alloc: Global, k: usize) -> Result<Text, NoMemory> {
+        self.as_slice()[k].defect.copy(alloc)
     }
 
     fn verdict(&self, k: usize) -> Verdict {

@@ -62,16 +62,6 @@ fn pair_of(buffer: &mut Buffer, verdict: Verdict) -> &[u8]
     }
 }
 
-// The name of a defect.
-fn defect_of<R: ReportRows>(alloc: Global, rows: &R, k: usize) -> Result<Text, NoMemory>
-    requires { k < length (R.rows rows.now) }
-    ensures { IfOk result (λ name. IsSomeAnd (slice_get (R.rows rows.now) k) (λ row. row.defect ≡ name)) }
-{
-    let mut name = Text::new(alloc);
-    rows.push_defect(k, &mut name)?;
-    Ok(name)
-}
-
 // Makes a record that of a defect.
 fn fill_record<R: ReportRows>(
     fields: &mut ByteRecord,
@@ -111,7 +101,7 @@ pub fn write_report<R: ReportRows>(
     fill_header(&mut fields)?;
     append(&mut writer, &fields)?;
     for k in 0..rows.len() {
-        let defect = defect_of(alloc, rows, k)?;
+        let defect = rows.defect(alloc, k)?;
         fill_record(&mut fields, outputs, rows, k, defect.as_bytes())?;
         append(&mut writer, &fields)?;
     }

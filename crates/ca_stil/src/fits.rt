@@ -23,13 +23,15 @@ fn are_within(chip: &StilChip) -> bool
         .all(|chain| is_within(chain, count))
 }
 
-fn are_pairs<P: PatternBits>(pairs: &[P], count: u128) -> bool
+/// Whether each of the pairs has so many bits.
+pub fn have_bits<P: PatternBits>(pairs: &[P], count: u128) -> bool
     ensures { IsTrue result ↔ All (λ pair. length (P.bits pair) ≡ count) pairs.now }
 {
     pairs.iter().all(|pair| pair.len() as u128 == count)
 }
 
-fn are_values<E: ExpectedValues>(expected: &[E], count: u128) -> bool
+/// Whether there are so many expected values under each pair.
+pub fn have_values<E: ExpectedValues>(expected: &[E], count: u128) -> bool
     ensures { IsTrue result ↔ All (λ values. length (E.values values) ≡ count) expected.now }
 {
     expected.iter().all(|values| values.len() as u128 == count)
@@ -53,8 +55,8 @@ pub fn are_of<P: PatternBits, E: ExpectedValues>(
     if !are_within(chip) {
         return false;
     }
-    if !are_pairs(pairs, width + width) {
+    if !have_bits(pairs, width + width) {
         return false;
     }
-    are_values(expected, outputs)
+    have_values(expected, outputs)
 }

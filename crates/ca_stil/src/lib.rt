@@ -15,6 +15,6 @@ mod words;
 mod write;
 
 pub use chip::{End, Signal, StilChain, StilChip};
-pub use fits::are_of;
+pub use fits::{are_of, have_bits, have_values};
 pub use patterns::{ExpectedValues, PatternBits};
 pub use write::write_stil;

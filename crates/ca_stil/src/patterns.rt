@@ -4,6 +4,7 @@ ghost use Rattle.std.specs.Prelude.{◌≡◌, ◌<◌, length, slice_get, Some}
 
 use ca_base::List;
 use ca_net::Trit;
+use ca_pair::Pair;
 
 /// A pair of vectors. Contracts see it as the list of its pattern bits.
 pub trait PatternBits {
@@ -47,6 +48,18 @@ impl PatternBits for List<bool> {
 
     fn len(&self) -> usize {
         List::len(self)
+    }
+
+    fn bit(&self, place: usize) -> bool {
+        self.get(place)
+    }
+}
+
+impl PatternBits for Pair {
+    ghost bits = { λ pair. pair };
+
+    fn len(&self) -> usize {
+        Pair::len(self)
     }
 
     fn bit(&self, place: usize) -> bool {

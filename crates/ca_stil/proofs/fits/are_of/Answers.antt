@@ -14,9 +14,9 @@ returns g c =
     let held : IsTrue true = search rules in (
       λ yes. makes_of bits values chip c.args.pairs.now c.args.expected.now
           (c.if-not-are_within.ensures.0 held)
-          (λ k d below. c.if-not-are_pairs.ensures.0 held k d below ∙ width)
-          (λ k d below. c.are_values.ensures.0 yes k d below ∙ outputs)
+          (λ k d below. c.if-not-have_bits.ensures.0 held k d below ∙ width)
+          (λ k d below. c.have_values.ensures.0 yes k d below ∙ outputs)
           c.if-pairs-expected.false,
-      λ of. c.are_values.ensures.1
+      λ of. c.have_values.ensures.1
           (λ k d below. of_values bits values chip c.args.pairs.now c.args.expected.now of k d below ∙ sym outputs),
     )

@@ -1,0 +1,14 @@
+use Rattle.std.proofs.Common.{subst, sym}
+use Rattle.std.specs.List.{All}
+use Rattle.ca_report.specs.Report.{IsRowOf}
+use Rattle.ca_chip_report.specs.ChipReport.{report_rows}
+use Rattle.ca_chip_report.proofs.RowLemmas.{rows_fit}
+use Rattle.ca_chip_report.proofs.write.write_chip_report.Goals as goal
+
+pub write_report-requires : goal.write_report-requires
+write_report-requires c =
+    let chip = c.args.chip.now in
+    let defects = c.args.defects.now in
+    let verdicts = c.args.verdicts.now in
+    subst (λ count. All (IsRowOf count) (report_rows chip defects verdicts)) (sym c.in_ok-outputs.ensures.count)
+    (rows_fit _ chip defects verdicts c.requires.outputs)

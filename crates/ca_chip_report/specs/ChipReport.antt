@@ -1,0 +1,64 @@
+-- The report of a linked chip: of each of its defects the instance, the cell, the name and the verdict.
+use Rattle.std.specs.Prelude.{ℕ, ◌≡◌, ◌<◌, List, [], length, Option, Some, None, slice_get}
+use Rattle.std.specs.List.{All}
+use Rattle.std.specs.Simd.Lanes.{zip2}
+use Rattle.ca_defect.specs.Name.{name_of}
+use Rattle.ca_flat.specs.declared.chip_defect.ChipDefect.{ChipDefect}
+use Rattle.ca_flat.specs.Chip.{cell_at, IsDefectIn}
+use Rattle.ca_wired.specs.declared.parts.Part.{Part}
+use Rattle.ca_wired.specs.Linked.{Chip, outputs_of, IsLibrary}
+use Rattle.ca_core.specs.Core.{core_of}
+use Rattle.ca_credit.specs.declared.verdict.Verdict.{Verdict}
+use Rattle.ca_credit.specs.declared.verdict.Verdict.TheVariants.{Credited, Unexposable, Untestable, Aborted}
+use Rattle.ca_report.specs.declared.rows.ReportRow.{ReportRow}
+use Rattle.ca_report.specs.declared.verdict.Verdict as report
+use Rattle.ca_report.specs.declared.verdict.Verdict.TheVariants as told
+
+-- the verdict as a report tells it: without the code of a search that was aborted
+abbrev pub told_of : Verdict → report.Verdict
+told_of (Credited pair output) = told.Credited pair output
+told_of Unexposable = told.Unexposable
+told_of Untestable = told.Untestable
+told_of (Aborted code) = told.Aborted
+
+-- the name of an instance, as the netlist spells it
+abbrev pub instance_name : Option Part → List ℕ
+instance_name None = []
+instance_name (Some part) = part.name
+
+-- the name of its cell
+abbrev pub cell_name : Option Part → List ℕ
+cell_name None = []
+cell_name (Some part) = part.cell
+
+-- the row of a defect
+abbrev pub row_of : Chip → ChipDefect → Verdict → ReportRow
+row_of chip defect verdict = record {
+  instance = instance_name (slice_get chip.parts defect.instance);
+  cell = cell_name (slice_get chip.parts defect.instance);
+  defect = name_of (cell_at (core_of chip) defect.instance) defect.defect;
+  verdict = told_of verdict;
+}
+
+-- the rows of defects, each with its verdict, in order
+abbrev pub report_rows : Chip → List ChipDefect → List Verdict → List ReportRow
+report_rows chip defects verdicts = zip2 (row_of chip) defects verdicts
+
+-- the defect is one of a library instance's cell
+pub record IsGateDefect (chip : Chip) (defect : ChipDefect) : Type 0 where
+  pub is_defect : IsDefectIn (core_of chip) defect
+  pub is_gate : IsLibrary chip defect.instance
+
+-- the output that the verdict credits, if it does, is one of so many
+abbrev pub IsVerdictWithin : ℕ → Verdict → Type 0
+IsVerdictWithin outputs (Credited pair output) = output < outputs
+IsVerdictWithin outputs Unexposable = Unit {0}
+IsVerdictWithin outputs Untestable = Unit {0}
+IsVerdictWithin outputs (Aborted code) = Unit {0}
+
+-- the defects are those of library instances of the chip, there is a verdict for each, and each output that
+-- is credited is an observed one
+pub record AreReported (chip : Chip) (defects : List ChipDefect) (verdicts : List Verdict) : Type 0 where
+  pub defects_are : All (IsGateDefect chip) defects
+  pub one_each : length verdicts ≡ length defects
+  pub outputs : All (IsVerdictWithin (length (outputs_of chip))) verdicts

@@ -1,0 +1,5 @@
+-- What the contracts of this crate say, in reading order.
+pub mod ChipReport
+pub mod Summary
+pub mod Laws
+pub mod Kept

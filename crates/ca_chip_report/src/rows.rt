@@ -1,0 +1,103 @@
+//! The defects of a linked chip, as rows of a report.
+
+ghost use Rattle.std.specs.Prelude.{◌≡◌, ◌<◌, length, slice_get, Some, IfOk};
+ghost use Rattle.ca_defect.specs.Name.{name_of};
+ghost use Rattle.ca_flat.specs.Chip.{cell_at};
+ghost use Rattle.ca_core.specs.Core.{core_of};
+ghost use Rattle.ca_chip_report.specs.ChipReport.{told_of, instance_name, cell_name, IsGateDefect, AreReported};
+ghost use Rattle.ca_chip_report.specs.Kept.{AreReported-prop};
+
+use ca_base::NoMemory;
+use ca_credit::{Verdict, Verdicts};
+use ca_flat::ChipDefect;
+use ca_lex::Text;
+use ca_report::ReportRows;
+use ca_wired::{Chip, InstanceId};
+use std::alloc::Global;
+
+// The name of a defect's instance.
+#[tactic(auto, using(crate::proofs::RowLemmas::gate_within, crate::proofs::RowLemmas::name_told))]
+fn instance_of(chip: &Chip, defect: ChipDefect) -> &[u8]
+    requires { IsGateDefect chip.now defect }
+    ensures { instance_name (slice_get chip.now.parts defect.instance) ≡ result.now }
+{
+    chip.instance_name(InstanceId(defect.instance)).as_bytes()
+}
+
+// The name of its cell.
+#[tactic(auto, using(crate::proofs::RowLemmas::gate_within, crate::proofs::RowLemmas::cell_told))]
+fn cell_of(chip: &Chip, defect: ChipDefect) -> &[u8]
+    requires { IsGateDefect chip.now defect }
+    ensures { cell_name (slice_get chip.now.parts defect.instance) ≡ result.now }
+{
+    chip.cell_name(InstanceId(defect.instance)).as_bytes()
+}
+
+// Its name in the cell.
+fn name_of(alloc: Global, chip: &Chip, defect: ChipDefect) -> Result<Text, NoMemory>
+    requires { IsGateDefect chip.now defect }
+    ensures { IfOk result (λ name.
+        name_of (cell_at (core_of chip.now) defect.instance) defect.defect ≡ name) }
+{
+    let cell = chip.cell_of(InstanceId(defect.instance));
+    ca_defect::name(alloc, cell, defect.defect)
+}
+
+// The verdict as a report tells it.
+fn told_of(verdict: &Verdict) -> ca_report::Verdict
+    ensures { told_of verdict.now ≡ result }
+{
+    match verdict {
+        Verdict::Credited { pair, output } => ca_report::Verdict::Credited {
+            pair: *pair,
+            output: *output,
+        },
+        Verdict::Unexposable => ca_report::Verdict::Unexposable,
+        Verdict::Untestable => ca_report::Verdict::Untestable,
+        Verdict::Aborted { .. } => ca_report::Verdict::Aborted,
+    }
+}
+
+// The defect at a place.
+fn defect_at(defects: &[ChipDefect], k: usize) -> ChipDefect
+    requires { k < length defects.now }
+    ensures { slice_get defects.now k ≡ Some result }
+{
+    defects[k]
+}
+
+/// The defects of a chip with their verdicts. No name is copied before its row is written.
+#[derive(Clone, Copy)]
+pub(crate) struct ChipRows<'a> {
+    pub(crate) chip: &'a Chip,
+    pub(crate) defects: &'a [ChipDefect],
+    pub(crate) verdicts: &'a Verdicts,
+    ghost reported: { AreReported chip.now defects.now verdicts.now } by { AreReported-prop _ _ _ },
+}
+
+impl ReportRows for ChipRows<'_> {
+    ghost use Rattle.ca_chip_report.specs.ChipReport.{report_rows};
+
+    ghost rows = { λ rows. report_rows rows.chip.now rows.defects.now rows.verdicts.now };
+
+    fn len(&self) -> usize {
+        self.defects.len()
+    }
+
+    fn instance(&self, k: usize) -> &[u8] {
+        instance_of(self.chip, defect_at(self.defects, k))
+    }
+
+    fn cell(&self, k: usize) -> &[u8] {
+        cell_of(self.chip, defect_at(self.defects, k))
+    }
+
+    fn defect(&self, alloc: Global, k: usize) -> Result<Text, NoMemory> {
+        let name = name_of(alloc, self.chip, defect_at(self.defects, k))?;
+        Ok(name)
+    }
+
+    fn verdict(&self, k: usize) -> ca_report::Verdict {
+        told_of(self.verdicts.get(k))
+    }
+}

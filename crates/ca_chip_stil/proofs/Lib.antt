@@ -1,0 +1,6 @@
+mod PortLemmas
+mod NameLemmas
+mod PlaceLemmas
+mod ChainLemmas
+mod SiteLemmas
+mod FitLemmas

@@ -1,0 +1,5 @@
+-- What the contracts of this crate say, in reading order.
+pub mod Sites
+pub mod ChipStil
+pub mod Laws
+pub mod Kept
