@@ -1,0 +1,3 @@
+pub mod VectorLemmas
+pub mod SameLemmas
+pub mod InputLemmas
