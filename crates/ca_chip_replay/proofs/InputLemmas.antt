@@ -1,15 +1,14 @@
 -- The nodes of the chip inputs, and that no other input node changes.
 use Rattle.std.proofs.Common.{◌≡◌, ℕ, zero, suc, ◌+◌, ◌<◌, ◌≤◌, ◌==◌, List, [], ◌∷◌, ◌++◌, length, inl, inr, refl, sym, ◌∙◌, ap, subst, arith}
 use Rattle.std.specs.Prelude.{map, take, slice_index, Option}
-use Rattle.std.specs.List.{All, Contains}
+use Rattle.std.specs.List.{Contains}
 use Rattle.std.proofs.lemmas.Bool.{cases_lt, cond-false}
 use Rattle.std.proofs.lemmas.List.{take_all, map-append}
 use Rattle.std.proofs.lemmas.List.Elements.{All-map, All-from_get_or}
 use Rattle.ca_net.specs.declared.trit.Trit.{Trit}
 use Rattle.ca_net.specs.declared.trit.Trit.TheVariants.{X}
 use Rattle.ca_net.specs.declared.node.NodeId.{NodeId}
-use Rattle.ca_net.specs.declared.node.NodeKind.TheVariants.{Input}
-use Rattle.ca_net.specs.Circuit.{Circuit, IsInput}
+use Rattle.ca_net.specs.Circuit.{IsInput}
 use Rattle.ca_net.specs.State.{value_at}
 use Rattle.ca_flat.specs.declared.chip_defect.ChipDefect.{ChipDefect}
 use Rattle.ca_flat.specs.Chip.{Chip}
@@ -18,6 +17,7 @@ use Rattle.ca_flat.specs.Pair.{input_value, constant_value, net_value}
 use Rattle.ca_flat.proofs.Spots.{flat_net}
 use Rattle.ca_order.specs.Allowed.{numbers}
 use Rattle.ca_replay.specs.Replay.{CoverInputs}
+use Rattle.ca_replay.proofs.ValueLemmas.{contains_head, contains_tail}
 use Rattle.ca_sim.specs.Linked.{IsPinned}
 use Rattle.ca_sim.proofs.Feeding.{neq-eqb}
 use Rattle.ca_chip_replay.specs.ChipRun.{input_nodes}
@@ -37,7 +37,7 @@ pub node_adds : (inputs : List ℕ) (k : ℕ) (node : NodeId) (old new : List No
     → old ≡ map node_of (take k inputs) → new ≡ old ++ node ∷ [] → new ≡ map node_of (take (k + 1) inputs)
 node_adds inputs k node old new within node_is old_is new_is =
     new_is ∙ ap (λ (l : List NodeId). l ++ node ∷ []) old_is ∙ ap (λ (n : NodeId). map node_of (take k inputs) ++ n ∷ []) node_is
-    ∙ sym (map-append (take k inputs) (slice_index inputs k ∷ []) node_of)
+    ∙ sym (map-append node_of (take k inputs) (slice_index inputs k ∷ []))
     ∙ ap (map node_of) (sym (take_next inputs k within) ∙ ap (λ (n : ℕ). take n inputs) (let e : suc k ≡ k + 1 = omega arith in e))
 
 pub nodes_all : (inputs : List ℕ) (k : ℕ) (nodes : List NodeId) → length inputs ≤ k → nodes ≡ map node_of (take k inputs) → nodes ≡ map node_of inputs
@@ -47,8 +47,9 @@ nodes_all inputs k nodes all is = is ∙ ap (map node_of) (take_all k inputs all
 no_bit : (inputs : List ℕ) (bits : List Trit) (bit net : ℕ) → (Contains (numbers (map node_of inputs)) (2 + net) → ⊥) → input_value inputs bits bit net ≡ X
 no_bit [] bits bit net none = refl
 no_bit (input ∷ inputs) bits bit net none =
-    cond-false (net == input) _ _ (neq-eqb net input (λ e. none (inl (ap (λ n. 2 + n) (sym e)))))
-    ∙ no_bit inputs bits (bit + 1) net (λ has. none (inr has))
+    cond-false (net == input) _ _ (neq-eqb net input (λ e. none (subst (λ (n : ℕ). Contains (numbers (map node_of (input ∷ inputs))) (2 + n)) (sym e)
+    (contains_head (2 + input) (numbers (map node_of inputs))))))
+    ∙ no_bit inputs bits (bit + 1) net (λ has. none (contains_tail (2 + input) (numbers (map node_of inputs)) (2 + net) has))
 
 module _ (chip : Chip) (given : Option ChipDefect) (pair : List Trit) where
   -- the nodes of the chip inputs are input nodes, and no other input node changes from the one vector to the other

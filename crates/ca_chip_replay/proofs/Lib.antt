@@ -1,3 +1,4 @@
 pub mod VectorLemmas
 pub mod SameLemmas
 pub mod InputLemmas
+pub mod ReadyLemmas

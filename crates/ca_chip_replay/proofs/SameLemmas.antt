@@ -1,10 +1,9 @@
 -- Vectors that have one value at each place name the same runs and allow the same events.
-use Rattle.std.proofs.Common.{◌≡◌, ℕ, Bool, true, false, List, [], ◌∷◌, ◌++◌, map, refl, sym, ◌∙◌, ap, subst}
-use Rattle.std.specs.Prelude.{if◌then◌else◌, slice_set, slice_get, Some, Ok, Result, IfOk}
+use Rattle.std.proofs.Common.{◌≡◌, ℕ, List, [], ◌∷◌, refl, sym, ◌∙◌, ap, subst}
+use Rattle.std.specs.Prelude.{if◌then◌else◌, slice_set, Ok, Err, Result, IfOk}
 use Rattle.std.specs.List.{All, AllByRecursion}
 use Rattle.std.proofs.lemmas.List.Elements.{All-weaker}
 use Rattle.ca_net.specs.declared.trit.Trit.{Trit}
-use Rattle.ca_net.specs.declared.trit.Trit.TheVariants.{X}
 use Rattle.ca_net.specs.declared.node.NodeId.{NodeId}
 use Rattle.ca_net.specs.Trit.{IsBelow}
 use Rattle.ca_net.specs.Circuit.{Circuit}
@@ -12,9 +11,8 @@ use Rattle.ca_net.specs.State.{value_at}
 use Rattle.ca_net.specs.Event.{Event, Settle, Blur, Set, Run}
 use Rattle.ca_net.specs.PairRun.{MayCome, PairRun}
 use Rattle.ca_order.specs.declared.event.Event as order
-use Rattle.ca_order.specs.declared.event.Place.TheVariants as place
 use Rattle.ca_order.specs.declared.event.OrderFault.{OrderFault}
-use Rattle.ca_order.specs.Allowed.{meaning, MaySet, ArePlaces, IsAllowed, ReadsFor}
+use Rattle.ca_order.specs.Allowed.{meaning, MaySet, IsAllowed, ReadsFor}
 use Rattle.ca_replay.specs.Replay.{IsReplay, is_same, settings}
 use Rattle.ca_chip_replay.specs.Kept.{HaveOneValue}
 
@@ -107,3 +105,9 @@ reads_same net v1 v2 w1 w2 text answer first last reads = record {
   };
   reads = reads.reads;
 }
+
+-- so are those of what is read
+pub answer_allowed : (net : Circuit) (v1 v2 w1 w2 : List Trit) (answer : Result (List order.Event) OrderFault) → HaveOneValue v1 w1 → HaveOneValue v2 w2
+    → IfOk answer (All (IsAllowed net v1 v2)) → IfOk answer (All (IsAllowed net w1 w2))
+answer_allowed net v1 v2 w1 w2 (Ok events) first last all = allowed_same net v1 v2 w1 w2 first last events all
+answer_allowed net v1 v2 w1 w2 (Err fault) first last all = tt

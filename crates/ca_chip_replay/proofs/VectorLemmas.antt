@@ -1,5 +1,5 @@
 -- Vectors of a flat network: one node after another is given its value.
-use Rattle.std.proofs.Common.{◌≡◌, ℕ, zero, suc, ◌+◌, ◌<◌, ◌≤◌, ◌==◌, List, [], ◌∷◌, length, drop, replicate, slice_set, Bool, true, false, Some, inl, inr, refl, sym, ◌∙◌, ap, subst, arith, eq-eqb}
+use Rattle.std.proofs.Common.{◌≡◌, ℕ, zero, suc, ◌+◌, ◌<◌, ◌≤◌, ◌==◌, List, ◌∷◌, length, drop, replicate, slice_set, Some, inl, inr, refl, sym, ◌∙◌, ap, arith, eq-eqb}
 use Rattle.std.specs.Prelude.{cond, slice_get, slice_index}
 use Rattle.std.proofs.lemmas.Bool.{cases_eq, cases_lt, cond-true, cond-false}
 use Rattle.std.proofs.lemmas.List.{get_or-replicate, get_or_past, length-replicate, length-set, get_or-set_same, get_or-set_other}
@@ -9,7 +9,7 @@ use Rattle.ca_net.specs.declared.trit.Trit.{Trit}
 use Rattle.ca_net.specs.declared.trit.Trit.TheVariants.{Zero, One, X}
 use Rattle.ca_net.specs.State.{value_at}
 use Rattle.ca_flat.specs.Chip.{Chip, Constant}
-use Rattle.ca_flat.specs.Pair.{input_value, constant_value, net_value, values_from, values_of, flat_vector}
+use Rattle.ca_flat.specs.Pair.{input_value, constant_value, values_from, values_of, flat_vector}
 use Rattle.ca_flat.proofs.PairLemmas.{vector_value}
 use Rattle.ca_sim.proofs.Feeding.{neq-eqb}
 use Rattle.ca_chip_replay.specs.Kept.{unknown_nets, IsVector, HaveOneValue}
@@ -20,8 +20,8 @@ pub rails_known : (nodes : ℕ) (old power new : List Trit) → 2 ≤ nodes → 
 rails_known nodes old power new two old_is power_is new_is = record {
   count = count;
   power = ap (λ l. value_at l 0) new_is ∙ get_or-set_other power 1 0 Zero X (λ e. absurd (omega (arith, e)))
-      ∙ ap (λ l. value_at l 0) power_is ∙ get_or-set_same old 0 One X (omega arith);
-  ground = ap (λ l. value_at l 1) new_is ∙ get_or-set_same power 1 Zero X (omega arith);
+      ∙ ap (λ l. value_at l 0) power_is ∙ get_or-set_same old 0 One X (let l = old_count in omega (arith, l, two));
+  ground = ap (λ l. value_at l 1) new_is ∙ get_or-set_same power 1 Zero X (let l = power_count in omega (arith, l, two));
   each = λ net lt. absurd (omega (arith, lt));
   past = λ n far.
       ap (λ l. value_at l n) new_is ∙ get_or-set_other power 1 n Zero X (λ e. absurd (omega (arith, e, far)))
@@ -103,10 +103,10 @@ module _ (nodes nets : ℕ) (fits : 2 + nets ≤ nodes) where
       → IsVector nodes nets (input_value (drop k inputs) bits (from + k)) new
   input_set inputs bits from k net v old new lt net_is within v_is new_is is =
       net_set nodes nets net v _ _ old new fits within new_is (λ m.
-          ap (λ l. input_value l bits (from + k) m) (drop-cons inputs k 0 lt)
-          ∙ ap (λ (x : ℕ). cond (m == x) (value_at bits (from + k)) (input_value (drop (suc k) inputs) bits (from + k + 1) m)) (sym net_is)
-          ∙ ap (λ (x : Trit). cond (m == net) x (input_value (drop (suc k) inputs) bits (from + k + 1) m)) (sym v_is)
-          ∙ ap (λ (b : ℕ). cond (m == net) v (input_value (drop (suc k) inputs) bits b m)) (let e : from + k + 1 ≡ from + suc k = omega arith in e)) is
+      ap (λ l. input_value l bits (from + k) m) (drop-cons inputs k 0 lt)
+      ∙ ap (λ (x : ℕ). cond (m == x) (value_at bits (from + k)) (input_value (drop (suc k) inputs) bits (from + k + 1) m)) (sym net_is)
+      ∙ ap (λ (x : Trit). cond (m == net) x (input_value (drop (suc k) inputs) bits (from + k + 1) m)) (sym v_is)
+      ∙ ap (λ (b : ℕ). cond (m == net) v (input_value (drop (suc k) inputs) bits b m)) (let e : from + k + 1 ≡ from + suc k = omega arith in e)) is
 
   -- one constant more, which stands before the others
   pub constant_set : (constants : List Constant) (other : ℕ → Trit) (k : ℕ) (constant : Constant) (old new : List Trit) → slice_get constants k ≡ Some constant

@@ -32,5 +32,5 @@ pub record AreReplayed (run : RunOf) (events : List Event) (values : List Trit) 
   pub is_pair_run : PairRun (flat run.chip run.given) (first_vector run.chip run.pair)
       (last_vector run.chip run.pair) end
   pub count : length values ≡ length run.chip.outputs
-  pub values : (o : ℕ) → o < length run.chip.outputs
+  pub each : (o : ℕ) → o < length run.chip.outputs
       → value_at values o ≡ value_at end (2 + slice_index run.chip.outputs o)

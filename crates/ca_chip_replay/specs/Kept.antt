@@ -1,9 +1,9 @@
 -- Vectors of a flat network as code keeps them. Only the contracts of private functions and types cite this.
-use Rattle.std.specs.Prelude.{ℕ, ◌+◌, ◌*◌, ◌≡◌, ◌<◌, ◌≤◌, List, length, slice_index}
+use Rattle.std.specs.Prelude.{ℕ, ◌+◌, ◌≡◌, ◌<◌, ◌≤◌, List, length, slice_index}
 use Rattle.ca_net.specs.declared.trit.Trit.{Trit}
 use Rattle.ca_net.specs.declared.trit.Trit.TheVariants.{Zero, One, X}
 use Rattle.ca_net.specs.declared.node.NodeId.{NodeId}
-use Rattle.ca_net.specs.Circuit.{Circuit, IsWellFormed}
+use Rattle.ca_net.specs.Circuit.{Circuit}
 use Rattle.ca_net.specs.State.{value_at}
 use Rattle.ca_flat.specs.Chip.{Chip}
 use Rattle.ca_flat.specs.Flat.{flat}

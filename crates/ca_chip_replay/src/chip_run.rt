@@ -59,14 +59,11 @@ impl<'a, B: Bits> Model for ChipRun<'a, B> {
 }
 
 // The values of the observed outputs in a state of the flat network.
-fn output_values(
-    alloc: Global,
-    tables: &CoreTables<'_>,
-    end: &State,
-) -> Result<Vec<Trit>, NoMemory>
+fn output_values(alloc: Global, tables: &CoreTables<'_>, end: &State) -> Result<Vec<Trit>, NoMemory>
     requires { 2 + length (core_of tables.now.chip).nets ≤ length end.now }
     ensures { IfOk result (λ values. AreOutputValues (core_of tables.now.chip) end.now values.items) }
 {
+    tables.linked();
     let mut values = Vec::new(alloc);
     for o in 0..tables.outputs() {
         values.push(end.get(2 + tables.output(o)))?;
@@ -125,7 +122,14 @@ impl<'a, B: Bits> ChipRun<'a, B> {
         ensures { IfOk result
             (λ values. AreReplayed self.now (map meaning events.now) values.items) }
     {
-        let end = replay(alloc, &self.net, &self.inputs, &self.first, &self.last, events)?;
+        let end = replay(
+            alloc,
+            &self.net,
+            &self.inputs,
+            &self.first,
+            &self.last,
+            events,
+        )?;
         output_values(alloc, self.tables, &end)
     }
 }

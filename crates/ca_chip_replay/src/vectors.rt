@@ -22,6 +22,7 @@ fn rails(alloc: Global, nodes: usize) -> Result<State, NoMemory>
 
 // Gives the nets of the chip inputs their bits, which begin at this one.
 fn set_inputs<C: Linked, B: Bits>(vector: &mut State, chip: &C, pair: &B, from: usize)
+    requires from { from ≤ length (C.core chip.now).inputs }
     requires bits { from + length (C.core chip.now).inputs ≤ length (B.bits pair.now) }
     requires fits { 2 + length (C.core chip.now).nets ≤ length vector.old }
     requires begun { IsVector (length vector.old) (length (C.core chip.now).nets) unknown_nets vector.old }
@@ -63,6 +64,7 @@ pub(crate) fn vector_of<C: Linked, B: Bits>(
     pair: &B,
     from: usize,
 ) -> Result<State, NoMemory>
+    requires from { from ≤ length (C.core chip.now).inputs }
     requires bits { from + length (C.core chip.now).inputs ≤ length (B.bits pair.now) }
     requires fits { 2 + length (C.core chip.now).nets ≤ nodes }
     ensures { IfOk result (IsVector nodes (length (C.core chip.now).nets)

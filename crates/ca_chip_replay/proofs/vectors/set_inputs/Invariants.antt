@@ -1,4 +1,4 @@
-use Rattle.std.proofs.Common.{ℕ, ◌+◌, ◌-◌, length, drop}
+use Rattle.std.proofs.Common.{◌+◌, ◌-◌, length, drop}
 use Rattle.ca_flat.specs.Pair.{input_value}
 use Rattle.ca_chip_replay.specs.Kept.{IsVector}
 use Rattle.ca_chip_replay.proofs.vectors.set_inputs.Given as goal
