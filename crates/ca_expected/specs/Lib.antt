@@ -1,2 +1,3 @@
 pub mod Expected
+pub mod Laws
 pub mod Kept

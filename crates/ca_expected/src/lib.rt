@@ -1,6 +1,8 @@
 //! What a good chip ends with under listed pairs.
 #![tactic(auto)]
 
+mod laws;
 mod values;
 
+pub use laws::aimed_pairs_are_whole;
 pub use values::{Expected, expected};
