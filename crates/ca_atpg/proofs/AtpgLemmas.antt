@@ -1,0 +1,152 @@
+-- What the writers of the texts ask for.
+use Rattle.std.proofs.Common.{◌≡◌, ℕ, ◌+◌, ◌<◌, Bool, List, [], length, map, Option, None, Some, refl, sym, ◌∙◌, ap, subst, arith, get_or}
+use Rattle.std.specs.Prelude.{slice_get, IsSomeAnd, Result, Ok, Err, IfOk}
+use Rattle.std.specs.List.{All}
+use Rattle.std.proofs.lemmas.List.{length-map, map-id}
+use Rattle.std.proofs.lemmas.List.Elements.{All-weaker, All-from_get_or}
+use Rattle.std.proofs.lemmas.Option.{slice_get-get_or, slice_get_within}
+use Rattle.ca_net.specs.declared.trit.Trit.{Trit}
+use Rattle.ca_defect.specs.declared.defect.Defect.TheVariants.{OpenPin}
+use Rattle.ca_wired.specs.Linked.{Chip, inputs_of, outputs_of, IsWired}
+use Rattle.ca_core.specs.Core.{core_of, core_net}
+use Rattle.ca_outputs.specs.Outputs.{output_names}
+use Rattle.ca_flat.specs.declared.chip_defect.ChipDefect.{ChipDefect}
+use Rattle.ca_flat.specs.Chip.{IsDefectIn}
+use Rattle.ca_flat.specs.Pair.{bit_count, DetectsAt}
+use Rattle.ca_sim.specs.Linked.{IsPlaced, IsPlacedDefect, place_in}
+use Rattle.ca_scan.specs.ChainFault.{AreAllChains}
+use Rattle.ca_search.specs.Filled.{trits_of}
+use Rattle.ca_credit.specs.declared.verdict.Verdict.{Verdict}
+use Rattle.ca_credit.specs.declared.verdict.Verdict.TheVariants.{Credited, Unexposable, Untestable, Aborted}
+use Rattle.ca_credit.specs.Defects.{Task}
+use Rattle.ca_credit.specs.Detection.{IsFirstOutput}
+use Rattle.ca_credit.specs.Good.{IsGood}
+use Rattle.ca_chip_defects.specs.ChipDefects.{chip_defects, placed_instances}
+use Rattle.ca_bench.specs.ChipBench.{IsTaskOf}
+use Rattle.ca_core_tables.specs.Tables.{Tables, AreTablesOf}
+use Rattle.ca_core_tables.proofs.LinkedLemmas.{placed_is_library}
+use Rattle.ca_expected.specs.Expected.{AreExpected}
+use Rattle.ca_expected.proofs.WholeLemmas.{pairs_whole}
+use Rattle.ca_stil.specs.Text.{stil_text}
+use Rattle.ca_chip_stil.specs.ChipStil.{stil_chip, AreOfChip}
+use Rattle.ca_report.specs.Report.{report_text}
+use Rattle.ca_chip_report.specs.ChipReport.{report_rows, IsGateDefect, IsVerdictWithin, AreReported}
+use Rattle.ca_core_bench.specs.ChipTask.{task_of}
+use Rattle.ca_core_bench.proofs.TaskLemmas.{task_is}
+use Rattle.ca_atpg.specs.Atpg.{IsStil, report_of}
+
+-- what each value has that has another
+pub on_ok : {T E : Type 0} (result : Result T E) (P Q : T → Type 0) → ((x : T) → P x → Q x) → IfOk result P → IfOk result Q
+on_ok (Ok x) P Q h is = h x is
+on_ok (Err e) P Q h is = tt
+
+-- the pairs of good work have all pattern bits of the chip
+pub pairs_fit : (task : Task) (pairs : List (List Bool)) (aims : List ℕ) (verdicts : List Verdict) → IsGood task pairs aims verdicts
+    → All (λ pair. length pair ≡ bit_count task.chip) pairs
+pairs_fit task pairs aims verdicts good = pairs_whole task pairs aims good.aims_are
+
+-- so have those of the chip's
+pub task_pairs_fit : (chip : Chip) (budget : ℕ) (pairs : List (List Bool)) (aims : List ℕ) (verdicts : List Verdict)
+    → IsGood (task_of chip budget) pairs aims verdicts → All (λ pair. length pair ≡ bit_count (core_of chip)) pairs
+task_pairs_fit chip budget pairs aims verdicts good = pairs_whole (task_of chip budget) pairs aims good.aims_are
+
+-- there is a verdict for each defect
+pub one_verdict_each : (chip : Chip) (budget : ℕ) (pairs : List (List Bool)) (aims : List ℕ) (verdicts : List Verdict)
+    → IsGood (task_of chip budget) pairs aims verdicts → length verdicts ≡ length (task_of chip 0).defects
+one_verdict_each chip budget pairs aims verdicts good = good.one_each
+
+-- what a bench of the chip's tables is to do
+pub bench_task_is : (chip : Chip) (tables : Tables) (budget : ℕ) (task : Task) → AreTablesOf chip tables
+    → IsTaskOf (core_of tables.chip) tables.ranks budget task → task ≡ task_of chip budget
+bench_task_is chip tables budget task are is = task_is chip tables budget task are is
+
+module _ (chip : Chip) (chains : List (List ℕ)) (pairs : List (List Bool)) (expected : List (List Trit)) where
+  pub are_of_chip : AreAllChains chip chains → All (λ pair. length pair ≡ bit_count (core_of chip)) pairs → AreExpected (core_of chip) pairs expected
+      → AreOfChip chip chains pairs expected
+  are_of_chip are whole exp = record {
+    chains_are = are;
+    bits = All-weaker (λ (pair : List Bool). length pair ≡ bit_count (core_of chip)) (λ (pair : List Bool). length pair ≡ length (inputs_of chip) + length (inputs_of chip))
+        (λ pair is. let l = length-map (inputs_of chip) (core_net chip) in omega (arith, l, is)) pairs whole;
+    values = All-from_get_or (λ (values : List Trit). length values ≡ length (outputs_of chip)) expected [] (λ k lt.
+        let count = exp.count in
+        (exp.each k (omega (arith, count, lt))).count ∙ length-map (outputs_of chip) (core_net chip));
+    counted = sym exp.count;
+  }
+
+  pub same_pairs : map (λ (pair : List Bool). pair) pairs ≡ pairs
+  same_pairs = map-id pairs
+
+  pub same_values : map (λ (values : List Trit). values) expected ≡ expected
+  same_values = map-id expected
+
+  pub is_stil : AreExpected (core_of chip) pairs expected → (text : List ℕ) → text ≡ stil_text (stil_chip chip chains) pairs expected
+      → IsStil chip chains pairs text
+  is_stil exp text is = record { expected = expected; are_expected = exp; is = is }
+
+-- an output that is credited is an observed one
+output_within : (xs : List ℕ) (P : ℕ → Type 0) (k : ℕ) → IsSomeAnd (slice_get xs k) P → k < length xs
+output_within xs P k some = by (slice_get xs k) refl some
+  where
+    by : (o : Option ℕ) → slice_get xs k ≡ o → IsSomeAnd o P → k < length xs
+    by None e here = absurd here
+    by (Some x) e here = slice_get_within xs k x e
+
+some_pair : (pairs : List (List Bool)) (k : ℕ) (P : List Bool → Type 0) (Q : Type 0) → IsSomeAnd (slice_get pairs k) P → ((pair : List Bool) → P pair → Q) → Q
+some_pair pairs k P Q some then = by (slice_get pairs k) some
+  where
+    by : (o : Option (List Bool)) → IsSomeAnd o P → Q
+    by None here = absurd here
+    by (Some x) here = then x here
+
+pub verdicts_within : (chip : Chip) (budget : ℕ) (pairs : List (List Bool)) (aims : List ℕ) (verdicts : List Verdict)
+    → IsGood (task_of chip budget) pairs aims verdicts → All (IsVerdictWithin (length (outputs_of chip))) verdicts
+verdicts_within chip budget pairs aims verdicts good = All-from_get_or (IsVerdictWithin (length (outputs_of chip))) verdicts Unexposable (λ k lt.
+    by k lt (get_or verdicts k Unexposable) (slice_get-get_or verdicts k Unexposable lt))
+  where
+    by : (k : ℕ) → k < length verdicts → (verdict : Verdict) → slice_get verdicts k ≡ Some verdict → IsVerdictWithin (length (outputs_of chip)) verdict
+    by k lt (Credited pair output) at =
+        let none : ChipDefect = record { instance = 0; defect = OpenPin (record { 0 = 0 }) } in
+        let one = good.one_each in
+        let defect : ChipDefect = get_or (task_of chip budget).defects k none in
+        let first = good.credited k pair output defect (record {
+          is_defect = slice_get-get_or (task_of chip budget).defects k none (omega (arith, lt, one));
+          is_verdict = at;
+        }) in
+        subst (λ (n : ℕ). output < n) (length-map (outputs_of chip) (core_net chip))
+        (some_pair pairs pair (IsFirstOutput (core_of chip) defect output) (output < length (core_of chip).outputs) first.first_output
+        (λ (p : List Bool) is. output_within (core_of chip).outputs (DetectsAt (core_of chip) defect (trits_of p)) output is.here))
+    by k lt Unexposable at = tt
+    by k lt Untestable at = tt
+    by k lt (Aborted code) at = tt
+
+module _ (chip : Chip) (tables : Tables) (are : AreTablesOf chip tables) (list : List ChipDefect)
+    (is : list ≡ chip_defects (core_of tables.chip) (placed_instances (core_of tables.chip) tables.ranks)) where
+  -- what a bench of the tables is to do
+  bench_task : Task
+  bench_task = record {
+    chip = core_of tables.chip;
+    defects = chip_defects (core_of tables.chip) (placed_instances (core_of tables.chip) tables.ranks);
+    budget = 0;
+  }
+
+  listed : list ≡ (task_of chip 0).defects
+  unfolding bench_task
+  listed = is ∙ ap (λ (task : Task). task.defects)
+      (task_is chip tables 0 bench_task are (record { chip_is = refl; defects_are = refl; budget_is = refl }))
+
+  pub are_reported : IsWired chip → All (IsPlacedDefect (core_of tables.chip) (place_in tables.ranks)) list → (verdicts : List Verdict)
+      → length verdicts ≡ length (task_of chip 0).defects → All (IsVerdictWithin (length (outputs_of chip))) verdicts → AreReported chip list verdicts
+  are_reported wired placed verdicts one_each outputs = record {
+    defects_are = All-weaker (IsPlacedDefect (core_of tables.chip) (place_in tables.ranks)) (IsGateDefect chip) (λ defect one. record {
+      is_defect = subst (λ (c : Chip). IsDefectIn (core_of c) defect) are.chip_is one.defect_is;
+      is_gate = placed_is_library chip wired tables.ranks are.ranked defect.instance
+          (subst (λ (c : Chip). IsPlaced (core_of c) (place_in tables.ranks) defect.instance) are.chip_is
+          (record { known = one.defect_is.known; placed = one.placed }));
+    }) list placed;
+    one_each = one_each ∙ ap length (sym listed);
+    outputs = outputs;
+  }
+
+  pub is_report : (verdicts : List Verdict) (text : List ℕ) → text ≡ report_text (output_names chip) (report_rows chip list verdicts)
+      → text ≡ report_of chip verdicts
+  is_report verdicts text text_is = text_is ∙ ap (λ (l : List ChipDefect). report_text (output_names chip) (report_rows chip l verdicts)) listed

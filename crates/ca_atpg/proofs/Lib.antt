@@ -1,0 +1,2 @@
+pub mod AtpgLemmas
+pub mod BudgetLemmas

@@ -1,0 +1,19 @@
+use Rattle.std.proofs.Common.{subst}
+use Rattle.std.specs.Prelude.{IfOk, IfErr}
+use Rattle.ca_credit.specs.Defects.{Task}
+use Rattle.ca_credit.specs.Good.{IsGood}
+use Rattle.ca_generate.specs.GenerateFault.{IsCause}
+use Rattle.ca_atpg.proofs.AtpgLemmas.{bench_task_is}
+use Rattle.ca_atpg.proofs.generation.generated_for.Goals as goal
+
+pub returns-clause-good : goal.returns-clause-good
+returns-clause-good c =
+    subst (λ (task : Task). IfOk c.generate.result (λ made. IsGood task made.pairs made.aims made.verdicts))
+    (bench_task_is c.args.chip.now c.args.tables.now c.args.budget c.in_ok-bench.bench.task c.requires.tables c.in_ok-bench.ensures)
+    c.generate.ensures.good
+
+pub returns-clause-cause : goal.returns-clause-cause
+returns-clause-cause c =
+    subst (λ (task : Task). IfErr c.generate.result (IsCause task))
+    (bench_task_is c.args.chip.now c.args.tables.now c.args.budget c.in_ok-bench.bench.task c.requires.tables c.in_ok-bench.ensures)
+    c.generate.ensures.cause

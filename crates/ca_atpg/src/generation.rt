@@ -1,0 +1,153 @@
+//! Test generation on a linked chip.
+
+ghost use Rattle.std.specs.Prelude.{◌≡◌, length, IfOk, IfErr};
+ghost use Rattle.std.specs.List.{All};
+ghost use Rattle.ca_flat.specs.Pair.{bit_count};
+ghost use Rattle.ca_core_links.specs.CoreLinks.{AreLinksOf};
+ghost use Rattle.ca_scan.specs.ChainFault.{AreAllChains};
+ghost use Rattle.ca_credit.specs.Good.{IsGood};
+ghost use Rattle.ca_generate.specs.GenerateFault.{IsCause};
+ghost use Rattle.ca_core.specs.Core.{core_of};
+ghost use Rattle.ca_core_tables.specs.Tables.{AreTablesOf};
+ghost use Rattle.ca_core_bench.specs.ChipTask.{task_of};
+ghost use Rattle.ca_expected.specs.Expected.{AreExpected};
+ghost use Rattle.ca_atpg.specs.Atpg.{IsStil, report_of};
+
+use crate::texts::{report_of, stil_of};
+use ca_base::NoMemory;
+use ca_chip_rows::ChipRows;
+use ca_core_bench::core_bench;
+use ca_core_links::CoreLinks;
+use ca_core_tables::CoreTables;
+use ca_credit::{Simulator, Verdicts};
+use ca_expected::{Expected, expected};
+use ca_generate::{Aims, GenerateFault, Generated, generate};
+use ca_guide::LowestUnset;
+use ca_lex::Text;
+use ca_pair::Pairs;
+use ca_scan::Chains;
+use ca_wired::Chip;
+use std::alloc::Global;
+
+/// The listed pairs, for each the place of the defect for which it was found, a verdict for each defect, and
+/// the texts of the patterns and of the report.
+#[derive(Drop)]
+pub struct Tested {
+    pub pairs: Pairs,
+    pub aims: Aims,
+    pub verdicts: Verdicts,
+    pub stil: Text,
+    pub report: Text,
+}
+
+// The pairs, their aims and the verdicts, and what the good chip ends with under each pair.
+#[derive(Drop)]
+struct Made {
+    generated: Generated,
+    values: Expected,
+}
+
+// What is generated for a chip.
+#[tactic(auto, using(crate::proofs::AtpgLemmas::bench_task_is))]
+fn generated_for(
+    alloc: Global,
+    chip: &Chip,
+    tables: &CoreTables<'_>,
+    links: &CoreLinks<'_>,
+    rows: &ChipRows<'_>,
+    budget: u32,
+) -> Result<Generated, GenerateFault>
+    requires tables { AreTablesOf chip.now tables.now }
+    requires links { AreLinksOf tables.now.chip links.now }
+    requires rows { rows.now.chip ≡ tables.now.chip }
+
+    ensures good { IfOk result
+        (λ made. IsGood (task_of chip.now budget) made.pairs made.aims made.verdicts) }
+    ensures cause { IfErr result (IsCause (task_of chip.now budget)) }
+{
+    let mut bench = core_bench(alloc, tables, links, rows, LowestUnset, budget)?;
+    if bench.defect_count() > u32::MAX as usize {
+        return Err(GenerateFault::NoMemory);
+    }
+    generate(alloc, &mut bench)
+}
+
+// What the good chip ends with under each pair.
+#[tactic(auto, using(crate::proofs::AtpgLemmas::bench_task_is))]
+fn values_for(
+    alloc: Global,
+    chip: &Chip,
+    tables: &CoreTables<'_>,
+    links: &CoreLinks<'_>,
+    rows: &ChipRows<'_>,
+    pairs: &Pairs,
+) -> Result<Expected, NoMemory>
+    requires tables { AreTablesOf chip.now tables.now }
+    requires links { AreLinksOf tables.now.chip links.now }
+    requires rows { rows.now.chip ≡ tables.now.chip }
+    requires whole { All (λ pair. length pair ≡ bit_count (core_of chip.now)) pairs.now }
+
+    ensures { IfOk result (AreExpected (core_of chip.now) pairs.now) }
+{
+    let mut bench = core_bench(alloc, tables, links, rows, LowestUnset, 0)?;
+    expected(alloc, &mut bench, pairs.as_slice())
+}
+
+// Both.
+#[tactic(auto, using(crate::proofs::AtpgLemmas::task_pairs_fit))]
+fn made_for(
+    alloc: Global,
+    chip: &Chip,
+    tables: &CoreTables<'_>,
+    budget: u32,
+) -> Result<Made, GenerateFault>
+    requires tables { AreTablesOf chip.now tables.now }
+
+    ensures good { IfOk result (λ made. IsGood (task_of chip.now budget)
+        made.generated.pairs made.generated.aims made.generated.verdicts) }
+    ensures values { IfOk result
+        (λ made. AreExpected (core_of chip.now) made.generated.pairs made.values) }
+    ensures cause { IfErr result (IsCause (task_of chip.now budget)) }
+{
+    let links = CoreLinks::new(alloc, chip)?;
+    let rows = ChipRows::new(alloc, chip)?;
+    let generated = generated_for(alloc, chip, tables, &links, &rows, budget)?;
+    let values = values_for(alloc, chip, tables, &links, &rows, &generated.pairs)?;
+    Ok(Made { generated, values })
+}
+
+/// Searches for pairs that show the defects of a linked chip, with at most so many branches for each, and
+/// writes the texts. Want of memory is also told of a chip with 2^14 chip inputs, with 2^32 defects or whose
+/// flat network may have 2^32 nodes or devices.
+#[tactic(auto, using(crate::proofs::AtpgLemmas::task_pairs_fit, crate::proofs::AtpgLemmas::verdicts_within, crate::proofs::AtpgLemmas::one_verdict_each))]
+pub fn atpg(
+    alloc: Global,
+    chip: &Chip,
+    chains: &Chains,
+    budget: u32,
+) -> Result<Tested, GenerateFault>
+    requires chains { AreAllChains chip.now chains.now }
+
+    ensures good { IfOk result
+        (λ made. IsGood (task_of chip.now budget) made.pairs made.aims made.verdicts) }
+    ensures stil { IfOk result (λ made. IsStil chip.now chains.now made.pairs made.stil) }
+    ensures report { IfOk result (λ made. made.report ≡ report_of chip.now made.verdicts) }
+    ensures cause { IfErr result (IsCause (task_of chip.now budget)) }
+{
+    let tables = CoreTables::new(alloc, chip)?;
+    let Made { generated, values } = made_for(alloc, chip, &tables, budget)?;
+    let stil = stil_of(alloc, chip, chains, &generated.pairs, &values)?;
+    let report = report_of(alloc, chip, &tables, &generated.verdicts)?;
+    let Generated {
+        pairs,
+        aims,
+        verdicts,
+    } = generated;
+    Ok(Tested {
+        pairs,
+        aims,
+        verdicts,
+        stil,
+        report,
+    })
+}
