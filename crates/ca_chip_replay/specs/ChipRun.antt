@@ -1,5 +1,5 @@
--- One run of a linked chip between two vectors, good or with one of its defects: what it is of, and what it ends
--- with at the observed outputs.
+-- One run of a linked chip between two vectors, good or with one of its defects: what it is of, and what it
+-- ends with at the observed outputs.
 use Rattle.std.specs.Prelude.{ℕ, ◌+◌, ◌≡◌, ◌<◌, List, map, length, slice_index, Option}
 use Rattle.ca_net.specs.declared.trit.Trit.{Trit}
 use Rattle.ca_net.specs.declared.node.NodeId.{NodeId}
@@ -22,9 +22,9 @@ pub record RunOf : Type 0 where
   pub given : Option ChipDefect
   pub pair : List Trit
 
--- The values are those of the observed outputs in the state in which the run ends that the events name: between the
--- long phases, and before the chip inputs are set to the last vector in their order. It is a pair run of the flat
--- network, so that what every pair run ends with at an output is what this one ends with.
+-- The values are those of the observed outputs in the state in which this run ends: a long phase under the
+-- first vector, the events, the chip inputs set to the last vector in their order, and a long phase. It is a
+-- pair run of the flat network, so that what every pair run ends with at an output is what this one ends with.
 pub record AreReplayed (run : RunOf) (events : List Event) (values : List Trit) : Type 0 where
   pub end : List Trit
   pub is_replay : IsReplay (flat run.chip run.given) (input_nodes run.chip) (first_vector run.chip run.pair)

@@ -25,8 +25,8 @@ use ca_sim::{Bits, Linked};
 use std::alloc::Global;
 use std::marker::Model;
 
-/// A linked chip, good or with one of its defects, and a pair between whose vectors one run is replayed, event
-/// by event.
+/// A linked chip, good or with one of its defects, and a pair between whose vectors one run is replayed,
+/// event by event.
 #[derive(Drop)]
 pub struct ChipRun<'a, B: Bits> {
     tables: &'a CoreTables<'a>,
@@ -72,8 +72,8 @@ fn output_values(alloc: Global, tables: &CoreTables<'_>, end: &State) -> Result<
 }
 
 impl<'a, B: Bits> ChipRun<'a, B> {
-    /// The runs of a chip for the pair, good or with the defect. Want of memory is also told of a chip whose flat
-    /// network may have 2^32 nodes or devices.
+    /// The runs of a chip for the pair, good or with the defect. Want of memory is also told of a chip whose
+    /// flat network may have 2^32 nodes or devices.
     pub fn new(
         alloc: Global,
         tables: &'a CoreTables<'a>,
@@ -113,9 +113,9 @@ impl<'a, B: Bits> ChipRun<'a, B> {
         read_order_for(alloc, &self.net, &self.first, &self.last, bytes)
     }
 
-    /// What the observed outputs end with, in their order, in the run that the events name: a long phase under
-    /// the first vector from unknown storage nodes, the events, the chip inputs set to the last vector in their
-    /// order, and a long phase.
+    /// What the observed outputs end with, in their order, in the run that the events name: a long phase
+    /// under the first vector from unknown storage nodes, the events, the chip inputs set to the last vector
+    /// in their order, and a long phase.
     pub fn replay(&self, alloc: Global, events: &[Event]) -> Result<Vec<Trit>, NoMemory>
         requires { All (IsAllowed (flat self.now.chip self.now.given)
             (first_vector self.now.chip self.now.pair) (last_vector self.now.chip self.now.pair)) events.now }
