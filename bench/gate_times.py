@@ -1,7 +1,8 @@
 #!/usr/bin/env python3
-"""Runs `rt ci` at the top of this repository and prints the processor seconds of each crate: its proofs, those of its tests, and its
-must-fail edits. It looks at the processes of the prover once a second (Linux), so a short one may be missed by a second.
-What `rt ci` prints goes to the file that is named, or to gate.log in a folder for scratch files."""
+"""Runs `rt ci` at the top of this repository and prints the processor seconds of each crate: its proof, those of its tests, the proof
+that its must-fail edits begin with, the edits, and the dearest of them. It looks at the processes of the prover once a second (Linux),
+so a short one may be missed by a second. What `rt ci` prints goes to the file that is named, or to gate.log in a folder for scratch
+files."""
 import collections
 import os
 import subprocess
@@ -25,8 +26,10 @@ def prover_processes(top):
             with open(f"/proc/{process}/stat") as file:
                 fields = file.read().rsplit(")", 1)[1].split()
             crate = words[words.index("--crate-name") + 1]
-            has_edits = os.path.isdir(os.path.join(top, "crates", crate, "must-fail"))
-            kind = "tests" if "--test" in words else "edits" if words[1] == "check" and has_edits else "proofs"
+            kind = "tests" if "--test" in words else "proof"
+            if words[1] == "check":
+                over = words[words.index("--incremental") + 1] if "--incremental" in words else ""
+                kind = "again" if over.endswith("/seed") else "edits"
             yield (process, fields[19]), crate, kind, sum(map(int, fields[11:15])) / TICKS
         except (OSError, ValueError, IndexError):
             continue
@@ -44,12 +47,15 @@ def main():
                 seen[process] = (crate, kind, seconds)
             time.sleep(1)
     took = time.time() - began
-    sums = collections.defaultdict(float)
+    sums, most = collections.defaultdict(float), collections.defaultdict(float)
     for crate, kind, seconds in seen.values():
         sums[crate, kind] += seconds
-    print("crate, proofs, tests, edits (processor seconds)")
+        most[crate, kind] = max(most[crate, kind], seconds)
+    kinds = ("proof", "tests", "again", "edits")
+    print("crate, proof, tests, proof again, edits, dearest edit (processor seconds)")
     for crate in sorted({crate for crate, _ in sums}):
-        print(crate, *(round(sums[crate, kind]) for kind in ("proofs", "tests", "edits")), sep=", ")
+        print(crate, *(round(sums[crate, kind]) for kind in kinds), round(most[crate, "edits"]), sep=", ")
+    print("all", *(round(sum(sums[it] for it in sums if it[1] == kind)) for kind in kinds), sep=", ")
     print(f"all: {round(sum(sums.values()))} processor seconds, {took / 60:.0f} minutes on {os.cpu_count()} processors")
     with open(log) as output:
         print(output.read().strip().rsplit("\n", 1)[-1])

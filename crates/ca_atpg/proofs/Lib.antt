@@ -1,2 +1,1 @@
 pub mod AtpgLemmas
-pub mod BudgetLemmas

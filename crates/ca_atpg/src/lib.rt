@@ -1,10 +1,8 @@
 //! Test generation on a linked chip, with the texts that tell it: the patterns, the report and the summary.
 #![tactic(auto)]
 
-mod budget;
 mod generation;
 mod texts;
 
-pub use budget::{MOST_BUDGET, budget_of};
 pub use generation::{Tested, atpg};
 pub use texts::summary_text;

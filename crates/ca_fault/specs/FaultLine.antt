@@ -1,7 +1,7 @@
 -- The exit status and the line of a fault.
 use Rattle.std.specs.Prelude.{ℕ, List, ◌++◌, codes, decimal}
 use Rattle.ca_fault.specs.declared.fault.Fault.{Fault}
-use Rattle.ca_fault.specs.declared.fault.Fault.TheVariants.{BadWords, Cells, Netlist, Scan, Chip, Chain, NoCell, Cell, BadVector, NoInstance, NoDefect, TooLong, Limit, StoreFailed, SinkFailed, NoMemory}
+use Rattle.ca_fault.specs.declared.fault.Fault.TheVariants.{BadWords, Cells, Netlist, Scan, Chip, Chain, NoCell, Cell, BadVector, NoInstance, NoDefect, Order, TooLong, TooManyPairs, Limit, StoreFailed, SinkFailed, NoMemory}
 use Rattle.ca_fault.specs.KindText.{kind_text, netlist_text, rule_text, chip_text, limit_text}
 
 -- the exit status that stands for a fault
@@ -17,7 +17,9 @@ status_of (Cell name rule) = 2
 status_of (BadVector word) = 2
 status_of (NoInstance word) = 2
 status_of (NoDefect word) = 2
+status_of (Order line) = 2
 status_of (TooLong name taken) = 3
+status_of (TooManyPairs pairs aims) = 3
 status_of (Limit kind count) = 3
 status_of (StoreFailed name) = 4
 status_of SinkFailed = 4
@@ -28,6 +30,7 @@ abbrev pub number_of : Fault → ℕ
 number_of (Cells line kind) = line
 number_of (Netlist line kind) = line
 number_of (Scan row) = row
+number_of (Order line) = line
 number_of (Limit kind count) = count
 number_of _ = 0
 
@@ -44,7 +47,9 @@ text_of (Cell name rule) = codes "cell " ++ (name ++ (codes ": " ++ rule_text ru
 text_of (BadVector word) = codes "bad vector: " ++ word
 text_of (NoInstance word) = codes "no instance " ++ word
 text_of (NoDefect word) = codes "no defect " ++ word
+text_of (Order line) = codes "order: line " ++ decimal line
 text_of (TooLong name taken) = codes "file too long: " ++ name
+text_of (TooManyPairs pairs aims) = codes "too many pairs"
 text_of (Limit kind count) = codes "limit: " ++ (limit_text kind ++ (codes " " ++ decimal count))
 text_of (StoreFailed name) = codes "file fault: " ++ name
 text_of SinkFailed = codes "output fault"

@@ -6,10 +6,11 @@ ghost use Rattle.ca_store.specs.Store.{Rose, KeepsCount, appended, AppendsPart};
 use crate::kinds::{chip_text, kind_text, limit_text, netlist_text, rule_text};
 use crate::pieces::write_pieces;
 use crate::three::FaultText;
-use ca_base::NoMemory;
+use ca_base::{List, NoMemory};
 use ca_cell::CellRule;
 use ca_chip::ChipFault;
 use ca_lex::Text;
+use ca_pair::Pairs;
 use ca_spice::SpiceKind;
 use ca_store::{Failed, Sink};
 use ca_verilog::VerilogKind;
@@ -41,8 +42,14 @@ pub enum Fault {
     NoInstance { word: Text },
     /// The cell has no defect of this name.
     NoDefect { word: Text },
+    /// The order file has a line that is none, or that may not stand there, the first of those. Lines are
+    /// counted from 1.
+    Order { line: usize },
     /// A file has more bytes than it may have. So many were taken of it.
     TooLong { name: Text, taken: usize },
+    /// As many pairs are listed as there may be, and one more was found. It stands last. Each has, as its aim,
+    /// the place of the defect for which it was found.
+    TooManyPairs { pairs: Pairs, aims: List<u32> },
     /// There is more of something than there may be.
     Limit { kind: LimitKind, count: usize },
     /// A file wasn't there, or the system failed at it.
@@ -90,8 +97,9 @@ impl Fault {
             | Fault::Cell { .. }
             | Fault::BadVector { .. }
             | Fault::NoInstance { .. }
-            | Fault::NoDefect { .. } => 2,
-            Fault::TooLong { .. } | Fault::Limit { .. } => 3,
+            | Fault::NoDefect { .. }
+            | Fault::Order { .. } => 2,
+            Fault::TooLong { .. } | Fault::TooManyPairs { .. } | Fault::Limit { .. } => 3,
             Fault::StoreFailed { .. } | Fault::SinkFailed => 4,
             Fault::NoMemory => 5,
         }
@@ -126,6 +134,7 @@ impl Fault {
         match self {
             Fault::Cells { line, .. } | Fault::Netlist { line, .. } => *line,
             Fault::Scan { row } => *row,
+            Fault::Order { line } => *line,
             Fault::Limit { count, .. } => *count,
             _ => 0,
         }
@@ -166,7 +175,13 @@ impl Fault {
             Fault::BadVector { word } => FaultText::with_word(b"bad vector: ", word),
             Fault::NoInstance { word } => FaultText::with_word(b"no instance ", word),
             Fault::NoDefect { word } => FaultText::with_word(b"no defect ", word),
+            Fault::Order { .. } => FaultText {
+                start: b"order: line ",
+                word: number,
+                end: &[],
+            },
             Fault::TooLong { name, .. } => FaultText::with_word(b"file too long: ", name),
+            Fault::TooManyPairs { .. } => FaultText::plain(b"too many pairs"),
             Fault::Limit { kind, .. } => FaultText {
                 start: limit_text(*kind),
                 word: number,

@@ -1,86 +1,55 @@
 -- How the causes of a command follow from those of its stages.
-use Rattle.std.proofs.Common.{ℕ, ◌≡◌, ◌≢◌, ◌⊎◌, ◌∙◌, inl, inr, sym, ap, List, Option, Some, None, Bool, true, false, true≢false, subst}
+use Rattle.std.proofs.Common.{ℕ, ◌≡◌, ◌≢◌, ◌⊎◌, ◌∙◌, inl, inr, sym, ap, arith, List, Option, Some, None, Result, Ok, Err, Bool, true, false, subst}
 use Rattle.std.proofs.lemmas.Option.{same_Some}
-use Rattle.std.specs.Prelude.{IsNone, if◌then◌else◌}
+use Rattle.std.specs.Prelude.{Vec, if◌then◌else◌, IfOk}
+use Rattle.std.specs.declared.alloc.Global.{Global}
 use Rattle.std.specs.Str.{bytes_eq}
 use Rattle.ca_store.specs.Store.{Files}
-use Rattle.ca_lex.specs.Words.{upper_case}
-use Rattle.ca_cell.specs.declared.raw.RawCell.{RawCell}
-use Rattle.ca_cell.specs.declared.library.Entry.TheVariants.{Sound, Refused}
-use Rattle.ca_cell.specs.Library.{Named, entry_of}
-use Rattle.ca_cell.specs.Rules.{IsFirstBroken}
 use Rattle.ca_matrix.specs.Matrix.{Entries}
 use Rattle.ca_fault.specs.declared.fault.Fault.{Fault}
-use Rattle.ca_fault.specs.declared.fault.Fault.TheVariants.{BadWords, Cells, NoCell, Cell, BadVector, NoDefect, TooLong, Limit, StoreFailed, SinkFailed, NoMemory}
-use Rattle.ca_load.specs.Texts.{IsLibraryOf}
-use Rattle.ca_load.specs.Causes.{IsLibraryCause, IsScanCause}
-use Rattle.ca_flow.specs.Words.{cells_word, cell_word, vector_word, first_word, last_word, defect_word, scan_word, dash, file_called}
-use Rattle.ca_flow.specs.Words.{chip_files, instance_word, chip_defect_word, flat_out_word, chip_first_word, chip_last_word}
-use Rattle.ca_flow.specs.Words.{IsMatrix, IsFlatten, HasOut}
-use Rattle.ca_flow.specs.Cells.{OfFile, OfCell}
+use Rattle.ca_fault.specs.declared.fault.Fault.TheVariants.{StoreFailed, SinkFailed, NoMemory}
+use Rattle.ca_load.specs.Causes.{IsScanCause}
+use Rattle.ca_words.specs.Words.{cells_word, cell_word, vector_word, first_word, last_word, defect_word, scan_word, dash, file_called}
+use Rattle.ca_words.specs.Words.{chip_files, instance_word, chip_defect_word, flat_out_word, chip_first_word, chip_last_word}
+use Rattle.ca_words.specs.Words.{netlist_word, stil_word, report_word, order_word}
+use Rattle.ca_words.specs.Words.{IsOtherFile, IsMatrix, IsFlatten, IsAtpg, HasOut}
+use Rattle.ca_on_cell.specs.Cells.{OfCell}
+use Rattle.ca_load.specs.Files.{OfFile}
 use Rattle.ca_wired.specs.Linked.{Chip}
 use Rattle.ca_scan.specs.ChainFault.{AreAllChains}
 use Rattle.ca_load.specs.declared.loading.FileNames.{FileNames}
 use Rattle.ca_load.specs.Texts.{InputFiles, names_of}
 use Rattle.ca_load.specs.Causes.{IsLoadCause}
-use Rattle.ca_flow.specs.declared.finished.Done.TheVariants.{Defects, Matrix, Check, Flatten, Simulate}
+use Rattle.ca_flow.specs.declared.finished.Done.TheVariants.{Defects, Matrix, Check, Flatten, Simulate, Atpg, Replay, Make}
 use Rattle.ca_simulate.specs.declared.simulation.OutputEnds.{OutputEnds}
 use Rattle.ca_net.specs.Circuit.{Circuit}
-use Rattle.ca_flow.specs.declared.words.CellWords.{CellWords}
-use Rattle.ca_flow.specs.declared.words.MatrixWords.{MatrixWords}
-use Rattle.ca_flow.specs.declared.words.FlattenWords.{FlattenWords}
-use Rattle.ca_flow.specs.declared.words.SimulateWords.{SimulateWords}
-use Rattle.ca_flow.specs.declared.words.Command.{Command}
-use Rattle.ca_flow.specs.declared.words.Command.TheVariants as command
-use Rattle.ca_flow.specs.Command.{IsSpelledDefects, IsSpelledMatrix, IsSpelledCheck, IsSpelledFlatten, IsSpelledSimulate, IsSpelled, IsWhole}
-use Rattle.ca_flow.specs.OnChip.{IsChipOfFiles, IsFlatOf, AreEndsOf, IsFlatCause, IsEndsCause}
-use Rattle.ca_flow.specs.Outputs.{asked_network}
-use Rattle.ca_flow.specs.Ends.{AreDefectNames, IsSoundMatrix, IsAsked}
-use Rattle.ca_flow.specs.Fault.{IsCellCause, IsFirstUnfit, IsPairCause, IsVectorCause, IsValueCause, IsOwnCause, IsWorkCause}
-use Rattle.ca_flow.specs.Stages.{IsEntryCause, IsEvaluationCause}
-use Rattle.ca_flow.proofs.FileLemmas.{of_entry, of_none}
-use Rattle.ca_flow.proofs.WordLemmas.{no_chip}
-
--- a vector that doesn't fit is the first or the last
-typed_of : (raw : RawCell) (first last typed : List ℕ) → IsFirstUnfit raw first last typed → (typed ≡ first) ⊎ (typed ≡ last)
-typed_of raw first last typed (inl unfit) = inl unfit.0
-typed_of raw first last typed (inr unfit) = inr unfit.0
-
--- a dash asks for the cell itself
-no_dash : (raw : RawCell) (defect : List ℕ) → IsNone (asked_network raw defect) → defect ≢ dash
-no_dash raw defect none = λ same. true≢false (subst (λ word. IsNone (asked_network raw word)) same none)
-
--- want of memory may come anywhere
-pub no_memory_at_library : (name : List ℕ) (files : Option Files) (before after : ℕ) (fault : Fault) → fault ≡ NoMemory
-    → IsLibraryCause name files before after fault
-no_memory_at_library name files before after fault is = rw is (inl tt)
-
-module _ (name word : List ℕ) (files : Option Files) (library : List Named)
-    (read : OfFile files name (IsLibraryOf library)) (before after : ℕ) where
-  -- a word that finds no cell in the library that was read finds none in the file
-  pub of_entry_cause : (fault : Fault) → IsEntryCause word library fault → IsCellCause name word files before after fault
-  of_entry_cause (NoCell typed) (same, missing) = inr (same, of_none files name word library read missing)
-  of_entry_cause (Cell cell rule) (same, refuses) =
-      inr (same, of_entry files name word library read (Refused refuses.raw rule) (λ raw. IsFirstBroken raw rule) refuses.found refuses.broken)
-  of_entry_cause fault cause = absurd cause
-
-  -- a cell of the library without values is one of the file
-  module _ (first last defect : List ℕ) (raw : RawCell) (found : entry_of library (upper_case word) ≡ Some (Sound raw)) where
-    at_pair : (fault : Fault) → IsPairCause first last defect fault raw → IsVectorCause name word first last defect files fault
-    at_pair (BadVector typed) cause = (
-      typed_of raw first last typed cause.1,
-      of_entry files name word library read (Sound raw) (IsPairCause first last defect (BadVector typed)) found cause,
-    )
-    at_pair (NoDefect typed) cause = (
-      cause.0,
-      (no_dash raw defect cause.1.1.1.1, of_entry files name word library read (Sound raw) (IsPairCause first last defect (NoDefect typed)) found cause),
-    )
-    at_pair fault cause = absurd cause
-
-    pub of_evaluation : (fault : Fault) → IsEvaluationCause first last defect raw fault
-        → IsValueCause name word first last defect files before after fault
-    of_evaluation fault (inl none) = rw none (inl (inl (inl tt)))
-    of_evaluation fault (inr cause) = inr (at_pair fault cause)
+use Rattle.ca_words.specs.declared.words.CellWords.{CellWords}
+use Rattle.ca_words.specs.declared.words.MatrixWords.{MatrixWords}
+use Rattle.ca_words.specs.declared.words.FlattenWords.{FlattenWords}
+use Rattle.ca_words.specs.declared.words.SimulateWords.{SimulateWords}
+use Rattle.ca_words.specs.declared.words.AtpgWords.{AtpgWords}
+use Rattle.ca_words.specs.declared.words.ReplayWords.{ReplayWords}
+use Rattle.ca_net.specs.declared.trit.Trit.{Trit}
+use Rattle.ca_on_chip.specs.declared.replays.TheConstants.{MAX_ORDER}
+use Rattle.ca_on_chip.specs.Replay.{AreRunEndsOf, IsRunCause}
+use Rattle.ca_flow.specs.declared.work.OutFile.{OutFile}
+use Rattle.ca_credit.specs.declared.verdict.Verdict.{Verdict}
+use Rattle.ca_credit.specs.Good.{IsGood}
+use Rattle.ca_core_bench.specs.ChipTask.{task_of}
+use Rattle.ca_atpg.specs.Atpg.{IsStil, report_of}
+use Rattle.ca_flow.specs.Work.{IsOutFile, HasFiles}
+use Rattle.ca_words.specs.declared.words.Command.{Command}
+use Rattle.ca_words.specs.declared.words.Command.TheVariants as command
+use Rattle.ca_words.specs.Command.{IsSpelledDefects, IsSpelledMatrix, IsSpelledCheck, IsSpelledFlatten, IsSpelledSimulate, IsSpelledAtpg, IsSpelledReplay}
+use Rattle.ca_words.specs.Command.{IsSpelledMake, IsSpelled, IsWhole}
+use Rattle.ca_on_chip.specs.declared.making.TheConstants.{MAKE_BUDGET}
+use Rattle.ca_on_chip.specs.Making.{IsMadeChip, IsMakeStage}
+use Rattle.ca_on_chip.specs.OnChip.{IsChipOfFiles, IsFlatOf, AreEndsOf, IsFlatCause, IsEndsCause, IsTestsCause, IsPairsFault}
+use Rattle.ca_on_cell.specs.Defects.{AreDefectNames, IsSoundMatrix}
+use Rattle.ca_flow.specs.Ends.{IsAsked}
+use Rattle.ca_on_cell.specs.Causes.{IsCellCause, IsValueCause}
+use Rattle.ca_flow.specs.Fault.{IsOwnCause, IsWorkCause}
+use Rattle.ca_words.proofs.WordLemmas.{no_chip}
 
 -- a file that could not be read is the cell netlist
 at_cell_stage : (name word typed : List ℕ) (files : Option Files) (before after : ℕ) → IsCellCause name word files before after (StoreFailed typed)
@@ -134,31 +103,67 @@ module _ (words : List (List ℕ)) (typed : List ℕ) (files : Option Files) (be
       at_cell_stage (cells_word words) (cell_word words) typed files before after cause
   matrix_reads matrix (inr (inr (inr (inl (is, cause))))) =
       at_cell_stage (cells_word words) (cell_word words) typed files before after cause
-  matrix_reads matrix (inr (inr (inr (inr (is, cause))))) =
+  matrix_reads matrix (inr (inr (inr (inr (inl (is, cause)))))) =
       absurd (no_chip words (inr (inr (inr matrix))) is)
+  matrix_reads matrix (inr (inr (inr (inr (inr (make, cause)))))) =
+      let two = make.two in let four = matrix.four in absurd (omega (arith, two, four))
 
   -- nor the one that `flatten` writes
   flatten_reads : IsFlatten words → typed ≡ flat_out_word words
       → IsWorkCause words files before after (StoreFailed typed) → ⊥
+  flatten_reads flatten named (inr (inr (inr (inr (inr (make, cause)))))) =
+      let two = make.two in let seven = flatten.seven in omega (arith, two, seven)
   flatten_reads flatten named (inl (is, cause)) = no_chip words (inl is) (inr (inl flatten))
   flatten_reads flatten named (inr (inl (is, cause))) = no_chip words (inr (inl is)) (inr (inl flatten))
   flatten_reads flatten named (inr (inr (inl (is, cause)))) = no_chip words (inr (inr (inl is))) (inr (inl flatten))
   flatten_reads flatten named (inr (inr (inr (inl (is, cause))))) =
       no_chip words (inr (inr (inr is))) (inr (inl flatten))
-  flatten_reads flatten named (inr (inr (inr (inr (is, inl load))))) =
+  flatten_reads flatten named (inr (inr (inr (inr (inl (is, inl load)))))) =
       elim (at_load_stage (chip_files words) typed files before after load) [
         | inl same ↦ flatten.out.not_cells (sym named ∙ same)
         | inr (inl same) ↦ flatten.out.not_netlist (sym named ∙ same)
         | inr (inr same) ↦ flatten.out.not_scan (sym named ∙ sym (called_is (scan_word words) typed same))
       ]
-  flatten_reads flatten named (inr (inr (inr (inr (is, inr (inl (own, (word, held)))))))) = word
-  flatten_reads flatten named (inr (inr (inr (inr (is, inr (inr (own, (inl word, held)))))))) = word
-  flatten_reads flatten named (inr (inr (inr (inr (is, inr (inr (own, (inr word, held)))))))) = word
+  flatten_reads flatten named (inr (inr (inr (inr (inl (is, inr (inl (own, (word, held))))))))) = word
+  flatten_reads flatten named (inr (inr (inr (inr (inl (is, inr (inr (inl (own, (inl word, held)))))))))) = word
+  flatten_reads flatten named (inr (inr (inr (inr (inl (is, inr (inr (inl (own, (inr word, held)))))))))) = word
+  flatten_reads flatten named (inr (inr (inr (inr (inl (is, inr (inr (inr (inl (own, cause)))))))))) = cause.many.0
+  flatten_reads flatten named (inr (inr (inr (inr (inl (is, inr (inr (inr (inr (own, cause)))))))))) =
+      let nine = own.nine in let seven = flatten.seven in omega (arith, nine, seven)
+
+  -- nor one of those that `atpg` writes
+  atpg_reads : IsAtpg words → IsOtherFile typed (cells_word words) (netlist_word words) (scan_word words)
+      → IsWorkCause words files before after (StoreFailed typed) → ⊥
+  atpg_reads atpg other (inr (inr (inr (inr (inr (make, cause)))))) =
+      let two = make.two in let seven = atpg.seven in omega (arith, two, seven)
+  atpg_reads atpg other (inl (is, cause)) = no_chip words (inl is) (inr (inr (inr (inl atpg))))
+  atpg_reads atpg other (inr (inl (is, cause))) = no_chip words (inr (inl is)) (inr (inr (inr (inl atpg))))
+  atpg_reads atpg other (inr (inr (inl (is, cause)))) = no_chip words (inr (inr (inl is))) (inr (inr (inr (inl atpg))))
+  atpg_reads atpg other (inr (inr (inr (inl (is, cause))))) =
+      no_chip words (inr (inr (inr is))) (inr (inr (inr (inl atpg))))
+  atpg_reads atpg other (inr (inr (inr (inr (inl (is, inl load)))))) =
+      elim (at_load_stage (chip_files words) typed files before after load) [
+        | inl same ↦ other.not_cells same
+        | inr (inl same) ↦ other.not_netlist same
+        | inr (inr same) ↦ other.not_scan (sym (called_is (scan_word words) typed same))
+      ]
+  atpg_reads atpg other (inr (inr (inr (inr (inl (is, inr (inl (own, (word, held))))))))) = word
+  atpg_reads atpg other (inr (inr (inr (inr (inl (is, inr (inr (inl (own, (inl word, held)))))))))) = word
+  atpg_reads atpg other (inr (inr (inr (inr (inl (is, inr (inr (inl (own, (inr word, held)))))))))) = word
+  atpg_reads atpg other (inr (inr (inr (inr (inl (is, inr (inr (inr (inl (own, cause)))))))))) = cause.many.0
+  atpg_reads atpg other (inr (inr (inr (inr (inl (is, inr (inr (inr (inr (own, cause)))))))))) =
+      let nine = own.nine in let seven = atpg.seven in omega (arith, nine, seven)
+
+  named_other : (name : List ℕ) → typed ≡ name → IsOtherFile name (cells_word words) (netlist_word words) (scan_word words)
+      → IsOtherFile typed (cells_word words) (netlist_word words) (scan_word words)
+  named_other name same is = subst (λ (word : List ℕ). IsOtherFile word (cells_word words) (netlist_word words) (scan_word words)) (sym same) is
 
   -- a file that could not be read is none that a command writes
   pub out_is_unread : HasOut words typed → IsWorkCause words files before after (StoreFailed typed) → ⊥
   out_is_unread (inl (matrix, named)) cause = matrix.others (sym named ∙ matrix_reads matrix cause)
-  out_is_unread (inr (flatten, named)) cause = flatten_reads flatten named cause
+  out_is_unread (inr (inl (flatten, named))) cause = flatten_reads flatten named cause
+  out_is_unread (inr (inr (atpg, inl named))) cause = atpg_reads atpg (named_other (stil_word words) named atpg.stil) cause
+  out_is_unread (inr (inr (atpg, inr named))) cause = atpg_reads atpg (named_other (report_word words) named atpg.report) cause
 
 -- the names that the words of `defects` ask for
 pub defects_asked : (words : List (List ℕ)) (request : CellWords) (files : Option Files) (names : List (List ℕ)) → IsSpelledDefects words request
@@ -181,10 +186,10 @@ check_asked words names files chip chains spelled all held =
 pub check_cause : (words : List (List ℕ)) (names : FileNames) (files : Option Files) (before after : ℕ) (fault : Fault)
     → IsSpelledCheck words names → IsLoadCause (names_of names) files before after fault
     → IsWorkCause words files before after fault
-check_cause words names files before after fault spelled cause = inr (inr (inr (inr (
+check_cause words names files before after fault spelled cause = inr (inr (inr (inr (inl (
   inl spelled.is,
   inl (subst (λ asked. IsLoadCause asked files before after fault) spelled.files cause),
-))))
+)))))
 
 -- the network that the words of `flatten` ask for
 pub flatten_asked : (words : List (List ℕ)) (request : FlattenWords) (files : Option Files) (chip : Chip) (net : Circuit)
@@ -203,17 +208,17 @@ pub flatten_cause : (words : List (List ℕ)) (request : FlattenWords) (files : 
     (fault : Fault) → IsSpelledFlatten words request
     → IsFlatCause (names_of request.of.files) request.of.instance.now request.of.defect.now files before after fault
     → IsWorkCause words files before after fault
-flatten_cause words request files before after fault spelled cause = inr (inr (inr (inr (
+flatten_cause words request files before after fault spelled cause = inr (inr (inr (inr (inl (
   inr (inl spelled.is),
   by (rw (spelled.of.instance, spelled.of.defect) at at_files),
-))))
+)))))
   where
     at_files : IsFlatCause (chip_files words) request.of.instance.now request.of.defect.now files before after fault
     at_files = subst (λ asked. IsFlatCause asked request.of.instance.now request.of.defect.now files before after fault)
         spelled.of.files cause
 
     by : IsFlatCause (chip_files words) (instance_word words) (chip_defect_word words) files before after fault
-        → IsLoadCause (chip_files words) files before after fault ⊎ IsOwnCause words files fault
+        → IsLoadCause (chip_files words) files before after fault ⊎ IsOwnCause words files before after fault
     by (inl load) = inl load
     by (inr own) = inr (inl (spelled.is, own))
 
@@ -235,10 +240,10 @@ pub simulate_cause : (words : List (List ℕ)) (request : SimulateWords) (files 
     (fault : Fault) → IsSpelledSimulate words request
     → IsEndsCause (names_of request.of.files) request.of.instance.now request.of.defect.now
     request.first.now request.last.now files before after fault → IsWorkCause words files before after fault
-simulate_cause words request files before after fault spelled cause = inr (inr (inr (inr (
-  inr (inr spelled.is),
+simulate_cause words request files before after fault spelled cause = inr (inr (inr (inr (inl (
+  inr (inr (inl spelled.is)),
   by (rw (spelled.of.instance, spelled.of.defect, spelled.first, spelled.last) at at_files),
-))))
+)))))
   where
     at_files : IsEndsCause (chip_files words) request.of.instance.now request.of.defect.now request.first.now
         request.last.now files before after fault
@@ -248,9 +253,9 @@ simulate_cause words request files before after fault spelled cause = inr (inr (
 
     by : IsEndsCause (chip_files words) (instance_word words) (chip_defect_word words) (chip_first_word words)
         (chip_last_word words) files before after fault
-        → IsLoadCause (chip_files words) files before after fault ⊎ IsOwnCause words files fault
+        → IsLoadCause (chip_files words) files before after fault ⊎ IsOwnCause words files before after fault
     by (inl load) = inl load
-    by (inr own) = inr (inr (spelled.is, own))
+    by (inr own) = inr (inr (inl (spelled.is, own)))
 
 -- no file of a command on a chip is refused because of the output
 no_scan_sink : (scan : Option (List ℕ)) (files : Option Files) (before after : ℕ)
@@ -268,6 +273,11 @@ no_load_sink names files before after (inl (inr (inl (has, inr text)))) = text
 no_load_sink names files before after (inl (inr (inr (has, (too, cause))))) =
     no_scan_sink names.scan files before after cause
 no_load_sink names files before after (inr (is, held)) = is
+
+pub no_check_sink : (names : InputFiles) (files : Option Files) (before after : ℕ) (fault : Fault)
+    → IsLoadCause names files before after fault → fault ≢ SinkFailed
+no_check_sink names files before after fault cause same =
+    no_load_sink names files before after (subst (IsLoadCause names files before after) same cause)
 
 -- nor are the own words of `flatten`
 pub no_flat_sink : (names : InputFiles) (instance defect : List ℕ) (files : Option Files) (before after : ℕ)
@@ -291,6 +301,135 @@ no_ends_sink names instance defect first last files before after fault cause sam
     by (inr (inl word, held)) = word
     by (inr (inr word, held)) = word
 
+-- nor is the work of `atpg`
+pub no_tests_sink : (names : InputFiles) (budget : ℕ) (files : Option Files) (before after : ℕ) (fault : Fault)
+    → IsTestsCause names budget files before after fault → fault ≢ SinkFailed
+no_tests_sink names budget files before after fault cause same =
+    by (subst (IsTestsCause names budget files before after) same cause)
+  where
+    by : IsTestsCause names budget files before after SinkFailed → ⊥
+    by (inl load) = no_load_sink names files before after load
+    by (inr (is, held)) = is
+
+-- the tests that the words of `atpg` ask for
+pub atpg_asked : (words : List (List ℕ)) (request : AtpgWords) (files : Option Files) (chip : Chip) (chains : List (List ℕ))
+    (pairs : List (List Bool)) (aims : List ℕ) (verdicts : List Verdict) → IsSpelledAtpg words request → AreAllChains chip chains
+    → IsChipOfFiles files (names_of request.files) chip → IsGood (task_of chip request.budget) pairs aims verdicts
+    → IsAsked words files (Atpg chip chains pairs aims verdicts)
+atpg_asked words request files chip chains pairs aims verdicts spelled all held good = (
+  spelled.is,
+  (
+    all,
+    (
+      subst (λ asked. IsChipOfFiles files asked chip) spelled.files held,
+      record { budget = request.budget; said = spelled.budget; good = good },
+    ),
+  ),
+)
+
+-- the files that they name
+pub atpg_files : (words : List (List ℕ)) (request : AtpgWords) (chip : Chip) (chains : List (List ℕ))
+    (pairs : List (List Bool)) (aims : List ℕ) (verdicts : List Verdict) (stil : List ℕ) (first second : OutFile) → IsSpelledAtpg words request
+    → IsStil chip chains pairs stil → IsOutFile request.stil.now stil first → IsOutFile request.report.now (report_of chip verdicts) second
+    → HasFiles words (Atpg chip chains pairs aims verdicts) (Some first) (Some second)
+atpg_files words request chip chains pairs aims verdicts stil first second spelled is first_is second_is = record {
+  first_is = record {
+    name_is = first_is.name_is ∙ spelled.stil;
+    typed_is = first_is.typed_is ∙ spelled.stil;
+    holds = subst (IsStil chip chains pairs) (sym first_is.bytes_are) is;
+  };
+  second_is = record {
+    name_is = second_is.name_is ∙ spelled.report;
+    typed_is = second_is.typed_is ∙ spelled.report;
+    bytes_are = second_is.bytes_are;
+  };
+}
+
+-- why they ask for none
+pub atpg_cause : (words : List (List ℕ)) (request : AtpgWords) (files : Option Files) (before after : ℕ) (fault : Fault)
+    → IsSpelledAtpg words request → IsTestsCause (names_of request.files) request.budget files before after fault
+    → IsWorkCause words files before after fault
+atpg_cause words request files before after fault spelled cause = inr (inr (inr (inr (inl (
+  inr (inr (inr (inl spelled.is))),
+  by (subst (λ asked. IsTestsCause asked request.budget files before after fault) spelled.files cause),
+)))))
+  where
+    by : IsTestsCause (chip_files words) request.budget files before after fault
+        → IsLoadCause (chip_files words) files before after fault ⊎ IsOwnCause words files before after fault
+    by (inl load) = inl load
+    by (inr many) = inr (inr (inr (inl (spelled.is, record { budget = request.budget; said = spelled.budget; many = many }))))
+
+-- nor are the own words of `replay`
+pub no_run_sink : (names : InputFiles) (instance defect first last order : List ℕ) (files : Option Files)
+    (before after : ℕ) (fault : Fault) → IsRunCause names instance defect first last order files before after fault
+    → fault ≢ SinkFailed
+no_run_sink names instance defect first last order files before after fault cause same =
+    by (subst (IsRunCause names instance defect first last order files before after) same cause)
+  where
+    by : IsRunCause names instance defect first last order files before after SinkFailed → ⊥
+    by (inl load) = no_load_sink names files before after load
+    by (inr (inl (inl word, held))) = word
+    by (inr (inl (inr word, held))) = word
+    by (inr (inr (held, read))) = read
+
+-- the values that the words of `replay` ask for
+pub replay_asked : (words : List (List ℕ)) (request : ReplayWords) (files : Option Files) (chip : Chip) (ends : Vec Trit Global)
+    → IsSpelledReplay words request → IsChipOfFiles files (names_of request.of.of.files) chip
+    → OfFile files request.order.now MAX_ORDER (AreRunEndsOf request.of.of.instance.now request.of.of.defect.now
+    request.of.first.now request.of.last.now chip ends.items) → IsAsked words files (Replay chip ends)
+replay_asked words request files chip ends spelled held are = (
+  spelled.is,
+  (
+    subst (λ asked. IsChipOfFiles files asked chip) spelled.of.files held,
+    rw (sym spelled.of.instance, sym spelled.of.defect, sym spelled.first, sym spelled.last, sym spelled.order) are,
+  ),
+)
+
+-- why they ask for none
+pub replay_cause : (words : List (List ℕ)) (request : ReplayWords) (files : Option Files) (before after : ℕ)
+    (fault : Fault) → IsSpelledReplay words request
+    → IsRunCause (names_of request.of.of.files) request.of.of.instance.now request.of.of.defect.now
+    request.of.first.now request.of.last.now request.order.now files before after fault → IsWorkCause words files before after fault
+replay_cause words request files before after fault spelled cause = inr (inr (inr (inr (inl (
+  inr (inr (inr (inr spelled.is))),
+  by (rw (spelled.of.instance, spelled.of.defect, spelled.first, spelled.last, spelled.order) at at_files),
+)))))
+  where
+    at_files : IsRunCause (chip_files words) request.of.of.instance.now request.of.of.defect.now request.of.first.now
+        request.of.last.now request.order.now files before after fault
+    at_files =
+        subst (λ asked. IsRunCause asked request.of.of.instance.now request.of.of.defect.now request.of.first.now
+        request.of.last.now request.order.now files before after fault) spelled.of.files cause
+
+    by : IsRunCause (chip_files words) (instance_word words) (chip_defect_word words) (chip_first_word words)
+        (chip_last_word words) (order_word words) files before after fault
+        → IsLoadCause (chip_files words) files before after fault ⊎ IsOwnCause words files before after fault
+    by (inl load) = inl load
+    by (inr own) = inr (inr (inr (inr (spelled.is, own))))
+
+-- the tests of the generated chip that the words of `make` ask for
+pub make_asked : (words : List (List ℕ)) (number : ℕ) (files : Option Files) (chip : Chip) (pairs : List (List Bool))
+    (aims : List ℕ) (verdicts : List Verdict) → IsSpelledMake words number → IsMadeChip number chip
+    → IsGood (task_of chip MAKE_BUDGET) pairs aims verdicts → IsAsked words files (Make chip pairs aims verdicts)
+make_asked words number files chip pairs aims verdicts spelled is good =
+    (spelled.is, record { number = number; said = spelled.number_is; is = is; good = good })
+
+-- why they ask for none
+pub make_cause : (words : List (List ℕ)) (number : ℕ) (files : Option Files) (before after : ℕ) (fault : Fault)
+    → IsSpelledMake words number → IsMakeStage number fault → IsWorkCause words files before after fault
+make_cause words number files before after fault spelled stage =
+    inr (inr (inr (inr (inr (spelled.is, record { number = number; said = spelled.number_is; stage = stage })))))
+
+-- the output is never to blame
+pub no_make_sink : (number : ℕ) (fault : Fault) → IsMakeStage number fault → fault ≢ SinkFailed
+no_make_sink number fault (inl memory) same = let both : NoMemory ≡ SinkFailed = sym memory ∙ same in cc
+no_make_sink number fault (inr many) same = subst IsPairsFault same many.pairs
+
+-- what follows from what an answer is
+pub ok_then : {T E : Type 0} (answer : Result T E) (P Q : T → Type 0) → ((it : T) → P it → Q it) → IfOk answer P → IfOk answer Q
+ok_then (Ok it) P Q next held = next it held
+ok_then (Err fault) P Q next held = tt
+
 -- the instance and the defect of a command that words spell are both a dash, or neither is
 pub is_whole : (words : List (List ℕ)) (command : Command) → IsSpelled words command → IsWhole command
 is_whole words (command.Respond request) spelled = tt
@@ -300,5 +439,8 @@ is_whole words (command.Matrix request) spelled = tt
 is_whole words (command.Check names) spelled = tt
 is_whole words (command.Flatten request) spelled = rw (spelled.of.instance, spelled.of.defect) spelled.is.defect
 is_whole words (command.Simulate request) spelled = rw (spelled.of.instance, spelled.of.defect) spelled.is.defect
+is_whole words (command.Atpg request) spelled = tt
+is_whole words (command.Replay request) spelled = rw (spelled.of.instance, spelled.of.defect) spelled.is.defect
+is_whole words (command.Make number) spelled = let said = spelled.number_is in said.few
 is_whole words command.Help spelled = tt
 is_whole words command.Version spelled = tt

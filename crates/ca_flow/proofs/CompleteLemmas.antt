@@ -11,26 +11,34 @@ use Rattle.ca_spice.specs.declared.fault.SpiceFault.TheVariants as spice
 use Rattle.ca_spice.specs.Reading.{library_of}
 use Rattle.ca_spice.specs.Called.{cell_called}
 use Rattle.ca_load.specs.declared.cells.TheConstants.{MAX_CELLS}
+use Rattle.ca_load.specs.Files as reading
 use Rattle.ca_load.specs.Files.{IsReadCause}
 use Rattle.ca_load.specs.Causes.{IsTextCause, IsCellsCause}
 use Rattle.ca_load.proofs.SameLemmas.{one_reading}
-use Rattle.ca_load.proofs.WholeLemmas.{IsOutsideFault, at_load}
+use Rattle.ca_load.proofs.WholeLemmas.{IsOutsideFault, at_read as is_read, at_load}
 use Rattle.ca_wired.specs.Linked.{Chip}
 use Rattle.ca_asked.specs.Asked.{FitsInputs, IsDefectCause, IsVectorsCause}
 use Rattle.ca_fault.specs.declared.fault.LimitKind.TheVariants as limit
 use Rattle.ca_fault.specs.declared.fault.Fault.{Fault}
 use Rattle.ca_fault.specs.declared.fault.Fault.TheVariants.{BadWords, Cells, NoCell, Cell, BadVector, NoInstance, NoDefect, TooLong, Limit, StoreFailed, SinkFailed, NoMemory}
+use Rattle.ca_fault.specs.declared.fault.Fault.TheVariants.{Order}
 use Rattle.ca_flow.specs.declared.finished.Finished.{Finished}
 use Rattle.ca_flow.specs.Finished.{IsAnswer, status_told}
-use Rattle.ca_flow.specs.Words.{cells_word, cell_word, vector_word, first_word, last_word, defect_word, dash}
-use Rattle.ca_flow.specs.Words.{chip_files, instance_word, chip_defect_word, chip_first_word, chip_last_word}
-use Rattle.ca_flow.specs.Words.{AsksNoFile, IsCommand}
-use Rattle.ca_flow.specs.Outputs.{Fits, asked_network}
-use Rattle.ca_flow.specs.Cells.{OfFile, HasCell, LacksCell}
-use Rattle.ca_flow.specs.OnChip.{GiveChipWith, OfChip, IsSimulationCause}
-use Rattle.ca_flow.specs.Complete.{FitsCell, FitsFile, FitsDefect, FitsSimulate, FitsChip, IsAnswerable, Completes}
-use Rattle.ca_flow.proofs.WordLemmas.{no_chip, one_word, no_asking_chip}
-use Rattle.ca_flow.specs.Fault.{Outside, IsNameCause, IsFirstUnfit, IsPairCause, IsVectorCause, IsCellCause, IsValueCause, IsWordsCause, IsWriteCause, IsPrintCause, IsOwnCause, IsWorkCause, IsCause}
+use Rattle.ca_words.specs.Words.{cells_word, cell_word, vector_word, first_word, last_word, defect_word, dash}
+use Rattle.ca_words.specs.Words.{chip_files, instance_word, chip_defect_word, chip_first_word, chip_last_word}
+use Rattle.ca_words.specs.Words.{order_word, IsReplay, AsksNoFile, GeneratesTests, IsCommand}
+use Rattle.ca_on_cell.specs.Outputs.{Fits, asked_network}
+use Rattle.ca_on_cell.specs.Cells.{OfFile, HasCell, LacksCell}
+use Rattle.ca_on_chip.specs.OnChip.{GiveChipWith, OfChip, IsSimulationCause, IsPairsFault}
+use Rattle.ca_on_chip.specs.declared.replays.TheConstants.{MAX_ORDER}
+use Rattle.ca_on_chip.specs.Replay.{HasFaultyLine, HasRun, IsOrderCause}
+use Rattle.ca_on_chip.specs.Making.{IsMakeStage}
+use Rattle.ca_simulate.proofs.RunLemmas.{read_or_faulty}
+use Rattle.ca_flow.specs.Complete.{FitsCell, FitsFile, FitsDefect, FitsSimulate, HasEvents, FitsReplay, FitsChip}
+use Rattle.ca_flow.specs.Complete.{IsAnswerable, HasTooManyPairs, Completes}
+use Rattle.ca_words.proofs.WordLemmas.{no_chip, no_asking_cell, no_asking_chip}
+use Rattle.ca_flow.specs.Fault.{Outside, IsWordsCause, IsWriteCause, IsPrintCause, IsOwnCause, IsWorkCause, IsCause}
+use Rattle.ca_on_cell.specs.Causes.{IsNameCause, IsFirstUnfit, IsPairCause, IsVectorCause, IsCellCause, IsValueCause}
 
 -- the file and the cell that the words name
 record HasSeen (words : List (List ℕ)) (files : Option Files) : Type 0 where
@@ -145,7 +153,8 @@ module _ (words : List (List ℕ)) (files : Option Files) (seen : HasSeen words 
         at_value (first_word words) (last_word words) (defect_word words) fits.first fits.last fits.defect cause
     at_work (inr (inr (inl (is, cause)))) = at_cell cause
     at_work (inr (inr (inr (inl (is, cause))))) = at_cell cause
-    at_work (inr (inr (inr (inr (is, cause))))) = absurd (no_chip words seen.fits.is is)
+    at_work (inr (inr (inr (inr (inl (is, cause)))))) = absurd (no_chip words seen.fits.is is)
+    at_work (inr (inr (inr (inr (inr (make, cause)))))) = absurd (no_asking_cell words (inr (inr make)) seen.fits.is)
 
 pub at_words : (words : List (List ℕ)) → IsCommand words → (fault : Fault) → IsWordsCause words fault → ⊥
 at_words words is BadWords cause = cause is
@@ -161,29 +170,39 @@ at_write : (words : List (List ℕ)) (before after : ℕ) → ¬ (Rose before af
 at_write words before after quiet (StoreFailed typed) (is, rose) = quiet rose
 at_write words before after quiet fault cause = cause
 
+-- there was no memory, or a command that generates tests found too many pairs
+IsLeft : List (List ℕ) → Fault → Type 0
+IsLeft words fault = (fault ≡ NoMemory) ⊎ (GeneratesTests words × IsPairsFault fault)
+
 -- where its work was refused for want of memory alone, a command was
 only_memory : (words : List (List ℕ)) (before after : Outside) → IsCommand words
     → ¬ (Rose before.store_faults after.store_faults) → ¬ (Rose before.sink_faults after.sink_faults) → (fault : Fault)
-    → (IsWorkCause words before.files before.store_faults after.store_faults fault → fault ≡ NoMemory)
-    → IsCause words before after fault → fault ≡ NoMemory
+    → (IsWorkCause words before.files before.store_faults after.store_faults fault → IsLeft words fault)
+    → IsCause words before after fault → IsLeft words fault
+unfolding IsLeft
 only_memory words before after is quiet_store quiet_sink fault no_work (inl words_cause) =
     absurd (at_words words is fault words_cause)
 only_memory words before after is quiet_store quiet_sink fault no_work (inr (inl work)) = no_work work
 only_memory words before after is quiet_store quiet_sink fault no_work (inr (inr (inl write))) =
     absurd (at_write words before.store_faults after.store_faults quiet_store fault write)
 only_memory words before after is quiet_store quiet_sink fault no_work (inr (inr (inr print))) =
-    at_print before.sink_faults after.sink_faults quiet_sink fault print
+    inl (at_print before.sink_faults after.sink_faults quiet_sink fault print)
 
--- words that ask for no file have no work that is refused
-pub no_asking_work : (words : List (List ℕ)) (files : Option Files) (before after : ℕ) (fault : Fault) → AsksNoFile words
-    → IsWorkCause words files before after fault → ⊥
-no_asking_work words files before after fault asks (inl (is, cause)) = omega (arith, one_word words asks, is.four)
-no_asking_work words files before after fault asks (inr (inl (is, cause))) = omega (arith, one_word words asks, is.six)
-no_asking_work words files before after fault asks (inr (inr (inl (is, cause)))) =
-    omega (arith, one_word words asks, is.three)
-no_asking_work words files before after fault asks (inr (inr (inr (inl (is, cause))))) =
-    omega (arith, one_word words asks, is.four)
-no_asking_work words files before after fault asks (inr (inr (inr (inr (is, cause))))) = no_asking_chip words asks is
+-- words that ask for no file have no work that is refused but for want of memory, or for too many pairs
+pub asking_work : (words : List (List ℕ)) (files : Option Files) (before after : ℕ) (fault : Fault) → AsksNoFile words
+    → IsWorkCause words files before after fault → (fault ≡ NoMemory) ⊎ (GeneratesTests words × IsPairsFault fault)
+asking_work words files before after fault asks (inl (is, cause)) = absurd (no_asking_cell words asks (inl is))
+asking_work words files before after fault asks (inr (inl (is, cause))) = absurd (no_asking_cell words asks (inr (inl is)))
+asking_work words files before after fault asks (inr (inr (inl (is, cause)))) =
+    absurd (no_asking_cell words asks (inr (inr (inl is))))
+asking_work words files before after fault asks (inr (inr (inr (inl (is, cause))))) =
+    absurd (no_asking_cell words asks (inr (inr (inr is))))
+asking_work words files before after fault asks (inr (inr (inr (inr (inl (is, cause)))))) = absurd (no_asking_chip words asks is)
+asking_work words files before after fault asks (inr (inr (inr (inr (inr (make, cause)))))) = by cause.stage
+  where
+    by : IsMakeStage cause.number fault → (fault ≡ NoMemory) ⊎ (GeneratesTests words × IsPairsFault fault)
+    by (inl memory) = inl memory
+    by (inr many) = inr (inr make, many.pairs)
 
 module _ (words : List (List ℕ)) (files : Option Files) (told : Files) (are : files ≡ Some told) (fits : FitsChip words told) where
   -- what is said of the chip of the files holds of one of the chips that the inputs give
@@ -214,68 +233,122 @@ module _ (words : List (List ℕ)) (files : Option Files) (told : Files) (are : 
       no_vectors chip (chip_first_word words) (chip_last_word words) fault own.first own.last cause
   no_simulation chip fault own (inr (first, (last, cause))) = no_defect chip fault own.defect cause
 
+  -- the file of `replay` names events
+  no_line : (chip : Chip) (line : ℕ) → FitsReplay words told chip
+      → reading.OfFile files (order_word words) MAX_ORDER (HasFaultyLine (instance_word words) (chip_defect_word words) (chip_first_word words)
+      (chip_last_word words) line chip) → ⊥
+  no_line chip line own held = by (told (order_word words)) own.events (held told are)
+    where
+      by : (there : Option (List ℕ)) → IsSomeAnd there (λ bytes. (length bytes ≤ MAX_ORDER) × HasEvents words chip bytes)
+          → IsSomeAnd there (λ bytes. (length bytes ≤ MAX_ORDER)
+          × HasFaultyLine (instance_word words) (chip_defect_word words) (chip_first_word words) (chip_last_word words) line chip bytes) → ⊥
+      by None fits held = held
+      by (Some bytes) (within, fits) (also, faulty) =
+          let named = fits faulty.run faulty.asked in read_or_faulty faulty.run bytes named.0 line named.1 faulty.faulty
+
+  -- it is read
+  no_read : (chip : Chip) (before after : ℕ) (fault : Fault) → FitsReplay words told chip
+      → IsReadCause (order_word words) files MAX_ORDER before after fault → IsOutsideFault fault before after
+  no_read chip before after fault own cause = by (told (order_word words)) refl own.events
+    where
+      by : (there : Option (List ℕ)) → told (order_word words) ≡ there
+          → IsSomeAnd there (λ bytes. (length bytes ≤ MAX_ORDER) × HasEvents words chip bytes) → IsOutsideFault fault before after
+      by None is fits = absurd fits
+      by (Some bytes) is (within, fits) = is_read files told are before after (order_word words) bytes MAX_ORDER is within fault cause
+
+  no_order : IsReplay words → (before after : ℕ) (fault : Fault)
+      → IsOrderCause (chip_files words) (instance_word words) (chip_defect_word words) (chip_first_word words) (chip_last_word words)
+      (order_word words) files before after fault → IsOutsideFault fault before after
+  no_order is before after (Order line) held = absurd (
+      let found = at_inputs (λ chip. reading.OfFile files (order_word words) MAX_ORDER (HasFaultyLine (instance_word words) (chip_defect_word words)
+      (chip_first_word words) (chip_last_word words) line chip)) held in
+      let own = fits.own found.chip found.is in
+      no_line found.chip line (own.replay is) found.holds)
+  no_order is before after fault (held, read) =
+      let found = at_inputs (HasRun (instance_word words) (chip_defect_word words) (chip_first_word words) (chip_last_word words)) held in
+      let own = fits.own found.chip found.is in
+      no_read found.chip before after fault (own.replay is) read
+
   -- a command's own words are of the chip
-  no_own : (fault : Fault) → IsOwnCause words files fault → ⊥
-  no_own fault (inl (is, (word, held))) =
+  no_own : (before after : ℕ) (fault : Fault) → IsOwnCause words files before after fault
+      → IsOutsideFault fault before after ⊎ (GeneratesTests words × IsPairsFault fault)
+  no_own before after fault (inl (is, (word, held))) = absurd (
       let found =
       at_inputs (λ chip. IsDefectCause chip (instance_word words) (chip_defect_word words) fault) held in
       let own = fits.own found.chip found.is in
-      no_defect found.chip fault (own.flatten is) found.holds
-  no_own fault (inr (is, (word, held))) =
+      no_defect found.chip fault (own.flatten is) found.holds)
+  no_own before after fault (inr (inl (is, (word, held)))) = absurd (
       let found =
       at_inputs (IsSimulationCause (instance_word words) (chip_defect_word words) (chip_first_word words) (chip_last_word words) fault) held in
       let own = fits.own found.chip found.is in
-      no_simulation found.chip fault (own.simulate is) found.holds
+      no_simulation found.chip fault (own.simulate is) found.holds)
+  no_own before after fault (inr (inr (inl (is, cause)))) = inr (inl is, cause.many.0)
+  no_own before after fault (inr (inr (inr (is, inl (word, held))))) = absurd (
+      let found =
+      at_inputs (IsSimulationCause (instance_word words) (chip_defect_word words) (chip_first_word words) (chip_last_word words) fault) held in
+      let own = fits.own found.chip found.is in
+      let replay = own.replay is in
+      no_simulation found.chip fault replay.pair found.holds)
+  no_own before after fault (inr (inr (inr (is, inr order)))) = inl (no_order is before after fault order)
 
-  -- work on a chip that the files give, and that the words fit, is refused where the store failed, or for want of
-  -- memory alone
+  -- work on a chip that the files give, and that the words fit, is refused where the store failed, for want of
+  -- memory, or where `atpg` found too many pairs
   pub at_chip : (before after : ℕ) (fault : Fault) → IsWorkCause words files before after fault
-      → IsOutsideFault fault before after
+      → IsOutsideFault fault before after ⊎ (GeneratesTests words × IsPairsFault fault)
   at_chip before after fault (inl (is, cause)) = absurd (no_chip words (inl is) fits.is)
   at_chip before after fault (inr (inl (is, cause))) = absurd (no_chip words (inr (inl is)) fits.is)
   at_chip before after fault (inr (inr (inl (is, cause)))) = absurd (no_chip words (inr (inr (inl is))) fits.is)
   at_chip before after fault (inr (inr (inr (inl (is, cause))))) =
       absurd (no_chip words (inr (inr (inr is))) fits.is)
-  at_chip before after fault (inr (inr (inr (inr (is, inl load))))) =
-      at_load files told are before after (chip_files words) fits.inputs fits.read fits.gives fault load
-  at_chip before after fault (inr (inr (inr (inr (is, inr own))))) = absurd (no_own fault own)
+  at_chip before after fault (inr (inr (inr (inr (inr (make, cause)))))) = absurd (no_asking_chip words (inr (inr make)) fits.is)
+  at_chip before after fault (inr (inr (inr (inr (inl (is, inl load)))))) =
+      inl (at_load files told are before after (chip_files words) fits.inputs fits.read fits.gives fault load)
+  at_chip before after fault (inr (inr (inr (inr (inl (is, inr own)))))) = no_own before after fault own
 
-only_outside : (fault : Fault) (before after : ℕ) → ¬ (Rose before after) → IsOutsideFault fault before after
-    → fault ≡ NoMemory
-only_outside fault before after quiet (inl memory) = memory
-only_outside fault before after quiet (inr (name, (is, rose))) = absurd (quiet rose)
+only_outside : (words : List (List ℕ)) (fault : Fault) (before after : ℕ) → ¬ (Rose before after)
+    → IsOutsideFault fault before after ⊎ (GeneratesTests words × IsPairsFault fault) → IsLeft words fault
+unfolding IsLeft
+only_outside words fault before after quiet (inl (inl memory)) = inl memory
+only_outside words fault before after quiet (inl (inr (name, (is, rose)))) = absurd (quiet rose)
+only_outside words fault before after quiet (inr many) = inr many
 
 -- a command that can be answered is refused for want of memory alone
 answerable_memory : (words : List (List ℕ)) (before after : Outside) → IsAnswerable words before.files
     → ¬ (Rose before.store_faults after.store_faults) → ¬ (Rose before.sink_faults after.sink_faults) → (fault : Fault)
-    → IsCause words before after fault → fault ≡ NoMemory
+    → IsCause words before after fault → IsLeft words fault
+unfolding IsLeft
 answerable_memory words before after (inl asks) quiet_store quiet_sink fault cause =
     only_memory words before after (inr (inr asks)) quiet_store quiet_sink fault
-    (λ work. absurd (no_asking_work words before.files before.store_faults after.store_faults fault asks work)) cause
+    (λ work. asking_work words before.files before.store_faults after.store_faults fault asks work) cause
 answerable_memory words before after (inr fits) quiet_store quiet_sink fault cause = by before.files refl fits
   where
     by : (files : Option Files) → before.files ≡ files
-        → IsSomeAnd files (λ told. FitsFile words told ⊎ FitsChip words told) → fault ≡ NoMemory
+        → IsSomeAnd files (λ told. FitsFile words told ⊎ FitsChip words told) → IsLeft words fault
     by None are held = absurd held
     by (Some told) are (inl file) =
         let seen : HasSeen words before.files = subst (HasSeen words) (sym are) (seen_of words told file) in
         only_memory words before after (inl seen.fits.is) quiet_store quiet_sink fault
-        (at_work words before.files seen before after quiet_store quiet_sink fault) cause
+        (λ work. inl (at_work words before.files seen before after quiet_store quiet_sink fault work)) cause
     by (Some told) are (inr chip) =
         only_memory words before after (inr (inl chip.is)) quiet_store quiet_sink fault
-        (λ work. only_outside fault before.store_faults after.store_faults quiet_store
+        (λ work. only_outside words fault before.store_faults after.store_faults quiet_store
         (at_chip words before.files told are chip before.store_faults after.store_faults fault work)) cause
 
 -- a command that was answered or refused for a cause completes
 pub completes : (words : List (List ℕ)) (before after : Outside) (end : Finished) → IsAnswer words end
     → IfSome end.fault (IsCause words before after) → Completes words before after end
+unfolding IsLeft
 completes words before after end answer cause = λ answerable quiet_store quiet_sink.
     by_fault answerable quiet_store quiet_sink end.fault answer.status refl cause
   where
     by_fault : IsAnswerable words before.files → ¬ (Rose before.store_faults after.store_faults)
         → ¬ (Rose before.sink_faults after.sink_faults)
         → (told : Option Fault) → end.status ≡ status_told told → end.fault ≡ told → IfSome told (IsCause words before after)
-        → (end.status ≡ 0) ⊎ (end.fault ≡ Some NoMemory)
+        → (end.status ≡ 0) ⊎ ((end.fault ≡ Some NoMemory) ⊎ HasTooManyPairs words end)
     by_fault answerable quiet_store quiet_sink None status is cause = inl status
     by_fault answerable quiet_store quiet_sink (Some fault) status is cause =
-        inr (is ∙ ap Some (answerable_memory words before after answerable quiet_store quiet_sink fault cause))
+        left (answerable_memory words before after answerable quiet_store quiet_sink fault cause)
+      where
+        left : IsLeft words fault → (end.status ≡ 0) ⊎ ((end.fault ≡ Some NoMemory) ⊎ HasTooManyPairs words end)
+        left (inl memory) = inr (inl (is ∙ ap Some memory))
+        left (inr many) = inr (inr (many.0, rw is many.1))

@@ -4,22 +4,23 @@ use Rattle.std.proofs.lemmas.Option.{same_Some}
 use Rattle.std.specs.Prelude.{IfSome, IsSome, IsNone, IsSomeAnd}
 use Rattle.std.specs.Option.{ForSome}
 use Rattle.ca_store.specs.Store.{Files, Rose}
-use Rattle.ca_store.specs.Writing.{MayWrite}
+use Rattle.ca_store.specs.Writing.{ChangesOnly, MayWrite}
 use Rattle.ca_flat_text.specs.FlatText.{flat_text}
 use Rattle.ca_matrix.specs.Text.{text_of}
 use Rattle.ca_fault.specs.declared.fault.Fault.{Fault}
-use Rattle.ca_fault.specs.declared.fault.Fault.TheVariants.{BadWords, Cells, Netlist, Scan, Chip, Chain, NoCell, Cell, BadVector, NoInstance, NoDefect, TooLong, Limit, StoreFailed, SinkFailed, NoMemory}
+use Rattle.ca_fault.specs.declared.fault.Fault.TheVariants.{BadWords, Cells, Netlist, Scan, Chip, Chain, NoCell, Cell, BadVector, NoInstance, NoDefect, Order, TooLong, TooManyPairs, Limit, StoreFailed, SinkFailed, NoMemory}
 use Rattle.ca_flow.specs.declared.finished.Done.{Done}
-use Rattle.ca_flow.specs.declared.finished.Done.TheVariants.{Respond, Pair, Defects, Matrix, Check, Flatten, Simulate, Help, Version}
+use Rattle.ca_flow.specs.declared.finished.Done.TheVariants.{Respond, Pair, Defects, Matrix, Check, Flatten, Simulate, Atpg, Replay, Make, Help, Version}
 use Rattle.ca_flow.specs.declared.finished.Finished.{Finished}
 use Rattle.ca_flow.specs.declared.work.OutFile.{OutFile}
 use Rattle.ca_fault.specs.FaultLine.{status_of}
-use Rattle.ca_flow.specs.Words.{out_word, flat_out_word, HasOut}
-use Rattle.ca_flow.specs.Finished.{status_told, IsTold, IsOutFault, IsAnswer, Prints, LeavesText, LeavesFiles, Writes, TellsSinkFault}
+use Rattle.ca_words.specs.Words.{out_word, flat_out_word, stil_word, report_word, IsAtpg, HasOut}
+use Rattle.ca_flow.specs.Finished.{status_told, IsTold, IsOutFault, IsAnswer, Prints, LeavesText, LeavesBoth, LeavesFiles, Writes, TellsSinkFault}
 use Rattle.ca_flow.specs.Fault.{Outside, IsWorkCause, IsWriteCause, IsPrintCause, IsCause}
 use Rattle.ca_load.specs.Files.{TellsStoreFault}
 use Rattle.ca_flow.specs.Ends.{IsAsked}
-use Rattle.ca_flow.specs.Work.{IsOutFile, HasFile, HasWritten, FailsToWrite, HasPrinted, FailsToPrint, EndsWork}
+use Rattle.ca_atpg.specs.Atpg.{IsStil, report_of}
+use Rattle.ca_flow.specs.Work.{IsOutFile, IsFileWith, HasFiles, HasWritten, FailsToWrite, HaveBeenWritten, FailToWrite, HasPrinted, FailsToPrint, EndsWork}
 use Rattle.ca_flow.proofs.CauseLemmas.{out_is_unread}
 
 -- no fault has the status of work that is whole
@@ -35,7 +36,9 @@ status_is_told (Cell cell rule) zero = cc
 status_is_told (BadVector typed) zero = cc
 status_is_told (NoInstance typed) zero = cc
 status_is_told (NoDefect typed) zero = cc
+status_is_told (Order line) zero = cc
 status_is_told (TooLong typed taken) zero = cc
+status_is_told (TooManyPairs pairs aims) zero = cc
 status_is_told (Limit kind count) zero = cc
 status_is_told (StoreFailed typed) zero = cc
 status_is_told SinkFailed zero = cc
@@ -90,29 +93,66 @@ read_is_not_written words files before after fault cause (name, (out, same)) =
     let store : fault ≡ StoreFailed name = same_Some fault (StoreFailed name) same in
     out_is_unread words name files before after out (subst (IsWorkCause words files before after) store cause)
 
--- where the file was written, the work left the files as it should
-leaves_written : (words : List (List ℕ)) (fault : Option Fault) (old new : Option Files) (done : Done) (file : Option OutFile)
-    → ¬ (IsOutFault words fault) → HasFile words done file → HasWritten file old new → LeavesFiles words fault old new done
-leaves_written words fault old new (Respond values) None other fits written = written
-leaves_written words fault old new (Respond values) (Some file) other fits written = absurd (true≢false fits)
-leaves_written words fault old new (Pair values) None other fits written = written
-leaves_written words fault old new (Pair values) (Some file) other fits written = absurd (true≢false fits)
-leaves_written words fault old new (Defects names) None other fits written = written
-leaves_written words fault old new (Defects names) (Some file) other fits written = absurd (true≢false fits)
-leaves_written words fault old new (Check chip chains) None other fits written = written
-leaves_written words fault old new (Check chip chains) (Some file) other fits written = absurd (true≢false fits)
-leaves_written words fault old new (Simulate chip ends) None other fits written = written
-leaves_written words fault old new (Simulate chip ends) (Some file) other fits written = absurd (true≢false fits)
-leaves_written words fault old new Help None other fits written = written
-leaves_written words fault old new Help (Some file) other fits written = absurd (true≢false fits)
-leaves_written words fault old new Version None other fits written = written
-leaves_written words fault old new Version (Some file) other fits written = absurd (true≢false fits)
-leaves_written words fault old new (Matrix matrix) None other fits written = absurd fits
-leaves_written words fault old new (Matrix matrix) (Some file) other fits written =
+-- where there is no file nothing was written
+no_files : (file second : Option OutFile) (old new : Option Files) → IsNone file → IsNone second → HaveBeenWritten file second old new → new ≡ old
+no_files None None old new none no_second written = written.second_is ∙ written.first_is
+no_files None (Some it) old new none no_second written = absurd (true≢false no_second)
+no_files (Some it) second old new none no_second written = absurd (true≢false none)
+
+-- where there is one it was
+one_file : (file second : Option OutFile) (old new : Option Files) → IsNone second → HaveBeenWritten file second old new → HasWritten file old new
+one_file file None old new none written = subst (HasWritten file old) (sym written.second_is) written.first_is
+one_file file (Some it) old new none written = absurd (true≢false none)
+
+-- it has its text
+text_written : (words : List (List ℕ)) (fault : Option Fault) (old new : Option Files) (name text : List ℕ) (file : Option OutFile)
+    → ¬ (IsOutFault words fault) → IsSomeAnd file (IsOutFile name text) → HasWritten file old new → LeavesText words fault old new name text
+text_written words fault old new name text None other fits written = absurd fits
+text_written words fault old new name text (Some file) other fits written =
     (λ out. absurd (other out), λ no. rw (fits.name_is, fits.bytes_are) at written)
-leaves_written words fault old new (Flatten chip net) None other fits written = absurd fits
-leaves_written words fault old new (Flatten chip net) (Some file) other fits written =
-    (λ out. absurd (other out), λ no. rw (fits.name_is, fits.bytes_are) at written)
+
+-- where both were written they have their texts
+both_written : (words : List (List ℕ)) (fault : Option Fault) (old new : Option Files) (IsFirst : List ℕ → Type 0) (text : List ℕ)
+    (file second : Option OutFile) → ¬ (IsOutFault words fault)
+    → (fault ≡ Some (StoreFailed (stil_word words)) → ⊥) → (fault ≡ Some (StoreFailed (report_word words)) → ⊥)
+    → IsSomeAnd file (IsFileWith (stil_word words) IsFirst) → IsSomeAnd second (IsOutFile (report_word words) text)
+    → HaveBeenWritten file second old new → LeavesBoth words fault old new IsFirst text
+both_written words fault old new IsFirst text None second other no_first no_second fits fit written = absurd fits
+both_written words fault old new IsFirst text (Some file) None other no_first no_second fits fit written = absurd fit
+both_written words fault old new IsFirst text (Some file) (Some it) other no_first no_second fits fit written = record {
+  stil = file.bytes;
+  is_stil = fits.holds;
+  first_failed = λ failed. absurd (no_first failed);
+  second_failed = λ failed. absurd (no_second failed);
+  both = λ none. record {
+    between = written.between;
+    first_is = subst (λ (name : List ℕ). ChangesOnly old written.between name (Some file.bytes)) fits.name_is written.first_is;
+    second_is = rw (fit.name_is, fit.bytes_are) at written.second_is;
+  };
+}
+
+-- where the files were written, the work left them as it should
+leaves_written : (words : List (List ℕ)) (fault : Option Fault) (old new : Option Files) (done : Done) (file second : Option OutFile)
+    → IsAsked words old done → ¬ (IsOutFault words fault) → HasFiles words done file second → HaveBeenWritten file second old new
+    → LeavesFiles words fault old new done
+leaves_written words fault old new (Respond values) file second asked other fits written = no_files file second old new fits.first_is fits.second_is written
+leaves_written words fault old new (Pair values) file second asked other fits written = no_files file second old new fits.first_is fits.second_is written
+leaves_written words fault old new (Defects names) file second asked other fits written = no_files file second old new fits.first_is fits.second_is written
+leaves_written words fault old new (Check chip chains) file second asked other fits written = no_files file second old new fits.first_is fits.second_is written
+leaves_written words fault old new (Simulate chip ends) file second asked other fits written = no_files file second old new fits.first_is fits.second_is written
+leaves_written words fault old new (Replay chip ends) file second asked other fits written = no_files file second old new fits.first_is fits.second_is written
+leaves_written words fault old new (Make chip pairs aims verdicts) file second asked other fits written = no_files file second old new fits.first_is fits.second_is written
+leaves_written words fault old new Help file second asked other fits written = no_files file second old new fits.first_is fits.second_is written
+leaves_written words fault old new Version file second asked other fits written = no_files file second old new fits.first_is fits.second_is written
+leaves_written words fault old new (Matrix matrix) file second asked other fits written =
+    text_written words fault old new (out_word words) (text_of matrix) file other fits.first_is (one_file file second old new fits.second_is written)
+leaves_written words fault old new (Flatten chip net) file second asked other fits written =
+    text_written words fault old new (flat_out_word words) (flat_text net) file other fits.first_is (one_file file second old new fits.second_is written)
+leaves_written words fault old new (Atpg chip chains pairs aims verdicts) file second asked other fits written =
+    both_written words fault old new (IsStil chip chains pairs) (report_of chip verdicts) file second other
+    (λ failed. other (stil_word words, (inr (inr (asked.0, inl refl)), failed)))
+    (λ failed. other (report_word words, (inr (inr (asked.0, inr refl)), failed)))
+    fits.first_is fits.second_is written
 
 -- what is known of a writing that failed: the command writes a file of this name, and a part of its text may stand in it
 record HasFailed (words : List (List ℕ)) (before after : ℕ) (fault : Fault) (Leaves : Type 0) : Type 0 where
@@ -136,32 +176,107 @@ failed_text words before after old new fault name text file out fits failed =
       leaves = (λ told. part, λ other. absurd (other (name, (out, ap Some named))));
     }
 
-failed_writing : (words : List (List ℕ)) (before after : ℕ) (old new : Option Files) (fault : Fault) (done : Done) (file : Option OutFile)
-    → HasFile words done file → IsAsked words old done → IsSomeAnd file (FailsToWrite old new before after fault)
-    → HasFailed words before after fault (LeavesFiles words (Some fault) old new done)
-failed_writing words before after old new fault (Respond values) None fits asked failed = absurd failed
-failed_writing words before after old new fault (Respond values) (Some file) fits asked failed = absurd (true≢false fits)
-failed_writing words before after old new fault (Pair values) None fits asked failed = absurd failed
-failed_writing words before after old new fault (Pair values) (Some file) fits asked failed = absurd (true≢false fits)
-failed_writing words before after old new fault (Defects names) None fits asked failed = absurd failed
-failed_writing words before after old new fault (Defects names) (Some file) fits asked failed = absurd (true≢false fits)
-failed_writing words before after old new fault (Check chip chains) None fits asked failed = absurd failed
-failed_writing words before after old new fault (Check chip chains) (Some file) fits asked failed = absurd (true≢false fits)
-failed_writing words before after old new fault (Simulate chip ends) None fits asked failed = absurd failed
-failed_writing words before after old new fault (Simulate chip ends) (Some file) fits asked failed = absurd (true≢false fits)
-failed_writing words before after old new fault Help None fits asked failed = absurd failed
-failed_writing words before after old new fault Help (Some file) fits asked failed = absurd (true≢false fits)
-failed_writing words before after old new fault Version None fits asked failed = absurd failed
-failed_writing words before after old new fault Version (Some file) fits asked failed = absurd (true≢false fits)
-failed_writing words before after old new fault (Matrix matrix) None fits asked failed = absurd failed
-failed_writing words before after old new fault (Matrix matrix) (Some file) fits asked failed =
-    failed_text words before after old new fault (out_word words) (text_of matrix) file (inl (asked.0, refl)) fits failed
-failed_writing words before after old new fault (Flatten chip net) None fits asked failed = absurd failed
-failed_writing words before after old new fault (Flatten chip net) (Some file) fits asked failed =
-    failed_text words before after old new fault (flat_out_word words) (flat_text net) file (inr (asked.0, refl)) fits failed
+-- where there is no file no writing failed
+no_failure : (file second : Option OutFile) (old new : Option Files) (before after : ℕ) (fault : Fault) → IsNone file → IsNone second
+    → FailToWrite old new before after fault file second → ⊥
+no_failure None second old new before after fault none no_second (inl failed) = failed
+no_failure (Some it) second old new before after fault none no_second (inl failed) = true≢false none
+no_failure file None old new before after fault none no_second (inr behind) = behind.second_is
+no_failure file (Some it) old new before after fault none no_second (inr behind) = true≢false no_second
 
-module _ (words : List (List ℕ)) (before after : Outside) (done : Done) (file : Option OutFile) (end : Finished)
-    (fits : HasFile words done file) (asked : IsAsked words before.files done) (told : end.done ≡ Some done)
+-- where there is one it is the one whose writing failed
+one_failure : (file second : Option OutFile) (old new : Option Files) (before after : ℕ) (fault : Fault) → IsNone second
+    → FailToWrite old new before after fault file second → IsSomeAnd file (FailsToWrite old new before after fault)
+one_failure file second old new before after fault none (inl failed) = failed
+one_failure file None old new before after fault none (inr behind) = absurd behind.second_is
+one_failure file (Some it) old new before after fault none (inr behind) = absurd (true≢false none)
+
+text_failed : (words : List (List ℕ)) (before after : ℕ) (old new : Option Files) (fault : Fault) (name text : List ℕ) (file : Option OutFile)
+    → HasOut words name → IsSomeAnd file (IsOutFile name text) → IsSomeAnd file (FailsToWrite old new before after fault)
+    → HasFailed words before after fault (LeavesText words (Some fault) old new name text)
+text_failed words before after old new fault name text None out fits failed = absurd fits
+text_failed words before after old new fault name text (Some file) out fits failed = failed_text words before after old new fault name text file out fits failed
+
+other_names : (words : List (List ℕ)) → IsAtpg words → StoreFailed (stil_word words) ≡ StoreFailed (report_word words) → ⊥
+other_names words atpg same = let names : stil_word words ≡ report_word words = cc in atpg.others (sym names)
+
+-- the writing of the first of two files failed, or that of the second
+both_failed : (words : List (List ℕ)) (before after : ℕ) (old new : Option Files) (fault : Fault) (IsFirst : List ℕ → Type 0) (text : List ℕ)
+    (file second : Option OutFile) → IsAtpg words → IsSomeAnd file (IsFileWith (stil_word words) IsFirst)
+    → IsSomeAnd second (IsOutFile (report_word words) text) → FailToWrite old new before after fault file second
+    → HasFailed words before after fault (LeavesBoth words (Some fault) old new IsFirst text)
+both_failed words before after old new fault IsFirst text None second atpg fits fit failed = absurd fits
+both_failed words before after old new fault IsFirst text (Some file) None atpg fits fit failed = absurd fit
+both_failed words before after old new fault IsFirst text (Some file) (Some it) atpg fits fit (inl failed) =
+    let named : fault ≡ StoreFailed (stil_word words) = failed.fault_is ∙ ap StoreFailed fits.typed_is in
+    let out : HasOut words (stil_word words) = inr (inr (atpg, inl refl)) in
+    record {
+      name = stil_word words;
+      out = out;
+      fault_is = named;
+      rose = failed.rose;
+      leaves = record {
+        stil = file.bytes;
+        is_stil = fits.holds;
+        first_failed = λ same. subst (λ (name : List ℕ). MayWrite old new name file.bytes) fits.name_is failed.part;
+        second_failed = λ same. absurd (other_names words atpg (sym named ∙ same_Some fault (StoreFailed (report_word words)) same));
+        both = λ none. absurd (none (stil_word words, (out, ap Some named)));
+      };
+    }
+both_failed words before after old new fault IsFirst text (Some file) (Some it) atpg fits fit (inr behind) =
+    let failed = behind.second_is in
+    let named : fault ≡ StoreFailed (report_word words) = failed.fault_is ∙ ap StoreFailed fit.typed_is in
+    let out : HasOut words (report_word words) = inr (inr (atpg, inr refl)) in
+    record {
+      name = report_word words;
+      out = out;
+      fault_is = named;
+      rose = failed.rose;
+      leaves = record {
+        stil = file.bytes;
+        is_stil = fits.holds;
+        first_failed = λ same. absurd (other_names words atpg (sym (same_Some fault (StoreFailed (stil_word words)) same) ∙ named));
+        second_failed = λ same. record {
+          between = behind.between;
+          first_is = subst (λ (name : List ℕ). ChangesOnly old behind.between name (Some file.bytes)) fits.name_is behind.first_is;
+          second_is = rw (fit.name_is, fit.bytes_are) at failed.part;
+        };
+        both = λ none. absurd (none (report_word words, (out, ap Some named)));
+      };
+    }
+
+failed_writing : (words : List (List ℕ)) (before after : ℕ) (old new : Option Files) (fault : Fault) (done : Done) (file second : Option OutFile)
+    → HasFiles words done file second → IsAsked words old done → FailToWrite old new before after fault file second
+    → HasFailed words before after fault (LeavesFiles words (Some fault) old new done)
+failed_writing words before after old new fault (Respond values) file second fits asked failed =
+    absurd (no_failure file second old new before after fault fits.first_is fits.second_is failed)
+failed_writing words before after old new fault (Pair values) file second fits asked failed =
+    absurd (no_failure file second old new before after fault fits.first_is fits.second_is failed)
+failed_writing words before after old new fault (Defects names) file second fits asked failed =
+    absurd (no_failure file second old new before after fault fits.first_is fits.second_is failed)
+failed_writing words before after old new fault (Check chip chains) file second fits asked failed =
+    absurd (no_failure file second old new before after fault fits.first_is fits.second_is failed)
+failed_writing words before after old new fault (Simulate chip ends) file second fits asked failed =
+    absurd (no_failure file second old new before after fault fits.first_is fits.second_is failed)
+failed_writing words before after old new fault (Replay chip ends) file second fits asked failed =
+    absurd (no_failure file second old new before after fault fits.first_is fits.second_is failed)
+failed_writing words before after old new fault (Make chip pairs aims verdicts) file second fits asked failed =
+    absurd (no_failure file second old new before after fault fits.first_is fits.second_is failed)
+failed_writing words before after old new fault Help file second fits asked failed =
+    absurd (no_failure file second old new before after fault fits.first_is fits.second_is failed)
+failed_writing words before after old new fault Version file second fits asked failed =
+    absurd (no_failure file second old new before after fault fits.first_is fits.second_is failed)
+failed_writing words before after old new fault (Matrix matrix) file second fits asked failed =
+    text_failed words before after old new fault (out_word words) (text_of matrix) file (inl (asked.0, refl)) fits.first_is
+    (one_failure file second old new before after fault fits.second_is failed)
+failed_writing words before after old new fault (Flatten chip net) file second fits asked failed =
+    text_failed words before after old new fault (flat_out_word words) (flat_text net) file (inr (inl (asked.0, refl))) fits.first_is
+    (one_failure file second old new before after fault fits.second_is failed)
+failed_writing words before after old new fault (Atpg chip chains pairs aims verdicts) file second fits asked failed =
+    both_failed words before after old new fault (IsStil chip chains pairs) (report_of chip verdicts) file second asked.0 fits.first_is fits.second_is failed
+
+module _ (words : List (List ℕ)) (before after : Outside) (done : Done) (file second : Option OutFile) (end : Finished)
+    (fits : HasFiles words done file second) (asked : IsAsked words before.files done) (told : end.done ≡ Some done)
     (status : end.status ≡ status_told end.fault) where
   only_done : (it : Done) → end.done ≡ Some it → it ≡ done
   only_done it is = same_Some it done (sym is ∙ told)
@@ -169,14 +284,14 @@ module _ (words : List (List ℕ)) (before after : Outside) (done : Done) (file 
   some_done : IsSome end.done
   some_done = ap is_some told
 
-  module _ (text : List ℕ) (tells : IsTold done text) (written : HasWritten file before.files after.files)
+  module _ (text : List ℕ) (tells : IsTold done text) (written : HaveBeenWritten file second before.files after.files)
       (quiet : after.store_faults ≡ before.store_faults) (of_sink : TellsSinkFault end.fault before.sink_faults after.sink_faults) where
     quiet_store : TellsStoreFault end.fault before.store_faults after.store_faults
     quiet_store = record { told = λ more. absurd (omega (arith, more, quiet)); later = omega (arith, quiet) }
 
     was_written : ¬ (IsOutFault words end.fault) → Writes words end before.files after.files
     was_written other = record {
-      done = rw told (leaves_written words end.fault before.files after.files done file other fits written);
+      done = rw told (leaves_written words end.fault before.files after.files done file second asked other fits written);
       nothing = λ none. absurd (true≢false (sym some_done ∙ none));
     }
 
@@ -216,11 +331,11 @@ module _ (words : List (List ℕ)) (before after : Outside) (done : Done) (file 
         }
 
   pub unwritten_ends : (fault : Fault) → end.fault ≡ Some fault
-      → IsSomeAnd file (FailsToWrite before.files after.files before.store_faults after.store_faults fault)
+      → FailToWrite before.files after.files before.store_faults after.store_faults fault file second
       → before.store_faults ≤ after.store_faults → after.sink_faults ≡ before.sink_faults → after.bytes ≡ before.bytes
       → EndsWork words before after done end
   unwritten_ends fault is failed later quiet kept =
-      let facts = failed_writing words before.store_faults after.store_faults before.files after.files fault done file fits asked failed in
+      let facts = failed_writing words before.store_faults after.store_faults before.files after.files fault done file second fits asked failed in
       let fault_is : end.fault ≡ Some (StoreFailed facts.name) = is ∙ ap Some facts.fault_is in
       let four : end.status ≡ 4 = status ∙ ap status_told fault_is in
       record {

@@ -16,12 +16,26 @@ use Rattle.ca_load.specs.Files.{IsReadCause}
 use Rattle.ca_load.specs.Causes.{IsTextCause, IsCellsCause}
 use Rattle.ca_fault.specs.declared.fault.LimitKind.TheVariants as limit
 use Rattle.ca_fault.specs.declared.fault.Fault.{Fault}
+use Rattle.ca_fault.specs.declared.fault.Fault.TheVariants.{TooManyPairs}
+use Rattle.ca_on_chip.specs.OnChip.{IsPairsFault}
+use Rattle.ca_on_chip.specs.Making.{IsMakeStage}
 use Rattle.ca_fault.specs.declared.fault.Fault.TheVariants.{BadWords, Cells, NoCell, Cell, BadVector, NoDefect, TooLong, Limit, StoreFailed, SinkFailed, NoMemory}
-use Rattle.ca_flow.specs.Words.{cells_word, cell_word, vector_word, first_word, last_word, defect_word, dash, IsRespond, IsPair, IsDefects, IsMatrix, IsOnChip, IsOnCell, IsCommand}
-use Rattle.ca_flow.specs.Cells.{OfFile, HasCell, LacksCell}
-use Rattle.ca_flow.specs.Fault.{Outside, IsNameCause, IsFirstUnfit, LacksDefect, IsPairCause, IsVectorCause, IsCellCause, IsValueCause, IsWordsCause, IsWriteCause, IsPrintCause, IsWorkCause, IsCause}
+use Rattle.ca_words.specs.Words.{cells_word, cell_word, vector_word, first_word, last_word, defect_word, dash, IsRespond, IsPair, IsOnChip, IsOnCell, IsCommand}
+use Rattle.ca_on_cell.specs.Cells.{OfFile, HasCell, LacksCell}
+use Rattle.ca_flow.specs.Fault.{Outside, IsWordsCause, IsWriteCause, IsPrintCause, IsWorkCause, IsCause}
+use Rattle.ca_on_cell.specs.Causes.{IsNameCause, IsFirstUnfit, LacksDefect, IsPairCause, IsVectorCause, IsCellCause, IsValueCause}
 use Rattle.ca_flow.specs.Laws.{IsInputFault, TellsFile}
 use Rattle.ca_load.proofs.RuleLemmas.{one_broken}
+
+-- a fault that tells pairs is none of input
+pub pairs_input : (fault : Fault) → IsInputFault fault → IsPairsFault fault → ⊥
+pairs_input (TooManyPairs pairs aims) is many = is
+pairs_input fault is many = many
+
+-- nor is one of a generated chip
+pub no_made_input : (number : ℕ) (fault : Fault) → IsInputFault fault → IsMakeStage number fault → ⊥
+no_made_input number fault is (inl memory) = subst IsInputFault memory is
+no_made_input number fault is (inr many) = pairs_input fault is many.pairs
 
 -- the words ask for these vectors and this defect
 abbrev pub AreAsked : List (List ℕ) → List ℕ → List ℕ → List ℕ → Type 0
@@ -312,7 +326,8 @@ module _ (words : List (List ℕ)) where
     of_work not_chip fault is (inr (inl (pair, cause))) =
         inr (inr (inl pair), of_value (first_word words) (last_word words) (defect_word words) (inr (pair, (refl, (refl, refl)))) fault is cause)
     of_work not_chip fault is (inr (inr (inl (defects, cause)))) = inr (inr (inr (inl defects)), of_cell fault is cause)
-    of_work not_chip fault is (inr (inr (inr (inr (chip, cause))))) = absurd (not_chip chip)
+    of_work not_chip fault is (inr (inr (inr (inr (inl (chip, cause)))))) = absurd (not_chip chip)
+    of_work not_chip fault is (inr (inr (inr (inr (inr (make, cause)))))) = absurd (no_made_input cause.number fault is cause.stage)
     of_work not_chip fault is (inr (inr (inr (inl (matrix, cause))))) = inr (inr (inr (inr matrix)), of_cell fault is cause)
 
   of_words : (file : Option (List ℕ)) (fault : Fault) → IsWordsCause words fault → AtWords words file fault

@@ -11,19 +11,23 @@ use Rattle.ca_load.specs.declared.cells.TheConstants.{MAX_CELLS}
 use Rattle.ca_load.proofs.WholeLemmas.{IsOutsideFault}
 use Rattle.ca_fault.specs.declared.fault.Fault.{Fault}
 use Rattle.ca_flow.specs.declared.finished.Done.{Done}
-use Rattle.ca_flow.specs.declared.finished.Done.TheVariants.{Respond, Pair, Defects, Matrix, Check, Flatten, Simulate, Help, Version}
+use Rattle.ca_flow.specs.declared.finished.Done.TheVariants.{Respond, Pair, Defects, Matrix, Check, Flatten, Simulate, Atpg, Replay, Make, Help, Version}
 use Rattle.ca_flow.specs.declared.finished.Finished.{Finished}
-use Rattle.ca_flow.specs.Words.{cells_word, cell_word, vector_word, first_word, last_word, defect_word, dash, IsRespond, IsPair, IsDefects, IsMatrix, IsOnChip, AsksNoFile, IsOnCell}
-use Rattle.ca_flow.specs.Outputs.{asked_network, AreValues}
-use Rattle.ca_flow.specs.Cells.{HasCell}
+use Rattle.ca_on_chip.specs.OnChip.{IsPairsFault}
+use Rattle.ca_words.specs.Words.{GeneratesTests}
+use Rattle.ca_words.specs.Words.{cells_word, cell_word, vector_word, first_word, last_word, defect_word, dash, IsRespond, IsPair, IsDefects, IsMatrix, IsOnChip, AsksNoFile, IsOnCell}
+use Rattle.ca_on_cell.specs.Outputs.{asked_network, AreValues}
+use Rattle.ca_on_cell.specs.Cells.{HasCell}
 use Rattle.ca_flow.specs.Finished.{status_told}
-use Rattle.ca_flow.specs.Fault.{Outside, IsFirstUnfit, LacksDefect, IsCause}
+use Rattle.ca_flow.specs.Fault.{Outside, IsCause}
+use Rattle.ca_on_cell.specs.Causes.{IsFirstUnfit, LacksDefect}
 use Rattle.ca_flow.specs.Complete.{FitsCell, FitsChip, IsAnswerable}
-use Rattle.ca_flow.specs.Ends.{AreDefectNames, IsSoundMatrix, IsAsked, Ends}
+use Rattle.ca_on_cell.specs.Defects.{AreDefectNames, IsSoundMatrix}
+use Rattle.ca_flow.specs.Ends.{IsAsked, Ends}
 use Rattle.ca_flow.specs.Laws.{IsInputFault, TellsFile}
-use Rattle.ca_flow.proofs.WordLemmas.{no_chip}
-use Rattle.ca_flow.proofs.CompleteLemmas.{at_words, no_asking_work, at_chip}
-use Rattle.ca_flow.proofs.ExactLemmas.{no_write, no_print, AreAsked, AtCell, AtCalled, AtReading, AtWords, on_cell, respond_or_pair, one_at_words, of_file, of_cause}
+use Rattle.ca_words.proofs.WordLemmas.{no_chip}
+use Rattle.ca_flow.proofs.CompleteLemmas.{at_words, asking_work, at_chip}
+use Rattle.ca_flow.proofs.ExactLemmas.{no_write, no_print, AreAsked, AtCell, AtCalled, AtReading, AtWords, on_cell, pairs_input, respond_or_pair, one_at_words, of_file, of_cause}
 
 -- the file is there and no longer than it may be, and in it the words name a subcircuit that they fit
 abbrev FitsFile : List (List ℕ) → Option (List ℕ) → Type 0
@@ -85,7 +89,10 @@ asking_cause : (words : List (List ℕ)) (before after : Outside) (fault : Fault
     → IsCause words before after fault → ⊥
 asking_cause words before after fault asks is (inl cause) = at_words words (inr (inr asks)) fault cause
 asking_cause words before after fault asks is (inr (inl cause)) =
-    no_asking_work words before.files before.store_faults after.store_faults fault asks cause
+    elim (asking_work words before.files before.store_faults after.store_faults fault asks cause) [
+      | inl memory ↦ subst IsInputFault memory is
+      | inr many ↦ pairs_input fault is many.1
+    ]
 asking_cause words before after fault asks is (inr (inr (inl cause))) =
     no_write words before.store_faults after.store_faults fault is cause
 asking_cause words before after fault asks is (inr (inr (inr cause))) =
@@ -105,12 +112,17 @@ outside_input : (fault : Fault) (before after : ℕ) → IsInputFault fault → 
 outside_input fault before after is (inl memory) = subst IsInputFault memory is
 outside_input fault before after is (inr (name, (store, rose))) = subst IsInputFault store is
 
+left_input : (words : List (List ℕ)) (fault : Fault) (before after : ℕ) → IsInputFault fault
+    → IsOutsideFault fault before after ⊎ (GeneratesTests words × IsPairsFault fault) → ⊥
+left_input words fault before after is (inl outside) = outside_input fault before after is outside
+left_input words fault before after is (inr many) = pairs_input fault is many.1
+
 -- words that fit the chip of their files have no cause of a fault of input
 chip_cause : (words : List (List ℕ)) (before after : Outside) (fault : Fault) (told : Files) → before.files ≡ Some told
     → FitsChip words told → IsInputFault fault → IsCause words before after fault → ⊥
 chip_cause words before after fault told are fits is (inl cause) = at_words words (inr (inl fits.is)) fault cause
 chip_cause words before after fault told are fits is (inr (inl cause)) =
-    outside_input fault before.store_faults after.store_faults is
+    left_input words fault before.store_faults after.store_faults is
     (at_chip words before.files told are fits before.store_faults after.store_faults fault cause)
 chip_cause words before after fault told are fits is (inr (inr (inl cause))) =
     no_write words before.store_faults after.store_faults fault is cause
@@ -166,9 +178,12 @@ module _ (words : List (List ℕ)) (file : Option (List ℕ)) (outside : Outside
   asked_fits : ¬ (IsOnChip words) → (done : Done) → IsAsked words outside.files done → AsksNoFile words ⊎ FitsFile words file
   asked_fits not_chip (Check chip chains) (is, asked) = absurd (not_chip (inl is))
   asked_fits not_chip (Flatten chip net) (is, asked) = absurd (not_chip (inr (inl is)))
-  asked_fits not_chip (Simulate chip ends) (is, asked) = absurd (not_chip (inr (inr is)))
+  asked_fits not_chip (Simulate chip ends) (is, asked) = absurd (not_chip (inr (inr (inl is))))
+  asked_fits not_chip (Atpg chip chains pairs aims verdicts) (is, asked) = absurd (not_chip (inr (inr (inr (inl is)))))
+  asked_fits not_chip (Replay chip ends) (is, asked) = absurd (not_chip (inr (inr (inr (inr is)))))
   asked_fits not_chip Help is = inl (inl is)
-  asked_fits not_chip Version is = inl (inr is)
+  asked_fits not_chip Version is = inl (inr (inl is))
+  asked_fits not_chip (Make chip pairs aims verdicts) (is, asked) = inl (inr (inr is))
   asked_fits not_chip (Respond values) (is, asked) =
       let P : RawCell → Type 0 = AreValues (vector_word words) (vector_word words) dash values in
       inr (weaker words file P (λ raw held. record {

@@ -1,10 +1,5 @@
-pub mod WordLemmas
-pub mod LineLemmas
-pub mod ChipLemmas
-pub mod OutputLemmas
-pub mod FileLemmas
+pub mod WorkLemmas
 pub mod CauseLemmas
-pub mod AskedLemmas
 pub mod CompleteLemmas
 pub mod EndLemmas
 pub mod ExactLemmas

@@ -20,10 +20,11 @@ use Rattle.ca_load.specs.Causes.{IsTextCause}
 use Rattle.ca_fault.specs.declared.fault.LimitKind.TheVariants as limit
 use Rattle.ca_fault.specs.declared.fault.Fault.{Fault}
 use Rattle.ca_fault.specs.declared.fault.Fault.TheVariants.{Cells, NoCell, Cell, BadVector, NoDefect, TooLong, Limit}
-use Rattle.ca_flow.specs.Words.{cells_word, cell_word, vector_word, first_word, last_word, defect_word, dash, IsOnChip, AsksNoFile, IsOnCell, IsCommand}
-use Rattle.ca_flow.specs.Outputs.{letters_of, Fits, asked_network}
-use Rattle.ca_flow.specs.Cells.{OfFile, HasCell, LacksCell, OfCell}
-use Rattle.ca_flow.specs.Fault.{Outside, IsPairCause, IsVectorCause, IsCellCause, IsCause}
+use Rattle.ca_words.specs.Words.{cells_word, cell_word, vector_word, first_word, last_word, defect_word, dash, IsOnChip, AsksNoFile, IsOnCell, IsCommand}
+use Rattle.ca_on_cell.specs.Outputs.{letters_of, Fits, asked_network}
+use Rattle.ca_on_cell.specs.Cells.{OfFile, HasCell, LacksCell, OfCell}
+use Rattle.ca_flow.specs.Fault.{Outside, IsCause}
+use Rattle.ca_on_cell.specs.Causes.{IsPairCause, IsVectorCause, IsCellCause}
 use Rattle.ca_flow.specs.Complete.{FitsCell, IsAnswerable}
 use Rattle.ca_flow.specs.Laws.{IsInputFault, TellsFile, HasInputCause}
 use Rattle.ca_flow.proofs.ExactLemmas.{respond_or_pair}

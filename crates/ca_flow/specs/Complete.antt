@@ -1,5 +1,5 @@
 -- When a command does its work, where there is memory.
-use Rattle.std.specs.Prelude.{◌≡◌, ◌⊎◌, ℕ, List, Option, Some, IsSome, IsSomeAnd}
+use Rattle.std.specs.Prelude.{◌≡◌, ◌⊎◌, ℕ, List, Option, Some, IsSome, IsSomeAnd, Ok}
 use Rattle.ca_store.specs.Store.{Files, Rose}
 use Rattle.ca_cell.specs.declared.raw.RawCell.{RawCell}
 use Rattle.ca_cell.specs.Rules.{KeepsRules}
@@ -12,11 +12,19 @@ use Rattle.ca_wired.specs.Instances.{IsNamedGate}
 use Rattle.ca_flat.specs.Chip.{cell_at}
 use Rattle.ca_core.specs.Core.{core_of}
 use Rattle.ca_asked.specs.Asked.{FitsInputs, defect_called}
-use Rattle.ca_flow.specs.Words.{cells_word, cell_word, vector_word, first_word, last_word, defect_word, dash}
-use Rattle.ca_flow.specs.Words.{chip_files, instance_word, chip_defect_word, chip_first_word, chip_last_word}
-use Rattle.ca_flow.specs.Words.{IsRespond, IsPair, IsFlatten, IsSimulate, AsksNoFile, IsOnCell, IsOnChip}
-use Rattle.ca_flow.specs.Outputs.{Fits, asked_network}
-use Rattle.ca_flow.specs.Cells.{IsFileWith, HasCell}
+use Rattle.ca_words.specs.Words.{cells_word, cell_word, vector_word, first_word, last_word, defect_word, dash}
+use Rattle.ca_words.specs.Words.{chip_files, instance_word, chip_defect_word, chip_first_word, chip_last_word, order_word}
+use Rattle.ca_words.specs.Words.{IsRespond, IsPair, IsFlatten, IsSimulate, IsReplay}
+use Rattle.ca_words.specs.Words.{GeneratesTests, AsksNoFile, IsOnCell, IsOnChip}
+use Rattle.ca_on_chip.specs.OnChip.{IsPairsFault}
+use Rattle.ca_on_chip.specs.declared.replays.TheConstants.{MAX_ORDER}
+use Rattle.ca_on_chip.specs.Replay.{IsAskedRun}
+use Rattle.ca_order.specs.declared.event.Event.{Event}
+use Rattle.ca_chip_replay.specs.ChipRun.{RunOf}
+use Rattle.ca_simulate.specs.OneRun.{ReadsRun}
+use Rattle.ca_load.specs.Files as reading
+use Rattle.ca_on_cell.specs.Outputs.{Fits, asked_network}
+use Rattle.ca_on_cell.specs.Cells.{IsFileWith, HasCell}
 use Rattle.ca_flow.specs.Fault.{Outside}
 
 -- the vectors of `pair` have one letter per input pin, and its word for the defect asks for a network
@@ -57,10 +65,23 @@ pub record FitsSimulate (words : List (List ℕ)) (chip : Chip) : Type 0 where
   pub last : FitsInputs chip (chip_last_word words)
   pub defect : FitsDefect words chip
 
+-- the text names events of each run of the chip that the words of `replay` name
+abbrev pub HasEvents : List (List ℕ) → Chip → List ℕ → Type 0
+HasEvents words chip text = (run : RunOf)
+    → IsAskedRun (instance_word words) (chip_defect_word words) (chip_first_word words) (chip_last_word words)
+    chip run → (events : List Event) × ReadsRun run text (Ok events)
+
+-- the words of `replay` fit the chip as those of `simulate` do, and its file is there, is no longer than it
+-- may be, and names events
+pub record FitsReplay (words : List (List ℕ)) (told : Files) (chip : Chip) : Type 0 where
+  pub pair : FitsSimulate words chip
+  pub events : reading.IsFileWith told (order_word words) MAX_ORDER (HasEvents words chip)
+
 -- the own words of a command on a chip are of the chip
-pub record FitsOwn (words : List (List ℕ)) (chip : Chip) : Type 0 where
+pub record FitsOwn (words : List (List ℕ)) (told : Files) (chip : Chip) : Type 0 where
   pub flatten : IsFlatten words → FitsDefect words chip
   pub simulate : IsSimulate words → FitsSimulate words chip
+  pub replay : IsReplay words → FitsReplay words told chip
 
 -- the words are those of a command on a chip, the files that they name are there, are no longer than they
 -- may be, and read as what gives a chip with chains, and the command's own words are of the chip
@@ -69,16 +90,21 @@ pub record FitsChip (words : List (List ℕ)) (told : Files) : Type 0 where
   pub inputs : Inputs
   pub read : ReadAs (chip_files words) inputs told
   pub gives : GiveChip inputs
-  pub own : (chip : Chip) → IsChipOf inputs chip → FitsOwn words chip
+  pub own : (chip : Chip) → IsChipOf inputs chip → FitsOwn words told chip
 
 -- the words ask for no file, or the files are told and the words fit those that they name
 abbrev pub IsAnswerable : List (List ℕ) → Option Files → Type 0
 IsAnswerable words files =
     AsksNoFile words ⊎ IsSomeAnd files (λ told. FitsFile words told ⊎ FitsChip words told)
 
+-- `atpg` or `make` found one pair more than may be listed
+abbrev pub HasTooManyPairs : List (List ℕ) → Finished → Type 0
+HasTooManyPairs words end = GeneratesTests words × IsSomeAnd end.fault IsPairsFault
+
 -- where no call of the store or the sink failed, a command that can be answered does its work, or there was
--- no memory
+-- no memory, or one that generates tests found too many pairs
 abbrev pub Completes : List (List ℕ) → Outside → Outside → Finished → Type 0
 Completes words before after end =
     IsAnswerable words before.files → ¬ (Rose before.store_faults after.store_faults)
-    → ¬ (Rose before.sink_faults after.sink_faults) → (end.status ≡ 0) ⊎ (end.fault ≡ Some NoMemory)
+    → ¬ (Rose before.sink_faults after.sink_faults) → (end.status ≡ 0)
+    ⊎ ((end.fault ≡ Some NoMemory) ⊎ HasTooManyPairs words end)

@@ -1,33 +1,26 @@
 -- How a command ends.
-use Rattle.std.specs.Prelude.{◌≡◌, ℕ, List, Option, IfSome}
+use Rattle.std.specs.Prelude.{ℕ, List, Option, IfSome}
 use Rattle.ca_store.specs.Store.{Files}
-use Rattle.ca_cell.specs.declared.raw.RawCell.{RawCell}
-use Rattle.ca_cell.specs.Rules.{KeepsRules}
-use Rattle.ca_defect.specs.Name.{names_of}
-use Rattle.ca_matrix.specs.Matrix.{Entries}
-use Rattle.ca_matrix.specs.Built.{IsMatrixOf}
 use Rattle.ca_scan.specs.ChainFault.{AreAllChains}
-use Rattle.ca_load.specs.Files.{TellsStoreFault}
+use Rattle.ca_load.specs.Files.{OfFile, TellsStoreFault}
 use Rattle.ca_flow.specs.declared.finished.Done.{Done}
-use Rattle.ca_flow.specs.declared.finished.Done.TheVariants.{Respond, Pair, Defects, Matrix, Check, Flatten, Simulate, Help, Version}
+use Rattle.ca_flow.specs.declared.finished.Done.TheVariants.{Respond, Pair, Defects, Matrix, Check, Flatten, Simulate, Atpg, Replay, Make, Help, Version}
 use Rattle.ca_flow.specs.declared.finished.Finished.{Finished}
-use Rattle.ca_flow.specs.Words.{cells_word, cell_word, vector_word, first_word, last_word, defect_word, dash}
-use Rattle.ca_flow.specs.Words.{chip_files, instance_word, chip_defect_word, chip_first_word, chip_last_word}
-use Rattle.ca_flow.specs.Words.{IsRespond, IsPair, IsDefects, IsMatrix, IsCheck, IsFlatten, IsSimulate, IsHelp, IsVersion}
-use Rattle.ca_flow.specs.Outputs.{AreValues}
+use Rattle.ca_words.specs.Words.{cells_word, cell_word, vector_word, first_word, last_word, defect_word, dash}
+use Rattle.ca_words.specs.Words.{chip_files, instance_word, chip_defect_word, chip_first_word, chip_last_word}
+use Rattle.ca_words.specs.Words.{budget_word, order_word, number_word}
+use Rattle.ca_words.specs.Words.{IsRespond, IsPair, IsDefects, IsMatrix, IsCheck, IsFlatten, IsSimulate, IsAtpg, IsReplay, IsMake}
+use Rattle.ca_words.specs.Words.{IsHelp, IsVersion}
+use Rattle.ca_on_cell.specs.Outputs.{AreValues}
 use Rattle.ca_flow.specs.Finished.{IsAnswer, Prints, Writes, TellsSinkFault}
-use Rattle.ca_flow.specs.Cells.{OfCell}
-use Rattle.ca_flow.specs.OnChip.{IsChipOfFiles, IsFlatOf, AreEndsOf}
+use Rattle.ca_on_cell.specs.Cells.{OfCell}
+use Rattle.ca_on_cell.specs.Defects.{AreDefectNames, IsSoundMatrix}
+use Rattle.ca_on_chip.specs.OnChip.{IsChipOfFiles, IsFlatOf, AreEndsOf, AreTestsOf}
+use Rattle.ca_on_chip.specs.declared.replays.TheConstants.{MAX_ORDER}
+use Rattle.ca_on_chip.specs.Replay.{AreRunEndsOf}
+use Rattle.ca_on_chip.specs.Making.{AreMadeTests}
 use Rattle.ca_flow.specs.Fault.{Outside, IsCause}
 use Rattle.ca_flow.specs.Complete.{Completes}
-
--- the names are those of the defects of a subcircuit that keeps the rules of a used cell, in their order
-abbrev pub AreDefectNames : List (List ℕ) → RawCell → Type 0
-AreDefectNames names raw = KeepsRules raw × (names ≡ names_of raw)
-
--- the matrix is that of a subcircuit that keeps the rules of a used cell
-abbrev pub IsSoundMatrix : Entries → RawCell → Type 0
-IsSoundMatrix matrix raw = KeepsRules raw × IsMatrixOf raw matrix
 
 -- the work that is told is that of the command, on the cell that the words name in the file that they name,
 -- or on the chip that their files give
@@ -49,6 +42,16 @@ IsAsked words files (Simulate chip ends) = IsSimulate words
     × (IsChipOfFiles files (chip_files words) chip
     × AreEndsOf (instance_word words) (chip_defect_word words) (chip_first_word words) (chip_last_word words)
     chip ends.good.items ends.faulty.items)
+IsAsked words files (Atpg chip chains pairs aims verdicts) = IsAtpg words
+    × (AreAllChains chip chains
+    × (IsChipOfFiles files (chip_files words) chip
+    × AreTestsOf (budget_word words) chip pairs aims verdicts))
+IsAsked words files (Replay chip ends) = IsReplay words × (IsChipOfFiles files (chip_files words) chip
+    × OfFile files (order_word words) MAX_ORDER
+    (AreRunEndsOf (instance_word words) (chip_defect_word words) (chip_first_word words) (chip_last_word words)
+    chip ends.items))
+IsAsked words files (Make chip pairs aims verdicts) =
+    IsMake words × AreMadeTests (number_word words) chip pairs aims verdicts
 IsAsked words files Help = IsHelp words
 IsAsked words files Version = IsVersion words
 

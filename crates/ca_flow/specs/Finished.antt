@@ -1,20 +1,22 @@
 -- How a command ends, and what it prints and writes.
-use Rattle.std.specs.Prelude.{◌≡◌, ◌≢◌, ◌<◌, ◌≤◌, ◌⊎◌, ◌↔◌, ℕ, List, Option, Some, None, IsSome, IsNone, IfSome}
+use Rattle.std.specs.Prelude.{◌≡◌, ◌≢◌, ◌<◌, ◌≤◌, ◌⊎◌, ◌↔◌, ℕ, List, length, Option, Some, None, IsSome, IsNone, IfSome}
 use Rattle.std.specs.List.{flat_map}
 use Rattle.std.specs.Option.{ForSome}
 use Rattle.ca_store.specs.Store.{Files, appended, AppendsPart}
 use Rattle.ca_store.specs.Writing.{ChangesOnly, MayWrite}
 use Rattle.ca_flat_text.specs.FlatText.{flat_text}
 use Rattle.ca_matrix.specs.Text.{text_of}
+use Rattle.ca_atpg.specs.Atpg.{IsStil, report_of, summary_text}
 use Rattle.ca_fault.specs.declared.fault.Fault.{Fault}
 use Rattle.ca_fault.specs.declared.fault.Fault.TheVariants.{StoreFailed, SinkFailed}
 use Rattle.ca_flow.specs.declared.finished.Done.{Done}
-use Rattle.ca_flow.specs.declared.finished.Done.TheVariants.{Respond, Pair, Defects, Matrix, Check, Flatten, Simulate, Help, Version}
+use Rattle.ca_flow.specs.declared.finished.Done.TheVariants.{Respond, Pair, Defects, Matrix, Check, Flatten, Simulate, Atpg, Replay, Make, Help, Version}
 use Rattle.ca_flow.specs.declared.finished.Finished.{Finished}
 use Rattle.ca_fault.specs.FaultLine.{status_of}
-use Rattle.ca_flow.specs.Lines.{line_of_pin, line_of_name, IsSummary, check_text, flatten_text, simulate_text}
+use Rattle.ca_on_cell.specs.Lines.{line_of_pin, line_of_name, IsSummary}
+use Rattle.ca_on_chip.specs.Lines.{check_text, flatten_text, simulate_text, replay_text}
 use Rattle.ca_flow.specs.Usage.{usage_text, version_text}
-use Rattle.ca_flow.specs.Words.{out_word, flat_out_word, HasOut}
+use Rattle.ca_words.specs.Words.{out_word, flat_out_word, stil_word, report_word, HasOut}
 
 -- the text tells a command's work
 abbrev pub IsTold : Done → List ℕ → Type 0
@@ -25,6 +27,9 @@ IsTold (Matrix matrix) text = IsSummary matrix text
 IsTold (Check chip chains) text = text ≡ check_text chip chains
 IsTold (Flatten chip net) text = text ≡ flatten_text net
 IsTold (Simulate chip ends) text = text ≡ simulate_text chip ends.good.items ends.faulty.items
+IsTold (Atpg chip chains pairs aims verdicts) text = text ≡ summary_text verdicts (length pairs)
+IsTold (Replay chip ends) text = text ≡ replay_text chip ends.items
+IsTold (Make chip pairs aims verdicts) text = text ≡ summary_text verdicts (length pairs)
 IsTold Help text = text ≡ usage_text
 IsTold Version text = text ≡ version_text
 
@@ -62,12 +67,37 @@ LeavesText words fault old new name text =
     (IsOutFault words fault → MayWrite old new name text)
     × (¬ (IsOutFault words fault) → ChangesOnly old new name (Some text))
 
+-- both files have their texts, and every other file is as it was
+pub record ChangesBoth (old new : Option Files) (first first_text second second_text : List ℕ) : Type 0 where
+  pub between : Option Files
+  pub first_is : ChangesOnly old between first (Some first_text)
+  pub second_is : ChangesOnly between new second (Some second_text)
+
+-- the first file has its text, a part of its text may stand in the second, and every other file is as it was
+pub record MayChangeSecond (old new : Option Files) (first first_text second second_text : List ℕ) : Type 0
+  where
+    pub between : Option Files
+    pub first_is : ChangesOnly old between first (Some first_text)
+    pub second_is : MayWrite between new second second_text
+
+-- What work with two files leaves of them. The first is whole before the second is begun.
+pub record LeavesBoth (words : List (List ℕ)) (fault : Option Fault) (old new : Option Files)
+    (IsFirst : List ℕ → Type 0) (text : List ℕ) : Type 0 where
+  pub stil : List ℕ
+  pub is_stil : IsFirst stil
+  pub first_failed : fault ≡ Some (StoreFailed (stil_word words)) → MayWrite old new (stil_word words) stil
+  pub second_failed : fault ≡ Some (StoreFailed (report_word words))
+      → MayChangeSecond old new (stil_word words) stil (report_word words) text
+  pub both : ¬ (IsOutFault words fault) → ChangesBoth old new (stil_word words) stil (report_word words) text
+
 -- what work that is told leaves of the files
 abbrev pub LeavesFiles : List (List ℕ) → Option Fault → Option Files → Option Files → Done → Type 0
 LeavesFiles words fault old new (Matrix matrix) =
     LeavesText words fault old new (out_word words) (text_of matrix)
 LeavesFiles words fault old new (Flatten chip net) =
     LeavesText words fault old new (flat_out_word words) (flat_text net)
+LeavesFiles words fault old new (Atpg chip chains pairs aims verdicts) =
+    LeavesBoth words fault old new (IsStil chip chains pairs) (report_of chip verdicts)
 LeavesFiles words fault old new _ = new ≡ old
 
 -- what a command leaves of the files: where no work is told they are as they were

@@ -8,9 +8,10 @@ use Rattle.ca_load.specs.declared.cells.TheConstants.{MAX_CELLS}
 use Rattle.ca_load.specs.declared.netlists.TheConstants.{MAX_NETLIST}
 use Rattle.ca_load.specs.declared.tables.TheConstants.{MAX_SCAN}
 use Rattle.ca_fault.specs.declared.fault.Fault.{Fault}
-use Rattle.ca_fault.specs.declared.fault.Fault.TheVariants.{BadWords, Cells, Netlist, Scan, Chip, Chain, NoCell, Cell, BadVector, NoInstance, NoDefect, TooLong, Limit, StoreFailed, SinkFailed, NoMemory}
+use Rattle.ca_fault.specs.declared.fault.Fault.TheVariants.{BadWords, Cells, Netlist, Scan, Chip, Chain, NoCell, Cell, BadVector, NoInstance, NoDefect, Order, TooLong, TooManyPairs}
+use Rattle.ca_fault.specs.declared.fault.Fault.TheVariants.{Limit, StoreFailed, SinkFailed, NoMemory}
 use Rattle.ca_flow.specs.declared.finished.Finished.{Finished}
-use Rattle.ca_flow.specs.Words.{cells_word, IsOnChip, IsCommand}
+use Rattle.ca_words.specs.Words.{cells_word, IsOnChip, IsCommand}
 use Rattle.ca_flow.specs.Fault.{Outside, IsCause}
 use Rattle.ca_flow.specs.Complete.{IsAnswerable}
 use Rattle.ca_flow.specs.Ends.{Ends}
@@ -28,7 +29,9 @@ IsInputFault (Cell cell rule) = ⊤
 IsInputFault (BadVector word) = ⊤
 IsInputFault (NoInstance word) = ⊤
 IsInputFault (NoDefect word) = ⊤
+IsInputFault (Order line) = ⊤
 IsInputFault (TooLong name taken) = ⊤
+IsInputFault (TooManyPairs pairs aims) = ⊥
 IsInputFault (Limit kind count) = ⊤
 IsInputFault (StoreFailed name) = ⊥
 IsInputFault SinkFailed = ⊥

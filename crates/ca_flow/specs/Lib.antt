@@ -1,13 +1,6 @@
-pub mod Words
-pub mod Command
-pub mod Lines
 pub mod Usage
 pub mod Finished
-pub mod Outputs
-pub mod Cells
-pub mod OnChip
 pub mod Fault
-pub mod Stages
 pub mod Complete
 pub mod Ends
 pub mod Work

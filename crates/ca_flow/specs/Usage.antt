@@ -13,8 +13,13 @@ command_lines =
     ++ (codes "                                               the flat network, good or with DEFECT, to OUT\n"
     ++ (codes "  cellaware simulate CELLS NETLIST SCAN INSTANCE DEFECT FIRST LAST\n"
     ++ (codes "                                               each output after both, without and with DEFECT\n"
+    ++ (codes "  cellaware atpg CELLS NETLIST SCAN STIL REPORT BUDGET\n"
+    ++ (codes "                                               patterns to STIL and a verdict for each defect to REPORT\n"
+    ++ (codes "  cellaware replay CELLS NETLIST SCAN INSTANCE DEFECT FIRST LAST ORDER\n"
+    ++ (codes "                                               each output after the events of ORDER between both\n"
+    ++ (codes "  cellaware make N                             test generation on a generated chip of N gates, up to 4096\n"
     ++ (codes "  cellaware --help                             this text\n"
-    ++ codes "  cellaware --version                          the version\n")))))))))
+    ++ codes "  cellaware --version                          the version\n"))))))))))))))
 
 -- what the exit statuses mean
 abbrev pub status_lines : List ℕ
@@ -30,8 +35,10 @@ usage_text =
     ++ (codes "\nCELLS is a netlist of transistors, in SPICE or CDL; a vector has 0, 1 or X per input pin.\n"
     ++ (codes "NETLIST is a netlist of gates, in Verilog; SCAN is a table of scan cells, as CSV, or -.\n"
     ++ (codes "INSTANCE is one of a cell, and DEFECT one of its defects, or both are -.\n"
+    ++ (codes "BUDGET is how many branches each search may have, at most 65536.\n"
+    ++ (codes "ORDER has the events of one run: settle and blur with nodes, set with a node and a value.\n"
     ++ (status_lines
-    ++ codes "Documents in the sources: README.md, docs/TUTORIAL.md, docs/FAULTS.md, docs/cellaware.1.\n")))))
+    ++ codes "Documents in the sources: README.md, docs/TUTORIAL.md, docs/FAULTS.md, docs/cellaware.1.\n")))))))
 
 -- which version the program is
 abbrev pub version_text : List ℕ

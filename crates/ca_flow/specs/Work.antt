@@ -5,13 +5,14 @@ use Rattle.ca_store.specs.Store.{Files, Rose, appended, AppendsPart}
 use Rattle.ca_store.specs.Writing.{ChangesOnly, MayWrite}
 use Rattle.ca_flat_text.specs.FlatText.{flat_text}
 use Rattle.ca_matrix.specs.Text.{text_of}
+use Rattle.ca_atpg.specs.Atpg.{IsStil, report_of}
 use Rattle.ca_fault.specs.declared.fault.Fault.{Fault}
 use Rattle.ca_fault.specs.declared.fault.Fault.TheVariants.{StoreFailed, SinkFailed}
 use Rattle.ca_flow.specs.declared.finished.Done.{Done}
-use Rattle.ca_flow.specs.declared.finished.Done.TheVariants.{Matrix, Flatten}
+use Rattle.ca_flow.specs.declared.finished.Done.TheVariants.{Matrix, Flatten, Atpg}
 use Rattle.ca_flow.specs.declared.finished.Finished.{Finished}
 use Rattle.ca_flow.specs.declared.work.OutFile.{OutFile}
-use Rattle.ca_flow.specs.Words.{out_word, flat_out_word}
+use Rattle.ca_words.specs.Words.{out_word, flat_out_word, stil_word, report_word}
 use Rattle.ca_flow.specs.Finished.{IsAnswer, Prints, Writes, TellsSinkFault}
 use Rattle.ca_flow.specs.Fault.{Outside, IsWriteCause, IsPrintCause}
 use Rattle.ca_load.specs.Files.{TellsStoreFault}
@@ -22,11 +23,30 @@ pub record IsOutFile (name bytes : List ℕ) (file : OutFile) : Type 0 where
   pub typed_is : file.typed ≡ name
   pub bytes_are : file.bytes ≡ bytes
 
--- the file that work of these words is to be written to
+-- the file is to have this name, and bytes of which this holds
+pub record IsFileWith (name : List ℕ) (Holds : List ℕ → Type 0) (file : OutFile) : Type 0 where
+  pub name_is : file.name.now ≡ name
+  pub typed_is : file.typed ≡ name
+  pub holds : Holds file.bytes
+
+-- the file that work of these words is to be written to, the first where there are two
 abbrev pub HasFile : List (List ℕ) → Done → Option OutFile → Type 0
 HasFile words (Matrix matrix) file = IsSomeAnd file (IsOutFile (out_word words) (text_of matrix))
 HasFile words (Flatten chip net) file = IsSomeAnd file (IsOutFile (flat_out_word words) (flat_text net))
+HasFile words (Atpg chip chains pairs aims verdicts) file =
+    IsSomeAnd file (IsFileWith (stil_word words) (IsStil chip chains pairs))
 HasFile words _ file = IsNone file
+
+-- the second
+abbrev pub HasSecond : List (List ℕ) → Done → Option OutFile → Type 0
+HasSecond words (Atpg chip chains pairs aims verdicts) second =
+    IsSomeAnd second (IsOutFile (report_word words) (report_of chip verdicts))
+HasSecond words _ second = IsNone second
+
+-- both
+pub record HasFiles (words : List (List ℕ)) (done : Done) (file second : Option OutFile) : Type 0 where
+  pub first_is : HasFile words done file
+  pub second_is : HasSecond words done second
 
 -- the file, if there is one, was written
 abbrev pub HasWritten : Option OutFile → Option Files → Option Files → Type 0
@@ -39,6 +59,26 @@ pub record FailsToWrite (old new : Option Files) (before after : ℕ) (fault : F
   pub fault_is : fault ≡ StoreFailed file.typed
   pub part : MayWrite old new file.name.now file.bytes
   pub rose : Rose before after
+
+-- the files, if there are some, were written, one after the other
+pub record HaveBeenWritten (file second : Option OutFile) (old new : Option Files) : Type 0 where
+  pub between : Option Files
+  pub first_is : HasWritten file old between
+  pub second_is : HasWritten second between new
+
+-- the second file could not be written, behind the first
+pub record FailsBehind (old new : Option Files) (before after : ℕ) (fault : Fault)
+    (file second : Option OutFile) : Type 0 where
+  pub between : Option Files
+  pub first_is : HasWritten file old between
+  pub second_is : IsSomeAnd second (FailsToWrite between new before after fault)
+
+-- one of them could not be written
+abbrev pub FailToWrite : Option Files → Option Files → ℕ → ℕ → Fault → Option OutFile → Option OutFile
+    → Type 0
+FailToWrite old new before after fault file second =
+    IsSomeAnd file (FailsToWrite old new before after fault)
+    ⊎ FailsBehind old new before after fault file second
 
 -- the text was printed
 pub record HasPrinted (text : List ℕ) (old new : Option (List ℕ)) (end : Finished) : Type 0 where

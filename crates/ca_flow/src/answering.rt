@@ -41,7 +41,9 @@ pub fn answer<S: Store, W: Sink, E: Sink>(
 {
     let end = run(alloc, words, store, out);
     tell_end(&end.fault, err);
-    end.status
+    let status = end.status;
+    end.let_go();
+    status
 }
 
 // Prints the line of a fault, if there is one.

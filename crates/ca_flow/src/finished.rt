@@ -4,17 +4,21 @@ ghost use Rattle.ca_store.specs.Store.{Nothing};
 ghost use Rattle.ca_fault.specs.FaultLine.{status_of};
 ghost use Rattle.ca_flow.specs.Finished.{status_told, IsTold, TellsSinkFault};
 ghost use Rattle.ca_flow.specs.Ends.{IsAsked};
-ghost use Rattle.ca_flow.specs.Work.{HasFile, HasPrinted, FailsToPrint, EndsWork};
+ghost use Rattle.ca_flow.specs.Work.{HasFiles, HasPrinted, FailsToPrint, EndsWork};
 
-use crate::lines::{check_line, flatten_line, lines_of_names, simulate_lines, summary};
-use crate::pin_values::PinValues;
 use crate::usage::{usage, version};
 use crate::work::{Work, write_out};
+use ca_atpg::summary_text;
 use ca_base::NoMemory;
+use ca_credit::Verdicts;
 use ca_fault::Fault;
+use ca_generate::Aims;
 use ca_lex::{Names, Text};
 use ca_matrix::Matrix;
-use ca_net::FlatNet;
+use ca_net::{FlatNet, Trit};
+use ca_on_cell::{PinValues, lines_of_names, summary};
+use ca_on_chip::{check_line, flatten_line, replay_lines, simulate_lines};
+use ca_pair::Pairs;
 use ca_scan::Chains;
 use ca_simulate::OutputEnds;
 use ca_store::{Failed, Sink, Store, write_all};
@@ -33,20 +37,59 @@ pub struct Finished {
 #[derive(Drop)]
 pub enum Done {
     /// The value to which each output pin of a cell settles under a vector.
-    Respond { values: PinValues },
+    Respond {
+        values: PinValues,
+    },
     /// The value to which each output pin of a cell, or of one with a defect, settles under a pair of
     /// vectors.
-    Pair { values: PinValues },
+    Pair {
+        values: PinValues,
+    },
     /// The names of the defects of a cell, in their order.
-    Defects { names: Names },
+    Defects {
+        names: Names,
+    },
     /// The matrix of a cell.
-    Matrix { matrix: Matrix },
+    Matrix {
+        matrix: Matrix,
+    },
     /// A linked chip, with its scan chains.
-    Check { chip: Chip, chains: Chains },
+    Check {
+        chip: Chip,
+        chains: Chains,
+    },
     /// A linked chip, with its flat network, good or with a defect.
-    Flatten { chip: Chip, net: FlatNet },
+    Flatten {
+        chip: Chip,
+        net: FlatNet,
+    },
     /// A linked chip, and what its observed outputs settle to under a pair of vectors.
-    Simulate { chip: Chip, ends: OutputEnds },
+    Simulate {
+        chip: Chip,
+        ends: OutputEnds,
+    },
+    /// A linked chip with its scan chains, the listed pairs, for each the place of the defect for which it was
+    /// found, and a verdict for each defect.
+    Atpg {
+        chip: Chip,
+        chains: Chains,
+        pairs: Pairs,
+        aims: Aims,
+        verdicts: Verdicts,
+    },
+    /// A linked chip, and what its observed outputs end with in one run.
+    Replay {
+        chip: Chip,
+        ends: Vec<Trit>,
+    },
+    /// A generated chip, the listed pairs, for each the place of the defect for which it was found, and a verdict
+    /// for each defect.
+    Make {
+        chip: Chip,
+        pairs: Pairs,
+        aims: Aims,
+        verdicts: Verdicts,
+    },
     /// How the program is used.
     Help,
     /// Which version the program is.
@@ -65,9 +108,77 @@ impl Done {
             Done::Check { chip, chains } => check_line(alloc, chip, chains),
             Done::Flatten { net, .. } => flatten_line(alloc, net),
             Done::Simulate { chip, ends } => simulate_lines(alloc, chip, ends),
+            Done::Atpg {
+                pairs,
+                verdicts,
+                ..
+            }
+            | Done::Make {
+                pairs,
+                verdicts,
+                ..
+            } => summary_text(alloc, verdicts, pairs.len()),
+            Done::Replay { chip, ends } => replay_lines(alloc, chip, ends),
             Done::Help => usage(alloc),
             Done::Version => version(alloc),
         }
+    }
+}
+
+impl Finished {
+    /// Lets the end of a command go. Where it is let go otherwise, the prover goes through all that it may have once more.
+    pub fn let_go(self) {
+        let Finished { done, .. } = self;
+        if let Some(done) = done {
+            let_done_go(done);
+        }
+    }
+}
+
+// Lets a chip go.
+fn let_chip_go(chip: Chip) {
+    let _gone = chip;
+}
+
+// Lets generated tests go.
+fn let_tests_go(pairs: Pairs, aims: Aims, verdicts: Verdicts) {
+    let _gone = (pairs, aims, verdicts);
+}
+
+// Lets a matrix go.
+fn let_matrix_go(matrix: Matrix) {
+    let _gone = matrix;
+}
+
+// Lets work go. Its larger parts go each in a function of its own, so that the end of each is proved once.
+fn let_done_go(done: Done) {
+    match done {
+        Done::Respond { .. } | Done::Pair { .. } | Done::Defects { .. } => {}
+        Done::Matrix { matrix } => let_matrix_go(matrix),
+        Done::Check { chip, .. } => let_chip_go(chip),
+        Done::Flatten { chip, .. } => let_chip_go(chip),
+        Done::Simulate { chip, .. } => let_chip_go(chip),
+        Done::Atpg {
+            chip,
+            pairs,
+            aims,
+            verdicts,
+            ..
+        } => {
+            let_chip_go(chip);
+            let_tests_go(pairs, aims, verdicts);
+        }
+        Done::Replay { chip, .. } => let_chip_go(chip),
+        Done::Make {
+            chip,
+            pairs,
+            aims,
+            verdicts,
+        } => {
+            let_chip_go(chip);
+            let_tests_go(pairs, aims, verdicts);
+        }
+        Done::Help | Done::Version => {}
     }
 }
 
@@ -94,7 +205,8 @@ pub(crate) fn finish<S: Store, W: Sink>(
 ) -> Finished
     requires closed { S.opened store.old ≡ Nothing }
 
-    ensures ends { (words : List (List ℕ)) → HasFile words work.entry.done work.entry.file
+    ensures ends { (words : List (List ℕ))
+        → HasFiles words work.entry.done work.entry.file work.entry.second
         → IsAsked words (S.files store.old) work.entry.done
         → EndsWork words
         (record {
@@ -112,11 +224,12 @@ pub(crate) fn finish<S: Store, W: Sink>(
         work.entry.done result }
     ensures closed { S.opened store.new ≡ Nothing }
 {
-    let Work { done, file } = work;
+    let Work { done, file, second } = work;
     let Ok(text) = done.lines(alloc) else {
+        let_done_go(done);
         return refused(Fault::NoMemory);
     };
-    match write_out(file, store) {
+    match write_out(file, second, store) {
         Ok(()) => print_done(done, &text, out),
         Err(fault) => Finished {
             status: fault.status(),

@@ -2,27 +2,19 @@
 #![tactic(auto)]
 
 mod answering;
-mod chips;
+mod files;
 mod finished;
-mod inputs;
 mod laws;
-mod lines;
-mod listing;
-mod outputs;
-mod pin_values;
-mod tables;
 mod top;
 mod usage;
-mod values;
-mod words;
 mod work;
 
 pub use answering::{answer, tell};
 pub use ca_fault::{Fault, LimitKind};
+pub use ca_on_cell::{PinValue, PinValues};
 pub use finished::{Done, Finished};
 pub use laws::{
     answerable_has_no_cause, cause_is_told, names_mean_one_defect, one_cause, size_is_limited,
     some_cause_or_answer,
 };
-pub use pin_values::{PinValue, PinValues};
 pub use top::run;

@@ -1,24 +1,28 @@
 //! The top call.
-ghost use Rattle.std.specs.Prelude.{◌≡◌, ◌≢◌, ℕ, List, Some, map, IfOk, IfErr, IsNone, OnOk};
+ghost use Rattle.std.specs.Prelude.{◌≡◌, ◌≢◌, ◌≤◌, ℕ, List, Option, Some, map, IfOk, IfErr, IsNone, OnOk};
 ghost use Rattle.std.specs.String.{string_bytes};
-ghost use Rattle.ca_store.specs.Store.{Nothing};
-ghost use Rattle.ca_flow.specs.Words.{IsCommand};
-ghost use Rattle.ca_flow.specs.Command.{IsSpelled, IsWhole};
+ghost use Rattle.ca_store.specs.Store.{Nothing, Files};
+ghost use Rattle.ca_make.specs.declared.gate.TheConstants.{MOST_GATES};
+ghost use Rattle.ca_words.specs.Words.{IsCommand};
+ghost use Rattle.ca_words.specs.Command.{IsSpelled, IsSpelledAtpg, IsSpelledReplay, IsSpelledMake, NamesBoth, IsWhole};
 ghost use Rattle.ca_flow.specs.Fault.{IsWorkCause};
 ghost use Rattle.ca_load.specs.Files.{TellsStoreFault};
 ghost use Rattle.ca_flow.specs.Ends.{IsAsked, Ends};
-ghost use Rattle.ca_flow.specs.Work.{HasFile};
+ghost use Rattle.ca_flow.specs.Work.{HasFiles};
 
-use crate::chips::{FlatChip, SimulatedChip, find_flat, find_simulation, flat_file};
+use crate::files::{flat_file, matrix_file, text_file};
 use crate::finished::{Done, Finished, finish, refused};
-use crate::listing::find_names;
-use crate::tables::{file_of, find_matrix};
-use crate::values::find_values;
-use crate::words::{Command, parse};
 use crate::work::Work;
+use ca_atpg::Tested;
 use ca_fault::Fault;
 use ca_load::{Loaded, load};
+use ca_on_cell::{find_matrix, find_names, find_values};
+use ca_on_chip::{
+    FlatChip, MadeChip, ReplayedChip, SimulatedChip, TestedChip, find_flat, find_made, find_replay,
+    find_simulation, find_tests,
+};
 use ca_store::{Sink, Store};
+use ca_words::{AtpgWords, Command, ReplayWords, parse};
 use std::alloc::Global;
 
 /// Does one command, whose words come without the program's name. Nothing is written or printed before all
@@ -72,7 +76,7 @@ fn work_of<'a, S: Store>(
     ensures asked { IfOk result (λ work. (words : List (List ℕ)) → IsSpelled words command.now
         → IsAsked words (S.files store.old) work.done) }
     ensures file { IfOk result (λ work. (words : List (List ℕ)) → IsSpelled words command.now
-        → HasFile words work.done work.file) }
+        → HasFiles words work.done work.file work.second) }
     ensures cause { IfErr result (λ fault. (words : List (List ℕ)) → IsSpelled words command.now
         → IsWorkCause words (S.files store.old) (S.faults store.old) (S.faults store.new) fault) }
     ensures no_sink { IfErr result (λ fault. fault ≢ Fault.SinkFailed) }
@@ -94,10 +98,11 @@ fn work_of<'a, S: Store>(
         })),
         Command::Matrix(request) => {
             let matrix = find_matrix(alloc, &request.of, store)?;
-            let file = file_of(alloc, request.out, &matrix)?;
+            let file = matrix_file(alloc, request.out, &matrix)?;
             Ok(Work {
                 done: Done::Matrix { matrix },
                 file: Some(file),
+                second: None,
             })
         }
         Command::Check(names) => {
@@ -110,21 +115,128 @@ fn work_of<'a, S: Store>(
             Ok(Work {
                 done: Done::Flatten { chip, net },
                 file: Some(file),
+                second: None,
             })
         }
         Command::Simulate(request) => {
             let SimulatedChip { chip, ends } = find_simulation(alloc, request, store)?;
             Ok(printed(Done::Simulate { chip, ends }))
         }
+        Command::Atpg(request) => tests_work(alloc, request, store),
+        Command::Replay(request) => replay_work(alloc, request, store),
+        Command::Make(number) => make_work(alloc, *number),
         Command::Help => Ok(printed(Done::Help)),
         Command::Version => Ok(printed(Done::Version)),
     }
+}
+
+// The work of `atpg`.
+#[tactic(auto, using(crate::proofs::CauseLemmas::atpg_asked, crate::proofs::CauseLemmas::atpg_files, crate::proofs::CauseLemmas::atpg_cause, crate::proofs::CauseLemmas::no_tests_sink))]
+fn tests_work<'a, S: Store>(
+    alloc: Global,
+    request: &AtpgWords<'a>,
+    store: &mut S,
+) -> Result<Work<'a>, Fault>
+    requires closed { S.opened store.old ≡ Nothing }
+
+    ensures asked { IfOk result (λ work. (words : List (List ℕ)) → IsSpelledAtpg words request.now
+        → IsAsked words (S.files store.old) work.done) }
+    ensures file { IfOk result (λ work. (words : List (List ℕ)) → IsSpelledAtpg words request.now
+        → HasFiles words work.done work.file work.second) }
+    ensures cause { IfErr result (λ fault. (words : List (List ℕ)) → IsSpelledAtpg words request.now
+        → IsWorkCause words (S.files store.old) (S.faults store.old) (S.faults store.new) fault) }
+    ensures no_sink { IfErr result (λ fault. fault ≢ Fault.SinkFailed) }
+    ensures quiet { OnOk result (S.faults store.new ≡ S.faults store.old) }
+    ensures told { IfErr result (λ fault.
+        TellsStoreFault (Some fault) (S.faults store.old) (S.faults store.new)) }
+    ensures closed { S.opened store.new ≡ Nothing }
+    ensures kept { S.files store.new ≡ S.files store.old }
+{
+    let TestedChip { chip, chains, made } = find_tests(alloc, request, store)?;
+    let Tested {
+        pairs,
+        aims,
+        verdicts,
+        stil,
+        report,
+    } = made;
+    let file = text_file(alloc, request.stil, stil)?;
+    let second = text_file(alloc, request.report, report)?;
+    Ok(Work {
+        done: Done::Atpg {
+            chip,
+            chains,
+            pairs,
+            aims,
+            verdicts,
+        },
+        file: Some(file),
+        second: Some(second),
+    })
+}
+
+// The work of `replay`.
+#[tactic(auto, using(crate::proofs::CauseLemmas::replay_asked, crate::proofs::CauseLemmas::replay_cause, crate::proofs::CauseLemmas::no_run_sink))]
+fn replay_work<'a, S: Store>(
+    alloc: Global,
+    request: &ReplayWords<'a>,
+    store: &mut S,
+) -> Result<Work<'a>, Fault>
+    requires closed { S.opened store.old ≡ Nothing }
+    requires both { NamesBoth request.now.of.of }
+
+    ensures asked { IfOk result (λ work. (words : List (List ℕ)) → IsSpelledReplay words request.now
+        → IsAsked words (S.files store.old) work.done) }
+    ensures file { IfOk result (λ work. (words : List (List ℕ)) → IsSpelledReplay words request.now
+        → HasFiles words work.done work.file work.second) }
+    ensures cause { IfErr result (λ fault. (words : List (List ℕ)) → IsSpelledReplay words request.now
+        → IsWorkCause words (S.files store.old) (S.faults store.old) (S.faults store.new) fault) }
+    ensures no_sink { IfErr result (λ fault. fault ≢ Fault.SinkFailed) }
+    ensures quiet { OnOk result (S.faults store.new ≡ S.faults store.old) }
+    ensures told { IfErr result (λ fault.
+        TellsStoreFault (Some fault) (S.faults store.old) (S.faults store.new)) }
+    ensures closed { S.opened store.new ≡ Nothing }
+    ensures kept { S.files store.new ≡ S.files store.old }
+{
+    let ReplayedChip { chip, ends } = find_replay(alloc, request, store)?;
+    Ok(printed(Done::Replay { chip, ends }))
+}
+
+// The work of `make`, which touches no file.
+#[tactic(auto, using(crate::proofs::CauseLemmas::make_asked, crate::proofs::CauseLemmas::make_cause, crate::proofs::CauseLemmas::no_make_sink))]
+fn make_work<'a>(alloc: Global, number: u32) -> Result<Work<'a>, Fault>
+    requires { number ≤ MOST_GATES }
+
+    ensures asked { IfOk result (λ work. (words : List (List ℕ)) (files : Option Files)
+        → IsSpelledMake words number → IsAsked words files work.done) }
+    ensures file { IfOk result (λ work. (words : List (List ℕ)) → HasFiles words work.done work.file work.second) }
+    ensures cause { IfErr result (λ fault. (words : List (List ℕ)) (files : Option Files) (before after : ℕ)
+        → IsSpelledMake words number → IsWorkCause words files before after fault) }
+    ensures no_sink { IfErr result (λ fault. fault ≢ Fault.SinkFailed) }
+{
+    let MadeChip {
+        chip,
+        pairs,
+        aims,
+        verdicts,
+    } = find_made(alloc, number)?;
+    Ok(printed(Done::Make {
+        chip,
+        pairs,
+        aims,
+        verdicts,
+    }))
 }
 
 // Work that is printed alone.
 fn printed<'a>(done: Done) -> Work<'a>
     ensures done { result.done ≡ done }
     ensures none { IsNone result.file }
+    ensures no_second { IsNone result.second }
 {
-    Work { done, file: None }
+    Work {
+        done,
+        file: None,
+        second: None,
+    }
 }

@@ -24,12 +24,19 @@ usage: cellaware COMMAND WORDS
                                                the flat network, good or with DEFECT, to OUT
   cellaware simulate CELLS NETLIST SCAN INSTANCE DEFECT FIRST LAST
                                                each output after both, without and with DEFECT
+  cellaware atpg CELLS NETLIST SCAN STIL REPORT BUDGET
+                                               patterns to STIL and a verdict for each defect to REPORT
+  cellaware replay CELLS NETLIST SCAN INSTANCE DEFECT FIRST LAST ORDER
+                                               each output after the events of ORDER between both
+  cellaware make N                             test generation on a generated chip of N gates, up to 4096
   cellaware --help                             this text
   cellaware --version                          the version
 
 CELLS is a netlist of transistors, in SPICE or CDL; a vector has 0, 1 or X per input pin.
 NETLIST is a netlist of gates, in Verilog; SCAN is a table of scan cells, as CSV, or -.
 INSTANCE is one of a cell, and DEFECT one of its defects, or both are -.
+BUDGET is how many branches each search may have, at most 65536.
+ORDER has the events of one run: settle and blur with nodes, set with a node and a value.
 Exit status: 0 done, 1 bad command line, 2 wrong contents, 3 a limit, 4 a file or the output
 failed, 5 out of memory. One line on the standard error says why.
 Documents in the sources: README.md, docs/TUTORIAL.md, docs/FAULTS.md, docs/cellaware.1.

@@ -1,10 +1,9 @@
 //! What the program answers, and the texts that it has of itself.
 
-use crate::commands::{file_with, words_of};
-use crate::rows::LIBRARY;
 use ca_base::NoMemory;
 use ca_flow::{Fault, answer, tell};
 use ca_store::{FailList, MemSink, MemStore};
+use ca_trial::{LIBRARY, file_map, words_of};
 use std::alloc::Global;
 use std::process::Abort;
 use std::test::Fail;
@@ -20,9 +19,9 @@ struct Answered {
 // A command over a store with the library, and an error output of this room.
 fn answer_to(alloc: Global, line: &str, room: usize) -> Result<Answered, NoMemory> {
     let words = words_of(alloc, line)?;
-    let files = file_with(alloc, LIBRARY)?;
+    let files = file_map(alloc, &[("n.sp", LIBRARY)])?;
     let mut store = MemStore::new(alloc, files, 60, 10_000, FailList::new(alloc))?;
-    let mut printed = MemSink::new(alloc, 2_000, FailList::new(alloc))?;
+    let mut printed = MemSink::new(alloc, 4_000, FailList::new(alloc))?;
     let mut told = MemSink::new(alloc, room, FailList::new(alloc))?;
     let status = answer(alloc, &words, &mut store, &mut printed, &mut told);
     Ok(Answered {
@@ -68,7 +67,7 @@ fn the_status_and_the_line_are_those_of_the_end(rt: HostRuntime) -> Result<(), F
 }
 
 // What the text of `--help` names: each command with its words.
-static COMMANDS: [&str; 9] = [
+static COMMANDS: [&str; 12] = [
     "cellaware respond CELLS CELL VECTOR ",
     "cellaware pair CELLS CELL FIRST LAST DEFECT ",
     "cellaware defects CELLS CELL ",
@@ -76,6 +75,9 @@ static COMMANDS: [&str; 9] = [
     "cellaware check CELLS NETLIST SCAN ",
     "cellaware flatten CELLS NETLIST SCAN INSTANCE DEFECT OUT\n",
     "cellaware simulate CELLS NETLIST SCAN INSTANCE DEFECT FIRST LAST\n",
+    "cellaware atpg CELLS NETLIST SCAN STIL REPORT BUDGET\n",
+    "cellaware replay CELLS NETLIST SCAN INSTANCE DEFECT FIRST LAST ORDER\n",
+    "cellaware make N ",
     "cellaware --help ",
     "cellaware --version ",
 ];

@@ -1,12 +1,11 @@
 //! Commands on one cell over a store and a sink in memory.
 
-use crate::rows::{DEFECTS, DEFINITE, LIBRARY, LINES, MATRIX, NAND2_LINES, PAIR, RESPOND, Row};
-use ca_base::NoMemory;
+use crate::rows::{DEFECTS, DEFINITE, LINES, MATRIX, NAND2_LINES, PAIR, RESPOND};
 use ca_cell::CellRule;
-use ca_flow::{Done, Fault, Finished, run};
-use ca_lex::Text;
+use ca_flow::Fault;
 use ca_net::{DeviceId, NodeId};
-use ca_store::{FailList, File, FileMap, MemSink, MemStore, StoreCall};
+use ca_store::{FailList, StoreCall};
+use ca_trial::{LIBRARY, Limits, Trial, check_end, check_rows, file_map, try_command};
 use std::alloc::Global;
 use std::process::Abort;
 use std::test::Fail;
@@ -21,122 +20,55 @@ MN2 N1 A2 VSS VSS NCH W=415n L=50n
 .ENDS
 ";
 
-// What a command left behind: its status, the rule that a cell broke, whether it has values and whether the
-// output failed, the files, the bytes that it printed, and the line of its fault.
-#[derive(Drop)]
-struct Outcome {
-    status: u8,
-    rule: Option<CellRule>,
-    has_values: bool,
-    is_mute: bool,
-    store: MemStore,
-    printed: MemSink,
-    line: MemSink,
-}
-
-// The rule that the cell of a command breaks.
-fn broken_rule(end: &Finished) -> Option<CellRule> {
-    match &end.fault {
-        Some(Fault::Cell { rule, .. }) => Some(*rule),
-        _ => None,
-    }
-}
-
-// The words of a command line, with one blank between two.
-pub(crate) fn words_of(alloc: Global, line: &str) -> Result<Vec<String>, NoMemory> {
-    let mut words = Vec::new(alloc);
-    for word in line.split(' ') {
-        words.push(String::from_str(alloc, word)?)?;
-    }
-    Ok(words)
-}
-
-// One file, n.sp.
-pub(crate) fn file_with(alloc: Global, bytes: &str) -> Result<FileMap, NoMemory> {
-    let mut files = FileMap::new(alloc);
-    files.add(File {
-        name: Text::from_bytes(alloc, b"n.sp")?,
-        bytes: Text::from_bytes(alloc, bytes.as_bytes())?,
-    })?;
-    Ok(files)
-}
-
 // One command over a store with one file, n.sp, and room for others, and a sink of this room.
-fn outcome_of(
-    alloc: Global,
-    bytes: &str,
-    line: &str,
-    room: usize,
-    fail: FailList,
-) -> Result<Outcome, NoMemory> {
-    outcome_in(alloc, bytes, line, 10_000, room, fail)
-}
-
-fn outcome_in(
+fn tried(
+    rt: &impl Abort,
     alloc: Global,
     bytes: &str,
     line: &str,
     space: usize,
     room: usize,
-    fail: FailList,
-) -> Result<Outcome, NoMemory> {
-    let words = words_of(alloc, line)?;
-    let files = file_with(alloc, bytes)?;
-    let mut store = MemStore::new(alloc, files, 60, space, fail)?;
-    let mut printed = MemSink::new(alloc, room, FailList::new(alloc))?;
-    let mut line = MemSink::new(alloc, 100, FailList::new(alloc))?;
-    let end = run(alloc, &words, &mut store, &mut printed);
-    if let Some(fault) = &end.fault {
-        let _ = fault.print(&mut line);
-    }
-    Ok(Outcome {
-        status: end.status,
-        rule: broken_rule(&end),
-        has_values: matches!(&end.done, Some(Done::Respond { .. })),
-        is_mute: matches!(&end.fault, Some(Fault::SinkFailed)),
-        store,
-        printed,
+) -> Trial {
+    let files = file_map(alloc, &[("n.sp", bytes)]).expect(rt, "memory");
+    try_command(
+        alloc,
+        files,
         line,
-    })
+        Limits::of(space, room),
+        FailList::new(alloc),
+    )
+    .expect(rt, "memory")
 }
 
-// Each row's words stand behind a start; the command ends as the row says.
-fn check_rows(rt: &impl Abort, alloc: Global, start: &str, rows: &[Row]) -> Result<(), Fail> {
-    for row in rows {
-        check_row(rt, alloc, start, row)?;
-    }
-    Ok(())
-}
-
-fn check_row(rt: &impl Abort, alloc: Global, start: &str, row: &Row) -> Result<(), Fail> {
-    let line = format!(in alloc; "{start}{}", row.0).expect(rt, "memory");
-    let ended = outcome_of(alloc, LIBRARY, &line, 100, FailList::new(alloc)).expect(rt, "memory");
-    assert_eq!(rt; ended.status, row.1, "at {line}");
-    assert_eq!(rt; ended.printed.bytes(), row.2.as_bytes(), "at {line}");
-    let told = if row.3.is_empty() {
-        String::new(alloc)
-    } else {
-        format!(in alloc; "cellaware: {}\n", row.3).expect(rt, "memory")
-    };
-    assert_eq!(rt; ended.line.bytes(), told.as_bytes(), "at {line}");
-    Ok(())
+// The command of this line over one file ends so.
+fn check(
+    rt: &impl Abort,
+    alloc: Global,
+    bytes: &str,
+    line: &str,
+    status: u8,
+    told: &str,
+) -> Result<(), Fail> {
+    let ended = tried(rt, alloc, bytes, line, 0, 100);
+    check_end(rt, alloc, line, &ended, &("", status, "", told))
 }
 
 #[test]
 fn each_command_ends_so(rt: HostRuntime) -> Result<(), Fail> {
     let alloc = rt.alloc();
-    check_rows(&rt, alloc, "respond n.sp ", &RESPOND)?;
-    check_rows(&rt, alloc, "pair n.sp ", &PAIR)?;
-    check_rows(&rt, alloc, "defects n.sp ", &DEFECTS)?;
-    check_rows(&rt, alloc, "matrix n.sp ", &MATRIX)?;
-    check_rows(&rt, alloc, "", &LINES)
+    let files = [("n.sp", LIBRARY)];
+    check_rows(&rt, alloc, &files, "respond n.sp ", &RESPOND)?;
+    check_rows(&rt, alloc, &files, "pair n.sp ", &PAIR)?;
+    check_rows(&rt, alloc, &files, "defects n.sp ", &DEFECTS)?;
+    check_rows(&rt, alloc, &files, "matrix n.sp ", &MATRIX)?;
+    check_rows(&rt, alloc, &files, "", &LINES)
 }
 
 #[test]
 fn a_matrix_stands_in_its_file(rt: HostRuntime) -> Result<(), Fail> {
     let alloc = rt.alloc();
     let line = "matrix n.sp NAND2 m.csv";
-    let ended = outcome_of(alloc, LIBRARY, line, 100, FailList::new(alloc)).expect(&rt, "memory");
+    let ended = tried(&rt, alloc, LIBRARY, line, 10_000, 100);
     let bytes = ended.store.bytes("m.csv").expect(&rt, "the file is there");
     let text = str::from_utf8(bytes).expect(&rt, "the file is a text");
     for (number, wanted) in &NAND2_LINES {
@@ -152,20 +84,15 @@ fn a_matrix_stands_in_its_file(rt: HostRuntime) -> Result<(), Fail> {
 fn a_failed_writing_is_told(rt: HostRuntime) -> Result<(), Fail> {
     let alloc = rt.alloc();
     let line = "matrix n.sp NAND2 m.csv";
-    let whole = outcome_of(alloc, LIBRARY, line, 100, FailList::new(alloc)).expect(&rt, "memory");
+    let whole = tried(&rt, alloc, LIBRARY, line, 10_000, 100);
     let wanted = whole.store.bytes("m.csv").expect(&rt, "the file is there");
-    let cut = outcome_in(alloc, LIBRARY, line, 70, 100, FailList::new(alloc)).expect(&rt, "memory");
+    let cut = tried(&rt, alloc, LIBRARY, line, 70, 100);
     let part = cut.store.bytes("m.csv").expect(&rt, "the file is there");
-    assert_eq!(rt; cut.status, 4);
-    assert_eq!(rt;
-        cut.line.bytes(),
-        b"cellaware: file fault: m.csv\n".as_slice()
-    );
-    assert_eq!(rt; cut.printed.bytes(), b"".as_slice());
+    check_end(&rt, alloc, line, &cut, &("", 4, "", "file fault: m.csv"))?;
     assert_eq!(rt; part.len(), 65);
     assert!(rt; wanted.starts_with(part));
-    let mute = outcome_of(alloc, LIBRARY, line, 0, FailList::new(alloc)).expect(&rt, "memory");
-    assert_eq!(rt; mute.line.bytes(), b"cellaware: output fault\n".as_slice());
+    let mute = tried(&rt, alloc, LIBRARY, line, 10_000, 0);
+    check_end(&rt, alloc, line, &mute, &("", 4, "", "output fault"))?;
     assert!(rt; mute.store.bytes("m.csv") == whole.store.bytes("m.csv"));
     Ok(())
 }
@@ -175,12 +102,12 @@ fn a_failed_writing_is_told(rt: HostRuntime) -> Result<(), Fail> {
 fn a_refused_cell_has_its_pin_and_device(rt: HostRuntime) -> Result<(), Fail> {
     let alloc = rt.alloc();
     let line = "respond n.sp TG 11";
-    let ended = outcome_of(alloc, LIBRARY, line, 9, FailList::new(alloc)).expect(&rt, "memory");
-    let rule = CellRule::InputDrivesChannel {
+    let ended = tried(&rt, alloc, LIBRARY, line, 0, 9);
+    let wanted = CellRule::InputDrivesChannel {
         pin: NodeId(2),
         device: DeviceId(0),
     };
-    assert!(rt; ended.rule == Some(rule));
+    assert!(rt; matches!(&ended.fault, Some(Fault::Cell { rule, .. }) if *rule == wanted));
     Ok(())
 }
 
@@ -193,9 +120,7 @@ fn a_pair_that_shows_nothing_reads_x(rt: HostRuntime) -> Result<(), Fail> {
             let line = format!(in alloc; "pair n.sp AND2 {first} {last} Z=NB").expect(
                 &rt, "memory",
             );
-            let ended = outcome_of(alloc, LIBRARY, &line, 9, FailList::new(alloc)).expect(
-                &rt, "memory",
-            );
+            let ended = tried(&rt, alloc, LIBRARY, &line, 0, 9);
             assert_eq!(rt; ended.printed.bytes(), b"Z=X\n".as_slice(), "at {line}");
         }
     }
@@ -206,16 +131,13 @@ fn a_pair_that_shows_nothing_reads_x(rt: HostRuntime) -> Result<(), Fail> {
 #[test]
 fn a_file_may_have_16_mebibytes(rt: HostRuntime) -> Result<(), Fail> {
     let alloc = rt.alloc();
-    for (length, told) in [
-        (16_777_216, "cellaware: no cell A\n"),
-        (16_777_217, "cellaware: file too long: n.sp\n"),
+    for (length, status, told) in [
+        (16_777_216, 2, "no cell A"),
+        (16_777_217, 3, "file too long: n.sp"),
     ] {
         let bytes = vec![in alloc; b'*'; length].expect(&rt, "memory");
         let text = str::from_utf8(&bytes).expect(&rt, "the bytes are a text");
-        let ended = outcome_of(alloc, text, "respond n.sp A 1", 9, FailList::new(alloc)).expect(
-            &rt, "memory",
-        );
-        assert_eq!(rt; ended.line.bytes(), told.as_bytes());
+        check(&rt, alloc, text, "respond n.sp A 1", status, told)?;
     }
     Ok(())
 }
@@ -244,12 +166,7 @@ fn a_faulty_text_is_refused(rt: HostRuntime) -> Result<(), Fail> {
     ] {
         let (before, after) = NAND2.split_once(old).expect(&rt, "the piece is there");
         let text = format!(in alloc; "{before}{new}{after}").expect(&rt, "memory");
-        let line = "respond n.sp NAND2 11";
-        let ended = outcome_of(alloc, &text, line, 100, FailList::new(alloc)).expect(&rt, "memory");
-        let wanted = format!(in alloc; "cellaware: {told}\n").expect(&rt, "memory");
-        assert_eq!(rt; ended.status, 2, "at {told}");
-        assert_eq!(rt; ended.line.bytes(), wanted.as_bytes(), "at {told}");
-        assert_eq!(rt; ended.printed.bytes(), b"".as_slice(), "at {told}");
+        check(&rt, alloc, &text, "respond n.sp NAND2 11", 2, told)?;
     }
     Ok(())
 }
@@ -257,10 +174,7 @@ fn a_faulty_text_is_refused(rt: HostRuntime) -> Result<(), Fail> {
 #[test]
 fn a_library_has_at_most_1024_cells(rt: HostRuntime) -> Result<(), Fail> {
     let alloc = rt.alloc();
-    for (cells, told) in [
-        (1024, "cellaware: no cell B\n"),
-        (1025, "cellaware: limit: Cells 1025\n"),
-    ] {
+    for (cells, status, told) in [(1024, 2, "no cell B"), (1025, 3, "limit: Cells 1025")] {
         let mut text = String::new(alloc);
         for cell in 0..cells {
             text.push_str(".SUBCKT A").expect(&rt, "memory");
@@ -269,10 +183,7 @@ fn a_library_has_at_most_1024_cells(rt: HostRuntime) -> Result<(), Fail> {
             text.push_str(" Z\n*.PININFO Z:O\n.ENDS\n")
                 .expect(&rt, "memory");
         }
-        let ended = outcome_of(alloc, &text, "respond n.sp B 1", 100, FailList::new(alloc)).expect(
-            &rt, "memory",
-        );
-        assert_eq!(rt; ended.line.bytes(), told.as_bytes());
+        check(&rt, alloc, &text, "respond n.sp B 1", status, told)?;
     }
     Ok(())
 }
@@ -281,22 +192,23 @@ fn a_library_has_at_most_1024_cells(rt: HostRuntime) -> Result<(), Fail> {
 fn a_failed_call_is_told(rt: HostRuntime) -> Result<(), Fail> {
     let alloc = rt.alloc();
     for (call, number, room, printed, told) in [
-        (StoreCall::Open, 1, 9, "", "cellaware: file fault: n.sp\n"),
-        (StoreCall::Read, 1, 9, "", "cellaware: file fault: n.sp\n"),
-        (StoreCall::Read, 3, 9, "", "cellaware: file fault: n.sp\n"),
-        (StoreCall::Close, 1, 9, "", "cellaware: file fault: n.sp\n"),
-        (StoreCall::Read, 999, 0, "", "cellaware: output fault\n"),
-        (StoreCall::Read, 999, 2, "ZN", "cellaware: output fault\n"),
+        (StoreCall::Open, 1, 9, "", "file fault: n.sp"),
+        (StoreCall::Read, 1, 9, "", "file fault: n.sp"),
+        (StoreCall::Read, 3, 9, "", "file fault: n.sp"),
+        (StoreCall::Close, 1, 9, "", "file fault: n.sp"),
+        (StoreCall::Read, 999, 0, "", "output fault"),
+        (StoreCall::Read, 999, 2, "ZN", "output fault"),
     ] {
         let mut fail = FailList::new(alloc);
         fail.push(call, number).expect(&rt, "memory");
-        let ended = outcome_of(alloc, NAND2, "respond n.sp NAND2 11", room, fail).expect(
+        let line = "respond n.sp NAND2 11";
+        let files = file_map(alloc, &[("n.sp", NAND2)]).expect(&rt, "memory");
+        let ended = try_command(alloc, files, line, Limits::of(0, room), fail).expect(
             &rt, "memory",
         );
-        assert_eq!(rt; ended.status, 4);
-        assert_eq!(rt; ended.printed.bytes(), printed.as_bytes());
-        assert_eq!(rt; ended.line.bytes(), told.as_bytes());
-        assert_eq!(rt; ended.has_values, ended.is_mute);
+        check_end(&rt, alloc, line, &ended, &("", 4, printed, told))?;
+        let is_mute = matches!(&ended.fault, Some(Fault::SinkFailed));
+        assert_eq!(rt; (ended.done == "respond"), is_mute);
     }
     Ok(())
 }

@@ -4,12 +4,6 @@
 #[cfg(test)]
 mod answers;
 #[cfg(test)]
-mod chips;
-#[cfg(test)]
 mod commands;
-#[cfg(test)]
-mod netlists;
-#[cfg(test)]
-mod networks;
 #[cfg(test)]
 mod rows;

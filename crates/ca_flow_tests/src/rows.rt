@@ -1,60 +1,6 @@
-//! A library of cells, the command lines over it, and how each ends.
+//! Command lines over the library of `ca_trial`, and how each ends.
 
-// An inverter, gates, a cell whose input pin is on a channel, and one whose transistor that is longer than wide loses.
-pub(crate) const LIBRARY: &str = "\
-* row library
-.GLOBAL VDD VSS
-.SUBCKT INV A ZN VDD VSS
-*.PININFO A:I ZN:O VDD:P VSS:G
-MP1 ZN A VDD VDD pch W=0.63u L=0.05u
-MN1 ZN A VSS VSS nch W=0.415000U L=0.05u
-.ENDS
-.SUBCKT NAND2 A1 A2 ZN VDD VSS
-*.PININFO A1:I A2:I ZN:O VDD:P VSS:G
-MP1 ZN A1 VDD VDD pch W=0.63u L=0.05u
-MP2 ZN A2 VDD VDD pch W=0.63u L=0.05u
-MN1 ZN A1 n1 VSS nch W=4.15e-07 L=0.05u
-MN2 n1 A2 VSS VSS nch W=4.15e-07
-+ L=0.05u
-.ENDS NAND2
-.SUBCKT AND2 A1 A2 Z VDD VSS
-*.PININFO A1:I A2:I Z:O VDD:P VSS:G
-MP1 NB A1 VDD VDD pch W=0.63u L=0.05u
-MP2 NB A2 VDD VDD pch W=0.63u L=0.05u
-MN1 NB A1 n1 VSS nch W=0.415u L=0.05u
-MN2 n1 A2 VSS VSS nch W=0.415u L=0.05u
-MP3 Z NB VDD VDD pch W=0.63u L=0.05u
-MN3 Z NB VSS VSS nch W=0.415u L=0.05u
-.ENDS
-.SUBCKT TG A EN Z VDD VSS
-*.PININFO A:I EN:I Z:O VDD:P VSS:G
-M1 Z EN A VSS nch W=0.415u L=0.05u
-.ENDS
-.SUBCKT PSN A ZN VDD VSS
-*.PININFO A:I ZN:O VDD:P VSS:G
-MP1 ZN VSS VDD VDD pch W=0.1u L=0.4u
-MN1 ZN A VSS VSS nch W=0.415u L=0.05u
-.ENDS
-.SUBCKT PSW A ZN VDD VSS
-*.PININFO A:I ZN:O VDD:P VSS:G
-MP1 ZN VSS VDD VDD pch W=0.4u L=0.4u
-MN1 ZN A VSS VSS nch W=0.415u L=0.05u
-.ENDS
-.SUBCKT TWO A Y ZN VDD VSS
-*.PININFO A:I Y:O ZN:O VDD:P VSS:G
-MP1 ZN A VDD VDD pch W=1u L=1u
-MN1 ZN A VSS VSS nch W=1u L=1u
-MP2 Y ZN VDD VDD pch W=1u L=1u
-MN2 Y ZN VSS VSS nch W=1u L=1u
-.ENDS
-.SUBCKT TIE Z VDD VSS VDDA
-*.PININFO Z:O VDD:P VSS:G VDDA:P
-MP1 Z VSS VDDA VDD pch W=1n L=1n
-.ENDS
-";
-
-// The words of a command behind its file, the status, what is printed, and the text of the fault.
-pub(crate) type Row = (&'static str, u8, &'static str, &'static str);
+use ca_trial::Row;
 
 pub(crate) static RESPOND: [Row; 17] = [
     ("NAND2 00", 0, "ZN=1\n", ""),

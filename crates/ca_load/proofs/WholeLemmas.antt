@@ -33,14 +33,14 @@ IsOutsideFault fault before after = (fault ≡ NoMemory) ⊎ ((name : List ℕ) 
 
 module _ (files : Option Files) (told : Files) (are : files ≡ Some told) (before after : ℕ) where
   -- what is said of a file holds of the bytes that it has
-  at_bytes : (name bytes : List ℕ) (most : ℕ) (P : List ℕ → Type 0) → told name ≡ Some bytes
+  pub at_bytes : (name bytes : List ℕ) (most : ℕ) (P : List ℕ → Type 0) → told name ≡ Some bytes
       → OfFile files name most P → P bytes
   at_bytes name bytes most P there held =
       let here : IsSomeAnd (Some bytes) (λ bytes. (length bytes ≤ most) × P bytes) = rw there at (held told are) in
       here.1
 
   -- a file that is there, and is not too long, is read
-  at_read : (name bytes : List ℕ) (most : ℕ) → told name ≡ Some bytes → length bytes ≤ most → (fault : Fault)
+  pub at_read : (name bytes : List ℕ) (most : ℕ) → told name ≡ Some bytes → length bytes ≤ most → (fault : Fault)
       → IsReadCause name files most before after fault → IsOutsideFault fault before after
   at_read name bytes most there within (TooLong typed taken) (same, long) =
       let past : IsSomeAnd (Some bytes) (λ bytes. most < length bytes) = rw there at (long.past told are) in

@@ -10,7 +10,7 @@ use ca_store::{ReadFault, Store, read_file};
 use std::alloc::Global;
 
 /// The bytes of the file of this name, which may have so many. A fault takes over the name as it was typed.
-pub(crate) fn read_input<S: Store>(
+pub fn read_input<S: Store>(
     alloc: Global,
     name: &str,
     typed: Text,

@@ -11,6 +11,7 @@ mod reading;
 mod tables;
 
 pub use cells::{MAX_CELLS, open_library};
+pub use files::read_input;
 pub use loading::{FileNames, Loaded, load};
 pub use netlists::MAX_NETLIST;
 pub use tables::MAX_SCAN;

@@ -1,5 +1,5 @@
 -- The values that the loop over the observed outputs takes are what the flat networks end with.
-use Rattle.std.proofs.Common.{◌≡◌, ℕ, suc, ◌+◌, ◌<◌, List, [], ◌∷◌, ◌++◌, length, inl, inr, refl, sym, ◌∙◌, ap, subst, arith, get_or}
+use Rattle.std.proofs.Common.{◌≡◌, ℕ, ◌+◌, ◌<◌, List, [], ◌∷◌, ◌++◌, length, inl, inr, refl, sym, ◌∙◌, ap, subst, arith}
 use Rattle.std.specs.Prelude.{Option, None, Some, slice_index}
 use Rattle.std.proofs.lemmas.List.{length_push, get_or_push, get_or_append_left}
 use Rattle.std.proofs.lemmas.Bool.{cases_lt}
@@ -10,7 +10,6 @@ use Rattle.ca_net.specs.declared.wave.Wave.{Wave}
 use Rattle.ca_net.specs.State.{value_at}
 use Rattle.ca_table.specs.Gives.{wave_at}
 use Rattle.ca_flat.specs.declared.chip_defect.ChipDefect.{ChipDefect}
-use Rattle.ca_flat.specs.Chip.{IsChipDefect}
 use Rattle.ca_flat.specs.Chip as flat
 use Rattle.ca_flat.specs.Simulation.{IsFlattened}
 use Rattle.ca_wired.specs.Linked.{Chip, IsWired}
@@ -29,6 +28,7 @@ use Rattle.ca_core_tables.proofs.PartFacts.{library_known}
 use Rattle.ca_core_tables.proofs.RankLemmas.{library_place}
 use Rattle.ca_asked.specs.Asked.{IsLibraryDefect}
 use Rattle.ca_simulate.specs.Simulated.{AreOutputEnds, AreSimulated}
+use Rattle.ca_simulate.proofs.RunLemmas.{is_chip_defect}
 
 -- the values are the last ones of the waves of the first observed outputs
 pub record HaveLasts (outputs : List ℕ) (waves : List Wave) (count : ℕ) (values : List Trit) : Type 0 where
@@ -56,11 +56,6 @@ lasts_more outputs waves k old new value before is push = record {
 }
 
 module _ (chip : Chip) (wired : IsWired chip) where
-  -- the defect is one of the core
-  pub chip_defect : (given : Option ChipDefect) → IsLibraryDefect chip given → IsChipDefect (core_of chip) given
-  chip_defect None is = tt
-  chip_defect (Some given) is = is.0
-
   -- its instance has a place in the order
   pub aimed_at : (ranks : List ℕ) → AreRanks chip ranks → (given : Option ChipDefect) → IsLibraryDefect chip given
       → IsAim (core_of chip) (place_in ranks) given
@@ -77,8 +72,8 @@ module _ (chip : Chip) (wired : IsWired chip) where
     flattened : (given : Option ChipDefect) → IsLibraryDefect chip given → IsFlattened (core_of chip) (rank_of chip) given
     flattened given is = record {
       chip_is = core_is chip wired;
-      defect_is = chip_defect given is;
-      formed = formed chip given wired (chip_defect given is) (few given);
+      defect_is = is_chip_defect chip given is;
+      formed = formed chip given wired (is_chip_defect chip given is) (few given);
     }
 
     -- the last values of the waves of all observed outputs are what every run ends with

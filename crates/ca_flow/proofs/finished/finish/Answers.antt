@@ -18,7 +18,7 @@ returns-in-Ok-write_out-clause-ends g c = λ words fits asked.
       sink_faults = g.W.Sink.faults c.print_done.new.out;
       bytes = g.W.Sink.bytes c.print_done.new.out;
     } in
-    printed_ends words before after c.args.work.done c.args.work.file c.print_done.result fits asked c.print_done.ensures.done
+    printed_ends words before after c.args.work.done c.args.work.file c.args.work.second c.print_done.result fits asked c.print_done.ensures.done
     c.print_done.ensures.status c.in-Ok.text c.in-Ok.ensures (c.in-Ok-write_out.ensures).ok (c.in-Ok-write_out.ensures).count.quiet
     c.print_done.ensures.count c.print_done.ensures.ends
 
@@ -37,7 +37,7 @@ returns-clause-ends g c = λ words fits asked.
       bytes = g.W.Sink.bytes c.args.out.now;
     } in
     let end : Finished = record { status = c.status.result; fault = Some c.in-Err.fault; done = Some c.args.work.done } in
-    unwritten_ends words before after c.args.work.done c.args.work.file end fits asked refl c.status.ensures c.in-Err.fault refl
+    unwritten_ends words before after c.args.work.done c.args.work.file c.args.work.second end fits asked refl c.status.ensures c.in-Err.fault refl
     (c.in-Err.ensures).cause (c.in-Err.ensures).count.later refl refl
 
 pub returns-in_default-clause-ends : goal.returns-in_default-clause-ends

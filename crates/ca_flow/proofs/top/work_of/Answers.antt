@@ -1,11 +1,14 @@
 use Rattle.std.proofs.Common.{◌≢◌, subst}
-use Rattle.std.specs.Prelude.{ℕ, List}
+use Rattle.std.specs.Prelude.{ℕ, List, Option}
 use Rattle.ca_load.specs.Texts.{names_of}
 use Rattle.ca_load.proofs.LinkLemmas.{handed_on}
 use Rattle.ca_fault.specs.declared.fault.Fault.TheVariants.{SinkFailed}
-use Rattle.ca_flow.specs.Command.{IsSpelled, IsSpelledDefects, IsSpelledMatrix, IsSpelledSimulate}
+use Rattle.ca_words.specs.Command.{IsSpelled, IsSpelledDefects, IsSpelledMatrix, IsSpelledSimulate, IsSpelledMake}
+use Rattle.ca_store.specs.Store.{Files}
+use Rattle.ca_flow.specs.declared.work.Work.{Work}
+use Rattle.ca_flow.specs.Ends.{IsAsked}
 use Rattle.ca_flow.specs.Fault.{IsWorkCause}
-use Rattle.ca_flow.proofs.CauseLemmas.{defects_asked, matrix_asked, simulate_cause, no_flat_sink, no_ends_sink}
+use Rattle.ca_flow.proofs.CauseLemmas.{defects_asked, matrix_asked, simulate_cause, no_check_sink, no_flat_sink, no_ends_sink, ok_then}
 use Rattle.ca_flow.proofs.top.work_of.Goals as goal
 
 pub returns-in_ok-find_names-in-Defects-clause-asked : goal.returns-in_ok-find_names-in-Defects-clause-asked
@@ -54,3 +57,24 @@ returns-in_err-chip-in-Simulate-clause-no_sink g c =
     (no_ends_sink (names_of request.of.files) request.of.instance.now request.of.defect.now request.first.now
     request.last.now (g.S.Store.files c.args.store.now) (g.S.Store.faults c.args.store.now)
     (g.S.Store.faults c.find_simulation.new.store) fault (c.in_err-chip-in-Simulate.ensures).cause)
+
+pub returns-in_err-chip-in-Check-clause-no_sink : goal.returns-in_err-chip-in-Check-clause-no_sink
+returns-in_err-chip-in-Check-clause-no_sink g c =
+    let fault = c.in_err-chip-in-Check.field-0.0 in
+    handed_on c.from_residual-in_err-chip-in-Check.result fault (λ fault. fault ≢ SinkFailed)
+    c.from_residual-in_err-chip-in-Check.ensures.1
+    (no_check_sink (names_of c.in-Check.names) (g.S.Store.files c.args.store.now) (g.S.Store.faults c.args.store.now)
+    (g.S.Store.faults c.load.new.store) fault (c.in_err-chip-in-Check.ensures).cause)
+
+pub returns-in-Atpg-clause-cause : goal.returns-in-Atpg-clause-cause
+returns-in-Atpg-clause-cause g c = rw c.in-Atpg.is c.tests_work.ensures.cause
+
+pub returns-in-Replay-clause-cause : goal.returns-in-Replay-clause-cause
+returns-in-Replay-clause-cause g c = rw c.in-Replay.is c.replay_work.ensures.cause
+
+pub returns-in-Make-clause-asked : goal.returns-in-Make-clause-asked
+returns-in-Make-clause-asked g c = ok_then c.make_work.result
+    (λ (work : Work). (words : List (List ℕ)) (files : Option Files) → IsSpelledMake words c.in-Make.number → IsAsked words files work.done)
+    (λ (work : Work). (words : List (List ℕ)) → IsSpelled words c.args.command.now → IsAsked words (g.S.Store.files c.args.store.now) work.done)
+    (λ work held words spelled. held words (g.S.Store.files c.args.store.now) (subst (IsSpelled words) c.in-Make.is spelled))
+    c.make_work.ensures.asked

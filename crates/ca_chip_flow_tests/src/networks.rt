@@ -1,0 +1,51 @@
+//! The commands `flatten` and `simulate` over a store and a sink in memory.
+
+use crate::files::FILES;
+use crate::netlists::{FLAT, FLATTEN, SIMULATE};
+use ca_store::FailList;
+use ca_trial::{Limits, Trial, check_end, check_rows, file_map, try_command};
+use std::alloc::Global;
+use std::process::Abort;
+use std::test::Fail;
+
+#[test]
+fn a_network_and_its_outputs_are_told_or_the_words_are_refused(
+    rt: HostRuntime,
+) -> Result<(), Fail> {
+    let alloc = rt.alloc();
+    check_rows(&rt, alloc, &FILES, "flatten n.sp ", &FLATTEN)?;
+    check_rows(&rt, alloc, &FILES, "simulate n.sp ", &SIMULATE)
+}
+
+// One command over a store that has room for so many bytes more.
+fn tried(rt: &impl Abort, alloc: Global, line: &str, space: usize) -> Trial {
+    let files = file_map(alloc, &FILES).expect(rt, "memory");
+    try_command(
+        alloc,
+        files,
+        line,
+        Limits::of(space, 100),
+        FailList::new(alloc),
+    )
+    .expect(rt, "memory")
+}
+
+// The text stands in the file, or a first part of it where the room ends.
+#[test]
+fn a_network_stands_in_its_file(rt: HostRuntime) -> Result<(), Fail> {
+    let alloc = rt.alloc();
+    let line = "flatten n.sp inv.v - - - f.sp";
+    let whole = tried(&rt, alloc, line, 10_000);
+    let bytes = whole.store.bytes("f.sp").expect(&rt, "the file is there");
+    assert_eq!(rt; bytes, FLAT.as_bytes());
+    let short = tried(&rt, alloc, line, 20);
+    check_end(&rt, alloc, line, &short, &("", 4, "", "file fault: f.sp"))?;
+    let part = short.store.bytes("f.sp").expect(&rt, "the file is there");
+    assert_eq!(rt; part, b"* 0 input\n* 1 in".as_slice());
+    let faulty = tried(&rt, alloc, "flatten n.sp glitch.v - u5 MP1(D) f.sp", 10_000);
+    let bytes = faulty.store.bytes("f.sp").expect(&rt, "the file is there");
+    let text = str::from_utf8(bytes).expect(&rt, "the file is a text");
+    let node = text.lines().nth(14).expect(&rt, "the line is there");
+    assert_eq!(rt; node, "* 14 storage 1");
+    Ok(())
+}

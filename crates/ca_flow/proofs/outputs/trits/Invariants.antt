@@ -1,6 +1,0 @@
-use Rattle.std.proofs.Common.{◌≡◌, map, take}
-use Rattle.ca_flow.specs.Outputs.{trit_of}
-use Rattle.ca_flow.proofs.outputs.trits.Given as goal
-
-abbrev pub invariant-loop-letter : goal.invariant-loop-letter
-invariant-loop-letter l = l.values.items ≡ map trit_of (take l.letter-index l.letters)

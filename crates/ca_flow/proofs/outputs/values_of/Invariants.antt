@@ -1,6 +1,0 @@
-use Rattle.std.proofs.Common.{◌≡◌, take}
-use Rattle.ca_flow.proofs.OutputLemmas.{told_values}
-use Rattle.ca_flow.proofs.outputs.values_of.Given as goal
-
-abbrev pub invariant-loop-place : goal.invariant-loop-place
-invariant-loop-place g l = l.values ≡ told_values (take l.place l.pins) l.waves.items

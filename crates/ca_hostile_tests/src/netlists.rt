@@ -1,0 +1,33 @@
+//! Gate netlists and a table of scan cells.
+
+// The smallest benchmark of its family: six gates.
+pub(crate) const C17: &str = "\
+module c17(N1, N2, N3, N6, N7, N22, N23);
+  input N1, N2, N3, N6, N7; output N22, N23; wire N10, N11, N16, N19;
+  NAND2 g0 (.A1(N1), .A2(N3), .ZN(N10));
+  NAND2 g1 (.A1(N3), .A2(N6), .ZN(N11));
+  NAND2 g2 (.A1(N2), .A2(N11), .ZN(N16));
+  NAND2 g3 (.A1(N11), .A2(N7), .ZN(N19));
+  NAND2 g4 (.A1(N10), .A2(N16), .ZN(N22));
+  NAND2 g5 (.A1(N16), .A2(N19), .ZN(N23)); endmodule
+";
+
+pub(crate) const INV: &str = "\
+module inv1(a, z); input a; output z;
+  INV u1 (.A(a), .ZN(z)); endmodule
+";
+
+// Two scan instances on one chain, between two inverters.
+pub(crate) const SHIFT: &str = "\
+module shift(a, se, ck, hold, si, z, so);
+  input a, se, ck, hold, si; output z, so; wire w, q, t, v;
+  INV u1 (.A(a), .ZN(w));
+  SFF r0 (.D(w), .Q(q), .SI(si), .SO(t), .SE(se), .CK(ck), .HOLD(hold));
+  SFF r1 (.D(q), .Q(v), .QN(), .SI(t), .SO(so), .SE(se), .CK(ck), .HOLD(hold));
+  INV u2 (.A(v), .ZN(z)); endmodule
+";
+
+pub(crate) const SCAN: &str = "\
+cell,d,q,qn,si,so,se,ck,hold
+SFF,D,Q,QN,SI,SO,SE,CK,HOLD
+";

@@ -1,0 +1,12 @@
+pub mod Plane
+pub mod Choice
+pub mod GoodRows
+pub mod Netlist
+pub mod Loaded
+pub mod Planes
+pub mod Screened
+pub mod Allowed
+pub mod Given
+pub mod Evaluated
+pub mod Set
+pub mod Sweep

@@ -1,0 +1,4 @@
+pub mod ListLemmas
+pub mod LoadLemmas
+pub mod GateLemmas
+pub mod TextLemmas

@@ -1,0 +1,11 @@
+pub mod CellLemmas
+pub mod SpellLemmas
+pub mod WordLemmas
+pub mod LineLemmas
+pub mod SpelledLemmas
+pub mod ChipLemmas
+pub mod FreshLemmas
+pub mod RightLemmas
+pub mod ChipReadLemmas
+pub mod NumberLemmas
+pub mod SoundLemmas

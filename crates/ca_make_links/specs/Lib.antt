@@ -1,0 +1,2 @@
+-- What the laws of linking generated chips say.
+pub mod Laws

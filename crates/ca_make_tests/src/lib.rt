@@ -1,0 +1,5 @@
+//! Tests of generated chips, as tables.
+#![tactic(auto)]
+
+#[cfg(test)]
+mod texts;

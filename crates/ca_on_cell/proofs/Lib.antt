@@ -1,0 +1,4 @@
+pub mod LineLemmas
+pub mod OutputLemmas
+pub mod FileLemmas
+pub mod StageLemmas

@@ -1,0 +1,6 @@
+pub mod Cells
+pub mod Outputs
+pub mod Defects
+pub mod Causes
+pub mod Stages
+pub mod Lines

@@ -1,0 +1,41 @@
+-- Why a stage of a command on one cell fails, over what it was handed: a library, a cell.
+use Rattle.std.specs.Prelude.{◌≡◌, ◌⊎◌, ℕ, List, Some, None, ⊤}
+use Rattle.ca_lex.specs.Words.{upper_case}
+use Rattle.ca_cell.specs.declared.raw.RawCell.{RawCell}
+use Rattle.ca_cell.specs.declared.rule.CellRule.{CellRule}
+use Rattle.ca_cell.specs.declared.library.Entry.TheVariants.{Refused}
+use Rattle.ca_cell.specs.Library.{Named, entry_of}
+use Rattle.ca_cell.specs.Rules.{KeepsRules, IsFirstBroken}
+use Rattle.ca_on_cell.specs.declared.inputs.TypedWords.{TypedWords}
+use Rattle.ca_fault.specs.declared.fault.Fault.{Fault}
+use Rattle.ca_fault.specs.declared.fault.Fault.TheVariants.{NoCell, Cell, BadVector, NoMemory}
+use Rattle.ca_on_cell.specs.Outputs.{Fits}
+use Rattle.ca_on_cell.specs.Causes.{IsPairCause}
+
+-- the words of a file and a cell as they were typed, and the cell's also in upper case
+pub record AreTyped (cells cell : List ℕ) (typed : TypedWords) : Type 0 where
+  pub cells_is : typed.cells ≡ cells
+  pub cell_is : typed.cell ≡ cell
+  pub upper_is : typed.upper_cell ≡ upper_case cell
+
+-- the word names a subcircuit that breaks this rule first
+pub record RefusesCell (library : List Named) (word : List ℕ) (rule : CellRule) : Type 0 where
+  pub raw : RawCell
+  pub found : entry_of library (upper_case word) ≡ Some (Refused raw rule)
+  pub broken : IsFirstBroken raw rule
+
+-- why a word finds no cell in a library; never want of memory
+abbrev pub IsEntryCause : List ℕ → List Named → Fault → Type 0
+IsEntryCause word library (NoCell typed) = (typed ≡ word) × (entry_of library (upper_case word) ≡ None)
+IsEntryCause word library (Cell name rule) = (name ≡ upper_case word) × RefusesCell library word rule
+IsEntryCause word library _ = ⊥
+
+-- why a vector isn't one of the cell
+abbrev pub IsUnfit : RawCell → List ℕ → Fault → Type 0
+IsUnfit raw word (BadVector typed) = (typed ≡ word) × (KeepsRules raw × ¬ (Fits raw word))
+IsUnfit raw word NoMemory = ⊤
+IsUnfit raw word _ = ⊥
+
+-- why a cell has no values under two vectors with a defect
+abbrev pub IsEvaluationCause : List ℕ → List ℕ → List ℕ → RawCell → Fault → Type 0
+IsEvaluationCause first last defect raw fault = (fault ≡ NoMemory) ⊎ IsPairCause first last defect fault raw

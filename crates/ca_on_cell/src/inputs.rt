@@ -1,0 +1,60 @@
+//! The words and the cell of a command on one cell.
+ghost use Rattle.std.specs.Prelude.{◌≡◌, Some, IfErr, IfOk};
+ghost use Rattle.ca_lex.specs.Words.{upper_case};
+ghost use Rattle.ca_cell.specs.Library.{entry_of};
+ghost use Rattle.ca_cell.specs.Rules.{KeepsRules};
+ghost use Rattle.ca_cell.specs.declared.library.Entry.TheVariants as entry;
+ghost use Rattle.ca_on_cell.specs.Stages.{AreTyped, IsEntryCause};
+
+use ca_base::NoMemory;
+use ca_cell::{Cell, Entry, Library};
+use ca_fault::Fault;
+use ca_lex::{Text, fold};
+use ca_words::CellWords;
+use std::alloc::Global;
+
+/// What a fault says of the file and the cell of a command. It stands in memory of its own before the file is
+/// opened, so that no fault of the file or of the cell's name is told as want of memory.
+#[derive(Drop)]
+pub struct TypedWords {
+    pub cells: Text,
+    pub cell: Text,
+    pub upper_cell: Text,
+}
+
+/// The words that faults of the file and the cell's name are told with.
+pub fn typed_words(alloc: Global, words: &CellWords<'_>) -> Result<TypedWords, NoMemory>
+    ensures { IfOk result (AreTyped words.now.cells.now words.now.cell.now) }
+{
+    Ok(TypedWords {
+        cells: Text::from_bytes(alloc, words.cells.as_bytes())?,
+        cell: Text::from_bytes(alloc, words.cell.as_bytes())?,
+        upper_cell: fold(alloc, words.cell.as_bytes())?,
+    })
+}
+
+/// The cell of a name, which may be in any case. It takes no memory: the word stands in memory of its own,
+/// as it was typed and in upper case.
+pub fn find_cell<'a>(
+    library: &'a Library,
+    word: &str,
+    typed: Text,
+    upper: Text,
+) -> Result<&'a Cell, Fault>
+    requires typed { typed ≡ word.now }
+    requires upper { upper ≡ upper_case word.now }
+
+    ensures found { IfOk result (λ cell.
+        entry_of library.now (upper_case word.now) ≡ Some (entry.Sound cell.now)) }
+    ensures kept { IfOk result (λ cell. KeepsRules cell.now) }
+    ensures cause { IfErr result (IsEntryCause word.now library.now) }
+{
+    match library.get(word.as_bytes()) {
+        Some(Entry::Sound(cell)) => Ok(cell),
+        Some(Entry::Refused(_, rule)) => Err(Fault::Cell {
+            cell: upper,
+            rule: *rule,
+        }),
+        None => Err(Fault::NoCell { word: typed }),
+    }
+}

@@ -1,0 +1,52 @@
+//! The names that `defects` asks for.
+ghost use Rattle.std.specs.Prelude.{◌≡◌, Some, IfErr, IfOk, OnOk};
+ghost use Rattle.ca_store.specs.Store.{Nothing};
+ghost use Rattle.ca_defect.specs.Name.{names_of};
+ghost use Rattle.ca_on_cell.specs.Cells.{OfCell};
+ghost use Rattle.ca_on_cell.specs.Causes.{IsCellCause};
+ghost use Rattle.ca_load.specs.Files.{TellsStoreFault};
+ghost use Rattle.ca_on_cell.specs.Defects.{AreDefectNames};
+
+use crate::inputs::{find_cell, typed_words};
+use ca_base::NoMemory;
+use ca_cell::Cell;
+use ca_defect::{defect_names, defects};
+use ca_fault::Fault;
+use ca_lex::Names;
+use ca_load::open_library;
+use ca_store::Store;
+use ca_words::CellWords;
+use std::alloc::Global;
+
+/// The names of the defects of the cell that the words name in their file.
+#[tactic(auto, using(crate::proofs::FileLemmas::of_entry, crate::proofs::StageLemmas::of_entry_cause))]
+pub fn find_names<S: Store>(
+    alloc: Global,
+    request: &CellWords<'_>,
+    store: &mut S,
+) -> Result<Names, Fault>
+    requires closed { S.opened store.old ≡ Nothing }
+
+    ensures names { IfOk result (λ names.
+        OfCell (S.files store.old) request.now.cells.now request.now.cell.now (AreDefectNames names)) }
+    ensures cause { IfErr result (IsCellCause request.now.cells.now request.now.cell.now
+        (S.files store.old) (S.faults store.old) (S.faults store.new)) }
+    ensures quiet { OnOk result (S.faults store.new ≡ S.faults store.old) }
+    ensures told { IfErr result (λ fault.
+        TellsStoreFault (Some fault) (S.faults store.old) (S.faults store.new)) }
+    ensures closed { S.opened store.new ≡ Nothing }
+    ensures kept { S.files store.new ≡ S.files store.old }
+{
+    let typed = typed_words(alloc, request)?;
+    let library = open_library(alloc, request.cells, typed.cells, store)?;
+    let cell = find_cell(&library, request.cell, typed.cell, typed.upper_cell)?;
+    Ok(names_of(alloc, cell)?)
+}
+
+// The names of the cell's defects, in their order.
+fn names_of(alloc: Global, cell: &Cell) -> Result<Names, NoMemory>
+    ensures { IfOk result (λ names. names ≡ names_of cell.now) }
+{
+    let list = defects(alloc, cell)?;
+    defect_names(alloc, cell, &list)
+}

@@ -1,0 +1,5 @@
+pub mod ChipLemmas
+pub mod LineLemmas
+pub mod AskedLemmas
+pub mod ReplayLemmas
+pub mod MakeLemmas

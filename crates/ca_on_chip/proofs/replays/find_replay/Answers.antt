@@ -1,0 +1,35 @@
+use Rattle.std.specs.Prelude.{Some}
+use Rattle.ca_load.specs.Texts.{names_of}
+use Rattle.ca_load.specs.Files.{TellsStoreFault}
+use Rattle.ca_load.proofs.LinkLemmas.{handed_on}
+use Rattle.ca_load.proofs.ReadLemmas.{told_since}
+use Rattle.ca_on_chip.specs.Replay.{IsRunCause}
+use Rattle.ca_on_chip.proofs.ReplayLemmas.{at_run}
+use Rattle.ca_on_chip.proofs.replays.find_replay.Goals as goal
+
+pub returns-in_err-ends-clause-cause : goal.returns-in_err-ends-clause-cause
+returns-in_err-ends-clause-cause g c =
+    let request = c.args.request.now in
+    let names = names_of request.of.of.files in
+    let files = g.S.Store.files c.args.store.now in
+    let before = g.S.Store.faults c.args.store.now in
+    let between = g.S.Store.faults c.load.new.store in
+    let after = g.S.Store.faults c.run_ends.new.store in
+    let fault = c.in_err-ends.field-0.0 in
+    let read = c.in_ok-chip.ensures in
+    handed_on c.from_residual-in_err-ends.result fault
+    (IsRunCause names request.of.of.instance.now request.of.of.defect.now request.of.first.now request.of.last.now request.order.now files before after)
+    c.from_residual-in_err-ends.ensures.1
+    (at_run names files (g.S.Store.files c.load.new.store) before between after c.in_ok-chip.field-0.chip request.of.of.instance.now
+    request.of.of.defect.now request.of.first.now request.of.last.now request.order.now fault read.kept read.quiet read.ok (c.in_err-ends.ensures).cause)
+
+pub returns-in_err-ends-clause-told : goal.returns-in_err-ends-clause-told
+returns-in_err-ends-clause-told g c =
+    let before = g.S.Store.faults c.args.store.now in
+    let between = g.S.Store.faults c.load.new.store in
+    let after = g.S.Store.faults c.run_ends.new.store in
+    let fault = c.in_err-ends.field-0.0 in
+    let read = c.in_ok-chip.ensures in
+    handed_on c.from_residual-in_err-ends.result fault (λ fault. TellsStoreFault (Some fault) before after)
+    c.from_residual-in_err-ends.ensures.1
+    (told_since (Some fault) before between after read.quiet (c.in_err-ends.ensures).told)

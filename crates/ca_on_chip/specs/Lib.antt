@@ -1,0 +1,4 @@
+pub mod OnChip
+pub mod Replay
+pub mod Making
+pub mod Lines

@@ -1,0 +1,83 @@
+//! What `make` asks for.
+ghost use Rattle.std.specs.Prelude.{◌≤◌, IfErr, IfOk};
+ghost use Rattle.ca_credit.specs.Good.{IsGood};
+ghost use Rattle.ca_core_bench.specs.ChipTask.{task_of};
+ghost use Rattle.ca_make.specs.declared.gate.TheConstants.{MOST_GATES};
+ghost use Rattle.ca_on_chip.specs.OnChip.{IsTestsStage};
+ghost use Rattle.ca_on_chip.specs.Making.{IsMadeChip, IsMakeStage};
+
+use ca_core_bench::generate_chip;
+use ca_credit::Verdicts;
+use ca_fault::Fault;
+use ca_generate::{Aims, GenerateFault, Generated};
+use ca_make_laws::{library_is_read, netlist_is_read};
+use ca_make_links::{chip_keeps_rules, made_chip};
+use ca_pair::Pairs;
+use ca_wired::Chip;
+use std::alloc::Global;
+
+/// How many branches each search has on a generated chip.
+pub const MAKE_BUDGET: u32 = 64;
+
+/// A generated chip, with the listed pairs, for each the place of the defect for which it was found, and a
+/// verdict for each defect.
+#[derive(Drop)]
+pub struct MadeChip {
+    pub chip: Chip,
+    pub pairs: Pairs,
+    pub aims: Aims,
+    pub verdicts: Verdicts,
+}
+
+/// The tests of the generated chip of a number.
+#[tactic(auto, using(crate::proofs::MakeLemmas::too_many))]
+pub fn find_made(alloc: Global, number: u32) -> Result<MadeChip, Fault>
+    requires { number ≤ MOST_GATES }
+
+    ensures chip { IfOk result (λ made. IsMadeChip number made.chip) }
+    ensures good { IfOk result (λ made.
+        IsGood (task_of made.chip MAKE_BUDGET) made.pairs made.aims made.verdicts) }
+    ensures cause { IfErr result (IsMakeStage number) }
+{
+    let chip = linked(alloc, number)?;
+    let Generated {
+        pairs,
+        aims,
+        verdicts,
+    } = generated_for(alloc, &chip)?;
+    Ok(MadeChip {
+        chip,
+        pairs,
+        aims,
+        verdicts,
+    })
+}
+
+// The generated chip of a number.
+#[tactic(auto, using(crate::proofs::MakeLemmas::is_made))]
+fn linked(alloc: Global, number: u32) -> Result<Chip, Fault>
+    requires { number ≤ MOST_GATES }
+
+    ensures chip { IfOk result (IsMadeChip number) }
+    ensures cause { IfErr result (IsMakeStage number) }
+{
+    library_is_read();
+    netlist_is_read();
+    chip_keeps_rules();
+    Ok(made_chip(alloc, number)?)
+}
+
+// What is generated for a chip, or why there is nothing.
+fn generated_for(alloc: Global, chip: &Chip) -> Result<Generated, Fault>
+    ensures good { IfOk result
+        (λ made. IsGood (task_of chip.now MAKE_BUDGET) made.pairs made.aims made.verdicts) }
+    ensures cause { IfErr result (IsTestsStage MAKE_BUDGET chip.now) }
+{
+    match generate_chip(alloc, chip, MAKE_BUDGET) {
+        Ok(made) => Ok(made),
+        Err(GenerateFault::TooManyPairs { pairs, aims }) => {
+            Err(Fault::TooManyPairs { pairs, aims })
+        }
+        Err(GenerateFault::NoMemory) => Err(Fault::NoMemory),
+    }
+}

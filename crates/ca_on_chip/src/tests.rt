@@ -1,0 +1,78 @@
+//! What `atpg` asks for.
+ghost use Rattle.std.specs.Prelude.{◌≡◌, Some, IfErr, IfOk, OnOk};
+ghost use Rattle.ca_store.specs.Store.{Nothing};
+ghost use Rattle.ca_scan.specs.ChainFault.{AreAllChains};
+ghost use Rattle.ca_credit.specs.Good.{IsGood};
+ghost use Rattle.ca_core_bench.specs.ChipTask.{task_of};
+ghost use Rattle.ca_atpg.specs.Atpg.{IsStil, report_of};
+ghost use Rattle.ca_load.specs.Files.{TellsStoreFault};
+ghost use Rattle.ca_load.specs.Texts.{names_of};
+ghost use Rattle.ca_on_chip.specs.OnChip.{IsChipOfFiles, IsTestsCause, IsTestsStage};
+
+use ca_atpg::{Tested, atpg};
+use ca_fault::Fault;
+use ca_generate::GenerateFault;
+use ca_load::{Loaded, load};
+use ca_scan::Chains;
+use ca_store::Store;
+use ca_wired::Chip;
+use ca_words::AtpgWords;
+use std::alloc::Global;
+
+/// A chip with its scan chains, and the tests for it.
+#[derive(Drop)]
+pub struct TestedChip {
+    pub chip: Chip,
+    pub chains: Chains,
+    pub made: Tested,
+}
+
+/// The tests of the chip that the words name in their files.
+#[tactic(auto, using(crate::proofs::AskedLemmas::at_tests))]
+pub fn find_tests<S: Store>(
+    alloc: Global,
+    request: &AtpgWords<'_>,
+    store: &mut S,
+) -> Result<TestedChip, Fault>
+    requires closed { S.opened store.old ≡ Nothing }
+
+    ensures chip { IfOk result (λ found.
+        IsChipOfFiles (S.files store.old) (names_of request.now.files) found.chip) }
+    ensures chains { IfOk result (λ found. AreAllChains found.chip found.chains) }
+    ensures good { IfOk result (λ found. IsGood (task_of found.chip request.now.budget)
+        found.made.pairs found.made.aims found.made.verdicts) }
+    ensures stil { IfOk result (λ found.
+        IsStil found.chip found.chains found.made.pairs found.made.stil) }
+    ensures report { IfOk result (λ found.
+        found.made.report ≡ report_of found.chip found.made.verdicts) }
+    ensures cause { IfErr result (IsTestsCause (names_of request.now.files) request.now.budget
+        (S.files store.old) (S.faults store.old) (S.faults store.new)) }
+    ensures quiet { OnOk result (S.faults store.new ≡ S.faults store.old) }
+    ensures told { IfErr result (λ fault.
+        TellsStoreFault (Some fault) (S.faults store.old) (S.faults store.new)) }
+    ensures closed { S.opened store.new ≡ Nothing }
+    ensures kept { S.files store.new ≡ S.files store.old }
+{
+    let Loaded { chip, chains } = load(alloc, &request.files, store)?;
+    let made = tests_of(alloc, &chip, &chains, request.budget)?;
+    Ok(TestedChip { chip, chains, made })
+}
+
+// The tests of a chip, or why there are none.
+fn tests_of(alloc: Global, chip: &Chip, chains: &Chains, budget: u32) -> Result<Tested, Fault>
+    requires chains { AreAllChains chip.now chains.now }
+
+    ensures good { IfOk result
+        (λ made. IsGood (task_of chip.now budget) made.pairs made.aims made.verdicts) }
+    ensures stil { IfOk result (λ made. IsStil chip.now chains.now made.pairs made.stil) }
+    ensures report { IfOk result (λ made. made.report ≡ report_of chip.now made.verdicts) }
+    ensures cause { IfErr result (IsTestsStage budget chip.now) }
+{
+    match atpg(alloc, chip, chains, budget) {
+        Ok(made) => Ok(made),
+        Err(GenerateFault::TooManyPairs { pairs, aims }) => {
+            Err(Fault::TooManyPairs { pairs, aims })
+        }
+        Err(GenerateFault::NoMemory) => Err(Fault::NoMemory),
+    }
+}

@@ -1,0 +1,2 @@
+pub mod BudgetLemmas
+pub mod WordLemmas

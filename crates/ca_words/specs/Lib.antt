@@ -1,0 +1,3 @@
+pub mod Budget
+pub mod Words
+pub mod Command

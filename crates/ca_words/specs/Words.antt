@@ -1,0 +1,248 @@
+-- The words of a command.
+use Rattle.std.specs.Prelude.{◌≡◌, ◌≢◌, ◌⊎◌, ℕ, List, [], length, codes, slice_index_or, Option, Some, None, if◌then◌else◌}
+use Rattle.std.specs.List.{All}
+use Rattle.std.specs.Str.{bytes_eq}
+use Rattle.ca_load.specs.Texts.{InputFiles}
+use Rattle.ca_asked.specs.Asked.{AreBothOrNeither}
+use Rattle.ca_words.specs.Budget.{IsBudget, IsChipNumber}
+pub use Rattle.ca_asked.specs.Vectors.{dash}
+
+-- the word at a place, counted from 0
+abbrev pub word_at : List (List ℕ) → ℕ → List ℕ
+word_at words place = slice_index_or words place []
+
+-- the name of the cell netlist's file
+abbrev pub cells_word : List (List ℕ) → List ℕ
+cells_word words = word_at words 1
+
+-- the name of the cell
+abbrev pub cell_word : List (List ℕ) → List ℕ
+cell_word words = word_at words 2
+
+-- the vector of `respond`
+abbrev pub vector_word : List (List ℕ) → List ℕ
+vector_word words = word_at words 3
+
+-- the first vector of `pair`
+abbrev pub first_word : List (List ℕ) → List ℕ
+first_word words = word_at words 3
+
+-- the last vector of `pair`
+abbrev pub last_word : List (List ℕ) → List ℕ
+last_word words = word_at words 4
+
+-- the defect of `pair`, or a dash
+abbrev pub defect_word : List (List ℕ) → List ℕ
+defect_word words = word_at words 5
+
+-- the file that `matrix` writes
+abbrev pub out_word : List (List ℕ) → List ℕ
+out_word words = word_at words 3
+
+-- the name of the gate netlist's file
+abbrev pub netlist_word : List (List ℕ) → List ℕ
+netlist_word words = word_at words 2
+
+-- the name of the file of the table of scan cells, or a dash
+abbrev pub scan_word : List (List ℕ) → List ℕ
+scan_word words = word_at words 3
+
+-- the name of the library instance that has the defect, or a dash
+abbrev pub instance_word : List (List ℕ) → List ℕ
+instance_word words = word_at words 4
+
+-- the defect of its cell, or a dash
+abbrev pub chip_defect_word : List (List ℕ) → List ℕ
+chip_defect_word words = word_at words 5
+
+-- the file that `flatten` writes
+abbrev pub flat_out_word : List (List ℕ) → List ℕ
+flat_out_word words = word_at words 6
+
+-- the first vector of `simulate` and `replay`
+abbrev pub chip_first_word : List (List ℕ) → List ℕ
+chip_first_word words = word_at words 6
+
+-- the last vector of `simulate` and `replay`
+abbrev pub chip_last_word : List (List ℕ) → List ℕ
+chip_last_word words = word_at words 7
+
+-- the file of events of `replay`
+abbrev pub order_word : List (List ℕ) → List ℕ
+order_word words = word_at words 8
+
+-- the file of patterns that `atpg` writes
+abbrev pub stil_word : List (List ℕ) → List ℕ
+stil_word words = word_at words 4
+
+-- the report that `atpg` writes
+abbrev pub report_word : List (List ℕ) → List ℕ
+report_word words = word_at words 5
+
+-- the budget of `atpg`
+abbrev pub budget_word : List (List ℕ) → List ℕ
+budget_word words = word_at words 6
+
+-- the number of `make`
+abbrev pub number_word : List (List ℕ) → List ℕ
+number_word words = word_at words 1
+
+-- a file name is not empty and not a dash
+pub record IsFileName (word : List ℕ) : Type 0 where
+  pub some : word ≢ []
+  pub no_dash : word ≢ dash
+
+-- the file that a word names, where a dash names none
+abbrev pub file_called : List ℕ → Option (List ℕ)
+file_called word = if bytes_eq word dash then None else Some word
+
+-- the files of a command on a chip
+abbrev pub chip_files : List (List ℕ) → InputFiles
+chip_files words = record {
+  cells = cells_word words;
+  netlist = netlist_word words;
+  scan = file_called (scan_word words);
+}
+
+-- a letter of a vector: 0, 1 or X
+abbrev pub IsLetter : ℕ → Type 0
+IsLetter byte = (byte ≡ 48) ⊎ ((byte ≡ 49) ⊎ (byte ≡ 88))
+
+-- a vector is a dash, which stands for the empty one, or letters
+abbrev pub IsVector : List ℕ → Type 0
+IsVector word = (word ≡ dash) ⊎ ((word ≢ []) × All IsLetter word)
+
+-- the words are `respond CELLS CELL VECTOR`
+pub record IsRespond (words : List (List ℕ)) : Type 0 where
+  pub four : length words ≡ 4
+  pub command : word_at words 0 ≡ codes "respond"
+  pub file : IsFileName (cells_word words)
+  pub vector : IsVector (vector_word words)
+
+-- the words are `pair CELLS CELL FIRST LAST DEFECT`
+pub record IsPair (words : List (List ℕ)) : Type 0 where
+  pub six : length words ≡ 6
+  pub command : word_at words 0 ≡ codes "pair"
+  pub file : IsFileName (cells_word words)
+  pub first : IsVector (first_word words)
+  pub last : IsVector (last_word words)
+
+-- the words are `defects CELLS CELL`
+pub record IsDefects (words : List (List ℕ)) : Type 0 where
+  pub three : length words ≡ 3
+  pub command : word_at words 0 ≡ codes "defects"
+  pub file : IsFileName (cells_word words)
+
+-- the words are `matrix CELLS CELL OUT`, and the two files have different names
+pub record IsMatrix (words : List (List ℕ)) : Type 0 where
+  pub four : length words ≡ 4
+  pub command : word_at words 0 ≡ codes "matrix"
+  pub file : IsFileName (cells_word words)
+  pub out : IsFileName (out_word words)
+  pub others : out_word words ≢ cells_word words
+
+-- the names of the files of a command on a chip differ, and the last may be a dash
+pub record AreChipFiles (cells netlist scan : List ℕ) : Type 0 where
+  pub cells_is : IsFileName cells
+  pub netlist_is : IsFileName netlist
+  pub scan_is : scan ≢ []
+  pub others : netlist ≢ cells
+  pub not_cells : scan ≢ cells
+  pub not_netlist : scan ≢ netlist
+
+-- the words begin with a command on a chip and CELLS, NETLIST and SCAN
+abbrev pub HasChipFiles : List (List ℕ) → Type 0
+HasChipFiles words = AreChipFiles (cells_word words) (netlist_word words) (scan_word words)
+
+-- a further file has a name that none of the files of a command on a chip has
+pub record IsOtherFile (file cells netlist scan : List ℕ) : Type 0 where
+  pub name : IsFileName file
+  pub not_cells : file ≢ cells
+  pub not_netlist : file ≢ netlist
+  pub not_scan : file ≢ scan
+
+-- the words are `check CELLS NETLIST SCAN`
+pub record IsCheck (words : List (List ℕ)) : Type 0 where
+  pub four : length words ≡ 4
+  pub command : word_at words 0 ≡ codes "check"
+  pub files : HasChipFiles words
+
+-- the words are `flatten CELLS NETLIST SCAN INSTANCE DEFECT OUT`
+pub record IsFlatten (words : List (List ℕ)) : Type 0 where
+  pub seven : length words ≡ 7
+  pub command : word_at words 0 ≡ codes "flatten"
+  pub files : HasChipFiles words
+  pub defect : AreBothOrNeither (instance_word words) (chip_defect_word words)
+  pub out : IsOtherFile (flat_out_word words) (cells_word words) (netlist_word words) (scan_word words)
+
+-- the words are `simulate CELLS NETLIST SCAN INSTANCE DEFECT FIRST LAST`
+pub record IsSimulate (words : List (List ℕ)) : Type 0 where
+  pub eight : length words ≡ 8
+  pub command : word_at words 0 ≡ codes "simulate"
+  pub files : HasChipFiles words
+  pub defect : AreBothOrNeither (instance_word words) (chip_defect_word words)
+  pub first : IsVector (chip_first_word words)
+  pub last : IsVector (chip_last_word words)
+
+-- the words are `atpg CELLS NETLIST SCAN STIL REPORT BUDGET`
+pub record IsAtpg (words : List (List ℕ)) : Type 0 where
+  pub seven : length words ≡ 7
+  pub command : word_at words 0 ≡ codes "atpg"
+  pub files : HasChipFiles words
+  pub stil : IsOtherFile (stil_word words) (cells_word words) (netlist_word words) (scan_word words)
+  pub report : IsOtherFile (report_word words) (cells_word words) (netlist_word words) (scan_word words)
+  pub others : report_word words ≢ stil_word words
+  pub budget : IsBudget (budget_word words)
+
+-- the words are `replay CELLS NETLIST SCAN INSTANCE DEFECT FIRST LAST ORDER`
+pub record IsReplay (words : List (List ℕ)) : Type 0 where
+  pub nine : length words ≡ 9
+  pub command : word_at words 0 ≡ codes "replay"
+  pub files : HasChipFiles words
+  pub defect : AreBothOrNeither (instance_word words) (chip_defect_word words)
+  pub first : IsVector (chip_first_word words)
+  pub last : IsVector (chip_last_word words)
+  pub order : IsOtherFile (order_word words) (cells_word words) (netlist_word words) (scan_word words)
+
+-- the one word is `--help`
+pub record IsHelp (words : List (List ℕ)) : Type 0 where
+  pub one : length words ≡ 1
+  pub command : word_at words 0 ≡ codes "--help"
+
+-- the one word is `--version`
+pub record IsVersion (words : List (List ℕ)) : Type 0 where
+  pub one : length words ≡ 1
+  pub command : word_at words 0 ≡ codes "--version"
+
+-- the words are `make N`
+pub record IsMake (words : List (List ℕ)) : Type 0 where
+  pub two : length words ≡ 2
+  pub command : word_at words 0 ≡ codes "make"
+  pub number : IsChipNumber (number_word words)
+
+-- the words ask for a text that the program has, or for a generated chip, and for no file
+abbrev pub AsksNoFile : List (List ℕ) → Type 0
+AsksNoFile words = IsHelp words ⊎ (IsVersion words ⊎ IsMake words)
+
+-- the command generates tests
+abbrev pub GeneratesTests : List (List ℕ) → Type 0
+GeneratesTests words = IsAtpg words ⊎ IsMake words
+
+-- the words are those of a command on one cell
+abbrev pub IsOnCell : List (List ℕ) → Type 0
+IsOnCell words = IsRespond words ⊎ (IsPair words ⊎ (IsDefects words ⊎ IsMatrix words))
+
+-- the words are those of a command on a chip
+abbrev pub IsOnChip : List (List ℕ) → Type 0
+IsOnChip words = IsCheck words ⊎ (IsFlatten words ⊎ (IsSimulate words ⊎ (IsAtpg words ⊎ IsReplay words)))
+
+-- the words are those of a command
+abbrev pub IsCommand : List (List ℕ) → Type 0
+IsCommand words = IsOnCell words ⊎ (IsOnChip words ⊎ AsksNoFile words)
+
+-- the command writes the file of this name
+abbrev pub HasOut : List (List ℕ) → List ℕ → Type 0
+HasOut words name =
+    (IsMatrix words × (name ≡ out_word words))
+    ⊎ ((IsFlatten words × (name ≡ flat_out_word words))
+    ⊎ (IsAtpg words × ((name ≡ stil_word words) ⊎ (name ≡ report_word words))))

@@ -1,0 +1,11 @@
+//! The words of a command line, and the command that they spell.
+#![tactic(auto)]
+
+mod budget;
+mod words;
+
+pub use budget::{MOST_BUDGET, budget_of, chip_number_of};
+pub use words::{
+    AtpgWords, CellWords, ChipWords, Command, FlattenWords, MatrixWords, PairWords, ReplayWords,
+    SimulateWords, parse,
+};

@@ -1,0 +1,485 @@
+//! The words of a command.
+ghost use Rattle.std.specs.Prelude.{◌≡◌, ◌≢◌, ℕ, List, map, IfSome, IsNone, IsTrue, ◌↔◌};
+ghost use Rattle.std.specs.Option.{option_copied};
+ghost use Rattle.std.specs.String.{string_bytes};
+ghost use Rattle.ca_load.specs.Texts.{names_of};
+ghost use Rattle.ca_asked.specs.Asked.{AreBothOrNeither};
+ghost use Rattle.ca_words.specs.Words.{file_called, IsFileName, AreChipFiles, IsOtherFile, IsVector, IsLetter};
+ghost use Rattle.ca_words.specs.Words.{IsRespond, IsPair, IsDefects, IsMatrix, IsCheck, IsFlatten, IsSimulate, IsAtpg};
+ghost use Rattle.ca_words.specs.Words.{IsReplay, IsMake};
+ghost use Rattle.ca_words.specs.Words.{IsOnCell, IsOnChip, AsksNoFile, IsCommand};
+ghost use Rattle.ca_words.specs.Command.{IsSpelledRespond, IsSpelledPair, IsSpelledDefects, IsSpelledMatrix};
+ghost use Rattle.ca_words.specs.Command.{IsSpelledCheck, IsSpelledFlatten, IsSpelledSimulate};
+ghost use Rattle.ca_words.specs.Command.{IsSpelledAtpg, IsSpelledReplay, IsSpelledMake, IsSpelled};
+
+use crate::budget::{budget_of, chip_number_of};
+use ca_load::FileNames;
+
+/// A command, with its words as they were typed.
+#[derive(Clone, Copy)]
+pub enum Command<'a> {
+    /// `respond CELLS CELL VECTOR`: VECTOR is both the first and the last vector, and there is no defect.
+    Respond(PairWords<'a>),
+    /// `pair CELLS CELL FIRST LAST DEFECT`.
+    Pair(PairWords<'a>),
+    /// `defects CELLS CELL`.
+    Defects(CellWords<'a>),
+    /// `matrix CELLS CELL OUT`.
+    Matrix(MatrixWords<'a>),
+    /// `check CELLS NETLIST SCAN`.
+    Check(FileNames<'a>),
+    /// `flatten CELLS NETLIST SCAN INSTANCE DEFECT OUT`.
+    Flatten(FlattenWords<'a>),
+    /// `simulate CELLS NETLIST SCAN INSTANCE DEFECT FIRST LAST`.
+    Simulate(SimulateWords<'a>),
+    /// `replay CELLS NETLIST SCAN INSTANCE DEFECT FIRST LAST ORDER`.
+    Replay(ReplayWords<'a>),
+    /// `atpg CELLS NETLIST SCAN STIL REPORT BUDGET`.
+    Atpg(AtpgWords<'a>),
+    /// `make N`, with the number.
+    Make(u32),
+    /// `--help`.
+    Help,
+    /// `--version`.
+    Version,
+}
+
+/// The file and the cell of a command on one cell.
+#[derive(Clone, Copy)]
+pub struct CellWords<'a> {
+    pub cells: &'a str,
+    pub cell: &'a str,
+}
+
+/// The words of a command that asks for the values of a cell under two vectors, with a defect or a dash.
+#[derive(Clone, Copy)]
+pub struct PairWords<'a> {
+    pub of: CellWords<'a>,
+    pub first: &'a str,
+    pub last: &'a str,
+    pub defect: &'a str,
+}
+
+/// The words of a command that writes the matrix of a cell to a file.
+#[derive(Clone, Copy)]
+pub struct MatrixWords<'a> {
+    pub of: CellWords<'a>,
+    pub out: &'a str,
+}
+
+/// The files of a command on a chip, and a library instance with a defect of its cell, or two dashes.
+#[derive(Clone, Copy)]
+pub struct ChipWords<'a> {
+    pub files: FileNames<'a>,
+    pub instance: &'a str,
+    pub defect: &'a str,
+}
+
+/// The words of a command that writes the flat network of a chip to a file.
+#[derive(Clone, Copy)]
+pub struct FlattenWords<'a> {
+    pub of: ChipWords<'a>,
+    pub out: &'a str,
+}
+
+/// The words of a command that asks for the values of a chip's outputs under two vectors.
+#[derive(Clone, Copy)]
+pub struct SimulateWords<'a> {
+    pub of: ChipWords<'a>,
+    pub first: &'a str,
+    pub last: &'a str,
+}
+
+/// The words of a command that generates tests for a chip, with the budget that they say.
+#[derive(Clone, Copy)]
+pub struct AtpgWords<'a> {
+    pub files: FileNames<'a>,
+    pub stil: &'a str,
+    pub report: &'a str,
+    pub budget: u32,
+}
+
+/// The words of a command that replays one run of a chip, whose events stand in a file.
+#[derive(Clone, Copy)]
+pub struct ReplayWords<'a> {
+    pub of: SimulateWords<'a>,
+    pub order: &'a str,
+}
+
+/// The command that the words spell.
+pub fn parse(words: &[String]) -> Option<Command<'_>>
+    ensures found { IfSome result (IsSpelled (map string_bytes words.now)) }
+    ensures none { IsNone result → ¬ (IsCommand (map string_bytes words.now)) }
+{
+    if let Some(command) = parse_on_cell(words) {
+        Some(command)
+    } else if let Some(command) = parse_on_chip(words) {
+        Some(command)
+    } else {
+        parse_asking(words)
+    }
+}
+
+// The command on one cell.
+fn parse_on_cell(words: &[String]) -> Option<Command<'_>>
+    ensures found { IfSome result (IsSpelled (map string_bytes words.now)) }
+    ensures none { IsNone result → ¬ (IsOnCell (map string_bytes words.now)) }
+{
+    if let Some(request) = parse_respond(words) {
+        Some(Command::Respond(request))
+    } else if let Some(request) = parse_pair(words) {
+        Some(Command::Pair(request))
+    } else if let Some(request) = parse_defects(words) {
+        Some(Command::Defects(request))
+    } else if let Some(request) = parse_matrix(words) {
+        Some(Command::Matrix(request))
+    } else {
+        None
+    }
+}
+
+// The command on a chip.
+fn parse_on_chip(words: &[String]) -> Option<Command<'_>>
+    ensures found { IfSome result (IsSpelled (map string_bytes words.now)) }
+    ensures none { IsNone result → ¬ (IsOnChip (map string_bytes words.now)) }
+{
+    if let Some(names) = parse_check(words) {
+        Some(Command::Check(names))
+    } else if let Some(request) = parse_flatten(words) {
+        Some(Command::Flatten(request))
+    } else if let Some(request) = parse_simulate(words) {
+        Some(Command::Simulate(request))
+    } else if let Some(request) = parse_atpg(words) {
+        Some(Command::Atpg(request))
+    } else if let Some(request) = parse_replay(words) {
+        Some(Command::Replay(request))
+    } else {
+        None
+    }
+}
+
+// The command that asks for no file.
+fn parse_asking(words: &[String]) -> Option<Command<'_>>
+    ensures found { IfSome result (IsSpelled (map string_bytes words.now)) }
+    ensures none { IsNone result → ¬ (AsksNoFile (map string_bytes words.now)) }
+{
+    if let Some(number) = parse_make(words) {
+        return Some(Command::Make(number));
+    }
+    let [word] = words else {
+        return None;
+    };
+    if word.as_str() == "--help" {
+        Some(Command::Help)
+    } else if word.as_str() == "--version" {
+        Some(Command::Version)
+    } else {
+        None
+    }
+}
+
+fn parse_make(words: &[String]) -> Option<u32>
+    ensures found { IfSome result (IsSpelledMake (map string_bytes words.now)) }
+    ensures none { IsNone result → ¬ (IsMake (map string_bytes words.now)) }
+{
+    let [command, word] = words else {
+        return None;
+    };
+    let Some(number) = chip_number_of(word) else {
+        return None;
+    };
+    if command.as_str() == "make" {
+        Some(number)
+    } else {
+        None
+    }
+}
+
+fn parse_respond(words: &[String]) -> Option<PairWords<'_>>
+    ensures found { IfSome result (IsSpelledRespond (map string_bytes words.now)) }
+    ensures none { IsNone result → ¬ (IsRespond (map string_bytes words.now)) }
+{
+    let [command, cells, cell, vector] = words else {
+        return None;
+    };
+    if command.as_str() == "respond" && is_file_name(cells) && is_vector(vector) {
+        Some(PairWords {
+            of: CellWords {
+                cells: cells.as_str(),
+                cell: cell.as_str(),
+            },
+            first: vector.as_str(),
+            last: vector.as_str(),
+            defect: "-",
+        })
+    } else {
+        None
+    }
+}
+
+fn parse_pair(words: &[String]) -> Option<PairWords<'_>>
+    ensures found { IfSome result (IsSpelledPair (map string_bytes words.now)) }
+    ensures none { IsNone result → ¬ (IsPair (map string_bytes words.now)) }
+{
+    let [command, cells, cell, first, last, defect] = words else {
+        return None;
+    };
+    if command.as_str() == "pair" && is_file_name(cells) && is_vector(first) && is_vector(last) {
+        Some(PairWords {
+            of: CellWords {
+                cells: cells.as_str(),
+                cell: cell.as_str(),
+            },
+            first: first.as_str(),
+            last: last.as_str(),
+            defect: defect.as_str(),
+        })
+    } else {
+        None
+    }
+}
+
+fn parse_defects(words: &[String]) -> Option<CellWords<'_>>
+    ensures found { IfSome result (IsSpelledDefects (map string_bytes words.now)) }
+    ensures none { IsNone result → ¬ (IsDefects (map string_bytes words.now)) }
+{
+    let [command, cells, cell] = words else {
+        return None;
+    };
+    if command.as_str() == "defects" && is_file_name(cells) {
+        Some(CellWords {
+            cells: cells.as_str(),
+            cell: cell.as_str(),
+        })
+    } else {
+        None
+    }
+}
+
+fn parse_matrix(words: &[String]) -> Option<MatrixWords<'_>>
+    ensures found { IfSome result (IsSpelledMatrix (map string_bytes words.now)) }
+    ensures none { IsNone result → ¬ (IsMatrix (map string_bytes words.now)) }
+{
+    let [command, cells, cell, out] = words else {
+        return None;
+    };
+    if command.as_str() == "matrix"
+        && is_file_name(cells)
+        && is_file_name(out)
+        && out.as_str() != cells.as_str()
+    {
+        Some(MatrixWords {
+            of: CellWords {
+                cells: cells.as_str(),
+                cell: cell.as_str(),
+            },
+            out: out.as_str(),
+        })
+    } else {
+        None
+    }
+}
+
+fn parse_check(words: &[String]) -> Option<FileNames<'_>>
+    ensures found { IfSome result (IsSpelledCheck (map string_bytes words.now)) }
+    ensures none { IsNone result → ¬ (IsCheck (map string_bytes words.now)) }
+{
+    let [command, cells, netlist, scan] = words else {
+        return None;
+    };
+    if command.as_str() == "check" && are_chip_files(cells, netlist, scan) {
+        Some(files_called(cells, netlist, scan))
+    } else {
+        None
+    }
+}
+
+fn parse_flatten(words: &[String]) -> Option<FlattenWords<'_>>
+    ensures found { IfSome result (IsSpelledFlatten (map string_bytes words.now)) }
+    ensures none { IsNone result → ¬ (IsFlatten (map string_bytes words.now)) }
+{
+    let [command, cells, netlist, scan, instance, defect, out] = words else {
+        return None;
+    };
+    if command.as_str() == "flatten"
+        && are_chip_files(cells, netlist, scan)
+        && are_both_or_neither(instance, defect)
+        && is_other_file(out, cells, netlist, scan)
+    {
+        Some(FlattenWords {
+            of: ChipWords {
+                files: files_called(cells, netlist, scan),
+                instance: instance.as_str(),
+                defect: defect.as_str(),
+            },
+            out: out.as_str(),
+        })
+    } else {
+        None
+    }
+}
+
+fn parse_simulate(words: &[String]) -> Option<SimulateWords<'_>>
+    ensures found { IfSome result (IsSpelledSimulate (map string_bytes words.now)) }
+    ensures none { IsNone result → ¬ (IsSimulate (map string_bytes words.now)) }
+{
+    let [command, cells, netlist, scan, instance, defect, first, last] = words else {
+        return None;
+    };
+    if command.as_str() == "simulate"
+        && are_chip_files(cells, netlist, scan)
+        && are_both_or_neither(instance, defect)
+        && is_vector(first)
+        && is_vector(last)
+    {
+        Some(SimulateWords {
+            of: ChipWords {
+                files: files_called(cells, netlist, scan),
+                instance: instance.as_str(),
+                defect: defect.as_str(),
+            },
+            first: first.as_str(),
+            last: last.as_str(),
+        })
+    } else {
+        None
+    }
+}
+
+fn parse_atpg(words: &[String]) -> Option<AtpgWords<'_>>
+    ensures found { IfSome result (IsSpelledAtpg (map string_bytes words.now)) }
+    ensures none { IsNone result → ¬ (IsAtpg (map string_bytes words.now)) }
+{
+    let [command, cells, netlist, scan, stil, report, budget] = words else {
+        return None;
+    };
+    let Some(budget) = budget_of(budget) else {
+        return None;
+    };
+    if command.as_str() == "atpg"
+        && are_chip_files(cells, netlist, scan)
+        && is_other_file(stil, cells, netlist, scan)
+        && is_other_file(report, cells, netlist, scan)
+        && report.as_str() != stil.as_str()
+    {
+        Some(AtpgWords {
+            files: files_called(cells, netlist, scan),
+            stil: stil.as_str(),
+            report: report.as_str(),
+            budget,
+        })
+    } else {
+        None
+    }
+}
+
+fn parse_replay(words: &[String]) -> Option<ReplayWords<'_>>
+    ensures found { IfSome result (IsSpelledReplay (map string_bytes words.now)) }
+    ensures none { IsNone result → ¬ (IsReplay (map string_bytes words.now)) }
+{
+    let [
+        command,
+        cells,
+        netlist,
+        scan,
+        instance,
+        defect,
+        first,
+        last,
+        order,
+    ] = words
+    else {
+        return None;
+    };
+    if command.as_str() == "replay"
+        && are_chip_files(cells, netlist, scan)
+        && are_both_or_neither(instance, defect)
+        && is_vector(first)
+        && is_vector(last)
+        && is_other_file(order, cells, netlist, scan)
+    {
+        Some(ReplayWords {
+            of: SimulateWords {
+                of: ChipWords {
+                    files: files_called(cells, netlist, scan),
+                    instance: instance.as_str(),
+                    defect: defect.as_str(),
+                },
+                first: first.as_str(),
+                last: last.as_str(),
+            },
+            order: order.as_str(),
+        })
+    } else {
+        None
+    }
+}
+
+// Whether these may be the files of a command on a chip.
+fn are_chip_files(cells: &str, netlist: &str, scan: &str) -> bool
+    ensures { IsTrue result ↔ AreChipFiles cells.now netlist.now scan.now }
+{
+    is_file_name(cells)
+        && is_file_name(netlist)
+        && !scan.is_empty()
+        && are_different(cells, netlist, scan)
+}
+
+// No two words are the same.
+fn are_different(cells: &str, netlist: &str, scan: &str) -> bool
+    ensures { IsTrue result
+        ↔ ((netlist.now ≢ cells.now) × ((scan.now ≢ cells.now) × (scan.now ≢ netlist.now))) }
+{
+    netlist != cells && scan != cells && scan != netlist
+}
+
+// Whether this may be a file of its own, beside those of a command on a chip.
+fn is_other_file(out: &str, cells: &str, netlist: &str, scan: &str) -> bool
+    ensures { IsTrue result ↔ IsOtherFile out.now cells.now netlist.now scan.now }
+{
+    is_file_name(out) && out != cells && out != netlist && out != scan
+}
+
+// Both words are a dash, or neither is.
+fn are_both_or_neither(instance: &str, defect: &str) -> bool
+    ensures { IsTrue result ↔ AreBothOrNeither instance.now defect.now }
+{
+    (instance == "-") == (defect == "-")
+}
+
+// The files of a command on a chip.
+fn files_called<'a>(cells: &'a str, netlist: &'a str, scan: &'a str) -> FileNames<'a>
+    ensures { names_of result
+        ≡ record { cells = cells.now; netlist = netlist.now; scan = file_called scan.now } }
+{
+    FileNames {
+        cells,
+        netlist,
+        scan: file_called(scan),
+    }
+}
+
+// The file that a word names, where a dash names none.
+fn file_called(word: &str) -> Option<&str>
+    ensures { option_copied result ≡ file_called word.now }
+{
+    if word == "-" { None } else { Some(word) }
+}
+
+fn is_file_name(word: &str) -> bool
+    ensures { IsTrue result ↔ IsFileName word.now }
+{
+    !word.is_empty() && word != "-"
+}
+
+fn is_vector(word: &str) -> bool
+    ensures { IsTrue result ↔ IsVector word.now }
+{
+    word == "-" || !word.is_empty() && word.as_bytes().iter().all(|byte| is_letter(*byte))
+}
+
+fn is_letter(byte: u8) -> bool
+    ensures { IsTrue result ↔ IsLetter byte }
+{
+    byte == b'0' || byte == b'1' || byte == b'X'
+}

@@ -1,0 +1,94 @@
+#!/usr/bin/env python3
+"""Changes the texts of a chip at random and runs `cellaware check` over them: it must end with a named answer.
+
+usage: fuzz_texts.py PROGRAM COUNT [SEED]
+
+Each run takes one of the chips of examples/ (c17 with cells.sp, or acc with fa28.sp and scan.csv), or the text of a run
+(glitch.v with falls.order, under `replay`), and changes one to four places of one of its texts: a byte, a token, a line or a piece is
+put in, left out, doubled or exchanged. The program must end within ten seconds with one of its statuses: 0 and a line of counts or
+values; 1 to 3 with one line on the standard error that begins with `cellaware: `. Anything else is told with its texts and counts.
+Python 3.9 or later, no packages.
+"""
+import collections
+import os
+import random
+import re
+import subprocess
+import sys
+import tempfile
+
+TOP = os.path.dirname(os.path.dirname(os.path.abspath(__file__)))
+CHIPS = [
+    ("check", ["cells.sp", "c17.v", None], []),
+    ("check", ["fa28.sp", "acc.v", "scan.csv"], []),
+    ("replay", ["cells.sp", "glitch.v", None, "falls.order"], ["u5", "MP1(D)", "111", "001"]),
+]
+STRAY = [b"\x00", b"\xff", b"\r", b"`", b"/*", b"*/", b"//", b"(*", b"*)", b"[", b"]", b"(", b")", b".", b",", b";", b"1'b0", b"1'b1", b"assign ",
+         b"input ", b"output ", b"wire ", b"endmodule", b"module ", b"+", b"*", b"$", b".ENDS\n", b".SUBCKT A B\n", b"*.PININFO B:I\n", b"=",
+         b"[131071:0]", b"[131072:0]", b"99999999999999999999", b"\\a ", b"\"", b"X", b"settle ", b"set ", b"blur "]
+
+
+def changed(text, draw):
+    """The text with one place changed."""
+    tokens = [(m.start(), m.end()) for m in re.finditer(rb"[A-Za-z0-9_.]+|\s+|.", text, re.S)]
+    lines = [(m.start(), m.end()) for m in re.finditer(rb"[^\n]*\n|[^\n]+$", text)]
+    spans = draw.choice([tokens, tokens, lines, [(k, k + 1) for k in range(len(text))]])
+    if not spans:
+        return draw.choice(STRAY)
+    start, end = draw.choice(spans)
+    kind = draw.randrange(5)
+    if kind == 0:
+        return text[:start] + text[end:]
+    if kind == 1:
+        return text[:end] + text[start:end] + text[end:]
+    if kind == 2:
+        other = draw.choice(spans)
+        return text[:start] + text[other[0]:other[1]] + text[end:]
+    if kind == 3:
+        return text[:start] + draw.choice(STRAY) + text[start:]
+    return text[:start]
+
+
+def main():
+    if len(sys.argv) not in (3, 4):
+        sys.exit(__doc__)
+    program, count = os.path.abspath(sys.argv[1]), int(sys.argv[2])
+    draw = random.Random(int(sys.argv[3]) if len(sys.argv) == 4 else 1)
+    texts = {}
+    for _, names, _ in CHIPS:
+        for name in filter(None, names):
+            with open(os.path.join(TOP, "examples", name), "rb") as file:
+                texts[name] = file.read()
+    ends, odd = collections.Counter(), 0
+    with tempfile.TemporaryDirectory() as folder:
+        os.chdir(folder)
+        for number in range(count):
+            command, names, words = CHIPS[number % len(CHIPS)]
+            given = {name: texts[name] for name in names if name}
+            name = draw.choice(list(given))
+            for _ in range(draw.randrange(1, 5)):
+                given[name] = changed(given[name], draw)
+            for it, text in given.items():
+                with open(it, "wb") as file:
+                    file.write(text)
+            line = [program, command, *[it or "-" for it in names[:3]], *words, *names[3:]]
+            try:
+                ran = subprocess.run(line, stdin=subprocess.DEVNULL, capture_output=True, timeout=10)
+                status, said = ran.returncode, ran.stderr
+            except subprocess.TimeoutExpired:
+                status, said = "no end", b""
+            told = re.match(rb"cellaware: ([a-z ]+)", said)
+            whole = status == 0 and not said and ran.stdout.endswith(b"\n")
+            refused = status in (1, 2, 3) and told and said.count(b"\n") == 1 and said.endswith(b"\n") and not ran.stdout
+            ends[f"{status} {told.group(1).decode().strip() if told else 'done' if whole else '?'}"] += 1
+            if not whole and not refused:
+                odd += 1
+                print(f"run {number}: {line}: status {status}: {said!r}", file=sys.stderr)
+    for end, times in sorted(ends.items()):
+        print(f"{times:8d} {end}")
+    print(f"{count} texts, {odd} without a named answer")
+    return 1 if odd else 0
+
+
+if __name__ == "__main__":
+    sys.exit(main())
