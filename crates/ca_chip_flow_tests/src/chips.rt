@@ -37,7 +37,7 @@ fn check_refused(
         ("short.csv", SHORT),
     ];
     let ended = tried(rt, alloc, &texts, line, 100);
-    check_end(rt, alloc, told, &ended, &("", ended.status, "", told))
+    check_end(alloc, told, &ended, &("", ended.status, "", told))
 }
 
 // The chip with two scan instances, with one piece in place of another, is refused.
@@ -51,8 +51,8 @@ fn check_change(rt: &impl Abort, alloc: Global, change: &Change, table: &str) ->
 #[test]
 fn a_chip_is_told_or_its_words_are_refused(rt: HostRuntime) -> Result<(), Fail> {
     let alloc = rt.alloc();
-    check_rows(&rt, alloc, &FILES, "check n.sp ", &WHOLE)?;
-    check_rows(&rt, alloc, &FILES, "check n.sp ", &WORDS)
+    check_rows(alloc, &FILES, "check n.sp ", &WHOLE)?;
+    check_rows(alloc, &FILES, "check n.sp ", &WORDS)
 }
 
 #[test]
@@ -79,7 +79,7 @@ fn check_room(
     row: &Row,
 ) -> Result<(), Fail> {
     let ended = tried(rt, alloc, &FILES, line, room);
-    check_end(rt, alloc, line, &ended, row)
+    check_end(alloc, line, &ended, row)
 }
 
 // The cells are judged before the netlist is looked for, and a library before that.

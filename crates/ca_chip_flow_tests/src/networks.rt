@@ -13,8 +13,8 @@ fn a_network_and_its_outputs_are_told_or_the_words_are_refused(
     rt: HostRuntime,
 ) -> Result<(), Fail> {
     let alloc = rt.alloc();
-    check_rows(&rt, alloc, &FILES, "flatten n.sp ", &FLATTEN)?;
-    check_rows(&rt, alloc, &FILES, "simulate n.sp ", &SIMULATE)
+    check_rows(alloc, &FILES, "flatten n.sp ", &FLATTEN)?;
+    check_rows(alloc, &FILES, "simulate n.sp ", &SIMULATE)
 }
 
 // One command over a store that has room for so many bytes more.
@@ -39,7 +39,7 @@ fn a_network_stands_in_its_file(rt: HostRuntime) -> Result<(), Fail> {
     let bytes = whole.store.bytes("f.sp").expect(&rt, "the file is there");
     assert_eq!(rt; bytes, FLAT.as_bytes());
     let short = tried(&rt, alloc, line, 20);
-    check_end(&rt, alloc, line, &short, &("", 4, "", "file fault: f.sp"))?;
+    check_end(alloc, line, &short, &("", 4, "", "file fault: f.sp"))?;
     let part = short.store.bytes("f.sp").expect(&rt, "the file is there");
     assert_eq!(rt; part, b"* 0 input\n* 1 in".as_slice());
     let faulty = tried(&rt, alloc, "flatten n.sp glitch.v - u5 MP1(D) f.sp", 10_000);

@@ -84,7 +84,7 @@ static ROWS: [Row; 8] = [
 #[test]
 fn defects_are_counted_by_verdict_or_the_words_are_refused(rt: HostRuntime) -> Result<(), Fail> {
     let alloc = rt.alloc();
-    check_rows(&rt, alloc, &FILES, "atpg n.sp ", &ROWS)
+    check_rows(alloc, &FILES, "atpg n.sp ", &ROWS)
 }
 
 // The generated chips of these numbers, and words that say none.
@@ -111,7 +111,7 @@ static MADE: [Row; 7] = [
 #[test]
 fn a_generated_chip_has_these_verdicts(rt: HostRuntime) -> Result<(), Fail> {
     let alloc = rt.alloc();
-    check_rows(&rt, alloc, &[], "", &MADE)
+    check_rows(alloc, &[], "", &MADE)
 }
 
 // One command over a store that has room for so many bytes more.
@@ -138,7 +138,7 @@ fn patterns_and_verdicts_stand_in_their_files(rt: HostRuntime) -> Result<(), Fai
     let report = whole.store.bytes("r.csv").expect(&rt, "the file is there");
     assert_eq!(rt; report, REPORT.as_bytes());
     let short = tried(&rt, alloc, line, 70);
-    check_end(&rt, alloc, line, &short, &("", 4, "", "file fault: p.stil"))?;
+    check_end(alloc, line, &short, &("", 4, "", "file fault: p.stil"))?;
     let part = short.store.bytes("p.stil").expect(&rt, "the file is there");
     assert_eq!(rt; part.len(), 64);
     assert!(rt; STIL.as_bytes().starts_with(part));

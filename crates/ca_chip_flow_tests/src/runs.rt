@@ -9,7 +9,7 @@ use std::test::Fail;
 #[test]
 fn a_run_ends_as_its_events_say_or_the_words_are_refused(rt: HostRuntime) -> Result<(), Fail> {
     let alloc = rt.alloc();
-    check_rows(&rt, alloc, &FILES, "replay n.sp ", &REPLAY)
+    check_rows(alloc, &FILES, "replay n.sp ", &REPLAY)
 }
 
 // A file may have 65,536 lines, and none.
@@ -35,7 +35,7 @@ fn a_file_has_at_most_65536_lines(rt: HostRuntime) -> Result<(), Fail> {
             Limits::of(0, 100),
             FailList::new(alloc),
         ).expect(&rt, "memory");
-        check_end(&rt, alloc, line, &ended, &("", status, printed, told))?;
+        check_end(alloc, line, &ended, &("", status, printed, told))?;
     }
     Ok(())
 }

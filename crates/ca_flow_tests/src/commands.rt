@@ -50,18 +50,18 @@ fn check(
     told: &str,
 ) -> Result<(), Fail> {
     let ended = tried(rt, alloc, bytes, line, 0, 100);
-    check_end(rt, alloc, line, &ended, &("", status, "", told))
+    check_end(alloc, line, &ended, &("", status, "", told))
 }
 
 #[test]
 fn each_command_ends_so(rt: HostRuntime) -> Result<(), Fail> {
     let alloc = rt.alloc();
     let files = [("n.sp", LIBRARY)];
-    check_rows(&rt, alloc, &files, "respond n.sp ", &RESPOND)?;
-    check_rows(&rt, alloc, &files, "pair n.sp ", &PAIR)?;
-    check_rows(&rt, alloc, &files, "defects n.sp ", &DEFECTS)?;
-    check_rows(&rt, alloc, &files, "matrix n.sp ", &MATRIX)?;
-    check_rows(&rt, alloc, &files, "", &LINES)
+    check_rows(alloc, &files, "respond n.sp ", &RESPOND)?;
+    check_rows(alloc, &files, "pair n.sp ", &PAIR)?;
+    check_rows(alloc, &files, "defects n.sp ", &DEFECTS)?;
+    check_rows(alloc, &files, "matrix n.sp ", &MATRIX)?;
+    check_rows(alloc, &files, "", &LINES)
 }
 
 #[test]
@@ -88,11 +88,11 @@ fn a_failed_writing_is_told(rt: HostRuntime) -> Result<(), Fail> {
     let wanted = whole.store.bytes("m.csv").expect(&rt, "the file is there");
     let cut = tried(&rt, alloc, LIBRARY, line, 70, 100);
     let part = cut.store.bytes("m.csv").expect(&rt, "the file is there");
-    check_end(&rt, alloc, line, &cut, &("", 4, "", "file fault: m.csv"))?;
+    check_end(alloc, line, &cut, &("", 4, "", "file fault: m.csv"))?;
     assert_eq!(rt; part.len(), 65);
     assert!(rt; wanted.starts_with(part));
     let mute = tried(&rt, alloc, LIBRARY, line, 10_000, 0);
-    check_end(&rt, alloc, line, &mute, &("", 4, "", "output fault"))?;
+    check_end(alloc, line, &mute, &("", 4, "", "output fault"))?;
     assert!(rt; mute.store.bytes("m.csv") == whole.store.bytes("m.csv"));
     Ok(())
 }
@@ -206,7 +206,7 @@ fn a_failed_call_is_told(rt: HostRuntime) -> Result<(), Fail> {
         let ended = try_command(alloc, files, line, Limits::of(0, room), fail).expect(
             &rt, "memory",
         );
-        check_end(&rt, alloc, line, &ended, &("", 4, printed, told))?;
+        check_end(alloc, line, &ended, &("", 4, printed, told))?;
         let is_mute = matches!(&ended.fault, Some(Fault::SinkFailed));
         assert_eq!(rt; (ended.done == "respond"), is_mute);
     }

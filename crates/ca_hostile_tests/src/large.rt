@@ -20,7 +20,7 @@ fn check(
     let files = file_map(alloc, &texts).expect(rt, "memory");
     let fail = FailList::new(alloc);
     let ended = try_command(alloc, files, row.0, Limits::of(0, 200), fail).expect(rt, "memory");
-    check_end(rt, alloc, row.0, &ended, row)
+    check_end(alloc, row.0, &ended, row)
 }
 
 // A text before, a text so many times, and a text behind.
