@@ -37,6 +37,11 @@ pub struct Proposal {
 
 /// Which bit to decide next. Any answer serves: one that isn't an unset bit of the support is not taken.
 pub trait Choice {
+    ghost use Rattle.std.specs.Prelude.{◌<◌};
+    ghost use Rattle.ca_flat.specs.Chip.{count_of};
+    ghost use Rattle.ca_guide.specs.NetLists.{AreNetsOf};
+    ghost use Rattle.ca_guide.specs.Seen.{Covers};
+
     /// A bit, and its first value, at a pair that neither its rows nor its chains rule out.
     fn propose<C: LinkedChip, V: NetWaves>(
         &mut self,
@@ -45,7 +50,10 @@ pub trait Choice {
         waves: &V,
         rows: &Rows,
         defect: ChipDefect,
-    ) -> Proposal;
+    ) -> Proposal
+        requires linked { AreNetsOf (C.chip chip.now) (C.lists chip.now) }
+        requires defect { defect.instance < count_of (C.chip chip.now) }
+        requires covers { Covers (C.lists chip.now) (V.seen waves.now) };
 }
 
 /// The plainest choice: it leaves the bit to the guide, which takes the lowest unset one, and decides for 0.
