@@ -17,8 +17,9 @@ pub(crate) enum End {
     Last,
 }
 
-// Whether some row is allowed.
-pub(crate) fn is_some_row_allowed<V: NetWaves>(waves: &V, pins: &[u32], rows: &Rows) -> bool
+/// Whether some row's vectors are at or above the values of the pins, or it has one vector, which is at or
+/// above the first ones. A defect for which none of its exposing rows is so is detected by no completion.
+pub fn is_some_row_allowed<V: NetWaves>(waves: &V, pins: &[u32], rows: &Rows) -> bool
     requires few { length pins.now ≤ MOST_INPUTS }
     requires pins { All (λ net. net < length (V.seen waves.now).good) pins.now }
     ensures some { IsTrue result → IsSomeAllowed (V.seen waves.now).good pins.now rows.now }
