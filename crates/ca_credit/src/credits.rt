@@ -117,6 +117,9 @@ impl Credits {
         if !self.is_open(place) {
             return false;
         }
+        if !sim.may_detect(place) {
+            return false;
+        }
         sim.aim(place);
         match detecting_output(sim) {
             Some(output) => {

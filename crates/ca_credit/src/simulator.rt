@@ -6,11 +6,11 @@ use ca_pair::Pair;
 /// A chip with the list of its defects, the pattern bits that are set, the defect that is aimed at, and what
 /// every run of the flat network ends with.
 pub trait Simulator {
-    ghost use Rattle.std.specs.Prelude.{◌≡◌, ◌<◌, List, Option, None, length, slice_get, slice_index};
+    ghost use Rattle.std.specs.Prelude.{◌≡◌, ◌<◌, List, Option, None, length, slice_get, slice_index, IsFalse};
     ghost use Rattle.ca_net.specs.declared.trit.Trit.{Trit};
     ghost use Rattle.ca_flat.specs.declared.chip_defect.ChipDefect.{ChipDefect};
-    ghost use Rattle.ca_flat.specs.Pair.{bit_count};
-    ghost use Rattle.ca_credit.specs.Defects.{Task};
+    ghost use Rattle.ca_flat.specs.Pair.{bit_count, IsShown};
+    ghost use Rattle.ca_credit.specs.Defects.{Task, IsDefectAt};
     ghost use Rattle.ca_search.specs.Filled.{trits_of};
     ghost use Rattle.ca_credit.specs.Detection.{IsNetEnd};
 
@@ -37,6 +37,13 @@ pub trait Simulator {
 
         ensures task { task self.new ≡ task self.old }
         ensures bits { bits self.new ≡ trits_of pair.now };
+
+    /// Whether the bits that are set may detect the defect at this place of the list. It is asked before the
+    /// defect is aimed at, which costs more. Where the answer is no, they don't detect it.
+    fn may_detect(&self, place: usize) -> bool
+        requires { place < length (task self.now).defects }
+        ensures { (defect : ChipDefect) → IsDefectAt (task self.now) place defect → IsFalse result
+            → ¬ (IsShown (task self.now).chip defect (bits self.now)) };
 
     /// Aims at the defect at this place of the list. The bits stay.
     fn aim(&mut self, place: usize)
