@@ -116,6 +116,10 @@ impl<L: Linked, C: LinkedChip, R: ExposableDefects, P: Choice + Drop> Simulator
         self.judge.load(&PairBits { pair });
     }
 
+    fn may_detect(&self, place: usize) -> bool {
+        self.judge.may_show(self.defects.get(place))
+    }
+
     #[tactic(auto, using(crate::proofs::BenchLemmas::bench_aims))]
     fn aim(&mut self, place: usize) {
         let defect = self.defects.get(place);

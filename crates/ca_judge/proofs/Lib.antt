@@ -4,3 +4,4 @@ pub mod SeenLemmas
 pub mod StepLemmas
 pub mod OutputLemmas
 pub mod BenchLemmas
+pub mod ScreenLemmas

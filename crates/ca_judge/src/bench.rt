@@ -12,7 +12,7 @@ use crate::rows::ExposingRows;
 use crate::standing::standing;
 use ca_base::NoMemory;
 use ca_flat::ChipDefect;
-use ca_guide::{Choice, Guide, LinkedChip, Step};
+use ca_guide::{Choice, Guide, LinkedChip, Step, is_some_row_allowed};
 use ca_net::Wave;
 use ca_search::{Judge, Standing};
 use ca_sim::{Bits, Linked, NetWaves, Sim};
@@ -59,7 +59,10 @@ impl<'a, L: Linked, C: LinkedChip, R: ExposingRows, P: Choice + Drop> Model
 }
 
 impl<'a, L: Linked, C: LinkedChip, R: ExposingRows, P: Choice + Drop> Bench<'a, L, C, R, P> {
+    ghost use Rattle.std.specs.Prelude.{IsFalse};
+    ghost use Rattle.ca_flat.specs.Chip.{IsDefectIn};
     ghost use Rattle.ca_flat.specs.Code.{unset_pair};
+    ghost use Rattle.ca_flat.specs.Pair.{IsShown};
     ghost use Rattle.ca_sim.specs.Linked.{IsAim, place_in};
     ghost use Rattle.ca_sim.specs.Simulator.{IsFresh, KeepsAim, KeepsPair, counted_up};
     ghost use Rattle.ca_judge.specs.Bench.{IsSearchable};
@@ -100,6 +103,18 @@ impl<'a, L: Linked, C: LinkedChip, R: ExposingRows, P: Choice + Drop> Bench<'a, 
         self.sim.aim(defect);
         guide_to(&mut self.guide, self.chip, defect);
         self.defect = defect;
+    }
+
+    /// Whether a row that exposes the defect is allowed by what the good chip has at its instance's input
+    /// pins. Where none is, the pair doesn't show the defect.
+    pub fn may_show(&self, defect: ChipDefect) -> bool
+        requires { IsDefectIn self.now.seen.chip defect }
+        ensures { IsFalse result → ¬ (IsShown self.now.seen.chip defect self.now.seen.pair) }
+    {
+        self.sim.exact();
+        let waves = GuideWaves { waves: &self.sim };
+        let pins = self.chip.input_pins(defect.instance);
+        is_some_row_allowed(&waves, pins, self.rows.rows(defect))
     }
 
     /// Gives all bits their values.

@@ -18,8 +18,11 @@ use ca_response::{OutWaves, PinWaves};
 use ca_table::{MOST_TABLE_INPUTS, Rooms, copied};
 use std::alloc::Global;
 
-// The number of slots of the cache: about a quarter of a MiB.
-const SLOTS: usize = 4096;
+// The number of slots of the cache: about a MiB.
+const SLOTS: usize = 16_384;
+
+// An odd number with many digits, by which slots are spread.
+const MIX: usize = 0x9E37_79B9_7F4A_7C15;
 
 /// The room for the cells of a chip, by their numbers, and the number of evaluations so far.
 #[derive(Drop)]
@@ -119,12 +122,7 @@ impl Cells {
             return self.compute(chip, u, aim, pins.as_slice());
         }
         let number = chip.number(u);
-        let slot = slot_of(
-            number,
-            defect.is_some(),
-            pins.as_slice(),
-            self.cache.slots.len(),
-        );
+        let slot = slot_of(number, defect, pins.as_slice(), self.cache.slots.len());
         if let Some(outputs) = self
             .cache
             .get(chip, u, slot, number, defect, pins.as_slice())
@@ -179,17 +177,35 @@ pub(crate) fn defect_here(aim: Option<ChipDefect>, u: usize) -> Option<Defect>
     }
 }
 
-// The slot of a question: a mix of the cell's number, whether it has a defect, and the waves.
-fn slot_of(number: usize, faulty: bool, pins: &[Wave], slots: usize) -> usize
+// The slot of a question: a mix of the cell's number, the defect and the waves. So the defects of an instance,
+// which are aimed at one after another, have slots of their own.
+fn slot_of(number: usize, defect: Option<Defect>, pins: &[Wave], slots: usize) -> usize
     requires { 0 < slots }
     ensures { result < slots }
 {
-    let mut mix = number.wrapping_mul(2).wrapping_add(faulty as usize);
+    let mut mix = number.wrapping_mul(MIX).wrapping_add(defect_digits(defect));
     for pin in pins {
         let wave = 9 * digit(pin.first) + 3 * digit(pin.mid) + digit(pin.last);
         mix = mix.wrapping_mul(31).wrapping_add(wave);
     }
-    mix % slots
+    (mix.wrapping_mul(MIX) >> 32) % slots
+}
+
+// A number for a defect; small devices and nodes have different ones.
+fn defect_digits(defect: Option<Defect>) -> usize {
+    match defect {
+        None => 0,
+        Some(Defect::OpenDrain(device)) => digits(1, device.0, 0),
+        Some(Defect::OpenSource(device)) => digits(2, device.0, 0),
+        Some(Defect::OpenGate(device)) => digits(3, device.0, 0),
+        Some(Defect::OpenPin(pin)) => digits(4, pin.0, 0),
+        Some(Defect::Short(low, high)) => digits(5, low.0, high.0),
+    }
+}
+
+fn digits(kind: usize, low: u32, high: u32) -> usize {
+    kind.wrapping_add(8 * (low as usize))
+        .wrapping_add(1024 * (high as usize))
 }
 
 fn digit(value: Trit) -> usize
