@@ -21,7 +21,7 @@ use ca_core_links::CoreLinks;
 use ca_core_tables::CoreTables;
 use ca_credit::{Simulator, Verdicts};
 use ca_expected::{Expected, expected};
-use ca_generate::{Aims, GenerateFault, Generated, generate};
+use ca_generate::{Aims, GenerateFault, Generated, Watch, generate};
 use ca_guide::LowestUnset;
 use ca_lex::Text;
 use ca_pair::Pairs;
@@ -49,13 +49,14 @@ struct Made {
 
 // What is generated for a chip.
 #[tactic(auto, using(crate::proofs::AtpgLemmas::bench_task_is))]
-fn generated_for(
+fn generated_for<T: Watch>(
     alloc: Global,
     chip: &Chip,
     tables: &CoreTables<'_>,
     links: &CoreLinks<'_>,
     rows: &ChipRows<'_>,
     budget: u32,
+    watch: &mut T,
 ) -> Result<Generated, GenerateFault>
     requires tables { AreTablesOf chip.now tables.now }
     requires links { AreLinksOf tables.now.chip links.now }
@@ -69,7 +70,7 @@ fn generated_for(
     if bench.defect_count() > u32::MAX as usize {
         return Err(GenerateFault::NoMemory);
     }
-    generate(alloc, &mut bench)
+    generate(alloc, &mut bench, watch)
 }
 
 // What the good chip ends with under each pair.
@@ -95,11 +96,12 @@ fn values_for(
 
 // Both.
 #[tactic(auto, using(crate::proofs::AtpgLemmas::task_pairs_fit))]
-fn made_for(
+fn made_for<T: Watch>(
     alloc: Global,
     chip: &Chip,
     tables: &CoreTables<'_>,
     budget: u32,
+    watch: &mut T,
 ) -> Result<Made, GenerateFault>
     requires tables { AreTablesOf chip.now tables.now }
 
@@ -111,20 +113,21 @@ fn made_for(
 {
     let links = CoreLinks::new(alloc, chip)?;
     let rows = ChipRows::new(alloc, chip)?;
-    let generated = generated_for(alloc, chip, tables, &links, &rows, budget)?;
+    let generated = generated_for(alloc, chip, tables, &links, &rows, budget, watch)?;
     let values = values_for(alloc, chip, tables, &links, &rows, &generated.pairs)?;
     Ok(Made { generated, values })
 }
 
 /// Searches for pairs that show the defects of a linked chip, with at most so many branches for each, and
-/// writes the texts. Want of memory is also told of a chip with 2^14 chip inputs, with 2^32 defects or whose
+/// writes the texts. The watch is told after each defect's turn. Want of memory is also told of a chip with 2^14 chip inputs, with 2^32 defects or whose
 /// flat network may have 2^32 nodes or devices.
 #[tactic(auto, using(crate::proofs::AtpgLemmas::task_pairs_fit, crate::proofs::AtpgLemmas::verdicts_within, crate::proofs::AtpgLemmas::one_verdict_each))]
-pub fn atpg(
+pub fn atpg<T: Watch>(
     alloc: Global,
     chip: &Chip,
     chains: &Chains,
     budget: u32,
+    watch: &mut T,
 ) -> Result<Tested, GenerateFault>
     requires chains { AreAllChains chip.now chains.now }
 
@@ -135,7 +138,7 @@ pub fn atpg(
     ensures cause { IfErr result (IsCause (task_of chip.now budget)) }
 {
     let tables = CoreTables::new(alloc, chip)?;
-    let Made { generated, values } = made_for(alloc, chip, &tables, budget)?;
+    let Made { generated, values } = made_for(alloc, chip, &tables, budget, watch)?;
     let stil = stil_of(alloc, chip, chains, &generated.pairs, &values)?;
     let report = report_of(alloc, chip, &tables, &generated.verdicts)?;
     let Generated {

@@ -10,15 +10,21 @@ use ca_chip_rows::ChipRows;
 use ca_core_links::CoreLinks;
 use ca_core_tables::CoreTables;
 use ca_credit::Simulator;
-use ca_generate::{GenerateFault, Generated, generate};
+use ca_generate::{GenerateFault, Generated, Watch, generate};
 use ca_guide::LowestUnset;
 use ca_wired::Chip;
 use std::alloc::Global;
 
 /// Searches for pairs that show the defects of a linked chip, with at most so many branches for each: the
 /// pairs, their aims, and a verdict for each defect of a library instance. Want of memory is also told of a
-/// chip with 2^14 chip inputs, with 2^32 defects or whose flat network may have 2^32 nodes or devices.
-pub fn generate_chip(alloc: Global, chip: &Chip, budget: u32) -> Result<Generated, GenerateFault>
+/// chip with 2^14 chip inputs, with 2^32 defects or whose flat network may have 2^32 nodes or devices. The
+/// watch is told after each defect's turn.
+pub fn generate_chip<T: Watch>(
+    alloc: Global,
+    chip: &Chip,
+    budget: u32,
+    watch: &mut T,
+) -> Result<Generated, GenerateFault>
     ensures good { IfOk result
         (λ made. IsGood (task_of chip.now budget) made.pairs made.aims made.verdicts) }
     ensures cause { IfErr result (IsCause (task_of chip.now budget)) }
@@ -30,5 +36,5 @@ pub fn generate_chip(alloc: Global, chip: &Chip, budget: u32) -> Result<Generate
     if bench.defect_count() > u32::MAX as usize {
         return Err(GenerateFault::NoMemory);
     }
-    generate(alloc, &mut bench)
+    generate(alloc, &mut bench, watch)
 }

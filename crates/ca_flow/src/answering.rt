@@ -7,17 +7,19 @@ ghost use Rattle.ca_flow.specs.Answer.{TellsLine, Tells, Answers};
 
 use crate::top::run;
 use ca_fault::Fault;
+use ca_generate::Watch;
 use ca_store::{Sink, Store};
 use std::alloc::Global;
 
 /// Does one command, whose words come without the program's name, and prints the line of its fault on `err`,
-/// if there is one. The answer is the exit status.
-pub fn answer<S: Store, W: Sink, E: Sink>(
+/// if there is one. The answer is the exit status. The watch is told how far test generation is.
+pub fn answer<S: Store, W: Sink, E: Sink, T: Watch>(
     alloc: Global,
     words: &[String],
     store: &mut S,
     out: &mut W,
     err: &mut E,
+    watch: &mut T,
 ) -> u8
     requires closed { S.opened store.old ≡ Nothing }
 
@@ -39,7 +41,7 @@ pub fn answer<S: Store, W: Sink, E: Sink>(
         result }
     ensures closed { S.opened store.new ≡ Nothing }
 {
-    let end = run(alloc, words, store, out);
+    let end = run(alloc, words, store, out, watch);
     tell_end(&end.fault, err);
     let status = end.status;
     end.let_go();

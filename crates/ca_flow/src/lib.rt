@@ -11,6 +11,7 @@ mod work;
 
 pub use answering::{answer, tell};
 pub use ca_fault::{Fault, LimitKind};
+pub use ca_generate::{Unwatched, Watch};
 pub use ca_on_cell::{PinValue, PinValues};
 pub use finished::{Done, Finished};
 pub use laws::{

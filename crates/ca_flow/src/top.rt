@@ -15,6 +15,7 @@ use crate::finished::{Done, Finished, finish, refused};
 use crate::work::Work;
 use ca_atpg::Tested;
 use ca_fault::Fault;
+use ca_generate::Watch;
 use ca_load::{Loaded, load};
 use ca_on_cell::{find_matrix, find_names, find_values};
 use ca_on_chip::{
@@ -27,13 +28,15 @@ use std::alloc::Global;
 
 /// Does one command, whose words come without the program's name. Nothing is written or printed before all
 /// inputs are judged, and all memory is taken before the first file is created and the first byte is
-/// printed. Words that are no command's leave the store and the sink uncalled.
+/// printed. Words that are no command's leave the store and the sink uncalled. The watch is told how far test
+/// generation is.
 #[tactic(auto, using(crate::proofs::CauseLemmas::is_whole))]
-pub fn run<S: Store, W: Sink>(
+pub fn run<S: Store, W: Sink, T: Watch>(
     alloc: Global,
     words: &[String],
     store: &mut S,
     out: &mut W,
+    watch: &mut T,
 ) -> Finished
     requires closed { S.opened store.old ≡ Nothing }
 
@@ -58,17 +61,18 @@ pub fn run<S: Store, W: Sink>(
     let Some(command) = parse(words) else {
         return refused(Fault::BadWords);
     };
-    match work_of(alloc, &command, store) {
+    match work_of(alloc, &command, store, watch) {
         Ok(work) => finish(alloc, work, store, out),
         Err(fault) => refused(fault),
     }
 }
 
 // The work of a command, of which nothing is written or printed yet.
-fn work_of<'a, S: Store>(
+fn work_of<'a, S: Store, T: Watch>(
     alloc: Global,
     command: &Command<'a>,
     store: &mut S,
+    watch: &mut T,
 ) -> Result<Work<'a>, Fault>
     requires closed { S.opened store.old ≡ Nothing }
     requires whole { IsWhole command.now }
@@ -122,9 +126,9 @@ fn work_of<'a, S: Store>(
             let SimulatedChip { chip, ends } = find_simulation(alloc, request, store)?;
             Ok(printed(Done::Simulate { chip, ends }))
         }
-        Command::Atpg(request) => tests_work(alloc, request, store),
+        Command::Atpg(request) => tests_work(alloc, request, store, watch),
         Command::Replay(request) => replay_work(alloc, request, store),
-        Command::Make(number) => make_work(alloc, *number),
+        Command::Make(number) => make_work(alloc, *number, watch),
         Command::Help => Ok(printed(Done::Help)),
         Command::Version => Ok(printed(Done::Version)),
     }
@@ -132,10 +136,11 @@ fn work_of<'a, S: Store>(
 
 // The work of `atpg`.
 #[tactic(auto, using(crate::proofs::CauseLemmas::atpg_asked, crate::proofs::CauseLemmas::atpg_files, crate::proofs::CauseLemmas::atpg_cause, crate::proofs::CauseLemmas::no_tests_sink))]
-fn tests_work<'a, S: Store>(
+fn tests_work<'a, S: Store, T: Watch>(
     alloc: Global,
     request: &AtpgWords<'a>,
     store: &mut S,
+    watch: &mut T,
 ) -> Result<Work<'a>, Fault>
     requires closed { S.opened store.old ≡ Nothing }
 
@@ -152,7 +157,7 @@ fn tests_work<'a, S: Store>(
     ensures closed { S.opened store.new ≡ Nothing }
     ensures kept { S.files store.new ≡ S.files store.old }
 {
-    let TestedChip { chip, chains, made } = find_tests(alloc, request, store)?;
+    let TestedChip { chip, chains, made } = find_tests(alloc, request, store, watch)?;
     let Tested {
         pairs,
         aims,
@@ -204,7 +209,7 @@ fn replay_work<'a, S: Store>(
 
 // The work of `make`, which touches no file.
 #[tactic(auto, using(crate::proofs::CauseLemmas::make_asked, crate::proofs::CauseLemmas::make_cause, crate::proofs::CauseLemmas::no_make_sink))]
-fn make_work<'a>(alloc: Global, number: u32) -> Result<Work<'a>, Fault>
+fn make_work<'a, T: Watch>(alloc: Global, number: u32, watch: &mut T) -> Result<Work<'a>, Fault>
     requires { number ≤ MOST_GATES }
 
     ensures asked { IfOk result (λ work. (words : List (List ℕ)) (files : Option Files)
@@ -219,7 +224,7 @@ fn make_work<'a>(alloc: Global, number: u32) -> Result<Work<'a>, Fault>
         pairs,
         aims,
         verdicts,
-    } = find_made(alloc, number)?;
+    } = find_made(alloc, number, watch)?;
     Ok(printed(Done::Make {
         chip,
         pairs,

@@ -1,7 +1,7 @@
 //! What the program answers, and the texts that it has of itself.
 
 use ca_base::NoMemory;
-use ca_flow::{Fault, answer, tell};
+use ca_flow::{Fault, Unwatched, answer, tell};
 use ca_store::{FailList, MemSink, MemStore};
 use ca_trial::{LIBRARY, file_map, words_of};
 use std::alloc::Global;
@@ -23,7 +23,7 @@ fn answer_to(alloc: Global, line: &str, room: usize) -> Result<Answered, NoMemor
     let mut store = MemStore::new(alloc, files, 60, 10_000, FailList::new(alloc))?;
     let mut printed = MemSink::new(alloc, 4_000, FailList::new(alloc))?;
     let mut told = MemSink::new(alloc, room, FailList::new(alloc))?;
-    let status = answer(alloc, &words, &mut store, &mut printed, &mut told);
+    let status = answer(alloc, &words, &mut store, &mut printed, &mut told, &mut Unwatched);
     Ok(Answered {
         status,
         printed,

@@ -6,6 +6,7 @@ ghost use Rattle.ca_generate.specs.GenerateFault.{IsCause};
 
 use crate::bench::Bench;
 use crate::fault::{Aims, GenerateFault};
+use crate::watch::Watch;
 use crate::work::Work;
 use ca_credit::Verdicts;
 use ca_pair::Pairs;
@@ -20,16 +21,22 @@ pub struct Generated {
 }
 
 /// Searches for a pair for each defect that can be exposed and isn't credited to an earlier pair. Which bits
-/// are set afterwards, and which defect is aimed at, is open.
-pub fn generate<B: Bench>(alloc: Global, bench: &mut B) -> Result<Generated, GenerateFault>
+/// are set afterwards, and which defect is aimed at, is open. The watch is told after each defect's turn.
+pub fn generate<B: Bench, T: Watch>(
+    alloc: Global,
+    bench: &mut B,
+    watch: &mut T,
+) -> Result<Generated, GenerateFault>
     requires { length (B.task bench.old).defects < 2 ^ 32 }
 
     ensures good { IfOk result (λ made. IsGood (B.task bench.old) made.pairs made.aims made.verdicts) }
     ensures cause { IfErr result (IsCause (B.task bench.old)) }
 {
     let mut work = Work::begin(alloc, bench)?;
-    for place in 0..bench.defect_count() {
+    let count = bench.defect_count();
+    for place in 0..count {
         work = work.take_turn(alloc, bench, place)?;
+        watch.told(place + 1, count);
     }
     Ok(Generated {
         pairs: work.pairs,

@@ -6,9 +6,11 @@ mod fault;
 mod generated;
 mod keep;
 mod laws;
+mod watch;
 mod work;
 
 pub use bench::Bench;
 pub use fault::{Aims, GenerateFault, MOST_PAIRS};
 pub use generated::{Generated, generate};
 pub use laws::outcome_is_search;
+pub use watch::{Unwatched, Watch};

@@ -35,7 +35,7 @@ fn told(alloc: Global, netlist: &[u8], budget: u32, asked: Asked) -> Option<Text
     let Some(chip) = linked(alloc, netlist) else {
         return None;
     };
-    let made = match generate_chip(alloc, &chip, budget) {
+    let made = match generate_chip(alloc, &chip, budget, &mut Unwatched) {
         Ok(made) => made,
         Err(why) => return Text::from_bytes(alloc, fault(&why)).ok(),
     };

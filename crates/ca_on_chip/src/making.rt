@@ -9,7 +9,7 @@ ghost use Rattle.ca_on_chip.specs.Making.{IsMadeChip, IsMakeStage};
 use ca_core_bench::generate_chip;
 use ca_credit::Verdicts;
 use ca_fault::Fault;
-use ca_generate::{Aims, GenerateFault, Generated};
+use ca_generate::{Aims, GenerateFault, Generated, Watch};
 use ca_make_laws::{library_is_read, netlist_is_read};
 use ca_make_links::{chip_keeps_rules, made_chip};
 use ca_pair::Pairs;
@@ -29,9 +29,9 @@ pub struct MadeChip {
     pub verdicts: Verdicts,
 }
 
-/// The tests of the generated chip of a number.
+/// The tests of the generated chip of a number. The watch is told after each defect's turn.
 #[tactic(auto, using(crate::proofs::MakeLemmas::too_many))]
-pub fn find_made(alloc: Global, number: u32) -> Result<MadeChip, Fault>
+pub fn find_made<T: Watch>(alloc: Global, number: u32, watch: &mut T) -> Result<MadeChip, Fault>
     requires { number ≤ MOST_GATES }
 
     ensures chip { IfOk result (λ made. IsMadeChip number made.chip) }
@@ -44,7 +44,7 @@ pub fn find_made(alloc: Global, number: u32) -> Result<MadeChip, Fault>
         pairs,
         aims,
         verdicts,
-    } = generated_for(alloc, &chip)?;
+    } = generated_for(alloc, &chip, watch)?;
     Ok(MadeChip {
         chip,
         pairs,
@@ -68,12 +68,12 @@ fn linked(alloc: Global, number: u32) -> Result<Chip, Fault>
 }
 
 // What is generated for a chip, or why there is nothing.
-fn generated_for(alloc: Global, chip: &Chip) -> Result<Generated, Fault>
+fn generated_for<T: Watch>(alloc: Global, chip: &Chip, watch: &mut T) -> Result<Generated, Fault>
     ensures good { IfOk result
         (λ made. IsGood (task_of chip.now MAKE_BUDGET) made.pairs made.aims made.verdicts) }
     ensures cause { IfErr result (IsTestsStage MAKE_BUDGET chip.now) }
 {
-    match generate_chip(alloc, chip, MAKE_BUDGET) {
+    match generate_chip(alloc, chip, MAKE_BUDGET, watch) {
         Ok(made) => Ok(made),
         Err(GenerateFault::TooManyPairs { pairs, aims }) => {
             Err(Fault::TooManyPairs { pairs, aims })

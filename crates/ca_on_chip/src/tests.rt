@@ -11,7 +11,7 @@ ghost use Rattle.ca_on_chip.specs.OnChip.{IsChipOfFiles, IsTestsCause, IsTestsSt
 
 use ca_atpg::{Tested, atpg};
 use ca_fault::Fault;
-use ca_generate::GenerateFault;
+use ca_generate::{GenerateFault, Watch};
 use ca_load::{Loaded, load};
 use ca_scan::Chains;
 use ca_store::Store;
@@ -27,12 +27,13 @@ pub struct TestedChip {
     pub made: Tested,
 }
 
-/// The tests of the chip that the words name in their files.
+/// The tests of the chip that the words name in their files. The watch is told after each defect's turn.
 #[tactic(auto, using(crate::proofs::AskedLemmas::at_tests))]
-pub fn find_tests<S: Store>(
+pub fn find_tests<S: Store, T: Watch>(
     alloc: Global,
     request: &AtpgWords<'_>,
     store: &mut S,
+    watch: &mut T,
 ) -> Result<TestedChip, Fault>
     requires closed { S.opened store.old ≡ Nothing }
 
@@ -54,12 +55,18 @@ pub fn find_tests<S: Store>(
     ensures kept { S.files store.new ≡ S.files store.old }
 {
     let Loaded { chip, chains } = load(alloc, &request.files, store)?;
-    let made = tests_of(alloc, &chip, &chains, request.budget)?;
+    let made = tests_of(alloc, &chip, &chains, request.budget, watch)?;
     Ok(TestedChip { chip, chains, made })
 }
 
 // The tests of a chip, or why there are none.
-fn tests_of(alloc: Global, chip: &Chip, chains: &Chains, budget: u32) -> Result<Tested, Fault>
+fn tests_of<T: Watch>(
+    alloc: Global,
+    chip: &Chip,
+    chains: &Chains,
+    budget: u32,
+    watch: &mut T,
+) -> Result<Tested, Fault>
     requires chains { AreAllChains chip.now chains.now }
 
     ensures good { IfOk result
@@ -68,7 +75,7 @@ fn tests_of(alloc: Global, chip: &Chip, chains: &Chains, budget: u32) -> Result<
     ensures report { IfOk result (λ made. made.report ≡ report_of chip.now made.verdicts) }
     ensures cause { IfErr result (IsTestsStage budget chip.now) }
 {
-    match atpg(alloc, chip, chains, budget) {
+    match atpg(alloc, chip, chains, budget, watch) {
         Ok(made) => Ok(made),
         Err(GenerateFault::TooManyPairs { pairs, aims }) => {
             Err(Fault::TooManyPairs { pairs, aims })

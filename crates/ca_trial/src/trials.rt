@@ -2,7 +2,7 @@
 ghost use Rattle.std.specs.Prelude.{◌≡◌, ◌<◌};
 
 use ca_base::NoMemory;
-use ca_flow::{Done, Fault, Finished, run};
+use ca_flow::{Done, Fault, Finished, Unwatched, run};
 use ca_lex::Text;
 use ca_store::{FailList, File, FileMap, MemSink, MemStore};
 use std::alloc::Global;
@@ -107,7 +107,7 @@ pub fn try_command(
         status,
         fault,
         done,
-    } = run(alloc, &words, &mut store, &mut printed);
+    } = run(alloc, &words, &mut store, &mut printed, &mut Unwatched);
     if let Some(fault) = &fault {
         let _ = fault.print(&mut line);
     }

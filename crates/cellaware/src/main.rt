@@ -1,23 +1,51 @@
 //! The command `cellaware`: does what its words ask for, and ends with the exit status.
 #![tactic(auto)]
 
+mod progress;
+
+ghost use Rattle.std.specs.Prelude.{◌<◌, length, IsTrue};
+
+use crate::progress::Progress;
 use ca_flow::{Fault, answer, tell};
 use ca_store::{FileStore, StdSink};
 use std::env;
 use std::io::ErrorKind;
 use std::process::ExitCode;
 
+// The word before a command whose progress is to be told.
+const PROGRESS: &str = "--progress";
+
 fn main(rt: HostRuntime) -> ExitCode {
     let mut errors = StdSink::errors(rt.stderr());
     let status = match gather(rt) {
         Ok(words) => {
+            let is_watched = is_first(&words, PROGRESS);
+            let command = if is_watched { &words[1..] } else { &words[..] };
             let mut store = FileStore::new(rt);
             let mut output = StdSink::output(rt.stdout());
-            answer(rt.alloc(), &words, &mut store, &mut output, &mut errors)
+            let mut progress = Progress::new(rt, is_watched);
+            answer(
+                rt.alloc(),
+                command,
+                &mut store,
+                &mut output,
+                &mut errors,
+                &mut progress,
+            )
         }
         Err(fault) => tell(&fault, &mut errors),
     };
     ExitCode::from(status)
+}
+
+// Whether this word is the first.
+fn is_first(words: &[String], word: &str) -> bool
+    ensures { IsTrue result → 0 < length words.now }
+{
+    match words.first() {
+        Some(first) => first.as_str() == word,
+        None => false,
+    }
 }
 
 // The words after the program's name. A word that isn't UTF-8 is in no command.

@@ -1,0 +1,15 @@
+//! What is told of long work while it goes on.
+
+/// Hears how far test generation is.
+pub trait Watch {
+    /// So many of so many defects have had their turn.
+    fn told(&mut self, done: usize, of: usize);
+}
+
+/// Hears it and does nothing.
+#[derive(Clone, Copy, Debug, Default)]
+pub struct Unwatched;
+
+impl Watch for Unwatched {
+    fn told(&mut self, _done: usize, _of: usize) {}
+}
