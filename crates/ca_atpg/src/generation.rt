@@ -15,6 +15,7 @@ ghost use Rattle.ca_atpg.specs.Atpg.{IsStil, report_of};
 
 use crate::texts::{report_of, stil_of};
 use ca_base::NoMemory;
+use ca_chip_choice::chip_choice;
 use ca_chip_rows::ChipRows;
 use ca_core_bench::core_bench;
 use ca_core_links::CoreLinks;
@@ -65,7 +66,8 @@ fn generated_for(
         (λ made. IsGood (task_of chip.now budget) made.pairs made.aims made.verdicts) }
     ensures cause { IfErr result (IsCause (task_of chip.now budget)) }
 {
-    let mut bench = core_bench(alloc, tables, links, rows, LowestUnset, budget)?;
+    let choice = chip_choice(alloc, tables, links)?;
+    let mut bench = core_bench(alloc, tables, links, rows, choice, budget)?;
     if bench.defect_count() > u32::MAX as usize {
         return Err(GenerateFault::NoMemory);
     }

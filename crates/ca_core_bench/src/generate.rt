@@ -6,12 +6,12 @@ ghost use Rattle.ca_generate.specs.GenerateFault.{IsCause};
 ghost use Rattle.ca_core_bench.specs.ChipTask.{task_of};
 
 use crate::bench::core_bench;
+use ca_chip_choice::chip_choice;
 use ca_chip_rows::ChipRows;
 use ca_core_links::CoreLinks;
 use ca_core_tables::CoreTables;
 use ca_credit::Simulator;
 use ca_generate::{GenerateFault, Generated, generate};
-use ca_guide::LowestUnset;
 use ca_wired::Chip;
 use std::alloc::Global;
 
@@ -26,7 +26,8 @@ pub fn generate_chip(alloc: Global, chip: &Chip, budget: u32) -> Result<Generate
     let tables = CoreTables::new(alloc, chip)?;
     let links = CoreLinks::new(alloc, chip)?;
     let rows = ChipRows::new(alloc, chip)?;
-    let mut bench = core_bench(alloc, &tables, &links, &rows, LowestUnset, budget)?;
+    let choice = chip_choice(alloc, &tables, &links)?;
+    let mut bench = core_bench(alloc, &tables, &links, &rows, choice, budget)?;
     if bench.defect_count() > u32::MAX as usize {
         return Err(GenerateFault::NoMemory);
     }
