@@ -16,12 +16,12 @@ ghost use Rattle.ca_atpg.specs.Atpg.{IsStil, report_of};
 use crate::texts::{report_of, stil_of};
 use ca_base::NoMemory;
 use ca_chip_rows::ChipRows;
-use ca_core_bench::core_bench;
+use ca_core_bench::{core_bench, generate_over};
 use ca_core_links::CoreLinks;
 use ca_core_tables::CoreTables;
-use ca_credit::{Simulator, Verdicts};
+use ca_credit::Verdicts;
 use ca_expected::{Expected, expected};
-use ca_generate::{Aims, GenerateFault, Generated, Watch, generate};
+use ca_generate::{Aims, GenerateFault, Generated, Watch};
 use ca_guide::LowestUnset;
 use ca_lex::Text;
 use ca_pair::Pairs;
@@ -45,32 +45,6 @@ pub struct Tested {
 struct Made {
     generated: Generated,
     values: Expected,
-}
-
-// What is generated for a chip.
-#[tactic(auto, using(crate::proofs::AtpgLemmas::bench_task_is))]
-fn generated_for<T: Watch>(
-    alloc: Global,
-    chip: &Chip,
-    tables: &CoreTables<'_>,
-    links: &CoreLinks<'_>,
-    rows: &ChipRows<'_>,
-    budget: u32,
-    watch: &mut T,
-) -> Result<Generated, GenerateFault>
-    requires tables { AreTablesOf chip.now tables.now }
-    requires links { AreLinksOf tables.now.chip links.now }
-    requires rows { rows.now.chip ≡ tables.now.chip }
-
-    ensures good { IfOk result
-        (λ made. IsGood (task_of chip.now budget) made.pairs made.aims made.verdicts) }
-    ensures cause { IfErr result (IsCause (task_of chip.now budget)) }
-{
-    let mut bench = core_bench(alloc, tables, links, rows, LowestUnset, budget)?;
-    if bench.defect_count() > u32::MAX as usize {
-        return Err(GenerateFault::NoMemory);
-    }
-    generate(alloc, &mut bench, watch)
 }
 
 // What the good chip ends with under each pair.
@@ -113,7 +87,7 @@ fn made_for<T: Watch>(
 {
     let links = CoreLinks::new(alloc, chip)?;
     let rows = ChipRows::new(alloc, chip)?;
-    let generated = generated_for(alloc, chip, tables, &links, &rows, budget, watch)?;
+    let generated = generate_over(alloc, chip, tables, &links, &rows, budget, watch)?;
     let values = values_for(alloc, chip, tables, &links, &rows, &generated.pairs)?;
     Ok(Made { generated, values })
 }

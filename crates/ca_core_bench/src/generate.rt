@@ -1,17 +1,19 @@
 //! Test generation on a linked chip.
 
-ghost use Rattle.std.specs.Prelude.{IfOk, IfErr};
+ghost use Rattle.std.specs.Prelude.{◌≡◌, IfOk, IfErr};
+ghost use Rattle.ca_core_links.specs.CoreLinks.{AreLinksOf};
+ghost use Rattle.ca_core_tables.specs.Tables.{AreTablesOf};
 ghost use Rattle.ca_credit.specs.Good.{IsGood};
 ghost use Rattle.ca_generate.specs.GenerateFault.{IsCause};
 ghost use Rattle.ca_core_bench.specs.ChipTask.{task_of};
 
 use crate::bench::core_bench;
+use ca_chip_choice::chip_choice;
 use ca_chip_rows::ChipRows;
 use ca_core_links::CoreLinks;
 use ca_core_tables::CoreTables;
 use ca_credit::Simulator;
 use ca_generate::{GenerateFault, Generated, Watch, generate};
-use ca_guide::LowestUnset;
 use ca_wired::Chip;
 use std::alloc::Global;
 
@@ -32,7 +34,29 @@ pub fn generate_chip<T: Watch>(
     let tables = CoreTables::new(alloc, chip)?;
     let links = CoreLinks::new(alloc, chip)?;
     let rows = ChipRows::new(alloc, chip)?;
-    let mut bench = core_bench(alloc, &tables, &links, &rows, LowestUnset, budget)?;
+    generate_over(alloc, chip, &tables, &links, &rows, budget, watch)
+}
+
+/// The same over the chip's tables, links and rows.
+pub fn generate_over<T: Watch>(
+    alloc: Global,
+    chip: &Chip,
+    tables: &CoreTables<'_>,
+    links: &CoreLinks<'_>,
+    rows: &ChipRows<'_>,
+    budget: u32,
+    watch: &mut T,
+) -> Result<Generated, GenerateFault>
+    requires tables { AreTablesOf chip.now tables.now }
+    requires links { AreLinksOf tables.now.chip links.now }
+    requires rows { rows.now.chip ≡ tables.now.chip }
+
+    ensures good { IfOk result
+        (λ made. IsGood (task_of chip.now budget) made.pairs made.aims made.verdicts) }
+    ensures cause { IfErr result (IsCause (task_of chip.now budget)) }
+{
+    let choice = chip_choice(alloc, tables, links)?;
+    let mut bench = core_bench(alloc, tables, links, rows, choice, budget)?;
     if bench.defect_count() > u32::MAX as usize {
         return Err(GenerateFault::NoMemory);
     }

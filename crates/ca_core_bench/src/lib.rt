@@ -7,4 +7,4 @@ mod generate;
 mod outputs;
 
 pub use bench::{CoreBench, core_bench};
-pub use generate::generate_chip;
+pub use generate::{generate_chip, generate_over};

@@ -23,7 +23,14 @@ fn answer_to(alloc: Global, line: &str, room: usize) -> Result<Answered, NoMemor
     let mut store = MemStore::new(alloc, files, 60, 10_000, FailList::new(alloc))?;
     let mut printed = MemSink::new(alloc, 4_000, FailList::new(alloc))?;
     let mut told = MemSink::new(alloc, room, FailList::new(alloc))?;
-    let status = answer(alloc, &words, &mut store, &mut printed, &mut told, &mut Unwatched);
+    let status = answer(
+        alloc,
+        &words,
+        &mut store,
+        &mut printed,
+        &mut told,
+        &mut Unwatched,
+    );
     Ok(Answered {
         status,
         printed,

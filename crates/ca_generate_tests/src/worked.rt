@@ -4,6 +4,7 @@ use crate::chips::{COUNTED, HAZARD, LIBRARY, SPELT};
 use crate::told::{all, fault, summary, verdict};
 use ca_chip::ScanTable;
 use ca_core_bench::generate_chip;
+use ca_generate::Unwatched;
 use ca_lex::Text;
 use ca_link::link;
 use ca_spice::read_library;

@@ -4,14 +4,14 @@ use Rattle.ca_credit.specs.Defects.{Task}
 use Rattle.ca_credit.specs.Good.{IsGood}
 use Rattle.ca_generate.specs.GenerateFault.{IsCause}
 use Rattle.ca_core_bench.proofs.TaskLemmas.{task_is}
-use Rattle.ca_core_bench.proofs.generate.generate_chip.Goals as goal
+use Rattle.ca_core_bench.proofs.generate.generate_over.Goals as goal
 
 pub returns-clause-good : goal.returns-clause-good
 returns-clause-good c =
     subst (λ (task : Task). IfOk c.generate.result (λ made. IsGood task made.pairs made.aims made.verdicts))
-    (task_is c.args.chip.now c.in_ok-tables.tables c.args.budget c.in_ok-bench.bench.task c.in_ok-tables.ensures c.in_ok-bench.ensures) c.generate.ensures.good
+    (task_is c.args.chip.now c.args.tables.now c.args.budget c.in_ok-bench.bench.task c.requires.tables c.in_ok-bench.ensures) c.generate.ensures.good
 
 pub returns-clause-cause : goal.returns-clause-cause
 returns-clause-cause c =
     subst (λ (task : Task). IfErr c.generate.result (IsCause task))
-    (task_is c.args.chip.now c.in_ok-tables.tables c.args.budget c.in_ok-bench.bench.task c.in_ok-tables.ensures c.in_ok-bench.ensures) c.generate.ensures.cause
+    (task_is c.args.chip.now c.args.tables.now c.args.budget c.in_ok-bench.bench.task c.requires.tables c.in_ok-bench.ensures) c.generate.ensures.cause

@@ -1,0 +1,65 @@
+//! The values of a cell's outputs.
+
+ghost use Rattle.std.specs.Prelude.{◌≡◌, length};
+
+use ca_base::NoMemory;
+use ca_cell::Cell;
+use ca_choice::CellTable;
+use ca_net::{Network, Trit, Wave};
+use ca_response::{pairs, respond};
+use ca_settle::Work;
+use std::alloc::Global;
+
+/// The values of the cell's outputs for each vector of its inputs.
+pub(crate) fn table_of(alloc: Global, cell: &Cell) -> Result<CellTable, NoMemory> {
+    let inputs = cell.inputs();
+    let outputs = cell.outputs();
+    let vectors = 2usize.pow(inputs as u32);
+    let mut values = vec![in alloc; Trit::X; outputs * vectors]?;
+    for vector in 0..vectors {
+        add_vector(alloc, cell, vector, vectors, &mut values)?;
+    }
+    Ok(CellTable {
+        inputs,
+        outputs,
+        values,
+    })
+}
+
+// Finds the outputs' values for one vector of so many.
+fn add_vector(
+    alloc: Global,
+    cell: &Cell,
+    vector: usize,
+    vectors: usize,
+    values: &mut [Trit],
+) -> Result<(), NoMemory> {
+    let mut pins = vec![in alloc; Trit::Zero; cell.inputs()]?;
+    put_digits(&mut pins, vector);
+    let mut work = Work::reserve(alloc, cell.node_count(), cell.device_count())?;
+    let waves = respond(cell, pairs(&pins, &pins).as_slice(), &mut work);
+    put_lasts(values, waves.as_slice(), vector, vectors);
+    Ok(())
+}
+
+// Puts the digits of a number: the first place has the highest one.
+fn put_digits(pins: &mut [Trit], vector: usize)
+    ensures { length pins.new ≡ length pins.old }
+{
+    let mut rest = vector;
+    let count = pins.len();
+    for after in 0..count {
+        pins[count - 1 - after] = if rest % 2 == 0 { Trit::Zero } else { Trit::One };
+        rest /= 2;
+    }
+}
+
+// Puts the last values, output by output.
+fn put_lasts(values: &mut [Trit], waves: &[Wave], vector: usize, vectors: usize) {
+    for (output, wave) in waves.iter().enumerate() {
+        let place = output.saturating_mul(vectors).saturating_add(vector);
+        if place < values.len() {
+            values[place] = wave.last;
+        }
+    }
+}

@@ -1,0 +1,106 @@
+//! What it costs to bring a net to a value, while no bit is set.
+
+use crate::cube::Cube;
+use crate::plan::Plan;
+use crate::tables::Constant;
+use ca_base::NoMemory;
+use std::alloc::Global;
+
+/// The cost of what can't be. Sums end there.
+pub(crate) const NEVER: u32 = u32::MAX;
+
+/// For each net what 0 and 1 cost.
+#[derive(Drop)]
+pub(crate) struct Costs {
+    zeros: Vec<u32>,
+    ones: Vec<u32>,
+}
+
+impl Costs {
+    /// The costs of a chip, in which a value of a chip input costs so much.
+    pub(crate) fn new(
+        alloc: Global,
+        plan: &Plan,
+        inputs: &[u32],
+        constants: &[Constant],
+        input_cost: u32,
+    ) -> Result<Self, NoMemory> {
+        let nets = plan.net_count();
+        let mut costs = Costs {
+            zeros: vec![in alloc; NEVER; nets]?,
+            ones: vec![in alloc; NEVER; nets]?,
+        };
+        for net in inputs {
+            costs.put(*net, false, input_cost);
+            costs.put(*net, true, input_cost);
+        }
+        costs.put_constants(constants);
+        for part in plan.order() {
+            costs.add_part(plan, *part);
+        }
+        Ok(costs)
+    }
+
+    /// What it costs to bring the net to the value.
+    pub(crate) fn get(&self, net: u32, value: bool) -> u32 {
+        let costs = if value { &self.ones } else { &self.zeros };
+        match costs.get(net as usize) {
+            Some(cost) => *cost,
+            None => NEVER,
+        }
+    }
+
+    // Notes a cost.
+    fn put(&mut self, net: u32, value: bool, cost: u32) {
+        if value {
+            put_at(&mut self.ones, net, cost);
+        } else {
+            put_at(&mut self.zeros, net, cost);
+        }
+    }
+
+    // A constant costs nothing.
+    fn put_constants(&mut self, constants: &[Constant]) {
+        for constant in constants {
+            self.put(constant.net, constant.value, 0);
+        }
+    }
+
+    // Finds the costs of an instance's outputs.
+    fn add_part(&mut self, plan: &Plan, part: u32) {
+        for (output, net) in plan.outputs(part).iter().enumerate() {
+            let zero = self.least(plan, part, output, false);
+            let one = self.least(plan, part, output, true);
+            self.put(*net, false, zero.saturating_add(1));
+            self.put(*net, true, one.saturating_add(1));
+        }
+    }
+
+    // The least cost of the cubes that bring the value to the instance's output.
+    fn least(&self, plan: &Plan, part: u32, output: usize, value: bool) -> u32 {
+        let mut least = NEVER;
+        for cube in plan.bringing(part, output, value) {
+            least = least.min(self.cube_cost(plan, part, *cube));
+        }
+        least
+    }
+
+    // The cost of a cube: the sum over its pins.
+    fn cube_cost(&self, plan: &Plan, part: u32, cube: Cube) -> u32 {
+        let mut sum = 0u32;
+        for (pin, net) in plan.inputs(part).iter().enumerate() {
+            if let Some(value) = plan.literal(part, cube, pin) {
+                sum = sum.saturating_add(self.get(*net, value));
+            }
+        }
+        sum
+    }
+}
+
+// Notes a cost in a list.
+fn put_at(costs: &mut [u32], net: u32, cost: u32) {
+    let net = net as usize;
+    if net < costs.len() {
+        costs[net] = cost;
+    }
+}

@@ -1,0 +1,60 @@
+//! Cubes: values of some places.
+
+// How many places a cube may speak of.
+const MOST_PLACES: usize = 16;
+
+/// Values of some places, while the others are free.
+#[derive(Clone, Copy, Debug, PartialEq, Eq)]
+pub(crate) struct Cube {
+    // the set of the places that have a value
+    held: u16,
+    // the set of those that have the value 1
+    ones: u16,
+}
+
+impl Cube {
+    /// All places are free.
+    pub(crate) const FREE: Cube = Cube { held: 0, ones: 0 };
+
+    /// The places of the first set have a value: 1 where they are in the second set, else 0.
+    pub(crate) fn new(held: u16, ones: u16) -> Self {
+        Cube {
+            held,
+            ones: ones & held,
+        }
+    }
+
+    /// The value of the place, if it has one.
+    pub(crate) fn literal(self, place: usize) -> Option<bool> {
+        if has(self.held, place) {
+            Some(has(self.ones, place))
+        } else {
+            None
+        }
+    }
+
+    /// The cube in which the place is free too.
+    pub(crate) fn without(self, place: usize) -> Cube {
+        Cube::new(self.held & !single(place), self.ones)
+    }
+
+    /// The set of the places that have a value.
+    pub(crate) fn held(self) -> u16 {
+        self.held
+    }
+
+    /// The set of the places that have the value 1.
+    pub(crate) fn ones(self) -> u16 {
+        self.ones
+    }
+}
+
+// Whether the place is in the set.
+fn has(set: u16, place: usize) -> bool {
+    place < MOST_PLACES && (set >> place) % 2 == 1
+}
+
+// The set of one place.
+fn single(place: usize) -> u16 {
+    if place < MOST_PLACES { 1 << place } else { 0 }
+}

@@ -1,0 +1,22 @@
+//! A choice of the next bit of a search: the cheapest row of the defect and the cheapest way out, and of what
+//! these want the dearest value first.
+#![tactic(auto)]
+
+mod cell_cubes;
+mod choice;
+mod cone;
+mod costs;
+mod cube;
+mod goal;
+mod plan;
+mod points;
+mod prices;
+mod row_cubes;
+mod row_goals;
+mod scene;
+mod sight;
+mod tables;
+mod ways;
+
+pub use choice::CheapestWay;
+pub use tables::{CellTable, ChipTables, Constant, Part};

@@ -1,0 +1,151 @@
+//! A decision: the chip, the costs, the cone of the defect and what is seen.
+
+use crate::cell_cubes::are_opposite;
+use crate::cone::Cone;
+use crate::costs::NEVER;
+use crate::cube::Cube;
+use crate::goal::{Dearest, Frame, Goal, trit_of};
+use crate::plan::{Plan, Source};
+use crate::prices::Prices;
+use crate::sight::Sight;
+
+/// A bit, and its value.
+#[derive(Clone, Copy, Debug)]
+pub(crate) struct BitValue {
+    pub(crate) bit: usize,
+    pub(crate) value: bool,
+}
+
+/// All that a decision looks at.
+#[derive(Drop)]
+pub(crate) struct Scene<'a, S: Sight> {
+    pub(crate) plan: &'a Plan,
+    pub(crate) prices: &'a Prices,
+    pub(crate) cone: &'a Cone,
+    pub(crate) sight: &'a S,
+}
+
+impl<S: Sight> Scene<'_, S> {
+    /// The price of a goal.
+    pub(crate) fn price(&self, goal: Goal) -> u32 {
+        self.prices.of(self.sight, goal)
+    }
+
+    /// The price of the values that an instance's other pins need in the last frame, without and with the
+    /// defect. A value that isn't there costs something.
+    pub(crate) fn side_price(&self, part: u32, pin: usize, cube: Cube) -> u32 {
+        let mut sum = 0u32;
+        for (other, net) in self.plan.inputs(part).iter().enumerate() {
+            if other != pin {
+                if let Some(value) = self.plan.literal(part, cube, other) {
+                    sum = sum.saturating_add(self.side_value_price(*net, value));
+                }
+            }
+        }
+        sum
+    }
+
+    // The price of one such value.
+    fn side_value_price(&self, net: u32, value: bool) -> u32 {
+        let wanted = trit_of(value);
+        let good = self.sight.good(net).last;
+        let faulty = self.sight.faulty(net).last;
+        if are_opposite(good, wanted) || are_opposite(faulty, wanted) {
+            return NEVER;
+        }
+        if good == wanted && faulty == wanted {
+            return 0;
+        }
+        let frame = Frame::Last;
+        self.price(Goal { frame, net, value }).max(1)
+    }
+
+    /// An unset bit that brings the goal nearer, and its value: at each instance the cheapest cube is wanted,
+    /// and of it the dearest value.
+    pub(crate) fn backtrace(&self, goal: Goal) -> Option<BitValue> {
+        let mut goal = goal;
+        for _ in 0..self.plan.net_count() {
+            match self.plan.source(goal.net) {
+                Source::Input(input) => return self.bit_for(input, goal),
+                Source::Output { part, output } => match self.goal_before(goal, part, output) {
+                    Some(before) => goal = before,
+                    None => return None,
+                },
+                Source::Other => return None,
+            }
+        }
+        None
+    }
+
+    // The bit of a chip input for a goal on its net.
+    fn bit_for(&self, input: usize, goal: Goal) -> Option<BitValue> {
+        let first = input;
+        let last = self.plan.input_count().saturating_add(input);
+        let bit = match goal.frame {
+            Frame::First => first,
+            Frame::Last => last,
+            Frame::Stable => {
+                if self.sight.is_wanted(last) {
+                    last
+                } else {
+                    first
+                }
+            }
+        };
+        if self.sight.is_wanted(bit) {
+            Some(BitValue {
+                bit,
+                value: goal.value,
+            })
+        } else {
+            None
+        }
+    }
+
+    // The dearest goal on the instance's pins that the cheapest cube for the goal wants.
+    fn goal_before(&self, goal: Goal, part: u32, output: usize) -> Option<Goal> {
+        match self.cheapest(goal, part, output) {
+            Some(cube) => self.dearest_of(goal.frame, part, cube),
+            None => None,
+        }
+    }
+
+    // The cheapest cube that brings the goal's value to the instance's output.
+    fn cheapest(&self, goal: Goal, part: u32, output: usize) -> Option<Cube> {
+        let mut best = None;
+        let mut least = NEVER;
+        for cube in self.plan.bringing(part, output, goal.value) {
+            let price = self.cube_price(goal.frame, part, *cube);
+            if price < least {
+                least = price;
+                best = Some(*cube);
+            }
+        }
+        best
+    }
+
+    // The price of a cube: the sum over its pins.
+    fn cube_price(&self, frame: Frame, part: u32, cube: Cube) -> u32 {
+        let mut sum = 0u32;
+        for (pin, net) in self.plan.inputs(part).iter().enumerate() {
+            if let Some(value) = self.plan.literal(part, cube, pin) {
+                let net = *net;
+                sum = sum.saturating_add(self.price(Goal { frame, net, value }));
+            }
+        }
+        sum
+    }
+
+    // The dearest goal of a cube.
+    fn dearest_of(&self, frame: Frame, part: u32, cube: Cube) -> Option<Goal> {
+        let mut dearest = Dearest::new();
+        for (pin, net) in self.plan.inputs(part).iter().enumerate() {
+            if let Some(value) = self.plan.literal(part, cube, pin) {
+                let net = *net;
+                let goal = Goal { frame, net, value };
+                dearest.offer(goal, self.price(goal));
+            }
+        }
+        dearest.goal()
+    }
+}

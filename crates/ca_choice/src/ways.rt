@@ -1,0 +1,218 @@
+//! The ways on which a defect can be seen at an output, and their costs.
+
+use crate::cone::Cone;
+use crate::costs::NEVER;
+use crate::cube::Cube;
+use crate::goal::{Dearest, Frame, Goal};
+use crate::plan::Plan;
+use crate::scene::Scene;
+use crate::sight::{Sight, is_dead, shows};
+use ca_base::NoMemory;
+use ca_net::Trit;
+use std::alloc::Global;
+
+// The next piece of a way: through an instance from a pin to an output, under values of the other pins.
+#[derive(Clone, Copy)]
+struct Piece {
+    part: u32,
+    pin: usize,
+    cube: Cube,
+    // the net of the output
+    net: u32,
+}
+
+/// For each net of the cone what the cheapest way out costs, and its first piece.
+#[derive(Drop)]
+pub(crate) struct Ways {
+    costs: Vec<u32>,
+    pieces: Vec<Option<Piece>>,
+}
+
+impl Ways {
+    /// The room for a chip.
+    pub(crate) fn reserve(alloc: Global, plan: &Plan) -> Result<Self, NoMemory> {
+        Ok(Ways {
+            costs: vec![in alloc; NEVER; plan.net_count()]?,
+            pieces: vec![in alloc; None; plan.net_count()]?,
+        })
+    }
+
+    /// Finds the ways out of the cone of a decision, from its end back.
+    pub(crate) fn find<S: Sight>(&mut self, scene: &Scene<'_, S>) {
+        let cone = scene.cone;
+        let count = cone.len();
+        for place in 0..count {
+            self.clear(scene.plan.outputs(cone.get(place)));
+        }
+        for after in 0..count {
+            self.pass(scene, cone.get(count - 1 - after));
+        }
+    }
+
+    /// What the cheapest way out of the net costs.
+    pub(crate) fn cost(&self, net: u32) -> u32 {
+        match self.costs.get(net as usize) {
+            Some(cost) => *cost,
+            None => NEVER,
+        }
+    }
+
+    /// Offers the values that the way out of the net wants.
+    pub(crate) fn offer_all<S: Sight>(
+        &self,
+        scene: &Scene<'_, S>,
+        net: u32,
+        dearest: &mut Dearest,
+    ) {
+        let mut net = net;
+        for _ in 0..scene.cone.len() {
+            match self.piece(net) {
+                Some(piece) => {
+                    offer_sides(scene, piece, dearest);
+                    net = piece.net;
+                }
+                None => return,
+            }
+        }
+    }
+
+    /// The dearest value that the way out of the net wants at the first instance that wants any.
+    pub(crate) fn nearest<S: Sight>(&self, scene: &Scene<'_, S>, net: u32) -> Option<Goal> {
+        let mut net = net;
+        for _ in 0..scene.cone.len() {
+            match self.piece(net) {
+                Some(piece) => {
+                    let mut dearest = Dearest::new();
+                    offer_sides(scene, piece, &mut dearest);
+                    if dearest.goal().is_some() {
+                        return dearest.goal();
+                    }
+                    net = piece.net;
+                }
+                None => return None,
+            }
+        }
+        None
+    }
+
+    // The first piece of the way out of the net.
+    fn piece(&self, net: u32) -> Option<Piece> {
+        match self.pieces.get(net as usize) {
+            Some(piece) => *piece,
+            None => None,
+        }
+    }
+
+    // Forgets the ways out of the nets.
+    fn clear(&mut self, nets: &[u32]) {
+        for net in nets {
+            self.put(*net, NEVER, None);
+        }
+    }
+
+    // Notes the way out of a net.
+    fn put(&mut self, net: u32, cost: u32, piece: Option<Piece>) {
+        let place = net as usize;
+        if place < self.costs.len() && place < self.pieces.len() {
+            self.costs[place] = cost;
+            self.pieces[place] = piece;
+        }
+    }
+
+    // Settles the ways out of an instance's outputs, and leads the ways of its pins on to them.
+    fn pass<S: Sight>(&mut self, scene: &Scene<'_, S>, part: u32) {
+        for (output, net) in scene.plan.outputs(part).iter().enumerate() {
+            self.settle(scene, *net);
+            if self.cost(*net) < NEVER {
+                self.lead(scene, part, output, *net);
+            }
+        }
+    }
+
+    // Settles the way out of a net: there is none if it is dead, and it is out if it is observed.
+    fn settle<S: Sight>(&mut self, scene: &Scene<'_, S>, net: u32) {
+        if is_dead(scene.sight, net) {
+            self.put(net, NEVER, None);
+        } else if scene.sight.is_observed(net) {
+            self.put(net, 0, None);
+        }
+    }
+
+    // Leads the ways of an instance's pins on to an output.
+    fn lead<S: Sight>(&mut self, scene: &Scene<'_, S>, part: u32, output: usize, net: u32) {
+        for (pin, from) in scene.plan.inputs(part).iter().enumerate() {
+            let from = *from;
+            if scene.cone.has_net(from) {
+                if shows(scene.sight, from) && shows(scene.sight, net) {
+                    let cube = Cube::FREE;
+                    self.offer(
+                        from,
+                        self.cost(net),
+                        Piece {
+                            part,
+                            pin,
+                            cube,
+                            net,
+                        },
+                    );
+                } else {
+                    self.lead_pin(scene, from, part, output, pin, net);
+                }
+            }
+        }
+    }
+
+    // Leads the way of a pin on to an output, under each cube under which the output follows it.
+    fn lead_pin<S: Sight>(
+        &mut self,
+        scene: &Scene<'_, S>,
+        from: u32,
+        part: u32,
+        output: usize,
+        pin: usize,
+        net: u32,
+    ) {
+        let onward = self.cost(net).saturating_add(1);
+        for cube in scene.plan.passing(part, output, pin) {
+            let cube = *cube;
+            let cost = onward.saturating_add(scene.side_price(part, pin, cube));
+            self.offer(
+                from,
+                cost,
+                Piece {
+                    part,
+                    pin,
+                    cube,
+                    net,
+                },
+            );
+        }
+    }
+
+    // Takes a way out of a net if it is cheaper than what is there.
+    fn offer(&mut self, from: u32, cost: u32, piece: Piece) {
+        if cost < self.cost(from) {
+            self.put(from, cost, Some(piece));
+        }
+    }
+}
+
+// Offers the values that a piece of a way wants.
+fn offer_sides<S: Sight>(scene: &Scene<'_, S>, piece: Piece, dearest: &mut Dearest) {
+    for (pin, net) in scene.plan.inputs(piece.part).iter().enumerate() {
+        if pin != piece.pin {
+            if let Some(value) = scene.plan.literal(piece.part, piece.cube, pin) {
+                offer_side(scene, *net, value, dearest);
+            }
+        }
+    }
+}
+
+// Offers a value that is wanted in the last frame, if there is none.
+fn offer_side<S: Sight>(scene: &Scene<'_, S>, net: u32, value: bool, dearest: &mut Dearest) {
+    if scene.sight.good(net).last == Trit::X {
+        let frame = Frame::Last;
+        let goal = Goal { frame, net, value };
+        dearest.offer(goal, scene.price(goal));
+    }
+}
