@@ -11,6 +11,7 @@ mod goal;
 mod plan;
 mod points;
 mod prices;
+mod region;
 mod row_cubes;
 mod row_goals;
 mod scene;
