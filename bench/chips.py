@@ -1,0 +1,134 @@
+#!/usr/bin/env python3
+"""Measures test generation: seconds of user time, memory and verdicts, a CSV record for each run.
+
+usage: bench/chips.py PROGRAM [examples|mapped|made|rows].. [--budgets N,N..] [--most N]
+
+examples  the chips of examples/
+mapped    bench/rtl mapped to OSU's library for 0.35 micrometres, where Debian's yosys and qflow-tech-osu035 are installed
+made      `make N`, for N from 64 to --most (1,024 if it isn't said)
+rows      `check` of rows of inverters up to 32,768
+"""
+import csv
+import os
+import resource
+import subprocess
+import sys
+import tempfile
+
+HERE = os.path.dirname(os.path.abspath(__file__))
+TOP = os.path.dirname(HERE)
+OSU = "/usr/share/qflow/tech/osu035"
+# each design, and whether it has flip-flops
+DESIGNS = {"mult8": False, "alu8": False, "sec8": False, "counter": True, "crc16": True, "fsm": True}
+
+
+def run(words, seconds=3600):
+    """Answers what a command printed, its user seconds and its memory in MiB."""
+    before = resource.getrusage(resource.RUSAGE_CHILDREN).ru_utime
+    process = subprocess.Popen(words, stdout=subprocess.PIPE, stderr=subprocess.PIPE, text=True)
+    # (the greatest size of all children so far is all that the system tells, so one child reads its own)
+    printed, told = process.communicate(timeout=seconds)
+    used = resource.getrusage(resource.RUSAGE_CHILDREN).ru_utime - before
+    return process.returncode, printed.strip() or told.strip(), used
+
+
+def memory(words):
+    """The greatest size of a command in MiB, from a process of its own."""
+    code = "import resource,subprocess,sys; subprocess.run(sys.argv[1:], stdout=subprocess.DEVNULL); print(resource.getrusage(resource.RUSAGE_CHILDREN).ru_maxrss)"
+    return int(subprocess.run([sys.executable, "-c", code, *words], capture_output=True, text=True).stdout) / 1024
+
+
+def counts(line):
+    """The numbers of a line of counts, by name."""
+    return dict(it.strip().rsplit(" ", 1) for it in line.split(","))
+
+
+def record(writer, name, budget, words):
+    status, line, used = run(words)
+    if status != 0:
+        writer.writerow([name, budget, "", "", "", "", "", "", "", "", line])
+        return
+    found = counts(line)
+    fields = ["defects", "credited", "unexposable", "untestable", "aborted", "pairs"]
+    size = memory(words) if used < 60 else 0
+    writer.writerow([name, budget, *[found[it] for it in fields], f"{used:.2f}", f"{size:.1f}" if size else "", ""])
+    sys.stdout.flush()
+
+
+def mapped(folder):
+    """Maps the designs, and gives for each its netlist and its scan table."""
+    cells = f"{folder}/osu035.sp"
+    with open(cells, "w") as out:
+        subprocess.run([f"{TOP}/tools/add_pin_roles.py", f"{OSU}/osu035_stdcells.sp", "--models", f"{OSU}/osu035_stdcells.v",
+                        "--power", "vdd,vdd2", "--ground", "gnd,gnd2"], stdout=out, stderr=subprocess.DEVNULL, check=True)
+    for name, is_clocked in DESIGNS.items():
+        flops = f"dfflibmap -liberty {OSU}/osu035_stdcells.lib;" if is_clocked else ""
+        netlist = f"{folder}/{name}.v"
+        subprocess.run(["yosys", "-q", "-p", f"read_verilog {HERE}/rtl/{name}.v; synth -flatten -top {name}; {flops} abc -liberty {OSU}/osu035_stdcells.lib;"
+                        f" opt_clean -purge; splitnets; write_verilog -noattr -noexpr -nodec {netlist}"], check=True)
+        text = open(netlist).read().replace("1'h0", "1'b0").replace("1'h1", "1'b1")
+        open(netlist, "w").write(text)
+        table = "-"
+        if is_clocked:
+            scanned = subprocess.run([f"{TOP}/tools/insert_scan.py", netlist, "--cell", "DFFPOSX1", "--pins", "D,Q,CLK", "--chains", "2"],
+                                     capture_output=True, text=True, check=True).stdout
+            open(netlist, "w").write(scanned)
+            table = f"{TOP}/examples/scan.csv"
+        yield name, cells, netlist, table
+
+
+def row_of_inverters(folder, count):
+    """The netlist of so many inverters, each behind the one before."""
+    path = f"{folder}/row{count}.v"
+    with open(path, "w") as out:
+        out.write("module row (a, z);\n  input a;\n  output z;\n")
+        for k in range(count - 1):
+            out.write(f"  wire n{k};\n")
+        for k in range(count):
+            before = "a" if k == 0 else f"n{k - 1}"
+            after = "z" if k == count - 1 else f"n{k}"
+            out.write(f"  INV u{k} (.A({before}), .ZN({after}));\n")
+        out.write("endmodule\n")
+    return path
+
+
+def main(words):
+    program = os.path.abspath(words[0])
+    budgets, most, sets, rest = [64, 1024], 1024, [], list(words[1:])
+    while rest:
+        word = rest.pop(0)
+        if word == "--budgets":
+            budgets = [int(it) for it in rest.pop(0).split(",")]
+        elif word == "--most":
+            most = int(rest.pop(0))
+        else:
+            sets.append(word)
+    sets = sets or ["examples", "mapped", "made", "rows"]
+    writer = csv.writer(sys.stdout)
+    writer.writerow("chip budget defects credited unexposable untestable aborted pairs seconds MiB why".split())
+    with tempfile.TemporaryDirectory() as folder:
+        out = [f"{folder}/p.stil", f"{folder}/r.csv"]
+        if "examples" in sets:
+            for name, cells, table in [("c17", "cells.sp", "-"), ("add4", "fa28.sp", "-"), ("acc", "fa28.sp", "scan.csv")]:
+                at = f"{TOP}/examples"
+                scan = table if table == "-" else f"{at}/{table}"
+                for budget in budgets:
+                    record(writer, name, budget, [program, "atpg", f"{at}/{cells}", f"{at}/{name}.v", scan, *out, str(budget)])
+        if "mapped" in sets and os.path.isdir(OSU):
+            for name, cells, netlist, table in mapped(folder):
+                for budget in budgets:
+                    record(writer, name, budget, [program, "atpg", cells, netlist, table, *out, str(budget)])
+        if "made" in sets:
+            number = 64
+            while number <= most:
+                record(writer, f"make {number}", 64, [program, "make", str(number)])
+                number *= 4 if number < 1024 else 2
+        if "rows" in sets:
+            for count in [1024, 8192, 32768]:
+                words = [program, "check", f"{TOP}/examples/cells.sp", row_of_inverters(folder, count), "-"]
+                status, line, used = run(words)
+                writer.writerow([f"row of {count}", "", line.split("defects ")[-1] if status == 0 else line, "", "", "", "", "", f"{used:.2f}", f"{memory(words):.1f}", ""])
+
+
+if __name__ == "__main__":
+    main(sys.argv[1:])
