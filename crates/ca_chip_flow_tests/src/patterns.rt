@@ -98,7 +98,7 @@ static MADE: [Row; 7] = [
     (
         "make 200",
         0,
-        "defects 3210, credited 366, unexposable 1305, untestable 1539, aborted 0, pairs 15\n",
+        "defects 3210, credited 366, unexposable 1305, untestable 1539, aborted 0, pairs 13\n",
         "",
     ),
     ("make 0", 1, "", "bad command line"),
