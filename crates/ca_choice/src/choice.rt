@@ -7,7 +7,6 @@ use crate::costs::NEVER;
 use crate::goal::{Dearest, Goal};
 use crate::plan::Plan;
 use crate::prices::Prices;
-use crate::region::Region;
 use crate::row_cubes::RowCubes;
 use crate::row_goals::{cheapest_row, offer_firsts, offer_lasts};
 use crate::scene::{BitValue, Scene};
@@ -28,9 +27,8 @@ pub struct CheapestWay {
     prices: Prices,
     rows: RowCubes,
     cone: Cone,
-    region: Region,
     ways: Ways,
-    // the defect of the rows, the cone and the region
+    // the defect of the rows and of the cone
     defect: Option<ChipDefect>,
 }
 
@@ -51,7 +49,6 @@ impl CheapestWay {
         Ok(CheapestWay {
             rows: RowCubes::reserve(alloc)?,
             cone: Cone::reserve(alloc, &plan)?,
-            region: Region::reserve(alloc, &plan)?,
             ways: Ways::reserve(alloc, &plan)?,
             plan,
             prices,
@@ -60,7 +57,7 @@ impl CheapestWay {
     }
 
     // Turns to a defect, if it is another one than before.
-    fn turn_to<S: Sight>(&mut self, sight: &S, defect: ChipDefect, rows: &Rows) {
+    fn turn_to(&mut self, defect: ChipDefect, rows: &Rows) {
         if self.defect == Some(defect) {
             return;
         }
@@ -68,12 +65,10 @@ impl CheapestWay {
         self.rows
             .find(rows, self.plan.inputs(defect.instance).len());
         self.cone.find(&self.plan, defect.instance);
-        self.region.find(&self.plan, sight);
     }
 
     // A bit that brings the defect nearer to being seen.
     fn bit<S: Sight>(&mut self, sight: &S, part: u32) -> Option<BitValue> {
-        self.prices.refresh(&self.plan, &self.region, sight);
         let scene = Scene {
             plan: &self.plan,
             prices: &self.prices,
@@ -98,7 +93,7 @@ impl Choice for CheapestWay {
         defect: ChipDefect,
     ) -> Proposal {
         let sight = View { guide, chip, waves };
-        self.turn_to(&sight, defect, rows);
+        self.turn_to(defect, rows);
         match self.bit(&sight, defect.instance) {
             Some(found) => proposal(found),
             None => match twin(&sight, self.plan.input_count()) {

@@ -50,8 +50,8 @@ impl Costs {
         }
     }
 
-    /// Notes a cost.
-    pub(crate) fn put(&mut self, net: u32, value: bool, cost: u32) {
+    // Notes a cost.
+    fn put(&mut self, net: u32, value: bool, cost: u32) {
         if value {
             put_at(&mut self.ones, net, cost);
         } else {

@@ -11,7 +11,6 @@ mod goal;
 mod plan;
 mod points;
 mod prices;
-mod region;
 mod row_cubes;
 mod row_goals;
 mod scene;

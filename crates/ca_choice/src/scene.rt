@@ -115,15 +115,25 @@ impl<S: Sight> Scene<'_, S> {
         let mut best = None;
         let mut least = NEVER;
         for cube in self.plan.bringing(part, output, goal.value) {
-            let price = self
-                .prices
-                .of_cube(self.plan, self.sight, goal.frame, part, *cube);
+            let price = self.cube_price(goal.frame, part, *cube);
             if price < least {
                 least = price;
                 best = Some(*cube);
             }
         }
         best
+    }
+
+    // The price of a cube: the sum over its pins.
+    fn cube_price(&self, frame: Frame, part: u32, cube: Cube) -> u32 {
+        let mut sum = 0u32;
+        for (pin, net) in self.plan.inputs(part).iter().enumerate() {
+            if let Some(value) = self.plan.literal(part, cube, pin) {
+                let net = *net;
+                sum = sum.saturating_add(self.price(Goal { frame, net, value }));
+            }
+        }
+        sum
     }
 
     // The dearest goal of a cube.

@@ -17,9 +17,6 @@ pub(crate) trait Sight {
     /// Whether the net is observed.
     fn is_observed(&self, net: u32) -> bool;
 
-    /// Whether the net leads to an observed output that the defect reaches.
-    fn leads(&self, net: u32) -> bool;
-
     /// The value of the bit, if it is set.
     fn value(&self, bit: usize) -> Option<bool>;
 
@@ -55,10 +52,6 @@ impl<C: LinkedChip, V: NetWaves> Sight for View<'_, C, V> {
 
     fn is_observed(&self, net: u32) -> bool {
         (net as usize) < self.chip.net_count() && self.chip.is_observed(net)
-    }
-
-    fn leads(&self, net: u32) -> bool {
-        self.guide.leads(net)
     }
 
     fn value(&self, bit: usize) -> Option<bool> {
