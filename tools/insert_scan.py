@@ -14,6 +14,11 @@ import re
 import sys
 
 
+def ended(net):
+    """A net as a pin takes it: an escaped name ends at a blank."""
+    return f"{net} " if "\\" in net else net
+
+
 def main():
     parser = argparse.ArgumentParser(usage=__doc__)
     parser.add_argument("netlist")
@@ -28,7 +33,7 @@ def main():
     found = []
     for name, body in instance.findall(text):
         pins = dict(re.findall(r"\.([\w$]+)\s*\(\s*([^()]*?)\s*\)", body))
-        found.append((name, pins[data], pins.get(output, ""), pins[clock]))
+        found.append((name, ended(pins[data]), ended(pins.get(output, "")), ended(pins[clock])))
     if not found:
         sys.exit(f"{asked.netlist}: no instance of {asked.cell}")
     if len({clock for _, _, _, clock in found}) != 1:
