@@ -22,20 +22,28 @@ OSU = "/usr/share/qflow/tech/osu035"
 DESIGNS = {"mult8": False, "alu8": False, "sec8": False, "counter": True, "crc16": True, "fsm": True}
 
 
-def run(words, seconds=3600):
-    """Answers what a command printed, its user seconds and its memory in MiB."""
+def run(words):
+    """Answers the status of a command, what it printed or told, and its user seconds."""
     before = resource.getrusage(resource.RUSAGE_CHILDREN).ru_utime
-    process = subprocess.Popen(words, stdout=subprocess.PIPE, stderr=subprocess.PIPE, text=True)
-    # (the greatest size of all children so far is all that the system tells, so one child reads its own)
-    printed, told = process.communicate(timeout=seconds)
+    done = subprocess.run(words, capture_output=True, text=True)
     used = resource.getrusage(resource.RUSAGE_CHILDREN).ru_utime - before
-    return process.returncode, printed.strip() or told.strip(), used
+    return done.returncode, done.stdout.strip() or done.stderr.strip(), used
 
 
 def memory(words):
-    """The greatest size of a command in MiB, from a process of its own."""
-    code = "import resource,subprocess,sys; subprocess.run(sys.argv[1:], stdout=subprocess.DEVNULL); print(resource.getrusage(resource.RUSAGE_CHILDREN).ru_maxrss)"
-    return int(subprocess.run([sys.executable, "-c", code, *words], capture_output=True, text=True).stdout) / 1024
+    """The greatest size of a command in MiB, which is looked at while it runs."""
+    most = 0
+    with subprocess.Popen(words, stdout=subprocess.DEVNULL, stderr=subprocess.DEVNULL) as process:
+        while process.poll() is None:
+            try:
+                with open(f"/proc/{process.pid}/status") as status:
+                    lines = dict(it.split(":", 1) for it in status if it.startswith(("Name", "VmHWM")))
+            except OSError:
+                break
+            # (before its start the process still has the size of this one)
+            if "python" not in lines.get("Name", "python") and "VmHWM" in lines:
+                most = max(most, int(lines["VmHWM"].split()[0]))
+    return most / 1024
 
 
 def counts(line):
@@ -50,8 +58,7 @@ def record(writer, name, budget, words):
         return
     found = counts(line)
     fields = ["defects", "credited", "unexposable", "untestable", "aborted", "pairs"]
-    size = memory(words) if used < 60 else 0
-    writer.writerow([name, budget, *[found[it] for it in fields], f"{used:.2f}", f"{size:.1f}" if size else "", ""])
+    writer.writerow([name, budget, *[found[it] for it in fields], f"{used:.2f}", f"{memory(words):.1f}", ""])
     sys.stdout.flush()
 
 
