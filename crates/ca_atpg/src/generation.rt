@@ -93,8 +93,8 @@ fn made_for<T: Watch>(
 }
 
 /// Searches for pairs that show the defects of a linked chip, with at most so many branches for each, and
-/// writes the texts. The watch is told after each defect's turn. Want of memory is also told of a chip with 2^14 chip inputs, with 2^32 defects or whose
-/// flat network may have 2^32 nodes or devices.
+/// writes the texts. The watch is told after each defect's turn. Want of memory is also told of a chip with
+/// 2^14 chip inputs, with 2^32 defects or whose flat network may have 2^32 nodes or devices.
 #[tactic(auto, using(crate::proofs::AtpgLemmas::task_pairs_fit, crate::proofs::AtpgLemmas::verdicts_within, crate::proofs::AtpgLemmas::one_verdict_each))]
 pub fn atpg<T: Watch>(
     alloc: Global,

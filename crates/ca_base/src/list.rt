@@ -1,6 +1,7 @@
 //! Lists.
 
-ghost use Rattle.std.specs.Prelude.{◌≡◌, ◌++◌, [], ◌∷◌, length, slice_get, OnOk, OnErr, IfOk, IsTrue, ◌↔◌, ◌<◌, Some};
+ghost use Rattle.std.specs.Prelude.{◌≡◌, ◌++◌, [], ◌∷◌, length, slice_get, OnOk, OnErr, IfOk, IsTrue, ◌↔◌};
+ghost use Rattle.std.specs.Prelude.{◌<◌, Some};
 
 use crate::no_memory::NoMemory;
 use std::alloc::Global;

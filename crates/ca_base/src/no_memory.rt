@@ -2,8 +2,8 @@
 
 use std::alloc::{AllocError, AllocFailed};
 
-/// There was no memory for the call. What the call was to make is not there, and a `&mut` is as it was unless the
-/// call says otherwise.
+/// There was no memory for the call. What the call was to make is not there, and a `&mut` is as it was unless
+/// the call says otherwise.
 #[derive(Clone, Copy, Debug, PartialEq, Eq)]
 pub struct NoMemory;
 

@@ -108,8 +108,8 @@ fn ends(alloc: Global, text: &mut Text, chip: &Chip) -> Result<(), NoMemory> {
     text.append(b"\n")
 }
 
-// Appends a library instance: its name and its cell's, the place of the cell in the library, its place in the order,
-// the nets of its pins, and whether it stands there and is found by its name.
+// Appends a library instance: its name and its cell's, the place of the cell in the library, its place in the
+// order, the nets of its pins, and whether it stands there and is found by its name.
 #[tactic(auto, using(ca_core_tables::proofs::PartFacts::pin_within, ca_core_tables::proofs::PartFacts::cell_read))]
 fn instance(text: &mut Text, chip: &Chip, u: InstanceId) -> Result<(), NoMemory> {
     if u.0 as usize >= chip.parts() || !chip.is_library(u) {

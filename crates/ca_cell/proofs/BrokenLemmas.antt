@@ -6,7 +6,9 @@ use Rattle.std.proofs.Math.Decide.{dec_le, dec_lt}
 use Rattle.ca_cell.specs.declared.raw.RawDevice.{RawDevice}
 use Rattle.ca_cell.specs.declared.raw.RawCell.{RawCell}
 use Rattle.ca_cell.specs.declared.rule.CellRule.{CellRule}
-use Rattle.ca_cell.specs.declared.rule.CellRule.TheVariants.{NoRail, TooManyDevices, TooManyNodes, TooManyInputs, NoOutput, TooManyOutputs, InputDrivesChannel}
+use Rattle.ca_cell.specs.declared.rule.CellRule.TheVariants.{NoRail, TooManyDevices, TooManyNodes}
+use Rattle.ca_cell.specs.declared.rule.CellRule.TheVariants.{TooManyInputs, NoOutput, TooManyOutputs}
+use Rattle.ca_cell.specs.declared.rule.CellRule.TheVariants.{InputDrivesChannel}
 use Rattle.ca_cell.specs.declared.rule.TheConstants.{MOST_DEVICES, MOST_NODES, MOST_INPUTS, MOST_OUTPUTS}
 use Rattle.ca_cell.specs.Raw.{is_input, is_output, is_power, is_ground, role_count}
 use Rattle.ca_cell.specs.Rules.{node_count, channel_pin, Breaks, rank_of, IsFirstBroken, KeepsRules}

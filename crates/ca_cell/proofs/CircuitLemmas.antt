@@ -1,5 +1,6 @@
 -- The network of a subcircuit that keeps the rules is well formed.
-use Rattle.std.proofs.Common.{◌≡◌, ℕ, ◌+◌, ◌<◌, ◌≤◌, ◌^◌, List, Bool, true, ◌++◌, length, map, take, drop, replicate, inl, inr, refl, sym, ◌∙◌, ap, subst, arith, get_or, length-append}
+use Rattle.std.proofs.Common.{◌≡◌, ℕ, ◌+◌, ◌<◌, ◌≤◌, ◌^◌, List, Bool, true, ◌++◌, length, map, take, drop}
+use Rattle.std.proofs.Common.{replicate, inl, inr, refl, sym, ◌∙◌, ap, subst, arith, get_or, length-append}
 use Rattle.std.specs.Prelude.{cond, Option, Some, slice_get}
 use Rattle.std.specs.List.{All}
 use Rattle.std.proofs.Math.Decide.{dec_le}
@@ -17,7 +18,8 @@ use Rattle.ca_cell.specs.declared.raw.RawCell.{RawCell}
 use Rattle.ca_cell.specs.declared.rule.CellRule.{CellRule}
 use Rattle.ca_cell.specs.declared.rule.CellRule.TheVariants.{TooManyNodes, NoOutput}
 use Rattle.ca_cell.specs.declared.rule.TheConstants.{MOST_NODES}
-use Rattle.ca_cell.specs.Raw.{is_input, is_output, role_count, inner_count, pin_node, node_at, node_of, nodes_of, device_of, circuit_of}
+use Rattle.ca_cell.specs.Raw.{is_input, is_output, role_count, inner_count, pin_node, node_at, node_of}
+use Rattle.ca_cell.specs.Raw.{nodes_of, device_of, circuit_of}
 use Rattle.ca_cell.specs.Rules.{IsRaw, node_count, KeepsRules, KeepsAllBut}
 
 -- fewer pins with a role stand before a pin with it than there are in all

@@ -1,6 +1,8 @@
 -- Each node of a cell has a net, and no device has its drain or its source on an input pin.
-use Rattle.std.proofs.Common.{◌≡◌, ℕ, zero, suc, ◌+◌, ◌-◌, ◌<◌, ◌≤◌, ◌⊎◌, List, Bool, true, false, [], ◌∷◌, length, take, inl, inr, refl, sym, ◌∙◌, ap, subst, arith, true≢false}
-use Rattle.std.specs.Prelude.{cond, Option, Some, None, IsSome, IsSomeAnd, is_some, slice_get, option_and_then}
+use Rattle.std.proofs.Common.{◌≡◌, ℕ, zero, suc, ◌+◌, ◌-◌, ◌<◌, ◌≤◌, ◌⊎◌, List, Bool, true, false, [], ◌∷◌}
+use Rattle.std.proofs.Common.{length, take, inl, inr, refl, sym, ◌∙◌, ap, subst, arith, true≢false}
+use Rattle.std.specs.Prelude.{cond, Option, Some, None, IsSome, IsSomeAnd, is_some, slice_get}
+use Rattle.std.specs.Prelude.{option_and_then}
 use Rattle.std.specs.List.{All}
 use Rattle.std.proofs.Math.Decide.{dec_le}
 use Rattle.std.proofs.lemmas.List.Sums.{sum_by-cons}
@@ -12,9 +14,12 @@ use Rattle.ca_cell.specs.declared.raw.Role.TheVariants.{Input, Output, Power, Gr
 use Rattle.ca_cell.specs.declared.raw.RawPin.{RawPin}
 use Rattle.ca_cell.specs.declared.raw.RawDevice.{RawDevice}
 use Rattle.ca_cell.specs.declared.raw.RawCell.{RawCell}
-use Rattle.ca_cell.specs.declared.rule.CellRule.TheVariants.{NoRail, TooManyDevices, TooManyInputs, NoOutput, TooManyOutputs, InputDrivesChannel}
-use Rattle.ca_cell.specs.Raw.{is_input, is_output, is_power, is_ground, role_count, pin_node, node_at, node_of, nodes_of, device_of}
-use Rattle.ca_cell.specs.Rules.{node_count, input_role, input_at, input_node, either, channel_pin, DrivesChannel, KeepsRules, KeepsAllBut}
+use Rattle.ca_cell.specs.declared.rule.CellRule.TheVariants.{NoRail, TooManyDevices, TooManyInputs, NoOutput}
+use Rattle.ca_cell.specs.declared.rule.CellRule.TheVariants.{TooManyOutputs, InputDrivesChannel}
+use Rattle.ca_cell.specs.Raw.{is_input, is_output, is_power, is_ground, role_count, pin_node, node_at}
+use Rattle.ca_cell.specs.Raw.{node_of, nodes_of, device_of}
+use Rattle.ca_cell.specs.Rules.{node_count, input_role, input_at, input_node, either, channel_pin}
+use Rattle.ca_cell.specs.Rules.{DrivesChannel, KeepsRules, KeepsAllBut}
 use Rattle.ca_cell.specs.declared.rule.TheConstants.{MOST_DEVICES, MOST_NODES, MOST_INPUTS, MOST_OUTPUTS}
 use Rattle.ca_net.specs.declared.node.NodeKind.{NodeKind}
 use Rattle.ca_cell.specs.Nodes.{IsInputPin, IsOffInputPins, GatesOnly, free_count}

@@ -1,5 +1,6 @@
 -- The names of the output pins of a cell.
-use Rattle.std.proofs.Common.{ℕ, ◌+◌, ◌<◌, ◌≡◌, refl, sym, ap, ◌∙◌, take, slice_index_or, add-one, append-nil, Bool, true, false, cond, List, [], ◌∷◌, ◌++◌, length, arith, zero, suc}
+use Rattle.std.proofs.Common.{ℕ, ◌+◌, ◌<◌, ◌≡◌, refl, sym, ap, ◌∙◌, take, slice_index_or, add-one, append-nil}
+use Rattle.std.proofs.Common.{Bool, true, false, cond, List, [], ◌∷◌, ◌++◌, length, arith, zero, suc}
 use Rattle.std.proofs.lemmas.List.Recursion.{is_count_by}
 use Rattle.ca_cell.specs.declared.raw.RawPin.{RawPin}
 use Rattle.ca_cell.specs.Raw.{is_output, role_count, output_names}

@@ -7,7 +7,9 @@ use Rattle.std.proofs.lemmas.List.{take_all}
 use Rattle.std.proofs.lemmas.Option.{slice_get_cases}
 use Rattle.ca_cell.specs.declared.raw.RawDevice.{RawDevice}
 use Rattle.ca_cell.specs.declared.raw.RawCell.{RawCell}
-use Rattle.ca_cell.specs.declared.rule.CellRule.TheVariants.{NoRail, TooManyDevices, TooManyNodes, TooManyInputs, NoOutput, TooManyOutputs, InputDrivesChannel}
+use Rattle.ca_cell.specs.declared.rule.CellRule.TheVariants.{NoRail, TooManyDevices, TooManyNodes}
+use Rattle.ca_cell.specs.declared.rule.CellRule.TheVariants.{TooManyInputs, NoOutput, TooManyOutputs}
+use Rattle.ca_cell.specs.declared.rule.CellRule.TheVariants.{InputDrivesChannel}
 use Rattle.ca_cell.specs.declared.rule.TheConstants.{MOST_NODES}
 use Rattle.ca_cell.specs.Rules.{node_count, channel_pin, DrivesChannel, KeepsCounts, KeepsRules}
 

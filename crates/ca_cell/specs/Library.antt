@@ -1,5 +1,6 @@
 -- Libraries of cells by name.
-use Rattle.std.specs.Prelude.{ℕ, ◌+◌, ◌≡◌, List, [], ◌∷◌, length, Option, Some, None, IsSome, IsNone, IsSomeAnd, slice_get, if◌then◌else◌}
+use Rattle.std.specs.Prelude.{ℕ, ◌+◌, ◌≡◌, List, [], ◌∷◌, length, Option, Some, None, IsSome, IsNone}
+use Rattle.std.specs.Prelude.{IsSomeAnd, slice_get, if◌then◌else◌}
 use Rattle.std.specs.Str.{bytes_eq}
 use Rattle.ca_lex.specs.Words.{upper_case}
 use Rattle.ca_cell.specs.declared.library.Entry.{Entry}
@@ -15,7 +16,8 @@ abbrev pub raw_of : Entry → RawCell
 raw_of (Sound raw) = raw
 raw_of (Refused raw rule) = raw
 
--- an entry is a cell where its subcircuit keeps the rules, and else the subcircuit with the first rule that it breaks
+-- an entry is a cell where its subcircuit keeps the rules, and else the subcircuit with the first rule that
+-- it breaks
 abbrev pub IsEntry : Entry → Type 0
 IsEntry (Sound raw) = IsRaw raw × KeepsRules raw
 IsEntry (Refused raw rule) = IsRaw raw × IsFirstBroken raw rule
@@ -32,10 +34,11 @@ entry_of (named ∷ more) name = if bytes_eq name named.name then Some named.ent
 
 -- the entry at the place is that of the kept name
 abbrev pub IsPlaceOf : List Named → List ℕ → ℕ → Type 0
-IsPlaceOf library name place = IsSomeAnd (slice_get library place) (λ named. entry_of library name ≡ Some named.entry)
+IsPlaceOf library name place = IsSomeAnd (slice_get library place)
+    (λ named. entry_of library name ≡ Some named.entry)
 
--- why an entry wasn't added: its name is there; or it isn't, and the library is full, with one cell more than it may have; or there
--- was no memory
+-- why an entry wasn't added: its name is there; or it isn't, and the library is full, with one cell more than
+-- it may have; or there was no memory
 abbrev pub IsCause : List Named → List ℕ → LibraryFault → Type 0
 IsCause library name DoubleName = IsSome (entry_of library (upper_case name))
 IsCause library name (TooManyCells count) =

@@ -1,5 +1,6 @@
 -- The nodes of a cell: which are input pins, what each is called, and how many defects a cell has.
-use Rattle.std.specs.Prelude.{ℕ, ◌+◌, ◌-◌, ◌*◌, ◌/◌, ◌≡◌, ◌≢◌, ◌<◌, ◌≤◌, List, length, slice_get, Some, option_map}
+use Rattle.std.specs.Prelude.{ℕ, ◌+◌, ◌-◌, ◌*◌, ◌/◌, ◌≡◌, ◌≢◌, ◌<◌, ◌≤◌, List, length, slice_get, Some}
+use Rattle.std.specs.Prelude.{option_map}
 use Rattle.std.specs.List.{All}
 use Rattle.ca_net.specs.declared.device.Device.{Device}
 use Rattle.ca_cell.specs.declared.raw.RawCell.{RawCell}
@@ -36,7 +37,7 @@ free_count raw = 2 + role_count is_output raw.pins + inner_count raw
 abbrev pub pair_count : ℕ → ℕ
 pair_count nodes = nodes * (nodes - 1) / 2
 
--- how many defects there are: three opens for each device, one for each input pin, and a short for each pair of nodes that are no
--- input pins, except power with ground
+-- how many defects there are: three opens for each device, one for each input pin, and a short for each pair
+-- of nodes that are no input pins, except power with ground
 abbrev pub defect_count : RawCell → ℕ
 defect_count raw = 3 * length raw.devices + role_count is_input raw.pins + (pair_count (free_count raw) - 1)

@@ -1,5 +1,6 @@
 -- The network of a subcircuit: which node each net is, and what the nodes and devices are.
-use Rattle.std.specs.Prelude.{ℕ, ◌+◌, ◌-◌, Bool, true, false, if◌then◌else◌, List, [], ◌∷◌, ◌++◌, map, length, take, replicate, count_by, slice_get, Option, Some, None}
+use Rattle.std.specs.Prelude.{ℕ, ◌+◌, ◌-◌, Bool, true, false, if◌then◌else◌, List, [], ◌∷◌, ◌++◌, map, length}
+use Rattle.std.specs.Prelude.{take, replicate, count_by, slice_get, Option, Some, None}
 use Rattle.ca_net.specs.declared.scale.TheConstants.{INNER_NODE, OUTPUT_NET}
 use Rattle.ca_net.specs.declared.node.NodeKind.{NodeKind}
 use Rattle.ca_net.specs.declared.node.NodeKind.TheVariants as node
@@ -49,8 +50,8 @@ output_names (pin ∷ pins) = if is_output pin.role then pin.name ∷ output_nam
 abbrev pub inner_count : RawCell → ℕ
 inner_count raw = length raw.nets - length raw.pins
 
--- the node of the pin at a place: 0 is power, whichever pin is for it, and 1 ground; then come the input pins in pin order, then the
--- output pins in pin order
+-- the node of the pin at a place: 0 is power, whichever pin is for it, and 1 ground; then come the input pins
+-- in pin order, then the output pins in pin order
 abbrev pub pin_node : List RawPin → ℕ → Role → ℕ
 pin_node pins place Power = 0
 pin_node pins place Ground = 1
@@ -69,7 +70,8 @@ node_of pins place = node_at pins place (slice_get pins place)
 abbrev pub nodes_of : RawCell → List NodeKind
 nodes_of raw =
     replicate (2 + role_count is_input raw.pins) node.Input
-    ++ (replicate (role_count is_output raw.pins) (node.Storage OUTPUT_NET) ++ replicate (inner_count raw) (node.Storage INNER_NODE))
+    ++ (replicate (role_count is_output raw.pins) (node.Storage OUTPUT_NET)
+    ++ replicate (inner_count raw) (node.Storage INNER_NODE))
 
 -- the device of a transistor: its terminals are the nodes of its nets
 abbrev pub device_of : List RawPin → RawDevice → Device

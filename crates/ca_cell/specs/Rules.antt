@@ -1,5 +1,6 @@
 -- The rules that a used cell keeps, and which one a subcircuit breaks first.
-use Rattle.std.specs.Prelude.{ℕ, ◌+◌, ◌≡◌, ◌<◌, ◌≤◌, ◌^◌, ◌⊎◌, List, length, slice_get, IsSome, Option, Some, None, option_and_then}
+use Rattle.std.specs.Prelude.{ℕ, ◌+◌, ◌≡◌, ◌<◌, ◌≤◌, ◌^◌, ◌⊎◌, List, length, slice_get, IsSome, Option, Some}
+use Rattle.std.specs.Prelude.{None, option_and_then}
 use Rattle.std.specs.List.{All}
 use Rattle.ca_base.specs.First.{IsFirst}
 use Rattle.ca_net.specs.Circuit.{IsStrength}
@@ -9,7 +10,9 @@ use Rattle.ca_cell.specs.declared.raw.RawPin.{RawPin}
 use Rattle.ca_cell.specs.declared.raw.RawDevice.{RawDevice}
 use Rattle.ca_cell.specs.declared.raw.RawCell.{RawCell}
 use Rattle.ca_cell.specs.declared.rule.CellRule.{CellRule}
-use Rattle.ca_cell.specs.declared.rule.CellRule.TheVariants.{NoRail, TooManyDevices, TooManyNodes, TooManyInputs, NoOutput, TooManyOutputs, InputDrivesChannel}
+use Rattle.ca_cell.specs.declared.rule.CellRule.TheVariants.{NoRail, TooManyDevices, TooManyNodes}
+use Rattle.ca_cell.specs.declared.rule.CellRule.TheVariants.{TooManyInputs, NoOutput, TooManyOutputs}
+use Rattle.ca_cell.specs.declared.rule.CellRule.TheVariants.{InputDrivesChannel}
 use Rattle.ca_cell.specs.declared.rule.CellFault.{CellFault}
 use Rattle.ca_cell.specs.declared.rule.CellFault.TheVariants.{Rule, NoMemory}
 use Rattle.ca_cell.specs.declared.rule.TheConstants.{MOST_DEVICES, MOST_NODES, MOST_INPUTS, MOST_OUTPUTS}
@@ -95,7 +98,8 @@ KeepsRules raw = (rule : CellRule) → Breaks raw rule → ⊥
 abbrev pub KeepsAllBut : CellRule → RawCell → Type 0
 KeepsAllBut but raw = (rule : CellRule) → (rule ≡ but → ⊥) → Breaks raw rule → ⊥
 
--- a broken rule is told as the first that is broken; want of memory may come with any subcircuit that breaks none
+-- a broken rule is told as the first that is broken; want of memory may come with any subcircuit that breaks
+-- none
 abbrev pub IsCause : RawCell → CellFault → Type 0
 IsCause raw (Rule rule) = IsFirstBroken raw rule
 IsCause raw NoMemory = KeepsRules raw

@@ -2,7 +2,8 @@
 
 ghost use Rattle.std.specs.Prelude.{◌≡◌, ◌<◌, ◌≤◌, ◌++◌, length, map, replicate, IfOk, IfErr, OnOk};
 ghost use Rattle.ca_net.specs.declared.node.NodeKind.{NodeKind};
-ghost use Rattle.ca_cell.specs.Raw.{is_input, is_output, role_count, inner_count, nodes_of, device_of, circuit_of};
+ghost use Rattle.ca_cell.specs.Raw.{is_input, is_output, role_count, inner_count, nodes_of, device_of};
+ghost use Rattle.ca_cell.specs.Raw.{circuit_of};
 ghost use Rattle.ca_cell.specs.Rules.{IsRaw, PlacesWithin, node_count, KeepsRules, IsCause};
 ghost use Rattle.ca_cell.specs.Nodes.{GatesOnly, IsNameOf, IsDeviceName, free_count, defect_count};
 
@@ -17,8 +18,9 @@ use ca_net::{
 use std::alloc::Global;
 use std::marker::Model;
 
-/// A subcircuit that keeps the rules, which contracts see as that subcircuit. Its nodes in order are power, ground, the input
-/// pins in pin order, the output pins in pin order, and the inner nets in the order of first mention.
+/// A subcircuit that keeps the rules, which contracts see as that subcircuit. Its nodes in order are power,
+/// ground, the input pins in pin order, the output pins in pin order, and the inner nets in the order of
+/// first mention.
 #[derive(Drop)]
 pub struct Cell {
     raw: RawCell,
@@ -40,7 +42,8 @@ impl Model for Cell {
 
     ghost invariant = { λ cell. IsRaw cell.raw × KeepsRules cell.raw × (cell.nodes ≡ nodes_of cell.raw)
         × (cell.devices ≡ map (device_of cell.raw.pins) cell.raw.devices)
-        × (cell.inputs ≡ role_count is_input cell.raw.pins) × (cell.outputs ≡ role_count is_output cell.raw.pins) };
+        × (cell.inputs ≡ role_count is_input cell.raw.pins)
+        × (cell.outputs ≡ role_count is_output cell.raw.pins) };
 }
 
 impl Cell {
@@ -98,8 +101,8 @@ impl Cell {
         let _raw = self.raw();
     }
 
-    /// The number of defects: three opens for each device, one for each input pin, and a short for each two nodes that are no
-    /// input pins, except power with ground.
+    /// The number of defects: three opens for each device, one for each input pin, and a short for each two
+    /// nodes that are no input pins, except power with ground.
     pub fn defect_count(&self) -> usize
         ensures { result ≡ defect_count self.now }
     {

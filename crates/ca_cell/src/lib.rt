@@ -1,5 +1,5 @@
-//! Library cells: subcircuits as they were read, the rules that a used cell keeps, and the networks of the cells that keep
-//! them.
+//! Library cells: subcircuits as they were read, the rules that a used cell keeps, and the networks of the
+//! cells that keep them.
 #![tactic(auto)]
 
 mod cell;

@@ -1,6 +1,7 @@
 //! Libraries of cells by name.
 
-ghost use Rattle.std.specs.Prelude.{◌≡◌, ◌<◌, ◌≤◌, [], ◌∷◌, ◌++◌, length, map, ◌↔◌, IsTrue, IsSome, IsNone, IfSome, IsSomeAnd, slice_get, IfOk, IfErr, OnOk, OnErr};
+ghost use Rattle.std.specs.Prelude.{◌≡◌, ◌<◌, ◌≤◌, [], ◌∷◌, ◌++◌, length, map, ◌↔◌, IsTrue, IsSome, IsNone};
+ghost use Rattle.std.specs.Prelude.{IfSome, IsSomeAnd, slice_get, IfOk, IfErr, OnOk, OnErr};
 ghost use Rattle.std.specs.Option.{option_copied};
 ghost use Rattle.ca_lex.specs.Words.{upper_case};
 ghost use Rattle.ca_cell.specs.declared.library.LibraryFault.TheVariants as fault;
@@ -200,7 +201,8 @@ impl Library {
     /// Adds an entry under a name.
     pub fn add(&mut self, name: Text, entry: Entry) -> Result<(), LibraryFault>
         requires { IsEntry entry }
-        ensures ok { OnOk result (self.new ≡ self.old ++ record { name = upper_case name; entry = entry } ∷ []) }
+        ensures ok { OnOk result (self.new ≡ self.old
+            ++ record { name = upper_case name; entry = entry } ∷ []) }
         ensures fresh { OnOk result (IsNone (entry_of self.old (upper_case name))) }
         ensures err { OnErr result (self.new ≡ self.old) }
         ensures cause { IfErr result (IsCause self.old name) }

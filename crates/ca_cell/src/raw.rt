@@ -123,8 +123,8 @@ fn copy_devices(alloc: Global, old: &RawDevices) -> Result<RawDevices, NoMemory>
     Ok(devices)
 }
 
-/// A subcircuit as it was read. `nets` has the names of the pins in pin order and then those of the inner nets in the order
-/// of first mention (in a card: drain, gate, source).
+/// A subcircuit as it was read. `nets` has the names of the pins in pin order and then those of the inner
+/// nets in the order of first mention (in a card: drain, gate, source).
 #[derive(Drop)]
 pub struct RawCell {
     pub pins: RawPins,
@@ -136,8 +136,8 @@ impl RawCell {
     ghost use Rattle.ca_cell.specs.Raw.{output_names};
     ghost use Rattle.ca_cell.specs.Rules.{IsRaw};
 
-    /// Whether each transistor's terminals are places in the list of nets and its strength is one of the scale, and there are
-    /// no more pins than nets.
+    /// Whether each transistor's terminals are places in the list of nets and its strength is one of the
+    /// scale, and there are no more pins than nets.
     pub fn is_raw(&self) -> bool
         ensures { IsTrue result ↔ IsRaw self.now }
     {

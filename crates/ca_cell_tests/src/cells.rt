@@ -89,8 +89,8 @@ fn nodes_are_named_by_their_first_nets(rt: HostRuntime) {
     assert_eq!(rt; cell.defect_count(), 16);
 }
 
-// The drain and the source of the second of three devices, of which the third has its drain on an input pin, and the node of
-// the pin that is named.
+// The drain and the source of the second of three devices, of which the third has its drain on an input pin,
+// and the node of the pin that is named.
 static DRIVEN: [(u32, u32, u32); 4] = [(1, 0, 3), (0, 1, 2), (2, 0, 2), (1, 2, 3)];
 
 #[test]

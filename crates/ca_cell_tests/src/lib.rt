@@ -1,5 +1,5 @@
-//! What the calls about cells answer for cells that were worked out by hand: their nodes and rules, their defects, their
-//! waves and their matrices. It has no code but its tests.
+//! What the calls about cells answer for cells that were worked out by hand: their nodes and rules, their
+//! defects, their waves and their matrices. It has no code but its tests.
 #![tactic(auto)]
 
 #[cfg(test)]

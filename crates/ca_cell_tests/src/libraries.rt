@@ -20,7 +20,8 @@ fn add_raw(
     library.add(Text::from_bytes(alloc, name).expect(rt, "memory"), entry)
 }
 
-// Names, and whether a library of a NAND and of a cell that breaks a rule has a cell of the name that keeps the rules.
+// Names, and whether a library of a NAND and of a cell that breaks a rule has a cell of the name that keeps
+// the rules.
 static FOUND: [(&[u8], Option<bool>); 6] = [
     (b"NAND2", Some(true)),
     (b"nand2", Some(true)),

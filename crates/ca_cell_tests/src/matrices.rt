@@ -11,14 +11,15 @@ use ca_net::Trit::{One, X, Zero};
 use std::alloc::Global;
 use std::process::Abort;
 
-// Whether each defect of the NAND is exposable: three opens of each device in turn, the opens of both pins, and the shorts
-// VDD=ZN, VDD=N1, VSS=ZN, VSS=N1 and ZN=N1.
+// Whether each defect of the NAND is exposable: three opens of each device in turn, the opens of both pins,
+// and the shorts VDD=ZN, VDD=N1, VSS=ZN, VSS=N1 and ZN=N1.
 static EXPOSABLE: [bool; 19] = [
     true, true, false, true, true, false, true, true, false, true, true, false, false, false, true,
     true, true, false, false,
 ];
 
-// Defects of the NAND by their places in the list, and the rows that expose each: MP1(D), MN1(D), VDD=ZN and VSS=N1.
+// Defects of the NAND by their places in the list, and the rows that expose each: MP1(D), MN1(D), VDD=ZN and
+// VSS=N1.
 static EXPOSING: [(usize, &[(u8, u8)]); 4] = [
     (0, &[(3, 1)]),
     (6, &[(0, 3), (1, 3), (2, 3)]),

@@ -8,8 +8,9 @@ use ca_net::{DeviceId, DeviceKind, NodeId, STRONG};
 use std::alloc::Global;
 use std::process::Abort;
 
-// How many pins there are of power, ground, inputs and outputs, in this order, how many inner nets, and how many devices;
-// and whether the last device has its source on the first input pin. All other terminals are on the first pin.
+// How many pins there are of power, ground, inputs and outputs, in this order, how many inner nets, and how
+// many devices; and whether the last device has its source on the first input pin. All other terminals are on
+// the first pin.
 pub(crate) type Shape = ([usize; 6], bool);
 
 // A shape that keeps the rules.

@@ -1,16 +1,20 @@
 -- Roots, and how they stay or come together.
-use Rattle.std.proofs.Common.{◌≡◌, ℕ, zero, suc, ◌+◌, ◌<◌, ◌≤◌, List, [], ◌∷◌, ◌++◌, Bool, true, false, length, inl, inr, refl, sym, ◌∙◌, ap, subst, arith, get_or, set, get_or-set_same, get_or-set_other, length-set}
+use Rattle.std.proofs.Common.{◌≡◌, ℕ, zero, suc, ◌+◌, ◌<◌, ◌≤◌, List, [], ◌∷◌, ◌++◌, Bool, true, false}
+use Rattle.std.proofs.Common.{length, inl, inr, refl, sym, ◌∙◌, ap, subst, arith, get_or, set}
+use Rattle.std.proofs.Common.{get_or-set_same, get_or-set_other, length-set}
 use Rattle.std.specs.Prelude.{Some, slice_get, eqb, nat_lt, if◌then◌else◌}
 use Rattle.std.proofs.lemmas.Bool.{eq-eqb, ne_eqb, ltb-true, ltb-false}
 use Rattle.std.specs.List.{Contains}
 use Rattle.std.proofs.Math.Decide.{dec_le}
-use Rattle.std.proofs.lemmas.List.{get_or_past, get_or_default, get_or_append_left, get_or-append-add, set-get_or}
+use Rattle.std.proofs.lemmas.List.{get_or_past, get_or_default, get_or_append_left, get_or-append-add}
+use Rattle.std.proofs.lemmas.List.{set-get_or}
 use native.Mathlib.Decide.{ℕ_discrete}
 use Rattle.ca_chip.specs.declared.joined.Join.{Join}
 use Rattle.ca_chip.specs.declared.joined.Span.{Span}
 use Rattle.ca_chip.specs.Spans.{join_at, IsAmongFirst}
 use Rattle.ca_chip.specs.Joined.{Links, AreJoined, Same, Across, AreEarliest}
-use Rattle.ca_chip.specs.Forest.{parent_of, HasRoot, Itself, Above, HaveOneRoot, LeadBack, IsForest, Shortens, Unites, UnitesSpan, UnitesFirst, AreTheirOwn, AreRoots, linked_roots}
+use Rattle.ca_chip.specs.Forest.{parent_of, HasRoot, Itself, Above, HaveOneRoot, LeadBack, IsForest, Shortens}
+use Rattle.ca_chip.specs.Forest.{Unites, UnitesSpan, UnitesFirst, AreTheirOwn, AreRoots, linked_roots}
 
 module _ (joins : List Join) where
   pub joined_trans : (a b c : ℕ) → AreJoined joins a b → AreJoined joins b c → AreJoined joins a c

@@ -4,7 +4,8 @@ use Rattle.ca_chip.specs.declared.joined.Join.{Join}
 use Rattle.ca_chip.specs.Joined.{Same, IsEarliest, AreEarliest}
 use Rattle.ca_chip.specs.Wiring.{Wiring}
 use Rattle.ca_chip.specs.Nets.{AreNets, IsNetOf}
-use Rattle.ca_chip.specs.Numbers.{WireMarks, NetNumbers, earliest_of, IsUsed, LeadsToEarliest, AreNumbered, TellsUsed}
+use Rattle.ca_chip.specs.Numbers.{WireMarks, NetNumbers, earliest_of, IsUsed, LeadsToEarliest, AreNumbered}
+use Rattle.ca_chip.specs.Numbers.{TellsUsed}
 use Rattle.ca_wired.proofs.OrderLemmas.{place_of}
 use Rattle.ca_chip.proofs.ForestLemmas.{joined_trans}
 

@@ -1,5 +1,6 @@
 -- One more wire is numbered.
-use Rattle.std.proofs.Common.{◌≡◌, ℕ, ◌+◌, ◌<◌, [], ◌∷◌, ◌++◌, length, inl, inr, refl, sym, ◌∙◌, ap, subst, arith, get_or, length-append}
+use Rattle.std.proofs.Common.{◌≡◌, ℕ, ◌+◌, ◌<◌, [], ◌∷◌, ◌++◌, length, inl, inr, refl, sym, ◌∙◌, ap, subst}
+use Rattle.std.proofs.Common.{arith, get_or, length-append}
 use Rattle.std.specs.Prelude.{Some, slice_get}
 use Rattle.std.specs.List.{Contains}
 use Rattle.std.proofs.lemmas.List.{get_or_append_left, get_or-append-add}
@@ -7,7 +8,8 @@ use Rattle.std.proofs.lemmas.List.Elements.{Contains-append_left, Contains-appen
 use Rattle.std.proofs.lemmas.List.Quantifiers.{all_pairs_push}
 use Rattle.std.proofs.lemmas.Option.{slice_get_within, slice_get-get_or}
 use native.Mathlib.Decide.{ℕ_discrete}
-use Rattle.ca_chip.specs.Numbers.{WireMarks, NetNumbers, earliest_of, IsUsed, IsKnownBy, LeadsToEarliest, AreNumbered}
+use Rattle.ca_chip.specs.Numbers.{WireMarks, NetNumbers, earliest_of, IsUsed, IsKnownBy, LeadsToEarliest}
+use Rattle.ca_chip.specs.Numbers.{AreNumbered}
 use Rattle.ca_wired.proofs.WalkLemmas.{get-push_old, get-push_last, get-push_cases}
 
 -- nothing is numbered yet

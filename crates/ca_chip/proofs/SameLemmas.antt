@@ -1,12 +1,14 @@
 -- What drives a net of a linked chip, and what drives the wires of its wiring, are the same.
-use Rattle.std.proofs.Common.{◌≡◌, ℕ, zero, suc, ◌<◌, List, [], ◌∷◌, length, inl, inr, refl, sym, ◌∙◌, ap, subst, arith}
+use Rattle.std.proofs.Common.{◌≡◌, ℕ, zero, suc, ◌<◌, List, [], ◌∷◌, length, inl, inr, refl, sym, ◌∙◌, ap}
+use Rattle.std.proofs.Common.{subst, arith}
 use Rattle.std.specs.Prelude.{Some, IsTrue, slice_get}
 use Rattle.std.specs.List.{AllPairs}
 use Rattle.std.proofs.lemmas.Bool.{cases_lt}
 use Rattle.std.proofs.lemmas.Option.{slice_get_within, get_or_from_slice_get, slice_get_cases}
 use Rattle.ca_chip.specs.Joined.{AreJoined}
 use Rattle.ca_chip.specs.Wiring.{HeaderBit, Wiring}
-use Rattle.ca_chip.specs.Nets.{Driving, PortBit, ConstantBit, OutputPin, DrivesWire, IsNet, AreNets, IsNetOf, AreNetsOf}
+use Rattle.ca_chip.specs.Nets.{Driving, PortBit, ConstantBit, OutputPin, DrivesWire, IsNet, AreNets, IsNetOf}
+use Rattle.ca_chip.specs.Nets.{AreNetsOf}
 use Rattle.ca_chip.specs.Nets as nets
 use Rattle.ca_wired.specs.declared.parts.Source.{Source}
 use Rattle.ca_wired.specs.declared.parts.Part.{Part}

@@ -1,5 +1,6 @@
 -- The joins of spans are those of their netlist.
-use Rattle.std.proofs.Common.{◌≡◌, ℕ, zero, suc, ◌+◌, ◌<◌, ◌≤◌, ◌||◌, List, [], ◌∷◌, ◌++◌, Bool, true, false, length, inl, inr, refl, sym, ◌∙◌, ap, subst, arith, get_or, true≢false}
+use Rattle.std.proofs.Common.{◌≡◌, ℕ, zero, suc, ◌+◌, ◌<◌, ◌≤◌, ◌||◌, List, [], ◌∷◌, ◌++◌, Bool, true, false}
+use Rattle.std.proofs.Common.{length, inl, inr, refl, sym, ◌∙◌, ap, subst, arith, get_or, true≢false}
 use Rattle.std.specs.Prelude.{Some, slice_get, flat_map, if◌then◌else◌, ◌&&◌, eqb}
 use Rattle.std.specs.List.{Contains, All, list_any}
 use mathlib.Core.Bool.{beq}
@@ -7,7 +8,8 @@ use Rattle.std.proofs.lemmas.Bool.{ne_eqb}
 use Rattle.indexmap.specs.IndexSet.{insert_key}
 use native.Mathlib.Decide.{ℕ_discrete}
 use Rattle.std.proofs.lemmas.Option.{slice_get-get_or, slice_get_within, get_or_from_slice_get}
-use Rattle.std.proofs.lemmas.List.Elements.{Contains-append_left, Contains-append_right, Contains-append_cases, Contains-push, Contains-push_cases}
+use Rattle.std.proofs.lemmas.List.Elements.{Contains-append_left, Contains-append_right}
+use Rattle.std.proofs.lemmas.List.Elements.{Contains-append_cases, Contains-push, Contains-push_cases}
 use Rattle.ca_verilog.specs.declared.raw.RawBit.{RawBit}
 use Rattle.ca_verilog.specs.declared.raw.RawBit.TheVariants.{Bit, Constant}
 use Rattle.ca_verilog.specs.declared.raw.RawJoin.{RawJoin}
@@ -18,7 +20,8 @@ use Rattle.ca_chip.specs.declared.joined.Join.{Join}
 use Rattle.ca_chip.specs.declared.joined.Span.{Span}
 use Rattle.ca_chip.specs.Joined.{IsWithin}
 use Rattle.ca_chip.specs.Wiring.{wire_of, joins_of}
-use Rattle.ca_chip.specs.Spans.{wire_behind, join_at, is_moving, span_of, IsWith, IsSpanWithin, IsAmongFirst, AreJoinsOf, IsOneOf, AreSpansOf}
+use Rattle.ca_chip.specs.Spans.{wire_behind, join_at, is_moving, span_of, IsWith, IsSpanWithin, IsAmongFirst}
+use Rattle.ca_chip.specs.Spans.{AreJoinsOf, IsOneOf, AreSpansOf}
 
 module _ (bits : ℕ) where
   -- the wire of a bit further right

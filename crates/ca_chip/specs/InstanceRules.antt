@@ -7,7 +7,8 @@ use Rattle.ca_verilog.specs.declared.raw.RawUse.{RawUse}
 use Rattle.ca_verilog.specs.declared.raw.RawInstance.{RawInstance}
 use Rattle.ca_verilog.specs.declared.raw.RawNetlist.{RawNetlist}
 use Rattle.ca_chip.specs.declared.scan_row.ScanRow.{ScanRow}
-use Rattle.ca_chip.specs.Wiring.{Meaning, Unknown, Broken, Library, ScanCell, meaning_of, input_names, output_names, bit_on}
+use Rattle.ca_chip.specs.Wiring.{Meaning, Unknown, Broken, Library, ScanCell, meaning_of, input_names}
+use Rattle.ca_chip.specs.Wiring.{output_names, bit_on}
 
 -- the names of the pins that a netlist may connect: power and ground pins aren't among them
 abbrev pub pin_names : Meaning → List (List ℕ)

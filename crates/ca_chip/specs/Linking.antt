@@ -26,7 +26,8 @@ data_name (Broken rule) = []
 data_name (Library raw) = []
 data_name (ScanCell row) = row.d
 
--- the instance is that of the wiring, with its name, its cell, the name of its data pin and the net of each pin
+-- the instance is that of the wiring, with its name, its cell, the name of its data pin and the net of each
+-- pin
 pub record IsPartOf (wiring : Wiring) (nets : List ℕ) (cells : List RawCell) (wired : WiredPart)
     (part : Part) : Type 0 where
   pub name : part.name ≡ wired.name

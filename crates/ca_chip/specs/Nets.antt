@@ -1,5 +1,6 @@
 -- The nets of a wiring: what drives and what loads them, which of them there are, and their order.
-use Rattle.std.specs.Prelude.{ℕ, ◌+◌, ◌≡◌, ◌<◌, ◌⊎◌, ◌↔◌, Bool, true, false, List, [], ◌∷◌, ◌++◌, IsTrue, Some, IsSomeAnd, slice_get}
+use Rattle.std.specs.Prelude.{ℕ, ◌+◌, ◌≡◌, ◌<◌, ◌⊎◌, ◌↔◌, Bool, true, false, List, [], ◌∷◌, ◌++◌, IsTrue}
+use Rattle.std.specs.Prelude.{Some, IsSomeAnd, slice_get}
 use Rattle.std.specs.List.{AllPairs, Contains, flat_map}
 use Rattle.ca_chip.specs.Joined.{AreJoined, IsEarliest}
 use Rattle.ca_wired.specs.Drivers.{constant_place}

@@ -1,5 +1,6 @@
 -- The first rule that an instance breaks, as the code finds it. Only the proofs of the code cite this.
-use Rattle.std.specs.Prelude.{ℕ, ◌≡◌, ◌<◌, List, [], ◌∷◌, Bool, false, ◌&&◌, ◌||◌, Option, Some, None, is_none, slice_get, ⊤, if◌then◌else◌}
+use Rattle.std.specs.Prelude.{ℕ, ◌≡◌, ◌<◌, List, [], ◌∷◌, Bool, false, ◌&&◌, ◌||◌, Option, Some, None}
+use Rattle.std.specs.Prelude.{is_none, slice_get, ⊤, if◌then◌else◌}
 use Rattle.std.specs.Str.{bytes_eq}
 use Rattle.ca_names.specs.Names.{has_name}
 use Rattle.ca_cell.specs.declared.raw.RawPin.{RawPin}

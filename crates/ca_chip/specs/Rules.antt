@@ -1,5 +1,6 @@
 -- The rules of linking, in the order in which they are tried.
-use Rattle.std.specs.Prelude.{ℕ, ◌+◌, ◌≡◌, ◌<◌, ◌⊎◌, List, [], ◌∷◌, ◌++◌, length, take, drop, ◌-◌, Some, IsSomeAnd, slice_get}
+use Rattle.std.specs.Prelude.{ℕ, ◌+◌, ◌≡◌, ◌<◌, ◌⊎◌, List, [], ◌∷◌, ◌++◌, length, take, drop, ◌-◌, Some}
+use Rattle.std.specs.Prelude.{IsSomeAnd, slice_get}
 use Rattle.std.specs.List.{Contains, flat_map, sum_by}
 use Rattle.ca_base.specs.First.{IsFirst}
 use Rattle.ca_cell.specs.Library.{Named}
@@ -11,12 +12,15 @@ use Rattle.ca_chip.specs.declared.fault.Driver.{Driver}
 use Rattle.ca_chip.specs.declared.fault.Driver.TheVariants as driver
 use Rattle.ca_chip.specs.declared.fault.ChipFault.{ChipFault}
 use Rattle.ca_chip.specs.declared.fault.ChipFault.TheVariants as fault
-use Rattle.ca_chip.specs.declared.fault.TheConstants.{MOST_INSTANCES, MOST_CHIP_INPUTS, MOST_CHIP_OUTPUTS, MOST_CHIP_DEFECTS}
+use Rattle.ca_chip.specs.declared.fault.TheConstants.{MOST_INSTANCES, MOST_CHIP_INPUTS, MOST_CHIP_OUTPUTS}
+use Rattle.ca_chip.specs.declared.fault.TheConstants.{MOST_CHIP_DEFECTS}
 use Rattle.ca_wired.specs.Order.{IsLoop}
 use Rattle.ca_chip.specs.Joined.{AreJoined}
-use Rattle.ca_chip.specs.Wiring.{Meaning, Unknown, Broken, Library, ScanCell, meaning_of, output_names, WiredPart, Wiring, wiring_of, out_bits}
+use Rattle.ca_chip.specs.Wiring.{Meaning, Unknown, Broken, Library, ScanCell, meaning_of, output_names}
+use Rattle.ca_chip.specs.Wiring.{WiredPart, Wiring, wiring_of, out_bits}
 use Rattle.ca_chip.specs.InstanceRules.{HasStrayPin, LacksPin}
-use Rattle.ca_chip.specs.Nets.{Driving, PortBit, ConstantBit, OutputPin, ComesBefore, Drives, IsLoaded, AreNets, FeedsWire}
+use Rattle.ca_chip.specs.Nets.{Driving, PortBit, ConstantBit, OutputPin, ComesBefore, Drives, IsLoaded}
+use Rattle.ca_chip.specs.Nets.{AreNets, FeedsWire}
 use Rattle.ca_wired.specs.Linked.{Chip, inputs_of, outputs_of}
 use Rattle.ca_chip.specs.Linking.{IsLinkOf}
 

@@ -1,5 +1,6 @@
 -- Spans of joins, as the code keeps them. Only the proofs of the code cite this.
-use Rattle.std.specs.Prelude.{ℕ, ◌+◌, ◌≡◌, ◌<◌, ◌⊎◌, ◌↔◌, Bool, true, false, List, length, Some, slice_get, if◌then◌else◌}
+use Rattle.std.specs.Prelude.{ℕ, ◌+◌, ◌≡◌, ◌<◌, ◌⊎◌, ◌↔◌, Bool, true, false, List, length, Some, slice_get}
+use Rattle.std.specs.Prelude.{if◌then◌else◌}
 use Rattle.std.specs.List.{Contains}
 use Rattle.ca_verilog.specs.declared.raw.RawBit.{RawBit}
 use Rattle.ca_verilog.specs.declared.raw.RawBit.TheVariants.{Bit, Constant}

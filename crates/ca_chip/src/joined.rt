@@ -1,11 +1,13 @@
 //! Wires that are joined, by links to earlier wires.
 
-ghost use Rattle.std.specs.Prelude.{◌≡◌, ◌<◌, ◌≤◌, ◌+◌, ◌^◌, ℕ, List, [], length, Some, slice_get, slice_index, slice_set, IfOk, OnOk};
+ghost use Rattle.std.specs.Prelude.{◌≡◌, ◌<◌, ◌≤◌, ◌+◌, ◌^◌, ℕ, List, [], length, Some, slice_get};
+ghost use Rattle.std.specs.Prelude.{slice_index, slice_set, IfOk, OnOk};
 ghost use Rattle.std.specs.List.{All, Contains};
 ghost use Rattle.ca_chip.specs.declared.joined.Join.{Join};
 ghost use Rattle.ca_chip.specs.Joined.{AreJoined, IsWithin, AreEarliest};
 ghost use Rattle.ca_chip.specs.Spans.{wire_behind, join_at, IsSpanWithin, AreJoinsOf};
-ghost use Rattle.ca_chip.specs.Forest.{parent_of, HasRoot, HaveOneRoot, LeadBack, IsForest, Shortens, Unites, UnitesSpan, UnitesFirst, AreTheirOwn, AreRoots, linked_roots};
+ghost use Rattle.ca_chip.specs.Forest.{parent_of, HasRoot, HaveOneRoot, LeadBack, IsForest, Shortens, Unites};
+ghost use Rattle.ca_chip.specs.Forest.{UnitesSpan, UnitesFirst, AreTheirOwn, AreRoots, linked_roots};
 
 use ca_base::NoMemory;
 use std::alloc::Global;

@@ -1,5 +1,6 @@
 -- The nodes of the chip inputs, and that no other input node changes.
-use Rattle.std.proofs.Common.{◌≡◌, ℕ, zero, suc, ◌+◌, ◌<◌, ◌≤◌, ◌==◌, List, [], ◌∷◌, ◌++◌, length, inl, inr, refl, sym, ◌∙◌, ap, subst, arith}
+use Rattle.std.proofs.Common.{◌≡◌, ℕ, zero, suc, ◌+◌, ◌<◌, ◌≤◌, ◌==◌, List, [], ◌∷◌, ◌++◌, length, inl, inr}
+use Rattle.std.proofs.Common.{refl, sym, ◌∙◌, ap, subst, arith}
 use Rattle.std.specs.Prelude.{map, take, slice_index, Option}
 use Rattle.std.specs.List.{Contains}
 use Rattle.std.proofs.lemmas.Bool.{cases_lt, cond-false}
@@ -52,7 +53,8 @@ no_bit (input ∷ inputs) bits bit net none =
     ∙ no_bit inputs bits (bit + 1) net (λ has. none (contains_tail (2 + input) (numbers (map node_of inputs)) (2 + net) has))
 
 module _ (chip : Chip) (given : Option ChipDefect) (pair : List Trit) where
-  -- the nodes of the chip inputs are input nodes, and no other input node changes from the one vector to the other
+  -- the nodes of the chip inputs are input nodes, and no other input node changes from the one vector to the
+  -- other
   pub inputs_cover : (nodes : ℕ) (first last : List Trit) → IsPinned chip → 2 + length chip.nets ≤ length (flat chip given).nodes
       → IsVector nodes (length chip.nets) (net_value chip pair 0) first
       → IsVector nodes (length chip.nets) (net_value chip pair (length chip.inputs)) last

@@ -1,5 +1,6 @@
 -- What is ready for a run is of the chip's flat network.
-use Rattle.std.proofs.Common.{ℕ, ◌+◌, ◌≤◌, List, ◌++◌, length, length-append, map, replicate, sym, ap, subst, arith}
+use Rattle.std.proofs.Common.{ℕ, ◌+◌, ◌≤◌, List, ◌++◌, length, length-append, map, replicate, sym, ap, subst}
+use Rattle.std.proofs.Common.{arith}
 use Rattle.std.specs.Prelude.{Result, Ok, Err, IfOk}
 use Rattle.std.specs.List.{All}
 use Rattle.ca_net.specs.declared.trit.Trit.{Trit}
@@ -18,7 +19,8 @@ use Rattle.ca_replay.specs.Replay.{CoverInputs, IsReplay}
 use Rattle.ca_chip_replay.specs.ChipRun.{RunOf, input_nodes, AreReplayed}
 use Rattle.ca_chip_replay.specs.Kept.{IsReady, HaveOneValue, AreOutputValues}
 use Rattle.ca_chip_replay.proofs.VectorLemmas.{one_value}
-use Rattle.ca_chip_replay.proofs.SameLemmas.{same_back, replay_same, pair_run_same, allowed_same, reads_same, answer_allowed}
+use Rattle.ca_chip_replay.proofs.SameLemmas.{same_back, replay_same, pair_run_same, allowed_same, reads_same}
+use Rattle.ca_chip_replay.proofs.SameLemmas.{answer_allowed}
 use Rattle.ca_chip_replay.proofs.InputLemmas.{inputs_cover}
 
 -- what each value has that has another

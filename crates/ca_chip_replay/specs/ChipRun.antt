@@ -24,7 +24,8 @@ pub record RunOf : Type 0 where
 
 -- The values are those of the observed outputs in the state in which this run ends: a long phase under the
 -- first vector, the events, the chip inputs set to the last vector in their order, and a long phase. It is a
--- pair run of the flat network, so that what every pair run ends with at an output is what this one ends with.
+-- pair run of the flat network, so that what every pair run ends with at an output is what this one ends
+-- with.
 pub record AreReplayed (run : RunOf) (events : List Event) (values : List Trit) : Type 0 where
   pub end : List Trit
   pub is_replay : IsReplay (flat run.chip run.given) (input_nodes run.chip) (first_vector run.chip run.pair)

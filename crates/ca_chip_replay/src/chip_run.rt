@@ -105,7 +105,8 @@ impl<'a, B: Bits> ChipRun<'a, B> {
 
     /// The events that an order file names: what is done to the flat network between the two vectors.
     pub fn read(&self, alloc: Global, bytes: &[u8]) -> Result<List<Event>, OrderFault>
-        ensures exact { ReadsFor (flat self.now.chip self.now.given) (first_vector self.now.chip self.now.pair)
+        ensures exact { ReadsFor (flat self.now.chip self.now.given)
+            (first_vector self.now.chip self.now.pair)
             (last_vector self.now.chip self.now.pair) bytes.now result }
         ensures allowed { IfOk result (All (IsAllowed (flat self.now.chip self.now.given)
             (first_vector self.now.chip self.now.pair) (last_vector self.now.chip self.now.pair))) }

@@ -1,5 +1,6 @@
 -- Rows of a report, and what they are made of.
-use Rattle.std.proofs.Common.{◌≡◌, ℕ, zero, suc, ◌<◌, ◌≤◌, List, [], ◌∷◌, length, refl, sym, ap, ◌∙◌, subst, arith}
+use Rattle.std.proofs.Common.{◌≡◌, ℕ, zero, suc, ◌<◌, ◌≤◌, List, [], ◌∷◌, length, refl, sym, ap, ◌∙◌, subst}
+use Rattle.std.proofs.Common.{arith}
 use Rattle.std.specs.Prelude.{Option, Some, None, IsSomeAnd, slice_get}
 use Rattle.std.specs.List.{All}
 use Rattle.std.proofs.lemmas.Simd.{length-zip2}
@@ -21,7 +22,8 @@ use Rattle.ca_wired.proofs.PartLemmas.{of_all}
 use Rattle.ca_report.specs.declared.rows.ReportRow.{ReportRow}
 use Rattle.ca_report.specs.declared.verdict.Verdict as report
 use Rattle.ca_report.specs.Report.{IsRowOf}
-use Rattle.ca_chip_report.specs.ChipReport.{told_of, instance_name, cell_name, row_of, report_rows, IsGateDefect, IsVerdictWithin, AreReported}
+use Rattle.ca_chip_report.specs.ChipReport.{told_of, instance_name, cell_name, row_of, report_rows}
+use Rattle.ca_chip_report.specs.ChipReport.{IsGateDefect, IsVerdictWithin, AreReported}
 
 -- a library instance is one of the chip's
 pub gate_within : (chip : Chip) (defect : ChipDefect) → IsGateDefect chip defect → defect.instance < length chip.parts

@@ -4,7 +4,8 @@ ghost use Rattle.std.specs.Prelude.{◌≡◌, ◌<◌, length, slice_get, Some,
 ghost use Rattle.ca_defect.specs.Name.{name_of};
 ghost use Rattle.ca_flat.specs.Chip.{cell_at};
 ghost use Rattle.ca_core.specs.Core.{core_of};
-ghost use Rattle.ca_chip_report.specs.ChipReport.{told_of, instance_name, cell_name, IsGateDefect, AreReported};
+ghost use Rattle.ca_chip_report.specs.ChipReport.{told_of, instance_name, cell_name, IsGateDefect};
+ghost use Rattle.ca_chip_report.specs.ChipReport.{AreReported};
 ghost use Rattle.ca_chip_report.specs.Kept.{AreReported-prop};
 
 use ca_base::NoMemory;

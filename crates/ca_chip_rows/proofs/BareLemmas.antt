@@ -1,4 +1,5 @@
--- No pair of vectors exposes a defect of a scan instance: its cell has no devices, and so no run's end is sure.
+-- No pair of vectors exposes a defect of a scan instance: its cell has no devices, and so no run's end is
+-- sure.
 use Rattle.std.proofs.Common.{◌≡◌, ℕ, ◌<◌, List, [], length, refl, sym, ◌∙◌, ap, subst, arith}
 use Rattle.std.specs.Prelude.{◌↔◌, IsTrue, Bool, Option, Some, None, true, false, slice_get, IsSomeAnd}
 use Rattle.ca_net.specs.declared.scale.TheConstants.{OUTPUT_NET}

@@ -1,5 +1,7 @@
 -- The rows of the cells that instances are of.
-use Rattle.std.proofs.Common.{◌≡◌, ℕ, zero, suc, ◌+◌, ◌<◌, List, [], ◌∷◌, length, set, replicate, length-set, inl, inr, refl, sym, ◌∙◌, ap, subst, arith, get_or, get_or-set_same, get_or-set_other}
+use Rattle.std.proofs.Common.{◌≡◌, ℕ, zero, suc, ◌+◌, ◌<◌, List, [], ◌∷◌, length, set, replicate, length-set}
+use Rattle.std.proofs.Common.{inl, inr, refl, sym, ◌∙◌, ap, subst, arith, get_or, get_or-set_same}
+use Rattle.std.proofs.Common.{get_or-set_other}
 use Rattle.std.specs.Option.{is_some}
 use Rattle.std.specs.Prelude.{true, Option, Some, None, slice_get, IsSomeAnd}
 use Rattle.std.specs.List.{Contains}

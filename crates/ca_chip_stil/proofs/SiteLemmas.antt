@@ -1,5 +1,6 @@
 -- The sites of a chip, and their nets.
-use Rattle.std.proofs.Common.{◌≡◌, ℕ, ◌+◌, Bool, true, false, not, ◌&&◌, cond, List, [], ◌∷◌, ◌++◌, map, length, length-append, refl, sym, ap, ap₂, ◌∙◌, arith, if◌then◌else◌}
+use Rattle.std.proofs.Common.{◌≡◌, ℕ, ◌+◌, Bool, true, false, not, ◌&&◌, cond, List, [], ◌∷◌, ◌++◌, map}
+use Rattle.std.proofs.Common.{length, length-append, refl, sym, ap, ap₂, ◌∙◌, arith, if◌then◌else◌}
 use Rattle.std.specs.Prelude.{Some, slice_get}
 use Rattle.std.specs.List.{flat_map}
 use Rattle.std.proofs.lemmas.List.{append_assoc, map-append, length-map}
@@ -9,7 +10,8 @@ use Rattle.ca_wired.specs.declared.parts.Part.{Part}
 use Rattle.ca_wired.specs.declared.parts.PortBit.{PortBit}
 use Rattle.ca_wired.specs.Linked.{Chip, is_scan_path, port_nets, q_nets, d_nets, inputs_of, outputs_of}
 use Rattle.ca_wired.specs.Instances.{if_scan, scans_from, scans_of}
-use Rattle.ca_chip_stil.specs.Sites.{AtPort, InScan, if_data_port, data_ports, sites_of, body_net, part_net, site_net}
+use Rattle.ca_chip_stil.specs.Sites.{AtPort, InScan, if_data_port, data_ports, sites_of, body_net, part_net}
+use Rattle.ca_chip_stil.specs.Sites.{site_net}
 use Rattle.ca_chip_stil.specs.ChipStil.{names_of}
 
 -- what each gives, all together

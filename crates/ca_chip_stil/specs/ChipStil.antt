@@ -1,5 +1,6 @@
 -- What the STIL text of a linked chip's pairs needs of the chip and of its whole scan chains.
-use Rattle.std.specs.Prelude.{ℕ, ◌+◌, ◌-◌, ◌≡◌, Bool, true, false, eqb, List, [], ◌∷◌, length, map, Option, Some, None, slice_get, slice_index, if◌then◌else◌}
+use Rattle.std.specs.Prelude.{ℕ, ◌+◌, ◌-◌, ◌≡◌, Bool, true, false, eqb, List, [], ◌∷◌, length, map, Option}
+use Rattle.std.specs.Prelude.{Some, None, slice_get, slice_index, if◌then◌else◌}
 use Rattle.std.specs.List.{All, position_or_len}
 use Rattle.ca_net.specs.declared.trit.Trit.{Trit}
 use Rattle.ca_wired.specs.declared.pins.ScanPin.{ScanPin}

@@ -1,5 +1,6 @@
 -- What the code keeps while it builds. Only the proofs of the code cite this.
-use Rattle.std.specs.Prelude.{ℕ, ◌≡◌, ◌<◌, ◌≤◌, ◌+◌, Bool, true, false, eqb, List, length, drop, Option, Some, None, IfSome, slice_get, slice_index, get_or, if◌then◌else◌}
+use Rattle.std.specs.Prelude.{ℕ, ◌≡◌, ◌<◌, ◌≤◌, ◌+◌, Bool, true, false, eqb, List, length, drop, Option, Some}
+use Rattle.std.specs.Prelude.{None, IfSome, slice_get, slice_index, get_or, if◌then◌else◌}
 use Rattle.std.specs.List.{All, position_or_len}
 use Rattle.ca_wired.specs.declared.parts.PortBit.{PortBit}
 use Rattle.ca_wired.specs.Linked.{Chip, net_count}

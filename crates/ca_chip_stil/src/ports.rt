@@ -1,6 +1,7 @@
 //! Which port is on a net.
 
-ghost use Rattle.std.specs.Prelude.{◌≡◌, ◌<◌, Bool, None, length, replicate, slice_get, IsSomeAnd, IfSome, IfOk};
+ghost use Rattle.std.specs.Prelude.{◌≡◌, ◌<◌, Bool, None, length, replicate, slice_get, IsSomeAnd, IfSome};
+ghost use Rattle.std.specs.Prelude.{IfOk};
 ghost use Rattle.ca_wired.specs.Linked.{net_count};
 ghost use Rattle.ca_chip_stil.specs.Sites.{is_directed};
 ghost use Rattle.ca_chip_stil.specs.ChipStil.{port_on};

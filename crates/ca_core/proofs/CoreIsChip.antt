@@ -1,5 +1,6 @@
 -- The core of a linked chip is one that a flat network can stand on.
-use Rattle.std.proofs.Common.{◌≡◌, ℕ, suc, ◌+◌, ◌-◌, ◌<◌, List, [], ◌∷◌, Bool, true, false, length, inl, inr, refl, sym, ◌∙◌, ap, subst, arith, get_or}
+use Rattle.std.proofs.Common.{◌≡◌, ℕ, suc, ◌+◌, ◌-◌, ◌<◌, List, [], ◌∷◌, Bool, true, false, length, inl, inr}
+use Rattle.std.proofs.Common.{refl, sym, ◌∙◌, ap, subst, arith, get_or}
 use Rattle.std.specs.Prelude.{eqb, slice_get, Option, Some, IsSomeAnd, not, ◌&&◌, if◌then◌else◌}
 use Rattle.std.specs.List.{All, Contains, list_any, flat_map, position_or_len}
 use Rattle.std.proofs.lemmas.List.{get_or-map, length-map}
@@ -16,13 +17,20 @@ use Rattle.ca_wired.specs.declared.parts.Part.{Part}
 use Rattle.ca_wired.specs.declared.parts.PortBit.{PortBit}
 use Rattle.ca_wired.specs.declared.parts.Source.TheVariants.{FromPin}
 use Rattle.ca_wired.specs.declared.parts.Body.TheVariants.{Gate, Scan}
-use Rattle.ca_wired.specs.Linked.{Chip, net_count, has, is_scan_path, gate_inputs, gate_outputs, data_nets, output_nets, outputs_of, Drives, IsBody, Feeds, IsGate, IsLibrary, IsWired, port_nets, d_nets}
-use Rattle.ca_flat.specs.Chip.{Instance, cell_at, inputs_at, outputs_at, net_of, output_net, count_of, net_kind, IsCell, IsChip}
+use Rattle.ca_wired.specs.Linked.{Chip, net_count, has, is_scan_path, gate_inputs, gate_outputs, data_nets}
+use Rattle.ca_wired.specs.Linked.{output_nets, outputs_of, Drives, IsBody, Feeds, IsGate, IsLibrary, IsWired}
+use Rattle.ca_wired.specs.Linked.{port_nets, d_nets}
+use Rattle.ca_flat.specs.Chip.{Instance, cell_at, inputs_at, outputs_at, net_of, output_net, count_of}
+use Rattle.ca_flat.specs.Chip.{net_kind, IsCell, IsChip}
 use Rattle.ca_flat.specs.Chip as flat
-use Rattle.ca_core.specs.Core.{core_net, core_kinds, stored_nets, kind_of, core_instance, core_of, body_rank, rank_in, rank_of}
+use Rattle.ca_core.specs.Core.{core_net, core_kinds, stored_nets, kind_of, core_instance, core_of, body_rank}
+use Rattle.ca_core.specs.Core.{rank_in, rank_of}
 use Rattle.ca_wired.proofs.OrderLemmas.{place_of, contained_at}
-use Rattle.ca_core.proofs.CoreLemmas.{IsOutside, core_less, core_same, length-core_kinds, kind_at, net_of_number}
-use Rattle.ca_core.proofs.CorePartLemmas.{pins_in, body_is_cell, stored_count, stored_pin, read_count, read_pin, stored_is_data, read_is_data, first_stored, stored_is_driven, core_at, part_at}
+use Rattle.ca_core.proofs.CoreLemmas.{IsOutside, core_less, core_same, length-core_kinds, kind_at}
+use Rattle.ca_core.proofs.CoreLemmas.{net_of_number}
+use Rattle.ca_core.proofs.CorePartLemmas.{pins_in, body_is_cell, stored_count, stored_pin, read_count}
+use Rattle.ca_core.proofs.CorePartLemmas.{read_pin, stored_is_data, read_is_data, first_stored}
+use Rattle.ca_core.proofs.CorePartLemmas.{stored_is_driven, core_at, part_at}
 use Rattle.ca_wired.proofs.PartLemmas.{has_contains, contains_has, of_all, of_list}
 
 -- what the pieces of a list contain

@@ -1,7 +1,8 @@
 -- The core of a linked chip, which the flat network stands on: its nets off the scan path, numbered anew, and
 -- an instance for each of the chip's. A scan instance has a cell without devices, whose one pin drives the
 -- net of the inverted output, if it has one.
-use Rattle.std.specs.Prelude.{ℕ, zero, suc, ◌+◌, Bool, true, false, List, [], ◌∷◌, ◌++◌, map, option_to_list, Option, Some, None, slice_get, if◌then◌else◌}
+use Rattle.std.specs.Prelude.{ℕ, zero, suc, ◌+◌, Bool, true, false, List, [], ◌∷◌, ◌++◌, map, option_to_list}
+use Rattle.std.specs.Prelude.{Option, Some, None, slice_get, if◌then◌else◌}
 use Rattle.std.specs.List.{list_any, position_or_len}
 use Rattle.std.specs.Prelude.{eqb, nat_lt}
 use Rattle.ca_net.specs.declared.trit.Trit.{Trit}

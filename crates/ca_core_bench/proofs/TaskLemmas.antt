@@ -1,5 +1,6 @@
 -- The instances of a linked chip that have a place in the order are those of the library.
-use Rattle.std.proofs.Common.{◌≡◌, ℕ, suc, ◌+◌, List, [], ◌∷◌, ◌++◌, length, refl, sym, ◌∙◌, ap, arith, get_or}
+use Rattle.std.proofs.Common.{◌≡◌, ℕ, suc, ◌+◌, List, [], ◌∷◌, ◌++◌, length, refl, sym, ◌∙◌, ap, arith}
+use Rattle.std.proofs.Common.{get_or}
 use Rattle.std.specs.Prelude.{eqb, slice_get, Some}
 use Rattle.std.specs.List.{position_or_len}
 use Rattle.std.proofs.lemmas.List.{append-nil, append_assoc}
@@ -29,7 +30,8 @@ placed_is_gate chip ranks u part rank at = ap (λ r. if_placed r u) (rank ∙ ap
     by (Gate cell inputs outputs) = refl
     by (Scan nets) = refl
 
--- those of these instances that have a place, of which the first is the instance `from`, stand behind those before it
+-- those of these instances that have a place, of which the first is the instance `from`, stand behind those
+-- before it
 abbrev AreAlike : List ℕ → ℕ → List Part → Type 0
 AreAlike ranks from parts =
     (k : ℕ) (part : Part) → slice_get parts k ≡ Some part → if_placed (place_in ranks (from + k)) (from + k) ≡ if_gate (from + k) part.body

@@ -1,16 +1,21 @@
 -- The nets of the chip inputs, and the observed nets.
-use Rattle.std.proofs.Common.{◌≡◌, ℕ, suc, ◌+◌, ◌<◌, List, [], ◌∷◌, ◌++◌, Bool, true, false, length, inl, inr, refl, sym, ◌∙◌, ap, subst, arith, get_or, set, take, map, replicate, eqb, length-set}
+use Rattle.std.proofs.Common.{◌≡◌, ℕ, suc, ◌+◌, ◌<◌, List, [], ◌∷◌, ◌++◌, Bool, true, false, length, inl, inr}
+use Rattle.std.proofs.Common.{refl, sym, ◌∙◌, ap, subst, arith, get_or, set, take, map, replicate, eqb}
+use Rattle.std.proofs.Common.{length-set}
 use Rattle.std.specs.Prelude.{◌↔◌, slice_get, Some, not, ◌&&◌, if◌then◌else◌}
 use Rattle.std.specs.List.{All, Contains, flat_map}
-use Rattle.std.proofs.lemmas.List.{get_or-map, length-map, get_or-set_same, get_or-set_other, length-replicate, get_or-replicate, get_or_past, take_more}
-use Rattle.std.proofs.lemmas.List.Elements.{Contains-append_cases, Contains-append_left, Contains-push, Contains-push_cases}
+use Rattle.std.proofs.lemmas.List.{get_or-map, length-map, get_or-set_same, get_or-set_other}
+use Rattle.std.proofs.lemmas.List.{length-replicate, get_or-replicate, get_or_past, take_more}
+use Rattle.std.proofs.lemmas.List.Elements.{Contains-append_cases, Contains-append_left, Contains-push}
+use Rattle.std.proofs.lemmas.List.Elements.{Contains-push_cases}
 use Rattle.std.proofs.lemmas.Option.{slice_get_within, slice_get-get_or, get_or_from_slice_get}
 use Rattle.std.proofs.lemmas.Bool.{cases_lt, eqb-true, eqb-false}
 use Rattle.ca_wired.specs.declared.parts.Body.{Body}
 use Rattle.ca_wired.specs.declared.parts.Part.{Part}
 use Rattle.ca_wired.specs.declared.parts.PortBit.{PortBit}
 use Rattle.ca_wired.specs.declared.parts.Body.TheVariants.{Gate, Scan}
-use Rattle.ca_wired.specs.Linked.{Chip, net_count, is_scan_path, data_nets, port_nets, q_nets, inputs_of, outputs_of, IsWired}
+use Rattle.ca_wired.specs.Linked.{Chip, net_count, is_scan_path, data_nets, port_nets, q_nets, inputs_of}
+use Rattle.ca_wired.specs.Linked.{outputs_of, IsWired}
 use Rattle.ca_wired.proofs.OrderLemmas.{contained_at}
 use Rattle.ca_core.specs.Core.{core_net, core_of}
 use Rattle.ca_core.specs.Numbers.{Numbers, AreCoreNumbers}

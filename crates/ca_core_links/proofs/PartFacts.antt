@@ -1,5 +1,6 @@
 -- Library instances and scan instances, and their instances of the core.
-use Rattle.std.proofs.Common.{◌≡◌, ℕ, ◌+◌, ◌<◌, List, ◌++◌, length, length-append, inl, inr, refl, sym, ◌∙◌, ap, subst, arith, get_or}
+use Rattle.std.proofs.Common.{◌≡◌, ℕ, ◌+◌, ◌<◌, List, ◌++◌, length, length-append, inl, inr, refl, sym, ◌∙◌}
+use Rattle.std.proofs.Common.{ap, subst, arith, get_or}
 use Rattle.std.specs.Prelude.{slice_get, IsSomeAnd, Option, Some, None}
 use Rattle.std.specs.List.{All}
 use Rattle.std.proofs.lemmas.List.{get_or-map}
@@ -10,7 +11,8 @@ use Rattle.ca_wired.specs.declared.parts.Body.{Body}
 use Rattle.ca_wired.specs.declared.parts.Part.{Part}
 use Rattle.ca_wired.specs.declared.parts.ScanNets.{ScanNets}
 use Rattle.ca_wired.specs.declared.parts.Body.TheVariants.{Gate, Scan}
-use Rattle.ca_wired.specs.Linked.{Chip, cell_of, net_count, data_nets, IsBody, IsGateOf, IsGate, IsLibrary, IsWired}
+use Rattle.ca_wired.specs.Linked.{Chip, cell_of, net_count, data_nets, IsBody, IsGateOf, IsGate, IsLibrary}
+use Rattle.ca_wired.specs.Linked.{IsWired}
 use Rattle.ca_wired.specs.Instances.{pin_nets, IsCellOf, IsScan}
 use Rattle.ca_wired.proofs.OrderLemmas.{contained_at}
 use Rattle.ca_wired.proofs.PartLemmas.{of_all, of_list}

@@ -1,9 +1,11 @@
 -- The nets of the pins of the core's instances.
-use Rattle.std.proofs.Common.{◌≡◌, ℕ, ◌+◌, ◌<◌, List, [], ◌∷◌, ◌++◌, true, false, length, length-append, map, inl, inr, refl, sym, ◌∙◌, ap, subst, arith, get_or}
+use Rattle.std.proofs.Common.{◌≡◌, ℕ, ◌+◌, ◌<◌, List, [], ◌∷◌, ◌++◌, true, false, length, length-append, map}
+use Rattle.std.proofs.Common.{inl, inr, refl, sym, ◌∙◌, ap, subst, arith, get_or}
 use Rattle.std.specs.Prelude.{◌⊎◌, slice_get, IsSomeAnd, Option, Some, None, option_to_list, Vec}
 use Rattle.std.specs.Global.{Global}
 use Rattle.std.specs.List.{All, Contains}
-use Rattle.std.proofs.lemmas.List.{get_or_default, get_or-map, length-map, map-append, get_or_append_left, get_or-append-add}
+use Rattle.std.proofs.lemmas.List.{get_or_default, get_or-map, length-map, map-append, get_or_append_left}
+use Rattle.std.proofs.lemmas.List.{get_or-append-add}
 use Rattle.std.proofs.lemmas.List.Elements.{Contains-append_cases}
 use Rattle.std.proofs.lemmas.List.Folds.{list_any-from_Any}
 use Rattle.std.proofs.lemmas.Option.{slice_get_within, get_or_from_slice_get, same_Some}
@@ -13,7 +15,8 @@ use Rattle.ca_wired.specs.declared.parts.Body.{Body}
 use Rattle.ca_wired.specs.declared.parts.Part.{Part}
 use Rattle.ca_wired.specs.declared.parts.ScanNets.{ScanNets}
 use Rattle.ca_wired.specs.declared.parts.Body.TheVariants.{Scan}
-use Rattle.ca_wired.specs.Linked.{Chip, net_count, has, is_scan_path, path_nets, input_nets, output_nets, gate_inputs, data_nets, IsWired}
+use Rattle.ca_wired.specs.Linked.{Chip, net_count, has, is_scan_path, path_nets, input_nets, output_nets}
+use Rattle.ca_wired.specs.Linked.{gate_inputs, data_nets, IsWired}
 use Rattle.ca_wired.specs.Instances.{pin_nets, IsScan}
 use Rattle.ca_wired.proofs.OrderLemmas.{contained_at}
 use Rattle.ca_wired.proofs.PartLemmas.{contains_has, of_all, of_list}

@@ -1,5 +1,6 @@
 -- What the code keeps while it makes the lists. Only the proofs of the code cite this.
-use Rattle.std.specs.Prelude.{ℕ, ◌^◌, ◌≡◌, ◌<◌, ◌↔◌, Bool, true, false, List, [], length, slice_index_or, Option, IsSomeAnd, slice_get, option_to_list}
+use Rattle.std.specs.Prelude.{ℕ, ◌^◌, ◌≡◌, ◌<◌, ◌↔◌, Bool, true, false, List, [], length, slice_index_or}
+use Rattle.std.specs.Prelude.{Option, IsSomeAnd, slice_get, option_to_list}
 use Rattle.std.specs.List.{All, Contains}
 use Rattle.ca_wired.specs.Linked as linked
 use Rattle.ca_flat.specs.Chip.{Chip, inputs_at, outputs_at}

@@ -18,8 +18,8 @@ use ca_wired::{Chip, InstanceId, NetId};
 use std::alloc::Global;
 use std::marker::Model;
 
-// A scan instance's pin behind its five input pins and its output: the inverted output, if it has one, or else
-// the scan output.
+// A scan instance's pin behind its five input pins and its output: the inverted output, if it has one, or
+// else the scan output.
 const INVERTED_PIN: usize = 6;
 
 /// The nets of the input pins and of the output pins of each instance.
@@ -45,7 +45,8 @@ impl Model for CorePins {
     } };
 
     ghost invariant = { λ pins. (vec_len pins.outputs ≡ vec_len pins.inputs)
-        × AreBelow pins.nets (items_of pins.inputs.items) × AreBelow pins.nets (items_of pins.outputs.items) };
+        × AreBelow pins.nets (items_of pins.inputs.items)
+        × AreBelow pins.nets (items_of pins.outputs.items) };
 }
 
 impl CorePins {

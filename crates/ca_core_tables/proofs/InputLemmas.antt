@@ -1,8 +1,12 @@
 -- What drives the chip inputs and the constants, and that they have input nets of their own.
-use Rattle.std.proofs.Common.{◌≡◌, ℕ, zero, suc, ◌+◌, ◌-◌, ◌*◌, ◌^◌, ◌<◌, ◌≤◌, List, [], ◌∷◌, ◌++◌, Bool, true, false, length, length-append, inl, inr, refl, sym, ◌∙◌, ap, subst, arith, get_or}
-use Rattle.std.specs.Prelude.{slice_get, slice_index, IsSomeAnd, IsTrue, Option, Some, None, take, not, ◌&&◌, if◌then◌else◌, nat_lt}
+use Rattle.std.proofs.Common.{◌≡◌, ℕ, zero, suc, ◌+◌, ◌-◌, ◌*◌, ◌^◌, ◌<◌, ◌≤◌, List, [], ◌∷◌, ◌++◌, Bool}
+use Rattle.std.proofs.Common.{true, false, length, length-append, inl, inr, refl, sym, ◌∙◌, ap, subst, arith}
+use Rattle.std.proofs.Common.{get_or}
+use Rattle.std.specs.Prelude.{slice_get, slice_index, IsSomeAnd, IsTrue, Option, Some, None, take, not, ◌&&◌}
+use Rattle.std.specs.Prelude.{if◌then◌else◌, nat_lt}
 use Rattle.std.specs.List.{Contains, list_any, flat_map}
-use Rattle.std.proofs.lemmas.List.{get_or-map, length-map, get_or_default, get_or_append_left, get_or-append-add}
+use Rattle.std.proofs.lemmas.List.{get_or-map, length-map, get_or_default, get_or_append_left}
+use Rattle.std.proofs.lemmas.List.{get_or-append-add}
 use Rattle.std.proofs.lemmas.List.Folds.{Any-from_list_any}
 use Rattle.std.proofs.lemmas.List.Elements.{Contains-append_cases}
 use Rattle.std.proofs.lemmas.Option.{slice_get_within, slice_get-get_or, get_or_from_slice_get, same_Some}
@@ -16,12 +20,14 @@ use Rattle.ca_wired.specs.declared.parts.PortBit.{PortBit}
 use Rattle.ca_wired.specs.declared.parts.Source.{Source}
 use Rattle.ca_wired.specs.declared.parts.Source.TheVariants.{FromPort, FromConstant, FromPin}
 use Rattle.ca_wired.specs.declared.parts.Body.TheVariants.{Gate, Scan}
-use Rattle.ca_wired.specs.Linked.{Chip, net_count, constant_net, has, is_scan_path, data_nets, output_nets, port_nets, q_nets, inputs_of, Drives, IsWired}
+use Rattle.ca_wired.specs.Linked.{Chip, net_count, constant_net, has, is_scan_path, data_nets, output_nets}
+use Rattle.ca_wired.specs.Linked.{port_nets, q_nets, inputs_of, Drives, IsWired}
 use Rattle.ca_wired.specs.Instances.{IsScan}
 use Rattle.ca_wired.proofs.PartLemmas.{has_contains}
 use Rattle.ca_flat.specs.Chip.{Constant, net_kind}
 use Rattle.ca_flat.specs.Pair.{constant_value}
-use Rattle.ca_core.specs.Core.{core_net, stored_nets, trit_of, constant_on, in_net_order, core_constants, core_of}
+use Rattle.ca_core.specs.Core.{core_net, stored_nets, trit_of, constant_on, in_net_order, core_constants}
+use Rattle.ca_core.specs.Core.{core_of}
 use Rattle.ca_core.proofs.CoreLemmas.{IsOutside, core_same, length-core_kinds, kind_at}
 use Rattle.ca_core.proofs.CorePartLemmas.{first_stored, stored_is_driven}
 use Rattle.ca_sim.specs.Linked.{IsPinned}

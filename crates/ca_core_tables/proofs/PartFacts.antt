@@ -1,5 +1,6 @@
 -- Library instances, and their instances of the core.
-use Rattle.std.proofs.Common.{◌≡◌, ℕ, ◌+◌, ◌<◌, List, ◌++◌, length, length-append, refl, sym, ◌∙◌, ap, subst, arith, get_or}
+use Rattle.std.proofs.Common.{◌≡◌, ℕ, ◌+◌, ◌<◌, List, ◌++◌, length, length-append, refl, sym, ◌∙◌, ap, subst}
+use Rattle.std.proofs.Common.{arith, get_or}
 use Rattle.std.specs.Prelude.{slice_get, IsSomeAnd, Option, Some, None}
 use Rattle.std.specs.List.{All}
 use Rattle.std.proofs.lemmas.List.{get_or-map}
@@ -9,7 +10,8 @@ use Rattle.ca_cell.specs.Raw.{is_input, is_output, role_count}
 use Rattle.ca_wired.specs.declared.parts.Body.{Body}
 use Rattle.ca_wired.specs.declared.parts.Part.{Part}
 use Rattle.ca_wired.specs.declared.parts.Body.TheVariants.{Gate, Scan}
-use Rattle.ca_wired.specs.Linked.{Chip, cell_of, net_count, data_nets, IsBody, IsGateOf, IsGate, IsLibrary, IsWired}
+use Rattle.ca_wired.specs.Linked.{Chip, cell_of, net_count, data_nets, IsBody, IsGateOf, IsGate, IsLibrary}
+use Rattle.ca_wired.specs.Linked.{IsWired}
 use Rattle.ca_wired.specs.Instances.{pin_nets, IsCellOf}
 use Rattle.ca_wired.proofs.OrderLemmas.{contained_at}
 use Rattle.ca_wired.proofs.PartLemmas.{of_all, of_list}

@@ -1,5 +1,6 @@
 -- When the ends of the good and the faulty chip show a detection, and which output is the first.
-use Rattle.std.proofs.Common.{◌≡◌, ℕ, zero, suc, ◌+◌, ◌<◌, ◌≤◌, List, [], ◌∷◌, length, Bool, refl, sym, ◌∙◌, ap, subst, arith, Some, None, Option, get_or}
+use Rattle.std.proofs.Common.{◌≡◌, ℕ, zero, suc, ◌+◌, ◌<◌, ◌≤◌, List, [], ◌∷◌, length, Bool, refl, sym, ◌∙◌}
+use Rattle.std.proofs.Common.{ap, subst, arith, Some, None, Option, get_or}
 use native.Mathlib.Decide.{ℕ_discrete}
 use Rattle.std.specs.Prelude.{◌≢◌, IsTrue, IsSomeAnd, slice_get, slice_index}
 use Rattle.std.specs.List.{Contains}

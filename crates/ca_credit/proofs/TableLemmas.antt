@@ -1,5 +1,7 @@
 -- The table of verdicts: what is known, and what a pair makes of it.
-use Rattle.std.proofs.Common.{◌≡◌, ℕ, zero, suc, ◌+◌, ◌<◌, List, [], ◌∷◌, length, Bool, true, inl, refl, sym, ◌∙◌, ap, subst, arith, Some, None, Option, get_or, get_or-set_same, get_or-set_other}
+use Rattle.std.proofs.Common.{◌≡◌, ℕ, zero, suc, ◌+◌, ◌<◌, List, [], ◌∷◌, length, Bool, true, inl, refl, sym}
+use Rattle.std.proofs.Common.{◌∙◌, ap, subst, arith, Some, None, Option, get_or, get_or-set_same}
+use Rattle.std.proofs.Common.{get_or-set_other}
 use native.Mathlib.Decide.{ℕ_discrete}
 use Rattle.std.proofs.lemmas.List.{length-set}
 use Rattle.std.specs.Prelude.{slice_get, slice_set}
@@ -13,7 +15,8 @@ use Rattle.ca_credit.specs.declared.verdict.Verdict.TheVariants.{Credited, Unexp
 use Rattle.ca_credit.specs.Defects.{Task, IsDefectAt}
 use Rattle.ca_search.specs.Filled.{trits_of}
 use Rattle.ca_credit.specs.Detection.{IsFirstOutput}
-use Rattle.ca_credit.specs.Table.{known_verdicts, AreAllKnown, verdict_at, is_open, credit_count, IsCredit, IsCreditOrKept, IsAfterPair, CreditsUpTo, CreditsOne}
+use Rattle.ca_credit.specs.Table.{known_verdicts, AreAllKnown, verdict_at, is_open, credit_count, IsCredit}
+use Rattle.ca_credit.specs.Table.{IsCreditOrKept, IsAfterPair, CreditsUpTo, CreditsOne}
 use Rattle.ca_credit.proofs.DetectionLemmas.{shown_by_first, get_or-other}
 
 -- what is known at a place is what stands there

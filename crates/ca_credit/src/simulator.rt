@@ -6,7 +6,8 @@ use ca_pair::Pair;
 /// A chip with the list of its defects, the pattern bits that are set, the defect that is aimed at, and what
 /// every run of the flat network ends with.
 pub trait Simulator {
-    ghost use Rattle.std.specs.Prelude.{◌≡◌, ◌<◌, List, Option, None, length, slice_get, slice_index, IsFalse};
+    ghost use Rattle.std.specs.Prelude.{◌≡◌, ◌<◌, List, Option, None, length, slice_get, slice_index};
+    ghost use Rattle.std.specs.Prelude.{IsFalse};
     ghost use Rattle.ca_net.specs.declared.trit.Trit.{Trit};
     ghost use Rattle.ca_flat.specs.declared.chip_defect.ChipDefect.{ChipDefect};
     ghost use Rattle.ca_flat.specs.Pair.{bit_count, IsShown};

@@ -1,5 +1,6 @@
 -- Texts that are the same in upper case are the same in lower case, and pieces of such texts.
-use Rattle.std.proofs.Common.{◌≡◌, ℕ, ◌≤◌, List, [], ◌∷◌, ◌++◌, map, length, take, drop, refl, sym, ◌∙◌, ap, arith, length-append, take-append-drop}
+use Rattle.std.proofs.Common.{◌≡◌, ℕ, ◌≤◌, List, [], ◌∷◌, ◌++◌, map, length, take, drop, refl, sym, ◌∙◌, ap}
+use Rattle.std.proofs.Common.{arith, length-append, take-append-drop}
 use Rattle.std.specs.Char.{to_ascii_uppercase, to_ascii_lowercase}
 use Rattle.std.proofs.Math.Decide.{dec_le}
 use Rattle.std.proofs.lemmas.List.{length-map, map-append, take-map, append_cancel_left}
@@ -73,7 +74,8 @@ pub others_behind : (text first mark second behind name : List ℕ) → first ++
     → behind ≡ mark ++ second
 others_behind text first mark second behind name whole front same = append_cancel_left first behind (mark ++ second) (sym front ∙ sym same ∙ sym whole)
 
--- a text that begins with two pieces is, with a third behind them, a name exactly where the third is what stands behind the two
+-- a text that begins with two pieces is, with a third behind them, a name exactly where the third is what
+-- stands behind the two
 pub three_pieces : (text first mark second behind_first behind_mark name : List ℕ) → first ++ (mark ++ second) ≡ name → text ≡ first ++ behind_first
     → behind_first ≡ mark ++ behind_mark → (behind_mark ≡ second → name ≡ text) × (name ≡ text → behind_mark ≡ second)
 three_pieces text first mark second behind_first behind_mark name whole front middle = (

@@ -1,5 +1,7 @@
 -- A network with a defect: its devices by their places, and that it is well formed.
-use Rattle.std.proofs.Common.{◌≡◌, ℕ, zero, suc, ◌+◌, ◌<◌, ◌≤◌, ◌^◌, List, Bool, true, false, [], ◌∷◌, ◌++◌, length, inl, inr, refl, sym, ◌∙◌, ap, arith, length-append, append-nil, add-zero, ◌==◌}
+use Rattle.std.proofs.Common.{◌≡◌, ℕ, zero, suc, ◌+◌, ◌<◌, ◌≤◌, ◌^◌, List, Bool, true, false, [], ◌∷◌, ◌++◌}
+use Rattle.std.proofs.Common.{length, inl, inr, refl, sym, ◌∙◌, ap, arith, length-append, append-nil}
+use Rattle.std.proofs.Common.{add-zero, ◌==◌}
 use Rattle.std.specs.Prelude.{cond, Option, Some, None, IsTrue, option_to_list, slice_get, IsSome}
 use Rattle.std.specs.List.{All}
 use Rattle.std.proofs.lemmas.List.Elements.{All-nil, All-cons, All-append}
@@ -18,11 +20,15 @@ use Rattle.ca_cell.proofs.CircuitLemmas.{few_nodes, length-nodes_of, well_formed
 use Rattle.ca_cell.proofs.NodeLemmas.{few_devices}
 use Rattle.std.proofs.lemmas.List.{length-map}
 use Rattle.ca_defect.specs.declared.defect.Defect.{Defect}
-use Rattle.ca_defect.specs.declared.defect.Defect.TheVariants.{OpenDrain, OpenSource, OpenGate, OpenPin, Short}
-use Rattle.ca_defect.specs.Defect.{drain_on, source_on, gate_on, device_with, changed_from, changed_devices, bridge, new_node, new_device, nodes_with, devices_with, circuit_with, is_short, IsDefect}
+use Rattle.ca_defect.specs.declared.defect.Defect.TheVariants.{OpenDrain, OpenSource, OpenGate, OpenPin}
+use Rattle.ca_defect.specs.declared.defect.Defect.TheVariants.{Short}
+use Rattle.ca_defect.specs.Defect.{drain_on, source_on, gate_on, device_with, changed_from, changed_devices}
+use Rattle.ca_defect.specs.Defect.{bridge, new_node, new_device, nodes_with, devices_with, circuit_with}
+use Rattle.ca_defect.specs.Defect.{is_short, IsDefect}
 use Rattle.ca_defect.specs.List.{faulty_of}
 use Rattle.ca_defect.specs.Overlay.{IsFaulty}
-use Rattle.ca_defect.proofs.ListLemmas.{slice_get-append_left, slice_get-append_end, length-append_some, length-append_none, length-append_option}
+use Rattle.ca_defect.proofs.ListLemmas.{slice_get-append_left, slice_get-append_end, length-append_some}
+use Rattle.ca_defect.proofs.ListLemmas.{length-append_none, length-append_option}
 
 -- as many devices as were there
 pub length-changed_from : (defect : Defect) (new place : ℕ) (devices : List Device) → length (changed_from defect new place devices) ≡ length devices

@@ -1,5 +1,6 @@
 -- The defects of a cell with plain names have names that differ.
-use Rattle.std.proofs.Common.{◌≡◌, ◌≢◌, ℕ, zero, suc, ◌+◌, ◌<◌, ◌==◌, List, Bool, true, false, [], ◌∷◌, ◌++◌, length, map, refl, sym, ◌∙◌, ap, subst, arith, add-zero, zero-add}
+use Rattle.std.proofs.Common.{◌≡◌, ◌≢◌, ℕ, zero, suc, ◌+◌, ◌<◌, ◌==◌, List, Bool, true, false, [], ◌∷◌, ◌++◌}
+use Rattle.std.proofs.Common.{length, map, refl, sym, ◌∙◌, ap, subst, arith, add-zero, zero-add}
 use Rattle.std.specs.Prelude.{cond, Some, slice_get, option_map, unwrap_or}
 use Rattle.std.specs.List.{All, AllByRecursion}
 use Rattle.std.proofs.lemmas.Bool.Decides.{Decides-eqb}
@@ -15,7 +16,8 @@ use Rattle.ca_cell.specs.PlainNames.{IsPlain, device_names, HasPlainNames}
 use Rattle.ca_cell.proofs.CircuitLemmas.{length-nodes_of}
 use Rattle.ca_cell.proofs.NodeLemmas.{has_net}
 use Rattle.ca_defect.specs.declared.defect.Defect.{Defect}
-use Rattle.ca_defect.specs.declared.defect.Defect.TheVariants.{OpenDrain, OpenSource, OpenGate, OpenPin, Short}
+use Rattle.ca_defect.specs.declared.defect.Defect.TheVariants.{OpenDrain, OpenSource, OpenGate, OpenPin}
+use Rattle.ca_defect.specs.declared.defect.Defect.TheVariants.{Short}
 use Rattle.ca_defect.specs.List.{IsDefectOf}
 use Rattle.ca_defect.specs.Name.{net_from, node_name, device_name, name_of}
 use Rattle.ca_defect.proofs.CircuitWithLemmas.{short_ordered}

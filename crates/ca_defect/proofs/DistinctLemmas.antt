@@ -1,5 +1,6 @@
 -- No defect stands twice in the list of a cell's defects.
-use Rattle.std.proofs.Common.{◌≡◌, ℕ, zero, suc, ◌+◌, ◌-◌, ◌<◌, ◌≤◌, ◌⊎◌, inl, inr, List, Bool, true, false, [], ◌∷◌, ◌++◌, length, refl, sym, ◌∙◌, ap, subst, arith}
+use Rattle.std.proofs.Common.{◌≡◌, ℕ, zero, suc, ◌+◌, ◌-◌, ◌<◌, ◌≤◌, ◌⊎◌, inl, inr, List, Bool, true, false}
+use Rattle.std.proofs.Common.{[], ◌∷◌, ◌++◌, length, refl, sym, ◌∙◌, ap, subst, arith}
 use Rattle.std.specs.Prelude.{cond, Some, None, slice_get, option_map, Option}
 use Rattle.std.specs.List.{All, AllByRecursion}
 use Rattle.std.proofs.lemmas.Option.{slice_get-map}
@@ -10,9 +11,11 @@ use Rattle.ca_cell.specs.Raw.{is_input, role_count, circuit_of}
 use Rattle.ca_cell.specs.Rules.{KeepsRules}
 use Rattle.ca_cell.specs.PlainNames.{HasPlainNames}
 use Rattle.ca_defect.specs.declared.defect.Defect.{Defect}
-use Rattle.ca_defect.specs.declared.defect.Defect.TheVariants.{OpenDrain, OpenSource, OpenGate, OpenPin, Short}
+use Rattle.ca_defect.specs.declared.defect.Defect.TheVariants.{OpenDrain, OpenSource, OpenGate, OpenPin}
+use Rattle.ca_defect.specs.declared.defect.Defect.TheVariants.{Short}
 use Rattle.ca_defect.specs.Defect.{is_short}
-use Rattle.ca_defect.specs.List.{each_from, device_opens, pin_open, short_of, shorts_of, listed_defects, defects_of, IsDefectOf}
+use Rattle.ca_defect.specs.List.{each_from, device_opens, pin_open, short_of, shorts_of, listed_defects}
+use Rattle.ca_defect.specs.List.{defects_of, IsDefectOf}
 use Rattle.ca_defect.specs.Name.{name_of, names_of}
 use Rattle.ca_defect.specs.Laws.{DefectsDiffer}
 use Rattle.ca_defect.proofs.MemberLemmas.{all_listed}

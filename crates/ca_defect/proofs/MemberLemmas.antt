@@ -1,11 +1,14 @@
 -- The list of a cell's defects has exactly these.
-use Rattle.std.proofs.Common.{◌≡◌, ℕ, zero, suc, ◌+◌, ◌-◌, ◌<◌, List, Bool, true, false, [], ◌∷◌, ◌++◌, length, refl, sym, ap, subst, arith, add-zero, zero-add}
+use Rattle.std.proofs.Common.{◌≡◌, ℕ, zero, suc, ◌+◌, ◌-◌, ◌<◌, List, Bool, true, false, [], ◌∷◌, ◌++◌}
+use Rattle.std.proofs.Common.{length, refl, sym, ap, subst, arith, add-zero, zero-add}
 use Rattle.std.specs.Prelude.{cond, Contains}
 use Rattle.std.specs.List.{All}
-use Rattle.std.proofs.lemmas.List.Elements.{All-nil, All-cons, All-append, Contains-append_left, Contains-append_right}
+use Rattle.std.proofs.lemmas.List.Elements.{All-nil, All-cons, All-append, Contains-append_left}
+use Rattle.std.proofs.lemmas.List.Elements.{Contains-append_right}
 use Rattle.ca_net.specs.Circuit.{Circuit}
 use Rattle.ca_defect.specs.declared.defect.Defect.{Defect}
-use Rattle.ca_defect.specs.declared.defect.Defect.TheVariants.{OpenDrain, OpenSource, OpenGate, OpenPin, Short}
+use Rattle.ca_defect.specs.declared.defect.Defect.TheVariants.{OpenDrain, OpenSource, OpenGate, OpenPin}
+use Rattle.ca_defect.specs.declared.defect.Defect.TheVariants.{Short}
 use Rattle.ca_defect.specs.Defect.{is_short, IsDefect}
 use Rattle.ca_defect.specs.List.{each_from, device_opens, pin_open, short_of, shorts_of, listed_defects}
 use Rattle.ca_defect.proofs.CircuitWithLemmas.{short_ordered}

@@ -1,5 +1,7 @@
--- Networks with a defect (after Hapke and others 2014). A defect is one of a cell, and names the cell's nodes and devices.
-use Rattle.std.specs.Prelude.{ℕ, ◌<◌, ◌≤◌, ◌+◌, ◌==◌, ◌&&◌, nat_lt, nat_le, not, Bool, IsTrue, if◌then◌else◌, List, [], ◌∷◌, ◌++◌, length, Option, Some, None, option_to_list}
+-- Networks with a defect (after Hapke and others 2014). A defect is one of a cell, and names the cell's nodes
+-- and devices.
+use Rattle.std.specs.Prelude.{ℕ, ◌<◌, ◌≤◌, ◌+◌, ◌==◌, ◌&&◌, nat_lt, nat_le, not, Bool, IsTrue, if◌then◌else◌}
+use Rattle.std.specs.Prelude.{List, [], ◌∷◌, ◌++◌, length, Option, Some, None, option_to_list}
 use Rattle.ca_net.specs.declared.scale.TheConstants.{INNER_NODE, BRIDGE}
 use Rattle.ca_net.specs.declared.node.NodeKind.{NodeKind}
 use Rattle.ca_net.specs.declared.node.NodeKind.TheVariants.{Storage}
@@ -8,7 +10,8 @@ use Rattle.ca_net.specs.declared.device.DeviceKind.TheVariants as kind
 use Rattle.ca_net.specs.declared.device.Device.{Device}
 use Rattle.ca_net.specs.Circuit.{Circuit}
 use Rattle.ca_defect.specs.declared.defect.Defect.{Defect}
-use Rattle.ca_defect.specs.declared.defect.Defect.TheVariants.{OpenDrain, OpenSource, OpenGate, OpenPin, Short}
+use Rattle.ca_defect.specs.declared.defect.Defect.TheVariants.{OpenDrain, OpenSource, OpenGate, OpenPin}
+use Rattle.ca_defect.specs.declared.defect.Defect.TheVariants.{Short}
 
 -- the device with its drain on the node n
 abbrev pub drain_on : ℕ → Device → Device
@@ -22,7 +25,8 @@ source_on n device = record device { b = record { 0 = n } }
 abbrev pub gate_on : ℕ → Device → Device
 gate_on n device = record device { gate = record { 0 = n } }
 
--- the device at a place of the list, with the defect: one terminal of one device is on the new node, or each gate that was on the pin
+-- the device at a place of the list, with the defect: one terminal of one device is on the new node, or each
+-- gate that was on the pin
 abbrev pub device_with : Defect → ℕ → ℕ → Device → Device
 device_with (OpenDrain opened) new place device = if place == opened.0 then drain_on new device else device
 device_with (OpenSource opened) new place device = if place == opened.0 then source_on new device else device
@@ -33,7 +37,8 @@ device_with (Short low high) new place device = device
 -- these devices, the first of which stands at a place of the list, with the defect
 abbrev pub changed_from : Defect → ℕ → ℕ → List Device → List Device
 changed_from defect new place [] = []
-changed_from defect new place (device ∷ more) = device_with defect new place device ∷ changed_from defect new (place + 1) more
+changed_from defect new place (device ∷ more) = device_with defect new place device
+    ∷ changed_from defect new (place + 1) more
 
 -- the devices that were there, with the defect, which adds the node `new`
 abbrev pub changed_devices : List Device → ℕ → Defect → List Device
@@ -69,13 +74,18 @@ devices_with devices new defect = changed_devices devices new defect ++ option_t
 
 -- the network with the defect
 abbrev pub circuit_with : Circuit → Defect → Circuit
-circuit_with net defect = record { nodes = nodes_with net.nodes defect; devices = devices_with net.devices (length net.nodes) defect }
+circuit_with net defect = record {
+  nodes = nodes_with net.nodes defect;
+  devices = devices_with net.devices
+      (length net.nodes) defect;
+}
 
 -- of a cell with so many input pins, the node n is one: they stand behind power and ground
 abbrev pub is_pin : ℕ → ℕ → Bool
 is_pin inputs n = nat_le 2 n && nat_lt n (2 + inputs)
 
--- two nodes of a cell between which there is a short: different ones in their order, neither an input pin, and not power with ground
+-- two nodes of a cell between which there is a short: different ones in their order, neither an input pin,
+-- and not power with ground
 abbrev pub is_short : ℕ → ℕ → ℕ → Bool
 is_short inputs low high =
     nat_lt low high && not (is_pin inputs low) && not (is_pin inputs high) && not (low == 0 && high == 1)

@@ -1,4 +1,5 @@
--- When a pair of vectors exposes a defect of a cell (after Hapke and others 2014; by runs of the network in place of voltages).
+-- When a pair of vectors exposes a defect of a cell (after Hapke and others 2014; by runs of the network in
+-- place of voltages).
 use Rattle.std.specs.Prelude.{ℕ, ◌≡◌, ◌≢◌, ◌<◌, ◌≤◌, ◌+◌, ◌^◌, List, ◌∷◌, length, All}
 use Rattle.ca_net.specs.declared.trit.Trit.{Trit}
 use Rattle.ca_net.specs.declared.trit.Trit.TheVariants.{Zero, One, X}
@@ -34,7 +35,8 @@ CellEndsAt net first last n v = EndsAt net (pin_vector net first) (pin_vector ne
 -- the node is that of an output pin
 abbrev pub IsOutputPin : RawCell → ℕ → Type 0
 IsOutputPin raw n =
-    (2 + role_count is_input raw.pins ≤ n) × (n < 2 + role_count is_input raw.pins + role_count is_output raw.pins)
+    (2 + role_count is_input raw.pins ≤ n)
+    × (n < 2 + role_count is_input raw.pins + role_count is_output raw.pins)
 
 -- at some output pin the good cell ends with a value and the cell with the defect with the opposite one
 pub record Exposes (raw : RawCell) (defect : Defect) (first last : List Trit) : Type 0 where

@@ -1,11 +1,13 @@
 -- The list of the defects of a cell.
-use Rattle.std.specs.Prelude.{ℕ, zero, suc, ◌+◌, ◌≡◌, ◌↔◌, if◌then◌else◌, List, [], ◌∷◌, ◌++◌, length, Contains}
+use Rattle.std.specs.Prelude.{ℕ, zero, suc, ◌+◌, ◌≡◌, ◌↔◌, if◌then◌else◌, List, [], ◌∷◌, ◌++◌, length}
+use Rattle.std.specs.Prelude.{Contains}
 use Rattle.ca_net.specs.Circuit.{Circuit}
 use Rattle.ca_cell.specs.declared.raw.RawCell.{RawCell}
 use Rattle.ca_cell.specs.Raw.{is_input, role_count, circuit_of}
 use Rattle.ca_cell.specs.Nodes.{defect_count}
 use Rattle.ca_defect.specs.declared.defect.Defect.{Defect}
-use Rattle.ca_defect.specs.declared.defect.Defect.TheVariants.{OpenDrain, OpenSource, OpenGate, OpenPin, Short}
+use Rattle.ca_defect.specs.declared.defect.Defect.TheVariants.{OpenDrain, OpenSource, OpenGate, OpenPin}
+use Rattle.ca_defect.specs.declared.defect.Defect.TheVariants.{Short}
 use Rattle.ca_defect.specs.Defect.{is_short, IsDefect, circuit_with}
 
 -- the defects that each of so many places gives, from a place on, in order
@@ -16,7 +18,8 @@ each_from give place (suc count) = give place ++ each_from give (place + 1) coun
 -- the opens of a device: at its drain, at its source, at its gate
 abbrev pub device_opens : ℕ → List Defect
 device_opens place =
-    OpenDrain (record { 0 = place }) ∷ OpenSource (record { 0 = place }) ∷ OpenGate (record { 0 = place }) ∷ []
+    OpenDrain (record { 0 = place }) ∷ OpenSource (record { 0 = place }) ∷ OpenGate (record { 0 = place })
+    ∷ []
 
 -- the open of an input pin, of which this many stand before it
 abbrev pub pin_open : ℕ → List Defect
@@ -31,8 +34,9 @@ short_of inputs low high =
 abbrev pub shorts_of : ℕ → ℕ → ℕ → List Defect
 shorts_of nodes inputs low = each_from (short_of inputs low) 0 nodes
 
--- The defects of a cell with this network and so many input pins: the opens of each device in order, the open of each input pin in
--- order, and the shorts in the order of their lower nodes and then of their higher nodes.
+-- The defects of a cell with this network and so many input pins: the opens of each device in order, the open
+-- of each input pin in order, and the shorts in the order of their lower nodes and then of their higher
+-- nodes.
 abbrev pub listed_defects : Circuit → ℕ → List Defect
 listed_defects net inputs =
     each_from device_opens 0 (length net.devices)

@@ -1,12 +1,14 @@
 -- The names of defects.
-use Rattle.std.specs.Prelude.{ℕ, ◌+◌, ◌==◌, Bool, if◌then◌else◌, List, [], ◌∷◌, ◌++◌, map, codes, slice_get, option_map, unwrap_or}
+use Rattle.std.specs.Prelude.{ℕ, ◌+◌, ◌==◌, Bool, if◌then◌else◌, List, [], ◌∷◌, ◌++◌, map, codes, slice_get}
+use Rattle.std.specs.Prelude.{option_map, unwrap_or}
 use Rattle.std.specs.Str.{bytes_eq}
 use Rattle.ca_lex.specs.Words.{upper_case}
 use Rattle.ca_cell.specs.declared.raw.RawPin.{RawPin}
 use Rattle.ca_cell.specs.declared.raw.RawCell.{RawCell}
 use Rattle.ca_cell.specs.Raw.{node_of}
 use Rattle.ca_defect.specs.declared.defect.Defect.{Defect}
-use Rattle.ca_defect.specs.declared.defect.Defect.TheVariants.{OpenDrain, OpenSource, OpenGate, OpenPin, Short}
+use Rattle.ca_defect.specs.declared.defect.Defect.TheVariants.{OpenDrain, OpenSource, OpenGate, OpenPin}
+use Rattle.ca_defect.specs.declared.defect.Defect.TheVariants.{Short}
 use Rattle.ca_defect.specs.List.{defects_of}
 
 -- the first of these nets whose node is n; the first of them stands at a place of the list of nets
@@ -28,7 +30,8 @@ name_of raw (OpenDrain opened) = upper_case (device_name raw opened.0) ++ codes 
 name_of raw (OpenSource opened) = upper_case (device_name raw opened.0) ++ codes "(S)"
 name_of raw (OpenGate opened) = upper_case (device_name raw opened.0) ++ codes "(G)"
 name_of raw (OpenPin pin) = upper_case (node_name raw pin.0) ++ codes "(P)"
-name_of raw (Short low high) = upper_case (node_name raw low.0) ++ (codes "=" ++ upper_case (node_name raw high.0))
+name_of raw (Short low high) =
+    upper_case (node_name raw low.0) ++ (codes "=" ++ upper_case (node_name raw high.0))
 
 -- the names of a cell's defects, in list order
 abbrev pub names_of : RawCell → List (List ℕ)

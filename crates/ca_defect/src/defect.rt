@@ -5,8 +5,8 @@ ghost use Rattle.ca_defect.specs.Defect.{device_with, bridge, is_pin, is_short};
 
 use ca_net::{BRIDGE, Device, DeviceId, DeviceKind, INNER_NODE, NodeId, NodeKind};
 
-/// One change of a cell's network. An open is at a terminal of a device, or at an input pin, where all gates on the pin come
-/// off together; a short is between two nodes, the lower one first.
+/// One change of a cell's network. An open is at a terminal of a device, or at an input pin, where all gates
+/// on the pin come off together; a short is between two nodes, the lower one first.
 #[derive(Clone, Copy, Debug, PartialEq, Eq)]
 pub enum Defect {
     OpenDrain(DeviceId),

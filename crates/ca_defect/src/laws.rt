@@ -9,7 +9,8 @@ pub fn lists_defects()
     ensures { (raw : RawCell) → ListsDefects raw }
 {}
 
-/// The names of the defects of a cell that keeps the rules differ, where its nets and devices have plain names.
+/// The names of the defects of a cell that keeps the rules differ, where its nets and devices have plain
+/// names.
 pub fn defect_names_differ()
     ensures { DefectNamesDiffer }
 {}

@@ -1,5 +1,5 @@
-//! The defects of a library cell: their list and names, the network of a cell with a defect, which borrows the cell, and in
-//! specs/ which pairs of vectors expose a defect.
+//! The defects of a library cell: their list and names, the network of a cell with a defect, which borrows
+//! the cell, and in specs/ which pairs of vectors expose a defect.
 #![tactic(auto)]
 
 mod defect;

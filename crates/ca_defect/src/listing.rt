@@ -2,7 +2,8 @@
 
 ghost use Rattle.std.specs.Prelude.{◌≡◌, ◌<◌, ◌+◌, ◌^◌, ◌++◌, All, length, IfOk, OnOk};
 ghost use Rattle.ca_cell.specs.Nodes.{defect_count};
-ghost use Rattle.ca_defect.specs.List.{each_from, device_opens, pin_open, short_of, shorts_of, defects_of, IsDefectOf};
+ghost use Rattle.ca_defect.specs.List.{each_from, device_opens, pin_open, short_of, shorts_of, defects_of};
+ghost use Rattle.ca_defect.specs.List.{IsDefectOf};
 
 use crate::defect::{Defect, is_short};
 use crate::list::DefectList;
@@ -11,9 +12,9 @@ use ca_cell::Cell;
 use ca_net::{DeviceId, Network, NodeId};
 use std::alloc::Global;
 
-/// The defects of a cell: for each device in order the opens of its drain, its source and its gate; the open of each input
-/// pin in order; and the short of each two nodes that are no input pins, in the order of the lower and then of the higher
-/// node, except power with ground.
+/// The defects of a cell: for each device in order the opens of its drain, its source and its gate; the open
+/// of each input pin in order; and the short of each two nodes that are no input pins, in the order of the
+/// lower and then of the higher node, except power with ground.
 pub fn defects(alloc: Global, cell: &Cell) -> Result<DefectList, NoMemory>
     ensures ok { IfOk result (λ list. list ≡ defects_of cell.now) }
     ensures listed { IfOk result (λ list. All (IsDefectOf cell.now) list) }

@@ -8,8 +8,8 @@ use ca_cell::Cell;
 use ca_net::{Device, DeviceId, Network, NodeId, NodeKind};
 use std::marker::Model;
 
-/// The network of a cell with one of its defects, which contracts see as the cell's subcircuit with the defect. It borrows the
-/// cell and copies nothing.
+/// The network of a cell with one of its defects, which contracts see as the cell's subcircuit with the
+/// defect. It borrows the cell and copies nothing.
 #[derive(Drop)]
 pub struct Overlay<'a> {
     cell: &'a Cell,

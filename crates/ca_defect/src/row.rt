@@ -1,6 +1,7 @@
 //! Pairs of vectors of a cell, and lists of them.
 
-ghost use Rattle.std.specs.Prelude.{◌≡◌, ◌<◌, ◌↔◌, [], ◌∷◌, ◌++◌, All, length, slice_get, IsTrue, OnOk, OnErr};
+ghost use Rattle.std.specs.Prelude.{◌≡◌, ◌<◌, ◌↔◌, [], ◌∷◌, ◌++◌, All, length, slice_get, IsTrue, OnOk};
+ghost use Rattle.std.specs.Prelude.{OnErr};
 
 use ca_base::NoMemory;
 use std::alloc::Global;

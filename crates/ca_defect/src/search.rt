@@ -1,9 +1,11 @@
 //! The defect that a text names.
 
-ghost use Rattle.std.specs.Prelude.{◌≡◌, ◌≢◌, ◌<◌, ◌++◌, ◌∷◌, [], ◌↔◌, ℕ, List, All, length, find, IsTrue, IfSome, IfNone};
+ghost use Rattle.std.specs.Prelude.{◌≡◌, ◌≢◌, ◌<◌, ◌++◌, ◌∷◌, [], ◌↔◌, ℕ, List, All, length, find, IsTrue};
+ghost use Rattle.std.specs.Prelude.{IfSome, IfNone};
 ghost use Rattle.ca_lex.specs.Words.{upper_case};
 ghost use Rattle.ca_cell.specs.Raw.{is_input, role_count, circuit_of};
-ghost use Rattle.ca_defect.specs.List.{each_from, device_opens, pin_open, short_of, shorts_of, defects_of, IsDefectOf};
+ghost use Rattle.ca_defect.specs.List.{each_from, device_opens, pin_open, short_of, shorts_of, defects_of};
+ghost use Rattle.ca_defect.specs.List.{IsDefectOf};
 ghost use Rattle.ca_defect.specs.Name.{name_of, is_called};
 
 use crate::defect::{Defect, is_short};
@@ -11,13 +13,14 @@ use crate::names::parts_of;
 use ca_cell::Cell;
 use ca_net::{DeviceId, Network, NodeId};
 
-/// The first defect of the cell that the text names in upper or lower case; none where the text is the name of no defect. It
-/// takes no memory.
+/// The first defect of the cell that the text names in upper or lower case; none where the text is the name
+/// of no defect. It takes no memory.
 pub fn parse(cell: &Cell, text: &[u8]) -> Option<Defect>
     ensures first { result ≡ find (is_called cell.now text.now) (defects_of cell.now) }
     ensures some { IfSome result (λ defect. name_of cell.now defect ≡ upper_case text.now) }
     ensures listed { IfSome result (IsDefectOf cell.now) }
-    ensures none { IfNone result (All (λ defect. name_of cell.now defect ≢ upper_case text.now) (defects_of cell.now)) }
+    ensures none { IfNone result (All (λ defect. name_of cell.now defect ≢ upper_case text.now)
+        (defects_of cell.now)) }
 {
     find_listed(cell, text)
 }
@@ -39,7 +42,8 @@ fn find_listed(cell: &Cell, text: &[u8]) -> Option<Defect>
 
 // The first open of a device that has the name.
 fn find_device_open(cell: &Cell, text: &[u8]) -> Option<Defect>
-    ensures { result ≡ find (is_called cell.now text.now) (each_from device_opens 0 (length (circuit_of cell.now).devices)) }
+    ensures { result ≡ find (is_called cell.now text.now)
+        (each_from device_opens 0 (length (circuit_of cell.now).devices)) }
 {
     for place in 0..cell.device_count() {
         let found = find_open_of(cell, text, DeviceId(place as u32));
@@ -69,7 +73,8 @@ fn find_open_of(cell: &Cell, text: &[u8], device: DeviceId) -> Option<Defect>
 // The first open of an input pin that has the name.
 #[tactic(auto, using(crate::proofs::CircuitWithLemmas::few_inputs))]
 fn find_pin_open(cell: &Cell, text: &[u8]) -> Option<Defect>
-    ensures { result ≡ find (is_called cell.now text.now) (each_from pin_open 0 (role_count is_input cell.now.pins)) }
+    ensures { result ≡ find (is_called cell.now text.now)
+        (each_from pin_open 0 (role_count is_input cell.now.pins)) }
 {
     for before in 0..cell.inputs() {
         let found = if_called(cell, text, Defect::OpenPin(NodeId(2 + before as u32)));
@@ -114,7 +119,8 @@ fn find_short_of(cell: &Cell, text: &[u8], low: usize) -> Option<Defect>
 fn find_short_at(cell: &Cell, text: &[u8], low: usize, high: usize) -> Option<Defect>
     requires low { low < length (circuit_of cell.now).nodes }
     requires high { high < length (circuit_of cell.now).nodes }
-    ensures { result ≡ find (is_called cell.now text.now) (short_of (role_count is_input cell.now.pins) low high) }
+    ensures { result ≡ find (is_called cell.now text.now)
+        (short_of (role_count is_input cell.now.pins) low high) }
 {
     let _nodes = cell.node_count();
     if is_short(cell.inputs(), low, high) {

@@ -1,9 +1,11 @@
 -- Members of lists, and the constants that `assign`s name.
-use Rattle.std.proofs.Common.{◌≡◌, ℕ, zero, suc, ◌+◌, ◌<◌, List, [], ◌∷◌, Bool, true, false, map, inl, inr, refl, sym, ◌∙◌, ap, subst, arith, true≢false}
+use Rattle.std.proofs.Common.{◌≡◌, ℕ, zero, suc, ◌+◌, ◌<◌, List, [], ◌∷◌, Bool, true, false, map, inl, inr}
+use Rattle.std.proofs.Common.{refl, sym, ◌∙◌, ap, subst, arith, true≢false}
 use Rattle.std.specs.Prelude.{◌⊎◌, ◌||◌, ◌&&◌, Some, slice_get, option_map, nat_lt}
 use Rattle.std.specs.List.{Contains, All, list_any, flat_map}
 use Rattle.std.proofs.lemmas.Bool.{ltb-true, lt-ltb}
-use Rattle.std.proofs.lemmas.List.Elements.{Contains-append_left, Contains-append_right, Contains-append_cases}
+use Rattle.std.proofs.lemmas.List.Elements.{Contains-append_left, Contains-append_right}
+use Rattle.std.proofs.lemmas.List.Elements.{Contains-append_cases}
 use Rattle.std.proofs.lemmas.Option.{slice_get_within, slice_get-map, slice_get-get_or, get_or_from_slice_get}
 use Rattle.ca_verilog.specs.declared.raw.RawBit.{RawBit}
 use Rattle.ca_verilog.specs.declared.raw.RawBit.TheVariants.{Bit, Constant}
@@ -13,7 +15,8 @@ use Rattle.ca_verilog.specs.IsNetlist.{IsBit, IsJoinOf}
 use Rattle.ca_chip.specs.declared.joined.Join.{Join}
 use Rattle.ca_chip.specs.Wiring.{wire_of, joins_of}
 use Rattle.ca_wired.proofs.DriverLemmas.{some_inj}
-use Rattle.ca_chip.proofs.SpanLemmas.{join_of, pair_at, from_joins, to_joins, from_all, to_all, from_span, to_span}
+use Rattle.ca_chip.proofs.SpanLemmas.{join_of, pair_at, from_joins, to_joins, from_all, to_all, from_span}
+use Rattle.ca_chip.proofs.SpanLemmas.{to_span}
 use Rattle.ca_draft.specs.OnWires.{is_constant, has_constant}
 
 -- what a list has that is made of the parts of others

@@ -1,10 +1,12 @@
 -- What is made of instances and port bits on their wires.
-use Rattle.std.proofs.Common.{◌≡◌, ℕ, ◌+◌, ◌<◌, ◌≤◌, ◌^◌, List, [], ◌∷◌, ◌++◌, Bool, true, false, length, map, inl, inr, refl, sym, ◌∙◌, ap, arith, subst, get_or, length-append}
+use Rattle.std.proofs.Common.{◌≡◌, ℕ, ◌+◌, ◌<◌, ◌≤◌, ◌^◌, List, [], ◌∷◌, ◌++◌, Bool, true, false, length, map}
+use Rattle.std.proofs.Common.{inl, inr, refl, sym, ◌∙◌, ap, arith, subst, get_or, length-append}
 use Rattle.std.specs.Prelude.{◌⊎◌, ◌↔◌, Option, Some, None, IsTrue, drop, if◌then◌else◌}
 use Rattle.std.specs.List.{All, Contains, flat_map}
 use Rattle.std.specs.Str.{bytes_eq}
 use Rattle.std.proofs.lemmas.List.{get_or_append_left, get_or-append-add, append-nil}
-use Rattle.std.proofs.lemmas.List.Elements.{All-nil, All-cons, All-head, All-tail, All-append, All-map, All-contains, Contains-get_or, Contains-append_left}
+use Rattle.std.proofs.lemmas.List.Elements.{All-nil, All-cons, All-head, All-tail, All-append, All-map}
+use Rattle.std.proofs.lemmas.List.Elements.{All-contains, Contains-get_or, Contains-append_left}
 use Rattle.std.proofs.lemmas.Option.{slice_get-get_or, slice_get_within, get_or_from_slice_get}
 use Rattle.ca_cell.specs.Library.{Named}
 use Rattle.ca_verilog.specs.declared.raw.RawBit.{RawBit}
@@ -20,7 +22,9 @@ use Rattle.ca_verilog.specs.IsNetlist.{bit_count, IsBit, IsOnBit, IsJoinOf, IsIn
 use Rattle.ca_wired.specs.declared.parts.Part.{Part}
 use Rattle.ca_wired.specs.declared.parts.PortBit.{PortBit}
 use Rattle.ca_chip.specs.declared.scan_row.ScanRow.{ScanRow}
-use Rattle.ca_chip.specs.Wiring.{meaning_of, input_names, output_names, bit_on, wire_of, input_wire, input_wires, output_wires, open_count, WiredPart, HeaderBit, Wiring, wired_parts, header_bits, joins_of, wiring_of}
+use Rattle.ca_chip.specs.Wiring.{meaning_of, input_names, output_names, bit_on, wire_of, input_wire}
+use Rattle.ca_chip.specs.Wiring.{input_wires, output_wires, open_count, WiredPart, HeaderBit, Wiring}
+use Rattle.ca_chip.specs.Wiring.{wired_parts, header_bits, joins_of, wiring_of}
 use Rattle.ca_chip.specs.Nets.{IsNamed}
 use Rattle.ca_chip.specs.declared.joined.Join.{Join}
 use Rattle.ca_chip.specs.Joined.{Same, AreEarliest}
@@ -29,11 +33,15 @@ use Rattle.ca_chip.specs.Numbers.{NetNumbers, LeadsToEarliest}
 use Rattle.ca_chip.proofs.NetLemmas.{leads}
 use Rattle.ca_wired.specs.Linked.{Chip}
 use Rattle.ca_wired.specs.Drivers.{IsDrafted}
-use Rattle.ca_draft.specs.OnWires.{pins_of, output_wire, next_own, wired_of, header_of, open_counts, AreOnWires, constant_wires, touched_of, wiring_on, AreMarks, IsNamedBy, IsNumbering, IsNetlistOnWires, chip_on, cells_of, constant_number, numbered_part, numbered_port}
+use Rattle.ca_draft.specs.OnWires.{pins_of, output_wire, next_own, wired_of, header_of, open_counts}
+use Rattle.ca_draft.specs.OnWires.{AreOnWires, constant_wires, touched_of, wiring_on, AreMarks, IsNamedBy}
+use Rattle.ca_draft.specs.OnWires.{IsNumbering, IsNetlistOnWires, chip_on, cells_of, constant_number}
+use Rattle.ca_draft.specs.OnWires.{numbered_part, numbered_port}
 use Rattle.ca_draft.specs.declared.draft.OnWires.{OnWires}
 use Rattle.ca_draft.proofs.OutputLemmas.{outputs_cons, open_cons}
 use Rattle.ca_draft.proofs.HeaderLemmas.{header_within}
-use Rattle.ca_draft.proofs.ConstantLemmas.{in_all, value_at, sides_of, constant_at, joined_named, named_joined}
+use Rattle.ca_draft.proofs.ConstantLemmas.{in_all, value_at, sides_of, constant_at, joined_named}
+use Rattle.ca_draft.proofs.ConstantLemmas.{named_joined}
 use Rattle.ca_draft.proofs.LinkLemmas.{named_pins, link, drafted}
 
 -- what holds of all of two lists, holds of each

@@ -1,8 +1,10 @@
 -- The declared bits, and the port bits among them.
-use Rattle.std.proofs.Common.{◌≡◌, ℕ, zero, suc, ◌+◌, ◌-◌, ◌<◌, ◌≤◌, List, [], ◌∷◌, ◌++◌, length, map, refl, sym, ◌∙◌, ap, ap₂, subst, arith, get_or}
+use Rattle.std.proofs.Common.{◌≡◌, ℕ, zero, suc, ◌+◌, ◌-◌, ◌<◌, ◌≤◌, List, [], ◌∷◌, ◌++◌, length, map, refl}
+use Rattle.std.proofs.Common.{sym, ◌∙◌, ap, ap₂, subst, arith, get_or}
 use Rattle.std.specs.Prelude.{Option, Some, None, slice_get, take}
 use Rattle.std.specs.List.{All}
-use Rattle.std.proofs.lemmas.List.{append_assoc, append-nil, map-append, length_push, get_or_push, get_or_append_left}
+use Rattle.std.proofs.lemmas.List.{append_assoc, append-nil, map-append, length_push, get_or_push}
+use Rattle.std.proofs.lemmas.List.{get_or_append_left}
 use native.Mathlib.Decide.{ℕ_discrete}
 use Rattle.std.proofs.lemmas.Grind.{flat_map-append}
 use Rattle.std.proofs.lemmas.List.Elements.{All-append, All-nil, All-cons}
@@ -10,7 +12,8 @@ use Rattle.std.proofs.lemmas.Option.{slice_get_within}
 use Rattle.ca_verilog.specs.declared.raw.RawBus.{RawBus}
 use Rattle.ca_verilog.specs.IsNetlist.{range_width, bit_count, IsPort}
 use Rattle.ca_wired.specs.declared.parts.PortBit.{PortBit}
-use Rattle.ca_chip.specs.Wiring.{bit_name, is_input_port, HeaderBit, header_bits_from, header_bits_of, header_bits}
+use Rattle.ca_chip.specs.Wiring.{bit_name, is_input_port, HeaderBit, header_bits_from, header_bits_of}
+use Rattle.ca_chip.specs.Wiring.{header_bits}
 use Rattle.ca_draft.specs.OnWires.{header_of, AreFirsts}
 use Rattle.ca_wired.proofs.EndLemmas.{take_more}
 

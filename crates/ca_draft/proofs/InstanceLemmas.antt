@@ -1,6 +1,8 @@
 -- Instances on their wires, one after another.
-use Rattle.std.proofs.Common.{◌≡◌, ℕ, ◌+◌, ◌<◌, ◌≤◌, ◌^◌, List, [], ◌∷◌, ◌++◌, Bool, true, false, length, map, refl, sym, ◌∙◌, ap, ap₂, subst, arith}
-use Rattle.std.specs.Prelude.{Option, Some, None, IsNone, slice_get, drop, option_to_list, cond, if◌then◌else◌, ◌↔◌}
+use Rattle.std.proofs.Common.{◌≡◌, ℕ, ◌+◌, ◌<◌, ◌≤◌, ◌^◌, List, [], ◌∷◌, ◌++◌, Bool, true, false, length, map}
+use Rattle.std.proofs.Common.{refl, sym, ◌∙◌, ap, ap₂, subst, arith}
+use Rattle.std.specs.Prelude.{Option, Some, None, IsNone, slice_get, drop, option_to_list, cond}
+use Rattle.std.specs.Prelude.{if◌then◌else◌, ◌↔◌}
 use Rattle.std.proofs.lemmas.List.{append_assoc, map-append, length-map, length_push}
 use Rattle.std.proofs.lemmas.List.Sums.{sum_by-cons}
 use Rattle.std.proofs.lemmas.List.Elements.{All-push, All-nil}
@@ -20,8 +22,11 @@ use Rattle.ca_wired.specs.Linked.{IsGateOf, no_cell, input_nets, output_nets}
 use Rattle.ca_chip.specs.declared.scan_row.ScanRow.{ScanRow}
 use Rattle.ca_chip.specs.Linking.{HasMeaning, data_name}
 use Rattle.ca_chip.specs.Wiring as wiring
-use Rattle.ca_chip.specs.Wiring.{Meaning, ScanCell, bit_on, names_with, input_wire, input_wires, output_wires, input_names, output_names, open_count, meaning_of, entry_meaning, WiredPart, wired_part, wired_parts}
-use Rattle.ca_draft.specs.OnWires.{cells_of, IsCellAt, IsOnWires, IsPartOnWires, wired_of, open_counts, IsKept, AreOnWires, next_own}
+use Rattle.ca_chip.specs.Wiring.{Meaning, ScanCell, bit_on, names_with, input_wire, input_wires, output_wires}
+use Rattle.ca_chip.specs.Wiring.{input_names, output_names, open_count, meaning_of, entry_meaning, WiredPart}
+use Rattle.ca_chip.specs.Wiring.{wired_part, wired_parts}
+use Rattle.ca_draft.specs.OnWires.{cells_of, IsCellAt, IsOnWires, IsPartOnWires, wired_of, open_counts}
+use Rattle.ca_draft.specs.OnWires.{IsKept, AreOnWires, next_own}
 use Rattle.ca_wired.proofs.EndLemmas.{drop_at}
 use Rattle.ca_draft.proofs.OutputLemmas.{outputs_cons}
 

@@ -1,10 +1,13 @@
 -- The nets of a netlist on its wires are those of its wiring.
-use Rattle.std.proofs.Common.{◌≡◌, ℕ, zero, suc, ◌+◌, ◌<◌, ◌^◌, List, [], ◌∷◌, ◌++◌, Bool, true, false, length, map, inl, inr, refl, sym, ◌∙◌, ap, subst, arith, get_or, true≢false}
-use Rattle.std.specs.Prelude.{◌⊎◌, ◌↔◌, Option, Some, None, IsNone, IsTrue, slice_get, option_to_list, if◌then◌else◌}
+use Rattle.std.proofs.Common.{◌≡◌, ℕ, zero, suc, ◌+◌, ◌<◌, ◌^◌, List, [], ◌∷◌, ◌++◌, Bool, true, false}
+use Rattle.std.proofs.Common.{length, map, inl, inr, refl, sym, ◌∙◌, ap, subst, arith, get_or, true≢false}
+use Rattle.std.specs.Prelude.{◌⊎◌, ◌↔◌, Option, Some, None, IsNone, IsTrue, slice_get, option_to_list}
+use Rattle.std.specs.Prelude.{if◌then◌else◌}
 use Rattle.std.specs.List.{Contains, All, flat_map}
 use Rattle.std.proofs.lemmas.List.{length-map}
 use Rattle.std.proofs.lemmas.List.Folds.{flat_map-map}
-use Rattle.std.proofs.lemmas.List.Elements.{All-map, Contains-get_or, Contains-append_left, Contains-append_right, Contains-append_cases}
+use Rattle.std.proofs.lemmas.List.Elements.{All-map, Contains-get_or, Contains-append_left}
+use Rattle.std.proofs.lemmas.List.Elements.{Contains-append_right, Contains-append_cases}
 use Rattle.std.proofs.lemmas.Option.{none-some, slice_get_within, slice_get-get_or, get_or_from_slice_get}
 use Rattle.ca_cell.specs.declared.raw.RawCell.{RawCell}
 use Rattle.ca_cell.specs.Library.{Named}
@@ -17,8 +20,10 @@ use Rattle.ca_wired.specs.Drivers.{IsDrafted}
 use Rattle.ca_chip.specs.declared.scan_row.ScanRow.{ScanRow}
 use Rattle.ca_chip.specs.declared.joined.Join.{Join}
 use Rattle.ca_chip.specs.Joined.{AreJoined, Same, IsEarliest}
-use Rattle.ca_chip.specs.Wiring.{Meaning, Unknown, Broken, Library, ScanCell, meaning_of, WiredPart, HeaderBit, Wiring, out_bits}
-use Rattle.ca_chip.specs.Nets.{Driving, ConstantBit, OutputPin, DrivesWire, Drives, IsNamed, IsLoaded, IsNet, AreNets, IsNetOf, AreNetsOf, constant_wire}
+use Rattle.ca_chip.specs.Wiring.{Meaning, Unknown, Broken, Library, ScanCell, meaning_of, WiredPart}
+use Rattle.ca_chip.specs.Wiring.{HeaderBit, Wiring, out_bits}
+use Rattle.ca_chip.specs.Nets.{Driving, ConstantBit, OutputPin, DrivesWire, Drives, IsNamed, IsLoaded, IsNet}
+use Rattle.ca_chip.specs.Nets.{AreNets, IsNetOf, AreNetsOf, constant_wire}
 use Rattle.ca_chip.specs.Nets as nets
 use Rattle.ca_chip.specs.Linking.{HasMeaning, IsPartOf, IsPortOf, IsLinkOf}
 use Rattle.ca_chip.specs.Numbers.{WireMarks, NetNumbers, earliest_of, IsUsed, TellsUsed}
@@ -28,7 +33,9 @@ use Rattle.ca_wired.proofs.FeedingLemmas.{item_of}
 use Rattle.ca_chip.proofs.ForestLemmas.{joined_trans, joined_sym}
 use Rattle.ca_chip.proofs.NetLemmas.{nets_are, net_is}
 use Rattle.ca_chip.proofs.SameLemmas.{joined_net, net_joined}
-use Rattle.ca_draft.specs.OnWires.{cells_of, pins_of, wired_of, header_of, IsKept, number_of, numbered, numbered_option, numbered_part, numbered_port, constant_number, constant_wires, touched_of, wiring_on, chip_on, IsNumbering}
+use Rattle.ca_draft.specs.OnWires.{cells_of, pins_of, wired_of, header_of, IsKept, number_of, numbered}
+use Rattle.ca_draft.specs.OnWires.{numbered_option, numbered_part, numbered_port, constant_number}
+use Rattle.ca_draft.specs.OnWires.{constant_wires, touched_of, wiring_on, chip_on, IsNumbering}
 use Rattle.ca_draft.proofs.ConstantLemmas.{in_part, in_all, value_of, value_at}
 
 -- an instance's pins, once their wires are numbered

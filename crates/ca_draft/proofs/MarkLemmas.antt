@@ -1,8 +1,11 @@
 -- Marks, one more; and parts of a list that are changed one by one.
-use Rattle.std.proofs.Common.{◌≡◌, ℕ, zero, suc, ◌+◌, ◌<◌, ◌≤◌, List, [], ◌∷◌, ◌++◌, Bool, true, false, length, map, inl, inr, refl, sym, ◌∙◌, ap, ap₂, subst, arith, get_or, set, true≢false, get_or-set_same, get_or-set_other}
+use Rattle.std.proofs.Common.{◌≡◌, ℕ, zero, suc, ◌+◌, ◌<◌, ◌≤◌, List, [], ◌∷◌, ◌++◌, Bool, true, false}
+use Rattle.std.proofs.Common.{length, map, inl, inr, refl, sym, ◌∙◌, ap, ap₂, subst, arith, get_or, set}
+use Rattle.std.proofs.Common.{true≢false, get_or-set_same, get_or-set_other}
 use Rattle.std.specs.Prelude.{Some, slice_get, take, drop, replicate}
 use Rattle.std.specs.List.{All}
-use Rattle.std.proofs.lemmas.List.{map-append, length-set, length-replicate, get_or-replicate, take_more_set, take_all, drop-set-lt, drop-drop}
+use Rattle.std.proofs.lemmas.List.{map-append, length-set, length-replicate, get_or-replicate, take_more_set}
+use Rattle.std.proofs.lemmas.List.{take_all, drop-set-lt, drop-drop}
 use Rattle.std.proofs.lemmas.List.Elements.{Contains-append_left, Contains-push, Contains-push_cases}
 use Rattle.std.proofs.lemmas.Option.{slice_get_within, slice_get-get_or, get_or_from_slice_get}
 use native.Mathlib.Decide.{ℕ_discrete}

@@ -1,6 +1,8 @@
 -- Instances and port bits before the nets are numbered: where a net will stand, there stands the number of
 -- the wire. Only the proofs of the code cite this.
-use Rattle.std.specs.Prelude.{ℕ, ◌+◌, ◌≡◌, ◌<◌, ◌^◌, ◌↔◌, ◌⊎◌, ◌||◌, ◌&&◌, Bool, IsTrue, true, false, List, [], ◌∷◌, ◌++◌, map, length, drop, take, Option, Some, None, slice_get, slice_index, slice_index_or, nat_lt, if◌then◌else◌}
+use Rattle.std.specs.Prelude.{ℕ, ◌+◌, ◌≡◌, ◌<◌, ◌^◌, ◌↔◌, ◌⊎◌, ◌||◌, ◌&&◌, Bool, IsTrue, true, false, List}
+use Rattle.std.specs.Prelude.{[], ◌∷◌, ◌++◌, map, length, drop, take, Option, Some, None, slice_get}
+use Rattle.std.specs.Prelude.{slice_index, slice_index_or, nat_lt, if◌then◌else◌}
 use Rattle.std.specs.List.{All, Contains, list_any, flat_map}
 use mathlib.Core.Bool.{beq}
 use Rattle.ca_cell.specs.declared.raw.RawCell.{RawCell}
@@ -19,7 +21,9 @@ use Rattle.ca_wired.specs.declared.parts.Part.{Part}
 use Rattle.ca_wired.specs.declared.parts.PortBit.{PortBit}
 use Rattle.ca_wired.specs.Linked.{Chip, input_nets, output_nets, IsBody}
 use Rattle.ca_chip.specs.declared.scan_row.ScanRow.{ScanRow}
-use Rattle.ca_chip.specs.Wiring.{Meaning, meaning_of, input_names, output_names, wire_of, input_wires, output_wires, open_count, WiredPart, HeaderBit, Wiring, wired_parts, joins_of, wiring_of}
+use Rattle.ca_chip.specs.Wiring.{Meaning, meaning_of, input_names, output_names, wire_of, input_wires}
+use Rattle.ca_chip.specs.Wiring.{output_wires, open_count, WiredPart, HeaderBit, Wiring, wired_parts}
+use Rattle.ca_chip.specs.Wiring.{joins_of, wiring_of}
 use Rattle.ca_chip.specs.Nets.{IsNamed}
 use Rattle.ca_chip.specs.declared.joined.Join.{Join}
 use Rattle.ca_chip.specs.Joined.{AreEarliest}
@@ -91,8 +95,8 @@ abbrev pub AreSoundAll : List Named → List ScanRow → List RawInstance → Ty
 AreSoundAll library scan instances = (u : ℕ) (instance : RawInstance) → slice_get instances u ≡ Some instance
     → IsSound (meaning_of library scan instance.cell) instance.pins
 
--- what each part of a draft keeps: its body is of the cell that the name of its cell means, and so is its data
--- pin
+-- what each part of a draft keeps: its body is of the cell that the name of its cell means, and so is its
+-- data pin
 pub record IsKept (library : List Named) (scan : List ScanRow) (part : Part) : Type 0 where
   pub data_pin : part.«data» ≡ data_name (meaning_of library scan part.cell)
   pub meant : HasMeaning (cells_of library) (meaning_of library scan part.cell) part.body

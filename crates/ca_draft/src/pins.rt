@@ -1,10 +1,12 @@
 //! The pins of an instance on their wires.
 
-ghost use Rattle.std.specs.Prelude.{◌≡◌, ◌<◌, ◌+◌, ◌++◌, ◌^◌, ◌↔◌, [], ◌∷◌, Some, IsNone, option_to_list, if◌then◌else◌, IfOk, OnOk};
+ghost use Rattle.std.specs.Prelude.{◌≡◌, ◌<◌, ◌+◌, ◌++◌, ◌^◌, ◌↔◌, [], ◌∷◌, Some, IsNone, option_to_list};
+ghost use Rattle.std.specs.Prelude.{if◌then◌else◌, IfOk, OnOk};
 ghost use Rattle.ca_cell.specs.Raw.{is_output};
 ghost use Rattle.ca_wired.specs.declared.parts.Body.TheVariants.{Scan};
 ghost use Rattle.ca_wired.specs.Linked.{input_nets, output_nets};
-ghost use Rattle.ca_chip.specs.Wiring.{ScanCell, bit_on, input_names, input_wires, inverted_name, names_with, open_count, output_names, output_wires};
+ghost use Rattle.ca_chip.specs.Wiring.{ScanCell, bit_on, input_names, input_wires, inverted_name, names_with};
+ghost use Rattle.ca_chip.specs.Wiring.{open_count, output_names, output_wires};
 ghost use Rattle.ca_draft.specs.OnWires.{next_own, output_wire};
 
 use ca_base::NoMemory;

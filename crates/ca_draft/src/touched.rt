@@ -3,7 +3,8 @@
 ghost use Rattle.std.specs.Prelude.{◌≡◌, ◌<◌, ◌+◌, ◌^◌, ◌⊎◌, ◌↔◌, ◌++◌, true, false, IsTrue, map, IfOk, OnOk};
 ghost use Rattle.std.specs.List.{Contains, flat_map, list_any};
 ghost use Rattle.ca_wired.specs.Linked.{input_nets, output_nets};
-ghost use Rattle.ca_draft.specs.OnWires.{IsNamedBy, constant_wires, has_constant, is_constant, pins_of, touched_of};
+ghost use Rattle.ca_draft.specs.OnWires.{IsNamedBy, constant_wires, has_constant, is_constant, pins_of};
+ghost use Rattle.ca_draft.specs.OnWires.{touched_of};
 
 use ca_base::NoMemory;
 use ca_verilog::{RawBit, RawSpan};

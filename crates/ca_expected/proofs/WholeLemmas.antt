@@ -1,5 +1,6 @@
 -- A pair that a search found has all pattern bits of the chip.
-use Rattle.std.proofs.Common.{◌≡◌, ℕ, Bool, not, List, [], ◌∷◌, length, Option, Some, sym, ◌∙◌, ap, subst, arith, get_or}
+use Rattle.std.proofs.Common.{◌≡◌, ℕ, Bool, not, List, [], ◌∷◌, length, Option, Some, sym, ◌∙◌, ap, subst}
+use Rattle.std.proofs.Common.{arith, get_or}
 use Rattle.std.specs.Prelude.{slice_get}
 use Rattle.std.proofs.lemmas.List.{length-map, length-replicate, length-set}
 use Rattle.std.proofs.lemmas.List.Elements.{All-from_get_or}
@@ -9,7 +10,8 @@ use Rattle.ca_net.specs.declared.trit.Trit.TheVariants.{X}
 use Rattle.ca_flat.specs.declared.token.Token.{Token}
 use Rattle.ca_flat.specs.declared.token.Token.TheVariants.{Branch, Leaf}
 use Rattle.ca_flat.specs.Pair.{bit_count}
-use Rattle.ca_flat.specs.Code.{Reading, At, Ended, Rules, Reads, behind, behind_tree, unset_pair, bit_trit, with_bit, code_rules}
+use Rattle.ca_flat.specs.Code.{Reading, At, Ended, Rules, Reads, behind, behind_tree, unset_pair, bit_trit}
+use Rattle.ca_flat.specs.Code.{with_bit, code_rules}
 use Rattle.ca_search.specs.Filled.{filled_bit}
 use Rattle.ca_credit.specs.Defects.{Task}
 use Rattle.ca_credit.specs.Listed.{IsAim}

@@ -6,8 +6,8 @@ use Rattle.ca_flat.specs.Chip.{Chip}
 use Rattle.ca_search.specs.Filled.{trits_of}
 use Rattle.ca_credit.specs.Detection.{IsNetEnd}
 
--- a value for each observed output, under a partial pair: 0 or 1 exactly where every run of the good flat network ends
--- with it there
+-- a value for each observed output, under a partial pair: 0 or 1 exactly where every run of the good flat
+-- network ends with it there
 pub record AreGoodEnds (chip : Chip) (pair values : List Trit) : Type 0 where
   pub count : length values ≡ length chip.outputs
   pub each : (o : ℕ) → o < length chip.outputs

@@ -11,8 +11,8 @@ use ca_net::Trit;
 use ca_pair::Pair;
 use std::alloc::Global;
 
-/// For each listed pair a value for each observed output: 0 or 1 where every run of the good chip ends with it, else
-/// X.
+/// For each listed pair a value for each observed output: 0 or 1 where every run of the good chip ends with
+/// it, else X.
 pub type Expected = List<List<Trit>>;
 
 // The values at the observed outputs under the bits that are set.
@@ -27,8 +27,8 @@ fn good_ends<S: Simulator>(alloc: Global, sim: &S) -> Result<List<Trit>, NoMemor
     Ok(values)
 }
 
-/// The values at the observed outputs under each pair. The simulator holds the bits of the last pair afterwards, and its
-/// aim stays.
+/// The values at the observed outputs under each pair. The simulator holds the bits of the last pair
+/// afterwards, and its aim stays.
 pub fn expected<S: Simulator>(
     alloc: Global,
     sim: &mut S,

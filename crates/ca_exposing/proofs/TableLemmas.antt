@@ -1,5 +1,6 @@
 -- The rows of the defects of a cell.
-use Rattle.std.proofs.Common.{◌≡◌, ℕ, ◌+◌, ◌^◌, ◌<◌, ◌≤◌, List, [], ◌∷◌, ◌++◌, Bool, true, false, length, length-append, inl, inr, refl, sym, ◌∙◌, ap, subst, arith, get_or}
+use Rattle.std.proofs.Common.{◌≡◌, ℕ, ◌+◌, ◌^◌, ◌<◌, ◌≤◌, List, [], ◌∷◌, ◌++◌, Bool, true, false, length}
+use Rattle.std.proofs.Common.{length-append, inl, inr, refl, sym, ◌∙◌, ap, subst, arith, get_or}
 use Rattle.std.specs.Prelude.{◌↔◌, IsTrue, not, slice_get, Some}
 use Rattle.std.specs.List.{Contains}
 use Rattle.std.proofs.lemmas.List.{length-map, get_or_append_left, get_or-append-add}

@@ -1,7 +1,10 @@
 -- The exit status and the line of a fault.
 use Rattle.std.specs.Prelude.{ℕ, List, ◌++◌, codes, decimal}
 use Rattle.ca_fault.specs.declared.fault.Fault.{Fault}
-use Rattle.ca_fault.specs.declared.fault.Fault.TheVariants.{BadWords, Cells, Netlist, Scan, Chip, Chain, NoCell, Cell, BadVector, NoInstance, NoDefect, Order, TooLong, TooManyPairs, Limit, StoreFailed, SinkFailed, NoMemory}
+use Rattle.ca_fault.specs.declared.fault.Fault.TheVariants.{BadWords, Cells, Netlist, Scan, Chip, Chain}
+use Rattle.ca_fault.specs.declared.fault.Fault.TheVariants.{NoCell, Cell, BadVector, NoInstance, NoDefect}
+use Rattle.ca_fault.specs.declared.fault.Fault.TheVariants.{Order, TooLong, TooManyPairs, Limit, StoreFailed}
+use Rattle.ca_fault.specs.declared.fault.Fault.TheVariants.{SinkFailed, NoMemory}
 use Rattle.ca_fault.specs.KindText.{kind_text, netlist_text, rule_text, chip_text, limit_text}
 
 -- the exit status that stands for a fault

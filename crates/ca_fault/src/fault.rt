@@ -27,14 +27,15 @@ pub enum Fault {
     Netlist { line: usize, kind: VerilogKind },
     /// The table of scan cells breaks its form. Records are counted from 1, and the header is the first.
     Scan { row: usize },
-    /// The gate netlist breaks a rule of linking, the first of those that it breaks. A rule that an instance's
-    /// cell breaks is told as `Cell`, a limit as `Limit`, and want of memory as `NoMemory`.
+    /// The gate netlist breaks a rule of linking, the first of those that it breaks. A rule that an
+    /// instance's cell breaks is told as `Cell`, a limit as `Limit`, and want of memory as `NoMemory`.
     Chip(ChipFault),
     /// The scan instance is on no whole chain, the first of those. Its name stands as in the netlist.
     Chain { instance: Text },
     /// The cell netlist has no cell of this name.
     NoCell { word: Text },
-    /// The cell breaks a rule of used cells, the first of those that it breaks. Its name stands in upper case.
+    /// The cell breaks a rule of used cells, the first of those that it breaks. Its name stands in upper
+    /// case.
     Cell { cell: Text, rule: CellRule },
     /// A vector has more or fewer letters than the cell has input pins.
     BadVector { word: Text },
@@ -47,8 +48,8 @@ pub enum Fault {
     Order { line: usize },
     /// A file has more bytes than it may have. So many were taken of it.
     TooLong { name: Text, taken: usize },
-    /// As many pairs are listed as there may be, and one more was found. It stands last. Each has, as its aim,
-    /// the place of the defect for which it was found.
+    /// As many pairs are listed as there may be, and one more was found. It stands last. Each has, as its
+    /// aim, the place of the defect for which it was found.
     TooManyPairs { pairs: Pairs, aims: List<u32> },
     /// There is more of something than there may be.
     Limit { kind: LimitKind, count: usize },
@@ -105,7 +106,8 @@ impl Fault {
         }
     }
 
-    /// Appends the line of the fault. It takes no memory. After `Failed` some of its first bytes were appended.
+    /// Appends the line of the fault. It takes no memory. After `Failed` some of its first bytes were
+    /// appended.
     pub fn print<W: Sink>(&self, err: &mut W) -> Result<(), Failed>
         ensures ok { OnOk result (W.bytes err.new ≡ appended (line_of self.now) (W.bytes err.old)) }
         ensures err { OnErr result

@@ -1,4 +1,5 @@
-//! What commands answer where they don't end well: the faults, their exit statuses, and the line that tells each.
+//! What commands answer where they don't end well: the faults, their exit statuses, and the line that tells
+//! each.
 #![tactic(auto)]
 
 mod fault;

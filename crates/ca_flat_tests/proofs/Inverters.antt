@@ -1,11 +1,14 @@
 -- A chip of one inverter is a chip.
-use Rattle.std.proofs.Common.{◌≡◌, ℕ, zero, suc, ◌+◌, ◌<◌, [], ◌∷◌, length, Some, None, inl, inr, refl, sym, ◌∙◌, ap, subst, arith, get_or}
+use Rattle.std.proofs.Common.{◌≡◌, ℕ, zero, suc, ◌+◌, ◌<◌, [], ◌∷◌, length, Some, None, inl, inr, refl, sym}
+use Rattle.std.proofs.Common.{◌∙◌, ap, subst, arith, get_or}
 use Rattle.std.proofs.lemmas.List.Elements.{All-nil, All-cons}
 use Rattle.ca_net.specs.declared.scale.TheConstants.{OUTPUT_NET}
 use Rattle.ca_net.specs.declared.node.NodeKind.TheVariants.{Input, Storage}
 use Rattle.ca_net.specs.Circuit.{IsStrength}
 use Rattle.ca_cell.specs.declared.raw.RawDevice.{RawDevice}
-use Rattle.ca_cell.specs.declared.rule.CellRule.TheVariants.{NoRail, TooManyDevices, TooManyNodes, TooManyInputs, NoOutput, TooManyOutputs, InputDrivesChannel}
+use Rattle.ca_cell.specs.declared.rule.CellRule.TheVariants.{NoRail, TooManyDevices, TooManyNodes}
+use Rattle.ca_cell.specs.declared.rule.CellRule.TheVariants.{TooManyInputs, NoOutput, TooManyOutputs}
+use Rattle.ca_cell.specs.declared.rule.CellRule.TheVariants.{InputDrivesChannel}
 use Rattle.std.specs.Prelude.{option_and_then, slice_get}
 use Rattle.std.proofs.lemmas.Option.{none-some}
 use Rattle.ca_cell.proofs.CircuitLemmas.{all_but}
@@ -16,7 +19,8 @@ use Rattle.ca_flat.specs.Chip.{IsDefectIn}
 use Rattle.ca_flat.specs.Flat.{inner_before, devices_before, bridge_of, new_nodes, defect_of}
 use Rattle.ca_flat.proofs.Spots.{flat_length}
 use Rattle.ca_flat.proofs.Simulated.{flat_is_split_lem}
-use Rattle.ca_flat_tests.specs.Inverter.{pull_down, pull_up, inverter, inverter_chip, InverterIsChip, open_gate, InverterIsFlat}
+use Rattle.ca_flat_tests.specs.Inverter.{pull_down, pull_up, inverter, inverter_chip, InverterIsChip}
+use Rattle.ca_flat_tests.specs.Inverter.{open_gate, InverterIsFlat}
 
 raw : IsRaw inverter
 raw = record {

@@ -2,7 +2,9 @@
 
 ghost use Rattle.std.specs.Prelude.{◌≡◌, ◌<◌, ◌++◌, ◌∷◌, [], length, flat_map, codes, decimal, IfOk, OnOk};
 ghost use Rattle.std.specs.List.{All};
-ghost use Rattle.ca_flat_text.specs.FlatText.{spaced, line_of, numbered, kind_words, node_line, lines_from, size_words, transistor_words, bridge_words, device_line, flat_text, HasLine};
+ghost use Rattle.ca_flat_text.specs.FlatText.{spaced, line_of, numbered, kind_words, node_line, lines_from};
+ghost use Rattle.ca_flat_text.specs.FlatText.{size_words, transistor_words, bridge_words, device_line};
+ghost use Rattle.ca_flat_text.specs.FlatText.{flat_text, HasLine};
 
 use ca_base::NoMemory;
 use ca_lex::Text;
@@ -138,8 +140,8 @@ fn push_devices(text: &mut Text, net: &FlatNet) -> Result<(), NoMemory>
     Ok(())
 }
 
-/// The text of a network: a comment for each node, and a subcircuit with a card for each device, named by their
-/// numbers. It is for people and other tools; nothing here reads it.
+/// The text of a network: a comment for each node, and a subcircuit with a card for each device, named by
+/// their numbers. It is for people and other tools; nothing here reads it.
 pub fn write_flat(alloc: Global, net: &FlatNet) -> Result<Text, NoMemory>
     requires { All HasLine net.now.devices }
     ensures { IfOk result (λ text. text ≡ flat_text net.now) }

@@ -1,5 +1,6 @@
 -- The kinds of nets, by what drives them.
-use Rattle.std.proofs.Common.{◌≡◌, ℕ, zero, suc, ◌+◌, ◌<◌, List, [], ◌∷◌, ◌++◌, length, Bool, true, false, refl, sym, ◌∙◌, ap, subst, arith, get_or}
+use Rattle.std.proofs.Common.{◌≡◌, ℕ, zero, suc, ◌+◌, ◌<◌, List, [], ◌∷◌, ◌++◌, length, Bool, true, false}
+use Rattle.std.proofs.Common.{refl, sym, ◌∙◌, ap, subst, arith, get_or}
 use Rattle.std.specs.Prelude.{slice_get, if◌then◌else◌, IsSomeAnd, Option, Some, None, option_to_list}
 use Rattle.std.specs.List.{Contains, list_any}
 use Rattle.std.proofs.lemmas.List.Folds.{Any-from_list_any, list_any-from_Any}
@@ -10,7 +11,8 @@ use Rattle.ca_wired.specs.declared.parts.Body.{Body}
 use Rattle.ca_wired.specs.declared.parts.Part.{Part}
 use Rattle.ca_wired.specs.declared.parts.Source.TheVariants.{FromPort, FromConstant, FromPin}
 use Rattle.ca_wired.specs.declared.parts.Body.TheVariants.{Gate, Scan}
-use Rattle.ca_wired.specs.Linked.{Chip, has, path_nets, output_nets, is_scan_path, Drives, IsGate, IsLibrary, IsWired}
+use Rattle.ca_wired.specs.Linked.{Chip, has, path_nets, output_nets, is_scan_path, Drives, IsGate, IsLibrary}
+use Rattle.ca_wired.specs.Linked.{IsWired}
 use Rattle.ca_wired.proofs.OrderLemmas.{contained_at}
 use Rattle.ca_wired.proofs.PartLemmas.{contains_has, has_contains}
 use Rattle.ca_core.specs.Core.{stored_nets, kind_of}

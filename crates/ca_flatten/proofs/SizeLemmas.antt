@@ -1,5 +1,6 @@
 -- The sizes of flat networks, and that the flat nodes of instances are nodes of it.
-use Rattle.std.proofs.Common.{◌≡◌, ℕ, zero, suc, map, length-append, ◌+◌, ◌^◌, ◌<◌, ◌≤◌, List, length, inl, inr, refl, sym, ◌∙◌, ap, arith}
+use Rattle.std.proofs.Common.{◌≡◌, ℕ, zero, suc, map, length-append, ◌+◌, ◌^◌, ◌<◌, ◌≤◌, List, length, inl}
+use Rattle.std.proofs.Common.{inr, refl, sym, ◌∙◌, ap, arith}
 use Rattle.std.specs.Prelude.{Option, Some, None, slice_get, option_to_list}
 use Rattle.std.specs.List.{Contains}
 use Rattle.std.proofs.lemmas.List.{length-map}
@@ -12,10 +13,12 @@ use Rattle.ca_wired.specs.Linked.{Chip, IsWired}
 use Rattle.ca_flat.specs.declared.chip_defect.ChipDefect.{ChipDefect}
 use Rattle.ca_flat.specs.Chip as flat
 use Rattle.ca_flat.specs.Chip.{inputs_at, outputs_at, circuit_at, count_of, IsChipDefect}
-use Rattle.ca_flat.specs.Flat.{inner_before, inner_count, place, circuit_in, old_devices, defect_at, devices_of, devices_before, bridge_of, new_nodes, defect_of}
+use Rattle.ca_flat.specs.Flat.{inner_before, inner_count, place, circuit_in, old_devices, defect_at}
+use Rattle.ca_flat.specs.Flat.{devices_of, devices_before, bridge_of, new_nodes, defect_of}
 use Rattle.ca_parts.specs.Part.{moved}
 use Rattle.ca_defect.specs.declared.defect.Defect.{Defect}
-use Rattle.ca_defect.specs.declared.defect.Defect.TheVariants.{OpenDrain, OpenSource, OpenGate, OpenPin, Short}
+use Rattle.ca_defect.specs.declared.defect.Defect.TheVariants.{OpenDrain, OpenSource, OpenGate, OpenPin}
+use Rattle.ca_defect.specs.declared.defect.Defect.TheVariants.{Short}
 use Rattle.ca_defect.specs.Defect.{new_device}
 use Rattle.ca_defect.proofs.CircuitWithLemmas.{length-changed_from}
 use Rattle.ca_flat.proofs.Places.{inner_apart, inner_step}

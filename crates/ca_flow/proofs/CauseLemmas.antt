@@ -1,5 +1,6 @@
 -- How the causes of a command follow from those of its stages.
-use Rattle.std.proofs.Common.{ℕ, ◌≡◌, ◌≢◌, ◌⊎◌, ◌∙◌, inl, inr, sym, ap, arith, List, Option, Some, None, Result, Ok, Err, Bool, true, false, subst}
+use Rattle.std.proofs.Common.{ℕ, ◌≡◌, ◌≢◌, ◌⊎◌, ◌∙◌, inl, inr, sym, ap, arith, List, Option, Some, None}
+use Rattle.std.proofs.Common.{Result, Ok, Err, Bool, true, false, subst}
 use Rattle.std.proofs.lemmas.Option.{same_Some}
 use Rattle.std.specs.Prelude.{Vec, if◌then◌else◌, IfOk}
 use Rattle.std.specs.declared.alloc.Global.{Global}
@@ -9,8 +10,10 @@ use Rattle.ca_matrix.specs.Matrix.{Entries}
 use Rattle.ca_fault.specs.declared.fault.Fault.{Fault}
 use Rattle.ca_fault.specs.declared.fault.Fault.TheVariants.{StoreFailed, SinkFailed, NoMemory}
 use Rattle.ca_load.specs.Causes.{IsScanCause}
-use Rattle.ca_words.specs.Words.{cells_word, cell_word, vector_word, first_word, last_word, defect_word, scan_word, dash, file_called}
-use Rattle.ca_words.specs.Words.{chip_files, instance_word, chip_defect_word, flat_out_word, chip_first_word, chip_last_word}
+use Rattle.ca_words.specs.Words.{cells_word, cell_word, vector_word, first_word, last_word, defect_word}
+use Rattle.ca_words.specs.Words.{scan_word, dash, file_called}
+use Rattle.ca_words.specs.Words.{chip_files, instance_word, chip_defect_word, flat_out_word, chip_first_word}
+use Rattle.ca_words.specs.Words.{chip_last_word}
 use Rattle.ca_words.specs.Words.{netlist_word, stil_word, report_word, order_word}
 use Rattle.ca_words.specs.Words.{IsOtherFile, IsMatrix, IsFlatten, IsAtpg, HasOut}
 use Rattle.ca_on_cell.specs.Cells.{OfCell}
@@ -20,7 +23,8 @@ use Rattle.ca_scan.specs.ChainFault.{AreAllChains}
 use Rattle.ca_load.specs.declared.loading.FileNames.{FileNames}
 use Rattle.ca_load.specs.Texts.{InputFiles, names_of}
 use Rattle.ca_load.specs.Causes.{IsLoadCause}
-use Rattle.ca_flow.specs.declared.finished.Done.TheVariants.{Defects, Matrix, Check, Flatten, Simulate, Atpg, Replay, Make}
+use Rattle.ca_flow.specs.declared.finished.Done.TheVariants.{Defects, Matrix, Check, Flatten, Simulate, Atpg}
+use Rattle.ca_flow.specs.declared.finished.Done.TheVariants.{Replay, Make}
 use Rattle.ca_simulate.specs.declared.simulation.OutputEnds.{OutputEnds}
 use Rattle.ca_net.specs.Circuit.{Circuit}
 use Rattle.ca_words.specs.declared.words.CellWords.{CellWords}
@@ -40,11 +44,13 @@ use Rattle.ca_atpg.specs.Atpg.{IsStil, report_of}
 use Rattle.ca_flow.specs.Work.{IsOutFile, HasFiles}
 use Rattle.ca_words.specs.declared.words.Command.{Command}
 use Rattle.ca_words.specs.declared.words.Command.TheVariants as command
-use Rattle.ca_words.specs.Command.{IsSpelledDefects, IsSpelledMatrix, IsSpelledCheck, IsSpelledFlatten, IsSpelledSimulate, IsSpelledAtpg, IsSpelledReplay}
+use Rattle.ca_words.specs.Command.{IsSpelledDefects, IsSpelledMatrix, IsSpelledCheck, IsSpelledFlatten}
+use Rattle.ca_words.specs.Command.{IsSpelledSimulate, IsSpelledAtpg, IsSpelledReplay}
 use Rattle.ca_words.specs.Command.{IsSpelledMake, IsSpelled, IsWhole}
 use Rattle.ca_on_chip.specs.declared.making.TheConstants.{MAKE_BUDGET}
 use Rattle.ca_on_chip.specs.Making.{IsMadeChip, IsMakeStage}
-use Rattle.ca_on_chip.specs.OnChip.{IsChipOfFiles, IsFlatOf, AreEndsOf, IsFlatCause, IsEndsCause, IsTestsCause, IsPairsFault}
+use Rattle.ca_on_chip.specs.OnChip.{IsChipOfFiles, IsFlatOf, AreEndsOf, IsFlatCause, IsEndsCause}
+use Rattle.ca_on_chip.specs.OnChip.{IsTestsCause, IsPairsFault}
 use Rattle.ca_on_cell.specs.Defects.{AreDefectNames, IsSoundMatrix}
 use Rattle.ca_flow.specs.Ends.{IsAsked}
 use Rattle.ca_on_cell.specs.Causes.{IsCellCause, IsValueCause}

@@ -1,5 +1,6 @@
 -- A command that can be answered is refused only for want of memory, where no call failed.
-use Rattle.std.proofs.Common.{ℕ, ◌≡◌, ◌≤◌, ◌<◌, ◌⊎◌, ◌∙◌, inl, inr, refl, sym, ap, subst, List, length, Option, Some, None, Err, arith, true≢false}
+use Rattle.std.proofs.Common.{ℕ, ◌≡◌, ◌≤◌, ◌<◌, ◌⊎◌, ◌∙◌, inl, inr, refl, sym, ap, subst, List, length}
+use Rattle.std.proofs.Common.{Option, Some, None, Err, arith, true≢false}
 use Rattle.std.proofs.lemmas.Option.{same_Some}
 use Rattle.std.specs.Prelude.{IfSome, IsSome, IsNone, IsSomeAnd}
 use Rattle.ca_store.specs.Store.{Files, Rose, MayHave}
@@ -20,7 +21,9 @@ use Rattle.ca_wired.specs.Linked.{Chip}
 use Rattle.ca_asked.specs.Asked.{FitsInputs, IsDefectCause, IsVectorsCause}
 use Rattle.ca_fault.specs.declared.fault.LimitKind.TheVariants as limit
 use Rattle.ca_fault.specs.declared.fault.Fault.{Fault}
-use Rattle.ca_fault.specs.declared.fault.Fault.TheVariants.{BadWords, Cells, NoCell, Cell, BadVector, NoInstance, NoDefect, TooLong, Limit, StoreFailed, SinkFailed, NoMemory}
+use Rattle.ca_fault.specs.declared.fault.Fault.TheVariants.{BadWords, Cells, NoCell, Cell, BadVector}
+use Rattle.ca_fault.specs.declared.fault.Fault.TheVariants.{NoInstance, NoDefect, TooLong, Limit, StoreFailed}
+use Rattle.ca_fault.specs.declared.fault.Fault.TheVariants.{SinkFailed, NoMemory}
 use Rattle.ca_fault.specs.declared.fault.Fault.TheVariants.{Order}
 use Rattle.ca_flow.specs.declared.finished.Finished.{Finished}
 use Rattle.ca_flow.specs.Finished.{IsAnswer, status_told}
@@ -34,11 +37,14 @@ use Rattle.ca_on_chip.specs.declared.replays.TheConstants.{MAX_ORDER}
 use Rattle.ca_on_chip.specs.Replay.{HasFaultyLine, HasRun, IsOrderCause}
 use Rattle.ca_on_chip.specs.Making.{IsMakeStage}
 use Rattle.ca_simulate.proofs.RunLemmas.{read_or_faulty}
-use Rattle.ca_flow.specs.Complete.{FitsCell, FitsFile, FitsDefect, FitsSimulate, HasEvents, FitsReplay, FitsChip}
+use Rattle.ca_flow.specs.Complete.{FitsCell, FitsFile, FitsDefect, FitsSimulate, HasEvents, FitsReplay}
+use Rattle.ca_flow.specs.Complete.{FitsChip}
 use Rattle.ca_flow.specs.Complete.{IsAnswerable, HasTooManyPairs, Completes}
 use Rattle.ca_words.proofs.WordLemmas.{no_chip, no_asking_cell, no_asking_chip}
-use Rattle.ca_flow.specs.Fault.{Outside, IsWordsCause, IsWriteCause, IsPrintCause, IsOwnCause, IsWorkCause, IsCause}
-use Rattle.ca_on_cell.specs.Causes.{IsNameCause, IsFirstUnfit, IsPairCause, IsVectorCause, IsCellCause, IsValueCause}
+use Rattle.ca_flow.specs.Fault.{Outside, IsWordsCause, IsWriteCause, IsPrintCause, IsOwnCause, IsWorkCause}
+use Rattle.ca_flow.specs.Fault.{IsCause}
+use Rattle.ca_on_cell.specs.Causes.{IsNameCause, IsFirstUnfit, IsPairCause, IsVectorCause, IsCellCause}
+use Rattle.ca_on_cell.specs.Causes.{IsValueCause}
 
 -- the file and the cell that the words name
 record HasSeen (words : List (List ℕ)) (files : Option Files) : Type 0 where
@@ -291,8 +297,8 @@ module _ (words : List (List ℕ)) (files : Option Files) (told : Files) (are : 
       no_simulation found.chip fault replay.pair found.holds)
   no_own before after fault (inr (inr (inr (is, inr order)))) = inl (no_order is before after fault order)
 
-  -- work on a chip that the files give, and that the words fit, is refused where the store failed, for want of
-  -- memory, or where `atpg` found too many pairs
+  -- work on a chip that the files give, and that the words fit, is refused where the store failed, for want
+  -- of memory, or where `atpg` found too many pairs
   pub at_chip : (before after : ℕ) (fault : Fault) → IsWorkCause words files before after fault
       → IsOutsideFault fault before after ⊎ (GeneratesTests words × IsPairsFault fault)
   at_chip before after fault (inl (is, cause)) = absurd (no_chip words (inl is) fits.is)

@@ -1,5 +1,6 @@
 -- How a command ends, from how its work, its writing and its printing do.
-use Rattle.std.proofs.Common.{ℕ, ◌≤◌, ◌≡◌, ◌≢◌, ◌⊎◌, ◌∙◌, inl, inr, refl, sym, ap, subst, List, Option, Some, None, true≢false, arith, is_some}
+use Rattle.std.proofs.Common.{ℕ, ◌≤◌, ◌≡◌, ◌≢◌, ◌⊎◌, ◌∙◌, inl, inr, refl, sym, ap, subst, List, Option, Some}
+use Rattle.std.proofs.Common.{None, true≢false, arith, is_some}
 use Rattle.std.proofs.lemmas.Option.{same_Some}
 use Rattle.std.specs.Prelude.{IfSome, IsSome, IsNone, IsSomeAnd}
 use Rattle.std.specs.Option.{ForSome}
@@ -8,19 +9,25 @@ use Rattle.ca_store.specs.Writing.{ChangesOnly, MayWrite}
 use Rattle.ca_flat_text.specs.FlatText.{flat_text}
 use Rattle.ca_matrix.specs.Text.{text_of}
 use Rattle.ca_fault.specs.declared.fault.Fault.{Fault}
-use Rattle.ca_fault.specs.declared.fault.Fault.TheVariants.{BadWords, Cells, Netlist, Scan, Chip, Chain, NoCell, Cell, BadVector, NoInstance, NoDefect, Order, TooLong, TooManyPairs, Limit, StoreFailed, SinkFailed, NoMemory}
+use Rattle.ca_fault.specs.declared.fault.Fault.TheVariants.{BadWords, Cells, Netlist, Scan, Chip, Chain}
+use Rattle.ca_fault.specs.declared.fault.Fault.TheVariants.{NoCell, Cell, BadVector, NoInstance, NoDefect}
+use Rattle.ca_fault.specs.declared.fault.Fault.TheVariants.{Order, TooLong, TooManyPairs, Limit, StoreFailed}
+use Rattle.ca_fault.specs.declared.fault.Fault.TheVariants.{SinkFailed, NoMemory}
 use Rattle.ca_flow.specs.declared.finished.Done.{Done}
-use Rattle.ca_flow.specs.declared.finished.Done.TheVariants.{Respond, Pair, Defects, Matrix, Check, Flatten, Simulate, Atpg, Replay, Make, Help, Version}
+use Rattle.ca_flow.specs.declared.finished.Done.TheVariants.{Respond, Pair, Defects, Matrix, Check, Flatten}
+use Rattle.ca_flow.specs.declared.finished.Done.TheVariants.{Simulate, Atpg, Replay, Make, Help, Version}
 use Rattle.ca_flow.specs.declared.finished.Finished.{Finished}
 use Rattle.ca_flow.specs.declared.work.OutFile.{OutFile}
 use Rattle.ca_fault.specs.FaultLine.{status_of}
 use Rattle.ca_words.specs.Words.{out_word, flat_out_word, stil_word, report_word, IsAtpg, HasOut}
-use Rattle.ca_flow.specs.Finished.{status_told, IsTold, IsOutFault, IsAnswer, Prints, LeavesText, LeavesBoth, LeavesFiles, Writes, TellsSinkFault}
+use Rattle.ca_flow.specs.Finished.{status_told, IsTold, IsOutFault, IsAnswer, Prints, LeavesText, LeavesBoth}
+use Rattle.ca_flow.specs.Finished.{LeavesFiles, Writes, TellsSinkFault}
 use Rattle.ca_flow.specs.Fault.{Outside, IsWorkCause, IsWriteCause, IsPrintCause, IsCause}
 use Rattle.ca_load.specs.Files.{TellsStoreFault}
 use Rattle.ca_flow.specs.Ends.{IsAsked}
 use Rattle.ca_atpg.specs.Atpg.{IsStil, report_of}
-use Rattle.ca_flow.specs.Work.{IsOutFile, IsFileWith, HasFiles, HasWritten, FailsToWrite, HaveBeenWritten, FailToWrite, HasPrinted, FailsToPrint, EndsWork}
+use Rattle.ca_flow.specs.Work.{IsOutFile, IsFileWith, HasFiles, HasWritten, FailsToWrite, HaveBeenWritten}
+use Rattle.ca_flow.specs.Work.{FailToWrite, HasPrinted, FailsToPrint, EndsWork}
 use Rattle.ca_flow.proofs.CauseLemmas.{out_is_unread}
 
 -- no fault has the status of work that is whole
@@ -57,7 +64,8 @@ none_told (Some it) P none = absurd (true≢false none)
 none_for : {A : Type 0} (told : Option A) (P : A → Type 0) → IsNone told → ForSome told P
 none_for told P none = λ it is. absurd (true≢false (sym (ap is_some is) ∙ none))
 
--- a command that is refused before its work is whole has its fault's status, tells no work, prints nothing and writes nothing
+-- a command that is refused before its work is whole has its fault's status, tells no work, prints nothing
+-- and writes nothing
 module _ (words : List (List ℕ)) (end : Finished) (fault : Fault) (is : end.fault ≡ Some fault) (status : end.status ≡ status_of fault)
     (none : IsNone end.done) where
   pub refused_answer : fault ≢ SinkFailed → ¬ (IsOutFault words (Some fault)) → IsAnswer words end
@@ -154,7 +162,8 @@ leaves_written words fault old new (Atpg chip chains pairs aims verdicts) file s
     (λ failed. other (report_word words, (inr (inr (asked.0, inr refl)), failed)))
     fits.first_is fits.second_is written
 
--- what is known of a writing that failed: the command writes a file of this name, and a part of its text may stand in it
+-- what is known of a writing that failed: the command writes a file of this name, and a part of its text may
+-- stand in it
 record HasFailed (words : List (List ℕ)) (before after : ℕ) (fault : Fault) (Leaves : Type 0) : Type 0 where
   pub name : List ℕ
   pub out : HasOut words name

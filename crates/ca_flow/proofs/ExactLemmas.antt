@@ -1,5 +1,6 @@
 -- Of one list of words and one file no two faults of input have a cause.
-use Rattle.std.proofs.Common.{ℕ, ◌≡◌, ◌≤◌, ◌<◌, ◌+◌, ◌⊎◌, ◌∙◌, inl, inr, refl, sym, ap, subst, arith, List, length, Option, Some, None, Result, Ok, Err, true≢false}
+use Rattle.std.proofs.Common.{ℕ, ◌≡◌, ◌≤◌, ◌<◌, ◌+◌, ◌⊎◌, ◌∙◌, inl, inr, refl, sym, ap, subst, arith, List}
+use Rattle.std.proofs.Common.{length, Option, Some, None, Result, Ok, Err, true≢false}
 use Rattle.std.specs.Prelude.{IsNone, IsOk, IsSomeAnd}
 use Rattle.std.specs.Option.{ForSome}
 use Rattle.ca_lex.specs.Words.{upper_case}
@@ -19,11 +20,15 @@ use Rattle.ca_fault.specs.declared.fault.Fault.{Fault}
 use Rattle.ca_fault.specs.declared.fault.Fault.TheVariants.{TooManyPairs}
 use Rattle.ca_on_chip.specs.OnChip.{IsPairsFault}
 use Rattle.ca_on_chip.specs.Making.{IsMakeStage}
-use Rattle.ca_fault.specs.declared.fault.Fault.TheVariants.{BadWords, Cells, NoCell, Cell, BadVector, NoDefect, TooLong, Limit, StoreFailed, SinkFailed, NoMemory}
-use Rattle.ca_words.specs.Words.{cells_word, cell_word, vector_word, first_word, last_word, defect_word, dash, IsRespond, IsPair, IsOnChip, IsOnCell, IsCommand}
+use Rattle.ca_fault.specs.declared.fault.Fault.TheVariants.{BadWords, Cells, NoCell, Cell, BadVector}
+use Rattle.ca_fault.specs.declared.fault.Fault.TheVariants.{NoDefect, TooLong, Limit, StoreFailed, SinkFailed}
+use Rattle.ca_fault.specs.declared.fault.Fault.TheVariants.{NoMemory}
+use Rattle.ca_words.specs.Words.{cells_word, cell_word, vector_word, first_word, last_word, defect_word, dash}
+use Rattle.ca_words.specs.Words.{IsRespond, IsPair, IsOnChip, IsOnCell, IsCommand}
 use Rattle.ca_on_cell.specs.Cells.{OfFile, HasCell, LacksCell}
 use Rattle.ca_flow.specs.Fault.{Outside, IsWordsCause, IsWriteCause, IsPrintCause, IsWorkCause, IsCause}
-use Rattle.ca_on_cell.specs.Causes.{IsNameCause, IsFirstUnfit, LacksDefect, IsPairCause, IsVectorCause, IsCellCause, IsValueCause}
+use Rattle.ca_on_cell.specs.Causes.{IsNameCause, IsFirstUnfit, LacksDefect, IsPairCause, IsVectorCause}
+use Rattle.ca_on_cell.specs.Causes.{IsCellCause, IsValueCause}
 use Rattle.ca_flow.specs.Laws.{IsInputFault, TellsFile}
 use Rattle.ca_load.proofs.RuleLemmas.{one_broken}
 

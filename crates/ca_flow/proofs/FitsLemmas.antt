@@ -1,5 +1,6 @@
 -- Words that their file fits have no cause of a fault of input.
-use Rattle.std.proofs.Common.{ℕ, ◌≡◌, ◌≤◌, ◌⊎◌, ◌∙◌, inl, inr, refl, sym, ap, subst, arith, List, length, Option, Some, None, Result, Ok, Err, true≢false}
+use Rattle.std.proofs.Common.{ℕ, ◌≡◌, ◌≤◌, ◌⊎◌, ◌∙◌, inl, inr, refl, sym, ap, subst, arith, List, length}
+use Rattle.std.proofs.Common.{Option, Some, None, Result, Ok, Err, true≢false}
 use Rattle.std.specs.Prelude.{IfSome, IsSome, IsNone, IsSomeAnd}
 use Rattle.ca_store.specs.Store.{Files}
 use Rattle.ca_lex.specs.Words.{upper_case}
@@ -11,11 +12,13 @@ use Rattle.ca_load.specs.declared.cells.TheConstants.{MAX_CELLS}
 use Rattle.ca_load.proofs.WholeLemmas.{IsOutsideFault}
 use Rattle.ca_fault.specs.declared.fault.Fault.{Fault}
 use Rattle.ca_flow.specs.declared.finished.Done.{Done}
-use Rattle.ca_flow.specs.declared.finished.Done.TheVariants.{Respond, Pair, Defects, Matrix, Check, Flatten, Simulate, Atpg, Replay, Make, Help, Version}
+use Rattle.ca_flow.specs.declared.finished.Done.TheVariants.{Respond, Pair, Defects, Matrix, Check, Flatten}
+use Rattle.ca_flow.specs.declared.finished.Done.TheVariants.{Simulate, Atpg, Replay, Make, Help, Version}
 use Rattle.ca_flow.specs.declared.finished.Finished.{Finished}
 use Rattle.ca_on_chip.specs.OnChip.{IsPairsFault}
 use Rattle.ca_words.specs.Words.{GeneratesTests}
-use Rattle.ca_words.specs.Words.{cells_word, cell_word, vector_word, first_word, last_word, defect_word, dash, IsRespond, IsPair, IsDefects, IsMatrix, IsOnChip, AsksNoFile, IsOnCell}
+use Rattle.ca_words.specs.Words.{cells_word, cell_word, vector_word, first_word, last_word, defect_word, dash}
+use Rattle.ca_words.specs.Words.{IsRespond, IsPair, IsDefects, IsMatrix, IsOnChip, AsksNoFile, IsOnCell}
 use Rattle.ca_on_cell.specs.Outputs.{asked_network, AreValues}
 use Rattle.ca_on_cell.specs.Cells.{HasCell}
 use Rattle.ca_flow.specs.Finished.{status_told}
@@ -27,7 +30,8 @@ use Rattle.ca_flow.specs.Ends.{IsAsked, Ends}
 use Rattle.ca_flow.specs.Laws.{IsInputFault, TellsFile}
 use Rattle.ca_words.proofs.WordLemmas.{no_chip}
 use Rattle.ca_flow.proofs.CompleteLemmas.{at_words, asking_work, at_chip}
-use Rattle.ca_flow.proofs.ExactLemmas.{no_write, no_print, AreAsked, AtCell, AtCalled, AtReading, AtWords, on_cell, pairs_input, respond_or_pair, one_at_words, of_file, of_cause}
+use Rattle.ca_flow.proofs.ExactLemmas.{no_write, no_print, AreAsked, AtCell, AtCalled, AtReading, AtWords}
+use Rattle.ca_flow.proofs.ExactLemmas.{on_cell, pairs_input, respond_or_pair, one_at_words, of_file, of_cause}
 
 -- the file is there and no longer than it may be, and in it the words name a subcircuit that they fit
 abbrev FitsFile : List (List ℕ) → Option (List ℕ) → Type 0

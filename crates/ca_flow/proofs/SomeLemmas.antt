@@ -1,5 +1,6 @@
 -- Where the file of a command is there, the command can be answered, or a fault of input has a cause.
-use Rattle.std.proofs.Common.{ℕ, ◌≡◌, ◌≤◌, ◌<◌, ◌+◌, ◌⊎◌, ◌∙◌, inl, inr, refl, sym, subst, arith, List, length, Option, Some, None, Result, Ok, Err, true≢false}
+use Rattle.std.proofs.Common.{ℕ, ◌≡◌, ◌≤◌, ◌<◌, ◌+◌, ◌⊎◌, ◌∙◌, inl, inr, refl, sym, subst, arith, List}
+use Rattle.std.proofs.Common.{length, Option, Some, None, Result, Ok, Err, true≢false}
 use Rattle.std.specs.Prelude.{IsSome, IsNone, IsOk, IsSomeAnd}
 use Rattle.std.proofs.Math.Decide.{dec_le}
 use Rattle.std.proofs.lemmas.Option.{same_Some}
@@ -19,8 +20,10 @@ use Rattle.ca_load.specs.declared.cells.TheConstants.{MAX_CELLS}
 use Rattle.ca_load.specs.Causes.{IsTextCause}
 use Rattle.ca_fault.specs.declared.fault.LimitKind.TheVariants as limit
 use Rattle.ca_fault.specs.declared.fault.Fault.{Fault}
-use Rattle.ca_fault.specs.declared.fault.Fault.TheVariants.{Cells, NoCell, Cell, BadVector, NoDefect, TooLong, Limit}
-use Rattle.ca_words.specs.Words.{cells_word, cell_word, vector_word, first_word, last_word, defect_word, dash, IsOnChip, AsksNoFile, IsOnCell, IsCommand}
+use Rattle.ca_fault.specs.declared.fault.Fault.TheVariants.{Cells, NoCell, Cell, BadVector, NoDefect, TooLong}
+use Rattle.ca_fault.specs.declared.fault.Fault.TheVariants.{Limit}
+use Rattle.ca_words.specs.Words.{cells_word, cell_word, vector_word, first_word, last_word, defect_word, dash}
+use Rattle.ca_words.specs.Words.{IsOnChip, AsksNoFile, IsOnCell, IsCommand}
 use Rattle.ca_on_cell.specs.Outputs.{letters_of, Fits, asked_network}
 use Rattle.ca_on_cell.specs.Cells.{OfFile, HasCell, LacksCell, OfCell}
 use Rattle.ca_flow.specs.Fault.{Outside, IsCause}

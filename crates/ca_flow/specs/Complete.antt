@@ -13,7 +13,8 @@ use Rattle.ca_flat.specs.Chip.{cell_at}
 use Rattle.ca_core.specs.Core.{core_of}
 use Rattle.ca_asked.specs.Asked.{FitsInputs, defect_called}
 use Rattle.ca_words.specs.Words.{cells_word, cell_word, vector_word, first_word, last_word, defect_word, dash}
-use Rattle.ca_words.specs.Words.{chip_files, instance_word, chip_defect_word, chip_first_word, chip_last_word, order_word}
+use Rattle.ca_words.specs.Words.{chip_files, instance_word, chip_defect_word, chip_first_word, chip_last_word}
+use Rattle.ca_words.specs.Words.{order_word}
 use Rattle.ca_words.specs.Words.{IsRespond, IsPair, IsFlatten, IsSimulate, IsReplay}
 use Rattle.ca_words.specs.Words.{GeneratesTests, AsksNoFile, IsOnCell, IsOnChip}
 use Rattle.ca_on_chip.specs.OnChip.{IsPairsFault}

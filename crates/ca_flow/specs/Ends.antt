@@ -4,12 +4,14 @@ use Rattle.ca_store.specs.Store.{Files}
 use Rattle.ca_scan.specs.ChainFault.{AreAllChains}
 use Rattle.ca_load.specs.Files.{OfFile, TellsStoreFault}
 use Rattle.ca_flow.specs.declared.finished.Done.{Done}
-use Rattle.ca_flow.specs.declared.finished.Done.TheVariants.{Respond, Pair, Defects, Matrix, Check, Flatten, Simulate, Atpg, Replay, Make, Help, Version}
+use Rattle.ca_flow.specs.declared.finished.Done.TheVariants.{Respond, Pair, Defects, Matrix, Check, Flatten}
+use Rattle.ca_flow.specs.declared.finished.Done.TheVariants.{Simulate, Atpg, Replay, Make, Help, Version}
 use Rattle.ca_flow.specs.declared.finished.Finished.{Finished}
 use Rattle.ca_words.specs.Words.{cells_word, cell_word, vector_word, first_word, last_word, defect_word, dash}
 use Rattle.ca_words.specs.Words.{chip_files, instance_word, chip_defect_word, chip_first_word, chip_last_word}
 use Rattle.ca_words.specs.Words.{budget_word, order_word, number_word}
-use Rattle.ca_words.specs.Words.{IsRespond, IsPair, IsDefects, IsMatrix, IsCheck, IsFlatten, IsSimulate, IsAtpg, IsReplay, IsMake}
+use Rattle.ca_words.specs.Words.{IsRespond, IsPair, IsDefects, IsMatrix, IsCheck, IsFlatten, IsSimulate}
+use Rattle.ca_words.specs.Words.{IsAtpg, IsReplay, IsMake}
 use Rattle.ca_words.specs.Words.{IsHelp, IsVersion}
 use Rattle.ca_on_cell.specs.Outputs.{AreValues}
 use Rattle.ca_flow.specs.Finished.{IsAnswer, Prints, Writes, TellsSinkFault}
@@ -48,7 +50,8 @@ IsAsked words files (Atpg chip chains pairs aims verdicts) = IsAtpg words
     × AreTestsOf (budget_word words) chip pairs aims verdicts))
 IsAsked words files (Replay chip ends) = IsReplay words × (IsChipOfFiles files (chip_files words) chip
     × OfFile files (order_word words) MAX_ORDER
-    (AreRunEndsOf (instance_word words) (chip_defect_word words) (chip_first_word words) (chip_last_word words)
+    (AreRunEndsOf (instance_word words) (chip_defect_word words) (chip_first_word words)
+    (chip_last_word words)
     chip ends.items))
 IsAsked words files (Make chip pairs aims verdicts) =
     IsMake words × AreMadeTests (number_word words) chip pairs aims verdicts

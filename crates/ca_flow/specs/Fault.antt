@@ -9,7 +9,8 @@ use Rattle.ca_on_cell.specs.Causes.{IsCellCause, IsValueCause}
 use Rattle.ca_words.specs.Words.{cells_word, cell_word, vector_word, first_word, last_word, defect_word, dash}
 use Rattle.ca_words.specs.Words.{chip_files, instance_word, chip_defect_word, chip_first_word, chip_last_word}
 use Rattle.ca_words.specs.Words.{budget_word, order_word, number_word}
-use Rattle.ca_words.specs.Words.{IsRespond, IsPair, IsDefects, IsMatrix, IsFlatten, IsSimulate, IsAtpg, IsReplay, IsMake}
+use Rattle.ca_words.specs.Words.{IsRespond, IsPair, IsDefects, IsMatrix, IsFlatten, IsSimulate, IsAtpg}
+use Rattle.ca_words.specs.Words.{IsReplay, IsMake}
 use Rattle.ca_words.specs.Words.{IsOnChip, IsCommand, HasOut}
 use Rattle.ca_on_chip.specs.OnChip.{IsFlattenCause, IsSimulateCause, IsAtpgCause}
 use Rattle.ca_on_chip.specs.Replay.{IsReplayCause}

@@ -68,8 +68,8 @@ pub enum Done {
         chip: Chip,
         ends: OutputEnds,
     },
-    /// A linked chip with its scan chains, the listed pairs, for each the place of the defect for which it was
-    /// found, and a verdict for each defect.
+    /// A linked chip with its scan chains, the listed pairs, for each the place of the defect for which it
+    /// was found, and a verdict for each defect.
     Atpg {
         chip: Chip,
         chains: Chains,
@@ -82,8 +82,8 @@ pub enum Done {
         chip: Chip,
         ends: Vec<Trit>,
     },
-    /// A generated chip, the listed pairs, for each the place of the defect for which it was found, and a verdict
-    /// for each defect.
+    /// A generated chip, the listed pairs, for each the place of the defect for which it was found, and a
+    /// verdict for each defect.
     Make {
         chip: Chip,
         pairs: Pairs,
@@ -126,7 +126,8 @@ impl Done {
 }
 
 impl Finished {
-    /// Lets the end of a command go. Where it is let go otherwise, the prover goes through all that it may have once more.
+    /// Lets the end of a command go. Where it is let go otherwise, the prover goes through all that it may
+    /// have once more.
     pub fn let_go(self) {
         let Finished { done, .. } = self;
         if let Some(done) = done {

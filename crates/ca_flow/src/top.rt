@@ -4,7 +4,8 @@ ghost use Rattle.std.specs.String.{string_bytes};
 ghost use Rattle.ca_store.specs.Store.{Nothing, Files};
 ghost use Rattle.ca_make.specs.declared.gate.TheConstants.{MOST_GATES};
 ghost use Rattle.ca_words.specs.Words.{IsCommand};
-ghost use Rattle.ca_words.specs.Command.{IsSpelled, IsSpelledAtpg, IsSpelledReplay, IsSpelledMake, NamesBoth, IsWhole};
+ghost use Rattle.ca_words.specs.Command.{IsSpelled, IsSpelledAtpg, IsSpelledReplay, IsSpelledMake, NamesBoth};
+ghost use Rattle.ca_words.specs.Command.{IsWhole};
 ghost use Rattle.ca_flow.specs.Fault.{IsWorkCause};
 ghost use Rattle.ca_load.specs.Files.{TellsStoreFault};
 ghost use Rattle.ca_flow.specs.Ends.{IsAsked, Ends};
@@ -214,7 +215,8 @@ fn make_work<'a, T: Watch>(alloc: Global, number: u32, watch: &mut T) -> Result<
 
     ensures asked { IfOk result (λ work. (words : List (List ℕ)) (files : Option Files)
         → IsSpelledMake words number → IsAsked words files work.done) }
-    ensures file { IfOk result (λ work. (words : List (List ℕ)) → HasFiles words work.done work.file work.second) }
+    ensures file { IfOk result (λ work. (words : List (List ℕ))
+        → HasFiles words work.done work.file work.second) }
     ensures cause { IfErr result (λ fault. (words : List (List ℕ)) (files : Option Files) (before after : ℕ)
         → IsSpelledMake words number → IsWorkCause words files before after fault) }
     ensures no_sink { IfErr result (λ fault. fault ≢ Fault.SinkFailed) }

@@ -79,7 +79,8 @@ fn a_matrix_stands_in_its_file(rt: HostRuntime) -> Result<(), Fail> {
     Ok(())
 }
 
-// A file that is not whole holds the first bytes, and nothing is printed; a failed output leaves the file whole.
+// A file that is not whole holds the first bytes, and nothing is printed; a failed output leaves the file
+// whole.
 #[test]
 fn a_failed_writing_is_told(rt: HostRuntime) -> Result<(), Fail> {
     let alloc = rt.alloc();

@@ -22,7 +22,8 @@ pub(crate) static RESPOND: [Row; 17] = [
     ("NAND2 1x", 1, "", "bad command line"),
 ];
 
-// An open keeps a charge, or none; its new node loses to the output; ground is blocked; equal strengths fight.
+// An open keeps a charge, or none; its new node loses to the output; ground is blocked; equal strengths
+// fight.
 pub(crate) static PAIR: [Row; 19] = [
     ("NAND2 11 01 -", 0, "ZN=1\n", ""),
     ("NAND2 10 01 -", 0, "ZN=1\n", ""),

@@ -1,5 +1,6 @@
 -- What a front and a whole code say of definite pairs.
-use Rattle.std.proofs.Common.{◌≡◌, ℕ, zero, suc, ◌<◌, List, [], ◌∷◌, length, Bool, true, false, inl, refl, sym, ◌∙◌, ap, subst, arith}
+use Rattle.std.proofs.Common.{◌≡◌, ℕ, zero, suc, ◌<◌, List, [], ◌∷◌, length, Bool, true, false, inl, refl}
+use Rattle.std.proofs.Common.{sym, ◌∙◌, ap, subst, arith}
 use Rattle.std.specs.Prelude.{not, replicate}
 use Rattle.std.proofs.lemmas.List.{length-replicate, length-set, length-map}
 use Rattle.ca_net.specs.declared.trit.Trit.{Trit}
@@ -11,7 +12,8 @@ use Rattle.ca_flat.specs.declared.token.Token.{Token}
 use Rattle.ca_flat.specs.declared.token.Token.TheVariants.{Branch, Leaf}
 use Rattle.ca_flat.specs.Chip.{Chip}
 use Rattle.ca_flat.specs.Pair.{bit_count}
-use Rattle.ca_flat.specs.Code.{Reading, At, Ended, unset_pair, bit_trit, behind, Rules, Reads, IsFrontBy, IsWholeCode}
+use Rattle.ca_flat.specs.Code.{Reading, At, Ended, unset_pair, bit_trit, behind, Rules, Reads, IsFrontBy}
+use Rattle.ca_flat.specs.Code.{IsWholeCode}
 use Rattle.ca_flat.proofs.Codes.{whole_is_ruled_out_lem}
 use Rattle.ca_credit.specs.Defects.{Task}
 use Rattle.ca_search.specs.Filled.{trits_of, filled_bit, filled}

@@ -1,5 +1,6 @@
 -- What the turn of a defect makes of the work.
-use Rattle.std.proofs.Common.{◌≡◌, ℕ, ◌+◌, ◌<◌, ◌≤◌, List, [], ◌∷◌, ◌++◌, length, Bool, inl, inr, refl, sym, ◌∙◌, ap, subst, arith, Some, None, Option}
+use Rattle.std.proofs.Common.{◌≡◌, ℕ, ◌+◌, ◌<◌, ◌≤◌, List, [], ◌∷◌, ◌++◌, length, Bool, inl, inr, refl, sym}
+use Rattle.std.proofs.Common.{◌∙◌, ap, subst, arith, Some, None, Option}
 use native.Mathlib.Decide.{ℕ_discrete}
 use Rattle.std.specs.Prelude.{slice_set}
 use Rattle.std.proofs.lemmas.List.{length-append, length-set}
@@ -19,8 +20,10 @@ use Rattle.ca_credit.specs.Table.{verdict_at, IsCredit, IsAfterPair, CreditsPair
 use Rattle.ca_credit.proofs.LawLemmas.{not_ample}
 use Rattle.ca_credit.proofs.TableLemmas.{same_defect, verdict_at-set, verdict_at-other}
 use Rattle.ca_generate.specs.declared.fault.TheConstants.{MOST_PAIRS}
-use Rattle.ca_generate.specs.Progress.{IsWaiting, IsEntry, IsCreditAt, StandsAfter, IsScreenedEntry, IsScreened}
-use Rattle.ca_generate.proofs.ListLemmas.{entry_stays, entry_new, entry_is, some_within, some_stays, some_new, first_stays, first_new}
+use Rattle.ca_generate.specs.Progress.{IsWaiting, IsEntry, IsCreditAt, StandsAfter, IsScreenedEntry}
+use Rattle.ca_generate.specs.Progress.{IsScreened}
+use Rattle.ca_generate.proofs.ListLemmas.{entry_stays, entry_new, entry_is, some_within, some_stays, some_new}
+use Rattle.ca_generate.proofs.ListLemmas.{first_stays, first_new}
 use Rattle.ca_generate.proofs.FoundLemmas.{found_detects, whole_is_untestable}
 
 -- a defect that has no verdict when its turn comes

@@ -122,6 +122,6 @@ x
 ];
 
 /// A chip with a hazard, a budget, the place of a defect, and what is told of its verdict. The defect, the
-/// open drain of `MP1` in `u5`, is shown where `a` falls while `y` stays at 1: with `d` at 1, and `s` at rest,
-/// since a change of `s` would let `y` fall for a while.
+/// open drain of `MP1` in `u5`, is shown where `a` falls while `y` stays at 1: with `d` at 1, and `s` at
+/// rest, since a change of `s` would let `y` fall for a while.
 pub(crate) const HAZARD: (&[u8], u32, usize, &[u8]) = (GLITCH, 63, 66, b"c 111011");

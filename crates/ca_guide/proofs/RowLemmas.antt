@@ -1,5 +1,7 @@
 -- Rows against the values of pins.
-use Rattle.std.proofs.Common.{ℕ, zero, suc, ◌+◌, ◌-◌, ◌/◌, ◌%◌, ◌^◌, ◌≡◌, ◌<◌, ◌≤◌, List, length, get_or, take, Some, refl, sym, ◌∙◌, ap, subst, arith, eqb, Bool, true, false, eqb-true, take_all}
+use Rattle.std.proofs.Common.{ℕ, zero, suc, ◌+◌, ◌-◌, ◌/◌, ◌%◌, ◌^◌, ◌≡◌, ◌<◌, ◌≤◌, List, length, get_or}
+use Rattle.std.proofs.Common.{take, Some, refl, sym, ◌∙◌, ap, subst, arith, eqb, Bool, true, false, eqb-true}
+use Rattle.std.proofs.Common.{take_all}
 use Rattle.std.specs.Prelude.{slice_get}
 use Rattle.std.specs.List.{All}
 use Rattle.ca_net.specs.declared.trit.Trit.{Trit}

@@ -23,7 +23,8 @@ pub(crate) fn reaches_output<C: LinkedChip, V: NetWaves>(
     requires covers { Covers (C.lists chip.now) (V.seen waves.now) }
     ensures room { found.new.bound ≡ found.old.bound }
     ensures reaches { IsFloodTo result (C.lists chip.now).onward
-        (open_area (C.lists chip.now) (V.seen waves.now)) (output_nets (C.lists chip.now) instance) found.new.members }
+        (open_area (C.lists chip.now) (V.seen waves.now))
+        (output_nets (C.lists chip.now) instance) found.new.members }
 {
     let links = Onward { chip };
     let nets = OpenNets { chip, waves };

@@ -70,8 +70,8 @@ fn check_failed(rt: &impl Abort, ended: &Trial, stil: &[u8], report: &[u8]) -> R
     Ok(())
 }
 
-// Each call of this kind fails in a run of its own, up to the first run that has fewer. The answer is how many
-// failed.
+// Each call of this kind fails in a run of its own, up to the first run that has fewer. The answer is how
+// many failed.
 fn check_calls(
     rt: &impl Abort,
     alloc: Global,
@@ -92,7 +92,8 @@ fn check_calls(
     Ok(0)
 }
 
-// Each call of each kind fails once. There are so many of the kind: at least the first number, at most the second.
+// Each call of each kind fails once. There are so many of the kind: at least the first number, at most the
+// second.
 fn check_kinds(rt: &impl Abort, alloc: Global, stil: &[u8], report: &[u8]) -> Result<(), Fail> {
     for (call, least, most) in [
         (StoreCall::Open, 2, 2),

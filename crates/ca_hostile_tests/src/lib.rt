@@ -1,4 +1,5 @@
-//! Commands over stores that fail, texts that are cut off, and texts made to harm. It has no code but its tests.
+//! Commands over stores that fail, texts that are cut off, and texts made to harm. It has no code but its
+//! tests.
 #![tactic(auto)]
 
 #[cfg(test)]

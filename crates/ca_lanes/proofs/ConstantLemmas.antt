@@ -1,5 +1,6 @@
 -- One constant more.
-use Rattle.std.proofs.Common.{◌≡◌, ℕ, suc, ◌<◌, ◌==◌, if◌then◌else◌, Bool, true, false, List, [], ◌∷◌, get_or, length, drop, refl, sym, ap, ◌∙◌}
+use Rattle.std.proofs.Common.{◌≡◌, ℕ, suc, ◌<◌, ◌==◌, if◌then◌else◌, Bool, true, false, List, [], ◌∷◌, get_or}
+use Rattle.std.proofs.Common.{length, drop, refl, sym, ap, ◌∙◌}
 use Rattle.std.specs.Prelude.{slice_set}
 use Rattle.std.proofs.lemmas.Bool.{eqb-true, eqb-false}
 use Rattle.std.proofs.Math.Seq.{drop-cons}
@@ -7,7 +8,8 @@ use Rattle.ca_net.specs.declared.trit.Trit.{Trit}
 use Rattle.ca_flat.specs.Pair.{constant_value}
 use Rattle.ca_lanes.specs.declared.values.Values.{Values}
 use Rattle.ca_lanes.specs.declared.constants.Constant.{Constant}
-use Rattle.ca_lanes.specs.Choice.{Choice, no_choice, choice_of, choice_with, choice_for, choices_of, choice_at}
+use Rattle.ca_lanes.specs.Choice.{Choice, no_choice, choice_of, choice_with, choice_for, choices_of}
+use Rattle.ca_lanes.specs.Choice.{choice_at}
 use Rattle.ca_lanes.specs.Netlist.{constants_of}
 use Rattle.ca_lanes.specs.Set.{constant_choice}
 use Rattle.ca_lanes.proofs.SetLemmas.{set_here, set_elsewhere}

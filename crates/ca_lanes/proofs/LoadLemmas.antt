@@ -1,12 +1,14 @@
 -- One instance more in topological order.
-use Rattle.std.proofs.Common.{◌≡◌, ℕ, ◌+◌, ◌^◌, ◌<◌, true, List, get_or, length, map, take, inl, inr, refl, sym, ap, ap₂, ◌∙◌, subst, arith}
+use Rattle.std.proofs.Common.{◌≡◌, ℕ, ◌+◌, ◌^◌, ◌<◌, true, List, get_or, length, map, take, inl, inr, refl}
+use Rattle.std.proofs.Common.{sym, ap, ap₂, ◌∙◌, subst, arith}
 use Rattle.std.proofs.lemmas.Bool.{cases_lt}
 use Rattle.ca_net.specs.declared.trit.Trit.{Trit}
 use Rattle.ca_net.specs.declared.node.NodeKind.{NodeKind}
 use Rattle.ca_net.specs.declared.node.NodeKind.TheVariants.{Input, Storage}
 use Rattle.ca_net.specs.Trit.{IsBelow}
 use Rattle.ca_net.specs.State.{value_at}
-use Rattle.ca_flat.specs.Chip.{Chip, instance_at, cell_at, inputs_at, outputs_at, net_of, output_net, count_of, net_kind, IsChip}
+use Rattle.ca_flat.specs.Chip.{Chip, instance_at, cell_at, inputs_at, outputs_at, net_of, output_net}
+use Rattle.ca_flat.specs.Chip.{count_of, net_kind, IsChip}
 use Rattle.ca_flat.specs.TwoFrame.{IsCommon, IsVectorOver, FirstRowsGive, LastRowsGive, AreTwoFrame}
 use Rattle.ca_lanes.specs.Choice.{Choice, choice_for, trit_for, choice_at}
 use Rattle.ca_lanes.specs.GoodRows.{good_at, AreGoodRows}
@@ -17,7 +19,8 @@ use Rattle.ca_lanes.specs.Given.{given_by, given_by_rows}
 use Rattle.ca_lanes.specs.Evaluated.{IsEvaluated}
 use Rattle.ca_lanes.specs.Sweep.{IsSettledAt, IsLoadedTo}
 use Rattle.ca_lanes.proofs.PinLemmas.{trit_again, of_trit, value_of, pin_trits, instance_pins, instance_masks}
-use Rattle.ca_lanes.proofs.PlainLemmas.{ArePins, first_is_common, first_is_shown, last_is_common, last_is_shown, common_same}
+use Rattle.ca_lanes.proofs.PlainLemmas.{ArePins, first_is_common, first_is_shown, last_is_common}
+use Rattle.ca_lanes.proofs.PlainLemmas.{last_is_shown, common_same}
 
 -- rows over values that are the same at the pins
 over_same : (chip : Chip) (u : ℕ) (old new : List Trit) → ((pin : ℕ) → pin < inputs_at chip u → value_at new (net_of chip u pin) ≡ value_at old (net_of chip u pin))

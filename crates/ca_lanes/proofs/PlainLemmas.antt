@@ -1,5 +1,6 @@
 -- What a lane computes at an instance's output is the plain two-frame value there.
-use Rattle.std.proofs.Common.{◌≡◌, ◌≢◌, ℕ, zero, suc, ◌+◌, ◌^◌, ◌<◌, true, false, ◌↔◌, List, [], ◌∷◌, length, get_or, sym, ap, ◌∙◌, subst, arith}
+use Rattle.std.proofs.Common.{◌≡◌, ◌≢◌, ℕ, zero, suc, ◌+◌, ◌^◌, ◌<◌, true, false, ◌↔◌, List, [], ◌∷◌, length}
+use Rattle.std.proofs.Common.{get_or, sym, ap, ◌∙◌, subst, arith}
 use Rattle.std.specs.List.{All}
 use Rattle.ca_net.specs.declared.trit.Trit.{Trit}
 use Rattle.ca_net.specs.declared.trit.Trit.TheVariants.{Zero, One, X}
@@ -13,7 +14,8 @@ use Rattle.ca_defect.proofs.NumberLemmas.{number_of, number_within, vector_again
 use Rattle.ca_lanes.specs.Choice.{Choice, choice_for, trit_for}
 use Rattle.ca_lanes.specs.GoodRows.{good_at, IsEndValue, AreGoodRows}
 use Rattle.ca_lanes.specs.Given.{given_by, given_by_rows}
-use Rattle.ca_lanes.proofs.AllowedLemmas.{allowed_for, AreBelow, over_is_allowed, allowed_is_over, some_vector, length_below}
+use Rattle.ca_lanes.proofs.AllowedLemmas.{allowed_for, AreBelow, over_is_allowed, allowed_is_over}
+use Rattle.ca_lanes.proofs.AllowedLemmas.{some_vector, length_below}
 use Rattle.ca_lanes.proofs.GivenLemmas.{may_be, given_is_from, given_has, rows_are_from, rows_have}
 use Rattle.ca_lanes.proofs.CommonLemmas.{RowWith, is_common, is_shown}
 

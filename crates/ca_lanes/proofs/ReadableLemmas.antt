@@ -1,5 +1,6 @@
 -- The netlist of a chip is readable.
-use Rattle.std.proofs.Common.{◌≡◌, ℕ, zero, suc, ◌+◌, ◌^◌, ◌<◌, List, [], ◌∷◌, get_or, length, refl, sym, ap, subst, arith}
+use Rattle.std.proofs.Common.{◌≡◌, ℕ, zero, suc, ◌+◌, ◌^◌, ◌<◌, List, [], ◌∷◌, get_or, length, refl, sym, ap}
+use Rattle.std.proofs.Common.{subst, arith}
 use Rattle.std.specs.Prelude.{slice_get, Some}
 use Rattle.std.specs.List.{All}
 use Rattle.std.proofs.lemmas.Option.{slice_get-get_or}
@@ -9,7 +10,8 @@ use Rattle.ca_flat.specs.Chip as flat
 use Rattle.ca_lanes.specs.declared.constants.Constant.{Constant}
 use Rattle.ca_lanes.specs.declared.good_rows.GoodRows.{GoodRows}
 use Rattle.ca_lanes.specs.declared.netlist.Instance.{Instance}
-use Rattle.ca_lanes.specs.Netlist.{ArePinsOf, IsInstanceReadable, AreInstancesOf, IsOnNets, constants_of, NetlistsAreReadable}
+use Rattle.ca_lanes.specs.Netlist.{ArePinsOf, IsInstanceReadable, AreInstancesOf, IsOnNets, constants_of}
+use Rattle.ca_lanes.specs.Netlist.{NetlistsAreReadable}
 
 -- a constant as one of a chip
 abbrev as_chip : Constant → flat.Constant

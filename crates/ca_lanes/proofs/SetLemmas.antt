@@ -1,5 +1,7 @@
 -- One input net more.
-use Rattle.std.proofs.Common.{◌≡◌, ◌≢◌, ℕ, zero, suc, ◌+◌, ◌<◌, ◌≤◌, ◌==◌, if◌then◌else◌, Bool, true, false, List, [], ◌∷◌, get_or, length, map, drop, inl, inr, refl, sym, ap, ◌∙◌, subst, arith}
+use Rattle.std.proofs.Common.{◌≡◌, ◌≢◌, ℕ, zero, suc, ◌+◌, ◌<◌, ◌≤◌, ◌==◌, if◌then◌else◌, Bool, true, false}
+use Rattle.std.proofs.Common.{List, [], ◌∷◌, get_or, length, map, drop, inl, inr, refl, sym, ap, ◌∙◌, subst}
+use Rattle.std.proofs.Common.{arith}
 use Rattle.std.specs.Prelude.{slice_set, slice_get, Some}
 use Rattle.std.proofs.lemmas.Bool.{cases_lt, eqb-true, eqb-false}
 use Rattle.std.proofs.Math.Seq.{drop-cons}
@@ -8,7 +10,8 @@ use Rattle.ca_lanes.specs.declared.plane.Plane.{Plane}
 use Rattle.ca_lanes.specs.declared.values.Values.{Values}
 use Rattle.ca_flat.specs.Code.{bit_trit}
 use Rattle.ca_lanes.specs.Plane.{lane_of}
-use Rattle.ca_lanes.specs.Choice.{Choice, no_choice, choice_of, choice_over, choice_for, unknown, choices_of, choice_at}
+use Rattle.ca_lanes.specs.Choice.{Choice, no_choice, choice_of, choice_over, choice_for, unknown, choices_of}
+use Rattle.ca_lanes.specs.Choice.{choice_at}
 use Rattle.ca_lanes.specs.Set.{bit_choice, input_choice}
 use Rattle.ca_net.specs.State.{value_at}
 use Rattle.ca_flat.specs.Pair.{input_value}

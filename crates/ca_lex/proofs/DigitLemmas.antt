@@ -1,6 +1,8 @@
 -- Digits, powers of ten, and what moves by them.
-use Rattle.std.proofs.Common.{◌≡◌, ℕ, zero, suc, ◌+◌, ◌*◌, ◌/◌, ◌-◌, ◌^◌, ◌<◌, ◌≤◌, ◌≢◌, true, List, [], ◌∷◌, ◌++◌, get_or, take, None, arith, refl, sym, ap, ◌∙◌, add-zero, add-one, fold}
-use Rattle.std.proofs.Math.Nat.{pow-suc, mul-le-mul_left, mul-div_cancel, mul-le-mul_right, mul_assoc, div-div-eq-div-mul}
+use Rattle.std.proofs.Common.{◌≡◌, ℕ, zero, suc, ◌+◌, ◌*◌, ◌/◌, ◌-◌, ◌^◌, ◌<◌, ◌≤◌, ◌≢◌, true, List, [], ◌∷◌}
+use Rattle.std.proofs.Common.{◌++◌, get_or, take, None, arith, refl, sym, ap, ◌∙◌, add-zero, add-one, fold}
+use Rattle.std.proofs.Math.Nat.{pow-suc, mul-le-mul_left, mul-div_cancel, mul-le-mul_right, mul_assoc}
+use Rattle.std.proofs.Math.Nat.{div-div-eq-div-mul}
 use Rattle.std.proofs.lemmas.Nat.{pow-add, div_below}
 use Rattle.std.proofs.lemmas.Grind.{pow_more}
 use Rattle.std.proofs.lemmas.List.{length-take, get_or-take}

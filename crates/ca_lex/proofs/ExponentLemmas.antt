@@ -1,13 +1,16 @@
 -- An exponent, found in a text.
-use Rattle.std.proofs.Common.{◌≡◌, ℕ, ◌≤◌, Bool, true, false, cond, eqb, ◌||◌, List, [], ◌∷◌, ◌++◌, length, take, drop, Option, Some, None, arith, refl, sym, ap, ◌∙◌, subst}
+use Rattle.std.proofs.Common.{◌≡◌, ℕ, ◌≤◌, Bool, true, false, cond, eqb, ◌||◌, List, [], ◌∷◌, ◌++◌, length}
+use Rattle.std.proofs.Common.{take, drop, Option, Some, None, arith, refl, sym, ap, ◌∙◌, subst}
 use Rattle.std.specs.Prelude.{option_and_then}
 use Rattle.std.proofs.lemmas.List.{take-append-drop}
 use Rattle.std.proofs.lemmas.List.Folds.{length-prefix_len}
 use Rattle.std.proofs.lemmas.Bool.Decides.{nat_tests}
 use Rattle.std.proofs.lemmas.Bool.{eqb-true}
-use Rattle.ca_lex.specs.Length.{is_digit, is_e, digits_len, number_of, Shift, places_at, signed_at, exponent_at}
+use Rattle.ca_lex.specs.Length.{is_digit, is_e, digits_len, number_of, Shift, places_at, signed_at}
+use Rattle.ca_lex.specs.Length.{exponent_at}
 use Rattle.ca_lex.specs.LengthGrammar.{AreOneOrTwoDigits, IsExponent, NoExponent, Unsigned, Plus, Minus}
-use Rattle.ca_lex.proofs.RunLemmas.{BeginsNoDigit, front_digits, digits_len-append, digits_taken, digits_dropped}
+use Rattle.ca_lex.proofs.RunLemmas.{BeginsNoDigit, front_digits, digits_len-append, digits_taken}
+use Rattle.ca_lex.proofs.RunLemmas.{digits_dropped}
 
 pub record HasPlaces (text : List ℕ) (places : ℕ × List ℕ) : Type 0 where
   pub digits : List ℕ

@@ -1,14 +1,18 @@
 -- The parts of a length, found in a word and joined to one.
-use Rattle.std.proofs.Common.{◌≡◌, ℕ, ◌+◌, ◌≤◌, ◌^◌, Bool, true, false, cond, eqb, ◌&&◌, List, [], ◌∷◌, ◌++◌, length, take, drop, Option, Some, None, arith, refl, sym, ap, ◌∙◌, append_assoc}
+use Rattle.std.proofs.Common.{◌≡◌, ℕ, ◌+◌, ◌≤◌, ◌^◌, Bool, true, false, cond, eqb, ◌&&◌, List, [], ◌∷◌, ◌++◌}
+use Rattle.std.proofs.Common.{length, take, drop, Option, Some, None, arith, refl, sym, ap, ◌∙◌, append_assoc}
 use Rattle.std.specs.Prelude.{nat_le, option_and_then}
 use Rattle.std.proofs.lemmas.List.{take-append-drop}
 use Rattle.std.proofs.lemmas.Bool.Decides.{nat_tests}
-use Rattle.ca_lex.specs.Length.{is_digit, is_e, digits_len, number_of, Mantissa, Shift, mantissa_of, places_at, signed_at, exponent_at, suffix_of, in_range, scaled, has_digits, length_of}
+use Rattle.ca_lex.specs.Length.{is_digit, is_e, digits_len, number_of, Mantissa, Shift, mantissa_of}
+use Rattle.ca_lex.specs.Length.{places_at, signed_at, exponent_at, suffix_of, in_range, scaled, has_digits}
+use Rattle.ca_lex.specs.Length.{length_of}
 use Rattle.ca_lex.specs.LengthGrammar.{AreDigits, IsExponent, NoExponent, Unsigned, Plus, Minus, IsLength}
 use Rattle.ca_lex.proofs.RunLemmas.{front_digits}
 use Rattle.ca_lex.proofs.PointLemmas.{here, fraction_found, mantissa_only}
 use Rattle.ca_lex.proofs.ExponentLemmas.{places_only, moved, with_right, with_left, exponent_found}
-use Rattle.ca_lex.proofs.SuffixLemmas.{suffix_found, suffix_only, BeginsSuffix, suffix_begins, suffix_no_digit, exponent_begins}
+use Rattle.ca_lex.proofs.SuffixLemmas.{suffix_found, suffix_only, BeginsSuffix, suffix_begins}
+use Rattle.ca_lex.proofs.SuffixLemmas.{suffix_no_digit, exponent_begins}
 
 pub digit_no_minus : (byte : ℕ) → is_digit byte ≡ true → eqb byte 45 ≡ false
 digit_no_minus byte is = grind (arith, nat_tests)

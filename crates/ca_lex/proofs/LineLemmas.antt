@@ -1,11 +1,14 @@
 -- Lines of a text, one after the other.
-use Rattle.std.proofs.Common.{◌≡◌, ℕ, ◌+◌, ◌-◌, ◌<◌, Bool, true, false, cond, not, eqb, List, [], ◌∷◌, ◌++◌, length, map, take, drop, Option, Some, None, arith, refl, sym, ap, ◌∙◌, append_assoc}
+use Rattle.std.proofs.Common.{◌≡◌, ℕ, ◌+◌, ◌-◌, ◌<◌, Bool, true, false, cond, not, eqb, List, [], ◌∷◌, ◌++◌}
+use Rattle.std.proofs.Common.{length, map, take, drop, Option, Some, None, arith, refl, sym, ap, ◌∙◌}
+use Rattle.std.proofs.Common.{append_assoc}
 use Rattle.std.proofs.lemmas.List.{append-nil}
 use Rattle.std.proofs.Math.Numerals.{one-add, sub-one}
 use Rattle.std.proofs.Math.Seq.{take-length}
 use Rattle.ca_lex.specs.declared.lines.Line.{Line}
 use Rattle.ca_lex.specs.Words.{with_byte}
-use Rattle.ca_lex.specs.Physical.{lines_of, line_len, Physical, Nothing, Continuation, PinInfo, Card, physical_of}
+use Rattle.ca_lex.specs.Physical.{lines_of, line_len, Physical, Nothing, Continuation, PinInfo, Card}
+use Rattle.ca_lex.specs.Physical.{physical_of}
 use Rattle.ca_lex.specs.Lines.{continued, logical_from, spice_lines}
 use Rattle.ca_lex.specs.Joining.{joined, with_last}
 

@@ -1,12 +1,14 @@
 -- Digits with an optional point, found in a text and put in front of one.
-use Rattle.std.proofs.Common.{◌≡◌, ℕ, Bool, true, false, cond, eqb, inl, inr, List, [], ◌∷◌, ◌++◌, length, take, drop, arith, refl, sym, ap, ◌∙◌, subst}
+use Rattle.std.proofs.Common.{◌≡◌, ℕ, Bool, true, false, cond, eqb, inl, inr, List, [], ◌∷◌, ◌++◌, length}
+use Rattle.std.proofs.Common.{take, drop, arith, refl, sym, ap, ◌∙◌, subst}
 use Rattle.std.specs.Prelude.{codes}
 use Rattle.std.proofs.lemmas.List.{take-append-drop, append-nil}
 use Rattle.std.proofs.lemmas.List.Folds.{length-prefix_len}
 use Rattle.std.proofs.lemmas.Bool.{eqb-true}
 use Rattle.ca_lex.specs.Length.{is_digit, digits_len, Mantissa, fraction_at, mantissa_of}
 use Rattle.ca_lex.specs.LengthGrammar.{AreDigits, IsPoint}
-use Rattle.ca_lex.proofs.RunLemmas.{BeginsNoDigit, front_digits, digits_len-append, digits_taken, digits_dropped}
+use Rattle.ca_lex.proofs.RunLemmas.{BeginsNoDigit, front_digits, digits_len-append, digits_taken}
+use Rattle.ca_lex.proofs.RunLemmas.{digits_dropped}
 
 abbrev pub here : List ℕ → ℕ → List ℕ → Mantissa
 here digits places rest = record { digits = digits; places = places; rest = rest }

@@ -1,9 +1,11 @@
 -- A suffix, and what it and an exponent begin with.
-use Rattle.std.proofs.Common.{◌≡◌, ℕ, Bool, true, false, cond, eqb, List, [], ◌∷◌, ◌++◌, Some, None, arith, refl, sym, ap, ◌∙◌, subst}
+use Rattle.std.proofs.Common.{◌≡◌, ℕ, Bool, true, false, cond, eqb, List, [], ◌∷◌, ◌++◌, Some, None, arith}
+use Rattle.std.proofs.Common.{refl, sym, ap, ◌∙◌, subst}
 use Rattle.std.proofs.lemmas.Bool.Decides.{nat_tests}
 use Rattle.std.proofs.lemmas.Bool.{eqb-true}
 use Rattle.ca_lex.specs.Length.{is_digit, is_e, is_m, places_of, suffix_of}
-use Rattle.ca_lex.specs.LengthGrammar.{IsExponent, NoExponent, Unsigned, Plus, Minus, IsSuffix, NoSuffix, OneLetter, WithM}
+use Rattle.ca_lex.specs.LengthGrammar.{IsExponent, NoExponent, Unsigned, Plus, Minus, IsSuffix, NoSuffix}
+use Rattle.ca_lex.specs.LengthGrammar.{OneLetter, WithM}
 use Rattle.ca_lex.proofs.RunLemmas.{BeginsNoDigit}
 use Rattle.ca_lex.proofs.PointLemmas.{BeginsBehind}
 

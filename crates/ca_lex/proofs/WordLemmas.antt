@@ -1,10 +1,12 @@
 -- Words of a text, one after the other.
-use Rattle.std.proofs.Common.{◌≡◌, ℕ, ◌+◌, ◌-◌, ◌<◌, ◌≤◌, get_or, Bool, true, false, ◌||◌, cond, not, eqb, List, [], ◌∷◌, ◌++◌, length, take, drop, arith, refl, sym, ap, ◌∙◌, subst}
+use Rattle.std.proofs.Common.{◌≡◌, ℕ, ◌+◌, ◌-◌, ◌<◌, ◌≤◌, get_or, Bool, true, false, ◌||◌, cond, not, eqb}
+use Rattle.std.proofs.Common.{List, [], ◌∷◌, ◌++◌, length, take, drop, arith, refl, sym, ap, ◌∙◌, subst}
 use Rattle.std.proofs.Math.Numerals.{one-add, sub-one}
 use Rattle.std.proofs.Math.Seq.{take-length}
 use Rattle.std.proofs.lemmas.List.{append-nil}
 use Rattle.std.proofs.lemmas.Bool.{eqb-true}
-use Rattle.ca_lex.specs.Words.{is_blank, ends_word, with_byte, word_len, words_of, words_with, BeginsWord, first_word_len}
+use Rattle.ca_lex.specs.Words.{is_blank, ends_word, with_byte, word_len, words_of, words_with, BeginsWord}
+use Rattle.ca_lex.specs.Words.{first_word_len}
 
 abbrev cut_behind : ℕ → List ℕ → ℕ → List (List ℕ)
 cut_behind byte more len = (byte ∷ take len more) ∷ words_of (drop len more)

@@ -24,7 +24,9 @@ joined lines None number more = lines ++ logical_from number false more
 joined lines (Some card) number more =
     lines ++ record { line = card.line; text = card.text ++ continued more } ∷ logical_from number true more
 
--- what was kept before a piece comes to the same, with the piece and any physical lines, as what is kept after it with these
+-- what was kept before a piece comes to the same, with the piece and any physical lines, as what is kept
+-- after it with these
 abbrev pub TakesOver : List Line → Option Line → ℕ → Physical → List Line → Option Line → Type 0
 TakesOver lines last number piece after_lines after_last =
-    (more : List Physical) → joined after_lines after_last (number + 1) more ≡ joined lines last number (piece ∷ more)
+    (more : List Physical) → joined after_lines after_last (number + 1) more
+    ≡ joined lines last number (piece ∷ more)

@@ -1,5 +1,7 @@
--- Lengths as words spell them: digits with at most one point, an exponent and a suffix, in units of 10^-18 metre.
-use Rattle.std.specs.Prelude.{ℕ, ◌+◌, ◌-◌, ◌*◌, ◌/◌, ◌^◌, ◌==◌, nat_le, Bool, ◌&&◌, ◌||◌, if◌then◌else◌, List, [], ◌∷◌, ◌++◌, length, take, drop, fold, Option, Some, None, option_and_then}
+-- Lengths as words spell them: digits with at most one point, an exponent and a suffix, in units of 10^-18
+-- metre.
+use Rattle.std.specs.Prelude.{ℕ, ◌+◌, ◌-◌, ◌*◌, ◌/◌, ◌^◌, ◌==◌, nat_le, Bool, ◌&&◌, ◌||◌, if◌then◌else◌, List}
+use Rattle.std.specs.Prelude.{[], ◌∷◌, ◌++◌, length, take, drop, fold, Option, Some, None, option_and_then}
 use Rattle.std.specs.List.{prefix_len}
 
 infixl 10 ◌>>=◌

@@ -1,5 +1,7 @@
--- The grammar of a length: digits, an optional point and digits, an optional exponent and an optional suffix, one after another.
-use Rattle.std.specs.Prelude.{ℕ, ◌≡◌, ◌≤◌, ◌+◌, ◌*◌, ◌/◌, ◌^◌, ◌⊎◌, true, List, [], ◌∷◌, ◌++◌, length, Some, codes}
+-- The grammar of a length: digits, an optional point and digits, an optional exponent and an optional suffix,
+-- one after another.
+use Rattle.std.specs.Prelude.{ℕ, ◌≡◌, ◌≤◌, ◌+◌, ◌*◌, ◌/◌, ◌^◌, ◌⊎◌, true, List, [], ◌∷◌, ◌++◌, length, Some}
+use Rattle.std.specs.Prelude.{codes}
 use Rattle.std.specs.List.{AllPass}
 use Rattle.ca_lex.specs.Length.{is_digit, is_e, is_m, number_of, places_of}
 
@@ -17,7 +19,8 @@ pub record AreOneOrTwoDigits (text : List ℕ) : Type 0 where
   pub some : 1 ≤ length text
   pub few : length text ≤ 2
 
--- nothing, or E, an optional sign and one or two digits: the point moves so many places to the right and to the left
+-- nothing, or E, an optional sign and one or two digits: the point moves so many places to the right and to
+-- the left
 pub data IsExponent : List ℕ → ℕ → ℕ → Type 0 where
   NoExponent : IsExponent [] 0 0
   Unsigned : (letter : ℕ) (digits : List ℕ) → is_e letter ≡ true → AreOneOrTwoDigits digits
@@ -27,14 +30,16 @@ pub data IsExponent : List ℕ → ℕ → ℕ → Type 0 where
   Minus : (letter : ℕ) (digits : List ℕ) → is_e letter ≡ true → AreOneOrTwoDigits digits
       → IsExponent (letter ∷ 45 ∷ digits) 0 (number_of digits)
 
--- nothing, or one of the letters F, P, N, U and M, which one further M may follow: the point moves so many places to the left
+-- nothing, or one of the letters F, P, N, U and M, which one further M may follow: the point moves so many
+-- places to the left
 pub data IsSuffix : List ℕ → ℕ → Type 0 where
   NoSuffix : IsSuffix [] 0
   OneLetter : (letter places : ℕ) → places_of letter ≡ Some places → IsSuffix (letter ∷ []) places
   WithM : (letter second places : ℕ) → places_of letter ≡ Some places → is_m second ≡ true
       → IsSuffix (letter ∷ second ∷ []) places
 
--- the word is these parts, one after another, and the value is theirs in units of 10^-18 metre, with finer digits dropped
+-- the word is these parts, one after another, and the value is theirs in units of 10^-18 metre, with finer
+-- digits dropped
 pub record IsLength (word : List ℕ) (value : ℕ) : Type 0 where
   pub whole : List ℕ
   pub point : List ℕ

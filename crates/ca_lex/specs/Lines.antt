@@ -3,7 +3,8 @@ use Rattle.std.specs.Prelude.{ℕ, ◌+◌, Bool, true, false, List, [], ◌∷�
 use Rattle.ca_lex.specs.declared.lines.Line.{Line}
 use Rattle.ca_lex.specs.Physical.{lines_of, Physical, Nothing, Continuation, PinInfo, Card, physical_of}
 
--- what these physical lines, up to the next card, add to the card before them: a blank and the text of each continuation
+-- what these physical lines, up to the next card, add to the card before them: a blank and the text of each
+-- continuation
 unfoldable pub continued : List Physical → List ℕ
 continued [] = []
 continued (Nothing ∷ more) = continued more
@@ -11,8 +12,9 @@ continued (Continuation text ∷ more) = 32 ∷ text ++ continued more
 continued (PinInfo text ∷ more) = []
 continued (Card text ∷ more) = []
 
--- the logical lines of these physical lines, the first of which has this number; `follows_card` says whether the logical line
--- before them is a card, which alone can be continued: a continuation of nothing is a line that keeps its `+`
+-- the logical lines of these physical lines, the first of which has this number; `follows_card` says whether
+-- the logical line before them is a card, which alone can be continued: a continuation of nothing is a line
+-- that keeps its `+`
 unfoldable pub logical_from : ℕ → Bool → List Physical → List Line
 logical_from number follows_card [] = []
 logical_from number follows_card (Nothing ∷ more) = logical_from (number + 1) follows_card more

@@ -1,5 +1,6 @@
 -- The physical lines of a cell netlist, and what each one is.
-use Rattle.std.specs.Prelude.{ℕ, ◌+◌, ◌==◌, Bool, true, not, ◌&&◌, if◌then◌else◌, List, [], ◌∷◌, take, drop, codes}
+use Rattle.std.specs.Prelude.{ℕ, ◌+◌, ◌==◌, Bool, true, not, ◌&&◌, if◌then◌else◌, List, [], ◌∷◌, take, drop}
+use Rattle.std.specs.Prelude.{codes}
 use Rattle.std.specs.List.{prefix_len}
 use Rattle.std.specs.Str.{str_eq_ignore_ascii_case}
 use Rattle.ca_lex.specs.Words.{is_blank, ends_word, word_len, with_byte}
@@ -13,7 +14,8 @@ lines_of (byte ∷ more) = if byte == 10 then [] ∷ lines_of more else with_byt
 abbrev pub line_len : List ℕ → ℕ
 line_len text = prefix_len (λ byte. not (byte == 10)) text
 
--- how many bytes stand before the first `$` that begins a word, where `begins` says whether a word can begin at once
+-- how many bytes stand before the first `$` that begins a word, where `begins` says whether a word can begin
+-- at once
 abbrev pub code_len : Bool → List ℕ → ℕ
 code_len begins [] = 0
 code_len begins (byte ∷ more) = if begins && byte == 36 then 0 else 1 + code_len (ends_word byte) more

@@ -10,13 +10,15 @@ abbrev pub IsFault : {Reading Fault : Type 0} → Option Fault → Result Readin
 IsFault None wanted = Unit {0}
 IsFault (Some fault) wanted = wanted ≡ Err fault
 
--- a call gave the view of what was wanted, or its fault; `told` is the fault that an error is, and None at want of memory
+-- a call gave the view of what was wanted, or its fault; `told` is the fault that an error is, and None at
+-- want of memory
 abbrev pub Gives : {Value Reading Error Fault : Type 0} → (Error → Option Fault) → (Value → Reading)
     → Result Value Error → Result Reading Fault → Type 0
 Gives told view (Ok value) wanted = wanted ≡ Ok (view value)
 Gives told view (Err error) wanted = IsFault (told error) wanted
 
--- a step left `after` where that was wanted, or told the wanted fault; what it leaves with a fault is not said
+-- a step left `after` where that was wanted, or told the wanted fault; what it leaves with a fault is not
+-- said
 abbrev pub Steps : {Reading Error Fault : Type 0} → (Error → Option Fault) → Reading
     → Result ⊤ Error → Result Reading Fault → Type 0
 Steps told after (Ok done) wanted = wanted ≡ Ok after

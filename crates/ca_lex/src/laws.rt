@@ -4,8 +4,9 @@ ghost use Rattle.ca_lex.specs.Length.{length_of};
 ghost use Rattle.ca_lex.specs.LengthGrammar.{IsLength};
 ghost use Rattle.ca_lex.specs.FirstFault.{steps_from, IsFirstFault};
 
-/// A word is a length exactly where it is digits, an optional point and digits, an optional exponent and an optional
-/// suffix, one after another, with 1 to 32 digits before the exponent and a value from 1 to 10^24. Its value is theirs.
+/// A word is a length exactly where it is digits, an optional point and digits, an optional exponent and an
+/// optional suffix, one after another, with 1 to 32 digits before the exponent and a value from 1 to 10^24.
+/// Its value is theirs.
 pub fn length_grammar()
     ensures found { (word : List ℕ) (value : ℕ) → length_of word ≡ Some value → IsLength word value }
     ensures only { (word : List ℕ) (value : ℕ) → IsLength word value → length_of word ≡ Some value }

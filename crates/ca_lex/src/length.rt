@@ -1,7 +1,10 @@
 //! Lengths as words spell them.
-ghost use Rattle.std.specs.Prelude.{◌≡◌, ◌<◌, ◌≤◌, ◌+◌, ◌*◌, ◌^◌, ◌/◌, ◌++◌, ℕ, length, fold, take, drop, option_map, Some, None, IfSome, IfNone};
+ghost use Rattle.std.specs.Prelude.{◌≡◌, ◌<◌, ◌≤◌, ◌+◌, ◌*◌, ◌^◌, ◌/◌, ◌++◌, ℕ, length, fold, take, drop};
+ghost use Rattle.std.specs.Prelude.{option_map, Some, None, IfSome, IfNone};
 ghost use Rattle.ca_lex.specs.LengthViews.{IsMantissa, AllDigits, shift_of, IsSmallShift};
-ghost use Rattle.ca_lex.specs.Length.{is_digit, digits_len, with_digit, number_of, fraction_at, places_at, signed_at, exponent_at, suffix_of, places_of, is_e, is_m, scaled, in_range, mantissa_of, length_of};
+ghost use Rattle.ca_lex.specs.Length.{is_digit, digits_len, with_digit, number_of, fraction_at, places_at};
+ghost use Rattle.ca_lex.specs.Length.{signed_at, exponent_at, suffix_of, places_of, is_e, is_m, scaled};
+ghost use Rattle.ca_lex.specs.Length.{in_range, mantissa_of, length_of};
 
 /// A length in units of 10^-18 metre.
 #[derive(Clone, Copy, Debug, PartialEq, Eq, PartialOrd, Ord)]
@@ -272,7 +275,8 @@ impl Mantissa<'_> {
     }
 }
 
-/// The length that the word spells, if it spells one. Digits behind the eighteenth place of a metre are dropped.
+/// The length that the word spells, if it spells one. Digits behind the eighteenth place of a metre are
+/// dropped.
 #[tactic(auto, unfolding(crate::specs::Length::length_of))]
 pub fn read_length(word: &[u8]) -> Option<Length>
     ensures { option_map (λ found. found.0) result ≡ length_of word.now }

@@ -1,5 +1,5 @@
-//! Texts of bytes, lists of them, and what the readers share: the logical lines, words and lengths of a cell netlist,
-//! tokens, and the laws of a reading up to its first fault.
+//! Texts of bytes, lists of them, and what the readers share: the logical lines, words and lengths of a cell
+//! netlist, tokens, and the laws of a reading up to its first fault.
 #![tactic(auto)]
 
 mod laws;

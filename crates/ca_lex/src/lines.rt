@@ -9,8 +9,8 @@ use ca_base::NoMemory;
 use std::alloc::Global;
 use std::marker::Model;
 
-/// A logical line, with the number of its first physical line, counted from 1. A text that begins with `+` is a
-/// continuation that had no card before it.
+/// A logical line, with the number of its first physical line, counted from 1. A text that begins with `+` is
+/// a continuation that had no card before it.
 #[derive(Drop)]
 pub struct Line {
     pub line: usize,
@@ -103,7 +103,8 @@ impl Joiner {
     }
 }
 
-/// The logical lines of a cell netlist, without comments. The parts of a continued card are joined by single blanks.
+/// The logical lines of a cell netlist, without comments. The parts of a continued card are joined by single
+/// blanks.
 pub fn spice_lines(alloc: Global, bytes: &[u8]) -> Result<Lines, NoMemory>
     ensures ok { IfOk result (λ lines. lines ≡ spice_lines bytes.now) }
 {

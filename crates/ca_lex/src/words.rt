@@ -1,6 +1,7 @@
 //! The words of a logical line.
 ghost use Rattle.std.specs.Prelude.{◌≡◌, ◌<◌, ◌≤◌, ◌∷◌, ◌++◌, length, map, IfOk, List, ℕ, false};
-ghost use Rattle.ca_lex.specs.Words.{is_blank, ends_word, word_len, words_of, BeginsWord, first_word_len, upper_case};
+ghost use Rattle.ca_lex.specs.Words.{is_blank, ends_word, word_len, words_of, BeginsWord, first_word_len};
+ghost use Rattle.ca_lex.specs.Words.{upper_case};
 
 use crate::Text;
 use ca_base::NoMemory;
@@ -55,8 +56,8 @@ fn first_word(text: &[u8]) -> (&[u8], &[u8])
     text.split_at(first_word_len(text))
 }
 
-/// The words of a text, in order: the longest runs of bytes that are neither blanks nor `=`, and each `=`. Bytes of any
-/// value may stand in a word.
+/// The words of a text, in order: the longest runs of bytes that are neither blanks nor `=`, and each `=`.
+/// Bytes of any value may stand in a word.
 pub fn spice_words(alloc: Global, text: &[u8]) -> Result<Vec<&[u8]>, NoMemory>
     ensures ok { IfOk result (λ words. map (λ word. word.now) words.items ≡ words_of text.now) }
 {

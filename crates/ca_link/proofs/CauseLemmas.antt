@@ -1,5 +1,6 @@
 -- What is told of a fault is the first rule that is broken; where nothing is, none is.
-use Rattle.std.proofs.Common.{◌≡◌, ℕ, ◌+◌, ◌<◌, ◌⊎◌, List, [], ◌∷◌, length, inl, inr, refl, sym, ◌∙◌, ap, ap₂, subst, arith}
+use Rattle.std.proofs.Common.{◌≡◌, ℕ, ◌+◌, ◌<◌, ◌⊎◌, List, [], ◌∷◌, length, inl, inr, refl, sym, ◌∙◌, ap, ap₂}
+use Rattle.std.proofs.Common.{subst, arith}
 use Rattle.std.specs.Prelude.{Option, Some, None}
 use Rattle.ca_cell.specs.Library.{Named}
 use Rattle.ca_verilog.specs.declared.raw.RawNetlist.{RawNetlist}
@@ -26,13 +27,15 @@ use Rattle.ca_wired.specs.Wired.{IsFirstMisdriven, AreDriven, KeepsNetRules, IsW
 use Rattle.ca_link.specs.Stages.{IsMisused, PassesLimit}
 use Rattle.ca_link.specs.Told.{TellsMisdriven, TellsMisused, TellsFault}
 use Rattle.ca_link.specs.Limits.{chip_defects, first_limit}
-use Rattle.ca_link.proofs.ControlLemmas.{control_broken, inverted_used, misused_pin, no_earlier_control, no_earlier_inverted, controls_kept, inverted_kept}
+use Rattle.ca_link.proofs.ControlLemmas.{control_broken, inverted_used, misused_pin, no_earlier_control}
+use Rattle.ca_link.proofs.ControlLemmas.{no_earlier_inverted, controls_kept, inverted_kept}
 use Rattle.ca_link.proofs.DriverLemmas.{driven_keeps, none_misdriven_before, is_undriven, is_double_driven}
 use Rattle.ca_link.proofs.LimitLemmas.{instances_are, defects_are, keeps_limits, TellsLimit, tells_limit}
 use Rattle.ca_link.proofs.LoopLemmas.{loop_is, no_loop}
 use Rattle.ca_link.proofs.NameLemmas.{told_driver, told_control}
 use Rattle.ca_link.proofs.PathLemmas.{observed_path, none_observed_before, unobserved}
-use Rattle.ca_link.proofs.StageLemmas.{KeepsAt, keeps_rules, first_broken, no_later, earlier_place, earlier_pin, not_earlier_alone}
+use Rattle.ca_link.proofs.StageLemmas.{KeepsAt, keeps_rules, first_broken, no_later, earlier_place}
+use Rattle.ca_link.proofs.StageLemmas.{earlier_pin, not_earlier_alone}
 
 module _ (raw : RawNetlist) (library : List Named) (scan : List ScanRow) (chip : Chip) (link : IsLinkOf (wiring_of raw library scan) chip) where
   -- a control pin or an inverted output before this place breaks no rule

@@ -1,5 +1,7 @@
--- Control pins and inverted outputs: a linked chip has the first that breaks its rule where its wiring has it.
-use Rattle.std.proofs.Common.{◌≡◌, ℕ, ◌+◌, ◌<◌, List, [], ◌∷◌, ◌++◌, true, inl, inr, refl, sym, ◌∙◌, ap, subst, arith, true≢false}
+-- Control pins and inverted outputs: a linked chip has the first that breaks its rule where its wiring has
+-- it.
+use Rattle.std.proofs.Common.{◌≡◌, ℕ, ◌+◌, ◌<◌, List, [], ◌∷◌, ◌++◌, true, inl, inr, refl, sym, ◌∙◌, ap}
+use Rattle.std.proofs.Common.{subst, arith, true≢false}
 use Rattle.std.specs.Prelude.{Option, Some, None, IsSomeAnd, slice_get, eqb, not, ◌⊎◌, option_to_list}
 use Rattle.std.proofs.lemmas.Bool.{cases_lt, cases_Bool, or_cases, or_left, or_right, eqb-true, eq-eqb}
 use Rattle.ca_base.specs.First.{IsFirst}
@@ -24,7 +26,10 @@ use Rattle.ca_wired.proofs.FeedingLemmas.{item_of}
 use Rattle.ca_link.proofs.NetsLemmas.{wire_at, net_at, one_net_joined, joined_one_net, also_there}
 use Rattle.ca_link.proofs.LoadLemmas.{on_input, input_on, loaded_wire, wire_loaded}
 use Rattle.ca_link.proofs.RowLemmas.{row_means, means_row}
-use Rattle.ca_link.proofs.ScanLemmas.{all_before, before_all, scan_body, body_scan, is_scan, first_scan_at, some_first, IsMisusedAt, misused_at, none_misused, control_net, control_input, breaks_pin, IsFirstPin, first_pin, no_pin, breaks_cases, misplaced_breaks, shared_breaks}
+use Rattle.ca_link.proofs.ScanLemmas.{all_before, before_all, scan_body, body_scan, is_scan, first_scan_at}
+use Rattle.ca_link.proofs.ScanLemmas.{some_first, IsMisusedAt, misused_at, none_misused, control_net}
+use Rattle.ca_link.proofs.ScanLemmas.{control_input, breaks_pin, IsFirstPin, first_pin, no_pin, breaks_cases}
+use Rattle.ca_link.proofs.ScanLemmas.{misplaced_breaks, shared_breaks}
 
 module _ (wiring : Wiring) (chip : Chip) (link : IsLinkOf wiring chip) where
   -- the instance is of a scan cell, with these nets

@@ -1,4 +1,5 @@
--- A net of a link that nothing drives, or two do, breaks a rule of its wiring; one with one driver breaks none.
+-- A net of a link that nothing drives, or two do, breaks a rule of its wiring; one with one driver breaks
+-- none.
 use Rattle.std.proofs.Common.{◌≡◌, ℕ, ◌<◌, ◌⊎◌, inl, inr, refl, sym, ◌∙◌, ap, subst, arith}
 use Rattle.std.specs.Prelude.{Some, slice_get}
 use Rattle.ca_chip.specs.declared.fault.Driver.{Driver}

@@ -1,9 +1,11 @@
 -- Joined wires and nets: wires of a linked chip are joined where their nets are the same.
-use Rattle.std.proofs.Common.{◌≡◌, ℕ, zero, suc, List, [], ◌∷◌, Bool, true, inl, inr, refl, sym, ◌∙◌, ap, subst, arith, true≢false}
+use Rattle.std.proofs.Common.{◌≡◌, ℕ, zero, suc, List, [], ◌∷◌, Bool, true, inl, inr, refl, sym, ◌∙◌, ap}
+use Rattle.std.proofs.Common.{subst, arith, true≢false}
 use Rattle.std.specs.Prelude.{Some, slice_get, eqb, ◌↔◌}
 use Rattle.std.specs.List.{Contains, flat_map, list_any}
 use Rattle.std.proofs.lemmas.Bool.{or_cases, or_left, or_right, eqb-true, eq-eqb}
-use Rattle.std.proofs.lemmas.List.Elements.{Contains-append_left, Contains-append_right, Contains-append_cases}
+use Rattle.std.proofs.lemmas.List.Elements.{Contains-append_left, Contains-append_right}
+use Rattle.std.proofs.lemmas.List.Elements.{Contains-append_cases}
 use Rattle.std.proofs.lemmas.Option.{slice_get_within}
 use Rattle.ca_chip.specs.Wiring.{WiredPart, Wiring}
 use Rattle.ca_chip.specs.Nets.{IsNet, AreNets, IsNetOf, AreNetsOf}

@@ -1,6 +1,8 @@
 -- What is counted of a link is counted of its wiring, so that the limits are the same for all links of one.
-use Rattle.std.proofs.Common.{◌≡◌, ℕ, suc, ◌+◌, ◌<◌, ◌⊎◌, Bool, true, false, List, [], ◌∷◌, ◌++◌, length, map, inl, inr, refl, sym, ◌∙◌, ap, ap₂, subst, arith, length-append}
-use Rattle.std.specs.Prelude.{Option, Some, None, slice_get, option_to_list, ◌&&◌, ◌||◌, not, if◌then◌else◌, nat_lt}
+use Rattle.std.proofs.Common.{◌≡◌, ℕ, suc, ◌+◌, ◌<◌, ◌⊎◌, Bool, true, false, List, [], ◌∷◌, ◌++◌, length, map}
+use Rattle.std.proofs.Common.{inl, inr, refl, sym, ◌∙◌, ap, ap₂, subst, arith, length-append}
+use Rattle.std.specs.Prelude.{Option, Some, None, slice_get, option_to_list, ◌&&◌, ◌||◌, not, if◌then◌else◌}
+use Rattle.std.specs.Prelude.{nat_lt}
 use Rattle.std.specs.List.{list_any, flat_map, sum_by}
 use Rattle.std.proofs.lemmas.Bool.{ltb-true, ltb-false}
 use Rattle.std.proofs.lemmas.List.Sums.{sum_by-cons}
@@ -8,7 +10,8 @@ use Rattle.std.proofs.lemmas.Option.{get_or_from_slice_get}
 use Rattle.ca_cell.specs.declared.raw.RawCell.{RawCell}
 use Rattle.ca_chip.specs.declared.fault.ChipFault.{ChipFault}
 use Rattle.ca_chip.specs.declared.fault.ChipFault.TheVariants as fault
-use Rattle.ca_chip.specs.declared.fault.TheConstants.{MOST_INSTANCES, MOST_CHIP_INPUTS, MOST_CHIP_OUTPUTS, MOST_CHIP_DEFECTS}
+use Rattle.ca_chip.specs.declared.fault.TheConstants.{MOST_INSTANCES, MOST_CHIP_INPUTS, MOST_CHIP_OUTPUTS}
+use Rattle.ca_chip.specs.declared.fault.TheConstants.{MOST_CHIP_DEFECTS}
 use Rattle.ca_chip.specs.Wiring.{Meaning, Unknown, Broken, Library, ScanCell, WiredPart, Wiring}
 use Rattle.ca_chip.specs.Nets.{IsNetOf, AreNetsOf}
 use Rattle.ca_chip.specs.Linking.{HasMeaning, IsLinkOf}
@@ -18,7 +21,8 @@ use Rattle.ca_wired.specs.declared.parts.Body.TheVariants.{Gate, Scan}
 use Rattle.ca_wired.specs.declared.parts.Part.{Part}
 use Rattle.ca_wired.specs.declared.parts.PortBit.{PortBit}
 use Rattle.ca_wired.specs.declared.parts.ScanNets.{ScanNets}
-use Rattle.ca_wired.specs.Linked.{Chip, has, input_nets, output_nets, path_nets, q_nets, d_nets, is_scan_path, port_nets, inputs_of, outputs_of, no_cell}
+use Rattle.ca_wired.specs.Linked.{Chip, has, input_nets, output_nets, path_nets, q_nets, d_nets, is_scan_path}
+use Rattle.ca_wired.specs.Linked.{port_nets, inputs_of, outputs_of, no_cell}
 use Rattle.ca_wired.specs.Instances.{if_gate, gates_from, gates_of}
 use Rattle.ca_link.specs.Stages.{PassesLimit}
 use Rattle.ca_link.specs.Limits.{body_defects, chip_defects, first_limit}

@@ -1,9 +1,11 @@
 -- Which nets of a linked chip have a load, or are on ports, and which wires.
-use Rattle.std.proofs.Common.{◌≡◌, ℕ, zero, suc, ◌<◌, [], ◌∷◌, Bool, true, false, inl, inr, refl, sym, ◌∙◌, ap, subst, arith, get_or}
+use Rattle.std.proofs.Common.{◌≡◌, ℕ, zero, suc, ◌<◌, [], ◌∷◌, Bool, true, false, inl, inr, refl, sym, ◌∙◌}
+use Rattle.std.proofs.Common.{ap, subst, arith, get_or}
 use Rattle.std.specs.Prelude.{slice_get, eqb, not, if◌then◌else◌, IsTrue}
 use Rattle.std.specs.List.{Contains, flat_map}
 use Rattle.std.proofs.lemmas.Bool.{or_cases, or_left, or_right, and_parts, and_from, eqb-true, eq-eqb}
-use Rattle.std.proofs.lemmas.List.Elements.{Contains-append_left, Contains-append_right, Contains-append_cases}
+use Rattle.std.proofs.lemmas.List.Elements.{Contains-append_left, Contains-append_right}
+use Rattle.std.proofs.lemmas.List.Elements.{Contains-append_cases}
 use Rattle.ca_wired.specs.Linked.{Chip, input_nets}
 use Rattle.ca_wired.specs.Paths.{is_among, is_port_on, is_on_port}
 use Rattle.ca_wired.specs.Controls.{is_loaded}
@@ -15,7 +17,8 @@ use Rattle.ca_chip.specs.Rules.{IsOnInputPort, IsJoinedWithOne}
 use Rattle.ca_wired.proofs.DriverLemmas.{to_some}
 use Rattle.ca_wired.proofs.FeedingLemmas.{item_of}
 use Rattle.ca_link.proofs.NetsLemmas.{one_net_joined, joined_one_net, also_there}
-use Rattle.ca_link.proofs.JoinedLemmas.{any_at, at_any, flat_at, at_flat, list_joined, joined_list, Matches, one_joined, joined_one}
+use Rattle.ca_link.proofs.JoinedLemmas.{any_at, at_any, flat_at, at_flat, list_joined, joined_list, Matches}
+use Rattle.ca_link.proofs.JoinedLemmas.{one_joined, joined_one}
 
 -- a list of one
 pub only_one : (x y : ℕ) → Contains (x ∷ []) y → x ≡ y

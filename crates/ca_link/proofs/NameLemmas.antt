@@ -14,7 +14,9 @@ use Rattle.ca_verilog.specs.declared.raw.RawInstance.{RawInstance}
 use Rattle.ca_verilog.specs.declared.raw.RawNetlist.{RawNetlist}
 use Rattle.ca_chip.specs.declared.scan_row.ScanRow.{ScanRow}
 use Rattle.ca_chip.specs.declared.fault.Driver.{Driver}
-use Rattle.ca_chip.specs.Wiring.{ScanCell, WiredPart, meaning_with, meaning_of, row_of, names_with, output_names, output_wires, open_count, bit_on, wire_of, wired_part, wired_parts, wiring_of}
+use Rattle.ca_chip.specs.Wiring.{ScanCell, WiredPart, meaning_with, meaning_of, row_of, names_with}
+use Rattle.ca_chip.specs.Wiring.{output_names, output_wires, open_count, bit_on, wire_of, wired_part}
+use Rattle.ca_chip.specs.Wiring.{wired_parts, wiring_of}
 use Rattle.ca_chip.specs.Linking.{HasMeaning, IsLinkOf}
 use Rattle.ca_chip.specs.Rules.{IsDriver, control_names}
 use Rattle.ca_chip.specs.Same.{driving_of}

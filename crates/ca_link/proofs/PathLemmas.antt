@@ -1,5 +1,6 @@
 -- The scan path: a linked chip has its first observed net where its wiring has it.
-use Rattle.std.proofs.Common.{◌≡◌, ℕ, zero, suc, ◌<◌, List, [], ◌∷◌, ◌++◌, true, false, inl, inr, refl, sym, ◌∙◌, ap, arith, true≢false}
+use Rattle.std.proofs.Common.{◌≡◌, ℕ, zero, suc, ◌<◌, List, [], ◌∷◌, ◌++◌, true, false, inl, inr, refl, sym}
+use Rattle.std.proofs.Common.{◌∙◌, ap, arith, true≢false}
 use Rattle.std.specs.Prelude.{Option, Some, None, slice_get, take, drop, ◌||◌, ◌&&◌, ◌⊎◌, ◌↔◌, option_to_list}
 use Rattle.std.specs.List.{Contains}
 use Rattle.std.proofs.lemmas.Bool.{or_cases, or_left, or_right, and_parts, and_from}
@@ -10,7 +11,8 @@ use Rattle.ca_wired.specs.declared.parts.Body.TheVariants.{Gate, Scan}
 use Rattle.ca_wired.specs.declared.parts.Part.{Part}
 use Rattle.ca_wired.specs.declared.parts.Source.{Source}
 use Rattle.ca_wired.specs.declared.parts.Source.TheVariants.{FromPort, FromConstant, FromPin}
-use Rattle.ca_wired.specs.Linked.{Chip, net_count, path_nets, data_nets, input_nets, output_nets, has, is_scan_path, Drives}
+use Rattle.ca_wired.specs.Linked.{Chip, net_count, path_nets, data_nets, input_nets, output_nets, has}
+use Rattle.ca_wired.specs.Linked.{is_scan_path, Drives}
 use Rattle.ca_wired.specs.Drivers.{instance_of}
 use Rattle.ca_wired.specs.Paths.{is_among, is_on_data, is_on_port, is_observed, IsFirstObserved}
 use Rattle.ca_wired.specs.Controls.{is_used, pin_fault, first_scan, body_fault, misused_of}
@@ -18,10 +20,12 @@ use Rattle.ca_wired.specs.Wired.{AreDriven, AreUnobserved}
 use Rattle.ca_chip.specs.Wiring.{Meaning, Unknown, Broken, Library, ScanCell, Wiring}
 use Rattle.ca_chip.specs.Nets.{IsNetOf, AreNetsOf}
 use Rattle.ca_chip.specs.Linking.{HasMeaning, IsLinkOf}
-use Rattle.ca_chip.specs.Rules.{last_of, path_inputs, path_outputs, path_wires, data_wires_with, data_wires, IsJoinedWithOne, IsObservedPath}
+use Rattle.ca_chip.specs.Rules.{last_of, path_inputs, path_outputs, path_wires, data_wires_with, data_wires}
+use Rattle.ca_chip.specs.Rules.{IsJoinedWithOne, IsObservedPath}
 use Rattle.ca_wired.proofs.DriverLemmas.{some_inj, to_some}
 use Rattle.ca_link.proofs.NetsLemmas.{net_of_chip, net_of_wiring, net_within, wire_of_net}
-use Rattle.ca_link.proofs.JoinedLemmas.{any_at, at_any, has_contains, contains_has, known_by, list_joined, joined_list, Matches, one_joined, joined_one}
+use Rattle.ca_link.proofs.JoinedLemmas.{any_at, at_any, has_contains, contains_has, known_by, list_joined}
+use Rattle.ca_link.proofs.JoinedLemmas.{joined_list, Matches, one_joined, joined_one}
 use Rattle.ca_link.proofs.LoadLemmas.{only_one, on_input, input_on, on_output, output_on}
 use Rattle.ca_link.proofs.ScanLemmas.{some_first, none_misused, no_pin}
 

@@ -1,5 +1,6 @@
 -- The scan instances of a linked chip, and which of their pins break a rule first.
-use Rattle.std.proofs.Common.{◌≡◌, ℕ, zero, suc, ◌+◌, ◌<◌, List, [], ◌∷◌, Bool, true, false, inl, inr, refl, sym, ◌∙◌, ap, subst, arith}
+use Rattle.std.proofs.Common.{◌≡◌, ℕ, zero, suc, ◌+◌, ◌<◌, List, [], ◌∷◌, Bool, true, false, inl, inr, refl}
+use Rattle.std.proofs.Common.{sym, ◌∙◌, ap, subst, arith}
 use Rattle.std.specs.Prelude.{Option, Some, None, slice_get, take, eqb, ◌||◌, ◌⊎◌, if◌then◌else◌}
 use Rattle.std.specs.List.{All}
 use Rattle.std.proofs.lemmas.Bool.{or_cases, or_left, or_right}
@@ -12,7 +13,8 @@ use Rattle.ca_wired.specs.declared.parts.Body.{Body}
 use Rattle.ca_wired.specs.declared.parts.Body.TheVariants.{Gate, Scan}
 use Rattle.ca_wired.specs.declared.parts.Part.{Part}
 use Rattle.ca_wired.specs.Linked.{Chip, input_nets, IsGate}
-use Rattle.ca_wired.specs.Controls.{is_misplaced, is_used, pin_fault, scan_or, first_scan, body_fault, misused_or, misused_from}
+use Rattle.ca_wired.specs.Controls.{is_misplaced, is_used, pin_fault, scan_or, first_scan, body_fault}
+use Rattle.ca_wired.specs.Controls.{misused_or, misused_from}
 use Rattle.ca_chip.specs.declared.scan_row.ScanRow.{ScanRow}
 use Rattle.ca_chip.specs.Wiring.{Meaning, Unknown, Broken, Library, ScanCell}
 use Rattle.ca_chip.specs.Linking.{HasMeaning}

@@ -5,7 +5,8 @@ use Rattle.ca_cell.specs.declared.raw.RawCell.{RawCell}
 use Rattle.ca_cell.specs.Nodes.{defect_count}
 use Rattle.ca_chip.specs.declared.fault.ChipFault.{ChipFault}
 use Rattle.ca_chip.specs.declared.fault.ChipFault.TheVariants as fault
-use Rattle.ca_chip.specs.declared.fault.TheConstants.{MOST_INSTANCES, MOST_CHIP_INPUTS, MOST_CHIP_OUTPUTS, MOST_CHIP_DEFECTS}
+use Rattle.ca_chip.specs.declared.fault.TheConstants.{MOST_INSTANCES, MOST_CHIP_INPUTS, MOST_CHIP_OUTPUTS}
+use Rattle.ca_chip.specs.declared.fault.TheConstants.{MOST_CHIP_DEFECTS}
 use Rattle.ca_wired.specs.declared.parts.Body.{Body}
 use Rattle.ca_wired.specs.declared.parts.Body.TheVariants.{Gate, Scan}
 use Rattle.ca_wired.specs.Linked.{Chip, cell_of, inputs_of, outputs_of}

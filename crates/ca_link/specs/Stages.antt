@@ -2,10 +2,12 @@
 use Rattle.std.specs.Prelude.{ℕ, ◌≡◌, ◌<◌, ◌⊎◌, List, length}
 use Rattle.std.specs.List.{sum_by}
 use Rattle.ca_chip.specs.declared.fault.Driver.{Driver}
-use Rattle.ca_chip.specs.declared.fault.TheConstants.{MOST_INSTANCES, MOST_CHIP_INPUTS, MOST_CHIP_OUTPUTS, MOST_CHIP_DEFECTS}
+use Rattle.ca_chip.specs.declared.fault.TheConstants.{MOST_INSTANCES, MOST_CHIP_INPUTS, MOST_CHIP_OUTPUTS}
+use Rattle.ca_chip.specs.declared.fault.TheConstants.{MOST_CHIP_DEFECTS}
 use Rattle.ca_chip.specs.Wiring.{Wiring}
 use Rattle.ca_chip.specs.Linking.{IsLinkOf}
-use Rattle.ca_chip.specs.Rules.{IsDoubleDriven, IsUndriven, BreaksControl, UsesInverted, library_count, defects_of}
+use Rattle.ca_chip.specs.Rules.{IsDoubleDriven, IsUndriven, BreaksControl, UsesInverted, library_count}
+use Rattle.ca_chip.specs.Rules.{defects_of}
 use Rattle.ca_wired.specs.Linked.{Chip, inputs_of, outputs_of}
 
 -- two drive the net, or nothing does

@@ -1,5 +1,6 @@
 -- The causes of a command on a chip, from those of its linking and its tracing.
-use Rattle.std.proofs.Common.{ℕ, ◌≡◌, ◌⊎◌, inl, inr, refl, sym, subst, List, map, Option, Result, Ok, Err, IsErrAnd, IfErr}
+use Rattle.std.proofs.Common.{ℕ, ◌≡◌, ◌⊎◌, inl, inr, refl, sym, subst, List, map, Option, Result, Ok, Err}
+use Rattle.std.proofs.Common.{IsErrAnd, IfErr}
 use Rattle.ca_store.specs.Store.{Files}
 use Rattle.ca_cell.specs.Library.{raw_of}
 use Rattle.ca_flatten.specs.Transistors.{HaveTransistors}

@@ -1,6 +1,7 @@
--- How what is said of a file follows from what is said of its bytes, and the causes of the readings from those of
--- the stages.
-use Rattle.std.proofs.Common.{ℕ, ◌≡◌, ◌≤◌, ◌⊎◌, inl, inr, refl, sym, subst, List, length, Option, Some, None, Ok}
+-- How what is said of a file follows from what is said of its bytes, and the causes of the readings from
+-- those of the stages.
+use Rattle.std.proofs.Common.{ℕ, ◌≡◌, ◌≤◌, ◌⊎◌, inl, inr, refl, sym, subst, List, length, Option, Some, None}
+use Rattle.std.proofs.Common.{Ok}
 use Rattle.std.specs.Prelude.{IsOk, IsSomeAnd}
 use Rattle.ca_store.specs.Store.{Files}
 use Rattle.ca_store.specs.ReadFault.{IsWhole}
@@ -12,7 +13,8 @@ use Rattle.ca_load.specs.declared.cells.TheConstants.{MAX_CELLS}
 use Rattle.ca_load.specs.declared.netlists.TheConstants.{MAX_NETLIST}
 use Rattle.ca_load.specs.Files.{OfFile, TellsStoreFault}
 use Rattle.ca_load.specs.Texts.{IsLibraryOf, IsNetlistOf, IsTableAt, InputFiles, Inputs, AreRead}
-use Rattle.ca_load.specs.Causes.{HasLibrary, HasNetlist, IsLibraryCause, IsNetlistCause, IsScanCause, IsInputCause}
+use Rattle.ca_load.specs.Causes.{HasLibrary, HasNetlist, IsLibraryCause, IsNetlistCause, IsScanCause}
+use Rattle.ca_load.specs.Causes.{IsInputCause}
 
 -- what holds of the bytes that were read holds of the file
 pub of_whole : (files : Option Files) (name bytes : List ℕ) (limit : ℕ) (Holds : List ℕ → Type 0)

@@ -1,5 +1,6 @@
 -- The rows that a table of scan cells reads as have different cells.
-use Rattle.std.proofs.Common.{◌≡◌, ℕ, Bool, true, false, List, [], ◌∷◌, ◌++◌, map, refl, sym, subst, Option, Some, None, Result, Ok, Err}
+use Rattle.std.proofs.Common.{◌≡◌, ℕ, Bool, true, false, List, [], ◌∷◌, ◌++◌, map, refl, sym, subst, Option}
+use Rattle.std.proofs.Common.{Some, None, Result, Ok, Err}
 use Rattle.std.specs.Prelude.{if◌then◌else◌}
 use Rattle.std.specs.List.{IsDistinct}
 use Rattle.std.specs.Str.{bytes_eq}
@@ -7,7 +8,8 @@ use Rattle.std.proofs.lemmas.List.{map-append}
 use Rattle.ca_lex.specs.FirstFault.{steps_from}
 use Rattle.ca_chip.specs.declared.scan_row.ScanRow.{ScanRow}
 use Rattle.ca_verilog.proofs.DistinctLemmas.{distinct_grown}
-use Rattle.ca_scan.specs.Table.{cells_of, may_join, with_fields, row_with, Numbered, numbered, record_step, is_header, rows_of, table_of}
+use Rattle.ca_scan.specs.Table.{cells_of, may_join, with_fields, row_with, Numbered, numbered, record_step}
+use Rattle.ca_scan.specs.Table.{is_header, rows_of, table_of}
 use Rattle.ca_scan.proofs.TableLemmas.{is_new}
 
 -- these rows have different cells

@@ -8,7 +8,9 @@ use Rattle.std.specs.List.{All}
 use Rattle.ca_base.specs.First.{IsFirst}
 use Rattle.ca_cell.specs.declared.raw.RawCell.{RawCell}
 use Rattle.ca_cell.specs.declared.rule.CellRule.{CellRule}
-use Rattle.ca_cell.specs.declared.rule.CellRule.TheVariants.{NoRail, TooManyDevices, TooManyNodes, TooManyInputs, NoOutput, TooManyOutputs, InputDrivesChannel}
+use Rattle.ca_cell.specs.declared.rule.CellRule.TheVariants.{NoRail, TooManyDevices, TooManyNodes}
+use Rattle.ca_cell.specs.declared.rule.CellRule.TheVariants.{TooManyInputs, NoOutput, TooManyOutputs}
+use Rattle.ca_cell.specs.declared.rule.CellRule.TheVariants.{InputDrivesChannel}
 use Rattle.ca_cell.specs.Rules.{channel_pin, DrivesChannel, Breaks, rank_of, IsFirstBroken}
 
 -- an entry that has a property isn't before the first one

@@ -1,5 +1,6 @@
 -- Files that give a chip are refused for want of memory alone, or where the store failed.
-use Rattle.std.proofs.Common.{ℕ, ◌≡◌, ◌≤◌, ◌<◌, ◌⊎◌, ◌∙◌, inl, inr, refl, sym, ap, subst, arith, List, length, Option, Some, None, Result, Ok, Err}
+use Rattle.std.proofs.Common.{ℕ, ◌≡◌, ◌≤◌, ◌<◌, ◌⊎◌, ◌∙◌, inl, inr, refl, sym, ap, subst, arith, List, length}
+use Rattle.std.proofs.Common.{Option, Some, None, Result, Ok, Err}
 use Rattle.std.specs.Prelude.{IsSome, IsSomeAnd}
 use Rattle.std.proofs.lemmas.Option.{same_Some}
 use Rattle.ca_store.specs.Store.{Files, Rose, MayHave}
@@ -16,15 +17,19 @@ use Rattle.ca_scan.specs.ChainFault.{AreAllChains, IsChainCause}
 use Rattle.ca_scan.proofs.AnswerLemmas.{one_answer}
 use Rattle.ca_fault.specs.declared.fault.LimitKind.TheVariants as limit
 use Rattle.ca_fault.specs.declared.fault.Fault.{Fault}
-use Rattle.ca_fault.specs.declared.fault.Fault.TheVariants.{Cells, Netlist, Scan, Cell, Chain, TooLong, Limit, StoreFailed, NoMemory}
+use Rattle.ca_fault.specs.declared.fault.Fault.TheVariants.{Cells, Netlist, Scan, Cell, Chain, TooLong, Limit}
+use Rattle.ca_fault.specs.declared.fault.Fault.TheVariants.{StoreFailed, NoMemory}
 use Rattle.ca_fault.specs.declared.fault.Fault.TheVariants as fault_
 use Rattle.ca_load.specs.declared.cells.TheConstants.{MAX_CELLS}
 use Rattle.ca_load.specs.declared.netlists.TheConstants.{MAX_NETLIST}
 use Rattle.ca_load.specs.declared.tables.TheConstants.{MAX_SCAN}
 use Rattle.ca_load.specs.Files.{IsFileWith, OfFile, IsReadCause}
-use Rattle.ca_load.specs.Texts.{IsLibraryOf, IsNetlistOf, IsTableOf, IsTableAt, InputFiles, Inputs, ReadAs, OfInputs}
-use Rattle.ca_load.specs.Chips.{IsChipOf, BreakFirst, IsLinkingCause, IsTracingCause, LackChains, IsChipCause, GiveChip}
-use Rattle.ca_load.specs.Causes.{IsTextCause, IsCellsCause, IsModuleCause, IsTokensCause, IsRecordCause, IsRowsCause, IsScanCause, IsInputCause, IsLinkedCause, IsLoadCause}
+use Rattle.ca_load.specs.Texts.{IsLibraryOf, IsNetlistOf, IsTableOf, IsTableAt, InputFiles, Inputs, ReadAs}
+use Rattle.ca_load.specs.Texts.{OfInputs}
+use Rattle.ca_load.specs.Chips.{IsChipOf, BreakFirst, IsLinkingCause, IsTracingCause, LackChains, IsChipCause}
+use Rattle.ca_load.specs.Chips.{GiveChip}
+use Rattle.ca_load.specs.Causes.{IsTextCause, IsCellsCause, IsModuleCause, IsTokensCause, IsRecordCause}
+use Rattle.ca_load.specs.Causes.{IsRowsCause, IsScanCause, IsInputCause, IsLinkedCause, IsLoadCause}
 use Rattle.ca_load.proofs.SameLemmas.{one_reading}
 
 -- the fault is that of a call of the store, or want of memory

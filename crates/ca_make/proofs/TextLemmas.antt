@@ -2,7 +2,8 @@
 use Rattle.std.proofs.Common.{◌≡◌, ℕ, List, [], ◌++◌, length, ◌∙◌, ap, append_assoc}
 use Rattle.std.specs.Prelude.{codes}
 use Rattle.ca_make.specs.declared.gate.Gate.{Gate}
-use Rattle.ca_make.specs.NetlistText.{header_text, names_text, listed_from, instance_line, assign_line, chip_text}
+use Rattle.ca_make.specs.NetlistText.{header_text, names_text, listed_from, instance_line, assign_line}
+use Rattle.ca_make.specs.NetlistText.{chip_text}
 
 -- three pieces behind a text
 pub three_pieces : (start one two three a b c : List ℕ) → one ≡ start ++ a → two ≡ one ++ b → three ≡ two ++ c

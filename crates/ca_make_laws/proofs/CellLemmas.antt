@@ -4,7 +4,8 @@ use Rattle.ca_lex.specs.Physical.{lines_of, is_pin_info, card_of, physical_at}
 use Rattle.ca_lex.specs.Lines.{continued, logical_from}
 use Rattle.ca_lex.specs.Words.{words_of}
 use Rattle.ca_lex.specs.FirstFault.{steps_from}
-use Rattle.ca_lex.specs.Length.{fraction_at, places_at, signed_at, exponent_at, suffix_of, in_range, length_of}
+use Rattle.ca_lex.specs.Length.{fraction_at, places_at, signed_at, exponent_at, suffix_of, in_range}
+use Rattle.ca_lex.specs.Length.{length_of}
 use Rattle.ca_names.specs.Names.{repeats}
 use Rattle.ca_spice.specs.PinInfo as info
 use Rattle.ca_spice.specs.Card as cards

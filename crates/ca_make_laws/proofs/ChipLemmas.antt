@@ -1,5 +1,6 @@
 -- The gates and the outputs of a generated chip are in range.
-use Rattle.std.proofs.Common.{◌≡◌, ℕ, zero, suc, ◌+◌, ◌<◌, ◌≤◌, ◌==◌, ◌%◌, Bool, true, false, not, List, [], ◌∷◌}
+use Rattle.std.proofs.Common.{◌≡◌, ℕ, zero, suc, ◌+◌, ◌<◌, ◌≤◌, ◌==◌, ◌%◌, Bool, true, false, not, List, []}
+use Rattle.std.proofs.Common.{◌∷◌}
 use Rattle.std.proofs.Common.{if◌then◌else◌, length, cond, filter, arith}
 use Rattle.std.specs.List.{All, range_with_len}
 use Rattle.std.proofs.lemmas.List.Elements.{All-nil, All-cons, All-filter}
@@ -7,7 +8,8 @@ use Rattle.std.proofs.lemmas.List.FromFn.{length-range_with_len}
 use Rattle.ca_make.specs.declared.gate.Gate.{Gate}
 use Rattle.ca_make.specs.declared.gate.Gate.TheVariants as gate
 use Rattle.ca_make.specs.declared.gate.TheConstants.{INPUTS, MOST_GATES}
-use Rattle.ca_make.specs.Draw.{next_state, drawn, place_from, gate_of_kind, gate_from, state_behind, gates_from}
+use Rattle.ca_make.specs.Draw.{next_state, drawn, place_from, gate_of_kind, gate_from, state_behind}
+use Rattle.ca_make.specs.Draw.{gates_from}
 use Rattle.ca_make.specs.Chip.{IsWithin, is_loaded, gates_of, unloaded}
 use Rattle.ca_make_laws.proofs.SpelledLemmas.{AreSpelled}
 

@@ -1,6 +1,7 @@
 -- The lines of a generated chip are spelled as the items of its tree.
 use Rattle.std.proofs.Common.{◌≡◌, ℕ, List, [], ◌∷◌, ◌++◌}
-use Rattle.std.proofs.Common.{Bool, true, false, ◌-◌, nat_lt, if◌then◌else◌, refl, sym, ap, ◌∙◌, subst, arith, append_assoc, codes}
+use Rattle.std.proofs.Common.{Bool, true, false, ◌-◌, nat_lt, if◌then◌else◌, refl, sym, ap, ◌∙◌, subst, arith}
+use Rattle.std.proofs.Common.{append_assoc, codes}
 use Rattle.ca_token.specs.Piece.{piece_of, open_piece}
 use Rattle.ca_token.specs.Bytes.{is_name_byte}
 use Rattle.ca_token.specs.Scan.{scan_from}
@@ -18,7 +19,8 @@ use Rattle.ca_make.specs.NetlistText.{instance_line, assign_line}
 use Rattle.ca_make_laws.specs.ChipTree.{declared, instance_item, assign_item}
 use Rattle.ca_make_laws.proofs.SpellLemmas.{Gives, IsWord, gives_both, gives_blank, gives_sign}
 use Rattle.ca_make_laws.proofs.SpellLemmas.{gives_word, gives_open, gives_opened}
-use Rattle.ca_make_laws.proofs.WordLemmas.{IsSmall, i_word, o_word, u_word, w_word, i_name, o_name, u_name, w_name}
+use Rattle.ca_make_laws.proofs.WordLemmas.{IsSmall, i_word, o_word, u_word, w_word, i_name, o_name, u_name}
+use Rattle.ca_make_laws.proofs.WordLemmas.{w_name}
 
 pub same_text : (one other : List ℕ) (symbols : List Symbol) → one ≡ other → Gives one symbols → Gives other symbols
 same_text one other symbols is = subst (λ (t : List ℕ). Gives t symbols) is

@@ -1,6 +1,8 @@
 -- The netlist of the tree of a generated chip, in numbers.
-use Rattle.std.proofs.Common.{◌≡◌, ℕ, zero, suc, ◌+◌, ◌-◌, ◌<◌, ◌≤◌, ◌^◌, ◌==◌, Bool, true, false, not, ◌||◌, ◌&&◌, List, [], ◌∷◌, ◌++◌}
-use Rattle.std.proofs.Common.{length, map, flat_map, nat_lt, cond, if◌then◌else◌, None, Some, refl, sym, ap, ◌∙◌, subst, arith}
+use Rattle.std.proofs.Common.{◌≡◌, ℕ, zero, suc, ◌+◌, ◌-◌, ◌<◌, ◌≤◌, ◌^◌, ◌==◌, Bool, true, false, not, ◌||◌}
+use Rattle.std.proofs.Common.{◌&&◌, List, [], ◌∷◌, ◌++◌}
+use Rattle.std.proofs.Common.{length, map, flat_map, nat_lt, cond, if◌then◌else◌, None, Some, refl, sym, ap}
+use Rattle.std.proofs.Common.{◌∙◌, subst, arith}
 use Rattle.std.proofs.Common.{codes, decimal, append_assoc}
 use Rattle.std.specs.Prelude.{fold, option_map, unwrap_or}
 use Rattle.std.specs.Str.{bytes_eq}
@@ -27,7 +29,8 @@ use Rattle.ca_verilog.proofs.DistinctLemmas.{or_false, same_name}
 use Rattle.ca_syntax.specs.Tree.{Assign, Instance, Item, Declared, assigned_by, assigns}
 use Rattle.ca_syntax.specs.Tree.{instance_by, instances, ports_of}
 use Rattle.ca_syntax.specs.Names.{names_in, directs, direction_of, range_of}
-use Rattle.ca_syntax.specs.TreeNetlist.{bus_in, buses_of, bits_before, joins_of, use_of, instance_of, port_of, tree_netlist}
+use Rattle.ca_syntax.specs.TreeNetlist.{bus_in, buses_of, bits_before, joins_of, use_of, instance_of, port_of}
+use Rattle.ca_syntax.specs.TreeNetlist.{tree_netlist}
 use Rattle.ca_syntax.proofs.BehindLemmas.{OneByOne}
 use Rattle.ca_make.specs.declared.gate.Gate.{Gate}
 use Rattle.ca_make.specs.declared.gate.Gate.TheVariants as gate
@@ -36,12 +39,15 @@ use Rattle.ca_make.specs.Chip.{IsWithin}
 use Rattle.ca_make.specs.NetlistText.{numbered, candidate}
 use Rattle.ca_make_laws.specs.ChipTree.{declared, on_pin, instance_item, assign_item, items_from}
 use Rattle.ca_make_laws.specs.ChipTree.{declared_items, tree_of}
-use Rattle.ca_make_laws.specs.ChipNetlist.{bus, candidate_bit, wire_bit, on_bit, gate_instance, output_join, each_from}
+use Rattle.ca_make_laws.specs.ChipNetlist.{bus, candidate_bit, wire_bit, on_bit, gate_instance, output_join}
+use Rattle.ca_make_laws.specs.ChipNetlist.{each_from}
 use Rattle.ca_make_laws.specs.ChipNetlist.{netlist_in_numbers}
 use Rattle.ca_make_laws.proofs.SpelledLemmas.{AreSpelled}
 use Rattle.ca_make_laws.proofs.FreshLemmas.{IsNew, numbers_apart, other_letter, has_numbered}
-use Rattle.ca_make_laws.proofs.RightLemmas.{as_declared, all_declared, all_names, i_names, o_names, w_names, names_all}
-use Rattle.ca_make_laws.proofs.RightLemmas.{declared_all, names_are, all_new, directs_named, no_range, none_ranged}
+use Rattle.ca_make_laws.proofs.RightLemmas.{as_declared, all_declared, all_names, i_names, o_names, w_names}
+use Rattle.ca_make_laws.proofs.RightLemmas.{names_all}
+use Rattle.ca_make_laws.proofs.RightLemmas.{declared_all, names_are, all_new, directs_named, no_range}
+use Rattle.ca_make_laws.proofs.RightLemmas.{none_ranged}
 use Rattle.ca_make_laws.proofs.RightLemmas.{declared_bare, no_joined, name_of_declared}
 
 -- new names stay as they are

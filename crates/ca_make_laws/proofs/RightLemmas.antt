@@ -1,6 +1,8 @@
 -- The tree of a generated chip is right.
-use Rattle.std.proofs.Common.{◌≡◌, ℕ, zero, suc, ◌+◌, ◌-◌, ◌<◌, ◌≤◌, Bool, true, false, not, ◌||◌, ◌&&◌, List, [], ◌∷◌, ◌++◌}
-use Rattle.std.proofs.Common.{length, map, nat_lt, if◌then◌else◌, None, refl, sym, ap, ◌∙◌, subst, arith, codes, decimal}
+use Rattle.std.proofs.Common.{◌≡◌, ℕ, zero, suc, ◌+◌, ◌-◌, ◌<◌, ◌≤◌, Bool, true, false, not, ◌||◌, ◌&&◌, List}
+use Rattle.std.proofs.Common.{[], ◌∷◌, ◌++◌}
+use Rattle.std.proofs.Common.{length, map, nat_lt, if◌then◌else◌, None, refl, sym, ap, ◌∙◌, subst, arith}
+use Rattle.std.proofs.Common.{codes, decimal}
 use Rattle.std.specs.Prelude.{fold, option_map}
 use Rattle.std.specs.Str.{bytes_eq}
 use Rattle.std.specs.List.{All, list_any, range_with_len}
@@ -17,7 +19,8 @@ use Rattle.ca_verilog.specs.declared.table.Direction.TheVariants.{Input, Output,
 use Rattle.ca_verilog.specs.Bus.{is_inner}
 use Rattle.ca_verilog.specs.IsNetlist.{range_width, bit_count}
 use Rattle.ca_verilog.specs.Netlist.{raw_range}
-use Rattle.ca_syntax.specs.Tree.{Item, Connection, Instance, Declared, declared_as, declared_by, declarations, instance_by, instances}
+use Rattle.ca_syntax.specs.Tree.{Item, Connection, Instance, Declared, declared_as, declared_by, declarations}
+use Rattle.ca_syntax.specs.Tree.{instance_by, instances}
 use Rattle.ca_syntax.specs.Names.{names_in, is_declared, directs, is_directed, is_wire, range_of}
 use Rattle.ca_syntax.specs.Rules.{EachBehind, is_again, IsRightDeclared, IsRightItem, IsRightValue, IsRight}
 use Rattle.ca_verilog.specs.Reading.{width_in}
@@ -30,9 +33,11 @@ use Rattle.ca_make.specs.declared.gate.Gate.TheVariants as gate
 use Rattle.ca_make.specs.declared.gate.TheConstants.{INPUTS}
 use Rattle.ca_make.specs.Chip.{IsWithin}
 use Rattle.ca_make.specs.NetlistText.{numbered, candidate}
-use Rattle.ca_make_laws.specs.ChipTree.{names_of, declared, on_pin, instance_item, assign_item, items_from, declared_items, tree_of}
+use Rattle.ca_make_laws.specs.ChipTree.{names_of, declared, on_pin, instance_item, assign_item, items_from}
+use Rattle.ca_make_laws.specs.ChipTree.{declared_items, tree_of}
 use Rattle.ca_make_laws.proofs.SpelledLemmas.{AreSpelled}
-use Rattle.ca_make_laws.proofs.FreshLemmas.{IsNew, names_new, other_letter, both_lists, no_double, has_numbered}
+use Rattle.ca_make_laws.proofs.FreshLemmas.{IsNew, names_new, other_letter, both_lists, no_double}
+use Rattle.ca_make_laws.proofs.FreshLemmas.{has_numbered}
 use Rattle.ca_make_laws.proofs.FreshLemmas.{has_first, has_second}
 
 -- the names of the chip inputs, of so many outputs, and of so many wires

@@ -1,4 +1,5 @@
--- The cells of generated chips keep the rules of cells, and so a library that their text reads as has each as a cell.
+-- The cells of generated chips keep the rules of cells, and so a library that their text reads as has each as
+-- a cell.
 use Rattle.std.proofs.Common.{◌≡◌, ℕ, zero, suc, List, [], ◌∷◌, map, ap, subst, arith, codes, inl, inr}
 use Rattle.std.specs.Prelude.{IsSome, IsSomeAnd, slice_get}
 use Rattle.std.specs.List.{All, AllByRecursion}

@@ -14,13 +14,15 @@ use Rattle.ca_syntax.specs.Symbols.{Symbol, name_symbols, item_symbols, module_s
 use Rattle.ca_make.specs.declared.gate.Gate.{Gate}
 use Rattle.ca_make.specs.declared.gate.TheConstants.{INPUTS}
 use Rattle.ca_make.specs.Chip.{IsWithin}
-use Rattle.ca_make.specs.NetlistText.{numbered, counted, listed_from, declaration_line, instance_line, assign_line}
+use Rattle.ca_make.specs.NetlistText.{numbered, counted, listed_from, declaration_line, instance_line}
+use Rattle.ca_make.specs.NetlistText.{assign_line}
 use Rattle.ca_make.specs.NetlistText.{output_port, header_text, names_text, chip_text}
 use Rattle.ca_make_laws.specs.ChipTree.{names_of, declared, instance_item, assign_item, items_from}
 use Rattle.ca_make_laws.specs.ChipTree.{tree_of}
 use Rattle.ca_make_laws.proofs.SpellLemmas.{IsSpelled, Gives, Spells, end_spelled, gives_nothing, gives_both}
 use Rattle.ca_make_laws.proofs.WordLemmas.{IsSmall}
-use Rattle.ca_make_laws.proofs.LineLemmas.{IsNamed, same_text, gives_name, gives_keyword, line_end, space, comma, close}
+use Rattle.ca_make_laws.proofs.LineLemmas.{IsNamed, same_text, gives_name, gives_keyword, line_end, space}
+use Rattle.ca_make_laws.proofs.LineLemmas.{comma, close}
 use Rattle.ca_make_laws.proofs.LineLemmas.{newline, input_line, output_line, wire_line, gate_line, join_line}
 use Rattle.ca_make_laws.proofs.LineLemmas.{gen_named, i_named, o_named, module_word, endmodule_word}
 use Rattle.ca_make_laws.proofs.SpellLemmas.{gives_word, gives_opened}
@@ -165,7 +167,8 @@ module _ (a b c d e : List Item) (last : List Symbol) where
       ∙ ap (λ (s : List Symbol). (flat_map item_symbols a ++ (flat_map item_symbols b ++ flat_map item_symbols c)) ++ s)
       (append_assoc (flat_map item_symbols d) (flat_map item_symbols e) last)
 
--- gates and outputs whose text is spelled: the gates are among the candidates, and the outputs among the gates
+-- gates and outputs whose text is spelled: the gates are among the candidates, and the outputs among the
+-- gates
 pub record AreSpelled (gates : List Gate) (outputs : List ℕ) : Type 0 where
   pub few : INPUTS + length gates ≤ 8192
   pub few_outputs : length outputs ≤ length gates

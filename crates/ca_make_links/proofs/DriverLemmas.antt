@@ -1,5 +1,6 @@
 -- What drives the nets of a generated chip.
-use Rattle.std.proofs.Common.{◌≡◌, ℕ, zero, suc, ◌+◌, ◌<◌, Bool, true, false, List, [], ◌∷◌, ◌++◌, length, flat_map, nat_lt, if◌then◌else◌}
+use Rattle.std.proofs.Common.{◌≡◌, ℕ, zero, suc, ◌+◌, ◌<◌, Bool, true, false, List, [], ◌∷◌, ◌++◌, length}
+use Rattle.std.proofs.Common.{flat_map, nat_lt, if◌then◌else◌}
 use Rattle.std.proofs.Common.{Some, None, Option, inl, inr, refl, sym, ap, ◌∙◌, subst, arith}
 use Rattle.std.specs.Prelude.{slice_get, IsSomeAnd, IsTrue}
 use Rattle.std.specs.List.{Contains}
@@ -8,7 +9,8 @@ use Rattle.std.proofs.lemmas.List.Elements.{Contains-append_cases}
 use Rattle.std.proofs.lemmas.Option.{slice_get_within, get_or_from_slice_get}
 use Rattle.ca_chip.specs.declared.joined.Join.{Join}
 use Rattle.ca_chip.specs.Wiring.{HeaderBit, WiredPart, Wiring, wiring_of}
-use Rattle.ca_chip.specs.Nets.{Driving, PortBit, ConstantBit, OutputPin, DrivesWire, ComesBefore, IsNamed, constant_wire}
+use Rattle.ca_chip.specs.Nets.{Driving, PortBit, ConstantBit, OutputPin, DrivesWire, ComesBefore, IsNamed}
+use Rattle.ca_chip.specs.Nets.{constant_wire}
 use Rattle.ca_chip.specs.Rules.{IsDoubleDriven}
 use Rattle.ca_chip.specs.declared.fault.Driver.{Driver}
 use Rattle.ca_make.specs.declared.gate.TheConstants.{INPUTS}
@@ -16,9 +18,11 @@ use Rattle.ca_make_laws.specs.Cells.{sound_library}
 use Rattle.ca_make_laws.specs.ChipNetlist.{candidate_bit, wire_bit, netlist_in_numbers}
 use Rattle.ca_make_laws.proofs.SpelledLemmas.{AreSpelled}
 use Rattle.ca_make_links.proofs.PartLemmas.{given_at, gate_wires}
-use Rattle.ca_make_links.proofs.JoinLemmas.{chip_join, chip_joins, joins_are, known_as, known_input, known_wire}
+use Rattle.ca_make_links.proofs.JoinLemmas.{chip_join, chip_joins, joins_are, known_as, known_input}
+use Rattle.ca_make_links.proofs.JoinLemmas.{known_wire}
 use Rattle.ca_make_links.proofs.HeaderLemmas.{port_bit, header_is, mapped_only, bits_are}
-use Rattle.ca_make_links.proofs.LoopLemmas.{part_at, known_same, chip_gates, chip_outputs, gate_at, of_one, of_two, wire_of_gate}
+use Rattle.ca_make_links.proofs.LoopLemmas.{part_at, known_same, chip_gates, chip_outputs, gate_at, of_one}
+use Rattle.ca_make_links.proofs.LoopLemmas.{of_two, wire_of_gate}
 
 -- an entry of lists one after another is of one of them
 pub record IsOfOne {S T : Type 0} (f : S → List T) (xs : List S) (y : T) : Type 0 where

@@ -1,6 +1,8 @@
 -- A generated chip keeps the rules of linking.
-use Rattle.std.proofs.Common.{◌≡◌, ℕ, zero, suc, ◌+◌, ◌-◌, ◌*◌, ◌<◌, ◌≤◌, Bool, true, false, not, ◌&&◌, List, [], ◌∷◌, ◌++◌, length, flat_map, nat_lt}
-use Rattle.std.proofs.Common.{if◌then◌else◌, get_or, Some, None, Option, inl, inr, refl, sym, ap, ◌∙◌, subst, arith}
+use Rattle.std.proofs.Common.{◌≡◌, ℕ, zero, suc, ◌+◌, ◌-◌, ◌*◌, ◌<◌, ◌≤◌, Bool, true, false, not, ◌&&◌, List}
+use Rattle.std.proofs.Common.{[], ◌∷◌, ◌++◌, length, flat_map, nat_lt}
+use Rattle.std.proofs.Common.{if◌then◌else◌, get_or, Some, None, Option, inl, inr, refl, sym, ap, ◌∙◌, subst}
+use Rattle.std.proofs.Common.{arith}
 use Rattle.std.specs.Prelude.{slice_get, IsSomeAnd, ⊤}
 use Rattle.std.specs.List.{Contains, sum_by}
 use Rattle.std.proofs.lemmas.Bool.{lt-ltb, ltb-true, ltb-false}
@@ -28,19 +30,22 @@ use Rattle.ca_chip.specs.Nets as nets
 use Rattle.ca_chip.specs.Nets.{Driving, Drives, DrivesWire, IsLoaded}
 use Rattle.ca_chip.specs.InstanceRules.{IsKnown, IsSound, HasStrayPin, LacksPin}
 use Rattle.ca_chip.specs.Linking.{IsLinkOf, HasMeaning}
-use Rattle.ca_chip.specs.Rules.{IsUndriven, IsScan, KeepsRules, IsCause, path_wires, library_count, defects_of}
+use Rattle.ca_chip.specs.Rules.{IsUndriven, IsScan, KeepsRules, IsCause, path_wires, library_count}
+use Rattle.ca_chip.specs.Rules.{defects_of}
 use Rattle.ca_make.specs.declared.gate.Gate.{Gate}
 use Rattle.ca_make.specs.declared.gate.Gate.TheVariants as gate
 use Rattle.ca_make.specs.declared.gate.TheConstants.{INPUTS, MOST_GATES}
 use Rattle.ca_make.specs.Chip.{gates_of}
 use Rattle.ca_make_laws.proofs.ChipLemmas.{length_gates, are_spelled}
 use Rattle.ca_make_laws.specs.Cells.{sound_library}
-use Rattle.ca_make_laws.specs.ChipNetlist.{candidate_bit, wire_bit, each_from, gate_instance, netlist_in_numbers, chip_netlist}
+use Rattle.ca_make_laws.specs.ChipNetlist.{candidate_bit, wire_bit, each_from, gate_instance}
+use Rattle.ca_make_laws.specs.ChipNetlist.{netlist_in_numbers, chip_netlist}
 use Rattle.ca_make_laws.proofs.SpelledLemmas.{AreSpelled}
 use Rattle.ca_make_links.proofs.PartLemmas.{given_at, raw_of_gate, chip_part, parts_are, gate_sound}
 use Rattle.ca_make_links.proofs.JoinLemmas.{chip_join, chip_joins, joins_are}
 use Rattle.ca_make_links.proofs.HeaderLemmas.{port_bit, header_is, mapped_at, mapped_only}
-use Rattle.ca_make_links.proofs.LoopLemmas.{part_at, chip_gates, chip_outputs, gate_at, of_one, wire_of_gate, never_returns}
+use Rattle.ca_make_links.proofs.LoopLemmas.{part_at, chip_gates, chip_outputs, gate_at, of_one, wire_of_gate}
+use Rattle.ca_make_links.proofs.LoopLemmas.{never_returns}
 use Rattle.ca_make_links.proofs.DriverLemmas.{of_flat, chip_wiring, count, joined_below, not_double}
 
 -- what is given of an entry, at its place

@@ -1,4 +1,5 @@
-//! Responses: of single nodes as they are by hand, and of whole cells in many states, each found in both ways.
+//! Responses: of single nodes as they are by hand, and of whole cells in many states, each found in both
+//! ways.
 
 ghost use Rattle.std.specs.Prelude.{◌≡◌, length, IfOk};
 
@@ -234,8 +235,8 @@ fn nodes_respond_as_by_hand(rt: HostRuntime) {
     }
 }
 
-// Gives the rails their values, each pin a bit of the vector, and each storage node a drawn value. What it returns the
-// next draw begins with.
+// Gives the rails their values, each pin a bit of the vector, and each storage node a drawn value. What it
+// returns the next draw begins with.
 fn draw(state: &mut State, places: &[Place], vector: u64, seed: u64) -> u64
     requires { length state.old ≡ length places.now }
     ensures { length state.new ≡ length state.old }

@@ -1,5 +1,6 @@
 -- A set of names is looked up as the list of its names.
-use Rattle.std.proofs.Common.{◌≡◌, ℕ, ◌+◌, List, Bool, true, false, cond, not, [], ◌∷◌, ◌++◌, length, map, Some, None, Vec, Global, refl, sym, ◌∙◌, ap, ◌||◌}
+use Rattle.std.proofs.Common.{◌≡◌, ℕ, ◌+◌, List, Bool, true, false, cond, not, [], ◌∷◌, ◌++◌, length, map}
+use Rattle.std.proofs.Common.{Some, None, Vec, Global, refl, sym, ◌∙◌, ap, ◌||◌}
 use Rattle.std.specs.Prelude.{position, nat_lt}
 use Rattle.std.specs.Str.{bytes_eq}
 use Rattle.std.specs.List.{list_any, position_or_len, IsDistinct, AllByRecursion}

@@ -13,8 +13,8 @@ use std::marker::Model;
 /// The most names of a set.
 const MOST_NAMES: usize = u32::MAX as usize;
 
-/// Different names in the order in which they were added, fewer than 2^32. A name is found without a search through
-/// the others. Contracts see a list.
+/// Different names in the order in which they were added, fewer than 2^32. A name is found without a search
+/// through the others. Contracts see a list.
 #[derive(Drop)]
 pub struct NameSet {
     names: IndexSet<Vec<u8>>,
@@ -72,8 +72,8 @@ impl NameSet {
         self.names.as_slice()
     }
 
-    /// Adds a name, if it isn't there, and answers its place. A set of 2^32 - 1 names answers as though there were no
-    /// memory for another.
+    /// Adds a name, if it isn't there, and answers its place. A set of 2^32 - 1 names answers as though there
+    /// were no memory for another.
     pub fn add(&mut self, alloc: Global, name: &[u8]) -> Result<u32, NoMemory>
         ensures names { OnOk result (self.new ≡ with_name name.now self.old) }
         ensures place { IfOk result (λ place. place ≡ place_with name.now self.old) }

@@ -1,5 +1,7 @@
 -- What can be decided, and marks of nodes.
-use Rattle.std.proofs.Common.{◌≡◌, ℕ, zero, suc, ◌+◌, ◌<◌, ◌≤◌, ◌⊎◌, List, Bool, true, false, inl, inr, refl, sym, ◌∙◌, subst, arith, get_or, slice_get, set, get_or-set_same, get_or-set_other, replicate}
+use Rattle.std.proofs.Common.{◌≡◌, ℕ, zero, suc, ◌+◌, ◌<◌, ◌≤◌, ◌⊎◌, List, Bool, true, false, inl, inr, refl}
+use Rattle.std.proofs.Common.{sym, ◌∙◌, subst, arith, get_or, slice_get, set, get_or-set_same}
+use Rattle.std.proofs.Common.{get_or-set_other, replicate}
 use Rattle.std.specs.Prelude.{Some}
 use Rattle.std.proofs.Math.Decide.{dec_le}
 use native.Mathlib.Decide.{ℕ_discrete}

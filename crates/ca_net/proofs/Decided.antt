@@ -1,5 +1,6 @@
 -- Whether a definite path to a node is stronger than k.
-use Rattle.std.proofs.Common.{ℕ, zero, suc, ◌+◌, ◌<◌, ◌≤◌, ◌⊎◌, List, Bool, true, false, length, inl, inr, sym, subst, arith, get_or, set, replicate}
+use Rattle.std.proofs.Common.{ℕ, zero, suc, ◌+◌, ◌<◌, ◌≤◌, ◌⊎◌, List, Bool, true, false, length, inl, inr}
+use Rattle.std.proofs.Common.{sym, subst, arith, get_or, set, replicate}
 use Rattle.std.specs.Prelude.{not}
 use Rattle.std.specs.List.{count_by}
 use native.Mathlib.Decide.{ℕ_discrete}
@@ -34,7 +35,8 @@ strength_of-le_most net (Via p d n) ip =
     let le : strength_of net p ≤ most_of net (length net.nodes) = strength_of-le_most net p ip.0 in omega arith
 
 module _ (net : Circuit) (s : List Trit) where
-  -- nodes are marked until all are that have a definite path of strength k or more; j bounds those that are not
+  -- nodes are marked until all are that have a definite path of strength k or more; j bounds those that are
+  -- not
   filled : (k j : ℕ) (on : List Bool) → IsLevel net s k on → count_by not on ≤ j → Level net s k
   filled k zero on level le = elim (extends_or_full net s k on level) [
     | inl e ↦ let fewer : count_by not (set on e.node true) < count_by not on = marks_fall on e.node e.unmarked in absurd (omega arith)

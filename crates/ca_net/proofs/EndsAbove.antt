@@ -1,5 +1,6 @@
 -- Every pair run ends at or above the last limit.
-use Rattle.std.proofs.Common.{◌≡◌, ℕ, zero, suc, ◌+◌, ◌<◌, ◌≤◌, List, [], ◌∷◌, ◌++◌, length, inl, inr, refl, sym, ◌∙◌, ap, subst, arith, get_or-set_other}
+use Rattle.std.proofs.Common.{◌≡◌, ℕ, zero, suc, ◌+◌, ◌<◌, ◌≤◌, List, [], ◌∷◌, ◌++◌, length, inl, inr, refl}
+use Rattle.std.proofs.Common.{sym, ◌∙◌, ap, subst, arith, get_or-set_other}
 use Rattle.std.proofs.Math.Decide.{dec_le}
 use native.Mathlib.Decide.{ℕ_discrete}
 use Rattle.std.specs.List.{AllByRecursion, slice_set}
@@ -16,8 +17,11 @@ use Rattle.ca_net.specs.Event.{Event, Settle, Blur, Set, Run, IsQuiet}
 use Rattle.ca_net.specs.PairRun.{HasRounds, MayCome, InputsAbove, PairRun}
 use Rattle.ca_net.specs.Limits.{HasInputs, IsFixed, AboveAtStorage, AreLimits, IsMeet}
 use Rattle.ca_net.proofs.ResponseLaws.{response_rises_lem}
-use Rattle.ca_net.proofs.StateLemmas.{IsBelow-trans, IsBelow-stable, storage_or_input, storage_within, response_of_input, definites, definites-le, definites-same, table_from, length-table_from, value_at-table_from}
-use Rattle.ca_net.proofs.HeldStates.{Held, held_response, keep_run, run_parts, IsNext, some_next, next_up, next_held, round_up}
+use Rattle.ca_net.proofs.StateLemmas.{IsBelow-trans, IsBelow-stable, storage_or_input, storage_within}
+use Rattle.ca_net.proofs.StateLemmas.{response_of_input, definites, definites-le, definites-same, table_from}
+use Rattle.ca_net.proofs.StateLemmas.{length-table_from, value_at-table_from}
+use Rattle.ca_net.proofs.HeldStates.{Held, held_response, keep_run, run_parts, IsNext, some_next, next_up}
+use Rattle.ca_net.proofs.HeldStates.{next_held, round_up}
 
 quiet_append : (es bs : List Event) → AllByRecursion IsQuiet es → AllByRecursion IsQuiet bs → AllByRecursion IsQuiet (es ++ bs)
 quiet_append [] bs p q = q

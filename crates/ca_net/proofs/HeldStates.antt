@@ -1,5 +1,6 @@
 -- Runs stay above the states that their responses hold up.
-use Rattle.std.proofs.Common.{◌≡◌, ◌≢◌, ℕ, ◌+◌, ◌<◌, ◌≤◌, List, [], ◌∷◌, ◌++◌, length, inl, inr, refl, sym, ◌∙◌, ap, subst, arith, set, get_or-set_same, get_or-set_other}
+use Rattle.std.proofs.Common.{◌≡◌, ◌≢◌, ℕ, ◌+◌, ◌<◌, ◌≤◌, List, [], ◌∷◌, ◌++◌, length, inl, inr, refl, sym}
+use Rattle.std.proofs.Common.{◌∙◌, ap, subst, arith, set, get_or-set_same, get_or-set_other}
 use Rattle.std.proofs.Math.Decide.{dec_le}
 use native.Mathlib.Decide.{ℕ_discrete}
 use Rattle.std.specs.List.{Contains, AllByRecursion}
@@ -13,7 +14,8 @@ use Rattle.ca_net.specs.Response.{IsResponse}
 use Rattle.ca_net.specs.Event.{Event, Settle, Blur, Set, IsUnstable, Step, Run, IsQuiet, SomeSettles}
 use Rattle.ca_net.specs.PairRun.{IsRound}
 use Rattle.ca_net.proofs.ResponseLaws.{response_rises_lem}
-use Rattle.ca_net.proofs.StateLemmas.{IsBelow-trans, IsBelow-stable, storage_or_input, storage_within, some_response, response_of_input, some_list}
+use Rattle.ca_net.proofs.StateLemmas.{IsBelow-trans, IsBelow-stable, storage_or_input, storage_within}
+use Rattle.ca_net.proofs.StateLemmas.{some_response, response_of_input, some_list}
 
 -- each storage node is at or below its response
 abbrev pub Held : Circuit → List Trit → Type 0

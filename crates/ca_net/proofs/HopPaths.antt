@@ -1,5 +1,6 @@
 -- From the hops of the search to paths, and back.
-use Rattle.std.proofs.Common.{◌≡◌, ℕ, ◌<◌, ◌≤◌, List, Bool, true, false, length, inl, inr, refl, sym, ◌∙◌, ap, subst, get_or, set, get_or-set_same, get_or-set_other, length-set, replicate}
+use Rattle.std.proofs.Common.{◌≡◌, ℕ, ◌<◌, ◌≤◌, List, Bool, true, false, length, inl, inr, refl, sym, ◌∙◌, ap}
+use Rattle.std.proofs.Common.{subst, get_or, set, get_or-set_same, get_or-set_other, length-set, replicate}
 use Rattle.std.specs.Prelude.{Some}
 use Rattle.std.specs.List.{slice_set}
 use native.Mathlib.Decide.{ℕ_discrete}
@@ -19,7 +20,8 @@ abbrev pub marks_of : ℕ → Path → List Bool
 marks_of n (Root r) = set (replicate n false) r true
 marks_of n (Via p d m) = set (marks_of n p) m true
 
--- a path that stops at input nodes, all of whose devices pass, and which has at each node at least the node's floor
+-- a path that stops at input nodes, all of whose devices pass, and which has at each node at least the node's
+-- floor
 abbrev pub Goes : Circuit → List Trit → PathKind → List ℕ → Path → Type 0
 Goes net s kind floor (Root r) = get_or floor r 0 ≤ strength_of net (Root r)
 Goes net s kind floor (Via p d m) =

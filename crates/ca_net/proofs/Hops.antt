@@ -1,5 +1,6 @@
 -- One hop of the search.
-use Rattle.std.proofs.Common.{◌≡◌, ℕ, ◌<◌, ◌≤◌, List, Bool, true, false, length, min, inl, inr, sym, ◌∙◌, ap, subst, arith, get_or, slice_get, set, ◌+◌}
+use Rattle.std.proofs.Common.{◌≡◌, ℕ, ◌<◌, ◌≤◌, List, Bool, true, false, length, min, inl, inr, sym, ◌∙◌, ap}
+use Rattle.std.proofs.Common.{subst, arith, get_or, slice_get, set, ◌+◌}
 use Rattle.std.specs.Prelude.{Option, Some, not, cond}
 use Rattle.std.specs.List.{count_by}
 use Rattle.std.proofs.lemmas.List.Sums.{sum_by-set}

@@ -1,5 +1,6 @@
 -- Nodes that are marked, each with a definite path of strength k or more that is not blocked.
-use Rattle.std.proofs.Common.{◌≡◌, ℕ, ◌≤◌, ◌⊎◌, List, Bool, true, false, length, inl, inr, sym, ◌∙◌, subst, slice_get, set, get_or-set_other, length-set}
+use Rattle.std.proofs.Common.{◌≡◌, ℕ, ◌≤◌, ◌⊎◌, List, Bool, true, false, length, inl, inr, sym, ◌∙◌, subst}
+use Rattle.std.proofs.Common.{slice_get, set, get_or-set_other, length-set}
 use Rattle.std.specs.Prelude.{Some}
 use native.Mathlib.Decide.{ℕ_discrete}
 use Rattle.ca_net.specs.declared.trit.Trit.{Trit}

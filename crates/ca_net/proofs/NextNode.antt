@@ -1,5 +1,7 @@
--- A node that may be marked next: a root or the far end of a device, where its definite path has strength k or more.
-use Rattle.std.proofs.Common.{◌≡◌, ℕ, ◌+◌, ◌<◌, ◌≤◌, ◌⊎◌, List, Bool, false, length, inl, inr, refl, sym, ◌∙◌, ap, subst, arith, get_or, slice_get}
+-- A node that may be marked next: a root or the far end of a device, where its definite path has strength k
+-- or more.
+use Rattle.std.proofs.Common.{◌≡◌, ℕ, ◌+◌, ◌<◌, ◌≤◌, ◌⊎◌, List, Bool, false, length, inl, inr, refl, sym, ◌∙◌}
+use Rattle.std.proofs.Common.{ap, subst, arith, get_or, slice_get}
 use Rattle.std.specs.Prelude.{Some, None}
 use Rattle.std.specs.List.{Contains}
 use Rattle.std.proofs.Math.Decide.{dec_le}

@@ -1,5 +1,7 @@
 -- One pair run ends in the last limit.
-use Rattle.std.proofs.Common.{◌≡◌, ℕ, zero, suc, ◌+◌, ◌<◌, ◌≤◌, ◌⊎◌, List, [], ◌∷◌, ◌++◌, length, inl, inr, refl, sym, ◌∙◌, ap, subst, arith, get_or, get_or-set_same, get_or-set_other, length-set}
+use Rattle.std.proofs.Common.{◌≡◌, ℕ, zero, suc, ◌+◌, ◌<◌, ◌≤◌, ◌⊎◌, List, [], ◌∷◌, ◌++◌, length, inl, inr}
+use Rattle.std.proofs.Common.{refl, sym, ◌∙◌, ap, subst, arith, get_or, get_or-set_same, get_or-set_other}
+use Rattle.std.proofs.Common.{length-set}
 use Rattle.std.proofs.Math.Decide.{dec_le}
 use native.Mathlib.Decide.{ℕ_discrete}
 use Rattle.std.specs.List.{Contains, AllByRecursion, slice_set}
@@ -15,9 +17,11 @@ use Rattle.ca_net.specs.Event.{Event, Settle, Blur, Set, IsEvent, IsUnstable, St
 use Rattle.ca_net.specs.PairRun.{HasRounds, MayCome, EndsAt}
 use Rattle.ca_net.specs.Limits.{HasInputs, IsFixed, IsHeld, AboveAtStorage, AreLimits, IsMeet}
 use Rattle.ca_net.proofs.ResponseLaws.{response_rises_lem}
-use Rattle.ca_net.proofs.StateLemmas.{IsBelow-trans, IsBelow-stable, storage_or_input, storage_within, input_responds, some_list, definites, definites-le, definites-same}
+use Rattle.ca_net.proofs.StateLemmas.{IsBelow-trans, IsBelow-stable, storage_or_input, storage_within}
+use Rattle.ca_net.proofs.StateLemmas.{input_responds, some_list, definites, definites-le, definites-same}
 use Rattle.ca_net.proofs.HeldStates.{Held, held_response, keep_run, IsNext, some_next, next_up, next_held}
-use Rattle.ca_net.proofs.EndsAbove.{base, base_state, base_inputs, base_storage, base_below, next_inputs, next_below, meet_X, meet_below}
+use Rattle.ca_net.proofs.EndsAbove.{base, base_state, base_inputs, base_storage, base_below, next_inputs}
+use Rattle.ca_net.proofs.EndsAbove.{next_below, meet_X, meet_below}
 
 pub Trit-stable : (a b : Trit) → ((a ≡ b → ⊥) → ⊥) → a ≡ b
 Trit-stable Zero Zero h = refl

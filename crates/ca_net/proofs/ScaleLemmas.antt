@@ -1,5 +1,5 @@
--- What proofs know of the scale of sizes and strengths: each storage size is at least 1, each is below each device's strength, and
--- each device's strength is below an input node's. No other file opens the constants.
+-- What proofs know of the scale of sizes and strengths: each storage size is at least 1, each is below each
+-- device's strength, and each device's strength is below an input node's. No other file opens the constants.
 use Rattle.std.proofs.Common.{◌≡◌, ℕ, ◌<◌, inl, inr, refl, arith}
 use Rattle.ca_net.specs.declared.scale.TheConstants.{INNER_NODE, OUTPUT_NET, WEAK, STRONG, BRIDGE, INPUT}
 use Rattle.ca_net.specs.declared.node.NodeKind.TheVariants.{Storage}

@@ -1,5 +1,6 @@
 -- One turn of the search after another.
-use Rattle.std.proofs.Common.{◌≡◌, ℕ, ◌+◌, ◌<◌, ◌≤◌, ◌⊎◌, List, Bool, true, length, inl, inr, refl, sym, ◌∙◌, ap, subst, arith, get_or, set, get_or-set_same, get_or-set_other}
+use Rattle.std.proofs.Common.{◌≡◌, ℕ, ◌+◌, ◌<◌, ◌≤◌, ◌⊎◌, List, Bool, true, length, inl, inr, refl, sym, ◌∙◌}
+use Rattle.std.proofs.Common.{ap, subst, arith, get_or, set, get_or-set_same, get_or-set_other}
 use Rattle.std.specs.Prelude.{Some, Option}
 use Rattle.std.specs.List.{slice_set}
 use Rattle.std.proofs.Math.Decide.{dec_le}

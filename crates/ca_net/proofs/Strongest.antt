@@ -1,5 +1,6 @@
 -- What the searches find.
-use Rattle.std.proofs.Common.{◌≡◌, ℕ, ◌+◌, ◌<◌, ◌≤◌, ◌↔◌, List, Bool, true, false, length, inl, inr, sym, ◌∙◌, ap, subst, arith, get_or, slice_get, set, replicate}
+use Rattle.std.proofs.Common.{◌≡◌, ℕ, ◌+◌, ◌<◌, ◌≤◌, ◌↔◌, List, Bool, true, false, length, inl, inr, sym, ◌∙◌}
+use Rattle.std.proofs.Common.{ap, subst, arith, get_or, slice_get, set, replicate}
 use Rattle.std.specs.Prelude.{Some}
 use Rattle.std.proofs.Math.Decide.{dec_le}
 use native.Mathlib.Decide.{ℕ_discrete}
@@ -9,9 +10,11 @@ use Rattle.ca_net.specs.declared.trit.Trit.{Trit}
 use Rattle.ca_net.specs.declared.node.NodeKind.{NodeKind}
 use Rattle.ca_net.specs.declared.node.NodeKind.TheVariants.{Input, Storage}
 use Rattle.ca_net.specs.Circuit.{Circuit, IsWellFormed, HasSize, HasStrength, kind_at}
-use Rattle.ca_net.specs.Path.{Path, Root, Via, root_of, end_of, strength_of, root_strength, IsPath, IsPotential, IsDefinite}
+use Rattle.ca_net.specs.Path.{Path, Root, Via, root_of, end_of, strength_of, root_strength, IsPath}
+use Rattle.ca_net.specs.Path.{IsPotential, IsDefinite}
 use Rattle.ca_net.specs.Response.{HasStronger, IsBlocked}
-use Rattle.ca_net.specs.Walk.{IsInner, Leads, Explores, HasDefinite, AreStrongest, AreStrongestFrom, RootReaches}
+use Rattle.ca_net.specs.Walk.{IsInner, Leads, Explores, HasDefinite, AreStrongest, AreStrongestFrom}
+use Rattle.ca_net.specs.Walk.{RootReaches}
 use Rattle.std.proofs.lemmas.Option.{get_or_from_slice_get, slice_get-get_or}
 use Rattle.ca_net.proofs.Hops.{unmark}
 use Rattle.ca_net.proofs.ScaleLemmas.{size_pos, strength_pos, input_pos}

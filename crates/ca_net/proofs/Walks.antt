@@ -1,5 +1,6 @@
 -- A walk, which may come to a node again, gives a path that is as good: what a relaxation of strengths needs.
-use Rattle.std.proofs.Common.{◌≡◌, ℕ, ◌<◌, ◌≤◌, ◌⊎◌, List, length, min, inl, inr, refl, sym, ◌∙◌, subst, arith, get_or}
+use Rattle.std.proofs.Common.{◌≡◌, ℕ, ◌<◌, ◌≤◌, ◌⊎◌, List, length, min, inl, inr, refl, sym, ◌∙◌, subst}
+use Rattle.std.proofs.Common.{arith, get_or}
 use Rattle.std.specs.List.{Contains}
 use native.Mathlib.Decide.{ℕ_discrete}
 use Rattle.ca_net.specs.declared.path_kind.PathKind.{PathKind}

@@ -13,7 +13,8 @@ pub record Circuit : Type 0 where
   pub nodes : List NodeKind
   pub devices : List Device
 
--- the kind of the node at a place; past the list it is that of an input node, so that a storage node is in the list
+-- the kind of the node at a place; past the list it is that of an input node, so that a storage node is in
+-- the list
 abbrev pub kind_at : Circuit → ℕ → NodeKind
 kind_at net n = slice_index_or net.nodes n Input
 

@@ -27,9 +27,9 @@ IsEvent net (Set i v) = IsInput net i
 abbrev pub IsUnstable : Circuit → List Trit → ℕ → Type 0
 IsUnstable net s n = IsResponse net s n (value_at s n) → ⊥
 
--- The event takes the state old to the state new: Settle gives each listed node its response in old, Blur gives X to
--- each listed node whose response differs from its value (an input node's never does), Set gives the input its value,
--- and each other node keeps its own.
+-- The event takes the state old to the state new: Settle gives each listed node its response in old, Blur
+-- gives X to each listed node whose response differs from its value (an input node's never does), Set gives
+-- the input its value, and each other node keeps its own.
 abbrev pub Step : Circuit → List Trit → Event → List Trit → Type 0
 Step net old (Settle ns) new =
     IsState net new

@@ -10,8 +10,8 @@ use Rattle.ca_net.specs.Response.{IsResponse, HasUnblocked}
 use Rattle.ca_net.specs.PairRun.{EndsAt}
 use Rattle.ca_net.specs.Limits.{AreLimits, IsMeet}
 
--- the scale of sizes and strengths is in order, weakest first: inner node, output net, weak transistor, other transistor, bridge, input
--- node; and no size is 0
+-- the scale of sizes and strengths is in order, weakest first: inner node, output net, weak transistor, other
+-- transistor, bridge, input node; and no size is 0
 pub record ScaleIsOrdered : Type 0 where
   pub some_size : 0 < INNER_NODE
   pub sizes : INNER_NODE < OUTPUT_NET
@@ -23,7 +23,8 @@ pub record ScaleIsOrdered : Type 0 where
 -- the response rises: that of a node in a state is below its response in any state above
 abbrev pub ResponseRises : Type 0
 ResponseRises =
-    (net : Circuit) (s t : List Trit) (n : ℕ) (v w : Trit) → IsWellFormed net → n < length net.nodes → IsStateBelow s t
+    (net : Circuit) (s t : List Trit) (n : ℕ) (v w : Trit) → IsWellFormed net → n < length net.nodes
+    → IsStateBelow s t
     → IsResponse net s n v → IsResponse net t n w → IsBelow v w
 
 -- a response never holds for want of paths: to each node some definite path isn't blocked
@@ -34,6 +35,7 @@ SomePathIsUnblocked =
 -- the last limit of a node is v in {0, 1} exactly where every pair run ends with v there
 abbrev pub LastLimitIsEnd : Type 0
 LastLimitIsEnd =
-    (net : Circuit) (v1 vm v2 first middle last : List Trit) (n : ℕ) (v : Trit) → IsWellFormed net → n < length net.nodes
+    (net : Circuit) (v1 vm v2 first middle last : List Trit) (n : ℕ) (v : Trit) → IsWellFormed net
+    → n < length net.nodes
     → IsMeet net v1 v2 vm → AreLimits net v1 vm v2 first middle last
     → ((v ≢ X) × (value_at last n ≡ v)) ↔ EndsAt net v1 v2 n v

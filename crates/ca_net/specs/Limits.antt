@@ -1,4 +1,5 @@
--- The three limits of a pair, as properties (this project's choice). They are what is computed, and not the model.
+-- The three limits of a pair, as properties (this project's choice). They are what is computed, and not the
+-- model.
 use Rattle.std.specs.Prelude.{ℕ, ◌≡◌, List}
 use Rattle.ca_net.specs.declared.trit.Trit.{Trit}
 use Rattle.ca_net.specs.Trit.{IsBelow, meet_of}
@@ -21,7 +22,8 @@ pub record IsFirstLimit (net : Circuit) (v s : List Trit) : Type 0 where
   pub fixed : IsFixed net v s
   pub least : (t : List Trit) → IsFixed net v t → IsStateBelow s t
 
--- a state over the vector, at or below the first limit, in which each storage node is at or below its response
+-- a state over the vector, at or below the first limit, in which each storage node is at or below its
+-- response
 pub record IsHeld (net : Circuit) (v first s : List Trit) : Type 0 where
   pub is_state : IsState net s
   pub inputs : HasInputs net v s
@@ -37,8 +39,8 @@ pub record IsMiddleLimit (net : Circuit) (v first s : List Trit) : Type 0 where
 abbrev pub AboveAtStorage : Circuit → List Trit → List Trit → Type 0
 AboveAtStorage net middle s = (n : ℕ) → IsStorage net n → IsBelow (value_at middle n) (value_at s n)
 
--- the last limit: the least state over the vector, at or above the middle limit at each storage node, in which each
--- storage node has its response
+-- the last limit: the least state over the vector, at or above the middle limit at each storage node, in
+-- which each storage node has its response
 pub record IsLastLimit (net : Circuit) (v middle s : List Trit) : Type 0 where
   pub fixed : IsFixed net v s
   pub above : AboveAtStorage net middle s

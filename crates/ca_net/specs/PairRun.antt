@@ -17,14 +17,15 @@ pub record IsRound (net : Circuit) (es : List Event) : Type 0 where
 abbrev pub HasRounds : Circuit → ℕ → List Event → Type 0
 HasRounds net zero es = AllByRecursion IsQuiet es
 HasRounds net (suc k) es =
-    (round : List Event) × (rest : List Event) × (es ≡ round ++ rest) × IsRound net round × HasRounds net k rest
+    (round : List Event) × (rest : List Event) × (es ≡ round ++ rest)
+    × IsRound net round × HasRounds net k rest
 
 -- as many rounds as the network has nodes, and then any further Settle and Blur events
 abbrev pub IsLongPhase : Circuit → List Event → Type 0
 IsLongPhase net es = HasRounds net (length net.nodes) es
 
--- The inputs of the state are at or above the vector. A vector gives a value to each input node, at the node's own
--- place in the list of nodes; what it has at other places isn't looked at.
+-- The inputs of the state are at or above the vector. A vector gives a value to each input node, at the
+-- node's own place in the list of nodes; what it has at other places isn't looked at.
 abbrev pub InputsAbove : Circuit → List Trit → List Trit → Type 0
 InputsAbove net v s = (n : ℕ) → IsInput net n → IsBelow (value_at v n) (value_at s n)
 
@@ -34,8 +35,9 @@ MayCome v1 v2 (Settle ns) = Unit {0}
 MayCome v1 v2 (Blur ns) = Unit {0}
 MayCome v1 v2 (Set i v) = value_at v1 i ≡ value_at v2 i → value_at v1 i ≡ X
 
--- A run of the network for the vectors v1 and v2 that ends in the state last: from any charge and inputs at or above
--- v1 a long phase; then any events that may come, until the inputs are at or above v2; then a long phase.
+-- A run of the network for the vectors v1 and v2 that ends in the state last: from any charge and inputs at
+-- or above v1 a long phase; then any events that may come, until the inputs are at or above v2; then a long
+-- phase.
 pub record PairRun (net : Circuit) (v1 v2 last : List Trit) : Type 0 where
   pub start : List Trit
   pub settled : List Trit

@@ -9,7 +9,8 @@ use Rattle.ca_net.specs.declared.device.Device.{Device}
 use Rattle.ca_net.specs.Circuit.{Circuit, kind_at}
 use Rattle.ca_net.specs.Conduction.{IsOpen, Conducts, Links}
 
--- a root, and the devices that lead away from it, each with the node to which it leads; the last device is outermost
+-- a root, and the devices that lead away from it, each with the node to which it leads; the last device is
+-- outermost
 pub data Path : Type 0 where
   Root : ℕ → Path
   Via : Path → Device → ℕ → Path

@@ -1,4 +1,5 @@
--- Which paths are blocked, and the response of a node (Bryant 1984, blocked paths and the steady state response).
+-- Which paths are blocked, and the response of a node (Bryant 1984, blocked paths and the steady state
+-- response).
 use Rattle.std.specs.Prelude.{ℕ, ◌≡◌, ◌<◌, ◌⊎◌, List, length}
 use Rattle.ca_net.specs.declared.trit.Trit.{Trit}
 use Rattle.ca_net.specs.declared.trit.Trit.TheVariants.{Zero, One, X}
@@ -16,8 +17,8 @@ pub record HasStronger (net : Circuit) (s : List Trit) (n k : ℕ) : Type 0 wher
   pub definite : IsDefinite s path
   pub stronger : k < strength_of net path
 
--- at some node of the path, its root and its end included, a definite path to that node is stronger than the path's
--- own part up to it
+-- at some node of the path, its root and its end included, a definite path to that node is stronger than the
+-- path's own part up to it
 abbrev pub IsBlocked : Circuit → List Trit → Path → Type 0
 IsBlocked net s (Root r) = HasStronger net s r (strength_of net (Root r))
 IsBlocked net s (Via p d n) = IsBlocked net s p ⊎ HasStronger net s n (strength_of net (Via p d n))
@@ -33,7 +34,8 @@ pub record Reaches (net : Circuit) (s : List Trit) (n : ℕ) (p : Path) : Type 0
 abbrev pub AllGive : Circuit → List Trit → ℕ → Trit → Type 0
 AllGive net s n v = (p : Path) → Reaches net s n p → value_at s (root_of p) ≡ v
 
--- a storage node responds with v in {0, 1} where every path that reaches it has a root of value v, else with X
+-- a storage node responds with v in {0, 1} where every path that reaches it has a root of value v, else with
+-- X
 abbrev pub StorageResponse : Circuit → List Trit → ℕ → Trit → Type 0
 StorageResponse net s n Zero = AllGive net s n Zero
 StorageResponse net s n One = AllGive net s n One

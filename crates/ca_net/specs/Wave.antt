@@ -26,8 +26,8 @@ input_count [] = 0
 input_count (Input ∷ kinds) = 1 + input_count kinds
 input_count (Storage size ∷ kinds) = input_count kinds
 
--- Values that are given one per input node, in the order of the nodes, as a vector: each at the place of its own node,
--- and X at each storage node.
+-- Values that are given one per input node, in the order of the nodes, as a vector: each at the place of its
+-- own node, and X at each storage node.
 abbrev pub at_inputs : List NodeKind → List Trit → List Trit
 at_inputs [] values = []
 at_inputs (Storage size ∷ kinds) values = X ∷ at_inputs kinds values

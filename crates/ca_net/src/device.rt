@@ -14,7 +14,8 @@ pub enum DeviceKind {
     D,
 }
 
-/// A switch between the nodes `a`, its drain, and `b`, its source. The gate of a d-device is its `a`, and isn't looked at.
+/// A switch between the nodes `a`, its drain, and `b`, its source. The gate of a d-device is its `a`, and
+/// isn't looked at.
 #[derive(Clone, Copy, Debug, PartialEq, Eq)]
 pub struct Device {
     pub kind: DeviceKind,

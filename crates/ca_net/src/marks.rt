@@ -24,7 +24,8 @@ impl Model for Marks {
 
     ghost view = { λ marks. vec_len marks.strongest };
 
-    ghost invariant = { λ marks. (vec_len marks.reached ≡ vec_len marks.strongest) × (vec_len marks.on_path ≡ vec_len marks.strongest) };
+    ghost invariant = { λ marks. (vec_len marks.reached ≡ vec_len marks.strongest)
+        × (vec_len marks.on_path ≡ vec_len marks.strongest) };
 }
 
 impl Marks {

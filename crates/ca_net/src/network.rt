@@ -5,8 +5,8 @@ ghost use Rattle.std.specs.Prelude.{◌≡◌, ◌<◌, length, slice_get};
 use crate::device::{Device, DeviceId};
 use crate::node::{NodeId, NodeKind};
 
-/// A network of nodes and devices, which contracts see as its two lists. Each implementation keeps what is said of a
-/// well-formed circuit.
+/// A network of nodes and devices, which contracts see as its two lists. Each implementation keeps what is
+/// said of a well-formed circuit.
 pub trait Network {
     ghost use Rattle.ca_net.specs.Circuit.{Circuit, IsWellFormed};
 

@@ -17,7 +17,8 @@ pub enum NodeKind {
 }
 
 impl NodeKind {
-    /// What the node gives to the paths that begin at it: an input node its own strength, a storage node its size.
+    /// What the node gives to the paths that begin at it: an input node its own strength, a storage node its
+    /// size.
     pub fn root_strength(self) -> u8
         ensures { result ≡ root_strength self }
     {

@@ -10,9 +10,9 @@ use crate::search::{find_strongest, reaches_from};
 use crate::state::State;
 use crate::trit::Trit;
 
-/// The response of the node in the state, by listing paths. It takes no memory. Every path stops at an input node, so a
-/// path has no more nodes than a group of storage nodes that are joined by devices; the number of paths may grow
-/// exponentially with that group.
+/// The response of the node in the state, by listing paths. It takes no memory. Every path stops at an input
+/// node, so a path has no more nodes than a group of storage nodes that are joined by devices; the number of
+/// paths may grow exponentially with that group.
 pub fn response_by_paths<N: Network>(
     net: &N,
     state: &State,

@@ -1,4 +1,5 @@
-//! The search for paths, which goes on from the end of one path by one device at a time, and stops at input nodes.
+//! The search for paths, which goes on from the end of one path by one device at a time, and stops at input
+//! nodes.
 
 ghost use Rattle.std.specs.Prelude.{◌≡◌, ◌≢◌, ◌<◌, ◌≤◌, ℕ, length, false, IsTrue, ◌↔◌, IfSome, replicate};
 ghost use Rattle.ca_net.specs.Circuit.{IsWellFormed};
@@ -57,7 +58,8 @@ fn hop<N: Network>(
     requires device { i < length (N.circuit net.now).devices }
     ensures some { IfSome result (λ next. IsHop (N.circuit net.now) state.now kind floor.now on_path.now
         end.node.0 end.strength i next.node.0 next.strength) }
-    ensures only { (m l : ℕ) → IsHop (N.circuit net.now) state.now kind floor.now on_path.now end.node.0 end.strength i m l
+    ensures only { (m l : ℕ) → IsHop (N.circuit net.now) state.now kind floor.now
+        on_path.now end.node.0 end.strength i m l
         → result ≡ Some (record { node = record { 0 = m }; strength = l }) }
 {
     let device = net.device(DeviceId(i as u32));
@@ -94,8 +96,8 @@ fn spread<N: Network>(
     requires reached { length reached.old ≡ length (N.circuit net.now).nodes }
     requires end { end.node.0 < length (N.circuit net.now).nodes }
     ensures on_path { on_path.new ≡ on_path.old }
-    ensures explores { Explores (N.circuit net.now) state.now kind floor.now on_path.old end.node.0 end.strength
-        reached.old reached.new }
+    ensures explores { Explores (N.circuit net.now) state.now kind floor.now
+        on_path.old end.node.0 end.strength reached.old reached.new }
 {
     let at = end.node.0 as usize;
     if reached[at] < end.strength {

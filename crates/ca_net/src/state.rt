@@ -1,6 +1,7 @@
 //! States of a network.
 
-ghost use Rattle.std.specs.Prelude.{◌≡◌, ◌++◌, [], ◌∷◌, length, slice_set, OnOk, OnErr, IfOk, IsTrue, ◌↔◌, ◌<◌, replicate};
+ghost use Rattle.std.specs.Prelude.{◌≡◌, ◌++◌, [], ◌∷◌, length, slice_set, OnOk, OnErr, IfOk, IsTrue, ◌↔◌};
+ghost use Rattle.std.specs.Prelude.{◌<◌, replicate};
 ghost use Rattle.ca_net.specs.State.{value_at};
 
 use crate::trit::Trit;

@@ -5,8 +5,8 @@ ghost use Rattle.ca_net.specs.Wave.{pair_of};
 
 use crate::trit::{Trit, meet};
 
-/// The values to which a node settles under the first inputs, while the inputs change, and under the last inputs. The
-/// middle is at or below the first and the last.
+/// The values to which a node settles under the first inputs, while the inputs change, and under the last
+/// inputs. The middle is at or below the first and the last.
 #[derive(Clone, Copy, Debug, PartialEq, Eq)]
 pub struct Wave {
     pub first: Trit,
@@ -30,7 +30,8 @@ impl Default for Wave {
 }
 
 impl Wave {
-    /// The wave of an input that changes from one value to another, or keeps it: its middle is the meet of the two.
+    /// The wave of an input that changes from one value to another, or keeps it: its middle is the meet of
+    /// the two.
     pub fn pair(first: Trit, last: Trit) -> Wave
         ensures { result ≡ pair_of first last }
     {

@@ -7,8 +7,8 @@ use ca_verilog::{
 use std::alloc::Global;
 use std::test::Fail;
 
-/// Each text with its declared names, the places of its ports, what it joins and its instances. A bit is told by its
-/// number, and a join by its first two bits and the number of pairs.
+/// Each text with its declared names, the places of its ports, what it joins and its instances. A bit is told
+/// by its number, and a join by its first two bits and the number of pairs.
 const READINGS: [(&[u8], &str); 17] = [
     (
         b"module inv1(a, z); input a; output z;

@@ -1,5 +1,6 @@
 -- The values of output pins: the name of each, and the last of its wave.
-use Rattle.std.proofs.Common.{ℕ, ◌+◌, ◌≡◌, ◌∙◌, sym, ap, refl, zero, suc, List, [], ◌∷◌, ◌++◌, length, take, map, Some, arith, add-one}
+use Rattle.std.proofs.Common.{ℕ, ◌+◌, ◌≡◌, ◌∙◌, sym, ap, refl, zero, suc, List, [], ◌∷◌, ◌++◌, length, take}
+use Rattle.std.proofs.Common.{map, Some, arith, add-one}
 use Rattle.std.proofs.lemmas.Option.{same_Some}
 use Rattle.std.specs.List.{slice_get}
 use Rattle.ca_net.specs.declared.trit.Trit.{Trit}

@@ -16,7 +16,8 @@ use Rattle.ca_fault.specs.declared.fault.Fault.{Fault}
 use Rattle.ca_fault.specs.declared.fault.Fault.TheVariants.{BadVector, NoInstance, NoDefect, TooManyPairs}
 use Rattle.ca_load.specs.Texts.{InputFiles}
 use Rattle.ca_asked.specs.Vectors.{letters_of}
-use Rattle.ca_asked.specs.Asked.{FitsInputs, IsAskedDefect, IsLibraryDefect, IsDefectCause, IsVectorsCause, IsDefectStage, IsVectorsStage}
+use Rattle.ca_asked.specs.Asked.{FitsInputs, IsAskedDefect, IsLibraryDefect, IsDefectCause, IsVectorsCause}
+use Rattle.ca_asked.specs.Asked.{IsDefectStage, IsVectorsStage}
 use Rattle.ca_simulate.specs.Simulated.{pair_of, AreSimulated}
 use Rattle.ca_on_chip.specs.OnChip.{IsChipOfFiles, OfChip, IsFlatOf, AreEndsOf, IsDefectWord, IsVectorWord}
 use Rattle.ca_on_chip.specs.OnChip.{IsSimulationCause, IsFlatCause, IsEndsCause, IsSimulationStage}

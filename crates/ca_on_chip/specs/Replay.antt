@@ -70,9 +70,11 @@ IsRunStage instance defect first last order chip files before after fault =
 abbrev pub IsOrderCause : InputFiles → List ℕ → List ℕ → List ℕ → List ℕ → List ℕ → Option Files → ℕ → ℕ
     → Fault → Type 0
 IsOrderCause names instance defect first last order files before after (Order line) =
-    OfChip files names (λ chip. OfFile files order MAX_ORDER (HasFaultyLine instance defect first last line chip))
+    OfChip files names (λ chip. OfFile files order MAX_ORDER
+    (HasFaultyLine instance defect first last line chip))
 IsOrderCause names instance defect first last order files before after fault =
-    OfChip files names (HasRun instance defect first last) × IsReadCause order files MAX_ORDER before after fault
+    OfChip files names (HasRun instance defect first last)
+    × IsReadCause order files MAX_ORDER before after fault
 
 -- why the chip of the files has no such run
 abbrev pub IsReplayCause : InputFiles → List ℕ → List ℕ → List ℕ → List ℕ → List ℕ → Option Files → ℕ → ℕ

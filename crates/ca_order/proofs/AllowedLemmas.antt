@@ -1,5 +1,6 @@
 -- The events of an order file may come.
-use Rattle.std.proofs.Common.{◌≡◌, ℕ, ◌<◌, Bool, true, false, List, [], ◌∷◌, ◌++◌, length, refl, sym, subst, codes, Option, Some, None, Result, Ok, Err, IfOk}
+use Rattle.std.proofs.Common.{◌≡◌, ℕ, ◌<◌, Bool, true, false, List, [], ◌∷◌, ◌++◌, length, refl, sym, subst}
+use Rattle.std.proofs.Common.{codes, Option, Some, None, Result, Ok, Err, IfOk}
 use Rattle.std.specs.Prelude.{if◌then◌else◌, nat_lt, nat_le, slice_get, IsErrAnd}
 use Rattle.std.specs.List.{All}
 use Rattle.std.specs.Str.{bytes_eq}
@@ -15,8 +16,10 @@ use Rattle.ca_order.specs.declared.event.Event.{Event}
 use Rattle.ca_order.specs.declared.event.Event.TheVariants as event
 use Rattle.ca_order.specs.declared.event.Place.{Place}
 use Rattle.ca_order.specs.declared.event.Place.TheVariants as place
-use Rattle.ca_order.specs.Lines.{lines_of, words_of, is_number, below, node_of, with_node, nodes_of, some_nodes, value_of}
-use Rattle.ca_order.specs.Order.{set_of, set_with, settled, blurred, event_of, event_at, Numbered, numbered, line_step, order_of, most_lines}
+use Rattle.ca_order.specs.Lines.{lines_of, words_of, is_number, below, node_of, with_node, nodes_of}
+use Rattle.ca_order.specs.Lines.{some_nodes, value_of}
+use Rattle.ca_order.specs.Order.{set_of, set_with, settled, blurred, event_of, event_at, Numbered, numbered}
+use Rattle.ca_order.specs.Order.{line_step, order_of, most_lines}
 use Rattle.ca_order.specs.Allowed.{numbers, ArePlaces, IsAllowed, ReadsFor}
 use Rattle.ca_order.specs.declared.event.OrderFault.{OrderFault}
 use Rattle.ca_order.specs.declared.event.OrderFault.TheVariants as fault

@@ -1,5 +1,6 @@
 -- A text is cut into its first line and the rest.
-use Rattle.std.proofs.Common.{◌≡◌, ℕ, suc, ◌<◌, ◌≤◌, ◌==◌, Bool, true, false, List, [], ◌∷◌, length, take, drop, ap, arith, refl}
+use Rattle.std.proofs.Common.{◌≡◌, ℕ, suc, ◌<◌, ◌≤◌, ◌==◌, Bool, true, false, List, [], ◌∷◌, length, take}
+use Rattle.std.proofs.Common.{drop, ap, arith, refl}
 use Rattle.ca_lex.specs.Words.{with_byte}
 use Rattle.ca_order.specs.Lines.{lines_of, line_len, words_of, word_len}
 

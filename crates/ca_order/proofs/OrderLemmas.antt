@@ -1,5 +1,6 @@
 -- An order file line by line.
-use Rattle.std.proofs.Common.{◌≡◌, ℕ, ◌+◌, List, [], ◌∷◌, ◌++◌, ◌∙◌, length, ap, sym, refl, arith, Some, None, Result, Ok, Err}
+use Rattle.std.proofs.Common.{◌≡◌, ℕ, ◌+◌, List, [], ◌∷◌, ◌++◌, ◌∙◌, length, ap, sym, refl, arith, Some, None}
+use Rattle.std.proofs.Common.{Result, Ok, Err}
 use Rattle.ca_lex.specs.FirstFault.{steps_from}
 use Rattle.ca_order.specs.declared.event.Event.{Event}
 use Rattle.ca_order.specs.declared.event.Place.{Place}

@@ -27,8 +27,8 @@ meaning (event.Settle nodes) = model.Settle (numbers nodes)
 meaning (event.Blur nodes) = model.Blur (numbers nodes)
 meaning (event.Set node value) = model.Set node.0 value
 
--- a node of this kind with these values in the two vectors may be set: it is an input node that doesn't have one
--- value of 0 and 1 in both
+-- a node of this kind with these values in the two vectors may be set: it is an input node that doesn't have
+-- one value of 0 and 1 in both
 abbrev pub IsFree : NodeKind → Trit → Trit → Type 0
 IsFree kind first last = (kind ≡ Input) × (first ≡ last → first ≡ X)
 

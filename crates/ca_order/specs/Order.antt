@@ -1,5 +1,6 @@
 -- What an order file reads as: its lines, one after another, up to the first that is no event.
-use Rattle.std.specs.Prelude.{ℕ, ◌+◌, nat_le, List, [], ◌∷◌, ◌++◌, slice_get, Option, Some, None, Result, Ok, Err, codes, if◌then◌else◌}
+use Rattle.std.specs.Prelude.{ℕ, ◌+◌, nat_le, List, [], ◌∷◌, ◌++◌, slice_get, Option, Some, None, Result, Ok}
+use Rattle.std.specs.Prelude.{Err, codes, if◌then◌else◌}
 use Rattle.std.specs.Str.{bytes_eq}
 use Rattle.ca_lex.specs.FirstFault.{steps_from}
 use Rattle.ca_net.specs.declared.trit.Trit.{Trit}

@@ -58,7 +58,8 @@ fn word_len(text: &[u8]) -> usize
 /// The first word of a line, and what stands behind the space behind it.
 pub(crate) fn cut_word(text: &[u8]) -> (&[u8], Option<&[u8]>)
     ensures { MatchOption result.1 (words_of text.now ≡ result.0.now ∷ [])
-        (λ rest. (words_of text.now ≡ result.0.now ∷ words_of rest.now) × (length rest.now < length text.now)) }
+        (λ rest. (words_of text.now ≡ result.0.now ∷ words_of rest.now)
+        × (length rest.now < length text.now)) }
 {
     let len = word_len(text);
     if len < text.len() {

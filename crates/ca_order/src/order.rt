@@ -37,9 +37,9 @@ pub fn read_order(alloc: Global, places: &[Place], bytes: &[u8]) -> Result<List<
     Err(OrderFault::NoMemory)
 }
 
-/// The events of a text that may come in a run of the network while its inputs change from the first vector to the
-/// last, or its first line that is none. A vector has a value for each node; only those of input nodes are looked
-/// at.
+/// The events of a text that may come in a run of the network while its inputs change from the first vector
+/// to the last, or its first line that is none. A vector has a value for each node; only those of input nodes
+/// are looked at.
 pub fn read_order_for<N: Network>(
     alloc: Global,
     net: &N,

@@ -20,8 +20,8 @@ fn place_of(kind: NodeKind, first: Trit, last: Trit) -> Place
     }
 }
 
-/// The place of each node, in the order of the nodes, where the inputs change from the first vector to the last.
-/// A vector has a value for each node; only those of input nodes are looked at.
+/// The place of each node, in the order of the nodes, where the inputs change from the first vector to the
+/// last. A vector has a value for each node; only those of input nodes are looked at.
 pub fn places<N: Network>(
     alloc: Global,
     net: &N,

@@ -1,5 +1,6 @@
 -- The named outputs and their nets.
-use Rattle.std.proofs.Common.{◌≡◌, ℕ, ◌+◌, ◌≤◌, Bool, true, false, not, ◌&&◌, cond, List, [], ◌∷◌, ◌++◌, map, length, refl, sym, ap, ap₂, ◌∙◌, if◌then◌else◌}
+use Rattle.std.proofs.Common.{◌≡◌, ℕ, ◌+◌, ◌≤◌, Bool, true, false, not, ◌&&◌, cond, List, [], ◌∷◌, ◌++◌, map}
+use Rattle.std.proofs.Common.{length, refl, sym, ap, ap₂, ◌∙◌, if◌then◌else◌}
 use Rattle.std.specs.Prelude.{Option, Some, None, IsSomeAnd, slice_get, take}
 use Rattle.std.specs.List.{flat_map}
 use Rattle.std.proofs.lemmas.List.{take_all, append_assoc, append-nil, map-append, length-map}
@@ -9,7 +10,8 @@ use Rattle.ca_wired.specs.declared.parts.Body.TheVariants.{Gate, Scan}
 use Rattle.ca_wired.specs.declared.parts.PortBit.{PortBit}
 use Rattle.ca_wired.specs.Linked.{Chip, is_scan_path, d_nets, outputs_of}
 use Rattle.ca_wired.proofs.EndLemmas.{take_more}
-use Rattle.ca_outputs.specs.Outputs.{Output, port_outputs, pin_outputs, part_outputs, observed_ports, observed_pins, named_outputs, names_of, output_names}
+use Rattle.ca_outputs.specs.Outputs.{Output, port_outputs, pin_outputs, part_outputs, observed_ports}
+use Rattle.ca_outputs.specs.Outputs.{observed_pins, named_outputs, names_of, output_names}
 
 -- the nets of outputs
 abbrev pub nets_of : List Output → List ℕ

@@ -52,7 +52,8 @@ LimitsAreUnique =
     (net : Circuit) (v1 vm v2 first middle last s t u : List Trit) → AreLimits net v1 vm v2 first middle last
     → AreLimits net v1 vm v2 s t u
     → (n : ℕ)
-    → (value_at first n ≡ value_at s n) × (value_at middle n ≡ value_at t n) × (value_at last n ≡ value_at u n)
+    → (value_at first n ≡ value_at s n) × (value_at middle n ≡ value_at t n)
+    × (value_at last n ≡ value_at u n)
 
 -- locality: a storage node of a part responds in the whole as it does in the part, under the values of the
 -- part's own nodes

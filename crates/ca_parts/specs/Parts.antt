@@ -22,8 +22,8 @@ pub record Owner (cell : ℕ → Circuit) (to : ℕ → ℕ → ℕ) (count x : 
   pub storage : IsStorage (cell part) node
   pub at : to part node ≡ x
 
--- f is made of count parts. Each storage node is one part's, and each input node of a part is an input of f or
--- a storage node of a part of lower rank.
+-- f is made of count parts. Each storage node is one part's, and each input node of a part is an input of f
+-- or a storage node of a part of lower rank.
 pub record IsSplit (f : Circuit) (cell : ℕ → Circuit) (to : ℕ → ℕ → ℕ) (count : ℕ) (rank : ℕ → ℕ)
     : Type 0 where
   pub well_formed : (u : ℕ) → u < count → IsWellFormed (cell u)

@@ -13,8 +13,8 @@ pub record AreBelow (first middle last high_first high_middle high_last : List T
   pub middle_below : IsStateBelow middle high_middle
   pub last_below : IsStateBelow last high_last
 
--- limits rise with their waves: where each input's wave is at or below another in all three frames, so are the
--- limits
+-- limits rise with their waves: where each input's wave is at or below another in all three frames, so are
+-- the limits
 abbrev pub LimitsRise : Type 0
 LimitsRise =
     (net : Circuit) (v1 vm v2 w1 wm w2 first middle last high_first high_middle high_last : List Trit)

@@ -1,5 +1,7 @@
--- One run of a network between two vectors: long phases of rounds that settle all nodes, and events between them.
-use Rattle.std.specs.Prelude.{ℕ, zero, suc, ◌≡◌, Bool, true, false, if◌then◌else◌, List, [], ◌∷◌, length, slice_set}
+-- One run of a network between two vectors: long phases of rounds that settle all nodes, and events between
+-- them.
+use Rattle.std.specs.Prelude.{ℕ, zero, suc, ◌≡◌, Bool, true, false, if◌then◌else◌, List, [], ◌∷◌, length}
+use Rattle.std.specs.Prelude.{slice_set}
 use Rattle.std.specs.List.{All, Contains, range_with_len}
 use Rattle.ca_net.specs.declared.trit.Trit.{Trit}
 use Rattle.ca_net.specs.declared.trit.Trit.TheVariants.{Zero, One, X}
@@ -49,8 +51,8 @@ pub record CoverInputs (net : Circuit) (v1 v2 : List Trit) (inputs : List NodeId
   pub others : (n : ℕ) → IsInput net n → (Contains (numbers inputs) n → ⊥)
       → value_at v1 n ≡ value_at v2 n
 
--- The run that these events name ends in the state `end`: a long phase under the first vector from unknown storage
--- nodes, the events, the settings of these inputs to the last vector, and a long phase.
+-- The run that these events name ends in the state `end`: a long phase under the first vector from unknown
+-- storage nodes, the events, the settings of these inputs to the last vector, and a long phase.
 pub record IsReplay (net : Circuit) (inputs : List NodeId) (v1 v2 : List Trit) (events : List Event)
     (end : List Trit) : Type 0 where
   pub start : List Trit

@@ -10,8 +10,8 @@ use ca_net::{Network, State};
 use ca_relax::{Scratch, response};
 use std::mem;
 
-/// Settles all nodes as many times as there are nodes. Once a round changes nothing, no later one does, and the
-/// rest are left out.
+/// Settles all nodes as many times as there are nodes. Once a round changes nothing, no later one does, and
+/// the rest are left out.
 pub(crate) fn settle_rounds<N: Network>(
     net: &N,
     at: &mut State,

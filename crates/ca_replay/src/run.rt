@@ -18,9 +18,9 @@ use ca_relax::Scratch;
 use std::alloc::Global;
 
 /// The state in which one run of a network ends: from unknown storage nodes under the first vector, as many
-/// rounds that settle all nodes as there are nodes; the events; each of the inputs that isn't at its value in the
-/// last vector set to it, in the given order; and the same number of rounds. A vector has a value for each node,
-/// and only those of input nodes are looked at.
+/// rounds that settle all nodes as there are nodes; the events; each of the inputs that isn't at its value in
+/// the last vector set to it, in the given order; and the same number of rounds. A vector has a value for
+/// each node, and only those of input nodes are looked at.
 pub fn replay<N: Network>(
     alloc: Global,
     net: &N,

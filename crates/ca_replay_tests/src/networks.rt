@@ -114,9 +114,9 @@ pub(crate) fn vector(alloc: Global, nodes: usize, values: &[Trit]) -> Result<Sta
     Ok(vector)
 }
 
-// 0 power, 1 ground, the inputs 2 a, 3 s and 4 d, the outputs 5 z, 6 sn, 7 w1, 8 w2 and 9 y of an inverter of s,
-// the NAND gates of s and d, of sn and d, and of w1 and w2; z is that of a and y. 10 to 13 are the inner nodes of
-// the NAND gates, and 14 is a node that an open adds.
+// 0 power, 1 ground, the inputs 2 a, 3 s and 4 d, the outputs 5 z, 6 sn, 7 w1, 8 w2 and 9 y of an inverter of
+// s, the NAND gates of s and d, of sn and d, and of w1 and w2; z is that of a and y. 10 to 13 are the inner
+// nodes of the NAND gates, and 14 is a node that an open adds.
 pub(crate) const HAZARD: [Place; 15] = [
     Input, Input, Input, Input, Input, Output, Output, Output, Output, Output, Inner, Inner, Inner,
     Inner, Inner,

@@ -1,5 +1,5 @@
-//! Runs of a network with a hazard. With an open drain, the output keeps what it was charged to, and two orders
-//! of events end with 0 and with 1.
+//! Runs of a network with a hazard. With an open drain, the output keeps what it was charged to, and two
+//! orders of events end with 0 and with 1.
 
 ghost use Rattle.std.specs.Prelude.{◌≡◌, length, IfOk};
 

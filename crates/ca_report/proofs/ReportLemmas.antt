@@ -1,5 +1,6 @@
 -- The records of a report, one after another.
-use Rattle.std.proofs.Common.{◌≡◌, ℕ, suc, ◌+◌, ◌≤◌, List, ◌∷◌, ◌++◌, ◌∙◌, length, map, drop, drop-cons, ap, arith, sym, append_assoc, append-nil, get_or}
+use Rattle.std.proofs.Common.{◌≡◌, ℕ, suc, ◌+◌, ◌≤◌, List, ◌∷◌, ◌++◌, ◌∙◌, length, map, drop, drop-cons, ap}
+use Rattle.std.proofs.Common.{arith, sym, append_assoc, append-nil, get_or}
 use Rattle.std.specs.Prelude.{IsSomeAnd, slice_get}
 use Rattle.std.proofs.lemmas.List.{drop_all}
 use Rattle.std.proofs.lemmas.Option.{get_or_from_slice_get, slice_get_within}

@@ -1,11 +1,13 @@
 //! Verdicts as a report.
 
-ghost use Rattle.std.specs.Prelude.{◌≡◌, ◌++◌, ◌∷◌, ◌<◌, ℕ, List, [], length, map, decimal, slice_get, IsSomeAnd, Some, IfOk, OnOk};
+ghost use Rattle.std.specs.Prelude.{◌≡◌, ◌++◌, ◌∷◌, ◌<◌, ℕ, List, [], length, map, decimal, slice_get};
+ghost use Rattle.std.specs.Prelude.{IsSomeAnd, Some, IfOk, OnOk};
 ghost use Rattle.std.specs.List.{All};
 ghost use Rattle.csv.specs.Records.{fields_of};
 ghost use Rattle.csv.specs.Writing.{default_writer, row_text};
 ghost use Rattle.ca_csv.specs.Streams.{HasWritten};
-ghost use Rattle.ca_report.specs.Report.{header, word_of, pair_field, output_field, record_of, report_text, IsVerdictOf, IsRowOf};
+ghost use Rattle.ca_report.specs.Report.{header, word_of, pair_field, output_field, record_of, report_text};
+ghost use Rattle.ca_report.specs.Report.{IsVerdictOf, IsRowOf};
 
 use crate::rows::ReportRows;
 use crate::verdict::Verdict;

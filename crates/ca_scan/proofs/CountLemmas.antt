@@ -1,6 +1,8 @@
 -- How often a net is in a list, and which ends are on it.
-use Rattle.std.proofs.Common.{◌≡◌, ℕ, zero, suc, ◌+◌, ◌≤◌, Bool, true, false, List, [], ◌∷◌, ◌++◌, refl, sym, ap, subst, arith}
-use Rattle.std.specs.Prelude.{eqb, map, Option, Some, None, IsSomeAnd, slice_get, if◌then◌else◌, option_to_list}
+use Rattle.std.proofs.Common.{◌≡◌, ℕ, zero, suc, ◌+◌, ◌≤◌, Bool, true, false, List, [], ◌∷◌, ◌++◌, refl, sym}
+use Rattle.std.proofs.Common.{ap, subst, arith}
+use Rattle.std.specs.Prelude.{eqb, map, Option, Some, None, IsSomeAnd, slice_get, if◌then◌else◌}
+use Rattle.std.specs.Prelude.{option_to_list}
 use Rattle.std.specs.List.{flat_map}
 use Rattle.std.proofs.lemmas.Bool.{eq-eqb}
 use Rattle.ca_wired.specs.declared.pins.ScanPin.TheVariants.{Si, So}

@@ -1,5 +1,6 @@
 -- Following a chain: where a net leads, and what a run from the first net is.
-use Rattle.std.proofs.Common.{◌≡◌, ℕ, zero, suc, ◌+◌, ◌<◌, ◌≤◌, true, false, List, [], ◌∷◌, ◌++◌, length, refl, sym, ap, ◌∙◌, subst, arith, append_assoc, length-append}
+use Rattle.std.proofs.Common.{◌≡◌, ℕ, zero, suc, ◌+◌, ◌<◌, ◌≤◌, true, false, List, [], ◌∷◌, ◌++◌, length}
+use Rattle.std.proofs.Common.{refl, sym, ap, ◌∙◌, subst, arith, append_assoc, length-append}
 use Rattle.std.proofs.lemmas.Bool.{eqb-true}
 use Rattle.std.proofs.lemmas.Option.{slice_get_within}
 use Rattle.std.specs.Prelude.{Bool, eqb, if◌then◌else◌, Option, Some, None, IsSomeAnd, slice_get}
@@ -12,10 +13,13 @@ use Rattle.ca_wired.specs.declared.parts.PortBit.{PortBit}
 use Rattle.ca_wired.specs.Linked.{Chip, IsWired, is_scan_path}
 use Rattle.ca_wired.specs.Instances.{HasOnPin, IsScan, scans_of}
 use Rattle.ca_scan.specs.declared.joints.Joints.{Joints}
-use Rattle.ca_scan.specs.Chain.{count_of, ends_of, IsLink, IsOnPin, IsAtPort, IsOut, IsScanAt, RunsOut, IsChainFrom}
-use Rattle.ca_scan.specs.Kept.{drivers_of, out_nets, up_to_three, tally_at, taker_at, IsTakerAmong, AreJoints, IsFollowed}
+use Rattle.ca_scan.specs.Chain.{count_of, ends_of, IsLink, IsOnPin, IsAtPort, IsOut, IsScanAt, RunsOut}
+use Rattle.ca_scan.specs.Chain.{IsChainFrom}
+use Rattle.ca_scan.specs.Kept.{drivers_of, out_nets, up_to_three, tally_at, taker_at, IsTakerAmong, AreJoints}
+use Rattle.ca_scan.specs.Kept.{IsFollowed}
 use Rattle.ca_scan.proofs.CountLemmas.{count-append, so_drives, port_drives, goes_out}
-use Rattle.ca_scan.proofs.ChainLemmas.{one_net, one_run, so_on_path, si_on_path, not_both, same_taker, run_length}
+use Rattle.ca_scan.proofs.ChainLemmas.{one_net, one_run, so_on_path, si_on_path, not_both, same_taker}
+use Rattle.ca_scan.proofs.ChainLemmas.{run_length}
 use Rattle.ca_scan.proofs.TallyLemmas.{append_nil}
 use Rattle.ca_scan.proofs.JointLemmas.{path_ends, scan_place}
 

@@ -1,6 +1,8 @@
 -- What is kept of the nets, as it is gathered, and what it says of a chip.
-use Rattle.std.proofs.Common.{◌≡◌, ℕ, zero, suc, ◌+◌, ◌<◌, ◌≤◌, Bool, true, false, List, [], ◌∷◌, ◌++◌, length, take, refl, sym, ap, ◌∙◌, subst, arith, append_assoc, length-append}
-use Rattle.std.specs.Prelude.{eqb, map, Option, Some, None, IsSomeAnd, slice_get, slice_index, if◌then◌else◌, option_to_list}
+use Rattle.std.proofs.Common.{◌≡◌, ℕ, zero, suc, ◌+◌, ◌<◌, ◌≤◌, Bool, true, false, List, [], ◌∷◌, ◌++◌}
+use Rattle.std.proofs.Common.{length, take, refl, sym, ap, ◌∙◌, subst, arith, append_assoc, length-append}
+use Rattle.std.specs.Prelude.{eqb, map, Option, Some, None, IsSomeAnd, slice_get, slice_index, if◌then◌else◌}
+use Rattle.std.specs.Prelude.{option_to_list}
 use Rattle.std.specs.List.{All, flat_map}
 use Rattle.std.proofs.lemmas.Bool.{eqb-true, eq-eqb}
 use native.Mathlib.Decide.{ℕ_discrete}
@@ -16,7 +18,8 @@ use Rattle.ca_wired.specs.declared.parts.PortBit.{PortBit}
 use Rattle.ca_wired.specs.Linked.{Chip, IsWired, is_scan_path, data_nets, path_nets}
 use Rattle.ca_wired.specs.Instances.{HasOnPin, IsScan, if_scan, pin_nets, scans_from, scans_of}
 use Rattle.ca_scan.specs.Chain.{count_of, ends_of, IsOnPin, IsScanAt}
-use Rattle.ca_scan.specs.Kept.{nets_at, nets_of, out_nets, Counts, Adds, IsTakerAmong, AreTakersAmong, taker_at, SetsTaker}
+use Rattle.ca_scan.specs.Kept.{nets_at, nets_of, out_nets, Counts, Adds, IsTakerAmong, AreTakersAmong}
+use Rattle.ca_scan.specs.Kept.{taker_at, SetsTaker}
 use Rattle.ca_scan.proofs.CountLemmas.{item_of, count-append}
 use Rattle.ca_scan.proofs.ChainLemmas.{one_net}
 use Rattle.ca_scan.proofs.TallyLemmas.{take_more}

@@ -1,5 +1,6 @@
 -- The whole chains, as they are listed, and which scan instances are on one.
-use Rattle.std.proofs.Common.{◌≡◌, ℕ, zero, suc, ◌+◌, ◌<◌, ◌≤◌, Bool, true, false, ◌||◌, List, [], ◌∷◌, ◌++◌, length, take, refl, sym, ap, ◌∙◌, subst, arith, length-append}
+use Rattle.std.proofs.Common.{◌≡◌, ℕ, zero, suc, ◌+◌, ◌<◌, ◌≤◌, Bool, true, false, ◌||◌, List, [], ◌∷◌, ◌++◌}
+use Rattle.std.proofs.Common.{length, take, refl, sym, ap, ◌∙◌, subst, arith, length-append}
 use Rattle.std.specs.Prelude.{eqb, Option, Some, None, IsSomeAnd, slice_get, if◌then◌else◌, option_to_list}
 use Rattle.std.specs.List.{flat_map}
 use Rattle.std.proofs.lemmas.Bool.{eqb-true, eq-eqb}
@@ -8,7 +9,8 @@ use Rattle.std.proofs.lemmas.Grind.{flat_map-append}
 use Rattle.ca_wired.specs.declared.parts.PortBit.{PortBit}
 use Rattle.ca_wired.specs.Linked.{Chip, has}
 use Rattle.ca_wired.specs.Instances.{scans_of}
-use Rattle.ca_scan.specs.Chain.{count_of, IsChainAt, AreChainsOf, AreChains, IsOnChain, AreOnChains, IsFirstOff}
+use Rattle.ca_scan.specs.Chain.{count_of, IsChainAt, AreChainsOf, AreChains, IsOnChain, AreOnChains}
+use Rattle.ca_scan.specs.Chain.{IsFirstOff}
 use Rattle.ca_scan.specs.Kept.{up_to_three, tally_at, Counts, Adds, all_of, AreOnChainsBefore}
 use Rattle.ca_scan.proofs.CountLemmas.{counted, item_of}
 use Rattle.ca_scan.proofs.ChainLemmas.{one_found}

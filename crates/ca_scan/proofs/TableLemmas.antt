@@ -1,5 +1,7 @@
 -- The fields and the records of a scan table.
-use Rattle.std.proofs.Common.{◌≡◌, ℕ, zero, suc, ◌+◌, ◌<◌, Bool, true, false, not, ◌&&◌, List, [], ◌∷◌, ◌++◌, ◌∙◌, length, take, get_or, ap, arith, refl, sym, Option, Some, None, Result, Ok, Err}
+use Rattle.std.proofs.Common.{◌≡◌, ℕ, zero, suc, ◌+◌, ◌<◌, Bool, true, false, not, ◌&&◌, List, [], ◌∷◌, ◌++◌}
+use Rattle.std.proofs.Common.{◌∙◌, length, take, get_or, ap, arith, refl, sym, Option, Some, None, Result, Ok}
+use Rattle.std.proofs.Common.{Err}
 use Rattle.std.specs.Prelude.{if◌then◌else◌}
 use Rattle.csv.specs.Records.{field_at}
 use Rattle.ca_lex.specs.FirstFault.{steps_from}
@@ -7,7 +9,8 @@ use Rattle.ca_chip.specs.declared.scan_row.ScanRow.{ScanRow}
 use Rattle.std.specs.List.{list_all}
 use Rattle.std.proofs.lemmas.List.{map-append}
 use Rattle.ca_names.specs.Names.{has_name, with_name}
-use Rattle.ca_scan.specs.Table.{cells_of, is_text, is_row, is_header, row_of, row_with, may_join, with_fields, numbered, record_step, rows_of, Joins}
+use Rattle.ca_scan.specs.Table.{cells_of, is_text, is_row, is_header, row_of, row_with, may_join, with_fields}
+use Rattle.ca_scan.specs.Table.{numbered, record_step, rows_of, Joins}
 
 -- there is a field at each place within
 pub field_within : (xs : List (List ℕ)) (i : ℕ) → i < length xs → field_at xs i ≡ None → ⊥

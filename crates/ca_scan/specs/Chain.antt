@@ -1,6 +1,7 @@
 -- Whole chains: scan instances from an input port to an output port, the scan-in of each on the scan-out of
 -- the one before. Nothing else is on these nets.
-use Rattle.std.specs.Prelude.{ℕ, ◌≡◌, ◌<◌, ◌≤◌, ◌+◌, Bool, true, false, eqb, if◌then◌else◌, List, [], ◌∷◌, length, map, Option, Some, None, IsSomeAnd, slice_get, option_to_list}
+use Rattle.std.specs.Prelude.{ℕ, ◌≡◌, ◌<◌, ◌≤◌, ◌+◌, Bool, true, false, eqb, if◌then◌else◌, List, [], ◌∷◌}
+use Rattle.std.specs.Prelude.{length, map, Option, Some, None, IsSomeAnd, slice_get, option_to_list}
 use Rattle.std.specs.List.{flat_map}
 use Rattle.ca_wired.specs.declared.pins.ScanPin.{ScanPin}
 use Rattle.ca_wired.specs.declared.pins.ScanPin.TheVariants.{Si, So}

@@ -1,5 +1,6 @@
 -- What the code keeps for each net, and how it goes along a chain. Only the proofs of the code cite this.
-use Rattle.std.specs.Prelude.{ℕ, zero, suc, ◌≡◌, ◌<◌, ◌≤◌, ◌+◌, true, eqb, if◌then◌else◌, List, [], ◌∷◌, ◌++◌, map, length, Option, Some, None, slice_get, slice_index, get_or}
+use Rattle.std.specs.Prelude.{ℕ, zero, suc, ◌≡◌, ◌<◌, ◌≤◌, ◌+◌, true, eqb, if◌then◌else◌, List, [], ◌∷◌, ◌++◌}
+use Rattle.std.specs.Prelude.{map, length, Option, Some, None, slice_get, slice_index, get_or}
 use Rattle.std.specs.List.{flat_map}
 use Rattle.ca_wired.specs.declared.instances.InstanceId.{InstanceId}
 use Rattle.ca_wired.specs.declared.pins.ScanPin.TheVariants.{Si}

@@ -3,7 +3,8 @@ ghost use Rattle.std.specs.Prelude.{◌≡◌, ◌∷◌, ◌++◌, [], ◌<◌,
 ghost use Rattle.std.specs.List.{list_any, list_all};
 ghost use Rattle.std.specs.Str.{bytes_eq};
 ghost use Rattle.csv.specs.Records.{fields_of, field_at};
-ghost use Rattle.ca_scan.specs.Table.{same_texts, is_header, row_of, is_text, is_empty, is_distinct, are_pins, pins_of, is_row, row_with};
+ghost use Rattle.ca_scan.specs.Table.{same_texts, is_header, row_of, is_text, is_empty, is_distinct};
+ghost use Rattle.ca_scan.specs.Table.{are_pins, pins_of, is_row, row_with};
 
 use ca_base::NoMemory;
 use ca_chip::ScanRow;

@@ -1,6 +1,7 @@
 //! The whole chains of a chip.
 
-ghost use Rattle.std.specs.Prelude.{◌≡◌, ◌<◌, ◌++◌, length, option_to_list, slice_get, IsSomeAnd, IfOk, IfErr, OnOk};
+ghost use Rattle.std.specs.Prelude.{◌≡◌, ◌<◌, ◌++◌, length, option_to_list, slice_get, IsSomeAnd, IfOk};
+ghost use Rattle.std.specs.Prelude.{IfErr, OnOk};
 ghost use Rattle.ca_scan.specs.Chain.{AreChains};
 ghost use Rattle.ca_scan.specs.ChainFault.{AreAllChains, IsChainCause};
 ghost use Rattle.ca_scan.specs.Kept.{AreJoints, IsFirstOffIn, Counts, Adds, all_of};

@@ -1,5 +1,6 @@
 -- The steps of a search: a branch, a turn and a leaf.
-use Rattle.std.proofs.Common.{◌≡◌, ℕ, ◌+◌, ◌*◌, ◌<◌, ◌≤◌, List, [], ◌∷◌, ◌++◌, length, Bool, true, false, Option, None, Some, inl, inr, refl, sym, ◌∙◌, ap, subst, arith}
+use Rattle.std.proofs.Common.{◌≡◌, ℕ, ◌+◌, ◌*◌, ◌<◌, ◌≤◌, List, [], ◌∷◌, ◌++◌, length, Bool, true, false}
+use Rattle.std.proofs.Common.{Option, None, Some, inl, inr, refl, sym, ◌∙◌, ap, subst, arith}
 use Rattle.std.specs.Prelude.{not, cond, slice_set}
 use Rattle.std.proofs.lemmas.List.{length-append}
 use Rattle.ca_net.specs.declared.trit.Trit.{Trit}
@@ -10,13 +11,18 @@ use Rattle.ca_flat.specs.declared.token.Token.{Token}
 use Rattle.ca_flat.specs.declared.token.Token.TheVariants.{Branch, Leaf}
 use Rattle.ca_flat.specs.Chip.{Chip}
 use Rattle.ca_flat.specs.Pair.{bit_count}
-use Rattle.ca_flat.specs.Code.{At, Ended, bit_trit, unset_pair, with_bit, behind_tree, branch_count, IsWholeBy}
+use Rattle.ca_flat.specs.Code.{At, Ended, bit_trit, unset_pair, with_bit, behind_tree, branch_count}
+use Rattle.ca_flat.specs.Code.{IsWholeBy}
 use Rattle.ca_flat.proofs.Codes.{support_within}
 use Rattle.ca_search.specs.declared.trail.Decision.{Decision}
 use Rattle.ca_search.specs.SearchRules.{rules_for, MayLeaveFor, MayDecideFor}
-use Rattle.ca_search.specs.Judged.{Judged, with_pair, IsSameAim, IsSettledFor, IsPlainFor, MayLeaveHere, MayDecideHere}
-use Rattle.ca_search.specs.Steps.{pair_after, later_after, AreFresh, Follows, still_later, Stands, TurnsTo, IsTurn}
-use Rattle.ca_search.proofs.WalkLemmas.{pair_after_push, later_after_push, fresh_push, fresh_pop, length-pair_after, length-unset, set_twice, set_back, reads_append, branch_count-append, front_is_short}
+use Rattle.ca_search.specs.Judged.{Judged, with_pair, IsSameAim, IsSettledFor, IsPlainFor, MayLeaveHere}
+use Rattle.ca_search.specs.Judged.{MayDecideHere}
+use Rattle.ca_search.specs.Steps.{pair_after, later_after, AreFresh, Follows, still_later, Stands, TurnsTo}
+use Rattle.ca_search.specs.Steps.{IsTurn}
+use Rattle.ca_search.proofs.WalkLemmas.{pair_after_push, later_after_push, fresh_push, fresh_pop}
+use Rattle.ca_search.proofs.WalkLemmas.{length-pair_after, length-unset, set_twice, set_back, reads_append}
+use Rattle.ca_search.proofs.WalkLemmas.{branch_count-append, front_is_short}
 
 -- a settled pair may be left
 pub settled_leaves : (chip : Chip) (aim : Option ChipDefect) (pair : List Trit) → IsSettledFor chip aim pair

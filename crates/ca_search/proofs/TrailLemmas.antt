@@ -1,5 +1,6 @@
 -- The steps of a search, by what each call said of its result.
-use Rattle.std.proofs.Common.{◌≡◌, ℕ, ◌+◌, ◌*◌, ◌<◌, ◌≤◌, List, [], ◌∷◌, ◌++◌, length, Bool, true, false, refl, sym, ◌∙◌, ap, subst, arith}
+use Rattle.std.proofs.Common.{◌≡◌, ℕ, ◌+◌, ◌*◌, ◌<◌, ◌≤◌, List, [], ◌∷◌, ◌++◌, length, Bool, true, false}
+use Rattle.std.proofs.Common.{refl, sym, ◌∙◌, ap, subst, arith}
 use Rattle.std.specs.Prelude.{not, slice_set}
 use Rattle.std.proofs.lemmas.List.{length-append}
 use Rattle.ca_net.specs.declared.trit.Trit.TheVariants.{X}
@@ -11,10 +12,12 @@ use Rattle.ca_search.specs.Judged.{Judged, with_pair, IsSameAim, MayLeaveHere, M
 use Rattle.ca_search.specs.Tokens.{token_of, tokens_of}
 use Rattle.ca_search.specs.declared.trail.Trail.{Trail}
 use Rattle.ca_search.specs.SearchRules.{rules_for}
-use Rattle.ca_search.specs.Steps.{AreFresh, Follows, still_later, Stands, TrailStands, TurnsTo, IsTurn, IsLeft}
+use Rattle.ca_search.specs.Steps.{AreFresh, Follows, still_later, Stands, TrailStands, TurnsTo, IsTurn}
+use Rattle.ca_search.specs.Steps.{IsLeft}
 use Rattle.ca_search.proofs.TokenLemmas.{tokens_push, tokens_counted}
 use Rattle.ca_search.proofs.WalkLemmas.{fresh_pop, length-pair_after, length-unset}
-use Rattle.ca_search.proofs.StepLemmas.{begins, first_to, branched, TurnsBack, takes_back, turned, turns, turns_out, IsLeftAt, left, has_room, leaf_within}
+use Rattle.ca_search.proofs.StepLemmas.{begins, first_to, branched, TurnsBack, takes_back, turned, turns}
+use Rattle.ca_search.proofs.StepLemmas.{turns_out, IsLeftAt, left, has_room, leaf_within}
 
 -- the search begins
 pub begins_to : (old new : Judged) (numbers : List ℕ) (ds : List Decision) (budget : ℕ)

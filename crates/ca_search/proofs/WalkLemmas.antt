@@ -1,5 +1,6 @@
 -- Decisions, the pairs that they leave, and the code that is written meanwhile.
-use Rattle.std.proofs.Common.{◌≡◌, ℕ, ◌+◌, ◌*◌, ◌<◌, ◌≤◌, List, [], ◌∷◌, ◌++◌, length, refl, sym, ◌∙◌, ap, subst, arith}
+use Rattle.std.proofs.Common.{◌≡◌, ℕ, ◌+◌, ◌*◌, ◌<◌, ◌≤◌, List, [], ◌∷◌, ◌++◌, length, refl, sym, ◌∙◌, ap}
+use Rattle.std.proofs.Common.{subst, arith}
 use native.Mathlib.Decide.{ℕ_discrete}
 use Rattle.std.specs.Prelude.{not, cond, slice_set}
 use Rattle.std.proofs.lemmas.List.{length-set, ext_get_or, length-replicate}
@@ -10,7 +11,8 @@ use Rattle.ca_flat.specs.declared.token.Token.{Token}
 use Rattle.ca_flat.specs.declared.token.Token.TheVariants.{Branch, Leaf}
 use Rattle.ca_flat.specs.Chip.{Chip}
 use Rattle.ca_flat.specs.Pair.{bit_count}
-use Rattle.ca_flat.specs.Code.{Reading, At, Ended, unset_pair, with_bit, behind_tree, behind, Rules, Reads, branch_count}
+use Rattle.ca_flat.specs.Code.{Reading, At, Ended, unset_pair, with_bit, behind_tree, behind, Rules, Reads}
+use Rattle.ca_flat.specs.Code.{branch_count}
 use Rattle.ca_flat.proofs.Codes.{bit_itself, bit_other, length-with_bit}
 use Rattle.ca_search.specs.declared.trail.Decision.{Decision}
 use Rattle.ca_search.specs.Steps.{pair_after, later_after, AreFresh}

@@ -22,7 +22,8 @@ use Rattle.ca_flat.proofs.Spots.{body}
 use Rattle.ca_flat.proofs.Simulated.{input_low}
 use Rattle.ca_flat.proofs.PairLemmas.{middle_under_first, middle_under_last}
 use Rattle.ca_flat.proofs.NetInduction.{net_induction}
-use Rattle.ca_flat.proofs.InstanceWaves.{at_instance, output_value, rail_value, input_wave, part_limits, ends_last, last_ends}
+use Rattle.ca_flat.proofs.InstanceWaves.{at_instance, output_value, rail_value, input_wave, part_limits}
+use Rattle.ca_flat.proofs.InstanceWaves.{ends_last, last_ends}
 use Rattle.ca_table.specs.Gives.{wave_at}
 use Rattle.ca_sim.specs.Current.{input_waves, output_waves, IsSimulated}
 use Rattle.ca_flat.specs.Simulation.{IsFlattened}

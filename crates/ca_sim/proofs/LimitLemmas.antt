@@ -1,5 +1,6 @@
 -- Limits look at their vectors at input nodes alone, and what one has, each has.
-use Rattle.std.proofs.Common.{◌≡◌, ℕ, zero, suc, ◌<◌, ◌≤◌, List, [], ◌∷◌, length, refl, sym, ◌∙◌, get_or, arith}
+use Rattle.std.proofs.Common.{◌≡◌, ℕ, zero, suc, ◌<◌, ◌≤◌, List, [], ◌∷◌, length, refl, sym, ◌∙◌, get_or}
+use Rattle.std.proofs.Common.{arith}
 use Rattle.ca_net.specs.declared.trit.Trit.{Trit}
 use Rattle.ca_net.specs.declared.node.NodeKind.{NodeKind}
 use Rattle.ca_net.specs.declared.node.NodeKind.TheVariants.{Input, Storage}

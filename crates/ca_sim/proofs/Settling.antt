@@ -1,5 +1,6 @@
 -- Due instances are evaluated in the order, until none is due.
-use Rattle.std.proofs.Common.{◌≡◌, ◌≢◌, ℕ, ◌+◌, ◌<◌, ◌↔◌, List, Option, None, Some, inl, inr, sym, ◌∙◌, subst, arith}
+use Rattle.std.proofs.Common.{◌≡◌, ◌≢◌, ℕ, ◌+◌, ◌<◌, ◌↔◌, List, Option, None, Some, inl, inr, sym, ◌∙◌, subst}
+use Rattle.std.proofs.Common.{arith}
 use Rattle.std.specs.List.{All}
 use Rattle.std.proofs.lemmas.Bool.{cases_eq, cases_lt}
 use Rattle.ca_net.specs.declared.trit.Trit.{Trit}
@@ -19,7 +20,8 @@ use Rattle.ca_sim.specs.Network.{IsDue, IsReady, NoneBefore, IsWrittenOut, IsSet
 use Rattle.ca_sim.proofs.StepLemmas.{written_waves, evaluated, more_due}
 use Rattle.ca_sim.proofs.WaveLemmas.{each_wave}
 
--- Whatever the pair is: where each instance that wasn't due was current, each that isn't due is, and no place before this one is due.
+-- Whatever the pair is: where each instance that wasn't due was current, each that isn't due is, and no place
+-- before this one is due.
 pub record IsSettledTo (chip : Chip) (place_of : ℕ → ℕ) (o : Option ChipDefect) (from : ℕ) (old new : Network) : Type 0 where
   pub ready : IsReady chip place_of new
   pub before : NoneBefore new.due from

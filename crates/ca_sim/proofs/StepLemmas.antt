@@ -1,5 +1,6 @@
 -- What a change keeps: each instance that isn't due afterwards is current.
-use Rattle.std.proofs.Common.{◌≡◌, ℕ, zero, suc, ◌+◌, ◌<◌, ◌⊎◌, List, length, Option, None, Some, inl, inr, refl, sym, ◌∙◌, ap, subst, arith}
+use Rattle.std.proofs.Common.{◌≡◌, ℕ, zero, suc, ◌+◌, ◌<◌, ◌⊎◌, List, length, Option, None, Some, inl, inr}
+use Rattle.std.proofs.Common.{refl, sym, ◌∙◌, ap, subst, arith}
 use Rattle.std.proofs.lemmas.Bool.{cases_eq, cases_lt}
 use Rattle.std.proofs.lemmas.List.{get_or_past}
 use Rattle.ca_net.specs.declared.trit.Trit.{Trit}
@@ -11,7 +12,8 @@ use Rattle.ca_net.specs.Wave.{IsWave}
 use Rattle.ca_response.proofs.PairLemmas.{pair_is_wave}
 use Rattle.ca_cell.specs.declared.raw.RawCell.{RawCell}
 use Rattle.ca_flat.specs.declared.chip_defect.ChipDefect.{ChipDefect}
-use Rattle.ca_flat.specs.Chip.{Chip, cell_at, inputs_at, outputs_at, net_of, output_net, count_of, net_kind, Drives, IsChip}
+use Rattle.ca_flat.specs.Chip.{Chip, cell_at, inputs_at, outputs_at, net_of, output_net, count_of, net_kind}
+use Rattle.ca_flat.specs.Chip.{Drives, IsChip}
 use Rattle.ca_flat.specs.Flat.{circuit_in}
 use Rattle.ca_flat.specs.Chain.{IsOutputOf}
 use Rattle.ca_flat.proofs.Detected.{other_circuit}
@@ -92,7 +94,8 @@ module _ (chip : Chip) (rank : ℕ → ℕ) (is : IsChip chip rank) where
       (record { instance = w; output = output; known = known; within = within; on = refl }) (drives_of chip u (output_net chip w output) lt out)).0
 
   module _ (o : Option ChipDefect) (pair : List Trit) (due after : ℕ → Type 0) (old new : List Wave) (sim : IsSimulated chip o pair due old) where
-    -- An instance is evaluated: it is due no more, and the readers of its output nets whose waves changed are.
+    -- An instance is evaluated: it is due no more, and the readers of its output nets whose waves changed
+    -- are.
     module _ (u : ℕ) (lt : u < count_of chip) (outputs : List Wave) (given : Gives (cell_at chip u) (circuit_in chip o u) (input_waves chip old u) outputs)
         (are_waves : (output : ℕ) → IsWave (wave_at outputs output)) (written : IsWritten chip u outputs old new)
         (kept : (w : ℕ) → w < count_of chip → (w ≡ u → ⊥) → due w → after w) (readers : HasReadersDue chip after old new) where

@@ -177,8 +177,8 @@ pub(crate) fn defect_here(aim: Option<ChipDefect>, u: usize) -> Option<Defect>
     }
 }
 
-// The slot of a question: a mix of the cell's number, the defect and the waves. So the defects of an instance,
-// which are aimed at one after another, have slots of their own.
+// The slot of a question: a mix of the cell's number, the defect and the waves. So the defects of an
+// instance, which are aimed at one after another, have slots of their own.
 fn slot_of(number: usize, defect: Option<Defect>, pins: &[Wave], slots: usize) -> usize
     requires { 0 < slots }
     ensures { result < slots }

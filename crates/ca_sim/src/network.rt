@@ -28,7 +28,8 @@ pub struct Network {
 
 impl Network {
     ghost use Rattle.ca_sim.specs.PlaceSet.{Has, HoldsUpTo};
-    ghost use Rattle.ca_sim.specs.Network.{IsPut, IsWrittenOut, IsFedAt, IsTurned, IsReady, IsSettled, IsTwin, IsGiven, IsUnderway, IsRestingCopy};
+    ghost use Rattle.ca_sim.specs.Network.{IsPut, IsWrittenOut, IsFedAt, IsTurned, IsReady, IsSettled};
+    ghost use Rattle.ca_sim.specs.Network.{IsTwin, IsGiven, IsUnderway, IsRestingCopy};
     ghost use Rattle.ca_sim.specs.Current.{input_waves, output_waves};
     ghost use Rattle.ca_sim.specs.Cells.{AreCells};
 
@@ -173,8 +174,8 @@ impl Network {
     }
 
     /// Evaluates the instances that are due, in the order, until none is. Where there is a good network
-    /// beside this one, and an instance has its waves at the input pins and no defect, the instance has them at the
-    /// output pins too.
+    /// beside this one, and an instance has its waves at the input pins and no defect, the instance has them
+    /// at the output pins too.
     pub(crate) fn settle<C: Linked>(
         &mut self,
         chip: &C,

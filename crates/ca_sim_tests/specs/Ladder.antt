@@ -1,5 +1,6 @@
 -- Chips for tests: instances with one output pin, each of which drives the net behind all nets before it.
-use Rattle.std.specs.Prelude.{ℕ, suc, ◌+◌, ◌-◌, ◌*◌, ◌≤◌, ◌^◌, ◌≡◌, ◌<◌, List, [], ◌∷◌, ◌++◌, length, map, replicate, slice_get, slice_index, slice_index_or, Some}
+use Rattle.std.specs.Prelude.{ℕ, suc, ◌+◌, ◌-◌, ◌*◌, ◌≤◌, ◌^◌, ◌≡◌, ◌<◌, List, [], ◌∷◌, ◌++◌, length, map}
+use Rattle.std.specs.Prelude.{replicate, slice_get, slice_index, slice_index_or, Some}
 use Rattle.std.specs.List.{All, Contains, range_with_len}
 use Rattle.ca_net.specs.declared.scale.TheConstants.{OUTPUT_NET}
 use Rattle.ca_net.specs.declared.trit.Trit.TheVariants.{Zero}

@@ -1,24 +1,30 @@
 -- Chips for tests are chips, and are linked.
-use Rattle.std.proofs.Common.{◌≡◌, ℕ, zero, suc, ◌+◌, ◌-◌, ◌<◌, List, [], ◌∷◌, ◌++◌, length, replicate, Some, inl, inr, refl, sym, ◌∙◌, ap, subst, arith, get_or, length-append}
+use Rattle.std.proofs.Common.{◌≡◌, ℕ, zero, suc, ◌+◌, ◌-◌, ◌<◌, List, [], ◌∷◌, ◌++◌, length, replicate, Some}
+use Rattle.std.proofs.Common.{inl, inr, refl, sym, ◌∙◌, ap, subst, arith, get_or, length-append}
 use Rattle.std.specs.Prelude.{slice_get, slice_index, ◌==◌, if◌then◌else◌}
 use Rattle.std.specs.List.{Contains, range_with_len}
 use Rattle.std.proofs.lemmas.Bool.{cases_lt, ne_eqb}
-use Rattle.std.proofs.lemmas.List.{get_or_append_left, get_or-append_right, get_or-replicate, length-replicate, get_or-map, get_or_push, get_or_default}
+use Rattle.std.proofs.lemmas.List.{get_or_append_left, get_or-append_right, get_or-replicate}
+use Rattle.std.proofs.lemmas.List.{length-replicate, get_or-map, get_or_push, get_or_default}
 use Rattle.std.proofs.lemmas.List.FromFn.{get_or-range_with_len, length-range_with_len}
 use Rattle.std.proofs.lemmas.List.Elements.{All-get_or}
-use Rattle.std.proofs.lemmas.Option.{slice_get_within, slice_get_cases, slice_get-get_or, get_or_from_slice_get}
+use Rattle.std.proofs.lemmas.Option.{slice_get_within, slice_get_cases, slice_get-get_or}
+use Rattle.std.proofs.lemmas.Option.{get_or_from_slice_get}
 use Rattle.ca_net.specs.declared.scale.TheConstants.{OUTPUT_NET}
 use Rattle.ca_net.specs.declared.trit.Trit.{Trit}
 use Rattle.ca_net.specs.declared.trit.Trit.TheVariants.{Zero}
 use Rattle.ca_net.specs.declared.node.NodeKind.TheVariants.{Input, Storage}
 use Rattle.ca_cell.specs.declared.raw.RawCell.{RawCell}
 use Rattle.ca_cell.specs.Raw.{is_input, is_output, role_count}
-use Rattle.ca_flat.specs.Chip.{Chip, Instance, Constant, no_instance, instance_at, cell_at, inputs_at, outputs_at, net_of, count_of, net_kind, IsCell, IsChip, Drives}
+use Rattle.ca_flat.specs.Chip.{Chip, Instance, Constant, no_instance, instance_at, cell_at, inputs_at}
+use Rattle.ca_flat.specs.Chip.{outputs_at, net_of, count_of, net_kind, IsCell, IsChip, Drives}
 use Rattle.ca_sim.specs.Linked.{AreReaders, IsLinked, IsPinned, IsPlace, place_in}
 use Rattle.ca_sim_tests.specs.declared.rung.Rung.{Rung}
-use Rattle.ca_sim_tests.specs.Ladder.{cell_of, instances_from, ladder_of, places_of, number_in, IsRung, AreRungsTo, IsRowTo, row_of, IsLadder}
+use Rattle.ca_sim_tests.specs.Ladder.{cell_of, instances_from, ladder_of, places_of, number_in, IsRung}
+use Rattle.ca_sim_tests.specs.Ladder.{AreRungsTo, IsRowTo, row_of, IsLadder}
 
-pub length-instances : (cells : List RawCell) (net : ℕ) (rungs : List Rung) → length (instances_from cells net rungs) ≡ length rungs
+pub length-instances : (cells : List RawCell) (net : ℕ) (rungs : List Rung)
+    → length (instances_from cells net rungs) ≡ length rungs
 length-instances cells net [] = refl
 length-instances cells net (rung ∷ rungs) = ap suc (length-instances cells (suc net) rungs)
 
@@ -26,14 +32,17 @@ length-instances cells net (rung ∷ rungs) = ap suc (length-instances cells (su
 abbrev pub instance_of : List RawCell → ℕ → Rung → Instance
 instance_of cells net rung = record { cell = cell_of cells rung.cell; pins = rung.pins ++ net ∷ [] }
 
-instance_here : (cells : List RawCell) (net : ℕ) (rungs : List Rung) (u : ℕ) (rung : Rung) → slice_get rungs u ≡ Some rung
+instance_here : (cells : List RawCell) (net : ℕ) (rungs : List Rung) (u : ℕ) (rung : Rung)
+    → slice_get rungs u ≡ Some rung
     → get_or (instances_from cells net rungs) u no_instance ≡ instance_of cells (net + u) rung
 instance_here cells net [] u rung at = absurd (let within = slice_get_within [] u rung at in omega arith)
 instance_here cells net (head ∷ rungs) zero rung at =
     let is : head ≡ rung = get_or_from_slice_get (head ∷ rungs) 0 rung rung at in
-    ap (instance_of cells net) is ∙ ap (λ n. instance_of cells n rung) (let e : net ≡ net + 0 = omega arith in e)
+    ap (instance_of cells net) is ∙ ap (λ n. instance_of cells n rung)
+    (let e : net ≡ net + 0 = omega arith in e)
 instance_here cells net (head ∷ rungs) (suc u) rung at =
-    instance_here cells (suc net) rungs u rung at ∙ ap (λ n. instance_of cells n rung) (let e : suc net + u ≡ net + suc u = omega arith in e)
+    instance_here cells (suc net) rungs u rung at ∙ ap (λ n. instance_of cells n rung)
+    (let e : suc net + u ≡ net + suc u = omega arith in e)
 
 pub record HasRung (rungs : List Rung) (u : ℕ) : Type 0 where
   pub rung : Rung
@@ -59,10 +68,12 @@ order_is inputs cells rungs place p =
     let at = p.at in omega arith
 
 -- what was read stands at its place
-pub at_read : (rungs : List Rung) (u : ℕ) (read : Rung) → u < length rungs → read ≡ get_or rungs u read → slice_get rungs u ≡ Some read
+pub at_read : (rungs : List Rung) (u : ℕ) (read : Rung) → u < length rungs → read ≡ get_or rungs u read
+    → slice_get rungs u ≡ Some read
 at_read rungs u read lt is = slice_get-get_or rungs u read lt ∙ ap Some (sym is)
 
-module _ (inputs : ℕ) (cells : List RawCell) (rungs : List Rung) (are : AreRungsTo cells inputs (length rungs) rungs) where
+module _ (inputs : ℕ) (cells : List RawCell) (rungs : List Rung)
+    (are : AreRungsTo cells inputs (length rungs) rungs) where
   abbrev core : Chip
   core = ladder_of inputs cells rungs
 
@@ -73,22 +84,28 @@ module _ (inputs : ℕ) (cells : List RawCell) (rungs : List Rung) (are : AreRun
   net_count =
       let left = length-replicate inputs Input in
       let right = length-replicate (length rungs) (Storage OUTPUT_NET) in
-      let both = length-append (replicate inputs Input) (replicate (length rungs) (Storage OUTPUT_NET)) in omega arith
+      let both = length-append (replicate inputs Input)
+      (replicate (length rungs) (Storage OUTPUT_NET)) in omega arith
 
   known : (u : ℕ) → u < count_of core → u < length rungs
   known u lt = let c = counted in omega arith
 
-  pub instance_is : (u : ℕ) (rung : Rung) → slice_get rungs u ≡ Some rung → instance_at (ladder_of inputs cells rungs) u ≡ instance_of cells (inputs + u) rung
+  pub instance_is : (u : ℕ) (rung : Rung) → slice_get rungs u ≡ Some rung
+      → instance_at (ladder_of inputs cells rungs) u ≡ instance_of cells (inputs + u) rung
   instance_is u rung at = instance_here cells inputs rungs u rung at
 
   rung_is : (u : ℕ) (rung : Rung) → slice_get rungs u ≡ Some rung → IsRung cells (inputs + u) rung
   rung_is u rung at = are u rung (slice_get_within rungs u rung at) at
 
-  pub ins_are : (u : ℕ) (rung : Rung) → slice_get rungs u ≡ Some rung → inputs_at (ladder_of inputs cells rungs) u ≡ length rung.pins
-  ins_are u rung at = ap (λ (i : Instance). role_count is_input i.cell.pins) (instance_is u rung at) ∙ sym (rung_is u rung at).ins
+  pub ins_are : (u : ℕ) (rung : Rung) → slice_get rungs u ≡ Some rung
+      → inputs_at (ladder_of inputs cells rungs) u ≡ length rung.pins
+  ins_are u rung at = ap (λ (i : Instance). role_count is_input i.cell.pins) (instance_is u rung at) ∙ sym
+      (rung_is u rung at).ins
 
-  pub outs_are : (u : ℕ) (rung : Rung) → slice_get rungs u ≡ Some rung → outputs_at (ladder_of inputs cells rungs) u ≡ 1
-  outs_are u rung at = ap (λ (i : Instance). role_count is_output i.cell.pins) (instance_is u rung at) ∙ (rung_is u rung at).out
+  pub outs_are : (u : ℕ) (rung : Rung) → slice_get rungs u ≡ Some rung
+      → outputs_at (ladder_of inputs cells rungs) u ≡ 1
+  outs_are u rung at = ap (λ (i : Instance). role_count is_output i.cell.pins) (instance_is u rung at) ∙
+      (rung_is u rung at).out
 
   pub read_net : (u pin : ℕ) (rung : Rung) → slice_get rungs u ≡ Some rung → pin < length rung.pins
       → net_of (ladder_of inputs cells rungs) u pin ≡ get_or rung.pins pin 0
@@ -108,19 +125,23 @@ module _ (inputs : ℕ) (cells : List RawCell) (rungs : List Rung) (are : AreRun
       let ins = ins_are driver.instance found.rung found.at in
       let outs = outs_are driver.instance found.rung found.at in
       let only : driver.output ≡ 0 = let w = driver.within in omega arith in
-      sym driver.on ∙ driven_net driver.instance (inputs_at (ladder_of inputs cells rungs) driver.instance + driver.output) found.rung found.at (omega arith)
+      sym driver.on ∙ driven_net driver.instance (inputs_at
+      (ladder_of inputs cells rungs) driver.instance + driver.output) found.rung found.at (omega arith)
 
   input_kind : (net : ℕ) → net < inputs → net_kind core net ≡ Input
   input_kind net lt =
       let l = length-replicate inputs Input in
-      get_or_append_left (replicate inputs Input) (replicate (length rungs) (Storage OUTPUT_NET)) Input net (omega arith)
+      get_or_append_left (replicate inputs Input) (replicate (length rungs) (Storage OUTPUT_NET)) Input net
+      (omega arith)
       ∙ get_or-replicate inputs net Input Input lt
 
   output_kind : (u : ℕ) → u < length rungs → net_kind core (inputs + u) ≡ Storage OUTPUT_NET
   output_kind u lt =
-      get_or-append_right (replicate inputs Input) (replicate (length rungs) (Storage OUTPUT_NET)) inputs (inputs + u) Input
+      get_or-append_right (replicate inputs Input) (replicate (length rungs) (Storage OUTPUT_NET)) inputs
+      (inputs + u) Input
       (length-replicate inputs Input) (omega arith)
-      ∙ ap (λ k. get_or (replicate (length rungs) (Storage OUTPUT_NET)) k Input) (let e : inputs + u - inputs ≡ u = omega arith in e)
+      ∙ ap (λ k. get_or (replicate (length rungs) (Storage OUTPUT_NET)) k Input)
+      (let e : inputs + u - inputs ≡ u = omega arith in e)
       ∙ get_or-replicate (length rungs) u (Storage OUTPUT_NET) Input lt
 
   reads_before : (u pin : ℕ) → u < count_of core → pin < inputs_at core u → net_of core u pin < inputs + u
@@ -128,7 +149,8 @@ module _ (inputs : ℕ) (cells : List RawCell) (rungs : List Rung) (are : AreRun
       let found = rung_at rungs u (let c = length-instances cells inputs rungs in omega arith) in
       let ins = ins_are u found.rung found.at in
       subst (λ n. n < inputs + u) (sym (read_net u pin found.rung found.at (omega arith)))
-      (All-get_or (λ p. p < inputs + u) found.rung.pins pin 0 (omega arith) (rung_is u found.rung found.at).before)
+      (All-get_or (λ p. p < inputs + u) found.rung.pins pin 0 (omega arith)
+      (rung_is u found.rung found.at).before)
 
   place_is : (u : ℕ) → u < length rungs → place_in (places_of rungs) u ≡ 1 + u
   place_is u lt = get_or-range_with_len 1 (length rungs) u 0 lt
@@ -137,7 +159,8 @@ module _ (inputs : ℕ) (cells : List RawCell) (rungs : List Rung) (are : AreRun
   is_chip = record {
     cells = λ u lt.
         let found = rung_at rungs u (let c = length-instances cells inputs rungs in omega arith) in
-        subst (λ (i : Instance). IsCell i.cell) (sym (instance_is u found.rung found.at)) (rung_is u found.rung found.at).is_cell;
+        subst (λ (i : Instance). IsCell i.cell) (sym (instance_is u found.rung found.at))
+        (rung_is u found.rung found.at).is_cell;
     on_nets = λ u pin lt within.
         let c = length-instances cells inputs rungs in
         let count = net_count in
@@ -164,13 +187,15 @@ module _ (inputs : ℕ) (cells : List RawCell) (rungs : List Rung) (are : AreRun
                 output = 0;
                 known = omega arith;
                 within = omega arith;
-                on = driven_net u (inputs_at (ladder_of inputs cells rungs) u + 0) found.rung found.at (omega arith) ∙ (let e : inputs + (net - inputs) ≡ net = omega arith in e);
+                on = driven_net u (inputs_at (ladder_of inputs cells rungs) u + 0) found.rung found.at
+                    (omega arith) ∙ (let e : inputs + (net - inputs) ≡ net = omega arith in e);
               }
         ];
     drives = λ net driver.
         let c = length-instances cells inputs rungs in
         let k = driver.known in
-        ap (net_kind (ladder_of inputs cells rungs)) (drives_net net driver) ∙ output_kind driver.instance (omega arith);
+        ap (net_kind (ladder_of inputs cells rungs)) (drives_net net driver) ∙ output_kind driver.instance
+        (omega arith);
     one_driver = λ net one other.
         let a = drives_net net one in
         let b = drives_net net other in
@@ -195,12 +220,15 @@ module _ (inputs : ℕ) (cells : List RawCell) (rungs : List Rung) (are : AreRun
           let outs = outs_are driver.instance found.rung found.at in
           let w = driver.within in omega arith
 
-module _ (inputs : ℕ) (cells : List RawCell) (rungs : List Rung) (rows : List (List ℕ)) (kept : IsLadder (record { inputs = inputs; cells = cells; rungs = rungs; rows = rows })) where
-  number_is : (u : ℕ) → u < length rungs → cell_at (ladder_of inputs cells rungs) u ≡ cell_of cells (number_in rungs u)
+module _ (inputs : ℕ) (cells : List RawCell) (rungs : List Rung) (rows : List (List ℕ))
+    (kept : IsLadder (record { inputs = inputs; cells = cells; rungs = rungs; rows = rows })) where
+  number_is : (u : ℕ) → u < length rungs
+      → cell_at (ladder_of inputs cells rungs) u ≡ cell_of cells (number_in rungs u)
   number_is u lt =
       let found = rung_at rungs u lt in
       ap (λ (i : Instance). i.cell) (instance_is inputs cells rungs kept.are_rungs u found.rung found.at)
-      ∙ ap (cell_of cells) (sym (get_or-map (λ (r : Rung). r.cell) rungs u found.rung 0 lt ∙ ap (λ (r : Rung). r.cell) (get_or_from_slice_get rungs u found.rung found.rung found.at)))
+      ∙ ap (cell_of cells) (sym (get_or-map (λ (r : Rung). r.cell) rungs u found.rung 0 lt ∙ ap
+      (λ (r : Rung). r.cell) (get_or_from_slice_get rungs u found.rung found.rung found.at)))
 
   -- cells are listed
   pub number_within : (u : ℕ) → u < length rungs → number_in rungs u < length cells
@@ -255,7 +283,8 @@ module _ (inputs : ℕ) (cells : List RawCell) (rungs : List Rung) (rows : List 
         let count = nets_are in
         let net = fixed_net k constant at in omega arith;
     constant_kind = λ k constant at.
-        ap (net_kind (ladder_of inputs cells rungs)) (fixed_net k constant at) ∙ kind_is 0 (let some = kept.some_input in omega arith);
+        ap (net_kind (ladder_of inputs cells rungs)) (fixed_net k constant at) ∙ kind_is 0
+        (let some = kept.some_input in omega arith);
   }
     where
       input_is : (input : ℕ) → input < length (range_with_len 1 (inputs - 1))
@@ -265,12 +294,15 @@ module _ (inputs : ℕ) (cells : List RawCell) (rungs : List Rung) (rows : List 
           get_or-range_with_len 1 (inputs - 1) input 0 (omega arith)
 
       past : (input : ℕ) (value : Trit) → (if (1 + input) == 0 then Zero else value) ≡ value
-      past input value = ap (λ b. if b then Zero else value) (ne_eqb (1 + input) 0 (λ e. let same = e in omega arith))
+      past input value = ap (λ b. if b then Zero else value)
+          (ne_eqb (1 + input) 0 (λ e. let same = e in omega arith))
 
-      fixed_net : (k : ℕ) (constant : Constant) → slice_get (record { net = 0; value = Zero } ∷ []) k ≡ Some constant
+      fixed_net : (k : ℕ) (constant : Constant)
+          → slice_get (record { net = 0; value = Zero } ∷ []) k ≡ Some constant
           → constant.net ≡ 0
       fixed_net zero constant at = cc
-      fixed_net (suc k) constant at = absurd (let within = slice_get_within (record { net = 0; value = Zero } ∷ []) (suc k) constant at in omega arith)
+      fixed_net (suc k) constant at = absurd (let within = slice_get_within
+          (record { net = 0; value = Zero } ∷ []) (suc k) constant at in omega arith)
 
       nets_are : length (ladder_of inputs cells rungs).nets ≡ inputs + length rungs
       nets_are = net_count inputs cells rungs kept.are_rungs
@@ -278,7 +310,8 @@ module _ (inputs : ℕ) (cells : List RawCell) (rungs : List Rung) (rows : List 
       kind_is : (net : ℕ) → net < inputs → net_kind (ladder_of inputs cells rungs) net ≡ Input
       kind_is = input_kind inputs cells rungs kept.are_rungs
 
-  pub ladder_read : (net : ℕ) → net < length (ladder_of inputs cells rungs).nets → AreReaders (ladder_of inputs cells rungs) net (row_of rows net)
+  pub ladder_read : (net : ℕ) → net < length (ladder_of inputs cells rungs).nets
+      → AreReaders (ladder_of inputs cells rungs) net (row_of rows net)
   ladder_read net lt = record {
     each = λ u reads.
         let u_lt : u < length rungs = let c = length-instances cells inputs rungs in let k = reads.known in omega arith in
@@ -286,7 +319,8 @@ module _ (inputs : ℕ) (cells : List RawCell) (rungs : List Rung) (rows : List 
         let ins = ins_are inputs cells rungs kept.are_rungs u found.rung found.at in
         let pin_lt : reads.pin < length found.rung.pins = let w = reads.within in omega arith in
         row.each u found.rung u_lt found.at
-        (contains_at found.rung.pins reads.pin net pin_lt (sym (read_net inputs cells rungs kept.are_rungs u reads.pin found.rung found.at pin_lt) ∙ reads.on));
+        (contains_at found.rung.pins reads.pin net pin_lt (sym
+        (read_net inputs cells rungs kept.are_rungs u reads.pin found.rung found.at pin_lt) ∙ reads.on));
     only = λ u has.
         let told = row.only u has in
         let ins = ins_are inputs cells rungs kept.are_rungs u told.1 told.2 in

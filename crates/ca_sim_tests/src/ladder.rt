@@ -13,8 +13,8 @@ use ca_sim::{FixedNet, Linked};
 use std::alloc::Global;
 use std::marker::Model;
 
-/// A chip: the first net has the constant 0, its inputs have the next ones, and each instance drives one more.
-/// `inputs` counts the nets before those of the instances.
+/// A chip: the first net has the constant 0, its inputs have the next ones, and each instance drives one
+/// more. `inputs` counts the nets before those of the instances.
 #[derive(Drop)]
 pub struct Ladder {
     inputs: usize,

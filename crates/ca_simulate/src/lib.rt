@@ -1,5 +1,5 @@
-//! One pair on a linked chip: what each observed output settles to, without a defect and with one, and what it
-//! ends with in one run.
+//! One pair on a linked chip: what each observed output settles to, without a defect and with one, and what
+//! it ends with in one run.
 #![tactic(auto)]
 
 mod letters;

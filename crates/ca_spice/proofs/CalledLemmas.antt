@@ -1,5 +1,6 @@
 -- The subcircuit of a name in a text is that of the library's entry.
-use Rattle.std.proofs.Common.{ℕ, ◌≡◌, refl, Bool, true, false, if◌then◌else◌, List, [], ◌∷◌, map, Option, Some, Ok}
+use Rattle.std.proofs.Common.{ℕ, ◌≡◌, refl, Bool, true, false, if◌then◌else◌, List, [], ◌∷◌, map, Option}
+use Rattle.std.proofs.Common.{Some, Ok}
 use Rattle.std.specs.Prelude.{option_map}
 use Rattle.std.specs.Str.{bytes_eq}
 use Rattle.ca_lex.specs.Words.{upper_case}

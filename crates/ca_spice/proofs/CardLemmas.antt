@@ -1,5 +1,7 @@
 -- M cards as they are read, and as they are read again.
-use Rattle.std.proofs.Common.{◌≡◌, ℕ, suc, zero, ◌+◌, ◌^◌, ◌≤◌, ◌⊎◌, inl, inr, Bool, true, false, ◌&&◌, ◌||◌, not, cond, eqb, List, [], ◌∷◌, ◌++◌, Option, Some, None, Result, Ok, Err, refl, sym, ap, ◌∙◌, subst, codes, append_assoc}
+use Rattle.std.proofs.Common.{◌≡◌, ℕ, suc, zero, ◌+◌, ◌^◌, ◌≤◌, ◌⊎◌, inl, inr, Bool, true, false, ◌&&◌, ◌||◌}
+use Rattle.std.proofs.Common.{not, cond, eqb, List, [], ◌∷◌, ◌++◌, Option, Some, None, Result, Ok, Err, refl}
+use Rattle.std.proofs.Common.{sym, ap, ◌∙◌, subst, codes, append_assoc}
 use Rattle.std.specs.Prelude.{slice_get, unwrap_or, option_and_then}
 use Rattle.std.specs.Fmt.{decimal}
 use Rattle.std.specs.List.{AllByRecursion, list_all}
@@ -19,7 +21,8 @@ use Rattle.ca_spice.specs.declared.fault.SpiceKind.TheVariants.{BadCard, BadLeng
 use Rattle.ca_spice.specs.Card.{card_of}
 use Rattle.ca_names.specs.Names.{has_name, with_name, place_with}
 use Rattle.ca_spice.specs.Names.{is_name}
-use Rattle.ca_spice.specs.Mos.{Wiring, Sizes, are_params, count_of, value_of, are_sound, kind_of, wiring_with, wiring_of, length_at, sizes_of}
+use Rattle.ca_spice.specs.Mos.{Wiring, Sizes, are_params, count_of, value_of, are_sound, kind_of, wiring_with}
+use Rattle.ca_spice.specs.Mos.{wiring_of, length_at, sizes_of}
 use Rattle.ca_spice.specs.OpenCell.{OpenCell, has_device, with_device, wired, mos}
 use Rattle.ca_spice.specs.Writing.{net_name, model_of}
 use Rattle.ca_spice.proofs.PinLemmas.{left_true, right_true}

@@ -1,5 +1,6 @@
 -- A cell that is found in a library that was read can be read.
-use Rattle.std.proofs.Common.{◌≡◌, ℕ, suc, List, Bool, true, false, cond, [], ◌∷◌, map, Some, Ok, refl, sym, ap, arith}
+use Rattle.std.proofs.Common.{◌≡◌, ℕ, suc, List, Bool, true, false, cond, [], ◌∷◌, map, Some, Ok, refl, sym}
+use Rattle.std.proofs.Common.{ap, arith}
 use Rattle.std.specs.Prelude.{Contains}
 use Rattle.std.specs.Str.{bytes_eq}
 use Rattle.std.proofs.lemmas.Slice.Eq.{bytes_eq-Decides}

@@ -1,5 +1,6 @@
 -- The first faulty line.
-use Rattle.std.proofs.Common.{◌≡◌, ℕ, List, Bool, true, false, cond, Option, Some, None, Result, Ok, Err, refl, sym, ap, ◌∙◌, inl, inr, length}
+use Rattle.std.proofs.Common.{◌≡◌, ℕ, List, Bool, true, false, cond, Option, Some, None, Result, Ok, Err}
+use Rattle.std.proofs.Common.{refl, sym, ap, ◌∙◌, inl, inr, length}
 use Rattle.std.specs.Prelude.{nat_lt}
 use Rattle.ca_lex.specs.declared.lines.Line.{Line}
 use Rattle.ca_lex.specs.Lines.{spice_lines}
@@ -12,7 +13,8 @@ use Rattle.ca_spice.specs.declared.fault.SpiceFault.{SpiceFault}
 use Rattle.ca_spice.specs.declared.fault.SpiceFault.TheVariants.{At, TooManyCells}
 use Rattle.ca_spice.specs.declared.subcircuit.Subcircuit.{Subcircuit}
 use Rattle.ca_spice.specs.OpenCell.{OpenCell}
-use Rattle.ca_spice.specs.Reading.{Reading, Step, nothing, line_step, at_line, lines_from, limited, library_from, library_of}
+use Rattle.ca_spice.specs.Reading.{Reading, Step, nothing, line_step, at_line, lines_from, limited}
+use Rattle.ca_spice.specs.Reading.{library_from, library_of}
 use Rattle.ca_spice.specs.Laws.{IsFirstFaulty}
 
 -- a located step that has a fault has it at its line

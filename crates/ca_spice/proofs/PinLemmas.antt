@@ -1,5 +1,7 @@
 -- Words of roles, one after another.
-use Rattle.std.proofs.Common.{◌≡◌, ℕ, ◌+◌, ◌-◌, ◌<◌, ◌≤◌, List, Bool, true, false, [], ◌∷◌, length, take, drop, get_or, arith, Option, Some, None, Result, Ok, Err, refl, sym, ap, ◌∙◌, ◌&&◌, not}
+use Rattle.std.proofs.Common.{◌≡◌, ℕ, ◌+◌, ◌-◌, ◌<◌, ◌≤◌, List, Bool, true, false, [], ◌∷◌, length, take}
+use Rattle.std.proofs.Common.{drop, get_or, arith, Option, Some, None, Result, Ok, Err, refl, sym, ap, ◌∙◌}
+use Rattle.std.proofs.Common.{◌&&◌, not}
 use Rattle.std.specs.Prelude.{nat_lt, slice_get}
 use denote.Bor.{Bor}
 use Rattle.std.proofs.lemmas.List.{take_rest}
@@ -14,7 +16,8 @@ use Rattle.ca_spice.specs.declared.fault.SpiceKind.TheVariants.{BadCard, BadRole
 use Rattle.ca_spice.specs.declared.pin.Pin.{Pin}
 use Rattle.ca_names.specs.Names.{place_of}
 use Rattle.ca_spice.specs.Names.{is_name, texts}
-use Rattle.ca_spice.specs.PinInfo.{colon_place, pin_part, is_pin_word, are_pin_words, role_of, with_role, role_step, pin_info}
+use Rattle.ca_spice.specs.PinInfo.{colon_place, pin_part, is_pin_word, are_pin_words, role_of, with_role}
+use Rattle.ca_spice.specs.PinInfo.{role_step, pin_info}
 
 -- both sides of a test that is true are true
 pub left_true : (left right : Bool) → (left && right) ≡ true → left ≡ true

@@ -1,5 +1,6 @@
 -- Each subcircuit that a text reads as can be written.
-use Rattle.std.proofs.Common.{◌≡◌, ℕ, Bool, true, false, ◌||◌, not, cond, List, [], ◌∷◌, ◌++◌, length, map, Option, Some, None, Result, Ok, Err, refl, sym, ap, subst}
+use Rattle.std.proofs.Common.{◌≡◌, ℕ, Bool, true, false, ◌||◌, not, cond, List, [], ◌∷◌, ◌++◌, length, map}
+use Rattle.std.proofs.Common.{Option, Some, None, Result, Ok, Err, refl, sym, ap, subst}
 use Rattle.std.specs.Prelude.{nat_lt}
 use Rattle.std.specs.List.{AllByRecursion, list_all}
 use Rattle.std.proofs.lemmas.List.Elements.{All-contains, All-from_recursion}
@@ -23,14 +24,18 @@ use Rattle.ca_names.specs.Names.{has_double}
 use Rattle.ca_spice.specs.Names.{is_text}
 use Rattle.ca_spice.specs.Card.{card_of}
 use Rattle.ca_spice.specs.PinInfo as info
-use Rattle.ca_spice.specs.OpenCell.{OpenCell, pin_of, new_cell, with_pins, has_roles, pin_info, mos, pins_behind, is_ended_by, subcircuit_with, ended}
-use Rattle.ca_spice.specs.Reading.{Reading, Step, nothing, is_outside, has_cell, with_open, is_header, named, subckt, goes_on, in_cell, with_cell, ends, card_step, is_stray, is_comment, judged, words_step, line_step, at_line, lines_from, limited, library_from}
+use Rattle.ca_spice.specs.OpenCell.{OpenCell, pin_of, new_cell, with_pins, has_roles, pin_info, mos}
+use Rattle.ca_spice.specs.OpenCell.{pins_behind, is_ended_by, subcircuit_with, ended}
+use Rattle.ca_spice.specs.Reading.{Reading, Step, nothing, is_outside, has_cell, with_open, is_header, named}
+use Rattle.ca_spice.specs.Reading.{subckt, goes_on, in_cell, with_cell, ends, card_step, is_stray, is_comment}
+use Rattle.ca_spice.specs.Reading.{judged, words_step, line_step, at_line, lines_from, limited, library_from}
 use Rattle.ca_spice.specs.Writing.{pin_names, kept_as, IsReadable}
 use Rattle.ca_spice.proofs.SpelledLemmas.{IsSpelled, all_append}
 use Rattle.ca_spice.proofs.ShownLemmas.{IsShownText, words_spelled, lines_shown}
 use Rattle.ca_spice.proofs.CardLemmas.{kept_rule, kept_value, mos_found, wiring_found}
 use Rattle.ca_spice.proofs.DistinctLemmas.{names_begun}
-use Rattle.ca_spice.proofs.WritableLemmas.{IsWritable, first_step, writable_grown, names_shown, pin_info_names, behind_names}
+use Rattle.ca_spice.proofs.WritableLemmas.{IsWritable, first_step, writable_grown, names_shown}
+use Rattle.ca_spice.proofs.WritableLemmas.{pin_info_names, behind_names}
 
 -- a subcircuit that was read can be written
 abbrev pub IsWritableCell : Subcircuit → Type 0

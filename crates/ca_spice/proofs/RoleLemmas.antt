@@ -1,5 +1,7 @@
 -- Roles that were written read as the roles.
-use Rattle.std.proofs.Common.{◌≡◌, ℕ, suc, ◌+◌, ◌<◌, ◌≤◌, inl, inr, Bool, true, false, true≢false, ◌&&◌, ◌||◌, not, cond, eqb, List, [], ◌∷◌, ◌++◌, length, map, take, drop, Option, Some, None, Result, Ok, Err, refl, sym, ap, ◌∙◌, arith, append_assoc, length-append}
+use Rattle.std.proofs.Common.{◌≡◌, ℕ, suc, ◌+◌, ◌<◌, ◌≤◌, inl, inr, Bool, true, false, true≢false, ◌&&◌, ◌||◌}
+use Rattle.std.proofs.Common.{not, cond, eqb, List, [], ◌∷◌, ◌++◌, length, map, take, drop, Option, Some}
+use Rattle.std.proofs.Common.{None, Result, Ok, Err, refl, sym, ap, ◌∙◌, arith, append_assoc, length-append}
 use Rattle.std.specs.Prelude.{slice_get, slice_set, nat_lt}
 use Rattle.std.specs.Char.{to_ascii_uppercase}
 use Rattle.std.specs.List.{flat_map, AllByRecursion, list_all}
@@ -22,7 +24,8 @@ use Rattle.ca_spice.specs.declared.pin.Pin.{Pin}
 use Rattle.ca_names.specs.Names.{has_name, place_of, place_with, repeats, has_double}
 use Rattle.ca_spice.specs.Names.{is_text_byte, is_text, is_name}
 use Rattle.ca_spice.specs.Mos.{is_sign}
-use Rattle.ca_spice.specs.PinInfo.{last_colon, colon_place, pin_part, role_part, is_pin_word, are_pin_words, role_of, with_role, role_step, pin_info}
+use Rattle.ca_spice.specs.PinInfo.{last_colon, colon_place, pin_part, role_part, is_pin_word, are_pin_words}
+use Rattle.ca_spice.specs.PinInfo.{role_of, with_role, role_step, pin_info}
 use Rattle.ca_spice.specs.OpenCell.{pin_of, pins_behind}
 use Rattle.ca_spice.specs.Reading.{is_header_word}
 use Rattle.ca_spice.specs.Writing.{pin_names, role_letter, pin_word}

@@ -1,5 +1,7 @@
 -- A cell that was written is read as that cell alone.
-use Rattle.std.proofs.Common.{◌≡◌, ℕ, ◌+◌, ◌^◌, ◌<◌, ◌≤◌, ◌⊎◌, inl, inr, Bool, true, false, ◌&&◌, ◌||◌, not, cond, eqb, List, [], ◌∷◌, ◌++◌, length, map, Option, Some, None, Result, Ok, Err, refl, sym, ap, ◌∙◌, subst, arith, append_assoc, codes}
+use Rattle.std.proofs.Common.{◌≡◌, ℕ, ◌+◌, ◌^◌, ◌<◌, ◌≤◌, ◌⊎◌, inl, inr, Bool, true, false, ◌&&◌, ◌||◌, not}
+use Rattle.std.proofs.Common.{cond, eqb, List, [], ◌∷◌, ◌++◌, length, map, Option, Some, None, Result, Ok}
+use Rattle.std.proofs.Common.{Err, refl, sym, ap, ◌∙◌, subst, arith, append_assoc, codes}
 use Rattle.std.specs.Prelude.{IfOk, find, unwrap_or, option_map}
 use Rattle.std.specs.List.{flat_map, AllByRecursion, list_all}
 use Rattle.std.specs.Str.{bytes_eq}
@@ -32,16 +34,23 @@ use Rattle.ca_spice.specs.Names.{is_text}
 use Rattle.ca_spice.specs.Card.{card_by_letter, is_ignored, card_of}
 use Rattle.ca_spice.specs.PinInfo as info
 use Rattle.ca_spice.specs.OpenCell.{OpenCell, new_cell, has_roles, pin_info, mos, subcircuit_with, ended}
-use Rattle.ca_spice.specs.Reading.{Reading, nothing, is_outside, with_open, is_header_word, is_header, named, subckt, in_cell, goes_on, with_cell, ends, card_step, is_comment, judged, words_step, lines_from, library_from, library_of}
-use Rattle.ca_spice.specs.Writing.{spaced, line_of, pin_names, pin_word, rail_name, bulk_of, model_of, size_word, device_words, device_line, cell_text, kept_as, IsReadable}
+use Rattle.ca_spice.specs.Reading.{Reading, nothing, is_outside, with_open, is_header_word, is_header, named}
+use Rattle.ca_spice.specs.Reading.{subckt, in_cell, goes_on, with_cell, ends, card_step, is_comment, judged}
+use Rattle.ca_spice.specs.Reading.{words_step, lines_from, library_from, library_of}
+use Rattle.ca_spice.specs.Writing.{spaced, line_of, pin_names, pin_word, rail_name, bulk_of, model_of}
+use Rattle.ca_spice.specs.Writing.{size_word, device_words, device_line, cell_text, kept_as, IsReadable}
 use Rattle.ca_spice.proofs.PinLemmas.{left_true, right_true}
 use Rattle.ca_spice.proofs.SpelledLemmas.{HasNoComment, IsSpelled}
 use Rattle.ca_spice.proofs.SizeLemmas.{value_shown, value_text, width_words, channel_words}
-use Rattle.ca_spice.proofs.WrittenLemmas.{IsChunk, chunk_of, chunks_of, body, body_shown, first_line, line_words, spelled_alone, spelled_words, card_line, roles_line, read_on, BeginsAnew, anew_at_card, anew_at_roles, card_read, roles_read}
+use Rattle.ca_spice.proofs.WrittenLemmas.{IsChunk, chunk_of, chunks_of, body, body_shown, first_line}
+use Rattle.ca_spice.proofs.WrittenLemmas.{line_words, spelled_alone, spelled_words, card_line, roles_line}
+use Rattle.ca_spice.proofs.WrittenLemmas.{read_on, BeginsAnew, anew_at_card, anew_at_roles, card_read}
+use Rattle.ca_spice.proofs.WrittenLemmas.{roles_read}
 use Rattle.ca_spice.proofs.CardLemmas.{IsNameWord, IsSize, IsCard, net_named, card_words}
 use Rattle.ca_spice.proofs.WritableLemmas.{open_with, device_step, IsWritable, first_step, bulk_named}
 use Rattle.ca_spice.proofs.ReadableLemmas.{readable_writable}
-use Rattle.ca_spice.proofs.RoleLemmas.{IsPinName, name_of, with_its_role, roles_read_again, pins_again, pin_chunks, pin_words, pin_texts}
+use Rattle.ca_spice.proofs.RoleLemmas.{IsPinName, name_of, with_its_role, roles_read_again, pins_again}
+use Rattle.ca_spice.proofs.RoleLemmas.{pin_chunks, pin_words, pin_texts}
 
 -- the bytes of words that are spelled may stand in words
 spelled_texts : (words : List (List ℕ)) → AllByRecursion IsSpelled words → list_all is_text words ≡ true

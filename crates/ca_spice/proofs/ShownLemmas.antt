@@ -1,5 +1,7 @@
 -- The words of a line that was read.
-use Rattle.std.proofs.Common.{◌≡◌, ℕ, ◌+◌, ◌<◌, Bool, true, false, true≢false, ◌||◌, ◌&&◌, inl, inr, cond, not, eqb, List, [], ◌∷◌, ◌++◌, map, take, drop, refl, sym, ap, ◌∙◌, subst, arith}
+use Rattle.std.proofs.Common.{◌≡◌, ℕ, ◌+◌, ◌<◌, Bool, true, false, true≢false, ◌||◌, ◌&&◌, inl, inr, cond}
+use Rattle.std.proofs.Common.{not, eqb, List, [], ◌∷◌, ◌++◌, map, take, drop, refl, sym, ap, ◌∙◌, subst}
+use Rattle.std.proofs.Common.{arith}
 use Rattle.std.specs.Char.{to_ascii_uppercase}
 use Rattle.std.specs.List.{AllByRecursion, list_all}
 use Rattle.std.proofs.Math.Numerals.{one-add}
@@ -9,12 +11,14 @@ use Rattle.std.proofs.lemmas.Bool.{eqb-true}
 use Rattle.std.proofs.lemmas.Bool.Decides.{nat_tests}
 use Rattle.ca_lex.specs.declared.lines.Line.{Line}
 use Rattle.ca_lex.specs.Words.{is_blank, ends_word, word_len, with_byte, words_with, words_of, upper_case}
-use Rattle.ca_lex.specs.Physical.{without_comment, is_pin_info, lines_of, Physical, Nothing, Continuation, PinInfo, Card, card_of, physical_at, physical_of}
+use Rattle.ca_lex.specs.Physical.{without_comment, is_pin_info, lines_of, Physical, Nothing, Continuation}
+use Rattle.ca_lex.specs.Physical.{PinInfo, Card, card_of, physical_at, physical_of}
 use Rattle.ca_lex.specs.Lines.{continued, logical_from, spice_lines}
 use Rattle.ca_lex.proofs.WordLemmas.{first_of_words}
 use Rattle.ca_spice.specs.Names.{is_text}
 use Rattle.ca_spice.specs.Kept.{IsUpper}
-use Rattle.ca_spice.proofs.SpelledLemmas.{HasNoComment, IsInside, IsOneWord, IsSpelled, not_blank, not_sign, shown_spaced, shown_before}
+use Rattle.ca_spice.proofs.SpelledLemmas.{HasNoComment, IsInside, IsOneWord, IsSpelled, not_blank, not_sign}
+use Rattle.ca_spice.proofs.SpelledLemmas.{shown_spaced, shown_before}
 use Rattle.ca_spice.proofs.UpperLemmas.{words_of-upper}
 use Rattle.ca_spice.proofs.PinLemmas.{left_true, right_true}
 

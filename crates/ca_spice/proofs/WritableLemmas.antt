@@ -1,5 +1,6 @@
 -- What is read can be written: each subcircuit that a text reads as has cards that read as its devices again.
-use Rattle.std.proofs.Common.{◌≡◌, ℕ, suc, zero, ◌⊎◌, inl, inr, true, false, not, List, [], ◌∷◌, ◌++◌, map, Option, Some, None, Result, Ok, Err, refl, sym, ap, ◌∙◌, subst, append_assoc}
+use Rattle.std.proofs.Common.{◌≡◌, ℕ, suc, zero, ◌⊎◌, inl, inr, true, false, not, List, [], ◌∷◌, ◌++◌, map}
+use Rattle.std.proofs.Common.{Option, Some, None, Result, Ok, Err, refl, sym, ap, ◌∙◌, subst, append_assoc}
 use Rattle.std.specs.Prelude.{slice_get, slice_set, is_some}
 use Rattle.std.specs.List.{AllByRecursion}
 use Rattle.std.proofs.lemmas.List.{append-nil, map-append}
@@ -18,12 +19,16 @@ use Rattle.ca_names.specs.Names.{place_of, has_double}
 use Rattle.ca_spice.specs.Card.{card_of}
 use Rattle.ca_spice.specs.Mos.{Wiring, Sizes, sizes_of}
 use Rattle.ca_spice.specs.PinInfo as info
-use Rattle.ca_spice.specs.OpenCell.{OpenCell, with_drain, with_gate, with_source, device_of, with_device, has_device, mos, pins_behind}
+use Rattle.ca_spice.specs.OpenCell.{OpenCell, with_drain, with_gate, with_source, device_of, with_device}
+use Rattle.ca_spice.specs.OpenCell.{has_device, mos, pins_behind}
 use Rattle.ca_spice.specs.Reading.{is_header, named}
 use Rattle.ca_spice.specs.Writing.{pin_names, bulk_of}
 use Rattle.ca_spice.proofs.SpelledLemmas.{IsSpelled, all_append}
 use Rattle.ca_spice.proofs.DistinctLemmas.{AreNames, names_grown}
-use Rattle.ca_spice.proofs.CardLemmas.{IsNameWord, IsCard, Extends, net_more, card_more, cards_more, net_name-at, with_name-extends, extends_further, net_placed, card_words, card_params, written_wiring, written_sizes, mos-written, IsWired, kept_rule, kept_value, sizes_found}
+use Rattle.ca_spice.proofs.CardLemmas.{IsNameWord, IsCard, Extends, net_more, card_more, cards_more}
+use Rattle.ca_spice.proofs.CardLemmas.{net_name-at, with_name-extends, extends_further, net_placed}
+use Rattle.ca_spice.proofs.CardLemmas.{card_words, card_params, written_wiring, written_sizes, mos-written}
+use Rattle.ca_spice.proofs.CardLemmas.{IsWired, kept_rule, kept_value, sizes_found}
 
 -- a subcircuit that is being read
 abbrev pub open_with : ℕ → List ℕ → List Pin → List (List ℕ) → List RawDevice → OpenCell
@@ -33,7 +38,8 @@ open_with line name pins nets devices = record { line = line; name = name; pins 
 abbrev pub device_step : List ℕ → List ℕ → List (List ℕ) → RawDevice → OpenCell → Result OpenCell SpiceKind
 device_step p_bulk n_bulk nets device cell = mos device.name (card_words nets (bulk_of p_bulk n_bulk device.kind) device) cell
 
--- the written cards read as the devices again, with the nets in the same order, also where more nets come later
+-- the written cards read as the devices again, with the nets in the same order, also where more nets come
+-- later
 abbrev pub ReadsAgain : List ℕ → List (List ℕ) → List (List ℕ) → List RawDevice → Type 0
 ReadsAgain name pins nets devices = (p_bulk n_bulk : List ℕ) (later : List (List ℕ)) (line : ℕ) (shown : List Pin) → IsNameWord p_bulk → IsNameWord n_bulk
     → steps_from (device_step p_bulk n_bulk (nets ++ later)) (open_with line name shown pins []) devices ≡ Ok (open_with line name shown nets devices)

@@ -1,12 +1,14 @@
 -- Lines that were written, as they are read.
-use Rattle.std.proofs.Common.{◌≡◌, ℕ, ◌+◌, Bool, true, false, cond, eqb, List, [], ◌∷◌, ◌++◌, map, take, drop, Result, Ok, Err, refl, ap, ◌∙◌, arith, append_assoc, codes}
+use Rattle.std.proofs.Common.{◌≡◌, ℕ, ◌+◌, Bool, true, false, cond, eqb, List, [], ◌∷◌, ◌++◌, map, take, drop}
+use Rattle.std.proofs.Common.{Result, Ok, Err, refl, ap, ◌∙◌, arith, append_assoc, codes}
 use Rattle.std.specs.List.{flat_map, AllByRecursion, prefix_len}
 use Rattle.std.specs.Str.{str_eq_ignore_ascii_case}
 use Rattle.std.proofs.lemmas.List.{append-nil}
 use Rattle.std.proofs.lemmas.Bool.Decides.{nat_tests}
 use Rattle.ca_lex.specs.declared.lines.Line.{Line}
 use Rattle.ca_lex.specs.Words.{is_blank, word_len, with_byte, words_of, upper_case}
-use Rattle.ca_lex.specs.Physical.{lines_of, is_pin_info, without_comment, Physical, Nothing, Continuation, PinInfo, Card, card_of, physical_at, physical_of}
+use Rattle.ca_lex.specs.Physical.{lines_of, is_pin_info, without_comment, Physical, Nothing, Continuation}
+use Rattle.ca_lex.specs.Physical.{PinInfo, Card, card_of, physical_at, physical_of}
 use Rattle.ca_lex.specs.Lines.{continued, logical_from}
 use Rattle.ca_lex.specs.FirstFault.{steps_from}
 use Rattle.ca_spice.specs.declared.fault.SpiceFault.{SpiceFault}
@@ -14,7 +16,8 @@ use Rattle.ca_spice.specs.Names.{is_text_byte, is_text}
 use Rattle.ca_spice.specs.Reading.{Reading, Step, words_step, line_step, at_line, lines_from}
 use Rattle.ca_spice.specs.Writing.{spaced, line_of}
 use Rattle.ca_spice.proofs.PinLemmas.{left_true, right_true}
-use Rattle.ca_spice.proofs.SpelledLemmas.{HasNoComment, IsSpelled, alone, all_code, upper-chunks, words_of-chunks, shown_chunks}
+use Rattle.ca_spice.proofs.SpelledLemmas.{HasNoComment, IsSpelled, alone, all_code, upper-chunks}
+use Rattle.ca_spice.proofs.SpelledLemmas.{words_of-chunks, shown_chunks}
 
 -- a piece of a line that stands between two spaces
 pub record IsChunk (chunk : List ℕ) : Type 0 where

@@ -7,7 +7,8 @@ use Rattle.ca_spice.specs.declared.fault.SpiceKind.TheVariants.{Unended}
 use Rattle.ca_spice.specs.OpenCell.{OpenCell}
 use Rattle.ca_spice.specs.Reading.{Reading, nothing, line_step, lines_from}
 
--- the logical lines before `here` are read without a fault, and `here`, which has this number, breaks a rule of this kind
+-- the logical lines before `here` are read without a fault, and `here`, which has this number, breaks a rule
+-- of this kind
 pub record BreaksRule (text : List ℕ) (line : ℕ) (kind : SpiceKind) : Type 0 where
   pub before : List Line
   pub here : Line
@@ -27,7 +28,7 @@ pub record IsUnended (text : List ℕ) (line : ℕ) (kind : SpiceKind) : Type 0 
   pub number : cell.line ≡ line
   pub unended : kind ≡ Unended
 
--- the first faulty line of a text: it breaks a rule after the lines before it were read, or it begins a subcircuit in which a text
--- with no such line ends
+-- the first faulty line of a text: it breaks a rule after the lines before it were read, or it begins a
+-- subcircuit in which a text with no such line ends
 abbrev pub IsFirstFaulty : List ℕ → ℕ → SpiceKind → Type 0
 IsFirstFaulty text line kind = BreaksRule text line kind ⊎ IsUnended text line kind

@@ -1,5 +1,6 @@
 -- The M card: a transistor.
-use Rattle.std.specs.Prelude.{ℕ, ◌+◌, ◌==◌, nat_lt, Bool, true, false, not, ◌&&◌, if◌then◌else◌, List, [], ◌∷◌, codes, Option, Some, None, option_and_then}
+use Rattle.std.specs.Prelude.{ℕ, ◌+◌, ◌==◌, nat_lt, Bool, true, false, not, ◌&&◌, if◌then◌else◌, List, []}
+use Rattle.std.specs.Prelude.{◌∷◌, codes, Option, Some, None, option_and_then}
 use Rattle.std.specs.List.{list_all}
 use Rattle.std.specs.Str.{bytes_eq}
 use Rattle.ca_lex.specs.Length.{length_of, ◌>>=◌}
@@ -24,7 +25,8 @@ unfoldable pub count_of : List ℕ → List (List ℕ) → ℕ
 count_of key [] = 0
 count_of key (name ∷ []) = 0
 count_of key (name ∷ sign ∷ []) = 0
-count_of key (name ∷ sign ∷ value ∷ more) = if bytes_eq name key then 1 + count_of key more else count_of key more
+count_of key (name ∷ sign ∷ value ∷ more) =
+    if bytes_eq name key then 1 + count_of key more else count_of key more
 
 -- the value of a parameter where it first stands
 unfoldable pub value_of : List ℕ → List (List ℕ) → Option (List ℕ)

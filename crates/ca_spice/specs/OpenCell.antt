@@ -1,5 +1,6 @@
 -- The subcircuit that is being read, and what its cards make of it.
-use Rattle.std.specs.Prelude.{ℕ, Bool, true, false, not, List, [], ◌∷◌, ◌++◌, map, Option, Some, None, Result, Ok, Err}
+use Rattle.std.specs.Prelude.{ℕ, Bool, true, false, not, List, [], ◌∷◌, ◌++◌, map, Option, Some, None, Result}
+use Rattle.std.specs.Prelude.{Ok, Err}
 use Rattle.std.specs.List.{list_any}
 use Rattle.std.specs.Str.{bytes_eq}
 use Rattle.ca_lex.specs.Reading.{unless}
@@ -13,8 +14,8 @@ use Rattle.ca_names.specs.Names.{with_name, place_with}
 use Rattle.ca_spice.specs.PinInfo as info
 use Rattle.ca_spice.specs.Mos.{Wiring, Sizes, wiring_of, sizes_of, strength_of}
 
--- a subcircuit whose .ENDS has not come: the line of its .SUBCKT, its name, its pins, the names of its nets (the pins and then the
--- inner nets in the order of first mention) and its devices
+-- a subcircuit whose .ENDS has not come: the line of its .SUBCKT, its name, its pins, the names of its nets
+-- (the pins and then the inner nets in the order of first mention) and its devices
 pub record OpenCell : Type 0 where
   pub line : ℕ
   pub name : List ℕ
@@ -28,11 +29,13 @@ pin_of name = record { name = name; role = None }
 
 -- a subcircuit of these pins, as its .SUBCKT leaves it
 abbrev pub new_cell : ℕ → List ℕ → List (List ℕ) → OpenCell
-new_cell line name pins = record { line = line; name = name; pins = map pin_of pins; nets = pins; devices = [] }
+new_cell line name pins =
+    record { line = line; name = name; pins = map pin_of pins; nets = pins; devices = [] }
 
 -- the cell with these pins
 abbrev pub with_pins : OpenCell → List Pin → OpenCell
-with_pins cell pins = record { line = cell.line; name = cell.name; pins = pins; nets = cell.nets; devices = cell.devices }
+with_pins cell pins =
+    record { line = cell.line; name = cell.name; pins = pins; nets = cell.nets; devices = cell.devices }
 
 abbrev pub has_roles : OpenCell → Result (List Pin) SpiceKind → Result OpenCell SpiceKind
 has_roles cell (Ok pins) = Ok (with_pins cell pins)
@@ -88,7 +91,10 @@ wired name wiring cell = elim (sizes_of wiring.params) [
 
 -- an M card adds a transistor
 unfoldable pub mos : List ℕ → List (List ℕ) → OpenCell → Result OpenCell SpiceKind
-mos name words cell = elim (wiring_of name words) [ None ↦ Err BadCard | Some wiring ↦ wired name wiring cell ]
+mos name words cell = elim (wiring_of name words) [
+  | None ↦ Err BadCard
+  | Some wiring ↦ wired name wiring cell
+]
 
 -- these pins and then those with their roles; None where a pin has no role
 unfoldable pub pins_behind : List RawPin → List Pin → Option (List RawPin)
@@ -112,4 +118,5 @@ subcircuit_with cell (Some pins) =
 
 -- .ENDS makes the cell a subcircuit
 unfoldable pub ended : List (List ℕ) → OpenCell → Result Subcircuit SpiceKind
-ended words cell = unless (not (is_ended_by words cell.name)) BadCard (subcircuit_with cell (pins_behind [] cell.pins))
+ended words cell = unless (not (is_ended_by words cell.name)) BadCard
+    (subcircuit_with cell (pins_behind [] cell.pins))

@@ -1,5 +1,7 @@
 -- The roles of pins: words PIN:ROLE behind *.PININFO.
-use Rattle.std.specs.Prelude.{ℕ, ◌+◌, ◌==◌, nat_lt, Bool, not, false, ◌&&◌, if◌then◌else◌, List, [], ◌∷◌, codes, length, take, drop, slice_get, slice_set, Option, Some, None, is_some, Result, Ok, Err}
+use Rattle.std.specs.Prelude.{ℕ, ◌+◌, ◌==◌, nat_lt, Bool, not, false, ◌&&◌, if◌then◌else◌, List, [], ◌∷◌}
+use Rattle.std.specs.Prelude.{codes, length, take, drop, slice_get, slice_set, Option, Some, None, is_some}
+use Rattle.std.specs.Prelude.{Result, Ok, Err}
 use Rattle.std.specs.List.{list_all}
 use Rattle.std.specs.Str.{bytes_eq}
 use Rattle.ca_lex.specs.FirstFault.{steps_from}
@@ -30,7 +32,8 @@ role_part word = drop (colon_place word + 1) word
 
 -- the word has a `:`, with a name before the last one
 unfoldable pub is_pin_word : List ℕ → Bool
-is_pin_word word = nat_lt 0 (colon_place word) && nat_lt (colon_place word) (length word) && is_name (pin_part word)
+is_pin_word word = nat_lt 0 (colon_place word) && nat_lt (colon_place word) (length word)
+    && is_name (pin_part word)
 
 -- one or more such words
 abbrev pub are_pin_words : List (List ℕ) → Bool

@@ -1,5 +1,6 @@
 -- What a cell netlist reads as: its logical lines, one after another, and the first rule that a line breaks.
-use Rattle.std.specs.Prelude.{ℕ, nat_lt, Bool, true, false, not, ◌&&◌, ◌||◌, if◌then◌else◌, List, [], ◌∷◌, ◌++◌, length, Option, Some, None, Result, Ok, Err}
+use Rattle.std.specs.Prelude.{ℕ, nat_lt, Bool, true, false, not, ◌&&◌, ◌||◌, if◌then◌else◌, List, [], ◌∷◌}
+use Rattle.std.specs.Prelude.{◌++◌, length, Option, Some, None, Result, Ok, Err}
 use Rattle.std.specs.List.{list_all, list_any}
 use Rattle.std.specs.Str.{bytes_eq}
 use Rattle.ca_lex.specs.declared.lines.Line.{Line}
@@ -11,7 +12,8 @@ use Rattle.ca_cell.specs.declared.library.TheConstants.{MOST_CELLS}
 use Rattle.ca_spice.specs.declared.card.Card.{Card}
 use Rattle.ca_spice.specs.declared.card.Card.TheVariants as card
 use Rattle.ca_spice.specs.declared.fault.SpiceKind.{SpiceKind}
-use Rattle.ca_spice.specs.declared.fault.SpiceKind.TheVariants.{NotText, UnknownCard, BadCard, DoubleName, Unended}
+use Rattle.ca_spice.specs.declared.fault.SpiceKind.TheVariants.{NotText, UnknownCard, BadCard, DoubleName}
+use Rattle.ca_spice.specs.declared.fault.SpiceKind.TheVariants.{Unended}
 use Rattle.ca_spice.specs.declared.fault.SpiceFault.{SpiceFault}
 use Rattle.ca_spice.specs.declared.fault.SpiceFault.TheVariants.{At, TooManyCells}
 use Rattle.ca_spice.specs.declared.subcircuit.Subcircuit.{Subcircuit}
@@ -81,7 +83,11 @@ with_cell reading (Ok cell) = Ok (record { cells = reading.cells ++ cell ∷ [];
 with_cell reading (Err kind) = Err kind
 
 unfoldable pub ends : List (List ℕ) → Reading → Step
-ends words reading = elim reading.current [ None ↦ Err BadCard | Some cell ↦ with_cell reading (ended words cell) ]
+ends words reading = elim reading.current [
+  | None ↦ Err BadCard
+  | Some cell ↦ with_cell reading
+      (ended words cell)
+]
 
 -- each card, with its first word and those behind it
 unfoldable pub card_step : Card → ℕ → List ℕ → List (List ℕ) → Reading → Step

@@ -1,5 +1,6 @@
 -- The text of a cell as a cell netlist.
-use Rattle.std.specs.Prelude.{ℕ, ◌≡◌, Bool, List, [], ◌∷◌, ◌++◌, map, flat_map, codes, decimal, find, Contains, option_map, unwrap_or, slice_get, Ok}
+use Rattle.std.specs.Prelude.{ℕ, ◌≡◌, Bool, List, [], ◌∷◌, ◌++◌, map, flat_map, codes, decimal, find}
+use Rattle.std.specs.Prelude.{Contains, option_map, unwrap_or, slice_get, Ok}
 use Rattle.ca_net.specs.declared.device.DeviceKind.{DeviceKind}
 use Rattle.ca_net.specs.declared.device.DeviceKind.TheVariants as kind
 use Rattle.ca_lex.specs.Words.{upper_case}
@@ -67,7 +68,8 @@ terminal_words nets device =
 -- what stands behind them: the bulk, the model, W and L
 abbrev pub body_words : List ℕ → RawDevice → List (List ℕ)
 body_words bulk device =
-    bulk ∷ model_of device.kind ∷ size_word (codes "W=") device.width.0 ∷ size_word (codes "L=") device.length.0 ∷ []
+    bulk ∷ model_of device.kind ∷ size_word (codes "W=") device.width.0
+    ∷ size_word (codes "L=") device.length.0 ∷ []
 
 -- the words of an M card behind the device's name
 abbrev pub device_words : List (List ℕ) → List ℕ → RawDevice → List (List ℕ)
@@ -75,14 +77,16 @@ device_words nets bulk device = terminal_words nets device ++ body_words bulk de
 
 -- the M card of a device
 abbrev pub device_line : List ℕ → List ℕ → List (List ℕ) → RawDevice → List ℕ
-device_line p_bulk n_bulk nets device = line_of device.name (device_words nets (bulk_of p_bulk n_bulk device.kind) device)
+device_line p_bulk n_bulk nets device = line_of device.name
+    (device_words nets (bulk_of p_bulk n_bulk device.kind) device)
 
 -- the text of a subcircuit of this name: its pins, their roles, its devices in order, and its end
 unfoldable pub cell_text : List ℕ → RawCell → List ℕ
 cell_text name raw =
     line_of (codes ".SUBCKT") (name ∷ pin_names raw.pins)
     ++ (line_of (codes "*.PININFO") (map pin_word raw.pins)
-    ++ (flat_map (device_line (rail_name is_power raw.pins) (rail_name is_ground raw.pins) raw.nets) raw.devices
+    ++ (flat_map
+    (device_line (rail_name is_power raw.pins) (rail_name is_ground raw.pins) raw.nets) raw.devices
     ++ line_of (codes ".ENDS") []))
 
 -- a subcircuit under a name in upper case, as a library keeps it

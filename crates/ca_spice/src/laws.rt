@@ -13,8 +13,9 @@ ghost use Rattle.ca_spice.specs.Laws.{IsFirstFaulty};
 ghost use Rattle.ca_spice.specs.Views.{subcircuit_seen};
 ghost use Rattle.ca_spice.specs.Writing.{IsReadable};
 
-/// A text has a fault at a line exactly where that is its first faulty line: the first that breaks a rule after the lines
-/// before it were read, or the `.SUBCKT` of the subcircuit in which the text ends, where no line breaks a rule.
+/// A text has a fault at a line exactly where that is its first faulty line: the first that breaks a rule
+/// after the lines before it were read, or the `.SUBCKT` of the subcircuit in which the text ends, where no
+/// line breaks a rule.
 pub fn first_faulty_line()
     ensures found { (text : List ℕ) (line : ℕ) (kind : SpiceKind) → library_of text ≡ Err (At line kind)
         → IsFirstFaulty text line kind }
@@ -22,7 +23,8 @@ pub fn first_faulty_line()
         → library_of text ≡ Err (At line kind) }
 {}
 
-/// What `write_cell` asks holds of each cell that is found in a library which was read, under each name by which it is found.
+/// What `write_cell` asks holds of each cell that is found in a library which was read, under each name by
+/// which it is found.
 pub fn found_cell()
     ensures { (text name : List ℕ) (library : List Named) (raw : RawCell)
         → library_of text ≡ Ok (map subcircuit_seen library)

@@ -1,6 +1,7 @@
 //! The words of an M card.
 ghost use Rattle.std.specs.Prelude.{◌≡◌, ◌+◌, option_map};
-ghost use Rattle.ca_spice.specs.Mos.{is_sign, are_params, count_of, value_of, are_sound, kind_of, wiring_of, length_at, sizes_of, strength_of};
+ghost use Rattle.ca_spice.specs.Mos.{is_sign, are_params, count_of, value_of, are_sound, kind_of, wiring_of};
+ghost use Rattle.ca_spice.specs.Mos.{length_at, sizes_of, strength_of};
 ghost use Rattle.ca_spice.specs.Names.{texts};
 ghost use Rattle.ca_spice.specs.Views.{wiring_seen, sizes_seen};
 

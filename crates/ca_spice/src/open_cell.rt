@@ -16,7 +16,8 @@ use ca_lex::Text;
 use ca_names::NameSet;
 use std::alloc::Global;
 
-/// A subcircuit whose `.ENDS` has not come. The nets are the pins and then the inner nets in the order of first mention.
+/// A subcircuit whose `.ENDS` has not come. The nets are the pins and then the inner nets in the order of
+/// first mention.
 #[derive(Drop)]
 pub(crate) struct OpenCell {
     pub line: usize,

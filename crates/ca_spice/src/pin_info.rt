@@ -4,7 +4,8 @@ ghost use Rattle.std.specs.List.{list_all};
 ghost use Rattle.ca_lex.specs.Reading.{Gives, Steps};
 ghost use Rattle.ca_spice.specs.SpiceFault.{kind_told};
 ghost use Rattle.ca_spice.specs.Names.{texts};
-ghost use Rattle.ca_spice.specs.PinInfo.{colon_place, is_pin_word, are_pin_words, role_of, with_role, role_step, pin_info};
+ghost use Rattle.ca_spice.specs.PinInfo.{colon_place, is_pin_word, are_pin_words, role_of, with_role};
+ghost use Rattle.ca_spice.specs.PinInfo.{role_step, pin_info};
 
 use crate::fault::{Refusal, SpiceKind};
 use crate::names::is_name;
@@ -116,7 +117,8 @@ pub(crate) fn pin_info(
     nets: &NameSet,
     words: &[&[u8]],
 ) -> Result<Vec<Pin>, Refusal>
-    ensures read { Gives kind_told (λ pins. pins.items) result (pin_info nets.now (texts words.now) pins.items) }
+    ensures read { Gives kind_told (λ pins. pins.items) result
+        (pin_info nets.now (texts words.now) pins.items) }
     ensures count { IfOk result (λ given. length given.items ≡ length pins.items) }
 {
     if !are_pin_words(words) {

@@ -32,7 +32,8 @@ impl Reading {
     ghost use Rattle.ca_lex.specs.Reading.{Gives};
     ghost use Rattle.ca_spice.specs.SpiceFault.{kind_told};
     ghost use Rattle.ca_spice.specs.OpenCell.{pin_info, mos};
-    ghost use Rattle.ca_spice.specs.Reading.{nothing, is_outside, named, subckt, ends, in_cell, card_step, is_comment, words_step, line_step};
+    ghost use Rattle.ca_spice.specs.Reading.{nothing, is_outside, named, subckt, ends, in_cell, card_step};
+    ghost use Rattle.ca_spice.specs.Reading.{is_comment, words_step, line_step};
     ghost use Rattle.ca_spice.specs.Views.{reading_seen};
 
     /// What is read before the first line.
@@ -57,7 +58,8 @@ impl Reading {
     fn named(self, alloc: Global, line: usize, name: &[u8], pins: &[&[u8]]) -> Result<Self, Refusal>
         requires outside { IsTrue (is_outside (reading_seen self)) }
         requires upper { IsUpper name.now }
-        ensures { Gives kind_told reading_seen result (named line name.now (texts pins.now) (reading_seen self)) }
+        ensures { Gives kind_told reading_seen result
+            (named line name.now (texts pins.now) (reading_seen self)) }
     {
         let Reading {
             mut names,
@@ -112,7 +114,8 @@ impl Reading {
     }
 
     fn pin_info(self, words: &[&[u8]]) -> Result<Self, Refusal>
-        ensures { Gives kind_told reading_seen result (in_cell (pin_info (texts words.now)) (reading_seen self)) }
+        ensures { Gives kind_told reading_seen result
+            (in_cell (pin_info (texts words.now)) (reading_seen self)) }
     {
         let Reading {
             names,
@@ -131,7 +134,8 @@ impl Reading {
     }
 
     fn mos(self, alloc: Global, name: &[u8], words: &[&[u8]]) -> Result<Self, Refusal>
-        ensures { Gives kind_told reading_seen result (in_cell (mos name.now (texts words.now)) (reading_seen self)) }
+        ensures { Gives kind_told reading_seen result
+            (in_cell (mos name.now (texts words.now)) (reading_seen self)) }
     {
         let Reading {
             names,
@@ -186,7 +190,8 @@ impl Reading {
     #[tactic(auto, unfolding(crate::specs::Reading::words_step))]
     fn words(self, alloc: Global, line: usize, words: &[&[u8]]) -> Result<Self, Refusal>
         requires { All IsUpper (texts words.now) }
-        ensures { Gives kind_told reading_seen result (words_step line (texts words.now) (reading_seen self)) }
+        ensures { Gives kind_told reading_seen result
+            (words_step line (texts words.now) (reading_seen self)) }
     {
         let [word, more @ ..] = words else {
             return Ok(self);

@@ -5,7 +5,9 @@ ghost use Rattle.ca_lex.specs.Words.{upper_case};
 ghost use Rattle.ca_cell.specs.Raw.{is_power, is_ground};
 ghost use Rattle.ca_cell.specs.Rules.{IsRaw, PlacesWithin};
 ghost use Rattle.ca_spice.specs.Reading.{library_of};
-ghost use Rattle.ca_spice.specs.Writing.{spaced, line_of, pin_names, role_letter, pin_word, rail_name, bulk_of, model_of, net_name, size_word, terminal_words, body_words, device_words, device_line, cell_text, kept_as, IsReadable};
+ghost use Rattle.ca_spice.specs.Writing.{spaced, line_of, pin_names, role_letter, pin_word, rail_name};
+ghost use Rattle.ca_spice.specs.Writing.{bulk_of, model_of, net_name, size_word, terminal_words, body_words};
+ghost use Rattle.ca_spice.specs.Writing.{device_words, device_line, cell_text, kept_as, IsReadable};
 
 use ca_base::NoMemory;
 use ca_cell::{Cell, RawCell, RawDevice, RawPin, Role};
@@ -162,7 +164,8 @@ fn push_device(
     device: &RawDevice,
 ) -> Result<(), NoMemory>
     requires { PlacesWithin (length nets.now) device.now }
-    ensures { OnOk result (text.new ≡ text.old ++ line_of device.now.name (device_words nets.now bulk.now device.now)) }
+    ensures { OnOk result (text.new ≡ text.old
+        ++ line_of device.now.name (device_words nets.now bulk.now device.now)) }
 {
     text.append(device.name.as_bytes())?;
     push_terminals(text, nets, device)?;
@@ -179,7 +182,8 @@ fn push_devices(
     devices: &[RawDevice],
 ) -> Result<(), NoMemory>
     requires { All (PlacesWithin (length nets.now)) devices.now }
-    ensures { OnOk result (text.new ≡ text.old ++ flat_map (device_line p_bulk.now n_bulk.now nets.now) devices.now) }
+    ensures { OnOk result (text.new ≡ text.old
+        ++ flat_map (device_line p_bulk.now n_bulk.now nets.now) devices.now) }
 {
     for device in devices {
         push_device(text, nets, bulk_of(p_bulk, n_bulk, device.kind), device)?;
@@ -209,8 +213,9 @@ fn cell_text(alloc: Global, raw: &RawCell, name: &[u8]) -> Result<Text, NoMemory
     Ok(text)
 }
 
-/// The text of a cell as a cell netlist: one subcircuit, under the name in upper case, which is how a library keeps it. A cell that is
-/// found in a library which was read may be written under each name by which it is found there (`found_cell`).
+/// The text of a cell as a cell netlist: one subcircuit, under the name in upper case, which is how a library
+/// keeps it. A cell that is found in a library which was read may be written under each name by which it is
+/// found there (`found_cell`).
 #[tactic(auto, using(crate::proofs::RoundTripLemmas::read_written))]
 pub fn write_cell(alloc: Global, cell: &Cell, name: &[u8]) -> Result<Text, NoMemory>
     requires { IsReadable name.now cell.now }

@@ -1,8 +1,11 @@
 -- The values in a chain's cells, the last cell first.
-use Rattle.std.proofs.Common.{◌≡◌, ℕ, ◌+◌, ◌-◌, ◌<◌, ◌≤◌, Bool, false, List, [], ◌∷◌, ◌++◌, ◌∙◌, length, map, reverse, take, drop, get_or, ap, arith, append_assoc, append-nil, length-drop, sym, refl, zero, suc}
+use Rattle.std.proofs.Common.{◌≡◌, ℕ, ◌+◌, ◌-◌, ◌<◌, ◌≤◌, Bool, false, List, [], ◌∷◌, ◌++◌, ◌∙◌, length, map}
+use Rattle.std.proofs.Common.{reverse, take, drop, get_or, ap, arith, append_assoc, append-nil, length-drop}
+use Rattle.std.proofs.Common.{sym, refl, zero, suc}
 use Rattle.std.specs.List.{All}
 use Rattle.std.proofs.lemmas.List.Elements.{All-get_or}
-use Rattle.std.proofs.lemmas.List.{take_more, map-append, reverse-append, get_or-drop, get_or-take, get_or_default}
+use Rattle.std.proofs.lemmas.List.{take_more, map-append, reverse-append, get_or-drop, get_or-take}
+use Rattle.std.proofs.lemmas.List.{get_or_default}
 use Rattle.std.proofs.Math.Seq.{take-length}
 use Rattle.ca_net.specs.declared.trit.Trit.{Trit}
 use Rattle.ca_net.specs.declared.trit.Trit.TheVariants.{X}

@@ -1,5 +1,6 @@
 -- The statements of the pairs, one pair after another.
-use Rattle.std.proofs.Common.{◌≡◌, ℕ, ◌+◌, ◌<◌, ◌≤◌, suc, Bool, List, [], ◌++◌, ◌∙◌, length, map, drop, get_or, drop-cons, ap, subst, arith, sym, append_assoc}
+use Rattle.std.proofs.Common.{◌≡◌, ℕ, ◌+◌, ◌<◌, ◌≤◌, suc, Bool, List, [], ◌++◌, ◌∙◌, length, map, drop}
+use Rattle.std.proofs.Common.{get_or, drop-cons, ap, subst, arith, sym, append_assoc}
 use Rattle.std.specs.List.{All}
 use Rattle.std.proofs.lemmas.List.{drop_all, get_or-map, length-map}
 use Rattle.ca_net.specs.declared.trit.Trit.{Trit}

@@ -3,7 +3,9 @@
 ghost use Rattle.std.specs.Prelude.{◌≡◌, ◌++◌, ◌<◌, ◌+◌, length, OnOk, codes, decimal};
 ghost use Rattle.ca_stil.specs.Chip.{end_of};
 ghost use Rattle.ca_stil.specs.Words.{quoted};
-ghost use Rattle.ca_stil.specs.Frame.{input_waves, output_waves, scan_waves, timing_text, chain_begins, length_line, port_line, chain_text, chains_text, structures_of_text, structures_text, burst_text, shifted_text, macro_of_text, macro_text};
+ghost use Rattle.ca_stil.specs.Frame.{input_waves, output_waves, scan_waves, timing_text, chain_begins};
+ghost use Rattle.ca_stil.specs.Frame.{length_line, port_line, chain_text, chains_text, structures_of_text};
+ghost use Rattle.ca_stil.specs.Frame.{structures_text, burst_text, shifted_text, macro_of_text, macro_text};
 
 use crate::chip::{End, StilChain, StilChip};
 use crate::words::{end_of, push_decimal, push_numbered, push_quoted};

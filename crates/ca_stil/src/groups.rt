@@ -3,7 +3,8 @@
 ghost use Rattle.std.specs.Prelude.{◌≡◌, ◌++◌, ◌<◌, length, map, OnOk, codes};
 ghost use Rattle.std.specs.List.{flat_map};
 ghost use Rattle.ca_stil.specs.Chip.{ends_of};
-ghost use Rattle.ca_stil.specs.Groups.{direction_word, signal_text, signals_text, group_text, group_if_any, scan_groups_text, scan_groups_if_any, groups_text};
+ghost use Rattle.ca_stil.specs.Groups.{direction_word, signal_text, signals_text, group_text, group_if_any};
+ghost use Rattle.ca_stil.specs.Groups.{scan_groups_text, scan_groups_if_any, groups_text};
 
 use crate::chip::{End, Signal, StilChain, StilChip};
 use crate::words::{push_ends, push_names, push_quoted};

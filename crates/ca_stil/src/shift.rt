@@ -1,6 +1,7 @@
 //! The members of a statement that shifts the chains.
 
-ghost use Rattle.std.specs.Prelude.{◌≡◌, ◌++◌, ◌<◌, ◌≤◌, ◌+◌, ◌-◌, ◌∷◌, [], length, map, max, replicate, OnOk, codes, slice_get, Some};
+ghost use Rattle.std.specs.Prelude.{◌≡◌, ◌++◌, ◌<◌, ◌≤◌, ◌+◌, ◌-◌, ◌∷◌, [], length, map, max, replicate};
+ghost use Rattle.std.specs.Prelude.{OnOk, codes, slice_get, Some};
 ghost use Rattle.std.specs.List.{All};
 ghost use Rattle.ca_stil.specs.Chip.{part, Spans, longest, end_of, IsWithin};
 ghost use Rattle.ca_stil.specs.Words.{digit_of, level_of, key_text, cell_bits, cell_levels};

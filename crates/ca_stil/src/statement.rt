@@ -1,10 +1,13 @@
 //! The members of a statement that applies a vector, and the statements.
 
-ghost use Rattle.std.specs.Prelude.{◌≡◌, ◌++◌, ◌<◌, ◌≤◌, ◌+◌, ◌==◌, length, map, replicate, OnOk, codes, decimal, slice_get, Some};
+ghost use Rattle.std.specs.Prelude.{◌≡◌, ◌++◌, ◌<◌, ◌≤◌, ◌+◌, ◌==◌, length, map, replicate, OnOk, codes};
+ghost use Rattle.std.specs.Prelude.{decimal, slice_get, Some};
 ghost use Rattle.std.specs.List.{All};
 ghost use Rattle.ca_stil.specs.Chip.{part, Spans, IsWithin};
 ghost use Rattle.ca_stil.specs.Words.{digit_of, level_of};
-ghost use Rattle.ca_stil.specs.Pair.{states_text, all_levels_text, steady_text, hold_text, vector_text, expected_text, unobserved_text, load_of_text, load_text, capture_text, unload_of_text, unload_text, label_text};
+ghost use Rattle.ca_stil.specs.Pair.{states_text, all_levels_text, steady_text, hold_text, vector_text};
+ghost use Rattle.ca_stil.specs.Pair.{expected_text, unobserved_text, load_of_text, load_text, capture_text};
+ghost use Rattle.ca_stil.specs.Pair.{unload_of_text, unload_text, label_text};
 
 use crate::chip::{End, StilChain};
 use crate::patterns::{ExpectedValues, PatternBits};

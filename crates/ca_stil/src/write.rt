@@ -1,6 +1,7 @@
 //! Patterns as a STIL text.
 
-ghost use Rattle.std.specs.Prelude.{◌≡◌, ◌++◌, ◌<◌, ◌≤◌, ◌+◌, length, map, drop, OnOk, IfOk, codes, [], slice_index};
+ghost use Rattle.std.specs.Prelude.{◌≡◌, ◌++◌, ◌<◌, ◌≤◌, ◌+◌, length, map, drop, OnOk, IfOk, codes, []};
+ghost use Rattle.std.specs.Prelude.{slice_index};
 ghost use Rattle.std.specs.List.{All};
 ghost use Rattle.ca_stil.specs.Chip.{longest, IsStilChip, IsPairOf, AreValuesOf, AreOf};
 ghost use Rattle.ca_stil.specs.Groups.{signals_text, groups_text};

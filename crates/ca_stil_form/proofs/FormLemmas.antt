@@ -1,9 +1,13 @@
--- Readers that are exact for one token, for fixed tokens, for one form behind another, and for items up to a closing token.
-use Rattle.std.proofs.Common.{◌≡◌, Bool, true, false, ◌&&◌, List, [], ◌∷◌, ◌++◌, Option, Some, None, refl, sym, ap, ◌∙◌, append_assoc}
+-- Readers that are exact for one token, for fixed tokens, for one form behind another, and for items up to a
+-- closing token.
+use Rattle.std.proofs.Common.{◌≡◌, Bool, true, false, ◌&&◌, List, [], ◌∷◌, ◌++◌, Option, Some, None, refl}
+use Rattle.std.proofs.Common.{sym, ap, ◌∙◌, append_assoc}
 use Rattle.std.specs.Str.{bytes_eq}
 use Rattle.std.specs.Prelude.{⊤}
 use Rattle.std.proofs.lemmas.Slice.Eq.{bytes_eq-Decides}
-use Rattle.ca_stil_form.specs.Form.{Token, Outcome, Got, Stuck, IsStuck, IsExact, read_one, read_fixed, with_first, read_behind, read_then, mapped, read_each, written_each, all_each}
+use Rattle.ca_stil_form.specs.Form.{Token, Outcome, Got, Stuck, IsStuck, IsExact, read_one, read_fixed}
+use Rattle.ca_stil_form.specs.Form.{with_first, read_behind, read_then, mapped, read_each, written_each}
+use Rattle.ca_stil_form.specs.Form.{all_each}
 
 pub left_true : (left right : Bool) → (left && right) ≡ true → left ≡ true
 left_true true right is = refl

@@ -1,7 +1,10 @@
 -- A reader of a form that may be left out, and of another one behind it, is exact where both readers are.
-use Rattle.std.proofs.Common.{◌≡◌, Bool, true, false, ◌&&◌, List, [], ◌∷◌, ◌++◌, Option, Some, None, refl, sym, ap, ◌∙◌, append_assoc}
+use Rattle.std.proofs.Common.{◌≡◌, Bool, true, false, ◌&&◌, List, [], ◌∷◌, ◌++◌, Option, Some, None, refl}
+use Rattle.std.proofs.Common.{sym, ap, ◌∙◌, append_assoc}
 use Rattle.std.specs.Str.{bytes_eq}
-use Rattle.ca_stil_form.specs.Form.{Token, Outcome, Got, Stuck, IsStuck, IsExact, with_first, read_behind, mapped, as_some, read_maybe, written_maybe, allowed_maybe, Begins, BeginsOther}
+use Rattle.ca_stil_form.specs.Form.{Token, Outcome, Got, Stuck, IsStuck, IsExact, with_first, read_behind}
+use Rattle.ca_stil_form.specs.Form.{mapped, as_some, read_maybe, written_maybe, allowed_maybe, Begins}
+use Rattle.ca_stil_form.specs.Form.{BeginsOther}
 use Rattle.ca_stil_form.proofs.FormLemmas.{left_true, right_true}
 use Rattle.ca_stil_form.proofs.ItemsLemmas.{begins_other_more}
 

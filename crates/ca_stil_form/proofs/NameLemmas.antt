@@ -1,11 +1,14 @@
 -- Names in quotes: what is written is found again.
-use Rattle.std.proofs.Common.{◌≡◌, ℕ, ◌==◌, Bool, true, false, not, ◌&&◌, ◌||◌, List, [], ◌∷◌, ◌++◌, length, Some, None, refl, sym, ap, ◌∙◌, arith, append_assoc}
+use Rattle.std.proofs.Common.{◌≡◌, ℕ, ◌==◌, Bool, true, false, not, ◌&&◌, ◌||◌, List, [], ◌∷◌, ◌++◌, length}
+use Rattle.std.proofs.Common.{Some, None, refl, sym, ap, ◌∙◌, arith, append_assoc}
 use Rattle.std.specs.Prelude.{nat_le, if◌then◌else◌}
 use Rattle.std.specs.List.{list_all, list_any}
 use Rattle.std.specs.Str.{bytes_eq}
 use Rattle.std.proofs.lemmas.Slice.Eq.{bytes_eq-Decides}
 use Rattle.std.proofs.lemmas.Bool.{eq-eqb}
-use Rattle.ca_stil_form.specs.Frame.{Signal, Names, is_name_byte, is_name, quoted, joined_more, group_word, quoted_from, goes, names_of, is_among, all_in, is_group, fits_in_order, fits_in_number}
+use Rattle.ca_stil_form.specs.Frame.{Signal, Names, is_name_byte, is_name, quoted, joined_more, group_word}
+use Rattle.ca_stil_form.specs.Frame.{quoted_from, goes, names_of, is_among, all_in, is_group, fits_in_order}
+use Rattle.ca_stil_form.specs.Frame.{fits_in_number}
 use Rattle.ca_stil_form.proofs.FormLemmas.{left_true, right_true}
 
 no_quote : (byte : ℕ) → is_name_byte byte ≡ true → (byte == 34) ≡ false

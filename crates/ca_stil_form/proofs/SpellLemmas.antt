@@ -1,10 +1,13 @@
 -- What a text's pieces and forms spell: their tokens, whatever follows them.
-use Rattle.std.proofs.Common.{◌≡◌, ℕ, ◌≤◌, ◌==◌, Bool, true, false, not, ◌&&◌, ◌||◌, List, [], ◌∷◌, ◌++◌, length, refl, sym, ap, ◌∙◌, arith, append_assoc, codes}
+use Rattle.std.proofs.Common.{◌≡◌, ℕ, ◌≤◌, ◌==◌, Bool, true, false, not, ◌&&◌, ◌||◌, List, [], ◌∷◌, ◌++◌}
+use Rattle.std.proofs.Common.{length, refl, sym, ap, ◌∙◌, arith, append_assoc, codes}
 use Rattle.std.specs.Prelude.{if◌then◌else◌}
 use Rattle.std.specs.List.{list_all}
 use Rattle.std.proofs.lemmas.List.{append-nil}
 use Rattle.ca_stil_form.specs.Form.{Token}
-use Rattle.ca_stil_form.specs.Tokens.{Place, Between, InWord, InName, InGroup, InMember, is_space, is_mark, is_quote, is_inside, begun, alone, next_place, ended, tokens_from, tokens_of}
+use Rattle.ca_stil_form.specs.Tokens.{Place, Between, InWord, InName, InGroup, InMember, is_space, is_mark}
+use Rattle.ca_stil_form.specs.Tokens.{is_quote, is_inside, begun, alone, next_place, ended, tokens_from}
+use Rattle.ca_stil_form.specs.Tokens.{tokens_of}
 use Rattle.ca_stil_form.specs.Grammar.{fixed}
 use Rattle.ca_stil_form.specs.Frame.{Names, is_name_byte, is_name, quoted, joined_more, group_word}
 use Rattle.ca_stil_form.proofs.FormLemmas.{left_true, right_true}

@@ -1,11 +1,15 @@
 -- Forms that are put together of forms that are spelled are spelled.
 use Rattle.std.proofs.Common.{◌≡◌, ℕ, ◌+◌, Bool, true, ◌&&◌, List, [], ◌∷◌, Option, Some, None}
 use Rattle.std.specs.List.{AllByRecursion}
-use Rattle.ca_stil_form.specs.Form.{Token, written_until, all_allowed, written_maybe, allowed_maybe, written_each, all_each}
+use Rattle.ca_stil_form.specs.Form.{Token, written_until, all_allowed, written_maybe, allowed_maybe}
+use Rattle.ca_stil_form.specs.Form.{written_each, all_each}
 use Rattle.ca_stil_form.specs.Tokens.{Between}
-use Rattle.ca_stil_form.specs.Grammar.{Piece, fixed, blank, token, no_piece, ◌<>◌, pieces, Form, word, and_then, behind, before, items_until, for_each, maybe, text_until, text_each, text_maybe}
+use Rattle.ca_stil_form.specs.Grammar.{Piece, fixed, blank, token, no_piece, ◌<>◌, pieces, Form, word}
+use Rattle.ca_stil_form.specs.Grammar.{and_then, behind, before, items_until, for_each, maybe, text_until}
+use Rattle.ca_stil_form.specs.Grammar.{text_each, text_maybe}
 use Rattle.ca_stil_form.proofs.FormLemmas.{left_true, right_true}
-use Rattle.ca_stil_form.proofs.SpellLemmas.{Spells, spells_both, spells_nothing, place_behind, ended_in, whole_spells, fixed_spells, IsWord, Stops, word_spells}
+use Rattle.ca_stil_form.proofs.SpellLemmas.{Spells, spells_both, spells_nothing, place_behind, ended_in}
+use Rattle.ca_stil_form.proofs.SpellLemmas.{whole_spells, fixed_spells, IsWord, Stops, word_spells}
 
 -- the piece's text spells its tokens
 pub record IsPiece (piece : Piece) : Type 0 where

@@ -1,5 +1,7 @@
 -- The form of a STIL text is exact: it is built of exact forms.
-use Rattle.std.proofs.Common.{◌≡◌, ℕ, ◌+◌, ◌==◌, Bool, true, false, not, ◌&&◌, List, [], ◌∷◌, ◌++◌, length, map, take, drop, Option, Some, None, refl, sym, ap, ◌∙◌, codes, length-append, arith, ◌-◌}
+use Rattle.std.proofs.Common.{◌≡◌, ℕ, ◌+◌, ◌==◌, Bool, true, false, not, ◌&&◌, List, [], ◌∷◌, ◌++◌, length}
+use Rattle.std.proofs.Common.{map, take, drop, Option, Some, None, refl, sym, ap, ◌∙◌, codes, length-append}
+use Rattle.std.proofs.Common.{arith, ◌-◌}
 use Rattle.std.specs.Prelude.{replicate}
 use Rattle.std.specs.List.{list_all}
 use Rattle.std.specs.Str.{bytes_eq}
@@ -10,12 +12,22 @@ use Rattle.ca_net.specs.declared.trit.Trit.{Trit}
 use Rattle.ca_net.specs.declared.trit.Trit.TheVariants.{Zero, One, X}
 use Rattle.ca_stil_form.specs.Form.{Token, all_allowed, written_maybe, BeginsOther}
 use Rattle.ca_stil_form.specs.Grammar.{fixed, blank, token, ◌<>◌, IsExactForm, word, behind, before}
-use Rattle.ca_stil_form.specs.Frame.{Signal, Names, Scan, Frame, Member, is_name, quoted, group_word, quoted_from, names_of, is_group, is_among, fits_in_order, fits_in_number, all_in, has_some, group_member, load_members, unload_members, key_inputs, key_outputs, key_controls}
-use Rattle.ca_stil_form.specs.Pattern.{digit_of, level_of, level_at, bits_word, bits_in, levels_word, levels_in, member_begins, bits_form, levels_form, pair_form, pair_begins, load_ends, first_ends, last_ends, unload_ends}
-use Rattle.ca_stil_form.specs.Whole.{name_in, name_form, direction_word, direction_form, signal_form, group_form, scan_form, Ports, ports_of, is_count, chain_begins, chain_ends, chain_form, frame_of, timing, pattern_begins, Rest, rest_form, scan_part, outputs_part, inputs_part, stil_form}
+use Rattle.ca_stil_form.specs.Frame.{Signal, Names, Scan, Frame, Member, is_name, quoted, group_word}
+use Rattle.ca_stil_form.specs.Frame.{quoted_from, names_of, is_group, is_among, fits_in_order, fits_in_number}
+use Rattle.ca_stil_form.specs.Frame.{all_in, has_some, group_member, load_members, unload_members, key_inputs}
+use Rattle.ca_stil_form.specs.Frame.{key_outputs, key_controls}
+use Rattle.ca_stil_form.specs.Pattern.{digit_of, level_of, level_at, bits_word, bits_in, levels_word}
+use Rattle.ca_stil_form.specs.Pattern.{levels_in, member_begins, bits_form, levels_form, pair_form}
+use Rattle.ca_stil_form.specs.Pattern.{pair_begins, load_ends, first_ends, last_ends, unload_ends}
+use Rattle.ca_stil_form.specs.Whole.{name_in, name_form, direction_word, direction_form, signal_form}
+use Rattle.ca_stil_form.specs.Whole.{group_form, scan_form, Ports, ports_of, is_count, chain_begins}
+use Rattle.ca_stil_form.specs.Whole.{chain_ends, chain_form, frame_of, timing, pattern_begins, Rest}
+use Rattle.ca_stil_form.specs.Whole.{rest_form, scan_part, outputs_part, inputs_part, stil_form}
 use Rattle.ca_stil_form.proofs.FormLemmas.{left_true, right_true}
-use Rattle.ca_stil_form.proofs.GrammarLemmas.{word_exact, and_then_exact, behind_exact, before_exact, items_until_exact, for_each_exact, form_maybe_exact}
-use Rattle.ca_stil_form.proofs.NameLemmas.{group_found, group_named, first_fits, each_fits, names_named, one_for_each}
+use Rattle.ca_stil_form.proofs.GrammarLemmas.{word_exact, and_then_exact, behind_exact, before_exact}
+use Rattle.ca_stil_form.proofs.GrammarLemmas.{items_until_exact, for_each_exact, form_maybe_exact}
+use Rattle.ca_stil_form.proofs.NameLemmas.{group_found, group_named, first_fits, each_fits, names_named}
+use Rattle.ca_stil_form.proofs.NameLemmas.{one_for_each}
 
 -- bits and expected values
 bits_back : (bits : List Bool) → map (λ byte. byte == 49) (map digit_of bits) ≡ bits

@@ -1,5 +1,7 @@
 -- The text of a STIL value spells its tokens.
-use Rattle.std.proofs.Common.{◌≡◌, ℕ, zero, suc, ◌+◌, ◌/◌, ◌%◌, ◌<◌, ◌≤◌, ◌==◌, Bool, true, false, not, ◌&&◌, List, [], ◌∷◌, ◌++◌, length, map, Option, Some, None, refl, ap, ◌∙◌, arith, length-append, codes}
+use Rattle.std.proofs.Common.{◌≡◌, ℕ, zero, suc, ◌+◌, ◌/◌, ◌%◌, ◌<◌, ◌≤◌, ◌==◌, Bool, true, false, not, ◌&&◌}
+use Rattle.std.proofs.Common.{List, [], ◌∷◌, ◌++◌, length, map, Option, Some, None, refl, ap, ◌∙◌, arith}
+use Rattle.std.proofs.Common.{length-append, codes}
 use Rattle.std.specs.Prelude.{if◌then◌else◌, replicate, decimal, nat_lt, fold}
 use Rattle.std.specs.Fmt.{digits, digits_onto, digit_glyph}
 use Rattle.std.specs.List.{list_all, AllByRecursion}
@@ -14,13 +16,29 @@ use Rattle.ca_lex.specs.Length.{is_digit, number_of, with_digit}
 use Rattle.ca_stil_form.specs.Form.{Token, all_each}
 use Rattle.ca_stil_form.specs.Tokens.{is_inside}
 use Rattle.ca_stil_form.specs.Grammar.{fixed, blank, token, ◌<>◌, pieces, behind, before}
-use Rattle.ca_stil_form.specs.Frame.{Signal, Names, Scan, Chain, Frame, Member, is_name, quoted, group_word, quoted_from, names_of, is_group, is_among, fits_in_order, fits_in_number, all_in, has_some, group_member, load_members, unload_members, load_member, unload_member, longest, key_inputs, key_outputs, key_controls}
-use Rattle.ca_stil_form.specs.Pattern.{digit_of, level_of, bits_word, bits_in, levels_word, levels_in, member_begins, bits_form, levels_form, steady, shift_begins, first_begins, pair_begins, load_ends, first_ends, capture, last_ends, unload_ends, pair_form}
-use Rattle.ca_stil_form.specs.Whole.{name_in, name_form, direction_word, direction_form, signal_form, group_form, scan_form, Ports, numbered, ports_of, is_count, chain_begins, chain_ends, chain_form, chains_of, frame_of, input_waves, output_waves, scan_waves, chains_begin, chains_end, timing, shifted, macro, pattern_begins, rest_form, scan_part, outputs_part, inputs_part, stil_form}
+use Rattle.ca_stil_form.specs.Frame.{Signal, Names, Scan, Chain, Frame, Member, is_name, quoted, group_word}
+use Rattle.ca_stil_form.specs.Frame.{quoted_from, names_of, is_group, is_among, fits_in_order, fits_in_number}
+use Rattle.ca_stil_form.specs.Frame.{all_in, has_some, group_member, load_members, unload_members}
+use Rattle.ca_stil_form.specs.Frame.{load_member, unload_member, longest, key_inputs, key_outputs}
+use Rattle.ca_stil_form.specs.Frame.{key_controls}
+use Rattle.ca_stil_form.specs.Pattern.{digit_of, level_of, bits_word, bits_in, levels_word, levels_in}
+use Rattle.ca_stil_form.specs.Pattern.{member_begins, bits_form, levels_form, steady, shift_begins}
+use Rattle.ca_stil_form.specs.Pattern.{first_begins, pair_begins, load_ends, first_ends, capture, last_ends}
+use Rattle.ca_stil_form.specs.Pattern.{unload_ends, pair_form}
+use Rattle.ca_stil_form.specs.Whole.{name_in, name_form, direction_word, direction_form, signal_form}
+use Rattle.ca_stil_form.specs.Whole.{group_form, scan_form, Ports, numbered, ports_of, is_count, chain_begins}
+use Rattle.ca_stil_form.specs.Whole.{chain_ends, chain_form, chains_of, frame_of, input_waves, output_waves}
+use Rattle.ca_stil_form.specs.Whole.{scan_waves, chains_begin, chains_end, timing, shifted, macro}
+use Rattle.ca_stil_form.specs.Whole.{pattern_begins, rest_form, scan_part, outputs_part, inputs_part}
+use Rattle.ca_stil_form.specs.Whole.{stil_form}
 use Rattle.ca_stil_form.proofs.FormLemmas.{left_true, right_true}
 use Rattle.ca_stil_form.proofs.NameLemmas.{group_named}
-use Rattle.ca_stil_form.proofs.SpellLemmas.{Spells, whole_spells, is_no_quote, quoted_spells, name_spells, group_spells, IsWord, word_spells}
-use Rattle.ca_stil_form.proofs.SpelledLemmas.{IsPiece, IsSpelled, fixed_piece, blank_piece, token_piece, nothing_piece, both_pieces, each_piece, and_then_spelled, behind_spelled, before_spelled, word_spelled, token_spelled, items_spelled, each_spelled, maybe_spelled}
+use Rattle.ca_stil_form.proofs.SpellLemmas.{Spells, whole_spells, is_no_quote, quoted_spells, name_spells}
+use Rattle.ca_stil_form.proofs.SpellLemmas.{group_spells, IsWord, word_spells}
+use Rattle.ca_stil_form.proofs.SpelledLemmas.{IsPiece, IsSpelled, fixed_piece, blank_piece, token_piece}
+use Rattle.ca_stil_form.proofs.SpelledLemmas.{nothing_piece, both_pieces, each_piece, and_then_spelled}
+use Rattle.ca_stil_form.proofs.SpelledLemmas.{behind_spelled, before_spelled, word_spelled, token_spelled}
+use Rattle.ca_stil_form.proofs.SpelledLemmas.{items_spelled, each_spelled, maybe_spelled}
 
 -- words of letters that may stand in words
 all_replicate : (count letter : ℕ) → is_inside letter ≡ true → list_all is_inside (replicate count letter) ≡ true

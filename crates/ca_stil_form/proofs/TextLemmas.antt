@@ -1,5 +1,7 @@
 -- The blocks of a chip's text are those of the form.
-use Rattle.std.proofs.Common.{◌≡◌, ℕ, zero, suc, ◌+◌, ◌-◌, ◌==◌, ◌<◌, ◌≤◌, ◌^◌, ◌/◌, ◌%◌, Bool, true, false, List, [], ◌∷◌, ◌++◌, ◌∙◌, length, map, drop, ap, arith, append_assoc, append-nil, length-drop, sym, refl, codes}
+use Rattle.std.proofs.Common.{◌≡◌, ℕ, zero, suc, ◌+◌, ◌-◌, ◌==◌, ◌<◌, ◌≤◌, ◌^◌, ◌/◌, ◌%◌, Bool, true, false}
+use Rattle.std.proofs.Common.{List, [], ◌∷◌, ◌++◌, ◌∙◌, length, map, drop, ap, arith, append_assoc}
+use Rattle.std.proofs.Common.{append-nil, length-drop, sym, refl, codes}
 use Rattle.std.specs.Prelude.{decimal, replicate, max, Option, Some, None, if◌then◌else◌}
 use Rattle.std.specs.List.{All, AllByRecursion, flat_map}
 use Rattle.std.proofs.lemmas.Fmt.{decimal_by_steps_wide}
@@ -16,7 +18,10 @@ use Rattle.ca_stil.specs.Groups.{signal_text, group_text, group_if_any, scan_gro
 use Rattle.ca_stil.specs.Frame as frame
 use Rattle.ca_stil_form.specs.Grammar.{text_until, text_each, pieces}
 use Rattle.ca_stil_form.specs.Frame.{Signal, Names, Scan, Chain, Frame, quoted, joined, longest}
-use Rattle.ca_stil_form.specs.Whole.{Rest, Ports, signal_form, group_form, scan_form, inputs_part, outputs_part, scan_part, rest_form, numbered, ports_of, chains_of, chain_form, size_of, frame_of, input_waves, output_waves, scan_waves, chains_begin, chains_end, timing, shifted, macro, pattern_begins}
+use Rattle.ca_stil_form.specs.Whole.{Rest, Ports, signal_form, group_form, scan_form, inputs_part}
+use Rattle.ca_stil_form.specs.Whole.{outputs_part, scan_part, rest_form, numbered, ports_of, chains_of}
+use Rattle.ca_stil_form.specs.Whole.{chain_form, size_of, frame_of, input_waves, output_waves, scan_waves}
+use Rattle.ca_stil_form.specs.Whole.{chains_begin, chains_end, timing, shifted, macro, pattern_begins}
 use Rattle.ca_stil_form.specs.Value.{signal_seen, group_of, scan_of}
 
 -- the lines of the signals

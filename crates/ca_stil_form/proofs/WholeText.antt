@@ -1,5 +1,6 @@
 -- The whole text of a chip is that of the form.
-use Rattle.std.proofs.Common.{◌≡◌, ℕ, suc, ◌+◌, ◌<◌, ◌≤◌, ◌^◌, Bool, List, [], ◌∷◌, ◌++◌, ◌∙◌, length, map, ap, arith, append_assoc, sym, refl, codes}
+use Rattle.std.proofs.Common.{◌≡◌, ℕ, suc, ◌+◌, ◌<◌, ◌≤◌, ◌^◌, Bool, List, [], ◌∷◌, ◌++◌, ◌∙◌, length, map}
+use Rattle.std.proofs.Common.{ap, arith, append_assoc, sym, refl, codes}
 use Rattle.std.specs.List.{All, AllByRecursion, flat_map}
 use Rattle.ca_net.specs.declared.trit.Trit.{Trit}
 use Rattle.ca_stil.specs.declared.chip.StilChain.{StilChain}
@@ -8,15 +9,19 @@ use Rattle.ca_stil.specs.Chip as model
 use Rattle.ca_stil.specs.Chip.{part, IsPairOf, AreValuesOf, AreOf}
 use Rattle.ca_stil.specs.Groups.{signal_text, signals_text, group_if_any, scan_groups_if_any, groups_text}
 use Rattle.ca_stil.specs.Frame as frame
-use Rattle.ca_stil.specs.Pair.{label_text, load_of_text, vector_text, expected_text, unobserved_text, capture_text, unload_of_text, hold_text, load_text, apply_text, half_text, first_text, second_text, unload_text, pair_text}
+use Rattle.ca_stil.specs.Pair.{label_text, load_of_text, vector_text, expected_text, unobserved_text}
+use Rattle.ca_stil.specs.Pair.{capture_text, unload_of_text, hold_text, load_text, apply_text, half_text}
+use Rattle.ca_stil.specs.Pair.{first_text, second_text, unload_text, pair_text}
 use Rattle.ca_stil.specs.Text.{structure_text, frame_text, pairs_text, patterns_text, stil_text}
 use Rattle.ca_stil_form.specs.Grammar.{text_until, text_each}
 use Rattle.ca_stil_form.specs.Frame.{longest}
 use Rattle.ca_stil_form.specs.Pattern.{pair_form}
 use Rattle.ca_stil_form.specs.Whole.{rest_form, ports_of, chain_form, chains_begin, chains_end, stil_form}
 use Rattle.ca_stil_form.specs.Value.{group_of, scan_of, pair_values, all_values, stil_value}
-use Rattle.ca_stil_form.proofs.TextLemmas.{signals_same, groups_same, input_waves_same, output_waves_same, scan_waves_same, structures_same, macro_same}
-use Rattle.ca_stil_form.proofs.PairTexts.{chain_seen, frame_seen, count_of, IsUpTo, frame_same, longest_same, all_up_to, pair_two, pair_six}
+use Rattle.ca_stil_form.proofs.TextLemmas.{signals_same, groups_same, input_waves_same, output_waves_same}
+use Rattle.ca_stil_form.proofs.TextLemmas.{scan_waves_same, structures_same, macro_same}
+use Rattle.ca_stil_form.proofs.PairTexts.{chain_seen, frame_seen, count_of, IsUpTo, frame_same, longest_same}
+use Rattle.ca_stil_form.proofs.PairTexts.{all_up_to, pair_two, pair_six}
 
 -- the statements of a pair of a chip with these chains
 pair_with : (chip : StilChip) (chains : List StilChain) (number : ℕ) (pair : List Bool) (expected : List Trit)

@@ -3,7 +3,9 @@
 use Rattle.std.specs.Prelude.{ℕ, ◌+◌, Bool, ◌&&◌, List, [], ◌∷◌, ◌++◌, Option, Some, None, if◌then◌else◌}
 use Rattle.std.specs.Str.{bytes_eq}
 use Rattle.ca_stil_form.specs.Tokens.{tokens_of}
-use Rattle.ca_stil_form.specs.Form.{Token, Outcome, IsExact, read_one, read_fixed, read_then, mapped, read_items, written_until, all_allowed, read_maybe, written_maybe, allowed_maybe, read_each, written_each, all_each}
+use Rattle.ca_stil_form.specs.Form.{Token, Outcome, IsExact, read_one, read_fixed, read_then, mapped}
+use Rattle.ca_stil_form.specs.Form.{read_items, written_until, all_allowed, read_maybe, written_maybe}
+use Rattle.ca_stil_form.specs.Form.{allowed_maybe, read_each, written_each, all_each}
 
 -- a piece of text, and its tokens
 pub record Piece : Type 0 where

@@ -1,11 +1,14 @@
 -- The Pattern block: for each pair of vectors its statements.
-use Rattle.std.specs.Prelude.{ℕ, ◌+◌, ◌==◌, Bool, true, false, List, [], ◌∷◌, ◌++◌, length, map, take, drop, replicate, codes, decimal, if◌then◌else◌}
+use Rattle.std.specs.Prelude.{ℕ, ◌+◌, ◌==◌, Bool, true, false, List, [], ◌∷◌, ◌++◌, length, map, take, drop}
+use Rattle.std.specs.Prelude.{replicate, codes, decimal, if◌then◌else◌}
 use Rattle.ca_net.specs.declared.trit.Trit.{Trit}
 use Rattle.ca_net.specs.declared.trit.Trit.TheVariants.{Zero, One, X}
 pub use Rattle.ca_stil.specs.Words.{digit_of, level_of}
 use Rattle.ca_stil_form.specs.Form.{Token}
-use Rattle.ca_stil_form.specs.Grammar.{Piece, fixed, blank, token, no_piece, ◌<>◌, pieces, Form, word, and_then, behind, before, for_each}
-use Rattle.ca_stil_form.specs.Frame.{Frame, Chain, Member, key_inputs, key_outputs, group_member, load_members, unload_members, quoted}
+use Rattle.ca_stil_form.specs.Grammar.{Piece, fixed, blank, token, no_piece, ◌<>◌, pieces, Form, word}
+use Rattle.ca_stil_form.specs.Grammar.{and_then, behind, before, for_each}
+use Rattle.ca_stil_form.specs.Frame.{Frame, Chain, Member, key_inputs, key_outputs, group_member}
+use Rattle.ca_stil_form.specs.Frame.{load_members, unload_members, quoted}
 
 -- the value that a letter stands for
 abbrev pub level_at : ℕ → Trit

@@ -1,5 +1,6 @@
 -- The tokens of a STIL text: words, marks, and quoted texts, in which nothing else counts.
-use Rattle.std.specs.Prelude.{ℕ, suc, ◌≡◌, ◌==◌, Bool, true, false, not, ◌||◌, if◌then◌else◌, List, [], ◌∷◌, ◌++◌, drop}
+use Rattle.std.specs.Prelude.{ℕ, suc, ◌≡◌, ◌==◌, Bool, true, false, not, ◌||◌, if◌then◌else◌, List, [], ◌∷◌}
+use Rattle.std.specs.Prelude.{◌++◌, drop}
 use Rattle.std.specs.List.{prefix_len}
 use Rattle.ca_stil_form.specs.Form.{Token}
 

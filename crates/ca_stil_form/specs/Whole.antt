@@ -1,12 +1,16 @@
 -- A whole STIL text as tokens: the signals, the groups, the timing, the chains, the macro and the pairs.
-use Rattle.std.specs.Prelude.{ℕ, ◌+◌, ◌==◌, Bool, true, false, not, ◌&&◌, List, [], ◌∷◌, ◌++◌, length, Option, Some, None, codes, decimal, take, drop, ◌-◌}
+use Rattle.std.specs.Prelude.{ℕ, ◌+◌, ◌==◌, Bool, true, false, not, ◌&&◌, List, [], ◌∷◌, ◌++◌, length, Option}
+use Rattle.std.specs.Prelude.{Some, None, codes, decimal, take, drop, ◌-◌}
 use Rattle.std.specs.List.{list_all}
 use Rattle.std.specs.Str.{bytes_eq}
 use Rattle.ca_lex.specs.Length.{is_digit, number_of}
 pub use Rattle.ca_stil.specs.Groups.{direction_word}
 use Rattle.ca_stil_form.specs.Form.{Token}
-use Rattle.ca_stil_form.specs.Grammar.{Piece, fixed, blank, token, no_piece, ◌<>◌, pieces, Form, word, and_then, behind, before, items_until, for_each, maybe}
-use Rattle.ca_stil_form.specs.Frame.{Signal, Names, Scan, Chain, Frame, is_name, quoted, group_word, quoted_from, names_of, fits_in_order, fits_in_number, has_some, key_inputs, key_outputs, key_controls}
+use Rattle.ca_stil_form.specs.Grammar.{Piece, fixed, blank, token, no_piece, ◌<>◌, pieces, Form, word}
+use Rattle.ca_stil_form.specs.Grammar.{and_then, behind, before, items_until, for_each, maybe}
+use Rattle.ca_stil_form.specs.Frame.{Signal, Names, Scan, Chain, Frame, is_name, quoted, group_word}
+use Rattle.ca_stil_form.specs.Frame.{quoted_from, names_of, fits_in_order, fits_in_number, has_some}
+use Rattle.ca_stil_form.specs.Frame.{key_inputs, key_outputs, key_controls}
 use Rattle.ca_stil_form.specs.Pattern.{PairValues, pair_form}
 
 -- what stands between a token's first and last byte

@@ -1,5 +1,7 @@
--- Files that stand one after another in one list of bytes: a name, then the bytes of the file, up to the next name.
-use Rattle.std.specs.Prelude.{◌≡◌, ◌<◌, ◌≤◌, ℕ, ◌-◌, List, [], ◌∷◌, ◌++◌, length, take, drop, Option, Some, None, ⊤}
+-- Files that stand one after another in one list of bytes: a name, then the bytes of the file, up to the next
+-- name.
+use Rattle.std.specs.Prelude.{◌≡◌, ◌<◌, ◌≤◌, ℕ, ◌-◌, List, [], ◌∷◌, ◌++◌, length, take, drop, Option, Some}
+use Rattle.std.specs.Prelude.{None, ⊤}
 use Rattle.ca_store.specs.Memory.{files_of, name_at, bytes_at}
 use Rattle.ca_store.specs.declared.file_map.File.{File}
 use Rattle.ca_store.specs.declared.shelf.Span.{Span}
@@ -33,13 +35,15 @@ files_in bytes (span ∷ spans) =
 abbrev pub IsLaid : ℕ → List Span → Type 0
 IsLaid end [] = ⊤
 IsLaid end (span ∷ spans) =
-    (span.start ≤ span.middle) × (span.middle ≤ first_start end spans) × (first_start end spans ≤ end) × IsLaid end spans
+    (span.start ≤ span.middle) × (span.middle ≤ first_start end spans) × (first_start end spans ≤ end)
+    × IsLaid end spans
 
 -- this is the place of the file that a name stands for, or None where it stands for none
 abbrev pub IsPlaceOf : List File → List ℕ → Option ℕ → Type 0
 IsPlaceOf files name None = files_of files name ≡ None
 IsPlaceOf files name (Some place) =
-    (place < length files) × (name_at files place ≡ name) × (files_of files name ≡ Some (bytes_at files place))
+    (place < length files) × (name_at files place ≡ name)
+    × (files_of files name ≡ Some (bytes_at files place))
 
 -- the files, with more bytes in the last
 abbrev pub with_more : List File → List ℕ → List File

@@ -1,4 +1,5 @@
--- A store in memory: what it was made with, what it tells, what it has room for, and exactly when its calls fail.
+-- A store in memory: what it was made with, what it tells, what it has room for, and exactly when its calls
+-- fail.
 use Rattle.std.specs.Prelude.{◌≡◌, ◌<◌, ℕ, ◌-◌, ◌↔◌, ◌⊎◌, min, List, length, Contains, IsNone}
 use Rattle.std.specs.Prelude.{Result, IsErr, IfOk, OnOk, OnErr}
 use Rattle.std.specs.Option.{ForSome}
@@ -12,8 +13,8 @@ pub record Settings : Type 0 where
   pub piece : ℕ
   pub fail : CallList
 
--- what is left: the bytes that created names and written bytes may still fill together, and the creates that may
--- still succeed
+-- what is left: the bytes that created names and written bytes may still fill together, and the creates that
+-- may still succeed
 pub record Room : Type 0 where
   pub bytes : ℕ
   pub creates : ℕ
@@ -57,7 +58,8 @@ abbrev pub faults_of : MemStore → ℕ
 faults_of store = store.faults
 
 -- an open fails exactly where it is listed or its name is missing
-pub record OpensExactly {T E : Type 0} (name : List ℕ) (result : Result T E) (old new : MemStore) : Type 0 where
+pub record OpensExactly {T E : Type 0} (name : List ℕ) (result : Result T E)
+    (old new : MemStore) : Type 0 where
   pub fails : IsErr result ↔
       (Contains (settings_of old).fail (Open, (calls_of new).opens) ⊎ IsNone (told_by old name))
   pub counted : calls_of new ≡ record (calls_of old) { opens = next_number (calls_of old).opens }
@@ -78,9 +80,10 @@ pub record ReadsExactly {E : Type 0} (into : List ℕ) (result : Result ℕ E) (
 abbrev pub FindsNoPlace : List ℕ → Room → Type 0
 FindsNoPlace name room = (room.bytes < length name) ⊎ (room.creates ≡ 0)
 
--- a create fails exactly where it is listed or its name finds no place, and then changes no file; else it takes the
--- room of the name, whether the file was there or not, and one of the creates
-pub record CreatesExactly {T E : Type 0} (name : List ℕ) (result : Result T E) (old new : MemStore) : Type 0 where
+-- a create fails exactly where it is listed or its name finds no place, and then changes no file; else it
+-- takes the room of the name, whether the file was there or not, and one of the creates
+pub record CreatesExactly {T E : Type 0} (name : List ℕ) (result : Result T E)
+    (old new : MemStore) : Type 0 where
   pub fails : IsErr result ↔
       (Contains (settings_of old).fail (Create, (calls_of new).creates) ⊎ FindsNoPlace name (room_of old))
   pub takes : OnOk result (room_of new ≡
@@ -95,9 +98,10 @@ pub record FindsNoRoom (from : List ℕ) (room : Room) : Type 0 where
   pub some : 0 < length from
   pub full : room.bytes ≡ 0
 
--- a write fails exactly where it is listed or finds no room; else it takes as much as fits, up to a piece, and the
--- room of so many bytes
-pub record WritesExactly {E : Type 0} (from : List ℕ) (result : Result ℕ E) (old new : MemStore) : Type 0 where
+-- a write fails exactly where it is listed or finds no room; else it takes as much as fits, up to a piece,
+-- and the room of so many bytes
+pub record WritesExactly {E : Type 0} (from : List ℕ) (result : Result ℕ E)
+    (old new : MemStore) : Type 0 where
   pub fails : IsErr result ↔
       (Contains (settings_of old).fail (Write, (calls_of new).writes) ⊎ FindsNoRoom from (room_of old))
   pub takes : IfOk result (λ n. n ≡ min (min (length from) (settings_of old).piece) (room_of old).bytes)

@@ -15,7 +15,8 @@ pub record IsTooLong (files : Option Files) (name : List ℕ) (limit taken befor
   pub one_more : taken ≡ limit + 1
   pub quiet : after ≡ before
 
--- why a reading up to a limit was refused, with the count of faults before and after it; want of memory is told only where no call failed
+-- why a reading up to a limit was refused, with the count of faults before and after it; want of memory is
+-- told only where no call failed
 abbrev pub IsCause : Option Files → List ℕ → ℕ → ℕ → ℕ → ReadFault → Type 0
 IsCause files name limit before after StoreFailed = MayHave files name → Rose before after
 IsCause files name limit before after (TooLong taken) = IsTooLong files name limit taken before after

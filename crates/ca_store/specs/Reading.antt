@@ -25,7 +25,8 @@ abbrev pub IsReadUpTo : Bool → ℕ → List ℕ → Option Files → Opened �
 IsReadUpTo is_whole limit text files old = (name : List ℕ) → old ≡ Reading name 0
     → ForSome files (λ told. ForSome (told name) (IsEnd is_whole limit text))
 
--- how a reading of the open file stops with a fault: what is open then, and the count of faults before and after it
+-- how a reading of the open file stops with a fault: what is open then, and the count of faults before and
+-- after it
 abbrev pub IsStop : Opened → ℕ → ℕ → ReadFault → Type 0
 IsStop opened before after StoreFailed = (opened ≡ Nothing) × Rose before after
 IsStop opened before after (TooLong taken) = ⊥

@@ -7,7 +7,8 @@ use Rattle.std.specs.Option.{ForSome}
 abbrev pub Files : Type 0
 Files = List ℕ → Option (List ℕ)
 
--- what is open: nothing, a file in reading by its name with the number of bytes read so far, or a file in writing
+-- what is open: nothing, a file in reading by its name with the number of bytes read so far, or a file in
+-- writing
 pub data Opened : Type 0 where
   Nothing : Opened
   Reading : List ℕ → ℕ → Opened
@@ -48,20 +49,24 @@ MayHave files name = ForSome files (λ told. IsSome (told name))
 abbrev pub Lacks : Option Files → List ℕ → Type 0
 Lacks files name = IsSomeAnd files (λ told. IsNone (told name))
 
--- an open fails and counts no fault at a name that the told files lack, and else it fails only where the count rises
+-- an open fails and counts no fault at a name that the told files lack, and else it fails only where the
+-- count rises
 pub record FailsAtMissing {T E : Type 0} (result : Result T E) (files : Option Files) (name : List ℕ)
     (before after : ℕ) : Type 0 where
   pub missing : Lacks files name → IsErr result × (after ≡ before)
   pub cause : MayHave files name → OnErr result (Rose before after)
 
--- after the file of this name was opened: it may be there, and where the files are told it is open at its start
+-- after the file of this name was opened: it may be there, and where the files are told it is open at its
+-- start
 pub record OpensFile (files : Option Files) (name : List ℕ) (opened : Opened) : Type 0 where
   pub in_reading : IsReading opened
   pub start : ForSome files (λ _. opened ≡ Reading name 0)
   pub there : MayHave files name
 
--- a read that put n bytes into a buffer gave the file's next bytes from its place, and moved the place by as many
-pub record GivesNext (n : ℕ) (into name : List ℕ) (place : ℕ) (bytes : List ℕ) (opened : Opened) : Type 0 where
+-- a read that put n bytes into a buffer gave the file's next bytes from its place, and moved the place by as
+-- many
+pub record GivesNext (n : ℕ) (into name : List ℕ) (place : ℕ) (bytes : List ℕ)
+    (opened : Opened) : Type 0 where
   pub moved : opened ≡ Reading name (place + n)
   pub within : place + n ≤ length bytes
   pub got : take n into ≡ take n (drop place bytes)

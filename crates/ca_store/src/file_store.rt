@@ -11,9 +11,10 @@ use std::os::unix::fs::MetadataExt;
 use std::rt::Files;
 use std::{fs, io};
 
-/// The files of the system, by their paths. Each error of the system counts, a missing file too, and so does a write
-/// that takes nothing of a piece that is not empty. A file that the store has read is never created, by whatever path or link: that
-/// is a failure, and the file stays as it was. The store opens at most eight files for reading; a ninth is a failure.
+/// The files of the system, by their paths. Each error of the system counts, a missing file too, and so does
+/// a write that takes nothing of a piece that is not empty. A file that the store has read is never created,
+/// by whatever path or link: that is a failure, and the file stays as it was. The store opens at most eight
+/// files for reading; a ninth is a failure.
 #[derive(Drop)]
 pub struct FileStore<R: Files> {
     rt: R,

@@ -1,5 +1,5 @@
-//! Stores of files and sinks of bytes: what they promise, doubles in memory that fail where they are told to, and the
-//! real ones.
+//! Stores of files and sinks of bytes: what they promise, doubles in memory that fail where they are told to,
+//! and the real ones.
 #![tactic(auto)]
 
 mod fail_list;

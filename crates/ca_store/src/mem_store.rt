@@ -12,9 +12,9 @@ use std::alloc::Global;
 // How many creates may succeed.
 const CREATES: usize = 8;
 
-/// Files in memory. A call fails where it is listed. An `open` also fails where there is no file of the name, a `create`
-/// where its name doesn't fit the room that is left or eight creates succeeded before, and a `write` of a piece that is
-/// not empty where no room is left.
+/// Files in memory. A call fails where it is listed. An `open` also fails where there is no file of the name,
+/// a `create` where its name doesn't fit the room that is left or eight creates succeeded before, and a
+/// `write` of a piece that is not empty where no room is left.
 #[derive(Drop)]
 pub struct MemStore {
     shelf: Shelf,
@@ -53,9 +53,10 @@ impl MemStore {
     ghost use Rattle.ca_store.specs.Memory.{files_of};
     ghost use Rattle.ca_store.specs.MemStore.{settings_of, room_of, calls_of, told_by, opened_by, faults_of};
 
-    /// A store of these files, with nothing open, and with all the memory that it ever takes. A call gives or takes up
-    /// to `piece` bytes. `room` is the number of bytes that created names and written bytes may fill together: each
-    /// `create` that succeeds counts its name, whether the file was there or not, and no room is given back.
+    /// A store of these files, with nothing open, and with all the memory that it ever takes. A call gives or
+    /// takes up to `piece` bytes. `room` is the number of bytes that created names and written bytes may fill
+    /// together: each `create` that succeeds counts its name, whether the file was there or not, and no room
+    /// is given back.
     pub fn new(
         alloc: Global,
         files: FileMap,
@@ -114,7 +115,8 @@ impl Store for MemStore {
     ghost use Rattle.ca_store.specs.Store.{FailsAtMissing, OpensFile, ReadsOn};
     ghost use Rattle.ca_store.specs.Writing.{CreatesFile, MayEmpty, WritesOn};
     ghost use Rattle.ca_store.specs.MemStore.{told_by, opened_by, faults_of};
-    ghost use Rattle.ca_store.specs.MemStore.{OpensExactly, ReadsExactly, CreatesExactly, WritesExactly, ClosesExactly};
+    ghost use Rattle.ca_store.specs.MemStore.{OpensExactly, ReadsExactly, CreatesExactly, WritesExactly};
+    ghost use Rattle.ca_store.specs.MemStore.{ClosesExactly};
 
     ghost files = { λ store. Some (told_by store) };
 

@@ -23,8 +23,8 @@ pub trait Sink {
     ghost bounded: { (sink : Self) → faults sink < 2 ^ 64 };
 }
 
-/// Appends all the bytes, in as many writes as the sink asks for, and in none where there are no bytes. After `Failed`
-/// some of the first bytes were appended.
+/// Appends all the bytes, in as many writes as the sink asks for, and in none where there are no bytes. After
+/// `Failed` some of the first bytes were appended.
 pub fn write_all<W: Sink>(sink: &mut W, bytes: &[u8]) -> Result<(), Failed>
     ensures ok { OnOk result (W.bytes sink.new ≡ appended bytes.now (W.bytes sink.old)) }
     ensures err { OnErr result (AppendsPart bytes.now (W.bytes sink.old) (W.bytes sink.new)) }

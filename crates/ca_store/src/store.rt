@@ -32,8 +32,8 @@ pub trait Store {
             (faults self.old) (faults self.new) }
         ensures count { KeepsCount result (faults self.old) (faults self.new) };
 
-    /// Reads next bytes into the front of a buffer, and answers how many. An answer of 0 for a buffer that is not
-    /// empty is the end of the file.
+    /// Reads next bytes into the front of a buffer, and answers how many. An answer of 0 for a buffer that is
+    /// not empty is the end of the file.
     fn read(&mut self, into: &mut [u8]) -> Result<usize, Failed>
         requires { IsReading (opened self.old) }
 
@@ -55,8 +55,8 @@ pub trait Store {
         ensures cause { OnErr result (Rose (faults self.old) (faults self.new)) }
         ensures count { KeepsCount result (faults self.old) (faults self.new) };
 
-    /// Appends some of the first bytes, at least one of a piece that is not empty, to the open file, and answers how
-    /// many. After `Failed` the file holds what was written to it before.
+    /// Appends some of the first bytes, at least one of a piece that is not empty, to the open file, and
+    /// answers how many. After `Failed` the file holds what was written to it before.
     fn write(&mut self, from: &[u8]) -> Result<usize, Failed>
         requires { IsWriting (opened self.old) }
 

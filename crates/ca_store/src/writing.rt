@@ -5,8 +5,9 @@ ghost use Rattle.ca_store.specs.Writing.{ChangesOnly, MayWrite};
 
 use crate::store::{Failed, Store};
 
-/// Writes a file of these bytes, in as many writes as the store asks for, in place of the file of this name where there
-/// is one. After `Failed` the file is as it was or holds some of the first bytes. Nothing is open afterwards.
+/// Writes a file of these bytes, in as many writes as the store asks for, in place of the file of this name
+/// where there is one. After `Failed` the file is as it was or holds some of the first bytes. Nothing is open
+/// afterwards.
 pub fn write_file<S: Store>(store: &mut S, name: &str, bytes: &[u8]) -> Result<(), Failed>
     requires closed { S.opened store.old ≡ Nothing }
 

@@ -1,4 +1,5 @@
-//! What the calls about texts and stores answer in cases that were worked out by hand. It has no code but its tests.
+//! What the calls about texts and stores answer in cases that were worked out by hand. It has no code but its
+//! tests.
 #![tactic(auto)]
 
 #[cfg(test)]

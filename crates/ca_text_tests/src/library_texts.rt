@@ -30,7 +30,8 @@ MN2 N1 A2 VSS VSS NCH W=415000000000e-18 L=50000000000e-18
 .ENDS
 ",
     ),
-    // Roles in another order, a bulk on an inner net, a net `=`, a pin with a `:`, and a second name of power and ground.
+    // Roles in another order, a bulk on an inner net, a net `=`, a pin with a `:`, and a second name of power
+    // and ground.
     (
         b"*.PININFO X
 .SUBCKT A Z V2 B: G2 V1 G1

@@ -57,7 +57,8 @@ fn real_files_are_written_and_read_back(rt: HostRuntime) -> Result<(), Fail> {
     Ok(())
 }
 
-// Neither under its own name nor by another path or link: it stands as it was. A store that hasn't read it may.
+// Neither under its own name nor by another path or link: it stands as it was. A store that hasn't read it
+// may.
 #[test]
 fn a_file_that_was_read_is_not_created(rt: HostRuntime) -> Result<(), Fail> {
     let alloc = rt.alloc();

@@ -61,8 +61,8 @@ pub(crate) type Told = Result<&'static str, ReadFault>;
 
 pub(crate) const MISSING: Told = Err(ReadFault::StoreFailed);
 
-// A call that fails, the file, the bytes that a call of the store gives at most, and the limit; then what is answered, the
-// count of faults, and what a second reading answers, which adds none.
+// A call that fails, the file, the bytes that a call of the store gives at most, and the limit; then what is
+// answered, the count of faults, and what a second reading answers, which adds none.
 static READ: [(Call, &str, usize, usize, Told, u64, Told); 15] = [
     (None, "four", 1, 4, Ok("abcd"), 0, Ok("abcd")),
     (None, "four", 3, 4, Ok("abcd"), 0, Ok("abcd")),
@@ -173,7 +173,8 @@ fn holds(store: &MemStore, name: &str, held: Option<&str>) -> bool {
     }
 }
 
-// Whether the writing of a file ends as it should, leaves the file as it should be, and counts where it fails.
+// Whether the writing of a file ends as it should, leaves the file as it should be, and counts where it
+// fails.
 fn writes_as_wanted(
     store: &mut MemStore,
     name: &str,
@@ -192,8 +193,8 @@ fn writes_as_wanted(
 // What a writing answers.
 pub(crate) type Done = Result<(), Failed>;
 
-// A call that fails, the file and its bytes, the bytes that a call of the store takes at most, and the room; then what is
-// answered, and what the file holds. The file `none` holds no bytes all the while.
+// A call that fails, the file and its bytes, the bytes that a call of the store takes at most, and the room;
+// then what is answered, and what the file holds. The file `none` holds no bytes all the while.
 static WRITTEN: [(Call, &str, &str, usize, usize, Done, Option<&str>); 23] = [
     (None, "new", "hello", 1, 8, Ok(()), Some("hello")),
     (None, "new", "hello", 2, 8, Ok(()), Some("hello")),

@@ -1,5 +1,6 @@
 -- The bytes before the first fault of a text are its tokens.
-use Rattle.std.proofs.Common.{◌≡◌, ℕ, zero, suc, ◌+◌, ◌-◌, ◌≤◌, List, Bool, true, false, cond, not, ◌&&◌, ◌||◌, ◌==◌, [], ◌∷◌, length}
+use Rattle.std.proofs.Common.{◌≡◌, ℕ, zero, suc, ◌+◌, ◌-◌, ◌≤◌, List, Bool, true, false, cond, not, ◌&&◌}
+use Rattle.std.proofs.Common.{◌||◌, ◌==◌, [], ◌∷◌, length}
 use Rattle.std.proofs.Common.{take, drop, Option, Some, None, arith, refl, sym, ap, ◌∙◌}
 use Rattle.std.specs.Prelude.{codes}
 use Rattle.std.specs.List.{list_all}
@@ -12,13 +13,17 @@ use Rattle.ca_token.specs.declared.fault.Flaw as fault
 use Rattle.ca_token.specs.declared.piece.Piece.{Piece}
 use Rattle.ca_token.specs.declared.piece.Piece.TheVariants.{Blank, Skipped, Found, Broken}
 use Rattle.ca_token.specs.declared.fault.LexKind.TheVariants.{Syntax, Unsupported, NotText}
-use Rattle.ca_token.specs.Bytes.{is_white, is_text, is_plain, is_letter, is_digit, begins_name, is_sign, begins_with}
+use Rattle.ca_token.specs.Bytes.{is_white, is_text, is_plain, is_letter, is_digit, begins_name, is_sign}
+use Rattle.ca_token.specs.Bytes.{begins_with}
 use Rattle.ca_token.specs.Bytes.{name_len, digits_len, text_len, constant_len, line_len}
-use Rattle.ca_token.specs.Piece.{closes, comment_from, attribute_from, slash_piece, open_piece, is_directive, directive_line}
-use Rattle.ca_token.specs.Piece.{directive_piece, has_quote, is_bit, escaped_before, escaped_piece, constant_piece, number_before}
+use Rattle.ca_token.specs.Piece.{closes, comment_from, attribute_from, slash_piece, open_piece, is_directive}
+use Rattle.ca_token.specs.Piece.{directive_line}
+use Rattle.ca_token.specs.Piece.{directive_piece, has_quote, is_bit, escaped_before, escaped_piece}
+use Rattle.ca_token.specs.Piece.{constant_piece, number_before}
 use Rattle.ca_token.specs.Piece.{number_piece, quote_piece, sign_piece, piece_of}
 use Rattle.ca_token.specs.Scan.{Scan, broken_at, with_token, token_at, scan_from}
-use Rattle.ca_token.proofs.CutLemmas.{IsUncut, piece_cut, behind_name, behind_quote, behind_escaped, behind_directive}
+use Rattle.ca_token.proofs.CutLemmas.{IsUncut, piece_cut, behind_name, behind_quote, behind_escaped}
+use Rattle.ca_token.proofs.CutLemmas.{behind_directive}
 use Rattle.ca_token.proofs.CutLemmas.{behind_open, behind_slash, behind_white}
 
 -- what a piece leaves to be read

@@ -1,5 +1,6 @@
 -- A piece stays the same where the text behind it is cut off.
-use Rattle.std.proofs.Common.{◌≡◌, ℕ, zero, suc, ◌+◌, ◌-◌, ◌<◌, ◌≤◌, List, Bool, true, false, cond, not, ◌&&◌, ◌||◌, [], ◌∷◌, length}
+use Rattle.std.proofs.Common.{◌≡◌, ℕ, zero, suc, ◌+◌, ◌-◌, ◌<◌, ◌≤◌, List, Bool, true, false, cond, not, ◌&&◌}
+use Rattle.std.proofs.Common.{◌||◌, [], ◌∷◌, length}
 use Rattle.std.proofs.Common.{take, drop, arith, refl, sym, ap, ◌∙◌, subst, ◌==◌, true≢false}
 use Rattle.std.specs.Prelude.{codes}
 use Rattle.std.specs.Str.{bytes_eq}
@@ -12,9 +13,13 @@ use Rattle.ca_token.specs.declared.fault.LexKind.{LexKind}
 use Rattle.ca_token.specs.declared.fault.LexKind.TheVariants.{Syntax, Unsupported, NotText}
 use Rattle.ca_token.specs.declared.piece.Piece.{Piece}
 use Rattle.ca_token.specs.declared.piece.Piece.TheVariants.{Blank, Skipped, Found, Broken}
-use Rattle.ca_token.specs.Bytes.{is_white, is_text, is_plain, is_name_byte, is_constant_byte, begins_name, is_letter, is_digit, begins_with, name_len, digits_len, text_len, constant_len, line_len}
-use Rattle.ca_token.specs.Piece.{has_quote, is_bit, closes, comment_from, attribute_from, slash_piece, open_piece, is_directive, directive_line}
-use Rattle.ca_token.specs.Piece.{directive_piece, escaped_before, escaped_piece, constant_piece, number_before, number_piece}
+use Rattle.ca_token.specs.Bytes.{is_white, is_text, is_plain, is_name_byte, is_constant_byte, begins_name}
+use Rattle.ca_token.specs.Bytes.{is_letter, is_digit, begins_with, name_len, digits_len, text_len}
+use Rattle.ca_token.specs.Bytes.{constant_len, line_len}
+use Rattle.ca_token.specs.Piece.{has_quote, is_bit, closes, comment_from, attribute_from, slash_piece}
+use Rattle.ca_token.specs.Piece.{open_piece, is_directive, directive_line}
+use Rattle.ca_token.specs.Piece.{directive_piece, escaped_before, escaped_piece, constant_piece}
+use Rattle.ca_token.specs.Piece.{number_before, number_piece}
 use Rattle.ca_token.specs.Piece.{quote_piece, sign_piece, piece_of}
 
 -- a run that ends before the cut
@@ -46,7 +51,8 @@ closes_cut sign (suc zero) (byte ∷ more) some = absurd (omega arith)
 closes_cut sign (suc (suc cut)) (byte ∷ []) some = refl
 closes_cut sign (suc (suc cut)) (byte ∷ next ∷ more) some = refl
 
--- the piece ends before the cut, which stands so many bytes behind its first; an escaped name ends before another byte
+-- the piece ends before the cut, which stands so many bytes behind its first; an escaped name ends before
+-- another byte
 abbrev pub IsUncut : ℕ → Piece → Type 0
 IsUncut cut Blank = Unit {0}
 IsUncut cut (Skipped len) = len ≤ suc cut

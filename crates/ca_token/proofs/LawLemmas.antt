@@ -1,5 +1,6 @@
 -- The first fault of a text.
-use Rattle.std.proofs.Common.{◌≡◌, ℕ, ◌-◌, List, true, take, Option, Some, None, Result, Ok, Err, arith, refl, sym, ap, ◌∙◌}
+use Rattle.std.proofs.Common.{◌≡◌, ℕ, ◌-◌, List, true, take, Option, Some, None, Result, Ok, Err, arith, refl}
+use Rattle.std.proofs.Common.{sym, ap, ◌∙◌}
 use Rattle.ca_lex.specs.declared.token.Token.{Token}
 use Rattle.ca_token.specs.declared.fault.Flaw as fault
 use Rattle.ca_token.specs.declared.fault.LexKind.{LexKind}

@@ -1,5 +1,6 @@
 -- Each subcircuit that a text reads as has transistors alone.
-use Rattle.std.proofs.Common.{◌≡◌, ℕ, Bool, true, false, ◌||◌, not, cond, eqb, List, [], ◌∷◌, ◌++◌, length, map, Option, Some, None, Result, Ok, Err, refl, sym, subst}
+use Rattle.std.proofs.Common.{◌≡◌, ℕ, Bool, true, false, ◌||◌, not, cond, eqb, List, [], ◌∷◌, ◌++◌, length}
+use Rattle.std.proofs.Common.{map, Option, Some, None, Result, Ok, Err, refl, sym, subst}
 use Rattle.std.specs.Prelude.{nat_lt, codes}
 use Rattle.std.specs.Str.{bytes_eq}
 use Rattle.std.specs.List.{All, AllByRecursion, list_all}
@@ -21,8 +22,12 @@ use Rattle.ca_names.specs.Names.{has_double}
 use Rattle.ca_spice.specs.Names.{is_text}
 use Rattle.ca_spice.specs.Card.{card_by_letter, is_ignored, card_of}
 use Rattle.ca_spice.specs.PinInfo as info
-use Rattle.ca_spice.specs.OpenCell.{OpenCell, new_cell, with_pins, has_roles, pin_info, device_of, mos, pins_behind, is_ended_by, subcircuit_with, ended}
-use Rattle.ca_spice.specs.Reading.{Reading, Step, nothing, is_outside, has_cell, with_open, is_header, named, subckt, goes_on, in_cell, with_cell, ends, card_step, is_stray, is_comment, judged, words_step, line_step, at_line, lines_from, limited, library_from, library_of}
+use Rattle.ca_spice.specs.OpenCell.{OpenCell, new_cell, with_pins, has_roles, pin_info, device_of, mos}
+use Rattle.ca_spice.specs.OpenCell.{pins_behind, is_ended_by, subcircuit_with, ended}
+use Rattle.ca_spice.specs.Reading.{Reading, Step, nothing, is_outside, has_cell, with_open, is_header, named}
+use Rattle.ca_spice.specs.Reading.{subckt, goes_on, in_cell, with_cell, ends, card_step, is_stray, is_comment}
+use Rattle.ca_spice.specs.Reading.{judged, words_step, line_step, at_line, lines_from, limited, library_from}
+use Rattle.ca_spice.specs.Reading.{library_of}
 use Rattle.ca_spice.specs.Views.{subcircuit_seen}
 use Rattle.ca_spice.proofs.SpelledLemmas.{all_append}
 use Rattle.ca_spice.proofs.CardLemmas.{kept_rule, kept_value, mos_found}

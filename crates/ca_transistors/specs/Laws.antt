@@ -5,7 +5,8 @@ use Rattle.ca_spice.specs.Reading.{library_of}
 use Rattle.ca_spice.specs.Views.{subcircuit_seen}
 use Rattle.ca_flatten.specs.Transistors.{HaveTransistors}
 
--- the cells of a library that a text reads as have transistors alone, those too that break a rule of a used cell
+-- the cells of a library that a text reads as have transistors alone, those too that break a rule of a used
+-- cell
 abbrev pub ReadCellsAreOfTransistors : Type 0
 ReadCellsAreOfTransistors = (text : List ℕ) (cells : List Named)
     → library_of text ≡ Ok (map subcircuit_seen cells)

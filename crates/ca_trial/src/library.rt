@@ -1,6 +1,7 @@
 //! A library of cells.
 
-/// An inverter, gates, a cell whose input pin is on a channel, and one whose transistor that is longer than wide loses.
+/// An inverter, gates, a cell whose input pin is on a channel, and one whose transistor that is longer than
+/// wide loses.
 pub const LIBRARY: &str = "\
 * row library
 .GLOBAL VDD VSS

@@ -1,5 +1,6 @@
 -- Numbers of bits.
-use Rattle.std.proofs.Common.{◌≡◌, ℕ, zero, suc, ◌+◌, ◌-◌, ◌<◌, ◌≤◌, List, Bool, true, false, ◌||◌, ◌&&◌, [], ◌∷◌, length, map}
+use Rattle.std.proofs.Common.{◌≡◌, ℕ, zero, suc, ◌+◌, ◌-◌, ◌<◌, ◌≤◌, List, Bool, true, false, ◌||◌, ◌&&◌, []}
+use Rattle.std.proofs.Common.{◌∷◌, length, map}
 use Rattle.std.proofs.Common.{Option, Some, None, arith, refl, ap, subst}
 use Rattle.std.specs.Prelude.{nat_le, flat_map, option_map}
 use Rattle.std.specs.List.{All}
@@ -15,7 +16,8 @@ use Rattle.ca_verilog.specs.Bus.{range_at}
 use Rattle.ca_verilog.specs.IsNetlist.{range_width, bit_count, IsBit, IsOnBit, IsJoinOf}
 use Rattle.ca_verilog.specs.Joins.{bit_behind, pairs_from}
 use Rattle.ca_verilog.specs.Kept.{IsIndexOf, IsOperand, IsUsed, IsJoin}
-use Rattle.ca_verilog.specs.Netlist.{bits_with, first_bits, first_at, first_bit, offset_in, raw_range, raw_bus, raw_span, raw_joins}
+use Rattle.ca_verilog.specs.Netlist.{bits_with, first_bits, first_at, first_bit, offset_in, raw_range}
+use Rattle.ca_verilog.specs.Netlist.{raw_bus, raw_span, raw_joins}
 use Rattle.ca_verilog.specs.Reading.{width_in, width_of}
 
 -- more names have no fewer bits

@@ -1,6 +1,8 @@
 -- Each token that is taken keeps what a reading keeps.
-use Rattle.std.proofs.Common.{◌≡◌, ℕ, zero, suc, ◌<◌, List, Bool, true, false, not, ◌&&◌, ◌||◌, [], ◌∷◌, ◌++◌, length, map}
-use Rattle.std.proofs.Common.{Option, Some, None, Result, Ok, Err, cond, get_or, arith, refl, sym, ap, ◌∙◌, subst}
+use Rattle.std.proofs.Common.{◌≡◌, ℕ, zero, suc, ◌<◌, List, Bool, true, false, not, ◌&&◌, ◌||◌, [], ◌∷◌, ◌++◌}
+use Rattle.std.proofs.Common.{length, map}
+use Rattle.std.proofs.Common.{Option, Some, None, Result, Ok, Err, cond, get_or, arith, refl, sym, ap, ◌∙◌}
+use Rattle.std.proofs.Common.{subst}
 use Rattle.std.specs.Prelude.{slice_get, slice_set, ◌==◌}
 use Rattle.std.specs.List.{All, IsDistinct, list_all}
 use Rattle.std.specs.Str.{bytes_eq}
@@ -29,13 +31,16 @@ use Rattle.ca_verilog.specs.declared.table.Range.{Range}
 use Rattle.ca_verilog.specs.declared.table.Place.{Place}
 use Rattle.ca_verilog.specs.declared.table.Action.{Action}
 use Rattle.ca_verilog.specs.declared.table.Action.TheVariants as action
-use Rattle.ca_verilog.specs.Bus.{is_inner, has_direction, same_range, bus_of, is_twice, new_bus, declared_again, again_at, declare, range_at}
+use Rattle.ca_verilog.specs.Bus.{is_inner, has_direction, same_range, bus_of, is_twice, new_bus}
+use Rattle.ca_verilog.specs.Bus.{declared_again, again_at, declare, range_at}
 use Rattle.ca_verilog.specs.Instance.{has_pin, has_instance}
 use Rattle.ca_verilog.specs.Kept.{IsIndexOf, IsOperand, IsUsed, IsJoin, AreUses, IsOfHeader, AreNames}
 use Rattle.ca_verilog.specs.Kept.{in_instance, in_pin, IsNew, IsClosed, IsKept}
 use Rattle.ca_verilog.specs.Text.{is_end}
-use Rattle.ca_verilog.specs.Reading.{Hand, Reading, Step, act, given_buses, given_operand, has_index, bit_in, selected, width_of}
-use Rattle.ca_verilog.specs.Reading.{with_operand, with_use, is_vector, end_instance, nothing, at_place, lexeme_step}
+use Rattle.ca_verilog.specs.Reading.{Hand, Reading, Step, act, given_buses, given_operand, has_index, bit_in}
+use Rattle.ca_verilog.specs.Reading.{selected, width_of}
+use Rattle.ca_verilog.specs.Reading.{with_operand, with_use, is_vector, end_instance, nothing, at_place}
+use Rattle.ca_verilog.specs.Reading.{lexeme_step}
 use Rattle.ca_verilog.specs.Table.{Move, row_of}
 use Rattle.ca_verilog.proofs.DistinctLemmas.{distinct_grown, not_there}
 use Rattle.ca_verilog.proofs.GrowLemmas.{Grows, pushed, set_again, joins_grown, instances_grown, hand_grown}

@@ -1,6 +1,7 @@
 -- A module of the grammar breaks no rule but those on names and ranges.
 use Rattle.std.proofs.Common.{◌≡◌, ℕ, List, Bool, true, false, not, ◌&&◌, [], ◌∷◌, ◌++◌, map}
-use Rattle.std.proofs.Common.{Option, Some, None, Result, Ok, Err, refl, sym, ap, ◌∙◌, subst, inl, inr, true≢false}
+use Rattle.std.proofs.Common.{Option, Some, None, Result, Ok, Err, refl, sym, ap, ◌∙◌, subst, inl, inr}
+use Rattle.std.proofs.Common.{true≢false}
 use Rattle.std.specs.Prelude.{slice_get, slice_set, ◌==◌}
 use Rattle.std.specs.List.{list_all}
 use Rattle.std.proofs.lemmas.List.{map-append}
@@ -23,13 +24,15 @@ use Rattle.ca_verilog.specs.declared.table.Place.{Place}
 use Rattle.ca_verilog.specs.declared.table.Place.TheVariants as place
 use Rattle.ca_verilog.specs.declared.table.Action.{Action}
 use Rattle.ca_verilog.specs.declared.table.Action.TheVariants as action
-use Rattle.ca_verilog.specs.Bus.{is_inner, same_range, bus_of, is_twice, new_bus, declared_again, again_at, declare, has_direction, range_at}
+use Rattle.ca_verilog.specs.Bus.{is_inner, same_range, bus_of, is_twice, new_bus, declared_again, again_at}
+use Rattle.ca_verilog.specs.Bus.{declare, has_direction, range_at}
 use Rattle.ca_verilog.specs.Instance.{has_pin, has_instance}
 use Rattle.ca_verilog.specs.Laws.{IsFirstFaulty, IsOfNames}
 use Rattle.ca_verilog.specs.Lexeme.{name_of}
 use Rattle.ca_verilog.specs.Module.{lexeme_at, HasModule}
 use Rattle.ca_verilog.specs.Path.{led, place_step, places_from}
-use Rattle.ca_verilog.specs.Reading.{Reading, Step, nothing, act, given_buses, given_operand, has_index, bit_in, selected}
+use Rattle.ca_verilog.specs.Reading.{Reading, Step, nothing, act, given_buses, given_operand, has_index}
+use Rattle.ca_verilog.specs.Reading.{bit_in, selected}
 use Rattle.ca_verilog.specs.Reading.{with_operand, is_vector, width_of, at_place, lexeme_step}
 use Rattle.ca_verilog.specs.Table.{Move, row_of}
 use Rattle.ca_verilog.specs.Text.{is_end}

@@ -1,5 +1,6 @@
 -- A netlist that was read keeps the conditions of one.
-use Rattle.std.proofs.Common.{◌≡◌, ◌≢◌, ℕ, zero, suc, ◌-◌, ◌<◌, ◌≤◌, ◌^◌, List, Bool, true, false, cond, not, ◌&&◌, [], ◌∷◌, length, map}
+use Rattle.std.proofs.Common.{◌≡◌, ◌≢◌, ℕ, zero, suc, ◌-◌, ◌<◌, ◌≤◌, ◌^◌, List, Bool, true, false, cond, not}
+use Rattle.std.proofs.Common.{◌&&◌, [], ◌∷◌, length, map}
 use Rattle.std.proofs.Common.{IfOk, Option, Some, None, Result, Ok, Err, arith, refl, sym, ap, ◌∙◌, subst}
 use Rattle.std.specs.Prelude.{slice_get, nat_lt, unwrap_or}
 use Rattle.std.specs.List.{All, Contains, IsDistinct, list_all}
@@ -30,7 +31,8 @@ use Rattle.ca_verilog.specs.declared.table.Direction.TheVariants as direction
 use Rattle.ca_verilog.specs.Bus.{is_inner, bus_of, is_directed, has_direction}
 use Rattle.ca_verilog.specs.IsNetlist.{bit_count, IsJoinOf, IsOnBit, IsInstanceOf, IsPort, IsNetlist}
 use Rattle.ca_verilog.specs.Kept.{IsOfHeader, AreNames, AreUses, IsUsed, IsKept, IsWhole}
-use Rattle.ca_verilog.specs.Netlist.{bits_with, first_bits, raw_bus, raw_use, raw_instance, port_place, netlist_with, limited}
+use Rattle.ca_verilog.specs.Netlist.{bits_with, first_bits, raw_bus, raw_use, raw_instance, port_place}
+use Rattle.ca_verilog.specs.Netlist.{netlist_with, limited}
 use Rattle.ca_verilog.specs.Reading.{Reading, Step, nothing}
 use Rattle.ca_verilog.specs.Text.{token_step, at_token, tokens_from, then_flaw, is_end, ended, reading_of}
 use Rattle.ca_verilog.specs.VerilogFault.{fault_told}

@@ -1,13 +1,17 @@
 -- The first two of those that drive a net, as more are noted.
-use Rattle.std.proofs.Common.{◌≡◌, ℕ, ◌+◌, ◌<◌, ◌⊎◌, Bool, true, false, List, length, inl, inr, refl, sym, ◌∙◌, ap, subst, arith}
+use Rattle.std.proofs.Common.{◌≡◌, ℕ, ◌+◌, ◌<◌, ◌⊎◌, Bool, true, false, List, length, inl, inr, refl, sym}
+use Rattle.std.proofs.Common.{◌∙◌, ap, subst, arith}
 use Rattle.std.specs.Prelude.{Option, Some, None, IsSomeAnd, IsTrue, slice_get, slice_set, replicate}
 use Rattle.std.specs.List.{All}
-use Rattle.std.proofs.lemmas.List.{get_or-set_same, get_or-set_other, length-set, get_or-replicate, length-replicate}
+use Rattle.std.proofs.lemmas.List.{get_or-set_same, get_or-set_other, length-set, get_or-replicate}
+use Rattle.std.proofs.lemmas.List.{length-replicate}
 use Rattle.std.proofs.lemmas.Option.{slice_get_within, get_or_from_slice_get}
 use native.Mathlib.Decide.{ℕ_discrete}
 use Rattle.ca_wired.specs.declared.drivers.Sources.{Sources}
-use Rattle.ca_wired.specs.Linked.{Source, FromPort, FromConstant, FromPin, Part, PortBit, Chip, net_count, constant_net, output_nets, Drives}
-use Rattle.ca_wired.specs.Drivers.{ComesBefore, AreFirst, no_sources, sources_at, AreDrivers, noted, AreNoted, IsSeen, after_constant, IsDrafted}
+use Rattle.ca_wired.specs.Linked.{Source, FromPort, FromConstant, FromPin, Part, PortBit, Chip, net_count}
+use Rattle.ca_wired.specs.Linked.{constant_net, output_nets, Drives}
+use Rattle.ca_wired.specs.Drivers.{ComesBefore, AreFirst, no_sources, sources_at, AreDrivers, noted, AreNoted}
+use Rattle.ca_wired.specs.Drivers.{IsSeen, after_constant, IsDrafted}
 
 -- equal entries
 pub some_inj : {X : Type 0} (x y : X) → Some x ≡ Some y → x ≡ y

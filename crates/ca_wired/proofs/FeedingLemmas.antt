@@ -1,5 +1,6 @@
 -- Which library instances feed which, and lists of those.
-use Rattle.std.proofs.Common.{◌≡◌, ℕ, ◌+◌, ◌<◌, ◌⊎◌, List, [], ◌∷◌, ◌++◌, length, inl, inr, refl, sym, ◌∙◌, ap, subst, arith, length-append}
+use Rattle.std.proofs.Common.{◌≡◌, ℕ, ◌+◌, ◌<◌, ◌⊎◌, List, [], ◌∷◌, ◌++◌, length, inl, inr, refl, sym, ◌∙◌}
+use Rattle.std.proofs.Common.{ap, subst, arith, length-append}
 use Rattle.std.specs.Prelude.{Option, Some, None, IsSomeAnd, slice_get, ◌↔◌}
 use Rattle.std.specs.List.{Contains}
 use Rattle.std.proofs.lemmas.List.{get_or_append_left, get_or-append-add, get_or_past}
@@ -12,13 +13,17 @@ use Rattle.ca_wired.specs.Order.{IsOrder, IsChain, IsLoop}
 use Rattle.ca_wired.specs.Walk.{row_of, IsFeeder, IsSortCause}
 use Rattle.ca_wired.specs.declared.order.SortFault.{SortFault}
 use Rattle.ca_wired.specs.declared.order.SortFault.TheVariants.{Loop, NoMemory}
-use Rattle.ca_wired.specs.Linked.{Source, FromPort, FromConstant, FromPin, Body, Gate, Scan, Part, Chip, gate_inputs, gate_outputs, input_nets, output_nets, Drives, Feeds, IsGate, IsLibrary}
+use Rattle.ca_wired.specs.Linked.{Source, FromPort, FromConstant, FromPin, Body, Gate, Scan, Part, Chip}
+use Rattle.ca_wired.specs.Linked.{gate_inputs, gate_outputs, input_nets, output_nets, Drives, Feeds, IsGate}
+use Rattle.ca_wired.specs.Linked.{IsLibrary}
 use Rattle.ca_wired.specs.Drivers.{sources_at, instance_of, first_instance}
-use Rattle.ca_wired.specs.Feeding.{IsDrivenBy, DrivesFromGate, IsGateOn, FeedsPin, IsRow, HaveFeeders, HasGates, IsOrderCause}
+use Rattle.ca_wired.specs.Feeding.{IsDrivenBy, DrivesFromGate, IsGateOn, FeedsPin, IsRow, HaveFeeders}
+use Rattle.ca_wired.specs.Feeding.{HasGates, IsOrderCause}
 use Rattle.ca_wired.proofs.OrderLemmas.{place_of, contained_at}
 use Rattle.ca_wired.proofs.DriverLemmas.{of_some, to_some, some_within, some_inj}
 
--- a library instance drives from an output pin, and what an output pin of a library instance drives is one of its outputs
+-- a library instance drives from an output pin, and what an output pin of a library instance drives is one of
+-- its outputs
 gate_pin : (body : Body) (net : ℕ) → Contains (gate_outputs body) net → IsGate body × ((pin : ℕ) × (slice_get (output_nets body) pin ≡ Some net))
 gate_pin (Gate cell inputs outputs) net has = (tt, (has.0, place_of outputs net has))
 gate_pin (Scan nets) net has = absurd (let lt = has.1 in omega (arith, lt))

@@ -1,9 +1,11 @@
 -- What a walk ends with: an order, or a loop.
-use Rattle.std.proofs.Common.{◌≡◌, ℕ, zero, suc, ◌+◌, ◌-◌, ◌<◌, ◌≤◌, List, [], ◌∷◌, ◌++◌, length, take, drop, replicate, refl, sym, ◌∙◌, ap, subst, arith, get_or, set}
+use Rattle.std.proofs.Common.{◌≡◌, ℕ, zero, suc, ◌+◌, ◌-◌, ◌<◌, ◌≤◌, List, [], ◌∷◌, ◌++◌, length, take, drop}
+use Rattle.std.proofs.Common.{replicate, refl, sym, ◌∙◌, ap, subst, arith, get_or, set}
 use Rattle.std.specs.Prelude.{Option, Some, None, slice_get}
 use native.Mathlib.Decide.{ℕ_discrete}
 use Rattle.std.specs.List.{All, Contains}
-use Rattle.std.proofs.lemmas.List.{get_or_past, get_or-replicate, length-replicate, take-append-drop, length-drop}
+use Rattle.std.proofs.lemmas.List.{get_or_past, get_or-replicate, length-replicate, take-append-drop}
+use Rattle.std.proofs.lemmas.List.{length-drop}
 use Rattle.std.proofs.lemmas.List.Elements.{All-from_get_or, All-append, All-take, All-drop}
 use Rattle.std.proofs.lemmas.Option.{slice_get_within, slice_get-get_or, get_or_from_slice_get}
 use Rattle.std.proofs.Math.Decide.{dec_le}
@@ -12,7 +14,9 @@ use Rattle.ca_wired.specs.declared.order.Mark.{Mark}
 use Rattle.ca_wired.specs.declared.order.Mark.TheVariants.{New, Open, Done}
 use Rattle.ca_wired.specs.declared.order.Visit.{Visit}
 use Rattle.ca_wired.specs.Order.{IsChain, IsLoop, IsOrder}
-use Rattle.ca_wired.specs.Walk.{row_of, IsFeeder, WalkState, mark_of, IsVisit, IsWalk, Meets, IsFinish, IsVisited, KeepsReached, IsVisitOf, no_visit, instance_at, back_from, IsTurned}
+use Rattle.ca_wired.specs.Walk.{row_of, IsFeeder, WalkState, mark_of, IsVisit, IsWalk, Meets, IsFinish}
+use Rattle.ca_wired.specs.Walk.{IsVisited, KeepsReached, IsVisitOf, no_visit, instance_at, back_from}
+use Rattle.ca_wired.specs.Walk.{IsTurned}
 use Rattle.ca_wired.proofs.OrderLemmas.{place_of, contained_at, chain_then, Returns, turned, loop_of}
 use Rattle.ca_wired.proofs.WalkLemmas.{not_open, not_done, mark_set, mark_other, entered}
 

@@ -3,7 +3,8 @@ use Rattle.std.proofs.Common.{sym, subst, arith}
 use Rattle.std.specs.Prelude.{ℕ, Option, IsSomeAnd}
 use Rattle.std.specs.List.{Contains}
 use Rattle.ca_wired.specs.Order.{HasNoLoop}
-use Rattle.ca_wired.specs.Linked.{Body, Gate, Scan, Part, Chip, gate_outputs, Feeds, IsGate, IsLibrary, IsWired}
+use Rattle.ca_wired.specs.Linked.{Body, Gate, Scan, Part, Chip, gate_outputs, Feeds, IsGate, IsLibrary}
+use Rattle.ca_wired.specs.Linked.{IsWired}
 use Rattle.ca_wired.proofs.OrderLemmas.{no_loop}
 
 module _ (chip : Chip) (is : IsWired chip) where

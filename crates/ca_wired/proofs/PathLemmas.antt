@@ -1,16 +1,20 @@
 -- Marks of nets, as more are marked.
-use Rattle.std.proofs.Common.{◌≡◌, ℕ, suc, ◌+◌, ◌<◌, Bool, true, false, List, [], ◌∷◌, ◌++◌, length, take, refl, sym, ◌∙◌, ap, subst, arith, get_or, length-append}
-use Rattle.std.specs.Prelude.{eqb, ◌||◌, ◌&&◌, not, Some, slice_get, slice_set, replicate, if◌then◌else◌, Option, None, option_to_list}
+use Rattle.std.proofs.Common.{◌≡◌, ℕ, suc, ◌+◌, ◌<◌, Bool, true, false, List, [], ◌∷◌, ◌++◌, length, take}
+use Rattle.std.proofs.Common.{refl, sym, ◌∙◌, ap, subst, arith, get_or, length-append}
+use Rattle.std.specs.Prelude.{eqb, ◌||◌, ◌&&◌, not, Some, slice_get, slice_set, replicate, if◌then◌else◌}
+use Rattle.std.specs.Prelude.{Option, None, option_to_list}
 use Rattle.std.specs.List.{All, list_any}
 use Rattle.std.proofs.Math.Seq.{take-suc}
-use Rattle.std.proofs.lemmas.List.{get_or-set_same, get_or-set_other, length-set, get_or-replicate, length-replicate, get_or-append-add}
+use Rattle.std.proofs.lemmas.List.{get_or-set_same, get_or-set_other, length-set, get_or-replicate}
+use Rattle.std.proofs.lemmas.List.{length-replicate, get_or-append-add}
 use Rattle.std.proofs.lemmas.List.Elements.{All-nil, All-cons, All-append}
 use Rattle.std.proofs.lemmas.List.Folds.{list_any-append}
 use Rattle.std.proofs.lemmas.Bool.{ne_eqb, eq-eqb}
 use Rattle.std.proofs.lemmas.Option.{slice_get_within, get_or_from_slice_get}
 use mathlib.Core.Bool.{beq}
 use native.Mathlib.Decide.{ℕ_discrete}
-use Rattle.ca_wired.specs.Linked.{Body, Gate, Scan, input_nets, output_nets, path_nets, data_nets, Part, PortBit, has}
+use Rattle.ca_wired.specs.Linked.{Body, Gate, Scan, input_nets, output_nets, path_nets, data_nets, Part}
+use Rattle.ca_wired.specs.Linked.{PortBit, has}
 use Rattle.ca_wired.specs.Paths.{mark_at, Marks, AreMarks, is_among, is_port_on}
 
 or_false : (a : Bool) → (a || false) ≡ a

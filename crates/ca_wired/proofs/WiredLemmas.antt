@@ -1,18 +1,23 @@
 -- A chip whose rules hold is wired.
-use Rattle.std.proofs.Common.{◌≡◌, ℕ, ◌<◌, Bool, true, false, List, length, refl, sym, ◌∙◌, subst, arith, get_or}
+use Rattle.std.proofs.Common.{◌≡◌, ℕ, ◌<◌, Bool, true, false, List, length, refl, sym, ◌∙◌, subst, arith}
+use Rattle.std.proofs.Common.{get_or}
 use Rattle.std.specs.Prelude.{Option, Some, None, IsSome, IsNone, IsTrue, slice_get, ◌&&◌, ◌||◌}
 use Rattle.std.specs.List.{All}
 use Rattle.std.proofs.lemmas.List.{get_or_default}
 use Rattle.std.proofs.lemmas.List.Folds.{list_any-from_Any}
 use Rattle.ca_wired.specs.declared.drivers.Sources.{Sources}
 use Rattle.ca_wired.specs.Order.{IsOrder}
-use Rattle.ca_wired.specs.Linked.{Source, FromPort, FromConstant, FromPin, Part, PortBit, Chip, net_count, constant_net, has, is_scan_path, output_nets, data_nets, Drives, Feeds, IsGate, IsLibrary, IsWired}
-use Rattle.ca_wired.specs.Drivers.{AreFirst, sources_at, AreDrivers, IsSingle, IsFirstFlaw, AreAllSingle, IsDrafted}
+use Rattle.ca_wired.specs.Linked.{Source, FromPort, FromConstant, FromPin, Part, PortBit, Chip, net_count}
+use Rattle.ca_wired.specs.Linked.{constant_net, has, is_scan_path, output_nets, data_nets, Drives, Feeds}
+use Rattle.ca_wired.specs.Linked.{IsGate, IsLibrary, IsWired}
+use Rattle.ca_wired.specs.Drivers.{AreFirst, sources_at, AreDrivers, IsSingle, IsFirstFlaw, AreAllSingle}
+use Rattle.ca_wired.specs.Drivers.{IsDrafted}
 use Rattle.ca_wired.specs.Feeding.{IsDrivenBy, AreSingle, IsOrderCause}
 use Rattle.ca_wired.specs.Paths.{is_on_data, is_on_port}
 use Rattle.ca_wired.specs.declared.order.SortFault.{SortFault}
 use Rattle.ca_wired.specs.declared.order.SortFault.TheVariants.{Loop, NoMemory}
-use Rattle.ca_wired.specs.Wired.{wire_fault, IsWireCause, IsFirstMisdriven, AreDriven, AreUnobserved, KeepsNetRules}
+use Rattle.ca_wired.specs.Wired.{wire_fault, IsWireCause, IsFirstMisdriven, AreDriven, AreUnobserved}
+use Rattle.ca_wired.specs.Wired.{KeepsNetRules}
 use Rattle.ca_wired.proofs.PartLemmas.{contains_has}
 use Rattle.ca_wired.proofs.PartLemmas.{of_all}
 use Rattle.ca_wired.proofs.DriverLemmas.{of_get, some_within}

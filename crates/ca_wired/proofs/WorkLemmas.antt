@@ -1,5 +1,6 @@
 -- Each step of a walk leaves less to do.
-use Rattle.std.proofs.Common.{◌≡◌, ℕ, zero, suc, ◌+◌, ◌-◌, ◌<◌, ◌≤◌, List, [], ◌∷◌, ◌++◌, length, take, refl, sym, ◌∙◌, ap, subst, arith, get_or, set}
+use Rattle.std.proofs.Common.{◌≡◌, ℕ, zero, suc, ◌+◌, ◌-◌, ◌<◌, ◌≤◌, List, [], ◌∷◌, ◌++◌, length, take, refl}
+use Rattle.std.proofs.Common.{sym, ◌∙◌, ap, subst, arith, get_or, set}
 use Rattle.std.specs.Prelude.{Some, slice_get}
 use Rattle.std.specs.List.{Contains, sum_by}
 use Rattle.std.proofs.lemmas.List.Sums.{sum_by-set, sum_by_push}
@@ -10,7 +11,8 @@ use Rattle.std.proofs.Math.Decide.{dec_le}
 use Rattle.ca_wired.specs.declared.order.Mark.{Mark}
 use Rattle.ca_wired.specs.declared.order.Mark.TheVariants.{New, Open, Done}
 use Rattle.ca_wired.specs.declared.order.Visit.{Visit}
-use Rattle.ca_wired.specs.Walk.{row_of, WalkState, mark_of, IsVisit, IsWalk, LeadsOn, AreClosed, HaveRows, KeepsReached, mark_work, visit_work, GoesOn, Meets}
+use Rattle.ca_wired.specs.Walk.{row_of, WalkState, mark_of, IsVisit, IsWalk, LeadsOn, AreClosed, HaveRows}
+use Rattle.ca_wired.specs.Walk.{KeepsReached, mark_work, visit_work, GoesOn, Meets}
 use Rattle.ca_wired.proofs.OrderLemmas.{contained_at}
 use Rattle.ca_wired.proofs.WalkLemmas.{not_open, mark_within, mark_set, mark_other, advanced, left, entered}
 

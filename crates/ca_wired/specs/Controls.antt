@@ -1,5 +1,6 @@
 -- The control pins and the inverted outputs of scan instances, and which of them breaks its rule first.
-use Rattle.std.specs.Prelude.{ℕ, ◌+◌, Bool, true, false, not, ◌||◌, eqb, List, [], ◌∷◌, Option, Some, None, if◌then◌else◌}
+use Rattle.std.specs.Prelude.{ℕ, ◌+◌, Bool, true, false, not, ◌||◌, eqb, List, [], ◌∷◌, Option, Some, None}
+use Rattle.std.specs.Prelude.{if◌then◌else◌}
 use Rattle.ca_wired.specs.declared.controls.Misused.{Misused}
 use Rattle.ca_wired.specs.Linked.{ScanNets, Body, Gate, Scan, Part, Chip, net_count, input_nets}
 use Rattle.ca_wired.specs.declared.controls.LoadMarks.{LoadMarks}

@@ -1,8 +1,10 @@
 -- What drives each net of a chip: the first two, in order.
-use Rattle.std.specs.Prelude.{ℕ, ◌^◌, ◌≡◌, ◌<◌, ◌⊎◌, Bool, true, false, List, length, Option, Some, None, IsSome, IsNone, slice_index_or}
+use Rattle.std.specs.Prelude.{ℕ, ◌^◌, ◌≡◌, ◌<◌, ◌⊎◌, Bool, true, false, List, length, Option, Some, None}
+use Rattle.std.specs.Prelude.{IsSome, IsNone, slice_index_or}
 use Rattle.std.specs.List.{All}
 use Rattle.ca_wired.specs.declared.drivers.Sources.{Sources}
-use Rattle.ca_wired.specs.Linked.{Source, FromPort, FromConstant, FromPin, Chip, net_count, input_nets, output_nets, IsBody, Drives}
+use Rattle.ca_wired.specs.Linked.{Source, FromPort, FromConstant, FromPin, Chip, net_count, input_nets}
+use Rattle.ca_wired.specs.Linked.{output_nets, IsBody, Drives}
 
 -- the order of the constants
 abbrev pub constant_place : Bool → ℕ

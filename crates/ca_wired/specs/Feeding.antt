@@ -4,7 +4,8 @@ use Rattle.std.specs.List.{Contains}
 use Rattle.ca_wired.specs.declared.drivers.Sources.{Sources}
 use Rattle.ca_wired.specs.declared.order.SortFault.{SortFault}
 use Rattle.ca_wired.specs.declared.order.SortFault.TheVariants.{Loop, NoMemory}
-use Rattle.ca_wired.specs.Linked.{Source, Body, Chip, net_count, input_nets, gate_outputs, Drives, Feeds, IsLibrary}
+use Rattle.ca_wired.specs.Linked.{Source, Body, Chip, net_count, input_nets, gate_outputs, Drives, Feeds}
+use Rattle.ca_wired.specs.Linked.{IsLibrary}
 use Rattle.ca_wired.specs.Drivers.{IsOnly, sources_at}
 use Rattle.ca_wired.specs.Order.{IsLoop}
 use Rattle.ca_wired.specs.Walk.{IsFeeder}

@@ -2,7 +2,8 @@
 use Rattle.std.specs.Prelude.{ℕ, ◌+◌, ◌≡◌, List, [], ◌∷◌, ◌++◌, Some, slice_get}
 use Rattle.ca_wired.specs.declared.pins.ScanPin.{ScanPin}
 use Rattle.ca_wired.specs.declared.pins.ScanPin.TheVariants.{D, Q, Si, So, Se, Ck, Hold}
-use Rattle.ca_wired.specs.Linked.{ScanNets, Body, Gate, Scan, Part, Chip, cell_of, input_nets, output_nets, IsGate}
+use Rattle.ca_wired.specs.Linked.{ScanNets, Body, Gate, Scan, Part, Chip, cell_of, input_nets, output_nets}
+use Rattle.ca_wired.specs.Linked.{IsGate}
 use Rattle.ca_cell.specs.declared.raw.RawCell.{RawCell}
 
 -- the place of an instance, if it is one of the library

@@ -1,5 +1,7 @@
 -- Linked chips: nets, instances with the net of each pin, port bits, and an order of the library instances.
-use Rattle.std.specs.Prelude.{ℕ, ◌^◌, ◌≡◌, ◌<◌, Bool, true, false, not, ◌&&◌, eqb, IsTrue, List, [], ◌∷◌, ◌++◌, length, IsSomeAnd, Option, Some, slice_get, slice_index_or, option_to_list, if◌then◌else◌}
+use Rattle.std.specs.Prelude.{ℕ, ◌^◌, ◌≡◌, ◌<◌, Bool, true, false, not, ◌&&◌, eqb, IsTrue, List, [], ◌∷◌}
+use Rattle.std.specs.Prelude.{◌++◌, length, IsSomeAnd, Option, Some, slice_get, slice_index_or}
+use Rattle.std.specs.Prelude.{option_to_list, if◌then◌else◌}
 use Rattle.std.specs.List.{All, Contains, list_any, flat_map}
 use Rattle.ca_cell.specs.declared.raw.RawCell.{RawCell}
 use Rattle.ca_cell.specs.Raw.{is_input, is_output, role_count}
@@ -119,8 +121,8 @@ abbrev pub IsBody : List RawCell → Body → Type 0
 IsBody cells (Gate cell inputs outputs) = IsGateOf (cell_of cells cell) inputs outputs
 IsBody cells (Scan nets) = Unit {0}
 
--- the pins, ports and constants are on nets; each net has one driver, the data pins are off the scan path, and
--- there is an order; and instances, port bits and nets are few enough for numbers of 32 bits
+-- the pins, ports and constants are on nets; each net has one driver, the data pins are off the scan path,
+-- and there is an order; and instances, port bits and nets are few enough for numbers of 32 bits
 pub record IsWired (chip : Chip) : Type 0 where
   pub bodies : All (λ part. IsBody chip.cells part.body) chip.parts
   pub on_nets : All (λ part. All (λ net. net < net_count chip) (data_nets part.body)) chip.parts

@@ -1,5 +1,6 @@
 -- How far a walk along those that feed has come. Only the proofs of the code cite this.
-use Rattle.std.specs.Prelude.{ℕ, zero, suc, ◌+◌, ◌-◌, ◌≡◌, ◌<◌, ◌≤◌, ◌↔◌, List, [], ◌∷◌, ◌++◌, length, take, drop, Option, Some, None, slice_get, slice_index, slice_index_or}
+use Rattle.std.specs.Prelude.{ℕ, zero, suc, ◌+◌, ◌-◌, ◌≡◌, ◌<◌, ◌≤◌, ◌↔◌, List, [], ◌∷◌, ◌++◌, length, take}
+use Rattle.std.specs.Prelude.{drop, Option, Some, None, slice_get, slice_index, slice_index_or}
 use Rattle.std.specs.List.{Contains, sum_by}
 use Rattle.ca_wired.specs.declared.order.Mark.{Mark}
 use Rattle.ca_wired.specs.declared.order.Mark.TheVariants.{New, Open, Done}

@@ -54,8 +54,8 @@ IsWireCause chip (Observed net) = AreDriven chip × (misused_of chip ≡ None) �
 IsWireCause chip (Loop loop) = KeepsNetRules chip × IsLoop (Feeds chip) loop
 IsWireCause chip NoMemory = Unit {0}
 
--- what was found is of this chip, which keeps the rules: the driver of each net, the nets of the scan path, and
--- an order of the library instances
+-- what was found is of this chip, which keeps the rules: the driver of each net, the nets of the scan path,
+-- and an order of the library instances
 pub record IsJudged (chip : Chip) (judged : Judged) : Type 0 where
   pub kept : KeepsNetRules chip
   pub single : AreSingle chip judged.drivers

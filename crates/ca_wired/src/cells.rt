@@ -1,6 +1,7 @@
 //! The cells of library instances, and library instances by name.
 
-ghost use Rattle.std.specs.Prelude.{ℕ, ◌≡◌, ◌<◌, ◌↔◌, length, IsTrue, IsSomeAnd, IfSome, IfNone, Some, slice_get};
+ghost use Rattle.std.specs.Prelude.{ℕ, ◌≡◌, ◌<◌, ◌↔◌, length, IsTrue, IsSomeAnd, IfSome, IfNone, Some};
+ghost use Rattle.std.specs.Prelude.{slice_get};
 ghost use Rattle.ca_wired.specs.Linked.{IsLibrary, cell_of};
 ghost use Rattle.ca_wired.specs.Instances.{IsOfCell, IsCellOf, IsNamedGate, HasNamed};
 
@@ -32,7 +33,8 @@ impl Chip {
     /// The cell of a library instance.
     pub fn cell_of(&self, u: InstanceId) -> &Cell
         requires { IsLibrary self.now u.0 }
-        ensures { IsSomeAnd (slice_get self.now.parts u.0) (λ part. IsCellOf self.now.cells part.body result.now) }
+        ensures { IsSomeAnd (slice_get self.now.parts u.0)
+            (λ part. IsCellOf self.now.cells part.body result.now) }
     {
         match self.library.entry(self.cell_number(u)) {
             Entry::Sound(cell) => cell,
@@ -51,7 +53,8 @@ impl Chip {
         self.instance_name(self.order(k)).is(name)
     }
 
-    /// A library instance of this name: those of a netlist have different names. It looks through all of them.
+    /// A library instance of this name: those of a netlist have different names. It looks through all of
+    /// them.
     pub fn find_instance(&self, name: &[u8]) -> Option<InstanceId>
         ensures some { IfSome result (λ u. IsNamedGate self.now name.now u.0) }
         ensures none { IfNone result ((u : ℕ) → IsNamedGate self.now name.now u → ⊥) }

@@ -1,7 +1,8 @@
 //! Linked chips.
 
 ghost use Rattle.std.specs.Prelude.{◌≡◌, ◌<◌, Bool, length, Some, slice_get, IsSomeAnd, IfSome, IfNone};
-ghost use Rattle.ca_wired.specs.Linked.{net_count, is_scan_path, IsWired, IsLibrary, FromConstant, Drives, input_nets, output_nets, inputs_of, outputs_of};
+ghost use Rattle.ca_wired.specs.Linked.{net_count, is_scan_path, IsWired, IsLibrary, FromConstant, Drives};
+ghost use Rattle.ca_wired.specs.Linked.{input_nets, output_nets, inputs_of, outputs_of};
 ghost use Rattle.ca_wired.specs.Reading.{AreReadersOf};
 
 use crate::drivers::Drivers;

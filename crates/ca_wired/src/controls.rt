@@ -5,7 +5,8 @@ ghost use Rattle.std.specs.List.{All};
 ghost use Rattle.ca_wired.specs.Linked.{Scan, net_count, input_nets, output_nets};
 ghost use Rattle.ca_wired.specs.Drivers.{IsDrafted};
 ghost use Rattle.ca_wired.specs.Paths.{is_among, is_on_port, AreMarks, Marks};
-ghost use Rattle.ca_wired.specs.Controls.{is_misplaced, is_used, pin_fault, first_scan, body_fault, misused_of, AreLoadMarks};
+ghost use Rattle.ca_wired.specs.Controls.{is_misplaced, is_used, pin_fault, first_scan, body_fault};
+ghost use Rattle.ca_wired.specs.Controls.{misused_of, AreLoadMarks};
 
 use crate::draft::Draft;
 use crate::marks::NetMarks;

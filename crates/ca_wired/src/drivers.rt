@@ -1,8 +1,11 @@
 //! The drivers of each net.
 
-ghost use Rattle.std.specs.Prelude.{◌≡◌, ◌<◌, ◌↔◌, ◌+◌, ◌^◌, IsTrue, false, length, replicate, slice_set, IfSome, IfNone, IfOk};
+ghost use Rattle.std.specs.Prelude.{◌≡◌, ◌<◌, ◌↔◌, ◌+◌, ◌^◌, IsTrue, false, length, replicate, slice_set};
+ghost use Rattle.std.specs.Prelude.{IfSome, IfNone, IfOk};
 ghost use Rattle.ca_wired.specs.Linked.{FromConstant, FromPin, FromPort, net_count};
-ghost use Rattle.ca_wired.specs.Drivers.{no_sources, sources_at, first_instance, noted, after_constant, AreDrivers, AreNoted, IsSeen, IsDrafted, IsSingle, IsFirstFlaw, AreAllSingle};
+ghost use Rattle.ca_wired.specs.Drivers.{no_sources, sources_at, first_instance, noted, after_constant};
+ghost use Rattle.ca_wired.specs.Drivers.{AreDrivers, AreNoted, IsSeen, IsDrafted, IsSingle, IsFirstFlaw};
+ghost use Rattle.ca_wired.specs.Drivers.{AreAllSingle};
 
 use crate::draft::Draft;
 use crate::parts::{Body, Source};

@@ -1,7 +1,8 @@
 //! The chip inputs and the observed outputs.
 
 ghost use Rattle.std.specs.Prelude.{◌≡◌, ◌<◌, ◌++◌, IfOk, OnOk};
-ghost use Rattle.ca_wired.specs.Linked.{net_count, is_scan_path, port_nets, q_nets, d_nets, inputs_of, outputs_of};
+ghost use Rattle.ca_wired.specs.Linked.{net_count, is_scan_path, port_nets, q_nets, d_nets, inputs_of};
+ghost use Rattle.ca_wired.specs.Linked.{outputs_of};
 ghost use Rattle.ca_wired.specs.Drivers.{IsDrafted};
 ghost use Rattle.ca_wired.specs.Paths.{AreMarks};
 ghost use Rattle.ca_wired.specs.Ends.{is_end};

@@ -4,7 +4,8 @@ ghost use Rattle.std.specs.Prelude.{◌≡◌, ◌<◌, length, IfOk, IfErr};
 ghost use Rattle.ca_wired.specs.Linked.{net_count, Feeds, IsLibrary};
 ghost use Rattle.ca_wired.specs.Drivers.{IsDrafted};
 ghost use Rattle.ca_wired.specs.Order.{IsOrder};
-ghost use Rattle.ca_wired.specs.Feeding.{AreSingle, IsGateOn, FeedsPin, IsRow, HaveFeeders, HasGates, IsOrderCause};
+ghost use Rattle.ca_wired.specs.Feeding.{AreSingle, IsGateOn, FeedsPin, IsRow, HaveFeeders, HasGates};
+ghost use Rattle.ca_wired.specs.Feeding.{IsOrderCause};
 
 use crate::draft::Draft;
 use crate::drivers::Drivers;

@@ -1,10 +1,14 @@
 //! An order of instances in which each comes after those that feed it, or a loop.
 
-ghost use Rattle.std.specs.Prelude.{◌≡◌, ◌<◌, ◌≤◌, ◌↔◌, ◌+◌, ◌-◌, ◌++◌, ℕ, IsTrue, [], ◌∷◌, length, take, drop, replicate, slice_index_or, slice_get, slice_index, slice_set, IfOk, IfErr, OnOk, OnErr, Option, Some, None};
+ghost use Rattle.std.specs.Prelude.{◌≡◌, ◌<◌, ◌≤◌, ◌↔◌, ◌+◌, ◌-◌, ◌++◌, ℕ, IsTrue, [], ◌∷◌, length, take};
+ghost use Rattle.std.specs.Prelude.{drop, replicate, slice_index_or, slice_get, slice_index, slice_set, IfOk};
+ghost use Rattle.std.specs.Prelude.{IfErr, OnOk, OnErr, Option, Some, None};
 ghost use Rattle.std.specs.List.{Contains, All};
 ghost use Rattle.ca_wired.specs.Order.{IsOrder, IsLoop};
 ghost use Rattle.ca_wired.specs.declared.order.Mark.TheVariants as mark;
-ghost use Rattle.ca_wired.specs.Walk.{row_of, IsFeeder, mark_of, IsVisit, IsWalk, AreClosed, HaveRows, KeepsReached, IsStep, IsFinish, IsVisited, AreVisited, IsOnTrail, IsVisitOf, instance_at, back_from, IsLowestAt, IsTurned, IsSortCause};
+ghost use Rattle.ca_wired.specs.Walk.{row_of, IsFeeder, mark_of, IsVisit, IsWalk, AreClosed, HaveRows};
+ghost use Rattle.ca_wired.specs.Walk.{KeepsReached, IsStep, IsFinish, IsVisited, AreVisited, IsOnTrail};
+ghost use Rattle.ca_wired.specs.Walk.{IsVisitOf, instance_at, back_from, IsLowestAt, IsTurned, IsSortCause};
 
 use crate::instances::InstanceList;
 use ca_base::NoMemory;

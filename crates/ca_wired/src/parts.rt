@@ -1,6 +1,7 @@
 //! The instances, port bits and drivers of a linked chip.
 
-ghost use Rattle.std.specs.Prelude.{◌≡◌, ◌<◌, ◌↔◌, ◌++◌, [], ◌∷◌, if◌then◌else◌, length, IsTrue, Some, slice_get, OnOk, OnErr};
+ghost use Rattle.std.specs.Prelude.{◌≡◌, ◌<◌, ◌↔◌, ◌++◌, [], ◌∷◌, if◌then◌else◌, length, IsTrue, Some};
+ghost use Rattle.std.specs.Prelude.{slice_get, OnOk, OnErr};
 ghost use Rattle.ca_wired.specs.Linked.{Scan, input_nets, output_nets, IsGate};
 
 use ca_base::NoMemory;
@@ -201,8 +202,8 @@ impl Body {
     }
 }
 
-/// An instance, with its name, that of its cell and that of its data pin, which is empty where the cell is one
-/// of the library.
+/// An instance, with its name, that of its cell and that of its data pin, which is empty where the cell is
+/// one of the library.
 #[derive(Drop)]
 pub struct Part {
     pub name: Text,

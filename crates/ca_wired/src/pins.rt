@@ -1,9 +1,11 @@
 //! Instances, their names, and the nets of their pins.
 
-ghost use Rattle.std.specs.Prelude.{ℕ, ◌≡◌, ◌<◌, ◌↔◌, ◌^◌, ◌++◌, length, IsTrue, Some, slice_get, IsSomeAnd, IfSome, IfNone, IfOk, OnOk};
+ghost use Rattle.std.specs.Prelude.{ℕ, ◌≡◌, ◌<◌, ◌↔◌, ◌^◌, ◌++◌, length, IsTrue, Some, slice_get, IsSomeAnd};
+ghost use Rattle.std.specs.Prelude.{IfSome, IfNone, IfOk, OnOk};
 ghost use Rattle.ca_wired.specs.Linked.{input_nets, IsLibrary};
 ghost use Rattle.ca_wired.specs.Drivers.{IsDrafted};
-ghost use Rattle.ca_wired.specs.Instances.{if_gate, if_scan, gates_of, scans_of, net_of_pin, pin_nets, HasOnPin, IsScan};
+ghost use Rattle.ca_wired.specs.Instances.{if_gate, if_scan, gates_of, scans_of, net_of_pin, pin_nets};
+ghost use Rattle.ca_wired.specs.Instances.{HasOnPin, IsScan};
 
 use crate::chip::Chip;
 use crate::draft::Draft;

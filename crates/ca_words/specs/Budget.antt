@@ -3,7 +3,8 @@ use Rattle.std.specs.Prelude.{ℕ, ◌≡◌, ◌≤◌, List, decimal}
 use Rattle.ca_make.specs.declared.gate.TheConstants.{MOST_GATES}
 use Rattle.ca_words.specs.declared.budget.TheConstants.{MOST_BUDGET}
 
--- the word is this number in decimal digits, without a sign or a leading zero, and the number is not too great
+-- the word is this number in decimal digits, without a sign or a leading zero, and the number is not too
+-- great
 pub record HasBudget (word : List ℕ) (budget : ℕ) : Type 0 where
   pub is : word ≡ decimal budget
   pub few : budget ≤ MOST_BUDGET
@@ -12,8 +13,8 @@ pub record HasBudget (word : List ℕ) (budget : ℕ) : Type 0 where
 abbrev pub IsBudget : List ℕ → Type 0
 IsBudget word = (budget : ℕ) × HasBudget word budget
 
--- the word is this number in decimal digits, without a sign or a leading zero, and there is a generated chip of
--- it
+-- the word is this number in decimal digits, without a sign or a leading zero, and there is a generated chip
+-- of it
 pub record HasChipNumber (word : List ℕ) (number : ℕ) : Type 0 where
   pub is : word ≡ decimal number
   pub some : 1 ≤ number

@@ -14,11 +14,15 @@ use Rattle.ca_words.specs.declared.words.SimulateWords.{SimulateWords}
 use Rattle.ca_words.specs.declared.words.AtpgWords.{AtpgWords}
 use Rattle.ca_words.specs.declared.words.ReplayWords.{ReplayWords}
 use Rattle.ca_words.specs.declared.words.Command.{Command}
-use Rattle.ca_words.specs.declared.words.Command.TheVariants.{Respond, Pair, Defects, Matrix, Check, Flatten, Simulate, Atpg, Replay, Make, Help, Version}
-use Rattle.ca_words.specs.Words.{cells_word, cell_word, vector_word, first_word, last_word, defect_word, out_word, dash}
-use Rattle.ca_words.specs.Words.{chip_files, instance_word, chip_defect_word, flat_out_word, chip_first_word, chip_last_word}
+use Rattle.ca_words.specs.declared.words.Command.TheVariants.{Respond, Pair, Defects, Matrix, Check, Flatten}
+use Rattle.ca_words.specs.declared.words.Command.TheVariants.{Simulate, Atpg, Replay, Make, Help, Version}
+use Rattle.ca_words.specs.Words.{cells_word, cell_word, vector_word, first_word, last_word, defect_word}
+use Rattle.ca_words.specs.Words.{out_word, dash}
+use Rattle.ca_words.specs.Words.{chip_files, instance_word, chip_defect_word, flat_out_word, chip_first_word}
+use Rattle.ca_words.specs.Words.{chip_last_word}
 use Rattle.ca_words.specs.Words.{stil_word, report_word, budget_word, order_word, number_word}
-use Rattle.ca_words.specs.Words.{IsRespond, IsPair, IsDefects, IsMatrix, IsCheck, IsFlatten, IsSimulate, IsAtpg, IsReplay}
+use Rattle.ca_words.specs.Words.{IsRespond, IsPair, IsDefects, IsMatrix, IsCheck, IsFlatten, IsSimulate}
+use Rattle.ca_words.specs.Words.{IsAtpg, IsReplay}
 use Rattle.ca_words.specs.Words.{IsMake, IsHelp, IsVersion}
 
 -- the file and the cell of a command are those of the words

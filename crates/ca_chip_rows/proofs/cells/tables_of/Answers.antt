@@ -2,7 +2,8 @@ use Rattle.std.proofs.Common.{◌∙◌, arith}
 use Rattle.ca_core_tables.proofs.RankLemmas.{listed_is_library}
 use Rattle.ca_chip_rows.proofs.TableLemmas.{cell_read_at, has_table, found_before, found_now}
 use Rattle.ca_chip_rows.proofs.cells.tables_of.Goals as goal
-use Rattle.ca_chip_rows.proofs.cells.tables_of.Goals.{then-is_none+in_ok-new+in-Some-1, then-is_none+in_ok-new+in-None-1, else-is_none}
+use Rattle.ca_chip_rows.proofs.cells.tables_of.Goals.{then-is_none+in_ok-new+in-Some-1}
+use Rattle.ca_chip_rows.proofs.cells.tables_of.Goals.{then-is_none+in_ok-new+in-None-1, else-is_none}
 
 pub cell_number-place-requires : goal.cell_number-place-requires
 cell_number-place-requires c = listed_is_library c.args.chip.now c.loop-k.k c.instance-u.result.0 c.instance-u.ensures

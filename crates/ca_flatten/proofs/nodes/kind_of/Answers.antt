@@ -4,7 +4,8 @@ use Rattle.ca_wired.specs.declared.parts.Source.TheVariants.{FromPin}
 use Rattle.ca_wired.specs.Linked.{Drives}
 use Rattle.ca_flatten.proofs.KindLemmas.{port_kind, constant_kind, q_kind, stored_output}
 use Rattle.ca_flatten.proofs.nodes.kind_of.Goals as goal
-use Rattle.ca_flatten.proofs.nodes.kind_of.Goals.{else-pin-eq0-via-then-pin-eq0+else-not-has, else-pin-eq0-via-else-pin-eq0}
+use Rattle.ca_flatten.proofs.nodes.kind_of.Goals.{else-pin-eq0-via-then-pin-eq0+else-not-has}
+use Rattle.ca_flatten.proofs.nodes.kind_of.Goals.{else-pin-eq0-via-else-pin-eq0}
 
 pub returns-in-FromPort : goal.returns-in-FromPort
 returns-in-FromPort c =

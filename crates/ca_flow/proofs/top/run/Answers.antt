@@ -6,7 +6,8 @@ use Rattle.ca_flow.specs.Finished.{Writes}
 use Rattle.ca_flow.specs.Ends.{IsAsked}
 use Rattle.ca_flow.specs.Work.{EndsWork}
 use Rattle.ca_flow.proofs.CompleteLemmas.{completes}
-use Rattle.ca_flow.proofs.EndLemmas.{refused_answer, refused_asked, refused_prints, refused_writes, read_is_not_written, work_asked, work_cause, work_has_words}
+use Rattle.ca_flow.proofs.EndLemmas.{refused_answer, refused_asked, refused_prints, refused_writes}
+use Rattle.ca_flow.proofs.EndLemmas.{read_is_not_written, work_asked, work_cause, work_has_words}
 use Rattle.ca_flow.proofs.top.run.Goals as goal
 
 pub returns-in-Err-clause-ends : goal.returns-in-Err-clause-ends

@@ -3,12 +3,14 @@ use Rattle.std.specs.Prelude.{ℕ, List, Option}
 use Rattle.ca_load.specs.Texts.{names_of}
 use Rattle.ca_load.proofs.LinkLemmas.{handed_on}
 use Rattle.ca_fault.specs.declared.fault.Fault.TheVariants.{SinkFailed}
-use Rattle.ca_words.specs.Command.{IsSpelled, IsSpelledDefects, IsSpelledMatrix, IsSpelledSimulate, IsSpelledMake}
+use Rattle.ca_words.specs.Command.{IsSpelled, IsSpelledDefects, IsSpelledMatrix, IsSpelledSimulate}
+use Rattle.ca_words.specs.Command.{IsSpelledMake}
 use Rattle.ca_store.specs.Store.{Files}
 use Rattle.ca_flow.specs.declared.work.Work.{Work}
 use Rattle.ca_flow.specs.Ends.{IsAsked}
 use Rattle.ca_flow.specs.Fault.{IsWorkCause}
-use Rattle.ca_flow.proofs.CauseLemmas.{defects_asked, matrix_asked, simulate_cause, no_check_sink, no_flat_sink, no_ends_sink, ok_then}
+use Rattle.ca_flow.proofs.CauseLemmas.{defects_asked, matrix_asked, simulate_cause, no_check_sink}
+use Rattle.ca_flow.proofs.CauseLemmas.{no_flat_sink, no_ends_sink, ok_then}
 use Rattle.ca_flow.proofs.top.work_of.Goals as goal
 
 pub returns-in_ok-find_names-in-Defects-clause-asked : goal.returns-in_ok-find_names-in-Defects-clause-asked

@@ -7,7 +7,8 @@ use Rattle.ca_lanes.specs.Allowed.{lanes_of}
 use Rattle.ca_lanes.specs.Given.{given_by}
 use Rattle.ca_lanes.proofs.RowLemmas.{given_by_no_rows, more_rows, none_carried, given_by_same}
 use Rattle.ca_lanes.proofs.evaluate.last_values.Goals as goal
-use Rattle.ca_lanes.proofs.evaluate.last_values.Goals.{then-first-count, else-first-count+else-not-like_next-first}
+use Rattle.ca_lanes.proofs.evaluate.last_values.Goals.{then-first-count}
+use Rattle.ca_lanes.proofs.evaluate.last_values.Goals.{else-first-count+else-not-like_next-first}
 
 pub loop-first-init : goal.loop-first-init
 loop-first-init c = record {

@@ -2,7 +2,8 @@ use Rattle.std.proofs.Common.{◌≤◌, false, sym, ◌∙◌, ap, replicate, s
 use Rattle.ca_net.specs.declared.trit.Trit.TheVariants.{Zero, One}
 use Rattle.ca_net.proofs.Gives.{gives_start, gives_skip, gives_other, gives_all}
 use Rattle.ca_net.proofs.response.storage_response.Goals as goal
-use Rattle.ca_net.proofs.response.storage_response.Goals.{then-reaches_from+in-Zero, then-reaches_from+in-One, then-reaches_from+in-X, else-reaches_from}
+use Rattle.ca_net.proofs.response.storage_response.Goals.{then-reaches_from+in-Zero, then-reaches_from+in-One}
+use Rattle.ca_net.proofs.response.storage_response.Goals.{then-reaches_from+in-X, else-reaches_from}
 
 pub loop-root-init : goal.loop-root-init
 loop-root-init g c = record {

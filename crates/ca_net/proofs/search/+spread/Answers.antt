@@ -3,7 +3,8 @@ use Rattle.std.specs.Prelude.{not}
 use Rattle.std.specs.List.{count_by}
 use Rattle.std.proofs.lemmas.Option.{slice_get_within}
 use Rattle.ca_net.proofs.Hops.{marks_fall, unmark}
-use Rattle.ca_net.proofs.SpreadTurns.{Explored-kept, Explored-raised, Explored-done, Explored-turn, Explored-no_turn, Explored-count}
+use Rattle.ca_net.proofs.SpreadTurns.{Explored-kept, Explored-raised, Explored-done, Explored-turn}
+use Rattle.ca_net.proofs.SpreadTurns.{Explored-no_turn, Explored-count}
 use Rattle.ca_net.proofs.search.+spread.Goals as goal
 use Rattle.ca_net.proofs.search.+spread.Goals.{then-reached-at, else-reached-at, in-Some, in_default}
 

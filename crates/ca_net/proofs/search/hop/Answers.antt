@@ -5,7 +5,10 @@ use Rattle.ca_net.specs.Passing.{PassesAt}
 use Rattle.ca_net.specs.Circuit.{kind_at}
 use Rattle.ca_net.proofs.Hops.{named_at, links_within, hop_by, same_node, unmarked_at}
 use Rattle.ca_net.proofs.search.hop.Goals as goal
-use Rattle.ca_net.proofs.search.hop.Goals.{else-is_storage-via-then-is_storage+then-not-on_path-next+then-passes+else-floor-next, else-is_storage-via-then-is_storage+then-not-on_path-next+else-passes, else-is_storage-via-then-is_storage+else-not-on_path-next, else-is_storage-via-else-is_storage}
+use Rattle.ca_net.proofs.search.hop.Goals.{else-is_storage-via-then-is_storage+then-not-on_path-next+then-passes+else-floor-next}
+use Rattle.ca_net.proofs.search.hop.Goals.{else-is_storage-via-then-is_storage+then-not-on_path-next+else-passes}
+use Rattle.ca_net.proofs.search.hop.Goals.{else-is_storage-via-then-is_storage+else-not-on_path-next}
+use Rattle.ca_net.proofs.search.hop.Goals.{else-is_storage-via-else-is_storage}
 
 pub returns-in_err-next-clause-only : goal.returns-in_err-next-clause-only
 returns-in_err-next-clause-only g c = λ m l hop.

@@ -1,4 +1,5 @@
-use Rattle.std.proofs.Common.{◌≡◌, ◌≤◌, ◌<◌, refl, ◌∙◌, sym, ap, subst, arith, length, map, [], ◌∷◌, ◌++◌, Some, slice_index_or}
+use Rattle.std.proofs.Common.{◌≡◌, ◌≤◌, ◌<◌, refl, ◌∙◌, sym, ap, subst, arith, length, map, [], ◌∷◌, ◌++◌}
+use Rattle.std.proofs.Common.{Some, slice_index_or}
 use Rattle.std.proofs.lemmas.List.{take_all, length-map}
 use Rattle.std.proofs.lemmas.Option.{slice_get-get_or}
 use Rattle.std.specs.List.{slice_get}

@@ -1,5 +1,6 @@
 use Rattle.std.proofs.Common.{arith, rules, w64}
-use Rattle.std.proofs.lemmas.Nat.Bits.{bit_at_set_same, bit_at_set_other, bit_at_clear_same, bit_at_clear_other}
+use Rattle.std.proofs.lemmas.Nat.Bits.{bit_at_set_same, bit_at_set_other, bit_at_clear_same}
+use Rattle.std.proofs.lemmas.Nat.Bits.{bit_at_clear_other}
 use Rattle.ca_pair.proofs.pair.with_bit.Goals as goal
 
 pub returns-then-bit-clause-here : goal.returns-then-bit-clause-here

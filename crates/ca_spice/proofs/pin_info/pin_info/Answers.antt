@@ -5,7 +5,8 @@ use Rattle.ca_spice.specs.declared.pin.Pin.{Pin}
 use Rattle.ca_spice.specs.SpiceFault.{kind_told}
 use Rattle.ca_spice.specs.Names.{texts}
 use Rattle.ca_spice.specs.PinInfo.{are_pin_words}
-use Rattle.ca_spice.proofs.PinLemmas.{all_words, first_within, behind_are, behind_goes_on, behind_stops, rest_ends, pin_info-steps}
+use Rattle.ca_spice.proofs.PinLemmas.{all_words, first_within, behind_are, behind_goes_on, behind_stops}
+use Rattle.ca_spice.proofs.PinLemmas.{rest_ends, pin_info-steps}
 use Rattle.ca_spice.proofs.pin_info.pin_info.Goals as goal
 
 pub words-init : goal.words-init

@@ -5,7 +5,8 @@ use Rattle.ca_wired.specs.Linked.{input_nets}
 use Rattle.ca_wired.specs.Feeding.{IsGateOn, FeedsPin, IsRow}
 use Rattle.ca_wired.proofs.FeedingLemmas.{row_pushed, row_kept, row_done, row_of_scan}
 use Rattle.ca_wired.proofs.feeding.row.Goals as goal
-use Rattle.ca_wired.proofs.feeding.row.Goals.{in-Some+in_ok-push, in_default, then-is_gate+else-loop-pin-test, else-is_gate}
+use Rattle.ca_wired.proofs.feeding.row.Goals.{in-Some+in_ok-push, in_default, then-is_gate+else-loop-pin-test}
+use Rattle.ca_wired.proofs.feeding.row.Goals.{else-is_gate}
 
 pub loop-pin-preserved : goal.loop-pin-preserved
 loop-pin-preserved c =

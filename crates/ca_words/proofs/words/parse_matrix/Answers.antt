@@ -4,7 +4,10 @@ use Rattle.std.specs.String.{string_bytes}
 use Rattle.ca_words.specs.Words.{IsFileName, out_word}
 use Rattle.ca_words.proofs.WordLemmas.{word_of}
 use Rattle.ca_words.proofs.words.parse_matrix.Goals as goal
-use Rattle.ca_words.proofs.words.parse_matrix.Goals.{else-eq-via-then-eq+then-is_file_name+then-is_file_name-2+else-ne, else-eq-via-then-eq+then-is_file_name+else-is_file_name-2, else-eq-via-then-eq+else-is_file_name, else-eq-via-else-eq}
+use Rattle.ca_words.proofs.words.parse_matrix.Goals.{else-eq-via-then-eq+then-is_file_name+then-is_file_name-2+else-ne}
+use Rattle.ca_words.proofs.words.parse_matrix.Goals.{else-eq-via-then-eq+then-is_file_name+else-is_file_name-2}
+use Rattle.ca_words.proofs.words.parse_matrix.Goals.{else-eq-via-then-eq+else-is_file_name}
+use Rattle.ca_words.proofs.words.parse_matrix.Goals.{else-eq-via-else-eq}
 
 pub returns-then-ne-clause-found : goal.returns-then-ne-clause-found
 returns-then-ne-clause-found c =

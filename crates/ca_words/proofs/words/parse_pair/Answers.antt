@@ -4,7 +4,9 @@ use Rattle.std.specs.String.{string_bytes}
 use Rattle.ca_words.specs.Words.{IsFileName, IsVector}
 use Rattle.ca_words.proofs.WordLemmas.{word_of}
 use Rattle.ca_words.proofs.words.parse_pair.Goals as goal
-use Rattle.ca_words.proofs.words.parse_pair.Goals.{else-eq-via-then-eq+then-is_file_name+then-is_vector+else-is_vector-2, else-eq-via-then-eq+then-is_file_name+else-is_vector, else-eq-via-then-eq+else-is_file_name, else-eq-via-else-eq}
+use Rattle.ca_words.proofs.words.parse_pair.Goals.{else-eq-via-then-eq+then-is_file_name+then-is_vector+else-is_vector-2}
+use Rattle.ca_words.proofs.words.parse_pair.Goals.{else-eq-via-then-eq+then-is_file_name+else-is_vector}
+use Rattle.ca_words.proofs.words.parse_pair.Goals.{else-eq-via-then-eq+else-is_file_name, else-eq-via-else-eq}
 
 pub returns-then-is_vector-2-clause-found : goal.returns-then-is_vector-2-clause-found
 returns-then-is_vector-2-clause-found c =

@@ -1,7 +1,8 @@
 use Rattle.std.proofs.Common.{◌∙◌, sym}
 use Rattle.ca_cell.proofs.OutputNameLemmas.{names_with, names_without}
 use Rattle.ca_cell.proofs.raw.RawCell.output_names.Goals as goal
-use Rattle.ca_cell.proofs.raw.RawCell.output_names.Goals.{then-is_output+in_ok-copy+in_ok-push, else-is_output}
+use Rattle.ca_cell.proofs.raw.RawCell.output_names.Goals.{then-is_output+in_ok-copy+in_ok-push}
+use Rattle.ca_cell.proofs.raw.RawCell.output_names.Goals.{else-is_output}
 
 pub loop-pin-preserved : goal.loop-pin-preserved
 loop-pin-preserved c = elim c.if-is_output.branch [

@@ -1,4 +1,5 @@
-use Rattle.std.proofs.Common.{◌≡◌, ℕ, ◌+◌, ◌<◌, sym, ap, subst, arith, length, length-append, List, [], ◌∷◌, ◌++◌, Bool}
+use Rattle.std.proofs.Common.{◌≡◌, ℕ, ◌+◌, ◌<◌, sym, ap, subst, arith, length, length-append, List, [], ◌∷◌}
+use Rattle.std.proofs.Common.{◌++◌, Bool}
 use Rattle.std.proofs.lemmas.Option.{slice_get_within}
 use Rattle.ca_credit.specs.Listed.{AreAims}
 use Rattle.ca_credit.specs.Table.{CreditsPair}

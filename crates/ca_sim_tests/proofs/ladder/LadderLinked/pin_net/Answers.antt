@@ -2,7 +2,8 @@ use Rattle.std.proofs.Common.{◌≡◌, ◌<◌, ◌+◌, length, ap, sym, subs
 use Rattle.std.proofs.lemmas.Option.{get_or_from_slice_get}
 use Rattle.ca_flat.specs.Chip.{net_of, inputs_at, outputs_at}
 use Rattle.ca_sim_tests.specs.Ladder.{Shape, core_of}
-use Rattle.ca_sim_tests.specs.LadderLemmas.{length-instances, at_read, ins_are, outs_are, read_net, driven_net}
+use Rattle.ca_sim_tests.specs.LadderLemmas.{length-instances, at_read, ins_are, outs_are, read_net}
+use Rattle.ca_sim_tests.specs.LadderLemmas.{driven_net}
 use Rattle.ca_sim_tests.proofs.ladder.LadderLinked.pin_net.Goals as goal
 
 pub index-requires : goal.index-requires

@@ -7,7 +7,8 @@ use Rattle.ca_spice.specs.Names.{texts}
 use Rattle.ca_spice.specs.Reading.{has_cell}
 use Rattle.ca_spice.specs.Kept.{IsUpper, names_of}
 use Rattle.ca_spice.specs.Views.{cell_seen, reading_seen}
-use Rattle.ca_spice.proofs.ReadingLemmas.{outside_names, known_cell, named-double, named-new, named-fault, with_new, handed_on}
+use Rattle.ca_spice.proofs.ReadingLemmas.{outside_names, known_cell, named-double, named-new, named-fault}
+use Rattle.ca_spice.proofs.ReadingLemmas.{with_new, handed_on}
 use Rattle.ca_spice.proofs.reading.Reading.named.Goals as goal
 
 pub returns-then-has : goal.returns-then-has

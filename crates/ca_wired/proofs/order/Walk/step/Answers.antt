@@ -1,5 +1,6 @@
 use Rattle.std.proofs.Common.{refl, arith}
-use Rattle.ca_wired.proofs.WorkLemmas.{step_within, next_within, step_leaves, step_advances, step_enters, step_meets}
+use Rattle.ca_wired.proofs.WorkLemmas.{step_within, next_within, step_leaves, step_advances, step_enters}
+use Rattle.ca_wired.proofs.WorkLemmas.{step_meets}
 use Rattle.ca_wired.proofs.order.Walk.step.Goals as goal
 
 pub row-row-requires : goal.row-row-requires
