@@ -1,5 +1,5 @@
 -- What the fields of a bench keep.
-use Rattle.std.proofs.Common.{◌≡◌, ◌<◌, ◌≤◌, ◌^◌, ℕ, List, length, Option, None, Some, sym, refl, ap, subst}
+use Rattle.std.proofs.Common.{◌≡◌, ◌<◌, ◌≤◌, ◌^◌, ℕ, List, length, Option, None, Some, ◌∙◌, sym, refl, ap, subst}
 use Rattle.std.specs.Prelude.{slice_get, slice_index}
 use Rattle.std.specs.List.{All}
 use Rattle.std.proofs.lemmas.Option.{get_or_from_slice_get}
@@ -36,6 +36,11 @@ pub placed_at : (chip : Chip) (place_of : ℕ → ℕ) (defects : List ChipDefec
 placed_at chip place_of defects place defect all lt at =
     subst (IsPlacedDefect chip place_of) (get_or_from_slice_get defects place defect defect at)
     (All-get_or (IsPlacedDefect chip place_of) defects place defect lt all)
+
+-- one place of a list has one entry
+pub same_entry : (defects : List ChipDefect) (place : ℕ) (one other : ChipDefect)
+    → slice_get defects place ≡ Some one → slice_get defects place ≡ Some other → one ≡ other
+same_entry defects place one other is also = let e : Some one ≡ Some other = sym is ∙ also in cc
 
 -- the bench of a chip begins without a defect
 pub bench_begins : (core : Chip) (places : List ℕ) (number_of : ℕ → ℕ) (sim : Simulator) (chip : Chip)

@@ -11,12 +11,15 @@ use Rattle.ca_sim.specs.Linked.{IsPlacedDefect, place_in}
 use Rattle.ca_credit.specs.Defects.{Task}
 use Rattle.ca_chip_defects.specs.ChipDefects.{chip_defects, placed_instances}
 
--- what is to be done, the bits that are set, the defect that is aimed at, and the code of the last search
+-- what is to be done, the bits that are set, the defect that is aimed at, the code of the last search, how
+-- often was aimed, and how often an instance was evaluated
 pub record Benched : Type 0 where
   pub task : Task
   pub bits : List Trit
   pub aimed : Option ChipDefect
   pub code : List Token
+  pub aims : ℕ
+  pub evaluated : ℕ
 
 -- what is to be done is to search, with at most so many branches, for each defect of an instance that has a
 -- place in the order

@@ -45,6 +45,8 @@ impl<'a, L: Linked, C: LinkedChip, R: ExposableDefects, P: Choice + Drop> Model
       bits = bench.judge.seen.pair;
       aimed = bench.judge.seen.aim;
       code = bench.search.code;
+      aims = bench.judge.aimed;
+      evaluated = bench.judge.evaluated;
     } };
 
     ghost invariant = { λ bench. IsChipBench bench.judge.seen.chip bench.judge.seen.places
@@ -92,6 +94,20 @@ impl<'a, L: Linked, C: LinkedChip, R: ExposableDefects, P: Choice + Drop> ChipBe
             aim: None,
         })
     }
+
+    /// How often was aimed at a defect or at none since `reserve`, up to the type's greatest value.
+    pub fn aim_count(&self) -> u64
+        ensures { result ≡ self.now.aims }
+    {
+        self.judge.aimed()
+    }
+
+    /// How often an instance was evaluated since `reserve`, up to the type's greatest value.
+    pub fn evaluation_count(&self) -> u64
+        ensures { result ≡ self.now.evaluated }
+    {
+        self.judge.evaluated()
+    }
 }
 
 impl<L: Linked, C: LinkedChip, R: ExposableDefects, P: Choice + Drop> Simulator
@@ -101,6 +117,8 @@ impl<L: Linked, C: LinkedChip, R: ExposableDefects, P: Choice + Drop> Simulator
     ghost bits = { λ bench. bench.bits };
 
     ghost aimed = { λ bench. bench.aimed };
+
+    ghost aims = { λ bench. bench.aims };
 
     fn defect_count(&self) -> usize {
         self.defects.len()

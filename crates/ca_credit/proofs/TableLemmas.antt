@@ -1,5 +1,5 @@
 -- The table of verdicts: what is known, and what a pair makes of it.
-use Rattle.std.proofs.Common.{◌≡◌, ℕ, zero, suc, ◌+◌, ◌<◌, List, [], ◌∷◌, length, Bool, true, inl, refl, sym}
+use Rattle.std.proofs.Common.{◌≡◌, ℕ, zero, suc, ◌+◌, ◌<◌, ◌≤◌, List, [], ◌∷◌, length, Bool, true, inl, refl, sym}
 use Rattle.std.proofs.Common.{◌∙◌, ap, subst, arith, Some, None, Option, get_or, get_or-set_same}
 use Rattle.std.proofs.Common.{get_or-set_other}
 use native.Mathlib.Decide.{ℕ_discrete}
@@ -17,6 +17,7 @@ use Rattle.ca_search.specs.Filled.{trits_of}
 use Rattle.ca_credit.specs.Detection.{IsFirstOutput}
 use Rattle.ca_credit.specs.Table.{known_verdicts, AreAllKnown, verdict_at, is_open, credit_count, IsCredit}
 use Rattle.ca_credit.specs.Table.{IsCreditOrKept, IsAfterPair, CreditsUpTo, CreditsOne}
+use Rattle.ca_credit.specs.Table.{CreditsPair, CreditsBlock, Credits}
 use Rattle.ca_credit.proofs.DetectionLemmas.{shown_by_first, get_or-other}
 
 -- what is known at a place is what stands there
@@ -143,3 +144,22 @@ credits_more task same pair number count given old middle new same_is before one
       ];
       others = λ place from. one.others place (λ e. absurd (omega arith)) ∙ before.others place (omega arith);
     }
+
+-- there are at most as many credits as defects
+pub credit_count_within : (table : List (Option Verdict)) → credit_count table ≤ length table
+credit_count_within [] = omega arith
+credit_count_within (None ∷ table) = let l = credit_count_within table in omega arith
+credit_count_within (Some (Credited pair output) ∷ table) = let l = credit_count_within table in omega arith
+credit_count_within (Some Unexposable ∷ table) = let l = credit_count_within table in omega arith
+credit_count_within (Some Untestable ∷ table) = let l = credit_count_within table in omega arith
+credit_count_within (Some (Aborted code) ∷ table) = let l = credit_count_within table in omega arith
+
+-- one more pair of a block
+pub block_more : (task same : Task) (pairs : List (List Bool)) (from count number : ℕ) (pair : List Bool)
+    (old middle new : List (Option Verdict)) → same ≡ task → number ≡ from + count
+    → CreditsBlock task pairs from old count middle → slice_get pairs (from + count) ≡ Some pair
+    → CreditsPair same pair number middle new → CreditsBlock task pairs from old (count + 1) new
+block_more task same pairs from count number pair old middle new same_is number_is before at credits =
+    Credits count pair middle new before at
+    (subst (λ n. CreditsPair task pair n middle new) number_is
+    (subst (λ (t : Task). CreditsPair t pair number middle new) same_is credits))

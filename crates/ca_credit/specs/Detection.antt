@@ -1,11 +1,13 @@
 -- Which pairs detect a defect, and where.
-use Rattle.std.specs.Prelude.{ℕ, ◌≡◌, ◌≢◌, ◌↔◌, Bool, List, length, All, IsSomeAnd, slice_get, Option}
+use Rattle.std.specs.Prelude.{ℕ, ◌≡◌, ◌≢◌, ◌↔◌, Bool, List, length, All, IsSomeAnd, slice_get, Option, None}
 use Rattle.ca_base.specs.First.{IsFirst}
 use Rattle.ca_net.specs.declared.trit.Trit.{Trit}
 use Rattle.ca_net.specs.declared.trit.Trit.TheVariants.{X}
 use Rattle.ca_flat.specs.declared.chip_defect.ChipDefect.{ChipDefect}
 use Rattle.ca_flat.specs.Chip.{Chip}
 use Rattle.ca_flat.specs.Pair.{bit_count, NetEndsAt, DetectsAt, IsShown}
+use Rattle.ca_flat.specs.RuleOut.{RowsRuleOut}
+use Rattle.ca_flat.specs.Waves.{FlatWaves}
 use Rattle.ca_search.specs.Filled.{trits_of}
 
 -- the value is v in {0, 1} exactly where every run of the flat network ends with v at the net; so it is X
@@ -16,6 +18,10 @@ IsNetEnd chip given pair net value = (v : Trit) → ((v ≢ X) × (value ≡ v))
 -- the pair detects the defect at some observed output
 abbrev pub Detects : Chip → ChipDefect → List Bool → Type 0
 Detects chip defect pair = IsShown chip defect (trits_of pair)
+
+-- what the good chip may have at the pins of the defect's instance leaves some exposing row possible
+abbrev pub IsAllowedByRows : Chip → ChipDefect → List Trit → Type 0
+IsAllowedByRows chip defect pair = (good : FlatWaves chip None pair) → ¬ (RowsRuleOut chip defect pair good)
 
 -- no pair of the list detects the defect
 abbrev pub NoneDetects : Chip → ChipDefect → List (List Bool) → Type 0

@@ -1,6 +1,6 @@
 -- The table in which verdicts are gathered: a verdict for each defect, or none yet.
 use Rattle.std.specs.Prelude.{ℕ, ◌+◌, ◌≡◌, ◌⊎◌, ◌<◌, ◌≤◌, Bool, true, false, Option, Some, None}
-use Rattle.std.specs.Prelude.{List, [], ◌∷◌, length, slice_index_or}
+use Rattle.std.specs.Prelude.{List, [], ◌∷◌, length, slice_get, slice_index_or}
 use Rattle.ca_flat.specs.declared.chip_defect.ChipDefect.{ChipDefect}
 use Rattle.ca_flat.specs.Chip.{Chip}
 use Rattle.ca_credit.specs.declared.verdict.Verdict.{Verdict}
@@ -71,6 +71,15 @@ pub record CreditsUpTo (task : Task) (pair : List Bool) (number count : ℕ)
 -- what a pair makes of the table
 abbrev pub CreditsPair : Task → List Bool → ℕ → List (Option Verdict) → List (Option Verdict) → Type 0
 CreditsPair task pair number old new = CreditsUpTo task pair number (length old) old new
+
+-- what pairs of a list make of the table, so many from this place on, one after another, each with its place
+-- as its number
+pub data CreditsBlock (task : Task) (pairs : List (List Bool)) (from : ℕ) (old : List (Option Verdict))
+    : ℕ → List (Option Verdict) → Type 0 where
+  Begins : CreditsBlock task pairs from old 0 old
+  Credits : (count : ℕ) (pair : List Bool) (middle new : List (Option Verdict))
+      → CreditsBlock task pairs from old count middle → slice_get pairs (from + count) ≡ Some pair
+      → CreditsPair task pair (from + count) middle new → CreditsBlock task pairs from old (count + 1) new
 
 -- how many defects are credited
 abbrev pub credit_count : List (Option Verdict) → ℕ

@@ -5,7 +5,10 @@ ghost use Rattle.std.specs.Prelude.{true, None, Some, IfOk, IsTrue};
 ghost use Rattle.ca_flat.specs.Pair.{bit_count};
 ghost use Rattle.ca_search.specs.Filled.{trits_of};
 ghost use Rattle.ca_credit.specs.Table.{known_verdicts, AreAllKnown, verdict_at, is_open, IsSettling};
-ghost use Rattle.ca_credit.specs.Table.{CreditsPair, CreditsOne, credit_count};
+ghost use Rattle.std.specs.Prelude.{◌-◌, min};
+ghost use Rattle.std.specs.List.{All};
+ghost use Rattle.ca_credit.specs.Table.{CreditsPair, CreditsBlock, CreditsOne, credit_count};
+ghost use Rattle.ca_credit.specs.Aims.{AimsAtSuspect, AimsAtSuspects};
 
 use crate::credit::detecting_output;
 use crate::simulator::Simulator;
@@ -15,6 +18,9 @@ use ca_base::NoMemory;
 use ca_pair::Pair;
 use std::alloc::Global;
 use std::marker::Model;
+
+/// The most pairs of a block.
+pub const BLOCK: usize = 256;
 
 /// A verdict for each defect of a chip, or none yet.
 #[derive(Drop, Debug)]
@@ -75,7 +81,7 @@ impl Credits {
 
     /// Credits the pair, with its number, with each defect that it detects and that has no verdict yet or an
     /// aborted search. Answers how many these are. The simulator has the bits of the pair afterwards, and is
-    /// aimed at no defect.
+    /// aimed at no defect. It was aimed at suspect defects alone.
     pub fn credit_pair<S: Simulator>(&mut self, sim: &mut S, pair: &Pair, number: u32) -> u32
         requires same { length self.old ≡ length (S.task sim.old).defects }
         requires few { length self.old < 2 ^ 32 }
@@ -86,6 +92,7 @@ impl Credits {
         ensures task { S.task sim.new ≡ S.task sim.old }
         ensures bits { S.bits sim.new ≡ trits_of pair.now }
         ensures aimed { S.aimed sim.new ≡ None }
+        ensures aims { AimsAtSuspects (S.task sim.old) pair.now self.old (S.aims sim.old) (S.aims sim.new) }
     {
         sim.load(pair);
         let mut credited = 0;
@@ -95,6 +102,29 @@ impl Credits {
             }
         }
         sim.aim_at_none();
+        credited
+    }
+
+    /// Credits the pairs of the list from this place on, each with its place as its number, in ascending order:
+    /// `BLOCK` of them, or all where fewer are left. Answers how many credits these are. The simulator is aimed
+    /// at no defect afterwards, unless there is no such pair.
+    pub fn credit_block<S: Simulator>(&mut self, sim: &mut S, pairs: &[Pair], from: usize) -> u32
+        requires same { length self.old ≡ length (S.task sim.old).defects }
+        requires few { length self.old < 2 ^ 32 }
+        requires bits { All (λ pair. length pair ≡ bit_count (S.task sim.old).chip) pairs.now }
+        requires numbers { length pairs.now < 2 ^ 32 }
+        requires within { from ≤ length pairs.now }
+
+        ensures credited { CreditsBlock (S.task sim.old) pairs.now from self.old
+            (min BLOCK (length pairs.now - from)) self.new }
+        ensures counted { credit_count self.new ≡ credit_count self.old + result }
+        ensures task { S.task sim.new ≡ S.task sim.old }
+    {
+        let count = BLOCK.min(pairs.len() - from);
+        let mut credited = 0;
+        for k in 0..count {
+            credited += self.credit_pair(sim, &pairs[from + k], (from + k) as u32);
+        }
         credited
     }
 
@@ -113,6 +143,8 @@ impl Credits {
         ensures credited { CreditsOne (S.task sim.old) pair.now number place result self.old self.new }
         ensures task { S.task sim.new ≡ S.task sim.old }
         ensures bits { S.bits sim.new ≡ trits_of pair.now }
+        ensures aims { AimsAtSuspect (S.task sim.old) pair.now self.old place
+            (S.aims sim.old) (S.aims sim.new) }
     {
         if !self.is_open(place) {
             return false;

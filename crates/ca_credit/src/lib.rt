@@ -8,7 +8,7 @@ mod simulator;
 mod verdict;
 mod verdicts;
 
-pub use credits::Credits;
+pub use credits::{BLOCK, Credits};
 pub use laws::{ample_is_never_aborted, pattern_bits_are_never_aborted, unexposable_is_undetected};
 pub use simulator::Simulator;
 pub use verdict::Verdict;

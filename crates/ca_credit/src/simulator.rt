@@ -6,14 +6,14 @@ use ca_pair::Pair;
 /// A chip with the list of its defects, the pattern bits that are set, the defect that is aimed at, and what
 /// every run of the flat network ends with.
 pub trait Simulator {
-    ghost use Rattle.std.specs.Prelude.{◌≡◌, ◌<◌, List, Option, None, length, slice_get, slice_index};
-    ghost use Rattle.std.specs.Prelude.{IsFalse};
+    ghost use Rattle.std.specs.Prelude.{ℕ, ◌≡◌, ◌<◌, ◌≤◌, ◌+◌, List, Option, None, IsTrue, IsFalse};
+    ghost use Rattle.std.specs.Prelude.{length, slice_get, slice_index};
     ghost use Rattle.ca_net.specs.declared.trit.Trit.{Trit};
     ghost use Rattle.ca_flat.specs.declared.chip_defect.ChipDefect.{ChipDefect};
     ghost use Rattle.ca_flat.specs.Pair.{bit_count, IsShown};
     ghost use Rattle.ca_credit.specs.Defects.{Task, IsDefectAt};
     ghost use Rattle.ca_search.specs.Filled.{trits_of};
-    ghost use Rattle.ca_credit.specs.Detection.{IsNetEnd};
+    ghost use Rattle.ca_credit.specs.Detection.{IsNetEnd, IsAllowedByRows};
 
     /// The chip, the list of its defects, and how many branches each search may have.
     ghost task: { Self → Task };
@@ -23,6 +23,9 @@ pub trait Simulator {
 
     /// The defect that is aimed at.
     ghost aimed: { Self → Option ChipDefect };
+
+    /// How often was aimed at a defect or at none.
+    ghost aims: { Self → ℕ };
 
     /// The number of the chip's defects.
     fn defect_count(&self) -> usize
@@ -37,14 +40,17 @@ pub trait Simulator {
         requires { length pair.now ≡ bit_count (task self.old).chip }
 
         ensures task { task self.new ≡ task self.old }
-        ensures bits { bits self.new ≡ trits_of pair.now };
+        ensures bits { bits self.new ≡ trits_of pair.now }
+        ensures aims { aims self.new ≡ aims self.old };
 
-    /// Whether the bits that are set may detect the defect at this place of the list. It is asked before the
-    /// defect is aimed at, which costs more. Where the answer is no, they don't detect it.
+    /// Whether the bits that are set may detect the defect at this place of the list, by the rows that expose
+    /// it. It is asked before the defect is aimed at, which costs more.
     fn may_detect(&self, place: usize) -> bool
         requires { place < length (task self.now).defects }
-        ensures { (defect : ChipDefect) → IsDefectAt (task self.now) place defect → IsFalse result
-            → ¬ (IsShown (task self.now).chip defect (bits self.now)) };
+        ensures undetected { (defect : ChipDefect) → IsDefectAt (task self.now) place defect
+            → IsFalse result → ¬ (IsShown (task self.now).chip defect (bits self.now)) }
+        ensures allowed { (defect : ChipDefect) → IsDefectAt (task self.now) place defect
+            → IsTrue result → IsAllowedByRows (task self.now).chip defect (bits self.now) };
 
     /// Aims at the defect at this place of the list. The bits stay.
     fn aim(&mut self, place: usize)
@@ -52,13 +58,15 @@ pub trait Simulator {
 
         ensures aimed { aimed self.new ≡ slice_get (task self.old).defects place }
         ensures task { task self.new ≡ task self.old }
-        ensures bits { bits self.new ≡ bits self.old };
+        ensures bits { bits self.new ≡ bits self.old }
+        ensures aims { aims self.new ≤ aims self.old + 1 };
 
     /// Aims at no defect. The bits stay.
     fn aim_at_none(&mut self)
         ensures aimed { aimed self.new ≡ None }
         ensures task { task self.new ≡ task self.old }
-        ensures bits { bits self.new ≡ bits self.old };
+        ensures bits { bits self.new ≡ bits self.old }
+        ensures aims { aims self.new ≤ aims self.old + 1 };
 
     /// What the good chip ends with at an observed output, X where runs differ.
     fn good_end(&self, output: u32) -> Trit

@@ -17,7 +17,7 @@ MN2 n1 A2 VSS VSS nch W=0.415u L=0.05u
 ";
 
 /// One inverter.
-const INV: &[u8] = b"module inv1(a, z); input a; output z;
+pub(crate) const INV: &[u8] = b"module inv1(a, z); input a; output z;
 INV u1 (.A(a), .ZN(z)); endmodule";
 
 /// One inverter, and many inputs that nothing reads.
@@ -37,7 +37,7 @@ NAND2 u4 (.A1(w1), .A2(w2), .ZN(y));
 NAND2 u5 (.A1(a), .A2(y), .ZN(z)); endmodule";
 
 /// The netlist that ISCAS calls c17.
-const C17: &[u8] = b"module c17(N1, N2, N3, N6, N7, N22, N23);
+pub(crate) const C17: &[u8] = b"module c17(N1, N2, N3, N6, N7, N22, N23);
 input N1, N2, N3, N6, N7; output N22, N23; wire N10, N11, N16, N19;
 NAND2 g0 (.A1(N1), .A2(N3), .ZN(N10));
 NAND2 g1 (.A1(N3), .A2(N6), .ZN(N11));

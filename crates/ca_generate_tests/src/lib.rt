@@ -4,6 +4,8 @@
 #[cfg(test)]
 mod chips;
 #[cfg(test)]
+mod credits;
+#[cfg(test)]
 mod told;
 #[cfg(test)]
 mod worked;

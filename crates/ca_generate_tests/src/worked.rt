@@ -13,7 +13,7 @@ use ca_wired::Chip;
 use std::alloc::Global;
 
 // The chip of a netlist, if it links.
-fn linked(alloc: Global, netlist: &[u8]) -> Option<Chip> {
+pub(crate) fn linked(alloc: Global, netlist: &[u8]) -> Option<Chip> {
     let Ok(library) = read_library(alloc, LIBRARY) else {
         return None;
     };

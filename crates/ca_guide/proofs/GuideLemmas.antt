@@ -113,7 +113,7 @@ module _ (chip : Chip) (defect : ChipDefect) (lists : NetLists) (waves : List Wa
           steady = λ over. not_allowed (over_from First row.first over.first, inl over.steady);
         }) rows none)
 
-    some_is_allowed : IsSomeAllowed waves (input_nets lists defect.instance) rows → RowsRuleOut chip defect pair good → ⊥
+    pub some_is_allowed : IsSomeAllowed waves (input_nets lists defect.instance) rows → RowsRuleOut chip defect pair good → ⊥
     unfolding IsEndOver
     some_is_allowed some rule =
         let row = some.1 in

@@ -13,9 +13,9 @@ use Rattle.ca_flat.proofs.Detected.{some_good, detected_is_exposed_lem}
 use Rattle.ca_flat.proofs.Filled.{fill, fill_definite, fill_above}
 use Rattle.ca_guide.specs.NetLists.{NetLists, input_nets}
 use Rattle.ca_guide.specs.Seen.{AreGoodWaves}
-use Rattle.ca_guide.specs.PinRows.{IsNoneAllowed}
+use Rattle.ca_guide.specs.PinRows.{IsNoneAllowed, IsSomeAllowed}
 use Rattle.ca_guide.specs.Guide.{Guided}
-use Rattle.ca_guide.proofs.GuideLemmas.{none_rules_out}
+use Rattle.ca_guide.proofs.GuideLemmas.{none_rules_out, some_is_allowed}
 use Rattle.ca_sim.specs.Seen.{Seen, IsExact}
 use Rattle.ca_judge.specs.Bench.{IsBench}
 
@@ -53,3 +53,11 @@ module _ (seen : Seen) (chip : Chip) (lists : NetLists) (rows_chip : Chip) (guid
       rows_show_nothing seen.chip is.rank defect seen.pair flat_chip good
       (none_rules_out seen.chip defect lists seen.good seen.pair is.searchable.nets good (good_waves good) in_chip.known rows
       (subst (λ c. ListsExposingRows c defect rows) is.rows_are are) none) shown)
+
+  -- where an exposing row is allowed, the rows don't rule the pair out
+  pub some_allows : (rows : List Row) → ListsExposingRows rows_chip defect rows
+      → IsSomeAllowed seen.good (input_nets lists defect.instance) rows
+      → (good : FlatWaves seen.chip None seen.pair) → RowsRuleOut seen.chip defect seen.pair good → ⊥
+  some_allows rows are some good rule =
+      some_is_allowed seen.chip defect lists seen.good seen.pair is.searchable.nets good (good_waves good) in_chip.known rows
+      (subst (λ c. ListsExposingRows c defect rows) is.rows_are are) some rule

@@ -59,8 +59,10 @@ impl<'a, L: Linked, C: LinkedChip, R: ExposingRows, P: Choice + Drop> Model
 }
 
 impl<'a, L: Linked, C: LinkedChip, R: ExposingRows, P: Choice + Drop> Bench<'a, L, C, R, P> {
-    ghost use Rattle.std.specs.Prelude.{IsFalse};
+    ghost use Rattle.std.specs.Prelude.{IsFalse, IsTrue, None};
     ghost use Rattle.ca_flat.specs.Chip.{IsDefectIn};
+    ghost use Rattle.ca_flat.specs.RuleOut.{RowsRuleOut};
+    ghost use Rattle.ca_flat.specs.Waves.{FlatWaves};
     ghost use Rattle.ca_flat.specs.Code.{unset_pair};
     ghost use Rattle.ca_flat.specs.Pair.{IsShown};
     ghost use Rattle.ca_sim.specs.Linked.{IsAim, place_in};
@@ -109,12 +111,28 @@ impl<'a, L: Linked, C: LinkedChip, R: ExposingRows, P: Choice + Drop> Bench<'a, 
     /// pins. Where none is, the pair doesn't show the defect.
     pub fn may_show(&self, defect: ChipDefect) -> bool
         requires { IsDefectIn self.now.seen.chip defect }
-        ensures { IsFalse result → ¬ (IsShown self.now.seen.chip defect self.now.seen.pair) }
+        ensures not_shown { IsFalse result → ¬ (IsShown self.now.seen.chip defect self.now.seen.pair) }
+        ensures allowed { IsTrue result → (good : FlatWaves self.now.seen.chip None self.now.seen.pair)
+            → ¬ (RowsRuleOut self.now.seen.chip defect self.now.seen.pair good) }
     {
         self.sim.exact();
         let waves = GuideWaves { waves: &self.sim };
         let pins = self.chip.input_pins(defect.instance);
         is_some_row_allowed(&waves, pins, self.rows.rows(defect))
+    }
+
+    /// How often was aimed since `reserve`, up to the type's greatest value.
+    pub fn aimed(&self) -> u64
+        ensures { result ≡ self.now.aimed }
+    {
+        self.sim.aimed()
+    }
+
+    /// How often an instance was evaluated since `reserve`, up to the type's greatest value.
+    pub fn evaluated(&self) -> u64
+        ensures { result ≡ self.now.evaluated }
+    {
+        self.sim.evaluated()
     }
 
     /// Gives all bits their values.
