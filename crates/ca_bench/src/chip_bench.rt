@@ -145,6 +145,19 @@ impl<L: Linked, C: LinkedChip, R: ExposableDefects, P: Choice + Drop> Simulator
         self.aim = Some(defect);
     }
 
+    fn shares_instance(&self, place: usize) -> bool {
+        match self.aim {
+            Some(aim) => self.defects.get(place).instance == aim.instance,
+            None => false,
+        }
+    }
+
+    fn is_alike(&mut self, place: usize) -> bool {
+        definite_last_is_end();
+        self.judge.exact();
+        self.judge.is_alike(self.defects.get(place))
+    }
+
     #[tactic(auto, using(crate::proofs::BenchLemmas::bench_aims))]
     fn aim_at_none(&mut self) {
         self.judge.aim(None);

@@ -1,18 +1,18 @@
 -- How often is aimed while a pair is credited.
-use Rattle.std.proofs.Common.{◌≡◌, ◌≤◌, ℕ, ◌+◌, ◌⊎◌, inl, inr, List, length, Bool, Option, ◌∙◌, sym, ap, subst, arith, true}
+use Rattle.std.proofs.Common.{◌≡◌, ◌≤◌, ℕ, ◌+◌, ◌⊎◌, inl, inr, List, length, Bool, Option, ◌∙◌, sym, ap, subst, arith, true, false, refl}
 use Rattle.ca_net.specs.declared.trit.Trit.{Trit}
 use Rattle.ca_flat.specs.declared.chip_defect.ChipDefect.{ChipDefect}
 use Rattle.ca_search.specs.Filled.{trits_of}
 use Rattle.ca_credit.specs.declared.verdict.Verdict.{Verdict}
 use Rattle.ca_credit.specs.Defects.{Task, IsDefectAt}
 use Rattle.ca_credit.specs.Detection.{IsAllowedByRows}
-use Rattle.ca_credit.specs.Table.{verdict_at, is_open, CreditsUpTo}
+use Rattle.ca_credit.specs.Table.{verdict_at, is_open}
 use Rattle.ca_credit.specs.Aims.{HaveAmong, Start, Passes, Counts, IsSuspectAt, AimsAtSuspect, AimsUpTo, AimsAtSuspects}
 
 -- nothing was aimed at yet
-pub aims_begin : (task : Task) (pair : List Bool) (table : List (Option Verdict)) (before : ℕ)
-    → AimsUpTo task pair 0 table before before
-aims_begin task pair table before = record { suspects = 0; are = Start; few = omega arith }
+pub aims_begin : (task : Task) (pair : List Bool) (table : List (Option Verdict)) (before after : ℕ)
+    → after ≡ before → AimsUpTo task pair 0 table before after
+aims_begin task pair table before after same = record { suspects = 0; are = Start; few = omega arith }
 
 -- a defect that is suspect while earlier ones were credited was so before
 suspect_before : (task : Task) (pair : List Bool) (table middle : List (Option Verdict)) (place : ℕ)
@@ -23,12 +23,12 @@ suspect_before task pair table middle place same suspect = record {
   allowed = suspect.allowed;
 }
 
--- one more defect's turn
-pub aims_more : (task same : Task) (pair : List Bool) (number count : ℕ) (table middle : List (Option Verdict))
-    (before between after : ℕ) → same ≡ task → CreditsUpTo task pair number count table middle
+-- one more defect's turn, which was not tried before
+pub aims_more : (task same : Task) (pair : List Bool) (count : ℕ) (table middle : List (Option Verdict))
+    (before between after : ℕ) → same ≡ task → verdict_at middle count ≡ verdict_at table count
     → AimsUpTo task pair count table before between → AimsAtSuspect same pair middle count between after
     → AimsUpTo task pair (count + 1) table before after
-aims_more task same pair number count table middle before between after same_is credits upto one =
+aims_more task same pair count table middle before between after same_is at upto one =
     elim (subst (λ (t : Task). AimsAtSuspect t pair middle count between after) same_is one) [
       | inl kept ↦ record {
         suspects = upto.suspects;
@@ -37,11 +37,24 @@ aims_more task same pair number count table middle before between after same_is 
       }
       | inr aimed ↦ record {
         suspects = upto.suspects + 1;
-        are = Counts count upto.suspects (suspect_before task pair table middle count
-            (credits.others count (omega arith)) aimed.0) upto.are;
+        are = Counts count upto.suspects (suspect_before task pair table middle count at aimed.0) upto.are;
         few = let few = upto.few in let once = aimed.1 in omega arith;
       }
     ]
+
+-- the turn of a defect, which may have been tried before
+pub aims_turn : (task same : Task) (pair : List Bool) (count : ℕ) (tried : Bool) (table middle : List (Option Verdict))
+    (before between after : ℕ) → same ≡ task → (tried ≡ false → verdict_at middle count ≡ verdict_at table count)
+    → AimsUpTo task pair count table before between → (tried ≡ true → after ≤ between)
+    → (tried ≡ false → AimsAtSuspect same pair middle count between after)
+    → AimsUpTo task pair (count + 1) table before after
+aims_turn task same pair count true table middle before between after same_is at upto again aims = record {
+  suspects = upto.suspects;
+  are = Passes count upto.suspects upto.are;
+  few = let few = upto.few in let less = again refl in omega arith;
+}
+aims_turn task same pair count false table middle before between after same_is at upto again aims =
+    aims_more task same pair count table middle before between after same_is (at refl) upto (aims refl)
 
 -- and at last no defect is aimed at
 pub aims_end : (task : Task) (pair : List Bool) (table : List (Option Verdict)) (before between after : ℕ)

@@ -127,6 +127,15 @@ not_unknown table verdicts k d known is within none =
     let some : (v : Verdict) × (slice_get verdicts k ≡ Some v) = some_within verdicts k within in
     cc
 
+-- before the first defect's turn
+pub credits_begin : (task : Task) (pair : List Bool) (number : ℕ) (table : List (Option Verdict))
+    → CreditsUpTo task pair number 0 table table
+credits_begin task pair number table = record {
+  as_many = refl;
+  each = λ place defect below is. absurd (omega arith);
+  others = λ place from. refl;
+}
+
 -- what one more defect's turn makes of the table
 pub credits_more : (task same : Task) (pair : List Bool) (number count : ℕ) (given : Bool)
     (old middle new : List (Option Verdict)) → same ≡ task → CreditsUpTo task pair number count old middle

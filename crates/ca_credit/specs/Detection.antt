@@ -1,5 +1,6 @@
 -- Which pairs detect a defect, and where.
-use Rattle.std.specs.Prelude.{ℕ, ◌≡◌, ◌≢◌, ◌↔◌, Bool, List, length, All, IsSomeAnd, slice_get, Option, None}
+use Rattle.std.specs.Prelude.{ℕ, ◌≡◌, ◌≢◌, ◌<◌, ◌↔◌, Bool, List, length, All, IsSomeAnd}
+use Rattle.std.specs.Prelude.{slice_get, slice_index, Option, None}
 use Rattle.ca_base.specs.First.{IsFirst}
 use Rattle.ca_net.specs.declared.trit.Trit.{Trit}
 use Rattle.ca_net.specs.declared.trit.Trit.TheVariants.{X}
@@ -14,6 +15,13 @@ use Rattle.ca_search.specs.Filled.{trits_of}
 -- where there is no such v
 abbrev pub IsNetEnd : Chip → Option ChipDefect → List Trit → ℕ → Trit → Type 0
 IsNetEnd chip given pair net value = (v : Trit) → ((v ≢ X) × (value ≡ v)) ↔ NetEndsAt chip given pair net v
+
+-- the pair detects both defects at the same observed outputs, counted from 0
+abbrev pub AreDetectedAlike : Chip → ChipDefect → ChipDefect → List Trit → Type 0
+AreDetectedAlike chip one other pair =
+    (output : ℕ) → output < length chip.outputs
+    → DetectsAt chip one pair (slice_index chip.outputs output)
+    ↔ DetectsAt chip other pair (slice_index chip.outputs output)
 
 -- the pair detects the defect at some observed output
 abbrev pub Detects : Chip → ChipDefect → List Bool → Type 0

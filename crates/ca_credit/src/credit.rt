@@ -1,9 +1,9 @@
 //! At which output the pair in hand detects the defect that is aimed at.
 
-ghost use Rattle.std.specs.Prelude.{◌≡◌, ◌<◌, ◌↔◌, length, slice_index, IsTrue, MatchOption, Some};
-ghost use Rattle.ca_base.specs.First.{IsFirst};
+ghost use Rattle.std.specs.Prelude.{◌≡◌, ◌<◌, ◌↔◌, length, slice_index, IsTrue, Some};
 ghost use Rattle.ca_flat.specs.declared.chip_defect.ChipDefect.{ChipDefect};
-ghost use Rattle.ca_flat.specs.Pair.{DetectsAt, IsShown};
+ghost use Rattle.ca_flat.specs.Pair.{DetectsAt};
+ghost use Rattle.ca_credit.specs.Round.{IsAnswer};
 
 use crate::simulator::Simulator;
 use ca_net::Trit;
@@ -11,9 +11,7 @@ use ca_net::Trit;
 // The first observed output at which the bits that are set detect the defect that is aimed at.
 pub(crate) fn detecting_output<S: Simulator>(sim: &S) -> Option<u32>
     ensures { (defect : ChipDefect) → S.aimed sim.now ≡ Some defect
-        → MatchOption result (¬ (IsShown (S.task sim.now).chip defect (S.bits sim.now)))
-        (λ output. IsFirst (DetectsAt (S.task sim.now).chip defect (S.bits sim.now))
-        (S.task sim.now).chip.outputs output) }
+        → IsAnswer (S.task sim.now).chip defect (S.bits sim.now) result }
 {
     for output in 0..sim.output_count() {
         if detects_at(sim, output) {

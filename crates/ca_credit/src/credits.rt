@@ -7,10 +7,10 @@ ghost use Rattle.ca_search.specs.Filled.{trits_of};
 ghost use Rattle.ca_credit.specs.Table.{known_verdicts, AreAllKnown, verdict_at, is_open, IsSettling};
 ghost use Rattle.std.specs.Prelude.{◌-◌, min};
 ghost use Rattle.std.specs.List.{All};
-ghost use Rattle.ca_credit.specs.Table.{CreditsPair, CreditsBlock, CreditsOne, credit_count};
-ghost use Rattle.ca_credit.specs.Aims.{AimsAtSuspect, AimsAtSuspects};
+ghost use Rattle.ca_credit.specs.Table.{CreditsPair, CreditsBlock, credit_count};
+ghost use Rattle.ca_credit.specs.Aims.{AimsAtSuspects};
 
-use crate::credit::detecting_output;
+use crate::round::Round;
 use crate::simulator::Simulator;
 use crate::verdict::Verdict;
 use crate::verdicts::Verdicts;
@@ -25,16 +25,19 @@ pub const BLOCK: usize = 256;
 /// A verdict for each defect of a chip, or none yet.
 #[derive(Drop, Debug)]
 pub struct Credits {
-    verdicts: Vec<Option<Verdict>>,
+    round: Round,
 }
 
 impl Model for Credits {
-    ghost use Rattle.std.specs.Prelude.{List, Option};
+    ghost use Rattle.std.specs.Prelude.{◌≡◌, List, Option, length};
     ghost use Rattle.ca_credit.specs.declared.verdict.Verdict.{Verdict};
 
     ghost Value = { List (Option Verdict) };
 
-    ghost view = { λ credits. credits.verdicts.items };
+    ghost view = { λ credits. credits.round.verdicts.items };
+
+    ghost invariant = { λ credits.
+        length credits.round.tried.items ≡ length credits.round.verdicts.items };
 }
 
 impl Credits {
@@ -42,11 +45,9 @@ impl Credits {
     pub fn reserve(alloc: Global, count: usize) -> Result<Self, NoMemory>
         ensures { IfOk result (λ credits. credits ≡ replicate count None) }
     {
-        let mut verdicts = Vec::with_capacity(alloc, count)?;
-        for _ in 0..count {
-            verdicts.push_reserved(None);
-        }
-        Ok(Credits { verdicts })
+        Ok(Credits {
+            round: Round::reserve(alloc, count)?,
+        })
     }
 
     /// Whether the defect has no verdict yet.
@@ -54,18 +55,7 @@ impl Credits {
         requires { place < length self.now }
         ensures { IsTrue result ↔ (verdict_at self.now place ≡ None) }
     {
-        self.verdicts[place].is_none()
-    }
-
-    // Whether a pair may yet be credited with the defect.
-    fn is_open(&self, place: usize) -> bool
-        requires { place < length self.now }
-        ensures { result ≡ is_open (verdict_at self.now place) }
-    {
-        match &self.verdicts[place] {
-            None | Some(Verdict::Aborted { .. }) => true,
-            Some(Verdict::Credited { .. } | Verdict::Unexposable | Verdict::Untestable) => false,
-        }
+        self.round.verdicts[place].is_none()
     }
 
     /// Gives a defect that has no credit a verdict that isn't one.
@@ -76,7 +66,7 @@ impl Credits {
 
         ensures { self.new ≡ slice_set self.old place (Some verdict) }
     {
-        self.verdicts[place] = Some(verdict);
+        self.round.verdicts[place] = Some(verdict);
     }
 
     /// Credits the pair, with its number, with each defect that it detects and that has no verdict yet or an
@@ -95,12 +85,7 @@ impl Credits {
         ensures aims { AimsAtSuspects (S.task sim.old) pair.now self.old (S.aims sim.old) (S.aims sim.new) }
     {
         sim.load(pair);
-        let mut credited = 0;
-        for place in 0..self.verdicts.len() {
-            if self.credit_one(sim, pair, number, place) {
-                credited += 1;
-            }
-        }
+        let credited = self.round.try_all(sim, pair, number);
         sim.aim_at_none();
         credited
     }
@@ -128,48 +113,11 @@ impl Credits {
         credited
     }
 
-    // Credits the pair in hand with the defect at a place, if it is open and the pair detects it.
-    fn credit_one<S: Simulator>(
-        &mut self,
-        sim: &mut S,
-        pair: &Pair,
-        number: u32,
-        place: usize,
-    ) -> bool
-        requires within { place < length self.old }
-        requires same { length self.old ≡ length (S.task sim.old).defects }
-        requires bits { S.bits sim.old ≡ trits_of pair.now }
-
-        ensures credited { CreditsOne (S.task sim.old) pair.now number place result self.old self.new }
-        ensures task { S.task sim.new ≡ S.task sim.old }
-        ensures bits { S.bits sim.new ≡ trits_of pair.now }
-        ensures aims { AimsAtSuspect (S.task sim.old) pair.now self.old place
-            (S.aims sim.old) (S.aims sim.new) }
-    {
-        if !self.is_open(place) {
-            return false;
-        }
-        if !sim.may_detect(place) {
-            return false;
-        }
-        sim.aim(place);
-        match detecting_output(sim) {
-            Some(output) => {
-                self.verdicts[place] = Some(Verdict::Credited {
-                    pair: number,
-                    output,
-                });
-                true
-            }
-            None => false,
-        }
-    }
-
     /// The verdicts in order.
     pub fn verdicts(self) -> Verdicts
         requires { AreAllKnown self }
         ensures { result ≡ known_verdicts self }
     {
-        Verdicts::of(self.verdicts)
+        Verdicts::of(self.round.verdicts)
     }
 }

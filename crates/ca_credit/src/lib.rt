@@ -4,6 +4,7 @@
 mod credit;
 mod credits;
 mod laws;
+mod round;
 mod simulator;
 mod verdict;
 mod verdicts;

@@ -7,13 +7,13 @@ use ca_pair::Pair;
 /// every run of the flat network ends with.
 pub trait Simulator {
     ghost use Rattle.std.specs.Prelude.{ℕ, ◌≡◌, ◌<◌, ◌≤◌, ◌+◌, List, Option, None, IsTrue, IsFalse};
-    ghost use Rattle.std.specs.Prelude.{length, slice_get, slice_index};
+    ghost use Rattle.std.specs.Prelude.{◌↔◌, Some, length, slice_get, slice_index};
     ghost use Rattle.ca_net.specs.declared.trit.Trit.{Trit};
     ghost use Rattle.ca_flat.specs.declared.chip_defect.ChipDefect.{ChipDefect};
     ghost use Rattle.ca_flat.specs.Pair.{bit_count, IsShown};
     ghost use Rattle.ca_credit.specs.Defects.{Task, IsDefectAt};
     ghost use Rattle.ca_search.specs.Filled.{trits_of};
-    ghost use Rattle.ca_credit.specs.Detection.{IsNetEnd, IsAllowedByRows};
+    ghost use Rattle.ca_credit.specs.Detection.{IsNetEnd, IsAllowedByRows, AreDetectedAlike};
 
     /// The chip, the list of its defects, and how many branches each search may have.
     ghost task: { Self → Task };
@@ -60,6 +60,26 @@ pub trait Simulator {
         ensures task { task self.new ≡ task self.old }
         ensures bits { bits self.new ≡ bits self.old }
         ensures aims { aims self.new ≤ aims self.old + 1 };
+
+    /// Whether the defect at this place of the list is one of the instance of the defect that is aimed at.
+    fn shares_instance(&self, place: usize) -> bool
+        requires { place < length (task self.now).defects }
+        ensures { (one other : ChipDefect) → aimed self.now ≡ Some one
+            → IsDefectAt (task self.now) place other → IsTrue result ↔ (other.instance ≡ one.instance) };
+
+    /// Whether the defect at this place of the list gives at its instance's outputs what that gives which is
+    /// aimed at, one of the same instance. Then the bits detect both at the same outputs. It takes one
+    /// evaluation of the instance; the bits and the aim stay.
+    fn is_alike(&mut self, place: usize) -> bool
+        requires { place < length (task self.old).defects }
+
+        ensures alike { (one other : ChipDefect) → aimed self.old ≡ Some one
+            → IsDefectAt (task self.old) place other → IsTrue result
+            → AreDetectedAlike (task self.old).chip one other (bits self.old) }
+        ensures aimed { aimed self.new ≡ aimed self.old }
+        ensures task { task self.new ≡ task self.old }
+        ensures bits { bits self.new ≡ bits self.old }
+        ensures aims { aims self.new ≡ aims self.old };
 
     /// Aims at no defect. The bits stay.
     fn aim_at_none(&mut self)

@@ -65,8 +65,9 @@ impl<'a, L: Linked, C: LinkedChip, R: ExposingRows, P: Choice + Drop> Bench<'a, 
     ghost use Rattle.ca_flat.specs.Waves.{FlatWaves};
     ghost use Rattle.ca_flat.specs.Code.{unset_pair};
     ghost use Rattle.ca_flat.specs.Pair.{IsShown};
-    ghost use Rattle.ca_sim.specs.Linked.{IsAim, place_in};
-    ghost use Rattle.ca_sim.specs.Simulator.{IsFresh, KeepsAim, KeepsPair, counted_up};
+    ghost use Rattle.ca_sim.specs.Linked.{IsAim, IsPlacedDefect, place_in};
+    ghost use Rattle.ca_sim.specs.Seen.{IsExact, aimed_anew};
+    ghost use Rattle.ca_sim.specs.Simulator.{IsFresh, KeepsAim, KeepsPair, KeepsSeen, counted_up};
     ghost use Rattle.ca_judge.specs.Bench.{IsSearchable};
 
     /// Takes all memory. No bit is set, and no defect is aimed at.
@@ -119,6 +120,16 @@ impl<'a, L: Linked, C: LinkedChip, R: ExposingRows, P: Choice + Drop> Bench<'a, 
         let waves = GuideWaves { waves: &self.sim };
         let pins = self.chip.input_pins(defect.instance);
         is_some_row_allowed(&waves, pins, self.rows.rows(defect))
+    }
+
+    /// Whether the instance of the defect that is aimed at gives the same with this other one of its defects.
+    /// Then all waves are those of the flat network with this one too.
+    pub fn is_alike(&mut self, defect: ChipDefect) -> bool
+        requires { IsPlacedDefect self.old.seen.chip (place_in self.old.seen.places) defect }
+        ensures alike { IsTrue result → IsExact (aimed_anew self.old.seen defect) }
+        ensures kept { KeepsSeen self.old self.new }
+    {
+        self.sim.is_alike(defect)
     }
 
     /// How often was aimed since `reserve`, up to the type's greatest value.

@@ -46,3 +46,14 @@ pub record IsExact (seen : Seen) : Type 0 where
   pub whole : IsWhole seen
   pub good : IsWellFormed (flat seen.chip None) → AreNetWaves seen.chip None seen.pair seen.good
   pub faulty : IsWellFormed (flat seen.chip seen.aim) → AreNetWaves seen.chip seen.aim seen.pair seen.faulty
+
+-- the same, but that this defect is aimed at
+abbrev pub aimed_anew : Seen → ChipDefect → Seen
+aimed_anew seen defect = record {
+  chip = seen.chip;
+  places = seen.places;
+  aim = Some defect;
+  pair = seen.pair;
+  good = seen.good;
+  faulty = seen.faulty;
+}

@@ -38,3 +38,8 @@ pub record KeepsAim (old new : Simulator) : Type 0 where
 pub record KeepsPair (old new : Simulator) : Type 0 where
   pub chip : KeepsChip old new
   pub pair : new.seen.pair ≡ old.seen.pair
+
+-- all that is seen stays, and how often was aimed
+pub record KeepsSeen (old new : Simulator) : Type 0 where
+  pub seen : new.seen ≡ old.seen
+  pub aimed : new.aimed ≡ old.aimed

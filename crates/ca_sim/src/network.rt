@@ -30,7 +30,8 @@ impl Network {
     ghost use Rattle.ca_sim.specs.PlaceSet.{Has, HoldsUpTo};
     ghost use Rattle.ca_sim.specs.Network.{IsPut, IsWrittenOut, IsFedAt, IsTurned, IsReady, IsSettled};
     ghost use Rattle.ca_sim.specs.Network.{IsTwin, IsGiven, IsUnderway, IsRestingCopy};
-    ghost use Rattle.ca_sim.specs.Current.{input_waves, output_waves};
+    ghost use Rattle.std.specs.Prelude.{IsTrue};
+    ghost use Rattle.ca_sim.specs.Current.{input_waves, output_waves, IsCurrent};
     ghost use Rattle.ca_sim.specs.Cells.{AreCells};
 
     /// Takes the room for the waves of a chip's nets. No bit is set, and each instance with a place is due.
@@ -148,6 +149,29 @@ impl Network {
             outputs.push(self.waves.get(chip.pin_net(u, first + output)));
         }
         outputs
+    }
+
+    /// Whether an instance gives for its waves at the input pins those that it has at the output pins.
+    pub(crate) fn is_current<C: Linked>(
+        &self,
+        chip: &C,
+        u: usize,
+        aim: Option<ChipDefect>,
+        cells: &mut Cells,
+    ) -> bool
+        requires placed { IsPlaced (C.core chip.now) (place_in (C.places chip.now)) u }
+        requires listed { IsChipDefect (C.core chip.now) aim }
+        requires ready { IsReady (C.core chip.now) (place_in (C.places chip.now)) self.now }
+        requires cells { AreCells (C.core chip.now) (place_in (C.places chip.now))
+            (C.number_of chip.now) cells.old }
+
+        ensures current { IsTrue result → IsCurrent (C.core chip.now) aim self.now.waves u }
+        ensures cells { AreCells (C.core chip.now) (place_in (C.places chip.now))
+            (C.number_of chip.now) cells.new }
+    {
+        let pins = self.input_waves(chip, u);
+        let outputs = cells.respond(chip, u, aim, pins);
+        same_waves(outputs.as_slice(), self.output_waves(chip, u).as_slice())
     }
 
     /// What an instance gives for these waves, if it has no defect and has them in this network too, which is

@@ -1,6 +1,6 @@
 //! The two networks of a simulator, the good one and the one with a defect, and the bits that both have.
 
-ghost use Rattle.std.specs.Prelude.{◌≡◌, ◌<◌, ◌+◌, length, slice_set, Option};
+ghost use Rattle.std.specs.Prelude.{◌≡◌, ◌<◌, ◌+◌, length, slice_set, Option, Some, IsTrue};
 ghost use Rattle.ca_net.specs.State.{value_at};
 ghost use Rattle.ca_flat.specs.Pair.{bit_count};
 ghost use Rattle.ca_flat.specs.declared.chip_defect.ChipDefect.{ChipDefect};
@@ -100,5 +100,32 @@ impl Networks {
         self.faulty.turn(chip, old);
         self.faulty.turn(chip, new);
         self.faulty.settle(chip, new, Some(&self.good), cells);
+    }
+
+    /// Whether the instance of the defect that is aimed at gives the same with another of its defects, so that
+    /// all waves would stay.
+    pub(crate) fn is_alike<C: Linked>(
+        &self,
+        chip: &C,
+        old: ChipDefect,
+        new: ChipDefect,
+        cells: &mut Cells,
+    ) -> bool
+        requires old { IsAim (C.core chip.now) (place_in (C.places chip.now)) (Some old) }
+        requires new { IsAim (C.core chip.now) (place_in (C.places chip.now)) (Some new) }
+        requires rest { AreAtRest (C.core chip.now) (place_in (C.places chip.now)) (Some old) self.now }
+        requires cells { AreCells (C.core chip.now) (place_in (C.places chip.now))
+            (C.number_of chip.now) cells.old }
+
+        ensures rest { IsTrue result
+            → AreAtRest (C.core chip.now) (place_in (C.places chip.now)) (Some new) self.now }
+        ensures cells { AreCells (C.core chip.now) (place_in (C.places chip.now))
+            (C.number_of chip.now) cells.new }
+    {
+        if old.instance != new.instance {
+            return false;
+        }
+        self.faulty
+            .is_current(chip, new.instance as usize, Some(new), cells)
     }
 }

@@ -53,8 +53,10 @@ impl<'a, C: Linked> Model for Sim<'a, C> {
 
 impl<'a, C: Linked> Sim<'a, C> {
     ghost use Rattle.ca_flat.specs.Code.{unset_pair};
-    ghost use Rattle.ca_sim.specs.Linked.{IsAim, place_in};
-    ghost use Rattle.ca_sim.specs.Simulator.{IsFresh, KeepsAim, KeepsPair, counted_up};
+    ghost use Rattle.std.specs.Prelude.{IsTrue};
+    ghost use Rattle.ca_sim.specs.Linked.{IsAim, IsPlacedDefect, place_in};
+    ghost use Rattle.ca_sim.specs.Seen.{IsExact, aimed_anew};
+    ghost use Rattle.ca_sim.specs.Simulator.{IsFresh, KeepsAim, KeepsPair, KeepsSeen, counted_up};
 
     /// Takes all memory. No bit is set, and no defect is aimed at.
     pub fn reserve(alloc: Global, chip: &'a C) -> Result<Self, NoMemory>
@@ -140,6 +142,21 @@ impl<'a, C: Linked> Sim<'a, C> {
         self.networks.aim(chip, self.aim, defect, &mut self.cells);
         self.aim = defect;
         self.aimed = self.aimed.saturating_add(1);
+    }
+
+    /// Whether the instance of the defect that is aimed at gives the same with this other one of its defects.
+    /// Then all waves are those of the flat network with this one too. It is one evaluation.
+    pub fn is_alike(&mut self, defect: ChipDefect) -> bool
+        requires { IsPlacedDefect self.old.seen.chip (place_in self.old.seen.places) defect }
+
+        ensures alike { IsTrue result → IsExact (aimed_anew self.old.seen defect) }
+        ensures kept { KeepsSeen self.old self.new }
+    {
+        let chip = self.chip;
+        match self.aim {
+            Some(aim) => self.networks.is_alike(chip, aim, defect, &mut self.cells),
+            None => false,
+        }
     }
 
     /// How often an instance was evaluated since `reserve`, up to the type's greatest value.

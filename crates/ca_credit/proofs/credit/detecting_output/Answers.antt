@@ -1,7 +1,7 @@
 use Rattle.std.proofs.Common.{arith, rules}
 use Rattle.std.specs.Prelude.{slice_index}
 use Rattle.ca_flat.specs.Pair.{DetectsAt}
-use Rattle.ca_credit.proofs.DetectionLemmas.{first_by, none_more, not_shown_by}
+use Rattle.ca_credit.proofs.DetectionLemmas.{none_more}
 use Rattle.ca_credit.proofs.credit.detecting_output.Goals as goal
 
 pub loop-output-preserved : goal.loop-output-preserved
@@ -12,9 +12,11 @@ loop-output-preserved g c = λ defect k at. none_more
     (λ detects. let is = (c.detects_at.ensures defect at).1 detects in search rules) k
 
 pub returns-then-detects_at : goal.returns-then-detects_at
-returns-then-detects_at g c = λ defect at.
-    first_by _ _ 0 _ (omega arith) ((c.detects_at.ensures defect at).0 c.if-detects_at.true)
-    (λ k lt. c.loop-output.invariant defect k at lt)
+returns-then-detects_at g c = λ defect at. record {
+  within = omega arith;
+  here = (c.detects_at.ensures defect at).0 c.if-detects_at.true;
+  none_before = λ k lt. c.loop-output.invariant defect k at lt;
+}
 
 pub returns : goal.returns
-returns g c = λ defect at. not_shown_by _ _ _ (λ i lt. c.loop-output.invariant defect i at (omega arith))
+returns g c = λ defect at i lt. c.loop-output.invariant defect i at (omega arith)
