@@ -13,7 +13,8 @@ use Rattle.ca_flat.specs.Flat.{flat}
 use Rattle.ca_flat.specs.Code.{branch_count}
 use Rattle.ca_flat.specs.Simulation.{IsFlattened}
 use Rattle.ca_table.specs.Gives.{wave_at}
-use Rattle.ca_sim.specs.Seen.{Seen, IsExact}
+use Rattle.ca_defect.specs.Exposes.{opposite_of}
+use Rattle.ca_sim.specs.Seen.{Seen, IsExact, aimed_anew}
 use Rattle.ca_sim.specs.Laws.{DefiniteLastIsEnd}
 use Rattle.ca_sim.specs.Linked.{IsLinked, IsPlacedDefect, place_in}
 use Rattle.ca_sim.specs.Simulator.{Simulator, IsFresh, KeepsAim, KeepsPair}
@@ -24,7 +25,7 @@ use Rattle.ca_search.specs.Outcome.{IsOutcome}
 use Rattle.ca_judge.specs.Bench.{judged_of}
 use Rattle.ca_judge.specs.Bench as judge
 use Rattle.ca_credit.specs.Defects.{IsSearchable}
-use Rattle.ca_credit.specs.Detection.{IsNetEnd}
+use Rattle.ca_credit.specs.Detection.{IsNetEnd, AreDetectedAlike}
 use Rattle.ca_generate.specs.Outcome.{IsSearch}
 use Rattle.ca_generate.specs.Laws.{OutcomeIsSearch}
 use Rattle.ca_bench.specs.ChipBench.{IsChipBench}
@@ -182,3 +183,46 @@ module _ (seen : Seen) (rows_chip : Chip) (defects : List ChipDefect) (outputs :
       (searchable d aimed) within
       (subst (λ a. IsOutcome (record { chip = seen.chip; places = seen.places; aim = a; pair = new.pair }) budget
       code outcome) aimed (subst (λ judged. IsOutcome judged budget code outcome) same ends))
+
+module _ (seen : Seen) (rows_chip : Chip) (defects : List ChipDefect) (outputs : List ℕ)
+    (defect : Option ChipDefect)
+    (is : IsChipBench seen.chip seen.places seen.aim rows_chip defects outputs defect) (other : ChipDefect)
+    (in_chip_too : IsDefectIn seen.chip other) where
+  -- the same bench, aimed at another defect
+  other_bench : IsChipBench seen.chip seen.places (Some other) rows_chip defects outputs (Some other)
+  other_bench = record {
+    rank = is.rank;
+    chip_is = is.chip_is;
+    good_is = is.good_is;
+    faulty_are = is.faulty_are;
+    placed = is.placed;
+    outputs_are = is.outputs_are;
+    few = is.few;
+    rows_are = is.rows_are;
+    aim_is = refl;
+    aimed = in_chip_too;
+  }
+
+  -- defects with which all waves are the same are detected at the same outputs
+  pub alike_detects : DefiniteLastIsEnd → IsExact seen → IsExact (aimed_anew seen other) → (one : ChipDefect)
+      → seen.aim ≡ Some one → AreDetectedAlike seen.chip one other seen.pair
+  alike_detects law exact alike one aimed output lt =
+      let within : output < length outputs = subst (λ nets. output < length nets) (sym is.outputs_are) lt in
+      let net = slice_index seen.chip.outputs output in
+      let value = (wave_at seen.faulty (slice_index outputs output)).last in
+      let one_ends : IsNetEnd seen.chip (Some one) seen.pair net value =
+      subst (λ aim. IsNetEnd seen.chip aim seen.pair net value) aimed
+      (faulty_ends seen rows_chip defects outputs defect is law exact output within) in
+      let other_ends : IsNetEnd seen.chip (Some other) seen.pair net value =
+      faulty_ends (aimed_anew seen other) rows_chip defects outputs (Some other) other_bench law alike output within in (
+        λ detects. record {
+          value = detects.value;
+          good = detects.good;
+          faulty = (other_ends (opposite_of detects.value)).0 ((one_ends (opposite_of detects.value)).1 detects.faulty);
+        },
+        λ detects. record {
+          value = detects.value;
+          good = detects.good;
+          faulty = (one_ends (opposite_of detects.value)).0 ((other_ends (opposite_of detects.value)).1 detects.faulty);
+        },
+      )

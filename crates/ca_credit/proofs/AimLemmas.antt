@@ -1,5 +1,5 @@
 -- How often is aimed while a pair is credited.
-use Rattle.std.proofs.Common.{◌≡◌, ◌≤◌, ℕ, ◌+◌, ◌⊎◌, inl, inr, List, length, Bool, Option, ◌∙◌, sym, ap, subst, arith, true, false, refl}
+use Rattle.std.proofs.Common.{◌≡◌, ◌≤◌, ℕ, ◌+◌, inl, inr, List, length, Bool, Option, ◌∙◌, sym, ap, subst, arith, true, false, refl}
 use Rattle.ca_net.specs.declared.trit.Trit.{Trit}
 use Rattle.ca_flat.specs.declared.chip_defect.ChipDefect.{ChipDefect}
 use Rattle.ca_search.specs.Filled.{trits_of}
@@ -7,7 +7,7 @@ use Rattle.ca_credit.specs.declared.verdict.Verdict.{Verdict}
 use Rattle.ca_credit.specs.Defects.{Task, IsDefectAt}
 use Rattle.ca_credit.specs.Detection.{IsAllowedByRows}
 use Rattle.ca_credit.specs.Table.{verdict_at, is_open}
-use Rattle.ca_credit.specs.Aims.{HaveAmong, Start, Passes, Counts, IsSuspectAt, AimsAtSuspect, AimsUpTo, AimsAtSuspects}
+use Rattle.ca_credit.specs.Aims.{Start, Passes, Counts, IsSuspectAt, AimsAtSuspect, AimsUpTo, AimsAtSuspects}
 
 -- nothing was aimed at yet
 pub aims_begin : (task : Task) (pair : List Bool) (table : List (Option Verdict)) (before after : ℕ)

@@ -3,8 +3,7 @@ use Rattle.std.proofs.Common.{◌≡◌, ℕ, zero, suc, ◌+◌, ◌<◌, ◌�
 use Rattle.std.proofs.Common.{◌∙◌, ap, subst, arith, Some, None, Option, get_or, get_or-set_same, get_or-set_other}
 use native.Mathlib.Decide.{ℕ_discrete}
 use Rattle.std.proofs.lemmas.List.{length-set}
-use Rattle.std.specs.Prelude.{slice_get, slice_set, slice_index, IsSome}
-use Rattle.ca_base.specs.First.{IsFirst}
+use Rattle.std.specs.Prelude.{slice_get, slice_set, IsSome}
 use Rattle.ca_net.specs.declared.trit.Trit.{Trit}
 use Rattle.ca_flat.specs.declared.chip_defect.ChipDefect.{ChipDefect}
 use Rattle.ca_flat.specs.Chip.{Chip}
@@ -15,9 +14,9 @@ use Rattle.ca_credit.specs.declared.round.Round.{Round}
 use Rattle.ca_search.specs.Filled.{trits_of}
 use Rattle.ca_credit.specs.Defects.{Task, IsDefectAt}
 use Rattle.ca_credit.specs.Detection.{AreDetectedAlike, IsFirstOutput}
-use Rattle.ca_credit.specs.Table.{verdict_at, is_open, credit_count, one_if, IsCredit, IsAfterPair, CreditsOne}
+use Rattle.ca_credit.specs.Table.{verdict_at, is_open, one_if, IsAfterPair, CreditsOne}
 use Rattle.ca_credit.specs.Table.{CreditsPair}
-use Rattle.ca_credit.specs.Round.{IsFirstAt, IsAnswer, is_tried, IsTried, TriesMore}
+use Rattle.ca_credit.specs.Round.{IsAnswer, is_tried, IsTried, TriesMore}
 use Rattle.ca_credit.proofs.DetectionLemmas.{first_by, not_shown_by, shown_by_first}
 use Rattle.ca_credit.proofs.TableLemmas.{of_open, verdict_at-set, verdict_at-other, credit_count-set}
 

@@ -1,5 +1,4 @@
 use Rattle.std.proofs.Common.{ℕ, Option, subst}
-use Rattle.ca_flat.specs.declared.chip_defect.ChipDefect.{ChipDefect}
 use Rattle.ca_search.specs.Filled.{trits_of}
 use Rattle.ca_credit.specs.Round.{IsAnswer}
 use Rattle.ca_credit.proofs.RoundLemmas.{gives_some, gives_none}

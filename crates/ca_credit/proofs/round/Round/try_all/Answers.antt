@@ -1,9 +1,7 @@
-use Rattle.std.proofs.Common.{rules, arith, ◌≡◌, ◌<◌, ◌≤◌, ◌+◌, ◌∙◌, length, refl, subst, ap, sym, ℕ, List, Bool, Option, true}
+use Rattle.std.proofs.Common.{rules, arith, ◌≡◌, ◌≤◌, ◌+◌, ◌∙◌, length, refl, subst, ap, sym}
 use native.Mathlib.Decide.{ℕ_discrete}
-use Rattle.ca_credit.specs.declared.verdict.Verdict.{Verdict}
 use Rattle.ca_credit.specs.Round.{is_tried, IsTried}
 use Rattle.ca_credit.specs.Table.{credit_count}
-use Rattle.ca_credit.specs.Aims.{AimsUpTo}
 use Rattle.ca_credit.proofs.TableLemmas.{credit_count_within}
 use Rattle.ca_credit.proofs.AimLemmas.{aims_begin, aims_turn}
 use Rattle.ca_credit.proofs.RoundLemmas.{tried_begin, tried_all, tries_same}

@@ -1,4 +1,4 @@
-use Rattle.std.proofs.Common.{rules, arith}
+use Rattle.std.proofs.Common.{rules}
 use Rattle.ca_credit.proofs.TableLemmas.{credit_count_within}
 use Rattle.ca_credit.proofs.round.Round.try_behind.Goals as goal
 

@@ -1,4 +1,4 @@
-use Rattle.std.proofs.Common.{◌≡◌, ◌≤◌}
+use Rattle.std.proofs.Common.{◌≡◌}
 use Rattle.ca_credit.specs.Round.{TriesMore}
 use Rattle.ca_credit.proofs.round.Round.try_behind.Given as goal
 

@@ -1,7 +1,5 @@
-use Rattle.std.proofs.Common.{rules, arith, ◌≡◌, ◌<◌, ◌+◌, ◌∙◌, inr, length, true, false, refl}
+use Rattle.std.proofs.Common.{rules, arith, ◌≡◌, ◌<◌, ◌∙◌, inr, length, true, false}
 use Rattle.std.specs.Prelude.{slice_set}
-use Rattle.ca_credit.specs.Round.{is_tried}
-use Rattle.ca_credit.specs.Table.{one_if}
 use Rattle.ca_credit.proofs.TableLemmas.{credit_count_within}
 use Rattle.ca_credit.proofs.AimLemmas.{is_suspect}
 use Rattle.ca_credit.proofs.RoundLemmas.{answer_here, tries_lead}

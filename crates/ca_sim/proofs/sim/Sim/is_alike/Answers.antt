@@ -12,8 +12,8 @@ returns-in-Some-clause-alike g c alike =
     let places = g.C.Linked.places inside.chip.now in
     let kept = c.self.invariant in
     let aim_is : IsPlacedDefect core (place_in places) c.args.defect =
-        subst (λ (sim : Simulator). IsPlacedDefect sim.seen.chip (place_in sim.seen.places) c.args.defect) (sym c.self.view_is)
-        c.requires in
+    subst (λ (sim : Simulator). IsPlacedDefect sim.seen.chip (place_in sim.seen.places) c.args.defect) (sym c.self.view_is)
+    c.requires in
     subst (λ (sim : Simulator). IsExact (aimed_anew sim.seen c.args.defect)) c.self.view_is
     (kept_is_exact core places (place_in places) (g.C.Linked.number_of inside.chip.now) (Some c.args.defect) inside.networks
     inside.cells (record {
