@@ -60,7 +60,8 @@ fn tell_end<E: Sink>(fault: &Option<Fault>, err: &mut E)
     let _status = tell(fault, err);
 }
 
-/// Prints the line of a fault, and answers its exit status. Where the output fails the status alone tells the
+/// Prints the line of a fault, and a second one with the names of what it carries, if it carries any; and
+/// answers its exit status. Where the output fails the status alone tells the
 /// fault.
 pub fn tell<E: Sink>(fault: &Fault, err: &mut E) -> u8
     ensures status { result ≡ status_of fault.now }
@@ -68,6 +69,8 @@ pub fn tell<E: Sink>(fault: &Fault, err: &mut E) -> u8
         (record { bytes = E.bytes err.old; faults = E.faults err.old })
         (record { bytes = E.bytes err.new; faults = E.faults err.new }) }
 {
-    let _printed = fault.print(err);
+    if let Ok(()) = fault.print(err) {
+        let _printed = fault.print_place(err);
+    }
     fault.status()
 }
