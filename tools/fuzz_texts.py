@@ -6,7 +6,7 @@ usage: fuzz_texts.py PROGRAM COUNT [SEED]
 Each run takes one of the chips of examples/ (c17 with cells.sp, or acc with fa28.sp and scan.csv), or the text of a run
 (glitch.v with falls.order, under `replay`), and changes one to four places of one of its texts: a byte, a token, a line or a piece is
 put in, left out, doubled or exchanged. The program must end within ten seconds with one of its statuses: 0 and a line of counts or
-values; 1 to 3 with one line on the standard error that begins with `cellaware: `. Anything else is told with its texts and counts.
+values; 1 to 3 with one line on the standard error that begins with `cellaware: `, or a second one behind two blanks. Anything else is told with its texts and counts.
 Python 3.9 or later, no packages.
 """
 import collections
@@ -79,7 +79,8 @@ def main():
                 status, said = "no end", b""
             told = re.match(rb"cellaware: ([a-z ]+)", said)
             whole = status == 0 and not said and ran.stdout.endswith(b"\n")
-            refused = status in (1, 2, 3) and told and said.count(b"\n") == 1 and said.endswith(b"\n") and not ran.stdout
+            lines = re.fullmatch(rb"cellaware: [^\n]+\n(  [^\n]+\n)?", said)
+            refused = status in (1, 2, 3) and told and lines and not ran.stdout
             ends[f"{status} {told.group(1).decode().strip() if told else 'done' if whole else '?'}"] += 1
             if not whole and not refused:
                 odd += 1

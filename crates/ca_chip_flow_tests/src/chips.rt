@@ -104,6 +104,6 @@ fn what_an_output_does_not_take_is_still_done(rt: HostRuntime) -> Result<(), Fai
 #[test]
 fn a_fault_of_linking_has_its_instance(rt: HostRuntime) -> Result<(), Fail> {
     let ended = tried(&rt, rt.alloc(), &FILES, "check n.sp shift.v -", 100);
-    assert!(rt; matches!(&ended.fault, Some(Fault::Chip(_))));
+    assert!(rt; matches!(&ended.fault, Some(Fault::Chip { .. })));
     Ok(())
 }

@@ -12,4 +12,6 @@ mod networks;
 #[cfg(test)]
 mod patterns;
 #[cfg(test)]
+mod places;
+#[cfg(test)]
 mod runs;

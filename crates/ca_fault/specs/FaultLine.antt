@@ -1,11 +1,12 @@
 -- The exit status and the line of a fault.
-use Rattle.std.specs.Prelude.{ℕ, List, ◌++◌, codes, decimal}
+use Rattle.std.specs.Prelude.{ℕ, List, [], ◌∷◌, ◌++◌, codes, decimal}
 use Rattle.ca_fault.specs.declared.fault.Fault.{Fault}
 use Rattle.ca_fault.specs.declared.fault.Fault.TheVariants.{BadWords, Cells, Netlist, Scan, Chip, Chain}
 use Rattle.ca_fault.specs.declared.fault.Fault.TheVariants.{NoCell, Cell, BadVector, NoInstance, NoDefect}
 use Rattle.ca_fault.specs.declared.fault.Fault.TheVariants.{Order, TooLong, TooManyPairs, Limit, StoreFailed}
 use Rattle.ca_fault.specs.declared.fault.Fault.TheVariants.{SinkFailed, NoMemory}
 use Rattle.ca_fault.specs.KindText.{kind_text, netlist_text, rule_text, chip_text, limit_text}
+use Rattle.ca_fault.specs.KindText.{most_text}
 
 -- the exit status that stands for a fault
 abbrev pub status_of : Fault → ℕ
@@ -13,10 +14,10 @@ status_of BadWords = 1
 status_of (Cells line kind) = 2
 status_of (Netlist line kind) = 2
 status_of (Scan row) = 2
-status_of (Chip fault) = 2
+status_of (Chip broken place) = 2
 status_of (Chain name) = 2
 status_of (NoCell word) = 2
-status_of (Cell name rule) = 2
+status_of (Cell name rule place) = 2
 status_of (BadVector word) = 2
 status_of (NoInstance word) = 2
 status_of (NoDefect word) = 2
@@ -43,10 +44,10 @@ text_of BadWords = codes "bad command line"
 text_of (Cells line kind) = codes "cells: line " ++ (decimal line ++ (codes ": " ++ kind_text kind))
 text_of (Netlist line kind) = codes "netlist: line " ++ (decimal line ++ (codes ": " ++ netlist_text kind))
 text_of (Scan row) = codes "scan table: record " ++ decimal row
-text_of (Chip fault) = codes "chip: " ++ chip_text fault
+text_of (Chip broken place) = codes "chip: " ++ chip_text broken
 text_of (Chain name) = codes "scan chain broken at " ++ name
 text_of (NoCell word) = codes "no cell " ++ word
-text_of (Cell name rule) = codes "cell " ++ (name ++ (codes ": " ++ rule_text rule))
+text_of (Cell name rule place) = codes "cell " ++ (name ++ (codes ": " ++ rule_text rule))
 text_of (BadVector word) = codes "bad vector: " ++ word
 text_of (NoInstance word) = codes "no instance " ++ word
 text_of (NoDefect word) = codes "no defect " ++ word
@@ -61,3 +62,20 @@ text_of NoMemory = codes "out of memory"
 -- the line of a fault
 abbrev pub line_of : Fault → List ℕ
 line_of fault = codes "cellaware: " ++ (text_of fault ++ codes "\n")
+
+-- a line of its own, behind two blanks; nothing where there is no text
+abbrev pub indented : List ℕ → List ℕ
+indented [] = []
+indented (letter ∷ letters) = codes "  " ++ ((letter ∷ letters) ++ codes "\n")
+
+-- the line with the names of what a fault carries, and nothing where it carries none: its place, or how much
+-- there is and may be
+abbrev pub place_line : Fault → List ℕ
+place_line (Chip broken place) = indented place
+place_line (Cell name rule place) = indented place
+place_line (Limit kind count) = codes "  " ++ (decimal count ++ (most_text kind ++ codes "\n"))
+place_line _ = []
+
+-- the lines that tell a fault
+abbrev pub lines_of : Fault → List ℕ
+lines_of fault = line_of fault ++ place_line fault

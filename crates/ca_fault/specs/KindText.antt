@@ -68,3 +68,13 @@ limit_text limit.Inputs = codes "Inputs"
 limit_text limit.Outputs = codes "Outputs"
 limit_text limit.Defects = codes "Defects"
 limit_text limit.Chains = codes "Chains"
+
+-- what there is too much of, and how much there may be, behind its number
+abbrev pub most_text : LimitKind → List ℕ
+most_text limit.Cells = codes " cells, at most 1024"
+most_text limit.Nets = codes " nets, at most 131072"
+most_text limit.Instances = codes " instances, at most 32768"
+most_text limit.Inputs = codes " inputs, at most 4096"
+most_text limit.Outputs = codes " outputs, at most 8192"
+most_text limit.Defects = codes " defects, at most 1048576"
+most_text limit.Chains = codes " chains, at most 64"

@@ -3,7 +3,7 @@ ghost use Rattle.std.specs.Prelude.{◌≡◌, ◌++◌, decimal, OnOk, OnErr};
 ghost use Rattle.ca_fault.specs.declared.fault.Fault.TheVariants as fault;
 ghost use Rattle.ca_store.specs.Store.{Rose, KeepsCount, appended, AppendsPart};
 
-use crate::kinds::{chip_text, kind_text, limit_text, netlist_text, rule_text};
+use crate::kinds::{chip_text, kind_text, limit_text, most_text, netlist_text, rule_text};
 use crate::pieces::write_pieces;
 use crate::three::FaultText;
 use ca_base::{List, NoMemory};
@@ -22,39 +22,79 @@ pub enum Fault {
     /// The words are those of no command.
     BadWords,
     /// The cell netlist has no reading. Lines are counted from 1.
-    Cells { line: usize, kind: SpiceKind },
+    Cells {
+        line: usize,
+        kind: SpiceKind,
+    },
     /// The gate netlist has no reading. Lines are counted from 1.
-    Netlist { line: usize, kind: VerilogKind },
+    Netlist {
+        line: usize,
+        kind: VerilogKind,
+    },
     /// The table of scan cells breaks its form. Records are counted from 1, and the header is the first.
-    Scan { row: usize },
+    Scan {
+        row: usize,
+    },
     /// The gate netlist breaks a rule of linking, the first of those that it breaks. A rule that an
-    /// instance's cell breaks is told as `Cell`, a limit as `Limit`, and want of memory as `NoMemory`.
-    Chip(ChipFault),
+    /// instance's cell breaks is told as `Cell`, a limit as `Limit`, and want of memory as `NoMemory`. The
+    /// place names what the rule carries, and is empty where there was no memory for it.
+    Chip {
+        rule: ChipFault,
+        place: Text,
+    },
     /// The scan instance is on no whole chain, the first of those. Its name stands as in the netlist.
-    Chain { instance: Text },
+    Chain {
+        instance: Text,
+    },
     /// The cell netlist has no cell of this name.
-    NoCell { word: Text },
+    NoCell {
+        word: Text,
+    },
     /// The cell breaks a rule of used cells, the first of those that it breaks. Its name stands in upper
-    /// case.
-    Cell { cell: Text, rule: CellRule },
+    /// case. The place names what the rule carries, and on a chip the instance; it is empty where there is
+    /// nothing to name, or was no memory for it.
+    Cell {
+        cell: Text,
+        rule: CellRule,
+        place: Text,
+    },
     /// A vector has more or fewer letters than the cell has input pins.
-    BadVector { word: Text },
+    BadVector {
+        word: Text,
+    },
     /// The chip has no library instance of this name.
-    NoInstance { word: Text },
+    NoInstance {
+        word: Text,
+    },
     /// The cell has no defect of this name.
-    NoDefect { word: Text },
+    NoDefect {
+        word: Text,
+    },
     /// The order file has a line that is none, or that may not stand there, the first of those. Lines are
     /// counted from 1.
-    Order { line: usize },
+    Order {
+        line: usize,
+    },
     /// A file has more bytes than it may have. So many were taken of it.
-    TooLong { name: Text, taken: usize },
+    TooLong {
+        name: Text,
+        taken: usize,
+    },
     /// As many pairs are listed as there may be, and one more was found. It stands last. Each has, as its
     /// aim, the place of the defect for which it was found.
-    TooManyPairs { pairs: Pairs, aims: List<u32> },
+    TooManyPairs {
+        pairs: Pairs,
+        aims: List<u32>,
+    },
     /// There is more of something than there may be.
-    Limit { kind: LimitKind, count: usize },
+    Limit {
+        kind: LimitKind,
+        count: usize,
+    },
     /// A file wasn't there, or the system failed at it.
-    StoreFailed { name: Text },
+    StoreFailed {
+        name: Text,
+    },
     /// The output took no more bytes.
     SinkFailed,
     /// There was no memory.
@@ -81,7 +121,7 @@ pub enum LimitKind {
 }
 
 impl Fault {
-    ghost use Rattle.ca_fault.specs.FaultLine.{status_of, number_of, text_of, line_of};
+    ghost use Rattle.ca_fault.specs.FaultLine.{status_of, number_of, text_of, line_of, place_line};
 
     /// The exit status that stands for the fault.
     pub fn status(&self) -> u8
@@ -92,7 +132,7 @@ impl Fault {
             Fault::Cells { .. }
             | Fault::Netlist { .. }
             | Fault::Scan { .. }
-            | Fault::Chip(_)
+            | Fault::Chip { .. }
             | Fault::Chain { .. }
             | Fault::NoCell { .. }
             | Fault::Cell { .. }
@@ -129,6 +169,20 @@ impl Fault {
         )
     }
 
+    /// Appends the line with the names of what the fault carries, if it carries any. It takes no memory. After
+    /// `Failed` some of its first bytes were appended.
+    pub fn print_place<W: Sink>(&self, err: &mut W) -> Result<(), Failed>
+        ensures ok { OnOk result (W.bytes err.new ≡ appended (place_line self.now) (W.bytes err.old)) }
+        ensures err { OnErr result
+            (AppendsPart (place_line self.now) (W.bytes err.old) (W.bytes err.new)) }
+        ensures cause { OnErr result (Rose (W.faults err.old) (W.faults err.new)) }
+        ensures count { KeepsCount result (W.faults err.old) (W.faults err.new) }
+    {
+        let mut buffer = Buffer::new();
+        let text = self.place(buffer.format(self.number()).as_bytes());
+        write_pieces(err, &[text.start, text.word, text.end])
+    }
+
     // The number in the text of the fault.
     fn number(&self) -> usize
         ensures { result ≡ number_of self.now }
@@ -139,6 +193,22 @@ impl Fault {
             Fault::Order { line } => *line,
             Fault::Limit { count, .. } => *count,
             _ => 0,
+        }
+    }
+
+    // The line with the names of what the fault carries, for which its number is written already.
+    fn place<'a>(&'a self, number: &'a [u8]) -> FaultText<'a>
+        requires { number.now ≡ decimal (number_of self.now) }
+        ensures { result.start.now ++ (result.word.now ++ result.end.now) ≡ place_line self.now }
+    {
+        match self {
+            Fault::Chip { place, .. } | Fault::Cell { place, .. } => FaultText::indented(place),
+            Fault::Limit { kind, .. } => FaultText {
+                start: b"  ",
+                word: number,
+                end: most_text(*kind),
+            },
+            _ => FaultText::plain(&[]),
         }
     }
 
@@ -164,12 +234,12 @@ impl Fault {
                 word: number,
                 end: &[],
             },
-            Fault::Chip(fault) => FaultText::plain(chip_text(fault)),
+            Fault::Chip { rule, .. } => FaultText::plain(chip_text(rule)),
             Fault::Chain { instance } => {
                 FaultText::with_word(b"scan chain broken at ", instance)
             }
             Fault::NoCell { word } => FaultText::with_word(b"no cell ", word),
-            Fault::Cell { cell, rule } => FaultText {
+            Fault::Cell { cell, rule, .. } => FaultText {
                 start: b"cell ",
                 word: cell.as_bytes(),
                 end: rule_text(*rule),

@@ -1,6 +1,7 @@
 //! The texts of kinds of faults, of rules and of limits.
 ghost use Rattle.std.specs.Prelude.{◌≡◌, ◌++◌, codes};
 ghost use Rattle.ca_fault.specs.KindText.{kind_text, netlist_text, rule_text, chip_text, limit_text};
+ghost use Rattle.ca_fault.specs.KindText.{most_text};
 
 use crate::fault::LimitKind;
 use ca_cell::CellRule;
@@ -88,5 +89,20 @@ pub(crate) fn limit_text(kind: LimitKind) -> &'static [u8]
         LimitKind::Outputs => b"limit: Outputs ",
         LimitKind::Defects => b"limit: Defects ",
         LimitKind::Chains => b"limit: Chains ",
+    }
+}
+
+/// What there is too much of, and how much there may be, behind its number.
+pub(crate) fn most_text(kind: LimitKind) -> &'static [u8]
+    ensures { result.now ≡ most_text kind ++ codes "\n" }
+{
+    match kind {
+        LimitKind::Cells => b" cells, at most 1024\n",
+        LimitKind::Nets => b" nets, at most 131072\n",
+        LimitKind::Instances => b" instances, at most 32768\n",
+        LimitKind::Inputs => b" inputs, at most 4096\n",
+        LimitKind::Outputs => b" outputs, at most 8192\n",
+        LimitKind::Defects => b" defects, at most 1048576\n",
+        LimitKind::Chains => b" chains, at most 64\n",
     }
 }

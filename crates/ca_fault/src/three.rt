@@ -1,5 +1,6 @@
 //! The text of a fault, of which a part may be a word or a number.
-ghost use Rattle.std.specs.Prelude.{◌≡◌, []};
+ghost use Rattle.std.specs.Prelude.{◌≡◌, ◌++◌, []};
+ghost use Rattle.ca_fault.specs.FaultLine.{indented};
 
 use ca_lex::Text;
 
@@ -29,6 +30,20 @@ impl<'a> FaultText<'a> {
             start,
             word: word.as_bytes(),
             end: &[],
+        }
+    }
+
+    /// A line of its own, behind two blanks; nothing where there is no word.
+    pub(crate) fn indented(word: &'a Text) -> Self
+        ensures { result.start.now ++ (result.word.now ++ result.end.now) ≡ indented word.now }
+    {
+        if word.is_empty() {
+            return FaultText::plain(&[]);
+        }
+        FaultText {
+            start: b"  ",
+            word: word.as_bytes(),
+            end: b"\n",
         }
     }
 }

@@ -43,7 +43,8 @@ use Rattle.ca_flow.specs.Complete.{IsAnswerable, HasTooManyPairs, Completes}
 use Rattle.ca_words.proofs.WordLemmas.{no_chip, no_asking_cell, no_asking_chip}
 use Rattle.ca_flow.specs.Fault.{Outside, IsWordsCause, IsWriteCause, IsPrintCause, IsOwnCause, IsWorkCause}
 use Rattle.ca_flow.specs.Fault.{IsCause}
-use Rattle.ca_on_cell.specs.Causes.{IsNameCause, IsFirstUnfit, IsPairCause, IsVectorCause, IsCellCause}
+use Rattle.ca_on_cell.specs.Causes.{BreaksAt, IsNameCause, IsFirstUnfit, IsPairCause, IsVectorCause}
+use Rattle.ca_on_cell.specs.Causes.{IsCellCause}
 use Rattle.ca_on_cell.specs.Causes.{IsValueCause}
 
 -- the file and the cell that the words name
@@ -119,7 +120,7 @@ module _ (words : List (List ℕ)) (files : Option Files) (seen : HasSeen words 
   at_name (NoCell typed) (same, lacks) =
       let missing : IsNone (Some seen.raw) = rw seen.called at (at_bytes (LacksCell (cell_word words)) lacks).1 in
       cc
-  at_name (Cell cell rule) (same, broken) = at_rule rule (at_raw (λ raw. IsFirstBroken raw rule) broken)
+  at_name (Cell cell rule place) (same, breaks) = at_rule rule (at_raw (BreaksAt rule place) breaks).broken
     where
       at_rule : (rule : CellRule) → IsFirstBroken seen.raw rule → ⊥
       at_rule rule first = seen.fits.kept rule first.broken

@@ -7,7 +7,7 @@ use Rattle.ca_lex.specs.Words.{upper_case}
 use Rattle.ca_store.specs.Store.{Files}
 use Rattle.ca_cell.specs.declared.raw.RawCell.{RawCell}
 use Rattle.ca_cell.specs.declared.rule.CellRule.{CellRule}
-use Rattle.ca_cell.specs.Rules.{KeepsRules, IsFirstBroken}
+use Rattle.ca_cell.specs.Rules.{KeepsRules}
 use Rattle.ca_spice.specs.declared.fault.SpiceFault.{SpiceFault}
 use Rattle.ca_spice.specs.declared.fault.SpiceFault.TheVariants as spice
 use Rattle.ca_spice.specs.Reading.{library_of}
@@ -27,9 +27,10 @@ use Rattle.ca_words.specs.Words.{cells_word, cell_word, vector_word, first_word,
 use Rattle.ca_words.specs.Words.{IsRespond, IsPair, IsOnChip, IsOnCell, IsCommand}
 use Rattle.ca_on_cell.specs.Cells.{OfFile, HasCell, LacksCell}
 use Rattle.ca_flow.specs.Fault.{Outside, IsWordsCause, IsWriteCause, IsPrintCause, IsWorkCause, IsCause}
-use Rattle.ca_on_cell.specs.Causes.{IsNameCause, IsFirstUnfit, LacksDefect, IsPairCause, IsVectorCause}
+use Rattle.ca_on_cell.specs.Causes.{BreaksAt, IsRulePlace, IsNameCause, IsFirstUnfit, LacksDefect}
+use Rattle.ca_on_cell.specs.Causes.{IsPairCause, IsVectorCause}
 use Rattle.ca_on_cell.specs.Causes.{IsCellCause, IsValueCause}
-use Rattle.ca_flow.specs.Laws.{IsInputFault, TellsFile}
+use Rattle.ca_flow.specs.Laws.{IsInputFault, IsSameButPlace, TellsFile}
 use Rattle.ca_load.proofs.RuleLemmas.{one_broken}
 
 -- a fault that tells pairs is none of input
@@ -64,8 +65,9 @@ one_asked words first last defect again later other (inr here) (inr there) =
 -- the subcircuit that was found breaks a rule
 pub record BreaksOne (words : List (List ℕ)) (raw : RawCell) (fault : Fault) : Type 0 where
   pub rule : CellRule
-  pub broken : IsFirstBroken raw rule
-  pub is : fault ≡ Cell (upper_case (cell_word words)) rule
+  pub place : List ℕ
+  pub breaks : BreaksAt rule place raw
+  pub is : fault ≡ Cell (upper_case (cell_word words)) rule place
 
 -- it breaks none, and a vector doesn't fit
 pub record Misfits (words : List (List ℕ)) (raw : RawCell) (fault : Fault) : Type 0 where
@@ -123,17 +125,33 @@ misfits_or_lacks words raw fault other here there =
     let unfit : IsFirstUnfit raw there.first there.last here.typed = rw (same.0, same.1.0) at here.unfit in
     fits_before raw there.first there.last there.defect here.typed unfit there.lacks
 
-one_at_cell : (words : List (List ℕ)) (raw : RawCell) (fault other : Fault) → AtCell words raw fault → AtCell words raw other → fault ≡ other
+-- a rule of a cell is told with its place, or without
+one_place : (name : List ℕ) (raw : RawCell) (rule : CellRule) (place other : List ℕ) → IsRulePlace raw rule place
+    → IsRulePlace raw rule other → IsSameButPlace (Cell name rule place) (Cell name rule other)
+one_place name raw rule place other (inl none) (inl missing) = inl (ap (Cell name rule) (none ∙ sym missing))
+one_place name raw rule place other (inl none) (inr there) = inr (inl (ap (Cell name rule) none))
+one_place name raw rule place other (inr here) (inl missing) = inr (inr (ap (Cell name rule) (sym missing)))
+one_place name raw rule place other (inr here) (inr there) = inl (ap (Cell name rule) (here ∙ sym there))
+
+one_breaks : (name : List ℕ) (raw : RawCell) (rule again : CellRule) (place other : List ℕ) → BreaksAt rule place raw
+    → BreaksAt again other raw → IsSameButPlace (Cell name rule place) (Cell name again other)
+one_breaks name raw rule again place other here there =
+    let same : rule ≡ again = one_broken raw rule again here.broken there.broken in
+    subst (λ (told : CellRule). IsSameButPlace (Cell name rule place) (Cell name told other)) same
+    (one_place name raw rule place other here.placed (subst (λ (told : CellRule). IsRulePlace raw told other) (sym same) there.placed))
+
+one_at_cell : (words : List (List ℕ)) (raw : RawCell) (fault other : Fault) → AtCell words raw fault → AtCell words raw other
+    → IsSameButPlace fault other
 one_at_cell words raw fault other (inl here) (inl there) =
-    here.is ∙ ap (Cell (upper_case (cell_word words))) (one_broken raw here.rule there.rule here.broken there.broken) ∙ sym there.is
-one_at_cell words raw fault other (inl here) (inr (inl there)) = absurd (there.kept here.rule here.broken.broken)
-one_at_cell words raw fault other (inl here) (inr (inr there)) = absurd (there.kept here.rule here.broken.broken)
-one_at_cell words raw fault other (inr (inl here)) (inl there) = absurd (here.kept there.rule there.broken.broken)
-one_at_cell words raw fault other (inr (inl here)) (inr (inl there)) = both_misfit words raw fault other here there
+    rw (here.is, there.is) (one_breaks (upper_case (cell_word words)) raw here.rule there.rule here.place there.place here.breaks there.breaks)
+one_at_cell words raw fault other (inl here) (inr (inl there)) = absurd (there.kept here.rule here.breaks.broken.broken)
+one_at_cell words raw fault other (inl here) (inr (inr there)) = absurd (there.kept here.rule here.breaks.broken.broken)
+one_at_cell words raw fault other (inr (inl here)) (inl there) = absurd (here.kept there.rule there.breaks.broken.broken)
+one_at_cell words raw fault other (inr (inl here)) (inr (inl there)) = inl (both_misfit words raw fault other here there)
 one_at_cell words raw fault other (inr (inl here)) (inr (inr there)) = absurd (misfits_or_lacks words raw fault other here there)
-one_at_cell words raw fault other (inr (inr here)) (inl there) = absurd (here.kept there.rule there.broken.broken)
+one_at_cell words raw fault other (inr (inr here)) (inl there) = absurd (here.kept there.rule there.breaks.broken.broken)
 one_at_cell words raw fault other (inr (inr here)) (inr (inl there)) = absurd (misfits_or_lacks words raw other fault there here)
-one_at_cell words raw fault other (inr (inr here)) (inr (inr there)) = both_lack words raw fault other here there
+one_at_cell words raw fault other (inr (inr here)) (inr (inr there)) = inl (both_lack words raw fault other here there)
 
 -- what is told of the subcircuit that the words name in a library, where they name one
 abbrev pub AtCalled : List (List ℕ) → Option RawCell → Fault → Type 0
@@ -141,8 +159,8 @@ AtCalled words None fault = fault ≡ NoCell (cell_word words)
 AtCalled words (Some raw) fault = AtCell words raw fault
 
 one_at_called : (words : List (List ℕ)) (called : Option RawCell) (fault other : Fault) → AtCalled words called fault
-    → AtCalled words called other → fault ≡ other
-one_at_called words None fault other here there = here ∙ sym there
+    → AtCalled words called other → IsSameButPlace fault other
+one_at_called words None fault other here there = inl (here ∙ sym there)
 one_at_called words (Some raw) fault other here there = one_at_cell words raw fault other here there
 
 -- what is told of a reading, in which the words name a subcircuit or none
@@ -156,14 +174,14 @@ abbrev pub AtLibrary : List (List ℕ) → List ℕ → Fault → Type 0
 AtLibrary words bytes fault = AtReading words (library_of bytes) (λ cells. called_among cells (upper_case (cell_word words))) fault
 
 one_at_reading : {S : Type 0} (words : List (List ℕ)) (read : Result S SpiceFault) (called : S → Option RawCell) (fault other : Fault)
-    → AtReading words read called fault → AtReading words read called other → fault ≡ other
+    → AtReading words read called fault → AtReading words read called other → IsSameButPlace fault other
 one_at_reading words (Ok cells) called fault other here there = one_at_called words (called cells) fault other here there
-one_at_reading words (Err (spice.At line kind)) called fault other here there = here ∙ sym there
-one_at_reading words (Err (spice.TooManyCells count)) called fault other here there = here ∙ sym there
+one_at_reading words (Err (spice.At line kind)) called fault other here there = inl (here ∙ sym there)
+one_at_reading words (Err (spice.TooManyCells count)) called fault other here there = inl (here ∙ sym there)
 one_at_reading words (Err spice.NoMemory) called fault other here there = absurd here
 
 one_at_library : (words : List (List ℕ)) (bytes : List ℕ) (fault other : Fault) → AtLibrary words bytes fault → AtLibrary words bytes other
-    → fault ≡ other
+    → IsSameButPlace fault other
 one_at_library words bytes fault other here there =
     one_at_reading words (library_of bytes) (λ cells. called_among cells (upper_case (cell_word words))) fault other here there
 
@@ -175,9 +193,9 @@ AtFile words (Some bytes) fault =
     ⊎ ((length bytes ≤ MAX_CELLS) × AtLibrary words bytes fault)
 
 one_at_file : (words : List (List ℕ)) (file : Option (List ℕ)) (fault other : Fault) → AtFile words file fault → AtFile words file other
-    → fault ≡ other
+    → IsSameButPlace fault other
 one_at_file words None fault other here there = absurd here
-one_at_file words (Some bytes) fault other (inl here) (inl there) = here.1 ∙ sym there.1
+one_at_file words (Some bytes) fault other (inl here) (inl there) = inl (here.1 ∙ sym there.1)
 one_at_file words (Some bytes) fault other (inl here) (inr there) =
     let past = here.0 in let within = there.0 in absurd (omega (arith, past, within))
 one_at_file words (Some bytes) fault other (inr here) (inl there) =
@@ -193,8 +211,8 @@ pub on_cell : (words : List (List ℕ)) → IsOnCell words → IsCommand words
 on_cell words is = inl is
 
 pub one_at_words : (words : List (List ℕ)) (file : Option (List ℕ)) (fault other : Fault) → AtWords words file fault → AtWords words file other
-    → fault ≡ other
-one_at_words words file fault other (inl here) (inl there) = here.1 ∙ sym there.1
+    → IsSameButPlace fault other
+one_at_words words file fault other (inl here) (inl there) = inl (here.1 ∙ sym there.1)
 one_at_words words file fault other (inl here) (inr there) = absurd (here.0 (on_cell words there.0))
 one_at_words words file fault other (inr here) (inl there) = absurd (there.0 (on_cell words here.0))
 one_at_words words file fault other (inr here) (inr there) = one_at_file words file fault other here.1 there.1
@@ -276,10 +294,11 @@ module _ (words : List (List ℕ)) where
     of_name (NoCell typed) (same, lacks) =
         subst (λ word. AtFile words file (NoCell word)) (sym same)
         (at_bytes file (LacksCell (cell_word words)) (NoCell (cell_word words)) at_missing (of_file words file outside (LacksCell (cell_word words)) tells lacks))
-    of_name (Cell cell rule) (same, broken) =
-        let P : RawCell → Type 0 = λ raw. IsFirstBroken raw rule in
-        at_bytes file (HasCell (cell_word words) P) (Cell cell rule)
-        (λ bytes. at_called bytes P (Cell cell rule) (λ raw first. inl (record { rule = rule; broken = first; is = ap (λ word. Cell word rule) same })))
+    of_name (Cell cell rule place) (same, broken) =
+        let P : RawCell → Type 0 = BreaksAt rule place in
+        at_bytes file (HasCell (cell_word words) P) (Cell cell rule place)
+        (λ bytes. at_called bytes P (Cell cell rule place)
+        (λ raw breaks. inl (record { rule = rule; place = place; breaks = breaks; is = ap (λ word. Cell word rule place) same })))
         (of_file words file outside (HasCell (cell_word words) P) tells broken)
     of_name fault cause = absurd cause
 

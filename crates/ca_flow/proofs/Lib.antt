@@ -6,3 +6,4 @@ pub mod ExactLemmas
 pub mod FitsLemmas
 pub mod NameLemmas
 pub mod SomeLemmas
+pub mod LineLemmas

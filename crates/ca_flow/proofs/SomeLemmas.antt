@@ -27,6 +27,7 @@ use Rattle.ca_words.specs.Words.{IsOnChip, AsksNoFile, IsOnCell, IsCommand}
 use Rattle.ca_on_cell.specs.Outputs.{letters_of, Fits, asked_network}
 use Rattle.ca_on_cell.specs.Cells.{OfFile, HasCell, LacksCell, OfCell}
 use Rattle.ca_flow.specs.Fault.{Outside, IsCause}
+use Rattle.ca_on_cell.specs.Causes.{BreaksAt}
 use Rattle.ca_on_cell.specs.Causes.{IsPairCause, IsVectorCause, IsCellCause}
 use Rattle.ca_flow.specs.Complete.{FitsCell, IsAnswerable}
 use Rattle.ca_flow.specs.Laws.{IsInputFault, TellsFile, HasInputCause}
@@ -111,7 +112,8 @@ module _ (words : List (List ℕ)) (bytes : List ℕ) (outside : Outside) (told 
           inl (inr (rw (are, there) (inl (within, has))))
 
       breaks : (rule : CellRule) → IsFirstBroken raw rule → Stands words outside
-      breaks rule first = cell_cause (Cell (upper_case (cell_word words)) rule) tt (inr (refl, of_cell (λ raw. IsFirstBroken raw rule) first))
+      breaks rule first = cell_cause (Cell (upper_case (cell_word words)) rule []) tt
+          (inr (refl, of_cell (BreaksAt rule []) (record { broken = first; placed = inl refl })))
 
       -- vectors and a defect that fit, or the first that doesn't
       values : KeepsRules raw → (first last defect : List ℕ)

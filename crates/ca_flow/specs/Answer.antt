@@ -3,7 +3,7 @@ use Rattle.std.specs.Prelude.{◌≡◌, ◌⊎◌, ℕ, List, Option, Some, Non
 use Rattle.ca_store.specs.Store.{Rose, appended, AppendsPart}
 use Rattle.ca_fault.specs.declared.fault.Fault.{Fault}
 use Rattle.ca_flow.specs.declared.finished.Finished.{Finished}
-use Rattle.ca_fault.specs.FaultLine.{line_of}
+use Rattle.ca_fault.specs.FaultLine.{lines_of}
 use Rattle.ca_flow.specs.Fault.{Outside}
 use Rattle.ca_flow.specs.Ends.{Ends}
 
@@ -12,15 +12,16 @@ pub record Errors : Type 0 where
   pub bytes : Option (List ℕ)
   pub faults : ℕ
 
--- the error output got the line of the fault, or it failed and got a first part of the line
-abbrev pub TellsLine : Fault → Errors → Errors → Type 0
-TellsLine fault old new = (new.bytes ≡ appended (line_of fault) old.bytes)
-    ⊎ (AppendsPart (line_of fault) old.bytes new.bytes × Rose old.faults new.faults)
+-- the error output got the lines of the fault: its line and, where it carries names, the line with them; or
+-- it failed and got a first part of the lines
+abbrev pub TellsLines : Fault → Errors → Errors → Type 0
+TellsLines fault old new = (new.bytes ≡ appended (lines_of fault) old.bytes)
+    ⊎ (AppendsPart (lines_of fault) old.bytes new.bytes × Rose old.faults new.faults)
 
 -- the error output tells the fault, and nothing where there is none
 abbrev pub Tells : Option Fault → Errors → Errors → Type 0
 Tells None old new = new ≡ old
-Tells (Some fault) old new = TellsLine fault old new
+Tells (Some fault) old new = TellsLines fault old new
 
 -- The command of these words ended, the answer is the exit status of its end, and the error output tells its
 -- fault.

@@ -1,14 +1,14 @@
 //! What the program answers.
-ghost use Rattle.std.specs.Prelude.{◌≡◌, map};
+ghost use Rattle.std.specs.Prelude.{◌≡◌, map, OnOk, OnErr};
 ghost use Rattle.std.specs.String.{string_bytes};
-ghost use Rattle.ca_store.specs.Store.{Nothing};
-ghost use Rattle.ca_fault.specs.FaultLine.{status_of};
-ghost use Rattle.ca_flow.specs.Answer.{TellsLine, Tells, Answers};
+ghost use Rattle.ca_store.specs.Store.{Nothing, Rose, appended, AppendsPart};
+ghost use Rattle.ca_fault.specs.FaultLine.{status_of, lines_of};
+ghost use Rattle.ca_flow.specs.Answer.{TellsLines, Tells, Answers};
 
 use crate::top::run;
 use ca_fault::Fault;
 use ca_generate::Watch;
-use ca_store::{Sink, Store};
+use ca_store::{Failed, Sink, Store};
 use std::alloc::Global;
 
 /// Does one command, whose words come without the program's name, and prints the line of its fault on `err`,
@@ -60,14 +60,28 @@ fn tell_end<E: Sink>(fault: &Option<Fault>, err: &mut E)
     let _status = tell(fault, err);
 }
 
-/// Prints the line of a fault, and answers its exit status. Where the output fails the status alone tells the
+/// Prints the line of a fault, and a second one with the names of what it carries, if it carries any; and
+/// answers its exit status. Where the output fails the status alone tells the
 /// fault.
 pub fn tell<E: Sink>(fault: &Fault, err: &mut E) -> u8
     ensures status { result ≡ status_of fault.now }
-    ensures tells { TellsLine fault.now
+    ensures tells { TellsLines fault.now
         (record { bytes = E.bytes err.old; faults = E.faults err.old })
         (record { bytes = E.bytes err.new; faults = E.faults err.new }) }
 {
-    let _printed = fault.print(err);
+    let _printed = print_lines(fault, err);
     fault.status()
+}
+
+// Appends the line of a fault, and the one with the names of what it carries. After `Failed` some of their
+// first bytes were appended.
+#[tactic(auto, using(crate::proofs::LineLemmas::both_lines, crate::proofs::LineLemmas::part_of_line, crate::proofs::LineLemmas::part_of_place, crate::proofs::LineLemmas::rose_later))]
+fn print_lines<E: Sink>(fault: &Fault, err: &mut E) -> Result<(), Failed>
+    ensures ok { OnOk result (E.bytes err.new ≡ appended (lines_of fault.now) (E.bytes err.old)) }
+    ensures err { OnErr result
+        (AppendsPart (lines_of fault.now) (E.bytes err.old) (E.bytes err.new)) }
+    ensures cause { OnErr result (Rose (E.faults err.old) (E.faults err.new)) }
+{
+    fault.print(err)?;
+    fault.print_place(err)
 }

@@ -8,6 +8,13 @@ use std::alloc::Global;
 use std::process::Abort;
 use std::test::Fail;
 
+// A cell of seven input pins.
+const WIDE: &str = "\
+.SUBCKT WIDE A B C D E F G Z VDD VSS
+*.PININFO A:I B:I C:I D:I E:I F:I G:I Z:O VDD:P VSS:G
+.ENDS
+";
+
 // The status of a command line, what it printed, and what stands in the error output.
 #[derive(Drop)]
 struct Answered {
@@ -16,10 +23,10 @@ struct Answered {
     told: MemSink,
 }
 
-// A command over a store with the library, and an error output of this room.
+// A command over a store with the library and the wide cell, and an error output of this room.
 fn answer_to(alloc: Global, line: &str, room: usize) -> Result<Answered, NoMemory> {
     let words = words_of(alloc, line)?;
-    let files = file_map(alloc, &[("n.sp", LIBRARY)])?;
+    let files = file_map(alloc, &[("n.sp", LIBRARY), ("wide.sp", WIDE)])?;
     let mut store = MemStore::new(alloc, files, 60, 10_000, FailList::new(alloc))?;
     let mut printed = MemSink::new(alloc, 4_000, FailList::new(alloc))?;
     let mut told = MemSink::new(alloc, room, FailList::new(alloc))?;
@@ -42,7 +49,7 @@ fn answer_to(alloc: Global, line: &str, room: usize) -> Result<Answered, NoMemor
 // output.
 type Row = (&'static str, usize, u8, &'static str, &'static str);
 
-static ROWS: [Row; 7] = [
+static ROWS: [Row; 11] = [
     ("respond n.sp NAND2 11", 100, 0, "ZN=0\n", ""),
     (
         "respond m.sp NAND2 11",
@@ -53,6 +60,34 @@ static ROWS: [Row; 7] = [
     ),
     ("respond m.sp NAND2 11", 9, 4, "", "cellaware"),
     ("respond n.sp NONE 11", 0, 2, "", ""),
+    (
+        "respond n.sp tg 11",
+        100,
+        2,
+        "",
+        "cellaware: cell TG: InputDrivesChannel\n  pin A, device M1\n",
+    ),
+    (
+        "respond n.sp TG 11",
+        51,
+        2,
+        "",
+        "cellaware: cell TG: InputDrivesChannel\n  pin A, dev",
+    ),
+    (
+        "respond n.sp TG 11",
+        20,
+        2,
+        "",
+        "cellaware: cell TG: ",
+    ),
+    (
+        "defects wide.sp WIDE",
+        100,
+        2,
+        "",
+        "cellaware: cell WIDE: TooManyInputs\n  7 inputs, at most 6\n",
+    ),
     ("--version", 100, 0, "cellaware 0.2.0\n", ""),
     ("--version now", 100, 1, "", "cellaware: bad command line\n"),
     ("--Help", 100, 1, "", "cellaware: bad command line\n"),

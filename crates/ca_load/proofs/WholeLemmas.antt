@@ -119,8 +119,8 @@ module _ (files : Option Files) (told : Files) (are : files ≡ Some told) (befo
     no_break broken first = gives.kept first.at broken first.breaks
 
     no_link : (fault : Fault) → IsLinkingCause inputs fault → ⊥
-    no_link (Cell name broken) (u, (of, first)) = no_break (rule.Cell u broken) first
-    no_link (fault_.Chip broken) (plain, first) = no_break broken first
+    no_link (Cell name broken place) (u, (of, (first, placed))) = no_break (rule.Cell u broken) first
+    no_link (fault_.Chip broken place) (plain, (first, placed)) = no_break broken first
     no_link (Limit limit.Instances count) first = no_break (rule.TooManyInstances count) first
     no_link (Limit limit.Inputs count) first = no_break (rule.TooManyInputs count) first
     no_link (Limit limit.Outputs count) first = no_break (rule.TooManyOutputs count) first

@@ -94,8 +94,8 @@ IsInputCause names files before after fault =
 
 -- the fault is one of linking or tracing
 abbrev pub IsChipFault : Fault → Type 0
-IsChipFault (Cell name rule) = ⊤
-IsChipFault (Chip rule) = IsPlainRule rule
+IsChipFault (Cell name rule place) = ⊤
+IsChipFault (Chip rule place) = IsPlainRule rule
 IsChipFault (Chain name) = ⊤
 IsChipFault (Limit limit.Instances count) = ⊤
 IsChipFault (Limit limit.Inputs count) = ⊤

@@ -12,6 +12,7 @@ use Rattle.ca_chip.specs.Linking.{IsLinkOf}
 use Rattle.ca_chip.specs.Rules.{IsFirstBroken, KeepsRules}
 use Rattle.ca_scan.specs.Chain.{IsFirstOff}
 use Rattle.ca_scan.specs.ChainFault.{AreAllChains, AreTooMany}
+use Rattle.ca_place.specs.Place.{MayTell, TellsPlace}
 use Rattle.ca_fault.specs.declared.fault.LimitKind.TheVariants as limit
 use Rattle.ca_fault.specs.declared.fault.Fault.{Fault}
 use Rattle.ca_fault.specs.declared.fault.Fault.TheVariants.{Cell, Chain, Limit}
@@ -51,11 +52,17 @@ abbrev pub IsOfCell : RawNetlist → InstanceId → List ℕ → Type 0
 IsOfCell netlist u name =
     IsSomeAnd (slice_get netlist.instances u.0) (λ instance. name ≡ upper_case instance.cell)
 
+-- the place names what the broken rule carries, or is empty
+abbrev pub IsPlaceOf : Inputs → ChipFault → List ℕ → Type 0
+IsPlaceOf inputs broken place = MayTell (TellsPlace inputs.netlist inputs.library inputs.rows broken) place
+
 -- why the inputs don't link: the first rule that they break, or the first limit that they pass
 abbrev pub IsLinkingCause : Inputs → Fault → Type 0
-IsLinkingCause inputs (Cell name broken) =
-    (u : InstanceId) × (IsOfCell inputs.netlist u name × BreakFirst inputs (rule.Cell u broken))
-IsLinkingCause inputs (fault.Chip broken) = IsPlainRule broken × BreakFirst inputs broken
+IsLinkingCause inputs (Cell name broken place) =
+    (u : InstanceId) × (IsOfCell inputs.netlist u name × (BreakFirst inputs (rule.Cell u broken)
+    × IsPlaceOf inputs (rule.Cell u broken) place))
+IsLinkingCause inputs (fault.Chip broken place) =
+    IsPlainRule broken × (BreakFirst inputs broken × IsPlaceOf inputs broken place)
 IsLinkingCause inputs (Limit limit.Instances count) = BreakFirst inputs (rule.TooManyInstances count)
 IsLinkingCause inputs (Limit limit.Inputs count) = BreakFirst inputs (rule.TooManyInputs count)
 IsLinkingCause inputs (Limit limit.Outputs count) = BreakFirst inputs (rule.TooManyOutputs count)

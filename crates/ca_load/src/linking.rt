@@ -12,10 +12,11 @@ use crate::loading::Loaded;
 use crate::reading::Read;
 use ca_base::NoMemory;
 use ca_cell::Library;
-use ca_chip::ChipFault;
+use ca_chip::{ChipFault, ScanRow, judge_instances};
 use ca_fault::{Fault, LimitKind};
 use ca_lex::{Text, fold};
 use ca_link::link;
+use ca_place::{place_of, refused_place};
 use ca_scan::{ChainFault, Chains, ScanTable, trace};
 use ca_verilog::RawNetlist;
 use ca_wired::{Chip, InstanceId};
@@ -36,9 +37,36 @@ pub(crate) fn link_all(alloc: Global, read: Read) -> Result<Loaded, Fault>
         netlist,
         scan,
     } = read;
+    judge_cells(alloc, &library, &netlist, scan.as_slice())?;
     let chip = chip_of(alloc, library, &netlist, &scan)?;
     let chains = chains_of(alloc, &chip)?;
     Ok(Loaded { chip, chains })
+}
+
+// The first instance whose cell breaks a rule is told before linking takes the library over, which has the
+// names of the cell's pins and transistors.
+fn judge_cells(
+    alloc: Global,
+    library: &Library,
+    netlist: &RawNetlist,
+    scan: &[ScanRow],
+) -> Result<(), Fault>
+    requires rules { IsNetlist netlist.now }
+    requires distinct { IsDistinct bytes_eq (map (λ row. row.cell) scan.now) }
+
+    ensures { IfErr result (IsLinkStage
+        (record { library = library.now; netlist = netlist.now; rows = scan.now })) }
+{
+    if let Err(ChipFault::Cell { instance, rule }) = judge_instances(
+        alloc, netlist, library, scan,
+    ) {
+        return Err(Fault::Cell {
+            cell: cell_name(alloc, netlist, instance)?,
+            rule,
+            place: refused_place(alloc, netlist, library, instance, rule),
+        });
+    }
+    Ok(())
 }
 
 // The chip of a netlist.
@@ -61,6 +89,7 @@ fn chip_of(
         Err(ChipFault::Cell { instance, rule }) => Err(Fault::Cell {
             cell: cell_name(alloc, netlist, instance)?,
             rule,
+            place: Text::new(alloc),
         }),
         Err(ChipFault::TooManyInstances { count }) => Err(Fault::Limit {
             kind: LimitKind::Instances,
@@ -79,7 +108,10 @@ fn chip_of(
             count,
         }),
         Err(ChipFault::NoMemory) => Err(Fault::NoMemory),
-        Err(rule) => Err(Fault::Chip(rule)),
+        Err(rule) => {
+            let place = place_of(alloc, netlist, &rule);
+            Err(Fault::Chip { rule, place })
+        }
     }
 }
 

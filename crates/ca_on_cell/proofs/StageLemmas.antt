@@ -6,7 +6,6 @@ use Rattle.ca_lex.specs.Words.{upper_case}
 use Rattle.ca_cell.specs.declared.raw.RawCell.{RawCell}
 use Rattle.ca_cell.specs.declared.library.Entry.TheVariants.{Sound, Refused}
 use Rattle.ca_cell.specs.Library.{Named, entry_of}
-use Rattle.ca_cell.specs.Rules.{IsFirstBroken}
 use Rattle.ca_fault.specs.declared.fault.Fault.{Fault}
 use Rattle.ca_fault.specs.declared.fault.Fault.TheVariants.{NoCell, Cell, BadVector, NoDefect, NoMemory}
 use Rattle.ca_load.specs.Texts.{IsLibraryOf}
@@ -14,7 +13,7 @@ use Rattle.ca_load.specs.Causes.{IsLibraryCause}
 use Rattle.ca_asked.specs.Vectors.{dash}
 use Rattle.ca_on_cell.specs.Cells.{OfFile}
 use Rattle.ca_on_cell.specs.Outputs.{asked_network}
-use Rattle.ca_on_cell.specs.Causes.{IsCellCause, IsFirstUnfit, IsPairCause, IsVectorCause, IsValueCause}
+use Rattle.ca_on_cell.specs.Causes.{BreaksAt, IsCellCause, IsFirstUnfit, IsPairCause, IsVectorCause, IsValueCause}
 use Rattle.ca_on_cell.specs.Stages.{IsEntryCause, IsEvaluationCause}
 use Rattle.ca_on_cell.proofs.FileLemmas.{of_entry, of_none}
 
@@ -37,8 +36,9 @@ module _ (name word : List ℕ) (files : Option Files) (library : List Named)
   -- a word that finds no cell in the library that was read finds none in the file
   pub of_entry_cause : (fault : Fault) → IsEntryCause word library fault → IsCellCause name word files before after fault
   of_entry_cause (NoCell typed) (same, missing) = inr (same, of_none files name word library read missing)
-  of_entry_cause (Cell cell rule) (same, refuses) =
-      inr (same, of_entry files name word library read (Refused refuses.raw rule) (λ raw. IsFirstBroken raw rule) refuses.found refuses.broken)
+  of_entry_cause (Cell cell rule place) (same, refuses) =
+      inr (same, of_entry files name word library read (Refused refuses.raw rule) (BreaksAt rule place) refuses.found
+      (record { broken = refuses.broken; placed = refuses.placed }))
   of_entry_cause fault cause = absurd cause
 
   -- a cell of the library without values is one of the file

@@ -4,7 +4,9 @@ use Rattle.std.specs.Prelude.{◌≡◌, ◌≢◌, ◌⊎◌, ℕ, List, Option
 use Rattle.ca_store.specs.Store.{Files}
 use Rattle.ca_lex.specs.Words.{upper_case}
 use Rattle.ca_cell.specs.declared.raw.RawCell.{RawCell}
+use Rattle.ca_cell.specs.declared.rule.CellRule.{CellRule}
 use Rattle.ca_cell.specs.Rules.{KeepsRules, IsFirstBroken}
+use Rattle.ca_place.specs.Place.{MayTell, rule_text}
 use Rattle.ca_fault.specs.declared.fault.Fault.{Fault}
 use Rattle.ca_fault.specs.declared.fault.Fault.TheVariants.{NoCell, Cell, BadVector, NoDefect}
 use Rattle.ca_load.specs.Causes.{IsLibraryCause}
@@ -12,12 +14,21 @@ use Rattle.ca_asked.specs.Vectors.{dash}
 use Rattle.ca_on_cell.specs.Cells.{OfFile, OfCell, LacksCell}
 use Rattle.ca_on_cell.specs.Outputs.{Fits, asked_network}
 
+-- the place names what the rule carries that the cell breaks, or is empty
+abbrev pub IsRulePlace : RawCell → CellRule → List ℕ → Type 0
+IsRulePlace raw rule place = MayTell (λ text. text ≡ rule_text raw rule) place
+
+-- the rule is the first that the cell breaks, with its place
+pub record BreaksAt (rule : CellRule) (place : List ℕ) (raw : RawCell) : Type 0 where
+  pub broken : IsFirstBroken raw rule
+  pub placed : IsRulePlace raw rule place
+
 -- why a word finds no cell in a file: it names none, or one that breaks a rule, the first of those that it
 -- breaks
 abbrev pub IsNameCause : List ℕ → List ℕ → Option Files → Fault → Type 0
 IsNameCause name word files (NoCell typed) = (typed ≡ word) × OfFile files name (LacksCell word)
-IsNameCause name word files (Cell cell rule) =
-    (cell ≡ upper_case word) × OfCell files name word (λ raw. IsFirstBroken raw rule)
+IsNameCause name word files (Cell cell rule place) =
+    (cell ≡ upper_case word) × OfCell files name word (BreaksAt rule place)
 IsNameCause name word files _ = ⊥
 
 -- the first of the two vectors that has more or fewer letters than the cell has input pins

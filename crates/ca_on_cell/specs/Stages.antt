@@ -10,7 +10,7 @@ use Rattle.ca_on_cell.specs.declared.inputs.TypedWords.{TypedWords}
 use Rattle.ca_fault.specs.declared.fault.Fault.{Fault}
 use Rattle.ca_fault.specs.declared.fault.Fault.TheVariants.{NoCell, Cell, BadVector, NoMemory}
 use Rattle.ca_on_cell.specs.Outputs.{Fits}
-use Rattle.ca_on_cell.specs.Causes.{IsPairCause}
+use Rattle.ca_on_cell.specs.Causes.{IsRulePlace, IsPairCause}
 
 -- the words of a file and a cell as they were typed, and the cell's also in upper case
 pub record AreTyped (cells cell : List ℕ) (typed : TypedWords) : Type 0 where
@@ -18,16 +18,18 @@ pub record AreTyped (cells cell : List ℕ) (typed : TypedWords) : Type 0 where
   pub cell_is : typed.cell ≡ cell
   pub upper_is : typed.upper_cell ≡ upper_case cell
 
--- the word names a subcircuit that breaks this rule first
-pub record RefusesCell (library : List Named) (word : List ℕ) (rule : CellRule) : Type 0 where
+-- the word names a subcircuit that breaks this rule first, with this place
+pub record RefusesCell (library : List Named) (word : List ℕ) (rule : CellRule) (place : List ℕ) : Type 0 where
   pub raw : RawCell
   pub found : entry_of library (upper_case word) ≡ Some (Refused raw rule)
   pub broken : IsFirstBroken raw rule
+  pub placed : IsRulePlace raw rule place
 
--- why a word finds no cell in a library; never want of memory
+-- why a word finds no cell in a library; never want of memory, for which the place is empty
 abbrev pub IsEntryCause : List ℕ → List Named → Fault → Type 0
 IsEntryCause word library (NoCell typed) = (typed ≡ word) × (entry_of library (upper_case word) ≡ None)
-IsEntryCause word library (Cell name rule) = (name ≡ upper_case word) × RefusesCell library word rule
+IsEntryCause word library (Cell name rule place) =
+    (name ≡ upper_case word) × RefusesCell library word rule place
 IsEntryCause word library _ = ⊥
 
 -- why a vector isn't one of the cell

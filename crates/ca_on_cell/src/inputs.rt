@@ -10,6 +10,7 @@ use ca_base::NoMemory;
 use ca_cell::{Cell, Entry, Library};
 use ca_fault::Fault;
 use ca_lex::{Text, fold};
+use ca_place::rule_place;
 use ca_words::CellWords;
 use std::alloc::Global;
 
@@ -33,9 +34,10 @@ pub fn typed_words(alloc: Global, words: &CellWords<'_>) -> Result<TypedWords, N
     })
 }
 
-/// The cell of a name, which may be in any case. It takes no memory: the word stands in memory of its own,
-/// as it was typed and in upper case.
+/// The cell of a name, which may be in any case. Only the place of a rule takes memory, and where there is
+/// none the place is empty: the word stands in memory of its own, as it was typed and in upper case.
 pub fn find_cell<'a>(
+    alloc: Global,
     library: &'a Library,
     word: &str,
     typed: Text,
@@ -51,9 +53,10 @@ pub fn find_cell<'a>(
 {
     match library.get(word.as_bytes()) {
         Some(Entry::Sound(cell)) => Ok(cell),
-        Some(Entry::Refused(_, rule)) => Err(Fault::Cell {
+        Some(Entry::Refused(raw, rule)) => Err(Fault::Cell {
             cell: upper,
             rule: *rule,
+            place: rule_place(alloc, raw, *rule),
         }),
         None => Err(Fault::NoCell { word: typed }),
     }

@@ -39,7 +39,7 @@ pub fn find_names<S: Store>(
 {
     let typed = typed_words(alloc, request)?;
     let library = open_library(alloc, request.cells, typed.cells, store)?;
-    let cell = find_cell(&library, request.cell, typed.cell, typed.upper_cell)?;
+    let cell = find_cell(alloc, &library, request.cell, typed.cell, typed.upper_cell)?;
     Ok(names_of(alloc, cell)?)
 }
 

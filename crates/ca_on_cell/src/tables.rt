@@ -35,6 +35,6 @@ pub fn find_matrix<S: Store>(
 {
     let typed = typed_words(alloc, request)?;
     let library = open_library(alloc, request.cells, typed.cells, store)?;
-    let cell = find_cell(&library, request.cell, typed.cell, typed.upper_cell)?;
+    let cell = find_cell(alloc, &library, request.cell, typed.cell, typed.upper_cell)?;
     Ok(Matrix::build(alloc, cell)?)
 }

@@ -44,7 +44,13 @@ pub fn find_values<S: Store>(
 {
     let typed = typed_words(alloc, &request.of)?;
     let library = open_library(alloc, request.of.cells, typed.cells, store)?;
-    let cell = find_cell(&library, request.of.cell, typed.cell, typed.upper_cell)?;
+    let cell = find_cell(
+        alloc,
+        &library,
+        request.of.cell,
+        typed.cell,
+        typed.upper_cell,
+    )?;
     evaluate(alloc, cell, request)
 }
 

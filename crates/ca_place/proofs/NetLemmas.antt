@@ -1,0 +1,96 @@
+-- The net that a fault tells is known by the wire that the code finds.
+use Rattle.std.proofs.Common.{◌≡◌, ℕ, ◌<◌, ◌⊎◌, List, [], ◌∷◌, inl, inr, refl, sym, subst, arith, Result, Ok, Err}
+use Rattle.std.specs.Prelude.{slice_get, IfOk}
+use Rattle.ca_cell.specs.Library.{Named}
+use Rattle.ca_verilog.specs.declared.raw.RawInstance.{RawInstance}
+use Rattle.ca_verilog.specs.declared.raw.RawNetlist.{RawNetlist}
+use Rattle.ca_wired.specs.declared.parts.NetId.{NetId}
+use Rattle.ca_chip.specs.declared.scan_row.ScanRow.{ScanRow}
+use Rattle.ca_chip.specs.declared.fault.Driver.{Driver}
+use Rattle.ca_chip.specs.declared.fault.ChipFault.{ChipFault}
+use Rattle.ca_chip.specs.declared.fault.ChipFault.TheVariants as fault
+use Rattle.ca_chip.specs.Wiring.{Meaning, Unknown, Broken, Library, ScanCell, meaning_of, wiring_of}
+use Rattle.ca_chip.specs.InstanceRules.{AreSound, HasStrayPin, IsKnown, LacksPin}
+use Rattle.ca_chip.specs.Rules.{BreaksAt, IsCause, IsEarlier, IsFirstBroken, IsNetAt}
+use Rattle.ca_wired.proofs.DriverLemmas.{to_some}
+use Rattle.ca_place.specs.Place.{MayTell, TellsPlace, double_text, net_text}
+use Rattle.ca_place.specs.Touched.{HasKnownWire, IsKnownBy}
+
+module _ (raw : RawNetlist) (library : List Named) (scan : List ScanRow) where
+  -- where no rule on an instance is broken, each instance keeps its rules
+  sound_where : ((u : ℕ) (tail : List ℕ) (broken : ChipFault) → BreaksAt raw library scan (1 ∷ u ∷ tail) broken → ⊥) → AreSound raw library scan
+  sound_where none u instance at = record {
+    known = by (meaning_of library scan instance.cell) refl;
+    no_stray = λ place pin stray. none u (1 ∷ place ∷ []) (fault.UnknownPin (record { 0 = u }) pin)
+        (place, refl, to_some (λ (i : RawInstance). Stray i place pin) (slice_get raw.instances u) instance at stray);
+    no_open = λ place pin lacks. none u (2 ∷ place ∷ []) (fault.MissingPin (record { 0 = u }) pin)
+        (place, refl, to_some (λ (i : RawInstance). Lacks i place pin) (slice_get raw.instances u) instance at lacks);
+  }
+    where
+      Stray : RawInstance → ℕ → List ℕ → Type 0
+      Stray i place pin = HasStrayPin (meaning_of library scan i.cell) i.pins place pin
+
+      Lacks : RawInstance → ℕ → List ℕ → Type 0
+      Lacks i place pin = LacksPin (meaning_of library scan i.cell) i.pins place pin
+
+      by : (meaning : Meaning) → meaning_of library scan instance.cell ≡ meaning → IsKnown meaning
+      by Unknown means = absurd (none u (0 ∷ []) (fault.UnknownCell (record { 0 = u }))
+          (refl, to_some (λ (i : RawInstance). meaning_of library scan i.cell ≡ Unknown) (slice_get raw.instances u) instance at means))
+      by (Broken rule) means = absurd (none u (0 ∷ []) (fault.Cell (record { 0 = u }) rule)
+          (refl, to_some (λ (i : RawInstance). meaning_of library scan i.cell ≡ Broken rule) (slice_get raw.instances u) instance at means))
+      by (Library raw) means = tt
+      by (ScanCell row) means = tt
+
+  -- a rule behind those on instances is the first that is broken
+  sound_before : (stage : ℕ) (tail : List ℕ) (broken : ChipFault) (first : IsFirstBroken raw library scan broken) → first.at ≡ stage ∷ tail
+      → 1 < stage → AreSound raw library scan
+  sound_before stage tail broken first at later =
+      sound_where (λ u rest other breaks. first.none_before (1 ∷ u ∷ rest) other (subst (IsEarlier (1 ∷ u ∷ rest)) (sym at) (inl later)) breaks)
+
+  -- the net of a number is known by the wire
+  net_at : (net wire : ℕ) → AreSound raw library scan → (other : ℕ) → IsNetAt (wiring_of raw library scan) net other → IsKnownBy raw net wire
+      → IsNetAt (wiring_of raw library scan) net wire
+  net_at net wire sound other at known = record { nets = at.nets; are = at.are; at = known library scan sound at.nets at.are }
+
+  pub of_undriven : (net : NetId) (text : List ℕ) → MayTell (HasKnownWire raw net.0 net_text) text
+      → IsCause raw library scan (fault.Undriven net) → MayTell (TellsPlace raw library scan (fault.Undriven net)) text
+  of_undriven net text (inl none) cause = inl none
+  of_undriven net text (inr (wire, known, is)) cause =
+      let sound = sound_before 2 (net.0 ∷ []) (fault.Undriven net) cause cause.breaks.0 (omega arith) in
+      inr (wire, net_at net.0 wire sound cause.breaks.1.wire cause.breaks.1.is_net known, is)
+
+  pub of_double : (net : NetId) (first second : Driver) (text : List ℕ)
+      → MayTell (HasKnownWire raw net.0 (λ name. double_text raw.instances name first second)) text
+      → IsCause raw library scan (fault.DoubleDriven net first second)
+      → MayTell (TellsPlace raw library scan (fault.DoubleDriven net first second)) text
+  of_double net first second text (inl none) cause = inl none
+  of_double net first second text (inr (wire, known, is)) cause =
+      let sound = sound_before 2 (net.0 ∷ []) (fault.DoubleDriven net first second) cause cause.breaks.0 (omega arith) in
+      inr (wire, net_at net.0 wire sound cause.breaks.1.wire cause.breaks.1.is_net known, is)
+
+  pub of_observed : (net : NetId) (text : List ℕ) → MayTell (HasKnownWire raw net.0 net_text) text
+      → IsCause raw library scan (fault.ControlObserved net) → MayTell (TellsPlace raw library scan (fault.ControlObserved net)) text
+  of_observed net text (inl none) cause = inl none
+  of_observed net text (inr (wire, known, is)) cause =
+      let sound = sound_before _ _ (fault.ControlObserved net) cause cause.breaks.0 (omega arith) in
+      inr (wire, net_at net.0 wire sound cause.breaks.1.wire cause.breaks.1.is_net known, is)
+
+module _ (raw : RawNetlist) (broken : ChipFault) (net : NetId) (text : List ℕ) where
+  pub told_double : (first second : Driver) → broken ≡ fault.DoubleDriven net first second
+      → MayTell (HasKnownWire raw net.0 (λ name. double_text raw.instances name first second)) text → (library : List Named)
+      (scan : List ScanRow) → IsCause raw library scan broken → MayTell (TellsPlace raw library scan broken) text
+  told_double first second is tells library scan =
+      subst (λ b. IsCause raw library scan b → MayTell (TellsPlace raw library scan b) text) (sym is)
+      (of_double raw library scan net first second text tells)
+
+  pub told_net : (broken ≡ fault.Undriven net) ⊎ (broken ≡ fault.ControlObserved net) → MayTell (HasKnownWire raw net.0 net_text) text
+      → (library : List Named) (scan : List ScanRow) → IsCause raw library scan broken → MayTell (TellsPlace raw library scan broken) text
+  told_net (inl is) tells library scan =
+      subst (λ b. IsCause raw library scan b → MayTell (TellsPlace raw library scan b) text) (sym is) (of_undriven raw library scan net text tells)
+  told_net (inr is) tells library scan =
+      subst (λ b. IsCause raw library scan b → MayTell (TellsPlace raw library scan b) text) (sym is) (of_observed raw library scan net text tells)
+
+-- what holds of an answer follows from what is known of it
+pub ok_then : {T E : Type 0} (r : Result T E) (P Q : T → Type 0) → ((x : T) → P x → Q x) → IfOk r P → IfOk r Q
+ok_then (Ok x) P Q next held = next x held
+ok_then (Err e) P Q next held = tt
