@@ -74,13 +74,7 @@ static ROWS: [Row; 11] = [
         "",
         "cellaware: cell TG: InputDrivesChannel\n  pin A, dev",
     ),
-    (
-        "respond n.sp TG 11",
-        20,
-        2,
-        "",
-        "cellaware: cell TG: ",
-    ),
+    ("respond n.sp TG 11", 20, 2, "", "cellaware: cell TG: "),
     (
         "defects wide.sp WIDE",
         100,

@@ -37,8 +37,11 @@ module _ (name word : List ℕ) (files : Option Files) (library : List Named)
   pub of_entry_cause : (fault : Fault) → IsEntryCause word library fault → IsCellCause name word files before after fault
   of_entry_cause (NoCell typed) (same, missing) = inr (same, of_none files name word library read missing)
   of_entry_cause (Cell cell rule place) (same, refuses) =
-      inr (same, of_entry files name word library read (Refused refuses.raw rule) (BreaksAt rule place) refuses.found
-      (record { broken = refuses.broken; placed = refuses.placed }))
+      inr (
+        same,
+        of_entry files name word library read (Refused refuses.raw rule) (BreaksAt rule place) refuses.found
+            (record { broken = refuses.broken; placed = refuses.placed }),
+      )
   of_entry_cause fault cause = absurd cause
 
   -- a cell of the library without values is one of the file
