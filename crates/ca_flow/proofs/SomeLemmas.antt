@@ -1,6 +1,6 @@
 -- Where the file of a command is there, the command can be answered, or a fault of input has a cause.
 use Rattle.std.proofs.Common.{ℕ, ◌≡◌, ◌≤◌, ◌<◌, ◌+◌, ◌⊎◌, ◌∙◌, inl, inr, refl, sym, subst, arith, List}
-use Rattle.std.proofs.Common.{length, Option, Some, None, Result, Ok, Err, true≢false}
+use Rattle.std.proofs.Common.{[], length, Option, Some, None, Result, Ok, Err, true≢false}
 use Rattle.std.specs.Prelude.{IsSome, IsNone, IsOk, IsSomeAnd}
 use Rattle.std.proofs.Math.Decide.{dec_le}
 use Rattle.std.proofs.lemmas.Option.{same_Some}

@@ -75,7 +75,7 @@ pub fn tell<E: Sink>(fault: &Fault, err: &mut E) -> u8
 
 // Appends the line of a fault, and the one with the names of what it carries. After `Failed` some of their
 // first bytes were appended.
-#[tactic(auto, using(crate::proofs::LineLemmas::both_lines, crate::proofs::LineLemmas::part_of_line, crate::proofs::LineLemmas::part_of_place, crate::proofs::LineLemmas::rose_later))]
+#[tactic(auto, using(crate::proofs::LineLemmas::both_lines, crate::proofs::LineLemmas::rose_later))]
 fn print_lines<E: Sink>(fault: &Fault, err: &mut E) -> Result<(), Failed>
     ensures ok { OnOk result (E.bytes err.new ≡ appended (lines_of fault.now) (E.bytes err.old)) }
     ensures err { OnErr result
