@@ -1,7 +1,8 @@
 //! What pairs are credited with on chips that were worked out by hand, and how often is aimed for it.
 
-ghost use Rattle.std.specs.Prelude.{◌≡◌, length, IfSome};
+ghost use Rattle.std.specs.Prelude.{◌≡◌, ◌<◌, ◌^◌, length, IfSome};
 ghost use Rattle.std.specs.List.{All};
+ghost use Rattle.ca_flat.specs.Pair.{bit_count};
 
 use crate::chips::{C17, INV};
 use crate::told::summary;
@@ -12,131 +13,156 @@ use ca_core_bench::core_bench;
 use ca_core_links::CoreLinks;
 use ca_core_tables::CoreTables;
 use ca_credit::{BLOCK, Credits, Simulator};
-use ca_generate::{Unwatched, generate};
+use ca_generate::{Bench, Unwatched, generate};
 use ca_lex::Text;
 use ca_pair::{Pair, Pairs};
 use ca_sim::Linked;
 use ca_wired::Chip;
 use std::alloc::Global;
 
-// The pattern bits of each pair on c17.
-const DRAWN_BITS: usize = 10;
-
-// How many pairs are drawn: one more than a block has.
-const DRAWN_PAIRS: usize = 257;
-
-// A pair of these bits, each a letter 0 or 1.
-fn pair_of(alloc: Global, bits: &[u8]) -> Option<Pair> {
-    let mut pair = Pair::new(alloc);
-    for bit in bits {
-        pair.push(*bit == b'1').ok()?;
-    }
-    Some(pair)
-}
-
-// How many defects of a chip the pair is credited with, and how often is aimed for it.
-fn credited_by(alloc: Global, chip: &Chip, bits: &[u8]) -> Option<(u32, u64)> {
-    let tables = CoreTables::new(alloc, chip).ok()?;
-    let links = CoreLinks::new(alloc, chip).ok()?;
-    let rows = ChipRows::new(alloc, chip).ok()?;
-    let choice = chip_choice(alloc, &tables, &links).ok()?;
-    let mut bench = core_bench(alloc, &tables, &links, &rows, choice, 0).ok()?;
-    let count = bench.defect_count();
-    let mut credits = Credits::reserve(alloc, count).ok()?;
-    let pair = pair_of(alloc, bits)?;
-    tables.linked();
-    if count > u32::MAX as usize || pair.len() != 2 * tables.inputs() {
-        return None;
-    }
-    let before = bench.aim_count();
-    let credited = credits.credit_pair(&mut bench, &pair, 0);
-    Some((credited, bench.aim_count().saturating_sub(before)))
-}
-
-// Three of the nine defects of an inverter are detected where its input falls, and four are suspect.
-#[test]
-fn a_falling_input_of_an_inverter(rt: HostRuntime) {
-    let alloc = rt.alloc();
-    let told = match linked(alloc, INV) {
-        Some(chip) => credited_by(alloc, &chip, b"10"),
-        None => None,
-    };
-    match told {
-        Some((credited, aims)) => {
-            assert!(rt; credited == 3, "{credited}");
-            assert!(rt; aims <= 6, "{aims}");
-        }
-        None => assert!(rt; false, "no memory"),
-    }
-}
-
-// The pair of a number: its bits are those of 37 times the number, the lowest first.
-fn drawn(alloc: Global, number: usize) -> Option<Pair>
-    ensures { IfSome result (λ pair. length pair ≡ DRAWN_BITS) }
+// A pair of so many bits: those of a number, the lowest first.
+fn drawn(alloc: Global, number: usize, bits: usize) -> Option<Pair>
+    ensures { IfSome result (λ pair. length pair ≡ bits) }
 {
-    let mut left = number.wrapping_mul(37);
+    let mut left = number;
     let mut pair = Pair::new(alloc);
-    for _ in 0..DRAWN_BITS {
+    for _ in 0..bits {
         pair.push(left % 2 == 1).ok()?;
         left /= 2;
     }
     Some(pair)
 }
 
-// The drawn pairs.
-fn drawn_pairs(alloc: Global) -> Option<Pairs>
-    ensures bits { IfSome result (All (λ pair. length pair ≡ DRAWN_BITS)) }
-    ensures count { IfSome result (λ pairs. length pairs ≡ DRAWN_PAIRS) }
+// Pairs of so many bits, of the multiples of a number, the first of which is given.
+fn drawn_pairs(
+    alloc: Global,
+    first: usize,
+    count: usize,
+    factor: usize,
+    bits: usize,
+) -> Option<Pairs>
+    ensures bits { IfSome result (All (λ pair. length pair ≡ bits)) }
+    ensures count { IfSome result (λ pairs. length pairs ≡ count) }
 {
     let mut pairs = Pairs::new(alloc);
-    for number in 0..DRAWN_PAIRS {
-        pairs.push(drawn(alloc, number)?).ok()?;
+    for k in 0..count {
+        let number = first.wrapping_add(k).wrapping_mul(factor);
+        pairs.push(drawn(alloc, number, bits)?).ok()?;
     }
     Some(pairs)
 }
 
-// The credits of the drawn pairs on a chip, and how many these are: by blocks, or pair by pair.
-fn credits_of(alloc: Global, chip: &Chip, pairs: &[Pair], by_blocks: bool) -> Option<(String, u32)>
-    requires bits { All (λ pair. length pair ≡ DRAWN_BITS) pairs.now }
-    requires count { length pairs.now ≡ DRAWN_PAIRS }
+// What is asked of a bench: the credits of pairs, one by one or by two blocks; or the whole work, without pairs.
+#[derive(Clone, Copy)]
+enum Asked {
+    Singles,
+    Blocks,
+    Work,
+}
+
+// The credits of pairs as a text, behind how many these are.
+fn credits_by<B: Bench>(
+    alloc: Global,
+    bench: &mut B,
+    pairs: &[Pair],
+    by_blocks: bool,
+) -> Option<Text>
+    requires few { length (B.task bench.old).defects < 2 ^ 32 }
+    requires bits { All (λ pair. length pair ≡ bit_count (B.task bench.old).chip) pairs.now }
+    requires numbers { length pairs.now < 2 ^ 32 }
+{
+    let mut credits = Credits::reserve(alloc, bench.defect_count()).ok()?;
+    let mut credited = 0u32;
+    if by_blocks {
+        credited = credits.credit_block(bench, pairs, 0);
+        if pairs.len() > BLOCK {
+            credited = credited.saturating_add(credits.credit_block(bench, pairs, BLOCK));
+        }
+    } else {
+        for number in 0..pairs.len() {
+            let more = credits.credit_pair(bench, &pairs[number], number as u32);
+            credited = credited.saturating_add(more);
+        }
+    }
+    let text = format!(in alloc; "{credited} {credits:?}").ok()?;
+    Text::from_bytes(alloc, text.as_bytes()).ok()
+}
+
+// What is generated, summed up.
+fn work_by<B: Bench>(alloc: Global, bench: &mut B) -> Option<Text>
+    requires { length (B.task bench.old).defects < 2 ^ 32 }
+{
+    let made = generate(alloc, bench, &mut Unwatched).ok()?;
+    summary(alloc, &made).ok()
+}
+
+// What a bench of a chip answers within a budget, how often was aimed, and how often an instance was evaluated.
+// Pairs have so many bits.
+fn told(
+    alloc: Global,
+    chip: &Chip,
+    budget: u32,
+    pairs: &[Pair],
+    bits: usize,
+    asked: Asked,
+) -> Option<(Text, u64, u64)>
+    requires bits { All (λ pair. length pair ≡ bits) pairs.now }
+    requires numbers { length pairs.now < 2 ^ 32 }
 {
     let tables = CoreTables::new(alloc, chip).ok()?;
     let links = CoreLinks::new(alloc, chip).ok()?;
     let rows = ChipRows::new(alloc, chip).ok()?;
     let choice = chip_choice(alloc, &tables, &links).ok()?;
-    let mut bench = core_bench(alloc, &tables, &links, &rows, choice, 0).ok()?;
-    let count = bench.defect_count();
-    let mut credits = Credits::reserve(alloc, count).ok()?;
+    let mut bench = core_bench(alloc, &tables, &links, &rows, choice, budget).ok()?;
     tables.linked();
-    if count > u32::MAX as usize || DRAWN_BITS != 2 * tables.inputs() {
+    if bench.defect_count() > u32::MAX as usize || bits != 2 * tables.inputs() {
         return None;
     }
-    let mut credited = 0u32;
-    if by_blocks {
-        credited = credits.credit_block(&mut bench, pairs, 0);
-        credited = credited.saturating_add(credits.credit_block(&mut bench, pairs, BLOCK));
-    } else {
-        for number in 0..pairs.len() {
-            let more = credits.credit_pair(&mut bench, &pairs[number], number as u32);
-            credited = credited.saturating_add(more);
-        }
-    }
-    Some((format!(in alloc; "{credits:?}").ok()?, credited))
+    let text = match asked {
+        Asked::Singles => credits_by(alloc, &mut bench, pairs, false)?,
+        Asked::Blocks => credits_by(alloc, &mut bench, pairs, true)?,
+        Asked::Work => work_by(alloc, &mut bench)?,
+    };
+    Some((text, bench.aim_count(), bench.evaluation_count()))
 }
 
-// The credits of 257 pairs in two blocks, which are those of the pairs one by one.
+// Three of the nine defects of an inverter are detected where its input falls, and four are suspect.
+#[test]
+fn a_falling_input_of_an_inverter(rt: HostRuntime) {
+    let alloc = rt.alloc();
+    let chip = linked(alloc, INV).expect(&rt, "a chip");
+    let pairs = drawn_pairs(alloc, 1, 1, 1, 2).expect(&rt, "memory");
+    let (text, aims, _) = told(alloc, &chip, 0, pairs.as_slice(), 2, Asked::Singles).expect(
+        &rt, "memory",
+    );
+    assert!(rt; text.as_bytes().starts_with(b"3 "), "{:?}", text.as_bytes());
+    assert!(rt; aims <= 6, "{aims}");
+}
+
+// The credits of 257 pairs in two blocks, which are those of the pairs one by one. The bits of a pair are those of
+// 37 times its number.
 #[test]
 fn two_blocks_of_pairs(rt: HostRuntime) {
     let alloc = rt.alloc();
     let chip = linked(alloc, C17).expect(&rt, "a chip");
-    let pairs = drawn_pairs(alloc).expect(&rt, "memory");
-    let (blocks, credited) = credits_of(alloc, &chip, pairs.as_slice(), true).expect(&rt, "memory");
-    let (singles, one_by_one) = credits_of(alloc, &chip, pairs.as_slice(), false).expect(
+    let pairs = drawn_pairs(alloc, 0, 257, 37, 10).expect(&rt, "memory");
+    let (blocks, _, _) = told(alloc, &chip, 0, pairs.as_slice(), 10, Asked::Blocks).expect(
         &rt, "memory",
     );
-    assert!(rt; blocks == singles, "{blocks} {singles}");
-    assert!(rt; credited == one_by_one, "{credited} {one_by_one}");
-    assert!(rt; credited == 66, "{credited}");
+    let (singles, _, _) = told(alloc, &chip, 0, pairs.as_slice(), 10, Asked::Singles).expect(
+        &rt, "memory",
+    );
+    assert!(rt;
+        blocks == singles,
+        "{:?} {:?}",
+        blocks.as_bytes(),
+        singles.as_bytes()
+    );
+    assert!(rt;
+        blocks.as_bytes().starts_with(b"66 "),
+        "{:?}",
+        blocks.as_bytes()
+    );
 }
 
 // So many inverters, each between ports of its own.
@@ -153,31 +179,18 @@ fn inverters(alloc: Global, count: usize) -> Option<String> {
     Some(text)
 }
 
-// What is generated for a chip, summed up, how often was aimed, and how often an instance was evaluated.
-fn work_on(alloc: Global, chip: &Chip, budget: u32) -> Option<(Text, u64, u64)> {
-    let tables = CoreTables::new(alloc, chip).ok()?;
-    let links = CoreLinks::new(alloc, chip).ok()?;
-    let rows = ChipRows::new(alloc, chip).ok()?;
-    let choice = chip_choice(alloc, &tables, &links).ok()?;
-    let mut bench = core_bench(alloc, &tables, &links, &rows, choice, budget).ok()?;
-    if bench.defect_count() > u32::MAX as usize {
-        return None;
-    }
-    let made = generate(alloc, &mut bench, &mut Unwatched).ok()?;
-    let told = summary(alloc, &made).ok()?;
-    Some((told, bench.aim_count(), bench.evaluation_count()))
-}
-
 // Without a screen each of 200 pairs would be tried on nearly all of 900 defects.
 #[test]
 fn a_hundred_inverters(rt: HostRuntime) {
     let alloc = rt.alloc();
     let netlist = inverters(alloc, 100).expect(&rt, "memory");
     let chip = linked(alloc, netlist.as_bytes()).expect(&rt, "a chip");
-    let (told, aims, evaluations) = work_on(alloc, &chip, 64).expect(&rt, "memory");
+    let (text, aims, evaluations) = told(alloc, &chip, 64, &[], 200, Asked::Work).expect(
+        &rt, "memory",
+    );
     let wanted =
         b"defects 900, credited 600, unexposable 300, untestable 0, aborted 0, empty 0, pairs 200";
-    assert!(rt; told.is(wanted), "{:?}", told.as_bytes());
+    assert!(rt; text.is(wanted), "{:?}", text.as_bytes());
     assert!(rt; aims <= 2_000, "{aims}");
     assert!(rt; evaluations <= 400_000, "{evaluations}");
 }
