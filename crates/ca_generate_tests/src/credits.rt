@@ -3,10 +3,12 @@
 ghost use Rattle.std.specs.Prelude.{◌≡◌, ◌<◌, ◌^◌, length, IfSome};
 ghost use Rattle.std.specs.List.{All};
 ghost use Rattle.ca_flat.specs.Pair.{bit_count};
+ghost use Rattle.ca_core_links.specs.CoreLinks.{AreLinksOf};
 
 use crate::chips::{C17, INV};
 use crate::told::summary;
 use crate::worked::linked;
+use ca_base::NoMemory;
 use ca_chip_choice::chip_choice;
 use ca_chip_rows::ChipRows;
 use ca_core_bench::core_bench;
@@ -19,6 +21,7 @@ use ca_pair::{Pair, Pairs};
 use ca_sim::Linked;
 use ca_wired::Chip;
 use std::alloc::Global;
+use std::process::Abort;
 
 // A pair of so many bits: those of a number, the lowest first.
 fn drawn(alloc: Global, number: usize, bits: usize) -> Option<Pair>
@@ -96,45 +99,103 @@ fn work_by<B: Bench>(alloc: Global, bench: &mut B) -> Option<Text>
     summary(alloc, &made).ok()
 }
 
-// What a bench of a chip answers within a budget, how often was aimed, and how often an instance was evaluated.
-// Pairs have so many bits.
-fn told(
+// What a bench answers, which has few defects and whose pairs have so many bits.
+fn answer<B: Bench>(alloc: Global, bench: &mut B, pairs: &[Pair], asked: Asked) -> Option<Text>
+    requires bits { All (λ pair. length pair ≡ bit_count (B.task bench.old).chip) pairs.now }
+    requires numbers { length pairs.now < 2 ^ 32 }
+{
+    if bench.defect_count() > u32::MAX as usize {
+        return None;
+    }
+    match asked {
+        Asked::Singles => credits_by(alloc, bench, pairs, false),
+        Asked::Blocks => credits_by(alloc, bench, pairs, true),
+        Asked::Work => work_by(alloc, bench),
+    }
+}
+
+// What is told of a bench: its answer, how often was aimed, and how often an instance was evaluated.
+#[derive(Drop)]
+struct Told {
+    text: Option<Text>,
+    aims: u64,
+    evaluations: u64,
+}
+
+// What is told of a bench of a chip, of which tables, links and rows are at hand. Pairs have so many bits. The
+// bench goes out of scope at one place, since that is dear to prove.
+fn tell_over(
+    alloc: Global,
+    tables: &CoreTables<'_>,
+    links: &CoreLinks<'_>,
+    rows: &ChipRows<'_>,
+    budget: u32,
+    pairs: &[Pair],
+    bits: usize,
+    asked: Asked,
+) -> Result<Told, NoMemory>
+    requires links { AreLinksOf tables.now.chip links.now }
+    requires rows { rows.now.chip ≡ tables.now.chip }
+    requires bits { All (λ pair. length pair ≡ bits) pairs.now }
+    requires numbers { length pairs.now < 2 ^ 32 }
+{
+    tables.linked();
+    if bits != 2 * tables.inputs() {
+        return Err(NoMemory);
+    }
+    let choice = chip_choice(alloc, tables, links)?;
+    let mut bench = core_bench(alloc, tables, links, rows, choice, budget)?;
+    let text = answer(alloc, &mut bench, pairs, asked);
+    Ok(Told {
+        text,
+        aims: bench.aim_count(),
+        evaluations: bench.evaluation_count(),
+    })
+}
+
+// What is told of a bench of a chip.
+fn tell(
     alloc: Global,
     chip: &Chip,
     budget: u32,
     pairs: &[Pair],
     bits: usize,
     asked: Asked,
-) -> Option<(Text, u64, u64)>
+) -> Result<Told, NoMemory>
     requires bits { All (λ pair. length pair ≡ bits) pairs.now }
     requires numbers { length pairs.now < 2 ^ 32 }
 {
-    let tables = CoreTables::new(alloc, chip).ok()?;
-    let links = CoreLinks::new(alloc, chip).ok()?;
-    let rows = ChipRows::new(alloc, chip).ok()?;
-    let choice = chip_choice(alloc, &tables, &links).ok()?;
-    let mut bench = core_bench(alloc, &tables, &links, &rows, choice, budget).ok()?;
-    tables.linked();
-    if bench.defect_count() > u32::MAX as usize || bits != 2 * tables.inputs() {
-        return None;
-    }
-    let text = match asked {
-        Asked::Singles => credits_by(alloc, &mut bench, pairs, false)?,
-        Asked::Blocks => credits_by(alloc, &mut bench, pairs, true)?,
-        Asked::Work => work_by(alloc, &mut bench)?,
-    };
-    Some((text, bench.aim_count(), bench.evaluation_count()))
+    let tables = CoreTables::new(alloc, chip)?;
+    let links = CoreLinks::new(alloc, chip)?;
+    let rows = ChipRows::new(alloc, chip)?;
+    tell_over(alloc, &tables, &links, &rows, budget, pairs, bits, asked)
+}
+
+// What is told of a bench of the chip of a netlist.
+fn told_of(
+    rt: &impl Abort,
+    alloc: Global,
+    netlist: &[u8],
+    budget: u32,
+    pairs: &[Pair],
+    bits: usize,
+    asked: Asked,
+) -> (Text, u64, u64)
+    requires bits { All (λ pair. length pair ≡ bits) pairs.now }
+    requires numbers { length pairs.now < 2 ^ 32 }
+{
+    let chip = linked(alloc, netlist).expect(rt, "a chip");
+    let told = tell(alloc, &chip, budget, pairs, bits, asked).expect(rt, "memory");
+    let text = told.text.expect(rt, "memory");
+    (text, told.aims, told.evaluations)
 }
 
 // Three of the nine defects of an inverter are detected where its input falls, and four are suspect.
 #[test]
 fn a_falling_input_of_an_inverter(rt: HostRuntime) {
     let alloc = rt.alloc();
-    let chip = linked(alloc, INV).expect(&rt, "a chip");
     let pairs = drawn_pairs(alloc, 1, 1, 1, 2).expect(&rt, "memory");
-    let (text, aims, _) = told(alloc, &chip, 0, pairs.as_slice(), 2, Asked::Singles).expect(
-        &rt, "memory",
-    );
+    let (text, aims, _) = told_of(&rt, alloc, INV, 0, pairs.as_slice(), 2, Asked::Singles);
     assert!(rt; text.as_bytes().starts_with(b"3 "), "{:?}", text.as_bytes());
     assert!(rt; aims <= 6, "{aims}");
 }
@@ -144,14 +205,9 @@ fn a_falling_input_of_an_inverter(rt: HostRuntime) {
 #[test]
 fn two_blocks_of_pairs(rt: HostRuntime) {
     let alloc = rt.alloc();
-    let chip = linked(alloc, C17).expect(&rt, "a chip");
     let pairs = drawn_pairs(alloc, 0, 257, 37, 10).expect(&rt, "memory");
-    let (blocks, _, _) = told(alloc, &chip, 0, pairs.as_slice(), 10, Asked::Blocks).expect(
-        &rt, "memory",
-    );
-    let (singles, _, _) = told(alloc, &chip, 0, pairs.as_slice(), 10, Asked::Singles).expect(
-        &rt, "memory",
-    );
+    let (blocks, _, _) = told_of(&rt, alloc, C17, 0, pairs.as_slice(), 10, Asked::Blocks);
+    let (singles, _, _) = told_of(&rt, alloc, C17, 0, pairs.as_slice(), 10, Asked::Singles);
     assert!(rt;
         blocks == singles,
         "{:?} {:?}",
@@ -184,9 +240,14 @@ fn inverters(alloc: Global, count: usize) -> Option<String> {
 fn a_hundred_inverters(rt: HostRuntime) {
     let alloc = rt.alloc();
     let netlist = inverters(alloc, 100).expect(&rt, "memory");
-    let chip = linked(alloc, netlist.as_bytes()).expect(&rt, "a chip");
-    let (text, aims, evaluations) = told(alloc, &chip, 64, &[], 200, Asked::Work).expect(
-        &rt, "memory",
+    let (text, aims, evaluations) = told_of(
+        &rt,
+        alloc,
+        netlist.as_bytes(),
+        64,
+        &[],
+        200,
+        Asked::Work,
     );
     let wanted =
         b"defects 900, credited 600, unexposable 300, untestable 0, aborted 0, empty 0, pairs 200";
