@@ -142,7 +142,7 @@ fn the_second_line_has_the_names_of_scan_instances(rt: HostRuntime) -> Result<()
 
 // A ring of so many inverters.
 fn ring(rt: &impl Abort, alloc: Global, count: usize) -> String {
-    let top = count - 1;
+    let top = count.checked_sub(1).expect(rt, "one or more");
     let mut text = format!(in alloc; "module ring(z); output z; wire [0:{top}] w;").expect(
         rt, "memory",
     );
