@@ -3,6 +3,7 @@
 use crate::rows::{DEFECTS, DEFINITE, LINES, MATRIX, NAND2_LINES, PAIR, RESPOND};
 use ca_cell::CellRule;
 use ca_flow::Fault;
+use ca_lex::Text;
 use ca_net::{DeviceId, NodeId};
 use ca_store::{FailList, StoreCall};
 use ca_trial::{LIBRARY, Limits, Trial, check_end, check_rows, file_map, try_command};
@@ -79,22 +80,39 @@ fn a_matrix_stands_in_its_file(rt: HostRuntime) -> Result<(), Fail> {
     Ok(())
 }
 
+// What the matrix of the NAND leaves in its file, with this room for the file and for what is printed, where the
+// command ends so.
+fn left_file(
+    rt: &impl Abort,
+    alloc: Global,
+    space: usize,
+    room: usize,
+    row: &(&str, u8, &str, &str),
+) -> Result<Text, Fail> {
+    let line = "matrix n.sp NAND2 m.csv";
+    let ended = tried(rt, alloc, LIBRARY, line, space, room);
+    check_end(alloc, line, &ended, row)?;
+    let bytes = ended.store.bytes("m.csv").expect(rt, "the file is there");
+    Ok(Text::from_bytes(alloc, bytes).expect(rt, "memory"))
+}
+
 // A file that is not whole holds the first bytes, and nothing is printed; a failed output leaves the file
 // whole.
 #[test]
 fn a_failed_writing_is_told(rt: HostRuntime) -> Result<(), Fail> {
     let alloc = rt.alloc();
-    let line = "matrix n.sp NAND2 m.csv";
-    let whole = tried(&rt, alloc, LIBRARY, line, 10_000, 100);
-    let wanted = whole.store.bytes("m.csv").expect(&rt, "the file is there");
-    let cut = tried(&rt, alloc, LIBRARY, line, 70, 100);
-    let part = cut.store.bytes("m.csv").expect(&rt, "the file is there");
-    check_end(alloc, line, &cut, &("", 4, "", "file fault: m.csv"))?;
+    let whole = left_file(
+        &rt,
+        alloc,
+        10_000,
+        100,
+        &("", 0, "defects 19, exposable 11, rows 16\n", ""),
+    )?;
+    let part = left_file(&rt, alloc, 70, 100, &("", 4, "", "file fault: m.csv"))?;
     assert_eq!(rt; part.len(), 65);
-    assert!(rt; wanted.starts_with(part));
-    let mute = tried(&rt, alloc, LIBRARY, line, 10_000, 0);
-    check_end(alloc, line, &mute, &("", 4, "", "output fault"))?;
-    assert!(rt; mute.store.bytes("m.csv") == whole.store.bytes("m.csv"));
+    assert!(rt; whole.as_bytes().starts_with(part.as_bytes()));
+    let mute = left_file(&rt, alloc, 10_000, 0, &("", 4, "", "output fault"))?;
+    assert!(rt; mute == whole);
     Ok(())
 }
 

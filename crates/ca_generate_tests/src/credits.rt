@@ -63,6 +63,35 @@ enum Asked {
     Work,
 }
 
+// Credits pairs by two blocks. Answers how many credits these are.
+fn credit_by_blocks<B: Bench>(bench: &mut B, pairs: &[Pair], credits: &mut Credits) -> u32
+    requires same { length credits.old ≡ length (B.task bench.old).defects }
+    requires few { length (B.task bench.old).defects < 2 ^ 32 }
+    requires bits { All (λ pair. length pair ≡ bit_count (B.task bench.old).chip) pairs.now }
+    requires numbers { length pairs.now < 2 ^ 32 }
+{
+    let first = credits.credit_block(bench, pairs, 0);
+    if pairs.len() < BLOCK {
+        return first;
+    }
+    first.saturating_add(credits.credit_block(bench, pairs, BLOCK))
+}
+
+// Credits pairs one by one.
+fn credit_singly<B: Bench>(bench: &mut B, pairs: &[Pair], credits: &mut Credits) -> u32
+    requires same { length credits.old ≡ length (B.task bench.old).defects }
+    requires few { length (B.task bench.old).defects < 2 ^ 32 }
+    requires bits { All (λ pair. length pair ≡ bit_count (B.task bench.old).chip) pairs.now }
+    requires numbers { length pairs.now < 2 ^ 32 }
+{
+    let mut credited = 0u32;
+    for number in 0..pairs.len() {
+        let more = credits.credit_pair(bench, &pairs[number], number as u32);
+        credited = credited.saturating_add(more);
+    }
+    credited
+}
+
 // The credits of pairs as a text, behind how many these are.
 fn credits_by<B: Bench>(
     alloc: Global,
@@ -75,18 +104,11 @@ fn credits_by<B: Bench>(
     requires numbers { length pairs.now < 2 ^ 32 }
 {
     let mut credits = Credits::reserve(alloc, bench.defect_count()).ok()?;
-    let mut credited = 0u32;
-    if by_blocks {
-        credited = credits.credit_block(bench, pairs, 0);
-        if pairs.len() > BLOCK {
-            credited = credited.saturating_add(credits.credit_block(bench, pairs, BLOCK));
-        }
+    let credited = if by_blocks {
+        credit_by_blocks(bench, pairs, &mut credits)
     } else {
-        for number in 0..pairs.len() {
-            let more = credits.credit_pair(bench, &pairs[number], number as u32);
-            credited = credited.saturating_add(more);
-        }
-    }
+        credit_singly(bench, pairs, &mut credits)
+    };
     let text = format!(in alloc; "{credited} {credits:?}").ok()?;
     Text::from_bytes(alloc, text.as_bytes()).ok()
 }
