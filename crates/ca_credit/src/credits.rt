@@ -90,9 +90,9 @@ impl Credits {
         credited
     }
 
-    /// Credits the pairs of the list from this place on, each with its place as its number, in ascending order:
-    /// `BLOCK` of them, or all where fewer are left. Answers how many credits these are. The simulator is aimed
-    /// at no defect afterwards, unless there is no such pair.
+    /// Credits the pairs of the list from this place on, each with its place as its number, in ascending
+    /// order: `BLOCK` of them, or all where fewer are left. Answers how many credits these are. The simulator
+    /// is aimed at no defect afterwards, unless there is no such pair.
     pub fn credit_block<S: Simulator>(&mut self, sim: &mut S, pairs: &[Pair], from: usize) -> u32
         requires same { length self.old ≡ length (S.task sim.old).defects }
         requires few { length self.old < 2 ^ 32 }

@@ -169,8 +169,8 @@ impl Fault {
         )
     }
 
-    /// Appends the line with the names of what the fault carries, if it carries any. It takes no memory. After
-    /// `Failed` some of its first bytes were appended.
+    /// Appends the line with the names of what the fault carries, if it carries any. It takes no memory.
+    /// After `Failed` some of its first bytes were appended.
     pub fn print_place<W: Sink>(&self, err: &mut W) -> Result<(), Failed>
         ensures ok { OnOk result (W.bytes err.new ≡ appended (place_line self.now) (W.bytes err.old)) }
         ensures err { OnErr result

@@ -80,8 +80,8 @@ fn a_matrix_stands_in_its_file(rt: HostRuntime) -> Result<(), Fail> {
     Ok(())
 }
 
-// What the matrix of the NAND leaves in its file, with this room for the file and for what is printed, where the
-// command ends so.
+// What the matrix of the NAND leaves in its file, with this room for the file and for what is printed, where
+// the command ends so.
 fn left_file(
     rt: &impl Abort,
     alloc: Global,

@@ -55,7 +55,8 @@ fn drawn_pairs(
     Some(pairs)
 }
 
-// What is asked of a bench: the credits of pairs, one by one or by two blocks; or the whole work, without pairs.
+// What is asked of a bench: the credits of pairs, one by one or by two blocks; or the whole work, without
+// pairs.
 #[derive(Clone, Copy)]
 enum Asked {
     Singles,
@@ -144,8 +145,8 @@ struct Told {
     evaluations: u64,
 }
 
-// What is told of a bench of a chip, of which tables, links and rows are at hand. Pairs have so many bits. The
-// bench goes out of scope at one place, since that is dear to prove.
+// What is told of a bench of a chip, of which tables, links and rows are at hand. Pairs have so many bits.
+// The bench goes out of scope at one place, since that is dear to prove.
 fn tell_over(
     alloc: Global,
     tables: &CoreTables<'_>,
@@ -222,8 +223,8 @@ fn a_falling_input_of_an_inverter(rt: HostRuntime) {
     assert!(rt; aims <= 6, "{aims}");
 }
 
-// The credits of 257 pairs in two blocks, which are those of the pairs one by one. The bits of a pair are those of
-// 37 times its number.
+// The credits of 257 pairs in two blocks, which are those of the pairs one by one. The bits of a pair are
+// those of 37 times its number.
 #[test]
 fn two_blocks_of_pairs(rt: HostRuntime) {
     let alloc = rt.alloc();

@@ -19,7 +19,8 @@ pub record AreTyped (cells cell : List ℕ) (typed : TypedWords) : Type 0 where
   pub upper_is : typed.upper_cell ≡ upper_case cell
 
 -- the word names a subcircuit that breaks this rule first, with this place
-pub record RefusesCell (library : List Named) (word : List ℕ) (rule : CellRule) (place : List ℕ) : Type 0 where
+pub record RefusesCell (library : List Named) (word : List ℕ) (rule : CellRule) (place : List ℕ)
+    : Type 0 where
   pub raw : RawCell
   pub found : entry_of library (upper_case word) ≡ Some (Refused raw rule)
   pub broken : IsFirstBroken raw rule

@@ -1,5 +1,5 @@
--- What is on the pins of an instance that keeps its rules: each connection is on a pin of its wiring, and each
--- pin of the wiring has its connection or a wire of its own.
+-- What is on the pins of an instance that keeps its rules: each connection is on a pin of its wiring, and
+-- each pin of the wiring has its connection or a wire of its own.
 use Rattle.std.proofs.Common.{◌≡◌, ℕ, zero, suc, ◌+◌, ◌≤◌, ◌⊎◌, List, [], ◌∷◌, ◌++◌, Bool, true, false}
 use Rattle.std.proofs.Common.{map, inl, inr, refl, sym, ◌∙◌, ap, subst, arith, true≢false}
 use Rattle.std.specs.Prelude.{Option, Some, None, slice_get}

@@ -71,4 +71,5 @@ IsKnownBy raw net wire =
 
 -- a net that is known by a wire makes the text
 abbrev pub HasKnownWire : RawNetlist → ℕ → (List ℕ → List ℕ) → List ℕ → Type 0
-HasKnownWire raw net text_of text = (wire : ℕ) × IsKnownBy raw net wire × (text ≡ text_of (wire_name raw.buses wire))
+HasKnownWire raw net text_of text =
+    (wire : ℕ) × IsKnownBy raw net wire × (text ≡ text_of (wire_name raw.buses wire))

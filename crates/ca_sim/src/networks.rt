@@ -102,8 +102,8 @@ impl Networks {
         self.faulty.settle(chip, new, Some(&self.good), cells);
     }
 
-    /// Whether the instance of the defect that is aimed at gives the same with another of its defects, so that
-    /// all waves would stay.
+    /// Whether the instance of the defect that is aimed at gives the same with another of its defects, so
+    /// that all waves would stay.
     pub(crate) fn is_alike<C: Linked>(
         &self,
         chip: &C,
