@@ -3,16 +3,16 @@
 ghost use Rattle.ca_guide.specs.Seen.{Covers};
 
 use crate::cone::Cone;
-use crate::costs::NEVER;
 use crate::goal::{Dearest, Goal};
 use crate::plan::Plan;
 use crate::prices::Prices;
 use crate::row_cubes::RowCubes;
 use crate::row_goals::{cheapest_row, offer_firsts, offer_lasts};
 use crate::scene::{BitValue, Scene};
-use crate::sight::{Sight, View, shows};
+use crate::sight::{Sight, View};
 use crate::tables::ChipTables;
-use crate::ways::Ways;
+use crate::trial::Trial;
+use crate::ways::{Ways, best_output, showing_output};
 use ca_base::NoMemory;
 use ca_defect::Rows;
 use ca_flat::ChipDefect;
@@ -20,7 +20,8 @@ use ca_guide::{Choice, Guide, LinkedChip, NetWaves, Proposal};
 use std::alloc::Global;
 
 /// A choice of the next bit: it wants the cheapest row of the defect and the cheapest way out, and of these
-/// the dearest value first. All memory is taken by `reserve`.
+/// the dearest value first. A value after which the defect couldn't be seen gives way to the opposite one.
+/// All memory is taken by `reserve`.
 #[derive(Drop)]
 pub struct CheapestWay {
     plan: Plan,
@@ -28,6 +29,7 @@ pub struct CheapestWay {
     rows: RowCubes,
     cone: Cone,
     ways: Ways,
+    trial: Trial,
     // the defect of the rows and of the cone
     defect: Option<ChipDefect>,
 }
@@ -44,12 +46,13 @@ impl CheapestWay {
             constants,
             nets,
         } = tables;
-        let plan = Plan::new(alloc, &cells, parts, order, &inputs, nets)?;
-        let prices = Prices::new(alloc, &plan, &inputs, &constants)?;
+        let plan = Plan::new(alloc, &cells, parts, order, inputs, nets)?;
+        let prices = Prices::new(alloc, &plan, &constants)?;
         Ok(CheapestWay {
             rows: RowCubes::reserve(alloc)?,
             cone: Cone::reserve(alloc, &plan)?,
             ways: Ways::reserve(alloc, &plan)?,
+            trial: Trial::reserve(alloc, &plan)?,
             plan,
             prices,
             defect: None,
@@ -76,10 +79,9 @@ impl CheapestWay {
             sight,
         };
         self.ways.find(&scene);
-        match wanted(&scene, &self.ways, &self.rows, part) {
-            Some(goal) => scene.backtrace(goal),
-            None => None,
-        }
+        let goal = wanted(&scene, &self.ways, &self.rows, part)?;
+        let proposed = scene.backtrace(goal)?;
+        Some(self.trial.better(&scene, &self.rows, part, proposed))
     }
 }
 
@@ -171,30 +173,4 @@ fn wanted<S: Sight>(scene: &Scene<'_, S>, ways: &Ways, rows: &RowCubes, part: u3
         }
         _ => None,
     }
-}
-
-// The output of the instance at which the defect shows that has the cheapest way out.
-fn showing_output<S: Sight>(scene: &Scene<'_, S>, ways: &Ways, part: u32) -> Option<u32> {
-    let mut best = None;
-    let mut least = NEVER;
-    for net in scene.plan.outputs(part) {
-        if shows(scene.sight, *net) && ways.cost(*net) < least {
-            least = ways.cost(*net);
-            best = Some(*net);
-        }
-    }
-    best
-}
-
-// The output of the instance that has the cheapest way out.
-fn best_output<S: Sight>(scene: &Scene<'_, S>, ways: &Ways, part: u32) -> Option<u32> {
-    let mut best = None;
-    let mut least = NEVER;
-    for net in scene.plan.outputs(part) {
-        if ways.cost(*net) < least {
-            least = ways.cost(*net);
-            best = Some(*net);
-        }
-    }
-    best
 }

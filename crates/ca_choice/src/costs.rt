@@ -21,7 +21,6 @@ impl Costs {
     pub(crate) fn new(
         alloc: Global,
         plan: &Plan,
-        inputs: &[u32],
         constants: &[Constant],
         input_cost: u32,
     ) -> Result<Self, NoMemory> {
@@ -30,7 +29,7 @@ impl Costs {
             zeros: vec![in alloc; NEVER; nets]?,
             ones: vec![in alloc; NEVER; nets]?,
         };
-        for net in inputs {
+        for net in plan.input_nets() {
             costs.put(*net, false, input_cost);
             costs.put(*net, true, input_cost);
         }

@@ -2,11 +2,13 @@
 //! these want the dearest value first.
 #![tactic(auto)]
 
+mod ahead;
 mod cell_cubes;
 mod choice;
 mod cone;
 mod costs;
 mod cube;
+mod followed;
 mod goal;
 mod plan;
 mod points;
@@ -16,6 +18,7 @@ mod row_goals;
 mod scene;
 mod sight;
 mod tables;
+mod trial;
 mod ways;
 
 pub use choice::CheapestWay;

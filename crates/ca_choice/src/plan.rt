@@ -26,7 +26,7 @@ pub(crate) struct Plan {
     // for each instance its place in the order
     ranks: Vec<usize>,
     sources: Vec<Source>,
-    inputs: usize,
+    inputs: Vec<u32>,
 }
 
 impl Plan {
@@ -36,12 +36,12 @@ impl Plan {
         cells: &[CellTable],
         parts: Vec<Part>,
         order: Vec<u32>,
-        inputs: &[u32],
+        inputs: Vec<u32>,
         nets: usize,
     ) -> Result<Self, NoMemory> {
         let cells = all_cubes(alloc, cells)?;
         let mut sources = vec![in alloc; Source::Other; nets]?;
-        mark_inputs(&mut sources, inputs);
+        mark_inputs(&mut sources, &inputs);
         for (place, part) in parts.iter().enumerate() {
             mark_outputs(&mut sources, place, &part.outputs);
         }
@@ -53,7 +53,7 @@ impl Plan {
             order,
             ranks,
             sources,
-            inputs: inputs.len(),
+            inputs,
         })
     }
 
@@ -69,7 +69,20 @@ impl Plan {
 
     /// The number of chip inputs.
     pub(crate) fn input_count(&self) -> usize {
-        self.inputs
+        self.inputs.len()
+    }
+
+    /// The nets of the chip inputs.
+    pub(crate) fn input_nets(&self) -> &[u32] {
+        &self.inputs
+    }
+
+    /// The net of a chip input; one that isn't there if there is no such input.
+    pub(crate) fn input(&self, input: usize) -> u32 {
+        match self.inputs.get(input) {
+            Some(net) => *net,
+            None => u32::MAX,
+        }
     }
 
     /// The instances in their order.

@@ -28,12 +28,11 @@ impl Prices {
     pub(crate) fn new(
         alloc: Global,
         plan: &Plan,
-        inputs: &[u32],
         constants: &[Constant],
     ) -> Result<Self, NoMemory> {
         Ok(Prices {
-            once: Costs::new(alloc, plan, inputs, constants, ONE_BIT)?,
-            stable: Costs::new(alloc, plan, inputs, constants, BOTH_BITS)?,
+            once: Costs::new(alloc, plan, constants, ONE_BIT)?,
+            stable: Costs::new(alloc, plan, constants, BOTH_BITS)?,
         })
     }
 

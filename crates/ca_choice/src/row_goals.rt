@@ -26,6 +26,17 @@ pub(crate) fn cheapest_row<S: Sight>(
     best
 }
 
+/// Whether a cube of the rows is in reach that isn't met yet.
+pub(crate) fn is_row_open<S: Sight>(scene: &Scene<'_, S>, rows: &RowCubes, part: u32) -> bool {
+    for place in 0..rows.len() {
+        let price = row_price(scene, rows, part, rows.get(place));
+        if 0 < price && price < NEVER {
+            return true;
+        }
+    }
+    false
+}
+
 // The price of a cube: the sum over its pins.
 fn row_price<S: Sight>(scene: &Scene<'_, S>, rows: &RowCubes, part: u32, cube: Cube) -> u32 {
     let mut sum = 0u32;

@@ -17,6 +17,9 @@ pub(crate) trait Sight {
     /// Whether the net is observed.
     fn is_observed(&self, net: u32) -> bool;
 
+    /// The nets that the net feeds.
+    fn onward(&self, net: u32) -> &[u32];
+
     /// The value of the bit, if it is set.
     fn value(&self, bit: usize) -> Option<bool>;
 
@@ -52,6 +55,14 @@ impl<C: LinkedChip, V: NetWaves> Sight for View<'_, C, V> {
 
     fn is_observed(&self, net: u32) -> bool {
         (net as usize) < self.chip.net_count() && self.chip.is_observed(net)
+    }
+
+    fn onward(&self, net: u32) -> &[u32] {
+        if (net as usize) < self.chip.net_count() {
+            self.chip.onward(net)
+        } else {
+            &[]
+        }
     }
 
     fn value(&self, bit: usize) -> Option<bool> {

@@ -216,3 +216,33 @@ fn offer_side<S: Sight>(scene: &Scene<'_, S>, net: u32, value: bool, dearest: &m
         dearest.offer(goal, scene.price(goal));
     }
 }
+
+/// The output of the instance at which the defect shows that has the cheapest way out.
+pub(crate) fn showing_output<S: Sight>(
+    scene: &Scene<'_, S>,
+    ways: &Ways,
+    part: u32,
+) -> Option<u32> {
+    let mut best = None;
+    let mut least = NEVER;
+    for net in scene.plan.outputs(part) {
+        if shows(scene.sight, *net) && ways.cost(*net) < least {
+            least = ways.cost(*net);
+            best = Some(*net);
+        }
+    }
+    best
+}
+
+/// The output of the instance that has the cheapest way out.
+pub(crate) fn best_output<S: Sight>(scene: &Scene<'_, S>, ways: &Ways, part: u32) -> Option<u32> {
+    let mut best = None;
+    let mut least = NEVER;
+    for net in scene.plan.outputs(part) {
+        if ways.cost(*net) < least {
+            least = ways.cost(*net);
+            best = Some(*net);
+        }
+    }
+    best
+}
