@@ -65,11 +65,63 @@ fn values_for(
     ensures { IfOk result (AreExpected (core_of chip.now) pairs.now) }
 {
     let mut bench = core_bench(alloc, tables, links, rows, LowestUnset, 0)?;
-    expected(alloc, &mut bench, pairs.as_slice())
+    let values = expected(alloc, &mut bench, pairs.as_slice());
+    drop(bench);
+    values
 }
 
-// Both.
+// Both, over the chip's tables, links and rows.
 #[tactic(auto, using(crate::proofs::AtpgLemmas::task_pairs_fit))]
+fn made_over<T: Watch>(
+    alloc: Global,
+    chip: &Chip,
+    tables: &CoreTables<'_>,
+    links: &CoreLinks<'_>,
+    rows: &ChipRows<'_>,
+    budget: u32,
+    watch: &mut T,
+) -> Result<Made, GenerateFault>
+    requires tables { AreTablesOf chip.now tables.now }
+    requires links { AreLinksOf tables.now.chip links.now }
+    requires rows { rows.now.chip ≡ tables.now.chip }
+
+    ensures good { IfOk result (λ made. IsGood (task_of chip.now budget)
+        made.generated.pairs made.generated.aims made.generated.verdicts) }
+    ensures values { IfOk result
+        (λ made. AreExpected (core_of chip.now) made.generated.pairs made.values) }
+    ensures cause { IfErr result (IsCause (task_of chip.now budget)) }
+{
+    let generated = generate_over(alloc, chip, tables, links, rows, budget, watch)?;
+    let values = values_for(alloc, chip, tables, links, rows, &generated.pairs)?;
+    Ok(Made { generated, values })
+}
+
+// The same over the chip's tables and links. Here and below each thing is let go at one place, since that is
+// dear to prove.
+fn made_by_rows<T: Watch>(
+    alloc: Global,
+    chip: &Chip,
+    tables: &CoreTables<'_>,
+    links: &CoreLinks<'_>,
+    budget: u32,
+    watch: &mut T,
+) -> Result<Made, GenerateFault>
+    requires tables { AreTablesOf chip.now tables.now }
+    requires links { AreLinksOf tables.now.chip links.now }
+
+    ensures good { IfOk result (λ made. IsGood (task_of chip.now budget)
+        made.generated.pairs made.generated.aims made.generated.verdicts) }
+    ensures values { IfOk result
+        (λ made. AreExpected (core_of chip.now) made.generated.pairs made.values) }
+    ensures cause { IfErr result (IsCause (task_of chip.now budget)) }
+{
+    let rows = ChipRows::new(alloc, chip)?;
+    let made = made_over(alloc, chip, tables, links, &rows, budget, watch);
+    drop(rows);
+    made
+}
+
+// The same over the chip's tables.
 fn made_for<T: Watch>(
     alloc: Global,
     chip: &Chip,
@@ -77,7 +129,7 @@ fn made_for<T: Watch>(
     budget: u32,
     watch: &mut T,
 ) -> Result<Made, GenerateFault>
-    requires tables { AreTablesOf chip.now tables.now }
+    requires { AreTablesOf chip.now tables.now }
 
     ensures good { IfOk result (λ made. IsGood (task_of chip.now budget)
         made.generated.pairs made.generated.aims made.generated.verdicts) }
@@ -86,16 +138,14 @@ fn made_for<T: Watch>(
     ensures cause { IfErr result (IsCause (task_of chip.now budget)) }
 {
     let links = CoreLinks::new(alloc, chip)?;
-    let rows = ChipRows::new(alloc, chip)?;
-    let generated = generate_over(alloc, chip, tables, &links, &rows, budget, watch)?;
-    let values = values_for(alloc, chip, tables, &links, &rows, &generated.pairs)?;
-    Ok(Made { generated, values })
+    let made = made_by_rows(alloc, chip, tables, &links, budget, watch);
+    drop(links);
+    made
 }
 
 /// Searches for pairs that show the defects of a linked chip, with at most so many branches for each, and
 /// writes the texts. The watch is told after each defect's turn. Want of memory is also told of a chip with
 /// 2^14 chip inputs, with 2^32 defects or whose flat network may have 2^32 nodes or devices.
-#[tactic(auto, using(crate::proofs::AtpgLemmas::task_pairs_fit, crate::proofs::AtpgLemmas::verdicts_within, crate::proofs::AtpgLemmas::one_verdict_each))]
 pub fn atpg<T: Watch>(
     alloc: Global,
     chip: &Chip,
@@ -112,19 +162,87 @@ pub fn atpg<T: Watch>(
     ensures cause { IfErr result (IsCause (task_of chip.now budget)) }
 {
     let tables = CoreTables::new(alloc, chip)?;
-    let Made { generated, values } = made_for(alloc, chip, &tables, budget, watch)?;
-    let stil = stil_of(alloc, chip, chains, &generated.pairs, &values)?;
-    let report = report_of(alloc, chip, &tables, &generated.verdicts)?;
+    let tested = tested_for(alloc, chip, chains, &tables, budget, watch);
+    drop(tables);
+    tested
+}
+
+// The same over the chip's tables.
+fn tested_for<T: Watch>(
+    alloc: Global,
+    chip: &Chip,
+    chains: &Chains,
+    tables: &CoreTables<'_>,
+    budget: u32,
+    watch: &mut T,
+) -> Result<Tested, GenerateFault>
+    requires chains { AreAllChains chip.now chains.now }
+    requires tables { AreTablesOf chip.now tables.now }
+
+    ensures good { IfOk result
+        (λ made. IsGood (task_of chip.now budget) made.pairs made.aims made.verdicts) }
+    ensures stil { IfOk result (λ made. IsStil chip.now chains.now made.pairs made.stil) }
+    ensures report { IfOk result (λ made. made.report ≡ report_of chip.now made.verdicts) }
+    ensures cause { IfErr result (IsCause (task_of chip.now budget)) }
+{
+    let made = made_for(alloc, chip, tables, budget, watch)?;
+    let texts = texts_of(alloc, chip, chains, tables, budget, &made)?;
+    Ok(with_texts(made, texts))
+}
+
+// The texts of the patterns and of the report.
+#[derive(Drop)]
+struct Texts {
+    stil: Text,
+    report: Text,
+}
+
+// The texts of what was made.
+#[tactic(auto, using(crate::proofs::AtpgLemmas::task_pairs_fit, crate::proofs::AtpgLemmas::verdicts_within, crate::proofs::AtpgLemmas::one_verdict_each))]
+fn texts_of(
+    alloc: Global,
+    chip: &Chip,
+    chains: &Chains,
+    tables: &CoreTables<'_>,
+    budget: u32,
+    made: &Made,
+) -> Result<Texts, NoMemory>
+    requires chains { AreAllChains chip.now chains.now }
+    requires tables { AreTablesOf chip.now tables.now }
+    requires good { IsGood (task_of chip.now budget)
+        made.now.generated.pairs made.now.generated.aims made.now.generated.verdicts }
+    requires values { AreExpected (core_of chip.now) made.now.generated.pairs made.now.values }
+
+    ensures stil { IfOk result
+        (λ texts. IsStil chip.now chains.now made.now.generated.pairs texts.stil) }
+    ensures report { IfOk result
+        (λ texts. texts.report ≡ report_of chip.now made.now.generated.verdicts) }
+{
+    let Generated { pairs, verdicts, .. } = &made.generated;
+    let stil = stil_of(alloc, chip, chains, pairs, &made.values)?;
+    let report = report_of(alloc, chip, tables, verdicts)?;
+    Ok(Texts { stil, report })
+}
+
+// What was made, with its texts.
+fn with_texts(made: Made, texts: Texts) -> Tested
+    ensures pairs { result.pairs ≡ made.generated.pairs }
+    ensures aims { result.aims ≡ made.generated.aims }
+    ensures verdicts { result.verdicts ≡ made.generated.verdicts }
+    ensures stil { result.stil ≡ texts.stil }
+    ensures report { result.report ≡ texts.report }
+{
     let Generated {
         pairs,
         aims,
         verdicts,
-    } = generated;
-    Ok(Tested {
+    } = made.generated;
+    let Texts { stil, report } = texts;
+    Tested {
         pairs,
         aims,
         verdicts,
         stil,
         report,
-    })
+    }
 }

@@ -12,8 +12,7 @@ use ca_chip_choice::chip_choice;
 use ca_chip_rows::ChipRows;
 use ca_core_links::CoreLinks;
 use ca_core_tables::CoreTables;
-use ca_credit::Simulator;
-use ca_generate::{GenerateFault, Generated, Watch, generate};
+use ca_generate::{Bench, GenerateFault, Generated, Watch, generate};
 use ca_wired::Chip;
 use std::alloc::Global;
 
@@ -32,9 +31,52 @@ pub fn generate_chip<T: Watch>(
     ensures cause { IfErr result (IsCause (task_of chip.now budget)) }
 {
     let tables = CoreTables::new(alloc, chip)?;
+    let made = generate_linked(alloc, chip, &tables, budget, watch);
+    drop(tables);
+    made
+}
+
+// The same over the chip's tables. Here and above each thing is let go at one place, since that is dear to
+// prove.
+fn generate_linked<T: Watch>(
+    alloc: Global,
+    chip: &Chip,
+    tables: &CoreTables<'_>,
+    budget: u32,
+    watch: &mut T,
+) -> Result<Generated, GenerateFault>
+    requires { AreTablesOf chip.now tables.now }
+
+    ensures good { IfOk result
+        (λ made. IsGood (task_of chip.now budget) made.pairs made.aims made.verdicts) }
+    ensures cause { IfErr result (IsCause (task_of chip.now budget)) }
+{
     let links = CoreLinks::new(alloc, chip)?;
+    let made = generate_by_rows(alloc, chip, tables, &links, budget, watch);
+    drop(links);
+    made
+}
+
+// The same over the chip's tables and links.
+fn generate_by_rows<T: Watch>(
+    alloc: Global,
+    chip: &Chip,
+    tables: &CoreTables<'_>,
+    links: &CoreLinks<'_>,
+    budget: u32,
+    watch: &mut T,
+) -> Result<Generated, GenerateFault>
+    requires tables { AreTablesOf chip.now tables.now }
+    requires links { AreLinksOf tables.now.chip links.now }
+
+    ensures good { IfOk result
+        (λ made. IsGood (task_of chip.now budget) made.pairs made.aims made.verdicts) }
+    ensures cause { IfErr result (IsCause (task_of chip.now budget)) }
+{
     let rows = ChipRows::new(alloc, chip)?;
-    generate_over(alloc, chip, &tables, &links, &rows, budget, watch)
+    let made = generate_over(alloc, chip, tables, links, &rows, budget, watch);
+    drop(rows);
+    made
 }
 
 /// The same over the chip's tables, links and rows.
@@ -57,8 +99,22 @@ pub fn generate_over<T: Watch>(
 {
     let choice = chip_choice(alloc, tables, links)?;
     let mut bench = core_bench(alloc, tables, links, rows, choice, budget)?;
+    let made = generate_few(alloc, &mut bench, watch);
+    drop(bench);
+    made
+}
+
+// The same over a bench.
+fn generate_few<B: Bench, T: Watch>(
+    alloc: Global,
+    bench: &mut B,
+    watch: &mut T,
+) -> Result<Generated, GenerateFault>
+    ensures good { IfOk result (λ made. IsGood (B.task bench.old) made.pairs made.aims made.verdicts) }
+    ensures cause { IfErr result (IsCause (B.task bench.old)) }
+{
     if bench.defect_count() > u32::MAX as usize {
         return Err(GenerateFault::NoMemory);
     }
-    generate(alloc, &mut bench, watch)
+    generate(alloc, bench, watch)
 }

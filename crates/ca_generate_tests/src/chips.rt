@@ -1,6 +1,6 @@
 //! Netlists, and what is generated for their chips.
 
-/// An inverter and a gate of two inputs.
+/// An inverter, two gates of two inputs, one input led to one of two outputs, and a cell that keeps its value.
 pub(crate) const LIBRARY: &[u8] = b"
 .SUBCKT INV A ZN VDD VSS
 *.PININFO A:I ZN:O VDD:P VSS:G
@@ -13,6 +13,35 @@ MP1 ZN A1 VDD VDD pch W=0.63u L=0.05u
 MP2 ZN A2 VDD VDD pch W=0.63u L=0.05u
 MN1 ZN A1 n1 VSS nch W=0.415u L=0.05u
 MN2 n1 A2 VSS VSS nch W=0.415u L=0.05u
+.ENDS
+.SUBCKT NOR2 A1 A2 ZN VDD VSS
+*.PININFO A1:I A2:I ZN:O VDD:P VSS:G
+MP1 p1 A1 VDD VDD pch W=0.63u L=0.05u
+MP2 ZN A2 p1 VDD pch W=0.63u L=0.05u
+MN1 ZN A1 VSS VSS nch W=0.415u L=0.05u
+MN2 ZN A2 VSS VSS nch W=0.415u L=0.05u
+.ENDS
+.SUBCKT LEAD A C P S VDD VSS
+*.PININFO A:I C:I P:O S:O VDD:P VSS:G
+MP1 w C VDD VDD pch W=0.63u L=0.05u
+MN1 w C VSS VSS nch W=0.415u L=0.05u
+MP2 v w VDD VDD pch W=0.63u L=0.05u
+MN2 v w VSS VSS nch W=0.415u L=0.05u
+MP3 P A VDD VDD pch W=0.63u L=0.05u
+MP4 P v VDD VDD pch W=0.63u L=0.05u
+MN3 P A n1 VSS nch W=0.415u L=0.05u
+MN4 n1 v VSS VSS nch W=0.415u L=0.05u
+MP5 t A VDD VDD pch W=0.63u L=0.05u
+MP6 t w VDD VDD pch W=0.63u L=0.05u
+MN5 t A n2 VSS nch W=0.415u L=0.05u
+MN6 n2 w VSS VSS nch W=0.415u L=0.05u
+MP7 S t VDD VDD pch W=0.63u L=0.05u
+MN7 S t VSS VSS nch W=0.415u L=0.05u
+.ENDS
+.SUBCKT KEEP P S Y VDD VSS
+*.PININFO P:I S:I Y:O VDD:P VSS:G
+MP1 Y P VDD VDD pch W=0.63u L=0.05u
+MN1 Y S VSS VSS nch W=0.415u L=0.05u
 .ENDS
 ";
 
@@ -121,7 +150,27 @@ x
     ),
 ];
 
+/// A chip in which a defect shows by what a cell keeps of the first vector.
+const KEPT: &[u8] = b"module kept(a, c, z); input a, c; output z; wire p, s, y;
+LEAD u1 (.A(a), .C(c), .P(p), .S(s));
+KEEP u2 (.P(p), .S(s), .Y(y));
+NOR2 u3 (.A1(y), .A2(a), .ZN(z)); endmodule";
+
 /// A chip with a hazard, a budget, the place of a defect, and what is told of its verdict. The defect, the
 /// open drain of `MP1` in `u5`, is shown where `a` falls while `y` stays at 1: with `d` at 1, and `s` at
 /// rest, since a change of `s` would let `y` fall for a while.
-pub(crate) const HAZARD: (&[u8], u32, usize, &[u8]) = (GLITCH, 63, 66, b"c 111011");
+pub(crate) const HAZARD: (&[u8], u32, usize, &[u8]) = (GLITCH, 63, HAZARD_PLACE, b"c 111011");
+
+// The place of that defect: one for each of the defects of the inverter, and then those of gates.
+const HAZARD_PLACE: usize = 66;
+
+/// The same of a search that sets the lowest bit first, to 0 and then to 1, and ends after one branch. In the one
+/// row that exposes the defect `a` is 1 in the first vector. So the search branches on bit 0, which is that
+/// value; with 0 the row is out of reach, and with 1 there is more to set.
+pub(crate) const ONE_BRANCH: (&[u8], u32, usize, &[u8]) = (GLITCH, 1, HAZARD_PLACE, b"a 0=0 -");
+
+/// The same for the short of `VDD` and `w` in `u1`. Where `a` and `c` are 1 the good cell has 0 at both
+/// outputs, and the defective one 1, so that `y` is 1 and 0; but then `a` keeps `z` at 0. Where `a` falls both
+/// cells have 1 at `P` and 0 at `S`, `y` keeps its value, and `z` tells it. So no row of `u1` with the last
+/// vector exposes the defect, and just one of the first vector alone does.
+pub(crate) const KEPT_CHARGE: (&[u8], u32, usize, &[u8]) = (KEPT, 63, 46, b"c 1101");

@@ -1,12 +1,14 @@
-//! What pairs are credited with on chips that were worked out by hand, and how often is aimed for it.
+//! What pairs are credited with on chips that were worked out by hand, how often is aimed for it, and what a
+//! search gives up with.
 
 ghost use Rattle.std.specs.Prelude.{◌≡◌, ◌<◌, ◌^◌, length, IfSome};
 ghost use Rattle.std.specs.List.{All};
 ghost use Rattle.ca_flat.specs.Pair.{bit_count};
 ghost use Rattle.ca_core_links.specs.CoreLinks.{AreLinksOf};
+ghost use Rattle.ca_core_tables.specs.Tables.{AreTablesOf};
 
-use crate::chips::{C17, INV};
-use crate::told::summary;
+use crate::chips::{C17, INV, ONE_BRANCH};
+use crate::told::{summary, verdict};
 use crate::worked::linked;
 use ca_base::NoMemory;
 use ca_chip_choice::chip_choice;
@@ -16,6 +18,7 @@ use ca_core_links::CoreLinks;
 use ca_core_tables::CoreTables;
 use ca_credit::{BLOCK, Credits, Simulator};
 use ca_generate::{Bench, Unwatched, generate};
+use ca_guide::{Choice, LowestUnset};
 use ca_lex::Text;
 use ca_pair::{Pair, Pairs};
 use ca_sim::Linked;
@@ -55,13 +58,14 @@ fn drawn_pairs(
     Some(pairs)
 }
 
-// What is asked of a bench: the credits of pairs, one by one or by two blocks; or the whole work, without
-// pairs.
+// What is asked of a bench: the credits of pairs, one by one or by two blocks; or without pairs the whole
+// work, or its verdict on a defect where each search sets the lowest bit first.
 #[derive(Clone, Copy)]
 enum Asked {
     Singles,
     Blocks,
     Work,
+    Verdict(usize),
 }
 
 // Credits pairs by two blocks. Answers how many credits these are.
@@ -122,6 +126,14 @@ fn work_by<B: Bench>(alloc: Global, bench: &mut B) -> Option<Text>
     summary(alloc, &made).ok()
 }
 
+// The verdict on the defect at a place.
+fn verdict_by<B: Bench>(alloc: Global, bench: &mut B, place: usize) -> Option<Text>
+    requires { length (B.task bench.old).defects < 2 ^ 32 }
+{
+    let made = generate(alloc, bench, &mut Unwatched).ok()?;
+    verdict(alloc, &made, place).ok()
+}
+
 // What a bench answers, which has few defects and whose pairs have so many bits.
 fn answer<B: Bench>(alloc: Global, bench: &mut B, pairs: &[Pair], asked: Asked) -> Option<Text>
     requires bits { All (λ pair. length pair ≡ bit_count (B.task bench.old).chip) pairs.now }
@@ -134,6 +146,7 @@ fn answer<B: Bench>(alloc: Global, bench: &mut B, pairs: &[Pair], asked: Asked) 
         Asked::Singles => credits_by(alloc, bench, pairs, false),
         Asked::Blocks => credits_by(alloc, bench, pairs, true),
         Asked::Work => work_by(alloc, bench),
+        Asked::Verdict(place) => verdict_by(alloc, bench, place),
     }
 }
 
@@ -146,12 +159,13 @@ struct Told {
 }
 
 // What is told of a bench of a chip, of which tables, links and rows are at hand. Pairs have so many bits.
-// The bench goes out of scope at one place, since that is dear to prove.
-fn tell_over(
+// Here and below each thing is let go at one place, since that is dear to prove.
+fn tell_over<P: Choice + Drop>(
     alloc: Global,
     tables: &CoreTables<'_>,
     links: &CoreLinks<'_>,
     rows: &ChipRows<'_>,
+    choice: P,
     budget: u32,
     pairs: &[Pair],
     bits: usize,
@@ -166,17 +180,95 @@ fn tell_over(
     if bits != 2 * tables.inputs() {
         return Err(NoMemory);
     }
-    let choice = chip_choice(alloc, tables, links)?;
     let mut bench = core_bench(alloc, tables, links, rows, choice, budget)?;
     let text = answer(alloc, &mut bench, pairs, asked);
-    Ok(Told {
+    let told = Told {
         text,
         aims: bench.aim_count(),
         evaluations: bench.evaluation_count(),
-    })
+    };
+    drop(bench);
+    Ok(told)
 }
 
-// What is told of a bench of a chip.
+// The same with the choice that is asked for.
+fn tell_by_choice(
+    alloc: Global,
+    tables: &CoreTables<'_>,
+    links: &CoreLinks<'_>,
+    rows: &ChipRows<'_>,
+    budget: u32,
+    pairs: &[Pair],
+    bits: usize,
+    asked: Asked,
+) -> Result<Told, NoMemory>
+    requires links { AreLinksOf tables.now.chip links.now }
+    requires rows { rows.now.chip ≡ tables.now.chip }
+    requires bits { All (λ pair. length pair ≡ bits) pairs.now }
+    requires numbers { length pairs.now < 2 ^ 32 }
+{
+    if let Asked::Verdict(_) = asked {
+        return tell_over(
+            alloc,
+            tables,
+            links,
+            rows,
+            LowestUnset,
+            budget,
+            pairs,
+            bits,
+            asked,
+        );
+    }
+    let choice = chip_choice(alloc, tables, links)?;
+    tell_over(
+        alloc, tables, links, rows, choice, budget, pairs, bits, asked,
+    )
+}
+
+// The same, of which tables and links are at hand.
+fn tell_by_rows(
+    alloc: Global,
+    chip: &Chip,
+    tables: &CoreTables<'_>,
+    links: &CoreLinks<'_>,
+    budget: u32,
+    pairs: &[Pair],
+    bits: usize,
+    asked: Asked,
+) -> Result<Told, NoMemory>
+    requires tables { AreTablesOf chip.now tables.now }
+    requires links { AreLinksOf tables.now.chip links.now }
+    requires bits { All (λ pair. length pair ≡ bits) pairs.now }
+    requires numbers { length pairs.now < 2 ^ 32 }
+{
+    let rows = ChipRows::new(alloc, chip)?;
+    let told = tell_by_choice(alloc, tables, links, &rows, budget, pairs, bits, asked);
+    drop(rows);
+    told
+}
+
+// The same, of which tables are at hand.
+fn tell_by_links(
+    alloc: Global,
+    chip: &Chip,
+    tables: &CoreTables<'_>,
+    budget: u32,
+    pairs: &[Pair],
+    bits: usize,
+    asked: Asked,
+) -> Result<Told, NoMemory>
+    requires tables { AreTablesOf chip.now tables.now }
+    requires bits { All (λ pair. length pair ≡ bits) pairs.now }
+    requires numbers { length pairs.now < 2 ^ 32 }
+{
+    let links = CoreLinks::new(alloc, chip)?;
+    let told = tell_by_rows(alloc, chip, tables, &links, budget, pairs, bits, asked);
+    drop(links);
+    told
+}
+
+// The same.
 fn tell(
     alloc: Global,
     chip: &Chip,
@@ -189,9 +281,9 @@ fn tell(
     requires numbers { length pairs.now < 2 ^ 32 }
 {
     let tables = CoreTables::new(alloc, chip)?;
-    let links = CoreLinks::new(alloc, chip)?;
-    let rows = ChipRows::new(alloc, chip)?;
-    tell_over(alloc, &tables, &links, &rows, budget, pairs, bits, asked)
+    let told = tell_by_links(alloc, chip, &tables, budget, pairs, bits, asked);
+    drop(tables);
+    told
 }
 
 // What is told of a bench of the chip of a netlist.
@@ -242,6 +334,22 @@ fn two_blocks_of_pairs(rt: HostRuntime) {
         "{:?}",
         blocks.as_bytes()
     );
+}
+
+// What a search gives up with after one branch.
+#[test]
+fn a_search_of_one_branch(rt: HostRuntime) {
+    let (netlist, budget, place, wanted) = ONE_BRANCH;
+    let (text, _, _) = told_of(
+        &rt,
+        rt.alloc(),
+        netlist,
+        budget,
+        &[],
+        6,
+        Asked::Verdict(place),
+    );
+    assert!(rt; text.is(wanted), "{:?}", text.as_bytes());
 }
 
 // So many inverters, each between ports of its own.

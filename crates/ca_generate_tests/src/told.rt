@@ -2,9 +2,11 @@
 
 use ca_base::NoMemory;
 use ca_credit::Verdict;
+use ca_flat::Token;
 use ca_generate::{GenerateFault, Generated};
 use ca_lex::Text;
 use ca_pair::Pair;
+use ca_search::Code;
 use std::alloc::Global;
 
 // Appends a number below 1,000 with a space before it.
@@ -97,7 +99,22 @@ pub(crate) fn all(alloc: Global, made: &Generated) -> Result<Text, NoMemory> {
     Ok(text)
 }
 
-/// The letter of the verdict on the defect at a place, and the bits of the pair to which it is credited.
+// Appends the tokens of a code: the bit of a branch with its first value, and `-` for a leaf.
+fn tokens(text: &mut Text, code: &Code) -> Result<(), NoMemory> {
+    for place in 0..code.len() {
+        match code.get(place) {
+            Token::Branch { bit, first } => {
+                number(text, usize::from(bit))?;
+                text.append(if first { b"=1" } else { b"=0" })?;
+            }
+            Token::Leaf => text.append(b" -")?,
+        }
+    }
+    Ok(())
+}
+
+/// The letter of the verdict on the defect at a place, and behind it the bits of the pair to which it is
+/// credited, or the code of the search that was given up.
 pub(crate) fn verdict(alloc: Global, made: &Generated, place: usize) -> Result<Text, NoMemory> {
     let mut text = Text::new(alloc);
     if place >= made.verdicts.len() {
@@ -105,10 +122,14 @@ pub(crate) fn verdict(alloc: Global, made: &Generated, place: usize) -> Result<T
     }
     let verdict = made.verdicts.get(place);
     text.push(letter(verdict))?;
-    if let Verdict::Credited { pair, output: _ } = verdict {
-        if let Some(pair) = made.pairs.as_slice().get(*pair as usize) {
-            bits(&mut text, pair)?;
+    match verdict {
+        Verdict::Credited { pair, output: _ } => {
+            if let Some(pair) = made.pairs.as_slice().get(*pair as usize) {
+                bits(&mut text, pair)?;
+            }
         }
+        Verdict::Aborted { code } => tokens(&mut text, code)?,
+        Verdict::Unexposable | Verdict::Untestable => {}
     }
     Ok(text)
 }

@@ -1,6 +1,6 @@
 //! What is generated for chips that were worked out by hand.
 
-use crate::chips::{COUNTED, HAZARD, LIBRARY, SPELT};
+use crate::chips::{COUNTED, HAZARD, KEPT_CHARGE, LIBRARY, SPELT};
 use crate::told::{all, fault, summary, verdict};
 use ca_chip::ScanTable;
 use ca_core_bench::generate_chip;
@@ -68,10 +68,11 @@ fn pairs_and_verdicts_of_chips(rt: HostRuntime) {
 }
 
 #[test]
-fn a_defect_behind_a_hazard(rt: HostRuntime) {
-    let (netlist, budget, place, wanted) = HAZARD;
-    match told(rt.alloc(), netlist, budget, Asked::Verdict(place)) {
-        Some(text) => assert!(rt; text.is(wanted), "{:?}", text.as_bytes()),
-        None => assert!(rt; false, "{netlist:?}"),
+fn verdicts_on_single_defects(rt: HostRuntime) {
+    for (netlist, budget, place, wanted) in [HAZARD, KEPT_CHARGE] {
+        match told(rt.alloc(), netlist, budget, Asked::Verdict(place)) {
+            Some(text) => assert!(rt; text.is(wanted), "{:?}", text.as_bytes()),
+            None => assert!(rt; false, "{netlist:?}"),
+        }
     }
 }

@@ -1,5 +1,5 @@
 use Rattle.ca_atpg.proofs.AtpgLemmas.{task_pairs_fit}
-use Rattle.ca_atpg.proofs.generation.made_for.Goals as goal
+use Rattle.ca_atpg.proofs.generation.made_over.Goals as goal
 
 pub values_for-requires-clause-whole : goal.values_for-requires-clause-whole
 values_for-requires-clause-whole g c =
