@@ -1,6 +1,7 @@
 //! Netlists, and what is generated for their chips.
 
-/// An inverter, two gates of two inputs, one input led to one of two outputs, and a cell that keeps its value.
+/// An inverter, two gates of two inputs, a cell that leads its input to one of two outputs, and one that
+/// keeps a value.
 pub(crate) const LIBRARY: &[u8] = b"
 .SUBCKT INV A ZN VDD VSS
 *.PININFO A:I ZN:O VDD:P VSS:G
@@ -164,13 +165,13 @@ pub(crate) const HAZARD: (&[u8], u32, usize, &[u8]) = (GLITCH, 63, HAZARD_PLACE,
 // The place of that defect: one for each of the defects of the inverter, and then those of gates.
 const HAZARD_PLACE: usize = 66;
 
-/// The same of a search that sets the lowest bit first, to 0 and then to 1, and ends after one branch. In the one
-/// row that exposes the defect `a` is 1 in the first vector. So the search branches on bit 0, which is that
-/// value; with 0 the row is out of reach, and with 1 there is more to set.
+/// The same of a search that sets the lowest bit first, to 0 and then to 1, and ends after one branch. In the
+/// one row that exposes the defect `a` is 1 in the first vector. So the search branches on bit 0, which is
+/// that value; with 0 the row is out of reach, and with 1 there is more to set.
 pub(crate) const ONE_BRANCH: (&[u8], u32, usize, &[u8]) = (GLITCH, 1, HAZARD_PLACE, b"a 0=0 -");
 
 /// The same for the short of `VDD` and `w` in `u1`. Where `a` and `c` are 1 the good cell has 0 at both
-/// outputs, and the defective one 1, so that `y` is 1 and 0; but then `a` keeps `z` at 0. Where `a` falls both
-/// cells have 1 at `P` and 0 at `S`, `y` keeps its value, and `z` tells it. So no row of `u1` with the last
-/// vector exposes the defect, and just one of the first vector alone does.
+/// outputs, and the defective one 1, so that `y` is 1 and 0; but then `a` keeps `z` at 0. Where `a` falls
+/// both cells have 1 at `P` and 0 at `S`, `y` keeps its value, and `z` tells it. So no row of `u1` with the
+/// last vector exposes the defect, and just one of the first vector alone does.
 pub(crate) const KEPT_CHARGE: (&[u8], u32, usize, &[u8]) = (KEPT, 63, 46, b"c 1101");
