@@ -4,23 +4,30 @@ use crate::chips::{COUNTED, HAZARD, KEPT_CHARGE, LIBRARY, SPELT};
 use crate::told::{all, fault, summary, verdict};
 use ca_chip::ScanTable;
 use ca_core_bench::generate_chip;
-use ca_generate::Unwatched;
+use ca_generate::{Generated, Unwatched};
 use ca_lex::Text;
 use ca_link::link;
 use ca_spice::read_library;
-use ca_verilog::read_netlist;
+use ca_verilog::{RawNetlist, read_netlist};
 use ca_wired::Chip;
 use std::alloc::Global;
 
+// The chip of a netlist that was read, if it links. Here and below each thing is let go at one place, since
+// that is dear to prove.
+fn linked_netlist(alloc: Global, raw: &RawNetlist) -> Option<Chip> {
+    let library = read_library(alloc, LIBRARY).ok()?;
+    let table = ScanTable::new(alloc);
+    let chip = link(alloc, raw, library, &table).ok();
+    drop(table);
+    chip
+}
+
 // The chip of a netlist, if it links.
 pub(crate) fn linked(alloc: Global, netlist: &[u8]) -> Option<Chip> {
-    let Ok(library) = read_library(alloc, LIBRARY) else {
-        return None;
-    };
-    let Ok(raw) = read_netlist(alloc, netlist) else {
-        return None;
-    };
-    link(alloc, &raw, library, &ScanTable::new(alloc)).ok()
+    let raw = read_netlist(alloc, netlist).ok()?;
+    let chip = linked_netlist(alloc, &raw);
+    drop(raw);
+    chip
 }
 
 // What is asked of what is generated: the counts, all of it, or the verdict on a defect.
@@ -31,20 +38,29 @@ enum Asked {
     Verdict(usize),
 }
 
+// What is generated, as it is asked for.
+fn told_made(alloc: Global, made: &Generated, asked: Asked) -> Option<Text> {
+    match asked {
+        Asked::Counts => summary(alloc, made).ok(),
+        Asked::All => all(alloc, made).ok(),
+        Asked::Verdict(place) => verdict(alloc, made, place).ok(),
+    }
+}
+
+// What is generated for a chip.
+fn told_for(alloc: Global, chip: &Chip, budget: u32, asked: Asked) -> Option<Text> {
+    match generate_chip(alloc, chip, budget, &mut Unwatched) {
+        Ok(made) => told_made(alloc, &made, asked),
+        Err(why) => Text::from_bytes(alloc, fault(&why)).ok(),
+    }
+}
+
 // What is generated for the chip of a netlist.
 fn told(alloc: Global, netlist: &[u8], budget: u32, asked: Asked) -> Option<Text> {
-    let Some(chip) = linked(alloc, netlist) else {
-        return None;
-    };
-    let made = match generate_chip(alloc, &chip, budget, &mut Unwatched) {
-        Ok(made) => made,
-        Err(why) => return Text::from_bytes(alloc, fault(&why)).ok(),
-    };
-    match asked {
-        Asked::Counts => summary(alloc, &made).ok(),
-        Asked::All => all(alloc, &made).ok(),
-        Asked::Verdict(place) => verdict(alloc, &made, place).ok(),
-    }
+    let chip = linked(alloc, netlist)?;
+    let text = told_for(alloc, &chip, budget, asked);
+    drop(chip);
+    text
 }
 
 #[test]
