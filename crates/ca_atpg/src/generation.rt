@@ -218,7 +218,11 @@ fn texts_of(
     ensures report { IfOk result
         (λ texts. texts.report ≡ report_of chip.now made.now.generated.verdicts) }
 {
-    let Generated { pairs, verdicts, .. } = &made.generated;
+    let Generated {
+        pairs,
+        verdicts,
+        ..
+    } = &made.generated;
     let stil = stil_of(alloc, chip, chains, pairs, &made.values)?;
     let report = report_of(alloc, chip, tables, verdicts)?;
     Ok(Texts { stil, report })
