@@ -1,5 +1,7 @@
 //! What is generated for chips that were worked out by hand.
 
+ghost use Rattle.ca_verilog.specs.IsNetlist.{IsNetlist};
+
 use crate::chips::{COUNTED, HAZARD, KEPT_CHARGE, LIBRARY, SPELT};
 use crate::told::{all, fault, summary, verdict};
 use ca_chip::ScanTable;
@@ -14,12 +16,11 @@ use std::alloc::Global;
 
 // The chip of a netlist that was read, if it links. Here and below each thing is let go at one place, since
 // that is dear to prove.
-fn linked_netlist(alloc: Global, raw: &RawNetlist) -> Option<Chip> {
+fn linked_netlist(alloc: Global, raw: &RawNetlist) -> Option<Chip>
+    requires { IsNetlist raw.now }
+{
     let library = read_library(alloc, LIBRARY).ok()?;
-    let table = ScanTable::new(alloc);
-    let chip = link(alloc, raw, library, &table).ok();
-    drop(table);
-    chip
+    link(alloc, raw, library, &ScanTable::new(alloc)).ok()
 }
 
 // The chip of a netlist, if it links.
