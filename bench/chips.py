@@ -19,7 +19,7 @@ HERE = os.path.dirname(os.path.abspath(__file__))
 TOP = os.path.dirname(HERE)
 OSU = "/usr/share/qflow/tech/osu035"
 # each design, and whether it has flip-flops
-DESIGNS = {"mult8": False, "alu8": False, "sec8": False, "counter": True, "crc16": True, "fsm": True}
+DESIGNS = {"mult8": False, "alu8": False, "sec8": False, "sec32": False, "counter": True, "crc16": True, "fsm": True}
 
 
 def run(words):
