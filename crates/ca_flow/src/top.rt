@@ -5,18 +5,21 @@ ghost use Rattle.ca_store.specs.Store.{Nothing, Files};
 ghost use Rattle.ca_make.specs.declared.gate.TheConstants.{MOST_GATES};
 ghost use Rattle.ca_words.specs.Words.{IsCommand};
 ghost use Rattle.ca_words.specs.Command.{IsSpelled, IsSpelledAtpg, IsSpelledReplay, IsSpelledMake, NamesBoth};
+ghost use Rattle.ca_words.specs.Command.{IsSpelledFlatten, IsSpelledMatrix};
 ghost use Rattle.ca_words.specs.Command.{IsWhole};
 ghost use Rattle.ca_flow.specs.Fault.{IsWorkCause};
 ghost use Rattle.ca_load.specs.Files.{TellsStoreFault};
 ghost use Rattle.ca_flow.specs.Ends.{IsAsked, Ends};
-ghost use Rattle.ca_flow.specs.Work.{HasFiles};
+ghost use Rattle.ca_flow.specs.Work.{HasFiles, IsOutFile};
 
 use crate::files::{flat_file, matrix_file, text_file};
 use crate::finished::{Done, Finished, finish, refused};
-use crate::work::Work;
+use crate::work::{OutFile, Work};
 use ca_atpg::Tested;
+use ca_base::NoMemory;
 use ca_fault::Fault;
 use ca_generate::Watch;
+use ca_lex::Text;
 use ca_load::{Loaded, load};
 use ca_on_cell::{find_matrix, find_names, find_values};
 use ca_on_chip::{
@@ -24,7 +27,7 @@ use ca_on_chip::{
     find_simulation, find_tests,
 };
 use ca_store::{Sink, Store};
-use ca_words::{AtpgWords, Command, ReplayWords, parse};
+use ca_words::{AtpgWords, Command, FlattenWords, MatrixWords, ReplayWords, parse};
 use std::alloc::Global;
 
 /// Does one command, whose words come without the program's name. Nothing is written or printed before all
@@ -101,28 +104,12 @@ fn work_of<'a, S: Store, T: Watch>(
         Command::Defects(request) => Ok(printed(Done::Defects {
             names: find_names(alloc, request, store)?,
         })),
-        Command::Matrix(request) => {
-            let matrix = find_matrix(alloc, &request.of, store)?;
-            let file = matrix_file(alloc, request.out, &matrix)?;
-            Ok(Work {
-                done: Done::Matrix { matrix },
-                file: Some(file),
-                second: None,
-            })
-        }
+        Command::Matrix(request) => matrix_work(alloc, request, store),
         Command::Check(names) => {
             let Loaded { chip, chains } = load(alloc, names, store)?;
             Ok(printed(Done::Check { chip, chains }))
         }
-        Command::Flatten(request) => {
-            let FlatChip { chip, net } = find_flat(alloc, &request.of, store)?;
-            let file = flat_file(alloc, request.out, &net)?;
-            Ok(Work {
-                done: Done::Flatten { chip, net },
-                file: Some(file),
-                second: None,
-            })
-        }
+        Command::Flatten(request) => flat_work(alloc, request, store),
         Command::Simulate(request) => {
             let SimulatedChip { chip, ends } = find_simulation(alloc, request, store)?;
             Ok(printed(Done::Simulate { chip, ends }))
@@ -133,6 +120,67 @@ fn work_of<'a, S: Store, T: Watch>(
         Command::Help => Ok(printed(Done::Help)),
         Command::Version => Ok(printed(Done::Version)),
     }
+}
+
+// The work of `matrix`.
+fn matrix_work<'a, S: Store>(
+    alloc: Global,
+    request: &MatrixWords<'a>,
+    store: &mut S,
+) -> Result<Work<'a>, Fault>
+    requires closed { S.opened store.old ≡ Nothing }
+
+    ensures asked { IfOk result (λ work. (words : List (List ℕ)) → IsSpelledMatrix words request.now
+        → IsAsked words (S.files store.old) work.done) }
+    ensures file { IfOk result (λ work. (words : List (List ℕ)) → IsSpelledMatrix words request.now
+        → HasFiles words work.done work.file work.second) }
+    ensures cause { IfErr result (λ fault. (words : List (List ℕ)) → IsSpelledMatrix words request.now
+        → IsWorkCause words (S.files store.old) (S.faults store.old) (S.faults store.new) fault) }
+    ensures no_sink { IfErr result (λ fault. fault ≢ Fault.SinkFailed) }
+    ensures quiet { OnOk result (S.faults store.new ≡ S.faults store.old) }
+    ensures told { IfErr result (λ fault.
+        TellsStoreFault (Some fault) (S.faults store.old) (S.faults store.new)) }
+    ensures closed { S.opened store.new ≡ Nothing }
+    ensures kept { S.files store.new ≡ S.files store.old }
+{
+    let matrix = find_matrix(alloc, &request.of, store)?;
+    let file = matrix_file(alloc, request.out, &matrix)?;
+    Ok(Work {
+        done: Done::Matrix { matrix },
+        file: Some(file),
+        second: None,
+    })
+}
+
+// The work of `flatten`.
+fn flat_work<'a, S: Store>(
+    alloc: Global,
+    request: &FlattenWords<'a>,
+    store: &mut S,
+) -> Result<Work<'a>, Fault>
+    requires closed { S.opened store.old ≡ Nothing }
+    requires both { NamesBoth request.now.of }
+
+    ensures asked { IfOk result (λ work. (words : List (List ℕ)) → IsSpelledFlatten words request.now
+        → IsAsked words (S.files store.old) work.done) }
+    ensures file { IfOk result (λ work. (words : List (List ℕ)) → IsSpelledFlatten words request.now
+        → HasFiles words work.done work.file work.second) }
+    ensures cause { IfErr result (λ fault. (words : List (List ℕ)) → IsSpelledFlatten words request.now
+        → IsWorkCause words (S.files store.old) (S.faults store.old) (S.faults store.new) fault) }
+    ensures no_sink { IfErr result (λ fault. fault ≢ Fault.SinkFailed) }
+    ensures quiet { OnOk result (S.faults store.new ≡ S.faults store.old) }
+    ensures told { IfErr result (λ fault.
+        TellsStoreFault (Some fault) (S.faults store.old) (S.faults store.new)) }
+    ensures closed { S.opened store.new ≡ Nothing }
+    ensures kept { S.files store.new ≡ S.files store.old }
+{
+    let FlatChip { chip, net } = find_flat(alloc, &request.of, store)?;
+    let file = flat_file(alloc, request.out, &net)?;
+    Ok(Work {
+        done: Done::Flatten { chip, net },
+        file: Some(file),
+        second: None,
+    })
 }
 
 // The work of `atpg`.
@@ -166,19 +214,46 @@ fn tests_work<'a, S: Store, T: Watch>(
         stil,
         report,
     } = made;
+    let done = Done::Atpg {
+        chip,
+        chains,
+        pairs,
+        aims,
+        verdicts,
+    };
+    match test_files(alloc, request, stil, report) {
+        Ok(TestFiles { file, second }) => Ok(Work {
+            done,
+            file: Some(file),
+            second: Some(second),
+        }),
+        Err(NoMemory) => {
+            drop(done);
+            Err(Fault::NoMemory)
+        }
+    }
+}
+
+// The files of the patterns and of the report.
+#[derive(Drop)]
+struct TestFiles<'a> {
+    file: OutFile<'a>,
+    second: OutFile<'a>,
+}
+
+// The files to which these texts are to be written.
+fn test_files<'a>(
+    alloc: Global,
+    request: &AtpgWords<'a>,
+    stil: Text,
+    report: Text,
+) -> Result<TestFiles<'a>, NoMemory>
+    ensures stil { IfOk result (λ files. IsOutFile request.now.stil.now stil files.file) }
+    ensures report { IfOk result (λ files. IsOutFile request.now.report.now report files.second) }
+{
     let file = text_file(alloc, request.stil, stil)?;
     let second = text_file(alloc, request.report, report)?;
-    Ok(Work {
-        done: Done::Atpg {
-            chip,
-            chains,
-            pairs,
-            aims,
-            verdicts,
-        },
-        file: Some(file),
-        second: Some(second),
-    })
+    Ok(TestFiles { file, second })
 }
 
 // The work of `replay`.

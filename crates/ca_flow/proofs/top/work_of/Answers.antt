@@ -3,14 +3,14 @@ use Rattle.std.specs.Prelude.{ℕ, List, Option}
 use Rattle.ca_load.specs.Texts.{names_of}
 use Rattle.ca_load.proofs.LinkLemmas.{handed_on}
 use Rattle.ca_fault.specs.declared.fault.Fault.TheVariants.{SinkFailed}
-use Rattle.ca_words.specs.Command.{IsSpelled, IsSpelledDefects, IsSpelledMatrix, IsSpelledSimulate}
+use Rattle.ca_words.specs.Command.{IsSpelled, IsSpelledDefects, IsSpelledSimulate}
 use Rattle.ca_words.specs.Command.{IsSpelledMake}
 use Rattle.ca_store.specs.Store.{Files}
 use Rattle.ca_flow.specs.declared.work.Work.{Work}
 use Rattle.ca_flow.specs.Ends.{IsAsked}
 use Rattle.ca_flow.specs.Fault.{IsWorkCause}
-use Rattle.ca_flow.proofs.CauseLemmas.{defects_asked, matrix_asked, simulate_cause, no_check_sink}
-use Rattle.ca_flow.proofs.CauseLemmas.{no_flat_sink, no_ends_sink, ok_then}
+use Rattle.ca_flow.proofs.CauseLemmas.{defects_asked, simulate_cause, no_check_sink}
+use Rattle.ca_flow.proofs.CauseLemmas.{no_ends_sink, ok_then}
 use Rattle.ca_flow.proofs.top.work_of.Goals as goal
 
 pub returns-in_ok-find_names-in-Defects-clause-asked : goal.returns-in_ok-find_names-in-Defects-clause-asked
@@ -19,22 +19,6 @@ returns-in_ok-find_names-in-Defects-clause-asked g c = λ words spelled.
     rw c.printed-in-Defects.ensures.done
     (defects_asked words c.in-Defects.request (g.S.Store.files c.args.store.now) c.in_ok-find_names-in-Defects.field-0 said
     (c.in_ok-find_names-in-Defects.ensures).names)
-
-pub returns-in_ok-file-in-Matrix-clause-asked : goal.returns-in_ok-file-in-Matrix-clause-asked
-returns-in_ok-file-in-Matrix-clause-asked g c = λ words spelled.
-    let said : IsSpelledMatrix words c.in-Matrix.request = subst (IsSpelled words) c.in-Matrix.is spelled in
-    matrix_asked words c.in-Matrix.request (g.S.Store.files c.args.store.now) c.in_ok-matrix-in-Matrix.matrix said
-    (c.in_ok-matrix-in-Matrix.ensures).matrix
-
-pub returns-in_err-chip-in-Flatten-clause-no_sink : goal.returns-in_err-chip-in-Flatten-clause-no_sink
-returns-in_err-chip-in-Flatten-clause-no_sink g c =
-    let request = c.in-Flatten.request in
-    let fault = c.in_err-chip-in-Flatten.field-0.0 in
-    handed_on c.from_residual-in_err-chip-in-Flatten.result fault (λ fault. fault ≢ SinkFailed)
-    c.from_residual-in_err-chip-in-Flatten.ensures.1
-    (no_flat_sink (names_of request.of.files) request.of.instance.now request.of.defect.now
-    (g.S.Store.files c.args.store.now) (g.S.Store.faults c.args.store.now) (g.S.Store.faults c.find_flat.new.store) fault
-    (c.in_err-chip-in-Flatten.ensures).cause)
 
 pub returns-in_err-chip-in-Simulate-clause-cause : goal.returns-in_err-chip-in-Simulate-clause-cause
 returns-in_err-chip-in-Simulate-clause-cause g c =
