@@ -22,7 +22,8 @@ fn tried(rt: &impl Abort, alloc: Global, texts: &[(&str, &str)], line: &str, roo
     .expect(rt, "memory")
 }
 
-// The netlist is refused with this text, and nothing is printed.
+// The netlist is refused with this text, and nothing is printed. Here and below each end is let go at one
+// place, since that is dear to prove.
 fn check_refused(
     rt: &impl Abort,
     alloc: Global,
@@ -37,7 +38,9 @@ fn check_refused(
         ("short.csv", SHORT),
     ];
     let ended = tried(rt, alloc, &texts, line, 100);
-    check_end(alloc, told, &ended, &("", ended.status, "", told))
+    let checked = check_end(alloc, told, &ended, &("", ended.status, "", told));
+    drop(ended);
+    checked
 }
 
 // The chip with two scan instances, with one piece in place of another, is refused.
@@ -79,7 +82,9 @@ fn check_room(
     row: &Row,
 ) -> Result<(), Fail> {
     let ended = tried(rt, alloc, &FILES, line, room);
-    check_end(alloc, line, &ended, row)
+    let checked = check_end(alloc, line, &ended, row);
+    drop(ended);
+    checked
 }
 
 // The cells are judged before the netlist is looked for, and a library before that.
@@ -97,13 +102,17 @@ fn cells_come_first_and_an_output_may_end_early(rt: HostRuntime) -> Result<(), F
 #[test]
 fn what_an_output_does_not_take_is_still_done(rt: HostRuntime) -> Result<(), Fail> {
     let mute = tried(&rt, rt.alloc(), &FILES, "check n.sp c17.v -", 9);
-    assert!(rt; mute.done == "check");
+    let done = mute.done;
+    drop(mute);
+    assert!(rt; done == "check");
     Ok(())
 }
 
 #[test]
 fn a_fault_of_linking_has_its_instance(rt: HostRuntime) -> Result<(), Fail> {
     let ended = tried(&rt, rt.alloc(), &FILES, "check n.sp shift.v -", 100);
-    assert!(rt; matches!(&ended.fault, Some(Fault::Chip { .. })));
+    let is_of_chip = matches!(&ended.fault, Some(Fault::Chip { .. }));
+    drop(ended);
+    assert!(rt; is_of_chip);
     Ok(())
 }

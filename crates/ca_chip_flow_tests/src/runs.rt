@@ -35,7 +35,9 @@ fn a_file_has_at_most_65536_lines(rt: HostRuntime) -> Result<(), Fail> {
             Limits::of(0, 100),
             FailList::new(alloc),
         ).expect(&rt, "memory");
-        check_end(alloc, line, &ended, &("", status, printed, told))?;
+        let checked = check_end(alloc, line, &ended, &("", status, printed, told));
+        drop(ended);
+        checked?;
     }
     Ok(())
 }

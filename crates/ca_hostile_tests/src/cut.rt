@@ -18,8 +18,12 @@ fn status_of(
 ) -> u8 {
     let texts = [("n.sp", library), ("n.v", netlist), ("scan.csv", table)];
     let files = file_map(alloc, &texts).expect(rt, "memory");
-    let ended = try_command(alloc, files, line, Limits::of(0, 100), FailList::new(alloc));
-    ended.expect(rt, "memory").status
+    let ended = try_command(alloc, files, line, Limits::of(0, 100), FailList::new(alloc)).expect(
+        rt, "memory",
+    );
+    let status = ended.status;
+    drop(ended);
+    status
 }
 
 // How many bytes of the text come before this many of them, where no byte is cut.

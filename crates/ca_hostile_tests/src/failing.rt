@@ -70,6 +70,32 @@ fn check_failed(rt: &impl Abort, ended: &Trial, stil: &[u8], report: &[u8]) -> R
     Ok(())
 }
 
+// Checks a run. The answer is whether a call failed in it.
+fn check_ended(rt: &impl Abort, ended: &Trial, stil: &[u8], report: &[u8]) -> Result<bool, Fail> {
+    if ended.store.faults() == 0 {
+        assert_eq!(rt; ended.status, 0);
+        return Ok(false);
+    }
+    check_failed(rt, ended, stil, report)?;
+    Ok(true)
+}
+
+// Checks the run in which the call with this number fails, if there are so many. The answer is whether there
+// are. Here and below each run is let go at one place, since that is dear to prove.
+fn check_call(
+    rt: &impl Abort,
+    alloc: Global,
+    call: StoreCall,
+    number: u32,
+    stil: &[u8],
+    report: &[u8],
+) -> Result<bool, Fail> {
+    let ended = tried(rt, alloc, call, number);
+    let failed = check_ended(rt, &ended, stil, report);
+    drop(ended);
+    failed
+}
+
 // Each call of this kind fails in a run of its own, up to the first run that has fewer. The answer is how
 // many failed.
 fn check_calls(
@@ -81,12 +107,9 @@ fn check_calls(
 ) -> Result<u32, Fail> {
     let mut failed = 0;
     for number in 1..200_u32 {
-        let ended = tried(rt, alloc, call, number);
-        if ended.store.faults() == 0 {
-            assert_eq!(rt; ended.status, 0);
+        if !check_call(rt, alloc, call, number, stil, report)? {
             return Ok(failed);
         }
-        check_failed(rt, &ended, stil, report)?;
         failed = number;
     }
     Ok(0)
@@ -117,5 +140,7 @@ fn each_failed_call_is_told_with_its_file(rt: HostRuntime) -> Result<(), Fail> {
     let whole = tried(&rt, alloc, StoreCall::Read, 999);
     let stil = whole.store.bytes("p.stil").expect(&rt, "the file is there");
     let report = whole.store.bytes("r.csv").expect(&rt, "the file is there");
-    check_kinds(&rt, alloc, stil, report)
+    let checked = check_kinds(&rt, alloc, stil, report);
+    drop(whole);
+    checked
 }
