@@ -1,11 +1,14 @@
 //! Texts of order files: the events that they read as, or their first line that is none.
 
+ghost use Rattle.std.specs.Prelude.{◌≡◌, length};
+
 use crate::networks::{GOOD, HAZARD, network, vector};
+use ca_base::NoMemory;
 use ca_net::Trit::{One, X, Zero};
-use ca_net::{Network, NodeId, Trit};
+use ca_net::{FlatNet, Network, NodeId, State, Trit};
 use ca_order::{Event, OrderFault, read_order_for};
 use std::alloc::Global;
-use std::test::Fail;
+use std::process::Abort;
 
 // What a line does.
 #[derive(Clone, Copy)]
@@ -103,27 +106,85 @@ static REFUSED: [(&[u8], usize); 28] = [
     (b"settle 6\nset 0 1", 2),
 ];
 
-#[test]
-fn lines_are_read_up_to_the_first_that_is_none(rt: HostRuntime) -> Result<(), Fail> {
-    let alloc = rt.alloc();
-    let net = network(alloc, &HAZARD, &GOOD).expect(&rt, "a network");
-    let first = vector(alloc, net.node_count(), &[One, Zero, One, One, One])?;
-    let last = vector(alloc, net.node_count(), &[One, Zero, Zero, Zero, One])?;
+// Whether the events that a text reads as between two vectors are these. Here and below each thing is let go
+// at one place, since that is dear to prove.
+fn reads_as(
+    alloc: Global,
+    net: &FlatNet,
+    first: &State,
+    last: &State,
+    text: &[u8],
+    done: &[Done],
+) -> Result<bool, OrderFault>
+    requires first { length first.now ≡ length net.now.nodes }
+    requires last { length last.now ≡ length net.now.nodes }
+{
+    let events = read_order_for(alloc, net, first, last, text)?;
+    let are = are_done(events.as_slice(), done);
+    drop(events);
+    Ok(are)
+}
+
+// How many events a text reads as between two vectors.
+fn event_count(
+    alloc: Global,
+    net: &FlatNet,
+    first: &State,
+    last: &State,
+    text: &[u8],
+) -> Result<usize, OrderFault>
+    requires first { length first.now ≡ length net.now.nodes }
+    requires last { length last.now ≡ length net.now.nodes }
+{
+    let events = read_order_for(alloc, net, first, last, text)?;
+    let count = events.len();
+    drop(events);
+    Ok(count)
+}
+
+// Reads the texts that have events.
+fn read_all(rt: &impl Abort, alloc: Global, net: &FlatNet, first: &State, last: &State)
+    requires first { length first.now ≡ length net.now.nodes }
+    requires last { length last.now ≡ length net.now.nodes }
+{
     for (text, done) in &READ {
-        let events = read_order_for(alloc, &net, &first, &last, text).expect(&rt, "events");
-        assert!(rt; are_done(events.as_slice(), done), "{text:?}");
+        let are = reads_as(alloc, net, first, last, text, done).expect(rt, "events");
+        assert!(rt; are, "{text:?}");
     }
+}
+
+// Reads the texts with a line that is none.
+fn refuse_all(rt: &impl Abort, alloc: Global, net: &FlatNet, first: &State, last: &State)
+    requires first { length first.now ≡ length net.now.nodes }
+    requires last { length last.now ≡ length net.now.nodes }
+{
     for (text, line) in &REFUSED {
-        match read_order_for(alloc, &net, &first, &last, text) {
+        match event_count(alloc, net, first, last, text) {
             Err(fault) => assert_eq!(rt; fault, OrderFault::At { line: *line }, "{text:?}"),
             Ok(_) => assert!(rt; false, "{text:?}"),
         }
     }
-    Ok(())
+}
+
+// Reads all texts between the two vectors.
+fn read_between(rt: &impl Abort, alloc: Global, net: &FlatNet) {
+    let nodes = net.node_count();
+    let first = vector(alloc, nodes, &[One, Zero, One, One, One]).expect(rt, "a vector");
+    let last = vector(alloc, nodes, &[One, Zero, Zero, Zero, One]).expect(rt, "a vector");
+    read_all(rt, alloc, net, &first, &last);
+    refuse_all(rt, alloc, net, &first, &last);
+}
+
+#[test]
+fn lines_are_read_up_to_the_first_that_is_none(rt: HostRuntime) {
+    let alloc = rt.alloc();
+    let net = network(alloc, &HAZARD, &GOOD).expect(&rt, "a network");
+    read_between(&rt, alloc, &net);
+    drop(net);
 }
 
 // So many lines.
-fn lines(alloc: Global, count: usize) -> Result<Vec<u8>, Fail> {
+fn lines(alloc: Global, count: usize) -> Result<Vec<u8>, NoMemory> {
     let mut text = Vec::new(alloc);
     for _ in 0..count {
         text.extend_from_slice(b"settle 6\n")?;
@@ -131,18 +192,42 @@ fn lines(alloc: Global, count: usize) -> Result<Vec<u8>, Fail> {
     Ok(text)
 }
 
-#[test]
-fn a_line_past_the_most_is_refused(rt: HostRuntime) -> Result<(), Fail> {
-    let alloc = rt.alloc();
-    let net = network(alloc, &HAZARD, &GOOD).expect(&rt, "a network");
-    let inputs = vector(alloc, net.node_count(), &[One, Zero, One, One, One])?;
-    let text = lines(alloc, 65_536)?;
-    let events = read_order_for(alloc, &net, &inputs, &inputs, &text).expect(&rt, "events");
-    assert_eq!(rt; events.len(), 65_536);
-    let text = lines(alloc, 65_537)?;
-    match read_order_for(alloc, &net, &inputs, &inputs, &text) {
+// How many events so many lines read as, where both vectors are the same.
+fn count_lines(
+    rt: &impl Abort,
+    alloc: Global,
+    net: &FlatNet,
+    inputs: &State,
+    count: usize,
+) -> Result<usize, OrderFault>
+    requires { length inputs.now ≡ length net.now.nodes }
+{
+    let text = lines(alloc, count).expect(rt, "lines");
+    let counted = event_count(alloc, net, inputs, inputs, &text);
+    drop(text);
+    counted
+}
+
+// Reads the most lines, and one more.
+fn read_most(rt: &impl Abort, alloc: Global, net: &FlatNet, inputs: &State)
+    requires { length inputs.now ≡ length net.now.nodes }
+{
+    let count = count_lines(rt, alloc, net, inputs, 65_536).expect(rt, "events");
+    assert_eq!(rt; count, 65_536);
+    match count_lines(rt, alloc, net, inputs, 65_537) {
         Err(fault) => assert_eq!(rt; fault, OrderFault::At { line: 65_537 }),
         Ok(_) => assert!(rt; false),
     }
-    Ok(())
+}
+
+#[test]
+fn a_line_past_the_most_is_refused(rt: HostRuntime) {
+    let alloc = rt.alloc();
+    let net = network(alloc, &HAZARD, &GOOD).expect(&rt, "a network");
+    let inputs = vector(alloc, net.node_count(), &[One, Zero, One, One, One]).expect(
+        &rt, "a vector",
+    );
+    read_most(&rt, alloc, &net, &inputs);
+    drop(inputs);
+    drop(net);
 }
