@@ -350,23 +350,63 @@ fn values_of(alloc: Global, letters: &[u8]) -> Result<List<Trit>, NoMemory> {
     Ok(values)
 }
 
+fn pairs_of(alloc: Global, all: &[&[u8]]) -> Result<List<List<bool>>, NoMemory> {
+    let mut pairs = List::new(alloc);
+    for digits in all {
+        pairs.push(bits_of(alloc, digits)?)?;
+    }
+    Ok(pairs)
+}
+
+fn expected_of(alloc: Global, all: &[&[u8]]) -> Result<List<List<Trit>>, NoMemory> {
+    let mut expected = List::new(alloc);
+    for letters in all {
+        expected.push(values_of(alloc, letters)?)?;
+    }
+    Ok(expected)
+}
+
+// The text of a chip's pairs and values.
+fn text_with(
+    alloc: Global,
+    chip: &StilChip,
+    pairs: &[List<bool>],
+    expected: &[List<Trit>],
+) -> Result<Option<Text>, NoMemory> {
+    if !are_of(chip, pairs, expected) {
+        return Ok(None);
+    }
+    Ok(Some(write_stil(alloc, chip, pairs, expected)?))
+}
+
+// The same with values as letters. Here and below each thing is let go at one place, since that is dear to
+// prove.
+fn text_for(
+    alloc: Global,
+    chip: &StilChip,
+    pairs: &[List<bool>],
+    letters: &[&[u8]],
+) -> Result<Option<Text>, NoMemory> {
+    let expected = expected_of(alloc, letters)?;
+    let text = text_with(alloc, chip, pairs, expected.as_slice());
+    drop(expected);
+    text
+}
+
+// The same with pairs as digits.
+fn text_over(alloc: Global, chip: &StilChip, patterns: Patterns) -> Result<Option<Text>, NoMemory> {
+    let pairs = pairs_of(alloc, patterns.0)?;
+    let text = text_for(alloc, chip, pairs.as_slice(), patterns.1);
+    drop(pairs);
+    text
+}
+
 // The text; none where the pairs or values are not of the chip.
 fn text_of(alloc: Global, drawn: &Drawn, patterns: Patterns) -> Result<Option<Text>, NoMemory> {
     let chip = chip_of(alloc, drawn)?;
-    let mut pairs = List::new(alloc);
-    for digits in patterns.0 {
-        pairs.push(bits_of(alloc, digits)?)?;
-    }
-    let mut expected = List::new(alloc);
-    for letters in patterns.1 {
-        expected.push(values_of(alloc, letters)?)?;
-    }
-    let pairs = pairs.as_slice();
-    let expected = expected.as_slice();
-    if !are_of(&chip, pairs, expected) {
-        return Ok(None);
-    }
-    Ok(Some(write_stil(alloc, &chip, pairs, expected)?))
+    let text = text_over(alloc, &chip, patterns);
+    drop(chip);
+    text
 }
 
 #[test]
