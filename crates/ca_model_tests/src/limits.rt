@@ -1,13 +1,15 @@
 //! The three limits of the output of a NAND gate, with an open drain and without.
 
-ghost use Rattle.std.specs.Prelude.{◌≡◌, ◌+◌, take};
-ghost use Rattle.ca_net.specs.Wave.{input_count};
+ghost use Rattle.std.specs.Prelude.{◌≡◌, ◌<◌, ◌+◌, length, take};
+ghost use Rattle.ca_net.specs.Wave.{input_count, IsWave};
+ghost use Rattle.ca_settle.specs.Settled.{IsRoomFor};
 
 use crate::networks::{NAND2, NAND2_PARTS, OPEN_DRAIN_PARTS, OPENED, Part, Place, network};
 use ca_net::Trit::{One, X, Zero};
 use ca_net::{FlatNet, Network, NodeId, NodeKind, Trit, Wave};
 use ca_settle::{Work, three_phase};
-use std::test::Fail;
+use std::alloc::Global;
+use std::process::Abort;
 
 // How many nodes of the network are input nodes.
 #[tactic(auto, using(crate::proofs::CountLemmas::counts_more))]
@@ -80,20 +82,44 @@ static ROWS: [Row; 8] = [
     ),
 ];
 
-#[test]
-fn limits_of_a_nand_with_an_open_drain_and_without(rt: HostRuntime) -> Result<(), Fail> {
-    let alloc = rt.alloc();
+// The limits of ZN under the waves of A1 and A2, found in the room that is given.
+fn settled(net: &FlatNet, a1: Wave, a2: Wave, work: &mut Work) -> Wave
+    requires a1 { IsWave a1 }
+    requires a2 { IsWave a2 }
+    requires node { 4 < length net.now.nodes }
+    requires inputs { input_count net.now.nodes ≡ 4 }
+    requires room { IsRoomFor net.now work.old }
+{
     let power = Wave::pair(One, One);
     let ground = Wave::pair(Zero, Zero);
+    three_phase(net, &[power, ground, a1, a2], work);
+    work.wave(NodeId(4))
+}
+
+// The same with room that is taken. Here and below each thing is let go at one place, since that is dear to
+// prove.
+fn limits(rt: &impl Abort, alloc: Global, net: &FlatNet, a1: Wave, a2: Wave) -> Wave
+    requires a1 { IsWave a1 }
+    requires a2 { IsWave a2 }
+    requires node { 4 < length net.now.nodes }
+    requires inputs { input_count net.now.nodes ≡ 4 }
+{
+    let mut work = Work::reserve(alloc, net.node_count(), net.device_count()).expect(rt, "room");
+    let got = settled(net, a1, a2, &mut work);
+    drop(work);
+    got
+}
+
+#[test]
+fn limits_of_a_nand_with_an_open_drain_and_without(rt: HostRuntime) {
+    let alloc = rt.alloc();
     for (places, parts, a1, a2, zn) in &ROWS {
         assert!(rt; 4 < places.len() && places.len() < 100 && parts.len() < 100);
         let net = network(alloc, places, parts).expect(&rt, "a network");
         assert_eq!(rt; inputs_of(&net), 4);
         let (a1, a2) = (Wave::pair(a1.0, a1.1), Wave::pair(a2.0, a2.1));
-        let mut work = Work::reserve(alloc, net.node_count(), net.device_count())?;
-        three_phase(&net, &[power, ground, a1, a2], &mut work);
-        let got = work.wave(NodeId(4));
+        let got = limits(&rt, alloc, &net, a1, a2);
+        drop(net);
         assert_eq!(rt; (got.first, got.mid, got.last), *zn, "{a1:?} {a2:?}");
     }
-    Ok(())
 }

@@ -1,7 +1,7 @@
 //! Responses: of single nodes as they are by hand, and of whole cells in many states, each found in both
 //! ways.
 
-ghost use Rattle.std.specs.Prelude.{◌≡◌, length, IfOk};
+ghost use Rattle.std.specs.Prelude.{◌≡◌, ◌<◌, length, IfOk};
 
 use crate::networks::Part::{self, N, P, Short, WeakP};
 use crate::networks::Place::{self, Ground, Inner, Output, Pin, Power};
@@ -222,6 +222,24 @@ fn state_of(alloc: Global, values: &[Trit]) -> Result<State, NoMemory>
     Ok(state)
 }
 
+// The response of a node of a network whose nodes have these values. Here and below each thing is let go at
+// one place, since that is dear to prove.
+fn response_at(
+    rt: &impl Abort,
+    alloc: Global,
+    case: &str,
+    net: &FlatNet,
+    values: &[Trit],
+    node: usize,
+) -> Trit
+    requires values { length values.now ≡ length net.now.nodes }
+    requires node { node < length net.now.nodes }
+{
+    let state = state_of(alloc, values).expect(rt, case);
+    let out = responses(rt, alloc, case, net, &state);
+    out.get(node)
+}
+
 #[test]
 fn nodes_respond_as_by_hand(rt: HostRuntime) {
     let alloc = rt.alloc();
@@ -229,9 +247,9 @@ fn nodes_respond_as_by_hand(rt: HostRuntime) {
         assert!(rt; places.len() < 100 && parts.len() < 100 && values.len() == places.len());
         assert!(rt; *node < places.len());
         let net = network(alloc, places, parts).expect(&rt, case);
-        let state = state_of(alloc, values).expect(&rt, case);
-        let out = responses(&rt, alloc, case, &net, &state);
-        assert_eq!(rt; out.get(*node), *expected, "{case}");
+        let out = response_at(&rt, alloc, case, &net, values, *node);
+        drop(net);
+        assert_eq!(rt; out, *expected, "{case}");
     }
 }
 
