@@ -1,15 +1,17 @@
 //! The texts of generated chips, byte for byte, and that they are read and linked.
 
-ghost use Rattle.std.specs.Prelude.{◌≤◌};
+ghost use Rattle.std.specs.Prelude.{◌≤◌, IfSome};
+ghost use Rattle.ca_verilog.specs.IsNetlist.{IsNetlist};
 ghost use Rattle.ca_make.specs.declared.gate.TheConstants.{MOST_GATES};
 
+use ca_cell::Library;
 use ca_chip::ScanTable;
 use ca_link::link;
 use ca_make::{library, netlist};
 use ca_make_laws::{made_library, made_netlist};
 use ca_make_links::made_chip;
 use ca_spice::read_library;
-use ca_verilog::read_netlist;
+use ca_verilog::{RawNetlist, read_netlist};
 use std::alloc::Global;
 
 // The texts as they were written by another program from the same rules.
@@ -86,23 +88,74 @@ const SEVEN: &[u8] = b"module gen(i0, i1, i2, i3, i4, i5, i6, i7, o0, o1, o2, o3
     \x20 assign o5 = w6;\n\
     endmodule\n";
 
+// The library that is read. Here and below each thing is let go at one place, since that is dear to prove.
+fn library_read(alloc: Global) -> Option<Library> {
+    let text = library(alloc).ok()?;
+    let cells = read_library(alloc, text.as_bytes()).ok();
+    drop(text);
+    cells
+}
+
+// The netlist of the chip of a number, read.
+fn netlist_read(alloc: Global, n: u32) -> Option<RawNetlist>
+    requires { n ≤ MOST_GATES }
+    ensures { IfSome result IsNetlist }
+{
+    let text = netlist(alloc, n).ok()?;
+    let raw = read_netlist(alloc, text.as_bytes()).ok();
+    drop(text);
+    raw
+}
+
+// Whether a netlist links over a library.
+fn links(alloc: Global, raw: &RawNetlist, cells: Library) -> bool
+    requires { IsNetlist raw.now }
+{
+    let table = ScanTable::new(alloc);
+    let chip = link(alloc, raw, cells, &table);
+    drop(table);
+    chip.is_ok()
+}
+
+// Whether a netlist links over the library that is read.
+fn links_over_library(alloc: Global, raw: &RawNetlist) -> bool
+    requires { IsNetlist raw.now }
+{
+    match library_read(alloc) {
+        Some(cells) => links(alloc, raw, cells),
+        None => false,
+    }
+}
+
 // Whether the chip of a number is read and linked, over the library that is read.
 fn is_linked(alloc: Global, n: u32) -> bool
     requires { n ≤ MOST_GATES }
 {
-    let Ok(cells) = library(alloc) else {
+    let Some(raw) = netlist_read(alloc, n) else {
         return false;
     };
-    let Ok(library) = read_library(alloc, cells.as_bytes()) else {
-        return false;
-    };
-    let Ok(text) = netlist(alloc, n) else {
-        return false;
-    };
-    let Ok(raw) = read_netlist(alloc, text.as_bytes()) else {
-        return false;
-    };
-    link(alloc, &raw, library, &ScanTable::new(alloc)).is_ok()
+    let linked = links_over_library(alloc, &raw);
+    drop(raw);
+    linked
+}
+
+// Whether the library is read by its call.
+fn has_library(alloc: Global) -> bool {
+    made_library(alloc).is_ok()
+}
+
+// Whether the netlist of the chip of a number is read by its call.
+fn has_netlist(alloc: Global, n: u32) -> bool
+    requires { n ≤ MOST_GATES }
+{
+    made_netlist(alloc, n).is_ok()
+}
+
+// Whether the chip of a number is read and linked by its call.
+fn has_chip(alloc: Global, n: u32) -> bool
+    requires { n ≤ MOST_GATES }
+{
+    made_chip(alloc, n).is_ok()
 }
 
 #[test]
@@ -129,9 +182,9 @@ fn texts_are_read_and_linked(rt: HostRuntime) {
 
 #[test]
 fn calls_answer(rt: HostRuntime) {
-    assert!(rt; made_library(rt.alloc()).is_ok());
+    assert!(rt; has_library(rt.alloc()));
     for n in [1, 7, 200] {
-        assert!(rt; made_netlist(rt.alloc(), n).is_ok(), "{n}");
-        assert!(rt; made_chip(rt.alloc(), n).is_ok(), "{n}");
+        assert!(rt; has_netlist(rt.alloc(), n), "{n}");
+        assert!(rt; has_chip(rt.alloc(), n), "{n}");
     }
 }
