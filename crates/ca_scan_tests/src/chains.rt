@@ -1,10 +1,12 @@
 //! Chains: scan instances and ports by the numbers of their nets, each chip with its chains or the fault.
 
+ghost use Rattle.ca_wired.specs.Drivers.{IsDrafted};
+
 use crate::drafts::is_drafted;
 use Told::{Broken, Listed};
 use ca_cell::Library;
 use ca_lex::Text;
-use ca_scan::{ChainFault, MOST_CHAINS, trace};
+use ca_scan::{ChainFault, Chains, MOST_CHAINS, trace};
 use ca_wired::{Body, Chip, Draft, InstanceList, Part, PortBit, ScanNets, judge, wire};
 use std::alloc::Global;
 
@@ -84,19 +86,47 @@ fn port_bits(alloc: Global, ports: &[Port]) -> Option<Vec<PortBit>> {
     Some(bits)
 }
 
-// The chip of so many nets, of which the first three are those of the scan enable, the clock and the hold.
-fn chip(alloc: Global, nets: usize, scans: &[Scan], ports: &[Port]) -> Option<Chip> {
-    let library = Library::new(alloc).ok()?;
-    let parts = parts(alloc, scans)?;
-    let bits = port_bits(alloc, ports)?;
-    let draft = Draft::new(library, nets, None, None, parts, bits);
-    if !is_drafted(&draft) {
-        return None;
-    }
+// The chip of a draft, if it may be wired. Here and below each thing is let go at one place, since that is
+// dear to prove.
+fn wired(alloc: Global, draft: Draft) -> Option<Chip>
+    requires { IsDrafted draft }
+{
     match judge(alloc, &draft) {
         Ok(judged) => wire(alloc, draft, judged).ok(),
         Err(_) => None,
     }
+}
+
+// The chip of a draft of scan instances alone.
+fn drafted(alloc: Global, draft: Draft) -> Option<Chip> {
+    if is_drafted(&draft) {
+        wired(alloc, draft)
+    } else {
+        None
+    }
+}
+
+// The draft of so many nets, instances and ports.
+fn draft(alloc: Global, nets: usize, parts: Vec<Part>, bits: Vec<PortBit>) -> Option<Draft> {
+    match Library::new(alloc) {
+        Ok(library) => Some(Draft::new(library, nets, None, None, parts, bits)),
+        Err(_) => None,
+    }
+}
+
+// The same, with the ports as they are told.
+fn draft_of_parts(alloc: Global, nets: usize, parts: Vec<Part>, ports: &[Port]) -> Option<Draft> {
+    match port_bits(alloc, ports) {
+        Some(bits) => draft(alloc, nets, parts, bits),
+        None => None,
+    }
+}
+
+// The chip of so many nets, of which the first three are those of the scan enable, the clock and the hold.
+fn chip(alloc: Global, nets: usize, scans: &[Scan], ports: &[Port]) -> Option<Chip> {
+    let parts = parts(alloc, scans)?;
+    let draft = draft_of_parts(alloc, nets, parts, ports)?;
+    drafted(alloc, draft)
 }
 
 fn is_chain(chain: &InstanceList, list: &[u32]) -> bool {
@@ -123,13 +153,35 @@ fn are_chains(chains: &[InstanceList], lists: &[&[u32]]) -> bool {
     true
 }
 
-// Whether this is told of a chip.
-fn tells(alloc: Global, chip: &Chip, told: Told) -> bool {
-    match (trace(alloc, chip), told) {
+// Whether this is told of a chip that was traced.
+fn is_told(traced: &Result<Chains, ChainFault>, told: Told) -> bool {
+    match (traced, told) {
         (Ok(chains), Listed(lists)) => are_chains(chains.as_slice(), lists),
         (Err(ChainFault::ChainBroken { instance }), Broken(u)) => instance.0 == u,
         _ => false,
     }
+}
+
+// Whether this is told of a chip.
+fn tells(alloc: Global, chip: &Chip, told: Told) -> bool {
+    let traced = trace(alloc, chip);
+    let is_so = is_told(&traced, told);
+    drop(traced);
+    is_so
+}
+
+// Whether this is told of the chip of so many nets, if there is such a chip.
+fn tells_of(
+    alloc: Global,
+    nets: usize,
+    scans: &[Scan],
+    ports: &[Port],
+    told: Told,
+) -> Option<bool> {
+    let chip = chip(alloc, nets, scans, ports)?;
+    let is_so = tells(alloc, &chip, told);
+    drop(chip);
+    Some(is_so)
 }
 
 const CHIPS: [(usize, &[Scan], &[Port], Told); 13] = [
@@ -222,7 +274,7 @@ const CHIPS: [(usize, &[Scan], &[Port], Told); 13] = [
     ),
 ];
 
-// A chip with so many chains of one scan instance.
+// The chip with so many chains of one scan instance.
 fn chip_of_chains(alloc: Global, count: u32) -> Option<Chip> {
     if count > 100 {
         return None;
@@ -241,34 +293,63 @@ fn chip_of_chains(alloc: Global, count: u32) -> Option<Chip> {
     chip(alloc, 3 + 3 * count as usize, &scans, &ports)
 }
 
+/// How many chains are told: so many, or so many that are too many.
+#[derive(Clone, Copy)]
+enum Count {
+    Whole(usize),
+    TooMany(usize),
+    Untold,
+}
+
+// How many chains a chip has that was traced.
+fn counted(traced: &Result<Chains, ChainFault>) -> Count {
+    match traced {
+        Ok(chains) => Count::Whole(chains.len()),
+        Err(ChainFault::TooManyChains { count }) => Count::TooMany(*count),
+        Err(_) => Count::Untold,
+    }
+}
+
+// How many chains a chip has.
+fn count_of(alloc: Global, chip: &Chip) -> Count {
+    let traced = trace(alloc, chip);
+    let count = counted(&traced);
+    drop(traced);
+    count
+}
+
+// How many chains are told of the chip with so many, if there is such a chip.
+fn count_of_chains(alloc: Global, chains: u32) -> Option<Count> {
+    let chip = chip_of_chains(alloc, chains)?;
+    let count = count_of(alloc, &chip);
+    drop(chip);
+    Some(count)
+}
+
 #[test]
 fn chains_of_chips(rt: HostRuntime) {
     for (nets, scans, ports, told) in CHIPS {
-        let Some(chip) = chip(rt.alloc(), nets, scans, ports) else {
-            panic!(rt; "no chip of {nets} nets");
-        };
-        assert!(rt; tells(rt.alloc(), &chip, told), "{nets} nets");
+        match tells_of(rt.alloc(), nets, scans, ports, told) {
+            Some(is_so) => assert!(rt; is_so, "{nets} nets"),
+            None => panic!(rt; "no chip of {nets} nets"),
+        }
     }
 }
 
 #[test]
 fn sixty_four_chains(rt: HostRuntime) {
-    let Some(chip) = chip_of_chains(rt.alloc(), 64) else {
-        panic!(rt; "no chip");
-    };
-    match trace(rt.alloc(), &chip) {
-        Ok(chains) => assert!(rt; chains.len() == 64 && MOST_CHAINS == 64),
-        Err(_) => panic!(rt; "no chains"),
+    match count_of_chains(rt.alloc(), 64) {
+        Some(Count::Whole(count)) => assert!(rt; count == 64 && MOST_CHAINS == 64),
+        Some(_) => panic!(rt; "no chains"),
+        None => panic!(rt; "no chip"),
     }
 }
 
 #[test]
 fn sixty_five_chains(rt: HostRuntime) {
-    let Some(chip) = chip_of_chains(rt.alloc(), 65) else {
-        panic!(rt; "no chip");
-    };
-    match trace(rt.alloc(), &chip) {
-        Err(ChainFault::TooManyChains { count }) => assert!(rt; count == 65),
-        _ => panic!(rt; "not too many chains"),
+    match count_of_chains(rt.alloc(), 65) {
+        Some(Count::TooMany(count)) => assert!(rt; count == 65),
+        Some(_) => panic!(rt; "not too many chains"),
+        None => panic!(rt; "no chip"),
     }
 }
