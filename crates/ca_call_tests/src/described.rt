@@ -1,5 +1,8 @@
 //! A linked chip as a text, in which each call of it has its say.
 
+ghost use Rattle.std.specs.Prelude.{◌<◌, length};
+ghost use Rattle.ca_wired.specs.Linked.{IsLibrary};
+
 use ca_base::NoMemory;
 use ca_lex::Text;
 use ca_outputs::output_names;
@@ -90,6 +93,24 @@ fn nets(text: &mut Text, chip: &Chip) -> Result<(), NoMemory> {
     Ok(())
 }
 
+// Appends names.
+fn names(text: &mut Text, names: &[Text]) -> Result<(), NoMemory> {
+    for k in 0..names.len() {
+        text.push(b' ')?;
+        text.append(names[k].as_bytes())?;
+    }
+    text.append(b"\n")
+}
+
+// Appends the names of the outputs. Here and below each thing is let go at one place, since that is dear to
+// prove.
+fn end_names(alloc: Global, text: &mut Text, chip: &Chip) -> Result<(), NoMemory> {
+    let list = output_names(alloc, chip)?;
+    let is_appended = names(text, list.as_slice());
+    drop(list);
+    is_appended
+}
+
 // Appends the chip inputs and the observed outputs by their nets, and the names of the outputs.
 fn ends(alloc: Global, text: &mut Text, chip: &Chip) -> Result<(), NoMemory> {
     text.append(b"inputs")?;
@@ -100,39 +121,59 @@ fn ends(alloc: Global, text: &mut Text, chip: &Chip) -> Result<(), NoMemory> {
     for o in 0..chip.outputs() {
         number(text, chip.output(o).0 as usize)?;
     }
-    let names = output_names(alloc, chip)?;
-    for name in names.as_slice() {
-        text.push(b' ')?;
-        text.append(name.as_bytes())?;
-    }
-    text.append(b"\n")
+    end_names(alloc, text, chip)
 }
 
-// Appends a library instance: its name and its cell's, the place of the cell in the library, its place in the
-// order, the nets of its pins, and whether it stands there and is found by its name.
-#[tactic(auto, using(ca_core_tables::proofs::PartFacts::pin_within, ca_core_tables::proofs::PartFacts::cell_read))]
-fn instance(text: &mut Text, chip: &Chip, u: InstanceId) -> Result<(), NoMemory> {
-    if u.0 as usize >= chip.parts() || !chip.is_library(u) {
-        return text.append(b"none\n");
-    }
+// Whether a library instance stands at its place in the order, and is found by its name.
+fn is_found(chip: &Chip, u: InstanceId) -> bool
+    requires { IsLibrary chip.now u.0 }
+{
     chip.wired();
+    let is_named = match chip.find_instance(chip.instance_name(u).as_bytes()) {
+        Some(found) => found == u,
+        None => false,
+    };
+    is_named && chip.order(chip.place(u)) == u
+}
+
+// Appends the nets of the pins of a library instance.
+#[tactic(auto, using(ca_core_tables::proofs::PartFacts::pin_within, ca_core_tables::proofs::PartFacts::cell_read))]
+fn pins(text: &mut Text, chip: &Chip, u: InstanceId) -> Result<(), NoMemory>
+    requires { IsLibrary chip.now u.0 }
+{
+    chip.wired();
+    text.append(b" pins")?;
+    let cell = chip.cell_of(u);
+    for pin in 0..cell.inputs() + cell.outputs() {
+        number(text, chip.pin_net(u, pin).0 as usize)?;
+    }
+    Ok(())
+}
+
+// Appends the name of a library instance, its cell's, the place of the cell in the library, and its place in
+// the order.
+fn places(text: &mut Text, chip: &Chip, u: InstanceId) -> Result<(), NoMemory>
+    requires within { u.0 < length chip.now.parts }
+    requires library { IsLibrary chip.now u.0 }
+{
     text.append(chip.instance_name(u).as_bytes())?;
     text.push(b' ')?;
     text.append(chip.cell_name(u).as_bytes())?;
     text.append(b" cell")?;
     number(text, chip.cell_number(u))?;
     text.append(b" place")?;
-    number(text, chip.place(u))?;
-    text.append(b" pins")?;
-    let cell = chip.cell_of(u);
-    for pin in 0..cell.inputs() + cell.outputs() {
-        number(text, chip.pin_net(u, pin).0 as usize)?;
+    number(text, chip.place(u))
+}
+
+// Appends a library instance: its name and its cell's, the place of the cell in the library, its place in the
+// order, the nets of its pins, and whether it stands there and is found by its name.
+fn instance(text: &mut Text, chip: &Chip, u: InstanceId) -> Result<(), NoMemory> {
+    if u.0 as usize >= chip.parts() || !chip.is_library(u) {
+        return text.append(b"none\n");
     }
-    let is_found = match chip.find_instance(chip.instance_name(u).as_bytes()) {
-        Some(found) => found == u,
-        None => false,
-    };
-    text.append(if is_found && chip.order(chip.place(u)) == u {
+    places(text, chip, u)?;
+    pins(text, chip, u)?;
+    text.append(if is_found(chip, u) {
         b" found\n"
     } else {
         b" lost \n"
@@ -164,18 +205,26 @@ fn scan_instance(text: &mut Text, chip: &Chip, u: InstanceId) -> Result<(), NoMe
     text.append(b"\n")
 }
 
+// Appends all that the calls of a chip tell.
+fn describe(alloc: Global, text: &mut Text, chip: &Chip) -> Result<(), NoMemory> {
+    counts(text, chip)?;
+    ports(text, chip)?;
+    nets(text, chip)?;
+    ends(alloc, text, chip)?;
+    for k in 0..chip.instances() {
+        instance(text, chip, chip.instance(k))?;
+    }
+    for k in 0..chip.scan_count() {
+        scan_instance(text, chip, chip.scan(k))?;
+    }
+    Ok(())
+}
+
 /// All that the calls of a chip tell, a line for each port bit, net and instance.
 pub(crate) fn described(alloc: Global, chip: &Chip) -> Result<Text, NoMemory> {
     let mut text = Text::new(alloc);
-    counts(&mut text, chip)?;
-    ports(&mut text, chip)?;
-    nets(&mut text, chip)?;
-    ends(alloc, &mut text, chip)?;
-    for k in 0..chip.instances() {
-        instance(&mut text, chip, chip.instance(k))?;
+    match describe(alloc, &mut text, chip) {
+        Ok(()) => Ok(text),
+        Err(NoMemory) => Err(NoMemory),
     }
-    for k in 0..chip.scan_count() {
-        scan_instance(&mut text, chip, chip.scan(k))?;
-    }
-    Ok(text)
 }
