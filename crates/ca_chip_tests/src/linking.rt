@@ -1,15 +1,21 @@
 //! Linking: netlists, each with what is counted of its chip or the first rule that is broken.
 
+ghost use Rattle.std.specs.Prelude.{map, IfSome};
+ghost use Rattle.std.specs.List.{IsDistinct};
+ghost use Rattle.std.specs.Str.{bytes_eq};
+ghost use Rattle.ca_verilog.specs.IsNetlist.{IsNetlist};
+
 use Drive::{Constant, Pin, Port};
 use Told::{
     ControlObserved, ControlPin, DoubleDriven, Linked, Loop, QnUsed, TooManyDefects, TooManyInputs,
     TooManyInstances, TooManyOutputs, Undriven, UnknownCell,
 };
+use ca_base::NoMemory;
 use ca_chip::{Chip, ChipFault, Driver, InstanceList, ScanRow, ScanTable};
 use ca_lex::Text;
 use ca_link::link;
 use ca_spice::read_library;
-use ca_verilog::read_netlist;
+use ca_verilog::{RawNetlist, read_netlist};
 use std::alloc::{AllocError, Global};
 
 /// How what drives a net is told.
@@ -63,24 +69,53 @@ MN4 N3 D VSS VSS nch W=1u L=0.1u
 .ENDS
 ";
 
-// A text of these bytes.
-fn text(alloc: Global, bytes: &[u8]) -> Option<Text> {
-    Text::from_bytes(alloc, bytes).ok()
+// Writes the names of a scan cell with an inverted output, and of its pins.
+fn write_scan_cell(row: &mut ScanRow) -> Result<(), NoMemory> {
+    row.cell.append(b"SDFF")?;
+    row.d.append(b"D")?;
+    row.q.append(b"Q")?;
+    row.qn.append(b"QN")?;
+    row.si.append(b"SI")?;
+    row.so.append(b"SO")?;
+    row.se.append(b"SE")?;
+    row.ck.append(b"CK")?;
+    row.hold.append(b"HOLD")
+}
+
+// A scan cell without names.
+fn nameless(alloc: Global) -> ScanRow {
+    ScanRow {
+        cell: Text::new(alloc),
+        d: Text::new(alloc),
+        q: Text::new(alloc),
+        qn: Text::new(alloc),
+        si: Text::new(alloc),
+        so: Text::new(alloc),
+        se: Text::new(alloc),
+        ck: Text::new(alloc),
+        hold: Text::new(alloc),
+    }
 }
 
 // A scan cell with an inverted output.
 fn scan_cell(alloc: Global) -> Option<ScanRow> {
-    Some(ScanRow {
-        cell: text(alloc, b"SDFF")?,
-        d: text(alloc, b"D")?,
-        q: text(alloc, b"Q")?,
-        qn: text(alloc, b"QN")?,
-        si: text(alloc, b"SI")?,
-        so: text(alloc, b"SO")?,
-        se: text(alloc, b"SE")?,
-        ck: text(alloc, b"CK")?,
-        hold: text(alloc, b"HOLD")?,
-    })
+    let mut row = nameless(alloc);
+    match write_scan_cell(&mut row) {
+        Ok(()) => Some(row),
+        Err(_) => None,
+    }
+}
+
+// A scan table of this cell alone.
+fn scan_table(alloc: Global) -> Option<ScanTable>
+    ensures { IfSome result (λ rows. IsDistinct bytes_eq (map (λ row. row.cell) rows)) }
+{
+    let row = scan_cell(alloc)?;
+    let mut table = ScanTable::new(alloc);
+    match table.push(row) {
+        Ok(()) => Some(table),
+        Err(_) => None,
+    }
 }
 
 // Whether a driver is told so.
@@ -141,34 +176,68 @@ fn is_chip(chip: &Chip, told: Told) -> bool {
     }
 }
 
-// Whether this is what is told of a netlist.
-fn tells(alloc: Global, netlist: &[u8], told: Told) -> bool {
-    let Ok(library) = read_library(alloc, LIBRARY) else {
-        return false;
-    };
-    let Ok(raw) = read_netlist(alloc, netlist) else {
-        return false;
-    };
-    let Some(row) = scan_cell(alloc) else {
-        return false;
-    };
-    let mut scan = ScanTable::new(alloc);
-    let Ok(()) = scan.push(row) else {
-        return false;
-    };
-    match link(alloc, &raw, library, &scan) {
-        Ok(chip) => is_chip(&chip, told),
-        Err(fault) => is_fault(&fault, told),
+// Whether what is linked is told so.
+fn is_linked(linked: &Result<Chip, ChipFault>, told: Told) -> bool {
+    match linked {
+        Ok(chip) => is_chip(chip, told),
+        Err(fault) => is_fault(fault, told),
     }
 }
 
-// The parts of a text, one after another.
-fn joined(alloc: Global, parts: [&[u8]; 3]) -> Result<Vec<u8>, AllocError> {
-    let mut whole = Vec::new(alloc);
+// Whether this is what is told of a netlist that was read, with a scan table. Here and below each thing is
+// let go at one place, since that is dear to prove.
+fn tells_by_table(alloc: Global, raw: &RawNetlist, scan: &ScanTable, told: Told) -> bool
+    requires netlist { IsNetlist raw.now }
+    requires rows { IsDistinct bytes_eq (map (λ row. row.cell) scan.now) }
+{
+    let Ok(library) = read_library(alloc, LIBRARY) else {
+        return false;
+    };
+    let linked = link(alloc, raw, library, scan);
+    let is_so = is_linked(&linked, told);
+    drop(linked);
+    is_so
+}
+
+// The same, with the scan cell.
+fn tells_of(alloc: Global, raw: &RawNetlist, told: Told) -> bool
+    requires { IsNetlist raw.now }
+{
+    let Some(scan) = scan_table(alloc) else {
+        return false;
+    };
+    let is_so = tells_by_table(alloc, raw, &scan, told);
+    drop(scan);
+    is_so
+}
+
+// Whether this is what is told of a netlist.
+fn tells(alloc: Global, netlist: &[u8], told: Told) -> bool {
+    let Ok(raw) = read_netlist(alloc, netlist) else {
+        return false;
+    };
+    let is_so = tells_of(alloc, &raw, told);
+    drop(raw);
+    is_so
+}
+
+// Appends the parts of a text, one after another.
+fn join(whole: &mut Vec<u8>, parts: [&[u8]; 3]) -> Result<(), AllocError> {
     for part in parts {
         whole.extend_from_slice(part)?;
     }
-    Ok(whole)
+    Ok(())
+}
+
+// Whether this is what is told of the netlist of these parts, one after another.
+fn tells_joined(alloc: Global, parts: [&[u8]; 3], told: Told) -> bool {
+    let mut netlist = Vec::new(alloc);
+    let is_so = match join(&mut netlist, parts) {
+        Ok(()) => tells(alloc, &netlist, told),
+        Err(_) => false,
+    };
+    drop(netlist);
+    is_so
 }
 
 // The wires are a, b, z, w, x and y, in this order; a net is one where something drives or loads it.
@@ -370,34 +439,43 @@ const LIMITS: [(&[u8], Told); 6] = [
 #[test]
 fn first_rules_of_linking(rt: HostRuntime) {
     for (instances, told) in PLAIN_ROWS {
-        match joined(rt.alloc(), [PLAIN, instances, b" endmodule"]) {
-            Ok(netlist) => assert!(rt; tells(rt.alloc(), &netlist, told), "{instances:?}"),
-            Err(_) => assert!(rt; false),
-        }
+        let is_so = tells_joined(rt.alloc(), [PLAIN, instances, b" endmodule"], told);
+        assert!(rt; is_so, "{instances:?}");
     }
     for (instances, told) in SCAN_ROWS {
-        match joined(rt.alloc(), [SCAN, instances, b" endmodule"]) {
-            Ok(netlist) => assert!(rt; tells(rt.alloc(), &netlist, told), "{instances:?}"),
-            Err(_) => assert!(rt; false),
-        }
+        let is_so = tells_joined(rt.alloc(), [SCAN, instances, b" endmodule"], told);
+        assert!(rt; is_so, "{instances:?}");
     }
     for (text, told) in LIMITS {
-        match joined(rt.alloc(), [text, b" ", b"endmodule"]) {
-            Ok(netlist) => assert!(rt; tells(rt.alloc(), &netlist, told), "{text:?}"),
-            Err(_) => assert!(rt; false),
-        }
+        let is_so = tells_joined(rt.alloc(), [text, b" ", b"endmodule"], told);
+        assert!(rt; is_so, "{text:?}");
     }
 }
 
-// A netlist of so many instances with the same cell and pins.
-fn repeated(alloc: Global, count: usize, cell: &str, pins: &str) -> Result<Vec<u8>, AllocError> {
-    let mut text = Vec::new(alloc);
+// Appends a netlist of so many instances with the same cell and pins.
+fn repeat(
+    alloc: Global,
+    text: &mut Vec<u8>,
+    count: usize,
+    cell: &str,
+    pins: &str,
+) -> Result<(), AllocError> {
     text.extend_from_slice(b"module m(a, z); input a; output z; assign z = a; ")?;
     for k in 0..count {
         text.extend_from_slice(format!(in alloc; "{cell} u{k} ({pins});\n")?.as_bytes())?;
     }
-    text.extend_from_slice(b"endmodule")?;
-    Ok(text)
+    text.extend_from_slice(b"endmodule")
+}
+
+// Whether this is what is told of a netlist of so many instances with the same cell and pins.
+fn tells_repeated(alloc: Global, count: usize, cell: &str, pins: &str, told: Told) -> bool {
+    let mut netlist = Vec::new(alloc);
+    let is_so = match repeat(alloc, &mut netlist, count, cell, pins) {
+        Ok(()) => tells(alloc, &netlist, told),
+        Err(_) => false,
+    };
+    drop(netlist);
+    is_so
 }
 
 const MANY: [(usize, &str, &str, Told); 5] = [
@@ -426,9 +504,7 @@ const MANY: [(usize, &str, &str, Told); 5] = [
 #[test]
 fn limits_on_instances(rt: HostRuntime) {
     for (count, cell, pins, told) in MANY {
-        match repeated(rt.alloc(), count, cell, pins) {
-            Ok(netlist) => assert!(rt; tells(rt.alloc(), &netlist, told), "{count} of {cell}"),
-            Err(_) => assert!(rt; false),
-        }
+        let is_so = tells_repeated(rt.alloc(), count, cell, pins, told);
+        assert!(rt; is_so, "{count} of {cell}");
     }
 }

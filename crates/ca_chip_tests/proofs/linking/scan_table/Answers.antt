@@ -2,10 +2,10 @@ use Rattle.std.proofs.Common.{List, [], ◌∷◌, ◌++◌, map, sym, ◌∙◌
 use Rattle.std.specs.List.{IsDistinct}
 use Rattle.std.specs.Str.{bytes_eq}
 use Rattle.ca_chip.specs.declared.scan_row.ScanRow.{ScanRow}
-use Rattle.ca_chip_tests.proofs.linking.tells.Goals as goal
+use Rattle.ca_chip_tests.proofs.linking.scan_table.Goals as goal
 
-pub link-requires-clause-rows : goal.link-requires-clause-rows
+pub returns-in-Ok : goal.returns-in-Ok
 unfolding IsDistinct
-link-requires-clause-rows c =
+returns-in-Ok c =
     subst (λ (rows : List ScanRow). IsDistinct bytes_eq (map (λ (row : ScanRow). row.cell) rows))
-    (sym (c.in-Ok-push.ensures.ok ∙ ap (λ (rows : List ScanRow). rows ++ c.in-Some.row ∷ []) c.new-scan.ensures)) (tt, tt)
+    (sym (c.in-Ok.ensures.ok ∙ ap (λ (rows : List ScanRow). rows ++ c.in_ok-row.row ∷ []) c.new-table.ensures)) (tt, tt)
