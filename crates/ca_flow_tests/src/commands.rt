@@ -51,7 +51,9 @@ fn check(
     told: &str,
 ) -> Result<(), Fail> {
     let ended = tried(rt, alloc, bytes, line, 0, 100);
-    check_end(alloc, line, &ended, &("", status, "", told))
+    let checked = check_end(alloc, line, &ended, &("", status, "", told));
+    drop(ended);
+    checked
 }
 
 #[test]
@@ -65,19 +67,38 @@ fn each_command_ends_so(rt: HostRuntime) -> Result<(), Fail> {
     check_rows(alloc, &files, "", &LINES)
 }
 
-#[test]
-fn a_matrix_stands_in_its_file(rt: HostRuntime) -> Result<(), Fail> {
-    let alloc = rt.alloc();
-    let line = "matrix n.sp NAND2 m.csv";
-    let ended = tried(&rt, alloc, LIBRARY, line, 10_000, 100);
-    let bytes = ended.store.bytes("m.csv").expect(&rt, "the file is there");
-    let text = str::from_utf8(bytes).expect(&rt, "the file is a text");
+// The file has these lines.
+fn check_lines(rt: &impl Abort, ended: &Trial) {
+    let bytes = ended.store.bytes("m.csv").expect(rt, "the file is there");
+    let text = str::from_utf8(bytes).expect(rt, "the file is a text");
     for (number, wanted) in &NAND2_LINES {
-        let found = text.lines().nth(*number).expect(&rt, "the line is there");
+        let found = text.lines().nth(*number).expect(rt, "the line is there");
         assert_eq!(rt; found, *wanted);
     }
     assert_eq!(rt; text.lines().count(), 17);
+}
+
+// Here and below each end is let go at one place, since that is dear to prove.
+#[test]
+fn a_matrix_stands_in_its_file(rt: HostRuntime) -> Result<(), Fail> {
+    let line = "matrix n.sp NAND2 m.csv";
+    let ended = tried(&rt, rt.alloc(), LIBRARY, line, 10_000, 100);
+    check_lines(&rt, &ended);
+    drop(ended);
     Ok(())
+}
+
+// What stands in the file of a command that ended so.
+fn checked_text(
+    rt: &impl Abort,
+    alloc: Global,
+    line: &str,
+    ended: &Trial,
+    row: &(&str, u8, &str, &str),
+) -> Result<Text, Fail> {
+    check_end(alloc, line, ended, row)?;
+    let bytes = ended.store.bytes("m.csv").expect(rt, "the file is there");
+    Ok(Text::from_bytes(alloc, bytes).expect(rt, "memory"))
 }
 
 // What the matrix of the NAND leaves in its file, with this room for the file and for what is printed, where
@@ -91,9 +112,9 @@ fn left_file(
 ) -> Result<Text, Fail> {
     let line = "matrix n.sp NAND2 m.csv";
     let ended = tried(rt, alloc, LIBRARY, line, space, room);
-    check_end(alloc, line, &ended, row)?;
-    let bytes = ended.store.bytes("m.csv").expect(rt, "the file is there");
-    Ok(Text::from_bytes(alloc, bytes).expect(rt, "memory"))
+    let text = checked_text(rt, alloc, line, &ended, row);
+    drop(ended);
+    text
 }
 
 // A file that is not whole holds the first bytes, and nothing is printed; a failed output leaves the file
@@ -126,8 +147,15 @@ fn a_refused_cell_has_its_pin_and_device(rt: HostRuntime) -> Result<(), Fail> {
         pin: NodeId(2),
         device: DeviceId(0),
     };
-    assert!(rt; matches!(&ended.fault, Some(Fault::Cell { rule, .. }) if *rule == wanted));
+    let is_wanted = matches!(&ended.fault, Some(Fault::Cell { rule, .. }) if *rule == wanted);
+    drop(ended);
+    assert!(rt; is_wanted);
     Ok(())
+}
+
+// The command of this line printed this.
+fn check_printed(rt: &impl Abort, line: &str, ended: &Trial, wanted: &[u8]) {
+    assert_eq!(rt; ended.printed.bytes(), wanted, "at {line}");
 }
 
 // A short that no pair shows: it ties the output to the net that drives it.
@@ -140,7 +168,8 @@ fn a_pair_that_shows_nothing_reads_x(rt: HostRuntime) -> Result<(), Fail> {
                 &rt, "memory",
             );
             let ended = tried(&rt, alloc, LIBRARY, &line, 0, 9);
-            assert_eq!(rt; ended.printed.bytes(), b"Z=X\n".as_slice(), "at {line}");
+            check_printed(&rt, &line, &ended, b"Z=X\n");
+            drop(ended);
         }
     }
     Ok(())
@@ -207,6 +236,29 @@ fn a_library_has_at_most_1024_cells(rt: HostRuntime) -> Result<(), Fail> {
     Ok(())
 }
 
+// A command over a store that fails at one call, and with this room for what is printed, ends so.
+fn check_call(
+    rt: &impl Abort,
+    alloc: Global,
+    call: StoreCall,
+    number: u32,
+    room: usize,
+    row: &(&str, u8, &str, &str),
+) -> Result<(), Fail> {
+    let mut fail = FailList::new(alloc);
+    fail.push(call, number).expect(rt, "memory");
+    let line = "respond n.sp NAND2 11";
+    let files = file_map(alloc, &[("n.sp", NAND2)]).expect(rt, "memory");
+    let ended = try_command(alloc, files, line, Limits::of(0, room), fail).expect(rt, "memory");
+    let checked = check_end(alloc, line, &ended, row);
+    let is_mute = matches!(&ended.fault, Some(Fault::SinkFailed));
+    let done = ended.done;
+    drop(ended);
+    checked?;
+    assert_eq!(rt; (done == "respond"), is_mute);
+    Ok(())
+}
+
 #[test]
 fn a_failed_call_is_told(rt: HostRuntime) -> Result<(), Fail> {
     let alloc = rt.alloc();
@@ -218,16 +270,7 @@ fn a_failed_call_is_told(rt: HostRuntime) -> Result<(), Fail> {
         (StoreCall::Read, 999, 0, "", "output fault"),
         (StoreCall::Read, 999, 2, "ZN", "output fault"),
     ] {
-        let mut fail = FailList::new(alloc);
-        fail.push(call, number).expect(&rt, "memory");
-        let line = "respond n.sp NAND2 11";
-        let files = file_map(alloc, &[("n.sp", NAND2)]).expect(&rt, "memory");
-        let ended = try_command(alloc, files, line, Limits::of(0, room), fail).expect(
-            &rt, "memory",
-        );
-        check_end(alloc, line, &ended, &("", 4, printed, told))?;
-        let is_mute = matches!(&ended.fault, Some(Fault::SinkFailed));
-        assert_eq!(rt; (ended.done == "respond"), is_mute);
+        check_call(&rt, alloc, call, number, room, &("", 4, printed, told))?;
     }
     Ok(())
 }
