@@ -1,7 +1,7 @@
 -- Cards, and what they make of a reading.
 use Rattle.std.proofs.Common.{◌≡◌, ℕ, ◌≤◌, List, Bool, true, false, [], ◌∷◌, ◌++◌, length, get_or, Option}
 use Rattle.std.proofs.Common.{Some, None, Result, Ok, Err, sym, ap, ◌∙◌, ◌||◌, append-nil, zero-add, arith}
-use Rattle.std.proofs.Common.{subst, cond}
+use Rattle.std.proofs.Common.{subst, cond, refl}
 use Rattle.std.specs.Prelude.{option_map}
 use Rattle.std.specs.List.{All}
 use Rattle.std.specs.Prelude.{IsErrAnd}
@@ -66,39 +66,36 @@ pub known_cell : (name : List ℕ) (names : List (List ℕ)) (cells : List Subci
     → found ≡ has_name name names → has_cell name cells ≡ found
 known_cell name names cells found named is = sym (has_name-cells name cells) ∙ ap (has_name name) (sym named) ∙ sym is
 
--- a .SUBCKT of a name that is there
-pub named-double : (line : ℕ) (name : List ℕ) (pins : List (List ℕ)) (reading : Reading) → has_cell name reading.cells ≡ true
-    → named line name pins reading ≡ Err DoubleName
+-- a .SUBCKT is judged by the names that are kept
+named-by : (line : ℕ) (name : List ℕ) (pins names : List (List ℕ)) (reading : Reading) → names ≡ names_of reading.cells
+    → named line name pins reading
+    ≡ unless (has_name name names || has_double pins) DoubleName (Ok (with_open reading (new_cell line name pins)))
 unfolding named
-named-double line name pins reading there =
-    ap (λ found. unless (found || has_double pins) DoubleName (Ok (with_open reading (new_cell line name pins)))) there
+named-by line name pins names reading are =
+    ap (λ found. unless (found || has_double pins) DoubleName (Ok (with_open reading (new_cell line name pins))))
+    (known_cell name names reading.cells (has_name name names) are refl)
 
--- a .SUBCKT of a new name
-named-pins : (line : ℕ) (name : List ℕ) (pins : List (List ℕ)) (reading : Reading) → has_cell name reading.cells ≡ false
-    → named line name pins reading ≡ unless (has_double pins) DoubleName (Ok (with_open reading (new_cell line name pins)))
-unfolding named
-named-pins line name pins reading new =
-    ap (λ found. unless (found || has_double pins) DoubleName (Ok (with_open reading (new_cell line name pins)))) new
-
-pub named-new : (line : ℕ) (name : List ℕ) (pins : List (List ℕ)) (reading : Reading) (cell : OpenCell) → has_cell name reading.cells ≡ false
-    → unless (has_double pins) DoubleName (Ok (new_cell line name pins)) ≡ Ok cell
+pub named-new : (line : ℕ) (name : List ℕ) (pins names : List (List ℕ)) (reading : Reading) (cell : OpenCell) → names ≡ names_of reading.cells
+    → unless (has_name name names || has_double pins) DoubleName (Ok (new_cell line name pins)) ≡ Ok cell
     → named line name pins reading ≡ Ok (with_open reading cell)
-named-new line name pins reading cell new made = named-pins line name pins reading new ∙ by (has_double pins) made
+named-new line name pins names reading cell are made = named-by line name pins names reading are ∙ by (has_name name names || has_double pins) made
   where
-    by : (double : Bool) → unless double DoubleName (Ok (new_cell line name pins)) ≡ Ok cell
-        → unless double DoubleName (Ok (with_open reading (new_cell line name pins))) ≡ Ok (with_open reading cell)
+    by : (refused : Bool) → unless refused DoubleName (Ok (new_cell line name pins)) ≡ Ok cell
+        → unless refused DoubleName (Ok (with_open reading (new_cell line name pins))) ≡ Ok (with_open reading cell)
     by true is = absurd cc
     by false is =
         let same : new_cell line name pins ≡ cell = cc in
         ap (λ (c : OpenCell). Ok (with_open reading c)) same
 
-pub named-fault : (line : ℕ) (name : List ℕ) (pins : List (List ℕ)) (reading : Reading) (told : Option SpiceKind) → has_cell name reading.cells ≡ false
-    → IsFault told (unless (has_double pins) DoubleName (Ok (new_cell line name pins))) → IsFault told (named line name pins reading)
-named-fault line name pins reading None new fault = tt
-named-fault line name pins reading (Some kind) new fault = named-pins line name pins reading new ∙ by (has_double pins) fault
+pub named-fault : (line : ℕ) (name : List ℕ) (pins names : List (List ℕ)) (reading : Reading) (told : Option SpiceKind) → names ≡ names_of reading.cells
+    → IsFault told (unless (has_name name names || has_double pins) DoubleName (Ok (new_cell line name pins)))
+    → IsFault told (named line name pins reading)
+named-fault line name pins names reading None are fault = tt
+named-fault line name pins names reading (Some kind) are fault =
+    named-by line name pins names reading are ∙ by (has_name name names || has_double pins) fault
   where
-    by : (double : Bool) → unless double DoubleName (Ok (new_cell line name pins)) ≡ Err kind
-        → unless double DoubleName (Ok (with_open reading (new_cell line name pins))) ≡ Err kind
+    by : (refused : Bool) → unless refused DoubleName (Ok (new_cell line name pins)) ≡ Err kind
+        → unless refused DoubleName (Ok (with_open reading (new_cell line name pins))) ≡ Err kind
     by true is = cc
     by false is = absurd cc
 

@@ -2,12 +2,14 @@
 #![tactic(auto)]
 
 mod card;
+mod device;
 mod fault;
 mod laws;
 mod library;
 mod mos;
 mod names;
 mod open_cell;
+mod opening;
 mod pin;
 mod pin_info;
 mod reading;

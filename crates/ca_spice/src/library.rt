@@ -1,5 +1,5 @@
 //! The library of a text.
-ghost use Rattle.std.specs.Prelude.{◌≡◌, ◌≤◌, map, IfOk, length};
+ghost use Rattle.std.specs.Prelude.{◌≡◌, ◌≤◌, map, IfOk, Ok, length};
 ghost use Rattle.std.specs.List.{All, IsDistinct};
 ghost use Rattle.std.specs.Str.{bytes_eq};
 ghost use Rattle.ca_lex.specs.Reading.{Gives};
@@ -55,6 +55,46 @@ fn entries_of(alloc: Global, cells: Vec<Subcircuit>) -> Result<Library, NoMemory
     Ok(library)
 }
 
+// Whether a text may end with this reading.
+#[tactic(auto, unfolding(crate::specs::Reading::library_from))]
+fn judge_end(reading: &Reading) -> Result<(), SpiceFault>
+    ensures judged { Gives fault_told (λ done. reading.now.cells.items) result
+        (library_from (Ok (reading_seen reading.now))) }
+    ensures few { IfOk result (λ done. length reading.now.cells.items ≤ MOST_CELLS) }
+    ensures named { IfOk result (λ done. reading.now.names ≡ names_of reading.now.cells.items) }
+    ensures distinct { IfOk result (λ done. IsDistinct bytes_eq (names_of reading.now.cells.items)) }
+{
+    if let Some(cell) = &reading.current {
+        return Err(SpiceFault::At {
+            line: cell.line,
+            kind: SpiceKind::Unended,
+        });
+    }
+    let count = reading.names.len();
+    if MOST_CELLS < count {
+        return Err(SpiceFault::TooManyCells { count });
+    }
+    Ok(())
+}
+
+// The library of a whole text's reading. Here and below each large value is let go at one place, since that
+// is dear to prove.
+fn library_from(alloc: Global, reading: Reading) -> Result<Library, SpiceFault>
+    ensures exact { Gives fault_told (map subcircuit_seen) result (library_from (Ok (reading_seen reading))) }
+    ensures entries { IfOk result (λ library. All (λ named. IsEntry named.entry) library) }
+{
+    let judged = judge_end(&reading);
+    let Reading {
+        names,
+        cells,
+        current,
+    } = reading;
+    drop(names);
+    drop(current);
+    judged?;
+    Ok(entries_of(alloc, cells)?)
+}
+
 /// The library that a cell netlist reads as.
 #[tactic(auto, unfolding(crate::specs::Reading::library_from))]
 pub fn read_library(alloc: Global, bytes: &[u8]) -> Result<Library, SpiceFault>
@@ -62,21 +102,7 @@ pub fn read_library(alloc: Global, bytes: &[u8]) -> Result<Library, SpiceFault>
     ensures entries { IfOk result (λ library. All (λ named. IsEntry named.entry) library) }
 {
     let lines = spice_lines(alloc, bytes)?;
-    let reading = lines_of(alloc, lines.as_slice())?;
-    let Reading {
-        names,
-        cells,
-        current,
-    } = reading;
-    if let Some(cell) = current {
-        return Err(SpiceFault::At {
-            line: cell.line,
-            kind: SpiceKind::Unended,
-        });
-    }
-    let count = names.len();
-    if MOST_CELLS < count {
-        return Err(SpiceFault::TooManyCells { count });
-    }
-    Ok(entries_of(alloc, cells)?)
+    let reading = lines_of(alloc, lines.as_slice());
+    drop(lines);
+    library_from(alloc, reading?)
 }

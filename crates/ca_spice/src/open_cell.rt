@@ -4,6 +4,7 @@ ghost use Rattle.ca_spice.specs.Kept.{IsPlaced};
 ghost use Rattle.ca_spice.specs.Names.{texts};
 ghost use Rattle.ca_spice.specs.OpenCell.{is_ended_by};
 
+use crate::device::add_device;
 use crate::fault::{Refusal, SpiceKind};
 use crate::mos::{Sizes, Wiring, sizes_of, wiring_of};
 use crate::names::set_of;
@@ -11,7 +12,7 @@ use crate::pin::{Pin, pins_of, raw_pins};
 use crate::pin_info::pin_info;
 use crate::subcircuit::Subcircuit;
 use ca_base::NoMemory;
-use ca_cell::{RawCell, RawDevice, RawDevices};
+use ca_cell::{RawCell, RawDevices};
 use ca_lex::Text;
 use ca_names::NameSet;
 use std::alloc::Global;
@@ -108,20 +109,16 @@ impl OpenCell {
             mut device_names,
             mut devices,
         } = self;
-        let drain = nets.add(alloc, wiring.drain)?;
-        let gate = nets.add(alloc, wiring.gate)?;
-        let source = nets.add(alloc, wiring.source)?;
-        device_names.add(alloc, name)?;
-        devices.push(RawDevice {
-            name: Text::from_bytes(alloc, name)?,
-            kind: wiring.kind,
-            strength: sizes.strength(),
-            width: sizes.width,
-            length: sizes.length,
-            drain,
-            gate,
-            source,
-        })?;
+        let places = &mut nets;
+        add_device(
+            alloc,
+            places,
+            &mut device_names,
+            &mut devices,
+            name,
+            wiring,
+            sizes,
+        )?;
         Ok(OpenCell {
             line,
             name: cell_name,

@@ -11,6 +11,7 @@ use crate::fault::{Refusal, SpiceFault, SpiceKind};
 use crate::mos::is_sign;
 use crate::names::{all_text, is_name};
 use crate::open_cell::OpenCell;
+use crate::opening::opened;
 use crate::subcircuit::Subcircuit;
 use ca_lex::{Line, fold, spice_words};
 use ca_names::NameSet;
@@ -64,13 +65,10 @@ impl Reading {
         let Reading {
             mut names,
             cells,
-            current: _,
+            current,
         } = self;
-        if names.has(name) {
-            return Err(Refusal::Kind(SpiceKind::DoubleName));
-        }
-        names.add(alloc, name)?;
-        let cell = OpenCell::new(alloc, line, name, pins)?;
+        drop(current);
+        let cell = opened(alloc, &mut names, line, name, pins)?;
         Ok(Reading {
             names,
             cells,
@@ -83,13 +81,12 @@ impl Reading {
         requires { All IsUpper (texts words.now) }
         ensures { Gives kind_told reading_seen result (subckt line (texts words.now) (reading_seen self)) }
     {
-        if !self.is_outside() || !is_header(words) {
-            return Err(Refusal::Kind(SpiceKind::BadCard));
+        match words {
+            [name, pins @ ..] if self.is_outside() && is_header(words) => {
+                self.named(alloc, line, name, pins)
+            }
+            _ => Err(Refusal::Kind(SpiceKind::BadCard)),
         }
-        let [name, pins @ ..] = words else {
-            return Err(Refusal::Kind(SpiceKind::BadCard));
-        };
-        self.named(alloc, line, name, pins)
     }
 
     #[tactic(auto, unfolding(crate::specs::Reading::ends))]

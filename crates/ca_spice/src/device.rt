@@ -1,0 +1,51 @@
+//! A transistor more in a subcircuit.
+ghost use Rattle.std.specs.Prelude.{◌≡◌, ◌≤◌, false, [], ◌∷◌, ◌++◌, map, length, OnOk};
+ghost use Rattle.ca_spice.specs.Kept.{IsPlaced};
+ghost use Rattle.ca_spice.specs.OpenCell.{has_device, with_source, device_of};
+ghost use Rattle.ca_spice.specs.Views.{wiring_seen, sizes_seen};
+
+use crate::mos::{Sizes, Wiring};
+use ca_base::NoMemory;
+use ca_cell::{RawDevice, RawDevices};
+use ca_lex::Text;
+use ca_names::NameSet;
+use std::alloc::Global;
+
+/// Adds a transistor, whose name is new, with its nets and its name. What owns them all lets them go at one
+/// place, since that is dear to prove.
+pub(crate) fn add_device(
+    alloc: Global,
+    nets: &mut NameSet,
+    device_names: &mut NameSet,
+    devices: &mut RawDevices,
+    name: &[u8],
+    wiring: Wiring<'_>,
+    sizes: Sizes,
+) -> Result<(), NoMemory>
+    requires named { device_names.old ≡ map (λ device. device.name) devices.old }
+    requires distinct { has_device name.now devices.old ≡ false }
+    requires placed { IsPlaced 0 nets.old devices.old }
+
+    ensures nets { OnOk result (nets.new ≡ with_source (wiring_seen wiring.entry) nets.old) }
+    ensures devices { OnOk result (devices.new
+        ≡ devices.old ++ device_of name.now (wiring_seen wiring.entry) (sizes_seen sizes) nets.old ∷ []) }
+    ensures named { OnOk result (device_names.new ≡ map (λ device. device.name) devices.new) }
+    ensures placed { OnOk result (IsPlaced 0 nets.new devices.new) }
+    ensures longer { OnOk result (length nets.old ≤ length nets.new) }
+{
+    let drain = nets.add(alloc, wiring.drain)?;
+    let gate = nets.add(alloc, wiring.gate)?;
+    let source = nets.add(alloc, wiring.source)?;
+    device_names.add(alloc, name)?;
+    devices.push(RawDevice {
+        name: Text::from_bytes(alloc, name)?,
+        kind: wiring.kind,
+        strength: sizes.strength(),
+        width: sizes.width,
+        length: sizes.length,
+        drain,
+        gate,
+        source,
+    })?;
+    Ok(())
+}

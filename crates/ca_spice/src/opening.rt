@@ -1,0 +1,36 @@
+//! The subcircuit that a name begins.
+ghost use Rattle.std.specs.Prelude.{◌≡◌, ◌||◌, [], ◌∷◌, ◌++◌, Ok, IfOk, OnOk};
+ghost use Rattle.ca_lex.specs.Reading.{Gives, unless};
+ghost use Rattle.ca_names.specs.Names.{has_name, has_double};
+ghost use Rattle.ca_spice.specs.declared.fault.SpiceKind.TheVariants.{DoubleName};
+ghost use Rattle.ca_spice.specs.Names.{texts};
+ghost use Rattle.ca_spice.specs.OpenCell.{new_cell};
+ghost use Rattle.ca_spice.specs.SpiceFault.{kind_told};
+ghost use Rattle.ca_spice.specs.Views.{cell_seen};
+
+use crate::fault::{Refusal, SpiceKind};
+use crate::open_cell::OpenCell;
+use ca_names::NameSet;
+use std::alloc::Global;
+
+/// The subcircuit of this name, which none of the names is; from now on it is one of them. What owns the
+/// names lets them go at one place, since that is dear to prove.
+pub(crate) fn opened(
+    alloc: Global,
+    names: &mut NameSet,
+    line: usize,
+    name: &[u8],
+    pins: &[&[u8]],
+) -> Result<OpenCell, Refusal>
+    ensures read { Gives kind_told cell_seen result
+        (unless (has_name name.now names.old || has_double (texts pins.now)) DoubleName
+        (Ok (new_cell line name.now (texts pins.now)))) }
+    ensures names { OnOk result (names.new ≡ names.old ++ name.now ∷ []) }
+    ensures same_name { IfOk result (λ cell. cell.name ≡ name.now) }
+{
+    if names.has(name) {
+        return Err(Refusal::Kind(SpiceKind::DoubleName));
+    }
+    names.add(alloc, name)?;
+    OpenCell::new(alloc, line, name, pins)
+}
