@@ -73,6 +73,7 @@ fn the_nodes_and_devices_of_a_nand(rt: HostRuntime) {
     assert_eq!(rt; cell.inputs(), 2);
     assert_eq!(rt; cell.outputs(), 1);
     assert_eq!(rt; cell.defect_count(), 19);
+    drop(cell);
 }
 
 #[test]

@@ -1,9 +1,15 @@
 //! A two-input NAND's defects by name, names that are typed, and its network with one defect of each kind.
 
+ghost use Rattle.std.specs.List.{All};
+ghost use Rattle.ca_defect.specs.List.{IsDefectOf};
+
 use crate::examples::{LOWER_NAND2, Part, cell_of, try_network};
-use ca_defect::{Defect, Overlay, Row, Rows, defects, name, parse};
+use ca_cell::Cell;
+use ca_defect::{Defect, DefectList, Overlay, Row, Rows, defects, name, parse};
 use ca_net::DeviceKind::{D, N, P};
 use ca_net::{BRIDGE, DeviceId, INNER_NODE, NodeId, NodeKind, OUTPUT_NET, STRONG};
+use std::alloc::Global;
+use std::process::Abort;
 
 static NAMES: [&[u8]; 19] = [
     b"MP1(D)", b"MP1(S)", b"MP1(G)", b"MP2(D)", b"MP2(S)", b"MP2(G)", b"MN1(D)", b"MN1(S)",
@@ -26,19 +32,37 @@ static TYPED: [(&[u8], Option<Defect>); 12] = [
     (b"", None),
 ];
 
+// Asserts the name of a defect. Here and below each thing is let go at one place, since that is dear to prove.
+fn try_name(rt: &impl Abort, alloc: Global, cell: &Cell, defect: Defect, wanted: &[u8])
+    requires { IsDefectOf cell.now defect }
+{
+    let text = name(alloc, cell, defect).expect(rt, "memory");
+    let is_wanted = text.is(wanted);
+    drop(text);
+    assert!(rt; is_wanted, "{wanted:?}");
+    assert_eq!(rt; parse(cell, wanted), Some(defect), "{wanted:?}");
+}
+
+// Asserts the names of a list of defects.
+fn try_names(rt: &impl Abort, alloc: Global, cell: &Cell, list: &DefectList)
+    requires { All (IsDefectOf cell.now) list.now }
+{
+    assert_eq!(rt; list.len(), NAMES.len());
+    assert!(rt; !list.is_empty());
+    for i in 0..list.len() {
+        assert!(rt; i < NAMES.len());
+        try_name(rt, alloc, cell, list.get(i), NAMES[i]);
+    }
+}
+
 // The inner net is kept in lower case, and its name is in upper case all the same.
 #[test]
 fn defects_of_a_nand_by_name_in_order(rt: HostRuntime) {
     let cell = cell_of(&rt, rt.alloc(), &LOWER_NAND2);
     let list = defects(rt.alloc(), &cell).expect(&rt, "memory");
-    assert_eq!(rt; list.len(), NAMES.len());
-    assert!(rt; !list.is_empty());
-    for i in 0..list.len() {
-        assert!(rt; i < NAMES.len());
-        let text = name(rt.alloc(), &cell, list.get(i)).expect(&rt, "memory");
-        assert!(rt; text.is(NAMES[i]), "{i}");
-        assert_eq!(rt; parse(&cell, NAMES[i]), Some(list.get(i)), "{i}");
-    }
+    try_names(&rt, rt.alloc(), &cell, &list);
+    drop(list);
+    drop(cell);
 }
 
 #[test]
