@@ -88,6 +88,7 @@ fn nodes_are_named_by_their_first_nets(rt: HostRuntime) {
     try_names(&rt, &cell, &MIXED_NAMES, &[]);
     // No device, two input pins, and fifteen pairs of six nodes less one.
     assert_eq!(rt; cell.defect_count(), 16);
+    drop(cell);
 }
 
 // The drain and the source of the second of three devices, of which the third has its drain on an input pin,

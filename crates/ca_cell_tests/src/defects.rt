@@ -71,6 +71,7 @@ fn typed_names_are_found_in_any_case(rt: HostRuntime) {
     for (text, expected) in &TYPED {
         assert_eq!(rt; parse(&cell, text), *expected, "{text:?}");
     }
+    drop(cell);
 }
 
 // The nodes of the NAND, and a new one for an open.
@@ -152,6 +153,8 @@ fn networks_with_one_defect_of_each_kind(rt: HostRuntime) {
         let nodes = if defect.new_node().is_some() { 7 } else { 6 };
         try_network(&rt, &overlay, &NODES[..nodes], parts);
     }
+    drop(list);
+    drop(cell);
 }
 
 #[test]

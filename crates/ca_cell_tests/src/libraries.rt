@@ -63,6 +63,7 @@ fn names_are_found_in_any_case(rt: HostRuntime) {
         assert_eq!(rt; found(&library, name), *expected, "{name:?}");
     }
     assert!(rt; library.get(b"NAND3").is_none());
+    drop(library);
 }
 
 #[test]
@@ -78,6 +79,7 @@ fn a_name_in_another_case_is_there(rt: HostRuntime) {
     );
     assert_eq!(rt; fault, Err(LibraryFault::DoubleName));
     assert_eq!(rt; library.len(), 2);
+    drop(library);
 }
 
 // A library with the most cells that it may have.
@@ -99,4 +101,5 @@ fn a_full_library_takes_no_more(rt: HostRuntime) {
     let fault = add_raw(&rt, alloc, &mut library, b"00", shaped(&rt, alloc, SOUND));
     assert_eq!(rt; fault, Err(LibraryFault::DoubleName));
     assert_eq!(rt; library.len(), 1024);
+    drop(library);
 }

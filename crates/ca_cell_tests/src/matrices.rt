@@ -91,6 +91,7 @@ fn exposable_defects_of_a_nand(rt: HostRuntime) {
     for place in 0..19 {
         assert_eq!(rt; matrix.exposable(place), EXPOSABLE[place], "{place}");
     }
+    drop(matrix);
 }
 
 #[test]
@@ -104,6 +105,7 @@ fn exposing_rows_of_a_nand(rt: HostRuntime) {
             expected,
         );
     }
+    drop(matrix);
 }
 
 #[test]
@@ -113,6 +115,7 @@ fn entries_of_a_nand(rt: HostRuntime) {
         assert!(rt; row.first < 4 && row.last < 4);
         try_record(&rt, &matrix, *row, *good, faulty);
     }
+    drop(matrix);
 }
 
 #[test]
@@ -127,4 +130,7 @@ fn a_bridge_inside_an_and_is_not_exposable(rt: HostRuntime) {
     assert_eq!(rt; matrix.defect_count(), 29);
     assert_eq!(rt; matrix.exposable_count(), 14);
     assert!(rt; !matrix.exposable(26));
+    drop(matrix);
+    drop(list);
+    drop(cell);
 }

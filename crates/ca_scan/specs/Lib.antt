@@ -1,5 +1,6 @@
 -- What the contracts of this crate say, in reading order.
 pub mod Table
+pub mod Into
 pub mod Chain
 pub mod ChainFault
 pub mod Kept

@@ -1,8 +1,10 @@
 //! Scan tables.
 
-ghost use Rattle.std.specs.Prelude.{◌≡◌, ◌++◌, ◌∷◌, [], false, IfOk, OnOk};
+ghost use Rattle.std.specs.Prelude.{◌≡◌, ◌++◌, ◌∷◌, [], ℕ, List, false, IfOk, OnOk};
+ghost use Rattle.ca_csv.specs.Streams.{HasLeft};
 ghost use Rattle.ca_names.specs.Names.{has_name};
-ghost use Rattle.ca_scan.specs.Table.{cells_of, may_join, with_fields, table_of, Reads, Joins};
+ghost use Rattle.ca_scan.specs.Table.{cells_of, may_join, with_fields, rows_of, table_of, Reads, Joins};
+ghost use Rattle.ca_scan.specs.Into.{ReadsInto};
 
 use crate::fault::ScanFault;
 use crate::fields::{are_texts, fields_in, is_header, is_row, row_with};
@@ -11,7 +13,7 @@ use ca_chip::{ScanRow, ScanTable};
 use ca_csv::{next, reader_of};
 use ca_lex::{Names, Text};
 use ca_names::NameSet;
-use csv::ByteRecord;
+use csv::{ByteRecord, Reader};
 use std::alloc::Global;
 
 // Whether a row of these fields may join those of other cells.
@@ -61,30 +63,69 @@ fn add(
     Ok(true)
 }
 
+// Reads the records behind those that were read, and adds their rows to a table of none.
+fn read_rows(
+    alloc: Global,
+    reader: &mut Reader<&[u8]>,
+    record: &mut ByteRecord,
+    rows: &mut ScanTable,
+    cells: &mut NameSet,
+) -> Result<(), ScanFault>
+    requires rows { rows.old ≡ [] }
+    requires cells { cells.old ≡ [] }
+    ensures { (records : List (List (List ℕ))) → HasLeft reader.old records
+        → ReadsInto result rows.new (rows_of records) }
+{
+    if !next(reader, record)? {
+        return Err(ScanFault::BadScanRow { row: 1 });
+    }
+    let header = fields_in(alloc, record)?;
+    let is_it = is_header(header.as_slice());
+    drop(header);
+    if !is_it {
+        return Err(ScanFault::BadScanRow { row: 1 });
+    }
+    for row in 2..usize::MAX {
+        if !next(reader, record)? {
+            return Ok(());
+        }
+        let fields = fields_in(alloc, record)?;
+        let joins = add(alloc, rows, cells, &fields);
+        drop(fields);
+        if !joins? {
+            return Err(ScanFault::BadScanRow { row });
+        }
+    }
+    // No text has so many records.
+    Err(ScanFault::NoMemory)
+}
+
+// The scan table of the records behind those that were read. Here and below each large value is let go at
+// one place, since that is dear to prove.
+fn table_behind(
+    alloc: Global,
+    reader: &mut Reader<&[u8]>,
+    record: &mut ByteRecord,
+) -> Result<ScanTable, ScanFault>
+    ensures { (records : List (List (List ℕ))) → HasLeft reader.old records
+        → Reads result (rows_of records) }
+{
+    let mut rows = List::new(alloc);
+    let mut cells = NameSet::new(alloc);
+    let read = read_rows(alloc, reader, record, &mut rows, &mut cells);
+    drop(cells);
+    read?;
+    Ok(rows)
+}
+
 /// The scan table that a text is, or its first record that breaks the form.
 pub fn read_table(alloc: Global, bytes: &[u8]) -> Result<ScanTable, ScanFault>
     ensures exact { Reads result (table_of bytes.now) }
 {
     let mut reader = reader_of(alloc, bytes);
     let mut record = ByteRecord::new(alloc);
-    let mut rows = List::new(alloc);
-    let mut cells = NameSet::new(alloc);
-    if !next(&mut reader, &mut record)? {
-        return Err(ScanFault::BadScanRow { row: 1 });
-    }
-    let header = fields_in(alloc, &record)?;
-    if !is_header(header.as_slice()) {
-        return Err(ScanFault::BadScanRow { row: 1 });
-    }
-    for row in 2..usize::MAX {
-        if !next(&mut reader, &mut record)? {
-            return Ok(rows);
-        }
-        let fields = fields_in(alloc, &record)?;
-        if !add(alloc, &mut rows, &mut cells, &fields)? {
-            return Err(ScanFault::BadScanRow { row });
-        }
-    }
-    // No text has so many records.
-    Err(ScanFault::NoMemory)
+    let table = table_behind(alloc, &mut reader, &mut record);
+    drop(record);
+    drop(reader);
+    table
 }
