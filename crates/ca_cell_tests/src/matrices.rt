@@ -79,6 +79,7 @@ fn matrix_of_nand(rt: &impl Abort, alloc: Global) -> Matrix
     let matrix = Matrix::build(alloc, &cell).expect(rt, "memory");
     assert_eq!(rt; matrix.inputs(), 2);
     assert_eq!(rt; matrix.outputs(), 1);
+    drop(cell);
     assert_eq!(rt; matrix.defect_count(), 19);
     matrix
 }

@@ -49,6 +49,7 @@ fn try_waves<N: CellNet>(rt: &impl Abort, alloc: Global, net: &N, table: &[Expec
             *expected,
             "{first:?} {last:?}"
         );
+        drop(waves);
     }
 }
 
@@ -59,6 +60,7 @@ fn waves_of_a_nand_with_an_open_drain_and_without(rt: HostRuntime) {
     try_waves(&rt, alloc, &cell, &GOOD);
     let defect = parse(&cell, b"MP1(D)").expect(&rt, "a defect");
     try_waves(&rt, alloc, &Overlay::new(&cell, defect), &OPEN_DRAIN);
+    drop(cell);
 }
 
 #[test]
@@ -69,4 +71,6 @@ fn outputs_are_in_pin_order(rt: HostRuntime) {
     assert_eq!(rt; waves.len(), 2);
     assert_eq!(rt; waves[0], Wave::pair(Zero, Zero));
     assert_eq!(rt; waves[1], Wave::pair(One, Zero));
+    drop(waves);
+    drop(cell);
 }

@@ -3,21 +3,25 @@
 ghost use Rattle.ca_guide.specs.Seen.{Covers};
 
 use crate::cone::Cone;
-use crate::goal::{Dearest, Goal};
+use crate::goals::Goals;
 use crate::plan::Plan;
 use crate::prices::Prices;
 use crate::row_cubes::RowCubes;
-use crate::row_goals::{cheapest_row, offer_firsts, offer_lasts};
+use crate::row_goals::want_row;
 use crate::scene::{BitValue, Scene};
 use crate::sight::{Sight, View};
 use crate::tables::ChipTables;
 use crate::trial::Trial;
+use crate::wants::Wants;
 use crate::ways::{Ways, best_output, showing_output};
 use ca_base::NoMemory;
 use ca_defect::Rows;
 use ca_flat::ChipDefect;
 use ca_guide::{Choice, Guide, LinkedChip, NetWaves, Proposal};
 use std::alloc::Global;
+
+// The most goals of a row: two for each of six pins.
+const MOST_ROW_GOALS: usize = 12;
 
 /// A choice of the next bit: it wants the cheapest row of the defect and the cheapest way out, and of these
 /// the dearest value first. A value after which the defect couldn't be seen gives way to the opposite one.
@@ -29,6 +33,11 @@ pub struct CheapestWay {
     rows: RowCubes,
     cone: Cone,
     ways: Ways,
+    // the plan of the decision, and what it implies
+    goals: Goals,
+    wants: Wants,
+    // that of a decision without a plan
+    nothing: Wants,
     trial: Trial,
     // the defect of the rows and of the cone
     defect: Option<ChipDefect>,
@@ -52,6 +61,9 @@ impl CheapestWay {
             rows: RowCubes::reserve(alloc)?,
             cone: Cone::reserve(alloc, &plan)?,
             ways: Ways::reserve(alloc, &plan)?,
+            goals: Goals::reserve(alloc, plan.net_count().saturating_add(MOST_ROW_GOALS))?,
+            wants: Wants::reserve(alloc, plan.net_count())?,
+            nothing: Wants::reserve(alloc, 0)?,
             trial: Trial::reserve(alloc, &plan)?,
             plan,
             prices,
@@ -77,11 +89,49 @@ impl CheapestWay {
             prices: &self.prices,
             cone: &self.cone,
             sight,
+            wants: &self.nothing,
         };
         self.ways.find(&scene);
-        let goal = wanted(&scene, &self.ways, &self.rows, part)?;
-        let proposed = scene.backtrace(goal)?;
-        Some(self.trial.better(&scene, &self.rows, part, proposed))
+        self.goals.clear();
+        self.wants.clear();
+        match showing_output(&scene, &self.ways, part) {
+            Some(net) => self.ways.add_nearest(&scene, net, &mut self.goals),
+            None => {
+                if !want_row(&scene, &self.rows, part, &mut self.goals, &mut self.wants) {
+                    return None;
+                }
+                let planned = Scene {
+                    plan: &self.plan,
+                    prices: &self.prices,
+                    cone: &self.cone,
+                    sight,
+                    wants: &self.wants,
+                };
+                self.ways.find(&planned);
+                let net = best_output(&scene, &self.ways, part)?;
+                self.ways.add_goals(&scene, net, &mut self.goals);
+            }
+        }
+        self.wants.add_each(&scene, &self.goals);
+        let planned = Scene {
+            plan: &self.plan,
+            prices: &self.prices,
+            cone: &self.cone,
+            sight,
+            wants: &self.wants,
+        };
+        let goal = self.goals.dearest(&planned)?;
+        let proposed = planned.backtrace(goal)?;
+        Some(
+            self.trial.better(
+                &scene,
+                &self.rows,
+                part,
+                proposed,
+                &mut self.goals,
+                &mut self.wants,
+            ),
+        )
     }
 }
 
@@ -149,28 +199,5 @@ fn bit_like<S: Sight>(sight: &S, bit: usize, other: usize) -> Option<BitValue> {
     match sight.value(other) {
         Some(value) => Some(BitValue { bit, value }),
         None => None,
-    }
-}
-
-// The value that is wanted next: for a defect that shows at its instance on the way out, else for the
-// cheapest row and the way out.
-fn wanted<S: Sight>(scene: &Scene<'_, S>, ways: &Ways, rows: &RowCubes, part: u32) -> Option<Goal> {
-    if let Some(net) = showing_output(scene, ways, part) {
-        return ways.nearest(scene, net);
-    }
-    match (
-        best_output(scene, ways, part),
-        cheapest_row(scene, rows, part),
-    ) {
-        (Some(net), Some(cube)) => {
-            let mut dearest = Dearest::new();
-            offer_lasts(scene, rows, part, cube, &mut dearest);
-            ways.offer_all(scene, net, &mut dearest);
-            if dearest.goal().is_none() {
-                offer_firsts(scene, rows, part, cube, &mut dearest);
-            }
-            dearest.goal()
-        }
-        _ => None,
     }
 }

@@ -38,6 +38,12 @@ impl Cube {
         Cube::new(self.held & !single(place), self.ones)
     }
 
+    /// The values that both cubes have.
+    pub(crate) fn common(self, other: Cube) -> Cube {
+        let differing = self.ones ^ other.ones;
+        Cube::new(self.held & other.held & !differing, self.ones)
+    }
+
     /// The set of the places that have a value.
     pub(crate) fn held(self) -> u16 {
         self.held

@@ -10,6 +10,7 @@ mod costs;
 mod cube;
 mod followed;
 mod goal;
+mod goals;
 mod plan;
 mod points;
 mod prices;
@@ -19,6 +20,7 @@ mod scene;
 mod sight;
 mod tables;
 mod trial;
+mod wants;
 mod ways;
 
 pub use choice::CheapestWay;

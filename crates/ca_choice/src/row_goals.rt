@@ -2,39 +2,129 @@
 
 use crate::costs::NEVER;
 use crate::cube::Cube;
-use crate::goal::{Dearest, Frame, Goal};
+use crate::goal::{Frame, Goal};
+use crate::goals::Goals;
 use crate::row_cubes::RowCubes;
 use crate::scene::Scene;
 use crate::sight::Sight;
+use crate::wants::Wants;
 
-/// The cheapest cube of the rows of an instance's defect, if one is in reach.
-pub(crate) fn cheapest_row<S: Sight>(
+// How many rows are looked at for one that can be wanted.
+const MOST_ROWS_WANTED: usize = 8;
+
+/// Makes the cheapest row that can be wanted the plan, or else the cheapest one. Whether a row is in reach.
+pub(crate) fn want_row<S: Sight>(
     scene: &Scene<'_, S>,
     rows: &RowCubes,
     part: u32,
-) -> Option<Cube> {
-    let mut best = None;
-    let mut least = NEVER;
+    goals: &mut Goals,
+    wants: &mut Wants,
+) -> bool {
+    let cheapest = next_row(scene, rows, part, None);
+    let mut offer = cheapest;
+    for _ in 0..MOST_ROWS_WANTED {
+        match offer {
+            Some(next) => {
+                if is_wanted(scene, rows, part, next.cube, goals, wants) {
+                    return true;
+                }
+                offer = next_row(scene, rows, part, offer);
+            }
+            None => break,
+        }
+    }
+    match cheapest {
+        Some(first) => {
+            let _ = is_wanted(scene, rows, part, first.cube, goals, wants);
+            true
+        }
+        None => false,
+    }
+}
+
+/// Whether one of the cheapest rows in reach that isn't met yet can be wanted, or not all were looked at.
+pub(crate) fn is_row_open<S: Sight>(
+    scene: &Scene<'_, S>,
+    rows: &RowCubes,
+    part: u32,
+    goals: &mut Goals,
+    wants: &mut Wants,
+) -> bool {
+    let mut offer = next_row(scene, rows, part, None);
+    for _ in 0..MOST_ROWS_WANTED {
+        match offer {
+            Some(next) => {
+                if 0 < next.price && is_wanted(scene, rows, part, next.cube, goals, wants) {
+                    return true;
+                }
+                offer = next_row(scene, rows, part, offer);
+            }
+            None => return false,
+        }
+    }
+    offer.is_some()
+}
+
+// Makes a row the plan. Whether no contradiction is seen.
+fn is_wanted<S: Sight>(
+    scene: &Scene<'_, S>,
+    rows: &RowCubes,
+    part: u32,
+    cube: Cube,
+    goals: &mut Goals,
+    wants: &mut Wants,
+) -> bool {
+    goals.clear();
+    wants.clear();
+    add_row_goals(scene, rows, part, cube, goals);
+    wants.add_all(scene, goals)
+}
+
+// A cube of the rows, and its price.
+#[derive(Clone, Copy)]
+struct Offer {
+    cube: Cube,
+    price: u32,
+    place: usize,
+}
+
+// The cheapest cube of the rows of an instance's defect that comes behind the one before, if one is in
+// reach. Of those with one price the first is the cheapest.
+fn next_row<S: Sight>(
+    scene: &Scene<'_, S>,
+    rows: &RowCubes,
+    part: u32,
+    before: Option<Offer>,
+) -> Option<Offer> {
+    let mut best: Option<Offer> = None;
     for place in 0..rows.len() {
         let cube = rows.get(place);
         let price = row_price(scene, rows, part, cube);
-        if price < least {
-            least = price;
-            best = Some(cube);
+        let offer = Offer { cube, price, place };
+        if price < NEVER && is_behind(offer, before) && is_cheaper(offer, best) {
+            best = Some(offer);
         }
     }
     best
 }
 
-/// Whether a cube of the rows is in reach that isn't met yet.
-pub(crate) fn is_row_open<S: Sight>(scene: &Scene<'_, S>, rows: &RowCubes, part: u32) -> bool {
-    for place in 0..rows.len() {
-        let price = row_price(scene, rows, part, rows.get(place));
-        if 0 < price && price < NEVER {
-            return true;
+// Whether an offer comes behind another one, if there is one.
+fn is_behind(offer: Offer, before: Option<Offer>) -> bool {
+    match before {
+        Some(before) => {
+            before.price < offer.price
+                || (before.price == offer.price && before.place < offer.place)
         }
+        None => true,
     }
-    false
+}
+
+// Whether an offer is cheaper than another one, if there is one.
+fn is_cheaper(offer: Offer, best: Option<Offer>) -> bool {
+    match best {
+        Some(best) => offer.price < best.price,
+        None => true,
+    }
 }
 
 // The price of a cube: the sum over its pins.
@@ -73,47 +163,29 @@ fn frame_price<S: Sight>(scene: &Scene<'_, S>, frame: Frame, net: u32, value: Op
     }
 }
 
-/// Offers the last and the stable values that the cube of a row wants.
-pub(crate) fn offer_lasts<S: Sight>(
+// Adds the goals of the cube of a row.
+fn add_row_goals<S: Sight>(
     scene: &Scene<'_, S>,
     rows: &RowCubes,
     part: u32,
     cube: Cube,
-    dearest: &mut Dearest,
+    goals: &mut Goals,
 ) {
     for (pin, net) in scene.plan.inputs(part).iter().enumerate() {
+        let first = rows.first(cube, pin);
         let last = rows.last(cube, pin);
-        if rows.first(cube, pin) == last {
-            offer(scene, Frame::Stable, *net, last, dearest);
+        if first == last {
+            add_goal(Frame::Stable, *net, last, goals);
         } else {
-            offer(scene, Frame::Last, *net, last, dearest);
+            add_goal(Frame::First, *net, first, goals);
+            add_goal(Frame::Last, *net, last, goals);
         }
     }
 }
 
-/// Offers the first values that it wants.
-pub(crate) fn offer_firsts<S: Sight>(
-    scene: &Scene<'_, S>,
-    rows: &RowCubes,
-    part: u32,
-    cube: Cube,
-    dearest: &mut Dearest,
-) {
-    for (pin, net) in scene.plan.inputs(part).iter().enumerate() {
-        offer(scene, Frame::First, *net, rows.first(cube, pin), dearest);
-    }
-}
-
-// Offers a value that may be free.
-fn offer<S: Sight>(
-    scene: &Scene<'_, S>,
-    frame: Frame,
-    net: u32,
-    value: Option<bool>,
-    dearest: &mut Dearest,
-) {
+// Adds a goal whose value may be free.
+fn add_goal(frame: Frame, net: u32, value: Option<bool>, goals: &mut Goals) {
     if let Some(value) = value {
-        let goal = Goal { frame, net, value };
-        dearest.offer(goal, scene.price(goal));
+        goals.add(Goal { frame, net, value });
     }
 }

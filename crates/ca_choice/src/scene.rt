@@ -8,6 +8,10 @@ use crate::goal::{Dearest, Frame, Goal, trit_of};
 use crate::plan::{Plan, Source};
 use crate::prices::Prices;
 use crate::sight::Sight;
+use crate::wants::Wants;
+
+// What a goal costs more where the plan wants the opposite.
+const AGAINST_THE_PLAN: u32 = 100;
 
 /// A bit, and its value.
 #[derive(Clone, Copy, Debug)]
@@ -23,12 +27,19 @@ pub(crate) struct Scene<'a, S: Sight> {
     pub(crate) prices: &'a Prices,
     pub(crate) cone: &'a Cone,
     pub(crate) sight: &'a S,
+    // what the plan wants
+    pub(crate) wants: &'a Wants,
 }
 
 impl<S: Sight> Scene<'_, S> {
-    /// The price of a goal.
+    /// The price of a goal. What the plan wants otherwise is dearer.
     pub(crate) fn price(&self, goal: Goal) -> u32 {
-        self.prices.of(self.sight, goal)
+        let price = self.prices.of(self.sight, goal);
+        if 0 < price && self.wants.opposes(goal) {
+            price.saturating_add(AGAINST_THE_PLAN)
+        } else {
+            price
+        }
     }
 
     /// The price of the values that an instance's other pins need in the last frame, without and with the

@@ -2,11 +2,13 @@
 
 use crate::ahead::Ahead;
 use crate::followed::{Followed, FrameValue};
+use crate::goals::Goals;
 use crate::plan::Plan;
 use crate::row_cubes::RowCubes;
 use crate::row_goals::is_row_open;
 use crate::scene::{BitValue, Scene};
 use crate::sight::Sight;
+use crate::wants::Wants;
 use crate::ways::{Ways, best_output, showing_output};
 use ca_base::NoMemory;
 use std::alloc::Global;
@@ -35,12 +37,16 @@ impl Trial {
         rows: &RowCubes,
         part: u32,
         proposed: BitValue,
+        goals: &mut Goals,
+        wants: &mut Wants,
     ) -> BitValue {
         let opposite = BitValue {
             bit: proposed.bit,
             value: !proposed.value,
         };
-        if !self.is_open(scene, rows, part, proposed) && self.is_open(scene, rows, part, opposite) {
+        if self.is_open(scene, rows, part, proposed, goals, wants) {
+            proposed
+        } else if self.is_open(scene, rows, part, opposite, goals, wants) {
             opposite
         } else {
             proposed
@@ -54,6 +60,8 @@ impl Trial {
         rows: &RowCubes,
         part: u32,
         set: BitValue,
+        goals: &mut Goals,
+        wants: &mut Wants,
     ) -> bool {
         let from = frame_value(scene.plan, set);
         self.followed.find(scene, part, from);
@@ -68,10 +76,12 @@ impl Trial {
             prices: scene.prices,
             cone: scene.cone,
             sight: &sight,
+            wants: scene.wants,
         };
         self.ways.find(&ahead);
         showing_output(&ahead, &self.ways, part).is_some()
-            || (best_output(&ahead, &self.ways, part).is_some() && is_row_open(&ahead, rows, part))
+            || (best_output(&ahead, &self.ways, part).is_some()
+                && is_row_open(&ahead, rows, part, goals, wants))
     }
 }
 

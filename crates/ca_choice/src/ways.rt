@@ -3,7 +3,8 @@
 use crate::cone::Cone;
 use crate::costs::NEVER;
 use crate::cube::Cube;
-use crate::goal::{Dearest, Frame, Goal};
+use crate::goal::{Frame, Goal};
+use crate::goals::Goals;
 use crate::plan::Plan;
 use crate::scene::Scene;
 use crate::sight::{Sight, is_dead, shows};
@@ -57,18 +58,13 @@ impl Ways {
         }
     }
 
-    /// Offers the values that the way out of the net wants.
-    pub(crate) fn offer_all<S: Sight>(
-        &self,
-        scene: &Scene<'_, S>,
-        net: u32,
-        dearest: &mut Dearest,
-    ) {
+    /// Adds the values that the way out of the net wants.
+    pub(crate) fn add_goals<S: Sight>(&self, scene: &Scene<'_, S>, net: u32, goals: &mut Goals) {
         let mut net = net;
         for _ in 0..scene.cone.len() {
             match self.piece(net) {
                 Some(piece) => {
-                    offer_sides(scene, piece, dearest);
+                    add_sides(scene, piece, goals);
                     net = piece.net;
                 }
                 None => return,
@@ -76,23 +72,21 @@ impl Ways {
         }
     }
 
-    /// The dearest value that the way out of the net wants at the first instance that wants any.
-    pub(crate) fn nearest<S: Sight>(&self, scene: &Scene<'_, S>, net: u32) -> Option<Goal> {
+    /// Adds the values that the way out of the net wants at the first instance that wants any.
+    pub(crate) fn add_nearest<S: Sight>(&self, scene: &Scene<'_, S>, net: u32, goals: &mut Goals) {
         let mut net = net;
         for _ in 0..scene.cone.len() {
             match self.piece(net) {
                 Some(piece) => {
-                    let mut dearest = Dearest::new();
-                    offer_sides(scene, piece, &mut dearest);
-                    if dearest.goal().is_some() {
-                        return dearest.goal();
+                    add_sides(scene, piece, goals);
+                    if goals.get(0).is_some() {
+                        return;
                     }
                     net = piece.net;
                 }
-                None => return None,
+                None => return,
             }
         }
-        None
     }
 
     // The first piece of the way out of the net.
@@ -197,23 +191,22 @@ impl Ways {
     }
 }
 
-// Offers the values that a piece of a way wants.
-fn offer_sides<S: Sight>(scene: &Scene<'_, S>, piece: Piece, dearest: &mut Dearest) {
+// Adds the values that a piece of a way wants.
+fn add_sides<S: Sight>(scene: &Scene<'_, S>, piece: Piece, goals: &mut Goals) {
     for (pin, net) in scene.plan.inputs(piece.part).iter().enumerate() {
         if pin != piece.pin {
             if let Some(value) = scene.plan.literal(piece.part, piece.cube, pin) {
-                offer_side(scene, *net, value, dearest);
+                add_side(scene, *net, value, goals);
             }
         }
     }
 }
 
-// Offers a value that is wanted in the last frame, if there is none.
-fn offer_side<S: Sight>(scene: &Scene<'_, S>, net: u32, value: bool, dearest: &mut Dearest) {
+// Adds a value that is wanted in the last frame, if there is none.
+fn add_side<S: Sight>(scene: &Scene<'_, S>, net: u32, value: bool, goals: &mut Goals) {
     if scene.sight.good(net).last == Trit::X {
         let frame = Frame::Last;
-        let goal = Goal { frame, net, value };
-        dearest.offer(goal, scene.price(goal));
+        goals.add(Goal { frame, net, value });
     }
 }
 

@@ -1,0 +1,78 @@
+//! The goals of a plan.
+
+use crate::goal::{Dearest, Frame, Goal};
+use crate::scene::Scene;
+use crate::sight::Sight;
+use ca_base::NoMemory;
+use std::alloc::Global;
+
+/// The goals of a plan in their order, in a room that is taken once.
+#[derive(Drop)]
+pub(crate) struct Goals {
+    goals: Vec<Goal>,
+    count: usize,
+}
+
+impl Goals {
+    /// The room for so many goals.
+    pub(crate) fn reserve(alloc: Global, most: usize) -> Result<Self, NoMemory> {
+        let free = Goal {
+            frame: Frame::First,
+            net: 0,
+            value: false,
+        };
+        Ok(Goals {
+            goals: vec![in alloc; free; most]?,
+            count: 0,
+        })
+    }
+
+    /// Takes all goals out.
+    pub(crate) fn clear(&mut self) {
+        self.count = 0;
+    }
+
+    /// The number of goals.
+    pub(crate) fn len(&self) -> usize {
+        self.count
+    }
+
+    /// Puts a goal behind the others, if there is room for it.
+    pub(crate) fn add(&mut self, goal: Goal) {
+        let count = self.count;
+        if count < self.goals.len() {
+            self.goals[count] = goal;
+            self.count = count + 1;
+        }
+    }
+
+    /// The goal at this place.
+    pub(crate) fn get(&self, place: usize) -> Option<Goal> {
+        if place < self.count && place < self.goals.len() {
+            Some(self.goals[place])
+        } else {
+            None
+        }
+    }
+
+    /// The dearest goal that isn't one of the first frame alone, or else the dearest of those.
+    pub(crate) fn dearest<S: Sight>(&self, scene: &Scene<'_, S>) -> Option<Goal> {
+        match self.dearest_of(scene, false) {
+            Some(goal) => Some(goal),
+            None => self.dearest_of(scene, true),
+        }
+    }
+
+    // The dearest goal of the first frame alone, or of the others.
+    fn dearest_of<S: Sight>(&self, scene: &Scene<'_, S>, is_first: bool) -> Option<Goal> {
+        let mut dearest = Dearest::new();
+        for place in 0..self.count {
+            if let Some(goal) = self.get(place) {
+                if (goal.frame == Frame::First) == is_first {
+                    dearest.offer(goal, scene.price(goal));
+                }
+            }
+        }
+        dearest.goal()
+    }
+}
