@@ -6,8 +6,20 @@ use crate::tables::Constant;
 use ca_base::NoMemory;
 use std::alloc::Global;
 
-/// The cost of what can't be. Sums end there.
+/// The cost of what can't be.
 pub(crate) const NEVER: u32 = u32::MAX;
+
+// The greatest cost of what can be.
+const MOST: u32 = 1_000_000_000;
+
+/// The sum of two costs. What can be stays so.
+pub(crate) fn sum(one: u32, other: u32) -> u32 {
+    if one == NEVER || other == NEVER {
+        NEVER
+    } else {
+        one.saturating_add(other).min(MOST)
+    }
+}
 
 /// For each net what 0 and 1 cost.
 #[derive(Drop)]
@@ -70,8 +82,8 @@ impl Costs {
         for (output, net) in plan.outputs(part).iter().enumerate() {
             let zero = self.least(plan, part, output, false);
             let one = self.least(plan, part, output, true);
-            self.put(*net, false, zero.saturating_add(1));
-            self.put(*net, true, one.saturating_add(1));
+            self.put(*net, false, sum(zero, 1));
+            self.put(*net, true, sum(one, 1));
         }
     }
 
@@ -86,13 +98,13 @@ impl Costs {
 
     // The cost of a cube: the sum over its pins.
     fn cube_cost(&self, plan: &Plan, part: u32, cube: Cube) -> u32 {
-        let mut sum = 0u32;
+        let mut cost = 0u32;
         for (pin, net) in plan.inputs(part).iter().enumerate() {
             if let Some(value) = plan.literal(part, cube, pin) {
-                sum = sum.saturating_add(self.get(*net, value));
+                cost = sum(cost, self.get(*net, value));
             }
         }
-        sum
+        cost
     }
 }
 

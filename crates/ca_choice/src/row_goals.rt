@@ -1,6 +1,6 @@
 //! What a row of the defect wants.
 
-use crate::costs::NEVER;
+use crate::costs::{NEVER, sum};
 use crate::cube::Cube;
 use crate::goal::{Frame, Goal};
 use crate::goals::Goals;
@@ -129,16 +129,12 @@ fn is_cheaper(offer: Offer, best: Option<Offer>) -> bool {
 
 // The price of a cube: the sum over its pins.
 fn row_price<S: Sight>(scene: &Scene<'_, S>, rows: &RowCubes, part: u32, cube: Cube) -> u32 {
-    let mut sum = 0u32;
+    let mut price = 0u32;
     for (pin, net) in scene.plan.inputs(part).iter().enumerate() {
-        sum = sum.saturating_add(pin_price(
-            scene,
-            *net,
-            rows.first(cube, pin),
-            rows.last(cube, pin),
-        ));
+        let of_pin = pin_price(scene, *net, rows.first(cube, pin), rows.last(cube, pin));
+        price = sum(price, of_pin);
     }
-    sum
+    price
 }
 
 // The price of the values of one pin.
@@ -152,7 +148,7 @@ fn pin_price<S: Sight>(
         return frame_price(scene, Frame::Stable, net, first);
     }
     let first = frame_price(scene, Frame::First, net, first);
-    first.saturating_add(frame_price(scene, Frame::Last, net, last))
+    sum(first, frame_price(scene, Frame::Last, net, last))
 }
 
 // The price of a value that may be free.

@@ -2,7 +2,7 @@
 
 use crate::cell_cubes::are_opposite;
 use crate::cone::Cone;
-use crate::costs::NEVER;
+use crate::costs::{NEVER, sum};
 use crate::cube::Cube;
 use crate::goal::{Dearest, Frame, Goal, trit_of};
 use crate::plan::{Plan, Source};
@@ -36,7 +36,7 @@ impl<S: Sight> Scene<'_, S> {
     pub(crate) fn price(&self, goal: Goal) -> u32 {
         let price = self.prices.of(self.sight, goal);
         if 0 < price && self.wants.opposes(goal) {
-            price.saturating_add(AGAINST_THE_PLAN)
+            sum(price, AGAINST_THE_PLAN)
         } else {
             price
         }
@@ -45,15 +45,15 @@ impl<S: Sight> Scene<'_, S> {
     /// The price of the values that an instance's other pins need in the last frame, without and with the
     /// defect. A value that isn't there costs something.
     pub(crate) fn side_price(&self, part: u32, pin: usize, cube: Cube) -> u32 {
-        let mut sum = 0u32;
+        let mut cost = 0u32;
         for (other, net) in self.plan.inputs(part).iter().enumerate() {
             if other != pin {
                 if let Some(value) = self.plan.literal(part, cube, other) {
-                    sum = sum.saturating_add(self.side_value_price(*net, value));
+                    cost = sum(cost, self.side_value_price(*net, value));
                 }
             }
         }
-        sum
+        cost
     }
 
     // The price of one such value.
@@ -137,14 +137,14 @@ impl<S: Sight> Scene<'_, S> {
 
     // The price of a cube: the sum over its pins.
     fn cube_price(&self, frame: Frame, part: u32, cube: Cube) -> u32 {
-        let mut sum = 0u32;
+        let mut cost = 0u32;
         for (pin, net) in self.plan.inputs(part).iter().enumerate() {
             if let Some(value) = self.plan.literal(part, cube, pin) {
                 let net = *net;
-                sum = sum.saturating_add(self.price(Goal { frame, net, value }));
+                cost = sum(cost, self.price(Goal { frame, net, value }));
             }
         }
-        sum
+        cost
     }
 
     // The dearest goal of a cube.

@@ -1,7 +1,7 @@
 //! The ways on which a defect can be seen at an output, and their costs.
 
 use crate::cone::Cone;
-use crate::costs::NEVER;
+use crate::costs::{NEVER, sum};
 use crate::cube::Cube;
 use crate::goal::{Frame, Goal};
 use crate::goals::Goals;
@@ -166,10 +166,10 @@ impl Ways {
         pin: usize,
         net: u32,
     ) {
-        let onward = self.cost(net).saturating_add(1);
+        let onward = sum(self.cost(net), 1);
         for cube in scene.plan.passing(part, output, pin) {
             let cube = *cube;
-            let cost = onward.saturating_add(scene.side_price(part, pin, cube));
+            let cost = sum(onward, scene.side_price(part, pin, cube));
             self.offer(
                 from,
                 cost,
