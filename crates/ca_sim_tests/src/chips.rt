@@ -53,6 +53,7 @@ fn cells(rt: &impl Abort, alloc: Global) -> Result<Vec<Cell>, NoMemory> {
             _ => panic!(rt; "no cell"),
         }
     }
+    drop(library);
     Ok(cells)
 }
 

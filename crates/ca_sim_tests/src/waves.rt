@@ -74,6 +74,8 @@ fn hazard_destroys_the_charge(rt: HostRuntime) {
     assert_eq!(rt; good.last, ONE);
     assert_eq!(rt; faulty.last, X);
     assert_eq!(rt; sim.aimed(), 1);
+    drop(sim);
+    drop(glitch);
 }
 
 #[test]
@@ -101,6 +103,8 @@ fn a_set_bit_evaluates_two_instances_of_a_thousand(rt: HostRuntime) {
     let (good, faulty) = both(&rt, &sim, 2000);
     assert_eq!(rt; (good.first, good.mid, good.last), (X, X, ZERO));
     assert_eq!(rt; faulty, good);
+    drop(sim);
+    drop(row);
 }
 
 // Numbers that look as if they were drawn by lot.
@@ -173,6 +177,7 @@ fn is_as_fresh(
     for net in 0..NETS + INSTANCES {
         assert_eq!(rt; both(rt, sim, net), both(rt, &fresh, net), "net {net}");
     }
+    drop(fresh);
 }
 
 #[test]
@@ -214,4 +219,7 @@ fn waves_are_those_of_a_fresh_simulator(rt: HostRuntime) {
             is_as_fresh(&rt, rt.alloc(), &chip, &sim, &bits, aimed);
         }
     }
+    drop(bits);
+    drop(sim);
+    drop(chip);
 }

@@ -11,6 +11,7 @@ use ca_store::{
     read_file, write_all, write_file,
 };
 use std::alloc::Global;
+use std::process::Abort;
 use std::test::Fail;
 
 // The files `four`, of the bytes abcd, and `none`, of no bytes.
@@ -160,6 +161,7 @@ fn files_are_read_up_to_the_limit_and_listed_calls_fail_once(rt: HostRuntime) ->
         let got = read_file(alloc, &mut store, name, *limit);
         assert!(rt; is_as_wanted(got, *again), "{call:?}: {name} again");
         assert_eq!(rt; store.faults(), *faults, "{call:?}: {name} again");
+        drop(store);
     }
     Ok(())
 }
@@ -317,6 +319,7 @@ fn files_are_written_as_far_as_room_and_listed_calls_let(rt: HostRuntime) -> Res
             Some(b"".as_slice()),
             "{call:?}: {bytes}"
         );
+        drop(store);
     }
     Ok(())
 }
@@ -344,17 +347,20 @@ fn eight_creates_succeed(rt: HostRuntime) -> Result<(), Fail> {
     assert!(rt; holds(&store, "b", Some("b")));
     assert!(rt; holds(&store, "none", Some("")));
     assert!(rt; holds(&store, "g", None));
+    drop(store);
     let files = two_files(alloc)?;
     assert_eq!(rt; files.as_slice().len(), 2);
     assert!(rt; files.get(1).name.is(b"none"));
     assert_eq!(rt; files.place_of(b"four"), Some(0));
     assert_eq!(rt; files.place_of(b"five"), None);
+    drop(files);
     Ok(())
 }
 
-#[test]
-fn a_file_in_writing_takes_what_fits(rt: HostRuntime) -> Result<(), Fail> {
-    let mut store = store_of(rt.alloc(), None, 3, 9)?;
+// Asserts what a store of three bytes a call and nine in all takes of a file.
+fn try_writing(rt: &impl Abort, store: &mut MemStore) -> Result<(), Fail>
+    requires { opened_by store.old ≡ Nothing }
+{
     store.create("new")?;
     assert_eq!(rt; store.write(b"hello")?, 3);
     assert_eq!(rt; store.write(b"")?, 0);
@@ -365,6 +371,14 @@ fn a_file_in_writing_takes_what_fits(rt: HostRuntime) -> Result<(), Fail> {
     assert_eq!(rt; store.bytes("new"), Some(b"hellox".as_slice()));
     assert_eq!(rt; store.faults(), 1);
     Ok(())
+}
+
+#[test]
+fn a_file_in_writing_takes_what_fits(rt: HostRuntime) -> Result<(), Fail> {
+    let mut store = store_of(rt.alloc(), None, 3, 9)?;
+    let written = try_writing(&rt, &mut store);
+    drop(store);
+    written
 }
 
 #[test]
@@ -383,6 +397,7 @@ fn a_sink_takes_what_fits(rt: HostRuntime) -> Result<(), Fail> {
         assert_eq!(rt; got, want, "{bytes} into {room}");
         assert_eq!(rt; sink.bytes(), held.as_bytes(), "{bytes} into {room}");
         assert_eq!(rt; sink.faults(), faults, "{bytes} into {room}");
+        drop(sink);
     }
     Ok(())
 }
