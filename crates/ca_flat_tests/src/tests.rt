@@ -199,6 +199,7 @@ fn ends(
     let c = Wave::pair(first[2], last[2]);
     three_phase(net, &[power, ground, b, a, c], &mut work);
     let (one, other) = (work.wave(NodeId(nodes.0)), work.wave(NodeId(nodes.1)));
+    drop(work);
     Ok((one.last, other.last))
 }
 
@@ -218,6 +219,8 @@ fn steady_row_alone_exposes(rt: HostRuntime) {
         let got = ends(alloc, &faulty, from, to, (5, 6)).expect(&rt, "memory");
         assert_eq!(rt; got, faulty_ends, "faulty, {name}");
     }
+    drop(faulty);
+    drop(good);
 }
 
 #[test]
@@ -229,5 +232,6 @@ fn cell_downstream_keeps_the_first_value(rt: HostRuntime) {
         let net = chip(alloc, faulty).expect(&rt, "a network");
         let got = ends(alloc, &net, first, last, (7, 7)).expect(&rt, "memory");
         assert_eq!(rt; got, (z, z), "with the defect: {faulty}");
+        drop(net);
     }
 }
