@@ -97,7 +97,13 @@ impl CheapestWay {
         match showing_output(&scene, &self.ways, part) {
             Some(net) => self.ways.add_nearest(&scene, net, &mut self.goals),
             None => {
-                if !want_row(&scene, &self.rows, part, &mut self.goals, &mut self.wants) {
+                if !want_row(
+                    &scene,
+                    &mut self.rows,
+                    part,
+                    &mut self.goals,
+                    &mut self.wants,
+                ) {
                     return None;
                 }
                 let planned = Scene {
@@ -125,7 +131,7 @@ impl CheapestWay {
         Some(
             self.trial.better(
                 &scene,
-                &self.rows,
+                &mut self.rows,
                 part,
                 proposed,
                 &mut self.goals,

@@ -3,6 +3,7 @@
 ghost use Rattle.std.specs.Prelude.{◌<◌};
 
 use crate::cell_cubes::first_places;
+use crate::costs::NEVER;
 use crate::cube::Cube;
 use crate::points::Points;
 use ca_base::NoMemory;
@@ -20,6 +21,8 @@ const FIRST_PINS: usize = 6;
 pub(crate) struct RowCubes {
     points: Points,
     cubes: Vec<Cube>,
+    // the price of each at a decision
+    prices: Vec<u32>,
     // how many of them there are
     count: usize,
     // the number of input pins
@@ -32,6 +35,7 @@ impl RowCubes {
         Ok(RowCubes {
             points: Points::reserve(alloc, MOST_ROWS)?,
             cubes: vec![in alloc; Cube::FREE; MOST_ROWS]?,
+            prices: vec![in alloc; NEVER; MOST_ROWS]?,
             count: 0,
             inputs: 0,
         })
@@ -62,6 +66,21 @@ impl RowCubes {
         match self.cubes.get(place) {
             Some(cube) => *cube,
             None => Cube::FREE,
+        }
+    }
+
+    /// The price that was noted for the cube at this place.
+    pub(crate) fn price(&self, place: usize) -> u32 {
+        match self.prices.get(place) {
+            Some(price) => *price,
+            None => NEVER,
+        }
+    }
+
+    /// Notes the price of the cube at this place.
+    pub(crate) fn put_price(&mut self, place: usize, price: u32) {
+        if place < self.prices.len() {
+            self.prices[place] = price;
         }
     }
 

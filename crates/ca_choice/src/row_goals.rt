@@ -15,27 +15,28 @@ const MOST_ROWS_WANTED: usize = 8;
 /// Makes the cheapest row that can be wanted the plan, or else the cheapest one. Whether a row is in reach.
 pub(crate) fn want_row<S: Sight>(
     scene: &Scene<'_, S>,
-    rows: &RowCubes,
+    rows: &mut RowCubes,
     part: u32,
     goals: &mut Goals,
     wants: &mut Wants,
 ) -> bool {
-    let cheapest = next_row(scene, rows, part, None);
+    price_rows(scene, rows, part);
+    let cheapest = next_row(rows, None);
     let mut offer = cheapest;
     for _ in 0..MOST_ROWS_WANTED {
         match offer {
             Some(next) => {
-                if is_wanted(scene, rows, part, next.cube, goals, wants) {
+                if is_wanted(scene, rows, part, next, goals, wants) {
                     return true;
                 }
-                offer = next_row(scene, rows, part, offer);
+                offer = next_row(rows, offer);
             }
             None => break,
         }
     }
     match cheapest {
         Some(first) => {
-            let _ = is_wanted(scene, rows, part, first.cube, goals, wants);
+            let _ = is_wanted(scene, rows, part, first, goals, wants);
             true
         }
         None => false,
@@ -45,19 +46,20 @@ pub(crate) fn want_row<S: Sight>(
 /// Whether one of the cheapest rows in reach that isn't met yet can be wanted, or not all were looked at.
 pub(crate) fn is_row_open<S: Sight>(
     scene: &Scene<'_, S>,
-    rows: &RowCubes,
+    rows: &mut RowCubes,
     part: u32,
     goals: &mut Goals,
     wants: &mut Wants,
 ) -> bool {
-    let mut offer = next_row(scene, rows, part, None);
+    price_rows(scene, rows, part);
+    let mut offer = next_row(rows, None);
     for _ in 0..MOST_ROWS_WANTED {
         match offer {
             Some(next) => {
-                if 0 < next.price && is_wanted(scene, rows, part, next.cube, goals, wants) {
+                if 0 < next.price && is_wanted(scene, rows, part, next, goals, wants) {
                     return true;
                 }
-                offer = next_row(scene, rows, part, offer);
+                offer = next_row(rows, offer);
             }
             None => return false,
         }
@@ -70,37 +72,38 @@ fn is_wanted<S: Sight>(
     scene: &Scene<'_, S>,
     rows: &RowCubes,
     part: u32,
-    cube: Cube,
+    offer: Offer,
     goals: &mut Goals,
     wants: &mut Wants,
 ) -> bool {
     goals.clear();
     wants.clear();
-    add_row_goals(scene, rows, part, cube, goals);
+    add_row_goals(scene, rows, part, rows.get(offer.place), goals);
     wants.add_all(scene, goals)
 }
 
-// A cube of the rows, and its price.
+// A row by its place, and its price.
 #[derive(Clone, Copy)]
 struct Offer {
-    cube: Cube,
     price: u32,
     place: usize,
 }
 
-// The cheapest cube of the rows of an instance's defect that comes behind the one before, if one is in
-// reach. Of those with one price the first is the cheapest.
-fn next_row<S: Sight>(
-    scene: &Scene<'_, S>,
-    rows: &RowCubes,
-    part: u32,
-    before: Option<Offer>,
-) -> Option<Offer> {
+// Finds the prices of the rows.
+fn price_rows<S: Sight>(scene: &Scene<'_, S>, rows: &mut RowCubes, part: u32) {
+    for place in 0..rows.len() {
+        let price = row_price(scene, rows, part, rows.get(place));
+        rows.put_price(place, price);
+    }
+}
+
+// The cheapest row that comes behind the one before, if one is in reach. Of those with one price the first
+// is the cheapest.
+fn next_row(rows: &RowCubes, before: Option<Offer>) -> Option<Offer> {
     let mut best: Option<Offer> = None;
     for place in 0..rows.len() {
-        let cube = rows.get(place);
-        let price = row_price(scene, rows, part, cube);
-        let offer = Offer { cube, price, place };
+        let price = rows.price(place);
+        let offer = Offer { price, place };
         if price < NEVER && is_behind(offer, before) && is_cheaper(offer, best) {
             best = Some(offer);
         }

@@ -34,7 +34,7 @@ impl Trial {
     pub(crate) fn better<S: Sight>(
         &mut self,
         scene: &Scene<'_, S>,
-        rows: &RowCubes,
+        rows: &mut RowCubes,
         part: u32,
         proposed: BitValue,
         goals: &mut Goals,
@@ -57,7 +57,7 @@ impl Trial {
     fn is_open<S: Sight>(
         &mut self,
         scene: &Scene<'_, S>,
-        rows: &RowCubes,
+        rows: &mut RowCubes,
         part: u32,
         set: BitValue,
         goals: &mut Goals,
