@@ -107,7 +107,9 @@ fn cubes_of(
             points.insert(vector);
         }
     }
-    widest_cubes(alloc, points)
+    let mut cubes = Vec::new(alloc);
+    add_widest_cubes(&mut cubes, points)?;
+    Ok(cubes)
 }
 
 // For each pin the cubes under which the output follows it.
@@ -124,7 +126,8 @@ fn all_passing(
     Ok(cubes)
 }
 
-// The cubes under which the output follows the pin of this place.
+// The cubes under which the output follows the pin of this place: with the same value, or with the opposite
+// one. Where that depends on another pin the cube has its value.
 fn passing(
     alloc: Global,
     points: &mut Points,
@@ -132,16 +135,26 @@ fn passing(
     output: usize,
     place: usize,
 ) -> Result<Vec<Cube>, NoMemory> {
+    let mut cubes = Vec::new(alloc);
+    for at_zero in [Trit::Zero, Trit::One] {
+        put_passing(points, table, output, place, at_zero);
+        add_widest_cubes(&mut cubes, points)?;
+    }
+    Ok(cubes)
+}
+
+// Puts in the vectors for which the output has this value where the pin of this place is 0, and the opposite
+// one where it is 1.
+fn put_passing(points: &mut Points, table: &CellTable, output: usize, place: usize, at_zero: Trit) {
     points.begin(first_places(table.inputs));
     let pin = vector_count(place);
     for vector in 0..vector_count(table.inputs) {
         let low = table.value(output, vector & !pin);
         let high = table.value(output, vector | pin);
-        if are_opposite(low, high) {
+        if low == at_zero && are_opposite(low, high) {
             points.insert(vector);
         }
     }
-    widest_cubes(alloc, points)
 }
 
 /// Whether one value is 0 and the other is 1.
@@ -154,15 +167,14 @@ pub(crate) fn are_opposite(a: Trit, b: Trit) -> bool {
     }
 }
 
-// The cubes of the set's points that can't be widened.
-fn widest_cubes(alloc: Global, points: &Points) -> Result<Vec<Cube>, NoMemory> {
-    let mut cubes = Vec::new(alloc);
+// Appends the cubes of the set's points that can't be widened.
+fn add_widest_cubes(cubes: &mut Vec<Cube>, points: &Points) -> Result<(), NoMemory> {
     for held in 0..MOST_VECTORS {
         if held & !points.places() == 0 {
-            add_widest(&mut cubes, points, held)?;
+            add_widest(cubes, points, held)?;
         }
     }
-    Ok(cubes)
+    Ok(())
 }
 
 // Appends those in which these places have a value.

@@ -7,7 +7,7 @@ use crate::goals::Goals;
 use crate::plan::Plan;
 use crate::prices::Prices;
 use crate::row_cubes::RowCubes;
-use crate::row_goals::want_row;
+use crate::row_goals::{unknown_pin, want_row};
 use crate::scene::{BitValue, Scene};
 use crate::sight::{Sight, View};
 use crate::tables::ChipTables;
@@ -126,7 +126,10 @@ impl CheapestWay {
             sight,
             wants: &self.wants,
         };
-        let goal = self.goals.dearest(&planned)?;
+        let goal = match self.goals.dearest(&planned) {
+            Some(goal) => goal,
+            None => unknown_pin(&scene, part)?,
+        };
         let proposed = planned.backtrace(goal)?;
         Some(
             self.trial.better(

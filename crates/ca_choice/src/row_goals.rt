@@ -8,6 +8,7 @@ use crate::row_cubes::RowCubes;
 use crate::scene::Scene;
 use crate::sight::Sight;
 use crate::wants::Wants;
+use ca_net::Trit;
 
 // How many rows are looked at for one that can be wanted.
 const MOST_ROWS_WANTED: usize = 8;
@@ -187,4 +188,24 @@ fn add_goal(frame: Frame, net: u32, value: Option<bool>, goals: &mut Goals) {
     if let Some(value) = value {
         goals.add(Goal { frame, net, value });
     }
+}
+
+/// A value for an input pin of the instance that has none in a frame: that of the other frame, if there is
+/// one. A defect may be hidden by it where the row's goals are met.
+pub(crate) fn unknown_pin<S: Sight>(scene: &Scene<'_, S>, part: u32) -> Option<Goal> {
+    for net in scene.plan.inputs(part) {
+        let net = *net;
+        let wave = scene.sight.good(net);
+        if wave.last == Trit::X {
+            let frame = Frame::Last;
+            let value = wave.first == Trit::One;
+            return Some(Goal { frame, net, value });
+        }
+        if wave.first == Trit::X {
+            let frame = Frame::First;
+            let value = wave.last == Trit::One;
+            return Some(Goal { frame, net, value });
+        }
+    }
+    None
 }
