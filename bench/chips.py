@@ -18,6 +18,9 @@ import tempfile
 HERE = os.path.dirname(os.path.abspath(__file__))
 TOP = os.path.dirname(HERE)
 OSU = "/usr/share/qflow/tech/osu035"
+# the multiplier again, of the library's full adders
+ADDERS = ("alumacc; maccmap; opt_clean; read_liberty -lib {lib}; techmap -map {here}/rtl/full_adders.v; techmap; opt -fast;"
+          " abc -liberty {lib}; splitnets; opt_clean -purge; clean").format(lib=f"{OSU}/osu035_stdcells.lib", here=HERE)
 # each design, and whether it has flip-flops
 DESIGNS = {"mult8": False, "alu8": False, "sec8": False, "sec32": False, "counter": True, "crc16": True, "fsm": True}
 
@@ -62,6 +65,12 @@ def record(writer, name, budget, words):
     sys.stdout.flush()
 
 
+def write_bits(netlist):
+    """Writes constants as bits, which is the form that netlists have here."""
+    text = open(netlist).read().replace("1'h0", "1'b0").replace("1'h1", "1'b1")
+    open(netlist, "w").write(text)
+
+
 def mapped(folder):
     """Maps the designs, and gives for each its netlist and its scan table."""
     cells = f"{folder}/osu035.sp"
@@ -73,8 +82,7 @@ def mapped(folder):
         netlist = f"{folder}/{name}.v"
         subprocess.run(["yosys", "-q", "-p", f"read_verilog {HERE}/rtl/{name}.v; synth -flatten -top {name}; {flops} abc -liberty {OSU}/osu035_stdcells.lib;"
                         f" opt_clean -purge; splitnets; write_verilog -noattr -noexpr -nodec {netlist}"], check=True)
-        text = open(netlist).read().replace("1'h0", "1'b0").replace("1'h1", "1'b1")
-        open(netlist, "w").write(text)
+        write_bits(netlist)
         table = "-"
         if is_clocked:
             scanned = subprocess.run([f"{TOP}/tools/insert_scan.py", netlist, "--cell", "DFFPOSX1", "--pins", "D,Q,CLK", "--chains", "2"],
@@ -82,6 +90,11 @@ def mapped(folder):
             open(netlist, "w").write(scanned)
             table = f"{TOP}/examples/scan.csv"
         yield name, cells, netlist, table
+    netlist = f"{folder}/mult8_fa.v"
+    subprocess.run(["yosys", "-q", "-p", f"read_verilog {HERE}/rtl/mult8.v; hierarchy -top mult8; proc; flatten; opt; wreduce; peepopt; opt_clean; {ADDERS};"
+                    f" write_verilog -noattr -noexpr -nodec {netlist}"], check=True)
+    write_bits(netlist)
+    yield "mult8_fa", cells, netlist, "-"
 
 
 def row_of_inverters(folder, count):
