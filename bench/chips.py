@@ -19,7 +19,7 @@ HERE = os.path.dirname(os.path.abspath(__file__))
 TOP = os.path.dirname(HERE)
 OSU = "/usr/share/qflow/tech/osu035"
 # the multiplier again, of the library's full adders
-ADDERS = ("alumacc; maccmap; opt_clean; read_liberty -lib {lib}; techmap -map {here}/rtl/full_adders.v; techmap; opt -fast;"
+ADDERS = ("alumacc; maccmap; opt_clean; read_liberty -lib {lib}; techmap -map {here}/full_adders.v; techmap; opt -fast;"
           " abc -liberty {lib}; splitnets; opt_clean -purge; clean").format(lib=f"{OSU}/osu035_stdcells.lib", here=HERE)
 # each design, and whether it has flip-flops
 DESIGNS = {"mult8": False, "alu8": False, "sec8": False, "sec32": False, "counter": True, "crc16": True, "fsm": True}
