@@ -85,12 +85,16 @@ impl<'a, L: Linked, C: LinkedChip, R: ExposableDefects, P: Choice + Drop> ChipBe
             return Err(NoMemory);
         }
         linked.linked();
+        // The largest comes last: each that is there when memory is wanting is let go once more.
+        let defects = chip_defects(alloc, linked)?;
+        let search = Search::reserve(alloc, budget)?;
+        let judge = ca_judge::Bench::reserve(alloc, linked, chip, rows, choice)?;
         Ok(ChipBench {
-            judge: ca_judge::Bench::reserve(alloc, linked, chip, rows, choice)?,
+            judge,
             rows,
-            defects: chip_defects(alloc, linked)?,
+            defects,
             outputs,
-            search: Search::reserve(alloc, budget)?,
+            search,
             aim: None,
         })
     }

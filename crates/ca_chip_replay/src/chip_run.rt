@@ -89,9 +89,18 @@ impl<'a, B: Bits> ChipRun<'a, B> {
         tables.linked();
         let net = flatten(alloc, tables.chip(), defect)?;
         let nodes = net.node_count();
-        let first = vector_of(alloc, tables, nodes, pair, 0)?;
-        let last = vector_of(alloc, tables, nodes, pair, tables.inputs())?;
-        let inputs = input_nodes(alloc, tables)?;
+        let Ok(inputs) = input_nodes(alloc, tables) else {
+            drop(net);
+            return Err(NoMemory);
+        };
+        let Ok(first) = vector_of(alloc, tables, nodes, pair, 0) else {
+            drop(net);
+            return Err(NoMemory);
+        };
+        let Ok(last) = vector_of(alloc, tables, nodes, pair, tables.inputs()) else {
+            drop(net);
+            return Err(NoMemory);
+        };
         Ok(ChipRun {
             tables,
             defect,

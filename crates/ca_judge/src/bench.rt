@@ -84,13 +84,17 @@ impl<'a, L: Linked, C: LinkedChip, R: ExposingRows, P: Choice + Drop> Bench<'a, 
         ensures { IfOk result (IsFresh (L.core linked.now) (L.places linked.now)) }
     {
         linked.linked();
+        // The largest comes last: each that is there when memory is wanting is let go once more.
+        let outputs = observed_nets(alloc, chip)?;
+        let guide = Guide::reserve(alloc, chip)?;
+        let sim = Sim::reserve(alloc, linked)?;
         Ok(Bench {
-            sim: Sim::reserve(alloc, linked)?,
+            sim,
             chip,
             rows,
-            guide: Guide::reserve(alloc, chip)?,
+            guide,
             choice,
-            outputs: observed_nets(alloc, chip)?,
+            outputs,
             defect: None,
         })
     }

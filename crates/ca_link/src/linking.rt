@@ -34,16 +34,24 @@ pub fn link(
     ensures cause { IfErr result (IsCause netlist.now library scan.now) }
 {
     if let Err(fault) = judge_instances(alloc, netlist, &library, scan.as_slice()) {
+        drop(library);
         return Err(fault);
     }
     let draft = draft_of(alloc, library, netlist, scan)?;
     match judge(alloc, &draft) {
-        Err(fault) => Err(tell(alloc, &draft, scan.as_slice(), fault)?),
+        Err(fault) => {
+            let told = tell(alloc, &draft, scan.as_slice(), fault);
+            drop(draft);
+            Err(told?)
+        }
         Ok(judged) => {
             let defects = defects_of(&draft);
             let chip = wire(alloc, draft, judged)?;
             match first_limit(&chip, defects) {
-                Some(fault) => Err(fault),
+                Some(fault) => {
+                    drop(chip);
+                    Err(fault)
+                }
                 None => Ok(chip),
             }
         }

@@ -39,10 +39,11 @@ pub fn replay<N: Network>(
     ensures pair { IfOk result (PairRun (N.circuit net.now) first.now last.now) }
 {
     let nodes = net.node_count();
+    // The largest comes last: each that is there when memory is wanting is let go once more.
+    let mut at = start(alloc, net, first)?;
+    let mut next = State::unknown(alloc, nodes)?;
     let mut scratch = Scratch::reserve(alloc, nodes, net.device_count())?;
     scratch.group(net);
-    let mut next = State::unknown(alloc, nodes)?;
-    let mut at = start(alloc, net, first)?;
     settle_rounds(net, &mut at, &mut next, &mut scratch);
     carry_out(net, events, &mut at, &mut next, &mut scratch);
     take_values(inputs, last, &mut at);

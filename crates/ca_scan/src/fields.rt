@@ -3,6 +3,7 @@ ghost use Rattle.std.specs.Prelude.{◌≡◌, ◌∷◌, ◌++◌, [], ◌<◌,
 ghost use Rattle.std.specs.List.{list_any, list_all};
 ghost use Rattle.std.specs.Str.{bytes_eq};
 ghost use Rattle.csv.specs.Records.{fields_of, field_at};
+ghost use Rattle.ca_lex.specs.Words.{upper_case};
 ghost use Rattle.ca_scan.specs.Table.{same_texts, is_header, row_of, is_text, is_empty, is_distinct};
 ghost use Rattle.ca_scan.specs.Table.{are_pins, pins_of, is_row, row_with};
 
@@ -178,7 +179,24 @@ pub(crate) fn is_row(row: &ScanRow) -> bool
         && (is_empty(qn) || !is_in(qn, &pins))
 }
 
-// The row of these fields.
+// Three fields in upper case.
+fn three(
+    alloc: Global,
+    first: &[u8],
+    second: &[u8],
+    third: &[u8],
+) -> Result<(Text, Text, Text), NoMemory>
+    ensures { IfOk result (λ folded. folded
+        ≡ (upper_case first.now, upper_case second.now, upper_case third.now)) }
+{
+    let first = fold(alloc, first)?;
+    let second = fold(alloc, second)?;
+    let third = fold(alloc, third)?;
+    Ok((first, second, third))
+}
+
+// The row of these fields, three by three, since each that is there when memory is wanting is let go once
+// more.
 #[tactic(auto, unfolding(crate::specs::Table::row_of))]
 fn row_of(
     alloc: Global,
@@ -195,16 +213,19 @@ fn row_of(
     ensures { IfOk result (λ row. row ≡ row_of cell.now d.now q.now qn.now si.now so.now se.now ck.now
         hold.now) }
 {
+    let (cell, d, q) = three(alloc, cell, d, q)?;
+    let (qn, si, so) = three(alloc, qn, si, so)?;
+    let (se, ck, hold) = three(alloc, se, ck, hold)?;
     Ok(ScanRow {
-        cell: fold(alloc, cell)?,
-        d: fold(alloc, d)?,
-        q: fold(alloc, q)?,
-        qn: fold(alloc, qn)?,
-        si: fold(alloc, si)?,
-        so: fold(alloc, so)?,
-        se: fold(alloc, se)?,
-        ck: fold(alloc, ck)?,
-        hold: fold(alloc, hold)?,
+        cell,
+        d,
+        q,
+        qn,
+        si,
+        so,
+        se,
+        ck,
+        hold,
     })
 }
 

@@ -155,20 +155,26 @@ impl OpenCell {
         ensures same_name { IfOk result (λ cell. cell.name ≡ self.name) }
     {
         if !is_ended_by(words, self.name.as_bytes()) {
+            drop(self);
             return Err(Refusal::Kind(SpiceKind::BadCard));
         }
-        let Some(pins) = raw_pins(alloc, &self.pins)? else {
-            return Err(Refusal::Kind(SpiceKind::NoPinInfo));
-        };
-        let nets = self.nets.list(alloc)?;
+        let pins = raw_pins(alloc, &self.pins);
+        let nets = self.nets.list(alloc);
         let OpenCell {
             line: _,
             name,
-            pins: _,
-            nets: _,
-            device_names: _,
+            pins: open_pins,
+            nets: open_nets,
+            device_names,
             devices,
         } = self;
+        drop(open_pins);
+        drop(open_nets);
+        drop(device_names);
+        let Some(pins) = pins? else {
+            return Err(Refusal::Kind(SpiceKind::NoPinInfo));
+        };
+        let nets = nets?;
         Ok(Subcircuit {
             name,
             raw: RawCell {

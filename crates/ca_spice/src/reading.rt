@@ -85,7 +85,10 @@ impl Reading {
             [name, pins @ ..] if self.is_outside() && is_header(words) => {
                 self.named(alloc, line, name, pins)
             }
-            _ => Err(Refusal::Kind(SpiceKind::BadCard)),
+            _ => {
+                drop(self);
+                Err(Refusal::Kind(SpiceKind::BadCard))
+            }
         }
     }
 
@@ -169,8 +172,14 @@ impl Reading {
             Card::PinInfo => self.pin_info(words),
             Card::Mos => self.mos(alloc, word, words),
             Card::Ignored => Ok(self),
-            Card::Stray => Err(Refusal::Kind(SpiceKind::BadCard)),
-            Card::Unknown => Err(Refusal::Kind(SpiceKind::UnknownCard)),
+            Card::Stray => {
+                drop(self);
+                Err(Refusal::Kind(SpiceKind::BadCard))
+            }
+            Card::Unknown => {
+                drop(self);
+                Err(Refusal::Kind(SpiceKind::UnknownCard))
+            }
         }
     }
 
@@ -197,11 +206,14 @@ impl Reading {
         if self.is_comment(card) {
             return Ok(self);
         }
-        // A continuation of nothing is told before its bytes are judged.
+        // A continuation of nothing is told before its bytes are judged. What was read is let go by a call where
+        // it isn't handed on, since that is dear to prove.
         if matches!(card, Card::Stray) {
+            drop(self);
             return Err(Refusal::Kind(SpiceKind::BadCard));
         }
         if !all_text(words) {
+            drop(self);
             return Err(Refusal::Kind(SpiceKind::NotText));
         }
         self.card(alloc, card, line, word, more)
@@ -212,8 +224,14 @@ impl Reading {
     pub(crate) fn line(self, alloc: Global, line: &Line) -> Result<Self, Refusal>
         ensures { Gives kind_told reading_seen result (line_step line.now (reading_seen self)) }
     {
-        let text = fold(alloc, line.text.as_bytes())?;
-        let words = spice_words(alloc, text.as_bytes())?;
+        let Ok(text) = fold(alloc, line.text.as_bytes()) else {
+            drop(self);
+            return Err(Refusal::NoMemory);
+        };
+        let Ok(words) = spice_words(alloc, text.as_bytes()) else {
+            drop(self);
+            return Err(Refusal::NoMemory);
+        };
         self.words(alloc, line.line, &words)
     }
 }

@@ -13,13 +13,13 @@ tell-requires-clause-names c =
     subst (HaveNames c.in_ok-draft.draft) (sym c.as_slice-in-Err-judge.ensures)
     (have_names c.args.netlist.now c.args.library c.args.scan.now c.in_ok-draft.draft c.in_ok-draft.ensures.link)
 
-pub returns-in_ok-tell-in-Err-judge-clause-cause : goal.returns-in_ok-tell-in-Err-judge-clause-cause
-returns-in_ok-tell-in-Err-judge-clause-cause c =
+pub returns-in_ok-told-in-Err-judge-clause-cause : goal.returns-in_ok-told-in-Err-judge-clause-cause
+returns-in_ok-told-in-Err-judge-clause-cause c =
     wire_cause c.args.netlist.now c.args.library c.args.scan.now c.in_ok-draft.draft c.in_ok-draft.ensures.link
     (subst (AreSound c.args.netlist.now c.args.library) c.as_slice.ensures c.in_default.ensures.ok)
-    c.in-Err-judge.fault c.in-Err-judge.ensures.cause c.in_ok-tell-in-Err-judge.field-0
-    (subst (λ (scan : List ScanRow). TellsFault c.in_ok-draft.draft scan c.in-Err-judge.fault c.in_ok-tell-in-Err-judge.field-0)
-    c.as_slice-in-Err-judge.ensures c.in_ok-tell-in-Err-judge.ensures)
+    c.in-Err-judge.fault c.in-Err-judge.ensures.cause c.in_ok-told-in-Err-judge.field-0
+    (subst (λ (scan : List ScanRow). TellsFault c.in_ok-draft.draft scan c.in-Err-judge.fault c.in_ok-told-in-Err-judge.field-0)
+    c.as_slice-in-Err-judge.ensures c.in_ok-told-in-Err-judge.ensures)
 
 pub returns-in-Some-clause-cause : goal.returns-in-Some-clause-cause
 returns-in-Some-clause-cause c =
