@@ -9,6 +9,6 @@ use Rattle.ca_spice.proofs.reading.Reading.line.Goals as goal
 pub words-requires : goal.words-requires
 words-requires c =
     let words : texts c.deref.result.now ≡ words_of (upper_case c.args.line.now.text) =
-    ap texts c.deref.ensures.value ∙ c.in_ok-words.ensures.ok
-    ∙ ap words_of (c.as_bytes-2.ensures ∙ c.in_ok-text.ensures.ok ∙ ap upper_case c.as_bytes.ensures) in
+    ap texts c.deref.ensures.value ∙ c.in-Ok-spice_words.ensures.ok
+    ∙ ap words_of (c.as_bytes-2.ensures ∙ c.in-Ok.ensures.ok ∙ ap upper_case c.as_bytes.ensures) in
     subst (All IsUpper) (sym words) (words_of-upper c.args.line.now.text)
