@@ -1,6 +1,6 @@
 //! A verdict for each defect of a chip.
 
-ghost use Rattle.std.specs.Prelude.{◌<◌, ◌^◌, length, IfOk, IfErr};
+ghost use Rattle.std.specs.Prelude.{◌≡◌, ◌<◌, ◌^◌, length, IfOk, IfErr};
 ghost use Rattle.ca_credit.specs.Good.{IsGood};
 ghost use Rattle.ca_generate.specs.GenerateFault.{IsCause};
 
@@ -31,6 +31,7 @@ pub fn generate<B: Bench, T: Watch>(
 
     ensures good { IfOk result (λ made. IsGood (B.task bench.old) made.pairs made.aims made.verdicts) }
     ensures cause { IfErr result (IsCause (B.task bench.old)) }
+    ensures task { B.task bench.new ≡ B.task bench.old }
 {
     let mut work = Work::begin(alloc, bench)?;
     let count = bench.defect_count();

@@ -105,7 +105,7 @@ impl Model for Guide {
 }
 
 impl Guide {
-    /// Takes the room for a chip. It is aimed at no defect.
+    /// Takes the room for a chip. Until the first `aim` the support is open.
     pub fn reserve<C: LinkedChip>(alloc: Global, chip: &C) -> Result<Self, NoMemory>
         ensures { IfOk result (HasRoomFor (C.lists chip.now)) }
     {
