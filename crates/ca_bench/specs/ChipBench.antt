@@ -7,6 +7,7 @@ use Rattle.ca_flat.specs.declared.chip_defect.ChipDefect.{ChipDefect}
 use Rattle.ca_flat.specs.declared.token.Token.{Token}
 use Rattle.ca_flat.specs.Chip.{Chip, IsChip, IsDefectIn, IsChipDefect}
 use Rattle.ca_flat.specs.Flat.{flat}
+use Rattle.ca_flat.specs.Code.{unset_pair}
 use Rattle.ca_sim.specs.Linked.{IsPlacedDefect, place_in}
 use Rattle.ca_credit.specs.Defects.{Task}
 use Rattle.ca_chip_defects.specs.ChipDefects.{chip_defects, placed_instances}
@@ -27,6 +28,13 @@ pub record IsTaskOf (chip : Chip) (places : List ℕ) (budget : ℕ) (task : Tas
   pub chip_is : task.chip ≡ chip
   pub defects_are : task.defects ≡ chip_defects chip (placed_instances chip places)
   pub budget_is : task.budget ≡ budget
+
+-- nothing was asked of the bench yet: no bit is set, no defect is aimed at, and nothing is counted
+pub record IsUnused (bench : Benched) : Type 0 where
+  pub bits : bench.bits ≡ unset_pair bench.task.chip
+  pub aimed : bench.aimed ≡ None
+  pub aims : bench.aims ≡ 0
+  pub evaluated : bench.evaluated ≡ 0
 
 -- The chip's flat networks are networks, the listed defects may be aimed at, the nets are those of the
 -- observed outputs, the rows are the chip's, and what is aimed at is a defect of it.

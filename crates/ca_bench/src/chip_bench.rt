@@ -61,7 +61,7 @@ impl<'a, L: Linked, C: LinkedChip, R: ExposableDefects, P: Choice + Drop> ChipBe
     P,
 > {
     ghost use Rattle.ca_judge.specs.Bench.{IsSearchable};
-    ghost use Rattle.ca_bench.specs.ChipBench.{IsTaskOf};
+    ghost use Rattle.ca_bench.specs.ChipBench.{IsTaskOf, IsUnused};
 
     /// The bench of a chip, of which the nets of the observed outputs are given. No bit is set, and no defect
     /// is aimed at. Want of memory is also told of a chip with 2^32 observed outputs.
@@ -78,8 +78,9 @@ impl<'a, L: Linked, C: LinkedChip, R: ExposableDefects, P: Choice + Drop> ChipBe
         requires chip { IsSearchable (L.core linked.now) (C.chip chip.now) (C.lists chip.now) }
         requires rows { R.chip rows.now ≡ L.core linked.now }
         requires outputs { outputs.items ≡ (L.core linked.now).outputs }
-        ensures { IfOk result
+        ensures task { IfOk result
             (λ bench. IsTaskOf (L.core linked.now) (L.places linked.now) budget bench.task) }
+        ensures unused { IfOk result IsUnused }
     {
         if outputs.len() > u32::MAX as usize {
             return Err(NoMemory);

@@ -3,7 +3,7 @@
 ghost use Rattle.std.specs.Prelude.{◌≡◌, IfOk};
 ghost use Rattle.ca_core.specs.Core.{core_of};
 ghost use Rattle.ca_core_links.specs.CoreLinks.{AreLinksOf};
-ghost use Rattle.ca_bench.specs.ChipBench.{IsTaskOf};
+ghost use Rattle.ca_bench.specs.ChipBench.{IsTaskOf, IsUnused};
 
 use crate::outputs::output_nets;
 use ca_base::NoMemory;
@@ -30,7 +30,9 @@ pub fn core_bench<'a, R: ExposableDefects, P: Choice + Drop>(
 ) -> Result<CoreBench<'a, R, P>, NoMemory>
     requires links { AreLinksOf tables.now.chip links.now }
     requires rows { R.chip rows.now ≡ core_of tables.now.chip }
-    ensures { IfOk result (λ bench. IsTaskOf (core_of tables.now.chip) tables.now.ranks budget bench.task) }
+    ensures task { IfOk result
+        (λ bench. IsTaskOf (core_of tables.now.chip) tables.now.ranks budget bench.task) }
+    ensures unused { IfOk result IsUnused }
 {
     let chip = tables.chip();
     chip.wired();

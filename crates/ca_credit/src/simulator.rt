@@ -41,6 +41,7 @@ pub trait Simulator {
 
         ensures task { task self.new ≡ task self.old }
         ensures bits { bits self.new ≡ trits_of pair.now }
+        ensures aimed { aimed self.new ≡ aimed self.old }
         ensures aims { aims self.new ≡ aims self.old };
 
     /// Whether the bits that are set may detect the defect at this place of the list, by the rows that expose

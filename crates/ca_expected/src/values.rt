@@ -27,8 +27,7 @@ fn good_ends<S: Simulator>(alloc: Global, sim: &S) -> Result<List<Trit>, NoMemor
     Ok(values)
 }
 
-/// The values at the observed outputs under each pair. The simulator holds the bits of the last pair
-/// afterwards, and its aim stays.
+/// The values at the observed outputs under each pair. The simulator's aim stays, its bits don't.
 pub fn expected<S: Simulator>(
     alloc: Global,
     sim: &mut S,
@@ -37,6 +36,7 @@ pub fn expected<S: Simulator>(
     requires { All (λ pair. length pair ≡ bit_count (S.task sim.old).chip) pairs.now }
     ensures rows { IfOk result (AreExpected (S.task sim.old).chip pairs.now) }
     ensures task { S.task sim.new ≡ S.task sim.old }
+    ensures aimed { S.aimed sim.new ≡ S.aimed sim.old }
 {
     let mut rows = List::with_room(alloc, pairs.len())?;
     for place in 0..pairs.len() {

@@ -182,11 +182,6 @@ impl Guide {
         self.support.has(u32::from(bit))
     }
 
-    /// Whether the net leads to an observed output that the defect reaches.
-    pub fn leads(&self, net: u32) -> bool {
-        self.leading.has(net)
-    }
-
     // The wanted bit if it is an unset bit of the support, else the lowest that is.
     fn unset_bit<V: NetWaves>(&self, waves: &V, wanted: u16) -> Option<u16>
         requires { length (V.seen waves.now).bits ≡ self.now.bits }

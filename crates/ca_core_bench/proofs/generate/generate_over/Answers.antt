@@ -9,9 +9,9 @@ use Rattle.ca_core_bench.proofs.generate.generate_over.Goals as goal
 pub returns-clause-good : goal.returns-clause-good
 returns-clause-good g c =
     subst (λ (task : Task). IfOk c.generate_few-made.result (λ made. IsGood task made.pairs made.aims made.verdicts))
-    (task_is c.args.chip.now c.args.tables.now c.args.budget c.in_ok-bench.bench.task c.requires.tables c.in_ok-bench.ensures) c.generate_few-made.ensures.good
+    (task_is c.args.chip.now c.args.tables.now c.args.budget c.in_ok-bench.bench.task c.requires.tables c.in_ok-bench.ensures.task) c.generate_few-made.ensures.good
 
 pub returns-clause-cause : goal.returns-clause-cause
 returns-clause-cause g c =
     subst (λ (task : Task). IfErr c.generate_few-made.result (IsCause task))
-    (task_is c.args.chip.now c.args.tables.now c.args.budget c.in_ok-bench.bench.task c.requires.tables c.in_ok-bench.ensures) c.generate_few-made.ensures.cause
+    (task_is c.args.chip.now c.args.tables.now c.args.budget c.in_ok-bench.bench.task c.requires.tables c.in_ok-bench.ensures.task) c.generate_few-made.ensures.cause

@@ -11,8 +11,9 @@ pub loop-place-preserved : goal.loop-place-preserved
 loop-place-preserved g c =
     let task = c.load.ensures.task ∙ c.loop-place.invariant.0 in (
       task,
+      c.load.ensures.aimed ∙ c.loop-place.invariant.1,
       row_more (g.S.Simulator.task c.args.sim.now).chip c.args.pairs.now c.loop-place.place c.in_ok-good_ends.field-0
-          c.loop-place.rows c.push.new.self c.loop-place.invariant.1
+          c.loop-place.rows c.push.new.self c.loop-place.invariant.2
           (subst (λ (bits : List Trit). AreGoodEnds (g.S.Simulator.task c.args.sim.now).chip bits c.in_ok-good_ends.field-0)
           (c.load.ensures.bits ∙ ap trits_of (c.index-pairs-place.is
           ∙ get_or_default c.args.pairs.now c.loop-place.place c.index-pairs-place.result [] c.loop-place-test.true))
