@@ -126,8 +126,8 @@ fn all_passing(
     Ok(cubes)
 }
 
-// The cubes under which the output follows the pin of this place: with the same value, or with the opposite
-// one. Where that depends on another pin the cube has its value.
+// The cubes under which the output follows the pin of this place, with the same value or with the opposite
+// one. Where only that depends on another pin the cube leaves it free.
 fn passing(
     alloc: Global,
     points: &mut Points,
@@ -135,26 +135,18 @@ fn passing(
     output: usize,
     place: usize,
 ) -> Result<Vec<Cube>, NoMemory> {
-    let mut cubes = Vec::new(alloc);
-    for at_zero in [Trit::Zero, Trit::One] {
-        put_passing(points, table, output, place, at_zero);
-        add_widest_cubes(&mut cubes, points)?;
-    }
-    Ok(cubes)
-}
-
-// Puts in the vectors for which the output has this value where the pin of this place is 0, and the opposite
-// one where it is 1.
-fn put_passing(points: &mut Points, table: &CellTable, output: usize, place: usize, at_zero: Trit) {
     points.begin(first_places(table.inputs));
     let pin = vector_count(place);
     for vector in 0..vector_count(table.inputs) {
         let low = table.value(output, vector & !pin);
         let high = table.value(output, vector | pin);
-        if low == at_zero && are_opposite(low, high) {
+        if are_opposite(low, high) {
             points.insert(vector);
         }
     }
+    let mut cubes = Vec::new(alloc);
+    add_widest_cubes(&mut cubes, points)?;
+    Ok(cubes)
 }
 
 /// Whether one value is 0 and the other is 1.

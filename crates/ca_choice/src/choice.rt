@@ -13,7 +13,7 @@ use crate::sight::{Sight, View};
 use crate::tables::ChipTables;
 use crate::trial::Trial;
 use crate::wants::Wants;
-use crate::ways::{Ways, best_output, showing_output};
+use crate::ways::{Asked, Ways, best_output, showing_output};
 use ca_base::NoMemory;
 use ca_defect::Rows;
 use ca_flat::ChipDefect;
@@ -94,8 +94,12 @@ impl CheapestWay {
         self.ways.find(&scene);
         self.goals.clear();
         self.wants.clear();
-        match showing_output(&scene, &self.ways, part) {
-            Some(net) => self.ways.add_nearest(&scene, net, &mut self.goals),
+        let net = match showing_output(&scene, &self.ways, part) {
+            Some(net) => {
+                self.ways
+                    .add_goals(&scene, net, Asked::Nearest, &mut self.goals);
+                net
+            }
             None => {
                 if !want_row(
                     &scene,
@@ -115,9 +119,11 @@ impl CheapestWay {
                 };
                 self.ways.find(&planned);
                 let net = best_output(&scene, &self.ways, part)?;
-                self.ways.add_goals(&scene, net, &mut self.goals);
+                self.ways
+                    .add_goals(&scene, net, Asked::All, &mut self.goals);
+                net
             }
-        }
+        };
         self.wants.add_each(&scene, &self.goals);
         let planned = Scene {
             plan: &self.plan,
@@ -128,7 +134,14 @@ impl CheapestWay {
         };
         let goal = match self.goals.dearest(&planned) {
             Some(goal) => goal,
-            None => unknown_pin(&scene, part)?,
+            None => {
+                self.ways
+                    .add_goals(&scene, net, Asked::Unknown, &mut self.goals);
+                match self.goals.dearest(&planned) {
+                    Some(goal) => goal,
+                    None => unknown_pin(&scene, part)?,
+                }
+            }
         };
         let proposed = planned.backtrace(goal)?;
         Some(

@@ -23,28 +23,19 @@ pub(crate) fn want_row<S: Sight>(
 ) -> bool {
     price_rows(scene, rows, part);
     let cheapest = next_row(rows, None);
-    let mut offer = cheapest;
-    for _ in 0..MOST_ROWS_WANTED {
-        match offer {
-            Some(next) => {
-                if is_wanted(scene, rows, part, next, goals, wants) {
-                    return true;
-                }
-                offer = next_row(rows, offer);
+    match want_first(scene, rows, part, cheapest, goals, wants) {
+        Look::Wanted => true,
+        Look::NoneLeft | Look::SomeLeft => match cheapest {
+            Some(first) => {
+                let _ = is_wanted(scene, rows, part, first, goals, wants);
+                true
             }
-            None => break,
-        }
-    }
-    match cheapest {
-        Some(first) => {
-            let _ = is_wanted(scene, rows, part, first, goals, wants);
-            true
-        }
-        None => false,
+            None => false,
+        },
     }
 }
 
-/// Whether one of the cheapest rows in reach that isn't met yet can be wanted, or not all were looked at.
+/// Whether one of the cheapest rows in reach that aren't met yet can be wanted, or not all were looked at.
 pub(crate) fn is_row_open<S: Sight>(
     scene: &Scene<'_, S>,
     rows: &mut RowCubes,
@@ -53,19 +44,48 @@ pub(crate) fn is_row_open<S: Sight>(
     wants: &mut Wants,
 ) -> bool {
     price_rows(scene, rows, part);
-    let mut offer = next_row(rows, None);
+    let open = next_row(rows, Some(LAST_MET));
+    match want_first(scene, rows, part, open, goals, wants) {
+        Look::Wanted | Look::SomeLeft => true,
+        Look::NoneLeft => false,
+    }
+}
+
+// How a look at the cheapest rows ended.
+enum Look {
+    // one is the plan
+    Wanted,
+    // none of those in reach can be wanted
+    NoneLeft,
+    // none of those that were looked at can be wanted, and there are more
+    SomeLeft,
+}
+
+// Makes the first row from an offer on that can be wanted the plan. Only some are looked at.
+fn want_first<S: Sight>(
+    scene: &Scene<'_, S>,
+    rows: &RowCubes,
+    part: u32,
+    from: Option<Offer>,
+    goals: &mut Goals,
+    wants: &mut Wants,
+) -> Look {
+    let mut offer = from;
     for _ in 0..MOST_ROWS_WANTED {
         match offer {
             Some(next) => {
-                if 0 < next.price && is_wanted(scene, rows, part, next, goals, wants) {
-                    return true;
+                if is_wanted(scene, rows, part, next, goals, wants) {
+                    return Look::Wanted;
                 }
                 offer = next_row(rows, offer);
             }
-            None => return false,
+            None => return Look::NoneLeft,
         }
     }
-    offer.is_some()
+    match offer {
+        Some(_) => Look::SomeLeft,
+        None => Look::NoneLeft,
+    }
 }
 
 // Makes a row the plan. Whether no contradiction is seen.
@@ -89,6 +109,12 @@ struct Offer {
     price: u32,
     place: usize,
 }
+
+// What comes behind all rows that are met, and before all others.
+const LAST_MET: Offer = Offer {
+    price: 0,
+    place: usize::MAX,
+};
 
 // Finds the prices of the rows.
 fn price_rows<S: Sight>(scene: &Scene<'_, S>, rows: &mut RowCubes, part: u32) {

@@ -22,6 +22,17 @@ struct Piece {
     net: u32,
 }
 
+/// Which values of a way are asked for.
+#[derive(Clone, Copy, Debug, PartialEq, Eq)]
+pub(crate) enum Asked {
+    /// All that it wants.
+    All,
+    /// Those at the first instance that wants any.
+    Nearest,
+    /// One for each other pin on it that has no last value, whether it is wanted or not.
+    Unknown,
+}
+
 /// For each net of the cone what the cheapest way out costs, and its first piece.
 #[derive(Drop)]
 pub(crate) struct Ways {
@@ -58,28 +69,20 @@ impl Ways {
         }
     }
 
-    /// Adds the values that the way out of the net wants.
-    pub(crate) fn add_goals<S: Sight>(&self, scene: &Scene<'_, S>, net: u32, goals: &mut Goals) {
+    /// Adds values that the way out of the net wants.
+    pub(crate) fn add_goals<S: Sight>(
+        &self,
+        scene: &Scene<'_, S>,
+        net: u32,
+        asked: Asked,
+        goals: &mut Goals,
+    ) {
         let mut net = net;
         for _ in 0..scene.cone.len() {
             match self.piece(net) {
                 Some(piece) => {
-                    add_sides(scene, piece, goals);
-                    net = piece.net;
-                }
-                None => return,
-            }
-        }
-    }
-
-    /// Adds the values that the way out of the net wants at the first instance that wants any.
-    pub(crate) fn add_nearest<S: Sight>(&self, scene: &Scene<'_, S>, net: u32, goals: &mut Goals) {
-        let mut net = net;
-        for _ in 0..scene.cone.len() {
-            match self.piece(net) {
-                Some(piece) => {
-                    add_sides(scene, piece, goals);
-                    if goals.get(0).is_some() {
+                    add_sides(scene, piece, asked, goals);
+                    if asked == Asked::Nearest && 0 < goals.len() {
                         return;
                     }
                     net = piece.net;
@@ -191,15 +194,36 @@ impl Ways {
     }
 }
 
-// Adds the values that a piece of a way wants.
-fn add_sides<S: Sight>(scene: &Scene<'_, S>, piece: Piece, goals: &mut Goals) {
+// Adds the values of the other pins of a piece of a way.
+fn add_sides<S: Sight>(scene: &Scene<'_, S>, piece: Piece, asked: Asked, goals: &mut Goals) {
     for (pin, net) in scene.plan.inputs(piece.part).iter().enumerate() {
         if pin != piece.pin {
-            if let Some(value) = scene.plan.literal(piece.part, piece.cube, pin) {
+            let wanted = if asked == Asked::Unknown {
+                Some(cheaper_value(scene, *net))
+            } else {
+                scene.plan.literal(piece.part, piece.cube, pin)
+            };
+            if let Some(value) = wanted {
                 add_side(scene, *net, value, goals);
             }
         }
     }
+}
+
+// The value of a net that costs less in the last frame.
+fn cheaper_value<S: Sight>(scene: &Scene<'_, S>, net: u32) -> bool {
+    let frame = Frame::Last;
+    let zero = scene.price(Goal {
+        frame,
+        net,
+        value: false,
+    });
+    let one = scene.price(Goal {
+        frame,
+        net,
+        value: true,
+    });
+    one < zero
 }
 
 // Adds a value that is wanted in the last frame, if there is none.

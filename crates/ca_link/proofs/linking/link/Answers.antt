@@ -8,8 +8,8 @@ use Rattle.ca_link.proofs.CauseLemmas.{wire_cause, made_link, made_cause, made_k
 use Rattle.ca_link.proofs.NameLemmas.{have_names}
 use Rattle.ca_link.proofs.linking.link.Goals as goal
 
-pub tell-requires-clause-names : goal.tell-requires-clause-names
-tell-requires-clause-names c =
+pub tell-told-requires-clause-names : goal.tell-told-requires-clause-names
+tell-told-requires-clause-names c =
     subst (HaveNames c.in_ok-draft.draft) (sym c.as_slice-in-Err-judge.ensures)
     (have_names c.args.netlist.now c.args.library c.args.scan.now c.in_ok-draft.draft c.in_ok-draft.ensures.link)
 
