@@ -7,6 +7,7 @@ use Rattle.ca_flat.specs.Chip.{Chip}
 use Rattle.ca_flat.specs.Chain.{IsSupportBit}
 use Rattle.ca_flat.specs.Code.{IsSpentBy, IsSpentCode}
 use Rattle.ca_search.specs.SearchRules.{search_rules}
+use Rattle.ca_credit.specs.declared.limit.TheConstants.{MOST_PAIRS}
 use Rattle.ca_credit.specs.declared.verdict.Verdict.{Verdict}
 use Rattle.ca_credit.specs.declared.verdict.Verdict.TheVariants.{Credited, Unexposable, Untestable, Aborted}
 use Rattle.ca_credit.specs.Defects.{Task, IsDefectAt, IsExposableIn}
@@ -73,6 +74,8 @@ pub record IsGood (task : Task) (pairs : List (List Bool)) (aims : List ℕ) (ve
     -- aborted only where no listed pair detects the defect, and the whole budget was spent
     pub aborted : (place : ℕ) (defect : ChipDefect) (code : List Token)
         → HasVerdict task verdicts place defect (Aborted code) → IsRightlyAborted task pairs defect code
+    -- no more pairs are listed than may be
+    pub few : length pairs ≤ MOST_PAIRS
     -- no pair is listed in vain
     pub needed : (pair : ℕ) → pair < length pairs → IsNeeded verdicts pair
     -- each pair was found for its aim, which is credited to it

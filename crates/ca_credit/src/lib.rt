@@ -4,6 +4,7 @@
 mod credit;
 mod credits;
 mod laws;
+mod limit;
 mod round;
 mod simulator;
 mod verdict;
@@ -11,6 +12,7 @@ mod verdicts;
 
 pub use credits::{BLOCK, Credits};
 pub use laws::{ample_is_never_aborted, pattern_bits_are_never_aborted, unexposable_is_undetected};
+pub use limit::MOST_PAIRS;
 pub use simulator::Simulator;
 pub use verdict::Verdict;
 pub use verdicts::Verdicts;

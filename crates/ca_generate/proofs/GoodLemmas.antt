@@ -62,6 +62,7 @@ good_at_end task table pairs aims stands =
       };
       untestable = λ place defect has. (entry place defect Untestable has).untestable;
       aborted = λ place defect code has. (entry place defect (Aborted code) has).rightly;
+      few = stands.within;
       needed = λ pair lt.
           let same : length aims ≡ length pairs = stands.aims_are.one_each in
           let aim = entry_of aims pair (omega arith) in

@@ -2,7 +2,7 @@
 use Rattle.std.specs.Prelude.{◌+◌, ◌≡◌, length}
 use Rattle.ca_credit.specs.Defects.{Task}
 use Rattle.ca_credit.specs.Listed.{AreAims}
-use Rattle.ca_generate.specs.declared.fault.TheConstants.{MOST_PAIRS}
+use Rattle.ca_credit.specs.declared.limit.TheConstants.{MOST_PAIRS}
 use Rattle.ca_generate.specs.declared.fault.GenerateFault.{GenerateFault}
 use Rattle.ca_generate.specs.declared.fault.GenerateFault.TheVariants.{TooManyPairs, NoMemory}
 

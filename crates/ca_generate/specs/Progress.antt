@@ -9,7 +9,7 @@ use Rattle.ca_credit.specs.Detection.{IsFirstDetection, IsUntestable, NoneDetect
 use Rattle.ca_credit.specs.Listed.{AreAims}
 use Rattle.ca_credit.specs.Good.{IsAmple, IsRightlyAborted, IsCheckedSpent}
 use Rattle.ca_credit.specs.Table.{verdict_at}
-use Rattle.ca_generate.specs.declared.fault.TheConstants.{MOST_PAIRS}
+use Rattle.ca_credit.specs.declared.limit.TheConstants.{MOST_PAIRS}
 use Rattle.ca_generate.specs.declared.work.Work.{Work}
 
 -- no verdict yet: the defect can be exposed, its turn is still to come, and no listed pair detects it

@@ -6,9 +6,6 @@ ghost use Rattle.ca_generate.specs.declared.fault.GenerateFault.TheVariants as f
 use ca_base::{List, NoMemory};
 use ca_pair::Pairs;
 
-/// How many pairs may be listed.
-pub const MOST_PAIRS: usize = 65_536;
-
 /// For each listed pair the place, in the list of defects, of the one for which it was found.
 pub type Aims = List<u32>;
 

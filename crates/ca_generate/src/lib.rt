@@ -10,7 +10,7 @@ mod watch;
 mod work;
 
 pub use bench::Bench;
-pub use fault::{Aims, GenerateFault, MOST_PAIRS};
+pub use fault::{Aims, GenerateFault};
 pub use generated::{Generated, generate};
 pub use laws::outcome_is_search;
 pub use watch::{Unwatched, Watch};

@@ -7,10 +7,10 @@ ghost use Rattle.ca_generate.specs.GenerateFault.{IsCause};
 ghost use Rattle.ca_generate.specs.Progress.{WorkStands, IsScreened};
 
 use crate::bench::Bench;
-use crate::fault::{Aims, GenerateFault, MOST_PAIRS};
+use crate::fault::{Aims, GenerateFault};
 use crate::keep::keep_pair;
 use ca_base::NoMemory;
-use ca_credit::{Credits, Verdict};
+use ca_credit::{Credits, MOST_PAIRS, Verdict};
 use ca_pair::{Pair, Pairs};
 use ca_search::Outcome;
 use std::alloc::Global;

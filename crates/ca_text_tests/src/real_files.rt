@@ -30,12 +30,14 @@ fn faults_of_real_files_count(rt: HostRuntime) {
         let got = read_file(rt.alloc(), &mut store, name, *limit);
         assert!(rt; is_as_wanted(got, *want), "{name}");
         assert_eq!(rt; store.faults(), *faults, "{name}");
+        drop(store);
     }
     for (name, bytes, want, faults) in &REAL_WRITTEN {
         let mut store = FileStore::new(rt);
         let got = write_file(&mut store, name, bytes.as_bytes());
         assert_eq!(rt; got, *want, "{bytes} to {name}");
         assert_eq!(rt; store.faults(), *faults, "{bytes} to {name}");
+        drop(store);
     }
     // Streams take a piece of no bytes.
     assert_eq!(rt; StdSink::output(rt.stdout()).write(b""), Ok(0));
@@ -52,9 +54,18 @@ fn real_files_are_written_and_read_back(rt: HostRuntime) -> Result<(), Fail> {
         let got = read_file(alloc, &mut store, "written by a test", 9);
         assert!(rt; is_as_wanted(got, Ok(bytes)), "{bytes}");
         assert_eq!(rt; store.faults(), 0, "{bytes}");
+        drop(store);
     }
     fs::remove_file(&rt, "written by a test")?;
     Ok(())
+}
+
+// What a store that hasn't read the file answers to a writing.
+fn written(rt: HostRuntime, name: &str, bytes: &[u8]) -> Done {
+    let mut store = FileStore::new(rt);
+    let done = write_file(&mut store, name, bytes);
+    drop(store);
+    done
 }
 
 // Neither under its own name nor by another path or link: it stands as it was. A store that hasn't read it
@@ -62,8 +73,7 @@ fn real_files_are_written_and_read_back(rt: HostRuntime) -> Result<(), Fail> {
 #[test]
 fn a_file_that_was_read_is_not_created(rt: HostRuntime) -> Result<(), Fail> {
     let alloc = rt.alloc();
-    let mut first = FileStore::new(rt);
-    assert_eq!(rt; write_file(&mut first, "read by a test", b"kept"), Ok(()));
+    assert_eq!(rt; written(rt, "read by a test", b"kept"), Ok(()));
     fs::hard_link(&rt, "read by a test", "link of a test")?;
     let names = ["read by a test", "./read by a test", "link of a test"];
     for name in names {
@@ -73,8 +83,9 @@ fn a_file_that_was_read_is_not_created(rt: HostRuntime) -> Result<(), Fail> {
         let done = write_file(&mut store, name, b"lost");
         assert_eq!(rt; done, Err(Failed), "{name}");
         assert_eq!(rt; store.faults(), 1, "{name}");
+        drop(store);
     }
-    assert_eq!(rt; write_file(&mut first, "link of a test", b"new"), Ok(()));
+    assert_eq!(rt; written(rt, "link of a test", b"new"), Ok(()));
     fs::remove_file(&rt, "link of a test")?;
     fs::remove_file(&rt, "read by a test")?;
     Ok(())
