@@ -14,7 +14,7 @@ use Rattle.ca_chip.specs.declared.fault.ChipFault.{ChipFault}
 use Rattle.ca_chip.specs.declared.fault.ChipFault.TheVariants as fault
 use Rattle.ca_chip.specs.declared.fault.TheConstants.{MOST_INSTANCES, MOST_CHIP_INPUTS, MOST_CHIP_OUTPUTS}
 use Rattle.ca_chip.specs.declared.fault.TheConstants.{MOST_CHIP_DEFECTS}
-use Rattle.ca_wired.specs.Order.{IsLoop}
+use Rattle.ca_wired.specs.Order.{IsLoop, IsOnce}
 use Rattle.ca_chip.specs.Joined.{AreJoined}
 use Rattle.ca_chip.specs.Wiring.{Meaning, Unknown, Broken, Library, ScanCell, meaning_of, output_names}
 use Rattle.ca_chip.specs.Wiring.{WiredPart, Wiring, wiring_of, out_bits}
@@ -235,7 +235,8 @@ pub record IsFirstBroken (raw : RawNetlist) (library : List Named) (scan : List 
 abbrev pub KeepsRules : RawNetlist → List Named → List ScanRow → Type 0
 KeepsRules raw library scan = (at : List ℕ) (other : ChipFault) → BreaksAt raw library scan at other → ⊥
 
--- why a netlist isn't linked: want of memory may come with any
+-- why a netlist isn't linked: the first rule that is broken, where a loop has each of its instances once; want
+-- of memory may come with any
 abbrev pub IsCause : RawNetlist → List Named → List ScanRow → ChipFault → Type 0
 IsCause raw library scan (fault.UnknownCell u) = IsFirstBroken raw library scan (fault.UnknownCell u)
 IsCause raw library scan (fault.Cell u rule) = IsFirstBroken raw library scan (fault.Cell u rule)
@@ -248,7 +249,8 @@ IsCause raw library scan (fault.ControlPin u pin) = IsFirstBroken raw library sc
 IsCause raw library scan (fault.ControlObserved net) =
     IsFirstBroken raw library scan (fault.ControlObserved net)
 IsCause raw library scan (fault.QnUsed u) = IsFirstBroken raw library scan (fault.QnUsed u)
-IsCause raw library scan (fault.Loop instances) = IsFirstBroken raw library scan (fault.Loop instances)
+IsCause raw library scan (fault.Loop instances) =
+    IsFirstBroken raw library scan (fault.Loop instances) × IsOnce instances
 IsCause raw library scan (fault.TooManyInstances count) =
     IsFirstBroken raw library scan (fault.TooManyInstances count)
 IsCause raw library scan (fault.TooManyInputs count) =

@@ -141,9 +141,11 @@ module _ (raw : RawNetlist) (library : List Named) (scan : List ScanRow) (chip :
         subst (IsCause raw library scan) (sym tells)
         (first_broken raw library scan (4 ∷ net ∷ []) (fault.ControlObserved (record { 0 = net }))
         (refl, observed_path (wiring_of raw library scan) chip link driven used net first) (before_path driven used net first))
-    wire_cause (wire_fault.Loop loop) (kept, is) told tells =
-        subst (IsCause raw library scan) (sym tells)
-        (first_broken raw library scan (5 ∷ []) (fault.Loop loop) (refl, loop_is (wiring_of raw library scan) chip link loop is) (before_loop kept))
+    wire_cause (wire_fault.Loop loop) (kept, (is, once)) told tells =
+        subst (IsCause raw library scan) (sym tells) (
+          first_broken raw library scan (5 ∷ []) (fault.Loop loop) (refl, loop_is (wiring_of raw library scan) chip link loop is) (before_loop kept),
+          once,
+        )
     wire_cause wire_fault.NoMemory cause told tells = subst (IsCause raw library scan) (sym tells) tt
 
     module _ (kept : KeepsNetRules chip) (loops : (loop : List ℕ) → IsLoop (FeedsWire (wiring_of raw library scan)) loop → ⊥) where

@@ -277,5 +277,5 @@ module _ (chip : Chip) where
     loop_is (u ∷ more) is = (chain_is u more u is.0, is.1)
 
     pub cause_is : (broken : SortFault) → IsSortCause feeders broken → IsOrderCause chip broken
-    cause_is (Loop loop) is = loop_is loop is
+    cause_is (Loop loop) (is, once) = (loop_is loop is, once)
     cause_is NoMemory is = tt

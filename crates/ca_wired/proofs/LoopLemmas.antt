@@ -13,11 +13,11 @@ use Rattle.std.proofs.Math.Seq.{drop-cons}
 use Rattle.ca_wired.specs.declared.order.Mark.{Mark}
 use Rattle.ca_wired.specs.declared.order.Mark.TheVariants.{New, Open, Done}
 use Rattle.ca_wired.specs.declared.order.Visit.{Visit}
-use Rattle.ca_wired.specs.Order.{IsChain, IsLoop, IsOrder}
+use Rattle.ca_wired.specs.Order.{IsChain, IsOnce, IsSimpleLoop, IsOrder}
 use Rattle.ca_wired.specs.Walk.{row_of, IsFeeder, WalkState, mark_of, IsVisit, IsWalk, Meets, IsFinish}
 use Rattle.ca_wired.specs.Walk.{IsVisited, KeepsReached, IsVisitOf, no_visit, instance_at, back_from}
 use Rattle.ca_wired.specs.Walk.{IsTurned}
-use Rattle.ca_wired.proofs.OrderLemmas.{place_of, contained_at, chain_then, Returns, turned, loop_of}
+use Rattle.ca_wired.proofs.OrderLemmas.{place_of, contained_at, chain_then, Returns, turned, loop_of, swapped_once}
 use Rattle.ca_wired.proofs.WalkLemmas.{not_open, not_done, mark_set, mark_other, entered}
 
 pub new_everywhere : (count u : ℕ) → mark_of (replicate count New) u ≡ New
@@ -98,7 +98,38 @@ back_more trail place (suc more) =
     ap (λ xs. instance_at trail (suc place + more) ∷ xs) (back_more trail place more)
     ∙ ap (λ k. instance_at trail k ∷ back_from trail place (suc more)) (let e : suc place + more ≡ place + suc more = omega arith in e)
 
+-- what stands at a place of them is an instance of the trail
+at_back : (trail : List Visit) (place count j u : ℕ) → slice_get (back_from trail place count) j ≡ Some u
+    → (j < count) × (instance_at trail (place + (count - suc j)) ≡ u)
+unfolding back_from
+at_back trail place zero j u e = absurd cc
+at_back trail place (suc count) zero u e =
+    let last : instance_at trail (place + count) ≡ u = cc in
+    (omega arith, ap (instance_at trail) (let k : place + (suc count - 1) ≡ place + count = omega arith in k) ∙ last)
+at_back trail place (suc count) (suc j) u e =
+    let rest = at_back trail place count j u e in
+    let lt = rest.0 in
+    (omega (arith, lt), ap (instance_at trail) (let k : place + (suc count - suc (suc j)) ≡ place + (count - suc j) = omega arith in k) ∙ rest.1)
+
 module _ (feeders : List (List ℕ)) (Has : ℕ → Type 0) (walk : WalkState) (is : IsWalk feeders Has walk) where
+  -- the trail has each instance once, and so has what goes back along it
+  pub back_once : (place : ℕ) → IsOnce (back_from walk.trail place (length walk.trail - place))
+  back_once place j k u first second =
+      let one = at_back walk.trail place count j u first in
+      let other = at_back walk.trail place count k u second in
+      let less = one.0 in
+      let less_too = other.0 in
+      let same = is.alone (place + (count - suc j)) (place + (count - suc k)) u
+      (get_or walk.trail (place + (count - suc j)) no_visit).done (get_or walk.trail (place + (count - suc k)) no_visit).done
+      (visit_of (place + (count - suc j)) one.1 (omega (arith, less))) (visit_of (place + (count - suc k)) other.1 (omega (arith, less_too))) in
+      omega (arith, less, less_too, same)
+    where
+      count : ℕ
+      count = length walk.trail - place
+
+      visit_of : (i : ℕ) → instance_at walk.trail i ≡ u → i < length walk.trail → IsVisit walk.trail i u (get_or walk.trail i no_visit).done
+      visit_of i e lt = subst (λ x. IsVisit walk.trail i x (get_or walk.trail i no_visit).done) e (visit_at walk.trail i lt)
+
   feeds_next : (i : ℕ) → suc i < length walk.trail → IsFeeder feeders (instance_at walk.trail (suc i)) (instance_at walk.trail i)
   feeds_next i lt =
       contained_at (row_of feeders (instance_at walk.trail i)) (get_or walk.trail i no_visit).done (instance_at walk.trail (suc i))
@@ -148,16 +179,18 @@ module _ (feeders : List (List ℕ)) (Has : ℕ → Type 0) (walk : WalkState) (
           (chain_then (IsFeeder feeders) (back_from walk.trail (suc place) more) (instance_at walk.trail (place + suc more)) (instance_at walk.trail place) []
           (instance_at walk.trail (place + suc more)) (chain_back more place (omega (arith, e))) (feeds_last (place + suc more) e))
 
--- a list that returns, from its lowest on
-pub loop_turned : (Feeds : ℕ → ℕ → Type 0) (back loop : List ℕ) → Returns Feeds back → IsTurned back loop → IsLoop Feeds loop
-loop_turned Feeds back loop returns is =
-    subst (IsLoop Feeds) (sym is.parts)
-    (loop_of Feeds (drop is.place back ++ take is.place back) (get_or back is.place 0)
-    (turned Feeds (take is.place back) (drop is.place back) (let e = length-drop is.place back in let lt = is.lowest.0 in omega arith)
-    (subst (Returns Feeds) (sym (take-append-drop is.place back)) returns))
-    (ap (λ xs. slice_get (xs ++ take is.place back) 0) (drop-cons back is.place 0 is.lowest.0))
-    (All-append (λ w. get_or back is.place 0 ≤ w) (drop is.place back) (take is.place back)
-    (All-drop (λ w. get_or back is.place 0 ≤ w) is.place back all) (All-take (λ w. get_or back is.place 0 ≤ w) is.place back all)))
+-- a list that returns and has each once, from its lowest on
+pub loop_turned : (Feeds : ℕ → ℕ → Type 0) (back loop : List ℕ) → Returns Feeds back → IsOnce back → IsTurned back loop → IsSimpleLoop Feeds loop
+loop_turned Feeds back loop returns once is =
+    subst (IsSimpleLoop Feeds) (sym is.parts) (
+      loop_of Feeds (drop is.place back ++ take is.place back) (get_or back is.place 0)
+          (turned Feeds (take is.place back) (drop is.place back) (let e = length-drop is.place back in let lt = is.lowest.0 in omega arith)
+          (subst (Returns Feeds) (sym (take-append-drop is.place back)) returns))
+          (ap (λ xs. slice_get (xs ++ take is.place back) 0) (drop-cons back is.place 0 is.lowest.0))
+          (All-append (λ w. get_or back is.place 0 ≤ w) (drop is.place back) (take is.place back)
+          (All-drop (λ w. get_or back is.place 0 ≤ w) is.place back all) (All-take (λ w. get_or back is.place 0 ≤ w) is.place back all)),
+      swapped_once (take is.place back) (drop is.place back) (subst IsOnce (sym (take-append-drop is.place back)) once),
+    )
   where
     all : All (λ w. get_or back is.place 0 ≤ w) back
     all = All-from_get_or (λ w. get_or back is.place 0 ≤ w) back 0 is.lowest.1

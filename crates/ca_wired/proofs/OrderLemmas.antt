@@ -1,11 +1,12 @@
 -- Where there is an order, there is no loop.
-use Rattle.std.proofs.Common.{◌≡◌, ℕ, ◌<◌, ◌≤◌, List, [], ◌∷◌, ◌++◌, length, sym, ◌∙◌, ap, subst, arith}
+use Rattle.std.proofs.Common.{◌≡◌, ℕ, zero, suc, ◌+◌, ◌<◌, ◌≤◌, ◌⊎◌, inl, inr, List, [], ◌∷◌, ◌++◌, length}
+use Rattle.std.proofs.Common.{sym, ◌∙◌, ap, subst, arith}
 use Rattle.std.specs.Prelude.{Some, slice_get}
 use Rattle.std.specs.List.{All, Contains}
 use Rattle.std.proofs.lemmas.List.{append-nil}
 use Rattle.std.proofs.lemmas.List.Elements.{All-tail}
 use Rattle.std.proofs.lemmas.Option.{slice_get_within, slice_get-get_or, get_or_from_slice_get}
-use Rattle.ca_wired.specs.Order.{IsChain, IsLoop, HasNoLoop, IsOrder}
+use Rattle.ca_wired.specs.Order.{IsChain, IsLoop, IsOnce, HasNoLoop, IsOrder}
 
 -- what a list contains stands at a place
 pub place_of : (xs : List ℕ) (x : ℕ) (has : Contains xs x) → slice_get xs has.0 ≡ Some x
@@ -68,3 +69,44 @@ module _ (Feeds : ℕ → ℕ → Type 0) where
   loop_of (w ∷ more) u loop first lowest =
       let same : u ≡ w = cc in
       (loop, subst (λ x. All (λ y. x ≤ y) more) same (All-tail (λ y. u ≤ y) w more lowest))
+
+-- where a member of one list stands in both
+in_left : (xs ys : List ℕ) (k u : ℕ) → slice_get xs k ≡ Some u → slice_get (xs ++ ys) k ≡ Some u
+in_left [] ys k u at = absurd cc
+in_left (x ∷ xs) ys zero u at = at
+in_left (x ∷ xs) ys (suc k) u at = in_left xs ys k u at
+
+in_right : (xs ys : List ℕ) (k u : ℕ) → slice_get ys k ≡ Some u → slice_get (xs ++ ys) (length xs + k) ≡ Some u
+in_right [] ys k u at = subst (λ n. slice_get ys n ≡ Some u) (let e : k ≡ 0 + k = omega arith in e) at
+in_right (x ∷ xs) ys k u at =
+    subst (λ n. slice_get (x ∷ xs ++ ys) n ≡ Some u) (let e : suc (length xs + k) ≡ suc (length xs) + k = omega arith in e) (in_right xs ys k u at)
+
+in_either : (xs ys : List ℕ) (j u : ℕ) → slice_get (xs ++ ys) j ≡ Some u
+    → (slice_get xs j ≡ Some u) ⊎ ((k : ℕ) × (j ≡ length xs + k) × (slice_get ys k ≡ Some u))
+in_either [] ys j u at = inr (j, omega arith, at)
+in_either (x ∷ xs) ys zero u at = inl at
+in_either (x ∷ xs) ys (suc j) u at = elim (in_either xs ys j u at) [
+  | inl left ↦ inl left
+  | inr (k, place, right) ↦ inr (k, omega (arith, place), right)
+]
+
+-- two lists that have each number once have it once in the other order
+pub swapped_once : (xs ys : List ℕ) → IsOnce (xs ++ ys) → IsOnce (ys ++ xs)
+swapped_once xs ys once j k u first second = by (in_either ys xs j u first) (in_either ys xs k u second)
+  where
+    by : (slice_get ys j ≡ Some u) ⊎ ((m : ℕ) × (j ≡ length ys + m) × (slice_get xs m ≡ Some u))
+        → (slice_get ys k ≡ Some u) ⊎ ((n : ℕ) × (k ≡ length ys + n) × (slice_get xs n ≡ Some u)) → j ≡ k
+    by (inl left) (inl left_too) =
+        let same = once (length xs + j) (length xs + k) u (in_right xs ys j u left) (in_right xs ys k u left_too) in
+        omega (arith, same)
+    by (inl left) (inr (n, place, right)) =
+        let same = once (length xs + j) n u (in_right xs ys j u left) (in_left xs ys n u right) in
+        let lt = slice_get_within xs n u right in
+        absurd (omega (arith, same, lt))
+    by (inr (m, place, right)) (inl left) =
+        let same = once m (length xs + k) u (in_left xs ys m u right) (in_right xs ys k u left) in
+        let lt = slice_get_within xs m u right in
+        absurd (omega (arith, same, lt))
+    by (inr (m, place, right)) (inr (n, place_too, right_too)) =
+        let same = once m n u (in_left xs ys m u right) (in_left xs ys n u right_too) in
+        omega (arith, place, place_too, same)

@@ -7,7 +7,7 @@ use Rattle.ca_wired.specs.declared.order.SortFault.TheVariants.{Loop, NoMemory}
 use Rattle.ca_wired.specs.Linked.{Source, Body, Chip, net_count, input_nets, gate_outputs, Drives, Feeds}
 use Rattle.ca_wired.specs.Linked.{IsLibrary}
 use Rattle.ca_wired.specs.Drivers.{IsOnly, sources_at}
-use Rattle.ca_wired.specs.Order.{IsLoop}
+use Rattle.ca_wired.specs.Order.{IsSimpleLoop}
 use Rattle.ca_wired.specs.Walk.{IsFeeder}
 
 -- the table has this one as the first that drives the net, and it is the only one
@@ -52,5 +52,5 @@ HasGates chip count list = (u : ℕ) → Contains list u ↔ ((u < count) × IsL
 
 -- why there is no order
 abbrev pub IsOrderCause : Chip → SortFault → Type 0
-IsOrderCause chip (Loop loop) = IsLoop (Feeds chip) loop
+IsOrderCause chip (Loop loop) = IsSimpleLoop (Feeds chip) loop
 IsOrderCause chip NoMemory = Unit {0}

@@ -20,10 +20,6 @@ pub record KeptTables : Type 0 where
   pub gates : List ℕ
   pub scans : List ℕ
 
--- no number stands twice in the list
-abbrev pub IsOnce : List ℕ → Type 0
-IsOnce list = (j k u : ℕ) → slice_get list j ≡ Some u → slice_get list k ≡ Some u → j ≡ k
-
 -- the list has the place of each number below a count that stands among the first of the order
 pub record ArePlaces (order : List ℕ) (count instances : ℕ) (places : List ℕ) : Type 0 where
   pub room : length places ≡ instances

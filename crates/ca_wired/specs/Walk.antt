@@ -7,7 +7,7 @@ use Rattle.ca_wired.specs.declared.order.Mark.TheVariants.{New, Open, Done}
 use Rattle.ca_wired.specs.declared.order.Visit.{Visit}
 use Rattle.ca_wired.specs.declared.order.SortFault.{SortFault}
 use Rattle.ca_wired.specs.declared.order.SortFault.TheVariants.{Loop, NoMemory}
-use Rattle.ca_wired.specs.Order.{IsLoop}
+use Rattle.ca_wired.specs.Order.{IsSimpleLoop}
 
 -- those that feed u, where the list has them for each
 abbrev pub row_of : List (List ℕ) → ℕ → List ℕ
@@ -152,7 +152,7 @@ pub record IsTurned (numbers turned : List ℕ) : Type 0 where
   pub lowest : IsLowestAt numbers place
   pub parts : turned ≡ drop place numbers ++ take place numbers
 
--- why there is no order: there is a loop; or there was no memory
+-- why there is no order: there is a loop, with each of its members once; or there was no memory
 abbrev pub IsSortCause : List (List ℕ) → SortFault → Type 0
-IsSortCause feeders (Loop loop) = IsLoop (IsFeeder feeders) loop
+IsSortCause feeders (Loop loop) = IsSimpleLoop (IsFeeder feeders) loop
 IsSortCause feeders NoMemory = Unit {0}

@@ -7,7 +7,7 @@ use Rattle.ca_wired.specs.declared.order.SortFault.TheVariants as sort_fault
 use Rattle.ca_wired.specs.declared.wiring.WireFault.{WireFault}
 use Rattle.ca_wired.specs.declared.wiring.WireFault.TheVariants.{Misdriven, Misused, Observed, Loop, NoMemory}
 use Rattle.ca_wired.specs.declared.wiring.Judged.{Judged}
-use Rattle.ca_wired.specs.Order.{IsLoop, IsOrder}
+use Rattle.ca_wired.specs.Order.{IsSimpleLoop, IsOrder}
 use Rattle.ca_wired.specs.Linked.{Source, Chip, net_count, is_scan_path, Drives, Feeds, IsLibrary}
 use Rattle.ca_wired.specs.Drivers.{IsOnly, AreFirst, IsSingle}
 use Rattle.ca_wired.specs.Paths.{is_observed, IsFirstObserved, AreMarks}
@@ -51,7 +51,7 @@ abbrev pub IsWireCause : Chip → WireFault → Type 0
 IsWireCause chip (Misdriven net sources) = IsFirstMisdriven chip net sources
 IsWireCause chip (Misused misused) = AreDriven chip × (misused_of chip ≡ Some misused)
 IsWireCause chip (Observed net) = AreDriven chip × (misused_of chip ≡ None) × IsFirstObserved chip net
-IsWireCause chip (Loop loop) = KeepsNetRules chip × IsLoop (Feeds chip) loop
+IsWireCause chip (Loop loop) = KeepsNetRules chip × IsSimpleLoop (Feeds chip) loop
 IsWireCause chip NoMemory = Unit {0}
 
 -- what was found is of this chip, which keeps the rules: the driver of each net, the nets of the scan path,

@@ -6,7 +6,8 @@ ghost use Rattle.ca_wired.specs.Linked.{net_count, is_scan_path, IsWired};
 ghost use Rattle.ca_wired.specs.Drivers.{AreDrivers, IsDrafted};
 ghost use Rattle.ca_wired.specs.Feeding.{AreSingle};
 ghost use Rattle.ca_wired.specs.Paths.{AreMarks};
-ghost use Rattle.ca_wired.specs.Kept.{IsOnce, ArePlaces};
+ghost use Rattle.ca_wired.specs.Kept.{ArePlaces};
+ghost use Rattle.ca_wired.specs.Order.{IsOnce};
 ghost use Rattle.ca_wired.specs.Wired.{wire_fault, KeepsNetRules, IsWireCause, IsJudged};
 
 use crate::chip::Chip;

@@ -1,9 +1,9 @@
 use Rattle.std.proofs.Common.{◌≡◌, sym, ◌∙◌, subst}
 use Rattle.std.specs.List.{Contains}
 use Rattle.ca_wired.specs.Walk.{AreVisited, IsFeeder}
-use Rattle.ca_wired.specs.Order.{IsOrder}
+use Rattle.ca_wired.specs.Order.{IsOnce, IsOrder}
 use Rattle.ca_wired.proofs.OrderLemmas.{Returns}
-use Rattle.ca_wired.proofs.LoopLemmas.{some_back, ordered, returns_back, loop_turned}
+use Rattle.ca_wired.proofs.LoopLemmas.{some_back, ordered, back_once, returns_back, loop_turned}
 use Rattle.ca_wired.proofs.order.sort.Goals as goal
 
 pub turned-requires : goal.turned-requires
@@ -26,4 +26,5 @@ returns-in_ok-turned-in-Some-clause-cause c =
     loop_turned (IsFeeder c.args.feeders.now) c.deref.result.now c.in_ok-turned-in-Some.field-0
     (subst (Returns (IsFeeder c.args.feeders.now)) (sym back)
     (returns_back c.args.feeders.now (Contains c.args.roots.now) c.visit.new.self both.walk c.in-Some.feeder c.place_of-place.result met c.place_of-place.ensures))
+    (subst IsOnce (sym back) (back_once c.args.feeders.now (Contains c.args.roots.now) c.visit.new.self both.walk c.place_of-place.result))
     (c.in_ok-turned-in-Some.ensures {u = tt})
