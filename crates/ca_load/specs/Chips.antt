@@ -5,6 +5,7 @@ use Rattle.ca_cell.specs.Library.{raw_of}
 use Rattle.ca_verilog.specs.declared.raw.RawNetlist.{RawNetlist}
 use Rattle.ca_wired.specs.declared.instances.InstanceId.{InstanceId}
 use Rattle.ca_wired.specs.Linked.{Chip}
+use Rattle.ca_wired.specs.Order.{IsOnce}
 use Rattle.ca_chip.specs.declared.fault.ChipFault.{ChipFault}
 use Rattle.ca_chip.specs.declared.fault.ChipFault.TheVariants as rule
 use Rattle.ca_chip.specs.Wiring.{wiring_of}
@@ -29,7 +30,8 @@ pub record IsChipOf (inputs : Inputs) (chip : Chip) : Type 0 where
 abbrev pub BreakFirst : Inputs → ChipFault → Type 0
 BreakFirst inputs broken = IsFirstBroken inputs.netlist inputs.library inputs.rows broken
 
--- a rule of linking that is told as it is: not that of an instance's cell, no limit, and not want of memory
+-- a rule of linking that is told as it is: not that of an instance's cell, no limit, and not want of memory;
+-- of a loop, with each of its instances once
 abbrev pub IsPlainRule : ChipFault → Type 0
 IsPlainRule (rule.UnknownCell u) = ⊤
 IsPlainRule (rule.Cell u broken) = ⊥
@@ -40,7 +42,7 @@ IsPlainRule (rule.Undriven net) = ⊤
 IsPlainRule (rule.ControlPin u pin) = ⊤
 IsPlainRule (rule.ControlObserved net) = ⊤
 IsPlainRule (rule.QnUsed u) = ⊤
-IsPlainRule (rule.Loop instances) = ⊤
+IsPlainRule (rule.Loop instances) = IsOnce instances
 IsPlainRule (rule.TooManyInstances count) = ⊥
 IsPlainRule (rule.TooManyInputs count) = ⊥
 IsPlainRule (rule.TooManyOutputs count) = ⊥
