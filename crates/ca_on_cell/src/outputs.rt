@@ -31,6 +31,10 @@ pub fn values_of<N: CellNet>(
     let pins = cell.raw().output_names(alloc)?;
     let mut work = Work::reserve(alloc, net.node_count(), net.device_count())?;
     let waves = respond(net, pairs(&first, &last).as_slice(), &mut work);
+    // What isn't needed any more is let go here, and not at each want of memory below.
+    drop(work);
+    drop(first);
+    drop(last);
     let mut values = PinValues::new(alloc);
     for place in 0..cell.outputs() {
         let wave = waves[place];
