@@ -10,7 +10,9 @@ use Rattle.std.proofs.lemmas.List.Elements.{All-map, All-append, All-replicate}
 use Rattle.std.proofs.lemmas.Option.{slice_get_cases, slice_get_within, get_or_from_slice_get}
 use Rattle.ca_net.specs.declared.scale.TheConstants.{INNER_NODE, OUTPUT_NET}
 use Rattle.ca_net.specs.declared.node.NodeKind.TheVariants as node
-use Rattle.ca_net.specs.Circuit.{IsWellFormed, HasSize, HasStrength, NamesWithin}
+use Rattle.ca_net.specs.declared.device.DeviceKind.{DeviceKind}
+use Rattle.ca_net.specs.declared.device.DeviceKind.TheVariants as kind
+use Rattle.ca_net.specs.Circuit.{IsWellFormed, HasSize, HasStrength, IsStrength, NamesWithin}
 use Rattle.ca_cell.specs.declared.raw.Role.{Role}
 use Rattle.ca_cell.specs.declared.raw.Role.TheVariants.{Input, Output, Power, Ground}
 use Rattle.ca_cell.specs.declared.raw.RawPin.{RawPin}
@@ -20,6 +22,7 @@ use Rattle.ca_cell.specs.declared.rule.CellRule.TheVariants.{TooManyNodes, NoOut
 use Rattle.ca_cell.specs.declared.rule.TheConstants.{MOST_NODES}
 use Rattle.ca_cell.specs.Raw.{is_input, is_output, role_count, inner_count, pin_node, node_at, node_of}
 use Rattle.ca_cell.specs.Raw.{nodes_of, device_of, circuit_of}
+use Rattle.ca_cell.specs.Transistors.{IsTransistor}
 use Rattle.ca_cell.specs.Rules.{IsRaw, node_count, KeepsRules, KeepsAllBut}
 
 -- fewer pins with a role stand before a pin with it than there are in all
@@ -85,6 +88,14 @@ sizes_of raw =
     (All-append HasSize outputs inner (All-replicate HasSize (role_count is_output raw.pins) (node.Storage OUTPUT_NET) (inr refl))
     (All-replicate HasSize (inner_count raw) (node.Storage INNER_NODE) (inl refl)))
 
+-- a transistor's strength is one of the scale
+transistor_strength : (k : DeviceKind) (strength : ℕ) → IsTransistor k strength → IsStrength strength
+transistor_strength kind.N strength (inl weak) = inl weak
+transistor_strength kind.N strength (inr strong) = inr (inl strong)
+transistor_strength kind.P strength (inl weak) = inl weak
+transistor_strength kind.P strength (inr strong) = inr (inl strong)
+transistor_strength kind.D strength is = absurd is
+
 -- so is its network well formed
 pub well_formed_all_but : (raw : RawCell) → IsRaw raw → KeepsAllBut NoOutput raw → IsWellFormed (circuit_of raw)
 well_formed_all_but raw is_raw keeps = record {
@@ -95,7 +106,7 @@ well_formed_all_but raw is_raw keeps = record {
       let places = is_raw.places i d within in
       (node_of-within raw _ is_raw places.gate, node_of-within raw _ is_raw places.drain, node_of-within raw _ is_raw places.source)));
   sizes = sizes_of raw;
-  strengths = All-map HasStrength (device_of raw.pins) raw.devices (λ i d within. is_raw.strengths i d within);
+  strengths = All-map HasStrength (device_of raw.pins) raw.devices (λ i d within. transistor_strength _ _ (is_raw.transistors i d within));
 }
 
 pub well_formed : (raw : RawCell) → IsRaw raw → KeepsRules raw → IsWellFormed (circuit_of raw)

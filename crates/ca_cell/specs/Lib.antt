@@ -1,4 +1,5 @@
 pub mod Raw
+pub mod Transistors
 pub mod Rules
 pub mod Library
 pub mod Entries

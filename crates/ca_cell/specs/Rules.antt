@@ -3,7 +3,6 @@ use Rattle.std.specs.Prelude.{ℕ, ◌+◌, ◌≡◌, ◌<◌, ◌≤◌, ◌^�
 use Rattle.std.specs.Prelude.{None, option_and_then}
 use Rattle.std.specs.List.{All}
 use Rattle.ca_base.specs.First.{IsFirst}
-use Rattle.ca_net.specs.Circuit.{IsStrength}
 use Rattle.ca_cell.specs.declared.raw.Role.{Role}
 use Rattle.ca_cell.specs.declared.raw.Role.TheVariants.{Input, Output, Power, Ground}
 use Rattle.ca_cell.specs.declared.raw.RawPin.{RawPin}
@@ -17,6 +16,7 @@ use Rattle.ca_cell.specs.declared.rule.CellFault.{CellFault}
 use Rattle.ca_cell.specs.declared.rule.CellFault.TheVariants.{Rule, NoMemory}
 use Rattle.ca_cell.specs.declared.rule.TheConstants.{MOST_DEVICES, MOST_NODES, MOST_INPUTS, MOST_OUTPUTS}
 use Rattle.ca_cell.specs.Raw.{is_input, is_output, is_power, is_ground, role_count, inner_count, node_of}
+use Rattle.ca_cell.specs.Transistors.{IsTransistor}
 
 -- each terminal of the device is a place among the first `count` nets
 pub record PlacesWithin (count : ℕ) (device : RawDevice) : Type 0 where
@@ -30,7 +30,7 @@ pub record IsRaw (raw : RawCell) : Type 0 where
   pub few_devices : length raw.devices < 2 ^ 32
   pub pins : length raw.pins ≤ length raw.nets
   pub places : All (PlacesWithin (length raw.nets)) raw.devices
-  pub strengths : All (λ device. IsStrength device.strength) raw.devices
+  pub transistors : All (λ device. IsTransistor device.kind device.strength) raw.devices
 
 -- power, ground, the input pins, the output pins and the inner nets
 abbrev pub node_count : RawCell → ℕ

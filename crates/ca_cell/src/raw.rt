@@ -4,7 +4,7 @@ ghost use Rattle.std.specs.Prelude.{◌≡◌, ◌<◌, ◌↔◌, length, IsTru
 
 use ca_base::{List, NoMemory};
 use ca_lex::{Length, Names, Text};
-use ca_net::{BRIDGE, DeviceKind, STRONG, WEAK};
+use ca_net::{DeviceKind, STRONG, WEAK};
 use std::alloc::Global;
 
 /// What a pin is for.
@@ -69,17 +69,27 @@ pub struct RawDevice {
 }
 
 impl RawDevice {
-    ghost use Rattle.ca_net.specs.Circuit.{IsStrength};
+    ghost use Rattle.ca_cell.specs.Transistors.{IsTransistor};
     ghost use Rattle.ca_cell.specs.Rules.{PlacesWithin};
 
-    // Whether each terminal is a place among the first `nets` nets, and the strength is one of the scale.
+    // Whether it is of a kind that has a gate, and is weak or strong.
+    fn is_transistor(&self) -> bool
+        ensures { IsTrue result ↔ IsTransistor self.now.kind self.now.strength }
+    {
+        match self.kind {
+            DeviceKind::N | DeviceKind::P => matches!(self.strength, WEAK | STRONG),
+            DeviceKind::D => false,
+        }
+    }
+
+    // Whether each terminal is a place among the first `nets` nets, and the device is a transistor.
     fn is_placed(&self, nets: usize) -> bool
-        ensures { IsTrue result ↔ (PlacesWithin nets self.now × IsStrength self.now.strength) }
+        ensures { IsTrue result ↔ (PlacesWithin nets self.now × IsTransistor self.now.kind self.now.strength) }
     {
         (self.drain as usize) < nets
             && (self.gate as usize) < nets
             && (self.source as usize) < nets
-            && matches!(self.strength, WEAK | STRONG | BRIDGE)
+            && self.is_transistor()
     }
 }
 
@@ -136,8 +146,8 @@ impl RawCell {
     ghost use Rattle.ca_cell.specs.Raw.{output_names};
     ghost use Rattle.ca_cell.specs.Rules.{IsRaw};
 
-    /// Whether each transistor's terminals are places in the list of nets and its strength is one of the
-    /// scale, and there are no more pins than nets.
+    /// Whether each device is a transistor, weak or strong, whose terminals are places in the list of nets, and
+    /// there are no more pins than nets.
     pub fn is_raw(&self) -> bool
         ensures { IsTrue result ↔ IsRaw self.now }
     {

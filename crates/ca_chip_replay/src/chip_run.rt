@@ -7,7 +7,6 @@ ghost use Rattle.ca_flat.specs.Flat.{flat};
 ghost use Rattle.ca_flat.specs.Chip.{IsChipDefect};
 ghost use Rattle.ca_flat.specs.Pair.{bit_count, first_vector, last_vector};
 ghost use Rattle.ca_core.specs.Core.{core_of};
-ghost use Rattle.ca_flatten.specs.Transistors.{HaveTransistors};
 ghost use Rattle.ca_order.specs.Allowed.{meaning, IsAllowed, ReadsFor};
 ghost use Rattle.ca_chip_replay.specs.ChipRun.{AreReplayed};
 ghost use Rattle.ca_chip_replay.specs.Kept.{AreOutputValues};
@@ -80,7 +79,6 @@ impl<'a, B: Bits> ChipRun<'a, B> {
         defect: Option<ChipDefect>,
         pair: &'a B,
     ) -> Result<Self, NoMemory>
-        requires transistors { HaveTransistors tables.now.chip.cells }
         requires defect { IsChipDefect (core_of tables.now.chip) defect }
         requires pair { length (B.bits pair.now) ≡ bit_count (core_of tables.now.chip) }
         ensures { IfOk result (λ run. run

@@ -1,11 +1,9 @@
--- Each device of the flat network of a library of transistors has a line.
+-- Each device of the flat network of a wired chip has a line.
 use Rattle.std.proofs.Common.{ℕ, zero, suc, ◌+◌, ◌<◌, ◌≤◌, List, [], ◌∷◌, map, length, Bool, true, false}
-use Rattle.std.proofs.Common.{cond, inl, inr, refl, sym, subst, arith, ◌==◌}
+use Rattle.std.proofs.Common.{cond, refl, sym, subst, arith, ◌==◌}
 use Rattle.std.specs.Prelude.{Option, Some, None, option_to_list}
 use Rattle.std.specs.List.{All}
-use Rattle.std.proofs.lemmas.List.{get_or_past}
-use Rattle.std.proofs.lemmas.List.Elements.{All-nil, All-cons, All-append, All-map, All-weaker, All-get_or}
-use Rattle.std.proofs.lemmas.Bool.{cases_lt}
+use Rattle.std.proofs.lemmas.List.Elements.{All-nil, All-cons, All-append, All-map, All-weaker}
 use Rattle.ca_net.specs.declared.device.DeviceKind.{DeviceKind}
 use Rattle.ca_net.specs.declared.device.DeviceKind.TheVariants as kind
 use Rattle.ca_net.specs.declared.device.Device.{Device}
@@ -14,6 +12,7 @@ use Rattle.ca_parts.specs.Part.{moved}
 use Rattle.ca_cell.specs.declared.raw.RawCell.{RawCell}
 use Rattle.ca_cell.specs.declared.raw.RawDevice.{RawDevice}
 use Rattle.ca_cell.specs.Raw.{device_of}
+use Rattle.ca_cell.specs.Transistors.{IsTransistor}
 use Rattle.ca_defect.specs.declared.defect.Defect.{Defect}
 use Rattle.ca_defect.specs.declared.defect.Defect.TheVariants.{OpenDrain, OpenSource, OpenGate, OpenPin}
 use Rattle.ca_defect.specs.declared.defect.Defect.TheVariants.{Short}
@@ -23,10 +22,10 @@ use Rattle.ca_flat.specs.Chip.{Instance, cell_at, circuit_at, count_of}
 use Rattle.ca_flat.specs.Flat.{place, old_devices, defect_at, devices_of, devices_before, bridge_of, flat}
 use Rattle.ca_wired.specs.declared.parts.Body.{Body}
 use Rattle.ca_wired.specs.declared.parts.Body.TheVariants.{Gate, Scan}
-use Rattle.ca_wired.specs.Linked.{Chip, no_cell, cell_of}
+use Rattle.ca_wired.specs.Linked.{Chip, IsWired, IsBody}
 use Rattle.ca_core.specs.Core.{core_instance, core_of, empty_cell}
 use Rattle.ca_core.proofs.CorePartLemmas.{core_at, part_at}
-use Rattle.ca_flatten.specs.Transistors.{IsTransistor, HaveTransistors}
+use Rattle.ca_core.proofs.CoreIsChip.{body_of}
 
 -- the device is a transistor
 abbrev IsSwitch : Device → Type 0
@@ -70,22 +69,17 @@ empty_switches : (qn : Option ℕ) → HasSwitches (empty_cell qn)
 empty_switches None = All-nil (λ (device : RawDevice). IsTransistor device.kind device.strength)
 empty_switches (Some net) = All-nil (λ (device : RawDevice). IsTransistor device.kind device.strength)
 
-module _ (chip : Chip) (transistors : HaveTransistors chip.cells) where
-  cell_switches : (cell : ℕ) → HasSwitches (cell_of chip.cells cell)
-  cell_switches cell = elim (cases_lt cell (length chip.cells)) [
-    | inl within ↦ All-get_or HasSwitches chip.cells cell no_cell within transistors
-    | inr past ↦ subst HasSwitches (sym (get_or_past chip.cells cell no_cell past)) (All-nil (λ (device : RawDevice). IsTransistor device.kind device.strength))
-  ]
-
-  body_switches : (body : Body) → HasSwitches (core_instance chip body).cell
-  body_switches (Gate cell inputs outputs) = cell_switches cell
-  body_switches (Scan nets) = empty_switches nets.qn
+module _ (chip : Chip) (wired : IsWired chip) where
+  body_switches : (body : Body) → IsBody chip.cells body → HasSwitches (core_instance chip body).cell
+  body_switches (Gate cell inputs outputs) is = is.is_raw.transistors
+  body_switches (Scan nets) is = empty_switches nets.qn
 
   instance_switches : (u : ℕ) → u < count_of (core_of chip) → All IsSwitch (circuit_at (core_of chip) u).devices
   instance_switches u lt =
       let has = part_at chip u lt in
+      let body = body_of chip wired u has.part has.at in
       let raw : HasSwitches (cell_at (core_of chip) u) =
-      subst (λ (i : Instance). HasSwitches i.cell) (sym (core_at chip u has.part has.at)) (body_switches has.part.body) in
+      subst (λ (i : Instance). HasSwitches i.cell) (sym (core_at chip u has.part has.at)) (body_switches has.part.body body) in
       All-map IsSwitch (device_of (cell_at (core_of chip) u).pins) (cell_at (core_of chip) u).devices raw
 
   instance_lines : (given : Option ChipDefect) (u : ℕ) → u < count_of (core_of chip) → All HasLine (devices_of (core_of chip) given u)

@@ -18,7 +18,6 @@ use Rattle.ca_wired.specs.Linked.{Chip, IsWired}
 use Rattle.ca_core.specs.Core.{core_of, rank_of}
 use Rattle.ca_core.proofs.CoreIsChip.{core_is}
 use Rattle.ca_flatten.specs.Few.{IsFew}
-use Rattle.ca_flatten.specs.Transistors.{HaveTransistors}
 use Rattle.ca_flatten.proofs.LineLemmas.{flat_lines}
 
 -- no device of a network is the first that names a node past the list
@@ -42,7 +41,7 @@ line_gate d line = gate_is_drain d.kind d line
 pub formed : (chip : Chip) (given : Option ChipDefect) → IsWired chip → IsChipDefect (core_of chip) given → IsFew (core_of chip) given → IsWellFormed (flat (core_of chip) given)
 formed chip given wired listed few = flat_well_formed (core_of chip) (rank_of chip) given (core_is chip wired) listed few.nodes few.devices
 
-module _ (chip : Chip) (given : Option ChipDefect) (devices : List Device) (same : devices ≡ (flat (core_of chip) given).devices) (transistors : HaveTransistors chip.cells) where
+module _ (chip : Chip) (given : Option ChipDefect) (devices : List Device) (same : devices ≡ (flat (core_of chip) given).devices) (wired : IsWired chip) where
   pub gates_are_drains : All GateIsDrain devices
   gates_are_drains = All-same GateIsDrain devices (flat (core_of chip) given).devices same
-      (All-weaker HasLine GateIsDrain line_gate (flat (core_of chip) given).devices (flat_lines chip transistors given))
+      (All-weaker HasLine GateIsDrain line_gate (flat (core_of chip) given).devices (flat_lines chip wired given))

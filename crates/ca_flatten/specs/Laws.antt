@@ -9,7 +9,6 @@ use Rattle.ca_flat.specs.Flat.{flat}
 use Rattle.ca_wired.specs.Linked.{Chip, IsWired}
 use Rattle.ca_core.specs.Core.{core_of}
 use Rattle.ca_flatten.specs.Few.{IsFew}
-use Rattle.ca_flatten.specs.Transistors.{HaveTransistors}
 
 -- the flat network of a wired chip, good or with a defect, is one where it isn't too large
 abbrev pub FlatIsWellFormed : Type 0
@@ -17,8 +16,7 @@ FlatIsWellFormed =
     (chip : Chip) (given : Option ChipDefect) → IsWired chip → IsChipDefect (core_of chip) given
     → IsFew (core_of chip) given → IsWellFormed (flat (core_of chip) given)
 
--- over a library of transistors each device of it has a line in the text of a network
+-- each device of it has a line in the text of a network
 abbrev pub FlatHasLines : Type 0
 FlatHasLines =
-    (chip : Chip) (given : Option ChipDefect) → HaveTransistors chip.cells
-    → All HasLine (flat (core_of chip) given).devices
+    (chip : Chip) (given : Option ChipDefect) → IsWired chip → All HasLine (flat (core_of chip) given).devices

@@ -1,4 +1,3 @@
-pub mod Transistors
 pub mod Few
 pub mod Laws
 pub mod Kept

@@ -7,7 +7,7 @@ pub fn flat_is_well_formed()
     ensures { FlatIsWellFormed }
 {}
 
-/// Over a library of transistors each device of the flat network has a line in its text.
+/// Each device of the flat network has a line in its text.
 pub fn flat_has_lines()
     ensures { FlatHasLines }
 {}

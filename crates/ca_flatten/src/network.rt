@@ -6,7 +6,6 @@ ghost use Rattle.ca_flat.specs.Chip.{IsChipDefect};
 ghost use Rattle.ca_flat.specs.Flat.{flat};
 ghost use Rattle.ca_core.specs.Core.{core_of};
 ghost use Rattle.ca_flatten.specs.Few.{IsFew};
-ghost use Rattle.ca_flatten.specs.Transistors.{HaveTransistors};
 
 use crate::devices::devices_of;
 use crate::gates::gates_of;
@@ -26,7 +25,6 @@ fn network_of(
     nodes: NodeList,
     devices: DeviceList,
 ) -> Result<FlatNet, NoMemory>
-    requires transistors { HaveTransistors chip.now.cells }
     requires defect { IsChipDefect (core_of chip.now) defect }
     requires few { IsFew (core_of chip.now) defect }
     requires nodes { nodes ≡ (flat (core_of chip.now) defect).nodes }
@@ -58,7 +56,6 @@ pub fn judge_size(alloc: Global, chip: &Chip) -> Result<(), NoMemory>
 /// path in net order, the inner nodes by instance and the node that the defect adds; the devices by instance,
 /// and the bridge of a short. Want of memory is also told of a network that may have 2^32 nodes or devices.
 pub fn flatten(alloc: Global, chip: &Chip, defect: Option<ChipDefect>) -> Result<FlatNet, NoMemory>
-    requires transistors { HaveTransistors chip.now.cells }
     requires defect { IsChipDefect (core_of chip.now) defect }
     ensures { IfOk result (λ net. net ≡ flat (core_of chip.now) defect) }
 {

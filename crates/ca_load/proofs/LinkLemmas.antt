@@ -3,7 +3,6 @@ use Rattle.std.proofs.Common.{ℕ, ◌≡◌, ◌⊎◌, inl, inr, refl, sym, su
 use Rattle.std.proofs.Common.{IsErrAnd, IfErr}
 use Rattle.ca_store.specs.Store.{Files}
 use Rattle.ca_cell.specs.Library.{raw_of}
-use Rattle.ca_flatten.specs.Transistors.{HaveTransistors}
 use Rattle.ca_wired.specs.Linked.{Chip}
 use Rattle.ca_fault.specs.declared.fault.Fault.{Fault}
 use Rattle.ca_fault.specs.declared.fault.Fault.TheVariants.{NoMemory}
@@ -22,11 +21,6 @@ pub at_trace : (inputs : Inputs) (chip : Chip) (fault : Fault) → IsChipOf inpu
     → IsLinkedStage inputs fault
 at_trace inputs chip fault of (inl memory) = inl memory
 at_trace inputs chip fault of (inr (is, cause)) = inr (is, inr (record { chip = chip; is = of; cause = cause }))
-
--- the cells of a chip are those of its library
-pub chip_has_transistors : (inputs : Inputs) (chip : Chip) → IsChipOf inputs chip
-    → HaveTransistors (map (λ named. raw_of named.entry) inputs.library) → HaveTransistors chip.cells
-chip_has_transistors inputs chip of held = rw of.cells held
 
 -- what holds of the inputs that were read holds of what the files read as
 pub of_read : (files : Option Files) (names : InputFiles) (inputs : Inputs) (Holds : Inputs → Type 0)

@@ -1,7 +1,6 @@
 //! The library in the file of a cell netlist.
 ghost use Rattle.std.specs.Prelude.{◌≡◌, Some, map, IfErr, IfOk, OnOk};
 ghost use Rattle.ca_cell.specs.Library.{raw_of};
-ghost use Rattle.ca_flatten.specs.Transistors.{HaveTransistors};
 ghost use Rattle.ca_store.specs.Store.{Nothing};
 ghost use Rattle.ca_load.specs.Files.{OfFile, TellsStoreFault};
 ghost use Rattle.ca_load.specs.Texts.{IsLibraryOf};
@@ -14,7 +13,6 @@ use ca_fault::{Fault, LimitKind};
 use ca_lex::Text;
 use ca_spice::{SpiceFault, read_library};
 use ca_store::Store;
-use ca_transistors::read_cells_are_of_transistors;
 use std::alloc::Global;
 
 /// The greatest number of bytes of a cell netlist: 16 MiB.
@@ -32,8 +30,6 @@ pub fn open_library<S: Store>(
 
     ensures ok { IfOk result (λ library.
         OfFile (S.files store.old) name.now MAX_CELLS (IsLibraryOf library)) }
-    ensures transistors { IfOk result (λ library.
-        HaveTransistors (map (λ named. raw_of named.entry) library)) }
     ensures cause { IfErr result (IsLibraryCause name.now (S.files store.old)
         (S.faults store.old) (S.faults store.new)) }
     ensures quiet { OnOk result (S.faults store.new ≡ S.faults store.old) }
@@ -49,11 +45,8 @@ pub fn open_library<S: Store>(
 // The library that the bytes read as.
 fn library_in(alloc: Global, bytes: &[u8]) -> Result<Library, Fault>
     ensures reads { IfOk result (λ library. IsLibraryOf library bytes.now) }
-    ensures transistors { IfOk result (λ library.
-        HaveTransistors (map (λ named. raw_of named.entry) library)) }
     ensures cause { IfErr result (IsCellsStage bytes.now) }
 {
-    read_cells_are_of_transistors();
     match read_library(alloc, bytes) {
         Ok(library) => Ok(library),
         Err(SpiceFault::At { line, kind }) => Err(Fault::Cells { line, kind }),

@@ -1,7 +1,6 @@
 //! The chip of the files that a command names.
 ghost use Rattle.std.specs.Prelude.{◌≡◌, Some, IfErr, IfOk, OnOk};
 ghost use Rattle.ca_store.specs.Store.{Nothing};
-ghost use Rattle.ca_flatten.specs.Transistors.{HaveTransistors};
 ghost use Rattle.ca_scan.specs.ChainFault.{AreAllChains};
 ghost use Rattle.ca_load.specs.Files.{TellsStoreFault};
 ghost use Rattle.ca_load.specs.Texts.{names_of, OfInputs};
@@ -34,14 +33,13 @@ pub struct Loaded {
 /// The chip that the files give. The library is read and judged whole, then the netlist, then the table of
 /// scan cells; only then is the netlist linked, and last its chains are traced. Names that faults of files
 /// tell are in memory before the first file is opened.
-#[tactic(auto, using(crate::proofs::LinkLemmas::of_read, crate::proofs::LinkLemmas::at_inputs, crate::proofs::LinkLemmas::chip_has_transistors))]
+#[tactic(auto, using(crate::proofs::LinkLemmas::of_read, crate::proofs::LinkLemmas::at_inputs))]
 pub fn load<S: Store>(alloc: Global, names: &FileNames<'_>, store: &mut S) -> Result<Loaded, Fault>
     requires closed { S.opened store.old ≡ Nothing }
 
     ensures ok { IfOk result (λ loaded. OfInputs (S.files store.old) (names_of names.now)
         (λ inputs. IsChipOf inputs loaded.chip)) }
     ensures chains { IfOk result (λ loaded. AreAllChains loaded.chip loaded.chains) }
-    ensures transistors { IfOk result (λ loaded. HaveTransistors loaded.chip.cells) }
     ensures cause { IfErr result (IsLoadCause (names_of names.now) (S.files store.old)
         (S.faults store.old) (S.faults store.new)) }
     ensures quiet { OnOk result (S.faults store.new ≡ S.faults store.old) }

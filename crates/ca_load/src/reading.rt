@@ -4,7 +4,6 @@ ghost use Rattle.std.specs.List.{IsDistinct};
 ghost use Rattle.std.specs.Str.{bytes_eq};
 ghost use Rattle.ca_store.specs.Store.{Nothing};
 ghost use Rattle.ca_cell.specs.Library.{raw_of};
-ghost use Rattle.ca_flatten.specs.Transistors.{HaveTransistors};
 ghost use Rattle.ca_verilog.specs.IsNetlist.{IsNetlist};
 ghost use Rattle.ca_load.specs.Files.{TellsStoreFault};
 ghost use Rattle.ca_load.specs.Texts.{names_of, AreRead};
@@ -66,8 +65,6 @@ pub(crate) fn read_all<S: Store>(
     requires closed { S.opened store.old ≡ Nothing }
 
     ensures ok { IfOk result (λ read. AreRead (S.files store.old) (names_of names.now) (inputs_of read)) }
-    ensures transistors { IfOk result (λ read.
-        HaveTransistors (map (λ named. raw_of named.entry) read.library)) }
     ensures rules { IfOk result (λ read. IsNetlist read.netlist) }
     ensures distinct { IfOk result (λ read. IsDistinct bytes_eq (map (λ row. row.cell) read.scan)) }
     ensures cause { IfErr result (IsInputCause (names_of names.now) (S.files store.old)

@@ -1,5 +1,5 @@
 //! Different names in the order in which they were added.
-ghost use Rattle.std.specs.Prelude.{◌≡◌, ◌<◌, ◌^◌, [], length, map, IfOk, OnOk};
+ghost use Rattle.std.specs.Prelude.{◌≡◌, ◌<◌, ◌^◌, [], length, map, IfOk, OnOk, OnErr};
 ghost use Rattle.std.specs.List.{IsDistinct};
 ghost use Rattle.std.specs.Str.{bytes_eq};
 ghost use Rattle.ca_names.specs.Names.{has_name, place_of, with_name, place_with};
@@ -72,13 +72,14 @@ impl NameSet {
         self.names.as_slice()
     }
 
-    /// Adds a name, if it isn't there, and answers its place. A set of 2^32 - 1 names answers as though there
-    /// were no memory for another.
+    /// Adds a name, if it isn't there, and answers its place. A set of 2^32 - 1 names answers as though it were
+    /// out of memory. The set is as it was after an error.
     pub fn add(&mut self, alloc: Global, name: &[u8]) -> Result<u32, NoMemory>
         ensures names { OnOk result (self.new ≡ with_name name.now self.old) }
         ensures place { IfOk result (λ place. place ≡ place_with name.now self.old) }
         ensures within { IfOk result (λ place. place < length self.new) }
         ensures few { OnOk result (length self.new < 2 ^ 32) }
+        ensures err { OnErr result (self.new ≡ self.old) }
     {
         if self.names.len() == MOST_NAMES {
             return Err(NoMemory);

@@ -8,9 +8,8 @@ use Rattle.ca_flat_text.specs.FlatText.{HasLine}
 use Rattle.ca_flat.specs.declared.chip_defect.ChipDefect.{ChipDefect}
 use Rattle.ca_flat.specs.Chip.{IsChipDefect}
 use Rattle.ca_flat.specs.Flat.{flat}
-use Rattle.ca_wired.specs.Linked.{Chip}
+use Rattle.ca_wired.specs.Linked.{Chip, IsWired}
 use Rattle.ca_core.specs.Core.{core_of}
-use Rattle.ca_flatten.specs.Transistors.{HaveTransistors}
 use Rattle.ca_flatten.specs.Laws.{FlatHasLines}
 use Rattle.ca_fault.specs.declared.fault.Fault.{Fault}
 use Rattle.ca_fault.specs.declared.fault.Fault.TheVariants.{BadVector, NoInstance, NoDefect, TooManyPairs}
@@ -113,8 +112,8 @@ is_flat chip instance defect given net asked is = record { given = given; asked 
 
 -- its devices have lines
 pub has_lines : (chip : Chip) (given : Option ChipDefect) (net : Circuit) → FlatHasLines
-    → HaveTransistors chip.cells → net ≡ flat (core_of chip) given → All HasLine net.devices
-has_lines chip given net law transistors is = rw is (law chip given transistors)
+    → IsWired chip → net ≡ flat (core_of chip) given → All HasLine net.devices
+has_lines chip given net law wired is = rw is (law chip given wired)
 
 -- the values that the words ask for
 pub are_ends : (chip : Chip) (instance defect first last : List ℕ) (given : Option ChipDefect)

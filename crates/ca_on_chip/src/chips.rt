@@ -2,7 +2,6 @@
 ghost use Rattle.std.specs.Prelude.{◌≡◌, Some, IfErr, IfOk, OnOk};
 ghost use Rattle.std.specs.List.{All};
 ghost use Rattle.ca_flat_text.specs.FlatText.{HasLine};
-ghost use Rattle.ca_flatten.specs.Transistors.{HaveTransistors};
 ghost use Rattle.ca_store.specs.Store.{Nothing};
 ghost use Rattle.ca_load.specs.Files.{TellsStoreFault};
 ghost use Rattle.ca_load.specs.Texts.{names_of};
@@ -67,7 +66,6 @@ pub fn find_flat<S: Store>(
 // The flat network of a chip, with the defect that the words name, if they name one.
 #[tactic(auto, using(crate::proofs::AskedLemmas::is_chip_defect, crate::proofs::AskedLemmas::is_flat, crate::proofs::AskedLemmas::has_lines))]
 fn flat_of(alloc: Global, chip: &Chip, instance: &str, defect: &str) -> Result<FlatNet, Fault>
-    requires transistors { HaveTransistors chip.now.cells }
     requires both { AreBothOrNeither instance.now defect.now }
 
     ensures flat { IfOk result (IsFlatOf instance.now defect.now chip.now) }
@@ -75,6 +73,7 @@ fn flat_of(alloc: Global, chip: &Chip, instance: &str, defect: &str) -> Result<F
     ensures cause { IfErr result (IsDefectStage chip.now instance.now defect.now) }
 {
     flat_has_lines();
+    chip.wired();
     let given = find_defect(alloc, chip, instance, defect)?;
     Ok(flatten(alloc, chip, given)?)
 }

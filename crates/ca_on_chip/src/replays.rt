@@ -1,7 +1,6 @@
 //! What `replay` asks for.
 ghost use Rattle.std.specs.Prelude.{◌≡◌, Some, IfErr, IfOk, OnOk};
 ghost use Rattle.ca_store.specs.Store.{Nothing};
-ghost use Rattle.ca_flatten.specs.Transistors.{HaveTransistors};
 ghost use Rattle.ca_load.specs.Files.{OfFile, TellsStoreFault};
 ghost use Rattle.ca_load.specs.Texts.{names_of};
 ghost use Rattle.ca_asked.specs.Asked.{AreBothOrNeither, IsAskedDefect, IsLibraryDefect, FitsInputs};
@@ -74,7 +73,6 @@ fn run_ends<S: Store>(
     store: &mut S,
 ) -> Result<Vec<Trit>, Fault>
     requires closed { S.opened store.old ≡ Nothing }
-    requires transistors { HaveTransistors chip.now.cells }
     requires both { AreBothOrNeither request.now.of.of.instance.now request.now.of.of.defect.now }
     requires typed { typed ≡ request.now.order.now }
 

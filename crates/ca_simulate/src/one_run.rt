@@ -3,7 +3,6 @@
 ghost use Rattle.std.specs.Prelude.{◌≡◌, length, IfErr, IfOk};
 ghost use Rattle.ca_wired.specs.Linked.{inputs_of};
 ghost use Rattle.ca_core.specs.Core.{core_of};
-ghost use Rattle.ca_flatten.specs.Transistors.{HaveTransistors};
 ghost use Rattle.ca_asked.specs.Asked.{IsLibraryDefect};
 ghost use Rattle.ca_simulate.specs.Simulated.{pair_of};
 ghost use Rattle.ca_simulate.specs.OneRun.{AreRunEnds, IsRunFault};
@@ -29,7 +28,6 @@ pub fn replay(
     vectors: Vectors<'_>,
     text: &[u8],
 ) -> Result<Vec<Trit>, OrderFault>
-    requires transistors { HaveTransistors chip.now.cells }
     requires defect { IsLibraryDefect chip.now defect }
     requires first { length vectors.first.now ≡ length (inputs_of chip.now) }
     requires last { length vectors.last.now ≡ length (inputs_of chip.now) }

@@ -1,18 +1,20 @@
 -- Nets and devices stay within bounds as they grow.
 use Rattle.std.proofs.Common.{◌≡◌, ℕ, ◌+◌, ◌<◌, ◌≤◌, ◌^◌, List, Bool, true, false, cond, [], ◌∷◌, ◌++◌}
 use Rattle.std.proofs.Common.{length, map, Option, Some, None, refl, sym, ◌∙◌, ap, subst, arith, inl, inr}
-use Rattle.std.proofs.Common.{length-append, ◌||◌}
+use Rattle.std.proofs.Common.{length-append, ◌||◌, get_or}
 use Rattle.std.specs.Prelude.{nat_lt}
 use Rattle.std.specs.Str.{bytes_eq}
 use Rattle.std.proofs.lemmas.List.{map-append, length-map}
 use Rattle.std.proofs.lemmas.List.Elements.{All-push, All-weaker}
 use Rattle.std.proofs.lemmas.Option.{same_Some}
-use Rattle.ca_net.specs.Circuit.{IsStrength}
 use Rattle.ca_net.specs.declared.scale.TheConstants.{WEAK, STRONG}
+use Rattle.ca_net.specs.declared.device.DeviceKind.{DeviceKind}
+use Rattle.ca_net.specs.declared.device.DeviceKind.TheVariants as kind
 use Rattle.ca_cell.specs.declared.raw.Role.{Role}
 use Rattle.ca_cell.specs.declared.raw.RawPin.{RawPin}
 use Rattle.ca_cell.specs.declared.raw.RawDevice.{RawDevice}
 use Rattle.ca_cell.specs.declared.raw.RawCell.{RawCell}
+use Rattle.ca_cell.specs.Transistors.{HasGate, IsTransistor}
 use Rattle.ca_cell.specs.Rules.{PlacesWithin, IsRaw}
 use Rattle.ca_spice.specs.declared.pin.Pin.{Pin}
 use Rattle.ca_spice.specs.declared.subcircuit.Subcircuit.{Subcircuit}
@@ -33,8 +35,9 @@ with_name-longer name names = by (has_name name names)
 -- what is placed stays so with more nets and one device more
 pub IsPlaced-grown : (pins : ℕ) (nets more : List (List ℕ)) (devices : List RawDevice) (device : RawDevice) → IsPlaced pins nets devices
     → length nets ≤ length more → length more < 2 ^ 32 → length (devices ++ device ∷ []) < 2 ^ 32
-    → PlacesWithin (length more) device → HasOwnStrength device → IsPlaced pins more (devices ++ device ∷ [])
-IsPlaced-grown pins nets more devices device placed longer few few_devices within own = record {
+    → PlacesWithin (length more) device → HasOwnStrength device → HasGate device.kind
+    → IsPlaced pins more (devices ++ device ∷ [])
+IsPlaced-grown pins nets more devices device placed longer few few_devices within own gate = record {
   few_nets = few;
   few_devices = few_devices;
   pins_within = omega (arith, placed.pins_within);
@@ -43,6 +46,7 @@ IsPlaced-grown pins nets more devices device placed longer few few_devices withi
       (λ other held. record { drain = omega (arith, held.drain); gate = omega (arith, held.gate); source = omega (arith, held.source) })
       devices placed.places) within;
   strengths = All-push HasOwnStrength devices device placed.strengths own;
+  gated = All-push (λ d. HasGate d.kind) devices device placed.gated gate;
 }
 
 -- the names of devices are looked up as the devices are
@@ -70,13 +74,16 @@ pins_behind-length done (pin ∷ pins) raw all = by pin.role (λ grown. pins_beh
         let shown : RawPin = record { name = pin.name; role = role } in
         omega (arith, later (done ++ shown ∷ []) is, length-append done (shown ∷ []))
 
--- the strength of a device's sizes is one of the scale
-strength : (width channel : ℕ) → IsStrength (strength_of width channel)
-strength width channel = by (nat_lt width channel)
+-- a device with a gate and the strength of its sizes is a transistor
+transistor : (k : DeviceKind) (width channel : ℕ) → HasGate k → IsTransistor k (strength_of width channel)
+transistor k width channel gate = by k (nat_lt width channel) gate
   where
-    by : (weak : Bool) → IsStrength (cond weak WEAK STRONG)
-    by true = inl refl
-    by false = inr (inl refl)
+    by : (k : DeviceKind) (weak : Bool) → HasGate k → IsTransistor k (cond weak WEAK STRONG)
+    by kind.N true gate = inl refl
+    by kind.N false gate = inr refl
+    by kind.P true gate = inl refl
+    by kind.P false gate = inr refl
+    by kind.D weak gate = absurd gate
 
 -- a placed subcircuit is one from which an entry can be made
 pub IsPlaced-IsRaw : (raw : RawCell) → IsPlacedCell raw → IsRaw raw
@@ -85,8 +92,10 @@ IsPlaced-IsRaw raw placed = record {
   few_devices = placed.few_devices;
   pins = placed.pins_within;
   places = placed.places;
-  strengths = All-weaker HasOwnStrength (λ device. IsStrength device.strength)
-      (λ device own. subst IsStrength (sym own) (strength device.width.0 device.length.0)) raw.devices placed.strengths;
+  transistors = λ k d within.
+      let device = get_or raw.devices k d in
+      subst (IsTransistor device.kind) (sym (placed.strengths k d within))
+      (transistor device.kind device.width.0 device.length.0 (placed.gated k d within));
 }
 
 -- names with one more are not fewer
@@ -115,9 +124,9 @@ pub placed_grown : (pins : ℕ) (nets first second third names : List (List ℕ)
     → grown ≡ devices ++ device ∷ [] → names ≡ map (λ device. device.name) grown → length names < 2 ^ 32 → length third < 2 ^ 32
     → length nets ≤ length first → length first ≤ length second → length second ≤ length third
     → device.drain < length first → device.gate < length second → device.source < length third → HasOwnStrength device
-    → IsPlaced pins third grown
-placed_grown pins nets first second third names devices grown device placed devices_are named few few_nets to_first to_second to_third drain gate source own =
+    → HasGate device.kind → IsPlaced pins third grown
+placed_grown pins nets first second third names devices grown device placed devices_are named few few_nets to_first to_second to_third drain gate source own gated =
     let count : length names ≡ length grown = ap length named ∙ length-map grown (λ (d : RawDevice). d.name) in
     let few_devices : length (devices ++ device ∷ []) < 2 ^ 32 = subst (λ (all : List RawDevice). length all < 2 ^ 32) devices_are (omega arith) in
     subst (IsPlaced pins third) (sym devices_are)
-    (IsPlaced-grown pins nets third devices device placed (omega arith) few_nets few_devices (record { drain = omega arith; gate = omega arith; source = source }) own)
+    (IsPlaced-grown pins nets third devices device placed (omega arith) few_nets few_devices (record { drain = omega arith; gate = omega arith; source = source }) own gated)

@@ -1,5 +1,6 @@
 //! The words of an M card.
-ghost use Rattle.std.specs.Prelude.{◌≡◌, ◌+◌, option_map};
+ghost use Rattle.std.specs.Prelude.{◌≡◌, ◌+◌, option_map, IfSome};
+ghost use Rattle.ca_cell.specs.Transistors.{HasGate};
 ghost use Rattle.ca_spice.specs.Mos.{is_sign, are_params, count_of, value_of, are_sound, kind_of, wiring_of};
 ghost use Rattle.ca_spice.specs.Mos.{length_at, sizes_of, strength_of};
 ghost use Rattle.ca_spice.specs.Names.{texts};
@@ -83,7 +84,8 @@ fn are_sound(params: &[&[u8]]) -> bool
 
 #[tactic(auto, unfolding(crate::specs::Mos::kind_of))]
 fn kind_of(model: &[u8]) -> Option<DeviceKind>
-    ensures { result ≡ kind_of model.now }
+    ensures kind { result ≡ kind_of model.now }
+    ensures gate { IfSome result HasGate }
 {
     match model {
         [b'N', ..] => Some(DeviceKind::N),
@@ -95,7 +97,8 @@ fn kind_of(model: &[u8]) -> Option<DeviceKind>
 /// What the words behind the device's name say, if the card has the form of an M card.
 #[tactic(auto, unfolding(crate::specs::Mos::wiring_of))]
 pub(crate) fn wiring_of<'a>(name: &[u8], words: &'a [&'a [u8]]) -> Option<Wiring<'a>>
-    ensures { option_map wiring_seen result ≡ wiring_of name.now (texts words.now) }
+    ensures wiring { option_map wiring_seen result ≡ wiring_of name.now (texts words.now) }
+    ensures gate { IfSome result (λ wiring. HasGate wiring.kind) }
 {
     let [drain, gate, source, bulk, model, params @ ..] = words else {
         return None;

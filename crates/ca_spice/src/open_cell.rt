@@ -1,5 +1,6 @@
 //! The subcircuit that is being read.
 ghost use Rattle.std.specs.Prelude.{◌≡◌, map, length};
+ghost use Rattle.ca_cell.specs.Transistors.{HasGate};
 ghost use Rattle.ca_spice.specs.Kept.{IsPlaced};
 ghost use Rattle.ca_spice.specs.Names.{texts};
 ghost use Rattle.ca_spice.specs.OpenCell.{is_ended_by};
@@ -97,7 +98,8 @@ impl OpenCell {
         wiring: Wiring<'_>,
         sizes: Sizes,
     ) -> Result<Self, NoMemory>
-        requires { has_device name.now self.devices ≡ false }
+        requires new { has_device name.now self.devices ≡ false }
+        requires gate { HasGate wiring.kind }
         ensures { IfOk result (λ cell. cell_seen cell
             ≡ with_device name.now (wiring_seen wiring.entry) (sizes_seen sizes) (cell_seen self)) }
     {

@@ -1,5 +1,5 @@
 //! A gate netlist as it was read.
-ghost use Rattle.std.specs.Prelude.{◌≡◌, [], ◌++◌, flat_map, OnOk};
+ghost use Rattle.std.specs.Prelude.{◌≡◌, [], ◌++◌, flat_map, OnOk, OnErr};
 
 use crate::table::Direction;
 use ca_base::{List, NoMemory};
@@ -111,7 +111,8 @@ impl RawJoins {
 
     /// Adds the pairs of a span at the end.
     pub fn push(&mut self, span: RawSpan) -> Result<(), NoMemory>
-        ensures { OnOk result (self.new ≡ self.old ++ pairs_of span) }
+        ensures ok { OnOk result (self.new ≡ self.old ++ pairs_of span) }
+        ensures err { OnErr result (self.new ≡ self.old) }
     {
         Ok(self.spans.push(span)?)
     }

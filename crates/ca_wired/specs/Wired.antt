@@ -1,18 +1,23 @@
 -- Why a chip's nets aren't wired: the rules on drivers, on control pins, on the scan path and on loops, in
 -- the order in which they are tried.
-use Rattle.std.specs.Prelude.{ℕ, ◌≡◌, ◌<◌, false, Some, None}
+use Rattle.std.specs.Prelude.{ℕ, ◌≡◌, ◌<◌, false, Some, None, length}
 use Rattle.ca_wired.specs.declared.drivers.Sources.{Sources}
 use Rattle.ca_wired.specs.declared.order.SortFault.{SortFault}
 use Rattle.ca_wired.specs.declared.order.SortFault.TheVariants as sort_fault
 use Rattle.ca_wired.specs.declared.wiring.WireFault.{WireFault}
 use Rattle.ca_wired.specs.declared.wiring.WireFault.TheVariants.{Misdriven, Misused, Observed, Loop, NoMemory}
 use Rattle.ca_wired.specs.declared.wiring.Judged.{Judged}
+use Rattle.ca_wired.specs.declared.wiring.Tables.{Tables}
 use Rattle.ca_wired.specs.Order.{IsSimpleLoop, IsOrder}
-use Rattle.ca_wired.specs.Linked.{Source, Chip, net_count, is_scan_path, Drives, Feeds, IsLibrary}
+use Rattle.ca_wired.specs.Linked.{Source, Chip, net_count, is_scan_path, Drives, Feeds, IsLibrary, inputs_of}
+use Rattle.ca_wired.specs.Linked.{outputs_of}
 use Rattle.ca_wired.specs.Drivers.{IsOnly, AreFirst, IsSingle}
 use Rattle.ca_wired.specs.Paths.{is_observed, IsFirstObserved, AreMarks}
 use Rattle.ca_wired.specs.Feeding.{AreSingle}
 use Rattle.ca_wired.specs.Controls.{misused_of}
+use Rattle.ca_wired.specs.Reading.{AreReaders}
+use Rattle.ca_wired.specs.Instances.{gates_of, scans_of}
+use Rattle.ca_wired.specs.Kept.{ArePlaces}
 
 -- the net has one driver
 pub record HasOneDriver (chip : Chip) (net : ℕ) : Type 0 where
@@ -61,3 +66,12 @@ pub record IsJudged (chip : Chip) (judged : Judged) : Type 0 where
   pub single : AreSingle chip judged.drivers
   pub path : AreMarks (net_count chip) (is_scan_path chip) judged.path
   pub ordered : IsOrder (Feeds chip) (IsLibrary chip) judged.order
+
+-- the tables are of this chip and of the order that was found
+pub record AreTables (chip : Chip) (judged : Judged) (tables : Tables) : Type 0 where
+  pub read : AreReaders chip tables.readers
+  pub are_inputs : tables.inputs ≡ inputs_of chip
+  pub are_outputs : tables.outputs ≡ outputs_of chip
+  pub are_gates : tables.gates ≡ gates_of chip
+  pub are_scans : tables.scans ≡ scans_of chip
+  pub placed : ArePlaces judged.order (length judged.order) (length chip.parts) tables.places.items

@@ -122,7 +122,7 @@ impl Chip {
         }
     }
 
-    /// The library instances that read a net, in netlist order, one as often as it has pins there.
+    /// The library instances that read a net: each that does, and no other.
     pub fn readers(&self, net: NetId) -> &InstanceList
         requires { net.0 < net_count self.now }
         ensures { AreReadersOf self.now net.0 result.now }

@@ -69,7 +69,8 @@ impl NetList {
 
     /// Appends a net, if it passed a test.
     pub fn push_if(&mut self, passed: bool, net: u32) -> Result<(), NoMemory>
-        ensures { OnOk result (self.new ≡ self.old ++ (if passed then net ∷ [] else [])) }
+        ensures ok { OnOk result (self.new ≡ self.old ++ (if passed then net ∷ [] else [])) }
+        ensures err { OnErr result (self.new ≡ self.old) }
     {
         if passed { self.push(net) } else { Ok(()) }
     }

@@ -8,7 +8,7 @@ ghost use Rattle.ca_wired.specs.Feeding.{AreSingle};
 ghost use Rattle.ca_wired.specs.Paths.{AreMarks};
 ghost use Rattle.ca_wired.specs.Kept.{ArePlaces};
 ghost use Rattle.ca_wired.specs.Order.{IsOnce};
-ghost use Rattle.ca_wired.specs.Wired.{wire_fault, KeepsNetRules, IsWireCause, IsJudged};
+ghost use Rattle.ca_wired.specs.Wired.{wire_fault, KeepsNetRules, IsWireCause, IsJudged, AreTables};
 
 use crate::chip::Chip;
 use crate::controls::{Misused, first_misused};
@@ -20,8 +20,9 @@ use crate::instances::InstanceList;
 use crate::marks::NetMarks;
 use crate::order::SortFault;
 use crate::paths::{first_observed, path_of};
+use crate::parts::NetList;
 use crate::pins::{gates_of, scans_of};
-use crate::readers::readers_of;
+use crate::readers::{Readers, readers_of};
 use ca_base::NoMemory;
 use std::alloc::Global;
 
@@ -132,6 +133,60 @@ pub fn judge(alloc: Global, draft: &Draft) -> Result<Judged, WireFault>
     }
 }
 
+// What a chip keeps beside its draft and what was judged.
+#[derive(Drop)]
+struct Tables {
+    readers: Readers,
+    inputs: NetList,
+    outputs: NetList,
+    gates: InstanceList,
+    scans: InstanceList,
+    places: Vec<usize>,
+}
+
+// The tables of a draft that keeps the rules on nets.
+fn tables_of(alloc: Global, draft: &Draft, judged: &Judged) -> Result<Tables, NoMemory>
+    requires drafted { IsDrafted draft.now }
+    requires judged { IsJudged draft.now judged.now }
+    ensures { IfOk result (λ tables. AreTables draft.now judged.now tables) }
+{
+    Ok(Tables {
+        readers: readers_of(alloc, draft)?,
+        inputs: inputs_of(alloc, draft, &judged.path)?,
+        outputs: outputs_of(alloc, draft, &judged.path)?,
+        gates: gates_of(alloc, draft)?,
+        scans: scans_of(alloc, draft)?,
+        places: places_of(alloc, &judged.order, draft.parts())?,
+    })
+}
+
+// The chip of a draft, of what was judged and of the tables.
+fn chip_of(draft: Draft, judged: Judged, tables: Tables) -> Chip
+    requires drafted { IsDrafted draft }
+    requires judged { IsJudged draft judged }
+    requires tables { AreTables draft judged tables }
+    ensures chip { result ≡ record draft { order = judged.order } }
+    ensures wired { IsWired result }
+{
+    Chip {
+        library: draft.library,
+        nets: draft.nets,
+        zero: draft.zero,
+        one: draft.one,
+        parts: draft.parts,
+        ports: draft.ports,
+        order: judged.order,
+        path: judged.path,
+        drivers: judged.drivers,
+        places: tables.places,
+        readers: tables.readers,
+        inputs: tables.inputs,
+        outputs: tables.outputs,
+        gates: tables.gates,
+        scans: tables.scans,
+    }
+}
+
 /// The chip of a draft that keeps the rules on nets.
 pub fn wire(alloc: Global, draft: Draft, judged: Judged) -> Result<Chip, NoMemory>
     requires drafted { IsDrafted draft }
@@ -139,40 +194,8 @@ pub fn wire(alloc: Global, draft: Draft, judged: Judged) -> Result<Chip, NoMemor
     ensures ok { IfOk result (λ chip. chip ≡ record draft { order = chip.order }) }
     ensures wired { IfOk result IsWired }
 {
-    let Judged {
-        drivers,
-        path,
-        order,
-    } = judged;
-    let readers = readers_of(alloc, &draft)?;
-    let inputs = inputs_of(alloc, &draft, &path)?;
-    let outputs = outputs_of(alloc, &draft, &path)?;
-    let gates = gates_of(alloc, &draft)?;
-    let scans = scans_of(alloc, &draft)?;
-    let places = places_of(alloc, &order, draft.parts())?;
-    let Draft {
-        library,
-        nets,
-        zero,
-        one,
-        parts,
-        ports,
-    } = draft;
-    Ok(Chip {
-        library,
-        nets,
-        zero,
-        one,
-        parts,
-        ports,
-        order,
-        path,
-        drivers,
-        places,
-        readers,
-        inputs,
-        outputs,
-        gates,
-        scans,
-    })
+    match tables_of(alloc, &draft, &judged) {
+        Ok(tables) => Ok(chip_of(draft, judged, tables)),
+        Err(_) => Err(NoMemory),
+    }
 }

@@ -21,7 +21,7 @@ new-requires c =
       few_devices = subst (λ (devices : List Device). length devices < 2 ^ 32) (sym c.requires.devices) is.few_devices;
       sizes = All-same HasSize c.args.nodes net.nodes c.requires.nodes is.sizes;
       strengths = All-same HasStrength c.args.devices net.devices c.requires.devices is.strengths;
-      gates = gates_are_drains chip c.args.defect c.args.devices c.requires.devices c.requires.transistors;
+      gates = gates_are_drains chip c.args.defect c.args.devices c.requires.devices c.wired.ensures;
     }
 
 pub unreachable-requires : goal.unreachable-requires

@@ -1,0 +1,41 @@
+use Rattle.std.proofs.Common.{sym, subst}
+use Rattle.ca_wired.specs.Linked.{Chip, IsWired}
+use Rattle.ca_wired.specs.Kept.{KeptTables, IsKept}
+use Rattle.ca_wired.proofs.ReaderLemmas.{readers_too}
+use Rattle.ca_wired.proofs.WiredLemmas.{single_too, wired}
+use Rattle.ca_wired.proofs.wiring.chip_of.Goals as goal
+
+pub invariant_of-result : goal.invariant_of-result
+invariant_of-result c =
+    let judged = c.requires.judged in
+    let tables = c.requires.tables in
+    let order = c.args.judged.order in
+    let kept_tables : KeptTables = record {
+      path = c.args.judged.path;
+      drivers = c.args.judged.drivers;
+      places = c.args.tables.places.items;
+      readers = c.args.tables.readers;
+      inputs = c.args.tables.inputs;
+      outputs = c.args.tables.outputs;
+      gates = c.args.tables.gates;
+      scans = c.args.tables.scans;
+    } in
+    let kept : IsKept (record c.args.draft { order = order }) kept_tables = record {
+      wired = wired c.args.draft c.requires.drafted c.args.judged.drivers judged.single judged.kept.unobserved order judged.ordered;
+      marked = judged.path;
+      single = single_too c.args.draft c.args.judged.drivers judged.single order;
+      read = readers_too c.args.draft c.args.tables.readers tables.read order;
+      placed = tables.placed;
+      are_inputs = tables.are_inputs;
+      are_outputs = tables.are_outputs;
+      are_gates = tables.are_gates;
+      are_scans = tables.are_scans;
+    } in
+    subst (λ (d : Chip). IsKept (record d { order = order }) kept_tables) (sym c.draft.view_is) kept
+
+pub returns-clause-wired : goal.returns-clause-wired
+returns-clause-wired c =
+    let judged = c.requires.judged in
+    let order = c.args.judged.order in
+    subst (λ (d : Chip). IsWired (record d { order = order })) (sym c.draft.view_is)
+    (wired c.args.draft c.requires.drafted c.args.judged.drivers judged.single judged.kept.unobserved order judged.ordered)
