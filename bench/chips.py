@@ -1,12 +1,13 @@
 #!/usr/bin/env python3
 """Measures test generation: seconds of user time, memory and verdicts, a CSV record for each run.
 
-usage: bench/chips.py PROGRAM [examples|mapped|made|rows].. [--budgets N,N..] [--most N]
+usage: bench/chips.py PROGRAM [examples|mapped|made|rows|large].. [--budgets N,N..] [--most N]
 
 examples  the chips of examples/
 mapped    bench/rtl mapped to OSU's library for 0.35 micrometres, where Debian's yosys and qflow-tech-osu035 are installed
 made      `make N`, for N from 64 to --most (1,024 if it isn't said)
-rows      `check` of rows of inverters up to 32,768
+rows      `check` of rows of inverters up to 32,768, and one more, which is refused
+large     `check` of a gate netlist of nearly 64 MiB, which has too many instances, and of one with a million `assign`s
 """
 import csv
 import os
@@ -65,6 +66,15 @@ def record(writer, name, budget, words):
     sys.stdout.flush()
 
 
+def check(writer, program, name, netlist):
+    """What `check` says of a netlist of inverters, the seconds and the size."""
+    words = [program, "check", f"{TOP}/examples/cells.sp", netlist, "-"]
+    status, line, used = run(words)
+    said = line.splitlines()[0] if line else ""
+    writer.writerow([name, "", said, "", "", "", "", "", f"{used:.2f}", f"{memory(words):.1f}", ""])
+    sys.stdout.flush()
+
+
 def write_bits(netlist):
     """Writes constants as bits, which is the form that netlists have here."""
     text = open(netlist).read().replace("1'h0", "1'b0").replace("1'h1", "1'b1")
@@ -112,6 +122,29 @@ def row_of_inverters(folder, count):
     return path
 
 
+def large_netlist(folder):
+    """A netlist of nearly 64 MiB: more instances than a chip may have, which is found once it is read."""
+    path = f"{folder}/large.v"
+    with open(path, "w") as out:
+        out.write("module large (a, z);\n  input [65535:0] a;\n  output z;\n")
+        size, k = 0, 0
+        while size < 67_000_000:
+            size += out.write(f"  INV u{k} (.A(a[{k % 65536}]), .ZN(n{k % 100000}));\n") if k else out.write("  wire " + ", ".join(f"n{it}" for it in range(100000)) + ";\n")
+            k += 1
+        out.write("endmodule\n")
+    return path
+
+
+def joined_netlist(folder):
+    """Two vectors of 65,536 bits, joined by `assign` a million times, and an inverter."""
+    path = f"{folder}/joined.v"
+    with open(path, "w") as out:
+        out.write("module joined (a, z);\n  input [65535:0] a;\n  output z;\n  wire [65535:0] w;\n")
+        out.write("  assign w = a;\n" * 1_000_000)
+        out.write("  INV u (.A(w[0]), .ZN(z));\nendmodule\n")
+    return path
+
+
 def main(words):
     program = os.path.abspath(words[0])
     budgets, most, sets, rest = [64, 1024], 1024, [], list(words[1:])
@@ -123,7 +156,7 @@ def main(words):
             most = int(rest.pop(0))
         else:
             sets.append(word)
-    sets = sets or ["examples", "mapped", "made", "rows"]
+    sets = sets or ["examples", "mapped", "made", "rows", "large"]
     writer = csv.writer(sys.stdout)
     writer.writerow("chip budget defects credited unexposable untestable aborted pairs seconds MiB why".split())
     with tempfile.TemporaryDirectory() as folder:
@@ -144,10 +177,11 @@ def main(words):
                 record(writer, f"make {number}", 64, [program, "make", str(number)])
                 number *= 4 if number < 1024 else 2
         if "rows" in sets:
-            for count in [1024, 8192, 32768]:
-                words = [program, "check", f"{TOP}/examples/cells.sp", row_of_inverters(folder, count), "-"]
-                status, line, used = run(words)
-                writer.writerow([f"row of {count}", "", line.split("defects ")[-1] if status == 0 else line, "", "", "", "", "", f"{used:.2f}", f"{memory(words):.1f}", ""])
+            for count in [1024, 8192, 32768, 32769]:
+                check(writer, program, f"a row of {count:,} inverters", row_of_inverters(folder, count))
+        if "large" in sets:
+            check(writer, program, "64 MiB of instances", large_netlist(folder))
+            check(writer, program, "a million assigns of 65,536 bits", joined_netlist(folder))
 
 
 if __name__ == "__main__":

@@ -1,0 +1,128 @@
+#!/usr/bin/env python3
+"""Measures what docs/FIGURES.md shows, and writes each table into that page.
+
+usage: bench/figures.py PROGRAM [matrices|commands|chips|made|large|hostile].. [--fuzz COUNT]
+
+PROGRAM is the built program. A table of the page stands between a line `<!-- NAME -->` and the next blank line; the names are those above,
+all of them if none is said. The line `<!-- build -->` is followed by the commit and the size of the program. Run it on a quiet machine, with
+Debian's `yosys` and `qflow-tech-osu035` installed for the real library and the mapped chips.
+"""
+import csv
+import os
+import re
+import subprocess
+import sys
+import tempfile
+import time
+
+HERE = os.path.dirname(os.path.abspath(__file__))
+TOP = os.path.dirname(HERE)
+PAGE = f"{TOP}/docs/FIGURES.md"
+
+
+def printed(words, **how):
+    return subprocess.run(words, stdout=subprocess.PIPE, text=True, check=False, **how).stdout
+
+
+def records(words):
+    return list(csv.reader(printed(words).splitlines()))
+
+
+def table(rows):
+    """The Markdown table of rows, of which the first is the header."""
+    header, *rest = rows
+    lines = ["| " + " | ".join(header) + " |", "|" + "---|" * len(header)]
+    return lines + ["| " + " | ".join(row) + " |" for row in rest]
+
+
+def matrices(program):
+    found = records([f"{HERE}/matrix.sh", program])[1:]
+    rows = [["cell", "transistors", "inputs", "defects", "records", "seconds"]]
+    whole = [it for it in found if it[0] == "osu035" and it[8]]
+    for it in found:
+        # (of the real library only the slowest cells have a row of their own)
+        if it[0] != "osu035" or float(it[8] or 0) > 0.05:
+            rows.append([f"`{it[1]}`", it[2], it[3], f"{int(it[5]):,}", f"{int(it[7]):,}", f"{float(it[8]):.3f}" if it[8] else it[9]])
+    if whole:
+        rows.append([f"all {len(whole)} cells of the real library together", "", "", f"{sum(int(it[5]) for it in whole):,}",
+                     f"{sum(int(it[7]) for it in whole):,}", f"{sum(float(it[8]) for it in whole):.2f}"])
+    return table(rows)
+
+
+def commands(program):
+    rows = [["what", "milliseconds of one run"]]
+    for what, runs, seconds in records([f"{HERE}/commands.sh", program])[1:]:
+        rows.append([what, f"{1000 * float(seconds) / int(runs):.1f}" if runs else seconds])
+    return table(rows)
+
+
+def generation(program, sets, more=()):
+    rows = [["chip", "budget", "defects", "credited", "unexposable", "untestable", "aborted", "pairs", "user seconds", "MiB"]]
+    for it in records([f"{HERE}/chips.py", program, *sets, *more])[1:]:
+        rows.append([f"`{it[0]}`", *[f"{int(field):,}" if field.isdigit() else field for field in it[1:8]], it[8], it[9]])
+    return table(rows)
+
+
+def chips(program):
+    return generation(program, ["examples", "mapped"])
+
+
+def made(program):
+    return generation(program, ["made"])
+
+
+def large(program):
+    rows = [["text", "what `check` says", "user seconds", "MiB"]]
+    for it in records([f"{HERE}/chips.py", program, "rows", "large"])[1:]:
+        rows.append([it[0], it[2], it[8], it[9]])
+    return table(rows)
+
+
+def timed(words, **how):
+    began = time.time()
+    last = printed(words, stderr=subprocess.STDOUT, **how).strip().splitlines()[-1]
+    return last, f"{time.time() - began:.0f}"
+
+
+def hostile(program, count):
+    tools, examples = f"{TOP}/tools", f"{TOP}/examples"
+    rows = [["what", "command", "result", "seconds"]]
+    with tempfile.TemporaryDirectory() as folder:
+        refuse = [f"{tools}/refuse_memory.sh", program]
+        for out, words in [("p.stil,r.csv", ["atpg", f"{examples}/cells.sp", f"{examples}/inv.v", "-", "p.stil", "r.csv", "3"]),
+                           ("-", ["make", "3"]), ("m.csv", ["matrix", f"{examples}/nand2.sp", "NAND2", "m.csv"])]:
+            shown = " ".join(["refuse_memory.sh PROGRAM", out, *[os.path.basename(it) for it in words]])
+            rows.append(["one request for memory refused, each in a run of its own", f"`{shown}`", *timed([*refuse, out, *words], cwd=folder)])
+    rows.append(["real faults of files and outputs", "`real_faults.sh PROGRAM`", *timed([f"{tools}/real_faults.sh", program])])
+    began = time.time()
+    runs = [subprocess.Popen([f"{tools}/fuzz_texts.py", program, str(count), str(seed)], stdout=subprocess.PIPE, text=True) for seed in range(1, 5)]
+    for seed, run in enumerate(runs, 1):
+        last = run.communicate()[0].strip().splitlines()[-1]
+        rows.append(["texts of chips and of a run, changed at random", f"`fuzz_texts.py PROGRAM {count} {seed}`", last, f"{time.time() - began:.0f}"])
+    return table(rows)
+
+
+def main(words):
+    program, rest, count, names = os.path.abspath(words[0]), list(words[1:]), 5000, []
+    while rest:
+        word = rest.pop(0)
+        if word == "--fuzz":
+            count = int(rest.pop(0))
+        else:
+            names.append(word)
+    tables = {"matrices": matrices, "commands": commands, "chips": chips, "made": made, "large": large, "hostile": lambda it: hostile(it, count)}
+    commit = printed(["git", "-C", TOP, "log", "-1", "--format=%h", "--", "crates"]).strip()
+    found = {"build": [f"The program is that of commit {commit}, {os.path.getsize(program):,} bytes."]}
+    found.update({name: tables[name](program) for name in names or tables})
+    with open(PAGE) as page:
+        text = page.read()
+    for name, lines in found.items():
+        text, done = re.subn(rf"(<!-- {name} -->\n)(?:.+\n)*", lambda it: it.group(1) + "\n".join(lines) + "\n", text)
+        if done != 1:
+            print(f"the page has {done} places for {name}:", *lines, sep="\n")
+    with open(PAGE, "w") as page:
+        page.write(text)
+
+
+if __name__ == "__main__":
+    main(sys.argv[1:])
