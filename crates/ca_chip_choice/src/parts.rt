@@ -27,7 +27,7 @@ fn no_tables(alloc: Global, count: usize) -> Result<Vec<CellTable>, NoMemory> {
 /// For each cell that an instance is of the values of its outputs, found once.
 pub(crate) fn cells_of(alloc: Global, chip: &Chip) -> Result<Vec<CellTable>, NoMemory> {
     chip.wired();
-    let mut tables = no_tables(alloc, chip.cells())?;
+    let mut tables = no_tables(alloc, chip.library_cells())?;
     for u in 0..chip.parts() {
         add_cell(alloc, chip, InstanceId(u as u32), &mut tables)?;
     }
@@ -46,7 +46,7 @@ fn add_cell(
     if !chip.is_library(u) {
         return Ok(());
     }
-    let place = chip.cell_number(u);
+    let place = chip.library_place(u);
     if place < tables.len() && tables[place].outputs == 0 {
         tables[place] = table_of(alloc, chip.cell_of(u))?;
     }
@@ -82,7 +82,7 @@ fn cell_of(chip: &Chip, u: InstanceId) -> u32
     if !chip.is_library(u) {
         return u32::MAX;
     }
-    let place = chip.cell_number(u);
+    let place = chip.library_place(u);
     if place < u32::MAX as usize {
         place as u32
     } else {

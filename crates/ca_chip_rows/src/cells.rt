@@ -28,10 +28,10 @@ pub(crate) fn tables_of<'a>(alloc: Global, chip: &'a Chip) -> Result<Tables<'a>,
     ensures { IfOk result (λ tables. AreFound chip.now (length (gates_of chip.now)) tables.items) }
 {
     chip.wired();
-    let mut tables = no_tables(alloc, chip.cells())?;
+    let mut tables = no_tables(alloc, chip.library_cells())?;
     for k in 0..chip.instances() {
         let u = chip.instance(k);
-        let place = chip.cell_number(u);
+        let place = chip.library_place(u);
         if tables[place].is_none() {
             tables[place] = Some(CellRows::new(alloc, chip.cell_of(u))?);
         }

@@ -62,7 +62,7 @@ impl<'a> ChipRows<'a> {
         requires { IsLibrary self.now.chip u.0 }
         ensures { result.now.cell ≡ cell_at (core_of self.now.chip) u.0 }
     {
-        match &self.tables[self.chip.cell_number(u)] {
+        match &self.tables[self.chip.library_place(u)] {
             Some(table) => table,
             None => unreachable!(),
         }

@@ -118,11 +118,11 @@ impl<'a> Linked for CoreTables<'a> {
     }
 
     fn numbers(&self) -> usize {
-        self.chip.cells()
+        self.chip.library_cells()
     }
 
     fn number(&self, u: usize) -> usize {
-        self.chip.cell_number(InstanceId(u as u32))
+        self.chip.library_place(InstanceId(u as u32))
     }
 
     fn pin_net(&self, u: usize, pin: usize) -> usize {

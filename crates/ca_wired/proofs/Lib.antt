@@ -11,3 +11,4 @@ pub mod WiredLemmas
 pub mod ReaderLemmas
 pub mod EndLemmas
 pub mod CellLemmas
+pub mod UsedLemmas

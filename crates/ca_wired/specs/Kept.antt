@@ -3,13 +3,14 @@ use Rattle.std.specs.Prelude.{ℕ, ◌≡◌, ◌<◌, List, Bool, length, Some,
 use Rattle.ca_wired.specs.declared.drivers.Sources.{Sources}
 use Rattle.ca_wired.specs.Linked.{Chip, net_count, is_scan_path, inputs_of, outputs_of, IsWired}
 use Rattle.ca_wired.specs.Instances.{gates_of, scans_of}
+use Rattle.ca_wired.specs.Cells.{used_cells}
 use Rattle.ca_wired.specs.Feeding.{AreSingle}
 use Rattle.ca_wired.specs.Reading.{AreReaders}
 use Rattle.ca_wired.specs.Paths.{AreMarks}
 
 -- for each net whether it is on the scan path, and its driver; for each library instance its place in the
 -- order; for each net its readers; and the nets of the chip inputs and of the observed outputs; and the
--- library instances and the scan instances in netlist order
+-- library instances and the scan instances in netlist order; and the places of the cells that are used
 pub record KeptTables : Type 0 where
   pub path : List Bool
   pub drivers : List Sources
@@ -19,6 +20,7 @@ pub record KeptTables : Type 0 where
   pub outputs : List ℕ
   pub gates : List ℕ
   pub scans : List ℕ
+  pub used : List ℕ
 
 -- the list has the place of each number below a count that stands among the first of the order
 pub record ArePlaces (order : List ℕ) (count instances : ℕ) (places : List ℕ) : Type 0 where
@@ -36,3 +38,4 @@ pub record IsKept (chip : Chip) (kept : KeptTables) : Type 0 where
   pub are_outputs : kept.outputs ≡ outputs_of chip
   pub are_gates : kept.gates ≡ gates_of chip
   pub are_scans : kept.scans ≡ scans_of chip
+  pub are_used : kept.used ≡ used_cells chip

@@ -8,6 +8,7 @@ pub mod Controls
 pub mod Reading
 pub mod Ends
 pub mod Instances
+pub mod Cells
 pub mod Kept
 pub mod Wired
 pub mod Laws

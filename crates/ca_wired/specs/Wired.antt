@@ -17,6 +17,7 @@ use Rattle.ca_wired.specs.Feeding.{AreSingle}
 use Rattle.ca_wired.specs.Controls.{misused_of}
 use Rattle.ca_wired.specs.Reading.{AreReaders}
 use Rattle.ca_wired.specs.Instances.{gates_of, scans_of}
+use Rattle.ca_wired.specs.Cells.{used_cells}
 use Rattle.ca_wired.specs.Kept.{ArePlaces}
 
 -- the net has one driver
@@ -74,4 +75,5 @@ pub record AreTables (chip : Chip) (judged : Judged) (tables : Tables) : Type 0 
   pub are_outputs : tables.outputs ≡ outputs_of chip
   pub are_gates : tables.gates ≡ gates_of chip
   pub are_scans : tables.scans ≡ scans_of chip
+  pub are_used : tables.used.items ≡ used_cells chip
   pub placed : ArePlaces judged.order (length judged.order) (length chip.parts) tables.places.items

@@ -32,6 +32,7 @@ pub struct Chip {
     pub(crate) outputs: NetList,
     pub(crate) gates: InstanceList,
     pub(crate) scans: InstanceList,
+    pub(crate) used: Vec<u32>,
 }
 
 impl Model for Chip {
@@ -70,6 +71,7 @@ impl Model for Chip {
       outputs = chip.outputs;
       gates = chip.gates;
       scans = chip.scans;
+      used = chip.used.items;
     }) };
 }
 

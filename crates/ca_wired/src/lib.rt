@@ -17,6 +17,7 @@ mod parts;
 mod paths;
 mod pins;
 mod readers;
+mod used;
 mod wiring;
 
 pub use chip::Chip;

@@ -19,10 +19,11 @@ use crate::feeding::order_of;
 use crate::instances::InstanceList;
 use crate::marks::NetMarks;
 use crate::order::SortFault;
-use crate::paths::{first_observed, path_of};
 use crate::parts::NetList;
+use crate::paths::{first_observed, path_of};
 use crate::pins::{gates_of, scans_of};
 use crate::readers::{Readers, readers_of};
+use crate::used::used_of;
 use ca_base::NoMemory;
 use std::alloc::Global;
 
@@ -141,6 +142,7 @@ struct Tables {
     outputs: NetList,
     gates: InstanceList,
     scans: InstanceList,
+    used: Vec<u32>,
     places: Vec<usize>,
 }
 
@@ -156,6 +158,7 @@ fn tables_of(alloc: Global, draft: &Draft, judged: &Judged) -> Result<Tables, No
         outputs: outputs_of(alloc, draft, &judged.path)?,
         gates: gates_of(alloc, draft)?,
         scans: scans_of(alloc, draft)?,
+        used: used_of(alloc, draft)?,
         places: places_of(alloc, &judged.order, draft.parts())?,
     })
 }
@@ -184,6 +187,7 @@ fn chip_of(draft: Draft, judged: Judged, tables: Tables) -> Chip
         outputs: tables.outputs,
         gates: tables.gates,
         scans: tables.scans,
+        used: tables.used,
     }
 }
 

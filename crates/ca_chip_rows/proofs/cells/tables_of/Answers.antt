@@ -5,27 +5,27 @@ use Rattle.ca_chip_rows.proofs.cells.tables_of.Goals as goal
 use Rattle.ca_chip_rows.proofs.cells.tables_of.Goals.{then-is_none+in_ok-new+in-Some-1}
 use Rattle.ca_chip_rows.proofs.cells.tables_of.Goals.{then-is_none+in_ok-new+in-None-1, else-is_none}
 
-pub cell_number-place-requires : goal.cell_number-place-requires
-cell_number-place-requires c = listed_is_library c.args.chip.now c.loop-k.k c.instance-u.result.0 c.instance-u.ensures
+pub library_place-place-requires : goal.library_place-place-requires
+library_place-place-requires c = listed_is_library c.args.chip.now c.loop-k.k c.instance-u.result.0 c.instance-u.ensures
 
 pub loop-k-preserved : goal.loop-k-preserved
 loop-k-preserved c = elim c.if-is_none.branch [
   | then-is_none+in_ok-new+in-Some-1 w ↦
       rw w.tables-is
-      (found_now c.args.chip.now c.loop-k.k c.instance-u.result.0 c.cell_number-place.result c.loop-k.tables.items c.loop-k.invariant c.instance-u.ensures
-      c.cell_number-place.ensures.of w.in_ok-new.field-0
-      (w.in_ok-new.ensures ∙ cell_read_at c.args.chip.now c.instance-u.result.0 c.cell_number-place.result w.cell_of.result.now c.cell_number-place.ensures.of w.cell_of.ensures)
-      c.cell_number-place.ensures.within)
+      (found_now c.args.chip.now c.loop-k.k c.instance-u.result.0 c.library_place-place.result c.loop-k.tables.items c.loop-k.invariant c.instance-u.ensures
+      c.library_place-place.ensures.of w.in_ok-new.field-0
+      (w.in_ok-new.ensures ∙ cell_read_at c.args.chip.now c.instance-u.result.0 c.library_place-place.result w.cell_of.result.now c.library_place-place.ensures.of w.cell_of.ensures)
+      c.library_place-place.ensures.within)
   | then-is_none+in_ok-new+in-None-1 w ↦
       rw w.tables-is
-      (found_now c.args.chip.now c.loop-k.k c.instance-u.result.0 c.cell_number-place.result c.loop-k.tables.items c.loop-k.invariant c.instance-u.ensures
-      c.cell_number-place.ensures.of w.in_ok-new.field-0
-      (w.in_ok-new.ensures ∙ cell_read_at c.args.chip.now c.instance-u.result.0 c.cell_number-place.result w.cell_of.result.now c.cell_number-place.ensures.of w.cell_of.ensures)
-      c.cell_number-place.ensures.within)
+      (found_now c.args.chip.now c.loop-k.k c.instance-u.result.0 c.library_place-place.result c.loop-k.tables.items c.loop-k.invariant c.instance-u.ensures
+      c.library_place-place.ensures.of w.in_ok-new.field-0
+      (w.in_ok-new.ensures ∙ cell_read_at c.args.chip.now c.instance-u.result.0 c.library_place-place.result w.cell_of.result.now c.library_place-place.ensures.of w.cell_of.ensures)
+      c.library_place-place.ensures.within)
   | else-is_none w ↦
       rw w.tables-is
-      (found_before c.args.chip.now c.loop-k.k c.instance-u.result.0 c.cell_number-place.result c.loop-k.tables.items c.loop-k.invariant c.instance-u.ensures
-      c.cell_number-place.ensures.of
-      (has_table c.loop-k.tables.items c.cell_number-place.result c.index.result.now
-      (let room = c.loop-k.invariant.are.room in let within = c.cell_number-place.ensures.within in omega arith) c.index.ensures w.if-is_none.ensures))
+      (found_before c.args.chip.now c.loop-k.k c.instance-u.result.0 c.library_place-place.result c.loop-k.tables.items c.loop-k.invariant c.instance-u.ensures
+      c.library_place-place.ensures.of
+      (has_table c.loop-k.tables.items c.library_place-place.result c.index.result.now
+      (let room = c.loop-k.invariant.are.room in let within = c.library_place-place.ensures.within in omega arith) c.index.ensures w.if-is_none.ensures))
 ]

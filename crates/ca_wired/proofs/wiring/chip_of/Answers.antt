@@ -19,6 +19,7 @@ invariant_of-result c =
       outputs = c.args.tables.outputs;
       gates = c.args.tables.gates;
       scans = c.args.tables.scans;
+      used = c.args.tables.used.items;
     } in
     let kept : IsKept (record c.args.draft { order = order }) kept_tables = record {
       wired = wired c.args.draft c.requires.drafted c.args.judged.drivers judged.single judged.kept.unobserved order judged.ordered;
@@ -30,6 +31,7 @@ invariant_of-result c =
       are_outputs = tables.are_outputs;
       are_gates = tables.are_gates;
       are_scans = tables.are_scans;
+      are_used = tables.are_used;
     } in
     subst (λ (d : Chip). IsKept (record d { order = order }) kept_tables) (sym c.draft.view_is) kept
 
