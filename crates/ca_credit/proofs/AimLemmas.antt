@@ -1,13 +1,15 @@
 -- How often is aimed while a pair is credited.
-use Rattle.std.proofs.Common.{◌≡◌, ◌≤◌, ℕ, ◌+◌, inl, inr, List, length, Bool, Option, ◌∙◌, sym, ap, subst, arith, true, false, refl}
+use Rattle.std.proofs.Common.{◌≡◌, ◌≤◌, ℕ, suc, ◌+◌, inl, inr, List, [], length, Bool, Option, Some, None, ◌∙◌, sym, ap, subst, arith, true, false, refl}
 use Rattle.ca_net.specs.declared.trit.Trit.{Trit}
 use Rattle.ca_flat.specs.declared.chip_defect.ChipDefect.{ChipDefect}
 use Rattle.ca_search.specs.Filled.{trits_of}
 use Rattle.ca_credit.specs.declared.verdict.Verdict.{Verdict}
 use Rattle.ca_credit.specs.Defects.{Task, IsDefectAt}
 use Rattle.ca_credit.specs.Detection.{IsAllowedByRows}
-use Rattle.ca_credit.specs.Table.{verdict_at, is_open}
+use Rattle.ca_credit.specs.Table.{verdict_at, is_open, CreditsPair}
 use Rattle.ca_credit.specs.Aims.{Start, Passes, Counts, IsSuspectAt, AimsAtSuspect, AimsUpTo, AimsAtSuspects}
+use Rattle.ca_credit.specs.Aims.{NoPair, OnePair, AimsOverBlock, bits_after, aimed_after}
+use Rattle.std.specs.Prelude.{slice_get, slice_index_or}
 
 -- nothing was aimed at yet
 pub aims_begin : (task : Task) (pair : List Bool) (table : List (Option Verdict)) (before after : ℕ)
@@ -72,3 +74,37 @@ is_suspect task pair bits table place bits_are waits allowed = record {
   waits = waits;
   allowed = λ defect at. subst (IsAllowedByRows task.chip defect) bits_are (allowed defect at);
 }
+
+-- before the first pair of a block
+pub block_aims_begin : (task : Task) (pairs : List (List Bool)) (from : ℕ) (table : List (Option Verdict)) (before : ℕ)
+    → AimsOverBlock task pairs from table 0 table before before
+block_aims_begin task pairs from table before = record { most = 0; may = NoPair; few = omega arith }
+
+-- one more pair of a block
+pub block_aims_more : (task same : Task) (pairs : List (List Bool)) (from count number : ℕ) (pair : List Bool)
+    (old middle new : List (Option Verdict)) (before between after : ℕ) → same ≡ task → number ≡ from + count
+    → AimsOverBlock task pairs from old count middle before between → slice_get pairs (from + count) ≡ Some pair
+    → CreditsPair same pair number middle new → AimsAtSuspects same pair middle between after
+    → AimsOverBlock task pairs from old (count + 1) new before after
+block_aims_more task same pairs from count number pair old middle new before between after same_is number_is upto at
+    credits aims =
+    let here = subst (λ (t : Task). AimsAtSuspects t pair middle between after) same_is aims in
+    record {
+      most = upto.most + here.suspects + 1;
+      may = OnePair count upto.most here.suspects pair middle new upto.may at here.are
+          (subst (λ n. CreditsPair task pair n middle new) number_is
+          (subst (λ (t : Task). CreditsPair t pair number middle new) same_is credits));
+      few = let few = upto.few in let once = here.few in omega arith;
+    }
+
+-- the bits after one more pair are that pair's
+pub bits_after_more : (pairs : List (List Bool)) (from count : ℕ) (before bits : List Trit)
+    → bits ≡ trits_of (slice_index_or pairs (from + count) []) → bits ≡ bits_after pairs from (count + 1) before
+bits_after_more pairs from count before bits is =
+    is ∙ ap (λ k. bits_after pairs from k before) (let e : suc count ≡ count + 1 = omega arith in e)
+
+-- nothing is aimed at after one more pair
+pub aimed_after_more : (count : ℕ) (before aimed : Option ChipDefect) → aimed ≡ None
+    → aimed ≡ aimed_after (count + 1) before
+aimed_after_more count before aimed is =
+    is ∙ ap (λ k. aimed_after k before) (let e : suc count ≡ count + 1 = omega arith in e)

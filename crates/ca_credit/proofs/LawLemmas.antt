@@ -5,10 +5,12 @@ use Rattle.ca_flat.specs.declared.token.Token.{Token}
 use Rattle.ca_flat.specs.Code.{IsSpentCode}
 use Rattle.ca_flat.proofs.Codes.{no_code_is_spent_lem, pattern_bits_are_enough_lem}
 use Rattle.ca_flat.proofs.Filled.{detected_is_exposable_lem}
+use Rattle.ca_flat.proofs.PlainAbove.{suspect_is_allowed_lem}
 use Rattle.ca_credit.specs.Defects.{Task, IsDefectAt}
 use Rattle.ca_search.specs.Filled.{trits_of}
 use Rattle.ca_credit.specs.Good.{IsAmple}
 use Rattle.ca_credit.specs.Laws.{UnexposableIsUndetected, AmpleIsNeverAborted, PatternBitsAreNeverAborted}
+use Rattle.ca_credit.specs.Laws.{SuspectIsAllowedByRows}
 
 -- where the budget is ample no code is spent
 pub not_ample : (task : Task) (place : ℕ) (defect : ChipDefect) (code : List Token)
@@ -31,3 +33,9 @@ pub pattern_bits_are_never_aborted_lem : PatternBitsAreNeverAborted
 pattern_bits_are_never_aborted_lem task pairs aims verdicts place defect code good much has =
     pattern_bits_are_enough_lem task.chip defect task.budget code much
     (good.aborted place defect code has).spent
+
+pub suspect_is_allowed_by_rows_lem : SuspectIsAllowedByRows
+suspect_is_allowed_by_rows_lem chip defect pair firsts lasts searchable plain suspect good =
+    let flat = searchable.is_flat in
+    suspect_is_allowed_lem chip searchable.rank defect pair firsts lasts good flat.chip_is flat.good_is flat.defect_is
+    plain suspect

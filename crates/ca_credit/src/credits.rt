@@ -8,7 +8,7 @@ ghost use Rattle.ca_credit.specs.Table.{known_verdicts, AreAllKnown, verdict_at,
 ghost use Rattle.std.specs.Prelude.{◌-◌, min};
 ghost use Rattle.std.specs.List.{All};
 ghost use Rattle.ca_credit.specs.Table.{CreditsPair, CreditsBlock, credit_count};
-ghost use Rattle.ca_credit.specs.Aims.{AimsAtSuspects};
+ghost use Rattle.ca_credit.specs.Aims.{AimsAtSuspects, AimsOverBlock, aimed_after, bits_after};
 
 use crate::round::Round;
 use crate::simulator::Simulator;
@@ -92,7 +92,8 @@ impl Credits {
 
     /// Credits the pairs of the list from this place on, each with its place as its number, in ascending
     /// order: `BLOCK` of them, or all where fewer are left. Answers how many credits these are. The simulator
-    /// is aimed at no defect afterwards, unless there is no such pair.
+    /// has the bits of the last of these pairs afterwards, and is aimed at no defect. Where there is no such
+    /// pair nothing changes. For each pair it was aimed at suspect defects alone.
     pub fn credit_block<S: Simulator>(&mut self, sim: &mut S, pairs: &[Pair], from: usize) -> u32
         requires same { length self.old ≡ length (S.task sim.old).defects }
         requires few { length self.old < 2 ^ 32 }
@@ -104,6 +105,12 @@ impl Credits {
             (min BLOCK (length pairs.now - from)) self.new }
         ensures counted { credit_count self.new ≡ credit_count self.old + result }
         ensures task { S.task sim.new ≡ S.task sim.old }
+        ensures bits { S.bits sim.new
+            ≡ bits_after pairs.now from (min BLOCK (length pairs.now - from)) (S.bits sim.old) }
+        ensures aimed { S.aimed sim.new
+            ≡ aimed_after (min BLOCK (length pairs.now - from)) (S.aimed sim.old) }
+        ensures aims { AimsOverBlock (S.task sim.old) pairs.now from self.old
+            (min BLOCK (length pairs.now - from)) self.new (S.aims sim.old) (S.aims sim.new) }
     {
         let count = BLOCK.min(pairs.len() - from);
         let mut credited = 0;

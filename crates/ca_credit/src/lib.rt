@@ -11,7 +11,10 @@ mod verdict;
 mod verdicts;
 
 pub use credits::{BLOCK, Credits};
-pub use laws::{ample_is_never_aborted, pattern_bits_are_never_aborted, unexposable_is_undetected};
+pub use laws::{
+    ample_is_never_aborted, pattern_bits_are_never_aborted, suspect_is_allowed_by_rows,
+    unexposable_is_undetected,
+};
 pub use limit::MOST_PAIRS;
 pub use simulator::Simulator;
 pub use verdict::Verdict;

@@ -1,6 +1,5 @@
 -- What a search answers.
-use Rattle.std.specs.Prelude.{ℕ, ◌≡◌, List}
-use Rattle.ca_net.specs.declared.trit.Trit.{Trit}
+use Rattle.std.specs.Prelude.{ℕ, List}
 use Rattle.ca_flat.specs.declared.token.Token.{Token}
 use Rattle.ca_flat.specs.Code.{IsWholeBy, IsFrontBy, IsSpentBy}
 use Rattle.ca_search.specs.declared.trail.Outcome.{Outcome}
@@ -8,11 +7,10 @@ use Rattle.ca_search.specs.declared.trail.Outcome.TheVariants.{Found, Exhausted,
 use Rattle.ca_search.specs.SearchRules.{rules_for}
 use Rattle.ca_search.specs.Judged.{Judged, IsShownFor}
 
--- the budget of branches, the code that was written, and the pair at which the search stands
+-- the budget of branches, and the code that was written
 pub record Searched : Type 0 where
   pub budget : ℕ
   pub code : List Token
-  pub pair : List Trit
 
 -- found with a front whose next partial pair is in hand and is shown; exhausted with a whole code; spent with
 -- a spent code; each by the rules of a search
@@ -22,9 +20,3 @@ IsOutcome judged budget code Found =
     × IsShownFor judged.chip judged.aim judged.pair
 IsOutcome judged budget code Exhausted = IsWholeBy (rules_for judged.chip judged.aim) judged.chip code
 IsOutcome judged budget code Spent = IsSpentBy (rules_for judged.chip judged.aim) judged.chip budget code
-
--- where the search has found a pair, it is the one in hand
-abbrev pub IsKeptPair : Judged → List Trit → Outcome → Type 0
-IsKeptPair judged pair Found = pair ≡ judged.pair
-IsKeptPair judged pair Exhausted = Unit {0}
-IsKeptPair judged pair Spent = Unit {0}

@@ -1,6 +1,5 @@
 -- What only proofs of code cite: the decisions of a search, and how they stand to its code.
 use Rattle.std.specs.Prelude.{ℕ, ◌≡◌, ◌<◌, ◌≤◌, Bool, true, false, not, cond, List, [], ◌∷◌, length}
-use Rattle.std.specs.Prelude.{replicate}
 use Rattle.ca_net.specs.declared.trit.Trit.{Trit}
 use Rattle.ca_net.specs.declared.trit.Trit.TheVariants.{X}
 use Rattle.ca_net.specs.State.{value_at}
@@ -84,14 +83,9 @@ abbrev pub IsLeft : Bool → Judged → Trail → Type 0
 IsLeft true new trail = TrailStands new trail
 IsLeft false new trail = IsWholeBy (rules_for new.chip new.aim) new.chip (tokens_of trail.numbers.items)
 
--- the pair of the decisions
-abbrev pub trail_pair : Trail → List Trit
-trail_pair trail = pair_after trail.decisions.items (replicate trail.bits X)
-
 -- what contracts see of a search
 abbrev pub searched_of : Trail → Searched
 searched_of trail = record {
   budget = trail.budget;
   code = tokens_of trail.numbers.items;
-  pair = trail_pair trail;
 }

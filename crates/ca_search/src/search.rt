@@ -3,8 +3,7 @@
 ghost use Rattle.std.specs.Prelude.{◌≡◌, ◌≤◌, IfOk, IsSome};
 ghost use Rattle.ca_flat.specs.Code.{branch_count};
 ghost use Rattle.ca_search.specs.Judged.{IsSameAim};
-ghost use Rattle.ca_search.specs.Outcome.{IsOutcome, IsKeptPair};
-ghost use Rattle.ca_search.specs.Filled.{filled};
+ghost use Rattle.ca_search.specs.Outcome.{IsOutcome};
 
 use crate::code::Code;
 use crate::judge::Judge;
@@ -13,8 +12,7 @@ use ca_base::NoMemory;
 use std::alloc::Global;
 use std::marker::Model;
 
-/// The room of a search for a budget of branches, the code that it wrote, and the partial pair at which it
-/// stands. All room is taken by `reserve`.
+/// The room of a search for a budget of branches, and the code that it wrote. All room is taken by `reserve`.
 #[derive(Drop, Debug)]
 pub struct Search {
     trail: Trail,
@@ -46,16 +44,8 @@ impl Search {
         ensures budget { self.new.budget ≡ self.old.budget }
         ensures within { branch_count self.new.code ≤ self.new.budget }
         ensures outcome { IsOutcome (J.judged judge.new) self.new.budget self.new.code result }
-        ensures pair { IsKeptPair (J.judged judge.new) self.new.pair result }
     {
         self.trail.find(judge)
-    }
-
-    /// The pair at which the search stands, with 0 for each bit that is unset.
-    pub fn keep_pair(&self, alloc: Global) -> Result<Vec<bool>, NoMemory>
-        ensures { IfOk result (λ bits. bits.items ≡ filled self.now.pair) }
-    {
-        self.trail.filled(alloc)
     }
 
     /// The code that the search wrote.

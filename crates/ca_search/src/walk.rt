@@ -1,12 +1,11 @@
 //! The steps of a search, and the code that is written meanwhile.
 
-ghost use Rattle.std.specs.Prelude.{◌≡◌, ◌+◌, ◌*◌, ◌<◌, ◌≤◌, length, slice_set, IfOk, IsSome};
+ghost use Rattle.std.specs.Prelude.{◌≡◌, ◌+◌, ◌*◌, ◌<◌, ◌≤◌, length, IfOk, IsSome};
 ghost use Rattle.ca_flat.specs.Code.{branch_count};
 ghost use Rattle.ca_search.specs.Judged.{IsSameAim, MayLeaveHere, MayDecideHere};
 ghost use Rattle.ca_search.specs.Tokens.{tokens_of};
-ghost use Rattle.ca_search.specs.Filled.{filled};
-ghost use Rattle.ca_search.specs.Outcome.{IsOutcome, IsKeptPair};
-ghost use Rattle.ca_search.specs.Steps.{Follows, TrailStands, IsSameRoom, IsMove, IsTurn, IsLeft, trail_pair};
+ghost use Rattle.ca_search.specs.Outcome.{IsOutcome};
+ghost use Rattle.ca_search.specs.Steps.{Follows, TrailStands, IsSameRoom, IsMove, IsTurn, IsLeft};
 
 use crate::judge::{Judge, Standing};
 use crate::token::packed;
@@ -40,16 +39,6 @@ fn decide<J: Judge>(judge: &mut J) -> Move
     }
 }
 
-// Sets the bit, if it is one of these.
-fn set_bit(bits: &mut Vec<bool>, bit: u16, value: bool)
-    ensures { bits.new.items ≡ slice_set bits.old.items bit value }
-{
-    let place = bit as usize;
-    if place < bits.len() {
-        bits[place] = value;
-    }
-}
-
 impl Trail {
     /// Takes the room for so many branches.
     pub(crate) fn reserve(alloc: Global, budget: u32) -> Result<Self, NoMemory>
@@ -72,7 +61,6 @@ impl Trail {
         ensures within { branch_count (tokens_of self.new.numbers.items) ≤ self.new.budget }
         ensures outcome { IsOutcome (J.judged judge.new) self.new.budget
             (tokens_of self.new.numbers.items) result }
-        ensures pair { IsKeptPair (J.judged judge.new) (trail_pair self.new) result }
     {
         self.numbers.clear();
         self.decisions.clear();
@@ -157,16 +145,5 @@ impl Trail {
             }
         }
         false
-    }
-
-    /// The pair of the decisions, with 0 for each bit that is unset.
-    pub(crate) fn filled(&self, alloc: Global) -> Result<Vec<bool>, NoMemory>
-        ensures { IfOk result (λ bits. bits.items ≡ filled (trail_pair self.now)) }
-    {
-        let mut bits = vec![in alloc; false; self.bits]?;
-        for decision in &self.decisions {
-            set_bit(&mut bits, decision.bit, decision.value);
-        }
-        Ok(bits)
     }
 }

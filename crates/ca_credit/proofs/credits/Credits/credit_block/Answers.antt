@@ -1,13 +1,23 @@
-use Rattle.std.proofs.Common.{rules, arith, ◌≡◌, ◌<◌, ◌+◌, ◌∙◌, length, refl, sym, ap, Some}
+use Rattle.std.proofs.Common.{rules, arith, ◌<◌, ◌+◌, ◌∙◌, length, refl, sym, ap, Some, []}
 use Rattle.std.proofs.lemmas.Option.{slice_get-get_or}
-use Rattle.ca_credit.specs.Table.{credit_count, Begins}
+use Rattle.ca_search.specs.Filled.{trits_of}
+use Rattle.ca_credit.specs.Table.{Begins}
+use Rattle.ca_credit.proofs.AimLemmas.{block_aims_begin, block_aims_more, bits_after_more, aimed_after_more}
+use Rattle.ca_credit.proofs.DetectionLemmas.{get_or-other}
 use Rattle.ca_credit.proofs.TableLemmas.{credit_count_within, block_more}
 use Rattle.ca_credit.proofs.credits.Credits.credit_block.Goals as goal
 
 pub loop-k-init : goal.loop-k-init
-loop-k-init g c =
-    let count : credit_count c.args.self.now ≡ credit_count c.args.self.now + 0 = omega arith in
-    (Begins, count, refl, refl)
+loop-k-init g c = record {
+  credits = Begins;
+  counted = omega arith;
+  as_many = refl;
+  task = refl;
+  bits = refl;
+  aimed = refl;
+  aims = block_aims_begin (g.S.Simulator.task c.args.sim.now) c.args.pairs.now c.args.from c.args.self.now
+      (g.S.Simulator.aims c.args.sim.now);
+}
 
 pub overflow_add-credited : goal.overflow_add-credited
 overflow_add-credited g c =
@@ -20,18 +30,22 @@ overflow_add-credited g c =
 
 pub loop-k-preserved : goal.loop-k-preserved
 loop-k-preserved g c =
-    let task = g.S.Simulator.task c.args.sim.now in
     let was = c.loop-k.invariant in
     let turn = c.credit_pair-credited.ensures in
     let lt : c.args.from + c.loop-k.k < length c.args.pairs.now = search rules in
     let at = slice_get-get_or c.args.pairs.now (c.args.from + c.loop-k.k) c.index-pairs-from.result lt
     ∙ ap Some (sym c.index-pairs-from.is) in
-    let counted : credit_count c.credit_pair-credited.new.self
-    ≡ credit_count c.args.self.now + (c.loop-k.credited + c.credit_pair-credited.result) =
-    let before = was.1 in let now = turn.counted in omega arith in (
-      block_more task (g.S.Simulator.task c.loop-k.sim) c.args.pairs.now c.args.from c.loop-k.k _ _ c.args.self.now
-          c.loop-k.self c.credit_pair-credited.new.self was.3 refl was.0 at turn.credited,
-      counted,
-      turn.credited.as_many ∙ was.2,
-      turn.task ∙ was.3,
-    )
+    let old = g.S.Simulator.task c.args.sim.now in
+    let same = g.S.Simulator.task c.loop-k.sim in
+    record {
+      credits = block_more old same c.args.pairs.now c.args.from c.loop-k.k _ _ c.args.self.now
+          c.loop-k.self c.credit_pair-credited.new.self was.task refl was.credits at turn.credited;
+      counted = let before = was.counted in let now = turn.counted in omega arith;
+      as_many = turn.credited.as_many ∙ was.as_many;
+      task = turn.task ∙ was.task;
+      bits = bits_after_more c.args.pairs.now c.args.from c.loop-k.k _ _ (turn.bits ∙ ap trits_of (c.index-pairs-from.is
+          ∙ get_or-other c.args.pairs.now (c.args.from + c.loop-k.k) c.index-pairs-from.result [] lt));
+      aimed = aimed_after_more c.loop-k.k _ _ turn.aimed;
+      aims = block_aims_more old same c.args.pairs.now c.args.from c.loop-k.k _ _ c.args.self.now
+          c.loop-k.self c.credit_pair-credited.new.self _ _ _ was.task refl was.aims at turn.credited turn.aims;
+    }
