@@ -2,6 +2,7 @@
 use Rattle.std.proofs.Common.{◌≡◌, ℕ, zero, suc, Bool, true, false, List, [], ◌∷◌, ◌++◌, cond, refl, sym, ap, subst, ◌∙◌}
 use Rattle.std.proofs.Common.{◌||◌, eqb}
 use Rattle.std.specs.Prelude.{Option, Some, None, slice_get}
+use Rattle.std.proofs.lemmas.Bool.{eq-eqb}
 use Rattle.std.specs.List.{list_any}
 use Rattle.ca_wired.specs.Linked.{Body, Gate, Scan, Part, Chip, has}
 use Rattle.ca_wired.specs.Cells.{with_cell, used_from, used_cells}
@@ -15,7 +16,11 @@ has_more (place ∷ places) more cell there = by (eqb cell place) there
     by false there = has_more places more cell there
 
 has_last : (places : List ℕ) (cell : ℕ) → has (places ++ cell ∷ []) cell ≡ true
-has_last [] cell = simp cc
+has_last [] cell = by (eqb cell cell) (eq-eqb cell cell refl)
+  where
+    by : (b : Bool) → b ≡ true → (b || false) ≡ true
+    by true is = refl
+    by false is = absurd cc
 has_last (place ∷ places) cell = by (eqb cell place)
   where
     by : (b : Bool) → (b || has (places ++ cell ∷ []) cell) ≡ true

@@ -13,6 +13,6 @@ is_end-requires-clause-within c =
 
 pub loop-p-preserved : goal.loop-p-preserved
 loop-p-preserved c =
-    c.in_ok-push_if.ensures {u = tt}
+    c.in_ok-push_if.ensures.ok
     ∙ ap₂ (λ nets test. nets ++ (if test then c.port-port.result.now.net ∷ [] else [])) c.loop-p.invariant c.is_end.ensures
     ∙ sym (flat_more (end_nets c.args.draft.now c.args.is_input) c.args.draft.now.ports c.loop-p.p c.port-port.result.now c.port-port.ensures)
