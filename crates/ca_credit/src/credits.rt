@@ -71,7 +71,7 @@ impl Credits {
 
     /// Credits the pair, with its number, with each defect that it detects and that has no verdict yet or an
     /// aborted search. Answers how many these are. The simulator has the bits of the pair afterwards, and is
-    /// aimed at no defect. It was aimed at suspect defects alone.
+    /// aimed at no defect. It was aimed at most once more often than there are suspect defects.
     pub fn credit_pair<S: Simulator>(&mut self, sim: &mut S, pair: &Pair, number: u32) -> u32
         requires same { length self.old ≡ length (S.task sim.old).defects }
         requires few { length self.old < 2 ^ 32 }
@@ -93,7 +93,8 @@ impl Credits {
     /// Credits the pairs of the list from this place on, each with its place as its number, in ascending
     /// order: `BLOCK` of them, or all where fewer are left. Answers how many credits these are. The simulator
     /// has the bits of the last of these pairs afterwards, and is aimed at no defect. Where there is no such
-    /// pair nothing changes. For each pair it was aimed at suspect defects alone.
+    /// pair nothing changes. For each pair it was aimed at most once more often than there are suspect
+    /// defects.
     pub fn credit_block<S: Simulator>(&mut self, sim: &mut S, pairs: &[Pair], from: usize) -> u32
         requires same { length self.old ≡ length (S.task sim.old).defects }
         requires few { length self.old < 2 ^ 32 }

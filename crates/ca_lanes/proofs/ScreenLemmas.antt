@@ -12,9 +12,11 @@ use Rattle.ca_flat.specs.Chip.{Chip, instance_at, inputs_at, outputs_at, net_of,
 use Rattle.ca_flat.specs.Rows.{ListsExposingRows}
 use Rattle.ca_flat.specs.TwoFrame.{IsSuspect}
 use Rattle.ca_flat.proofs.TwoFrames.{unsuspected_is_undetected_lem, plain_is_never_opposite_lem}
+use Rattle.ca_flat.proofs.PlainAbove.{waves_are_below_plain_lem, suspect_is_allowed_lem}
 use Rattle.ca_lanes.specs.Choice.{Choice}
 use Rattle.ca_lanes.specs.Loaded.{trits_for, IsLoaded}
 use Rattle.ca_lanes.specs.Screened.{SaysSuspect, ClearBitMeansNoDetection, PlainInLaneIsNeverOpposite}
+use Rattle.ca_lanes.specs.Screened.{WavesAreBelowLane, SetBitIsAllowed}
 use Rattle.ca_lanes.specs.Allowed.{allowed_by, is_row_allowed}
 use Rattle.ca_lanes.specs.Evaluated.{pin_choices, masks_for}
 use Rattle.ca_lanes.proofs.AllowedLemmas.{in_zeros, in_ones}
@@ -81,6 +83,15 @@ clear_bit_means_no_detection_lem chip rank pair defect pins rows firsts lasts bi
 pub plain_in_lane_is_never_opposite_lem : PlainInLaneIsNeverOpposite
 plain_in_lane_is_never_opposite_lem chip rank pair firsts lasts good net is formed loaded on_net =
     plain_is_never_opposite_lem chip rank pair (trits_for firsts) (trits_for lasts) good net is formed loaded.two_frame on_net
+
+pub waves_are_below_lane_lem : WavesAreBelowLane
+waves_are_below_lane_lem chip rank pair firsts lasts good net is formed loaded on_net =
+    waves_are_below_plain_lem chip rank pair (trits_for firsts) (trits_for lasts) good net is formed loaded.two_frame on_net
+
+pub set_bit_is_allowed_lem : SetBitIsAllowed
+set_bit_is_allowed_lem chip rank pair defect pins rows firsts lasts bit good flat of loaded says set =
+    suspect_is_allowed_lem chip rank defect pair (trits_for firsts) (trits_for lasts) good flat.chip_is flat.good_is flat.defect_is
+    loaded.two_frame ((says chip rank pair defect flat.chip_is of loaded).0 set)
 
 -- the bit by other words
 pub bit_from : (bit : Bool) (firsts lasts same_firsts same_lasts : List Bool) (rows same_rows : List Row)

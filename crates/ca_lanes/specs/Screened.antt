@@ -11,6 +11,8 @@ use Rattle.ca_flat.specs.Chip.{Chip, instance_at, inputs_at, outputs_at, count_o
 use Rattle.ca_flat.specs.Flat.{flat}
 use Rattle.ca_flat.specs.Pair.{DetectsAt}
 use Rattle.ca_flat.specs.Rows.{ListsExposingRows}
+use Rattle.ca_flat.specs.PlainWaves.{IsBelowPlain}
+use Rattle.ca_flat.specs.RuleOut.{RowsRuleOut}
 use Rattle.ca_flat.specs.TwoFrame.{IsSuspect, IsNeverOpposite}
 use Rattle.ca_flat.specs.Waves.{FlatWaves, wave_of, IsFlatChip}
 use Rattle.ca_lanes.specs.Choice.{Choice}
@@ -66,3 +68,19 @@ PlainInLaneIsNeverOpposite =
     → IsLoaded chip pair firsts lasts → net < length chip.nets
     → IsNeverOpposite (value_at (trits_for firsts) net) (value_at (trits_for lasts) net)
     (wave_of good net).first (wave_of good net).last
+
+-- the wave of each net is at or below the values that are read in a lane
+abbrev pub WavesAreBelowLane : Type 0
+WavesAreBelowLane =
+    (chip : Chip) (rank : ℕ → ℕ) (pair : List Trit) (firsts lasts : List Choice)
+    (good : FlatWaves chip None pair) (net : ℕ) → IsChip chip rank → IsWellFormed (flat chip None)
+    → IsLoaded chip pair firsts lasts → net < length chip.nets
+    → IsBelowPlain (wave_of good net) (value_at (trits_for firsts) net) (value_at (trits_for lasts) net)
+
+-- a bit that is set says that the waves don't rule the pair out by the exposing rows
+abbrev pub SetBitIsAllowed : Type 0
+SetBitIsAllowed =
+    (chip : Chip) (rank : ℕ → ℕ) (pair : List Trit) (defect : ChipDefect) (pins : List ℕ) (rows : List Row)
+    (firsts lasts : List Choice) (bit : Bool) (good : FlatWaves chip None pair) → IsFlatChip chip rank defect
+    → AreOfDefect chip defect pins rows → IsLoaded chip pair firsts lasts
+    → SaysSuspect pins rows firsts lasts bit → bit ≡ true → ¬ (RowsRuleOut chip defect pair good)

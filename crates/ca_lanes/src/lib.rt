@@ -22,7 +22,8 @@ pub use constants::Constant;
 pub use good_rows::GoodRows;
 pub use laws::{
     bare_rows_are_unknown, clear_bit_means_no_detection, defects_are_screenable,
-    netlists_are_readable, plain_in_lane_is_never_opposite,
+    netlists_are_readable, plain_in_lane_is_never_opposite, set_bit_is_allowed,
+    waves_are_below_lane,
 };
 pub use netlist::{Instance, Netlist};
 pub use plane::{LANES, Plane};
