@@ -4,3 +4,4 @@ pub mod LoopLemmas
 pub mod HeaderLemmas
 pub mod DriverLemmas
 pub mod RuleLemmas
+pub mod ChainLemmas

@@ -273,7 +273,7 @@ ports_few chip input (port ∷ ports) =
     omega (arith, later, here, both)
 
 -- an instance of a library cell has no scan nets
-abbrev IsGateBody : Body → Type 0
+abbrev pub IsGateBody : Body → Type 0
 IsGateBody (body.Gate cell inputs outputs) = ⊤
 IsGateBody (body.Scan pins) = ⊥
 
@@ -297,7 +297,7 @@ no_d (body.Gate cell inputs outputs) is = refl
 no_d (body.Scan pins) is = absurd is
 
 module _ (n : ℕ) (are : AreSpelled (chip_gates n) (chip_outputs n)) (chip : Chip) (link : IsLinkOf (chip_wiring n) chip) where
-  bodies : (u : ℕ) (part : Part) → slice_get chip.parts u ≡ Some part → IsGateBody part.body
+  pub bodies : (u : ℕ) (part : Part) → slice_get chip.parts u ≡ Some part → IsGateBody part.body
   bodies u part at =
       let lt = slice_get_within chip.parts u part at in
       let same = link.same_parts in

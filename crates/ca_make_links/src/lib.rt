@@ -1,8 +1,9 @@
-//! Generated chips link: the law that they keep the rules of linking, and each chip, linked.
+//! Generated chips link: the laws that they keep the rules of linking and have no scan chains, and each chip,
+//! linked.
 #![tactic(auto)]
 
 mod chips;
 mod laws;
 
 pub use chips::made_chip;
-pub use laws::chip_keeps_rules;
+pub use laws::{chip_has_no_chains, chip_keeps_rules};
