@@ -6,14 +6,17 @@ use Rattle.std.proofs.lemmas.Bool.{eq-eqb}
 use Rattle.std.specs.List.{list_any}
 use Rattle.ca_wired.specs.Linked.{Body, Gate, Scan, Part, Chip, has}
 use Rattle.ca_wired.specs.Cells.{with_cell, used_from, used_cells}
+use Rattle.ca_wired.proofs.PartLemmas.{has_contains}
+use Rattle.ca_wired.proofs.OrderLemmas.{place_of}
 
 has_more : (places more : List ℕ) (cell : ℕ) → has places cell ≡ true → has (places ++ more) cell ≡ true
 has_more [] more cell there = absurd cc
-has_more (place ∷ places) more cell there = by (eqb cell place) there
+has_more (place ∷ places) more cell there = by (eqb cell place) there (has_more places more cell)
   where
-    by : (b : Bool) → (b || has places cell) ≡ true → (b || has (places ++ more) cell) ≡ true
-    by true there = refl
-    by false there = has_more places more cell there
+    by : (b : Bool) → (b || has places cell) ≡ true
+        → (has places cell ≡ true → has (places ++ more) cell ≡ true) → (b || has (places ++ more) cell) ≡ true
+    by true there later = refl
+    by false there later = later there
 
 has_last : (places : List ℕ) (cell : ℕ) → has (places ++ cell ∷ []) cell ≡ true
 has_last [] cell = by (eqb cell cell) (eq-eqb cell cell refl)
@@ -21,11 +24,11 @@ has_last [] cell = by (eqb cell cell) (eq-eqb cell cell refl)
     by : (b : Bool) → b ≡ true → (b || false) ≡ true
     by true is = refl
     by false is = absurd cc
-has_last (place ∷ places) cell = by (eqb cell place)
+has_last (place ∷ places) cell = by (eqb cell place) (has_last places cell)
   where
-    by : (b : Bool) → (b || has (places ++ cell ∷ []) cell) ≡ true
-    by true = refl
-    by false = has_last places cell
+    by : (b : Bool) → has (places ++ cell ∷ []) cell ≡ true → (b || has (places ++ cell ∷ []) cell) ≡ true
+    by true later = refl
+    by false later = later
 
 -- what was used stays so
 kept : (places : List ℕ) (body : Body) (cell : ℕ) → has places cell ≡ true → has (with_cell places body) cell ≡ true
@@ -62,3 +65,8 @@ used_at places (first ∷ more) (suc u) part cell inputs outputs at body =
 pub cell_is_used : (chip : Chip) (u : ℕ) (part : Part) (cell : ℕ) (inputs outputs : List ℕ) → slice_get chip.parts u ≡ Some part
     → part.body ≡ Gate cell inputs outputs → has (used_cells chip) cell ≡ true
 cell_is_used chip u part cell inputs outputs at body = used_at [] chip.parts u part cell inputs outputs at body
+
+-- a place that the list has stands somewhere in it
+pub has_place : (places : List ℕ) (cell : ℕ) → has places cell ≡ true → (k : ℕ) × (slice_get places k ≡ Some cell)
+has_place places cell there =
+    let found = has_contains places cell there in (found.0, place_of places cell found)
