@@ -150,8 +150,8 @@ fn pins(text: &mut Text, chip: &Chip, u: InstanceId) -> Result<(), NoMemory>
     Ok(())
 }
 
-// Appends the name of a library instance, its cell's, the place of the cell in the library, and its place in
-// the order.
+// Appends the name of a library instance, its cell's, the number of the cell among those that are used, how
+// many these are, and its place in the order.
 fn places(text: &mut Text, chip: &Chip, u: InstanceId) -> Result<(), NoMemory>
     requires within { u.0 < length chip.now.parts }
     requires library { IsLibrary chip.now u.0 }
@@ -161,11 +161,13 @@ fn places(text: &mut Text, chip: &Chip, u: InstanceId) -> Result<(), NoMemory>
     text.append(chip.cell_name(u).as_bytes())?;
     text.append(b" cell")?;
     number(text, chip.cell_number(u))?;
+    text.append(b" of")?;
+    number(text, chip.cells())?;
     text.append(b" place")?;
     number(text, chip.place(u))
 }
 
-// Appends a library instance: its name and its cell's, the place of the cell in the library, its place in the
+// Appends a library instance: its name and its cell's, the number of the cell, its place in the
 // order, the nets of its pins, and whether it stands there and is found by its name.
 fn instance(text: &mut Text, chip: &Chip, u: InstanceId) -> Result<(), NoMemory> {
     if u.0 as usize >= chip.parts() || !chip.is_library(u) {

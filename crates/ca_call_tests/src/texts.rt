@@ -74,11 +74,11 @@ out z 3
  7: pin 3 0 read 4
 inputs 0 1 2
 outputs 3 z
-u1 INV cell 0 place 0 pins 1 4 found
-u2 NAND2 cell 1 place 1 pins 1 2 5 found
-u3 NAND2 cell 1 place 2 pins 4 2 6 found
-u4 NAND2 cell 1 place 3 pins 5 6 7 found
-u5 NAND2 cell 1 place 4 pins 0 7 3 found
+u1 INV cell 0 of 2 place 0 pins 1 4 found
+u2 NAND2 cell 1 of 2 place 1 pins 1 2 5 found
+u3 NAND2 cell 1 of 2 place 2 pins 4 2 6 found
+u4 NAND2 cell 1 of 2 place 3 pins 5 6 7 found
+u5 NAND2 cell 1 of 2 place 4 pins 0 7 3 found
 ";
 
 // What is told of `c17`.
@@ -103,12 +103,12 @@ out N23 6
  10: pin 3 0 read 5
 inputs 0 1 2 3 4
 outputs 5 6 N22 N23
-g0 NAND2 cell 1 place 0 pins 0 2 7 found
-g1 NAND2 cell 1 place 1 pins 2 3 8 found
-g2 NAND2 cell 1 place 2 pins 1 8 9 found
-g3 NAND2 cell 1 place 3 pins 8 4 10 found
-g4 NAND2 cell 1 place 4 pins 7 9 5 found
-g5 NAND2 cell 1 place 5 pins 9 10 6 found
+g0 NAND2 cell 0 of 1 place 0 pins 0 2 7 found
+g1 NAND2 cell 0 of 1 place 1 pins 2 3 8 found
+g2 NAND2 cell 0 of 1 place 2 pins 1 8 9 found
+g3 NAND2 cell 0 of 1 place 3 pins 8 4 10 found
+g4 NAND2 cell 0 of 1 place 4 pins 7 9 5 found
+g5 NAND2 cell 0 of 1 place 5 pins 9 10 6 found
 ";
 
 // What is told of `acc`.
@@ -138,7 +138,7 @@ out so 8
  13: pin 2 1 read
 inputs 0 1 9 10
 outputs 6 7 7 6 y[1] y[0] r0/D r1/D
-u1 FA28 cell 2 place 0 pins 1 9 10 6 7 found
+u1 FA28 cell 0 of 1 place 0 pins 1 9 10 6 7 found
 r0 SFF/D 7 9 5 11 2 3 4
 r1 SFF/D 6 10 11 8 2 3 4
 ";
@@ -164,9 +164,9 @@ out y[4] 6
  8: constant 1 is 1 read 1
 inputs 0 1 2 3
 outputs 4 3 5 6 z[1] z[0] y[3] y[4]
-v NAND2 cell 1 place 1 pins 7 2 4 found
-u NAND2 cell 1 place 0 pins 0 8 7 found
-t INV cell 0 place 2 pins 1 5 found
+v NAND2 cell 0 of 2 place 1 pins 7 2 4 found
+u NAND2 cell 0 of 2 place 0 pins 0 8 7 found
+t INV cell 1 of 2 place 2 pins 1 5 found
 ";
 
 /// Netlists, each with what is told of its chip.
