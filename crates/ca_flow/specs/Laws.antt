@@ -1,12 +1,9 @@
--- Laws of causes, of names and of a limit, each the contract of a function that does nothing (src/laws.rt).
+-- Laws of causes and of names, each the contract of a function that does nothing (src/laws.rt).
 use Rattle.std.specs.Prelude.{◌≡◌, ◌⊎◌, ℕ, List, [], Option, Some, IsSomeAnd, ⊤}
 use Rattle.ca_cell.specs.declared.raw.RawCell.{RawCell}
 use Rattle.ca_cell.specs.Rules.{KeepsRules}
 use Rattle.ca_defect.specs.Laws.{DefectsDiffer}
 use Rattle.ca_spice.specs.Called.{cell_called}
-use Rattle.ca_load.specs.declared.cells.TheConstants.{MAX_CELLS}
-use Rattle.ca_load.specs.declared.netlists.TheConstants.{MAX_NETLIST}
-use Rattle.ca_load.specs.declared.tables.TheConstants.{MAX_SCAN}
 use Rattle.ca_fault.specs.declared.fault.Fault.{Fault}
 use Rattle.ca_fault.specs.declared.fault.Fault.TheVariants.{BadWords, Cells, Netlist, Scan, Chip, Chain}
 use Rattle.ca_fault.specs.declared.fault.Fault.TheVariants.{NoCell, Cell, BadVector, NoInstance, NoDefect}
@@ -92,7 +89,3 @@ abbrev pub NamesMeanOneDefect : Type 0
 NamesMeanOneDefect =
     (bytes word : List ℕ) (raw : RawCell) → cell_called bytes word ≡ Some raw → KeepsRules raw
     → DefectsDiffer raw
-
--- a cell netlist has at most 16 MiB, a gate netlist 64 MiB, and a table of scan cells 1 MiB
-abbrev pub SizeIsLimited : Type 0
-SizeIsLimited = (MAX_CELLS ≡ 16777216) × ((MAX_NETLIST ≡ 67108864) × (MAX_SCAN ≡ 1048576))

@@ -2,7 +2,7 @@
 
 ghost use Rattle.std.specs.Prelude.{ℕ, List, Option};
 ghost use Rattle.ca_flow.specs.Laws.{HasOneCause, AnswerableHasNoCause, SomeCauseOrAnswer, CauseIsTold};
-ghost use Rattle.ca_flow.specs.Laws.{NamesMeanOneDefect, SizeIsLimited};
+ghost use Rattle.ca_flow.specs.Laws.{NamesMeanOneDefect};
 
 /// Of one list of words, of any but a command on a chip, and one file at most one fault of the words or of
 /// the contents has a cause.
@@ -29,9 +29,4 @@ pub fn cause_is_told()
 /// A name means one defect of a cell that was read, on the command line and in the header of a matrix's file.
 pub fn names_mean_one_defect()
     ensures { NamesMeanOneDefect }
-{}
-
-/// The greatest sizes of files.
-pub fn size_is_limited()
-    ensures { SizeIsLimited }
 {}

@@ -15,7 +15,6 @@ pub use ca_generate::{Unwatched, Watch};
 pub use ca_on_cell::{PinValue, PinValues};
 pub use finished::{Done, Finished};
 pub use laws::{
-    answerable_has_no_cause, cause_is_told, names_mean_one_defect, one_cause, size_is_limited,
-    some_cause_or_answer,
+    answerable_has_no_cause, cause_is_told, names_mean_one_defect, one_cause, some_cause_or_answer,
 };
 pub use top::run;

@@ -1,5 +1,7 @@
--- The law by which the end of a search is one that a bench may tell.
-use Rattle.std.specs.Prelude.{ℕ, ◌≤◌, List, Some}
+-- The laws that the end of a search is one that a bench may tell, and that too many pairs need more
+-- defects that can be exposed.
+use Rattle.std.specs.Prelude.{ℕ, ◌<◌, ◌≤◌, Bool, List, length, Some}
+use Rattle.std.specs.List.{Contains}
 use Rattle.ca_net.specs.declared.trit.Trit.{Trit}
 use Rattle.ca_flat.specs.declared.chip_defect.ChipDefect.{ChipDefect}
 use Rattle.ca_flat.specs.declared.token.Token.{Token}
@@ -7,7 +9,10 @@ use Rattle.ca_flat.specs.Code.{branch_count}
 use Rattle.ca_search.specs.declared.trail.Outcome.{Outcome}
 use Rattle.ca_search.specs.Judged.{Judged}
 use Rattle.ca_search.specs.Outcome.{IsOutcome}
-use Rattle.ca_credit.specs.Defects.{Task, IsSearchable}
+use Rattle.ca_credit.specs.declared.limit.TheConstants.{MOST_PAIRS}
+use Rattle.ca_credit.specs.Defects.{Task, IsDefectAt, IsExposableIn, IsSearchable}
+use Rattle.ca_generate.specs.declared.fault.GenerateFault.TheVariants.{TooManyPairs}
+use Rattle.ca_generate.specs.GenerateFault.{IsCause}
 use Rattle.ca_generate.specs.Outcome.{IsSearch}
 
 -- what a search for the defect is told: the chip of the task, the places of its instances, the defect, and
@@ -23,3 +28,17 @@ OutcomeIsSearch =
     (outcome : Outcome) → IsSearchable task.chip defect → branch_count code ≤ task.budget
     → IsOutcome (judged_for task places defect partial) task.budget code outcome
     → IsSearch task defect code partial outcome
+
+-- the list has the place of each defect of the task that some pair of vectors exposes
+abbrev pub HasExposable : Task → List ℕ → Type 0
+HasExposable task places =
+    (place : ℕ) (defect : ChipDefect) → IsDefectAt task place defect → IsExposableIn task.chip defect
+    → Contains places place
+
+-- where one pair more was found than may be listed, for defects whose flat networks are networks, more of
+-- these can be exposed than pairs may be listed: each list that has the places of all that can is longer
+abbrev pub TooManyNeedsExposable : Type 0
+TooManyNeedsExposable =
+    (task : Task) (pairs : List (List Bool)) (aims places : List ℕ)
+    → ((place : ℕ) (defect : ChipDefect) → IsDefectAt task place defect → IsSearchable task.chip defect)
+    → HasExposable task places → IsCause task (TooManyPairs pairs aims) → MOST_PAIRS < length places

@@ -12,5 +12,5 @@ mod work;
 pub use bench::Bench;
 pub use fault::{Aims, GenerateFault};
 pub use generated::{Generated, generate};
-pub use laws::outcome_is_search;
+pub use laws::{outcome_is_search, too_many_needs_exposable};
 pub use watch::{Unwatched, Watch};

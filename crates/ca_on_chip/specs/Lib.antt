@@ -1,3 +1,4 @@
+pub mod Limits
 pub mod OnChip
 pub mod Replay
 pub mod Making

@@ -2,12 +2,14 @@
 #![tactic(auto)]
 
 mod chips;
+mod laws;
 mod lines;
 mod making;
 mod replays;
 mod tests;
 
 pub use chips::{FlatChip, SimulatedChip, find_flat, find_simulation};
+pub use laws::limits;
 pub use lines::{check_line, flatten_line, replay_lines, simulate_lines};
 pub use making::{MAKE_BUDGET, MadeChip, find_made};
 pub use replays::{MAX_ORDER, ReplayedChip, find_replay};
