@@ -11,6 +11,7 @@ use ca_trial::{Commands, play_files};
 use std::alloc::Global;
 
 // The commands of `cellaware`.
+#[derive(Drop)]
 struct Cellaware;
 
 impl Commands for Cellaware {

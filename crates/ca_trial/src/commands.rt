@@ -1,10 +1,10 @@
 //! The lines of a case file that run commands.
 
-use crate::failing::{tell_cuts, tell_failures};
+use crate::answers::report;
+use crate::failing::{report_cuts, report_failures};
 use crate::lines::{call_of, whole_text};
 use crate::setup::{Put, Setup};
 use crate::stop::Stop;
-use crate::told::tell;
 use crate::trial::{Commands, left_by};
 use ca_base::NoMemory;
 use ca_lex::Text;
@@ -41,12 +41,12 @@ pub(crate) fn play<C: Commands>(
         "cut" => cut(alloc, commands, answers, setup, words, rest),
         _ => {
             let call = call_of(rest)?;
-            Ok(tell_failures(alloc, commands, answers, setup, words, call)?)
+            Ok(report_failures(alloc, commands, answers, setup, words, call)?)
         }
     }
 }
 
-// Runs the command and tells what it leaves.
+// Runs the command and reports what it leaves.
 fn run<C: Commands>(
     alloc: Global,
     commands: &mut C,
@@ -56,9 +56,9 @@ fn run<C: Commands>(
     put: Option<Put<'_>>,
 ) -> Result<(), NoMemory> {
     let left = left_by(alloc, commands, setup, words, put, None)?;
-    let told = tell(answers, setup, words, put, &left);
+    let reported = report(answers, setup, words, put, &left);
     drop(left);
-    told
+    reported
 }
 
 // The command with another text of a file, which has one.
@@ -131,7 +131,7 @@ fn cut<C: Commands>(
     name: &str,
 ) -> Result<(), Stop> {
     match setup.text_of(name) {
-        Some(text) => Ok(tell_cuts(alloc, commands, answers, setup, words, Put { name, text })?),
+        Some(text) => Ok(report_cuts(alloc, commands, answers, setup, words, Put { name, text })?),
         None => Err(Stop::Form),
     }
 }

@@ -18,8 +18,9 @@ struct Counts {
     refused: usize,
 }
 
-/// Appends how many of the first parts of a text are accepted and refused. One that is neither is told alone.
-pub(crate) fn tell_cuts<C: Commands>(
+/// Appends how many of the first parts of a text are accepted and refused. One that is
+/// neither is reported by itself.
+pub(crate) fn report_cuts<C: Commands>(
     alloc: Global,
     commands: &mut C,
     text: &mut Text,
@@ -88,9 +89,9 @@ fn count_status(
 }
 
 /// Appends how many runs there are in which a call of this kind fails, up to the first run that has fewer. In
-/// each the file is told, nothing is printed, and the files are as they are to be; one that isn't so is told
-/// alone.
-pub(crate) fn tell_failures<C: Commands>(
+/// each the file is named, nothing is printed, and the files are as they are to be; one that is not
+/// so is reported by itself.
+pub(crate) fn report_failures<C: Commands>(
     alloc: Global,
     commands: &mut C,
     text: &mut Text,
@@ -99,13 +100,13 @@ pub(crate) fn tell_failures<C: Commands>(
     call: StoreCall,
 ) -> Result<(), NoMemory> {
     let whole = left_by(alloc, commands, setup, words, None, None)?;
-    let told = tell_runs(alloc, commands, text, setup, words, call, &whole);
+    let reported = report_runs(alloc, commands, text, setup, words, call, &whole);
     drop(whole);
-    told
+    reported
 }
 
 // The same, beside what the command leaves where nothing fails.
-fn tell_runs<C: Commands>(
+fn report_runs<C: Commands>(
     alloc: Global,
     commands: &mut C,
     text: &mut Text,
@@ -124,7 +125,7 @@ fn tell_runs<C: Commands>(
     text.append(b"too many runs\n")
 }
 
-// Whether there is such a call. Where the run isn't as promised its number is told.
+// Whether there is such a call. Where the run isn't as promised its number is reported.
 fn has_failed<C: Commands>(
     alloc: Global,
     commands: &mut C,
@@ -146,10 +147,10 @@ fn has_failed<C: Commands>(
     Ok(has_failed)
 }
 
-// The name of the file that is told as the fault's.
+// The name of the file in the line of the fault.
 fn failed_file(left: &Left) -> Option<&str> {
-    let told = str::from_utf8(left.errors.bytes()).ok()?;
-    let (_, name) = told.split_once("cellaware: file fault: ")?;
+    let reported = str::from_utf8(left.errors.bytes()).ok()?;
+    let (_, name) = reported.split_once("cellaware: file fault: ")?;
     let (name, _) = name.split_once("\n")?;
     Some(name)
 }

@@ -1,6 +1,7 @@
 //! Case files: tables of commands over files in memory, played, with the answers as a text.
 #![tactic(auto)]
 
+mod answers;
 mod commands;
 mod failing;
 mod lines;
@@ -9,7 +10,6 @@ mod script;
 mod setup;
 mod stop;
 mod texts;
-mod told;
 mod trial;
 
 pub use played::play_files;

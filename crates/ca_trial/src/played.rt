@@ -32,7 +32,7 @@ fn prints_file<C: Commands>(rt: HostRuntime, commands: &mut C, name: &str) -> bo
     let is_whole = match play_file(rt, commands, name, &mut script) {
         Ok(()) => true,
         Err(broken) => {
-            let _told = tell_broken(&mut script.answers, name, broken);
+            let _reported = report_broken(&mut script.answers, name, broken);
             false
         }
     };
@@ -85,7 +85,7 @@ fn play_text<C: Commands>(commands: &mut C, text: &str, script: &mut Script) -> 
 }
 
 // Appends where a case file isn't played on.
-fn tell_broken(text: &mut Text, name: &str, broken: Broken) -> Result<(), NoMemory> {
+fn report_broken(text: &mut Text, name: &str, broken: Broken) -> Result<(), NoMemory> {
     text.append(b"broken: ")?;
     text.append(name.as_bytes())?;
     text.append(b", line ")?;

@@ -61,7 +61,7 @@ impl Script {
     }
 
     /// After the last line: the last case has a command. The numbers of cases and of lines with commands are
-    /// told.
+    /// reported.
     pub(crate) fn end(&mut self) -> Result<(), Stop> {
         self.end_case()?;
         self.answers.push(b'\n')?;
@@ -107,7 +107,7 @@ impl Script {
         Ok(self.answers.push(b'\n')?)
     }
 
-    // Plays a line that runs commands, and tells what they leave.
+    // Plays a line that runs commands, and reports what they leave.
     fn play<C: Commands>(
         &mut self,
         commands: &mut C,

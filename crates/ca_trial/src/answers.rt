@@ -7,7 +7,7 @@ use ca_base::NoMemory;
 use ca_lex::Text;
 
 /// Appends the answer of a command.
-pub(crate) fn tell(
+pub(crate) fn report(
     text: &mut Text,
     setup: &Setup,
     words: &[String],
@@ -19,8 +19,8 @@ pub(crate) fn tell(
     text.push(b'\n')?;
     show_lines(text, b"out ", left.output.bytes())?;
     show_lines(text, b"err ", left.errors.bytes())?;
-    tell_changed(text, setup, put, left)?;
-    tell_added(text, setup, words, put, left)
+    report_changed(text, setup, put, left)?;
+    report_added(text, setup, words, put, left)
 }
 
 /// What a file holds before a command.
@@ -33,7 +33,7 @@ pub(crate) fn before<'a>(setup: &'a Setup, put: Option<Put<'a>>, name: &str) -> 
 
 // Appends the names of the files that hold something else than before. A file with a second text is named
 // once, since it is looked at where it stands last.
-fn tell_changed(
+fn report_changed(
     text: &mut Text,
     setup: &Setup,
     put: Option<Put<'_>>,
@@ -43,7 +43,7 @@ fn tell_changed(
         let name = &setup.files[place].name;
         let is_last = !is_named(setup, place, name);
         if is_last && left.store.bytes(name) != before(setup, put, name) {
-            tell_file(text, setup, b"changed ", name, left)?;
+            report_file(text, setup, b"changed ", name, left)?;
         }
     }
     Ok(())
@@ -60,7 +60,7 @@ fn is_named(setup: &Setup, place: usize, name: &str) -> bool {
 }
 
 // Appends the names of new files. A command names each file that it makes.
-fn tell_added(
+fn report_added(
     text: &mut Text,
     setup: &Setup,
     words: &[String],
@@ -69,14 +69,14 @@ fn tell_added(
 ) -> Result<(), NoMemory> {
     for word in words {
         if before(setup, put, word).is_none() && left.store.bytes(word).is_some() {
-            tell_file(text, setup, b"added ", word, left)?;
+            report_file(text, setup, b"added ", word, left)?;
         }
     }
     Ok(())
 }
 
 // Appends a file's name, and the lines of it that are to be shown.
-fn tell_file(
+fn report_file(
     text: &mut Text,
     setup: &Setup,
     what: &[u8],
@@ -91,14 +91,14 @@ fn tell_file(
     };
     for show in &setup.shows {
         if show.name.as_str() == name {
-            tell_lines(text, show, bytes)?;
+            report_lines(text, show, bytes)?;
         }
     }
     Ok(())
 }
 
 // Appends the lines of a file that are to be shown.
-fn tell_lines(text: &mut Text, show: &Show, bytes: &[u8]) -> Result<(), NoMemory> {
+fn report_lines(text: &mut Text, show: &Show, bytes: &[u8]) -> Result<(), NoMemory> {
     if show.lines.is_empty() {
         return show_lines(text, b"| ", bytes);
     }
