@@ -77,7 +77,7 @@ fn work_of(done: &Done) -> Work {
 }
 
 // The work that is done over a store in which one call fails, and an output of this room.
-fn work(
+fn work_left(
     alloc: Global,
     line: &str,
     call: StoreCall,
@@ -128,7 +128,7 @@ static ROWS: [(&str, StoreCall, u32, usize, Option<Work>); 7] = [
 #[test]
 fn what_an_output_does_not_take_is_still_done(rt: HostRuntime) -> Result<(), Fail> {
     for (line, call, number, room, wanted) in &ROWS {
-        let found = work(rt.alloc(), line, *call, *number, *room)?;
+        let found = work_left(rt.alloc(), line, *call, *number, *room)?;
         assert_eq!(rt; found, *wanted, "at {line}");
     }
     Ok(())
