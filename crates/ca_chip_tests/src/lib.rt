@@ -1,7 +1,5 @@
-//! Tests of linking, as tables.
+//! What linking counts, as tables.
 #![tactic(auto)]
 
-#[cfg(test)]
-mod instances;
 #[cfg(test)]
 mod linking;

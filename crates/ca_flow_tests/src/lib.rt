@@ -1,9 +1,5 @@
-//! How commands end in cases that were worked out by hand. It has no code but its tests.
+//! What only the calls of `ca_flow` show of how a command ends. It has no code but its tests.
 #![tactic(auto)]
 
 #[cfg(test)]
-mod answers;
-#[cfg(test)]
-mod commands;
-#[cfg(test)]
-mod rows;
+mod ends;

@@ -2,7 +2,7 @@
 
 use ca_base::NoMemory;
 use ca_verilog::{
-    Direction, RawBit, RawBus, RawInstance, RawNetlist, RawSpan, RawUse, VerilogFault, read_netlist,
+    Direction, RawBit, RawBus, RawInstance, RawNetlist, RawSpan, RawUse, read_netlist,
 };
 use std::alloc::Global;
 use std::test::Fail;
@@ -192,27 +192,6 @@ fn readings(rt: HostRuntime) -> Result<(), Fail> {
         assert!(rt; answer.as_slice() == expected.as_bytes(), "{expected}");
     }
     Ok(())
-}
-
-#[test]
-fn too_many_bits(rt: HostRuntime) {
-    let past: [(&[u8], usize); 3] = [
-        (b"module m; wire [131071:0] a; wire b; endmodule", 131_073),
-        (
-            b"module m(a); wire [131071:1] b; input [2:1] a; endmodule",
-            131_073,
-        ),
-        (
-            b"module m; wire [0:131071] a, b; wire c; endmodule",
-            262_145,
-        ),
-    ];
-    for (text, count) in past {
-        match read_netlist(rt.alloc(), text) {
-            Err(fault) => assert_eq!(rt; fault, VerilogFault::TooManyNets { count }),
-            Ok(_) => assert!(rt; false, "read: {count}"),
-        }
-    }
 }
 
 // A text with so many copies of a part between its front and its end.

@@ -1,12 +1,11 @@
-//! Chains: scan instances and ports by the numbers of their nets, each chip with its chains or the fault.
+//! Chains: scan instances and ports by the numbers of their nets, each chip with its chains.
 
 ghost use Rattle.ca_wired.specs.Drivers.{IsDrafted};
 
 use crate::drafts::is_drafted;
-use Told::{Broken, Listed};
 use ca_cell::Library;
 use ca_lex::Text;
-use ca_scan::{ChainFault, Chains, MOST_CHAINS, trace};
+use ca_scan::{ChainFault, Chains, trace};
 use ca_wired::{Body, Chip, Draft, InstanceList, Part, PortBit, ScanNets, judge, wire};
 use std::alloc::Global;
 
@@ -21,12 +20,8 @@ enum Port {
     Output(u32),
 }
 
-/// What is told of a chip: its chains, or the scan instance that is on none.
-#[derive(Clone, Copy)]
-enum Told {
-    Listed(&'static [&'static [u32]]),
-    Broken(u32),
-}
+/// The chains of a chip, each by its scan instances.
+type Lists = &'static [&'static [u32]];
 
 // A scan instance; its data input is on the net of its output.
 fn part(alloc: Global, scan: Scan) -> Part {
@@ -153,53 +148,52 @@ fn are_chains(chains: &[InstanceList], lists: &[&[u32]]) -> bool {
     true
 }
 
-// Whether this is told of a chip that was traced.
-fn is_told(traced: &Result<Chains, ChainFault>, told: Told) -> bool {
-    match (traced, told) {
-        (Ok(chains), Listed(lists)) => are_chains(chains.as_slice(), lists),
-        (Err(ChainFault::ChainBroken { instance }), Broken(u)) => instance.0 == u,
-        _ => false,
+// Whether a chip that was traced has these chains.
+fn has_lists(traced: &Result<Chains, ChainFault>, lists: Lists) -> bool {
+    match traced {
+        Ok(chains) => are_chains(chains.as_slice(), lists),
+        Err(_) => false,
     }
 }
 
-// Whether this is told of a chip.
-fn tells(alloc: Global, chip: &Chip, told: Told) -> bool {
+// Whether a chip has these chains.
+fn has_chains(alloc: Global, chip: &Chip, lists: Lists) -> bool {
     let traced = trace(alloc, chip);
-    let is_so = is_told(&traced, told);
+    let is_so = has_lists(&traced, lists);
     drop(traced);
     is_so
 }
 
-// Whether this is told of the chip of so many nets, if there is such a chip.
-fn tells_of(
+// Whether the chip of so many nets has these chains, if there is such a chip.
+fn has_chains_of(
     alloc: Global,
     nets: usize,
     scans: &[Scan],
     ports: &[Port],
-    told: Told,
+    lists: Lists,
 ) -> Option<bool> {
     let chip = chip(alloc, nets, scans, ports)?;
-    let is_so = tells(alloc, &chip, told);
+    let is_so = has_chains(alloc, &chip, lists);
     drop(chip);
     Some(is_so)
 }
 
-const CHIPS: [(usize, &[Scan], &[Port], Told); 13] = [
+const CHIPS: [(usize, &[Scan], &[Port], Lists); 6] = [
     // No scan instances: no chains, also where an input port is an output port.
-    (3, &[], &[], Listed(&[])),
-    (4, &[], &[Port::Input(3), Port::Output(3)], Listed(&[])),
+    (3, &[], &[], &[]),
+    (4, &[], &[Port::Input(3), Port::Output(3)], &[]),
     // A chain, in the order in which it is shifted, whatever the order of the netlist.
     (
         8,
         &[Scan(3, 5, 6), Scan(4, 6, 7)],
         &[Port::Input(5), Port::Output(7)],
-        Listed(&[&[0, 1]]),
+        &[&[0, 1]],
     ),
     (
         8,
         &[Scan(3, 6, 7), Scan(4, 5, 6)],
         &[Port::Output(7), Port::Input(5)],
-        Listed(&[&[1, 0]]),
+        &[&[1, 0]],
     ),
     // Two chains, in the order of their scan-in ports.
     (
@@ -211,145 +205,23 @@ const CHIPS: [(usize, &[Scan], &[Port], Told); 13] = [
             Port::Input(5),
             Port::Output(8),
         ],
-        Listed(&[&[1], &[0]]),
+        &[&[1], &[0]],
     ),
     // The output of a scan instance may be at a port.
     (
         6,
         &[Scan(3, 4, 5)],
         &[Port::Input(4), Port::Output(5), Port::Output(3)],
-        Listed(&[&[0]]),
-    ),
-    // The last scan-out is at no port.
-    (
-        8,
-        &[Scan(3, 5, 6), Scan(4, 6, 7)],
-        &[Port::Input(5)],
-        Broken(0),
-    ),
-    // A loop of one beside a chain, and a loop of two.
-    (
-        8,
-        &[Scan(3, 5, 6), Scan(4, 7, 7)],
-        &[Port::Input(5), Port::Output(6)],
-        Broken(1),
-    ),
-    (7, &[Scan(3, 5, 6), Scan(4, 6, 5)], &[], Broken(0)),
-    // A scan-out that is also at an output port, or at two; two scan-ins at one input port.
-    (
-        8,
-        &[Scan(3, 5, 6), Scan(4, 6, 7)],
-        &[Port::Input(5), Port::Output(6), Port::Output(7)],
-        Broken(0),
-    ),
-    (
-        6,
-        &[Scan(3, 4, 5)],
-        &[Port::Input(4), Port::Output(5), Port::Output(5)],
-        Broken(0),
-    ),
-    (
-        8,
-        &[Scan(3, 5, 6), Scan(4, 5, 7)],
-        &[Port::Input(5), Port::Output(6), Port::Output(7)],
-        Broken(0),
-    ),
-    // Two scan-ins on one scan-out, behind a chain that is whole.
-    (
-        13,
-        &[
-            Scan(3, 7, 8),
-            Scan(4, 9, 10),
-            Scan(5, 10, 11),
-            Scan(6, 10, 12),
-        ],
-        &[
-            Port::Input(7),
-            Port::Output(8),
-            Port::Input(9),
-            Port::Output(11),
-            Port::Output(12),
-        ],
-        Broken(1),
+        &[&[0]],
     ),
 ];
 
-// The chip with so many chains of one scan instance.
-fn chip_of_chains(alloc: Global, count: u32) -> Option<Chip> {
-    if count > 100 {
-        return None;
-    }
-    let mut scans = Vec::new(alloc);
-    let mut ports = Vec::new(alloc);
-    for k in 0..count {
-        let si = 3 + count + 2 * k;
-        if scans.push(Scan(3 + k, si, si + 1)).is_err() {
-            return None;
-        }
-        if ports.push(Port::Input(si)).is_err() || ports.push(Port::Output(si + 1)).is_err() {
-            return None;
-        }
-    }
-    chip(alloc, 3 + 3 * count as usize, &scans, &ports)
-}
-
-/// How many chains are told: so many, or so many that are too many.
-#[derive(Clone, Copy)]
-enum Count {
-    Whole(usize),
-    TooMany(usize),
-    Untold,
-}
-
-// How many chains a chip has that was traced.
-fn counted(traced: &Result<Chains, ChainFault>) -> Count {
-    match traced {
-        Ok(chains) => Count::Whole(chains.len()),
-        Err(ChainFault::TooManyChains { count }) => Count::TooMany(*count),
-        Err(_) => Count::Untold,
-    }
-}
-
-// How many chains a chip has.
-fn count_of(alloc: Global, chip: &Chip) -> Count {
-    let traced = trace(alloc, chip);
-    let count = counted(&traced);
-    drop(traced);
-    count
-}
-
-// How many chains are told of the chip with so many, if there is such a chip.
-fn count_of_chains(alloc: Global, chains: u32) -> Option<Count> {
-    let chip = chip_of_chains(alloc, chains)?;
-    let count = count_of(alloc, &chip);
-    drop(chip);
-    Some(count)
-}
-
 #[test]
 fn chains_of_chips(rt: HostRuntime) {
-    for (nets, scans, ports, told) in CHIPS {
-        match tells_of(rt.alloc(), nets, scans, ports, told) {
+    for (nets, scans, ports, lists) in CHIPS {
+        match has_chains_of(rt.alloc(), nets, scans, ports, lists) {
             Some(is_so) => assert!(rt; is_so, "{nets} nets"),
             None => panic!(rt; "no chip of {nets} nets"),
         }
-    }
-}
-
-#[test]
-fn sixty_four_chains(rt: HostRuntime) {
-    match count_of_chains(rt.alloc(), 64) {
-        Some(Count::Whole(count)) => assert!(rt; count == 64 && MOST_CHAINS == 64),
-        Some(_) => panic!(rt; "no chains"),
-        None => panic!(rt; "no chip"),
-    }
-}
-
-#[test]
-fn sixty_five_chains(rt: HostRuntime) {
-    match count_of_chains(rt.alloc(), 65) {
-        Some(Count::TooMany(count)) => assert!(rt; count == 65),
-        Some(_) => panic!(rt; "not too many chains"),
-        None => panic!(rt; "no chip"),
     }
 }

@@ -1,6 +1,6 @@
-//! Scan tables: texts, each with what it reads as, or with the record that breaks the form.
+//! Scan tables: texts, each with what it reads as.
 
-use ca_scan::{ScanFault, ScanRow, read_table};
+use ca_scan::{ScanRow, read_table};
 use std::alloc::Global;
 
 // The fields of a row, in the order of the header.
@@ -31,14 +31,6 @@ fn reads(alloc: Global, text: &[u8], cells: &[&[u8]]) -> bool {
         }
     }
     true
-}
-
-// Whether this record is told as the first that breaks the form.
-fn breaks_at(alloc: Global, text: &[u8], record: usize) -> bool {
-    match read_table(alloc, text) {
-        Err(ScanFault::BadScanRow { row }) => row == record,
-        _ => false,
-    }
 }
 
 const SOUND: [(&[u8], &[&[u8]]); 9] = [
@@ -79,76 +71,10 @@ const SOUND: [(&[u8], &[&[u8]]); 9] = [
     ),
 ];
 
-const BROKEN: [(&[u8], usize); 19] = [
-    // The header is compared as written.
-    (b"", 1),
-    (b"\n", 1),
-    (b"CELL,D,Q,QN,SI,SO,SE,CK,HOLD\n", 1),
-    (b"cell,d,q,qn,si,so,se,ck\n", 1),
-    (b"cell,d,q,qn,si,so,se,ck,hold,\n", 1),
-    (b"cell,q,d,qn,si,so,se,ck,hold\n", 1),
-    (b"cell,d,q,qn,si,so,se,ck,hold \n", 1),
-    (b"S,D,Q,QN,SI,SO,SE,CK,HOLD\n", 1),
-    // Eight fields, and ten.
-    (
-        b"cell,d,q,qn,si,so,se,ck,hold\nSDFF,D,Q,QN,SI,SO,SE,CK\n",
-        2,
-    ),
-    (
-        b"cell,d,q,qn,si,so,se,ck,hold\nSDFF,D,Q,QN,SI,SO,SE,CK,HOLD,\n",
-        2,
-    ),
-    // An empty name, and empty pins.
-    (
-        b"cell,d,q,qn,si,so,se,ck,hold\n,D,Q,QN,SI,SO,SE,CK,HOLD\n",
-        2,
-    ),
-    (
-        b"cell,d,q,qn,si,so,se,ck,hold\nSDFF,D,,QN,SI,SO,SE,CK,HOLD\n",
-        2,
-    ),
-    (b"cell,d,q,qn,si,so,se,ck,hold\nSDFF,D,Q,,SI,SO,SE,CK,\n", 2),
-    // A pin twice, also in the other case, and the inverted output as another pin.
-    (
-        b"cell,d,q,qn,si,so,se,ck,hold\nSDFF,D,Q,,SI,SO,SE,CK,se\n",
-        2,
-    ),
-    (
-        b"cell,d,q,qn,si,so,se,ck,hold\nSDFF,D,Q,q,SI,SO,SE,CK,HOLD\n",
-        2,
-    ),
-    // A cell twice, also in the other case; the later record is told.
-    (
-        b"cell,d,q,qn,si,so,se,ck,hold\nS,D,Q,,SI,SO,SE,CK,H\ns,D,Q,,SI,SO,SE,CK,H\n",
-        3,
-    ),
-    // Bytes outside 33 to 126.
-    (
-        b"cell,d,q,qn,si,so,se,ck,hold\nS S,D,Q,,SI,SO,SE,CK,HOLD\n",
-        2,
-    ),
-    (
-        b"cell,d,q,qn,si,so,se,ck,hold\nS,D,Q,,SI,SO,SE,CK,H\x7F\n",
-        2,
-    ),
-    // The first of two; blank lines are no records.
-    (
-        b"cell,d,q,qn,si,so,se,ck,hold\n\nS,D,Q,,SI,SO,SE,CK,H\n\nT,D,Q,,SI,SO,SE,CK\n\nU\n",
-        3,
-    ),
-];
-
 #[test]
 fn sound_tables(rt: HostRuntime) {
     for (text, cells) in SOUND {
         assert!(rt; reads(rt.alloc(), text, cells), "{text:?}");
-    }
-}
-
-#[test]
-fn broken_tables(rt: HostRuntime) {
-    for (text, record) in BROKEN {
-        assert!(rt; breaks_at(rt.alloc(), text, record), "{text:?}");
     }
 }
 

@@ -11,9 +11,7 @@ mod real_files;
 #[cfg(test)]
 mod row_library;
 #[cfg(test)]
-mod spice_faults;
-#[cfg(test)]
-mod spice_sizes;
+mod spice_readings;
 #[cfg(test)]
 mod stores;
 #[cfg(test)]

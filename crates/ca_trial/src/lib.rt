@@ -1,10 +1,16 @@
-//! One command over files and a sink in memory, and what it left behind: for the crates of tests above.
+//! Case files: tables of commands over files in memory, played, with the answers as a text.
 #![tactic(auto)]
 
-mod checks;
-mod library;
-mod trials;
+mod answers;
+mod commands;
+mod failing;
+mod lines;
+mod played;
+mod script;
+mod setup;
+mod stop;
+mod texts;
+mod trial;
 
-pub use checks::{Row, check_end, check_rows};
-pub use library::LIBRARY;
-pub use trials::{Limits, Trial, file_map, try_command, words_of};
+pub use played::play_files;
+pub use trial::Commands;
