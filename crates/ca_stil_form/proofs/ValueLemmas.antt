@@ -1,8 +1,8 @@
 -- The form allows the values of a chip with names of the form.
-use Rattle.std.proofs.Common.{◌≡◌, ℕ, zero, suc, ◌+◌, ◌-◌, ◌==◌, ◌<◌, ◌≤◌, ◌^◌, ◌/◌, ◌%◌, Bool, true, false}
+use Rattle.std.proofs.Common.{◌≡◌, ℕ, zero, suc, ◌+◌, ◌==◌, ◌<◌, ◌≤◌, ◌^◌, ◌/◌, ◌%◌, Bool, true, false}
 use Rattle.std.proofs.Common.{not, ◌&&◌, ◌||◌, List, [], ◌∷◌, ◌++◌, ◌∙◌, length, map, reverse, ap, arith}
-use Rattle.std.proofs.Common.{refl, sym, subst, true≢false}
-use Rattle.std.specs.Prelude.{decimal, get_or, nat_le, Option, Some, None, if◌then◌else◌}
+use Rattle.std.proofs.Common.{refl, sym, subst}
+use Rattle.std.specs.Prelude.{decimal, get_or, Option, if◌then◌else◌}
 use Rattle.std.specs.List.{All, AllByRecursion, list_all, list_any}
 use Rattle.std.specs.Str.{bytes_eq}
 use Rattle.std.proofs.lemmas.Bool.{eq-eqb, eqb-true, le-leb, ne_eqb}
@@ -19,15 +19,15 @@ use Rattle.ca_stil.specs.declared.chip.StilChip.{StilChip}
 use Rattle.ca_stil.specs.Chip as model
 use Rattle.ca_stil.specs.Chip.{part, width_of, IsPairOf, AreValuesOf, AreOf}
 use Rattle.ca_stil_form.specs.Form.{all_allowed, all_each, allowed_maybe}
-use Rattle.ca_stil_form.specs.Frame.{Names, Member, Scan, is_name, names_of, is_among, all_in, is_group}
-use Rattle.ca_stil_form.specs.Frame.{fits_in_order, fits_in_number, has_some, longest, load_member, unload_member}
+use Rattle.ca_stil_form.specs.Frame.{Names, Member, Scan, is_name, is_among, all_in}
+use Rattle.ca_stil_form.specs.Frame.{fits_in_order, has_some, longest, load_member, unload_member}
 use Rattle.ca_stil_form.specs.Frame.{group_member, key_inputs, key_outputs}
 use Rattle.ca_stil_form.specs.Pattern.{bits_form, levels_form, pair_form}
 use Rattle.ca_stil_form.specs.Whole.{signal_form, is_count, chain_form, numbered, ports_of, frame_of}
 use Rattle.ca_stil_form.specs.Whole.{scan_form, rest_form, scan_part, outputs_part, stil_form}
 use Rattle.ca_stil_form.specs.Value.{signal_seen, group_of, scan_of, values_of, in_chain, pair_values}
 use Rattle.ca_stil_form.specs.Value.{all_values, stil_value}
-use Rattle.ca_stil_form.specs.Allowed.{signal_names, HasScanGroups, HasScanGroupsIfAny, IsNamedChip}
+use Rattle.ca_stil_form.specs.Allowed.{signal_names, HasScanGroupsIfAny, IsNamedChip}
 use Rattle.ca_stil_form.proofs.FormLemmas.{left_true, right_true}
 use Rattle.ca_stil_form.proofs.NameLemmas.{names_named}
 use Rattle.ca_stil_form.proofs.PairTexts.{chain_seen, frame_seen, count_of, IsUpTo, frame_same, longest_same}

@@ -1,6 +1,6 @@
 -- Which chips have values that the form allows: the names are names of the form, the groups have signals in
 -- their order, and the chains have cells.
-use Rattle.std.specs.Prelude.{ℕ, ◌≡◌, ◌^◌, ◌<◌, ◌≤◌, Bool, true, false, List, [], ◌∷◌, length, map, ⊤}
+use Rattle.std.specs.Prelude.{◌≡◌, ◌^◌, ◌<◌, ◌≤◌, Bool, true, false, List, [], ◌∷◌, length, map, ⊤}
 use Rattle.std.specs.List.{All}
 use Rattle.ca_net.specs.declared.trit.Trit.{Trit}
 use Rattle.ca_stil.specs.declared.chip.Signal as code
