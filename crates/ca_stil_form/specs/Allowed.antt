@@ -17,7 +17,8 @@ signal_names input signals = names_of input (map signal_seen signals)
 
 -- the three control ports are inputs, each scan-in port is one, in the order of the chains, and each scan-out
 -- port is an output; each chain has cells
-pub record HasScanGroups (signals : List code.Signal) (controls : Names) (chains : List StilChain) : Type 0 where
+pub record HasScanGroups (signals : List code.Signal) (controls : Names)
+    (chains : List StilChain) : Type 0 where
   pub counted : length controls ≡ 3
   pub controls_in : all_in (signal_names true signals) controls ≡ true
   pub scan_ins : is_among (map (λ chain. chain.scan_in) chains) (signal_names true signals) ≡ true
