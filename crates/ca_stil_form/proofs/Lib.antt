@@ -11,3 +11,4 @@ mod ReadingLemmas
 mod TextLemmas
 mod PairTexts
 mod WholeText
+mod ValueLemmas

@@ -2,8 +2,8 @@
 use Rattle.std.proofs.Common.{◌≡◌, ℕ, zero, suc, ◌+◌, ◌-◌, ◌==◌, ◌<◌, ◌≤◌, ◌^◌, ◌/◌, ◌%◌, Bool, true, false}
 use Rattle.std.proofs.Common.{List, [], ◌∷◌, ◌++◌, ◌∙◌, length, map, drop, ap, arith, append_assoc}
 use Rattle.std.proofs.Common.{append-nil, length-drop, sym, refl, codes}
-use Rattle.std.specs.Prelude.{decimal, replicate, max, Option, Some, None, if◌then◌else◌}
-use Rattle.std.specs.List.{All, AllByRecursion}
+use Rattle.std.specs.Prelude.{decimal, replicate, max, if◌then◌else◌}
+use Rattle.std.specs.List.{AllByRecursion}
 use Rattle.std.proofs.lemmas.Fmt.{decimal_by_steps_wide}
 use Rattle.std.proofs.lemmas.List.{length-take-le}
 use Rattle.ca_lex.specs.Length.{number_of, with_digit}
@@ -16,17 +16,16 @@ use Rattle.ca_stil.specs.declared.chip.End.TheVariants as at
 use Rattle.ca_stil.specs.Chip as model
 use Rattle.ca_stil.specs.Chip.{part, width_of, end_of, ends_of, IsPairOf, AreValuesOf}
 use Rattle.ca_stil.specs.Words.{digit_of, level_of, key_text, cell_bits, cell_levels}
-use Rattle.ca_stil.specs.Pair.{state_text, states_text, levels_text, all_levels_text, steady_text, hold_text}
-use Rattle.ca_stil.specs.Pair.{vector_text, expected_text, unobserved_text, load_of_text, load_text}
-use Rattle.ca_stil.specs.Pair.{apply_text, half_text, first_text, second_text, capture_text, unload_of_text}
-use Rattle.ca_stil.specs.Pair.{unload_text, label_text, pair_text}
-use Rattle.ca_stil.specs.Text.{pairs_text}
-use Rattle.ca_stil_form.specs.Grammar.{text_until, text_each, pieces}
-use Rattle.ca_stil_form.specs.Frame.{Names, Chain, Frame, Scan, longest, load_member, unload_member}
+use Rattle.ca_stil.specs.Pair.{state_text, states_text, levels_text, all_levels_text, steady_text}
+use Rattle.ca_stil.specs.Pair.{vector_text, expected_text, unobserved_text, load_of_text}
+use Rattle.ca_stil.specs.Pair.{capture_text, unload_of_text}
+use Rattle.ca_stil.specs.Pair.{label_text}
+use Rattle.ca_stil_form.specs.Grammar.{text_each, pieces}
+use Rattle.ca_stil_form.specs.Frame.{Names, Chain, Frame, longest, load_member, unload_member}
 use Rattle.ca_stil_form.specs.Frame.{group_member, key_inputs, key_outputs, quoted}
 use Rattle.ca_stil_form.specs.Pattern.{bits_form, levels_form, steady, pair_form}
 use Rattle.ca_stil_form.specs.Whole.{numbered, ports_of, chains_of, size_of, frame_of}
-use Rattle.ca_stil_form.specs.Value.{group_of, scan_of, values_of, in_chain, pair_values, all_values}
+use Rattle.ca_stil_form.specs.Value.{group_of, scan_of, values_of, in_chain}
 
 -- a chain, and a chip, as the patterns are made for them
 abbrev pub chain_seen : StilChain → Chain

@@ -1,27 +1,23 @@
 -- The blocks of a chip's text are those of the form.
-use Rattle.std.proofs.Common.{◌≡◌, ℕ, zero, suc, ◌+◌, ◌-◌, ◌==◌, ◌<◌, ◌≤◌, ◌^◌, ◌/◌, ◌%◌, Bool, true, false}
-use Rattle.std.proofs.Common.{List, [], ◌∷◌, ◌++◌, ◌∙◌, length, map, drop, ap, arith, append_assoc}
-use Rattle.std.proofs.Common.{append-nil, length-drop, sym, refl, codes}
-use Rattle.std.specs.Prelude.{decimal, replicate, max, Option, Some, None, if◌then◌else◌}
-use Rattle.std.specs.List.{All, AllByRecursion, flat_map}
-use Rattle.std.proofs.lemmas.Fmt.{decimal_by_steps_wide}
-use Rattle.ca_lex.specs.Length.{number_of, with_digit}
-use Rattle.ca_lex.proofs.DigitLemmas.{fold_append}
+use Rattle.std.proofs.Common.{◌≡◌, ℕ, ◌+◌, Bool, true}
+use Rattle.std.proofs.Common.{List, [], ◌∷◌, ◌++◌, ◌∙◌, length, map, ap, append_assoc}
+use Rattle.std.proofs.Common.{sym, refl, codes}
+use Rattle.std.specs.Prelude.{decimal, Option}
+use Rattle.std.specs.List.{flat_map}
 use Rattle.ca_stil.specs.declared.chip.Signal as code
 use Rattle.ca_stil.specs.declared.chip.StilChain.{StilChain}
 use Rattle.ca_stil.specs.declared.chip.StilChip.{StilChip}
 use Rattle.ca_stil.specs.declared.chip.End.{End}
 use Rattle.ca_stil.specs.declared.chip.End.TheVariants as at
 use Rattle.ca_stil.specs.Chip.{end_of, ends_of}
-use Rattle.ca_stil.specs.Groups as blocks
 use Rattle.ca_stil.specs.Groups.{signal_text, group_text, group_if_any, scan_groups_text, scan_groups_if_any}
 use Rattle.ca_stil.specs.Frame as frame
 use Rattle.ca_stil_form.specs.Grammar.{text_until, text_each, pieces}
-use Rattle.ca_stil_form.specs.Frame.{Signal, Names, Scan, Chain, Frame, quoted, joined, longest}
+use Rattle.ca_stil_form.specs.Frame.{Signal, Names, Scan, quoted, joined}
 use Rattle.ca_stil_form.specs.Whole.{Rest, Ports, signal_form, group_form, scan_form, inputs_part}
-use Rattle.ca_stil_form.specs.Whole.{outputs_part, scan_part, rest_form, numbered, ports_of, chains_of}
-use Rattle.ca_stil_form.specs.Whole.{chain_form, size_of, frame_of, input_waves, output_waves, scan_waves}
-use Rattle.ca_stil_form.specs.Whole.{chains_begin, chains_end, timing, shifted, macro, pattern_begins}
+use Rattle.ca_stil_form.specs.Whole.{outputs_part, scan_part, rest_form, numbered, ports_of}
+use Rattle.ca_stil_form.specs.Whole.{chain_form, input_waves, output_waves, scan_waves}
+use Rattle.ca_stil_form.specs.Whole.{chains_begin, chains_end, shifted, macro}
 use Rattle.ca_stil_form.specs.Value.{signal_seen, group_of, scan_of}
 
 -- the lines of the signals

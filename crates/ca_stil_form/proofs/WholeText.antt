@@ -1,6 +1,6 @@
 -- The whole text of a chip is that of the form.
-use Rattle.std.proofs.Common.{◌≡◌, ℕ, suc, ◌+◌, ◌<◌, ◌≤◌, ◌^◌, Bool, List, [], ◌∷◌, ◌++◌, ◌∙◌, length, map}
-use Rattle.std.proofs.Common.{ap, arith, append_assoc, sym, refl, codes}
+use Rattle.std.proofs.Common.{◌≡◌, ℕ, suc, ◌+◌, ◌<◌, ◌^◌, Bool, List, [], ◌∷◌, ◌++◌, ◌∙◌, length, map}
+use Rattle.std.proofs.Common.{arith, append_assoc, sym, refl, codes}
 use Rattle.std.specs.List.{All, AllByRecursion, flat_map}
 use Rattle.ca_net.specs.declared.trit.Trit.{Trit}
 use Rattle.ca_stil.specs.declared.chip.StilChain.{StilChain}
@@ -16,8 +16,8 @@ use Rattle.ca_stil.specs.Text.{structure_text, frame_text, pairs_text, patterns_
 use Rattle.ca_stil_form.specs.Grammar.{text_until, text_each}
 use Rattle.ca_stil_form.specs.Frame.{longest}
 use Rattle.ca_stil_form.specs.Pattern.{pair_form}
-use Rattle.ca_stil_form.specs.Whole.{rest_form, ports_of, chain_form, chains_begin, chains_end, stil_form}
-use Rattle.ca_stil_form.specs.Value.{group_of, scan_of, pair_values, all_values, stil_value}
+use Rattle.ca_stil_form.specs.Whole.{ports_of, chain_form, chains_begin, chains_end, stil_form}
+use Rattle.ca_stil_form.specs.Value.{scan_of, pair_values, all_values, stil_value}
 use Rattle.ca_stil_form.proofs.TextLemmas.{signals_same, groups_same, input_waves_same, output_waves_same}
 use Rattle.ca_stil_form.proofs.TextLemmas.{scan_waves_same, structures_same, macro_same}
 use Rattle.ca_stil_form.proofs.PairTexts.{chain_seen, frame_seen, count_of, IsUpTo, frame_same, longest_same}

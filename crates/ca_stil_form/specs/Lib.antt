@@ -7,3 +7,4 @@ pub mod Pattern
 pub mod Whole
 pub mod Value
 pub mod Reading
+pub mod Allowed

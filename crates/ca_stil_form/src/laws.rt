@@ -10,6 +10,7 @@ ghost use Rattle.ca_stil_form.specs.Reading.{whole, IsWritten, IsFirstFaulty};
 ghost use Rattle.ca_stil_form.specs.Tokens.{tokens_of};
 ghost use Rattle.ca_stil_form.specs.Whole.{Stil, stil_form};
 ghost use Rattle.ca_stil_form.specs.Value.{stil_value};
+ghost use Rattle.ca_stil_form.specs.Allowed.{NamedValuesAreAllowed};
 
 /// Tokens read as some values exactly where they are the tokens of these values' text; and they are faulty
 /// exactly at their first token that no text of the form has behind the tokens before it, or at their end
@@ -43,4 +44,9 @@ pub fn chip_text_is_of_the_form()
         → longest chip.chains < 2 ^ 64 → AreOf chip pairs expected
         → stil_form.allowed (stil_value chip pairs expected) ≡ true
         → whole stil_form (tokens_of (stil_text chip pairs expected)) ≡ Ok (stil_value chip pairs expected) }
+{}
+
+/// The form allows the values of each chip whose names, groups and chains are as it asks.
+pub fn named_values_are_allowed()
+    ensures { NamedValuesAreAllowed }
 {}

@@ -3,4 +3,6 @@
 
 mod laws;
 
-pub use laws::{chip_text_is_of_the_form, stil_is_read_back, stil_reading};
+pub use laws::{
+    chip_text_is_of_the_form, named_values_are_allowed, stil_is_read_back, stil_reading,
+};

@@ -1,0 +1,4 @@
+mod ListLemmas
+mod PortLemmas
+mod ChipLemmas
+mod ValueLemmas
