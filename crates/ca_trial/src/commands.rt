@@ -23,8 +23,8 @@ pub(crate) fn words_of(alloc: Global, letters: &str) -> Result<Vec<String>, Stop
     Ok(words)
 }
 
-/// Plays a line: the command as it stands, again with another text of a file, with a piece of it altered, with
-/// each first part of it, or with each call of a kind failing once.
+/// Plays a line: the command as it stands, again with another text of a file, with a piece of it altered,
+/// with each first part of it, or with each call of a kind failing once.
 pub(crate) fn play<C: Commands>(
     alloc: Global,
     commands: &mut C,

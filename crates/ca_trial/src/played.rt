@@ -10,8 +10,8 @@ use ca_lex::Text;
 use ca_store::{StdSink, write_all};
 use std::env;
 
-/// Plays the case files that the program's words name, one after another, and prints their answers. The answer
-/// is the exit status: 0, or 1 where a case file isn't played to its end or not all is printed.
+/// Plays the case files that the program's words name, one after another, and prints their answers. The
+/// answer is the exit status: 0, or 1 where a case file isn't played to its end or not all is printed.
 pub fn play_files<C: Commands>(rt: HostRuntime, commands: &mut C) -> u8 {
     let Ok(mut words) = env::args(&rt) else {
         return 1;
