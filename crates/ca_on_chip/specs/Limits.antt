@@ -1,11 +1,14 @@
--- How much there may be of what a command is given.
-use Rattle.std.specs.Prelude.{◌≡◌}
+-- How much there may be of what a command is given, and what is printed where there is more.
+use Rattle.std.specs.Prelude.{◌≡◌, ◌++◌, codes, decimal}
+use Rattle.ca_cell.specs.declared.library.TheConstants.{MOST_CELLS}
 use Rattle.ca_make.specs.declared.gate.TheConstants.{MOST_GATES}
 use Rattle.ca_verilog.specs.declared.netlist.TheConstants.{MOST_BITS}
 use Rattle.ca_chip.specs.declared.fault.TheConstants.{MOST_INSTANCES, MOST_CHIP_INPUTS, MOST_CHIP_OUTPUTS}
 use Rattle.ca_chip.specs.declared.fault.TheConstants.{MOST_CHIP_DEFECTS}
 use Rattle.ca_scan.specs.declared.whole.TheConstants.{MOST_CHAINS}
 use Rattle.ca_credit.specs.declared.limit.TheConstants.{MOST_PAIRS}
+use Rattle.ca_fault.specs.declared.fault.LimitKind.TheVariants as limit
+use Rattle.ca_fault.specs.KindText.{most_text}
 use Rattle.ca_load.specs.declared.cells.TheConstants.{MAX_CELLS}
 use Rattle.ca_load.specs.declared.netlists.TheConstants.{MAX_NETLIST}
 use Rattle.ca_load.specs.declared.tables.TheConstants.{MAX_SCAN}
@@ -37,3 +40,13 @@ pub record TestLimits : Type 0 where
   pub budget : MOST_BUDGET ≡ 65536
   pub gates : MOST_GATES ≡ 4096
   pub make_budget : MAKE_BUDGET ≡ 64
+
+-- the number that is printed beside what there is too much of is that of its limit
+pub record LimitTexts : Type 0 where
+  pub cells : most_text limit.Cells ≡ codes " cells, at most " ++ decimal MOST_CELLS
+  pub nets : most_text limit.Nets ≡ codes " nets, at most " ++ decimal MOST_BITS
+  pub instances : most_text limit.Instances ≡ codes " instances, at most " ++ decimal MOST_INSTANCES
+  pub inputs : most_text limit.Inputs ≡ codes " inputs, at most " ++ decimal MOST_CHIP_INPUTS
+  pub outputs : most_text limit.Outputs ≡ codes " outputs, at most " ++ decimal MOST_CHIP_OUTPUTS
+  pub defects : most_text limit.Defects ≡ codes " defects, at most " ++ decimal MOST_CHIP_DEFECTS
+  pub chains : most_text limit.Chains ≡ codes " chains, at most " ++ decimal MOST_CHAINS
