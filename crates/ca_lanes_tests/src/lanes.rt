@@ -3,7 +3,7 @@
 ghost use Rattle.std.specs.Prelude.{◌≡◌, ◌≤◌};
 ghost use Rattle.ca_lanes.specs.Planes.{net_count};
 
-use crate::netlists::{NETS, good_rows, netlist, some_pairs};
+use crate::netlists::{NETS, good_rows, hazard, netlist, some_pairs};
 use crate::readable::{have_bits, is_readable, is_screenable};
 use ca_defect::{Row, Rows};
 use ca_lanes::{GoodRows, LANES, Netlist, Plane, Planes};
@@ -144,4 +144,31 @@ fn values_and_suspects_are_those_worked_out_by_hand(rt: HostRuntime) {
     let pair = pairs.pop().expect(&rt, "a pair");
     load(&rt, &mut planes, &netlist, &goods, from_ref(&pair));
     check_values(&rt, &planes, 1);
+}
+
+// The first and the last value of each of the nets from 3 on, where a goes from 0 to 1 and b from 1 to 0.
+const AFTER_HAZARD: [(Trit, Trit); 4] = [(ZERO, ONE), (ONE, ONE), (ZERO, ZERO), (ONE, ONE)];
+
+// A row of definite vectors shows no hazard, so that the charge is kept by the plain values. In the waves it
+// isn't.
+#[test]
+fn a_charge_is_kept_plainly_after_a_hazard(rt: HostRuntime) {
+    let alloc = rt.alloc();
+    let goods = good_rows(alloc).expect(&rt, "memory");
+    let netlist = hazard(alloc).expect(&rt, "memory");
+    let mut planes = Planes::reserve(alloc, NETS).expect(&rt, "memory");
+    let pairs = some_pairs(alloc, &[[false, true, true, false]], 1).expect(&rt, "memory");
+    load(&rt, &mut planes, &netlist, &goods, &pairs);
+    for place in 0..4 {
+        assert_eq!(rt;
+            planes.value(3 + place, 0),
+            AFTER_HAZARD[place],
+            "net {}",
+            3 + place
+        );
+    }
+    drop(pairs);
+    drop(planes);
+    drop(netlist);
+    drop(goods);
 }

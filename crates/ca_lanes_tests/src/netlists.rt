@@ -1,4 +1,4 @@
-//! A netlist of four instances, and pairs.
+//! Two netlists of four instances each, and pairs.
 
 use ca_base::NoMemory;
 use ca_lanes::{Constant, GoodRows, Instance, Netlist};
@@ -24,12 +24,19 @@ const NAND: [Trit; 16] = [
     ONE, ONE, ONE, ZERO, ONE, ONE, ONE, ZERO, ONE, ONE, ONE, ZERO, ONE, ONE, ONE, ZERO,
 ];
 
-// The good rows of the three cells.
+// The rows of a cell that pulls up where its first pin is 0 and down where its second one is 1, and else
+// keeps what it had.
+const KEEP: [Trit; 16] = [
+    ONE, X, ONE, ZERO, ONE, X, X, ZERO, ONE, X, X, ZERO, ONE, X, ZERO, ZERO,
+];
+
+// The good rows of the four cells.
 pub(crate) fn good_rows(alloc: Global) -> Result<Vec<GoodRows>, NoMemory> {
     let mut goods = Vec::new(alloc);
     goods.push(GoodRows::new(alloc, 1, 1, Vec::from_array(alloc, INV)?)?)?;
     goods.push(GoodRows::new(alloc, 1, 1, Vec::from_array(alloc, KEEPER)?)?)?;
     goods.push(GoodRows::new(alloc, 2, 1, Vec::from_array(alloc, NAND)?)?)?;
+    goods.push(GoodRows::new(alloc, 2, 1, Vec::from_array(alloc, KEEP)?)?)?;
     Ok(goods)
 }
 
@@ -59,6 +66,30 @@ pub(crate) fn netlist(alloc: Global) -> Result<Netlist, NoMemory> {
         constants: Vec::from_array(alloc, [unknown])?,
         instances,
         order: Vec::from_array(alloc, [3, 0, 2, 1])?,
+    })
+}
+
+// Net 3 is the inverse of b, net 4 the NAND of both, which has a hazard where b changes, net 5 its inverse,
+// and net 6 what the fourth cell makes of a and that.
+pub(crate) fn hazard(alloc: Global) -> Result<Netlist, NoMemory> {
+    let mut instances = Vec::new(alloc);
+    for (cell, first, second) in [(0, 1, 3), (0, 4, 5)] {
+        instances.push(Instance {
+            cell,
+            pins: Vec::from_array(alloc, [first, second])?,
+        })?;
+    }
+    for (cell, first, second, output) in [(2, 1, 3, 4), (3, 0, 5, 6)] {
+        instances.push(Instance {
+            cell,
+            pins: Vec::from_array(alloc, [first, second, output])?,
+        })?;
+    }
+    Ok(Netlist {
+        inputs: Vec::from_array(alloc, [0, 1])?,
+        constants: Vec::new(alloc),
+        instances,
+        order: Vec::from_array(alloc, [0, 2, 1, 3])?,
     })
 }
 
