@@ -1,4 +1,6 @@
 mod ListLemmas
+mod SymbolLemmas
+mod NameLemmas
 mod PortLemmas
 mod ChipLemmas
 mod ValueLemmas

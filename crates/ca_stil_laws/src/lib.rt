@@ -2,5 +2,7 @@
 #![tactic(auto)]
 
 mod laws;
+mod names;
 
 pub use laws::{chip_text_is_read, chip_values_are_allowed};
+pub use names::ports_are_named;
