@@ -85,13 +85,6 @@ impl<'a> CoreLinks<'a> {
             inputs,
         })
     }
-
-    /// The chip.
-    pub fn chip(&self) -> &'a Chip
-        ensures { result.now ≡ self.now.chip }
-    {
-        self.chip
-    }
 }
 
 impl<'a> LinkedChip for CoreLinks<'a> {
