@@ -305,14 +305,24 @@ fn told_of(
     (text, told.aims, told.evaluations)
 }
 
-// Three of the nine defects of an inverter are detected where its input falls, and four are suspect.
+// Three of the nine defects of an inverter are detected where its input falls, and four are suspect. Each of
+// these is aimed at or compared with one that is, which takes an evaluation.
 #[test]
 fn a_falling_input_of_an_inverter(rt: HostRuntime) {
     let alloc = rt.alloc();
     let pairs = drawn_pairs(alloc, 1, 1, 1, 2).expect(&rt, "memory");
-    let (text, aims, _) = told_of(&rt, alloc, INV, 0, pairs.as_slice(), 2, Asked::Singles);
+    let (text, aims, evaluations) = told_of(
+        &rt,
+        alloc,
+        INV,
+        0,
+        pairs.as_slice(),
+        2,
+        Asked::Singles,
+    );
     assert!(rt; text.as_bytes().starts_with(b"3 "), "{:?}", text.as_bytes());
-    assert!(rt; aims <= 6, "{aims}");
+    assert!(rt; 1 <= aims && aims <= 6, "{aims}");
+    assert!(rt; evaluations >= 4, "{evaluations}");
 }
 
 // The credits of 257 pairs in two blocks, which are those of the pairs one by one. The bits of a pair are
@@ -366,7 +376,8 @@ fn inverters(alloc: Global, count: usize) -> Option<String> {
     Some(text)
 }
 
-// Without a screen each of 200 pairs would be tried on nearly all of 900 defects.
+// Without a screen each of 200 pairs would be tried on nearly all of 900 defects. Each pair is aimed at one
+// at least, and each of the 600 defects is aimed at or compared with one that is.
 #[test]
 fn a_hundred_inverters(rt: HostRuntime) {
     let alloc = rt.alloc();
@@ -383,6 +394,9 @@ fn a_hundred_inverters(rt: HostRuntime) {
     let wanted =
         b"defects 900, credited 600, unexposable 300, untestable 0, aborted 0, empty 0, pairs 200";
     assert!(rt; text.is(wanted), "{:?}", text.as_bytes());
-    assert!(rt; aims <= 2_000, "{aims}");
-    assert!(rt; evaluations <= 400_000, "{evaluations}");
+    assert!(rt; 200 <= aims && aims <= 2_000, "{aims}");
+    assert!(rt;
+        600 <= evaluations && evaluations <= 400_000,
+        "{evaluations}"
+    );
 }

@@ -65,7 +65,7 @@ module _ (chip : Chip) (place_of number_of : ℕ → ℕ) (linked : IsLinked chi
   value_of_input bits bit = pinned.free input _ lt ∙ value_here chip.inputs bits bit input lt
       (λ j less e. let same : j ≡ input = pinned.distinct j input (omega arith) lt e in absurd (omega arith))
 
-  wave_of_input : (bits : List Trit) → pair_wave chip bits (slice_index chip.inputs input) ≡ pair_of (value_at bits input) (value_at bits (length chip.inputs + input))
+  pub wave_of_input : (bits : List Trit) → pair_wave chip bits (slice_index chip.inputs input) ≡ pair_of (value_at bits input) (value_at bits (length chip.inputs + input))
   wave_of_input bits =
       let first : net_value chip bits 0 (slice_index chip.inputs input) ≡ value_at bits input = value_of_input bits 0 ∙ ap (value_at bits) (let e : 0 + input ≡ input = omega arith in e) in
       let last = value_of_input bits (length chip.inputs) in

@@ -11,6 +11,7 @@ pub mod Feeding
 pub mod SimLemmas
 pub mod CacheLemmas
 pub mod Loading
+pub mod CountLemmas
 pub mod Twins
 pub mod Beginning
 pub mod RoomsTo

@@ -1,5 +1,5 @@
 -- What only proofs of code cite: the waves of one network, and the places whose instances are due.
-use Rattle.std.specs.Prelude.{ℕ, ◌+◌, ◌≡◌, ◌≢◌, ◌<◌, ◌⊎◌, List, length, slice_index, Option, None, Some}
+use Rattle.std.specs.Prelude.{ℕ, ◌+◌, ◌≡◌, ◌≢◌, ◌<◌, ◌≤◌, ◌⊎◌, List, length, slice_index, Option, None, Some}
 use Rattle.std.specs.List.{All}
 use Rattle.ca_net.specs.declared.trit.Trit.{Trit}
 use Rattle.ca_net.specs.declared.trit.Trit.TheVariants.{X}
@@ -16,6 +16,7 @@ use Rattle.ca_sim.specs.Current.{IsCurrent, IsSimulated, none_due}
 use Rattle.ca_sim.specs.Changes.{IsWritten, HasReadersDue}
 use Rattle.ca_sim.specs.declared.place_set.PlaceSet.{PlaceSet}
 use Rattle.ca_sim.specs.PlaceSet.{Has, HoldsUpTo}
+use Rattle.ca_sim.specs.Simulator.{counted_up}
 use Rattle.ca_sim.specs.declared.network.Network.{Network}
 
 -- the instance's place is in the set
@@ -117,3 +118,7 @@ pub record IsRestingCopy (chip : Chip) (old new : Network) : Type 0 where
   pub waves : new.waves ≡ old.waves
   pub none : (place : ℕ) → Has new.due place → ⊥
   pub room : HoldsUpTo new.due (count_of chip + 1)
+
+-- where some place is due, at least one evaluation more is counted
+abbrev pub CountsDue : Network → ℕ → ℕ → Type 0
+CountsDue old before after = (place : ℕ) → Has old.due place → counted_up before ≤ after

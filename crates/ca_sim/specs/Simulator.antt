@@ -1,7 +1,12 @@
 -- What contracts see of a simulator.
-use Rattle.std.specs.Prelude.{ℕ, ◌+◌, ◌-◌, ◌^◌, ◌≡◌, List, None, if◌then◌else◌, nat_lt}
+use Rattle.std.specs.Prelude.{ℕ, ◌+◌, ◌-◌, ◌^◌, ◌≡◌, ◌≢◌, ◌<◌, ◌≤◌, List, length, slice_index, None}
+use Rattle.std.specs.Prelude.{if◌then◌else◌, nat_lt}
+use Rattle.ca_net.specs.declared.trit.Trit.{Trit}
+use Rattle.ca_net.specs.State.{value_at}
 use Rattle.ca_flat.specs.Chip.{Chip}
+use Rattle.ca_flat.specs.Chain.{IsBitOf}
 use Rattle.ca_flat.specs.Code.{unset_pair}
+use Rattle.ca_sim.specs.Linked.{Reads}
 use Rattle.ca_sim.specs.Seen.{Seen}
 
 -- the waves and what they are of, how often an instance was evaluated, and how often was aimed
@@ -13,6 +18,11 @@ pub record Simulator : Type 0 where
 -- one more, up to the greatest number of 64 bits
 abbrev pub counted_up : ℕ → ℕ
 counted_up count = if nat_lt count (2 ^ 64 - 1) then count + 1 else 2 ^ 64 - 1
+
+-- one more was counted, and so it never falls
+pub record CountsOne (old new : ℕ) : Type 0 where
+  pub is : new ≡ counted_up old
+  pub grows : old ≤ new
 
 -- a simulator of the chip of which nothing was asked yet
 pub record IsFresh (chip : Chip) (places : List ℕ) (sim : Simulator) : Type 0 where
@@ -38,6 +48,14 @@ pub record KeepsAim (old new : Simulator) : Type 0 where
 pub record KeepsPair (old new : Simulator) : Type 0 where
   pub chip : KeepsChip old new
   pub pair : new.seen.pair ≡ old.seen.pair
+
+-- where a bit is given another value, of a chip input that an instance reads, at least one evaluation more is
+-- counted
+abbrev pub CountsReaders : Simulator → ℕ → Trit → Simulator → Type 0
+CountsReaders old bit value new =
+    (input u : ℕ) → input < length old.seen.chip.inputs → IsBitOf old.seen.chip input bit
+    → Reads old.seen.chip u (slice_index old.seen.chip.inputs input) → value ≢ value_at old.seen.pair bit
+    → counted_up old.evaluated ≤ new.evaluated
 
 -- all that is seen stays, and how often was aimed
 pub record KeepsSeen (old new : Simulator) : Type 0 where

@@ -7,6 +7,7 @@ ghost use Rattle.ca_table.specs.Gives.{Gives};
 ghost use Rattle.ca_flat.specs.Chip.{cell_at, inputs_at, count_of, IsChipDefect};
 ghost use Rattle.ca_flat.specs.Flat.{circuit_in, defect_at};
 ghost use Rattle.ca_sim.specs.Linked.{IsPlaced, place_in};
+ghost use Rattle.ca_sim.specs.Simulator.{CountsOne};
 
 use crate::cache::{Cache, Entry};
 use crate::linked::Linked;
@@ -84,6 +85,7 @@ impl Cells {
         ensures rooms { AreCellRooms (C.core chip.now) (place_in (C.places chip.now)) (C.number_of chip.now)
             self.new.rooms.items }
         ensures cache { self.new.cache ≡ self.old.cache }
+        ensures count { self.new.evaluated ≡ self.old.evaluated }
     {
         chip.linked();
         let cell = chip.cell(u);
@@ -115,6 +117,7 @@ impl Cells {
         ensures waves { All IsWave result.items }
         ensures cells { AreCells (C.core chip.now) (place_in (C.places chip.now))
             (C.number_of chip.now) self.new }
+        ensures count { CountsOne self.old.evaluated self.new.evaluated }
     {
         self.evaluated = self.evaluated.saturating_add(1);
         let defect = defect_here(aim, u);

@@ -1,6 +1,7 @@
 //! The waves of one network, of which due instances alone are evaluated again.
 
-ghost use Rattle.std.specs.Prelude.{ℕ, ◌≡◌, ◌≢◌, ◌<◌, ◌+◌, ◌⊎◌, ◌↔◌, length, IfOk, IfSome, Some, Option};
+ghost use Rattle.std.specs.Prelude.{ℕ, ◌≡◌, ◌≢◌, ◌<◌, ◌≤◌, ◌+◌, ◌⊎◌, ◌↔◌, length, IfOk, IfSome, Some, None};
+ghost use Rattle.std.specs.Prelude.{Option};
 ghost use Rattle.std.specs.Option.{ForSome};
 ghost use Rattle.ca_net.specs.Wave.{pair_of};
 ghost use Rattle.ca_flat.specs.Chip.{count_of, outputs_at, IsChipDefect};
@@ -29,7 +30,7 @@ pub struct Network {
 impl Network {
     ghost use Rattle.ca_sim.specs.PlaceSet.{Has, HoldsUpTo};
     ghost use Rattle.ca_sim.specs.Network.{IsPut, IsWrittenOut, IsFedAt, IsTurned, IsReady, IsSettled};
-    ghost use Rattle.ca_sim.specs.Network.{IsTwin, IsGiven, IsUnderway, IsRestingCopy};
+    ghost use Rattle.ca_sim.specs.Network.{IsTwin, IsGiven, IsUnderway, IsRestingCopy, CountsDue};
     ghost use Rattle.std.specs.Prelude.{IsTrue};
     ghost use Rattle.ca_sim.specs.Current.{input_waves, output_waves, IsCurrent};
     ghost use Rattle.ca_sim.specs.Cells.{AreCells};
@@ -216,6 +217,8 @@ impl Network {
         ensures settled { IsSettled (C.core chip.now) (place_in (C.places chip.now)) aim self.old self.new }
         ensures cells { AreCells (C.core chip.now) (place_in (C.places chip.now))
             (C.number_of chip.now) cells.new }
+        ensures grows { cells.old.evaluated ≤ cells.new.evaluated }
+        ensures count { twin ≡ None → CountsDue self.old cells.old.evaluated cells.new.evaluated }
     {
         chip.linked();
         let mut from = 0;
@@ -283,6 +286,7 @@ ghost use Rattle.ca_flat.specs.Chip.{cell_at, inputs_at};
 ghost use Rattle.ca_flat.specs.Flat.{circuit_in};
 ghost use Rattle.ca_sim.specs.Network.{IsTwin};
 ghost use Rattle.ca_sim.specs.Cells.{AreCells};
+ghost use Rattle.ca_sim.specs.Simulator.{CountsOne};
 
 /// How an instance responds: as in the good network, if it can.
 fn respond_beside<C: Linked>(
@@ -306,6 +310,8 @@ fn respond_beside<C: Linked>(
     ensures waves { All IsWave result.items }
     ensures cells { AreCells (C.core chip.now) (place_in (C.places chip.now))
         (C.number_of chip.now) cells.new }
+    ensures grows { cells.old.evaluated ≤ cells.new.evaluated }
+    ensures count { twin ≡ None → CountsOne cells.old.evaluated cells.new.evaluated }
 {
     if let Some(good) = twin {
         if let Some(outputs) = good.twin_outputs(chip, u, aim, pins.as_slice()) {

@@ -1,6 +1,6 @@
 //! The two networks of a simulator, the good one and the one with a defect, and the bits that both have.
 
-ghost use Rattle.std.specs.Prelude.{◌≡◌, ◌<◌, ◌+◌, length, slice_set, Option, Some, IsTrue};
+ghost use Rattle.std.specs.Prelude.{◌≡◌, ◌<◌, ◌≤◌, ◌+◌, length, slice_set, Option, Some, IsTrue};
 ghost use Rattle.ca_net.specs.State.{value_at};
 ghost use Rattle.ca_flat.specs.Pair.{bit_count};
 ghost use Rattle.ca_flat.specs.declared.chip_defect.ChipDefect.{ChipDefect};
@@ -24,7 +24,8 @@ impl Networks {
     ghost use Rattle.ca_flat.specs.Chip.{IsChipDefect};
     ghost use Rattle.ca_sim.specs.Linked.{IsAim, place_in};
     ghost use Rattle.ca_sim.specs.Cells.{AreCells};
-    ghost use Rattle.ca_sim.specs.Networks.{AreUnderway, AreAtRest, AreReady};
+    ghost use Rattle.ca_sim.specs.Network.{CountsDue};
+    ghost use Rattle.ca_sim.specs.Networks.{AreUnderway, AreAtRest, AreReady, MakesReadersDue};
 
     /// Gives a chip input two bits.
     pub(crate) fn change<C: Linked>(&mut self, chip: &C, input: usize, first: Trit, last: Trit)
@@ -37,6 +38,8 @@ impl Networks {
         ensures underway { (aim : Option ChipDefect)
             → AreUnderway (C.core chip.now) (place_in (C.places chip.now)) aim self.old
             → AreUnderway (C.core chip.now) (place_in (C.places chip.now)) aim self.new }
+        ensures due { MakesReadersDue (C.core chip.now) (place_in (C.places chip.now)) input first last
+            self.old self.new }
     {
         chip.linked();
         self.bits.set(input, first);
@@ -73,6 +76,7 @@ impl Networks {
         ensures rest { AreAtRest (C.core chip.now) (place_in (C.places chip.now)) aim self.new }
         ensures cells { AreCells (C.core chip.now) (place_in (C.places chip.now))
             (C.number_of chip.now) cells.new }
+        ensures count { CountsDue self.old.good cells.old.evaluated cells.new.evaluated }
     {
         self.good.settle(chip, None, None, cells);
         self.faulty.settle(chip, aim, Some(&self.good), cells);

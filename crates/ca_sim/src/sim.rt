@@ -56,7 +56,8 @@ impl<'a, C: Linked> Sim<'a, C> {
     ghost use Rattle.std.specs.Prelude.{IsTrue};
     ghost use Rattle.ca_sim.specs.Linked.{IsAim, IsPlacedDefect, place_in};
     ghost use Rattle.ca_sim.specs.Seen.{IsExact, aimed_anew};
-    ghost use Rattle.ca_sim.specs.Simulator.{IsFresh, KeepsAim, KeepsPair, KeepsSeen, counted_up};
+    ghost use Rattle.ca_sim.specs.Simulator.{IsFresh, KeepsAim, KeepsPair, KeepsSeen, CountsReaders};
+    ghost use Rattle.ca_sim.specs.Simulator.{counted_up};
 
     /// Takes all memory. No bit is set, and no defect is aimed at.
     pub fn reserve(alloc: Global, chip: &'a C) -> Result<Self, NoMemory>
@@ -91,6 +92,7 @@ impl<'a, C: Linked> Sim<'a, C> {
 
         ensures pair { self.new.seen.pair ≡ slice_set self.old.seen.pair bit (value_of value) }
         ensures kept { KeepsAim self.old self.new }
+        ensures count { CountsReaders self.old bit (value_of value) self.new }
     {
         let chip = self.chip;
         chip.linked();

@@ -31,6 +31,11 @@ MN2 ZN A2 VSS VSS NCH W=415n L=50n
 MN3 ZN A3 VSS VSS NCH W=415n L=50n
 MN4 ZN A4 VSS VSS NCH W=415n L=50n
 .ENDS
+.SUBCKT KEEP A B K VDD VSS
+*.PININFO A:I B:I K:O VDD:P VSS:G
+MP1 K A VDD VDD PCH W=630n L=50n
+MN1 K B VSS VSS NCH W=415n L=50n
+.ENDS
 ";
 
 pub(crate) const INV: usize = 0;
@@ -39,9 +44,11 @@ pub(crate) const NAND2: usize = 1;
 
 pub(crate) const NOR4: usize = 2;
 
-const NAMES: [&[u8]; 3] = [b"INV", b"NAND2", b"NOR4"];
+pub(crate) const KEEP: usize = 3;
 
-// The three cells, in this order.
+const NAMES: [&[u8]; 4] = [b"INV", b"NAND2", b"NOR4", b"KEEP"];
+
+// The four cells, in this order.
 fn cells(rt: &impl Abort, alloc: Global) -> Result<Vec<Cell>, NoMemory> {
     let library = read_library(alloc, CELLS).expect(rt, "a library");
     let mut cells = Vec::new(alloc);

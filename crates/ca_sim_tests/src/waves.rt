@@ -2,7 +2,7 @@
 
 ghost use Rattle.std.specs.Prelude.{◌<◌};
 
-use crate::chips::{INV, NAND2, NOR4, chip, ladder};
+use crate::chips::{INV, KEEP, NAND2, NOR4, chip, ladder};
 use crate::{Ladder, Numbers, Rung};
 use ca_defect::parse;
 use ca_flat::ChipDefect;
@@ -78,6 +78,25 @@ fn hazard_destroys_the_charge(rt: HostRuntime) {
     drop(glitch);
 }
 
+// The pin B of the last instance has a hazard, where A lets go of the net that it had pulled up.
+const KEPT: [(usize, &[u32]); 4] = [(INV, &[2]), (NAND2, &[2, 3]), (INV, &[4]), (KEEP, &[1, 5])];
+
+#[test]
+fn a_hazard_lets_a_kept_charge_go(rt: HostRuntime) {
+    let kept = chip(&rt, rt.alloc(), 3, &KEPT);
+    let mut sim = Sim::reserve(rt.alloc(), &kept).expect(&rt, "memory");
+    for (bit, value) in [false, true, true, false].into_iter().enumerate() {
+        set(&rt, &mut sim, bit, Some(value));
+    }
+    let (b, _) = both(&rt, &sim, 5);
+    assert_eq!(rt; (b.first, b.mid, b.last), (ZERO, X, ZERO));
+    let (k, _) = both(&rt, &sim, 6);
+    assert_eq!(rt; (k.first, k.mid, k.last), (ONE, X, X));
+    drop(sim);
+    drop(kept);
+}
+
+// A bit that changes takes one evaluation or two, and one that is unset already may take none.
 #[test]
 fn a_set_bit_evaluates_two_instances_of_a_thousand(rt: HostRuntime) {
     let mut rungs = Vec::new(rt.alloc());
@@ -89,16 +108,17 @@ fn a_set_bit_evaluates_two_instances_of_a_thousand(rt: HostRuntime) {
     let row = ladder(&rt, rt.alloc(), 1001, rungs);
     let mut sim = Sim::reserve(rt.alloc(), &row).expect(&rt, "memory");
     assert_eq!(rt; sim.evaluated(), 0);
-    for (bit, value) in [
-        (3, Some(true)),
-        (1003, Some(false)),
-        (3, None),
-        (7, None),
-        (1999, Some(true)),
+    for (bit, value, least) in [
+        (3, Some(true), 1),
+        (1003, Some(false), 1),
+        (3, None, 1),
+        (7, None, 0),
+        (1999, Some(true), 1),
     ] {
         let before = sim.evaluated();
         set(&rt, &mut sim, bit, value);
-        assert!(rt; sim.evaluated().saturating_sub(before) <= 2, "bit {bit}");
+        let more = sim.evaluated().saturating_sub(before);
+        assert!(rt; least <= more && more <= 2, "bit {bit}: {more}");
     }
     let (good, faulty) = both(&rt, &sim, 2000);
     assert_eq!(rt; (good.first, good.mid, good.last), (X, X, ZERO));

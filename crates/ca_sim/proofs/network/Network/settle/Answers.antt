@@ -1,4 +1,4 @@
-use Rattle.std.proofs.Common.{◌≡◌, length, ◌∙◌, ap, sym, subst, arith}
+use Rattle.std.proofs.Common.{◌≡◌, ◌≤◌, length, ◌∙◌, ap, sym, subst, arith, inl, inr}
 use Rattle.std.specs.List.{All}
 use Rattle.ca_net.specs.Wave.{IsWave}
 use Rattle.ca_flat.specs.Chip.{cell_at, net_of, inputs_at}
@@ -8,6 +8,7 @@ use Rattle.ca_sim.specs.Current.{input_waves}
 use Rattle.ca_sim.specs.Network.{IsWrittenOut}
 use Rattle.ca_sim.proofs.WaveLemmas.{length-waves_from, all_waves_from}
 use Rattle.ca_sim.proofs.Settling.{settled_more, settled_all}
+use Rattle.ca_sim.proofs.CountLemmas.{counted_more}
 use Rattle.ca_sim.specs.Linked.{place_in}
 use Rattle.ca_sim.proofs.network.Network.settle.Goals as goal
 
@@ -45,9 +46,17 @@ loop-place-preserved g c =
           c.remove.ensures.room c.order-u.ensures.placed c.order-u.ensures.at given c.respond_beside-outputs.ensures.waves out;
       cells = c.respond_beside-outputs.ensures.cells;
       within = omega arith;
+      grows = let before = c.loop-place.invariant.grows in let now = c.respond_beside-outputs.ensures.grows in omega arith;
+      count = λ none place was. inr (counted_more _ _ _ c.loop-place.invariant.grows (c.respond_beside-outputs.ensures.count none));
     }
 
 pub returns-clause-settled : goal.returns-clause-settled
 returns-clause-settled g c =
     settled_all (g.C.Linked.core c.args.chip.now) (place_in (g.C.Linked.places c.args.chip.now)) (g.C.Linked.number_of c.args.chip.now) c.linked.ensures.linked
     c.args.aim c.args.self.now c.loop-place.from (record { waves = c.loop-place.self.waves; due = c.loop-place.self.due }) c.loop-place.invariant.settled c.in_default.ensures
+
+pub returns-clause-count : goal.returns-clause-count
+returns-clause-count g c = λ none place was. elim (c.loop-place.invariant.count none place was) [
+  | inl has ↦ absurd (c.returns-clause-settled.none place has)
+  | inr counted ↦ counted
+]

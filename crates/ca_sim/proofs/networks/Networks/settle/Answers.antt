@@ -1,6 +1,8 @@
+use Rattle.std.proofs.Common.{refl}
 use Rattle.std.specs.Prelude.{None}
 use Rattle.ca_sim.specs.Linked.{place_in}
 use Rattle.ca_sim.proofs.SimLemmas.{at_rest, twin_at_rest, twin_given}
+use Rattle.ca_sim.proofs.CountLemmas.{counted_still}
 use Rattle.ca_sim.proofs.networks.Networks.settle.Goals as goal
 
 pub settle-requires-2-clause-twin : goal.settle-requires-2-clause-twin
@@ -21,3 +23,6 @@ returns-clause-rest g c =
       good = at_rest core place_of None bits c.args.self.now.good c.settle.new.self c.requires.underway.good c.settle.ensures.settled;
       faulty = at_rest core place_of c.args.aim bits c.args.self.now.faulty c.settle-2.new.self c.requires.underway.faulty c.settle-2.ensures.settled;
     }
+
+pub returns-clause-count : goal.returns-clause-count
+returns-clause-count g c = λ place has. counted_still _ _ _ (c.settle.ensures.count refl place has) c.settle-2.ensures.grows
