@@ -56,7 +56,10 @@ returns-clause-settled g c =
     c.args.aim c.args.self.now c.loop-place.from (record { waves = c.loop-place.self.waves; due = c.loop-place.self.due }) c.loop-place.invariant.settled c.in_default.ensures
 
 pub returns-clause-count : goal.returns-clause-count
-returns-clause-count g c = λ none place was. elim (c.loop-place.invariant.count none place was) [
-  | inl has ↦ absurd (c.returns-clause-settled.none place has)
-  | inr counted ↦ counted
-]
+returns-clause-count g c = λ none place was.
+    let settled = settled_all (g.C.Linked.core c.args.chip.now) (place_in (g.C.Linked.places c.args.chip.now)) (g.C.Linked.number_of c.args.chip.now) c.linked.ensures.linked
+    c.args.aim c.args.self.now c.loop-place.from (record { waves = c.loop-place.self.waves; due = c.loop-place.self.due }) c.loop-place.invariant.settled c.in_default.ensures in
+    elim (c.loop-place.invariant.count none place was) [
+      | inl has ↦ absurd (settled.none place has)
+      | inr counted ↦ counted
+    ]
