@@ -218,7 +218,7 @@ impl Network {
         ensures cells { AreCells (C.core chip.now) (place_in (C.places chip.now))
             (C.number_of chip.now) cells.new }
         ensures grows { cells.old.evaluated ≤ cells.new.evaluated }
-        ensures count { twin ≡ None → CountsDue self.old cells.old.evaluated cells.new.evaluated }
+        ensures count { twin.entry ≡ None → CountsDue self.old cells.old.evaluated cells.new.evaluated }
     {
         chip.linked();
         let mut from = 0;
@@ -311,7 +311,7 @@ fn respond_beside<C: Linked>(
     ensures cells { AreCells (C.core chip.now) (place_in (C.places chip.now))
         (C.number_of chip.now) cells.new }
     ensures grows { cells.old.evaluated ≤ cells.new.evaluated }
-    ensures count { twin ≡ None → CountsOne cells.old.evaluated cells.new.evaluated }
+    ensures count { twin.entry ≡ None → CountsOne cells.old.evaluated cells.new.evaluated }
 {
     if let Some(good) = twin {
         if let Some(outputs) = good.twin_outputs(chip, u, aim, pins.as_slice()) {
