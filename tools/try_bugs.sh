@@ -4,9 +4,10 @@
 #   tools/try_bugs.sh                  # of all crates that have some
 #   tools/try_bugs.sh ca_net ca_lex    # of these
 #
-# It works on a copy of what is committed, in which a crate's bugs stand beside its must-fail edits, and `rt must-fail` tries them over what
-# `rt check` kept of the crates. What was tried is kept on the machine until something that it stands on changes, crate by crate: so a call
-# that was broken off goes on where it stopped. Each bug takes some ten seconds to a minute of a processor.
+# It works on a copy of what is committed, in which a crate's bugs stand beside its must-fail edits, and `rt ci CRATE ..` tries them. A crate
+# that `rt ci` has passed on this machine isn't proved again, and what was tried is kept until something that it stands on changes, crate by
+# crate: so a call that was broken off goes on where it stopped. A crate costs one more proof of it, and each bug some ten seconds to half a
+# minute of a processor.
 # What isn't refused is listed. The last line counts the bugs that were refused and those that weren't; the status is 0 where all were.
 set -eu
 
@@ -25,23 +26,25 @@ else
     done < <(grep -v '^#' "$top/crates.txt")
 fi
 
-# The copy has the committed files alone, but what checks in it kept (out/) stays from call to call.
+rm -rf "$copy"
 mkdir -p "$copy"
-git -C "$copy" init -q
-find "$copy/crates" -path '*/out' -prune -o -type f -print0 2>/dev/null | xargs -0 -r rm -f
 git -C "$top" archive HEAD | tar -x -C "$copy"
+rm -rf "$copy"/crates/*/must-fail
 wanted=0
 for crate in "${crates[@]}"; do
-    if [ -d "$top/bugs/$crate" ]; then
-        mkdir -p "$copy/crates/$crate/must-fail"
-        cp "$copy/bugs/$crate"/*.edit "$copy/crates/$crate/must-fail/"
-    fi
+    mkdir -p "$copy/crates/$crate/must-fail"
+    for folder in "bugs/$crate" "crates/$crate/must-fail"; do
+        if [ -d "$top/$folder" ]; then
+            cp "$top/$folder"/*.edit "$copy/crates/$crate/must-fail/"
+        fi
+    done
     found=$(find "$copy/crates/$crate/must-fail" -name '*.edit' | wc -l)
     wanted=$((wanted + found))
 done
 
 cd "$copy"
-rt must-fail "${crates[@]}" 2>&1 | tee "$log" | grep -v 'refused, as it must be' || true
+rt ci "${crates[@]}" >"$log" 2>&1 || true
+grep 'must-fail .*: ' "$log" | grep -v 'refused, as it must be' || true
 passed=$(grep -c 'must-fail .*: refused, as it must be' "$log" || true)
 echo "$passed passed, $((wanted - passed)) failed"
 [ "$passed" -eq "$wanted" ]
