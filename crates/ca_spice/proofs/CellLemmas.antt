@@ -14,12 +14,12 @@ use Rattle.ca_cell.specs.declared.raw.Role.{Role}
 use Rattle.ca_cell.specs.declared.raw.RawPin.{RawPin}
 use Rattle.ca_cell.specs.declared.raw.RawDevice.{RawDevice}
 use Rattle.ca_cell.specs.declared.raw.RawCell.{RawCell}
-use Rattle.ca_cell.specs.Transistors.{HasGate, IsTransistor}
+use Rattle.ca_cell.specs.Transistors.{IsTransistor}
 use Rattle.ca_cell.specs.Rules.{PlacesWithin, IsRaw}
 use Rattle.ca_spice.specs.declared.pin.Pin.{Pin}
 use Rattle.ca_spice.specs.declared.subcircuit.Subcircuit.{Subcircuit}
 use Rattle.ca_names.specs.Names.{has_name, with_name}
-use Rattle.ca_spice.specs.Mos.{strength_of}
+use Rattle.ca_spice.specs.Mos.{has_gate, strength_of}
 use Rattle.ca_spice.specs.OpenCell.{has_device, pins_behind}
 use Rattle.ca_spice.specs.Reading.{has_cell}
 use Rattle.ca_spice.specs.Kept.{HasOwnStrength, IsPlaced, IsPlacedCell}
@@ -35,7 +35,7 @@ with_name-longer name names = by (has_name name names)
 -- what is placed stays so with more nets and one device more
 pub IsPlaced-grown : (pins : ℕ) (nets more : List (List ℕ)) (devices : List RawDevice) (device : RawDevice) → IsPlaced pins nets devices
     → length nets ≤ length more → length more < 2 ^ 32 → length (devices ++ device ∷ []) < 2 ^ 32
-    → PlacesWithin (length more) device → HasOwnStrength device → HasGate device.kind
+    → PlacesWithin (length more) device → HasOwnStrength device → has_gate device.kind ≡ true
     → IsPlaced pins more (devices ++ device ∷ [])
 IsPlaced-grown pins nets more devices device placed longer few few_devices within own gate = record {
   few_nets = few;
@@ -46,7 +46,7 @@ IsPlaced-grown pins nets more devices device placed longer few few_devices withi
       (λ other held. record { drain = omega (arith, held.drain); gate = omega (arith, held.gate); source = omega (arith, held.source) })
       devices placed.places) within;
   strengths = All-push HasOwnStrength devices device placed.strengths own;
-  gated = All-push (λ d. HasGate d.kind) devices device placed.gated gate;
+  gated = All-push (λ d. has_gate d.kind ≡ true) devices device placed.gated gate;
 }
 
 -- the names of devices are looked up as the devices are
@@ -75,15 +75,15 @@ pins_behind-length done (pin ∷ pins) raw all = by pin.role (λ grown. pins_beh
         omega (arith, later (done ++ shown ∷ []) is, length-append done (shown ∷ []))
 
 -- a device with a gate and the strength of its sizes is a transistor
-transistor : (k : DeviceKind) (width channel : ℕ) → HasGate k → IsTransistor k (strength_of width channel)
+transistor : (k : DeviceKind) (width channel : ℕ) → has_gate k ≡ true → IsTransistor k (strength_of width channel)
 transistor k width channel gate = by k (nat_lt width channel) gate
   where
-    by : (k : DeviceKind) (weak : Bool) → HasGate k → IsTransistor k (cond weak WEAK STRONG)
+    by : (k : DeviceKind) (weak : Bool) → has_gate k ≡ true → IsTransistor k (cond weak WEAK STRONG)
     by kind.N true gate = inl refl
     by kind.N false gate = inr refl
     by kind.P true gate = inl refl
     by kind.P false gate = inr refl
-    by kind.D weak gate = absurd gate
+    by kind.D weak gate = absurd cc
 
 -- a placed subcircuit is one from which an entry can be made
 pub IsPlaced-IsRaw : (raw : RawCell) → IsPlacedCell raw → IsRaw raw
@@ -124,7 +124,7 @@ pub placed_grown : (pins : ℕ) (nets first second third names : List (List ℕ)
     → grown ≡ devices ++ device ∷ [] → names ≡ map (λ device. device.name) grown → length names < 2 ^ 32 → length third < 2 ^ 32
     → length nets ≤ length first → length first ≤ length second → length second ≤ length third
     → device.drain < length first → device.gate < length second → device.source < length third → HasOwnStrength device
-    → HasGate device.kind → IsPlaced pins third grown
+    → has_gate device.kind ≡ true → IsPlaced pins third grown
 placed_grown pins nets first second third names devices grown device placed devices_are named few few_nets to_first to_second to_third drain gate source own gated =
     let count : length names ≡ length grown = ap length named ∙ length-map grown (λ (d : RawDevice). d.name) in
     let few_devices : length (devices ++ device ∷ []) < 2 ^ 32 = subst (λ (all : List RawDevice). length all < 2 ^ 32) devices_are (omega arith) in

@@ -1,13 +1,12 @@
 -- What the reader keeps of a subcircuit's nets and devices.
-use Rattle.std.specs.Prelude.{ℕ, ◌≡◌, ◌<◌, ◌≤◌, ◌^◌, List, length, map}
+use Rattle.std.specs.Prelude.{ℕ, ◌≡◌, ◌<◌, ◌≤◌, ◌^◌, true, List, length, map}
 use Rattle.std.specs.List.{All}
 use Rattle.ca_lex.specs.Words.{upper_case}
 use Rattle.ca_cell.specs.declared.raw.RawDevice.{RawDevice}
 use Rattle.ca_cell.specs.declared.raw.RawCell.{RawCell}
-use Rattle.ca_cell.specs.Transistors.{HasGate}
 use Rattle.ca_cell.specs.Rules.{PlacesWithin}
 use Rattle.ca_spice.specs.declared.subcircuit.Subcircuit.{Subcircuit}
-use Rattle.ca_spice.specs.Mos.{strength_of}
+use Rattle.ca_spice.specs.Mos.{has_gate, strength_of}
 
 -- the device has the strength that its width and length give it
 abbrev pub HasOwnStrength : RawDevice → Type 0
@@ -21,7 +20,7 @@ pub record IsPlaced (pins : ℕ) (nets : List (List ℕ)) (devices : List RawDev
   pub pins_within : pins ≤ length nets
   pub places : All (PlacesWithin (length nets)) devices
   pub strengths : All HasOwnStrength devices
-  pub gated : All (λ device. HasGate device.kind) devices
+  pub gated : All (λ device. has_gate device.kind ≡ true) devices
 
 -- the same of a subcircuit
 abbrev pub IsPlacedCell : RawCell → Type 0

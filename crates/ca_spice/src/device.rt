@@ -1,6 +1,6 @@
 //! A transistor more in a subcircuit.
-ghost use Rattle.std.specs.Prelude.{◌≡◌, ◌≤◌, false, [], ◌∷◌, ◌++◌, map, length, OnOk};
-ghost use Rattle.ca_cell.specs.Transistors.{HasGate};
+ghost use Rattle.std.specs.Prelude.{◌≡◌, ◌≤◌, true, false, [], ◌∷◌, ◌++◌, map, length, OnOk};
+ghost use Rattle.ca_spice.specs.Mos.{has_gate};
 ghost use Rattle.ca_spice.specs.Kept.{IsPlaced};
 ghost use Rattle.ca_spice.specs.OpenCell.{has_device, with_source, device_of};
 ghost use Rattle.ca_spice.specs.Views.{wiring_seen, sizes_seen};
@@ -26,7 +26,7 @@ pub(crate) fn add_device(
     requires named { device_names.old ≡ map (λ device. device.name) devices.old }
     requires distinct { has_device name.now devices.old ≡ false }
     requires placed { IsPlaced 0 nets.old devices.old }
-    requires gate { HasGate wiring.kind }
+    requires gate { has_gate wiring.kind ≡ true }
 
     ensures nets { OnOk result (nets.new ≡ with_source (wiring_seen wiring.entry) nets.old) }
     ensures devices { OnOk result (devices.new

@@ -1,8 +1,7 @@
 //! The words of an M card.
-ghost use Rattle.std.specs.Prelude.{◌≡◌, ◌+◌, option_map, IfSome};
-ghost use Rattle.ca_cell.specs.Transistors.{HasGate};
+ghost use Rattle.std.specs.Prelude.{◌≡◌, ◌+◌, true, option_map, IfSome};
 ghost use Rattle.ca_spice.specs.Mos.{is_sign, are_params, count_of, value_of, are_sound, kind_of, wiring_of};
-ghost use Rattle.ca_spice.specs.Mos.{length_at, sizes_of, strength_of};
+ghost use Rattle.ca_spice.specs.Mos.{has_gate, length_at, sizes_of, strength_of};
 ghost use Rattle.ca_spice.specs.Names.{texts};
 ghost use Rattle.ca_spice.specs.Views.{wiring_seen, sizes_seen};
 
@@ -85,7 +84,7 @@ fn are_sound(params: &[&[u8]]) -> bool
 #[tactic(auto, unfolding(crate::specs::Mos::kind_of))]
 fn kind_of(model: &[u8]) -> Option<DeviceKind>
     ensures kind { result ≡ kind_of model.now }
-    ensures gate { IfSome result HasGate }
+    ensures gate { IfSome result (λ kind. has_gate kind ≡ true) }
 {
     match model {
         [b'N', ..] => Some(DeviceKind::N),
@@ -98,7 +97,7 @@ fn kind_of(model: &[u8]) -> Option<DeviceKind>
 #[tactic(auto, unfolding(crate::specs::Mos::wiring_of))]
 pub(crate) fn wiring_of<'a>(name: &[u8], words: &'a [&'a [u8]]) -> Option<Wiring<'a>>
     ensures wiring { option_map wiring_seen result ≡ wiring_of name.now (texts words.now) }
-    ensures gate { IfSome result (λ wiring. HasGate wiring.kind) }
+    ensures gate { IfSome result (λ wiring. has_gate wiring.kind ≡ true) }
 {
     let [drain, gate, source, bulk, model, params @ ..] = words else {
         return None;

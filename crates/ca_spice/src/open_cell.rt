@@ -1,6 +1,6 @@
 //! The subcircuit that is being read.
-ghost use Rattle.std.specs.Prelude.{◌≡◌, map, length};
-ghost use Rattle.ca_cell.specs.Transistors.{HasGate};
+ghost use Rattle.std.specs.Prelude.{◌≡◌, true, map, length};
+ghost use Rattle.ca_spice.specs.Mos.{has_gate};
 ghost use Rattle.ca_spice.specs.Kept.{IsPlaced};
 ghost use Rattle.ca_spice.specs.Names.{texts};
 ghost use Rattle.ca_spice.specs.OpenCell.{is_ended_by};
@@ -99,7 +99,7 @@ impl OpenCell {
         sizes: Sizes,
     ) -> Result<Self, NoMemory>
         requires new { has_device name.now self.devices ≡ false }
-        requires gate { HasGate wiring.kind }
+        requires gate { has_gate wiring.kind ≡ true }
         ensures { IfOk result (λ cell. cell_seen cell
             ≡ with_device name.now (wiring_seen wiring.entry) (sizes_seen sizes) (cell_seen self)) }
     {
