@@ -1,5 +1,9 @@
 //! The work that is done where the output fails, and the line of a fault that no case can bring about.
 
+ghost use Rattle.std.specs.Prelude.{◌≡◌, IfOk};
+ghost use Rattle.ca_store.specs.Store.{Nothing};
+ghost use Rattle.ca_store.specs.MemStore.{opened_by};
+
 use ca_base::NoMemory;
 use ca_flow::{Done, Fault, Unwatched, run, tell};
 use ca_lex::Text;
@@ -50,7 +54,9 @@ fn add_file(alloc: Global, files: &mut FileMap, name: &str, text: &str) -> Resul
 }
 
 // A store of the library and the netlist in which one call fails.
-fn store_of(alloc: Global, call: StoreCall, number: u32) -> Result<MemStore, NoMemory> {
+fn store_of(alloc: Global, call: StoreCall, number: u32) -> Result<MemStore, NoMemory>
+    ensures { IfOk result (λ store. opened_by store ≡ Nothing) }
+{
     let mut files = FileMap::new(alloc);
     add_file(alloc, &mut files, "n.sp", NAND2)?;
     add_file(alloc, &mut files, "c17.v", C17)?;
