@@ -36,9 +36,10 @@ def table(rows):
 
 
 def matrices(program):
-    found = records([f"{HERE}/matrix.sh", program])[1:]
+    # (cells that are refused have no numbers)
+    found = [it for it in records([f"{HERE}/matrix.sh", program])[1:] if len(it) > 8 and it[5]]
     rows = [["cell", "transistors", "inputs", "defects", "records", "seconds"]]
-    whole = [it for it in found if it[0] == "osu035" and it[8]]
+    whole = [it for it in found if it[0] == "osu035"]
     for it in found:
         # (of the real library only the slowest cells have a row of their own)
         if it[0] != "osu035" or float(it[8] or 0) > 0.05:
