@@ -33,9 +33,9 @@ rm -rf "$copy"/crates/*/must-fail
 wanted=0
 for crate in "${crates[@]}"; do
     mkdir -p "$copy/crates/$crate/must-fail"
-    for folder in "bugs/$crate" "crates/$crate/must-fail"; do
-        if [ -d "$top/$folder" ]; then
-            cp "$top/$folder"/*.edit "$copy/crates/$crate/must-fail/"
+    for edit in "$top/bugs/$crate"/*.edit "$top/crates/$crate/must-fail"/*.edit; do
+        if [ -e "$edit" ]; then
+            cp "$edit" "$copy/crates/$crate/must-fail/"
         fi
     done
     found=$(find "$copy/crates/$crate/must-fail" -name '*.edit' | wc -l)
