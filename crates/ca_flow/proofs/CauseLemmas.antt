@@ -49,7 +49,8 @@ use Rattle.ca_words.specs.Command.{IsSpelledSimulate, IsSpelledAtpg, IsSpelledRe
 use Rattle.ca_words.specs.Command.{IsSpelledMake, IsSpelled, IsWhole}
 use Rattle.ca_on_chip.specs.declared.making.TheConstants.{MAKE_BUDGET}
 use Rattle.ca_on_chip.specs.Making.{IsMadeChip, IsMakeStage}
-use Rattle.ca_on_chip.specs.OnChip.{IsChipOfFiles, IsFlatOf, AreEndsOf, IsFlatCause, IsEndsCause}
+use Rattle.ca_on_chip.specs.OnChip.{IsChipOfFiles, IsTracedChipOf, IsFlatOf, AreEndsOf, IsFlatCause}
+use Rattle.ca_on_chip.specs.OnChip.{IsEndsCause}
 use Rattle.ca_on_chip.specs.OnChip.{IsTestsCause, IsPairsFault}
 use Rattle.ca_on_cell.specs.Defects.{AreDefectNames, IsSoundMatrix}
 use Rattle.ca_flow.specs.Ends.{IsAsked}
@@ -199,12 +200,12 @@ check_cause words names files before after fault spelled cause = inr (inr (inr (
 
 -- the network that the words of `flatten` ask for
 pub flatten_asked : (words : List (List ℕ)) (request : FlattenWords) (files : Option Files) (chip : Chip) (net : Circuit)
-    → IsSpelledFlatten words request → IsChipOfFiles files (names_of request.of.files) chip
+    → IsSpelledFlatten words request → IsTracedChipOf files (names_of request.of.files) chip
     → IsFlatOf request.of.instance.now request.of.defect.now chip net → IsAsked words files (Flatten chip net)
 flatten_asked words request files chip net spelled held flat = (
   spelled.is,
   (
-    subst (λ asked. IsChipOfFiles files asked chip) spelled.of.files held,
+    subst (λ asked. IsTracedChipOf files asked chip) spelled.of.files held,
     rw (sym spelled.of.instance, sym spelled.of.defect) flat,
   ),
 )
@@ -230,13 +231,13 @@ flatten_cause words request files before after fault spelled cause = inr (inr (i
 
 -- the values that the words of `simulate` ask for
 pub simulate_asked : (words : List (List ℕ)) (request : SimulateWords) (files : Option Files) (chip : Chip) (ends : OutputEnds)
-    → IsSpelledSimulate words request → IsChipOfFiles files (names_of request.of.files) chip
+    → IsSpelledSimulate words request → IsTracedChipOf files (names_of request.of.files) chip
     → AreEndsOf request.of.instance.now request.of.defect.now request.first.now request.last.now chip
     ends.good.items ends.faulty.items → IsAsked words files (Simulate chip ends)
 simulate_asked words request files chip ends spelled held are = (
   spelled.is,
   (
-    subst (λ asked. IsChipOfFiles files asked chip) spelled.of.files held,
+    subst (λ asked. IsTracedChipOf files asked chip) spelled.of.files held,
     rw (sym spelled.of.instance, sym spelled.of.defect, sym spelled.first, sym spelled.last) are,
   ),
 )
@@ -380,13 +381,13 @@ no_run_sink names instance defect first last order files before after fault caus
 
 -- the values that the words of `replay` ask for
 pub replay_asked : (words : List (List ℕ)) (request : ReplayWords) (files : Option Files) (chip : Chip) (ends : Vec Trit Global)
-    → IsSpelledReplay words request → IsChipOfFiles files (names_of request.of.of.files) chip
+    → IsSpelledReplay words request → IsTracedChipOf files (names_of request.of.of.files) chip
     → OfFile files request.order.now MAX_ORDER (AreRunEndsOf request.of.of.instance.now request.of.of.defect.now
     request.of.first.now request.of.last.now chip ends.items) → IsAsked words files (Replay chip ends)
 replay_asked words request files chip ends spelled held are = (
   spelled.is,
   (
-    subst (λ asked. IsChipOfFiles files asked chip) spelled.of.files held,
+    subst (λ asked. IsTracedChipOf files asked chip) spelled.of.files held,
     rw (sym spelled.of.instance, sym spelled.of.defect, sym spelled.first, sym spelled.last, sym spelled.order) are,
   ),
 )

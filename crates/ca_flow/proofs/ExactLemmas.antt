@@ -15,6 +15,7 @@ use Rattle.ca_spice.specs.Called.{called_among}
 use Rattle.ca_load.specs.declared.cells.TheConstants.{MAX_CELLS}
 use Rattle.ca_load.specs.Files.{IsReadCause}
 use Rattle.ca_load.specs.Causes.{IsTextCause, IsCellsCause}
+use Rattle.ca_place.specs.Place.{rule_text}
 use Rattle.ca_fault.specs.declared.fault.LimitKind.TheVariants as limit
 use Rattle.ca_fault.specs.declared.fault.Fault.{Fault}
 use Rattle.ca_fault.specs.declared.fault.Fault.TheVariants.{TooManyPairs}
@@ -27,10 +28,10 @@ use Rattle.ca_words.specs.Words.{cells_word, cell_word, vector_word, first_word,
 use Rattle.ca_words.specs.Words.{IsRespond, IsPair, IsOnChip, IsOnCell, IsCommand}
 use Rattle.ca_on_cell.specs.Cells.{OfFile, HasCell, LacksCell}
 use Rattle.ca_flow.specs.Fault.{Outside, IsWordsCause, IsWriteCause, IsPrintCause, IsWorkCause, IsCause}
-use Rattle.ca_on_cell.specs.Causes.{BreaksAt, IsRulePlace, IsNameCause, IsFirstUnfit, LacksDefect}
+use Rattle.ca_on_cell.specs.Causes.{BreaksAt, IsNameCause, IsFirstUnfit, LacksDefect}
 use Rattle.ca_on_cell.specs.Causes.{IsPairCause, IsVectorCause}
 use Rattle.ca_on_cell.specs.Causes.{IsCellCause, IsValueCause}
-use Rattle.ca_flow.specs.Laws.{IsInputFault, IsSameButPlace, TellsFile}
+use Rattle.ca_flow.specs.Laws.{IsInputFault, TellsFile}
 use Rattle.ca_load.proofs.RuleLemmas.{one_broken}
 
 -- a fault that tells pairs is none of input
@@ -125,33 +126,26 @@ misfits_or_lacks words raw fault other here there =
     let unfit : IsFirstUnfit raw there.first there.last here.typed = rw (same.0, same.1.0) at here.unfit in
     fits_before raw there.first there.last there.defect here.typed unfit there.lacks
 
--- a rule of a cell is told with its place, or without
-one_place : (name : List ℕ) (raw : RawCell) (rule : CellRule) (place other : List ℕ) → IsRulePlace raw rule place
-    → IsRulePlace raw rule other → IsSameButPlace (Cell name rule place) (Cell name rule other)
-one_place name raw rule place other (inl none) (inl missing) = inl (ap (Cell name rule) (none ∙ sym missing))
-one_place name raw rule place other (inl none) (inr there) = inr (inl (ap (Cell name rule) none))
-one_place name raw rule place other (inr here) (inl missing) = inr (inr (ap (Cell name rule) (sym missing)))
-one_place name raw rule place other (inr here) (inr there) = inl (ap (Cell name rule) (here ∙ sym there))
-
+-- a rule of a cell has one place
 one_breaks : (name : List ℕ) (raw : RawCell) (rule again : CellRule) (place other : List ℕ) → BreaksAt rule place raw
-    → BreaksAt again other raw → IsSameButPlace (Cell name rule place) (Cell name again other)
+    → BreaksAt again other raw → Cell name rule place ≡ Cell name again other
 one_breaks name raw rule again place other here there =
     let same : rule ≡ again = one_broken raw rule again here.broken there.broken in
-    subst (λ (told : CellRule). IsSameButPlace (Cell name rule place) (Cell name told other)) same
-    (one_place name raw rule place other here.placed (subst (λ (told : CellRule). IsRulePlace raw told other) (sym same) there.placed))
+    let one : place ≡ other = here.placed ∙ ap (rule_text raw) same ∙ sym there.placed in
+    λ j. Cell name (same j) (one j)
 
 one_at_cell : (words : List (List ℕ)) (raw : RawCell) (fault other : Fault) → AtCell words raw fault → AtCell words raw other
-    → IsSameButPlace fault other
+    → fault ≡ other
 one_at_cell words raw fault other (inl here) (inl there) =
-    rw (here.is, there.is) (one_breaks (upper_case (cell_word words)) raw here.rule there.rule here.place there.place here.breaks there.breaks)
+    here.is ∙ one_breaks (upper_case (cell_word words)) raw here.rule there.rule here.place there.place here.breaks there.breaks ∙ sym there.is
 one_at_cell words raw fault other (inl here) (inr (inl there)) = absurd (there.kept here.rule here.breaks.broken.broken)
 one_at_cell words raw fault other (inl here) (inr (inr there)) = absurd (there.kept here.rule here.breaks.broken.broken)
 one_at_cell words raw fault other (inr (inl here)) (inl there) = absurd (here.kept there.rule there.breaks.broken.broken)
-one_at_cell words raw fault other (inr (inl here)) (inr (inl there)) = inl (both_misfit words raw fault other here there)
+one_at_cell words raw fault other (inr (inl here)) (inr (inl there)) = both_misfit words raw fault other here there
 one_at_cell words raw fault other (inr (inl here)) (inr (inr there)) = absurd (misfits_or_lacks words raw fault other here there)
 one_at_cell words raw fault other (inr (inr here)) (inl there) = absurd (here.kept there.rule there.breaks.broken.broken)
 one_at_cell words raw fault other (inr (inr here)) (inr (inl there)) = absurd (misfits_or_lacks words raw other fault there here)
-one_at_cell words raw fault other (inr (inr here)) (inr (inr there)) = inl (both_lack words raw fault other here there)
+one_at_cell words raw fault other (inr (inr here)) (inr (inr there)) = both_lack words raw fault other here there
 
 -- what is told of the subcircuit that the words name in a library, where they name one
 abbrev pub AtCalled : List (List ℕ) → Option RawCell → Fault → Type 0
@@ -159,8 +153,8 @@ AtCalled words None fault = fault ≡ NoCell (cell_word words)
 AtCalled words (Some raw) fault = AtCell words raw fault
 
 one_at_called : (words : List (List ℕ)) (called : Option RawCell) (fault other : Fault) → AtCalled words called fault
-    → AtCalled words called other → IsSameButPlace fault other
-one_at_called words None fault other here there = inl (here ∙ sym there)
+    → AtCalled words called other → fault ≡ other
+one_at_called words None fault other here there = here ∙ sym there
 one_at_called words (Some raw) fault other here there = one_at_cell words raw fault other here there
 
 -- what is told of a reading, in which the words name a subcircuit or none
@@ -174,14 +168,14 @@ abbrev pub AtLibrary : List (List ℕ) → List ℕ → Fault → Type 0
 AtLibrary words bytes fault = AtReading words (library_of bytes) (λ cells. called_among cells (upper_case (cell_word words))) fault
 
 one_at_reading : {S : Type 0} (words : List (List ℕ)) (read : Result S SpiceFault) (called : S → Option RawCell) (fault other : Fault)
-    → AtReading words read called fault → AtReading words read called other → IsSameButPlace fault other
+    → AtReading words read called fault → AtReading words read called other → fault ≡ other
 one_at_reading words (Ok cells) called fault other here there = one_at_called words (called cells) fault other here there
-one_at_reading words (Err (spice.At line kind)) called fault other here there = inl (here ∙ sym there)
-one_at_reading words (Err (spice.TooManyCells count)) called fault other here there = inl (here ∙ sym there)
+one_at_reading words (Err (spice.At line kind)) called fault other here there = here ∙ sym there
+one_at_reading words (Err (spice.TooManyCells count)) called fault other here there = here ∙ sym there
 one_at_reading words (Err spice.NoMemory) called fault other here there = absurd here
 
 one_at_library : (words : List (List ℕ)) (bytes : List ℕ) (fault other : Fault) → AtLibrary words bytes fault → AtLibrary words bytes other
-    → IsSameButPlace fault other
+    → fault ≡ other
 one_at_library words bytes fault other here there =
     one_at_reading words (library_of bytes) (λ cells. called_among cells (upper_case (cell_word words))) fault other here there
 
@@ -193,9 +187,9 @@ AtFile words (Some bytes) fault =
     ⊎ ((length bytes ≤ MAX_CELLS) × AtLibrary words bytes fault)
 
 one_at_file : (words : List (List ℕ)) (file : Option (List ℕ)) (fault other : Fault) → AtFile words file fault → AtFile words file other
-    → IsSameButPlace fault other
+    → fault ≡ other
 one_at_file words None fault other here there = absurd here
-one_at_file words (Some bytes) fault other (inl here) (inl there) = inl (here.1 ∙ sym there.1)
+one_at_file words (Some bytes) fault other (inl here) (inl there) = here.1 ∙ sym there.1
 one_at_file words (Some bytes) fault other (inl here) (inr there) =
     let past = here.0 in let within = there.0 in absurd (omega (arith, past, within))
 one_at_file words (Some bytes) fault other (inr here) (inl there) =
@@ -211,8 +205,8 @@ pub on_cell : (words : List (List ℕ)) → IsOnCell words → IsCommand words
 on_cell words is = inl is
 
 pub one_at_words : (words : List (List ℕ)) (file : Option (List ℕ)) (fault other : Fault) → AtWords words file fault → AtWords words file other
-    → IsSameButPlace fault other
-one_at_words words file fault other (inl here) (inl there) = inl (here.1 ∙ sym there.1)
+    → fault ≡ other
+one_at_words words file fault other (inl here) (inl there) = here.1 ∙ sym there.1
 one_at_words words file fault other (inl here) (inr there) = absurd (here.0 (on_cell words there.0))
 one_at_words words file fault other (inr here) (inl there) = absurd (there.0 (on_cell words here.0))
 one_at_words words file fault other (inr here) (inr there) = one_at_file words file fault other here.1 there.1

@@ -27,7 +27,7 @@ use Rattle.ca_on_cell.specs.Causes.{IsFirstUnfit, LacksDefect}
 use Rattle.ca_flow.specs.Complete.{FitsCell, FitsChip, IsAnswerable}
 use Rattle.ca_on_cell.specs.Defects.{AreDefectNames, IsSoundMatrix}
 use Rattle.ca_flow.specs.Ends.{IsAsked, Ends}
-use Rattle.ca_flow.specs.Laws.{IsInputFault, IsSameButPlace, TellsFile}
+use Rattle.ca_flow.specs.Laws.{IsInputFault, TellsFile}
 use Rattle.ca_words.proofs.WordLemmas.{no_chip}
 use Rattle.ca_flow.proofs.CompleteLemmas.{at_words, asking_work, at_chip}
 use Rattle.ca_flow.proofs.ExactLemmas.{no_write, no_print, AreAsked, AtCell, AtCalled, AtReading, AtWords}
@@ -228,7 +228,7 @@ module _ (words : List (List ℕ)) (file : Option (List ℕ)) (outside : Outside
 -- no two faults of input have a cause
 pub one_cause : (words : List (List ℕ)) (file : Option (List ℕ)) → ¬ (IsOnChip words) → (before after again later : Outside) (fault other : Fault)
     → TellsFile words file before → TellsFile words file again → IsInputFault fault → IsInputFault other
-    → IsCause words before after fault → IsCause words again later other → IsSameButPlace fault other
+    → IsCause words before after fault → IsCause words again later other → fault ≡ other
 one_cause words file not_chip before after again later fault other tells tells_too is is_too cause cause_too =
     one_at_words words file fault other (of_cause words file before after fault not_chip tells is cause)
     (of_cause words file again later other not_chip tells_too is_too cause_too)
@@ -236,7 +236,7 @@ one_cause words file not_chip before after again later fault other tells tells_t
 -- a cause is told
 pub told_cause : (words : List (List ℕ)) (file : Option (List ℕ)) (before after : Outside) (end : Finished) (fault : Fault)
     → ¬ (IsOnChip words) → TellsFile words file before → Ends words before after end → IsInputFault fault → IsCause words before after fault
-    → IsSomeAnd end.fault (λ told. IsInputFault told → IsSameButPlace told fault)
+    → IsSomeAnd end.fault (λ told. IsInputFault told → told ≡ fault)
 told_cause words file before after end fault not_chip tells ends is cause = by end.fault refl ends.cause
   where
     by_done : (done : Option Done) → IsSome done → IfSome done (IsAsked words before.files) → ⊥
@@ -247,7 +247,7 @@ told_cause words file before after end fault not_chip tells ends is cause = by e
     ]
 
     by : (told : Option Fault) → end.fault ≡ told → IfSome told (IsCause words before after)
-        → IsSomeAnd told (λ told. IsInputFault told → IsSameButPlace told fault)
+        → IsSomeAnd told (λ told. IsInputFault told → told ≡ fault)
     by None none told =
         let zero : end.status ≡ 0 = ends.answer.status ∙ ap status_told none in
         absurd (by_done end.done (ends.answer.done.1 (inl zero)) ends.asked)

@@ -1,6 +1,6 @@
 -- Where the file of a command is there, the command can be answered, or a fault of input has a cause.
 use Rattle.std.proofs.Common.{ℕ, ◌≡◌, ◌≤◌, ◌<◌, ◌+◌, ◌⊎◌, ◌∙◌, inl, inr, refl, sym, subst, arith, List}
-use Rattle.std.proofs.Common.{[], length, Option, Some, None, Result, Ok, Err, true≢false}
+use Rattle.std.proofs.Common.{length, Option, Some, None, Result, Ok, Err, true≢false}
 use Rattle.std.specs.Prelude.{IsSome, IsNone, IsOk, IsSomeAnd}
 use Rattle.std.proofs.Math.Decide.{dec_le}
 use Rattle.std.proofs.lemmas.Option.{same_Some}
@@ -18,6 +18,7 @@ use Rattle.ca_spice.specs.Called.{cell_called}
 use Rattle.ca_spice.proofs.AnswerLemmas.{reading_has_memory}
 use Rattle.ca_load.specs.declared.cells.TheConstants.{MAX_CELLS}
 use Rattle.ca_load.specs.Causes.{IsTextCause}
+use Rattle.ca_place.specs.Place.{rule_text}
 use Rattle.ca_fault.specs.declared.fault.LimitKind.TheVariants as limit
 use Rattle.ca_fault.specs.declared.fault.Fault.{Fault}
 use Rattle.ca_fault.specs.declared.fault.Fault.TheVariants.{Cells, NoCell, Cell, BadVector, NoDefect, TooLong}
@@ -112,8 +113,8 @@ module _ (words : List (List ℕ)) (bytes : List ℕ) (outside : Outside) (told 
           inl (inr (rw (are, there) (inl (within, has))))
 
       breaks : (rule : CellRule) → IsFirstBroken raw rule → Stands words outside
-      breaks rule first = cell_cause (Cell (upper_case (cell_word words)) rule []) tt
-          (inr (refl, of_cell (BreaksAt rule []) (record { broken = first; placed = inl refl })))
+      breaks rule first = cell_cause (Cell (upper_case (cell_word words)) rule (rule_text raw rule)) tt
+          (inr (refl, of_cell (BreaksAt rule (rule_text raw rule)) (record { broken = first; placed = refl })))
 
       -- vectors and a defect that fit, or the first that doesn't
       values : KeepsRules raw → (first last defect : List ℕ)

@@ -17,7 +17,7 @@ use Rattle.ca_on_cell.specs.Outputs.{AreValues}
 use Rattle.ca_flow.specs.Finished.{IsAnswer, Prints, Writes, TellsSinkFault}
 use Rattle.ca_on_cell.specs.Cells.{OfCell}
 use Rattle.ca_on_cell.specs.Defects.{AreDefectNames, IsSoundMatrix}
-use Rattle.ca_on_chip.specs.OnChip.{IsChipOfFiles, IsFlatOf, AreEndsOf, AreTestsOf}
+use Rattle.ca_on_chip.specs.OnChip.{IsChipOfFiles, IsTracedChipOf, IsFlatOf, AreEndsOf, AreTestsOf}
 use Rattle.ca_on_chip.specs.declared.replays.TheConstants.{MAX_ORDER}
 use Rattle.ca_on_chip.specs.Replay.{AreRunEndsOf}
 use Rattle.ca_on_chip.specs.Making.{AreMadeTests}
@@ -38,17 +38,17 @@ IsAsked words files (Matrix matrix) =
 IsAsked words files (Check chip chains) =
     IsCheck words × (AreAllChains chip chains × IsChipOfFiles files (chip_files words) chip)
 IsAsked words files (Flatten chip net) = IsFlatten words
-    × (IsChipOfFiles files (chip_files words) chip
+    × (IsTracedChipOf files (chip_files words) chip
     × IsFlatOf (instance_word words) (chip_defect_word words) chip net)
 IsAsked words files (Simulate chip ends) = IsSimulate words
-    × (IsChipOfFiles files (chip_files words) chip
+    × (IsTracedChipOf files (chip_files words) chip
     × AreEndsOf (instance_word words) (chip_defect_word words) (chip_first_word words) (chip_last_word words)
     chip ends.good.items ends.faulty.items)
 IsAsked words files (Atpg chip chains pairs aims verdicts) = IsAtpg words
     × (AreAllChains chip chains
     × (IsChipOfFiles files (chip_files words) chip
     × AreTestsOf (budget_word words) chip pairs aims verdicts))
-IsAsked words files (Replay chip ends) = IsReplay words × (IsChipOfFiles files (chip_files words) chip
+IsAsked words files (Replay chip ends) = IsReplay words × (IsTracedChipOf files (chip_files words) chip
     × OfFile files (order_word words) MAX_ORDER
     (AreRunEndsOf (instance_word words) (chip_defect_word words) (chip_first_word words)
     (chip_last_word words)

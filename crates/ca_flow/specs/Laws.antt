@@ -1,5 +1,5 @@
 -- Laws of causes and of names, each the contract of a function that does nothing (src/laws.rt).
-use Rattle.std.specs.Prelude.{◌≡◌, ◌⊎◌, ℕ, List, [], Option, Some, IsSomeAnd, ⊤}
+use Rattle.std.specs.Prelude.{◌≡◌, ◌⊎◌, ℕ, List, Option, Some, IsSomeAnd, ⊤}
 use Rattle.ca_cell.specs.declared.raw.RawCell.{RawCell}
 use Rattle.ca_cell.specs.Rules.{KeepsRules}
 use Rattle.ca_defect.specs.Laws.{DefectsDiffer}
@@ -40,24 +40,14 @@ IsInputFault NoMemory = ⊥
 abbrev pub TellsFile : List (List ℕ) → Option (List ℕ) → Outside → Type 0
 TellsFile words file outside = IsSomeAnd outside.files (λ told. told (cells_word words) ≡ file)
 
--- the fault with an empty place
-abbrev pub placeless : Fault → Fault
-placeless (Chip rule place) = Chip rule []
-placeless (Cell cell rule place) = Cell cell rule []
-placeless fault = fault
-
--- the faults are the same, but that one of them may lack the place of the other
-abbrev pub IsSameButPlace : Fault → Fault → Type 0
-IsSameButPlace fault other = (fault ≡ other) ⊎ ((fault ≡ placeless other) ⊎ (placeless fault ≡ other))
-
--- of one list of words, of any but a command on a chip, and one file no two faults of input have a cause, but
--- one with its place and one without, whatever else the store holds and however often calls failed
+-- of one list of words, of any but a command on a chip, and one file no two faults of input have a cause,
+-- whatever else the store holds and however often calls failed
 abbrev pub HasOneCause : List (List ℕ) → Option (List ℕ) → Type 0
 HasOneCause words file =
     ¬ (IsOnChip words) → (before after again later : Outside) (fault other : Fault)
     → TellsFile words file before → TellsFile words file again → IsInputFault fault → IsInputFault other
     → IsCause words before after fault → IsCause words again later other
-    → IsSameButPlace fault other
+    → fault ≡ other
 
 -- where a command can be answered no fault of input has a cause
 abbrev pub AnswerableHasNoCause : Type 0
@@ -76,13 +66,12 @@ SomeCauseOrAnswer =
     → ¬ (IsOnChip words) → IsCommand words → IsAnswerable words outside.files ⊎ HasInputCause words outside
 
 -- a command, but one on a chip, of whose words and file a fault of input has a cause ends with this fault,
--- with its place or without, or with one of the store, the output or memory
+-- or with one of the store, the output or memory
 abbrev pub CauseIsTold : Type 0
 CauseIsTold =
     (words : List (List ℕ)) (file : Option (List ℕ)) (before after : Outside) (end : Finished) (fault : Fault)
     → ¬ (IsOnChip words) → TellsFile words file before → Ends words before after end → IsInputFault fault
-    → IsCause words before after fault → IsSomeAnd end.fault (λ told. IsInputFault told
-    → IsSameButPlace told fault)
+    → IsCause words before after fault → IsSomeAnd end.fault (λ told. IsInputFault told → told ≡ fault)
 
 -- of each cell that a word names in a text, and that keeps the rules, the defects have names that differ
 abbrev pub NamesMeanOneDefect : Type 0

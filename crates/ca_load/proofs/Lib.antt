@@ -4,3 +4,4 @@ pub mod LinkLemmas
 pub mod RuleLemmas
 pub mod SameLemmas
 pub mod WholeLemmas
+pub mod SoundLemmas

@@ -13,7 +13,7 @@ use Rattle.ca_chip.specs.Linking.{IsLinkOf}
 use Rattle.ca_chip.specs.Rules.{IsFirstBroken, KeepsRules}
 use Rattle.ca_scan.specs.Chain.{IsFirstOff}
 use Rattle.ca_scan.specs.ChainFault.{AreAllChains, AreTooMany}
-use Rattle.ca_place.specs.Place.{MayTell, TellsPlace}
+use Rattle.ca_place.specs.Place.{TellsPlace}
 use Rattle.ca_fault.specs.declared.fault.LimitKind.TheVariants as limit
 use Rattle.ca_fault.specs.declared.fault.Fault.{Fault}
 use Rattle.ca_fault.specs.declared.fault.Fault.TheVariants.{Cell, Chain, Limit}
@@ -54,9 +54,9 @@ abbrev pub IsOfCell : RawNetlist → InstanceId → List ℕ → Type 0
 IsOfCell netlist u name =
     IsSomeAnd (slice_get netlist.instances u.0) (λ instance. name ≡ upper_case instance.cell)
 
--- the place names what the broken rule carries, or is empty
+-- the place names what the broken rule carries
 abbrev pub IsPlaceOf : Inputs → ChipFault → List ℕ → Type 0
-IsPlaceOf inputs broken place = MayTell (TellsPlace inputs.netlist inputs.library inputs.rows broken) place
+IsPlaceOf inputs broken place = TellsPlace inputs.netlist inputs.library inputs.rows broken place
 
 -- why the inputs don't link: the first rule that they break, or the first limit that they pass
 abbrev pub IsLinkingCause : Inputs → Fault → Type 0
@@ -89,7 +89,11 @@ pub record LackChains (inputs : Inputs) (fault : Fault) : Type 0 where
 abbrev pub IsChipCause : Fault → Inputs → Type 0
 IsChipCause fault inputs = IsLinkingCause inputs fault ⊎ LackChains inputs fault
 
+-- each scan instance of the chip is on a whole chain, and there are not too many of these
+abbrev pub IsTraced : Chip → Type 0
+IsTraced chip = (chains : List (List ℕ)) × AreAllChains chip chains
+
 -- the inputs break no rule of linking, pass no limit, and the chip that they give has chains
 pub record GiveChip (inputs : Inputs) : Type 0 where
   pub kept : KeepsRules inputs.netlist inputs.library inputs.rows
-  pub chains : (chip : Chip) → IsChipOf inputs chip → (chains : List (List ℕ)) × AreAllChains chip chains
+  pub chains : (chip : Chip) → IsChipOf inputs chip → IsTraced chip

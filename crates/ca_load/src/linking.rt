@@ -1,9 +1,13 @@
 //! The chip of what was read, and its chains.
-ghost use Rattle.std.specs.Prelude.{◌≡◌, ◌<◌, map, length, Some, IsSomeAnd, slice_get, IfErr, IfOk};
+ghost use Rattle.std.specs.Prelude.{◌≡◌, ◌<◌, ℕ, List, map, length, Some, IsSomeAnd, slice_get, IfErr, IfOk, OnOk};
 ghost use Rattle.std.specs.List.{IsDistinct};
 ghost use Rattle.std.specs.Str.{bytes_eq};
 ghost use Rattle.ca_verilog.specs.IsNetlist.{IsNetlist};
+ghost use Rattle.ca_cell.specs.Library.{Named};
+ghost use Rattle.ca_chip.specs.declared.scan_row.ScanRow.{ScanRow};
+ghost use Rattle.ca_chip.specs.InstanceRules.{AreSound};
 ghost use Rattle.ca_chip.specs.Rules.{IsCause};
+ghost use Rattle.ca_place.specs.Place.{IsOfNetlist};
 ghost use Rattle.ca_scan.specs.ChainFault.{AreAllChains, IsChainCause};
 ghost use Rattle.ca_load.specs.Chips.{IsChipOf, IsOfCell};
 ghost use Rattle.ca_load.specs.Stages.{inputs_of, IsLinkStage, IsTraceStage, IsLinkedStage};
@@ -23,7 +27,6 @@ use ca_wired::{Chip, InstanceId};
 use std::alloc::Global;
 
 /// The chip of what was read, with its chains.
-#[tactic(auto, using(crate::proofs::LinkLemmas::at_link, crate::proofs::LinkLemmas::at_trace))]
 pub(crate) fn link_all(alloc: Global, read: Read) -> Result<Loaded, Fault>
     requires rules { IsNetlist read.netlist }
     requires distinct { IsDistinct bytes_eq (map (λ row. row.cell) read.scan) }
@@ -37,40 +40,35 @@ pub(crate) fn link_all(alloc: Global, read: Read) -> Result<Loaded, Fault>
         netlist,
         scan,
     } = read;
-    judge_cells(alloc, &library, &netlist, scan.as_slice())?;
-    let chip = chip_of(alloc, library, &netlist, &scan)?;
-    let chains = chains_of(alloc, &chip)?;
-    Ok(Loaded { chip, chains })
+    let loaded = loaded_from(alloc, library, &netlist, &scan);
+    drop(netlist);
+    drop(scan);
+    loaded
 }
 
-// The first instance whose cell breaks a rule is told before linking takes the library over, which has the
-// names of the cell's pins and transistors.
-fn judge_cells(
+// The chip that a library gives with a netlist and a table of scan cells, and its chains.
+#[tactic(auto, using(crate::proofs::LinkLemmas::at_link, crate::proofs::LinkLemmas::at_trace))]
+fn loaded_from(
     alloc: Global,
-    library: &Library,
+    library: Library,
     netlist: &RawNetlist,
-    scan: &[ScanRow],
-) -> Result<(), Fault>
+    scan: &ScanTable,
+) -> Result<Loaded, Fault>
     requires rules { IsNetlist netlist.now }
     requires distinct { IsDistinct bytes_eq (map (λ row. row.cell) scan.now) }
 
-    ensures { IfErr result (IsLinkStage
-        (record { library = library.now; netlist = netlist.now; rows = scan.now })) }
+    ensures ok { IfOk result (λ loaded. IsChipOf
+        (record { library = library; netlist = netlist.now; rows = scan.now }) loaded.chip) }
+    ensures chains { IfOk result (λ loaded. AreAllChains loaded.chip loaded.chains) }
+    ensures cause { IfErr result (IsLinkedStage
+        (record { library = library; netlist = netlist.now; rows = scan.now })) }
 {
-    if let Err(ChipFault::Cell { instance, rule }) = judge_instances(
-        alloc, netlist, library, scan,
-    ) {
-        return Err(Fault::Cell {
-            cell: cell_name(alloc, netlist, instance)?,
-            rule,
-            place: refused_place(alloc, netlist, library, instance, rule),
-        });
-    }
-    Ok(())
+    let chip = linked(alloc, library, netlist, scan)?;
+    traced(alloc, chip)
 }
 
-// The chip of a netlist.
-fn chip_of(
+// The chip that a library gives with a netlist and a table of scan cells.
+fn linked(
     alloc: Global,
     library: Library,
     netlist: &RawNetlist,
@@ -84,35 +82,105 @@ fn chip_of(
     ensures cause { IfErr result (IsLinkStage
         (record { library = library; netlist = netlist.now; rows = scan.now })) }
 {
-    match link(alloc, netlist, library, scan) {
-        Ok(chip) => Ok(chip),
+    match judge_cells(alloc, &library, netlist, scan.as_slice()) {
+        Ok(()) => chip_of(alloc, library, netlist, scan),
+        Err(fault) => {
+            drop(library);
+            Err(fault)
+        }
+    }
+}
+
+// A chip with its chains.
+fn traced(alloc: Global, chip: Chip) -> Result<Loaded, Fault>
+    ensures ok { IfOk result (λ loaded. loaded.chip ≡ chip) }
+    ensures chains { IfOk result (λ loaded. AreAllChains loaded.chip loaded.chains) }
+    ensures cause { IfErr result (IsTraceStage chip) }
+{
+    match chains_of(alloc, &chip) {
+        Ok(chains) => Ok(Loaded { chip, chains }),
+        Err(fault) => {
+            drop(chip);
+            Err(fault)
+        }
+    }
+}
+
+// The rules on instances are tried before linking takes the library over, which has the names of the pins and
+// transistors of a cell that breaks a rule.
+fn judge_cells(
+    alloc: Global,
+    library: &Library,
+    netlist: &RawNetlist,
+    scan: &[ScanRow],
+) -> Result<(), Fault>
+    requires rules { IsNetlist netlist.now }
+    requires distinct { IsDistinct bytes_eq (map (λ row. row.cell) scan.now) }
+
+    ensures sound { OnOk result (AreSound netlist.now library.now scan.now) }
+    ensures cause { IfErr result (IsLinkStage
+        (record { library = library.now; netlist = netlist.now; rows = scan.now })) }
+{
+    match judge_instances(alloc, netlist, library, scan) {
+        Ok(()) => Ok(()),
         Err(ChipFault::Cell { instance, rule }) => Err(Fault::Cell {
             cell: cell_name(alloc, netlist, instance)?,
             rule,
-            place: Text::new(alloc),
+            place: refused_place(alloc, netlist, library, instance, rule)?,
         }),
-        Err(ChipFault::TooManyInstances { count }) => Err(Fault::Limit {
-            kind: LimitKind::Instances,
-            count,
-        }),
-        Err(ChipFault::TooManyInputs { count }) => Err(Fault::Limit {
-            kind: LimitKind::Inputs,
-            count,
-        }),
-        Err(ChipFault::TooManyOutputs { count }) => Err(Fault::Limit {
-            kind: LimitKind::Outputs,
-            count,
-        }),
-        Err(ChipFault::TooManyDefects { count }) => Err(Fault::Limit {
-            kind: LimitKind::Defects,
-            count,
-        }),
-        Err(ChipFault::NoMemory) => Err(Fault::NoMemory),
-        Err(rule) => {
-            let place = place_of(alloc, netlist, &rule);
-            Err(Fault::Chip { rule, place })
-        }
+        Err(fault) => Err(broken_rule(alloc, netlist, fault)),
     }
+}
+
+// The chip of a netlist whose instances keep their rules.
+#[tactic(auto, using(crate::proofs::SoundLemmas::of_netlist))]
+fn chip_of(
+    alloc: Global,
+    library: Library,
+    netlist: &RawNetlist,
+    scan: &ScanTable,
+) -> Result<Chip, Fault>
+    requires rules { IsNetlist netlist.now }
+    requires distinct { IsDistinct bytes_eq (map (λ row. row.cell) scan.now) }
+    requires sound { AreSound netlist.now library scan.now }
+
+    ensures ok { IfOk result (IsChipOf
+        (record { library = library; netlist = netlist.now; rows = scan.now })) }
+    ensures cause { IfErr result (IsLinkStage
+        (record { library = library; netlist = netlist.now; rows = scan.now })) }
+{
+    match link(alloc, netlist, library, scan) {
+        Ok(chip) => Ok(chip),
+        Err(fault) => Err(broken_rule(alloc, netlist, fault)),
+    }
+}
+
+// What a rule that is broken, but that of an instance's cell, is answered with: the rule and its place, or the
+// limit that is passed.
+fn broken_rule(alloc: Global, netlist: &RawNetlist, fault: ChipFault) -> Fault
+    requires rules { IsNetlist netlist.now }
+    requires of_netlist { IsOfNetlist fault }
+    ensures { (library : List Named) (scan : List ScanRow) → IsCause netlist.now library scan fault
+        → IsLinkStage (record { library = library; netlist = netlist.now; rows = scan }) result }
+{
+    match fault {
+        ChipFault::TooManyInstances { count } => passed(LimitKind::Instances, count),
+        ChipFault::TooManyInputs { count } => passed(LimitKind::Inputs, count),
+        ChipFault::TooManyOutputs { count } => passed(LimitKind::Outputs, count),
+        ChipFault::TooManyDefects { count } => passed(LimitKind::Defects, count),
+        ChipFault::NoMemory => Fault::NoMemory,
+        rule => match place_of(alloc, netlist, &rule) {
+            Ok(place) => Fault::Chip { rule, place },
+            Err(NoMemory) => Fault::NoMemory,
+        },
+    }
+}
+
+// A limit that is passed.
+fn passed(kind: LimitKind, count: usize) -> Fault
+    ensures { result ≡ Fault.Limit kind count }
+{
+    Fault::Limit { kind, count }
 }
 
 // The name of an instance's cell, in upper case.

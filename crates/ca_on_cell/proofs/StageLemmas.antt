@@ -42,6 +42,7 @@ module _ (name word : List ℕ) (files : Option Files) (library : List Named)
         of_entry files name word library read (Refused refuses.raw rule) (BreaksAt rule place) refuses.found
             (record { broken = refuses.broken; placed = refuses.placed }),
       )
+  of_entry_cause NoMemory cause = inl (inl tt)
   of_entry_cause fault cause = absurd cause
 
   -- a cell of the library without values is one of the file

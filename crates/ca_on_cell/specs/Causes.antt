@@ -6,7 +6,7 @@ use Rattle.ca_lex.specs.Words.{upper_case}
 use Rattle.ca_cell.specs.declared.raw.RawCell.{RawCell}
 use Rattle.ca_cell.specs.declared.rule.CellRule.{CellRule}
 use Rattle.ca_cell.specs.Rules.{KeepsRules, IsFirstBroken}
-use Rattle.ca_place.specs.Place.{MayTell, rule_text}
+use Rattle.ca_place.specs.Place.{rule_text}
 use Rattle.ca_fault.specs.declared.fault.Fault.{Fault}
 use Rattle.ca_fault.specs.declared.fault.Fault.TheVariants.{NoCell, Cell, BadVector, NoDefect}
 use Rattle.ca_load.specs.Causes.{IsLibraryCause}
@@ -14,14 +14,10 @@ use Rattle.ca_asked.specs.Vectors.{dash}
 use Rattle.ca_on_cell.specs.Cells.{OfFile, OfCell, LacksCell}
 use Rattle.ca_on_cell.specs.Outputs.{Fits, asked_network}
 
--- the place names what the rule carries that the cell breaks, or is empty
-abbrev pub IsRulePlace : RawCell → CellRule → List ℕ → Type 0
-IsRulePlace raw rule place = MayTell (λ text. text ≡ rule_text raw rule) place
-
 -- the rule is the first that the cell breaks, with its place
 pub record BreaksAt (rule : CellRule) (place : List ℕ) (raw : RawCell) : Type 0 where
   pub broken : IsFirstBroken raw rule
-  pub placed : IsRulePlace raw rule place
+  pub placed : place ≡ rule_text raw rule
 
 -- why a word finds no cell in a file: it names none, or one that breaks a rule, the first of those that it
 -- breaks

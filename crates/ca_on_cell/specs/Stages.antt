@@ -10,7 +10,8 @@ use Rattle.ca_on_cell.specs.declared.inputs.TypedWords.{TypedWords}
 use Rattle.ca_fault.specs.declared.fault.Fault.{Fault}
 use Rattle.ca_fault.specs.declared.fault.Fault.TheVariants.{NoCell, Cell, BadVector, NoMemory}
 use Rattle.ca_on_cell.specs.Outputs.{Fits}
-use Rattle.ca_on_cell.specs.Causes.{IsRulePlace, IsPairCause}
+use Rattle.ca_place.specs.Place.{rule_text}
+use Rattle.ca_on_cell.specs.Causes.{IsPairCause}
 
 -- the words of a file and a cell as they were typed, and the cell's also in upper case
 pub record AreTyped (cells cell : List ℕ) (typed : TypedWords) : Type 0 where
@@ -24,13 +25,14 @@ pub record RefusesCell (library : List Named) (word : List ℕ) (rule : CellRule
   pub raw : RawCell
   pub found : entry_of library (upper_case word) ≡ Some (Refused raw rule)
   pub broken : IsFirstBroken raw rule
-  pub placed : IsRulePlace raw rule place
+  pub placed : place ≡ rule_text raw rule
 
--- why a word finds no cell in a library; never want of memory, for which the place is empty
+-- why a word finds no cell in a library; out of memory may come with any
 abbrev pub IsEntryCause : List ℕ → List Named → Fault → Type 0
 IsEntryCause word library (NoCell typed) = (typed ≡ word) × (entry_of library (upper_case word) ≡ None)
 IsEntryCause word library (Cell name rule place) =
     (name ≡ upper_case word) × RefusesCell library word rule place
+IsEntryCause word library NoMemory = ⊤
 IsEntryCause word library _ = ⊥
 
 -- why a vector isn't one of the cell

@@ -9,6 +9,7 @@ use Rattle.ca_flat.specs.declared.chip_defect.ChipDefect.{ChipDefect}
 use Rattle.ca_flat.specs.Chip.{IsChipDefect}
 use Rattle.ca_flat.specs.Flat.{flat}
 use Rattle.ca_wired.specs.Linked.{Chip, IsWired}
+use Rattle.ca_scan.specs.ChainFault.{AreAllChains}
 use Rattle.ca_core.specs.Core.{core_of}
 use Rattle.ca_flatten.specs.Laws.{FlatHasLines}
 use Rattle.ca_fault.specs.declared.fault.Fault.{Fault}
@@ -18,16 +19,22 @@ use Rattle.ca_asked.specs.Vectors.{letters_of}
 use Rattle.ca_asked.specs.Asked.{FitsInputs, IsAskedDefect, IsLibraryDefect, IsDefectCause, IsVectorsCause}
 use Rattle.ca_asked.specs.Asked.{IsDefectStage, IsVectorsStage}
 use Rattle.ca_simulate.specs.Simulated.{pair_of, AreSimulated}
-use Rattle.ca_on_chip.specs.OnChip.{IsChipOfFiles, OfChip, IsFlatOf, AreEndsOf, IsDefectWord, IsVectorWord}
+use Rattle.ca_on_chip.specs.OnChip.{IsChipOfFiles, IsTracedChipOf, OfChip, IsFlatOf, AreEndsOf, IsDefectWord}
+use Rattle.ca_on_chip.specs.OnChip.{IsVectorWord}
 use Rattle.ca_on_chip.specs.OnChip.{IsSimulationCause, IsFlatCause, IsEndsCause, IsSimulationStage}
 use Rattle.ca_on_chip.specs.OnChip.{IsPairsFault, IsPairsCause, IsTestsCause, IsTestsStage}
 
 -- what holds of the chip of the files
 pub of_chip : (files : Option Files) (names : InputFiles) (chip : Chip) (P : Chip → Type 0)
-    → IsChipOfFiles files names chip → P chip → OfChip files names P
+    → IsTracedChipOf files names chip → P chip → OfChip files names P
 of_chip files names chip P held holds = λ told is.
-    let found = held told is in
-    (found.0, (found.1.0, record { chip = chip; is = found.1.1; holds = holds }))
+    let found = held.of_files told is in
+    (found.0, (found.1.0, record { chip = chip; is = found.1.1; traced = held.traced; holds = holds }))
+
+-- the chip that was read is one with chains
+pub is_traced : (files : Option Files) (names : InputFiles) (chip : Chip) (chains : List (List ℕ))
+    → IsChipOfFiles files names chip → AreAllChains chip chains → IsTracedChipOf files names chip
+is_traced files names chip chains held all = record { of_files = held; traced = (chains, all) }
 
 -- the fault of a defect tells a word that was typed
 defect_word : (chip : Chip) (instance defect : List ℕ) (fault : Fault) → IsDefectCause chip instance defect fault
@@ -52,7 +59,7 @@ own_word instance defect first last fault chip (inr (fits, (fit, cause))) =
 
 -- why a chip of the files has no such flat network
 pub at_flat : (files : Option Files) (names : InputFiles) (before after : ℕ) (chip : Chip)
-    (instance defect : List ℕ) (fault : Fault) → IsChipOfFiles files names chip
+    (instance defect : List ℕ) (fault : Fault) → IsTracedChipOf files names chip
     → IsDefectStage chip instance defect fault → IsFlatCause names instance defect files before after fault
 at_flat files names before after chip instance defect fault held (inl memory) = rw memory (inl (inl (inl (inl tt))))
 at_flat files names before after chip instance defect fault held (inr cause) = inr (
@@ -62,7 +69,7 @@ at_flat files names before after chip instance defect fault held (inr cause) = i
 
 -- why it has no such values
 pub at_ends : (files : Option Files) (names : InputFiles) (before after : ℕ) (chip : Chip)
-    (instance defect first last : List ℕ) (fault : Fault) → IsChipOfFiles files names chip
+    (instance defect first last : List ℕ) (fault : Fault) → IsTracedChipOf files names chip
     → IsSimulationStage instance defect first last chip fault
     → IsEndsCause names instance defect first last files before after fault
 at_ends files names before after chip instance defect first last fault held (inl memory) =
@@ -79,7 +86,7 @@ pairs_fault budget chip fault cause = absurd cause
 
 -- why a chip of the files has no tests
 pub at_tests : (files : Option Files) (names : InputFiles) (before after : ℕ) (chip : Chip) (budget : ℕ) (fault : Fault)
-    → IsChipOfFiles files names chip → IsTestsStage budget chip fault → IsTestsCause names budget files before after fault
+    → IsTracedChipOf files names chip → IsTestsStage budget chip fault → IsTestsCause names budget files before after fault
 at_tests files names before after chip budget fault held (inl memory) = rw memory (inl (inl (inl (inl tt))))
 at_tests files names before after chip budget fault held (inr cause) =
     inr (pairs_fault budget chip fault cause, of_chip files names chip (IsPairsCause budget fault) held cause)

@@ -15,7 +15,7 @@ use Rattle.ca_asked.specs.Asked.{FitsInputs, IsAskedDefect, IsDefectStage, IsVec
 use Rattle.ca_simulate.specs.Simulated.{pair_of}
 use Rattle.ca_simulate.specs.OneRun.{AreRunEnds, IsFaultyLine}
 use Rattle.ca_on_chip.specs.declared.replays.TheConstants.{MAX_ORDER}
-use Rattle.ca_on_chip.specs.OnChip.{IsChipOfFiles, IsSimulationCause}
+use Rattle.ca_on_chip.specs.OnChip.{IsTracedChipOf, IsSimulationCause}
 use Rattle.ca_on_chip.specs.Replay.{run_of, IsAskedRun, AreRunEndsOf, HasFaultyLine, HasRun, IsOrderStage}
 use Rattle.ca_on_chip.specs.Replay.{IsRunStage, IsOrderCause, IsRunCause}
 use Rattle.ca_load.proofs.ReadLemmas.{of_whole}
@@ -86,7 +86,7 @@ module _ (chip : Chip) (instance defect first last order : List ℕ) (files : Op
 
 -- why a chip of the files has no such run
 pub at_run : (names : InputFiles) (files mid : Option Files) (before between after : ℕ) (chip : Chip)
-    (instance defect first last order : List ℕ) (fault : Fault) → mid ≡ files → between ≡ before → IsChipOfFiles files names chip
+    (instance defect first last order : List ℕ) (fault : Fault) → mid ≡ files → between ≡ before → IsTracedChipOf files names chip
     → IsRunStage instance defect first last order chip mid between after fault
     → IsRunCause names instance defect first last order files before after fault
 at_run names files mid before between after chip instance defect first last order fault kept quiet held cause =

@@ -11,7 +11,7 @@ use Rattle.ca_fault.specs.declared.fault.Fault.{Fault}
 use Rattle.ca_fault.specs.declared.fault.Fault.TheVariants.{BadVector, NoInstance, NoDefect, TooManyPairs}
 use Rattle.ca_fault.specs.declared.fault.Fault.TheVariants.{NoMemory}
 use Rattle.ca_load.specs.Texts.{InputFiles, Inputs, OfInputs}
-use Rattle.ca_load.specs.Chips.{IsChipOf}
+use Rattle.ca_load.specs.Chips.{IsChipOf, IsTraced}
 use Rattle.ca_load.specs.Causes.{IsLoadCause}
 use Rattle.ca_asked.specs.Vectors.{dash, letters_of}
 use Rattle.ca_asked.specs.Asked.{FitsInputs, IsAskedDefect, IsDefectCause, IsVectorsCause}
@@ -27,13 +27,19 @@ use Rattle.ca_words.specs.Budget.{HasBudget}
 abbrev pub IsChipOfFiles : Option Files → InputFiles → Chip → Type 0
 IsChipOfFiles files names chip = OfInputs files names (λ inputs. IsChipOf inputs chip)
 
--- the inputs give a chip of which this holds
+-- it is, and each of its scan instances is on a whole chain
+pub record IsTracedChipOf (files : Option Files) (names : InputFiles) (chip : Chip) : Type 0 where
+  pub of_files : IsChipOfFiles files names chip
+  pub traced : IsTraced chip
+
+-- the inputs give a chip with chains, of which this holds
 pub record GiveChipWith (Holds : Chip → Type 0) (inputs : Inputs) : Type 0 where
   pub chip : Chip
   pub is : IsChipOf inputs chip
+  pub traced : IsTraced chip
   pub holds : Holds chip
 
--- where the files are told, they give a chip of which this holds
+-- where the files are told, they give a chip with chains, of which this holds
 abbrev pub OfChip : Option Files → InputFiles → (Chip → Type 0) → Type 0
 OfChip files names Holds = OfInputs files names (GiveChipWith Holds)
 

@@ -6,7 +6,7 @@ ghost use Rattle.ca_store.specs.Store.{Nothing};
 ghost use Rattle.ca_load.specs.Files.{TellsStoreFault};
 ghost use Rattle.ca_load.specs.Texts.{names_of};
 ghost use Rattle.ca_asked.specs.Asked.{AreBothOrNeither, IsDefectStage};
-ghost use Rattle.ca_on_chip.specs.OnChip.{IsChipOfFiles, IsFlatOf, AreEndsOf};
+ghost use Rattle.ca_on_chip.specs.OnChip.{IsTracedChipOf, IsFlatOf, AreEndsOf};
 ghost use Rattle.ca_on_chip.specs.OnChip.{IsFlatCause, IsEndsCause, IsSimulationStage};
 
 use ca_asked::{find_defect, find_vectors};
@@ -45,7 +45,7 @@ pub fn find_flat<S: Store>(
     requires both { AreBothOrNeither request.now.instance.now request.now.defect.now }
 
     ensures chip { IfOk result (λ found.
-        IsChipOfFiles (S.files store.old) (names_of request.now.files) found.chip) }
+        IsTracedChipOf (S.files store.old) (names_of request.now.files) found.chip) }
     ensures flat { IfOk result (λ found.
         IsFlatOf request.now.instance.now request.now.defect.now found.chip found.net) }
     ensures lines { IfOk result (λ found. All HasLine found.net.devices) }
@@ -89,7 +89,7 @@ pub fn find_simulation<S: Store>(
     requires both { AreBothOrNeither request.now.of.instance.now request.now.of.defect.now }
 
     ensures chip { IfOk result (λ found.
-        IsChipOfFiles (S.files store.old) (names_of request.now.of.files) found.chip) }
+        IsTracedChipOf (S.files store.old) (names_of request.now.of.files) found.chip) }
     ensures ends { IfOk result (λ found. AreEndsOf request.now.of.instance.now request.now.of.defect.now
         request.now.first.now request.now.last.now found.chip found.ends.good.items found.ends.faulty.items) }
     ensures cause { IfErr result (IsEndsCause (names_of request.now.of.files)

@@ -5,7 +5,7 @@ ghost use Rattle.ca_load.specs.Files.{OfFile, TellsStoreFault};
 ghost use Rattle.ca_load.specs.Texts.{names_of};
 ghost use Rattle.ca_asked.specs.Asked.{AreBothOrNeither, IsAskedDefect, IsLibraryDefect, FitsInputs};
 ghost use Rattle.ca_asked.specs.Vectors.{letters_of};
-ghost use Rattle.ca_on_chip.specs.OnChip.{IsChipOfFiles};
+ghost use Rattle.ca_on_chip.specs.OnChip.{IsTracedChipOf};
 ghost use Rattle.ca_on_chip.specs.Replay.{AreRunEndsOf, IsRunStage, IsRunCause};
 
 use ca_asked::{find_defect, find_vectors};
@@ -42,7 +42,7 @@ pub fn find_replay<S: Store>(
     requires both { AreBothOrNeither request.now.of.of.instance.now request.now.of.of.defect.now }
 
     ensures chip { IfOk result (λ found.
-        IsChipOfFiles (S.files store.old) (names_of request.now.of.of.files) found.chip) }
+        IsTracedChipOf (S.files store.old) (names_of request.now.of.of.files) found.chip) }
     ensures ends { IfOk result (λ found. OfFile (S.files store.old) request.now.order.now MAX_ORDER
         (AreRunEndsOf request.now.of.of.instance.now request.now.of.of.defect.now
         request.now.of.first.now request.now.of.last.now found.chip found.ends.items)) }

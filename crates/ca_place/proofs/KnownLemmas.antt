@@ -1,11 +1,12 @@
 -- The net of a number is known by the wire that the code finds for it.
 use Rattle.std.proofs.Common.{◌≡◌, ℕ, zero, suc, ◌+◌, ◌<◌, ◌≤◌, ◌⊎◌, List, Bool, true, false}
 use Rattle.std.proofs.Common.{inl, inr, refl, sym, ◌∙◌, ap, subst, arith, true≢false, get_or}
-use Rattle.std.specs.Prelude.{Option, Some, None, slice_get, ◌↔◌, ◌&&◌, eqb, if◌then◌else◌, nat_lt, IfSome}
+use Rattle.std.specs.Prelude.{Option, Some, None, slice_get, ◌↔◌, ◌&&◌, eqb, if◌then◌else◌, nat_lt}
 use Rattle.std.specs.List.{All, Contains}
 use Rattle.std.proofs.lemmas.Bool.{eqb-true, eq-eqb, ltb-true, ltb-false}
 use Rattle.std.proofs.lemmas.List.Elements.{All-contains, All-map}
 use Rattle.std.proofs.lemmas.Option.{slice_get_within, slice_get-get_or, get_or_from_slice_get}
+use Rattle.std.proofs.Math.Decide.{dec_lt}
 use native.Mathlib.Decide.{ℕ_discrete}
 use Rattle.ca_cell.specs.Library.{Named}
 use Rattle.ca_verilog.specs.declared.raw.RawJoin.{RawJoin}
@@ -22,7 +23,7 @@ use Rattle.ca_chip.proofs.ForestLemmas.{joined_sym, joined_trans}
 use Rattle.ca_wired.proofs.DriverLemmas.{some_inj}
 use Rattle.ca_wired.proofs.OrderLemmas.{place_of, contained_at}
 use Rattle.ca_draft.specs.OnWires.{AreMarks}
-use Rattle.ca_place.specs.Touched.{IsKnownBy, IsNth, IsTouched, is_known, known_count, touched_of}
+use Rattle.ca_place.specs.Touched.{IsFoundAmong, IsFoundFor, IsNth, IsTouched, is_known, known_count, touched_of}
 use Rattle.ca_place.proofs.WithinLemmas.{bit_within, touched_within}
 use Rattle.ca_place.proofs.BridgeLemmas.{touched_touches, drives_touched, load_touched}
 
@@ -192,18 +193,27 @@ module _ (raw : RawNetlist) (library : List Named) (scan : List ScanRow) (is : I
     nth_net net w lt nth =
         subst (λ n. slice_get nets n ≡ Some w) nth.behind (next_at w (split w (omega (arith, lt))) (known_net w lt nth.known))
 
--- what the code finds is the wire of the net
-pub is_known_by : (raw : RawNetlist) → IsNetlist raw → (marks : WireMarks) (wires : List ℕ) → (count : ℕ) → count ≡ bit_count raw.buses
-    → IsTouched raw count wires → AreEarliest (joins_of count raw.joins) (count + 2) marks.earliest
-    → AreMarks marks.earliest wires marks.used → (net w : ℕ) → w < count + 2 → IsNth marks net w → IsKnownBy raw net w
-is_known_by raw is marks wires count same listed are used net w lt nth =
-    let all_bits : IsTouched raw (bit_count raw.buses) wires = subst (λ n. IsTouched raw n wires) same listed in
-    let earliest = subst (λ n. AreEarliest (joins_of n raw.joins) (n + 2) marks.earliest) same are in
-    λ library scan sound nets all.
-    nth_net raw library scan is sound marks wires all_bits earliest used nets all net w (omega (arith, lt, same)) nth
+    -- the nets that are known come first
+    pub past_known : (net w : ℕ) → known_count marks (bits + 2) ≤ net → slice_get nets net ≡ Some w → bits + 2 ≤ w
+    past_known net w past at = elim (dec_lt w (bits + 2)) [
+      | yes less ↦ absurd (let known = (split (bits + 2) (omega arith) net w at).0 less in omega (arith, known, past))
+      | no more ↦ omega (arith, more)
+    ]
 
--- what is found is the wire of the net
-pub some_known : (found : Option ℕ) (marks : WireMarks) (net most : ℕ) (P : ℕ → Type 0) → IfSome found (λ w. w < most)
-    → IfSome found (IsNth marks net) → ((w : ℕ) → w < most → IsNth marks net w → P w) → IfSome found P
-some_known None marks net most P within nth next = tt
-some_known (Some w) marks net most P within nth next = next w within nth
+-- what the code finds is the wire of the net
+pub is_found : (raw : RawNetlist) → IsNetlist raw → (marks : WireMarks) (wires : List ℕ) → (count : ℕ) → count ≡ bit_count raw.buses
+    → IsTouched raw count wires → AreEarliest (joins_of count raw.joins) (count + 2) marks.earliest
+    → AreMarks marks.earliest wires marks.used → (net : ℕ) (found : Option ℕ) → IsFoundAmong marks (count + 2) net found
+    → IsFoundFor raw net found
+is_found raw is marks wires count same listed are used net found among = by found (subst (λ n. IsFoundAmong marks (n + 2) net found) same among)
+  where
+    all_bits : IsTouched raw (bit_count raw.buses) wires
+    all_bits = subst (λ n. IsTouched raw n wires) same listed
+
+    earliest : AreEarliest (joins_of (bit_count raw.buses) raw.joins) (bit_count raw.buses + 2) marks.earliest
+    earliest = subst (λ n. AreEarliest (joins_of n raw.joins) (n + 2) marks.earliest) same are
+
+    by : (found : Option ℕ) → IsFoundAmong marks (bit_count raw.buses + 2) net found → IsFoundFor raw net found
+    by None past = λ library scan sound nets wire all at.
+        past_known raw library scan is sound marks wires all_bits earliest used nets all net wire past at
+    by (Some w) (lt, nth) = (lt, λ library scan sound nets all. nth_net raw library scan is sound marks wires all_bits earliest used nets all net w lt nth)

@@ -1,6 +1,8 @@
 -- The net that a fault tells is known by the wire that the code finds.
-use Rattle.std.proofs.Common.{◌≡◌, ℕ, ◌<◌, ◌⊎◌, List, [], ◌∷◌, inl, inr, refl, sym, subst, arith, Result, Ok, Err}
-use Rattle.std.specs.Prelude.{slice_get, IfOk}
+use Rattle.std.proofs.Common.{◌≡◌, ℕ, ◌+◌, ◌<◌, ◌∙◌, ◌⊎◌, List, [], ◌∷◌, inl, inr, refl, sym, subst, arith, Result, Ok, Err}
+use Rattle.std.proofs.lemmas.Bool.{lt-ltb, le-ltb}
+use Rattle.std.proofs.lemmas.Option.{same_Some}
+use Rattle.std.specs.Prelude.{Some, None, slice_get, IfOk}
 use Rattle.ca_cell.specs.Library.{Named}
 use Rattle.ca_verilog.specs.declared.raw.RawInstance.{RawInstance}
 use Rattle.ca_verilog.specs.declared.raw.RawNetlist.{RawNetlist}
@@ -13,8 +15,10 @@ use Rattle.ca_chip.specs.Wiring.{Meaning, Unknown, Broken, Library, ScanCell, me
 use Rattle.ca_chip.specs.InstanceRules.{AreSound, HasStrayPin, IsKnown, LacksPin}
 use Rattle.ca_chip.specs.Rules.{BreaksAt, IsCause, IsEarlier, IsFirstBroken, IsNetAt}
 use Rattle.ca_wired.proofs.DriverLemmas.{to_some}
-use Rattle.ca_place.specs.Place.{MayTell, TellsPlace, double_text, net_text}
-use Rattle.ca_place.specs.Touched.{HasKnownWire, IsKnownBy}
+use Rattle.ca_verilog.specs.IsNetlist.{bit_count}
+use Rattle.ca_place.specs.Names.{wire_name, wire_text}
+use Rattle.ca_place.specs.Place.{OfNet, TellsPlace, double_text, net_text}
+use Rattle.ca_place.specs.Touched.{IsFoundFor, IsTextOfNet}
 
 module _ (raw : RawNetlist) (library : List Named) (scan : List ScanRow) where
   -- where no rule on an instance is broken, each instance keeps its rules
@@ -47,48 +51,57 @@ module _ (raw : RawNetlist) (library : List Named) (scan : List ScanRow) where
   sound_before stage tail broken first at later =
       sound_where (λ u rest other breaks. first.none_before (1 ∷ u ∷ rest) other (subst (IsEarlier (1 ∷ u ∷ rest)) (sym at) (inl later)) breaks)
 
-  -- the net of a number is known by the wire
-  net_at : (net wire : ℕ) → AreSound raw library scan → (other : ℕ) → IsNetAt (wiring_of raw library scan) net other → IsKnownBy raw net wire
-      → IsNetAt (wiring_of raw library scan) net wire
-  net_at net wire sound other at known = record { nets = at.nets; are = at.are; at = known library scan sound at.nets at.are }
+  -- a net that makes the text, and that is there
+  text_at : (net : ℕ) (text_of : List ℕ → List ℕ) (text : List ℕ) → AreSound raw library scan → IsTextOfNet raw net text_of text
+      → (wire : ℕ) → IsNetAt (wiring_of raw library scan) net wire → OfNet raw library scan net text_of text
+  text_at net text_of text sound tells wire at = (wire, at, tells library scan sound at.nets wire at.are at.at)
 
-  pub of_undriven : (net : NetId) (text : List ℕ) → MayTell (HasKnownWire raw net.0 net_text) text
-      → IsCause raw library scan (fault.Undriven net) → MayTell (TellsPlace raw library scan (fault.Undriven net)) text
-  of_undriven net text (inl none) cause = inl none
-  of_undriven net text (inr (wire, known, is)) cause =
+  pub of_undriven : (net : NetId) (text : List ℕ) → IsTextOfNet raw net.0 net_text text
+      → IsCause raw library scan (fault.Undriven net) → TellsPlace raw library scan (fault.Undriven net) text
+  of_undriven net text tells cause =
       let sound = sound_before 2 (net.0 ∷ []) (fault.Undriven net) cause cause.breaks.0 (omega arith) in
-      inr (wire, net_at net.0 wire sound cause.breaks.1.wire cause.breaks.1.is_net known, is)
+      text_at net.0 net_text text sound tells cause.breaks.1.wire cause.breaks.1.is_net
 
   pub of_double : (net : NetId) (first second : Driver) (text : List ℕ)
-      → MayTell (HasKnownWire raw net.0 (λ name. double_text raw.instances name first second)) text
+      → IsTextOfNet raw net.0 (λ name. double_text raw.instances name first second) text
       → IsCause raw library scan (fault.DoubleDriven net first second)
-      → MayTell (TellsPlace raw library scan (fault.DoubleDriven net first second)) text
-  of_double net first second text (inl none) cause = inl none
-  of_double net first second text (inr (wire, known, is)) cause =
+      → TellsPlace raw library scan (fault.DoubleDriven net first second) text
+  of_double net first second text tells cause =
       let sound = sound_before 2 (net.0 ∷ []) (fault.DoubleDriven net first second) cause cause.breaks.0 (omega arith) in
-      inr (wire, net_at net.0 wire sound cause.breaks.1.wire cause.breaks.1.is_net known, is)
+      text_at net.0 (λ name. double_text raw.instances name first second) text sound tells cause.breaks.1.wire cause.breaks.1.is_net
 
-  pub of_observed : (net : NetId) (text : List ℕ) → MayTell (HasKnownWire raw net.0 net_text) text
-      → IsCause raw library scan (fault.ControlObserved net) → MayTell (TellsPlace raw library scan (fault.ControlObserved net)) text
-  of_observed net text (inl none) cause = inl none
-  of_observed net text (inr (wire, known, is)) cause =
+  pub of_observed : (net : NetId) (text : List ℕ) → IsTextOfNet raw net.0 net_text text
+      → IsCause raw library scan (fault.ControlObserved net) → TellsPlace raw library scan (fault.ControlObserved net) text
+  of_observed net text tells cause =
       let sound = sound_before _ _ (fault.ControlObserved net) cause cause.breaks.0 (omega arith) in
-      inr (wire, net_at net.0 wire sound cause.breaks.1.wire cause.breaks.1.is_net known, is)
+      text_at net.0 net_text text sound tells cause.breaks.1.wire cause.breaks.1.is_net
 
 module _ (raw : RawNetlist) (broken : ChipFault) (net : NetId) (text : List ℕ) where
   pub told_double : (first second : Driver) → broken ≡ fault.DoubleDriven net first second
-      → MayTell (HasKnownWire raw net.0 (λ name. double_text raw.instances name first second)) text → (library : List Named)
-      (scan : List ScanRow) → IsCause raw library scan broken → MayTell (TellsPlace raw library scan broken) text
+      → IsTextOfNet raw net.0 (λ name. double_text raw.instances name first second) text → (library : List Named)
+      (scan : List ScanRow) → IsCause raw library scan broken → TellsPlace raw library scan broken text
   told_double first second is tells library scan =
-      subst (λ b. IsCause raw library scan b → MayTell (TellsPlace raw library scan b) text) (sym is)
+      subst (λ b. IsCause raw library scan b → TellsPlace raw library scan b text) (sym is)
       (of_double raw library scan net first second text tells)
 
-  pub told_net : (broken ≡ fault.Undriven net) ⊎ (broken ≡ fault.ControlObserved net) → MayTell (HasKnownWire raw net.0 net_text) text
-      → (library : List Named) (scan : List ScanRow) → IsCause raw library scan broken → MayTell (TellsPlace raw library scan broken) text
+  pub told_net : (broken ≡ fault.Undriven net) ⊎ (broken ≡ fault.ControlObserved net) → IsTextOfNet raw net.0 net_text text
+      → (library : List Named) (scan : List ScanRow) → IsCause raw library scan broken → TellsPlace raw library scan broken text
   told_net (inl is) tells library scan =
-      subst (λ b. IsCause raw library scan b → MayTell (TellsPlace raw library scan b) text) (sym is) (of_undriven raw library scan net text tells)
+      subst (λ b. IsCause raw library scan b → TellsPlace raw library scan b text) (sym is) (of_undriven raw library scan net text tells)
   told_net (inr is) tells library scan =
-      subst (λ b. IsCause raw library scan b → MayTell (TellsPlace raw library scan b) text) (sym is) (of_observed raw library scan net text tells)
+      subst (λ b. IsCause raw library scan b → TellsPlace raw library scan b text) (sym is) (of_observed raw library scan net text tells)
+
+-- the text of a net, from the wire that was found for it
+module _ (raw : RawNetlist) (net : ℕ) (text_of : List ℕ → List ℕ) (text : List ℕ) where
+  pub named_net : (wire : ℕ) → IsFoundFor raw net (Some wire) → text ≡ text_of (wire_name raw.buses wire)
+      → IsTextOfNet raw net text_of text
+  named_net wire (within, known) is = λ library scan sound nets other all at.
+      let same : wire ≡ other = same_Some wire other (sym (known library scan sound nets all) ∙ at) in
+      subst (λ w. text ≡ wire_text raw.buses w text_of) same (rw (lt-ltb wire (bit_count raw.buses + 2) within) is)
+
+  pub unnamed_net : IsFoundFor raw net None → text ≡ [] → IsTextOfNet raw net text_of text
+  unnamed_net unnamed is = λ library scan sound nets wire all at.
+      rw (le-ltb wire (bit_count raw.buses + 2) (unnamed library scan sound nets wire all at)) is
 
 -- what holds of an answer follows from what is known of it
 pub ok_then : {T E : Type 0} (r : Result T E) (P Q : T → Type 0) → ((x : T) → P x → Q x) → IfOk r P → IfOk r Q

@@ -1,12 +1,12 @@
 -- What a fault's numbers are called: instances, cells, pins, devices, and the bits of nets.
-use Rattle.std.specs.Prelude.{ℕ, zero, suc, ◌-◌, List, [], ◌∷◌, Option, Some, None, slice_get}
+use Rattle.std.specs.Prelude.{ℕ, zero, suc, ◌+◌, ◌-◌, List, [], ◌∷◌, Option, Some, None, slice_get}
 use Rattle.std.specs.Prelude.{codes, nat_lt, if◌then◌else◌, Bool, true, false}
 use Rattle.ca_cell.specs.declared.raw.RawDevice.{RawDevice}
 use Rattle.ca_cell.specs.declared.raw.RawCell.{RawCell}
 use Rattle.ca_cell.specs.Raw.{is_input}
 use Rattle.ca_verilog.specs.declared.raw.RawBus.{RawBus}
 use Rattle.ca_verilog.specs.declared.raw.RawInstance.{RawInstance}
-use Rattle.ca_verilog.specs.IsNetlist.{range_width}
+use Rattle.ca_verilog.specs.IsNetlist.{range_width, bit_count}
 use Rattle.ca_chip.specs.Wiring.{bit_name, names_with}
 
 -- the name, and none where there is nothing
@@ -61,3 +61,9 @@ wire_name [] wire = constant_behind wire
 wire_name (bus ∷ more) wire =
     if nat_lt wire (range_width bus.range) then bit_name bus bus.range wire
     else wire_name more (wire - range_width bus.range)
+
+-- the text of a net that is known by the wire: its name makes the text; a net of an open output pin alone, which
+-- stands after the declared bits and the constants, has no name and no text
+abbrev pub wire_text : List RawBus → ℕ → (List ℕ → List ℕ) → List ℕ
+wire_text buses wire text_of =
+    if nat_lt wire (bit_count buses + 2) then text_of (wire_name buses wire) else []

@@ -1,5 +1,5 @@
 -- The place of a fault of linking: what names what the fault carries.
-use Rattle.std.specs.Prelude.{ℕ, ◌-◌, ◌≡◌, ◌⊎◌, List, [], ◌∷◌, ◌++◌, take, length, slice_index}
+use Rattle.std.specs.Prelude.{ℕ, ◌-◌, ◌≡◌, ⊤, List, [], ◌∷◌, ◌++◌, take, length, slice_index}
 use Rattle.std.specs.Prelude.{codes, decimal, nat_lt, if◌then◌else◌, Option, Some, None}
 use Rattle.std.specs.List.{flat_map}
 use Rattle.ca_lex.specs.Words.{upper_case}
@@ -19,11 +19,7 @@ use Rattle.ca_chip.specs.declared.fault.ChipFault.TheVariants as fault
 use Rattle.ca_chip.specs.Wiring.{wiring_of}
 use Rattle.ca_chip.specs.Rules.{IsNetAt}
 use Rattle.ca_place.specs.Names.{instance_name, cell_name, input_pin_name, device_name, constant_name}
-use Rattle.ca_place.specs.Names.{wire_name}
-
--- the place is told, or nothing is
-abbrev pub MayTell : (List ℕ → Type 0) → List ℕ → Type 0
-MayTell Tells text = (text ≡ []) ⊎ Tells text
+use Rattle.ca_place.specs.Names.{wire_text}
 
 -- so many of something, and how many there may be
 abbrev pub count_text : ℕ → List ℕ → ℕ → List ℕ
@@ -105,9 +101,27 @@ loop_text instances loop =
 -- the net is known by a wire, the earliest that it has, and the name of this wire makes the text
 abbrev pub OfNet : RawNetlist → List Named → List ScanRow → ℕ → (List ℕ → List ℕ) → List ℕ → Type 0
 OfNet raw library scan net text_of text =
-    (wire : ℕ) × IsNetAt (wiring_of raw library scan) net wire × (text ≡ text_of (wire_name raw.buses wire))
+    (wire : ℕ) × IsNetAt (wiring_of raw library scan) net wire × (text ≡ wire_text raw.buses wire text_of)
 
--- the text names what the fault carries
+-- the fault isn't that of an instance's cell, whose names the library has
+abbrev pub IsOfNetlist : ChipFault → Type 0
+IsOfNetlist (fault.UnknownCell u) = ⊤
+IsOfNetlist (fault.Cell u broken) = ⊥
+IsOfNetlist (fault.UnknownPin u pin) = ⊤
+IsOfNetlist (fault.MissingPin u pin) = ⊤
+IsOfNetlist (fault.DoubleDriven net first second) = ⊤
+IsOfNetlist (fault.Undriven net) = ⊤
+IsOfNetlist (fault.ControlPin u pin) = ⊤
+IsOfNetlist (fault.ControlObserved net) = ⊤
+IsOfNetlist (fault.QnUsed u) = ⊤
+IsOfNetlist (fault.Loop instances) = ⊤
+IsOfNetlist (fault.TooManyInstances count) = ⊤
+IsOfNetlist (fault.TooManyInputs count) = ⊤
+IsOfNetlist (fault.TooManyOutputs count) = ⊤
+IsOfNetlist (fault.TooManyDefects count) = ⊤
+IsOfNetlist fault.NoMemory = ⊤
+
+-- the text names what the fault carries, and is empty where the fault carries nothing
 abbrev pub TellsPlace : RawNetlist → List Named → List ScanRow → ChipFault → List ℕ → Type 0
 TellsPlace raw library scan (fault.UnknownCell u) text = text ≡ cell_text raw.instances u.0
 TellsPlace raw library scan (fault.Cell u broken) text = text ≡ refused_text raw library u.0 broken

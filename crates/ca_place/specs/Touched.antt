@@ -1,12 +1,14 @@
 -- The wires that nets stand on, as the code finds them without the library: those of connections and port
 -- bits, and the constants that are named. Only the proofs of the code cite this.
-use Rattle.std.specs.Prelude.{ℕ, zero, suc, ◌+◌, ◌≡◌, Bool, false, true, List, [], ◌∷◌, ◌++◌, map, Option}
+use Rattle.std.specs.Prelude.{ℕ, zero, suc, ◌+◌, ◌≡◌, ◌<◌, ◌≤◌, Bool, false, true, List, [], ◌∷◌, ◌++◌, map}
+use Rattle.std.specs.Prelude.{Option}
 use Rattle.std.specs.Prelude.{Some, None, eqb, ◌&&◌, slice_get, slice_index, slice_index_or, if◌then◌else◌}
 use Rattle.std.specs.List.{flat_map, list_any}
 use Rattle.ca_verilog.specs.declared.raw.RawBit.{RawBit}
 use Rattle.ca_verilog.specs.declared.raw.RawInstance.{RawInstance}
 use Rattle.ca_verilog.specs.declared.raw.RawSpan.{RawSpan}
 use Rattle.ca_verilog.specs.declared.raw.RawNetlist.{RawNetlist}
+use Rattle.ca_verilog.specs.IsNetlist.{bit_count}
 use Rattle.ca_verilog.specs.Joins.{pairs_of}
 use Rattle.ca_cell.specs.Library.{Named}
 use Rattle.ca_chip.specs.declared.scan_row.ScanRow.{ScanRow}
@@ -15,7 +17,7 @@ use Rattle.ca_chip.specs.Nets.{AreNets}
 use Rattle.ca_chip.specs.Wiring.{wire_of, header_bits, wiring_of}
 use Rattle.ca_chip.specs.Numbers.{WireMarks}
 use Rattle.ca_draft.specs.OnWires.{has_constant, constant_wires}
-use Rattle.ca_place.specs.Names.{wire_name}
+use Rattle.ca_place.specs.Names.{wire_text}
 
 -- the wire of what is on a pin, if anything is
 abbrev pub use_wires : ℕ → Option RawBit → List ℕ
@@ -69,7 +71,26 @@ IsKnownBy raw net wire =
     (library : List Named) (scan : List ScanRow) → AreSound raw library scan → (nets : List ℕ)
     → AreNets (wiring_of raw library scan) nets → slice_get nets net ≡ Some wire
 
--- a net that is known by a wire makes the text
-abbrev pub HasKnownWire : RawNetlist → ℕ → (List ℕ → List ℕ) → List ℕ → Type 0
-HasKnownWire raw net text_of text =
-    (wire : ℕ) × IsKnownBy raw net wire × (text ≡ text_of (wire_name raw.buses wire))
+-- in every net order, the net of this number is that of an open output pin, which has no name
+abbrev pub IsUnnamed : RawNetlist → ℕ → Type 0
+IsUnnamed raw net =
+    (library : List Named) (scan : List ScanRow) → AreSound raw library scan → (nets : List ℕ) (wire : ℕ)
+    → AreNets (wiring_of raw library scan) nets → slice_get nets net ≡ Some wire
+    → bit_count raw.buses + 2 ≤ wire
+
+-- what is found for the number of a net: the wire by which it is known, if this has a name
+abbrev pub IsFoundFor : RawNetlist → ℕ → Option ℕ → Type 0
+IsFoundFor raw net None = IsUnnamed raw net
+IsFoundFor raw net (Some wire) = (wire < bit_count raw.buses + 2) × IsKnownBy raw net wire
+
+-- what is found among the marks for the number of a net
+abbrev pub IsFoundAmong : WireMarks → ℕ → ℕ → Option ℕ → Type 0
+IsFoundAmong marks most net None = known_count marks most ≤ net
+IsFoundAmong marks most net (Some w) = (w < most) × IsNth marks net w
+
+-- whatever the library and the table of scan cells, the net makes the text
+abbrev pub IsTextOfNet : RawNetlist → ℕ → (List ℕ → List ℕ) → List ℕ → Type 0
+IsTextOfNet raw net text_of text =
+    (library : List Named) (scan : List ScanRow) → AreSound raw library scan → (nets : List ℕ) (wire : ℕ)
+    → AreNets (wiring_of raw library scan) nets → slice_get nets net ≡ Some wire
+    → text ≡ wire_text raw.buses wire text_of

@@ -1,10 +1,10 @@
 //! What is told of a rule that a cell breaks.
 
-ghost use Rattle.std.specs.Prelude.{◌≡◌, ◌⊎◌, ◌++◌, [], codes, decimal, slice_get, IfOk, OnOk};
+ghost use Rattle.std.specs.Prelude.{◌≡◌, ◌++◌, [], codes, decimal, slice_get, IfOk, OnOk};
 ghost use Rattle.ca_cell.specs.Raw.{is_input};
 ghost use Rattle.ca_chip.specs.Wiring.{names_with};
 ghost use Rattle.ca_place.specs.Names.{name_or_none, input_pin_name, device_name};
-ghost use Rattle.ca_place.specs.Place.{MayTell, count_text, rule_text};
+ghost use Rattle.ca_place.specs.Place.{count_text, rule_text};
 
 use ca_base::NoMemory;
 use ca_cell::{CellRule, MOST_DEVICES, MOST_INPUTS, MOST_NODES, MOST_OUTPUTS, RawCell, RawPin};
@@ -13,18 +13,8 @@ use ca_net::{DeviceId, NodeId};
 use itoa::Buffer;
 use std::alloc::Global;
 
-/// What a rule carries that the cell breaks; nothing where the rule carries nothing, or there is no memory.
-pub fn rule_place(alloc: Global, raw: &RawCell, rule: CellRule) -> Text
-    ensures { MayTell (λ text. text ≡ rule_text raw.now rule) result }
-{
-    match rule_text(alloc, raw, rule) {
-        Ok(text) => text,
-        Err(NoMemory) => Text::new(alloc),
-    }
-}
-
-/// What a rule carries that the cell breaks.
-pub(crate) fn rule_text(alloc: Global, raw: &RawCell, rule: CellRule) -> Result<Text, NoMemory>
+/// What a rule carries that the cell breaks; an empty text where the rule carries nothing.
+pub fn rule_place(alloc: Global, raw: &RawCell, rule: CellRule) -> Result<Text, NoMemory>
     ensures { IfOk result (λ text. text ≡ rule_text raw.now rule) }
 {
     match rule {

@@ -1,10 +1,10 @@
 //! The wire by which a net is known.
 
-ghost use Rattle.std.specs.Prelude.{◌≡◌, ◌<◌, ◌^◌, length, slice_index, IfOk, IfSome};
+ghost use Rattle.std.specs.Prelude.{◌≡◌, ◌<◌, ◌^◌, length, slice_index, IfOk};
 ghost use Rattle.std.specs.List.{All};
 ghost use Rattle.ca_verilog.specs.IsNetlist.{IsNetlist};
 ghost use Rattle.ca_draft.specs.OnWires.{AreMarks};
-ghost use Rattle.ca_place.specs.Touched.{IsKnownBy, IsNth};
+ghost use Rattle.ca_place.specs.Touched.{IsFoundAmong, IsFoundFor};
 
 use crate::touched::{bits_of, touched_of};
 use ca_base::NoMemory;
@@ -26,12 +26,12 @@ fn marks_of(alloc: Global, earliest: &[u32], wires: &[u32]) -> Result<Vec<bool>,
     Ok(used)
 }
 
-// The wire by which the net of this number is known.
+// The wire by which the net of this number is known, if there is one.
 fn nth_wire(earliest: &[u32], used: &[bool], net: u32) -> Option<u32>
     requires few { length earliest.now < 2 ^ 32 }
     requires marks { length used.now ≡ length earliest.now }
-    ensures within { IfSome result (λ w. w < length earliest.now) }
-    ensures nth { IfSome result (IsNth (record { earliest = earliest.now; used = used.now }) net) }
+    ensures { IsFoundAmong (record { earliest = earliest.now; used = used.now })
+        (length earliest.now) net result }
 {
     let mut left = net;
     for w in 0..earliest.len() {
@@ -45,14 +45,14 @@ fn nth_wire(earliest: &[u32], used: &[bool], net: u32) -> Option<u32>
     None
 }
 
-/// The wire by which a net is known, if it is that of a declared bit or of a constant.
+/// The wire by which the net of this number is known, if it is that of a declared bit or of a constant.
 pub(crate) fn net_wire(
     alloc: Global,
     netlist: &RawNetlist,
     net: u32,
 ) -> Result<Option<u32>, NoMemory>
     requires { IsNetlist netlist.now }
-    ensures { IfOk result (λ wire. IfSome wire (IsKnownBy netlist.now net)) }
+    ensures { IfOk result (IsFoundFor netlist.now net) }
 {
     let bits = bits_of(alloc, netlist.buses.as_slice())?;
     let wires = bits.count as usize + 2;

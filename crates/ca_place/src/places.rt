@@ -7,12 +7,12 @@ ghost use Rattle.ca_verilog.specs.IsNetlist.{IsNetlist};
 ghost use Rattle.ca_chip.specs.Rules.{IsCause};
 ghost use Rattle.ca_chip.specs.declared.scan_row.ScanRow.{ScanRow};
 ghost use Rattle.ca_place.specs.Names.{wire_name};
-ghost use Rattle.ca_place.specs.Place.{MayTell, TellsPlace, behind_comma, double_text, net_text};
+ghost use Rattle.ca_place.specs.Place.{IsOfNetlist, TellsPlace, behind_comma, double_text, net_text};
 ghost use Rattle.ca_place.specs.Place.{refused_text, rule_in};
-ghost use Rattle.ca_place.specs.Touched.{HasKnownWire};
+ghost use Rattle.ca_place.specs.Touched.{IsTextOfNet};
 
 use crate::bits::wire_name;
-use crate::cells::rule_text;
+use crate::cells::rule_place;
 use crate::instances::{add_driver, cell_name, cell_text, loop_text, pin_text};
 use crate::nets::net_wire;
 use ca_base::NoMemory;
@@ -23,25 +23,17 @@ use ca_verilog::RawNetlist;
 use ca_wired::{InstanceId, NetId};
 use std::alloc::Global;
 
-/// The names of what a fault carries, as they stand in the netlist. Nothing is told where there are no names,
-/// or no memory for them, nor of a cell that breaks a rule: `refused_place` tells that.
-pub fn place_of(alloc: Global, netlist: &RawNetlist, fault: &ChipFault) -> Text
-    requires { IsNetlist netlist.now }
-    ensures { (library : List Named) (scan : List ScanRow) → IsCause netlist.now library scan fault.now
-        → MayTell (TellsPlace netlist.now library scan fault.now) result }
-{
-    match text_of(alloc, netlist, fault) {
-        Ok(text) => text,
-        Err(NoMemory) => Text::new(alloc),
-    }
-}
-
-// The names of what a fault carries.
-fn text_of(alloc: Global, netlist: &RawNetlist, fault: &ChipFault) -> Result<Text, NoMemory>
-    requires { IsNetlist netlist.now }
+/// The names of what a fault carries, as they stand in the netlist; an empty text where it carries none. Those
+/// of an instance's cell are known to the library: `refused_place` tells them.
+pub fn place_of(
+    alloc: Global,
+    netlist: &RawNetlist,
+    fault: &ChipFault,
+) -> Result<Text, NoMemory>
+    requires netlist { IsNetlist netlist.now }
+    requires of_netlist { IsOfNetlist fault.now }
     ensures { IfOk result (λ text. (library : List Named) (scan : List ScanRow)
-        → IsCause netlist.now library scan fault.now
-        → MayTell (TellsPlace netlist.now library scan fault.now) text) }
+        → IsCause netlist.now library scan fault.now → TellsPlace netlist.now library scan fault.now text) }
 {
     let instances = netlist.instances.as_slice();
     match fault {
@@ -58,8 +50,8 @@ fn text_of(alloc: Global, netlist: &RawNetlist, fault: &ChipFault) -> Result<Tex
             one_net(alloc, netlist, *net)
         }
         ChipFault::Loop { instances: members } => loop_text(alloc, instances, members),
-        ChipFault::Cell { .. }
-        | ChipFault::TooManyInstances { .. }
+        ChipFault::Cell { .. } => unreachable!(),
+        ChipFault::TooManyInstances { .. }
         | ChipFault::TooManyInputs { .. }
         | ChipFault::TooManyOutputs { .. }
         | ChipFault::TooManyDefects { .. }
@@ -81,7 +73,7 @@ fn net_text(alloc: Global, netlist: &RawNetlist, wire: u32) -> Result<Text, NoMe
 // A net, if it has a name.
 fn one_net(alloc: Global, netlist: &RawNetlist, net: NetId) -> Result<Text, NoMemory>
     requires { IsNetlist netlist.now }
-    ensures { IfOk result (MayTell (HasKnownWire netlist.now net.0 net_text)) }
+    ensures { IfOk result (IsTextOfNet netlist.now net.0 net_text) }
 {
     match net_wire(alloc, netlist, net.0)? {
         Some(wire) => net_text(alloc, netlist, wire),
@@ -98,8 +90,8 @@ fn driven_net(
     second: &Driver,
 ) -> Result<Text, NoMemory>
     requires { IsNetlist netlist.now }
-    ensures { IfOk result (MayTell (HasKnownWire netlist.now net.0
-        (λ name. double_text netlist.now.instances name first.now second.now))) }
+    ensures { IfOk result (IsTextOfNet netlist.now net.0
+        (λ name. double_text netlist.now.instances name first.now second.now)) }
 {
     match net_wire(alloc, netlist, net.0)? {
         Some(wire) => double_text(alloc, netlist, wire, first, second),
@@ -128,25 +120,8 @@ fn double_text(
     Ok(text)
 }
 
-/// An instance whose cell breaks a rule, the cell, and what the rule carries; nothing where there is no
-/// memory.
+/// An instance whose cell breaks a rule, the cell, and what the rule carries.
 pub fn refused_place(
-    alloc: Global,
-    netlist: &RawNetlist,
-    library: &Library,
-    instance: InstanceId,
-    rule: CellRule,
-) -> Text
-    ensures { MayTell (λ text. text ≡ refused_text netlist.now library.now instance.0 rule) result }
-{
-    match refused_text(alloc, netlist, library, instance, rule) {
-        Ok(text) => text,
-        Err(NoMemory) => Text::new(alloc),
-    }
-}
-
-// The same, or there is no memory.
-fn refused_text(
     alloc: Global,
     netlist: &RawNetlist,
     library: &Library,
@@ -178,8 +153,8 @@ fn rule_in(alloc: Global, library: &Library, cell: &[u8], rule: CellRule) -> Res
     ensures { IfOk result (λ text. text ≡ rule_in (entry_of library.now (upper_case cell.now)) rule) }
 {
     match library.get(cell) {
-        Some(Entry::Sound(sound)) => rule_text(alloc, sound.raw(), rule),
-        Some(Entry::Refused(raw, _)) => rule_text(alloc, raw, rule),
+        Some(Entry::Sound(sound)) => rule_place(alloc, sound.raw(), rule),
+        Some(Entry::Refused(raw, _)) => rule_place(alloc, raw, rule),
         None => Ok(Text::new(alloc)),
     }
 }

@@ -1,7 +1,9 @@
 -- The values that the loop over the observed outputs takes are what the flat networks end with.
-use Rattle.std.proofs.Common.{◌≡◌, ℕ, ◌+◌, ◌<◌, List, [], ◌∷◌, ◌++◌, length, inl, inr, refl, sym, ◌∙◌, ap}
+use Rattle.std.proofs.Common.{◌≡◌, ℕ, ◌+◌, List, [], ◌∷◌, ◌++◌, length, inl, inr, refl, sym, ◌∙◌, ap}
 use Rattle.std.proofs.Common.{subst, arith}
-use Rattle.std.specs.Prelude.{Option, None, Some, slice_index}
+use Rattle.std.specs.Prelude.{Option, None, Some, Result, Ok, Err, IfOk, slice_index}
+use Rattle.ca_base.specs.declared.memory.NoMemory.{NoMemory}
+use Rattle.ca_simulate.specs.declared.simulation.OutputEnds.{OutputEnds}
 use Rattle.std.proofs.lemmas.List.{length_push, get_or_push, get_or_append_left}
 use Rattle.std.proofs.lemmas.Bool.{cases_lt}
 use Rattle.std.proofs.lemmas.Option.{slice_get-get_or}
@@ -29,12 +31,8 @@ use Rattle.ca_core_tables.proofs.PartFacts.{library_known}
 use Rattle.ca_core_tables.proofs.RankLemmas.{library_place}
 use Rattle.ca_asked.specs.Asked.{IsLibraryDefect}
 use Rattle.ca_simulate.specs.Simulated.{AreOutputEnds, AreSimulated}
+use Rattle.ca_simulate.specs.Lasts.{HaveLasts, AreLasts}
 use Rattle.ca_simulate.proofs.RunLemmas.{is_chip_defect}
-
--- the values are the last ones of the waves of the first observed outputs
-pub record HaveLasts (outputs : List ℕ) (waves : List Wave) (count : ℕ) (values : List Trit) : Type 0 where
-  pub room : length values ≡ count
-  pub each : (o : ℕ) → o < count → value_at values o ≡ (wave_at waves (slice_index outputs o)).last
 
 -- no value yet
 pub no_lasts : (outputs : List ℕ) (waves : List Wave) → HaveLasts outputs waves 0 []
@@ -111,3 +109,12 @@ module _ (chip : Chip) (wired : IsWired chip) where
       where
         by_none : AreNetWaves (core_of chip) None pair seen.good → AreOutputEnds (core_of chip) None pair good
         by_none are = ends_of None tt pair seen.good good are (subst (λ k. HaveLasts (core_of chip).outputs seen.good k good) count goods)
+
+    -- the same of what the loop over the observed outputs gives, if there is memory for it
+    pub simulated_ends : (given : Option ChipDefect) → IsLibraryDefect chip given → (seen : Seen) (pair : List Trit) (ends : Result OutputEnds NoMemory)
+        → seen.chip ≡ core_of chip → seen.pair ≡ pair → seen.aim ≡ given → IsExact seen
+        → IfOk ends (AreLasts (core_of chip).outputs seen)
+        → IfOk ends (λ ends. AreSimulated (core_of chip) given pair ends.good.items ends.faulty.items)
+    simulated_ends given is seen pair (Err none) chip_is pair_is aim_is exact have = tt
+    simulated_ends given is seen pair (Ok ends) chip_is pair_is aim_is exact have =
+        simulated given is seen pair (length (core_of chip).outputs) ends.good.items ends.faulty.items chip_is pair_is aim_is exact refl have.good have.faulty

@@ -6,6 +6,7 @@ ghost use Rattle.ca_core.specs.Core.{core_of};
 ghost use Rattle.ca_sim.specs.Seen.{IsExact};
 ghost use Rattle.ca_asked.specs.Asked.{IsLibraryDefect};
 ghost use Rattle.ca_simulate.specs.Simulated.{pair_of, AreOutputEnds, AreSimulated};
+ghost use Rattle.ca_simulate.specs.Lasts.{AreLasts, AreReady};
 
 use crate::letters::Letters;
 use ca_asked::Vectors;
@@ -44,10 +45,43 @@ pub fn simulate(
     judge_size(alloc, chip)?;
     chip.wired();
     let tables = CoreTables::new(alloc, chip)?;
-    let mut sim = Sim::reserve(alloc, &tables)?;
+    let ends = simulate_on(alloc, &tables, defect, vectors);
+    drop(tables);
+    ends
+}
+
+// What the observed outputs settle to, by a simulator over the tables of a chip.
+fn simulate_on(
+    alloc: Global,
+    tables: &CoreTables<'_>,
+    defect: Option<ChipDefect>,
+    vectors: Vectors<'_>,
+) -> Result<OutputEnds, NoMemory>
+    requires chip { AreReady tables.now }
+    requires defect { IsLibraryDefect tables.now.chip defect }
+    requires first { length vectors.first.now ≡ length (inputs_of tables.now.chip) }
+    requires last { length vectors.last.now ≡ length (inputs_of tables.now.chip) }
+    ensures { IfOk result (λ ends. AreSimulated (core_of tables.now.chip) defect
+        (pair_of vectors.entry.first.now vectors.entry.last.now) ends.good.items ends.faulty.items) }
+{
+    let mut sim = Sim::reserve(alloc, tables)?;
     sim.aim(defect);
     sim.load(&Letters { vectors });
     sim.exact();
+    let ends = last_values(alloc, tables, &sim);
+    drop(sim);
+    ends
+}
+
+// The last values of the waves at the observed outputs.
+fn last_values<N: NetWaves>(
+    alloc: Global,
+    tables: &CoreTables<'_>,
+    sim: &N,
+) -> Result<OutputEnds, NoMemory>
+    requires { (N.seen sim.now).chip ≡ core_of tables.now.chip }
+    ensures { IfOk result (AreLasts (core_of tables.now.chip).outputs (N.seen sim.now)) }
+{
     let mut good = Vec::new(alloc);
     let mut faulty = Vec::new(alloc);
     for o in 0..tables.outputs() {

@@ -1,8 +1,7 @@
-use Rattle.std.proofs.Common.{rules}
 use Rattle.ca_load.specs.Texts.{names_of}
 use Rattle.ca_load.proofs.LinkLemmas.{handed_on}
 use Rattle.ca_on_chip.specs.OnChip.{IsEndsCause}
-use Rattle.ca_on_chip.proofs.AskedLemmas.{at_ends}
+use Rattle.ca_on_chip.proofs.AskedLemmas.{at_ends, is_traced}
 use Rattle.ca_on_chip.proofs.chips.find_simulation.Goals as goal
 
 pub returns-in_err-ends-clause-cause : goal.returns-in_err-ends-clause-cause
@@ -13,8 +12,9 @@ returns-in_err-ends-clause-cause g c =
     let before = g.S.Store.faults c.args.store.now in
     let after = g.S.Store.faults c.load.new.store in
     let fault = c.in_err-ends.field-0.0 in
+    let traced = is_traced files names c.in_ok-chip.field-0.chip c.in_ok-chip.field-0.chains (c.in_ok-chip.ensures).ok (c.in_ok-chip.ensures).chains in
     handed_on c.from_residual-in_err-ends.result fault
     (IsEndsCause names request.of.instance.now request.of.defect.now request.first.now request.last.now files before after)
     c.from_residual-in_err-ends.ensures.1
     (at_ends files names before after c.in_ok-chip.field-0.chip request.of.instance.now request.of.defect.now request.first.now request.last.now fault
-    (search rules) (c.in_err-ends.ensures).cause)
+    traced (c.in_err-ends.ensures).cause)

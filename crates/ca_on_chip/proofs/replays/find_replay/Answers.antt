@@ -4,6 +4,7 @@ use Rattle.ca_load.specs.Files.{TellsStoreFault}
 use Rattle.ca_load.proofs.LinkLemmas.{handed_on}
 use Rattle.ca_load.proofs.ReadLemmas.{told_since}
 use Rattle.ca_on_chip.specs.Replay.{IsRunCause}
+use Rattle.ca_on_chip.proofs.AskedLemmas.{is_traced}
 use Rattle.ca_on_chip.proofs.ReplayLemmas.{at_run}
 use Rattle.ca_on_chip.proofs.replays.find_replay.Goals as goal
 
@@ -17,11 +18,12 @@ returns-in_err-ends-clause-cause g c =
     let after = g.S.Store.faults c.run_ends.new.store in
     let fault = c.in_err-ends.field-0.0 in
     let read = c.in_ok-chip.ensures in
+    let traced = is_traced files names c.in_ok-chip.field-0.chip c.in_ok-chip.field-0.chains read.ok read.chains in
     handed_on c.from_residual-in_err-ends.result fault
     (IsRunCause names request.of.of.instance.now request.of.of.defect.now request.of.first.now request.of.last.now request.order.now files before after)
     c.from_residual-in_err-ends.ensures.1
     (at_run names files (g.S.Store.files c.load.new.store) before between after c.in_ok-chip.field-0.chip request.of.of.instance.now
-    request.of.of.defect.now request.of.first.now request.of.last.now request.order.now fault read.kept read.quiet read.ok (c.in_err-ends.ensures).cause)
+    request.of.of.defect.now request.of.first.now request.of.last.now request.order.now fault read.kept read.quiet traced (c.in_err-ends.ensures).cause)
 
 pub returns-in_err-ends-clause-told : goal.returns-in_err-ends-clause-told
 returns-in_err-ends-clause-told g c =

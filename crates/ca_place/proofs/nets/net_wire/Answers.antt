@@ -1,11 +1,10 @@
-use Rattle.std.proofs.Common.{◌≡◌, ◌<◌, ◌+◌, ◌∙◌, ℕ, ap, length, subst}
-use Rattle.std.specs.Prelude.{IfSome}
+use Rattle.std.proofs.Common.{◌≡◌, ◌+◌, ◌∙◌, ℕ, ap, length, subst}
 use Rattle.ca_verilog.specs.IsNetlist.{bit_count}
 use Rattle.ca_chip.specs.Numbers.{WireMarks}
 use Rattle.ca_chip.specs.Wiring.{joins_of}
 use Rattle.ca_draft.specs.OnWires.{AreMarks}
-use Rattle.ca_place.specs.Touched.{IsKnownBy}
-use Rattle.ca_place.proofs.KnownLemmas.{is_known_by, some_known}
+use Rattle.ca_place.specs.Touched.{IsFoundAmong}
+use Rattle.ca_place.proofs.KnownLemmas.{is_found}
 use Rattle.ca_place.proofs.WithinLemmas.{listed_within, marks_listed, marks_within}
 use Rattle.ca_place.proofs.nets.net_wire.Goals as goal
 
@@ -36,8 +35,6 @@ returns c =
     let marks : WireMarks = record { earliest = earliest; used = c.in_ok-used.used.items } in
     let used : AreMarks earliest c.in_ok-touched.touched.items c.in_ok-used.used.items = rw (c.deref.ensures.value, c.deref-2.ensures.value) at (c.in_ok-used.ensures {u = tt}) in
     let are = c.in_ok-earliest.ensures {u = tt} in
-    let all : length c.deref-3.result.now ≡ count + 2 = ap length c.deref-3.ensures.value ∙ are.count in
-    some_known c.nth_wire.result marks c.args.net (count + 2) (IsKnownBy raw c.args.net)
-    (subst (λ (n : ℕ). IfSome c.nth_wire.result (λ (w : ℕ). w < n)) all c.nth_wire.ensures.within)
-    (rw (c.deref-3.ensures.value, c.deref-4.ensures.value) at c.nth_wire.ensures.nth)
-    (λ w lt nth. is_known_by raw c.requires marks c.in_ok-touched.touched.items count same (c.in_ok-touched.ensures {u = tt}) are used c.args.net w lt nth)
+    let found : IsFoundAmong marks (length earliest) c.args.net c.nth_wire.result = rw (c.deref-3.ensures.value, c.deref-4.ensures.value) at c.nth_wire.ensures in
+    is_found raw c.requires marks c.in_ok-touched.touched.items count same (c.in_ok-touched.ensures {u = tt}) are used c.args.net c.nth_wire.result
+    (subst (λ (n : ℕ). IsFoundAmong marks n c.args.net c.nth_wire.result) are.count found)

@@ -1,5 +1,5 @@
 use Rattle.ca_place.proofs.NetLemmas.{ok_then, told_double, told_net}
-use Rattle.ca_place.proofs.places.text_of.Goals as goal
+use Rattle.ca_place.proofs.places.place_of.Goals as goal
 
 pub returns-in-DoubleDriven : goal.returns-in-DoubleDriven
 returns-in-DoubleDriven c =
