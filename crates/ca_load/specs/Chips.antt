@@ -4,7 +4,7 @@ use Rattle.ca_lex.specs.Words.{upper_case}
 use Rattle.ca_cell.specs.Library.{raw_of}
 use Rattle.ca_verilog.specs.declared.raw.RawNetlist.{RawNetlist}
 use Rattle.ca_wired.specs.declared.instances.InstanceId.{InstanceId}
-use Rattle.ca_wired.specs.Linked.{Chip}
+use Rattle.ca_wired.specs.Linked.{Chip, IsWired}
 use Rattle.ca_wired.specs.Order.{IsOnce}
 use Rattle.ca_chip.specs.declared.fault.ChipFault.{ChipFault}
 use Rattle.ca_chip.specs.declared.fault.ChipFault.TheVariants as rule
@@ -20,8 +20,9 @@ use Rattle.ca_fault.specs.declared.fault.Fault.TheVariants.{Cell, Chain, Limit}
 use Rattle.ca_fault.specs.declared.fault.Fault.TheVariants as fault
 use Rattle.ca_load.specs.Texts.{Inputs}
 
--- the chip is the link of the inputs, and they break no rule of linking and pass no limit
+-- the chip is wired and the link of the inputs, and they break no rule of linking and pass no limit
 pub record IsChipOf (inputs : Inputs) (chip : Chip) : Type 0 where
+  pub wired : IsWired chip
   pub kept : KeepsRules inputs.netlist inputs.library inputs.rows
   pub link : IsLinkOf (wiring_of inputs.netlist inputs.library inputs.rows) chip
   pub cells : chip.cells ≡ map (λ named. raw_of named.entry) inputs.library

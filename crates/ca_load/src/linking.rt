@@ -150,7 +150,10 @@ fn chip_of(
         (record { library = library; netlist = netlist.now; rows = scan.now })) }
 {
     match link(alloc, netlist, library, scan) {
-        Ok(chip) => Ok(chip),
+        Ok(chip) => {
+            chip.wired();
+            Ok(chip)
+        }
         Err(fault) => Err(broken_rule(alloc, netlist, fault)),
     }
 }

@@ -4,7 +4,7 @@ use Rattle.std.specs.List.{All}
 use Rattle.ca_cell.specs.Library.{IsEntry, raw_of}
 use Rattle.ca_chip.specs.Wiring.{wiring_of}
 use Rattle.ca_chip.specs.Linking.{IsLinkOf}
-use Rattle.ca_wired.specs.Linked.{Chip}
+use Rattle.ca_wired.specs.Linked.{Chip, IsWired}
 use Rattle.ca_fault.specs.declared.fault.Fault.{Fault}
 use Rattle.ca_make.specs.declared.gate.TheConstants.{MOST_GATES}
 use Rattle.ca_make_laws.specs.Cells.{sound_library}
@@ -19,14 +19,14 @@ use Rattle.ca_on_chip.proofs.AskedLemmas.{pairs_fault}
 -- a chip that links the netlist of a number over the library is the generated chip
 pub is_made : (number : ℕ) (chip : Chip) → LibraryIsRead → NetlistIsRead → ChipKeepsRules
     → All (λ named. IsEntry named.entry) sound_library → number ≤ MOST_GATES
-    → IsLinkOf (wiring_of (chip_netlist number) sound_library []) chip
+    → IsWired chip → IsLinkOf (wiring_of (chip_netlist number) sound_library []) chip
     → chip.cells ≡ map (λ named. raw_of named.entry) sound_library → IsMadeChip number chip
-is_made number chip library_read netlist_read rules entries few link cells = record {
+is_made number chip library_read netlist_read rules entries few wired link cells = record {
   library = sound_library;
   netlist = chip_netlist number;
   cells_read = record { reads = library_read; entries = entries };
   netlist_read = netlist_read number few;
-  is = record { kept = rules number few; link = link; cells = cells };
+  is = record { wired = wired; kept = rules number few; link = link; cells = cells };
 }
 
 -- a chip whose pairs are too many has none

@@ -64,7 +64,9 @@ fn linked(alloc: Global, number: u32) -> Result<Chip, Fault>
     library_is_read();
     netlist_is_read();
     chip_keeps_rules();
-    Ok(made_chip(alloc, number)?)
+    let chip = made_chip(alloc, number)?;
+    chip.wired();
+    Ok(chip)
 }
 
 // What is generated for a chip, or why there is nothing.
