@@ -8,4 +8,4 @@ mod linking;
 mod names;
 mod telling;
 
-pub use linking::link;
+pub use linking::{link, link_instances};

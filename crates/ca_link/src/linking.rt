@@ -7,6 +7,7 @@ ghost use Rattle.ca_cell.specs.Library.{raw_of};
 ghost use Rattle.ca_verilog.specs.IsNetlist.{IsNetlist};
 ghost use Rattle.ca_chip.specs.Wiring.{wiring_of};
 ghost use Rattle.ca_chip.specs.Linking.{IsLinkOf};
+ghost use Rattle.ca_chip.specs.InstanceRules.{AreSound};
 ghost use Rattle.ca_chip.specs.Rules.{KeepsRules, IsCause};
 
 use crate::limits::{defects_of, first_limit};
@@ -33,10 +34,31 @@ pub fn link(
     ensures kept { OnOk result (KeepsRules netlist.now library scan.now) }
     ensures cause { IfErr result (IsCause netlist.now library scan.now) }
 {
-    if let Err(fault) = judge_instances(alloc, netlist, &library, scan.as_slice()) {
-        drop(library);
-        return Err(fault);
+    match judge_instances(alloc, netlist, &library, scan.as_slice()) {
+        Ok(()) => link_instances(alloc, netlist, library, scan),
+        Err(fault) => {
+            drop(library);
+            Err(fault)
+        }
     }
+}
+
+/// The same where the instances were judged: each keeps its rules. So a caller that tells the place of a fault
+/// by the library, which is gone afterwards, judges the instances itself, and they are judged once.
+pub fn link_instances(
+    alloc: Global,
+    netlist: &RawNetlist,
+    library: Library,
+    scan: &ScanTable,
+) -> Result<Chip, ChipFault>
+    requires netlist { IsNetlist netlist.now }
+    requires rows { IsDistinct bytes_eq (map (λ row. row.cell) scan.now) }
+    requires sound { AreSound netlist.now library scan.now }
+    ensures ok { IfOk result (IsLinkOf (wiring_of netlist.now library scan.now)) }
+    ensures cells { IfOk result (λ chip. chip.cells ≡ map (λ named. raw_of named.entry) library) }
+    ensures kept { OnOk result (KeepsRules netlist.now library scan.now) }
+    ensures cause { IfErr result (IsCause netlist.now library scan.now) }
+{
     let draft = draft_of(alloc, library, netlist, scan)?;
     match judge(alloc, &draft) {
         Err(fault) => {

@@ -19,7 +19,7 @@ use ca_cell::Library;
 use ca_chip::{ChipFault, ScanRow, judge_instances};
 use ca_fault::{Fault, LimitKind};
 use ca_lex::{Text, fold};
-use ca_link::link;
+use ca_link::link_instances;
 use ca_place::{place_of, refused_place};
 use ca_scan::{ChainFault, Chains, ScanTable, trace};
 use ca_verilog::RawNetlist;
@@ -149,7 +149,7 @@ fn chip_of(
     ensures cause { IfErr result (IsLinkStage
         (record { library = library; netlist = netlist.now; rows = scan.now })) }
 {
-    match link(alloc, netlist, library, scan) {
+    match link_instances(alloc, netlist, library, scan) {
         Ok(chip) => {
             chip.wired();
             Ok(chip)
