@@ -1,2 +1,4 @@
 pub mod CoreLemmas
 pub mod NamedLemmas
+pub mod FileLemmas
+pub mod LinkLemmas

@@ -1,2 +1,3 @@
--- What the contracts of this crate say.
+-- What the contracts of this crate say, in reading order.
+pub mod Same
 pub mod Laws
