@@ -2,3 +2,5 @@ pub mod CoreLemmas
 pub mod NamedLemmas
 pub mod FileLemmas
 pub mod LinkLemmas
+pub mod OneLemmas
+pub mod LoadLemmas
