@@ -4,3 +4,5 @@ pub mod FileLemmas
 pub mod LinkLemmas
 pub mod OneLemmas
 pub mod LoadLemmas
+pub mod OrderLemmas
+pub mod OwnLemmas
