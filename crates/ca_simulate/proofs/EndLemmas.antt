@@ -2,7 +2,6 @@
 use Rattle.std.proofs.Common.{◌≡◌, ℕ, ◌+◌, List, [], ◌∷◌, ◌++◌, length, inl, inr, refl, sym, ◌∙◌, ap}
 use Rattle.std.proofs.Common.{subst, arith}
 use Rattle.std.specs.Prelude.{Option, None, Some, Result, Ok, Err, IfOk, slice_index}
-use Rattle.ca_base.specs.declared.memory.NoMemory.{NoMemory}
 use Rattle.ca_simulate.specs.declared.simulation.OutputEnds.{OutputEnds}
 use Rattle.std.proofs.lemmas.List.{length_push, get_or_push, get_or_append_left}
 use Rattle.std.proofs.lemmas.Bool.{cases_lt}
@@ -111,7 +110,7 @@ module _ (chip : Chip) (wired : IsWired chip) where
         by_none are = ends_of None tt pair seen.good good are (subst (λ k. HaveLasts (core_of chip).outputs seen.good k good) count goods)
 
     -- the same of what the loop over the observed outputs gives, if there is memory for it
-    pub simulated_ends : (given : Option ChipDefect) → IsLibraryDefect chip given → (seen : Seen) (pair : List Trit) (ends : Result OutputEnds NoMemory)
+    pub simulated_ends : {F : Type 0} (given : Option ChipDefect) → IsLibraryDefect chip given → (seen : Seen) (pair : List Trit) (ends : Result OutputEnds F)
         → seen.chip ≡ core_of chip → seen.pair ≡ pair → seen.aim ≡ given → IsExact seen
         → IfOk ends (AreLasts (core_of chip).outputs seen)
         → IfOk ends (λ ends. AreSimulated (core_of chip) given pair ends.good.items ends.faulty.items)

@@ -20,6 +20,6 @@ returns c =
     let tables = c.args.tables.now in
     let fresh = c.in_ok-sim.ensures {u = tt} in
     simulated_ends tables.chip c.requires.chip.wired c.requires.chip.few c.args.defect c.requires.defect c.load.new.self.seen
-    (pair_of c.args.vectors.first.now c.args.vectors.last.now) c.last_values.result
+    (pair_of c.args.vectors.first.now c.args.vectors.last.now) c.last_values-ends.result
     (c.load.ensures.kept.chip.chip ∙ c.aim.ensures.kept.chip.chip ∙ fresh.chip_is)
-    c.load.ensures.pair (c.load.ensures.kept.aim ∙ c.aim.ensures.aim) c.exact.ensures c.last_values.ensures
+    c.load.ensures.pair (c.load.ensures.kept.aim ∙ c.aim.ensures.aim) c.exact.ensures c.last_values-ends.ensures
