@@ -20,7 +20,6 @@ use Rattle.ca_core.specs.Core.{constant_on, in_net_order, core_constants, core_o
 use Rattle.ca_link_laws.specs.Alike.{AreBodiesAlike, AreAlike, HaveOneCell}
 use Rattle.ca_link_laws.proofs.AlikeLemmas.{links_alike, one_cell}
 use Rattle.ca_link_laws.proofs.TraceLemmas.{one_ports}
-use Rattle.ca_flow_laws.specs.Laws.{OneCore}
 
 -- lists of items that give the same give the same
 map_same : {X Y : Type 0} (f g : X → Y) (xs ys : List X) → length xs ≡ length ys
@@ -156,7 +155,8 @@ one_constant wiring chip also link too wired also_wired value =
         let both = sym is ∙ over also chip too link also_wired net also_is in cc)
     by (Some net) other is also_is = is ∙ sym (over chip also link too wired net is)
 
-pub one_core : OneCore
+pub one_core : (wiring : Wiring) (chip also : Chip) → IsLinkOf wiring chip → IsLinkOf wiring also → IsWired chip → IsWired also
+    → chip.cells ≡ also.cells → core_of chip ≡ core_of also
 one_core wiring chip also link too wired also_wired cells =
     same_core chip also (links_alike wiring chip also link too) (one_cell wiring chip also link too cells)
     (one_constant wiring chip also link too wired also_wired)

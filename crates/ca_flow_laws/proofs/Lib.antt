@@ -6,3 +6,8 @@ pub mod OneLemmas
 pub mod LoadLemmas
 pub mod OrderLemmas
 pub mod OwnLemmas
+pub mod CellLemmas
+pub mod ChipLemmas
+pub mod ExactLemmas
+pub mod FitsLemmas
+pub mod NameLemmas

@@ -1,6 +1,8 @@
-//! What the causes of faults imply.
+//! What the causes of faults imply: laws. There is no code.
 #![tactic(auto)]
 
 mod laws;
 
-pub use laws::one_core;
+pub use laws::{
+    answerable_has_no_cause, cause_is_told, names_mean_one_defect, one_cause, some_cause_or_answer,
+};
