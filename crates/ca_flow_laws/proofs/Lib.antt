@@ -10,4 +10,5 @@ pub mod CellLemmas
 pub mod ChipLemmas
 pub mod ExactLemmas
 pub mod FitsLemmas
+pub mod AnsweredLemmas
 pub mod NameLemmas

@@ -205,7 +205,7 @@ module _ (chip : Chip) where
 
     module _ (first last : List ℕ) where
       -- and one run
-      one_run : (run other : RunOf) → IsAskedRun instance defect first last chip run → IsAskedRun instance defect first last chip other → run ≡ other
+      pub one_run : (run other : RunOf) → IsAskedRun instance defect first last chip run → IsAskedRun instance defect first last chip other → run ≡ other
       one_run run other asked also =
           asked.run_is ∙ ap (λ given. run_of chip given first last) (one_given asked.given also.given asked.asked also.asked) ∙ sym also.run_is
 
