@@ -11,4 +11,5 @@ pub mod ChipLemmas
 pub mod ExactLemmas
 pub mod FitsLemmas
 pub mod AnsweredLemmas
+pub mod SomeLemmas
 pub mod NameLemmas
