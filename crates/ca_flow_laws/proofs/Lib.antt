@@ -13,3 +13,5 @@ pub mod FitsLemmas
 pub mod AnsweredLemmas
 pub mod SomeLemmas
 pub mod NameLemmas
+pub mod LengthLemmas
+pub mod RawLemmas
