@@ -15,3 +15,4 @@ pub mod SomeLemmas
 pub mod NameLemmas
 pub mod LengthLemmas
 pub mod RawLemmas
+pub mod FirstLemmas
