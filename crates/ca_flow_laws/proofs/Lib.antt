@@ -16,3 +16,5 @@ pub mod NameLemmas
 pub mod LengthLemmas
 pub mod RawLemmas
 pub mod FirstLemmas
+pub mod MadeLemmas
+pub mod ChainLemmas
