@@ -18,3 +18,4 @@ pub mod RawLemmas
 pub mod FirstLemmas
 pub mod MadeLemmas
 pub mod ChainLemmas
+pub mod GivenLemmas
