@@ -71,7 +71,7 @@ atpg_or_replay words one other = let seven = one.seven in let nine = other.nine 
 
 -- what words name of a chip, they name of one that is one with it
 module _ (words : List (List ℕ)) (chip also : Chip) (are : AreOne chip also) (one : NamesOne also) where
-  fits_defect : (given : Option ChipDefect) → IsAskedDefect chip (instance_word words) (chip_defect_word words) given → FitsDefect words also
+  pub fits_defect : (given : Option ChipDefect) → IsAskedDefect chip (instance_word words) (chip_defect_word words) given → FitsDefect words also
   fits_defect given asked = by given (asked_also chip also are (instance_word words) (chip_defect_word words) given asked)
     where
       by : (given : Option ChipDefect) → IsAskedDefect also (instance_word words) (chip_defect_word words) given → FitsDefect words also
@@ -86,7 +86,7 @@ module _ (words : List (List ℕ)) (chip also : Chip) (are : AreOne chip also) (
             rw called refl;
       })
 
-  fits_simulate : FitsInputs chip (chip_first_word words) → FitsInputs chip (chip_last_word words) → (given : Option ChipDefect)
+  pub fits_simulate : FitsInputs chip (chip_first_word words) → FitsInputs chip (chip_last_word words) → (given : Option ChipDefect)
       → IsAskedDefect chip (instance_word words) (chip_defect_word words) given → FitsSimulate words also
   fits_simulate first last given asked = record {
     first = fits_also chip also are (chip_first_word words) first;
@@ -94,18 +94,55 @@ module _ (words : List (List ℕ)) (chip also : Chip) (are : AreOne chip also) (
     defect = fits_defect given asked;
   }
 
-  fits_run : (run : RunOf) → IsAskedRun (instance_word words) (chip_defect_word words) (chip_first_word words) (chip_last_word words) chip run
+  pub fits_run : (run : RunOf) → IsAskedRun (instance_word words) (chip_defect_word words) (chip_first_word words) (chip_last_word words) chip run
       → FitsSimulate words also
   fits_run run asked = fits_simulate asked.first_fits asked.last_fits asked.given asked.asked
 
   -- a text that names events of one run names some of each that the words name
-  has_events : (text : List ℕ) (run : RunOf)
+  pub has_events : (text : List ℕ) (run : RunOf)
       → IsAskedRun (instance_word words) (chip_defect_word words) (chip_first_word words) (chip_last_word words) chip run
       → (events : List Event) → ReadsRun run text (Ok events) → HasEvents words also text
   has_events text run asked events reads = λ other asked_other.
       let same : run ≡ other = one_run also one (instance_word words) (chip_defect_word words) (chip_first_word words) (chip_last_word words) run other
       (run_also chip also are (instance_word words) (chip_defect_word words) (chip_first_word words) (chip_last_word words) run asked) asked_other in
       (events, subst (λ it. ReadsRun it text (Ok events)) same reads)
+
+-- what a command has to fit is of its own words alone
+module _ (words : List (List ℕ)) (told : Files) (chip : Chip) where
+  pub check_own : IsCheck words → FitsOwn words told chip
+  check_own is = record {
+    flatten = λ flatten. absurd (check_or_flatten words is flatten);
+    simulate = λ simulate. absurd (check_or_simulate words is simulate);
+    replay = λ replay. absurd (check_or_replay words is replay);
+  }
+
+  pub flatten_own : IsFlatten words → FitsDefect words chip → FitsOwn words told chip
+  flatten_own is fits = record {
+    flatten = λ _. fits;
+    simulate = λ simulate. absurd (flatten_or_simulate words is simulate);
+    replay = λ replay. absurd (flatten_or_replay words is replay);
+  }
+
+  pub simulate_own : IsSimulate words → FitsSimulate words chip → FitsOwn words told chip
+  simulate_own is fits = record {
+    flatten = λ flatten. absurd (flatten_or_simulate words flatten is);
+    simulate = λ _. fits;
+    replay = λ replay. absurd (simulate_or_replay words is replay);
+  }
+
+  pub atpg_own : IsAtpg words → FitsOwn words told chip
+  atpg_own is = record {
+    flatten = λ flatten. absurd (atpg_or_flatten words is flatten);
+    simulate = λ simulate. absurd (atpg_or_simulate words is simulate);
+    replay = λ replay. absurd (atpg_or_replay words is replay);
+  }
+
+  pub replay_own : IsReplay words → FitsReplay words told chip → FitsOwn words told chip
+  replay_own is fits = record {
+    flatten = λ flatten. absurd (flatten_or_replay words flatten is);
+    simulate = λ simulate. absurd (simulate_or_replay words simulate is);
+    replay = λ _. fits;
+  }
 
 module _ (words : List (List ℕ)) (files : Option Files) (told : Files) (are : files ≡ Some told) where
   -- what holds of the subcircuit, in another's place
@@ -183,32 +220,15 @@ module _ (words : List (List ℕ)) (files : Option Files) (told : Files) (are : 
     respond = λ respond. absurd (respond_or_matrix words respond is);
     pair = λ pair. absurd (pair_or_matrix words pair is);
   }) asked)
-  answered (Check chip chains) (is, (all, held)) = of_chip (inl is) chip (chains, all) held (λ also same one. record {
-    flatten = λ flatten. absurd (check_or_flatten words is flatten);
-    simulate = λ simulate. absurd (check_or_simulate words is simulate);
-    replay = λ replay. absurd (check_or_replay words is replay);
-  })
-  answered (Flatten chip net) (is, (traced, held)) = of_chip (inr (inl is)) chip traced.traced traced.of_files (λ also same one. record {
-    flatten = λ _. fits_defect words chip also same one held.given held.asked;
-    simulate = λ simulate. absurd (flatten_or_simulate words is simulate);
-    replay = λ replay. absurd (flatten_or_replay words is replay);
-  })
-  answered (Simulate chip ends) (is, (traced, held)) = of_chip (inr (inr (inl is))) chip traced.traced traced.of_files (λ also same one. record {
-    flatten = λ flatten. absurd (flatten_or_simulate words flatten is);
-    simulate = λ _. fits_simulate words chip also same one held.first_fits held.last_fits held.given held.asked;
-    replay = λ replay. absurd (simulate_or_replay words is replay);
-  })
+  answered (Check chip chains) (is, (all, held)) = of_chip (inl is) chip (chains, all) held (λ also same one. check_own words told also is)
+  answered (Flatten chip net) (is, (traced, held)) = of_chip (inr (inl is)) chip traced.traced traced.of_files (λ also same one.
+      flatten_own words told also is (fits_defect words chip also same one held.given held.asked))
+  answered (Simulate chip ends) (is, (traced, held)) = of_chip (inr (inr (inl is))) chip traced.traced traced.of_files (λ also same one.
+      simulate_own words told also is (fits_simulate words chip also same one held.first_fits held.last_fits held.given held.asked))
   answered (Atpg chip chains pairs aims verdicts) (is, (all, (held, tests))) =
-      of_chip (inr (inr (inr (inl is)))) chip (chains, all) held (λ also same one. record {
-        flatten = λ flatten. absurd (atpg_or_flatten words is flatten);
-        simulate = λ simulate. absurd (atpg_or_simulate words is simulate);
-        replay = λ replay. absurd (atpg_or_replay words is replay);
-      })
-  answered (Replay chip ends) (is, (traced, held)) = of_chip (inr (inr (inr (inr is)))) chip traced.traced traced.of_files (λ also same one. record {
-    flatten = λ flatten. absurd (flatten_or_replay words flatten is);
-    simulate = λ simulate. absurd (simulate_or_replay words simulate is);
-    replay = λ _. fits_replay chip also same one ends.items (told (order_word words)) refl (held told are);
-  })
+      of_chip (inr (inr (inr (inl is)))) chip (chains, all) held (λ also same one. atpg_own words told also is)
+  answered (Replay chip ends) (is, (traced, held)) = of_chip (inr (inr (inr (inr is)))) chip traced.traced traced.of_files (λ also same one.
+      replay_own words told also is (fits_replay chip also same one ends.items (told (order_word words)) refl (held told are)))
   answered (Make chip pairs aims verdicts) (is, asked) = inl (inr (inr is))
   answered Help is = inl (inl is)
   answered Version is = inl (inr (inl is))

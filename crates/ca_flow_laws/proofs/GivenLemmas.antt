@@ -49,12 +49,12 @@ same_or_other a b = elim (dec_le a b) [
 
 -- an instance and a defect, where words of which this is told are refuted
 pub defect_or : (words : List (List ℕ)) (chip : Chip) → NamesOne chip
-    → ((fault : Fault) → instance_word words ≢ dash → IsDefectCause chip (instance_word words) (chip_defect_word words) fault → ⊥)
+    → ((fault : Fault) → IsDefectCause chip (instance_word words) (chip_defect_word words) fault → ⊥)
     → (FitsDefect words chip → ⊥) → ⊥
 defect_or words chip one none refutes = either (instance_word words ≡ dash) (λ found. elim found [
   | inl same ↦ refutes (inl same)
   | inr some ↦ either ((u : ℕ) × IsNamedGate chip (instance_word words) u) (λ there. elim there [
-    | inr lacks ↦ none (NoInstance (instance_word words)) some (refl, (some, λ u named. lacks (u, named)))
+    | inr lacks ↦ none (NoInstance (instance_word words)) (refl, (some, λ u named. lacks (u, named)))
     | inl gate ↦ by gate.0 gate.1 some (defect_called (cell_at (core_of chip) gate.0) (chip_defect_word words)) refl
   ])
 ])
@@ -62,7 +62,7 @@ defect_or words chip one none refutes = either (instance_word words ≡ dash) (�
     by : (u : ℕ) → IsNamedGate chip (instance_word words) u → instance_word words ≢ dash → (found : Option Defect)
         → defect_called (cell_at (core_of chip) u) (chip_defect_word words) ≡ found → ⊥
     by u named some None is =
-        none (NoDefect (chip_defect_word words)) some (refl, (some, record { u = u; named = named; lacks = rw is refl }))
+        none (NoDefect (chip_defect_word words)) (refl, (some, record { u = u; named = named; lacks = rw is refl }))
     by u named some (Some defect) is = refutes (inr (record {
       u = u;
       named = named;
@@ -75,21 +75,21 @@ defect_or words chip one none refutes = either (instance_word words ≡ dash) (�
 
 -- two vectors, an instance and a defect
 pub simulate_or : (words : List (List ℕ)) (chip : Chip) → NamesOne chip
-    → ((fault : Fault) → ((fault ≡ BadVector (chip_first_word words)) ⊎ (fault ≡ BadVector (chip_last_word words))) ⊎ (instance_word words ≢ dash)
+    → ((fault : Fault)
     → IsSimulationCause (instance_word words) (chip_defect_word words) (chip_first_word words) (chip_last_word words) fault chip → ⊥)
     → (FitsSimulate words chip → ⊥) → ⊥
 simulate_or words chip one none refutes = elim (same_or_other (length (letters_of (chip_first_word words))) (length (inputs_of chip))) [
-  | inr unfit ↦ none (BadVector (chip_first_word words)) (inl (inl refl)) (inl (inl (refl, unfit)))
+  | inr unfit ↦ none (BadVector (chip_first_word words)) (inl (inl (refl, unfit)))
   | inl first ↦ elim (same_or_other (length (letters_of (chip_last_word words))) (length (inputs_of chip))) [
-    | inr unfit ↦ none (BadVector (chip_last_word words)) (inl (inr refl)) (inl (inr (refl, (first, unfit))))
-    | inl last ↦ defect_or words chip one (λ fault some cause. none fault (inr some) (inr (first, (last, cause))))
+    | inr unfit ↦ none (BadVector (chip_last_word words)) (inl (inr (refl, (first, unfit))))
+    | inl last ↦ defect_or words chip one (λ fault cause. none fault (inr (first, (last, cause))))
         (λ fits. refutes (record { first = first; last = last; defect = fits }))
   ]
 ]
 
 -- words that fit name a run
 module _ (words : List (List ℕ)) (chip : Chip) (both : AreBothOrNeither (instance_word words) (chip_defect_word words)) where
-  asked_given : FitsDefect words chip → (given : Option ChipDefect) × IsAskedDefect chip (instance_word words) (chip_defect_word words) given
+  pub asked_given : FitsDefect words chip → (given : Option ChipDefect) × IsAskedDefect chip (instance_word words) (chip_defect_word words) given
   asked_given (inl same) = (None, (same, both.0 same))
   asked_given (inr has) = by_dash (bytes_eq (instance_word words) dash) refl
     where

@@ -19,3 +19,4 @@ pub mod FirstLemmas
 pub mod MadeLemmas
 pub mod ChainLemmas
 pub mod GivenLemmas
+pub mod NeitherLemmas
