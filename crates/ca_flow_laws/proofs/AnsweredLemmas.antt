@@ -10,23 +10,21 @@ use Rattle.ca_flat.specs.declared.chip_defect.ChipDefect.{ChipDefect}
 use Rattle.ca_flat.specs.Chip.{cell_at}
 use Rattle.ca_wired.specs.Linked.{Chip}
 use Rattle.ca_core.specs.Core.{core_of}
-use Rattle.ca_scan.specs.ChainFault.{AreAllChains}
 use Rattle.ca_fault.specs.declared.fault.Fault.{Fault}
 use Rattle.ca_load.specs.declared.cells.TheConstants.{MAX_CELLS}
-use Rattle.ca_load.specs.Texts.{Inputs, ReadAs}
-use Rattle.ca_load.specs.Chips.{IsChipOf, IsTraced}
+use Rattle.ca_load.specs.Chips.{IsTraced}
 use Rattle.ca_asked.specs.Asked.{FitsInputs, defect_called, IsAskedDefect}
 use Rattle.ca_chip_replay.specs.ChipRun.{RunOf}
 use Rattle.ca_order.specs.declared.event.Event.{Event}
 use Rattle.ca_simulate.specs.OneRun.{ReadsRun}
 use Rattle.ca_words.specs.Words.{cells_word, cell_word, vector_word, first_word, last_word, defect_word, dash, chip_files, instance_word}
 use Rattle.ca_words.specs.Words.{chip_defect_word, chip_first_word, chip_last_word, order_word}
-use Rattle.ca_words.specs.Words.{IsRespond, IsPair, IsCheck, IsFlatten, IsSimulate, IsAtpg, IsReplay, IsOnChip}
+use Rattle.ca_words.specs.Words.{IsCheck, IsFlatten, IsSimulate, IsAtpg, IsReplay, IsOnChip}
 use Rattle.ca_on_cell.specs.Outputs.{asked_network, AreValues}
 use Rattle.ca_on_cell.specs.Cells.{HasCell, OfCell}
 use Rattle.ca_on_cell.specs.Defects.{AreDefectNames, IsSoundMatrix}
 use Rattle.ca_on_chip.specs.declared.replays.TheConstants.{MAX_ORDER}
-use Rattle.ca_on_chip.specs.OnChip.{IsChipOfFiles, IsTracedChipOf}
+use Rattle.ca_on_chip.specs.OnChip.{IsChipOfFiles}
 use Rattle.ca_on_chip.specs.Replay.{IsAskedRun, AreRunEndsOf}
 use Rattle.ca_flow.specs.declared.finished.Done.{Done}
 use Rattle.ca_flow.specs.declared.finished.Done.TheVariants.{Respond, Pair, Defects, Matrix, Check, Flatten}
@@ -34,7 +32,7 @@ use Rattle.ca_flow.specs.declared.finished.Done.TheVariants.{Simulate, Atpg, Rep
 use Rattle.ca_flow.specs.declared.finished.Finished.{Finished}
 use Rattle.ca_flow.specs.Finished.{status_told}
 use Rattle.ca_flow.specs.Fault.{Outside, IsCause}
-use Rattle.ca_flow.specs.Complete.{FitsCell, FitsFile, HasDefect, FitsDefect, FitsSimulate, HasEvents, FitsReplay, FitsOwn, FitsChip, IsAnswerable}
+use Rattle.ca_flow.specs.Complete.{FitsCell, FitsFile, FitsDefect, FitsSimulate, HasEvents, FitsReplay, FitsOwn, FitsChip, IsAnswerable}
 use Rattle.ca_flow.specs.Ends.{IsAsked, Ends}
 use Rattle.ca_flow_laws.specs.Same.{IsInputFault, IsSame}
 use Rattle.ca_flow_laws.specs.Told.{IsInputFile, TellsFiles}

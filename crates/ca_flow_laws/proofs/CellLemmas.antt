@@ -1,6 +1,6 @@
 -- What is told of a command on a cell is one fault.
-use Rattle.std.proofs.Common.{ℕ, ◌≡◌, ◌≤◌, ◌⊎◌, ◌∙◌, inl, inr, refl, sym, ap, subst, arith, List}
-use Rattle.std.proofs.Common.{length, Option, Some, None, Result, Ok, Err, true≢false}
+use Rattle.std.proofs.Common.{ℕ, ◌≡◌, ◌⊎◌, ◌∙◌, inl, inr, refl, sym, ap, subst, arith, List}
+use Rattle.std.proofs.Common.{Option, Some, None, Result, Ok, Err, true≢false}
 use Rattle.std.specs.Prelude.{IsNone, IsOk, IsSomeAnd}
 use Rattle.ca_lex.specs.Words.{upper_case}
 use Rattle.ca_store.specs.Store.{Files}
@@ -19,7 +19,7 @@ use Rattle.ca_fault.specs.declared.fault.LimitKind.TheVariants as limit
 use Rattle.ca_fault.specs.declared.fault.Fault.{Fault}
 use Rattle.ca_fault.specs.declared.fault.Fault.TheVariants.{Cells, NoCell, Cell, BadVector, NoDefect, Limit}
 use Rattle.ca_words.specs.Words.{cells_word, cell_word, vector_word, first_word, last_word, defect_word, dash}
-use Rattle.ca_words.specs.Words.{IsRespond, IsPair, IsDefects, IsMatrix, IsOnCell}
+use Rattle.ca_words.specs.Words.{IsRespond, IsPair}
 use Rattle.ca_on_cell.specs.Cells.{OfFile, HasCell, LacksCell}
 use Rattle.ca_on_cell.specs.Causes.{BreaksAt, IsNameCause, IsFirstUnfit, LacksDefect}
 use Rattle.ca_on_cell.specs.Causes.{IsPairCause, IsVectorCause}

@@ -1,23 +1,23 @@
 -- What is told of a command on a chip is one fault; of several loops any may be told.
-use Rattle.std.proofs.Common.{ℕ, ◌≡◌, ◌≤◌, ◌⊎◌, ◌∙◌, inl, inr, refl, sym, ap, subst, arith, List, length, Option, Some, None}
+use Rattle.std.proofs.Common.{ℕ, ◌≡◌, ◌≤◌, ◌⊎◌, inl, inr, refl, arith, List, length, Option, Some, None}
 use Rattle.std.specs.Prelude.{IsSomeAnd}
 use Rattle.ca_store.specs.Store.{Files}
 use Rattle.ca_wired.specs.Linked.{Chip}
 use Rattle.ca_fault.specs.declared.fault.Fault.{Fault}
 use Rattle.ca_fault.specs.declared.fault.Fault.TheVariants.{Order, TooManyPairs}
-use Rattle.ca_load.specs.Texts.{InputFiles, Inputs, ReadAs}
+use Rattle.ca_load.specs.Texts.{Inputs}
 use Rattle.ca_load.specs.Chips.{IsChipOf, IsTraced}
 use Rattle.ca_load.specs.Files.{OfFile}
 use Rattle.ca_load.specs.Causes.{IsLoadCause}
 use Rattle.ca_words.specs.Words.{chip_files, instance_word, chip_defect_word, chip_first_word, chip_last_word, order_word}
-use Rattle.ca_words.specs.Words.{IsCheck, IsFlatten, IsSimulate, IsAtpg, IsReplay, IsOnChip}
+use Rattle.ca_words.specs.Words.{IsFlatten, IsSimulate, IsReplay, IsOnChip}
 use Rattle.ca_on_chip.specs.declared.replays.TheConstants.{MAX_ORDER}
 use Rattle.ca_on_chip.specs.OnChip.{GiveChipWith, OfChip, IsSimulationCause, IsPairsFault}
 use Rattle.ca_on_chip.specs.Replay.{HasFaultyLine, HasRun, IsOrderCause}
 use Rattle.ca_flow.specs.Fault.{IsOwnCause}
 use Rattle.ca_flow_laws.specs.Same.{IsInputFault, IsSame}
 use Rattle.ca_flow_laws.specs.Told.{IsChipFile, IsInputFile}
-use Rattle.ca_flow_laws.proofs.FileLemmas.{one_of, AtFile, of_bytes, of_file, of_read}
+use Rattle.ca_flow_laws.proofs.FileLemmas.{one_of, of_bytes, of_file, of_read}
 use Rattle.ca_flow_laws.proofs.OneLemmas.{AreOne, one_chip, NamesOne, names_one}
 use Rattle.ca_flow_laws.proofs.LoadLemmas.{AreReadAs, AtLoad, one_read, one_load, no_load, read_given, of_load}
 use Rattle.ca_flow_laws.proofs.OwnLemmas.{AtDefect, AtPair, TellsLine, AtOrder, AtRun, of_defect, of_simulation, defect_also, pair_also}
@@ -55,10 +55,16 @@ AtChipWords words given fault = AtLoad (chip_files words) given fault ⊎ AreRea
 module _ (words : List (List ℕ)) (given : Files) where
   own_also : (chip also : Chip) → AreOne chip also → (fault : Fault) → AtOwn words given chip fault → AtOwn words given also fault
   own_also chip also are fault (inl (is, at)) = inl (is, defect_also chip also are (instance_word words) (chip_defect_word words) fault at)
-  own_also chip also are fault (inr (inl (is, at))) = inr (inl (is, pair_also chip also are (instance_word words) (chip_defect_word words)
-      (chip_first_word words) (chip_last_word words) fault at))
-  own_also chip also are fault (inr (inr (is, at))) = inr (inr (is, at_run_also chip also are (instance_word words) (chip_defect_word words)
-      (chip_first_word words) (chip_last_word words) (order_word words) given fault at))
+  own_also chip also are fault (inr (inl (is, at))) = inr (inl (
+    is,
+    pair_also chip also are (instance_word words) (chip_defect_word words)
+        (chip_first_word words) (chip_last_word words) fault at,
+  ))
+  own_also chip also are fault (inr (inr (is, at))) = inr (inr (
+    is,
+    at_run_also chip also are (instance_word words) (chip_defect_word words)
+        (chip_first_word words) (chip_last_word words) (order_word words) given fault at,
+  ))
 
   one_of_chip : (chip : Chip) → NamesOne chip → (fault other : Fault) → AtOwn words given chip fault → AtOwn words given chip other → fault ≡ other
   one_of_chip chip one fault other (inl (is, here)) (inl (too, there)) =
@@ -140,13 +146,19 @@ module _ (words : List (List ℕ)) (files : Option Files) (told : Files) (are : 
             let file = of_file files told are (order_word words) (given (order_word words)) same MAX_ORDER P there in (
               run_in chip (given (order_word words)) file,
               of_bytes MAX_ORDER (order_word words)
-              (TellsLine (instance_word words) (chip_defect_word words) (chip_first_word words) (chip_last_word words) chip)
-              (given (order_word words)) P (Order line) (λ bytes faulty. (line, (refl, faulty))) file,
+                  (TellsLine (instance_word words) (chip_defect_word words) (chip_first_word words) (chip_last_word words) chip)
+                  (given (order_word words)) P (Order line) (λ bytes faulty. (line, (refl, faulty))) file,
             )
     of_order replay fault is (held, read) = own_of (HasRun (instance_word words) (chip_defect_word words) (chip_first_word words) (chip_last_word words))
-        fault (λ chip run. inr (inr (replay, inr (run, of_read files told are (order_word words) (given (order_word words))
-        (agree (order_word words) (inr (inr (replay, refl)))) MAX_ORDER
-        (TellsLine (instance_word words) (chip_defect_word words) (chip_first_word words) (chip_last_word words) chip) before after fault is read)))) held
+        fault (λ chip run. inr (inr (
+          replay,
+          inr (
+            run,
+            of_read files told are (order_word words) (given (order_word words))
+                (agree (order_word words) (inr (inr (replay, refl)))) MAX_ORDER
+                (TellsLine (instance_word words) (chip_defect_word words) (chip_first_word words) (chip_last_word words) chip) before after fault is read,
+          ),
+        ))) held
 
     of_own : (fault : Fault) → IsInputFault fault → IsOwnCause words files before after fault
         → AreReadAs (chip_files words) given (IsOwn words given fault)
@@ -154,13 +166,19 @@ module _ (words : List (List ℕ)) (files : Option Files) (told : Files) (are : 
         own_of _ fault (λ chip cause. inl (flatten, of_defect (instance_word words) (chip_defect_word words) chip fault cause)) held
     of_own fault is (inr (inl (simulate, (word, held)))) =
         own_of (IsSimulationCause (instance_word words) (chip_defect_word words) (chip_first_word words) (chip_last_word words) fault) fault
-        (λ chip cause. inr (inl (simulate, of_simulation (instance_word words) (chip_defect_word words) (chip_first_word words) (chip_last_word words)
-        chip fault cause))) held
+        (λ chip cause. inr (inl (
+          simulate,
+          of_simulation (instance_word words) (chip_defect_word words) (chip_first_word words) (chip_last_word words)
+              chip fault cause,
+        ))) held
     of_own fault is (inr (inr (inl (atpg, cause)))) = absurd (pairs_input fault is cause.many.0)
     of_own fault is (inr (inr (inr (replay, inl (word, held))))) =
         own_of (IsSimulationCause (instance_word words) (chip_defect_word words) (chip_first_word words) (chip_last_word words) fault) fault
-        (λ chip cause. inr (inr (replay, inl (of_simulation (instance_word words) (chip_defect_word words) (chip_first_word words) (chip_last_word words)
-        chip fault cause)))) held
+        (λ chip cause. inr (inr (
+          replay,
+          inl (of_simulation (instance_word words) (chip_defect_word words) (chip_first_word words) (chip_last_word words)
+              chip fault cause),
+        ))) held
     of_own fault is (inr (inr (inr (replay, inr order)))) = of_order replay fault is order
 
     -- what the store tells is told of the given files

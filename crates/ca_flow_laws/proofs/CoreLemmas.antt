@@ -1,12 +1,11 @@
 -- Wired links of one wiring over the same cells have one core.
-use Rattle.std.proofs.Common.{◌≡◌, ℕ, zero, suc, ◌+◌, ◌<◌, ◌∙◌, Bool, true, false, List, [], ◌∷◌, ◌++◌, length, map, refl}
+use Rattle.std.proofs.Common.{◌≡◌, ℕ, zero, suc, ◌+◌, ◌∙◌, Bool, true, false, List, [], ◌∷◌, ◌++◌, length, map, refl}
 use Rattle.std.proofs.Common.{sym, ap, ap₂, subst, arith}
 use Rattle.std.specs.Prelude.{Option, Some, None, slice_get, ◌||◌, if◌then◌else◌, option_to_list}
 use Rattle.std.specs.List.{list_any}
 use Rattle.ca_net.specs.declared.scale.TheConstants.{OUTPUT_NET}
 use Rattle.ca_net.specs.declared.node.NodeKind.{NodeKind}
 use Rattle.ca_net.specs.declared.node.NodeKind.TheVariants as node
-use Rattle.ca_flat.specs.Chip.{Instance, Constant}
 use Rattle.ca_wired.specs.declared.parts.Body.{Body}
 use Rattle.ca_wired.specs.declared.parts.Body.TheVariants.{Gate, Scan}
 use Rattle.ca_wired.specs.declared.parts.Part.{Part}
@@ -16,7 +15,7 @@ use Rattle.ca_chip.specs.Wiring.{Wiring}
 use Rattle.ca_chip.specs.Linking.{IsLinkOf}
 use Rattle.ca_link.proofs.NetsLemmas.{same_nets, wire_of_net}
 use Rattle.ca_core.specs.Core.{core_net, stored_nets, kind_of, core_kinds, empty_cell, core_instance, trit_of}
-use Rattle.ca_core.specs.Core.{constant_on, in_net_order, core_constants, core_of}
+use Rattle.ca_core.specs.Core.{constant_on, in_net_order, core_of}
 use Rattle.ca_link_laws.specs.Alike.{AreBodiesAlike, AreAlike, HaveOneCell}
 use Rattle.ca_link_laws.proofs.AlikeLemmas.{links_alike, one_cell}
 use Rattle.ca_link_laws.proofs.TraceLemmas.{one_ports}

@@ -60,14 +60,22 @@ module _ (words : List (List ℕ)) where
     of_cells on = agree (cells_word words) (inl (on, refl))
 
     of_work_cause : IsWorkCause words files before after fault → AtWords words given fault
-    of_work_cause (inl (respond, cause)) = inr (inl (inl respond,
-        of_respond words files told are (given (cells_word words)) (of_cells (inl respond)) before after fault is respond cause))
-    of_work_cause (inr (inl (pair, cause))) = inr (inl (inr (inl pair),
-        of_pair words files told are (given (cells_word words)) (of_cells (inr (inl pair))) before after fault is pair cause))
-    of_work_cause (inr (inr (inl (defects, cause)))) = inr (inl (inr (inr (inl defects)),
-        of_cell words files told are (given (cells_word words)) (of_cells (inr (inr (inl defects)))) before after fault is cause))
-    of_work_cause (inr (inr (inr (inl (matrix, cause))))) = inr (inl (inr (inr (inr matrix)),
-        of_cell words files told are (given (cells_word words)) (of_cells (inr (inr (inr matrix)))) before after fault is cause))
+    of_work_cause (inl (respond, cause)) = inr (inl (
+      inl respond,
+      of_respond words files told are (given (cells_word words)) (of_cells (inl respond)) before after fault is respond cause,
+    ))
+    of_work_cause (inr (inl (pair, cause))) = inr (inl (
+      inr (inl pair),
+      of_pair words files told are (given (cells_word words)) (of_cells (inr (inl pair))) before after fault is pair cause,
+    ))
+    of_work_cause (inr (inr (inl (defects, cause)))) = inr (inl (
+      inr (inr (inl defects)),
+      of_cell words files told are (given (cells_word words)) (of_cells (inr (inr (inl defects)))) before after fault is cause,
+    ))
+    of_work_cause (inr (inr (inr (inl (matrix, cause))))) = inr (inl (
+      inr (inr (inr matrix)),
+      of_cell words files told are (given (cells_word words)) (of_cells (inr (inr (inr matrix)))) before after fault is cause,
+    ))
     of_work_cause (inr (inr (inr (inr (inl (chip, cause)))))) =
         inr (inr (chip, of_work words files told are given agree chip before after fault is cause))
     of_work_cause (inr (inr (inr (inr (inr (make, cause)))))) = absurd (no_made_input cause.number fault is cause.stage)

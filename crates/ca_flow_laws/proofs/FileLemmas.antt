@@ -6,7 +6,7 @@ use Rattle.ca_store.specs.Store.{Files}
 use Rattle.ca_store.specs.ReadFault.{IsPastLimit}
 use Rattle.ca_fault.specs.declared.fault.Fault.{Fault}
 use Rattle.ca_fault.specs.declared.fault.Fault.TheVariants.{TooLong, StoreFailed, NoMemory}
-use Rattle.ca_load.specs.Files.{IsFileWith, OfFile, IsReadCause}
+use Rattle.ca_load.specs.Files.{OfFile, IsReadCause}
 use Rattle.ca_flow_laws.specs.Same.{IsInputFault}
 
 -- of two causes of which each is one, and never both hold, one holds

@@ -3,7 +3,7 @@
 use Rattle.std.proofs.Common.{ℕ, zero, suc, ◌+◌, ◌≡◌, ◌≤◌, ◌<◌, ◌⊎◌, ◌∙◌, inl, inr, refl, sym, ap, subst, arith, List, [], ◌∷◌, ◌++◌, length}
 use Rattle.std.proofs.Common.{Some, length-append}
 use Rattle.std.specs.Prelude.{slice_get, take, drop}
-use Rattle.std.specs.List.{All, AllByRecursion}
+use Rattle.std.specs.List.{AllByRecursion}
 use Rattle.std.proofs.Math.Decide.{dec_lt}
 use Rattle.std.proofs.lemmas.List.Elements.{recursion_from_All, All-from_recursion}
 use Rattle.ca_cell.specs.Library.{Named}
@@ -151,7 +151,7 @@ module _ (Feeds : ℕ → ℕ → Type 0) (none : (loop : List ℕ) → IsLoop F
       less (w ∷ new) (omega (arith, first, last, count, before, within)) (
         chain_joined Feeds w u w (take j more) (drop (suc k) more) (chain_to Feeds w w more j u chain at) (chain_from Feeds w w more k u chain at_too),
         All-from_recursion (λ n. w ≤ n) new (all_joined (λ n. w ≤ n) (take j more) (u ∷ drop (suc k) more) (all_take (λ n. w ≤ n) j more all)
-        (all_here (λ n. w ≤ n) more j u all at, all_drop (λ n. w ≤ n) (suc k) more all)),
+            (all_here (λ n. w ≤ n) more j u all at, all_drop (λ n. w ≤ n) (suc k) more all)),
       )
 
   no_loop_within : (most : ℕ) (loop : List ℕ) → length loop ≤ most → IsLoop Feeds loop → ⊥

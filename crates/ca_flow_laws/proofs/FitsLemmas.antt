@@ -2,7 +2,7 @@
 -- and files fit.
 use Rattle.std.proofs.Common.{ℕ, ◌≡◌, ◌≤◌, ◌⊎◌, ◌∙◌, inl, inr, refl, sym, ap, subst, arith, List, length}
 use Rattle.std.proofs.Common.{Option, Some, None, Result, Ok, Err, true≢false}
-use Rattle.std.specs.Prelude.{IfSome, IsSome, IsNone, IsSomeAnd}
+use Rattle.std.specs.Prelude.{IsSome, IsNone, IsSomeAnd}
 use Rattle.ca_store.specs.Store.{Files}
 use Rattle.ca_lex.specs.Words.{upper_case}
 use Rattle.ca_cell.specs.declared.raw.RawCell.{RawCell}
@@ -14,8 +14,8 @@ use Rattle.ca_load.proofs.WholeLemmas.{IsOutsideFault}
 use Rattle.ca_fault.specs.declared.fault.Fault.{Fault}
 use Rattle.ca_on_chip.specs.OnChip.{IsPairsFault}
 use Rattle.ca_words.specs.Words.{GeneratesTests}
-use Rattle.ca_words.specs.Words.{cells_word, cell_word, vector_word, first_word, last_word, defect_word, dash}
-use Rattle.ca_words.specs.Words.{IsRespond, IsPair, IsDefects, IsMatrix, AsksNoFile, IsOnCell, IsOnChip}
+use Rattle.ca_words.specs.Words.{cells_word, cell_word, defect_word, dash}
+use Rattle.ca_words.specs.Words.{IsRespond, IsPair, IsDefects, IsMatrix, AsksNoFile, IsOnCell}
 use Rattle.ca_words.proofs.WordLemmas.{no_chip}
 use Rattle.ca_on_cell.specs.Outputs.{asked_network}
 use Rattle.ca_on_cell.specs.Cells.{HasCell}
@@ -25,7 +25,7 @@ use Rattle.ca_flow.specs.Complete.{FitsCell, FitsFile, FitsChip, IsAnswerable}
 use Rattle.ca_flow.proofs.CompleteLemmas.{at_words, asking_work, at_chip}
 use Rattle.ca_flow_laws.specs.Same.{IsInputFault}
 use Rattle.ca_flow_laws.specs.Told.{IsInputFile}
-use Rattle.ca_flow_laws.proofs.CellLemmas.{AreAsked, AtCell, AtCalled, AtReading, AtCellFile, respond_or_pair}
+use Rattle.ca_flow_laws.proofs.CellLemmas.{AreAsked, AtCell, AtCalled, AtReading, AtCellFile}
 use Rattle.ca_flow_laws.proofs.ChipLemmas.{pairs_input}
 use Rattle.ca_flow_laws.proofs.ExactLemmas.{no_write, no_print, of_cause}
 
@@ -154,4 +154,3 @@ pair_or_matrix words one other = let six = one.six in let four = other.four in o
 
 pub respond_or_matrix : (words : List (List ℕ)) → IsRespond words → IsMatrix words → ⊥
 respond_or_matrix words one other = omega (arith, ap length (sym one.command ∙ other.command))
-

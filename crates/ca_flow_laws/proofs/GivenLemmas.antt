@@ -1,13 +1,12 @@
 -- The own words of a command are of a chip, or, up to a double negation, something is told of them.
-use Rattle.std.proofs.Common.{ℕ, zero, suc, ◌+◌, ◌≡◌, ◌≢◌, ◌≤◌, ◌<◌, ◌⊎◌, ◌∙◌, inl, inr, refl, sym, ap, subst, arith, List, [], ◌∷◌, ◌++◌, length}
+use Rattle.std.proofs.Common.{ℕ, zero, suc, ◌≡◌, ◌≢◌, ◌<◌, ◌∙◌, inl, inr, refl, sym, subst, arith, List, [], ◌∷◌, ◌++◌, length}
 use Rattle.std.proofs.Common.{Option, Some, None, Result, Ok, Err, length-append, Bool, true, false, true≢false}
-use Rattle.std.specs.Prelude.{IsSome, IsNone, IsSomeAnd, slice_get}
+use Rattle.std.specs.Prelude.{IsSome, slice_get}
 use Rattle.std.specs.Prelude.{◌↔◌}
 use Rattle.std.specs.Str.{bytes_eq}
 use Rattle.std.proofs.lemmas.Slice.Eq.{bytes_eq-Decides}
-use Rattle.std.proofs.Math.Decide.{dec_lt, dec_le}
+use Rattle.std.proofs.Math.Decide.{dec_lt}
 use Rattle.std.proofs.lemmas.Option.{slice_get_within}
-use Rattle.ca_store.specs.Store.{Files}
 use Rattle.ca_net.specs.declared.trit.Trit.{Trit}
 use Rattle.ca_net.specs.Circuit.{Circuit}
 use Rattle.ca_defect.specs.declared.defect.Defect.{Defect}
@@ -19,7 +18,7 @@ use Rattle.ca_wired.specs.Linked.{Chip, inputs_of}
 use Rattle.ca_wired.specs.Instances.{IsNamedGate}
 use Rattle.ca_core.specs.Core.{core_of}
 use Rattle.ca_asked.specs.Vectors.{dash, letters_of}
-use Rattle.ca_asked.specs.Asked.{FitsInputs, defect_called, AreBothOrNeither, IsAskedDefect, IsDefectCause}
+use Rattle.ca_asked.specs.Asked.{defect_called, AreBothOrNeither, IsAskedDefect, IsDefectCause}
 use Rattle.ca_order.specs.declared.event.Event.{Event}
 use Rattle.ca_order.specs.declared.event.Place.{Place}
 use Rattle.ca_order.specs.declared.event.Place.TheVariants.{Free, Fixed}
@@ -31,21 +30,11 @@ use Rattle.ca_fault.specs.declared.fault.Fault.{Fault}
 use Rattle.ca_fault.specs.declared.fault.Fault.TheVariants.{BadVector, NoInstance, NoDefect}
 use Rattle.ca_words.specs.Words.{instance_word, chip_defect_word, chip_first_word, chip_last_word}
 use Rattle.ca_on_chip.specs.OnChip.{IsSimulationCause}
-use Rattle.ca_on_chip.specs.Replay.{run_of, IsAskedRun, HasRun}
-use Rattle.ca_flow.specs.Complete.{HasDefect, FitsDefect, FitsSimulate, HasEvents}
+use Rattle.ca_on_chip.specs.Replay.{run_of, HasRun}
+use Rattle.ca_flow.specs.Complete.{FitsDefect, FitsSimulate}
 use Rattle.ca_flow_laws.proofs.FirstLemmas.{either}
-use Rattle.ca_flow_laws.proofs.ChainLemmas.{last_or}
 use Rattle.ca_flow_laws.proofs.OneLemmas.{NamesOne}
-use Rattle.ca_flow_laws.proofs.OwnLemmas.{one_run}
-
-same_or_other : (a b : ℕ) → (a ≡ b) ⊎ ¬ (a ≡ b)
-same_or_other a b = elim (dec_le a b) [
-  | no more ↦ inr (λ same. omega (arith, more, same))
-  | yes up ↦ elim (dec_le b a) [
-    | yes down ↦ inl (omega (arith, up, down))
-    | no less ↦ inr (λ same. omega (arith, less, same))
-  ]
-]
+use Rattle.ca_flow_laws.proofs.SomeLemmas.{same_or_other}
 
 -- an instance and a defect, where words of which this is told are refuted
 pub defect_or : (words : List (List ℕ)) (chip : Chip) → NamesOne chip

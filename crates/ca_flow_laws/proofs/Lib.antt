@@ -12,11 +12,11 @@ pub mod ExactLemmas
 pub mod FitsLemmas
 pub mod AnsweredLemmas
 pub mod SomeLemmas
-pub mod NameLemmas
 pub mod LengthLemmas
 pub mod RawLemmas
-pub mod FirstLemmas
 pub mod MadeLemmas
+pub mod FirstLemmas
 pub mod ChainLemmas
 pub mod GivenLemmas
 pub mod NeitherLemmas
+pub mod NameLemmas

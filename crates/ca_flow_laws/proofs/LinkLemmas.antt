@@ -1,8 +1,7 @@
 -- What is told of inputs that don't link, or give a chip without chains, is one fault; of several loops any
 -- may be told.
-use Rattle.std.proofs.Common.{ℕ, ◌≡◌, ◌≢◌, ◌⊎◌, ◌∙◌, inl, inr, refl, sym, ap, subst, List, Option, Some, None}
+use Rattle.std.proofs.Common.{ℕ, ◌≡◌, ◌≢◌, ◌∙◌, inl, inr, refl, sym, ap, subst, List, Option, Some, None}
 use Rattle.std.specs.Prelude.{IsSomeAnd, slice_get}
-use Rattle.std.proofs.lemmas.Option.{same_Some}
 use Rattle.ca_lex.specs.Words.{upper_case}
 use Rattle.ca_cell.specs.declared.rule.CellRule.{CellRule}
 use Rattle.ca_cell.specs.Library.{Named}
@@ -20,10 +19,10 @@ use Rattle.ca_link_laws.specs.Laws as link
 use Rattle.ca_link_laws.proofs.AlikeLemmas.{item_at}
 use Rattle.ca_link_laws.proofs.BrokenLemmas.{first_broken}
 use Rattle.ca_link_laws.proofs.DrivingLemmas.{one_wire}
-use Rattle.ca_link_laws.proofs.TraceLemmas.{alike_back, one_trace}
+use Rattle.ca_link_laws.proofs.TraceLemmas.{one_trace}
 use Rattle.ca_scan.specs.declared.fault.ChainFault.{ChainFault}
 use Rattle.ca_scan.specs.declared.fault.ChainFault.TheVariants as chain
-use Rattle.ca_scan.specs.ChainFault.{AreAllChains, IsChainCause}
+use Rattle.ca_scan.specs.ChainFault.{IsChainCause}
 use Rattle.ca_scan.proofs.AnswerLemmas.{one_answer}
 use Rattle.ca_place.specs.Names.{wire_text}
 use Rattle.ca_place.specs.Place.{net_text, double_text, OfNet, TellsPlace}

@@ -1,5 +1,5 @@
 -- What is told of the files of a command on a chip is one fault.
-use Rattle.std.proofs.Common.{ℕ, ◌≡◌, ◌≤◌, ◌⊎◌, ◌∙◌, inl, inr, refl, sym, ap, subst, List, length, Option, Some, None}
+use Rattle.std.proofs.Common.{ℕ, ◌≡◌, ◌≤◌, ◌⊎◌, ◌∙◌, inl, inr, refl, sym, subst, List, length, Option, Some, None}
 use Rattle.std.proofs.Common.{Result, Ok, Err, true≢false}
 use Rattle.std.specs.Prelude.{IsOk, IsSomeAnd}
 use Rattle.std.proofs.lemmas.Option.{same_Some}
@@ -18,18 +18,18 @@ use Rattle.ca_fault.specs.declared.fault.Fault.TheVariants.{Cells, Netlist, Scan
 use Rattle.ca_load.specs.declared.cells.TheConstants.{MAX_CELLS}
 use Rattle.ca_load.specs.declared.netlists.TheConstants.{MAX_NETLIST}
 use Rattle.ca_load.specs.declared.tables.TheConstants.{MAX_SCAN}
-use Rattle.ca_load.specs.Files.{IsFileWith, OfFile}
+use Rattle.ca_load.specs.Files.{IsFileWith}
 use Rattle.ca_load.specs.Texts.{IsLibraryOf, IsNetlistOf, IsTableOf, IsTableAt, InputFiles, Inputs, ReadAs}
-use Rattle.ca_load.specs.Chips.{IsChipOf, LackChains, IsChipCause, IsTraced}
+use Rattle.ca_load.specs.Chips.{IsChipOf, IsChipCause, IsTraced}
 use Rattle.ca_load.specs.Causes.{IsTextCause, IsCellsCause, IsLibraryCause, IsModuleCause, IsTokensCause, IsNetlistCause, IsRecordCause}
-use Rattle.ca_load.specs.Causes.{IsRowsCause, IsScanCause, IsInputCause, IsLinkedCause, IsLoadCause}
+use Rattle.ca_load.specs.Causes.{IsRowsCause, IsScanCause, IsInputCause, IsLoadCause}
 use Rattle.ca_load.proofs.SameLemmas.{one_reading}
 use Rattle.ca_flow_laws.specs.Same.{IsInputFault, IsSame}
 use Rattle.ca_flow_laws.specs.Told.{IsChipFile}
 use Rattle.ca_flow_laws.proofs.FileLemmas.{one_of, AtFile, one_at_file, none_of_read, of_bytes, of_file, of_read}
 use Rattle.ca_flow_laws.proofs.LinkLemmas.{AtLink, of_link, one_link, AtTrace, of_trace, trace_alike, one_at_trace, none_of_traced}
 use Rattle.ca_flow_laws.proofs.LinkLemmas.{traced_also}
-use Rattle.ca_flow_laws.proofs.OneLemmas.{AreOne, one_chip, one_back}
+use Rattle.ca_flow_laws.proofs.OneLemmas.{one_chip}
 
 -- what is told of a reading of a cell netlist
 abbrev pub AtCells : {S : Type 0} → Result S SpiceFault → Fault → Type 0

@@ -1,9 +1,8 @@
 -- What a text that was read as subcircuits or as a netlist gives.
-use Rattle.std.proofs.Common.{ℕ, ◌≡◌, ◌-◌, ◌⊎◌, ◌∙◌, inl, inr, refl, sym, ap, subst, Bool, true, false, cond, List, [], ◌∷◌, length, map, Option, Some}
+use Rattle.std.proofs.Common.{ℕ, ◌≡◌, ◌-◌, ◌⊎◌, ◌∙◌, inl, inr, refl, sym, ap, Bool, true, false, cond, List, [], ◌∷◌, length, map, Option, Some}
 use Rattle.std.proofs.Common.{None, Result, Ok, Err}
 use Rattle.std.specs.Prelude.{nat_lt}
-use Rattle.std.specs.List.{All, AllByRecursion}
-use Rattle.std.proofs.lemmas.List.Elements.{All-from_recursion}
+use Rattle.std.specs.List.{AllByRecursion}
 use Rattle.ca_lex.specs.declared.token.Token.{Token}
 use Rattle.ca_lex.specs.FirstFault.{located}
 use Rattle.ca_lex.proofs.FirstFaultLemmas.{found}
@@ -22,10 +21,9 @@ use Rattle.ca_verilog.specs.declared.fault.VerilogFault.{VerilogFault}
 use Rattle.ca_verilog.specs.declared.fault.VerilogFault.TheVariants.{At, TooManyNets, NoMemory}
 use Rattle.ca_verilog.specs.declared.fault.VerilogKind.TheVariants.{Syntax}
 use Rattle.ca_verilog.specs.declared.netlist.TheConstants.{MOST_BITS}
-use Rattle.ca_verilog.specs.declared.raw.RawNetlist.{RawNetlist}
 use Rattle.ca_verilog.specs.Netlist.{bits_with, first_bits, netlist_with, limited}
 use Rattle.ca_verilog.specs.Reading.{Reading, Step, nothing}
-use Rattle.ca_verilog.specs.Text.{token_step, at_token, tokens_from, then_flaw, is_end, ended, reads_scan, reading_of, limited_of, netlist_of}
+use Rattle.ca_verilog.specs.Text.{token_step, at_token, tokens_from, then_flaw, is_end, ended, limited_of, netlist_of}
 use Rattle.ca_flow_laws.proofs.RawLemmas.{AreRaw}
 
 -- a subcircuit has an entry

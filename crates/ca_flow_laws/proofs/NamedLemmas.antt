@@ -1,6 +1,6 @@
 -- The instances of a netlist that was read have names that differ, so that a name means one instance of a
 -- chip; and chips that are alike have the same names.
-use Rattle.std.proofs.Common.{◌≡◌, ℕ, zero, suc, ◌+◌, ◌∙◌, Bool, true, false, List, [], ◌∷◌, length, map, refl}
+use Rattle.std.proofs.Common.{◌≡◌, ℕ, zero, suc, ◌+◌, ◌∙◌, Bool, true, false, List, [], ◌∷◌, map, refl}
 use Rattle.std.proofs.Common.{sym, ap, subst, cond, arith, Result, Ok, Err, Some}
 use Rattle.std.specs.Prelude.{slice_get, nat_lt}
 use Rattle.std.specs.List.{IsDistinct}

@@ -8,7 +8,6 @@ use Rattle.std.proofs.lemmas.List.Elements.{All-from_recursion}
 use Rattle.std.proofs.lemmas.Option.{same_Some}
 use Rattle.ca_store.specs.Store.{Files}
 use Rattle.ca_lex.specs.Words.{upper_case}
-use Rattle.ca_cell.specs.declared.rule.CellRule.{CellRule}
 use Rattle.ca_cell.specs.Library.{Named, IsEntry}
 use Rattle.ca_spice.specs.declared.fault.SpiceFault.{SpiceFault}
 use Rattle.ca_spice.specs.declared.fault.SpiceFault.TheVariants as spice
@@ -41,19 +40,17 @@ use Rattle.ca_load.specs.declared.netlists.TheConstants.{MAX_NETLIST}
 use Rattle.ca_load.specs.declared.tables.TheConstants.{MAX_SCAN}
 use Rattle.ca_load.specs.Files.{IsFileWith, OfFile, IsReadCause}
 use Rattle.ca_load.specs.Texts.{IsLibraryOf, IsNetlistOf, IsTableOf, IsTableAt, Inputs, ReadAs, OfInputs}
-use Rattle.ca_load.specs.Chips.{IsChipOf, BreakFirst, IsPlainRule, IsOfCell, IsPlaceOf, IsLinkingCause, IsTracingCause, IsChipCause, IsTraced}
+use Rattle.ca_load.specs.Chips.{IsChipOf, BreakFirst, IsPlainRule, IsOfCell, IsPlaceOf, IsTracingCause, IsChipCause, IsTraced}
 use Rattle.ca_load.specs.Causes.{IsTextCause, IsModuleCause, IsRecordCause, HasLibrary, HasNetlist, IsScanCause, IsChipFault, IsLoadCause}
 use Rattle.ca_asked.specs.Asked.{IsDefectCause}
-use Rattle.ca_order.specs.declared.event.Event.{Event}
 use Rattle.ca_chip_replay.specs.ChipRun.{RunOf}
-use Rattle.ca_simulate.specs.OneRun.{ReadsRun}
 use Rattle.ca_words.specs.Words.{chip_files, instance_word, chip_defect_word, chip_first_word, chip_last_word, order_word}
 use Rattle.ca_words.specs.Words.{IsFlatten, IsSimulate, IsReplay, IsOnChip}
 use Rattle.ca_on_chip.specs.declared.replays.TheConstants.{MAX_ORDER}
 use Rattle.ca_on_chip.specs.OnChip.{GiveChipWith, OfChip, IsDefectWord, IsVectorWord, IsSimulationCause}
 use Rattle.ca_on_chip.specs.Replay.{IsAskedRun, HasFaultyLine, HasRun}
 use Rattle.ca_flow.specs.Fault.{Outside, IsOwnCause, IsCause}
-use Rattle.ca_flow.specs.Complete.{FitsFile, FitsSimulate, HasEvents, FitsOwn, FitsChip, IsAnswerable}
+use Rattle.ca_flow.specs.Complete.{FitsFile, HasEvents, FitsOwn, FitsChip, IsAnswerable}
 use Rattle.ca_flow_laws.specs.Same.{IsInputFault}
 use Rattle.ca_flow_laws.specs.Told.{IsInputFile, TellsAllFiles}
 use Rattle.ca_flow_laws.specs.Laws.{HasInputCause}
@@ -66,6 +63,9 @@ use Rattle.ca_flow_laws.proofs.ChainLemmas.{traced_or}
 use Rattle.ca_flow_laws.proofs.GivenLemmas.{defect_or, simulate_or, asked_given, has_run, events_or}
 use Rattle.ca_flow_laws.proofs.AnsweredLemmas.{fits_defect, fits_simulate, fits_run, has_events, check_own, flatten_own, simulate_own}
 use Rattle.ca_flow_laws.proofs.AnsweredLemmas.{atpg_own, replay_own}
+
+within_or_past : (n most : ℕ) → (n ≤ most) ⊎ (most < n)
+within_or_past n most = elim (dec_le n most) [ yes within ↦ inl within | no past ↦ inr (omega (arith, past)) ]
 
 -- what a fault tells that has a cause
 defect_told : (instance defect : List ℕ) (chip : Chip) (fault : Fault) → IsDefectCause chip instance defect fault
@@ -129,16 +129,13 @@ module _ (words : List (List ℕ)) (outside : Outside) (told : Files) (are : out
   -- the first file
   cells_or : ((library : List Named) → IsFileWith told (chip_files words).cells MAX_CELLS (IsLibraryOf library)
       → HasLibrary outside.files (chip_files words).cells → ⊥) → ⊥
-  cells_or refutes = by (dec_le_or (length found.0))
+  cells_or refutes = by (within_or_past (length found.0) MAX_CELLS)
     where
       name : List ℕ
       name = (chip_files words).cells
 
       found : (bytes : List ℕ) × (told (chip_files words).cells ≡ Some bytes)
       found = bytes_of (chip_files words).cells (inr (inl (on, inl refl)))
-
-      dec_le_or : (n : ℕ) → (n ≤ MAX_CELLS) ⊎ (MAX_CELLS < n)
-      dec_le_or n = elim (dec_le n MAX_CELLS) [ yes within ↦ inl within | no past ↦ inr (omega (arith, past)) ]
 
       read : length found.0 ≤ MAX_CELLS → (given : Result _ SpiceFault) → library_of found.0 ≡ given → ⊥
       read within (Ok cells) is =
@@ -163,16 +160,13 @@ module _ (words : List (List ℕ)) (outside : Outside) (told : Files) (are : out
   netlist_or : HasLibrary outside.files (chip_files words).cells → ((netlist : RawNetlist)
       → IsFileWith told (chip_files words).netlist MAX_NETLIST (IsNetlistOf netlist)
       → HasNetlist outside.files (chip_files words).netlist → ⊥) → ⊥
-  netlist_or has refutes = by (dec_le_or (length found.0))
+  netlist_or has refutes = by (within_or_past (length found.0) MAX_NETLIST)
     where
       name : List ℕ
       name = (chip_files words).netlist
 
       found : (bytes : List ℕ) × (told (chip_files words).netlist ≡ Some bytes)
       found = bytes_of (chip_files words).netlist (inr (inl (on, inr (inl refl))))
-
-      dec_le_or : (n : ℕ) → (n ≤ MAX_NETLIST) ⊎ (MAX_NETLIST < n)
-      dec_le_or n = elim (dec_le n MAX_NETLIST) [ yes within ↦ inl within | no past ↦ inr (omega (arith, past)) ]
 
       read : length found.0 ≤ MAX_NETLIST → (given : Result RawNetlist VerilogFault) → netlist_of found.0 ≡ given → ⊥
       read within (Ok netlist) is = refutes netlist (file_with name found.0 MAX_NETLIST found.1 (IsNetlistOf netlist) within is)
@@ -193,13 +187,10 @@ module _ (words : List (List ℕ)) (outside : Outside) (told : Files) (are : out
       → ((fault : Fault) → IsInputFault fault → IsScanCause scan outside.files outside.store_faults outside.store_faults fault → ⊥)
       → ((rows : List ScanRow) → IsTableAt (Some told) scan rows → ⊥) → ⊥
   table_or None input none refutes = refutes [] refl
-  table_or (Some name) input none refutes = by (dec_le_or (length found.0))
+  table_or (Some name) input none refutes = by (within_or_past (length found.0) MAX_SCAN)
     where
       found : (bytes : List ℕ) × (told name ≡ Some bytes)
       found = bytes_of name (input name refl)
-
-      dec_le_or : (n : ℕ) → (n ≤ MAX_SCAN) ⊎ (MAX_SCAN < n)
-      dec_le_or n = elim (dec_le n MAX_SCAN) [ yes within ↦ inl within | no past ↦ inr (omega (arith, past)) ]
 
       read : length found.0 ≤ MAX_SCAN → (given : Result (List ScanRow) ℕ) → table_of found.0 ≡ given → ⊥
       read within (Ok rows) is = refutes rows (λ other same.
@@ -302,8 +293,14 @@ module _ (words : List (List ℕ)) (outside : Outside) (told : Files) (are : out
       at_simulate : IsSimulate words → ⊥
       at_simulate simulate = simulate_or words chip one (λ fault cause.
           let tells = simulation_told (instance_word words) (chip_defect_word words) (chip_first_word words) (chip_last_word words) chip fault cause in
-          no_own fault tells.0 (inr (inl (simulate, (tells.1, of_chip (IsSimulationCause (instance_word words) (chip_defect_word words)
-          (chip_first_word words) (chip_last_word words) fault) cause)))))
+          no_own fault tells.0 (inr (inl (
+            simulate,
+            (
+              tells.1,
+              of_chip (IsSimulationCause (instance_word words) (chip_defect_word words)
+                  (chip_first_word words) (chip_last_word words) fault) cause,
+            ),
+          ))))
           (λ fits.
           let given = asked_given words chip simulate.defect fits.defect in
           own_answer (λ also same names.
@@ -311,13 +308,10 @@ module _ (words : List (List ℕ)) (outside : Outside) (told : Files) (are : out
 
       at_events : IsReplay words → (run : RunOf)
           → IsAskedRun (instance_word words) (chip_defect_word words) (chip_first_word words) (chip_last_word words) chip run → ⊥
-      at_events replay run asked = by (dec_le_or (length found.0))
+      at_events replay run asked = by (within_or_past (length found.0) MAX_ORDER)
         where
           found : (bytes : List ℕ) × (told (order_word words) ≡ Some bytes)
           found = bytes_of (order_word words) (inr (inr (replay, refl)))
-
-          dec_le_or : (n : ℕ) → (n ≤ MAX_ORDER) ⊎ (MAX_ORDER < n)
-          dec_le_or n = elim (dec_le n MAX_ORDER) [ yes within ↦ inl within | no past ↦ inr (omega (arith, past)) ]
 
           by : (length found.0 ≤ MAX_ORDER) ⊎ (MAX_ORDER < length found.0) → ⊥
           by (inl within) = events_or run found.0
@@ -326,21 +320,33 @@ module _ (words : List (List ℕ)) (outside : Outside) (told : Files) (are : out
                 events = file_with (order_word words) found.0 MAX_ORDER found.1 (HasEvents words also) within
                     (has_events words chip also same names found.0 run asked events reads);
               })))
-              (λ line faulty. no_own (Order line) tt (inr (inr (inr (replay, inr (of_chip (λ chip. OfFile outside.files (order_word words) MAX_ORDER
-              (HasFaultyLine (instance_word words) (chip_defect_word words) (chip_first_word words) (chip_last_word words) line chip))
-              (in_file (order_word words) found.0 MAX_ORDER found.1
-              (HasFaultyLine (instance_word words) (chip_defect_word words) (chip_first_word words) (chip_last_word words) line chip)
-              within (record { run = run; asked = asked; faulty = faulty }))))))))
-          by (inr past) = no_own (TooLong (order_word words) (MAX_ORDER + 1)) tt (inr (inr (inr (replay, inr (
-            of_chip (HasRun (instance_word words) (chip_defect_word words) (chip_first_word words) (chip_last_word words)) (run, asked),
-            too_long (order_word words) found.0 MAX_ORDER found.1 past,
-          )))))
+              (λ line faulty. no_own (Order line) tt (inr (inr (inr (
+                replay,
+                inr (of_chip (λ chip. OfFile outside.files (order_word words) MAX_ORDER
+                    (HasFaultyLine (instance_word words) (chip_defect_word words) (chip_first_word words) (chip_last_word words) line chip))
+                    (in_file (order_word words) found.0 MAX_ORDER found.1
+                    (HasFaultyLine (instance_word words) (chip_defect_word words) (chip_first_word words) (chip_last_word words) line chip)
+                    within (record { run = run; asked = asked; faulty = faulty }))),
+              )))))
+          by (inr past) = no_own (TooLong (order_word words) (MAX_ORDER + 1)) tt (inr (inr (inr (
+            replay,
+            inr (
+              of_chip (HasRun (instance_word words) (chip_defect_word words) (chip_first_word words) (chip_last_word words)) (run, asked),
+              too_long (order_word words) found.0 MAX_ORDER found.1 past,
+            ),
+          ))))
 
       at_replay : IsReplay words → ⊥
       at_replay replay = simulate_or words chip one (λ fault cause.
           let tells = simulation_told (instance_word words) (chip_defect_word words) (chip_first_word words) (chip_last_word words) chip fault cause in
-          no_own fault tells.0 (inr (inr (inr (replay, inl (tells.1, of_chip (IsSimulationCause (instance_word words) (chip_defect_word words)
-          (chip_first_word words) (chip_last_word words) fault) cause))))))
+          no_own fault tells.0 (inr (inr (inr (
+            replay,
+            inl (
+              tells.1,
+              of_chip (IsSimulationCause (instance_word words) (chip_defect_word words)
+                  (chip_first_word words) (chip_last_word words) fault) cause,
+            ),
+          )))))
           (λ fits. let run = has_run words chip replay.defect fits in at_events replay run.0 run.1)
 
       at_chip : IsOnChip words → ⊥

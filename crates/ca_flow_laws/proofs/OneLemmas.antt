@@ -1,8 +1,7 @@
 -- The chips that inputs give are one but for the order of their library instances.
-use Rattle.std.proofs.Common.{◌≡◌, ◌≤◌, ℕ, ◌∙◌, sym, ap, List, length}
+use Rattle.std.proofs.Common.{◌≡◌, ◌≤◌, ℕ, ◌∙◌, sym, List, length}
 use Rattle.std.specs.Prelude.{IsSomeAnd, Option, Some, None}
 use Rattle.ca_store.specs.Store.{Files}
-use Rattle.ca_verilog.specs.declared.raw.RawNetlist.{RawNetlist}
 use Rattle.ca_wired.specs.Linked.{Chip}
 use Rattle.ca_wired.specs.Instances.{IsNamedGate}
 use Rattle.ca_chip.specs.Wiring.{wiring_of}
@@ -10,7 +9,6 @@ use Rattle.ca_core.specs.Core.{core_of}
 use Rattle.ca_link_laws.specs.Alike.{AreAlike}
 use Rattle.ca_link_laws.proofs.AlikeLemmas.{links_alike}
 use Rattle.ca_link_laws.proofs.TraceLemmas.{alike_back}
-use Rattle.ca_load.specs.Files.{IsFileWith}
 use Rattle.ca_load.specs.declared.netlists.TheConstants.{MAX_NETLIST}
 use Rattle.ca_load.specs.Texts.{IsNetlistOf, InputFiles, Inputs, ReadAs}
 use Rattle.ca_load.specs.Chips.{IsChipOf}

@@ -1,19 +1,18 @@
 -- What is told of the own words of a command on a chip is one fault.
-use Rattle.std.proofs.Common.{ℕ, ◌≡◌, ◌≢◌, ◌≤◌, ◌⊎◌, ◌∙◌, inl, inr, refl, sym, ap, subst, arith, List, length, Option, Some, None}
+use Rattle.std.proofs.Common.{ℕ, ◌≡◌, ◌≢◌, ◌⊎◌, ◌∙◌, inl, inr, refl, sym, ap, subst, List, length, Option, Some, None}
 use Rattle.std.proofs.Common.{true≢false}
-use Rattle.std.specs.Prelude.{IsNone, IsSomeAnd}
+use Rattle.std.specs.Prelude.{IsNone}
 use Rattle.std.proofs.lemmas.Option.{same_Some}
 use Rattle.ca_store.specs.Store.{Files}
-use Rattle.ca_defect.specs.declared.defect.Defect.{Defect}
 use Rattle.ca_flat.specs.declared.chip_defect.ChipDefect.{ChipDefect}
 use Rattle.ca_flat.specs.Chip.{cell_at}
 use Rattle.ca_flat.specs.Chip as flat
-use Rattle.ca_wired.specs.Linked.{Chip, inputs_of}
+use Rattle.ca_wired.specs.Linked.{Chip}
 use Rattle.ca_wired.specs.Instances.{IsNamedGate}
 use Rattle.ca_core.specs.Core.{core_of}
 use Rattle.ca_link_laws.proofs.TraceLemmas.{one_ports}
 use Rattle.ca_asked.specs.Vectors.{dash, letters_of}
-use Rattle.ca_asked.specs.Asked.{FitsInputs, defect_called, IsNamedDefect, IsAskedDefect, LacksDefect, IsDefectCause, IsVectorsCause}
+use Rattle.ca_asked.specs.Asked.{FitsInputs, defect_called, IsAskedDefect, LacksDefect, IsDefectCause, IsVectorsCause}
 use Rattle.ca_chip_replay.specs.ChipRun.{RunOf}
 use Rattle.ca_simulate.specs.Simulated.{pair_of}
 use Rattle.ca_simulate.specs.OneRun.{IsFaultyLine}
@@ -142,11 +141,20 @@ module _ (chip also : Chip) (are : AreOne chip also) where
           → AtFile MAX_ORDER order (TellsLine instance defect first last also) file fault
       by None at = absurd at
       by (Some bytes) (inl long) = inl long
-      by (Some bytes) (inr (within, (line, (is, faulty)))) = inr (within, (line, (is, record {
-        run = faulty.run;
-        asked = run_also chip also are instance defect first last faulty.run faulty.asked;
-        faulty = faulty.faulty;
-      })))
+      by (Some bytes) (inr (within, (line, (is, faulty)))) = inr (
+        within,
+        (
+          line,
+          (
+            is,
+            record {
+              run = faulty.run;
+              asked = run_also chip also are instance defect first last faulty.run faulty.asked;
+              faulty = faulty.faulty;
+            },
+          ),
+        ),
+      )
 
   pub at_run_also : (instance defect first last order : List ℕ) (given : Files) (fault : Fault) → AtRun instance defect first last order given chip fault
       → AtRun instance defect first last order given also fault

@@ -1,10 +1,10 @@
 -- The subcircuits of a text that is no longer than it may be keep what each entry of a library keeps.
-use Rattle.std.proofs.Common.{◌≡◌, ℕ, ◌+◌, ◌*◌, ◌<◌, ◌≤◌, ◌^◌, Bool, true, false, ◌||◌, not, cond, List, [], ◌∷◌, ◌++◌, length, map, Option, Some, None}
-use Rattle.std.proofs.Common.{Result, Ok, Err, refl, sym, ap, subst, ◌∙◌, arith, length-append, inl, inr}
+use Rattle.std.proofs.Common.{◌≡◌, ℕ, ◌+◌, ◌<◌, ◌≤◌, ◌^◌, Bool, true, false, ◌||◌, not, cond, List, [], ◌∷◌, ◌++◌, length, map, Option, Some, None}
+use Rattle.std.proofs.Common.{Result, Ok, Err, refl, sym, ap, subst, ◌∙◌, arith, length-append}
 use Rattle.std.specs.Prelude.{nat_lt, eqb, ◌&&◌, option_and_then}
 use Rattle.std.specs.Prelude.{◌==◌, codes}
 use Rattle.std.specs.Str.{bytes_eq}
-use Rattle.std.specs.List.{All, AllByRecursion, list_all}
+use Rattle.std.specs.List.{AllByRecursion, list_all}
 use Rattle.std.proofs.lemmas.Option.{slice_get_within}
 use Rattle.std.proofs.lemmas.List.{length-map}
 use Rattle.std.proofs.lemmas.List.Elements.{All-nil}
@@ -21,22 +21,22 @@ use Rattle.ca_cell.specs.declared.raw.RawPin.{RawPin}
 use Rattle.ca_cell.specs.declared.raw.RawDevice.{RawDevice}
 use Rattle.ca_cell.specs.Rules.{PlacesWithin, IsRaw}
 use Rattle.ca_spice.specs.declared.fault.SpiceKind.{SpiceKind}
-use Rattle.ca_spice.specs.declared.fault.SpiceKind.TheVariants.{NotText, BadCard, DoubleName, Unended}
+use Rattle.ca_spice.specs.declared.fault.SpiceKind.TheVariants.{NotText, BadCard, DoubleName}
 use Rattle.ca_spice.specs.declared.fault.SpiceFault.{SpiceFault}
-use Rattle.ca_spice.specs.declared.fault.SpiceFault.TheVariants.{At, TooManyCells}
+use Rattle.ca_spice.specs.declared.fault.SpiceFault.TheVariants.{TooManyCells}
 use Rattle.ca_spice.specs.Card.{card_by_letter, is_ignored, card_of}
 use Rattle.ca_spice.specs.Names.{is_text, is_name}
 use Rattle.ca_spice.specs.PinInfo as info
-use Rattle.ca_spice.specs.Mos.{Wiring, Sizes, has_gate, strength_of, kind_of, wiring_with, wiring_of, are_sound}
+use Rattle.ca_spice.specs.Mos.{Wiring, has_gate, kind_of, wiring_with, wiring_of, are_sound}
 use Rattle.ca_spice.specs.OpenCell.{OpenCell, pin_of, new_cell, with_pins, has_roles, pin_info, with_drain, with_gate, with_source, device_of}
-use Rattle.ca_spice.specs.OpenCell.{with_device, mos, pins_behind, is_ended_by, subcircuit_with, ended}
+use Rattle.ca_spice.specs.OpenCell.{mos, pins_behind, is_ended_by, subcircuit_with, ended}
 use Rattle.ca_spice.specs.Reading.{Reading, Step, nothing, is_outside, has_cell, with_open, is_header, named, subckt, goes_on, in_cell, with_cell}
-use Rattle.ca_spice.specs.Reading.{ends, card_step, is_stray, is_comment, judged, words_step, line_step, at_line, lines_from, limited, library_from}
+use Rattle.ca_spice.specs.Reading.{ends, card_step, is_stray, is_comment, judged, words_step, line_step, at_line, lines_from, library_from}
 use Rattle.ca_spice.specs.Reading.{library_of}
 use Rattle.ca_spice.specs.Kept.{HasOwnStrength, IsPlaced, IsPlacedCell}
 use Rattle.ca_spice.proofs.SpelledLemmas.{all_append}
 use Rattle.ca_spice.proofs.CardLemmas.{kept_rule, kept_value, mos_found, at_its_place}
-use Rattle.ca_spice.proofs.CellLemmas.{with_name-longer, IsPlaced-grown, IsPlaced-IsRaw, pins_behind-length}
+use Rattle.ca_spice.proofs.CellLemmas.{with_name-longer, IsPlaced-grown, IsPlaced-IsRaw}
 use Rattle.ca_spice.proofs.WritableLemmas.{first_step, pin_info_names}
 use Rattle.ca_spice.proofs.ReadingLemmas.{placed_ended}
 use Rattle.ca_load.specs.declared.cells.TheConstants.{MAX_CELLS}

@@ -42,7 +42,7 @@ read_or_fault : {S : Type 0} (read : Result S SpiceFault) → IsOk read ⊎ ((fa
 read_or_fault (Ok cells) = inl refl
 read_or_fault (Err fault) = inr (fault, refl)
 
-same_or_other : (a b : ℕ) → (a ≡ b) ⊎ ¬ (a ≡ b)
+pub same_or_other : (a b : ℕ) → (a ≡ b) ⊎ ¬ (a ≡ b)
 same_or_other a b = elim (dec_le a b) [
   | no more ↦ inr (λ same. omega (arith, more, same))
   | yes up ↦ elim (dec_le b a) [

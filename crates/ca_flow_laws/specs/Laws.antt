@@ -39,8 +39,15 @@ SomeCauseOrAnswer =
     (words : List (List ℕ)) (outside : Outside) → TellsAllFiles words outside
     → ¬ (IsOnChip words) → IsCommand words → IsAnswerable words outside.files ⊎ HasInputCause words outside
 
--- a command of whose words and files a fault of input has a cause ends with this fault, with another loop
--- where it is one, or with a fault of the store, the output or memory, or with too many pairs
+-- of a command on a chip whose files are there it can't be that neither holds; which of them does isn't
+-- decided among the definitions
+abbrev pub NeverNeitherOnChip : Type 0
+NeverNeitherOnChip =
+    (words : List (List ℕ)) (outside : Outside) → TellsAllFiles words outside → IsOnChip words
+    → ¬ (¬ (IsAnswerable words outside.files ⊎ HasInputCause words outside))
+
+-- a command of whose words and files a fault of input has a cause ends with this fault, or with another loop
+-- where it tells one, or with a fault that is none of input
 abbrev pub CauseIsTold : Type 0
 CauseIsTold =
     (words : List (List ℕ)) (files : Files) (before after : Outside) (end : Finished) (fault : Fault)

@@ -3,7 +3,7 @@
 ghost use Rattle.std.specs.Prelude.{ℕ, List};
 ghost use Rattle.ca_store.specs.Store.{Files};
 ghost use Rattle.ca_flow_laws.specs.Laws.{HasOneCause, AnswerableHasNoCause, SomeCauseOrAnswer};
-ghost use Rattle.ca_flow_laws.specs.Laws.{CauseIsTold, NamesMeanOneDefect};
+ghost use Rattle.ca_flow_laws.specs.Laws.{CauseIsTold, NamesMeanOneDefect, NeverNeitherOnChip};
 
 /// Of one list of words and one set of files at most one fault of the words or of the contents has a cause; of
 /// several loops each has.
@@ -19,6 +19,12 @@ pub fn answerable_has_no_cause()
 /// A command, but one on a chip, whose file is there can be answered, or a fault of the contents has a cause.
 pub fn some_cause_or_answer()
     ensures { SomeCauseOrAnswer }
+{}
+
+/// Of a command on a chip whose files are there it can't be that it can't be answered and that no fault of the
+/// contents has a cause.
+pub fn never_neither_on_chip()
+    ensures { NeverNeitherOnChip }
 {}
 
 /// Where a fault of the words or of the contents has a cause, a command doesn't end well, and tells no other

@@ -4,5 +4,6 @@
 mod laws;
 
 pub use laws::{
-    answerable_has_no_cause, cause_is_told, names_mean_one_defect, one_cause, some_cause_or_answer,
+    answerable_has_no_cause, cause_is_told, names_mean_one_defect, never_neither_on_chip,
+    one_cause, some_cause_or_answer,
 };
