@@ -34,14 +34,15 @@ use Rattle.ca_flow.specs.Finished.{status_told}
 use Rattle.ca_flow.specs.Fault.{Outside, IsCause}
 use Rattle.ca_flow.specs.Complete.{FitsCell, FitsFile, FitsDefect, FitsSimulate, HasEvents, FitsReplay, FitsOwn, FitsChip, IsAnswerable}
 use Rattle.ca_flow.specs.Ends.{IsAsked, Ends}
-use Rattle.ca_flow_laws.specs.Same.{IsInputFault, IsSame}
+use Rattle.ca_flow_laws.specs.Same.{IsInputFault, IsCallFault, IsSame}
 use Rattle.ca_flow_laws.specs.Told.{IsInputFile, TellsFiles}
 use Rattle.ca_flow_laws.proofs.LinkLemmas.{traced_also}
 use Rattle.ca_flow_laws.proofs.OneLemmas.{AreOne, one_chip, NamesOne, names_one}
 use Rattle.ca_flow_laws.proofs.OwnLemmas.{fits_also, asked_also, run_also, one_run}
 use Rattle.ca_flow_laws.proofs.CellLemmas.{respond_or_pair}
-use Rattle.ca_flow_laws.proofs.ChipLemmas.{flatten_or_simulate, flatten_or_replay, simulate_or_replay}
+use Rattle.ca_flow_laws.proofs.ChipLemmas.{flatten_or_simulate, flatten_or_replay, simulate_or_replay, atpg_or_flatten, atpg_or_simulate, atpg_or_replay}
 use Rattle.ca_flow_laws.proofs.ExactLemmas.{one_cause}
+use Rattle.ca_flow_laws.proofs.PairsLemmas.{kind_of_fault, no_pairs}
 use Rattle.ca_flow_laws.proofs.FitsLemmas.{respond_or_defects, pair_or_defects, pair_or_matrix, respond_or_matrix, no_cause}
 
 some_of : {A : Type 0} (P : A → Type 0) (told : Option A) → IsSomeAnd told P → IsSome told
@@ -57,15 +58,6 @@ check_or_simulate words one other = let four = one.four in let eight = other.eig
 
 check_or_replay : (words : List (List ℕ)) → IsCheck words → IsReplay words → ⊥
 check_or_replay words one other = let four = one.four in let nine = other.nine in omega (arith, four, nine)
-
-atpg_or_flatten : (words : List (List ℕ)) → IsAtpg words → IsFlatten words → ⊥
-atpg_or_flatten words one other = omega (arith, ap length (sym one.command ∙ other.command))
-
-atpg_or_simulate : (words : List (List ℕ)) → IsAtpg words → IsSimulate words → ⊥
-atpg_or_simulate words one other = let seven = one.seven in let eight = other.eight in omega (arith, seven, eight)
-
-atpg_or_replay : (words : List (List ℕ)) → IsAtpg words → IsReplay words → ⊥
-atpg_or_replay words one other = let seven = one.seven in let nine = other.nine in omega (arith, seven, nine)
 
 -- what words name of a chip, they name of one that is one with it
 module _ (words : List (List ℕ)) (chip also : Chip) (are : AreOne chip also) (one : NamesOne also) where
@@ -234,7 +226,7 @@ module _ (words : List (List ℕ)) (files : Option Files) (told : Files) (are : 
 -- a cause is told
 pub told_cause : (words : List (List ℕ)) (files : Files) (before after : Outside) (end : Finished) (fault : Fault)
     → TellsFiles words files before → Ends words before after end → IsInputFault fault → IsCause words before after fault
-    → IsSomeAnd end.fault (λ told. IsInputFault told → IsSame told fault)
+    → IsSomeAnd end.fault (λ told. IsCallFault told ⊎ IsSame told fault)
 told_cause words files before after end fault tells ends is cause = by end.fault refl ends.cause
   where
     is_told : (outside : Option Files) → before.files ≡ outside → IsSomeAnd outside (λ told. (name : List ℕ) → IsInputFile words name → told name ≡ files name)
@@ -249,8 +241,12 @@ told_cause words files before after end fault tells ends is cause = by end.fault
         no_cause words before after fault (answered words before.files found.0 found.1 done asked) is cause
 
     by : (told : Option Fault) → end.fault ≡ told → IfSome told (IsCause words before after)
-        → IsSomeAnd told (λ told. IsInputFault told → IsSame told fault)
+        → IsSomeAnd told (λ told. IsCallFault told ⊎ IsSame told fault)
     by None none told =
         let zero : end.status ≡ 0 = ends.answer.status ∙ ap status_told none in
         absurd (by_done end.done (ends.answer.done.1 (inl zero)) ends.asked)
-    by (Some other) some told = λ is_too. one_cause words files before after before after other fault tells tells is_too is told cause
+    by (Some other) some told = elim (kind_of_fault other) [
+      | inl call ↦ inl call
+      | inr (inl input) ↦ inr (one_cause words files before after before after other fault tells tells input is told cause)
+      | inr (inr many) ↦ absurd (no_pairs words files before after before after other fault tells tells many is told cause)
+    ]

@@ -1,5 +1,5 @@
 -- What is told of a command on a chip is one fault; of several loops any may be told.
-use Rattle.std.proofs.Common.{ℕ, ◌≡◌, ◌≤◌, ◌⊎◌, inl, inr, refl, arith, List, length, Option, Some, None}
+use Rattle.std.proofs.Common.{ap, sym, ◌∙◌, ℕ, ◌≡◌, ◌≤◌, ◌⊎◌, inl, inr, refl, arith, List, length, Option, Some, None}
 use Rattle.std.specs.Prelude.{IsSomeAnd}
 use Rattle.ca_store.specs.Store.{Files}
 use Rattle.ca_wired.specs.Linked.{Chip}
@@ -10,7 +10,7 @@ use Rattle.ca_load.specs.Chips.{IsChipOf, IsTraced}
 use Rattle.ca_load.specs.Files.{OfFile}
 use Rattle.ca_load.specs.Causes.{IsLoadCause}
 use Rattle.ca_words.specs.Words.{chip_files, instance_word, chip_defect_word, chip_first_word, chip_last_word, order_word}
-use Rattle.ca_words.specs.Words.{IsFlatten, IsSimulate, IsReplay, IsOnChip}
+use Rattle.ca_words.specs.Words.{IsFlatten, IsSimulate, IsAtpg, IsReplay, IsOnChip}
 use Rattle.ca_on_chip.specs.declared.replays.TheConstants.{MAX_ORDER}
 use Rattle.ca_on_chip.specs.OnChip.{GiveChipWith, OfChip, IsSimulationCause, IsPairsFault}
 use Rattle.ca_on_chip.specs.Replay.{HasFaultyLine, HasRun, IsOrderCause}
@@ -32,6 +32,15 @@ flatten_or_replay words one other = let seven = one.seven in let nine = other.ni
 
 pub simulate_or_replay : (words : List (List ℕ)) → IsSimulate words → IsReplay words → ⊥
 simulate_or_replay words one other = let eight = one.eight in let nine = other.nine in omega (arith, eight, nine)
+
+pub atpg_or_flatten : (words : List (List ℕ)) → IsAtpg words → IsFlatten words → ⊥
+atpg_or_flatten words one other = omega (arith, ap length (sym one.command ∙ other.command))
+
+pub atpg_or_simulate : (words : List (List ℕ)) → IsAtpg words → IsSimulate words → ⊥
+atpg_or_simulate words one other = let seven = one.seven in let eight = other.eight in omega (arith, seven, eight)
+
+pub atpg_or_replay : (words : List (List ℕ)) → IsAtpg words → IsReplay words → ⊥
+atpg_or_replay words one other = let seven = one.seven in let nine = other.nine in omega (arith, seven, nine)
 
 -- what is told of the own words of a command, of a chip
 abbrev pub AtOwn : List (List ℕ) → Files → Chip → Fault → Type 0

@@ -9,6 +9,7 @@ pub mod OwnLemmas
 pub mod CellLemmas
 pub mod ChipLemmas
 pub mod ExactLemmas
+pub mod PairsLemmas
 pub mod FitsLemmas
 pub mod AnsweredLemmas
 pub mod SomeLemmas

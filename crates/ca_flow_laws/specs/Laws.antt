@@ -11,7 +11,7 @@ use Rattle.ca_flow.specs.declared.finished.Finished.{Finished}
 use Rattle.ca_flow.specs.Fault.{Outside, IsCause}
 use Rattle.ca_flow.specs.Complete.{IsAnswerable}
 use Rattle.ca_flow.specs.Ends.{Ends}
-use Rattle.ca_flow_laws.specs.Same.{IsInputFault, IsSame}
+use Rattle.ca_flow_laws.specs.Same.{IsInputFault, IsCallFault, IsSame}
 use Rattle.ca_flow_laws.specs.Told.{TellsFiles, TellsAllFiles}
 
 -- of one list of words and one set of files at most one fault of input has a cause, but that of several loops
@@ -47,12 +47,12 @@ NeverNeitherOnChip =
     → ¬ (¬ (IsAnswerable words outside.files ⊎ HasInputCause words outside))
 
 -- a command of whose words and files a fault of input has a cause ends with this fault, or with another loop
--- where it tells one, or with a fault that is none of input
+-- where it tells one, or with a fault of the store, the output or memory
 abbrev pub CauseIsTold : Type 0
 CauseIsTold =
     (words : List (List ℕ)) (files : Files) (before after : Outside) (end : Finished) (fault : Fault)
     → TellsFiles words files before → Ends words before after end → IsInputFault fault
-    → IsCause words before after fault → IsSomeAnd end.fault (λ told. IsInputFault told → IsSame told fault)
+    → IsCause words before after fault → IsSomeAnd end.fault (λ told. IsCallFault told ⊎ IsSame told fault)
 
 -- of each cell that a word names in a text, and that keeps the rules, the defects have names that differ
 abbrev pub NamesMeanOneDefect : Type 0

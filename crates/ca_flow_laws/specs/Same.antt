@@ -28,6 +28,13 @@ IsInputFault (StoreFailed name) = ⊥
 IsInputFault SinkFailed = ⊥
 IsInputFault NoMemory = ⊥
 
+-- the faults of calls and of memory: a call of the store or of the output failed, or there was no memory
+abbrev pub IsCallFault : Fault → Type 0
+IsCallFault (StoreFailed name) = ⊤
+IsCallFault SinkFailed = ⊤
+IsCallFault NoMemory = ⊤
+IsCallFault _ = ⊥
+
 -- both faults tell a loop of a chip; of several loops any may be told
 abbrev pub AreLoops : Fault → Fault → Type 0
 AreLoops (Chip (rule.Loop instances) place) (Chip (rule.Loop others) other) = ⊤

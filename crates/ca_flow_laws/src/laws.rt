@@ -5,8 +5,8 @@ ghost use Rattle.ca_store.specs.Store.{Files};
 ghost use Rattle.ca_flow_laws.specs.Laws.{HasOneCause, AnswerableHasNoCause, SomeCauseOrAnswer};
 ghost use Rattle.ca_flow_laws.specs.Laws.{CauseIsTold, NamesMeanOneDefect, NeverNeitherOnChip};
 
-/// Of one list of words and one set of files at most one fault of the words or of the contents has a cause; of
-/// several loops each has.
+/// Of one list of words and one set of files at most one fault of the words or of the contents has a cause;
+/// of several loops each has.
 pub fn one_cause()
     ensures { (words : List (List ℕ)) (files : Files) → HasOneCause words files }
 {}
@@ -21,8 +21,8 @@ pub fn some_cause_or_answer()
     ensures { SomeCauseOrAnswer }
 {}
 
-/// Of a command on a chip whose files are there it can't be that it can't be answered and that no fault of the
-/// contents has a cause.
+/// Of a command on a chip whose files are there it can't be that it can't be answered and that no fault of
+/// the contents has a cause.
 pub fn never_neither_on_chip()
     ensures { NeverNeitherOnChip }
 {}
