@@ -19,7 +19,11 @@ if [ $# -gt 0 ]; then
     crates=("$@")
 else
     crates=()
-    while IFS=: read -r crate _; do
+    while read -r crate _; do
+        crate=${crate%:}
+        if [ -z "$crate" ]; then
+            continue
+        fi
         if [ -d "$top/bugs/$crate" ] || [ -d "$top/crates/$crate/must-fail" ]; then
             crates+=("$crate")
         fi

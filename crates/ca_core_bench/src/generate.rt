@@ -1,6 +1,7 @@
 //! Test generation on a linked chip.
 
 ghost use Rattle.std.specs.Prelude.{◌≡◌, IfOk, IfErr};
+ghost use Rattle.ca_core.specs.Core.{core_of};
 ghost use Rattle.ca_core_links.specs.CoreLinks.{AreLinksOf};
 ghost use Rattle.ca_core_tables.specs.Tables.{AreTablesOf};
 ghost use Rattle.ca_credit.specs.Good.{IsGood};
@@ -8,11 +9,13 @@ ghost use Rattle.ca_generate.specs.GenerateFault.{IsCause};
 ghost use Rattle.ca_core_bench.specs.ChipTask.{task_of};
 
 use crate::bench::core_bench;
+use ca_bench::ExposableDefects;
 use ca_chip_choice::chip_choice;
 use ca_chip_rows::ChipRows;
 use ca_core_links::CoreLinks;
 use ca_core_tables::CoreTables;
 use ca_generate::{Bench, GenerateFault, Generated, Watch, generate};
+use ca_guide::Choice;
 use ca_wired::Chip;
 use std::alloc::Global;
 
@@ -98,6 +101,28 @@ pub fn generate_over<T: Watch>(
     ensures cause { IfErr result (IsCause (task_of chip.now budget)) }
 {
     let choice = chip_choice(alloc, tables, links)?;
+    generate_by(alloc, chip, tables, links, rows, choice, budget, watch)
+}
+
+// The same by rows and a choice of any type: so the bench that is dropped here has few parts to the prover.
+fn generate_by<R: ExposableDefects, P: Choice + Drop, T: Watch>(
+    alloc: Global,
+    chip: &Chip,
+    tables: &CoreTables<'_>,
+    links: &CoreLinks<'_>,
+    rows: &R,
+    choice: P,
+    budget: u32,
+    watch: &mut T,
+) -> Result<Generated, GenerateFault>
+    requires tables { AreTablesOf chip.now tables.now }
+    requires links { AreLinksOf tables.now.chip links.now }
+    requires rows { R.chip rows.now ≡ core_of tables.now.chip }
+
+    ensures good { IfOk result
+        (λ made. IsGood (task_of chip.now budget) made.pairs made.aims made.verdicts) }
+    ensures cause { IfErr result (IsCause (task_of chip.now budget)) }
+{
     let mut bench = core_bench(alloc, tables, links, rows, choice, budget)?;
     let made = generate_few(alloc, &mut bench, watch);
     drop(bench);

@@ -25,11 +25,7 @@ use std::alloc::Global;
 
 /// The names of what a fault carries, as they stand in the netlist; an empty text where it carries none. Those
 /// of an instance's cell are known to the library: `refused_place` tells them.
-pub fn place_of(
-    alloc: Global,
-    netlist: &RawNetlist,
-    fault: &ChipFault,
-) -> Result<Text, NoMemory>
+pub fn place_of(alloc: Global, netlist: &RawNetlist, fault: &ChipFault) -> Result<Text, NoMemory>
     requires netlist { IsNetlist netlist.now }
     requires of_netlist { IsOfNetlist fault.now }
     ensures { IfOk result (λ text. (library : List Named) (scan : List ScanRow)

@@ -4,7 +4,7 @@ use Rattle.ca_credit.specs.Defects.{Task}
 use Rattle.ca_credit.specs.Good.{IsGood}
 use Rattle.ca_generate.specs.GenerateFault.{IsCause}
 use Rattle.ca_core_bench.proofs.TaskLemmas.{task_is}
-use Rattle.ca_core_bench.proofs.generate.generate_over.Goals as goal
+use Rattle.ca_core_bench.proofs.generate.generate_by.Goals as goal
 
 pub returns-clause-good : goal.returns-clause-good
 returns-clause-good g c =
