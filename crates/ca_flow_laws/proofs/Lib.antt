@@ -21,3 +21,4 @@ pub mod ChainLemmas
 pub mod GivenLemmas
 pub mod NeitherLemmas
 pub mod NameLemmas
+pub mod PatternLemmas

@@ -2,3 +2,4 @@
 pub mod Same
 pub mod Told
 pub mod Laws
+pub mod Patterns
