@@ -102,8 +102,8 @@ fn names(text: &mut Text, names: &[Text]) -> Result<(), NoMemory> {
     text.append(b"\n")
 }
 
-// Appends the names of the outputs. Here and below each thing is let go at one place, since that is dear to
-// prove.
+// Appends the names of the outputs. Each value is dropped in one place here and below: more places are slow
+// to prove.
 fn end_names(alloc: Global, text: &mut Text, chip: &Chip) -> Result<(), NoMemory> {
     let list = output_names(alloc, chip)?;
     let is_appended = names(text, list.as_slice());
@@ -207,7 +207,7 @@ fn scan_instance(text: &mut Text, chip: &Chip, u: InstanceId) -> Result<(), NoMe
     text.append(b"\n")
 }
 
-// Appends all that the calls of a chip tell.
+// Appends all that the calls of a chip answer.
 fn describe(alloc: Global, text: &mut Text, chip: &Chip) -> Result<(), NoMemory> {
     counts(text, chip)?;
     ports(text, chip)?;
@@ -222,7 +222,7 @@ fn describe(alloc: Global, text: &mut Text, chip: &Chip) -> Result<(), NoMemory>
     Ok(())
 }
 
-/// All that the calls of a chip tell, a line for each port bit, net and instance.
+/// All that the calls of a chip answer, a line for each port bit, net and instance.
 pub(crate) fn described(alloc: Global, chip: &Chip) -> Result<Text, NoMemory> {
     let mut text = Text::new(alloc);
     match describe(alloc, &mut text, chip) {

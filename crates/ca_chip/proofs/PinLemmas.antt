@@ -1,4 +1,4 @@
--- The first pins that are told are the first.
+-- The first pins that are reported are the first.
 use Rattle.std.proofs.Common.{◌≡◌, ℕ, zero, suc, ◌+◌, ◌<◌, ◌≤◌, List, [], ◌∷◌, ◌++◌, Bool, true, false}
 use Rattle.std.proofs.Common.{length, map, refl, sym, ◌∙◌, ap, subst, arith, ◌||◌, true≢false, cond, get_or}
 use Rattle.std.proofs.Common.{inl, inr}
@@ -64,7 +64,7 @@ module _ (meaning : Meaning) where
   names : List (List ℕ)
   names = pin_names meaning
 
-  -- a stray pin behind the first connection
+  -- a stray pin after the first connection
   behind : (used : RawUse) (more : List RawUse) (k : ℕ) (pin : List ℕ) → HasStrayPin meaning more k pin
       → HasStrayPin meaning (used ∷ more) (suc k) pin
   behind used more k pin has = record { used = has.used; at = has.at; named = has.named; stray = has.stray }

@@ -147,7 +147,7 @@ module _ (bits : ℕ) where
           subst (Contains (joins_of bits (flat_map pairs_of raws))) pair.2 (to_joins (flat_map pairs_of raws) pair.0 pair.1);
     }
 
-    -- all joins of the spans are of so many wires
+    -- all joins of the spans are of this number of wires
     pub spans_within : (wires : ℕ) → bits + 1 < wires → All (IsJoinOf bits) (flat_map pairs_of raws) → All (IsSpanWithin wires) spans
     spans_within wires lt declared k d at = λ step within.
         let span = get_or spans k d in

@@ -41,8 +41,8 @@ impl RowCubes {
         })
     }
 
-    /// Finds the cubes of the rows of a cell with so many inputs. From each row as many places are let go as
-    /// can be, one after another: the first values first.
+    /// Finds the cubes of the rows of a cell with `inputs` inputs. From each row as many places are dropped
+    /// as possible, one after another: the first values first.
     pub(crate) fn find(&mut self, rows: &Rows, inputs: usize) {
         self.inputs = inputs;
         self.count = 0;

@@ -18,8 +18,8 @@ IsAscending rows = AllPairs IsBefore rows
 abbrev pub digit_value : ℕ → Trit
 digit_value digit = if digit == 0 then Zero else One
 
--- the vector of so many inputs that a number gives: its binary digits, of which the first input has the
--- highest
+-- the vector of this number of inputs that a number gives: its binary digits, of which the first input has
+-- the highest
 abbrev pub vector_of : ℕ → ℕ → List Trit
 vector_of zero number = []
 vector_of (suc after) number = digit_value (number / 2 ^ after % 2) ∷ vector_of after number

@@ -138,7 +138,7 @@ pub record AreMarks (earliest wires : List ℕ) (used : List Bool) : Type 0 wher
       → (slice_index_or used w false ≡ true)
       ↔ ((wire : ℕ) × Contains wires wire × (slice_index earliest wire ≡ w))
 
--- the number that is told of a wire
+-- the number that is given for a wire
 abbrev pub number_of : List ℕ → ℕ → ℕ
 number_of numbers wire = slice_index numbers wire
 

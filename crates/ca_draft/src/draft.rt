@@ -92,8 +92,8 @@ fn numbering_of(
     Ok(table)
 }
 
-/// The draft of a netlist whose instances keep their rules. A netlist with 2^32 wires or port bits is told as
-/// one for which there is no memory.
+/// The draft of a netlist whose instances keep their rules. Also answers out of memory for a netlist with
+/// 2^32 wires or port bits.
 pub fn draft_of(
     alloc: Global,
     library: Library,

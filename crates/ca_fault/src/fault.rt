@@ -36,7 +36,7 @@ pub enum Fault {
         row: usize,
     },
     /// The gate netlist breaks a rule of linking, the first of those that it breaks. A rule that an
-    /// instance's cell breaks is told as `Cell`, a limit as `Limit`, and want of memory as `NoMemory`. The
+    /// instance's cell breaks is reported as `Cell`, a limit as `Limit`, and out of memory as `NoMemory`. The
     /// place names what the rule carries, and is empty where there was no memory for it.
     Chip {
         rule: ChipFault,
@@ -75,7 +75,7 @@ pub enum Fault {
     Order {
         line: usize,
     },
-    /// A file has more bytes than it may have. So many were taken of it.
+    /// A file has more bytes than it may have. That many were taken.
     TooLong {
         name: Text,
         taken: usize,

@@ -71,7 +71,7 @@ full_rules = record {
 abbrev pub tied_code : List Token
 tied_code = Branch 0 false ∷ Branch 1 false ∷ Leaf ∷ Leaf ∷ Branch 1 false ∷ Leaf ∷ Leaf ∷ []
 
--- behind the tokens the reading stands at the pair
+-- after the tokens the reading is at the pair
 abbrev pub StandsAt : List Token → List Trit → Type 0
 StandsAt code pair = IsFrontBy full_rules tied_chip code pair
 

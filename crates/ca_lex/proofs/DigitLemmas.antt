@@ -37,7 +37,7 @@ pow_le number more within =
     let is : number + (more - number) ≡ more = omega arith in
     rw is at (pow_up number (more - number))
 
--- one more digit behind a number
+-- one more digit after a number
 pub digit_behind : (value number places byte : ℕ) → value < (number + 1) * 10 ^ places → byte ≤ 9 → value * 10 + byte < (number + 1) * 10 ^ (places + 1)
 digit_behind value number places byte below digit =
     let is : (number + 1) * 10 ^ (places + 1) ≡ (number + 1) * 10 ^ places * 10 = ap (λ count. (number + 1) * count) (pow_more 10 places) ∙ sym (mul_assoc (number + 1) (10 ^ places) 10) in

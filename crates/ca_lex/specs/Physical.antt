@@ -48,6 +48,6 @@ physical_at (byte ∷ more) =
     (if is_pin_info (byte ∷ more) then PinInfo (without_comment (byte ∷ more)) else Nothing)
     else (if byte == 43 then Continuation (without_comment more) else card_of (without_comment (byte ∷ more)))
 
--- what a line is, which the bytes behind its blanks decide
+-- what a line is, which the bytes after its blanks decide
 abbrev pub physical_of : List ℕ → Physical
 physical_of line = physical_at (drop (prefix_len is_blank line) line)

@@ -15,7 +15,7 @@ place_of name names = position (bytes_eq name) names
 abbrev pub with_name : List ℕ → List (List ℕ) → List (List ℕ)
 with_name name names = if has_name name names then names else names ++ name ∷ []
 
--- the place of a name among the names with it: where it stands, or behind them if it is new
+-- the place of a name among the names with it: where it is, or after them if it is new
 abbrev pub place_with : List ℕ → List (List ℕ) → ℕ
 place_with name names = position_or_len (bytes_eq name) names
 

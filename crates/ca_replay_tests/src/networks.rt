@@ -101,7 +101,7 @@ pub(crate) fn inputs_of(alloc: Global, net: &FlatNet) -> Result<List<NodeId>, No
     Ok(inputs)
 }
 
-// The vector of so many nodes with these values at the first of them, and X at the others.
+// The vector of `nodes` nodes with these values at the first of them, and X at the others.
 pub(crate) fn vector(alloc: Global, nodes: usize, values: &[Trit]) -> Result<State, NoMemory>
     ensures { IfOk result (λ vector. length vector ≡ nodes) }
 {

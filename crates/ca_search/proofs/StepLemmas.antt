@@ -156,7 +156,7 @@ abbrev pub IsLeftAt : Bool → Judged → List Token → List Decision → ℕ �
 IsLeftAt true new code decisions branches budget = Stands new code decisions branches budget
 IsLeftAt false new code decisions branches budget = IsWholeBy (rules_for new.chip new.aim) new.chip code
 
--- a leaf, and the turn behind it
+-- a leaf, and the turn after it
 left_at : (b : Bool) (old : Judged) (pair : List Trit) (code : List Token) (ds after : List Decision)
     (branches budget : ℕ) → Stands old code ds branches budget → MayLeaveHere old
     → IsTurn b old (with_pair old pair) ds after → length after ≤ length ds

@@ -1,4 +1,4 @@
--- What a search is told of the partial pair in hand.
+-- What a search learns about the partial pair in hand.
 use Rattle.std.specs.Prelude.{ℕ, ◌≡◌, List, Option, Some, None}
 use Rattle.ca_net.specs.declared.trit.Trit.{Trit}
 use Rattle.ca_flat.specs.declared.chip_defect.ChipDefect.{ChipDefect}

@@ -54,7 +54,7 @@ rung_at rungs u lt = elim (slice_get_cases rungs u).1 [
   | inr past ↦ absurd (let behind = past.0 in omega arith)
 ]
 
--- the place of an instance is behind its number
+-- the place of an instance is one after its number
 pub place_here : (rungs : List Rung) (u : ℕ) → u < length rungs → place_in (places_of rungs) u ≡ 1 + u
 place_here rungs u lt = get_or-range_with_len 1 (length rungs) u 0 lt
 

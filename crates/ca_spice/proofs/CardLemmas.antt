@@ -88,7 +88,7 @@ net_name-at nets place it = ap (λ (found : Option (List ℕ)). unwrap_or found 
 pub net_named : (nets : List (List ℕ)) (place : ℕ) → IsNetAt nets place → IsNameWord (net_name nets place)
 net_named nets place it = subst IsNameWord (sym (net_name-at nets place it)) it.named
 
--- the names with one more are these and maybe one behind them
+-- the names with one more are these and maybe one after them
 pub record Extends (names longer : List (List ℕ)) : Type 0 where
   pub more : List (List ℕ)
   pub is : longer ≡ names ++ more
@@ -137,7 +137,7 @@ abbrev pub card_params : RawDevice → List (List ℕ)
 card_params device =
     codes "W" ∷ codes "=" ∷ value_word device.width.0 ∷ codes "L" ∷ codes "=" ∷ value_word device.length.0 ∷ []
 
--- the words that a written card reads as, behind the device's name
+-- the words that a written card reads as, after the device's name
 abbrev pub card_words : List (List ℕ) → List ℕ → RawDevice → List (List ℕ)
 card_words nets bulk device =
     net_name nets device.drain ∷ net_name nets device.gate ∷ net_name nets device.source ∷ bulk ∷ model_of device.kind ∷ card_params device

@@ -53,7 +53,7 @@ not_sign byte is = by (is_blank byte) (eqb byte 61) is
     by true sign is = absurd cc
     by false sign is = is
 
--- a space parts the words before it from those behind it
+-- a space parts the words before it from those after it
 pub words_of-spaced : (text more : List ℕ) → words_of (text ++ 32 ∷ more) ≡ words_of text ++ words_of more
 unfolding words_of
 words_of-spaced [] more = refl

@@ -40,7 +40,7 @@ abbrev pub are_sound : List (List ℕ) → Bool
 are_sound params = are_params params && not (nat_lt 1 (count_of (codes "W") params))
     && not (nat_lt 1 (count_of (codes "L") params))
 
--- the kind of a device, which its model's first letter tells
+-- the kind of a device, which its model's first letter gives
 unfoldable pub kind_of : List ℕ → Option DeviceKind
 kind_of [] = None
 kind_of (letter ∷ model) = if letter == 78 then Some kind.N else (if letter == 80 then Some kind.P else None)
@@ -51,7 +51,7 @@ has_gate kind.N = true
 has_gate kind.P = true
 has_gate kind.D = false
 
--- what the words of an M card say behind the device's name; the bulk is not used
+-- what the words of an M card say after the device's name; the bulk is not used
 pub record Wiring : Type 0 where
   pub drain : List ℕ
   pub gate : List ℕ

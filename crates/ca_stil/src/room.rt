@@ -56,7 +56,7 @@ fn pair_room(chip: &StilChip, most: usize) -> usize {
         .saturating_add(PAIR)
 }
 
-/// How many bytes the text of so many pairs has at most; `most` is the number of cells of the longest chain.
+/// How many bytes the text of `pairs` pairs has at most; `most` is the number of cells of the longest chain.
 pub(crate) fn room_of(chip: &StilChip, most: usize, pairs: usize) -> usize {
     let chains = chip.chains.as_slice();
     let blocks = ends_room(chains)

@@ -29,7 +29,7 @@ pub data Place : Type 0 where
   InGroup : List ℕ → Place
   InMember : List ℕ → Place
 
--- where the reading stands behind a byte that begins something, and the token that such a byte is
+-- where the reading is after a byte that begins something, and the token that such a byte is
 abbrev pub begun : ℕ → Place
 begun byte =
     if is_inside byte then InWord (byte ∷ [])
@@ -38,7 +38,7 @@ begun byte =
 abbrev pub alone : ℕ → List Token
 alone byte = if is_mark byte then (byte ∷ []) ∷ [] else []
 
--- where the reading stands behind the next byte
+-- where the reading is after the next byte
 abbrev pub next_place : Place → ℕ → Place
 next_place Between byte = begun byte
 next_place (InWord text) byte = if is_inside byte then InWord (text ++ byte ∷ []) else begun byte

@@ -148,7 +148,7 @@ pattern_begins scan = chains_end scan
     ++ codes "PatternExec {\n  PatternBurst \"_burst_\";\n}\n")
     <> macro scan <> fixed (codes "Pattern \"_pattern_\" {\n  W \"_wft_\";\n")
 
--- what stands behind the groups: the numbers of cells of the chains, and the pairs
+-- what follows the groups: the numbers of cells of the chains, and the pairs
 abbrev pub Rest : Type 0
 Rest = List (List ℕ) × List PairValues
 
@@ -161,7 +161,7 @@ rest_form inputs outputs scan =
 abbrev pub Stil : Type 0
 Stil = List Signal × (Option Names × (Option Names × (Option Scan × Rest)))
 
--- a group is told by its key, and may be left out; it is possible where some signal can be in it
+-- a group is known by its key, and may be left out; it is possible where some signal can be in it
 abbrev pub scan_part : List Signal → Option Names → Option Names → Form (Option Scan × Rest)
 scan_part signals inputs outputs =
     maybe (has_some true signals && has_some false signals) key_controls (scan_form signals)

@@ -42,7 +42,7 @@ impl Model for Shelf {
 }
 
 impl Shelf {
-    // A shelf of these files, with room for so many bytes and files more.
+    // A shelf of these files, with room for `room` more bytes and `creates` more files.
     pub(crate) fn holding(
         alloc: Global,
         files: &[File],

@@ -202,7 +202,7 @@ instance_over it = refl
 abbrev pub hand_of : Instance → Hand → Hand
 hand_of here hand = record hand { cell = upper_case here.cell; name = here.name; uses = [] }
 
--- what is in hand behind an instance
+-- what is in hand after an instance
 abbrev pub emptied : Hand → Hand
 emptied hand = record hand { cell = []; name = []; uses = [] }
 

@@ -39,7 +39,7 @@ seen_instance whole it = record {
   uses = map (seen_use whole) it.connections;
 }
 
--- the reading at a place, behind these declarations, `assign`s and instances
+-- the reading at a place, after these declarations, `assign`s and instances
 abbrev pub state : List Declared → List (List ℕ) → List Declared → List Assign → List Instance → Place → Hand → Reading
 state whole ports declared assigned instances at hand = record {
   place = at;

@@ -77,7 +77,7 @@ fn number_of(word: &str, most: usize) -> Result<usize, Stop> {
     }
 }
 
-// So many copies of a piece.
+// A number of copies of a piece.
 fn add_copies(alloc: Global, setup: &mut Setup, rest: &str) -> Result<(), Stop> {
     let (word, letters) = rest.split_once(' ').ok_or(Stop::Form)?;
     let count = number_of(word, MOST_COPIES)?;
@@ -89,7 +89,7 @@ fn add_copies(alloc: Global, setup: &mut Setup, rest: &str) -> Result<(), Stop> 
     Ok(setup.append(copies.as_bytes())?)
 }
 
-// Copies of a letter, up to so many bytes.
+// Copies of a letter, up to a number of bytes.
 fn fill(alloc: Global, setup: &mut Setup, rest: &str) -> Result<(), Stop> {
     let (word, letters) = rest.split_once(' ').ok_or(Stop::Form)?;
     let size = number_of(word, MOST_FILLED)?;

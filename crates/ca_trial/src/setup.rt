@@ -96,7 +96,7 @@ impl Setup {
         }
     }
 
-    /// Appends copies of a letter to the text of the last file, until it has so many bytes.
+    /// Appends copies of a letter to the text of the last file, until it has `size` bytes.
     pub(crate) fn fill(&mut self, size: usize, letter: u8) -> Result<(), NoMemory> {
         match self.files.last_mut() {
             Some(file) => fill_text(&mut file.text, size, letter),
@@ -147,7 +147,7 @@ impl Setup {
     }
 }
 
-// Appends copies of a letter, until there are so many bytes.
+// Appends copies of a letter, until there are `size` bytes.
 fn fill_text(text: &mut Text, size: usize, letter: u8) -> Result<(), NoMemory> {
     for _ in text.len()..size {
         text.push(letter)?;

@@ -40,7 +40,7 @@ pub record EndsEarly (text : List ℕ) (line : ℕ) (kind : VerilogKind) : Type 
   pub same_kind : kind ≡ Syntax
 
 -- the first fault of a text: a token that can't follow those before it, a fault that no token begins with
--- behind tokens that were read, or an end that comes too early
+-- after tokens that were read, or an end that comes too early
 abbrev pub IsFirstFaulty : List ℕ → ℕ → VerilogKind → Type 0
 IsFirstFaulty text line kind =
     BreaksRule text line kind ⊎ (IsFlawed text line kind ⊎ EndsEarly text line kind)

@@ -123,7 +123,7 @@ abbrev pub is_vector : List Bus → Operand → Bool
 is_vector buses (Whole place) = is_some (range_at place buses)
 is_vector buses _ = false
 
--- the `[` behind an operand
+-- the `[` after an operand
 abbrev pub open_index : Reading → Step
 open_index it = unless (not (is_vector it.buses it.hand.operand)) BadRange (Ok it)
 

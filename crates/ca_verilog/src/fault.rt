@@ -30,7 +30,7 @@ pub enum VerilogKind {
 pub enum VerilogFault {
     /// The line of the first faulty token, counted from 1, with the first rule that it breaks.
     At { line: usize, kind: VerilogKind },
-    /// The text has a reading, with so many bits.
+    /// The text has a reading, with `count` bits.
     TooManyNets { count: usize },
     /// There was no memory.
     NoMemory,

@@ -75,7 +75,7 @@ pub enum Place {
     Port,
     /// `,` or `)`.
     PortEnd,
-    /// `;` behind the header.
+    /// `;` after the header.
     HeaderEnd,
     /// An item or `endmodule`.
     Item,
@@ -115,13 +115,13 @@ pub enum Place {
     NextPin,
     /// The name of a pin.
     PinName,
-    /// `(` behind it.
+    /// `(` after it.
     PinOpen,
     /// What is on the pin, or `)`.
     PinValue,
     /// `,` or `)`.
     PinEnd,
-    /// `;` behind the pins.
+    /// `;` after the pins.
     InstanceEnd,
 }
 
@@ -256,7 +256,7 @@ fn port_end_row(lexeme: Lexeme) -> Result<Row, VerilogKind>
     }
 }
 
-// The `;` behind the header.
+// The `;` after the header.
 fn header_end_row(lexeme: Lexeme) -> Result<Row, VerilogKind>
     ensures { result ≡ header_end_row lexeme }
 {

@@ -1,4 +1,4 @@
-//! How far long work is, told while it goes on.
+//! How far long work is, reported while it goes on.
 
 use ca_flow::Watch;
 use std::io::{Stderr, Write};
