@@ -98,7 +98,7 @@ named_at entries i key entry there =
     slice_get-map (λ (kept : Vec ℕ Global × Entry). record { name = kept.0.items; entry = kept.1 }) entries i
     ∙ ap (option_map (λ (kept : Vec ℕ Global × Entry). record { name = kept.0.items; entry = kept.1 })) there
 
--- a place at which the entry of a name stands is its place
+-- a place that has the entry of a name is its place
 pub place_found : (entries : List (Vec ℕ Global × Entry)) (library : List Named) (name : List ℕ) (place : ℕ)
     (key : Vec ℕ Global) (entry : Entry) → named_entries entries ≡ library
     → slice_get entries place ≡ Some (key, entry) → entry_of library name ≡ Some entry

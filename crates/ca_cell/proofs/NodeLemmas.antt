@@ -25,7 +25,7 @@ use Rattle.ca_net.specs.declared.node.NodeKind.{NodeKind}
 use Rattle.ca_cell.specs.Nodes.{IsInputPin, IsOffInputPins, GatesOnly, free_count}
 use Rattle.ca_cell.proofs.CircuitLemmas.{all_but, few_nodes, length-nodes_of}
 
--- a pin with a role, with this number of its role before it
+-- a pin with a role, with this many its role before it
 pub record HasPin (is_role : Role → Bool) (pins : List RawPin) (before : ℕ) : Type 0 where
   pub place : ℕ
   pub pin : RawPin
@@ -45,7 +45,7 @@ one_on is_role first pins before found = record {
       ∙ ap (λ n. cond (is_role first.role) 1 0 + n) found.count;
 }
 
--- where more pins have a role, one has it with this number before it
+-- where more pins have a role, one has it with this many before it
 pub has_pin : (is_role : Role → Bool) (pins : List RawPin) (before : ℕ) → before < role_count is_role pins → HasPin is_role pins before
 has_pin is_role [] before more = absurd (omega arith)
 has_pin is_role (first ∷ pins) before more =

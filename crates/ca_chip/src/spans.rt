@@ -65,7 +65,7 @@ fn is_moving(bit: RawBit) -> bool
     matches!(bit, RawBit::Bit(_))
 }
 
-// A span over wires, where this number of bits are declared.
+// A span over wires, where this many bits are declared.
 fn span_of(bits: u32, raw: &RawSpan) -> Span
     requires { bits + 1 < 2 ^ 32 }
     ensures { result ≡ span_of bits raw.now }

@@ -49,7 +49,7 @@ pub record IsGateDefect (chip : Chip) (defect : ChipDefect) : Type 0 where
   pub is_defect : IsDefectIn (core_of chip) defect
   pub is_gate : IsLibrary chip defect.instance
 
--- the output that the verdict credits, if it does, is one of this number of outputs
+-- the output that the verdict credits, if it does, is one of this many outputs
 abbrev pub IsVerdictWithin : ℕ → Verdict → Type 0
 IsVerdictWithin outputs (Credited pair output) = output < outputs
 IsVerdictWithin outputs Unexposable = Unit {0}

@@ -1,6 +1,6 @@
--- The core of a linked chip, which the flat network stands on: its nets off the scan path, numbered anew, and
--- an instance for each of the chip's. A scan instance has a cell without devices, whose one pin drives the
--- net of the inverted output, if it has one.
+-- The core of a linked chip, which the flat network is built on: its nets off the scan path, numbered anew,
+-- and an instance for each of the chip's. A scan instance has a cell without devices, whose one pin drives
+-- the net of the inverted output, if it has one.
 use Rattle.std.specs.Prelude.{ℕ, zero, suc, ◌+◌, Bool, true, false, List, [], ◌∷◌, ◌++◌, map, option_to_list}
 use Rattle.std.specs.Prelude.{Option, Some, None, slice_get, if◌then◌else◌}
 use Rattle.std.specs.List.{list_any, position_or_len}
@@ -47,7 +47,7 @@ core_kinds chip (suc net) =
 abbrev pub bare_pin : Role → RawPin
 bare_pin role = record { name = []; role = role }
 
--- a cell without devices: power, ground, and this number of output pins
+-- a cell without devices: power, ground, and this many output pins
 abbrev pub empty_cell : Option ℕ → RawCell
 empty_cell None = record { pins = bare_pin Power ∷ bare_pin Ground ∷ []; nets = [] ∷ [] ∷ []; devices = [] }
 empty_cell (Some net) = record {

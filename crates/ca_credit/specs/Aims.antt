@@ -41,17 +41,17 @@ pub record AimsAtSuspects (task : Task) (pair : List Bool) (table : List (Option
   pub are : HaveAmong (IsSuspectAt task pair table) (length table) suspects
   pub few : after ≤ before + suspects + 1
 
--- the bits after this number of pairs of a list, from this place on: those of the last one, or those before
+-- the bits after this many pairs of a list, from this place on: those of the last one, or those before
 abbrev pub bits_after : List (List Bool) → ℕ → ℕ → List Trit → List Trit
 bits_after pairs from zero before = before
 bits_after pairs from (suc count) before = trits_of (slice_index_or pairs (from + count) [])
 
--- what is aimed at after this number of pairs: nothing, or where there is no pair what was before
+-- what is aimed at after this many pairs: nothing, or where there is no pair what was before
 abbrev pub aimed_after : ℕ → Option ChipDefect → Option ChipDefect
 aimed_after zero before = before
 aimed_after (suc count) before = None
 
--- how often one may aim for a number of pairs of a list, from this place on, which are credited one after
+-- how often one may aim for this many pairs of a list, from this place on, which are credited one after
 -- another: for each of them once more often than there are suspect defects, by the table that it meets
 pub data MayAimOver (task : Task) (pairs : List (List Bool)) (from : ℕ) (old : List (Option Verdict))
     : ℕ → List (Option Verdict) → ℕ → Type 0 where

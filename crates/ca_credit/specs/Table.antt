@@ -72,7 +72,7 @@ pub record CreditsUpTo (task : Task) (pair : List Bool) (number count : ℕ)
 abbrev pub CreditsPair : Task → List Bool → ℕ → List (Option Verdict) → List (Option Verdict) → Type 0
 CreditsPair task pair number old new = CreditsUpTo task pair number (length old) old new
 
--- what a number of pairs of a list make of the table, from this place on, one after another, each with its
+-- what this many pairs of a list make of the table, from this place on, one after another, each with its
 -- place as its number
 pub data CreditsBlock (task : Task) (pairs : List (List Bool)) (from : ℕ) (old : List (Option Verdict))
     : ℕ → List (Option Verdict) → Type 0 where

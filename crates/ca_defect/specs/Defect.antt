@@ -80,7 +80,7 @@ circuit_with net defect = record {
       (length net.nodes) defect;
 }
 
--- of a cell with this number of input pins, the node n is one: they follow power and ground
+-- of a cell with this many input pins, the node n is one: they follow power and ground
 abbrev pub is_pin : ℕ → ℕ → Bool
 is_pin inputs n = nat_le 2 n && nat_lt n (2 + inputs)
 
@@ -90,7 +90,7 @@ abbrev pub is_short : ℕ → ℕ → ℕ → Bool
 is_short inputs low high =
     nat_lt low high && not (is_pin inputs low) && not (is_pin inputs high) && not (low == 0 && high == 1)
 
--- the defect is one of a cell with this network and this number of input pins
+-- the defect is one of a cell with this network and this many input pins
 abbrev pub IsDefect : Circuit → ℕ → Defect → Type 0
 IsDefect net inputs (OpenDrain opened) = opened.0 < length net.devices
 IsDefect net inputs (OpenSource opened) = opened.0 < length net.devices

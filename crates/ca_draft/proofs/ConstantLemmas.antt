@@ -82,7 +82,7 @@ any_passed p (first ∷ xs) is = by (λ e. any_passed p xs e) (p first) refl is
 abbrev pub sides_of : Join → List ℕ
 sides_of join = join.left ∷ join.right ∷ []
 
--- the wire of a constant, where this number of bits are declared
+-- the wire of a constant, where this many bits are declared
 abbrev pub constant_at : ℕ → Bool → ℕ
 constant_at bits false = bits
 constant_at bits true = bits + 1

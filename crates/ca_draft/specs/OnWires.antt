@@ -1,5 +1,5 @@
--- Instances and port bits before the nets are numbered: where a net will stand, there stands the number of
--- the wire. Only the proofs of the code cite this.
+-- Instances and port bits before the nets are numbered: where a net will be, the number of the wire is. Only
+-- the proofs of the code cite this.
 use Rattle.std.specs.Prelude.{ℕ, ◌+◌, ◌≡◌, ◌<◌, ◌^◌, ◌↔◌, ◌⊎◌, ◌||◌, ◌&&◌, Bool, IsTrue, true, false, List}
 use Rattle.std.specs.Prelude.{[], ◌∷◌, ◌++◌, map, length, drop, take, Option, Some, None, slice_get}
 use Rattle.std.specs.Prelude.{slice_index, slice_index_or, nat_lt, if◌then◌else◌}

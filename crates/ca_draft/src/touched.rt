@@ -122,7 +122,7 @@ pub(crate) struct Touched {
     pub one: bool,
 }
 
-/// The wires that nets stand on, where this number of bits are declared.
+/// The wires that nets stand on, where this many bits are declared.
 pub(crate) fn touched_of(
     alloc: Global,
     bits: u32,

@@ -80,8 +80,8 @@ pub enum Fault {
         name: Text,
         taken: usize,
     },
-    /// As many pairs are listed as there may be, and one more was found. It stands last. Each has, as its
-    /// aim, the place of the defect for which it was found.
+    /// As many pairs are listed as there may be, and one more was found. It comes last. Each has, as its aim,
+    /// the place of the defect for which it was found.
     TooManyPairs {
         pairs: Pairs,
         aims: List<u32>,

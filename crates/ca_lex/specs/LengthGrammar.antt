@@ -19,8 +19,8 @@ pub record AreOneOrTwoDigits (text : List ℕ) : Type 0 where
   pub some : 1 ≤ length text
   pub few : length text ≤ 2
 
--- nothing, or E, an optional sign and one or two digits: the point moves these numbers of places to the right
--- and to the left
+-- nothing, or E, an optional sign and one or two digits: the point moves this many places to the right and to
+-- the left
 pub data IsExponent : List ℕ → ℕ → ℕ → Type 0 where
   NoExponent : IsExponent [] 0 0
   Unsigned : (letter : ℕ) (digits : List ℕ) → is_e letter ≡ true → AreOneOrTwoDigits digits
@@ -30,8 +30,8 @@ pub data IsExponent : List ℕ → ℕ → ℕ → Type 0 where
   Minus : (letter : ℕ) (digits : List ℕ) → is_e letter ≡ true → AreOneOrTwoDigits digits
       → IsExponent (letter ∷ 45 ∷ digits) 0 (number_of digits)
 
--- nothing, or one of the letters F, P, N, U and M, which one further M may follow: the point moves this
--- number of places to the left
+-- nothing, or one of the letters F, P, N, U and M, which one further M may follow: the point moves this many
+-- places to the left
 pub data IsSuffix : List ℕ → ℕ → Type 0 where
   NoSuffix : IsSuffix [] 0
   OneLetter : (letter places : ℕ) → places_of letter ≡ Some places → IsSuffix (letter ∷ []) places

@@ -239,7 +239,7 @@ fn moved_right(number: u128, places: u32) -> Option<Length>
     }
 }
 
-/// The number with its point moved to the left by this number of places, without what then follows it.
+/// The number with its point moved to the left by this many places, without what then follows it.
 fn moved_left(number: u128, places: u32) -> Option<Length>
     requires { number < 10 ^ 32 }
     ensures { option_map (λ found. found.0) result ≡ in_range (number / 10 ^ places) }

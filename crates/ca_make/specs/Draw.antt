@@ -12,8 +12,8 @@ next_state state = (state * 6364136223846793005 + 1442695040888963407) % 2 ^ 64
 unfoldable pub drawn : ℕ → ℕ
 drawn state = state / 2 ^ 33
 
--- the place that the next draw takes among this number of candidates: one of the last twelve, counted from
--- the back
+-- the place that the next draw takes among this many candidates: one of the last twelve, counted from the
+-- back
 abbrev pub place_from : ℕ → ℕ → ℕ
 place_from state candidates = candidates - 1 - drawn (next_state state) % min 12 candidates
 
@@ -35,7 +35,7 @@ state_behind (gate.Inv a) state = next_state (next_state state)
 state_behind (gate.Nand2 a b) state = next_state (next_state (next_state state))
 state_behind (gate.Nor2 a b) state = next_state (next_state (next_state state))
 
--- this number of gates, drawn one after another; the output of each is a candidate for those after it
+-- this many gates, drawn one after another; the output of each is a candidate for those after it
 abbrev pub gates_from : ℕ → ℕ → ℕ → List Gate
 gates_from state candidates zero = []
 gates_from state candidates (suc more) =

@@ -59,7 +59,7 @@ instance_line k it =
 abbrev pub assign_line : ℕ → ℕ → List ℕ
 assign_line j k = numbered (codes "  assign o") j ++ (numbered (codes " = w") k ++ codes ";\n")
 
--- the header, with this number of chip outputs
+-- the header, with this many chip outputs
 unfoldable pub header_text : ℕ → List ℕ
 header_text outputs =
     codes "module gen(i0, i1, i2, i3, i4, i5, i6, i7" ++ (counted output_port outputs ++ codes ");\n")

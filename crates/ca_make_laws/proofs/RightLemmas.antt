@@ -40,7 +40,7 @@ use Rattle.ca_make_laws.proofs.FreshLemmas.{IsNew, names_new, other_letter, both
 use Rattle.ca_make_laws.proofs.FreshLemmas.{has_numbered}
 use Rattle.ca_make_laws.proofs.FreshLemmas.{has_first, has_second}
 
--- the names of the chip inputs, of a number of outputs, and of a number of wires
+-- the names of the chip inputs, of this many outputs, and of this many wires
 abbrev pub i_names : List (List ℕ)
 i_names = names_of (codes "i") INPUTS
 

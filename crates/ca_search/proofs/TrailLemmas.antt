@@ -121,7 +121,7 @@ pub front_of : (judged : Judged) (trail : Trail) → TrailStands judged trail
 front_of judged trail stands =
     record { later = still_later judged trail.decisions.items; reads = stands.stands.reads }
 
--- it is spent where all branches of the budget stand and one more might
+-- it is spent where all branches of the budget are there and one more could be
 pub spent_of : (judged : Judged) (trail : Trail) (bit : ℕ) → TrailStands judged trail → MayDecideHere judged bit
     → trail.branches ≡ trail.budget
     → IsSpentBy (rules_for judged.chip judged.aim) judged.chip trail.budget (tokens_of trail.numbers.items)

@@ -1,4 +1,4 @@
--- What only proofs of code cite: the decisions of a search, and how they stand to its code.
+-- What only proofs of code cite: the decisions of a search, and how they relate to its code.
 use Rattle.std.specs.Prelude.{ℕ, ◌≡◌, ◌<◌, ◌≤◌, Bool, true, false, not, cond, List, [], ◌∷◌, length}
 use Rattle.ca_net.specs.declared.trit.Trit.{Trit}
 use Rattle.ca_net.specs.declared.trit.Trit.TheVariants.{X}
@@ -62,7 +62,7 @@ pub record IsSameRoom (old new : Trail) : Type 0 where
   pub budget : new.budget ≡ old.budget
   pub bits : new.bits ≡ old.bits
 
--- what to do at a pair: stop where it is shown, leave it where a leaf may stand, or decide a bit
+-- what to do at a pair: stop where it is shown, leave it where a leaf is allowed, or decide a bit
 abbrev pub IsMove : Judged → Move → Type 0
 IsMove judged Stop = IsShownFor judged.chip judged.aim judged.pair
 IsMove judged Leave = MayLeaveHere judged

@@ -21,7 +21,7 @@ instances_from cells net (rung ∷ rungs) =
     record { cell = cell_of cells rung.cell; pins = rung.pins ++ net ∷ [] }
     ∷ instances_from cells (suc net) rungs
 
--- The chip: the first net has the constant 0, and those of the chip inputs follow. In all `inputs` nets are
+-- The chip: the first net has the constant 0, and those of the chip inputs follow. `inputs` nets in all are
 -- driven by no instance.
 abbrev pub ladder_of : ℕ → List RawCell → List Rung → Chip
 ladder_of inputs cells rungs = record {

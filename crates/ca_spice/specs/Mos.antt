@@ -20,7 +20,7 @@ are_params (name ∷ []) = false
 are_params (name ∷ sign ∷ []) = false
 are_params (name ∷ sign ∷ value ∷ more) = is_sign sign && are_params more
 
--- how often a parameter stands
+-- how often a parameter occurs
 unfoldable pub count_of : List ℕ → List (List ℕ) → ℕ
 count_of key [] = 0
 count_of key (name ∷ []) = 0
@@ -28,7 +28,7 @@ count_of key (name ∷ sign ∷ []) = 0
 count_of key (name ∷ sign ∷ value ∷ more) =
     if bytes_eq name key then 1 + count_of key more else count_of key more
 
--- the value of a parameter where it first stands
+-- the value of a parameter where it first occurs
 unfoldable pub value_of : List ℕ → List (List ℕ) → Option (List ℕ)
 value_of key [] = None
 value_of key (name ∷ []) = None

@@ -93,7 +93,7 @@ unfoldable pub longest : List Chain → ℕ
 longest [] = 0
 longest (chain ∷ chains) = max chain.cells (longest chains)
 
--- a member of a statement: a key, and a word for a number of values after a number of them that fill up
+-- a member of a statement: a key, and a word for the values used, after those that fill up
 pub record Member : Type 0 where
   pub key : Token
   pub used : ℕ

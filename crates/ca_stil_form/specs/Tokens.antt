@@ -16,7 +16,7 @@ is_mark byte = byte == 123 || byte == 125 || byte == 59 || byte == 58 || byte ==
 abbrev pub is_quote : ℕ → Bool
 is_quote byte = byte == 34 || byte == 39
 
--- any other byte stands in a word
+-- any other byte belongs to a word
 abbrev pub is_inside : ℕ → Bool
 is_inside byte = not (is_space byte || is_mark byte || is_quote byte)
 

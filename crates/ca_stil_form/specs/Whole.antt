@@ -123,7 +123,7 @@ abbrev pub chains_end : Option Scan → Piece
 chains_end None = no_piece
 chains_end (Some scan) = fixed (codes "}\n")
 
--- the groups end, and the timing stands up to the chains
+-- the groups end, and the timing follows up to the chains
 abbrev pub timing : Option Names → Option Names → Option Scan → Piece
 timing inputs outputs scan =
     token (codes "}") <> fixed
@@ -141,7 +141,7 @@ macro (Some scan) =
     fixed (codes "MacroDefs {\n  \"_shift_\" {\n    W \"_wft_\";\n    Shift {\n      V { \"_ctl_\"=1P1;")
     <> pieces shifted scan.1.0 <> pieces shifted scan.1.1 <> fixed (codes " }\n    }\n  }\n}\n")
 
--- the chains end, and all stands up to the first pair
+-- the chains end, and all else follows up to the first pair
 abbrev pub pattern_begins : Option Scan → Piece
 pattern_begins scan = chains_end scan
     <> fixed (codes "PatternBurst \"_burst_\" {\n  PatList { \"_pattern_\"; }\n}\n"

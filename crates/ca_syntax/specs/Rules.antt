@@ -11,7 +11,7 @@ use Rattle.ca_syntax.specs.Tree.{Operand, Assign, Instance, Item, Module, Declar
 use Rattle.ca_syntax.specs.Tree.{instances, ports_of}
 use Rattle.ca_syntax.specs.Names.{is_declared, is_directed, is_wire, range_of}
 
--- each of these is such after those before it
+-- each of these has the property, given those before it
 abbrev pub EachBehind : {T : Type 0} → (List T → T → Type 0) → List T → Type 0
 EachBehind {T} P list = (before : List T) (here : T) (after : List T) → list ≡ before ++ here ∷ after
     → P before here

@@ -236,7 +236,7 @@ star_here place (byte ∷ more) flaw star is =
 abbrev pub sound : Scan → Scan
 sound scan = record { tokens = scan.tokens; flaw = None }
 
--- what is read before the first fault, which stands so far on, is all that the bytes before it are
+-- what is read before the first fault, which is that far on, is all that the bytes before it are
 pub before_flaw : (begins_line : Bool) (passed place : ℕ) (text : List ℕ) (flaw : fault.Flaw)
     → (scan_from begins_line passed place text).flaw ≡ Some flaw
     → scan_from begins_line passed place (take (flaw.at - place) text) ≡ sound (scan_from begins_line passed place text)

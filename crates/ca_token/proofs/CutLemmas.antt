@@ -59,7 +59,7 @@ IsUncut cut (Skipped len) = len ≤ suc cut
 IsUncut cut (Found found len) = (len ≤ suc cut) × (found ≡ kind.Escaped → len ≤ cut)
 IsUncut cut (Broken shift fault) = ⊥
 
--- something that is skipped and has at least this number of bytes, or a fault
+-- something that is skipped and has at least this many bytes, or a fault
 abbrev IsRead : ℕ → Piece → Type 0
 IsRead least Blank = ⊥
 IsRead least (Skipped len) = least ≤ len

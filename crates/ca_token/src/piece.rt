@@ -20,9 +20,9 @@ use ca_lex::TokenKind;
 pub(crate) enum Piece {
     /// One byte of white space.
     Blank,
-    /// This number of bytes of a comment, an attribute or a directive.
+    /// This many bytes of a comment, an attribute or a directive.
     Skipped(usize),
-    /// A token of this number of bytes.
+    /// A token of this many bytes.
     Found(TokenKind, usize),
     /// A fault, with the place of the byte that breaks the rule, counted from the piece's first byte.
     Broken(usize, LexKind),

@@ -74,7 +74,7 @@ impl Setup {
         }
     }
 
-    /// What stands here is what all cases share.
+    /// This is what all cases share.
     pub(crate) fn end_head(&mut self) {
         self.head = self.files.len();
         self.head_limits = self.limits;

@@ -135,7 +135,7 @@ no_visit = record { instance = 0; done = 0 }
 abbrev pub instance_at : List Visit → ℕ → ℕ
 instance_at trail place = (slice_index_or trail place no_visit).instance
 
--- a number of instances of the trail from this place on, from the last back to the first
+-- this many instances of the trail from this place on, from the last back to the first
 unfoldable pub back_from : List Visit → ℕ → ℕ → List ℕ
 back_from trail place zero = []
 back_from trail place (suc more) = instance_at trail (place + more) ∷ back_from trail place more

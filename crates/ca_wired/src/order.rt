@@ -353,7 +353,7 @@ fn lowest_place(numbers: &[u32]) -> usize
     lowest
 }
 
-// The list from its lowest on, and then what stands before that.
+// The list from its lowest on, and then what is before that.
 fn turned(alloc: Global, numbers: &[u32]) -> Result<InstanceList, NoMemory>
     requires { 0 < length numbers.now }
     ensures { IfOk result (IsTurned numbers.now) }
