@@ -124,7 +124,7 @@ fn ends(alloc: Global, text: &mut Text, chip: &Chip) -> Result<(), NoMemory> {
     end_names(alloc, text, chip)
 }
 
-// Whether a library instance stands at its place in the order, and is found by its name.
+// Whether a library instance is at its place in the order, and is found by its name.
 fn is_found(chip: &Chip, u: InstanceId) -> bool
     requires { IsLibrary chip.now u.0 }
 {
@@ -167,8 +167,8 @@ fn places(text: &mut Text, chip: &Chip, u: InstanceId) -> Result<(), NoMemory>
     number(text, chip.place(u))
 }
 
-// Appends a library instance: its name and its cell's, the number of the cell, its place in the
-// order, the nets of its pins, and whether it stands there and is found by its name.
+// Appends a library instance: its name and its cell's, the number of the cell, its place in the order, the
+// nets of its pins, and whether it is there and is found by its name.
 fn instance(text: &mut Text, chip: &Chip, u: InstanceId) -> Result<(), NoMemory> {
     if u.0 as usize >= chip.parts() || !chip.is_library(u) {
         return text.append(b"none\n");

@@ -50,7 +50,7 @@ SFF r0 (.D(s), .Q(q0), .SI(si), .SO(t), .SE(se), .CK(ck), .HOLD(hold));
 SFF r1 (.D(c), .Q(q1), .QN(), .SI(t), .SO(so), .SE(se), .CK(ck), .HOLD(hold));
 assign y[0] = s; assign y[1] = c; endmodule";
 
-/// Buses with a descending and an ascending range, a constant, and gates that stand before their drivers.
+/// Buses with a descending and an ascending range, a constant, and gates that come before their drivers.
 const BUSES: &[u8] =
     b"module buses(a, b, z, y); input [2:1] a; input [0:1] b; output [1:0] z; output [3:4] y; wire w;
 NAND2 v (.A1(w), .A2(b[0]), .ZN(z[1]));

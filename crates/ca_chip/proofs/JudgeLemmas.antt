@@ -155,7 +155,7 @@ module _ (raw : RawNetlist) (library : List Named) (scan : List ScanRow) where
             let one : part.instance ≡ instance = cc in
             none part.tail rest (subst (λ (i : RawInstance). BreaksPart (means i) i.pins part.tail) one part.breaks)
 
-    -- nothing stands before the first place of an instance
+    -- nothing is before the first place of an instance
     none_first : (tail : List ℕ) → IsEarlier tail (0 ∷ []) → BreaksPart (means instance) instance.pins tail → ⊥
     none_first tail earlier (inl b) = by (subst (λ x. IsEarlier x (0 ∷ [])) b.at earlier)
       where

@@ -13,7 +13,7 @@ use std::alloc::Global;
 // The most rows of a cell.
 const MOST_ROWS: usize = 4096;
 
-// The places of the last pins stand below those of the first pins.
+// The places of the last pins are below those of the first pins.
 const FIRST_PINS: usize = 6;
 
 /// The widest cubes of the rows of a defect, in a room that is taken once.

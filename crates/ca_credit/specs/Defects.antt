@@ -11,7 +11,7 @@ pub record Task : Type 0 where
   pub defects : List ChipDefect
   pub budget : ℕ
 
--- the defect stands at this place of the list
+-- the defect is at this place of the list
 abbrev pub IsDefectAt : Task → ℕ → ChipDefect → Type 0
 IsDefectAt task place defect = slice_get task.defects place ≡ Some defect
 

@@ -39,8 +39,8 @@ pub record IsRightlyAborted (task : Task) (pairs : List (List Bool)) (defect : C
   pub undetected : NoneDetects task.chip defect pairs
   pub spent : IsSpentCode task.chip defect task.budget code
 
--- a spent code of which each leaf stands at a settled or a plainly ruled out pair, and no branch, nor its
--- next partial pair, at a plainly ruled out one
+-- a spent code of which each leaf is at a settled or a plainly ruled out pair, and no branch, nor its next
+-- partial pair, at a plainly ruled out one
 abbrev pub IsCheckedSpent : Chip → ChipDefect → ℕ → List Token → Type 0
 IsCheckedSpent chip defect budget code = IsSpentBy (search_rules chip defect) chip budget code
 

@@ -1,4 +1,4 @@
--- No defect stands twice in the list of a cell's defects.
+-- No defect occurs twice in the list of a cell's defects.
 use Rattle.std.proofs.Common.{◌≡◌, ℕ, zero, suc, ◌+◌, ◌-◌, ◌<◌, ◌≤◌, ◌⊎◌, inl, inr, List, Bool, true, false}
 use Rattle.std.proofs.Common.{[], ◌∷◌, ◌++◌, length, refl, sym, ◌∙◌, ap, subst, arith}
 use Rattle.std.specs.Prelude.{cond, Some, None, slice_get, option_map, Option}
@@ -21,11 +21,11 @@ use Rattle.ca_defect.specs.Laws.{DefectsDiffer}
 use Rattle.ca_defect.proofs.MemberLemmas.{all_listed}
 use Rattle.ca_defect.proofs.DifferLemmas.{one_defect}
 
--- a defect stands at one place
+-- a defect is at one place
 abbrev AreDistinct : List Defect → Type 0
 AreDistinct xs = (one other : ℕ) (x : Defect) → slice_get xs one ≡ Some x → slice_get xs other ≡ Some x → one ≡ other
 
--- where an entry of two lists stands
+-- where an entry of two lists is
 record IsBehind (xs ys : List Defect) (at : ℕ) (x : Defect) : Type 0 where
   place : ℕ
   there : slice_get ys place ≡ Some x

@@ -34,7 +34,7 @@ device_with (OpenGate opened) new place device = if place == opened.0 then gate_
 device_with (OpenPin pin) new place device = if device.gate.0 == pin.0 then gate_on new device else device
 device_with (Short low high) new place device = device
 
--- these devices, the first of which stands at a place of the list, with the defect
+-- these devices, the first of which is at a place of the list, with the defect
 abbrev pub changed_from : Defect → ℕ → ℕ → List Device → List Device
 changed_from defect new place [] = []
 changed_from defect new place (device ∷ more) = device_with defect new place device

@@ -40,7 +40,7 @@ in_all f (first ∷ xs) zero x n at has =
     Contains-append_left (f first) (flat_map f xs) n (subst (λ y. Contains (f y) n) (sym (some_inj first x at)) has)
 in_all f (first ∷ xs) (suc k) x n at has = Contains-append_right (f first) (flat_map f xs) n (in_all f xs k x n at has)
 
--- what stands in a list of values
+-- what is in a list of values
 pub record IsValueOf {X Y : Type 0} (f : X → Y) (xs : List X) (k : ℕ) (y : Y) : Type 0 where
   pub item : X
   pub at : slice_get xs k ≡ Some item

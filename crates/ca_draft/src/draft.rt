@@ -24,7 +24,7 @@ use ca_wired::{Draft, Part, PortBit};
 use std::alloc::Global;
 
 /// A netlist on its wires: the numbers of declared bits and of wires, the instances and port bits, and what
-/// nets stand on.
+/// nets are on.
 #[derive(Drop)]
 pub(crate) struct OnWires {
     pub bits: u32,
@@ -72,7 +72,7 @@ fn on_wires(
     })
 }
 
-// The nets that stand on these wires.
+// The nets that are on these wires.
 fn numbering_of(
     alloc: Global,
     bits: u32,

@@ -1,4 +1,4 @@
-//! Where the nodes of instances stand in the flat network.
+//! Where the nodes of instances are in the flat network.
 
 ghost use Rattle.std.specs.Prelude.{◌≡◌, ◌+◌, ◌^◌, ◌<◌, ◌≤◌, length, slice_get, IsSomeAnd, IsTrue};
 ghost use Rattle.ca_net.specs.Circuit.{NamesWithin};
@@ -19,7 +19,7 @@ use ca_flat::ChipDefect;
 use ca_net::{Device, Network, NodeId};
 use ca_wired::{Chip, InstanceId};
 
-/// An instance, and the flat nodes from which on its inner nodes and the new node of the defect stand.
+/// An instance, and the flat nodes from which on its inner nodes and the new node of the defect are.
 #[derive(Clone, Copy)]
 pub(crate) struct Spot {
     pub(crate) instance: InstanceId,

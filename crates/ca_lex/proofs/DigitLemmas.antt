@@ -14,7 +14,7 @@ use Rattle.ca_lex.specs.LengthViews.{AllDigits}
 pub digit_bounds : (byte : ℕ) → is_digit byte ≡ true → (48 ≤ byte) × (byte ≤ 57)
 digit_bounds byte passes = (grind (arith, nat_tests), grind (arith, nat_tests))
 
--- digits stand in front
+-- digits are in front
 pub front_digits : (text : List ℕ) → AllDigits (take (digits_len text) text)
 front_digits text count above =
     let below : count < digits_len text = omega (arith, length-take (digits_len text) text) in

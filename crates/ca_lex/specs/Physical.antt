@@ -10,12 +10,12 @@ unfoldable pub lines_of : List ℕ → List (List ℕ)
 lines_of [] = []
 lines_of (byte ∷ more) = if byte == 10 then [] ∷ lines_of more else with_byte byte (lines_of more)
 
--- how many bytes stand before the first line feed
+-- how many bytes are before the first line feed
 abbrev pub line_len : List ℕ → ℕ
 line_len text = prefix_len (λ byte. not (byte == 10)) text
 
--- how many bytes stand before the first `$` that begins a word, where `begins` says whether a word can begin
--- at once
+-- how many bytes are before the first `$` that begins a word, where `begins` says whether a word can begin at
+-- once
 abbrev pub code_len : Bool → List ℕ → ℕ
 code_len begins [] = 0
 code_len begins (byte ∷ more) = if begins && byte == 36 then 0 else 1 + code_len (ends_word byte) more

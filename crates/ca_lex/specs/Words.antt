@@ -11,7 +11,7 @@ is_blank byte = byte == 32 || byte == 9 || byte == 13
 abbrev pub ends_word : ℕ → Bool
 ends_word byte = is_blank byte || byte == 61
 
--- how many bytes stand before the first one that ends a word
+-- how many bytes are before the first one that ends a word
 abbrev pub word_len : List ℕ → ℕ
 word_len text = prefix_len (λ byte. not (ends_word byte)) text
 

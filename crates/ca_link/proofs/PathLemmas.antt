@@ -183,7 +183,7 @@ abbrev last_place : Option ℕ → ℕ
 last_place None = 1
 last_place (Some qn) = 2
 
--- the scan output stands there
+-- the scan output is there
 last_output : (nets : ScanNets) → slice_get (output_nets (Scan nets)) (last_place nets.qn) ≡ Some nets.so
 last_output nets = by nets.qn
   where

@@ -61,7 +61,7 @@ body_scan cells (ScanCell row) body nets has is = (row, refl)
 pub is_scan : (meaning : Meaning) (row : ScanRow) → meaning ≡ ScanCell row → IsScan meaning
 is_scan meaning row is = subst IsScan (sym is) tt
 
--- where the first scan instance stands
+-- where the first scan instance is
 pub record IsFirstScan (parts : List Part) (place : ℕ) (nets : ScanNets) : Type 0 where
   pub part : Part
   pub at : slice_get parts place ≡ Some part

@@ -1,4 +1,4 @@
--- What drives a net stands in one order, and the first two are one pair.
+-- What drives a net is in one order, and the first two are one pair.
 use Rattle.std.proofs.Common.{◌≡◌, ℕ, ◌<◌, ◌⊎◌, ◌∙◌, true, false, List, inl, inr, refl, sym, ap, subst, arith}
 use Rattle.std.proofs.Math.Decide.{dec_lt}
 use Rattle.std.specs.Prelude.{slice_get}

@@ -78,7 +78,7 @@ both_lists P seen (x ∷ one) other first second = (
       (subst (λ (s : List _). OneByOne P s other) (sym (append_assoc seen (x ∷ []) one)) second),
 )
 
--- so no word stands twice
+-- so no word occurs twice
 pub no_double : (seen words : List (List ℕ)) → OneByOne IsNew seen words → repeats seen words ≡ false
 unfolding repeats
 no_double seen [] new = refl

@@ -142,7 +142,7 @@ gives_sign byte it is same = record {
       (token_spelled before byte [] text Sign after (is text) rest);
 }
 
--- a word: its first byte begins a name, and each may stand in one
+-- a word: its first byte begins a name, and each may be in one
 pub record IsWord (word : List ℕ) : Type 0 where
   pub first : ℕ
   pub more : List ℕ
@@ -151,7 +151,7 @@ pub record IsWord (word : List ℕ) : Type 0 where
   pub bytes : list_all is_name_byte word ≡ true
   pub opened : (rest : List ℕ) → BeginsToken Sign 1 40 (first ∷ rest)
 
--- a name ends before a byte that may not stand in it
+-- a name ends before a byte that may not be in it
 name_ends : (word : List ℕ) (next : ℕ) (text : List ℕ) → list_all is_name_byte word ≡ true → is_name_byte next ≡ false
     → name_len (word ++ next ∷ text) ≡ length word
 name_ends [] next text all ends = ap (λ (b : Bool). if b then 1 + prefix_len is_name_byte text else 0) ends

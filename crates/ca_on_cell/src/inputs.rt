@@ -34,8 +34,8 @@ pub fn typed_words(alloc: Global, words: &CellWords<'_>) -> Result<TypedWords, N
     })
 }
 
-/// The cell of a name, which may be in any case. Only the place of a rule takes memory: the word stands in
-/// memory of its own, as it was typed and in upper case.
+/// The cell of a name, which may be in any case. Only the place of a rule takes memory: the word is in memory
+/// of its own, as it was typed and in upper case.
 pub fn find_cell<'a>(
     alloc: Global,
     library: &'a Library,

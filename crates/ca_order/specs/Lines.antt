@@ -27,7 +27,7 @@ unfoldable pub word_len : List ℕ → ℕ
 word_len [] = 0
 word_len (byte ∷ bytes) = elim (byte == 32) [ true ↦ 0 | false ↦ suc (word_len bytes) ]
 
--- the words of a line: what stands between two spaces, also where that is nothing
+-- the words of a line: what is between two spaces, also where that is nothing
 unfoldable pub words_of : List ℕ → List (List ℕ)
 words_of [] = [] ∷ []
 words_of (byte ∷ bytes) = elim (byte == 32) [

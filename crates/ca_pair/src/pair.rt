@@ -10,7 +10,7 @@ use std::alloc::Global;
 use std::marker::Model;
 
 /// The pattern bits of a chip, all of them set: those of the first vector, and then those of the second. They
-/// stand in words, one bit each.
+/// are in words, one bit each.
 #[derive(Drop, Debug)]
 pub struct Pair {
     words: Vec<u64>,

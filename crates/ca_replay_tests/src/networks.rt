@@ -143,7 +143,7 @@ pub(crate) const GOOD: [Part; 18] = [
     N(9, 13, 1),
 ];
 
-// The drain of the transistor from power to z whose gate is a stands on the added node.
+// The drain of the transistor from power to z whose gate is a is on the added node.
 pub(crate) const OPENED: [Part; 18] = [
     P(3, 6, 0),
     N(3, 6, 1),

@@ -42,7 +42,7 @@ pub record Follows (judged : Judged) (decisions : List Decision) : Type 0 where
 abbrev pub still_later : Judged → List Decision → List (List Trit)
 still_later judged decisions = later_after decisions (unset_pair judged.chip) []
 
--- the code is a front whose reading stands at the pair in hand, with the pairs that the decisions leave
+-- the code is a front whose reading is at the pair in hand, with the pairs that the decisions leave
 pub record Stands (judged : Judged) (code : List Token) (decisions : List Decision) (branches budget : ℕ)
     : Type 0 where
   pub follows : Follows judged decisions
@@ -78,7 +78,7 @@ abbrev pub IsTurn : Bool → Judged → Judged → List Decision → List Decisi
 IsTurn true old new before after = TurnsTo old new before after
 IsTurn false old new before after = still_later old before ≡ []
 
--- after a leaf the search stands at the next pair, or the code is whole
+-- after a leaf the search is at the next pair, or the code is whole
 abbrev pub IsLeft : Bool → Judged → Trail → Type 0
 IsLeft true new trail = TrailStands new trail
 IsLeft false new trail = IsWholeBy (rules_for new.chip new.aim) new.chip (tokens_of trail.numbers.items)

@@ -67,7 +67,7 @@ order_is inputs cells rungs place p =
     let is = place_here rungs p.instance (omega arith) in
     let at = p.at in omega arith
 
--- what was read stands at its place
+-- what was read is at its place
 pub at_read : (rungs : List Rung) (u : ℕ) (read : Rung) → u < length rungs → read ≡ get_or rungs u read
     → slice_get rungs u ≡ Some read
 at_read rungs u read lt is = slice_get-get_or rungs u read lt ∙ ap Some (sym is)

@@ -106,7 +106,7 @@ extends_further first second third to_second to_third = record {
   is = to_third.is ∙ ap (λ (names : List (List ℕ)). names ++ to_third.more) to_second.is ∙ append_assoc first to_second.more to_third.more;
 }
 
--- a name stands at its place
+-- a name is at its place
 pub at_its_place : (name : List ℕ) (names : List (List ℕ)) → slice_get (with_name name names) (place_with name names) ≡ Some name
 at_its_place name [] = refl
 at_its_place name (first ∷ names) = by (bytes_eq name first) refl (at_its_place name names)

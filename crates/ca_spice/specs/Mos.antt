@@ -35,7 +35,7 @@ value_of key (name ∷ []) = None
 value_of key (name ∷ sign ∷ []) = None
 value_of key (name ∷ sign ∷ value ∷ more) = if bytes_eq name key then Some value else value_of key more
 
--- parameters of which neither W nor L stands twice
+-- parameters of which neither W nor L occurs twice
 abbrev pub are_sound : List (List ℕ) → Bool
 are_sound params = are_params params && not (nat_lt 1 (count_of (codes "W") params))
     && not (nat_lt 1 (count_of (codes "L") params))

@@ -85,7 +85,7 @@ parted (token ∷ one) (first ∷ other) behind beyond same below =
     let found = parted one other behind beyond tails (omega (arith, below)) in
     (found.0, found.1, found.2, found.3, ap (λ (given : List Token). first ∷ given) found.4 ∙ ap (λ (given : Token). given ∷ one ++ found.0 ∷ found.1) (sym heads))
 
--- where a first faulty token stands earlier, the later one isn't the first
+-- where a first faulty token comes earlier, the later one isn't the first
 not_before : {Value : Type 0} (form : Form Value) (tokens : List Token) (left other : ℕ) → IsFirstFaulty form tokens left → IsFirstFaulty form tokens other
     → length tokens + left < length tokens + other → ⊥
 not_before {Value} form tokens left other late early below =

@@ -48,7 +48,7 @@ names_of input [] = []
 names_of input (signal ∷ signals) =
     if goes input signal then signal.0 ∷ names_of input signals else names_of input signals
 
--- the names stand among these, in this order
+-- the names are among these, in this order
 unfoldable pub is_among : Names → Names → Bool
 is_among [] pool = true
 is_among (name ∷ names) [] = false

@@ -20,8 +20,8 @@ is_quote byte = byte == 34 || byte == 39
 abbrev pub is_inside : ℕ → Bool
 is_inside byte = not (is_space byte || is_mark byte || is_quote byte)
 
--- where the reading of a text stands, with what was read of the token there: between tokens, in a word, in
--- a text in double quotes, and in one in single quotes, outside and inside the double quotes in it
+-- where the reading of a text is, with what was read of the token there: between tokens, in a word, in a text
+-- in double quotes, and in one in single quotes, outside and inside the double quotes in it
 pub data Place : Type 0 where
   Between : Place
   InWord : List ℕ → Place

@@ -13,7 +13,7 @@ use Rattle.ca_stil_form.specs.Frame.{quoted_from, names_of, fits_in_order, fits_
 use Rattle.ca_stil_form.specs.Frame.{key_inputs, key_outputs, key_controls}
 use Rattle.ca_stil_form.specs.Pattern.{PairValues, pair_form}
 
--- what stands between a token's first and last byte
+-- what is between a token's first and last byte
 abbrev pub name_in : Token → List ℕ
 name_in token = take (length token - 2) (drop 1 token)
 

@@ -32,7 +32,7 @@ IsOpen Nothing = ⊥
 IsOpen (Reading name place) = Unit {0}
 IsOpen (Writing name) = Unit {0}
 
--- a count of faults rose in a call: it is greater than before, or stands at its greatest value
+-- a count of faults rose in a call: it is greater than before, or is at its greatest value
 abbrev pub Rose : ℕ → ℕ → Type 0
 Rose before after = after < 2 ^ 64 - 1 → before < after
 

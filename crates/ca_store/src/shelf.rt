@@ -8,7 +8,7 @@ use ca_base::NoMemory;
 use std::alloc::Global;
 use std::marker::Model;
 
-// Where a file stands: its name from the start to the middle, and its bytes from there up to the next start.
+// Where a file is: its name from the start to the middle, and its bytes from there up to the next start.
 #[derive(Clone, Copy)]
 pub(crate) struct Span {
     start: usize,

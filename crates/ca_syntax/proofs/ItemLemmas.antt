@@ -48,7 +48,7 @@ keyword_step direction.Input it = refl
 keyword_step direction.Output it = refl
 keyword_step direction.Inner it = refl
 
--- where the first name of a declaration stands
+-- where the first name of a declaration is
 abbrev pub behind_range : Direction → Option Range → Place
 behind_range way None = place.Declaration way
 behind_range way (Some range) = place.Declared way (Some range)

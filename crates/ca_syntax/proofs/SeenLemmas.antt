@@ -50,7 +50,7 @@ state whole ports declared assigned instances at hand = record {
   hand = hand;
 }
 
--- a declared name is found where it stands among all
+-- a declared name is found where it is among all
 pub record IsFoundIn (whole declared : List Declared) (name : List ℕ) : Type 0 where
   pub here : bus_of name (seen_buses declared) ≡ Some (port_of whole name)
   pub there : slice_get (names_in whole) (port_of whole name) ≡ Some name

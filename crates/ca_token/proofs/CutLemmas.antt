@@ -43,7 +43,7 @@ run_cut test cut text within =
     ap (λ (count : ℕ). take count (take cut text)) (prefix_cut test cut text within)
     ∙ take-take (prefix_len test text) cut text within
 
--- two bytes that close a comment stand before the cut
+-- two bytes that close a comment are before the cut
 closes_cut : (sign cut : ℕ) (text : List ℕ) → 2 ≤ cut → closes sign (take cut text) ≡ closes sign text
 closes_cut sign zero text some = absurd (omega arith)
 closes_cut sign (suc cut) [] some = refl

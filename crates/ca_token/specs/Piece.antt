@@ -15,14 +15,14 @@ abbrev pub closes : ℕ → List ℕ → Bool
 closes sign [] = false
 closes sign (byte ∷ more) = byte == 42 && begins_with sign more
 
--- a comment up to `*/`, of which `len` bytes stand before this text; at the text's end it is reported at its
+-- a comment up to `*/`, of which `len` bytes are before this text; at the text's end it is reported at its
 -- last byte
 abbrev pub comment_from : ℕ → List ℕ → Piece
 comment_from len [] = Broken (len - 1) Syntax
 comment_from len (byte ∷ more) =
     if closes 47 (byte ∷ more) then Skipped (len + 2) else comment_from (len + 1) more
 
--- an attribute up to `*)`, of which `len` bytes stand before this text; its bytes are judged
+-- an attribute up to `*)`, of which `len` bytes are before this text; its bytes are judged
 abbrev pub attribute_from : ℕ → List ℕ → Piece
 attribute_from len [] = Broken (len - 1) Syntax
 attribute_from len (byte ∷ more) =
@@ -108,7 +108,7 @@ sign_piece byte =
     else (if not (is_text byte) then Broken 0 NotText
     else (if byte == 35 || byte == 123 then Broken 0 Unsupported else Broken 0 Syntax))
 
--- what a text begins with, where only white space stands before it on its line or not
+-- what a text begins with, where only white space is before it on its line or not
 unfoldable pub piece_of : Bool → List ℕ → Piece
 piece_of begins_line [] = Blank
 piece_of begins_line (byte ∷ more) =

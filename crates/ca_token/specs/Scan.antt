@@ -35,7 +35,7 @@ abbrev pub token_at : ℕ → TokenKind → ℕ → Token
 token_at place kind len = record { kind = kind; start = place; end = place + len }
 
 -- the tokens of a text that begins at this place of the whole, without its first `passed` bytes, which belong
--- to the piece before; the Bool says whether only white space stands before it on its line
+-- to the piece before; the Bool says whether only white space is before it on its line
 unfoldable pub scan_from : Bool → ℕ → ℕ → List ℕ → Scan
 scan_from begins_line passed place [] = nothing
 scan_from begins_line (suc passed) place (byte ∷ more) = scan_from begins_line passed (place + 1) more

@@ -144,7 +144,7 @@ fn sign_piece(byte: u8) -> Piece
     }
 }
 
-/// What a text begins with, where only white space stands before it on its line or not.
+/// What a text begins with, where only white space is before it on its line or not.
 #[tactic(auto, unfolding(crate::specs::Piece::piece_of))]
 pub(crate) fn piece_of(begins_line: bool, text: &[u8]) -> Piece
     requires { 0 < length text.now }

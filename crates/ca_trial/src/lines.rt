@@ -1,4 +1,4 @@
-//! The lines of a case file that say what stands before a command.
+//! The lines of a case file that say what comes before a command.
 
 use crate::setup::{FailedCall, Setup, Show};
 use crate::stop::Stop;

@@ -1,4 +1,4 @@
-//! What stands before the commands of a case: the files of the store, the limits, and the calls that fail.
+//! What comes before the commands of a case: the files of the store, the limits, and the calls that fail.
 
 use ca_base::NoMemory;
 use ca_lex::Text;
@@ -43,7 +43,7 @@ pub(crate) struct Show {
     pub(crate) lines: Vec<usize>,
 }
 
-/// What stands before a command. Of two files with one name the later one counts.
+/// What comes before a command. Of two files with one name the later one counts.
 #[derive(Drop)]
 pub(crate) struct Setup {
     pub(crate) files: Vec<CaseFile>,
@@ -80,7 +80,7 @@ impl Setup {
         self.head_limits = self.limits;
     }
 
-    /// What the cases share stands here alone.
+    /// What the cases share is here alone.
     pub(crate) fn begin_case(&mut self) {
         self.files.truncate(self.head);
         self.limits = self.head_limits;

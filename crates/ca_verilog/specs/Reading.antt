@@ -33,8 +33,8 @@ pub record Hand : Type 0 where
   pub left : Operand
   pub operand : Operand
 
--- what was read so far: where the reading stands in the grammar, the header's names, the declared ones,
--- what is joined, the instances, and what is in hand
+-- what was read so far: where the reading is in the grammar, the header's names, the declared ones, what is
+-- joined, the instances, and what is in hand
 pub record Reading : Type 0 where
   pub place : Place
   pub ports : List (List ℕ)

@@ -47,7 +47,7 @@ impl Refusal {
     ghost use Rattle.ca_verilog.specs.declared.fault.VerilogFault.TheVariants.{At};
     ghost use Rattle.ca_verilog.specs.VerilogFault.{fault_told, kind_told};
 
-    /// The fault of the token that was not taken, which stands on this line.
+    /// The fault of the token that was not taken, which is on this line.
     pub(crate) fn at(self, line: usize) -> VerilogFault
         ensures { fault_told result ≡ option_map (At line) (kind_told self) }
     {

@@ -52,7 +52,7 @@ impl Range {
     }
 }
 
-/// Where an operand stands: on the left or the right side of an `assign`, or on a pin.
+/// Where an operand is: on the left or the right side of an `assign`, or on a pin.
 #[derive(Clone, Copy, Debug, PartialEq, Eq)]
 pub enum Side {
     Left,
@@ -60,7 +60,7 @@ pub enum Side {
     Pin,
 }
 
-/// Where the reading stands in the grammar, by what is due there.
+/// Where the reading is in the grammar, by what is due there.
 #[derive(Clone, Copy, Debug, PartialEq, Eq)]
 pub enum Place {
     /// `module`.

@@ -31,7 +31,7 @@ mark_of marks u = slice_index_or marks u New
 abbrev pub IsVisit : List Visit → ℕ → ℕ → ℕ → Type 0
 IsVisit trail i u done = slice_get trail i ≡ Some (record { instance = u; done = done })
 
--- the number stands somewhere in the list
+-- the number is somewhere in the list
 abbrev pub Stands : List ℕ → ℕ → Type 0
 Stands xs x = (k : ℕ) × (slice_get xs k ≡ Some x)
 
@@ -127,7 +127,7 @@ IsVisitOf trail u place = (done : ℕ) × IsVisit trail place u done
 abbrev pub IsOnTrail : List Visit → ℕ → Type 0
 IsOnTrail trail u = (place : ℕ) × IsVisitOf trail u place
 
--- what stands past the last visit
+-- what is past the last visit
 abbrev pub no_visit : Visit
 no_visit = record { instance = 0; done = 0 }
 
