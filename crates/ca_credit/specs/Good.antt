@@ -20,7 +20,7 @@ pub record HasVerdict (task : Task) (verdicts : List Verdict) (place : ℕ) (def
   pub is_defect : IsDefectAt task place defect
   pub is_verdict : slice_get verdicts place ≡ Some verdict
 
--- all the support of the defect is `count` bits
+-- `count` bits are all the support of the defect
 pub record HasSupport (chip : Chip) (defect : ChipDefect) (count : ℕ) : Type 0 where
   pub bits : List ℕ
   pub counted : length bits ≡ count

@@ -1,7 +1,7 @@
 -- The statements of a pair of vectors. Of a chip with scan chains they are six: the first state is loaded,
--- the first vector is applied, the second state is loaded while hold is 1, the second vector is applied and the
--- outputs are compared, the cells capture, and the chains are unloaded and compared. Of another chip they are
--- the two that apply the vectors.
+-- the first vector is applied, the second state is loaded while hold is 1, the second vector is applied and
+-- the outputs are compared, the cells capture, and the chains are unloaded and compared. Of another chip they
+-- are the two that apply the vectors.
 use Rattle.std.specs.Prelude.{ℕ, ◌+◌, ◌-◌, ◌==◌, Bool, false, List, [], ◌∷◌, ◌++◌, length, map, replicate}
 use Rattle.std.specs.Prelude.{codes, decimal, if◌then◌else◌}
 use Rattle.ca_net.specs.declared.trit.Trit.{Trit}

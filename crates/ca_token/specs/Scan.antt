@@ -19,7 +19,7 @@ pub record Scan : Type 0 where
 abbrev pub nothing : Scan
 nothing = record { tokens = []; flaw = None }
 
--- a fault of the token that begins at this place, at the byte `shift` after it
+-- a fault of the token that begins at this place, at the byte that is `shift` after it
 abbrev pub broken_at : ℕ → ℕ → LexKind → Scan
 broken_at place shift kind = record {
   tokens = [];
