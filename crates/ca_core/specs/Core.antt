@@ -47,7 +47,7 @@ core_kinds chip (suc net) =
 abbrev pub bare_pin : Role → RawPin
 bare_pin role = record { name = []; role = role }
 
--- a cell without devices: power, ground, and this many output pins
+-- a cell without devices: power, ground, and an output pin where there is a net for it
 abbrev pub empty_cell : Option ℕ → RawCell
 empty_cell None = record { pins = bare_pin Power ∷ bare_pin Ground ∷ []; nets = [] ∷ [] ∷ []; devices = [] }
 empty_cell (Some net) = record {
