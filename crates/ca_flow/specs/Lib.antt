@@ -5,4 +5,3 @@ pub mod Complete
 pub mod Ends
 pub mod Work
 pub mod Answer
-pub mod Laws

@@ -41,7 +41,8 @@ same_places (Fixed ∷ one) (Fixed ∷ other) each there back =
 same_places (Free ∷ one) (Fixed ∷ other) each there back = let same : Some Fixed ≡ Some Free = there zero refl in absurd cc
 same_places (Fixed ∷ one) (Free ∷ other) each there back = let same : Some Fixed ≡ Some Free = back zero refl in absurd cc
 
-places_are : (net : Circuit) (first last : List Trit) (one other : List Place) → ArePlaces net first last one
+-- the places for a text are one
+pub places_are : (net : Circuit) (first last : List Trit) (one other : List Place) → ArePlaces net first last one
     → ArePlaces net first last other → one ≡ other
 places_are net first last one other are also = same_places one other (are.each ∙ sym also.each)
     (λ n free. (also.free n).1 ((are.free n).0 free)) (λ n free. (are.free n).1 ((also.free n).0 free))

@@ -31,16 +31,18 @@ use Rattle.ca_flow.specs.Fault.{Outside, IsCause}
 use Rattle.ca_on_cell.specs.Causes.{BreaksAt}
 use Rattle.ca_on_cell.specs.Causes.{IsPairCause, IsVectorCause, IsCellCause}
 use Rattle.ca_flow.specs.Complete.{FitsCell, IsAnswerable}
-use Rattle.ca_flow.specs.Laws.{IsInputFault, TellsFile, HasInputCause}
-use Rattle.ca_flow.proofs.ExactLemmas.{respond_or_pair}
-use Rattle.ca_flow.proofs.FitsLemmas.{respond_or_defects, pair_or_defects, pair_or_matrix, respond_or_matrix}
+use Rattle.ca_flow_laws.specs.Same.{IsInputFault}
+use Rattle.ca_flow_laws.specs.Told.{IsInputFile, TellsAllFiles}
+use Rattle.ca_flow_laws.specs.Laws.{HasInputCause}
+use Rattle.ca_flow_laws.proofs.CellLemmas.{respond_or_pair}
+use Rattle.ca_flow_laws.proofs.FitsLemmas.{respond_or_defects, pair_or_defects, pair_or_matrix, respond_or_matrix}
 
 -- a reading or a fault
 read_or_fault : {S : Type 0} (read : Result S SpiceFault) → IsOk read ⊎ ((fault : SpiceFault) × (read ≡ Err fault))
 read_or_fault (Ok cells) = inl refl
 read_or_fault (Err fault) = inr (fault, refl)
 
-same_or_other : (a b : ℕ) → (a ≡ b) ⊎ ¬ (a ≡ b)
+pub same_or_other : (a b : ℕ) → (a ≡ b) ⊎ ¬ (a ≡ b)
 same_or_other a b = elim (dec_le a b) [
   | no more ↦ inr (λ same. omega (arith, more, same))
   | yes up ↦ elim (dec_le b a) [
@@ -197,14 +199,19 @@ of_command words not_chip (inr (inl chip)) = absurd (not_chip chip)
 of_command words not_chip (inr (inr asks)) = inr asks
 
 -- a command on a cell whose file is there can be answered, or a fault of input has a cause
-pub some_cause : (words : List (List ℕ)) (bytes : List ℕ) (outside : Outside) → TellsFile words (Some bytes) outside → ¬ (IsOnChip words) → IsCommand words
+pub some_cause : (words : List (List ℕ)) (outside : Outside) → TellsAllFiles words outside → ¬ (IsOnChip words) → IsCommand words
     → IsAnswerable words outside.files ⊎ HasInputCause words outside
-some_cause words bytes outside tells not_chip command = by_command (of_command words not_chip command)
+some_cause words outside tells not_chip command = by_command (of_command words not_chip command)
   where
+    by_bytes : IsOnCell words → (told : Files) → outside.files ≡ Some told → (file : Option (List ℕ)) → told (cells_word words) ≡ file → IsSome file
+        → Stands words outside
+    by_bytes on told are None there some = absurd (true≢false (sym some))
+    by_bytes on told are (Some bytes) there some = stands words bytes outside told are there on
+
     by : IsOnCell words → (files : Option Files) → outside.files ≡ files
-        → IsSomeAnd files (λ told. told (cells_word words) ≡ Some bytes) → Stands words outside
+        → IsSomeAnd files (λ told. (name : List ℕ) → IsInputFile words name → IsSome (told name)) → Stands words outside
     by on None are tells = absurd tells
-    by on (Some told) are tells = stands words bytes outside told are tells on
+    by on (Some told) are tells = by_bytes on told are (told (cells_word words)) refl (tells (cells_word words) (inl (on, refl)))
 
     by_command : IsOnCell words ⊎ AsksNoFile words → Stands words outside
     by_command (inl on) = by on outside.files refl tells

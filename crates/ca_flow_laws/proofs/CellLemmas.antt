@@ -1,8 +1,7 @@
--- Of one list of words and one file no two faults of input have a cause.
-use Rattle.std.proofs.Common.{ℕ, ◌≡◌, ◌≤◌, ◌<◌, ◌+◌, ◌⊎◌, ◌∙◌, inl, inr, refl, sym, ap, subst, arith, List}
-use Rattle.std.proofs.Common.{length, Option, Some, None, Result, Ok, Err, true≢false}
+-- What is told of a command on a cell is one fault.
+use Rattle.std.proofs.Common.{ℕ, ◌≡◌, ◌⊎◌, ◌∙◌, inl, inr, refl, sym, ap, subst, arith, List}
+use Rattle.std.proofs.Common.{Option, Some, None, Result, Ok, Err, true≢false}
 use Rattle.std.specs.Prelude.{IsNone, IsOk, IsSomeAnd}
-use Rattle.std.specs.Option.{ForSome}
 use Rattle.ca_lex.specs.Words.{upper_case}
 use Rattle.ca_store.specs.Store.{Files}
 use Rattle.ca_cell.specs.declared.raw.RawCell.{RawCell}
@@ -13,36 +12,20 @@ use Rattle.ca_spice.specs.declared.fault.SpiceFault.TheVariants as spice
 use Rattle.ca_spice.specs.Reading.{library_of}
 use Rattle.ca_spice.specs.Called.{called_among}
 use Rattle.ca_load.specs.declared.cells.TheConstants.{MAX_CELLS}
-use Rattle.ca_load.specs.Files.{IsReadCause}
 use Rattle.ca_load.specs.Causes.{IsTextCause, IsCellsCause}
+use Rattle.ca_load.proofs.RuleLemmas.{one_broken}
 use Rattle.ca_place.specs.Place.{rule_text}
 use Rattle.ca_fault.specs.declared.fault.LimitKind.TheVariants as limit
 use Rattle.ca_fault.specs.declared.fault.Fault.{Fault}
-use Rattle.ca_fault.specs.declared.fault.Fault.TheVariants.{TooManyPairs}
-use Rattle.ca_on_chip.specs.OnChip.{IsPairsFault}
-use Rattle.ca_on_chip.specs.Making.{IsMakeStage}
-use Rattle.ca_fault.specs.declared.fault.Fault.TheVariants.{BadWords, Cells, NoCell, Cell, BadVector}
-use Rattle.ca_fault.specs.declared.fault.Fault.TheVariants.{NoDefect, TooLong, Limit, StoreFailed, SinkFailed}
-use Rattle.ca_fault.specs.declared.fault.Fault.TheVariants.{NoMemory}
+use Rattle.ca_fault.specs.declared.fault.Fault.TheVariants.{Cells, NoCell, Cell, BadVector, NoDefect, Limit}
 use Rattle.ca_words.specs.Words.{cells_word, cell_word, vector_word, first_word, last_word, defect_word, dash}
-use Rattle.ca_words.specs.Words.{IsRespond, IsPair, IsOnChip, IsOnCell, IsCommand}
+use Rattle.ca_words.specs.Words.{IsRespond, IsPair}
 use Rattle.ca_on_cell.specs.Cells.{OfFile, HasCell, LacksCell}
-use Rattle.ca_flow.specs.Fault.{Outside, IsWordsCause, IsWriteCause, IsPrintCause, IsWorkCause, IsCause}
 use Rattle.ca_on_cell.specs.Causes.{BreaksAt, IsNameCause, IsFirstUnfit, LacksDefect}
 use Rattle.ca_on_cell.specs.Causes.{IsPairCause, IsVectorCause}
 use Rattle.ca_on_cell.specs.Causes.{IsCellCause, IsValueCause}
-use Rattle.ca_flow.specs.Laws.{IsInputFault, TellsFile}
-use Rattle.ca_load.proofs.RuleLemmas.{one_broken}
-
--- a fault that tells pairs is none of input
-pub pairs_input : (fault : Fault) → IsInputFault fault → IsPairsFault fault → ⊥
-pairs_input (TooManyPairs pairs aims) is many = is
-pairs_input fault is many = many
-
--- nor is one of a generated chip
-pub no_made_input : (number : ℕ) (fault : Fault) → IsInputFault fault → IsMakeStage number fault → ⊥
-no_made_input number fault is (inl memory) = subst IsInputFault memory is
-no_made_input number fault is (inr many) = pairs_input fault is many.pairs
+use Rattle.ca_flow_laws.specs.Same.{IsInputFault}
+use Rattle.ca_flow_laws.proofs.FileLemmas.{AtFile, one_at_file, of_bytes, of_file, of_read}
 
 -- the words ask for these vectors and this defect
 abbrev pub AreAsked : List (List ℕ) → List ℕ → List ℕ → List ℕ → Type 0
@@ -179,62 +162,19 @@ one_at_library : (words : List (List ℕ)) (bytes : List ℕ) (fault other : Fau
 one_at_library words bytes fault other here there =
     one_at_reading words (library_of bytes) (λ cells. called_among cells (upper_case (cell_word words))) fault other here there
 
--- what is told of a file: it is too long, or it isn't, and of its reading
-abbrev pub AtFile : List (List ℕ) → Option (List ℕ) → Fault → Type 0
-AtFile words None fault = ⊥
-AtFile words (Some bytes) fault =
-    ((MAX_CELLS < length bytes) × (fault ≡ TooLong (cells_word words) (MAX_CELLS + 1)))
-    ⊎ ((length bytes ≤ MAX_CELLS) × AtLibrary words bytes fault)
+-- what is told of the file of a command on a cell
+abbrev pub TellsCell : List (List ℕ) → Fault → List ℕ → Type 0
+TellsCell words fault bytes = AtLibrary words bytes fault
 
-one_at_file : (words : List (List ℕ)) (file : Option (List ℕ)) (fault other : Fault) → AtFile words file fault → AtFile words file other
+abbrev pub AtCellFile : List (List ℕ) → Option (List ℕ) → Fault → Type 0
+AtCellFile words file fault = AtFile MAX_CELLS (cells_word words) (TellsCell words) file fault
+
+pub one_at_cell_file : (words : List (List ℕ)) (file : Option (List ℕ)) (fault other : Fault) → AtCellFile words file fault → AtCellFile words file other
     → fault ≡ other
-one_at_file words None fault other here there = absurd here
-one_at_file words (Some bytes) fault other (inl here) (inl there) = here.1 ∙ sym there.1
-one_at_file words (Some bytes) fault other (inl here) (inr there) =
-    let past = here.0 in let within = there.0 in absurd (omega (arith, past, within))
-one_at_file words (Some bytes) fault other (inr here) (inl there) =
-    let past = there.0 in let within = here.0 in absurd (omega (arith, past, within))
-one_at_file words (Some bytes) fault other (inr here) (inr there) = one_at_library words bytes fault other here.1 there.1
-
--- what is told of words and their file
-abbrev pub AtWords : List (List ℕ) → Option (List ℕ) → Fault → Type 0
-AtWords words file fault = ((¬ (IsCommand words)) × (fault ≡ BadWords)) ⊎ (IsOnCell words × AtFile words file fault)
-
--- a command on a cell is a command
-pub on_cell : (words : List (List ℕ)) → IsOnCell words → IsCommand words
-on_cell words is = inl is
-
-pub one_at_words : (words : List (List ℕ)) (file : Option (List ℕ)) (fault other : Fault) → AtWords words file fault → AtWords words file other
-    → fault ≡ other
-one_at_words words file fault other (inl here) (inl there) = here.1 ∙ sym there.1
-one_at_words words file fault other (inl here) (inr there) = absurd (here.0 (on_cell words there.0))
-one_at_words words file fault other (inr here) (inl there) = absurd (there.0 (on_cell words here.0))
-one_at_words words file fault other (inr here) (inr there) = one_at_file words file fault other here.1 there.1
-
--- what is said of a file that is told
-at_told : (name : List ℕ) (file : Option (List ℕ)) (files : Option Files) (P : Option (List ℕ) → Type 0)
-    → IsSomeAnd files (λ told. told name ≡ file) → ForSome files (λ told. P (told name)) → P file
-at_told name file None P tells held = absurd tells
-at_told name file (Some told) P tells held = subst P tells (held told refl)
-
-pub of_file : (words : List (List ℕ)) (file : Option (List ℕ)) (outside : Outside) (P : List ℕ → Type 0) → TellsFile words file outside
-    → OfFile outside.files (cells_word words) P → IsSomeAnd file (λ bytes. (length bytes ≤ MAX_CELLS) × P bytes)
-of_file words file outside P tells held =
-    at_told (cells_word words) file outside.files (λ there. IsSomeAnd there (λ bytes. (length bytes ≤ MAX_CELLS) × P bytes)) tells held
+one_at_cell_file words = one_at_file MAX_CELLS (cells_word words) (TellsCell words) (one_at_library words)
 
 -- the causes of each stage
 module _ (words : List (List ℕ)) where
-  at_bytes : (file : Option (List ℕ)) (P : List ℕ → Type 0) (fault : Fault)
-      → ((bytes : List ℕ) → P bytes → AtLibrary words bytes fault)
-      → IsSomeAnd file (λ bytes. (length bytes ≤ MAX_CELLS) × P bytes) → AtFile words file fault
-  at_bytes None P fault next held = absurd held
-  at_bytes (Some bytes) P fault next held = inr (held.0, next bytes held.1)
-
-  too_long : (file : Option (List ℕ)) → IsSomeAnd file (λ bytes. MAX_CELLS < length bytes)
-      → AtFile words file (TooLong (cells_word words) (MAX_CELLS + 1))
-  too_long None past = absurd past
-  too_long (Some bytes) past = inl (past, refl)
-
   -- the reading in which the words name a subcircuit, or none
   in_reading : {S : Type 0} (read : Result S SpiceFault) (called : S → Option RawCell) (P : RawCell → Type 0) (fault : Fault)
       → ((raw : RawCell) → P raw → AtCell words raw fault)
@@ -266,41 +206,37 @@ module _ (words : List (List ℕ)) where
   at_missing bytes lacks =
       none_in_reading (library_of bytes) (λ cells. called_among cells (upper_case (cell_word words))) lacks.0 lacks.1
 
-  module _ (file : Option (List ℕ)) (outside : Outside) (tells : TellsFile words file outside) (before after : ℕ) where
-    of_read : (fault : Fault) → IsInputFault fault → IsReadCause (cells_word words) outside.files MAX_CELLS before after fault → AtFile words file fault
-    of_read (TooLong typed taken) is (same, long) =
-        let past : IsSomeAnd file (λ bytes. MAX_CELLS < length bytes) =
-        at_told (cells_word words) file outside.files (λ there. IsSomeAnd there (λ bytes. MAX_CELLS < length bytes)) tells long.past in
-        let told : TooLong typed taken ≡ TooLong (cells_word words) (MAX_CELLS + 1) = λ j. TooLong (same j) (long.one_more j) in
-        subst (AtFile words file) (sym told) (too_long file past)
-    of_read (StoreFailed typed) is cause = absurd is
-    of_read NoMemory is cause = absurd is
-    of_read fault is cause = absurd cause
+  module _ (files : Option Files) (told : Files) (are : files ≡ Some told) (file : Option (List ℕ)) (same : told (cells_word words) ≡ file)
+      (before after : ℕ) where
+    -- what holds of the bytes of the file
+    at_bytes : (P : List ℕ → Type 0) (fault : Fault) → ((bytes : List ℕ) → P bytes → AtLibrary words bytes fault)
+        → OfFile files (cells_word words) P → AtCellFile words file fault
+    at_bytes P fault next held = of_bytes MAX_CELLS (cells_word words) (TellsCell words) file P fault next
+        (of_file files told are (cells_word words) file same MAX_CELLS P held)
 
-    of_text : (fault : Fault) → IsCellsCause (cells_word words) outside.files fault → AtFile words file fault
-    of_text (Cells line kind) cause = at_bytes file (IsTextCause (Cells line kind)) (Cells line kind) (λ bytes reads. rw reads refl)
-        (of_file words file outside (IsTextCause (Cells line kind)) tells cause)
-    of_text (Limit limit.Cells count) cause = at_bytes file (IsTextCause (Limit limit.Cells count)) (Limit limit.Cells count) (λ bytes reads. rw reads refl)
-        (of_file words file outside (IsTextCause (Limit limit.Cells count)) tells cause)
+    of_text : (fault : Fault) → IsCellsCause (cells_word words) files fault → AtCellFile words file fault
+    of_text (Cells line kind) cause = at_bytes (IsTextCause (Cells line kind)) (Cells line kind) (λ bytes reads. rw reads refl) cause
+    of_text (Limit limit.Cells count) cause =
+        at_bytes (IsTextCause (Limit limit.Cells count)) (Limit limit.Cells count) (λ bytes reads. rw reads refl) cause
     of_text fault cause = absurd cause
 
-    of_name : (fault : Fault) → IsNameCause (cells_word words) (cell_word words) outside.files fault → AtFile words file fault
-    of_name (NoCell typed) (same, lacks) =
-        subst (λ word. AtFile words file (NoCell word)) (sym same)
-        (at_bytes file (LacksCell (cell_word words)) (NoCell (cell_word words)) at_missing (of_file words file outside (LacksCell (cell_word words)) tells lacks))
-    of_name (Cell cell rule place) (same, broken) =
+    of_name : (fault : Fault) → IsNameCause (cells_word words) (cell_word words) files fault → AtCellFile words file fault
+    of_name (NoCell typed) (typed_is, lacks) =
+        subst (λ word. AtCellFile words file (NoCell word)) (sym typed_is)
+        (at_bytes (LacksCell (cell_word words)) (NoCell (cell_word words)) at_missing lacks)
+    of_name (Cell cell rule place) (cell_is, broken) =
         let P : RawCell → Type 0 = BreaksAt rule place in
-        at_bytes file (HasCell (cell_word words) P) (Cell cell rule place)
+        at_bytes (HasCell (cell_word words) P) (Cell cell rule place)
         (λ bytes. at_called bytes P (Cell cell rule place)
-        (λ raw breaks. inl (record { rule = rule; place = place; breaks = breaks; is = ap (λ word. Cell word rule place) same })))
-        (of_file words file outside (HasCell (cell_word words) P) tells broken)
+        (λ raw breaks. inl (record { rule = rule; place = place; breaks = breaks; is = ap (λ word. Cell word rule place) cell_is })))
+        broken
     of_name fault cause = absurd cause
 
     of_vector : (first last defect : List ℕ) → AreAsked words first last defect → (fault : Fault)
-        → IsVectorCause (cells_word words) (cell_word words) first last defect outside.files fault → AtFile words file fault
+        → IsVectorCause (cells_word words) (cell_word words) first last defect files fault → AtCellFile words file fault
     of_vector first last defect asked (BadVector typed) cause =
         let P : RawCell → Type 0 = IsPairCause first last defect (BadVector typed) in
-        at_bytes file (HasCell (cell_word words) P) (BadVector typed)
+        at_bytes (HasCell (cell_word words) P) (BadVector typed)
         (λ bytes. at_called bytes P (BadVector typed) (λ raw held. inr (inl (record {
           first = first;
           last = last;
@@ -311,10 +247,10 @@ module _ (words : List (List ℕ)) where
           unfit = held.1;
           is = refl;
         }))))
-        (of_file words file outside (HasCell (cell_word words) P) tells cause.1)
+        cause.1
     of_vector first last defect asked (NoDefect typed) cause =
         let P : RawCell → Type 0 = IsPairCause first last defect (NoDefect typed) in
-        at_bytes file (HasCell (cell_word words) P) (NoDefect typed)
+        at_bytes (HasCell (cell_word words) P) (NoDefect typed)
         (λ bytes. at_called bytes P (NoDefect typed) (λ raw held. inr (inr (record {
           first = first;
           last = last;
@@ -324,51 +260,26 @@ module _ (words : List (List ℕ)) where
           lacks = held.1.1;
           is = ap NoDefect held.0;
         }))))
-        (of_file words file outside (HasCell (cell_word words) P) tells cause.1.1)
+        cause.1.1
     of_vector first last defect asked fault cause = absurd cause
 
-    of_cell : (fault : Fault) → IsInputFault fault → IsCellCause (cells_word words) (cell_word words) outside.files before after fault → AtFile words file fault
-    of_cell fault is (inl (inl read)) = of_read fault is read
-    of_cell fault is (inl (inr text)) = of_text fault text
-    of_cell fault is (inr name) = of_name fault name
+    module _ (fault : Fault) (is : IsInputFault fault) where
+      pub of_cell : IsCellCause (cells_word words) (cell_word words) files before after fault → AtCellFile words file fault
+      of_cell (inl (inl read)) = of_read files told are (cells_word words) file same MAX_CELLS (TellsCell words) before after fault is read
+      of_cell (inl (inr text)) = of_text fault text
+      of_cell (inr name) = of_name fault name
 
-    of_value : (first last defect : List ℕ) → AreAsked words first last defect → (fault : Fault) → IsInputFault fault
-        → IsValueCause (cells_word words) (cell_word words) first last defect outside.files before after fault → AtFile words file fault
-    of_value first last defect asked fault is (inl cell) = of_cell fault is cell
-    of_value first last defect asked fault is (inr own) = of_vector first last defect asked fault own
+      of_value : (first last defect : List ℕ) → AreAsked words first last defect
+          → IsValueCause (cells_word words) (cell_word words) first last defect files before after fault → AtCellFile words file fault
+      of_value first last defect asked (inl cell) = of_cell cell
+      of_value first last defect asked (inr own) = of_vector first last defect asked fault own
 
-    of_work : ¬ (IsOnChip words) → (fault : Fault) → IsInputFault fault → IsWorkCause words outside.files before after fault
-        → AtWords words file fault
-    of_work not_chip fault is (inl (respond, cause)) =
-        inr (inl respond, of_value (vector_word words) (vector_word words) dash (inl (respond, (refl, (refl, refl)))) fault is cause)
-    of_work not_chip fault is (inr (inl (pair, cause))) =
-        inr (inr (inl pair), of_value (first_word words) (last_word words) (defect_word words) (inr (pair, (refl, (refl, refl)))) fault is cause)
-    of_work not_chip fault is (inr (inr (inl (defects, cause)))) = inr (inr (inr (inl defects)), of_cell fault is cause)
-    of_work not_chip fault is (inr (inr (inr (inr (inl (chip, cause)))))) = absurd (not_chip chip)
-    of_work not_chip fault is (inr (inr (inr (inr (inr (make, cause)))))) = absurd (no_made_input cause.number fault is cause.stage)
-    of_work not_chip fault is (inr (inr (inr (inl (matrix, cause))))) = inr (inr (inr (inr matrix)), of_cell fault is cause)
+      pub of_respond : IsRespond words
+          → IsValueCause (cells_word words) (cell_word words) (vector_word words) (vector_word words) dash files before after fault
+          → AtCellFile words file fault
+      of_respond respond = of_value (vector_word words) (vector_word words) dash (inl (respond, (refl, (refl, refl))))
 
-  of_words : (file : Option (List ℕ)) (fault : Fault) → IsWordsCause words fault → AtWords words file fault
-  of_words file BadWords cause = inl (cause, refl)
-  of_words file fault cause = absurd cause
-
-  -- writing and printing have no cause that is a fault of input
-  pub no_write : (before after : ℕ) (fault : Fault) → IsInputFault fault → IsWriteCause words before after fault → ⊥
-  no_write before after (StoreFailed name) is cause = is
-  no_write before after fault is cause = cause
-
-  pub no_print : (before after : ℕ) (fault : Fault) → IsInputFault fault → IsPrintCause before after fault → ⊥
-  no_print before after SinkFailed is cause = is
-  no_print before after NoMemory is cause = is
-  no_print before after fault is cause = cause
-
-  -- the cause of a fault of input is in the words or in their file
-  pub of_cause : (file : Option (List ℕ)) (before after : Outside) (fault : Fault) → ¬ (IsOnChip words) → TellsFile words file before → IsInputFault fault
-      → IsCause words before after fault → AtWords words file fault
-  of_cause file before after fault not_chip tells is (inl cause) = of_words file fault cause
-  of_cause file before after fault not_chip tells is (inr (inl cause)) =
-      of_work file before tells before.store_faults after.store_faults not_chip fault is cause
-  of_cause file before after fault not_chip tells is (inr (inr (inl cause))) =
-      absurd (no_write before.store_faults after.store_faults fault is cause)
-  of_cause file before after fault not_chip tells is (inr (inr (inr cause))) =
-      absurd (no_print before.sink_faults after.sink_faults fault is cause)
+      pub of_pair : IsPair words
+          → IsValueCause (cells_word words) (cell_word words) (first_word words) (last_word words) (defect_word words) files before after fault
+          → AtCellFile words file fault
+      of_pair pair = of_value (first_word words) (last_word words) (defect_word words) (inr (pair, (refl, (refl, refl))))

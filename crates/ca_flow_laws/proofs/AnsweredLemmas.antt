@@ -1,0 +1,252 @@
+-- A command that did its work could be answered, so that a fault of input that has a cause is told.
+use Rattle.std.proofs.Common.{ℕ, ◌≡◌, ◌≤◌, ◌⊎◌, ◌∙◌, inl, inr, refl, sym, ap, subst, arith, List, length, Option, Some, None, Ok}
+use Rattle.std.proofs.Common.{true≢false}
+use Rattle.std.specs.Prelude.{IfSome, IsSome, IsSomeAnd}
+use Rattle.ca_store.specs.Store.{Files}
+use Rattle.ca_cell.specs.declared.raw.RawCell.{RawCell}
+use Rattle.ca_spice.specs.Called.{cell_called}
+use Rattle.ca_net.specs.declared.trit.Trit.{Trit}
+use Rattle.ca_flat.specs.declared.chip_defect.ChipDefect.{ChipDefect}
+use Rattle.ca_flat.specs.Chip.{cell_at}
+use Rattle.ca_wired.specs.Linked.{Chip}
+use Rattle.ca_core.specs.Core.{core_of}
+use Rattle.ca_fault.specs.declared.fault.Fault.{Fault}
+use Rattle.ca_load.specs.declared.cells.TheConstants.{MAX_CELLS}
+use Rattle.ca_load.specs.Chips.{IsTraced}
+use Rattle.ca_asked.specs.Asked.{FitsInputs, defect_called, IsAskedDefect}
+use Rattle.ca_chip_replay.specs.ChipRun.{RunOf}
+use Rattle.ca_order.specs.declared.event.Event.{Event}
+use Rattle.ca_simulate.specs.OneRun.{ReadsRun}
+use Rattle.ca_words.specs.Words.{cells_word, cell_word, vector_word, first_word, last_word, defect_word, dash, chip_files, instance_word}
+use Rattle.ca_words.specs.Words.{chip_defect_word, chip_first_word, chip_last_word, order_word}
+use Rattle.ca_words.specs.Words.{IsCheck, IsFlatten, IsSimulate, IsAtpg, IsReplay, IsOnChip}
+use Rattle.ca_on_cell.specs.Outputs.{asked_network, AreValues}
+use Rattle.ca_on_cell.specs.Cells.{HasCell, OfCell}
+use Rattle.ca_on_cell.specs.Defects.{AreDefectNames, IsSoundMatrix}
+use Rattle.ca_on_chip.specs.declared.replays.TheConstants.{MAX_ORDER}
+use Rattle.ca_on_chip.specs.OnChip.{IsChipOfFiles}
+use Rattle.ca_on_chip.specs.Replay.{IsAskedRun, AreRunEndsOf}
+use Rattle.ca_flow.specs.declared.finished.Done.{Done}
+use Rattle.ca_flow.specs.declared.finished.Done.TheVariants.{Respond, Pair, Defects, Matrix, Check, Flatten}
+use Rattle.ca_flow.specs.declared.finished.Done.TheVariants.{Simulate, Atpg, Replay, Make, Help, Version}
+use Rattle.ca_flow.specs.declared.finished.Finished.{Finished}
+use Rattle.ca_flow.specs.Finished.{status_told}
+use Rattle.ca_flow.specs.Fault.{Outside, IsCause}
+use Rattle.ca_flow.specs.Complete.{FitsCell, FitsFile, FitsDefect, FitsSimulate, HasEvents, FitsReplay, FitsOwn, FitsChip, IsAnswerable}
+use Rattle.ca_flow.specs.Ends.{IsAsked, Ends}
+use Rattle.ca_flow_laws.specs.Same.{IsInputFault, IsCallFault, IsSame}
+use Rattle.ca_flow_laws.specs.Told.{IsInputFile, TellsFiles}
+use Rattle.ca_flow_laws.proofs.LinkLemmas.{traced_also}
+use Rattle.ca_flow_laws.proofs.OneLemmas.{AreOne, one_chip, NamesOne, names_one}
+use Rattle.ca_flow_laws.proofs.OwnLemmas.{fits_also, asked_also, run_also, one_run}
+use Rattle.ca_flow_laws.proofs.CellLemmas.{respond_or_pair}
+use Rattle.ca_flow_laws.proofs.ChipLemmas.{flatten_or_simulate, flatten_or_replay, simulate_or_replay, atpg_or_flatten, atpg_or_simulate, atpg_or_replay}
+use Rattle.ca_flow_laws.proofs.ExactLemmas.{one_cause}
+use Rattle.ca_flow_laws.proofs.PairsLemmas.{kind_of_fault, no_pairs}
+use Rattle.ca_flow_laws.proofs.FitsLemmas.{respond_or_defects, pair_or_defects, pair_or_matrix, respond_or_matrix, no_cause}
+
+some_of : {A : Type 0} (P : A → Type 0) (told : Option A) → IsSomeAnd told P → IsSome told
+some_of P None held = absurd held
+some_of P (Some it) held = refl
+
+-- words of two commands
+check_or_flatten : (words : List (List ℕ)) → IsCheck words → IsFlatten words → ⊥
+check_or_flatten words one other = let four = one.four in let seven = other.seven in omega (arith, four, seven)
+
+check_or_simulate : (words : List (List ℕ)) → IsCheck words → IsSimulate words → ⊥
+check_or_simulate words one other = let four = one.four in let eight = other.eight in omega (arith, four, eight)
+
+check_or_replay : (words : List (List ℕ)) → IsCheck words → IsReplay words → ⊥
+check_or_replay words one other = let four = one.four in let nine = other.nine in omega (arith, four, nine)
+
+-- what words name of a chip, they name of one that is one with it
+module _ (words : List (List ℕ)) (chip also : Chip) (are : AreOne chip also) (one : NamesOne also) where
+  pub fits_defect : (given : Option ChipDefect) → IsAskedDefect chip (instance_word words) (chip_defect_word words) given → FitsDefect words also
+  fits_defect given asked = by given (asked_also chip also are (instance_word words) (chip_defect_word words) given asked)
+    where
+      by : (given : Option ChipDefect) → IsAskedDefect also (instance_word words) (chip_defect_word words) given → FitsDefect words also
+      by None asked = inl asked.0
+      by (Some given) asked = inr (record {
+        u = given.instance;
+        named = asked.named;
+        called = λ v named.
+            let same : given.instance ≡ v = one (instance_word words) given.instance v asked.named named in
+            let called : defect_called (cell_at (core_of also) v) (chip_defect_word words) ≡ Some given.defect =
+            subst (λ u. defect_called (cell_at (core_of also) u) (chip_defect_word words) ≡ Some given.defect) same asked.called in
+            rw called refl;
+      })
+
+  pub fits_simulate : FitsInputs chip (chip_first_word words) → FitsInputs chip (chip_last_word words) → (given : Option ChipDefect)
+      → IsAskedDefect chip (instance_word words) (chip_defect_word words) given → FitsSimulate words also
+  fits_simulate first last given asked = record {
+    first = fits_also chip also are (chip_first_word words) first;
+    last = fits_also chip also are (chip_last_word words) last;
+    defect = fits_defect given asked;
+  }
+
+  pub fits_run : (run : RunOf) → IsAskedRun (instance_word words) (chip_defect_word words) (chip_first_word words) (chip_last_word words) chip run
+      → FitsSimulate words also
+  fits_run run asked = fits_simulate asked.first_fits asked.last_fits asked.given asked.asked
+
+  -- a text that names events of one run names some of each that the words name
+  pub has_events : (text : List ℕ) (run : RunOf)
+      → IsAskedRun (instance_word words) (chip_defect_word words) (chip_first_word words) (chip_last_word words) chip run
+      → (events : List Event) → ReadsRun run text (Ok events) → HasEvents words also text
+  has_events text run asked events reads = λ other asked_other.
+      let same : run ≡ other = one_run also one (instance_word words) (chip_defect_word words) (chip_first_word words) (chip_last_word words) run other
+      (run_also chip also are (instance_word words) (chip_defect_word words) (chip_first_word words) (chip_last_word words) run asked) asked_other in
+      (events, subst (λ it. ReadsRun it text (Ok events)) same reads)
+
+-- what a command has to fit is of its own words alone
+module _ (words : List (List ℕ)) (told : Files) (chip : Chip) where
+  pub check_own : IsCheck words → FitsOwn words told chip
+  check_own is = record {
+    flatten = λ flatten. absurd (check_or_flatten words is flatten);
+    simulate = λ simulate. absurd (check_or_simulate words is simulate);
+    replay = λ replay. absurd (check_or_replay words is replay);
+  }
+
+  pub flatten_own : IsFlatten words → FitsDefect words chip → FitsOwn words told chip
+  flatten_own is fits = record {
+    flatten = λ _. fits;
+    simulate = λ simulate. absurd (flatten_or_simulate words is simulate);
+    replay = λ replay. absurd (flatten_or_replay words is replay);
+  }
+
+  pub simulate_own : IsSimulate words → FitsSimulate words chip → FitsOwn words told chip
+  simulate_own is fits = record {
+    flatten = λ flatten. absurd (flatten_or_simulate words flatten is);
+    simulate = λ _. fits;
+    replay = λ replay. absurd (simulate_or_replay words is replay);
+  }
+
+  pub atpg_own : IsAtpg words → FitsOwn words told chip
+  atpg_own is = record {
+    flatten = λ flatten. absurd (atpg_or_flatten words is flatten);
+    simulate = λ simulate. absurd (atpg_or_simulate words is simulate);
+    replay = λ replay. absurd (atpg_or_replay words is replay);
+  }
+
+  pub replay_own : IsReplay words → FitsReplay words told chip → FitsOwn words told chip
+  replay_own is fits = record {
+    flatten = λ flatten. absurd (flatten_or_replay words flatten is);
+    simulate = λ simulate. absurd (simulate_or_replay words simulate is);
+    replay = λ _. fits;
+  }
+
+module _ (words : List (List ℕ)) (files : Option Files) (told : Files) (are : files ≡ Some told) where
+  -- what holds of the subcircuit, in another's place
+  weaker : (P : RawCell → Type 0) → ((raw : RawCell) → P raw → FitsCell words raw) → OfCell files (cells_word words) (cell_word words) P → FitsFile words told
+  weaker P next held = by (told (cells_word words)) (held told are)
+    where
+      by_cell : (called : Option RawCell) → IsSomeAnd called P → IsSomeAnd called (FitsCell words)
+      by_cell None held = held
+      by_cell (Some raw) held = next raw held
+
+      by : (file : Option (List ℕ)) → IsSomeAnd file (λ bytes. (length bytes ≤ MAX_CELLS) × HasCell (cell_word words) P bytes)
+          → IsSomeAnd file (λ bytes. (length bytes ≤ MAX_CELLS) × HasCell (cell_word words) (FitsCell words) bytes)
+      by None held = held
+      by (Some bytes) held = (held.0, by_cell (cell_called bytes (cell_word words)) held.1)
+
+  of_file : FitsFile words told → IsAnswerable words files
+  of_file fits = inr (subst (λ it. IsSomeAnd it (λ told. FitsFile words told ⊎ FitsChip words told)) (sym are) (inl fits))
+
+  -- a chip with chains whose own words fit
+  of_chip : IsOnChip words → (chip : Chip) → IsTraced chip → IsChipOfFiles files (chip_files words) chip
+      → ((also : Chip) → AreOne chip also → NamesOne also → FitsOwn words told also) → IsAnswerable words files
+  of_chip is chip traced held own =
+      let found = held told are in
+      let fits : FitsChip words told = record {
+        is = is;
+        inputs = found.0;
+        read = found.1.0;
+        gives = record {
+          kept = found.1.1.kept;
+          chains = λ also is_also. traced_also chip also (one_chip found.0 chip also found.1.1 is_also).alike traced;
+        };
+        own = λ also is_also. own also (one_chip found.0 chip also found.1.1 is_also) (names_one (chip_files words) found.0 told also found.1.0 is_also);
+      } in
+      inr (subst (λ it. IsSomeAnd it (λ told. FitsFile words told ⊎ FitsChip words told)) (sym are) (inr fits))
+
+  -- the file of events fits each of the chips
+  fits_replay : (chip also : Chip) → AreOne chip also → NamesOne also → (values : List Trit) → (file : Option (List ℕ))
+      → told (order_word words) ≡ file
+      → IsSomeAnd file (λ bytes. (length bytes ≤ MAX_ORDER) × AreRunEndsOf (instance_word words) (chip_defect_word words) (chip_first_word words)
+      (chip_last_word words) chip values bytes)
+      → FitsReplay words told also
+  fits_replay chip also same one values None is held = absurd held
+  fits_replay chip also same one values (Some bytes) is (within, ends) = record {
+    pair = fits_run words chip also same one ends.run ends.asked;
+    events = rw is (within, has_events words chip also same one bytes ends.run ends.asked ends.ends.events ends.ends.reads);
+  }
+
+  -- work that was asked for is that of words that can be answered
+  answered : (done : Done) → IsAsked words files done → IsAnswerable words files
+  answered (Respond values) (is, asked) = of_file (weaker (AreValues (vector_word words) (vector_word words) dash values) (λ raw held. record {
+    is = inl is;
+    kept = held.kept;
+    respond = λ _. held.first_fits;
+    pair = λ pair. absurd (respond_or_pair words is pair);
+  }) asked)
+  answered (Pair values) (is, asked) = of_file (weaker (AreValues (first_word words) (last_word words) (defect_word words) values) (λ raw held. record {
+    is = inr (inl is);
+    kept = held.kept;
+    respond = λ respond. absurd (respond_or_pair words respond is);
+    pair = λ _. record {
+      first = held.first_fits;
+      last = held.last_fits;
+      defect = some_of _ (asked_network raw (defect_word words)) held.ends;
+    };
+  }) asked)
+  answered (Defects names) (is, asked) = of_file (weaker (AreDefectNames names) (λ raw held. record {
+    is = inr (inr (inl is));
+    kept = held.0;
+    respond = λ respond. absurd (respond_or_defects words respond is);
+    pair = λ pair. absurd (pair_or_defects words pair is);
+  }) asked)
+  answered (Matrix matrix) (is, asked) = of_file (weaker (IsSoundMatrix matrix) (λ raw held. record {
+    is = inr (inr (inr is));
+    kept = held.0;
+    respond = λ respond. absurd (respond_or_matrix words respond is);
+    pair = λ pair. absurd (pair_or_matrix words pair is);
+  }) asked)
+  answered (Check chip chains) (is, (all, held)) = of_chip (inl is) chip (chains, all) held (λ also same one. check_own words told also is)
+  answered (Flatten chip net) (is, (traced, held)) = of_chip (inr (inl is)) chip traced.traced traced.of_files (λ also same one.
+      flatten_own words told also is (fits_defect words chip also same one held.given held.asked))
+  answered (Simulate chip ends) (is, (traced, held)) = of_chip (inr (inr (inl is))) chip traced.traced traced.of_files (λ also same one.
+      simulate_own words told also is (fits_simulate words chip also same one held.first_fits held.last_fits held.given held.asked))
+  answered (Atpg chip chains pairs aims verdicts) (is, (all, (held, tests))) =
+      of_chip (inr (inr (inr (inl is)))) chip (chains, all) held (λ also same one. atpg_own words told also is)
+  answered (Replay chip ends) (is, (traced, held)) = of_chip (inr (inr (inr (inr is)))) chip traced.traced traced.of_files (λ also same one.
+      replay_own words told also is (fits_replay chip also same one ends.items (told (order_word words)) refl (held told are)))
+  answered (Make chip pairs aims verdicts) (is, asked) = inl (inr (inr is))
+  answered Help is = inl (inl is)
+  answered Version is = inl (inr (inl is))
+
+-- a cause is told
+pub told_cause : (words : List (List ℕ)) (files : Files) (before after : Outside) (end : Finished) (fault : Fault)
+    → TellsFiles words files before → Ends words before after end → IsInputFault fault → IsCause words before after fault
+    → IsSomeAnd end.fault (λ told. IsCallFault told ⊎ IsSame told fault)
+told_cause words files before after end fault tells ends is cause = by end.fault refl ends.cause
+  where
+    is_told : (outside : Option Files) → before.files ≡ outside → IsSomeAnd outside (λ told. (name : List ℕ) → IsInputFile words name → told name ≡ files name)
+        → (told : Files) × (before.files ≡ Some told)
+    is_told None are tells = absurd tells
+    is_told (Some told) are tells = (told, are)
+
+    by_done : (done : Option Done) → IsSome done → IfSome done (IsAsked words before.files) → ⊥
+    by_done None some asked = true≢false (sym some)
+    by_done (Some done) some asked =
+        let found = is_told before.files refl tells in
+        no_cause words before after fault (answered words before.files found.0 found.1 done asked) is cause
+
+    by : (told : Option Fault) → end.fault ≡ told → IfSome told (IsCause words before after)
+        → IsSomeAnd told (λ told. IsCallFault told ⊎ IsSame told fault)
+    by None none told =
+        let zero : end.status ≡ 0 = ends.answer.status ∙ ap status_told none in
+        absurd (by_done end.done (ends.answer.done.1 (inl zero)) ends.asked)
+    by (Some other) some told = elim (kind_of_fault other) [
+      | inl call ↦ inl call
+      | inr (inl input) ↦ inr (one_cause words files before after before after other fault tells tells input is told cause)
+      | inr (inr many) ↦ absurd (no_pairs words files before after before after other fault tells tells many is told cause)
+    ]

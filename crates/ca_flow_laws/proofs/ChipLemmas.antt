@@ -1,0 +1,197 @@
+-- What is told of a command on a chip is one fault; of several loops any may be told.
+use Rattle.std.proofs.Common.{ap, sym, ◌∙◌, ℕ, ◌≡◌, ◌≤◌, ◌⊎◌, inl, inr, refl, arith, List, length, Option, Some, None}
+use Rattle.std.specs.Prelude.{IsSomeAnd}
+use Rattle.ca_store.specs.Store.{Files}
+use Rattle.ca_wired.specs.Linked.{Chip}
+use Rattle.ca_fault.specs.declared.fault.Fault.{Fault}
+use Rattle.ca_fault.specs.declared.fault.Fault.TheVariants.{Order, TooManyPairs}
+use Rattle.ca_load.specs.Texts.{Inputs}
+use Rattle.ca_load.specs.Chips.{IsChipOf, IsTraced}
+use Rattle.ca_load.specs.Files.{OfFile}
+use Rattle.ca_load.specs.Causes.{IsLoadCause}
+use Rattle.ca_words.specs.Words.{chip_files, instance_word, chip_defect_word, chip_first_word, chip_last_word, order_word}
+use Rattle.ca_words.specs.Words.{IsFlatten, IsSimulate, IsAtpg, IsReplay, IsOnChip}
+use Rattle.ca_on_chip.specs.declared.replays.TheConstants.{MAX_ORDER}
+use Rattle.ca_on_chip.specs.OnChip.{GiveChipWith, OfChip, IsSimulationCause, IsPairsFault}
+use Rattle.ca_on_chip.specs.Replay.{HasFaultyLine, HasRun, IsOrderCause}
+use Rattle.ca_flow.specs.Fault.{IsOwnCause}
+use Rattle.ca_flow_laws.specs.Same.{IsInputFault, IsSame}
+use Rattle.ca_flow_laws.specs.Told.{IsChipFile, IsInputFile}
+use Rattle.ca_flow_laws.proofs.FileLemmas.{one_of, of_bytes, of_file, of_read}
+use Rattle.ca_flow_laws.proofs.OneLemmas.{AreOne, one_chip, NamesOne, names_one}
+use Rattle.ca_flow_laws.proofs.LoadLemmas.{AreReadAs, AtLoad, one_read, one_load, no_load, read_given, of_load}
+use Rattle.ca_flow_laws.proofs.OwnLemmas.{AtDefect, AtPair, TellsLine, AtOrder, AtRun, of_defect, of_simulation, defect_also, pair_also}
+use Rattle.ca_flow_laws.proofs.OwnLemmas.{at_run_also, one_defect, one_pair, one_at_run}
+
+-- words of two commands
+pub flatten_or_simulate : (words : List (List ℕ)) → IsFlatten words → IsSimulate words → ⊥
+flatten_or_simulate words one other = let seven = one.seven in let eight = other.eight in omega (arith, seven, eight)
+
+pub flatten_or_replay : (words : List (List ℕ)) → IsFlatten words → IsReplay words → ⊥
+flatten_or_replay words one other = let seven = one.seven in let nine = other.nine in omega (arith, seven, nine)
+
+pub simulate_or_replay : (words : List (List ℕ)) → IsSimulate words → IsReplay words → ⊥
+simulate_or_replay words one other = let eight = one.eight in let nine = other.nine in omega (arith, eight, nine)
+
+pub atpg_or_flatten : (words : List (List ℕ)) → IsAtpg words → IsFlatten words → ⊥
+atpg_or_flatten words one other = omega (arith, ap length (sym one.command ∙ other.command))
+
+pub atpg_or_simulate : (words : List (List ℕ)) → IsAtpg words → IsSimulate words → ⊥
+atpg_or_simulate words one other = let seven = one.seven in let eight = other.eight in omega (arith, seven, eight)
+
+pub atpg_or_replay : (words : List (List ℕ)) → IsAtpg words → IsReplay words → ⊥
+atpg_or_replay words one other = let seven = one.seven in let nine = other.nine in omega (arith, seven, nine)
+
+-- what is told of the own words of a command, of a chip
+abbrev pub AtOwn : List (List ℕ) → Files → Chip → Fault → Type 0
+AtOwn words given chip fault =
+    (IsFlatten words × AtDefect (instance_word words) (chip_defect_word words) chip fault)
+    ⊎ ((IsSimulate words
+    × AtPair (instance_word words) (chip_defect_word words) (chip_first_word words) (chip_last_word words) chip fault)
+    ⊎ (IsReplay words
+    × AtRun (instance_word words) (chip_defect_word words) (chip_first_word words) (chip_last_word words) (order_word words) given chip fault))
+
+-- the inputs give a chip with chains, of which it is told
+pub record IsOwn (words : List (List ℕ)) (given : Files) (fault : Fault) (inputs : Inputs) : Type 0 where
+  pub chip : Chip
+  pub is : IsChipOf inputs chip
+  pub traced : IsTraced chip
+  pub at : AtOwn words given chip fault
+
+abbrev pub AtChipWords : List (List ℕ) → Files → Fault → Type 0
+AtChipWords words given fault = AtLoad (chip_files words) given fault ⊎ AreReadAs (chip_files words) given (IsOwn words given fault)
+
+module _ (words : List (List ℕ)) (given : Files) where
+  own_also : (chip also : Chip) → AreOne chip also → (fault : Fault) → AtOwn words given chip fault → AtOwn words given also fault
+  own_also chip also are fault (inl (is, at)) = inl (is, defect_also chip also are (instance_word words) (chip_defect_word words) fault at)
+  own_also chip also are fault (inr (inl (is, at))) = inr (inl (
+    is,
+    pair_also chip also are (instance_word words) (chip_defect_word words)
+        (chip_first_word words) (chip_last_word words) fault at,
+  ))
+  own_also chip also are fault (inr (inr (is, at))) = inr (inr (
+    is,
+    at_run_also chip also are (instance_word words) (chip_defect_word words)
+        (chip_first_word words) (chip_last_word words) (order_word words) given fault at,
+  ))
+
+  one_of_chip : (chip : Chip) → NamesOne chip → (fault other : Fault) → AtOwn words given chip fault → AtOwn words given chip other → fault ≡ other
+  one_of_chip chip one fault other (inl (is, here)) (inl (too, there)) =
+      one_defect chip (instance_word words) (chip_defect_word words) fault other here there
+  one_of_chip chip one fault other (inl (is, here)) (inr (inl (too, there))) = absurd (flatten_or_simulate words is too)
+  one_of_chip chip one fault other (inl (is, here)) (inr (inr (too, there))) = absurd (flatten_or_replay words is too)
+  one_of_chip chip one fault other (inr (inl (is, here))) (inl (too, there)) = absurd (flatten_or_simulate words too is)
+  one_of_chip chip one fault other (inr (inl (is, here))) (inr (inl (too, there))) =
+      one_pair chip (instance_word words) (chip_defect_word words) (chip_first_word words) (chip_last_word words) fault other here there
+  one_of_chip chip one fault other (inr (inl (is, here))) (inr (inr (too, there))) = absurd (simulate_or_replay words is too)
+  one_of_chip chip one fault other (inr (inr (is, here))) (inl (too, there)) = absurd (flatten_or_replay words too is)
+  one_of_chip chip one fault other (inr (inr (is, here))) (inr (inl (too, there))) = absurd (simulate_or_replay words too is)
+  one_of_chip chip one fault other (inr (inr (is, here))) (inr (inr (too, there))) =
+      one_at_run chip one (instance_word words) (chip_defect_word words) (chip_first_word words) (chip_last_word words) (order_word words) given
+      fault other here there
+
+  one_own : (fault other : Fault) → AreReadAs (chip_files words) given (IsOwn words given fault)
+      → AreReadAs (chip_files words) given (IsOwn words given other) → fault ≡ other
+  one_own fault other (inputs, (read, here)) also =
+      let there = one_read (chip_files words) given (IsOwn words given other) inputs read also in
+      let one = one_chip inputs there.chip here.chip there.is here.is in
+      one_of_chip here.chip (names_one (chip_files words) inputs given here.chip read here.is) fault other here.at
+      (own_also there.chip here.chip one other there.at)
+
+  -- what is told of a command on a chip is one fault
+  pub one_at_chip : (fault other : Fault) → AtChipWords words given fault → AtChipWords words given other → IsSame fault other
+  one_at_chip = one_of IsSame (AtLoad (chip_files words) given) (λ fault. AreReadAs (chip_files words) given (IsOwn words given fault))
+      (one_load (chip_files words) given)
+      (λ fault other here there. inl (one_own fault other here there))
+      (λ fault other here there. no_load (chip_files words) given there.0 there.1.0 there.1.1.chip there.1.1.is there.1.1.traced fault here)
+
+-- a fault that tells pairs is none of input
+pub pairs_input : (fault : Fault) → IsInputFault fault → IsPairsFault fault → ⊥
+pairs_input (TooManyPairs pairs aims) is many = is
+pairs_input fault is many = many
+
+-- what the store tells, where it has the given files
+module _ (words : List (List ℕ)) (files : Option Files) (told : Files) (are : files ≡ Some told) (given : Files)
+    (agree : (name : List ℕ) → IsInputFile words name → told name ≡ given name) (chip : IsOnChip words) where
+  of_names : (name : List ℕ) → IsChipFile (chip_files words) name → told name ≡ given name
+  of_names name is = agree name (inr (inl (chip, is)))
+
+  -- what is said of the chip of the files is said of the given ones
+  of_chip : (Holds : Chip → Type 0) → OfChip files (chip_files words) Holds → AreReadAs (chip_files words) given (GiveChipWith Holds)
+  of_chip Holds held =
+      let found = held told are in
+      (found.0, (read_given files told are (chip_files words) given of_names found.0 found.1.0, found.1.1))
+
+  own_of : (Holds : Chip → Type 0) (fault : Fault) → ((chip : Chip) → Holds chip → AtOwn words given chip fault) → OfChip files (chip_files words) Holds
+      → AreReadAs (chip_files words) given (IsOwn words given fault)
+  own_of Holds fault next held =
+      let found = of_chip Holds held in
+      let it = found.1.1 in
+      (found.0, (found.1.0, record { chip = it.chip; is = it.is; traced = it.traced; at = next it.chip it.holds }))
+
+  module _ (before after : ℕ) where
+    of_order : IsReplay words → (fault : Fault) → IsInputFault fault
+        → IsOrderCause (chip_files words) (instance_word words) (chip_defect_word words) (chip_first_word words) (chip_last_word words)
+        (order_word words) files before after fault
+        → AreReadAs (chip_files words) given (IsOwn words given fault)
+    of_order replay (Order line) is held =
+        own_of _ (Order line) (λ chip there. inr (inr (replay, inr (by chip there)))) held
+      where
+        same : told (order_word words) ≡ given (order_word words)
+        same = agree (order_word words) (inr (inr (replay, refl)))
+
+        run_in : (chip : Chip) (file : Option (List ℕ)) → IsSomeAnd file (λ bytes. (length bytes ≤ MAX_ORDER)
+            × HasFaultyLine (instance_word words) (chip_defect_word words) (chip_first_word words) (chip_last_word words) line chip bytes)
+            → HasRun (instance_word words) (chip_defect_word words) (chip_first_word words) (chip_last_word words) chip
+        run_in chip None there = absurd there
+        run_in chip (Some bytes) there = (there.1.run, there.1.asked)
+
+        by : (chip : Chip) → OfFile files (order_word words) MAX_ORDER
+            (HasFaultyLine (instance_word words) (chip_defect_word words) (chip_first_word words) (chip_last_word words) line chip)
+            → AtOrder (instance_word words) (chip_defect_word words) (chip_first_word words) (chip_last_word words) (order_word words) given chip (Order line)
+        by chip there =
+            let P : List ℕ → Type 0 =
+            HasFaultyLine (instance_word words) (chip_defect_word words) (chip_first_word words) (chip_last_word words) line chip in
+            let file = of_file files told are (order_word words) (given (order_word words)) same MAX_ORDER P there in (
+              run_in chip (given (order_word words)) file,
+              of_bytes MAX_ORDER (order_word words)
+                  (TellsLine (instance_word words) (chip_defect_word words) (chip_first_word words) (chip_last_word words) chip)
+                  (given (order_word words)) P (Order line) (λ bytes faulty. (line, (refl, faulty))) file,
+            )
+    of_order replay fault is (held, read) = own_of (HasRun (instance_word words) (chip_defect_word words) (chip_first_word words) (chip_last_word words))
+        fault (λ chip run. inr (inr (
+          replay,
+          inr (
+            run,
+            of_read files told are (order_word words) (given (order_word words))
+                (agree (order_word words) (inr (inr (replay, refl)))) MAX_ORDER
+                (TellsLine (instance_word words) (chip_defect_word words) (chip_first_word words) (chip_last_word words) chip) before after fault is read,
+          ),
+        ))) held
+
+    of_own : (fault : Fault) → IsInputFault fault → IsOwnCause words files before after fault
+        → AreReadAs (chip_files words) given (IsOwn words given fault)
+    of_own fault is (inl (flatten, (word, held))) =
+        own_of _ fault (λ chip cause. inl (flatten, of_defect (instance_word words) (chip_defect_word words) chip fault cause)) held
+    of_own fault is (inr (inl (simulate, (word, held)))) =
+        own_of (IsSimulationCause (instance_word words) (chip_defect_word words) (chip_first_word words) (chip_last_word words) fault) fault
+        (λ chip cause. inr (inl (
+          simulate,
+          of_simulation (instance_word words) (chip_defect_word words) (chip_first_word words) (chip_last_word words)
+              chip fault cause,
+        ))) held
+    of_own fault is (inr (inr (inl (atpg, cause)))) = absurd (pairs_input fault is cause.many.0)
+    of_own fault is (inr (inr (inr (replay, inl (word, held))))) =
+        own_of (IsSimulationCause (instance_word words) (chip_defect_word words) (chip_first_word words) (chip_last_word words) fault) fault
+        (λ chip cause. inr (inr (
+          replay,
+          inl (of_simulation (instance_word words) (chip_defect_word words) (chip_first_word words) (chip_last_word words)
+              chip fault cause),
+        ))) held
+    of_own fault is (inr (inr (inr (replay, inr order)))) = of_order replay fault is order
+
+    -- what the store tells is told of the given files
+    pub of_work : (fault : Fault) → IsInputFault fault
+        → IsLoadCause (chip_files words) files before after fault ⊎ IsOwnCause words files before after fault → AtChipWords words given fault
+    of_work fault is (inl load) = inl (of_load files told are (chip_files words) given of_names before after fault is load)
+    of_work fault is (inr own) = inr (of_own fault is own)

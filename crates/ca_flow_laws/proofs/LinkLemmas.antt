@@ -1,0 +1,253 @@
+-- What is told of inputs that don't link, or give a chip without chains, is one fault; of several loops any
+-- may be told.
+use Rattle.std.proofs.Common.{ℕ, ◌≡◌, ◌≢◌, ◌∙◌, inl, inr, refl, sym, ap, subst, List, Option, Some, None}
+use Rattle.std.specs.Prelude.{IsSomeAnd, slice_get}
+use Rattle.ca_lex.specs.Words.{upper_case}
+use Rattle.ca_cell.specs.declared.rule.CellRule.{CellRule}
+use Rattle.ca_cell.specs.Library.{Named}
+use Rattle.ca_verilog.specs.declared.raw.RawInstance.{RawInstance}
+use Rattle.ca_verilog.specs.declared.raw.RawNetlist.{RawNetlist}
+use Rattle.ca_wired.specs.declared.instances.InstanceId.{InstanceId}
+use Rattle.ca_wired.specs.declared.parts.Part.{Part}
+use Rattle.ca_wired.specs.Linked.{Chip}
+use Rattle.ca_chip.specs.declared.scan_row.ScanRow.{ScanRow}
+use Rattle.ca_chip.specs.declared.fault.ChipFault.{ChipFault}
+use Rattle.ca_chip.specs.declared.fault.ChipFault.TheVariants as rule
+use Rattle.ca_chip.specs.Wiring.{wiring_of}
+use Rattle.ca_link_laws.specs.Alike.{AreAlike}
+use Rattle.ca_link_laws.specs.Laws as link
+use Rattle.ca_link_laws.proofs.AlikeLemmas.{item_at}
+use Rattle.ca_link_laws.proofs.BrokenLemmas.{first_broken}
+use Rattle.ca_link_laws.proofs.DrivingLemmas.{one_wire}
+use Rattle.ca_link_laws.proofs.TraceLemmas.{one_trace}
+use Rattle.ca_scan.specs.declared.fault.ChainFault.{ChainFault}
+use Rattle.ca_scan.specs.declared.fault.ChainFault.TheVariants as chain
+use Rattle.ca_scan.specs.ChainFault.{IsChainCause}
+use Rattle.ca_scan.proofs.AnswerLemmas.{one_answer}
+use Rattle.ca_place.specs.Names.{wire_text}
+use Rattle.ca_place.specs.Place.{net_text, double_text, OfNet, TellsPlace}
+use Rattle.ca_fault.specs.declared.fault.LimitKind.TheVariants as limit
+use Rattle.ca_fault.specs.declared.fault.Fault.{Fault}
+use Rattle.ca_fault.specs.declared.fault.Fault.TheVariants.{Cell, Chain, Limit}
+use Rattle.ca_fault.specs.declared.fault.Fault.TheVariants as fault_
+use Rattle.ca_load.specs.Texts.{Inputs}
+use Rattle.ca_load.specs.Chips.{BreakFirst, IsPlainRule, IsOfCell, IsPlaceOf, IsLinkingCause, IsTracingCause, IsTraced}
+use Rattle.ca_flow_laws.specs.Same.{AreLoops, IsSame}
+
+-- the place of a fault of linking is one
+module _ (raw : RawNetlist) (library : List Named) (scan : List ScanRow) (text other : List ℕ) where
+  one_net : (net : ℕ) (text_of : List ℕ → List ℕ) → OfNet raw library scan net text_of text → OfNet raw library scan net text_of other → text ≡ other
+  one_net net text_of (wire, at, is) (also, at_also, is_also) =
+      is ∙ ap (λ it. wire_text raw.buses it text_of) (one_wire (wiring_of raw library scan) net wire also at at_also) ∙ sym is_also
+
+  one_place : (broken : ChipFault) → TellsPlace raw library scan broken text → TellsPlace raw library scan broken other → text ≡ other
+  one_place (rule.UnknownCell u) is also = is ∙ sym also
+  one_place (rule.Cell u broken) is also = is ∙ sym also
+  one_place (rule.UnknownPin u pin) is also = is ∙ sym also
+  one_place (rule.MissingPin u pin) is also = is ∙ sym also
+  one_place (rule.DoubleDriven net first second) is also = one_net net.0 (λ name. double_text raw.instances name first second) is also
+  one_place (rule.Undriven net) is also = one_net net.0 net_text is also
+  one_place (rule.ControlPin u pin) is also = is ∙ sym also
+  one_place (rule.ControlObserved net) is also = one_net net.0 net_text is also
+  one_place (rule.QnUsed u) is also = is ∙ sym also
+  one_place (rule.Loop instances) is also = is ∙ sym also
+  one_place (rule.TooManyInstances count) is also = is ∙ sym also
+  one_place (rule.TooManyInputs count) is also = is ∙ sym also
+  one_place (rule.TooManyOutputs count) is also = is ∙ sym also
+  one_place (rule.TooManyDefects count) is also = is ∙ sym also
+  one_place rule.NoMemory is also = is ∙ sym also
+
+-- the fault tells the broken rule as it is, with its place
+pub record IsPlain (inputs : Inputs) (broken : ChipFault) (fault : Fault) : Type 0 where
+  pub place : List ℕ
+  pub placed : IsPlaceOf inputs broken place
+  pub is : fault ≡ fault_.Chip broken place
+
+-- it tells the rule of a cell, with the cell's name and the place
+pub record IsOfRefused (inputs : Inputs) (u : InstanceId) (broken : CellRule) (fault : Fault) : Type 0 where
+  pub name : List ℕ
+  pub place : List ℕ
+  pub named : IsOfCell inputs.netlist u name
+  pub placed : IsPlaceOf inputs (rule.Cell u broken) place
+  pub is : fault ≡ Cell name broken place
+
+-- the fault tells the broken rule
+abbrev pub IsToldBy : Inputs → ChipFault → Fault → Type 0
+IsToldBy inputs (rule.UnknownCell u) fault = IsPlain inputs (rule.UnknownCell u) fault
+IsToldBy inputs (rule.Cell u broken) fault = IsOfRefused inputs u broken fault
+IsToldBy inputs (rule.UnknownPin u pin) fault = IsPlain inputs (rule.UnknownPin u pin) fault
+IsToldBy inputs (rule.MissingPin u pin) fault = IsPlain inputs (rule.MissingPin u pin) fault
+IsToldBy inputs (rule.DoubleDriven net first second) fault = IsPlain inputs (rule.DoubleDriven net first second) fault
+IsToldBy inputs (rule.Undriven net) fault = IsPlain inputs (rule.Undriven net) fault
+IsToldBy inputs (rule.ControlPin u pin) fault = IsPlain inputs (rule.ControlPin u pin) fault
+IsToldBy inputs (rule.ControlObserved net) fault = IsPlain inputs (rule.ControlObserved net) fault
+IsToldBy inputs (rule.QnUsed u) fault = IsPlain inputs (rule.QnUsed u) fault
+IsToldBy inputs (rule.Loop instances) fault = IsPlain inputs (rule.Loop instances) fault
+IsToldBy inputs (rule.TooManyInstances count) fault = fault ≡ Limit limit.Instances count
+IsToldBy inputs (rule.TooManyInputs count) fault = fault ≡ Limit limit.Inputs count
+IsToldBy inputs (rule.TooManyOutputs count) fault = fault ≡ Limit limit.Outputs count
+IsToldBy inputs (rule.TooManyDefects count) fault = fault ≡ Limit limit.Defects count
+IsToldBy inputs rule.NoMemory fault = ⊥
+
+-- what is told of inputs that don't link
+pub record AtLink (inputs : Inputs) (fault : Fault) : Type 0 where
+  pub broken : ChipFault
+  pub first : BreakFirst inputs broken
+  pub told : IsToldBy inputs broken fault
+
+module _ (inputs : Inputs) where
+  plain_told : (broken : ChipFault) (fault : Fault) → IsPlainRule broken → IsPlain inputs broken fault → IsToldBy inputs broken fault
+  plain_told (rule.UnknownCell u) fault is told = told
+  plain_told (rule.Cell u broken) fault is told = absurd is
+  plain_told (rule.UnknownPin u pin) fault is told = told
+  plain_told (rule.MissingPin u pin) fault is told = told
+  plain_told (rule.DoubleDriven net first second) fault is told = told
+  plain_told (rule.Undriven net) fault is told = told
+  plain_told (rule.ControlPin u pin) fault is told = told
+  plain_told (rule.ControlObserved net) fault is told = told
+  plain_told (rule.QnUsed u) fault is told = told
+  plain_told (rule.Loop instances) fault is told = told
+  plain_told (rule.TooManyInstances count) fault is told = absurd is
+  plain_told (rule.TooManyInputs count) fault is told = absurd is
+  plain_told (rule.TooManyOutputs count) fault is told = absurd is
+  plain_told (rule.TooManyDefects count) fault is told = absurd is
+  plain_told rule.NoMemory fault is told = absurd is
+
+  pub of_link : (fault : Fault) → IsLinkingCause inputs fault → AtLink inputs fault
+  of_link (Cell name broken place) (u, (of, (first, placed))) = record {
+    broken = rule.Cell u broken;
+    first = first;
+    told = record { name = name; place = place; named = of; placed = placed; is = refl };
+  }
+  of_link (fault_.Chip broken place) (plain, (first, placed)) = record {
+    broken = broken;
+    first = first;
+    told = plain_told broken (fault_.Chip broken place) plain (record { place = place; placed = placed; is = refl });
+  }
+  of_link (Limit limit.Instances count) first = record { broken = rule.TooManyInstances count; first = first; told = refl }
+  of_link (Limit limit.Inputs count) first = record { broken = rule.TooManyInputs count; first = first; told = refl }
+  of_link (Limit limit.Outputs count) first = record { broken = rule.TooManyOutputs count; first = first; told = refl }
+  of_link (Limit limit.Defects count) first = record { broken = rule.TooManyDefects count; first = first; told = refl }
+  of_link fault cause = absurd cause
+
+  one_plain : (broken : ChipFault) (fault other : Fault) → IsPlain inputs broken fault → IsPlain inputs broken other → fault ≡ other
+  one_plain broken fault other told also =
+      told.is ∙ ap (fault_.Chip broken) (one_place inputs.netlist inputs.library inputs.rows told.place also.place broken told.placed also.placed)
+      ∙ sym also.is
+
+  -- an instance is of one cell
+  one_cell_name : (u : InstanceId) (name other : List ℕ) → IsOfCell inputs.netlist u name → IsOfCell inputs.netlist u other → name ≡ other
+  one_cell_name u name other of also = by (slice_get inputs.netlist.instances u.0) of also
+    where
+      by : (found : Option RawInstance) → IsSomeAnd found (λ instance. name ≡ upper_case instance.cell)
+          → IsSomeAnd found (λ instance. other ≡ upper_case instance.cell) → name ≡ other
+      by None of also = absurd of
+      by (Some instance) of also = of ∙ sym also
+
+  one_refused : (u : InstanceId) (broken : CellRule) (fault other : Fault) → IsOfRefused inputs u broken fault → IsOfRefused inputs u broken other
+      → fault ≡ other
+  one_refused u broken fault other told also =
+      let name = one_cell_name u told.name also.name told.named also.named in
+      let place = one_place inputs.netlist inputs.library inputs.rows told.place also.place (rule.Cell u broken) told.placed also.placed in
+      told.is ∙ (λ j. Cell (name j) broken (place j)) ∙ sym also.is
+
+  -- a broken rule is told by one fault
+  one_told : (broken : ChipFault) (fault other : Fault) → IsToldBy inputs broken fault → IsToldBy inputs broken other → fault ≡ other
+  one_told (rule.UnknownCell u) fault other told also = one_plain (rule.UnknownCell u) fault other told also
+  one_told (rule.Cell u broken) fault other told also = one_refused u broken fault other told also
+  one_told (rule.UnknownPin u pin) fault other told also = one_plain (rule.UnknownPin u pin) fault other told also
+  one_told (rule.MissingPin u pin) fault other told also = one_plain (rule.MissingPin u pin) fault other told also
+  one_told (rule.DoubleDriven net first second) fault other told also = one_plain (rule.DoubleDriven net first second) fault other told also
+  one_told (rule.Undriven net) fault other told also = one_plain (rule.Undriven net) fault other told also
+  one_told (rule.ControlPin u pin) fault other told also = one_plain (rule.ControlPin u pin) fault other told also
+  one_told (rule.ControlObserved net) fault other told also = one_plain (rule.ControlObserved net) fault other told also
+  one_told (rule.QnUsed u) fault other told also = one_plain (rule.QnUsed u) fault other told also
+  one_told (rule.Loop instances) fault other told also = one_plain (rule.Loop instances) fault other told also
+  one_told (rule.TooManyInstances count) fault other told also = told ∙ sym also
+  one_told (rule.TooManyInputs count) fault other told also = told ∙ sym also
+  one_told (rule.TooManyOutputs count) fault other told also = told ∙ sym also
+  one_told (rule.TooManyDefects count) fault other told also = told ∙ sym also
+  one_told rule.NoMemory fault other told also = absurd told
+
+  -- two loops are told as loops
+  both_loops : (broken also : ChipFault) (fault other : Fault) → link.AreLoops broken also → IsToldBy inputs broken fault → IsToldBy inputs also other
+      → AreLoops fault other
+  both_loops (rule.Loop instances) (rule.Loop others) fault other loops told also =
+      let both : AreLoops (fault_.Chip (rule.Loop instances) told.place) (fault_.Chip (rule.Loop others) also.place) = tt in
+      subst (λ it. AreLoops it other) (sym told.is) (subst (AreLoops (fault_.Chip (rule.Loop instances) told.place)) (sym also.is) both)
+  both_loops broken also fault other loops told told_also = absurd loops
+
+  pub one_link : (fault other : Fault) → AtLink inputs fault → AtLink inputs other → IsSame fault other
+  one_link fault other here there =
+      elim (first_broken inputs.netlist inputs.library inputs.rows here.broken there.broken here.first there.first) [
+        | inl same ↦ inl (one_told there.broken fault other (subst (λ it. IsToldBy inputs it fault) same here.told) there.told)
+        | inr loops ↦ inr (both_loops here.broken there.broken fault other loops here.told there.told)
+      ]
+
+-- the fault tells why a chip has no chains
+abbrev pub IsTracedBy : Chip → ChainFault → Fault → Type 0
+IsTracedBy chip (chain.ChainBroken u) fault =
+    (name : List ℕ) × (IsSomeAnd (slice_get chip.parts u.0) (λ part. name ≡ part.name) × (fault ≡ Chain name))
+IsTracedBy chip (chain.TooManyChains count) fault = fault ≡ Limit limit.Chains count
+IsTracedBy chip chain.NoMemory fault = ⊥
+
+-- what is told of a chip without chains
+pub record AtTrace (chip : Chip) (fault : Fault) : Type 0 where
+  pub broken : ChainFault
+  pub cause : IsChainCause chip broken
+  pub told : IsTracedBy chip broken fault
+
+pub of_trace : (chip : Chip) (fault : Fault) → IsTracingCause fault chip → AtTrace chip fault
+of_trace chip (Chain name) (u, (off, named)) =
+    record { broken = chain.ChainBroken (record { 0 = u }); cause = off; told = (name, (named, refl)) }
+of_trace chip (Limit limit.Chains count) many = record { broken = chain.TooManyChains count; cause = many; told = refl }
+of_trace chip fault cause = absurd cause
+
+some_memory : (chip : Chip) (broken : ChainFault) (fault : Fault) → IsTracedBy chip broken fault → broken ≢ chain.NoMemory
+some_memory chip (chain.ChainBroken u) fault told same = cc
+some_memory chip (chain.TooManyChains count) fault told same = cc
+some_memory chip chain.NoMemory fault told same = told
+
+one_traced : (chip : Chip) (broken : ChainFault) (fault other : Fault) → IsTracedBy chip broken fault → IsTracedBy chip broken other → fault ≡ other
+one_traced chip (chain.ChainBroken u) fault other (name, (named, is)) (also, (named_also, is_also)) =
+    is ∙ ap Chain (by (slice_get chip.parts u.0) named named_also) ∙ sym is_also
+  where
+    by : (found : Option Part) → IsSomeAnd found (λ part. name ≡ part.name) → IsSomeAnd found (λ part. also ≡ part.name) → name ≡ also
+    by None one other = absurd one
+    by (Some part) one other = one ∙ sym other
+one_traced chip (chain.TooManyChains count) fault other told also = told ∙ sym also
+one_traced chip chain.NoMemory fault other told also = absurd told
+
+-- a chip that is alike tells the same
+traced_alike : (chip also : Chip) → AreAlike chip also → (broken : ChainFault) (fault : Fault) → IsTracedBy chip broken fault → IsTracedBy also broken fault
+traced_alike chip also alike (chain.ChainBroken u) fault (name, (named, is)) = (name, (by (slice_get chip.parts u.0) refl named, is))
+  where
+    by : (found : Option Part) → slice_get chip.parts u.0 ≡ found → IsSomeAnd found (λ part. name ≡ part.name)
+        → IsSomeAnd (slice_get also.parts u.0) (λ part. name ≡ part.name)
+    by None at held = absurd held
+    by (Some part) at held =
+        let other = item_at chip.parts also.parts u.0 part alike.same_parts at in
+        rw other.1 (held ∙ (alike.parts u.0 part other.0 at other.1).name)
+traced_alike chip also alike (chain.TooManyChains count) fault told = told
+traced_alike chip also alike chain.NoMemory fault told = absurd told
+
+pub trace_alike : (chip also : Chip) → AreAlike chip also → (fault : Fault) → AtTrace chip fault → AtTrace also fault
+trace_alike chip also alike fault at = record {
+  broken = at.broken;
+  cause = (one_trace chip also alike).cause at.broken at.cause;
+  told = traced_alike chip also alike at.broken fault at.told;
+}
+
+pub one_at_trace : (chip : Chip) (fault other : Fault) → AtTrace chip fault → AtTrace chip other → fault ≡ other
+one_at_trace chip fault other here there =
+    let same = (one_answer chip).one_cause here.broken there.broken here.cause there.cause
+    (some_memory chip here.broken fault here.told) (some_memory chip there.broken other there.told) in
+    one_traced chip there.broken fault other (subst (λ it. IsTracedBy chip it fault) same here.told) there.told
+
+-- a chip with chains has none
+pub none_of_traced : (chip : Chip) (fault : Fault) → AtTrace chip fault → IsTraced chip → ⊥
+none_of_traced chip fault at (chains, all) =
+    some_memory chip at.broken fault at.told ((one_answer chip).not_both chains at.broken all at.cause)
+
+pub traced_also : (chip also : Chip) → AreAlike chip also → IsTraced chip → IsTraced also
+traced_also chip also alike (chains, all) = (chains, (one_trace chip also alike).chains chains all)

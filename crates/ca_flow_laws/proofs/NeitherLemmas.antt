@@ -1,0 +1,380 @@
+-- Of a command on a chip whose files are there it can't be that it can't be answered and that no fault of input
+-- has a cause.
+use Rattle.std.proofs.Common.{ℕ, ◌+◌, ◌≡◌, ◌≤◌, ◌<◌, ◌⊎◌, ◌∙◌, inl, inr, refl, sym, ap, subst, arith, List, [], length, map}
+use Rattle.std.proofs.Common.{Option, Some, None, Result, Ok, Err, true≢false}
+use Rattle.std.specs.Prelude.{IsOk, IsSome, IsSomeAnd, slice_get}
+use Rattle.std.proofs.Math.Decide.{dec_le}
+use Rattle.std.proofs.lemmas.List.Elements.{All-from_recursion}
+use Rattle.std.proofs.lemmas.Option.{same_Some}
+use Rattle.ca_store.specs.Store.{Files}
+use Rattle.ca_lex.specs.Words.{upper_case}
+use Rattle.ca_cell.specs.Library.{Named, IsEntry}
+use Rattle.ca_spice.specs.declared.fault.SpiceFault.{SpiceFault}
+use Rattle.ca_spice.specs.declared.fault.SpiceFault.TheVariants as spice
+use Rattle.ca_spice.specs.Reading.{Reading, library_of}
+use Rattle.ca_spice.specs.Views.{subcircuit_seen}
+use Rattle.ca_spice.proofs.AnswerLemmas.{reading_has_memory}
+use Rattle.ca_verilog.specs.declared.fault.VerilogFault.{VerilogFault}
+use Rattle.ca_verilog.specs.declared.fault.VerilogFault.TheVariants as verilog
+use Rattle.ca_verilog.specs.declared.raw.RawInstance.{RawInstance}
+use Rattle.ca_verilog.specs.declared.raw.RawNetlist.{RawNetlist}
+use Rattle.ca_verilog.specs.Text.{netlist_of}
+use Rattle.ca_wired.specs.declared.instances.InstanceId.{InstanceId}
+use Rattle.ca_wired.specs.Linked.{Chip}
+use Rattle.ca_chip.specs.declared.scan_row.ScanRow.{ScanRow}
+use Rattle.ca_chip.specs.declared.fault.ChipFault.{ChipFault}
+use Rattle.ca_chip.specs.declared.fault.ChipFault.TheVariants as rule
+use Rattle.ca_chip.specs.Wiring.{wiring_of}
+use Rattle.ca_chip.specs.Nets.{FeedsWire}
+use Rattle.ca_chip.specs.Rules.{KeepsRules}
+use Rattle.ca_scan.specs.Table.{table_of}
+use Rattle.ca_place.specs.Names.{wire_text}
+use Rattle.ca_place.specs.Place.{cell_text, pin_text, refused_text, double_text, net_text, loop_text}
+use Rattle.ca_fault.specs.declared.fault.LimitKind.TheVariants as limit
+use Rattle.ca_fault.specs.declared.fault.Fault.{Fault}
+use Rattle.ca_fault.specs.declared.fault.Fault.TheVariants.{Cells, Netlist, Scan, Chain, Cell, BadVector, NoInstance}
+use Rattle.ca_fault.specs.declared.fault.Fault.TheVariants.{NoDefect, Order, TooLong, Limit}
+use Rattle.ca_fault.specs.declared.fault.Fault.TheVariants as fault_
+use Rattle.ca_load.specs.declared.cells.TheConstants.{MAX_CELLS}
+use Rattle.ca_load.specs.declared.netlists.TheConstants.{MAX_NETLIST}
+use Rattle.ca_load.specs.declared.tables.TheConstants.{MAX_SCAN}
+use Rattle.ca_load.specs.Files.{IsFileWith, OfFile, IsReadCause}
+use Rattle.ca_load.specs.Texts.{IsLibraryOf, IsNetlistOf, IsTableOf, IsTableAt, Inputs, ReadAs, OfInputs}
+use Rattle.ca_load.specs.Chips.{IsChipOf, BreakFirst, IsPlainRule, IsOfCell, IsPlaceOf, IsTracingCause, IsChipCause, IsTraced}
+use Rattle.ca_load.specs.Causes.{IsTextCause, IsModuleCause, IsRecordCause, HasLibrary, HasNetlist, IsScanCause, IsChipFault, IsLoadCause}
+use Rattle.ca_asked.specs.Asked.{IsDefectCause}
+use Rattle.ca_chip_replay.specs.ChipRun.{RunOf}
+use Rattle.ca_words.specs.Words.{chip_files, instance_word, chip_defect_word, chip_first_word, chip_last_word, order_word}
+use Rattle.ca_words.specs.Words.{IsFlatten, IsSimulate, IsReplay, IsOnChip}
+use Rattle.ca_on_chip.specs.declared.replays.TheConstants.{MAX_ORDER}
+use Rattle.ca_on_chip.specs.OnChip.{GiveChipWith, OfChip, IsDefectWord, IsVectorWord, IsSimulationCause}
+use Rattle.ca_on_chip.specs.Replay.{IsAskedRun, HasFaultyLine, HasRun}
+use Rattle.ca_flow.specs.Fault.{Outside, IsOwnCause, IsCause}
+use Rattle.ca_flow.specs.Complete.{FitsFile, HasEvents, FitsOwn, FitsChip, IsAnswerable}
+use Rattle.ca_flow_laws.specs.Same.{IsInputFault}
+use Rattle.ca_flow_laws.specs.Told.{IsInputFile, TellsAllFiles}
+use Rattle.ca_flow_laws.specs.Laws.{HasInputCause}
+use Rattle.ca_flow_laws.proofs.LinkLemmas.{traced_also}
+use Rattle.ca_flow_laws.proofs.OneLemmas.{AreOne, one_chip, NamesOne, names_one}
+use Rattle.ca_flow_laws.proofs.RawLemmas.{raw_cells}
+use Rattle.ca_flow_laws.proofs.MadeLemmas.{library_made, netlist_has_memory}
+use Rattle.ca_flow_laws.proofs.FirstLemmas.{either, none_broken, no_loop}
+use Rattle.ca_flow_laws.proofs.ChainLemmas.{traced_or}
+use Rattle.ca_flow_laws.proofs.GivenLemmas.{defect_or, simulate_or, asked_given, has_run, events_or}
+use Rattle.ca_flow_laws.proofs.AnsweredLemmas.{fits_defect, fits_simulate, fits_run, has_events, check_own, flatten_own, simulate_own}
+use Rattle.ca_flow_laws.proofs.AnsweredLemmas.{atpg_own, replay_own}
+
+within_or_past : (n most : ℕ) → (n ≤ most) ⊎ (most < n)
+within_or_past n most = elim (dec_le n most) [ yes within ↦ inl within | no past ↦ inr (omega (arith, past)) ]
+
+-- what a fault tells that has a cause
+defect_told : (instance defect : List ℕ) (chip : Chip) (fault : Fault) → IsDefectCause chip instance defect fault
+    → IsInputFault fault × IsDefectWord instance defect fault
+defect_told instance defect chip (NoInstance typed) (same, (some, lacks)) = (tt, (same, some))
+defect_told instance defect chip (NoDefect typed) (same, (some, lacks)) = (tt, (same, some))
+defect_told instance defect chip fault cause = absurd cause
+
+simulation_told : (instance defect first last : List ℕ) (chip : Chip) (fault : Fault) → IsSimulationCause instance defect first last fault chip
+    → IsInputFault fault × (IsVectorWord first last fault ⊎ IsDefectWord instance defect fault)
+simulation_told instance defect first last chip (BadVector typed) (inl (inl cause)) = (tt, inl (inl cause.0))
+simulation_told instance defect first last chip (BadVector typed) (inl (inr cause)) = (tt, inl (inr cause.0))
+simulation_told instance defect first last chip fault (inl cause) = absurd cause
+simulation_told instance defect first last chip fault (inr (fits, (too, cause))) =
+    let told = defect_told instance defect chip fault cause in (told.0, inr told.1)
+
+tracing_told : (chip : Chip) (fault : Fault) → IsTracingCause fault chip → IsInputFault fault × IsChipFault fault
+tracing_told chip (Chain name) cause = (tt, tt)
+tracing_told chip (Limit limit.Chains count) cause = (tt, tt)
+tracing_told chip fault cause = absurd cause
+
+module _ (words : List (List ℕ)) (outside : Outside) (told : Files) (are : outside.files ≡ Some told) (on : IsOnChip words)
+    (there : (name : List ℕ) → IsInputFile words name → IsSome (told name)) (no_answer : IsAnswerable words outside.files → ⊥)
+    (no_cause : (fault : Fault) → IsInputFault fault → IsCause words outside outside fault → ⊥) where
+  no_load : (fault : Fault) → IsInputFault fault
+      → IsLoadCause (chip_files words) outside.files outside.store_faults outside.store_faults fault → ⊥
+  no_load fault is cause = no_cause fault is (inr (inl (inr (inr (inr (inr (inl (on, inl cause))))))))
+
+  no_own : (fault : Fault) → IsInputFault fault → IsOwnCause words outside.files outside.store_faults outside.store_faults fault → ⊥
+  no_own fault is cause = no_cause fault is (inr (inl (inr (inr (inr (inr (inl (on, inr cause))))))))
+
+  bytes_of : (name : List ℕ) → IsInputFile words name → (bytes : List ℕ) × (told name ≡ Some bytes)
+  bytes_of name is = by (told name) (there name is)
+    where
+      by : (file : Option (List ℕ)) → IsSome file → (bytes : List ℕ) × (file ≡ Some bytes)
+      by None some = absurd (true≢false (sym some))
+      by (Some bytes) some = (bytes, refl)
+
+  module _ (name bytes : List ℕ) (most : ℕ) (is : told name ≡ Some bytes) where
+    too_long : most < length bytes → IsReadCause name outside.files most outside.store_faults outside.store_faults (TooLong name (most + 1))
+    too_long past = (
+      refl,
+      record {
+        past = λ other same.
+            let one : other ≡ told = same_Some other told (sym same ∙ are) in
+            subst (λ (it : Files). IsSomeAnd (it name) (λ bytes. most < length bytes)) (sym one)
+            (subst (λ file. IsSomeAnd file (λ bytes. most < length bytes)) (sym is) past);
+        one_more = refl;
+        quiet = refl;
+      },
+    )
+
+    file_with : (P : List ℕ → Type 0) → length bytes ≤ most → P bytes → IsFileWith told name most P
+    file_with P within held = subst (λ file. IsSomeAnd file (λ bytes. (length bytes ≤ most) × P bytes)) (sym is) (within, held)
+
+    in_file : (P : List ℕ → Type 0) → length bytes ≤ most → P bytes → OfFile outside.files name most P
+    in_file P within held = λ other same.
+        let one : other ≡ told = same_Some other told (sym same ∙ are) in
+        subst (λ (it : Files). IsFileWith it name most P) (sym one) (file_with P within held)
+
+  -- the first file
+  cells_or : ((library : List Named) → IsFileWith told (chip_files words).cells MAX_CELLS (IsLibraryOf library)
+      → HasLibrary outside.files (chip_files words).cells → ⊥) → ⊥
+  cells_or refutes = by (within_or_past (length found.0) MAX_CELLS)
+    where
+      name : List ℕ
+      name = (chip_files words).cells
+
+      found : (bytes : List ℕ) × (told (chip_files words).cells ≡ Some bytes)
+      found = bytes_of (chip_files words).cells (inr (inl (on, inl refl)))
+
+      read : length found.0 ≤ MAX_CELLS → (given : Result _ SpiceFault) → library_of found.0 ≡ given → ⊥
+      read within (Ok cells) is =
+          let reading : Reading = record { cells = cells; current = None } in
+          let made = library_made reading (raw_cells found.0 reading within is) in
+          let reads : library_of found.0 ≡ Ok (map subcircuit_seen made.library) = is ∙ ap (λ it. Ok it) (sym made.seen) in
+          refutes made.library (file_with name found.0 MAX_CELLS found.1 (IsLibraryOf made.library) within (record {
+            reads = reads;
+            entries = All-from_recursion (λ named. IsEntry named.entry) made.library made.entries;
+          })) (in_file name found.0 MAX_CELLS found.1 (λ bytes. IsOk (library_of bytes)) within (rw is refl))
+      read within (Err (spice.At line kind)) is =
+          no_load (Cells line kind) tt (inl (inl (inr (in_file name found.0 MAX_CELLS found.1 (IsTextCause (Cells line kind)) within is))))
+      read within (Err (spice.TooManyCells count)) is =
+          no_load (Limit limit.Cells count) tt (inl (inl (inr (in_file name found.0 MAX_CELLS found.1 (IsTextCause (Limit limit.Cells count)) within is))))
+      read within (Err spice.NoMemory) is = reading_has_memory found.0 is
+
+      by : (length found.0 ≤ MAX_CELLS) ⊎ (MAX_CELLS < length found.0) → ⊥
+      by (inl within) = read within (library_of found.0) refl
+      by (inr past) = no_load (TooLong name (MAX_CELLS + 1)) tt (inl (inl (inl (too_long name found.0 MAX_CELLS found.1 past))))
+
+  -- the second
+  netlist_or : HasLibrary outside.files (chip_files words).cells → ((netlist : RawNetlist)
+      → IsFileWith told (chip_files words).netlist MAX_NETLIST (IsNetlistOf netlist)
+      → HasNetlist outside.files (chip_files words).netlist → ⊥) → ⊥
+  netlist_or has refutes = by (within_or_past (length found.0) MAX_NETLIST)
+    where
+      name : List ℕ
+      name = (chip_files words).netlist
+
+      found : (bytes : List ℕ) × (told (chip_files words).netlist ≡ Some bytes)
+      found = bytes_of (chip_files words).netlist (inr (inl (on, inr (inl refl))))
+
+      read : length found.0 ≤ MAX_NETLIST → (given : Result RawNetlist VerilogFault) → netlist_of found.0 ≡ given → ⊥
+      read within (Ok netlist) is = refutes netlist (file_with name found.0 MAX_NETLIST found.1 (IsNetlistOf netlist) within is)
+          (in_file name found.0 MAX_NETLIST found.1 (λ bytes. IsOk (netlist_of bytes)) within (rw is refl))
+      read within (Err (verilog.At line kind)) is = no_load (Netlist line kind) tt
+          (inl (inr (inl (has, inr (in_file name found.0 MAX_NETLIST found.1 (IsModuleCause (Netlist line kind)) within is)))))
+      read within (Err (verilog.TooManyNets count)) is = no_load (Limit limit.Nets count) tt
+          (inl (inr (inl (has, inr (in_file name found.0 MAX_NETLIST found.1 (IsModuleCause (Limit limit.Nets count)) within is)))))
+      read within (Err verilog.NoMemory) is = netlist_has_memory found.0 is
+
+      by : (length found.0 ≤ MAX_NETLIST) ⊎ (MAX_NETLIST < length found.0) → ⊥
+      by (inl within) = read within (netlist_of found.0) refl
+      by (inr past) =
+          no_load (TooLong name (MAX_NETLIST + 1)) tt (inl (inr (inl (has, inl (too_long name found.0 MAX_NETLIST found.1 past)))))
+
+  -- the third, where the words name one
+  table_or : (scan : Option (List ℕ)) → ((name : List ℕ) → scan ≡ Some name → IsInputFile words name)
+      → ((fault : Fault) → IsInputFault fault → IsScanCause scan outside.files outside.store_faults outside.store_faults fault → ⊥)
+      → ((rows : List ScanRow) → IsTableAt (Some told) scan rows → ⊥) → ⊥
+  table_or None input none refutes = refutes [] refl
+  table_or (Some name) input none refutes = by (within_or_past (length found.0) MAX_SCAN)
+    where
+      found : (bytes : List ℕ) × (told name ≡ Some bytes)
+      found = bytes_of name (input name refl)
+
+      read : length found.0 ≤ MAX_SCAN → (given : Result (List ScanRow) ℕ) → table_of found.0 ≡ given → ⊥
+      read within (Ok rows) is = refutes rows (λ other same.
+          let one : told ≡ other = same_Some told other same in
+          subst (λ (it : Files). IsFileWith it name MAX_SCAN (IsTableOf rows)) one (file_with name found.0 MAX_SCAN found.1 (IsTableOf rows) within is))
+      read within (Err row) is = none (Scan row) tt (inr (in_file name found.0 MAX_SCAN found.1 (IsRecordCause (Scan row)) within is))
+
+      by : (length found.0 ≤ MAX_SCAN) ⊎ (MAX_SCAN < length found.0) → ⊥
+      by (inl within) = read within (table_of found.0) refl
+      by (inr past) = none (TooLong name (MAX_SCAN + 1)) tt (inl (too_long name found.0 MAX_SCAN found.1 past))
+
+  inputs_or : ((inputs : Inputs) → ReadAs (chip_files words) inputs told → ⊥) → ⊥
+  inputs_or refutes = cells_or (λ library cells has. netlist_or has (λ netlist tokens too.
+      table_or (chip_files words).scan (λ name is. inr (inl (on, inr (inr is))))
+      (λ fault is cause. no_load fault is (inl (inr (inr (has, (too, cause))))))
+      (λ rows table. refutes (record { library = library; netlist = netlist; rows = rows })
+      (record { library = cells; netlist = tokens; rows = table }))))
+
+  module _ (inputs : Inputs) (read : ReadAs (chip_files words) inputs told) where
+    of_inputs : (Holds : Inputs → Type 0) → Holds inputs → OfInputs outside.files (chip_files words) Holds
+    of_inputs Holds held = λ other same.
+        let one : other ≡ told = same_Some other told (sym same ∙ are) in
+        subst (λ (it : Files). (inputs : Inputs) × (ReadAs (chip_files words) inputs it × Holds inputs)) (sym one) (inputs, (read, held))
+
+    no_chip_cause : (fault : Fault) → IsInputFault fault → IsChipFault fault → IsChipCause fault inputs → ⊥
+    no_chip_cause fault is chip cause = no_load fault is (inr (chip, of_inputs (IsChipCause fault) cause))
+
+    no_plain : (broken : ChipFault) (place : List ℕ) → IsPlainRule broken → IsPlaceOf inputs broken place → BreakFirst inputs broken → ⊥
+    no_plain broken place plain placed first = no_chip_cause (fault_.Chip broken place) tt plain (inl (plain, (first, placed)))
+
+    cell_named : (u : InstanceId) (P : RawInstance → Type 0) → IsSomeAnd (slice_get inputs.netlist.instances u.0) P
+        → (name : List ℕ) × IsOfCell inputs.netlist u name
+    cell_named u P held = by (slice_get inputs.netlist.instances u.0) held
+      where
+        by : (found : Option RawInstance) → IsSomeAnd found P → (name : List ℕ) × IsSomeAnd found (λ instance. name ≡ upper_case instance.cell)
+        by None held = absurd held
+        by (Some instance) held = (upper_case instance.cell, refl)
+
+    no_first : (broken : ChipFault) → BreakFirst inputs broken → ⊥
+    no_first (rule.UnknownCell u) first = no_plain (rule.UnknownCell u) (cell_text inputs.netlist.instances u.0) tt refl first
+    no_first (rule.Cell u broken) first =
+        let named = cell_named u _ first.breaks.1 in
+        no_chip_cause (Cell named.0 broken (refused_text inputs.netlist inputs.library u.0 broken)) tt tt (inl (u, (named.1, (first, refl))))
+    no_first (rule.UnknownPin u pin) first = no_plain (rule.UnknownPin u pin) (pin_text inputs.netlist.instances u.0 pin) tt refl first
+    no_first (rule.MissingPin u pin) first = no_plain (rule.MissingPin u pin) (pin_text inputs.netlist.instances u.0 pin) tt refl first
+    no_first (rule.DoubleDriven net one two) first =
+        let is = first.breaks.1 in
+        no_plain (rule.DoubleDriven net one two)
+        (wire_text inputs.netlist.buses is.wire (λ name. double_text inputs.netlist.instances name one two)) tt (is.wire, is.is_net, refl) first
+    no_first (rule.Undriven net) first =
+        let is = first.breaks.1 in
+        no_plain (rule.Undriven net) (wire_text inputs.netlist.buses is.wire net_text) tt (is.wire, is.is_net, refl) first
+    no_first (rule.ControlPin u pin) first = no_plain (rule.ControlPin u pin) (pin_text inputs.netlist.instances u.0 pin) tt refl first
+    no_first (rule.ControlObserved net) first =
+        let is = first.breaks.1 in
+        no_plain (rule.ControlObserved net) (wire_text inputs.netlist.buses is.wire net_text) tt (is.wire, is.is_net, refl) first
+    no_first (rule.QnUsed u) first = no_plain (rule.QnUsed u) (cell_text inputs.netlist.instances u.0) tt refl first
+    no_first (rule.Loop instances) first = no_loop (FeedsWire (wiring_of inputs.netlist inputs.library inputs.rows)) (λ loop is once.
+        no_plain (rule.Loop loop) (loop_text inputs.netlist.instances loop) once refl
+        (record { at = first.at; breaks = (first.breaks.0, is); none_before = first.none_before })) instances first.breaks.1
+    no_first (rule.TooManyInstances count) first = no_chip_cause (Limit limit.Instances count) tt tt (inl first)
+    no_first (rule.TooManyInputs count) first = no_chip_cause (Limit limit.Inputs count) tt tt (inl first)
+    no_first (rule.TooManyOutputs count) first = no_chip_cause (Limit limit.Outputs count) tt tt (inl first)
+    no_first (rule.TooManyDefects count) first = no_chip_cause (Limit limit.Defects count) tt tt (inl first)
+    no_first rule.NoMemory first = absurd first.breaks
+
+    kept : KeepsRules inputs.netlist inputs.library inputs.rows
+    kept = none_broken inputs.netlist inputs.library inputs.rows no_first
+
+    answer : ((chip : Chip) → IsChipOf inputs chip → IsTraced chip) → ((chip : Chip) → IsChipOf inputs chip → FitsOwn words told chip) → ⊥
+    answer traced own =
+        let fits : FitsChip words told = record {
+          is = on;
+          inputs = inputs;
+          read = read;
+          gives = record { kept = kept; chains = traced };
+          own = own;
+        } in
+        no_answer (inr (subst (λ it. IsSomeAnd it (λ told. FitsFile words told ⊎ FitsChip words told)) (sym are) (inr fits)))
+
+    module _ (chip : Chip) (is : IsChipOf inputs chip) (traced : IsTraced chip) where
+      one : NamesOne chip
+      one = names_one (chip_files words) inputs told chip read is
+
+      of_chip : (Holds : Chip → Type 0) → Holds chip → OfChip outside.files (chip_files words) Holds
+      of_chip Holds held = of_inputs (GiveChipWith Holds) (record { chip = chip; is = is; traced = traced; holds = held })
+
+      own_answer : ((also : Chip) → AreOne chip also → NamesOne also → FitsOwn words told also) → ⊥
+      own_answer own = answer (λ also is_also. traced_also chip also (one_chip inputs chip also is is_also).alike traced)
+          (λ also is_also. own also (one_chip inputs chip also is is_also) (names_one (chip_files words) inputs told also read is_also))
+
+      at_flatten : IsFlatten words → ⊥
+      at_flatten flatten = defect_or words chip one (λ fault cause.
+          let tells = defect_told (instance_word words) (chip_defect_word words) chip fault cause in
+          no_own fault tells.0 (inl (flatten, (tells.1, of_chip (λ chip. IsDefectCause chip (instance_word words) (chip_defect_word words) fault) cause))))
+          (λ fits.
+          let given = asked_given words chip flatten.defect fits in
+          own_answer (λ also same names. flatten_own words told also flatten (fits_defect words chip also same names given.0 given.1)))
+
+      at_simulate : IsSimulate words → ⊥
+      at_simulate simulate = simulate_or words chip one (λ fault cause.
+          let tells = simulation_told (instance_word words) (chip_defect_word words) (chip_first_word words) (chip_last_word words) chip fault cause in
+          no_own fault tells.0 (inr (inl (
+            simulate,
+            (
+              tells.1,
+              of_chip (IsSimulationCause (instance_word words) (chip_defect_word words)
+                  (chip_first_word words) (chip_last_word words) fault) cause,
+            ),
+          ))))
+          (λ fits.
+          let given = asked_given words chip simulate.defect fits.defect in
+          own_answer (λ also same names.
+          simulate_own words told also simulate (fits_simulate words chip also same names fits.first fits.last given.0 given.1)))
+
+      at_events : IsReplay words → (run : RunOf)
+          → IsAskedRun (instance_word words) (chip_defect_word words) (chip_first_word words) (chip_last_word words) chip run → ⊥
+      at_events replay run asked = by (within_or_past (length found.0) MAX_ORDER)
+        where
+          found : (bytes : List ℕ) × (told (order_word words) ≡ Some bytes)
+          found = bytes_of (order_word words) (inr (inr (replay, refl)))
+
+          by : (length found.0 ≤ MAX_ORDER) ⊎ (MAX_ORDER < length found.0) → ⊥
+          by (inl within) = events_or run found.0
+              (λ events reads. own_answer (λ also same names. replay_own words told also replay (record {
+                pair = fits_run words chip also same names run asked;
+                events = file_with (order_word words) found.0 MAX_ORDER found.1 (HasEvents words also) within
+                    (has_events words chip also same names found.0 run asked events reads);
+              })))
+              (λ line faulty. no_own (Order line) tt (inr (inr (inr (
+                replay,
+                inr (of_chip (λ chip. OfFile outside.files (order_word words) MAX_ORDER
+                    (HasFaultyLine (instance_word words) (chip_defect_word words) (chip_first_word words) (chip_last_word words) line chip))
+                    (in_file (order_word words) found.0 MAX_ORDER found.1
+                    (HasFaultyLine (instance_word words) (chip_defect_word words) (chip_first_word words) (chip_last_word words) line chip)
+                    within (record { run = run; asked = asked; faulty = faulty }))),
+              )))))
+          by (inr past) = no_own (TooLong (order_word words) (MAX_ORDER + 1)) tt (inr (inr (inr (
+            replay,
+            inr (
+              of_chip (HasRun (instance_word words) (chip_defect_word words) (chip_first_word words) (chip_last_word words)) (run, asked),
+              too_long (order_word words) found.0 MAX_ORDER found.1 past,
+            ),
+          ))))
+
+      at_replay : IsReplay words → ⊥
+      at_replay replay = simulate_or words chip one (λ fault cause.
+          let tells = simulation_told (instance_word words) (chip_defect_word words) (chip_first_word words) (chip_last_word words) chip fault cause in
+          no_own fault tells.0 (inr (inr (inr (
+            replay,
+            inl (
+              tells.1,
+              of_chip (IsSimulationCause (instance_word words) (chip_defect_word words)
+                  (chip_first_word words) (chip_last_word words) fault) cause,
+            ),
+          )))))
+          (λ fits. let run = has_run words chip replay.defect fits in at_events replay run.0 run.1)
+
+      at_chip : IsOnChip words → ⊥
+      at_chip (inl check) = own_answer (λ also same names. check_own words told also check)
+      at_chip (inr (inl flatten)) = at_flatten flatten
+      at_chip (inr (inr (inl simulate))) = at_simulate simulate
+      at_chip (inr (inr (inr (inl atpg)))) = own_answer (λ also same names. atpg_own words told also atpg)
+      at_chip (inr (inr (inr (inr replay)))) = at_replay replay
+
+    at_inputs : ⊥
+    at_inputs = either ((chip : Chip) × IsChipOf inputs chip) (λ found. elim found [
+      | inr none ↦ answer (λ chip is. absurd (none (chip, is))) (λ chip is. absurd (none (chip, is)))
+      | inl it ↦ traced_or it.0 (λ fault cause.
+          let tells = tracing_told it.0 fault cause in
+          no_chip_cause fault tells.0 tells.1 (inr (record { chip = it.0; is = it.1; cause = cause })))
+          (λ traced. at_chip it.0 it.1 traced on)
+    ])
+
+  neither : ⊥
+  neither = inputs_or at_inputs
+
+-- not neither
+pub never_neither : (words : List (List ℕ)) (outside : Outside) → TellsAllFiles words outside → IsOnChip words
+    → ¬ (¬ (IsAnswerable words outside.files ⊎ HasInputCause words outside))
+never_neither words outside tells on refutes = by outside.files refl tells
+  where
+    by : (files : Option Files) → outside.files ≡ files
+        → IsSomeAnd files (λ told. (name : List ℕ) → IsInputFile words name → IsSome (told name)) → ⊥
+    by None are tells = tells
+    by (Some told) are tells =
+        neither words outside told are on tells (λ answer. refutes (inl answer)) (λ fault is cause. refutes (inr (fault, (is, cause))))

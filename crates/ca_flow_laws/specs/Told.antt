@@ -1,0 +1,27 @@
+-- What a store tells of the files that a command reads.
+use Rattle.std.specs.Prelude.{◌≡◌, ◌⊎◌, ℕ, List, Some, IsSome, IsSomeAnd}
+use Rattle.ca_store.specs.Store.{Files}
+use Rattle.ca_load.specs.Texts.{InputFiles}
+use Rattle.ca_words.specs.Words.{cells_word, order_word, chip_files, IsReplay, IsOnCell, IsOnChip}
+use Rattle.ca_flow.specs.Fault.{Outside}
+
+-- the name is that of one of the files of a chip
+abbrev pub IsChipFile : InputFiles → List ℕ → Type 0
+IsChipFile names name = (name ≡ names.cells) ⊎ ((name ≡ names.netlist) ⊎ (names.scan ≡ Some name))
+
+-- a command of these words reads the file of this name
+abbrev pub IsInputFile : List (List ℕ) → List ℕ → Type 0
+IsInputFile words name =
+    (IsOnCell words × (name ≡ cells_word words))
+    ⊎ ((IsOnChip words × IsChipFile (chip_files words) name)
+    ⊎ (IsReplay words × (name ≡ order_word words)))
+
+-- the store tells what stands under the name of each file that the command reads: these bytes, or no file
+abbrev pub TellsFiles : List (List ℕ) → Files → Outside → Type 0
+TellsFiles words files outside =
+    IsSomeAnd outside.files (λ told. (name : List ℕ) → IsInputFile words name → told name ≡ files name)
+
+-- the store tells of each of these files that it is there
+abbrev pub TellsAllFiles : List (List ℕ) → Outside → Type 0
+TellsAllFiles words outside =
+    IsSomeAnd outside.files (λ told. (name : List ℕ) → IsInputFile words name → IsSome (told name))
