@@ -4,8 +4,8 @@
 #   tools/try_bugs.sh                  # of all crates that have some
 #   tools/try_bugs.sh ca_net ca_lex    # of these
 #
-# It works on a copy of what is committed, in which a crate's bugs are beside its must-fail edits, and `rt ci
-# CRATE ..` tries them. A crate that `rt ci` has passed on this machine isn't proved again, and what was tried
+# It works on a copy of what is committed, in which a crate's bugs are beside its must-fail edits, and
+# `rt ci CRATE ..` tries them. A crate that `rt ci` has passed on this machine isn't proved again, and what was tried
 # is kept until something that it depends on changes, crate by crate: so a call that was broken off goes on
 # where it stopped. A crate costs one more proof of it, and each bug some ten seconds to half a minute of a
 # processor.
