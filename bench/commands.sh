@@ -16,7 +16,8 @@ if [ ! -x "$program" ]; then
     exit 1
 fi
 
-# The time of the command behind $1, which says what it is, and $2, its number of runs. A run has to end with the status that `wanted` has.
+# The time of the command after $1, which says what it is, and $2, its number of runs. A run has to end with
+# the status that `wanted` has.
 wanted=0
 measure() {
     what=$1

@@ -3,7 +3,7 @@
 
 usage: bench/figures.py PROGRAM [matrices|commands|chips|made|large|hostile].. [--fuzz COUNT]
 
-PROGRAM is the built program. A table of the page stands between a line `<!-- NAME -->` and the next blank line; the names are those above,
+PROGRAM is the built program. A table of the page is between a line `<!-- NAME -->` and the next blank line; the names are those above,
 all of them if none is said. The line `<!-- build -->` is followed by the commit and the size of the program. Run it on a quiet machine, with
 Debian's `yosys` and `qflow-tech-osu035` installed for the real library and the mapped chips.
 """

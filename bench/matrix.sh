@@ -65,7 +65,8 @@ measure_all() {
     done
 }
 
-# A NAND of $1 inputs and a chain of inverters behind it, with $2 transistors in all, which is even and at least 2 * $1; its name is $3.
+# A NAND of $1 inputs and a chain of inverters after it, with $2 transistors in all, which is even and at
+# least 2 * $1; its name is $3.
 make_cell() {
     awk -v inputs="$1" -v devices="$2" -v name="$3" 'BEGIN {
         chain = devices / 2 - inputs

@@ -3,14 +3,14 @@
 
 usage: add_pin_roles.py LIBRARY [--models FILE.v] --power NAMES --ground NAMES [--nmos NAMES] [--pmos NAMES] > NEW
 
-Writes LIBRARY with one line *.PININFO behind each .SUBCKT card. NAMES are separated by commas, in any case.
+Writes LIBRARY with one line *.PININFO after each .SUBCKT card. NAMES are separated by commas, in any case.
 The role of a pin is, by the first that says one:
   --power, --ground   P or G
   --models            I or O: the pin is an input or an output of the Verilog module of the cell's name
   *.PININFO           I or O as the library has it
 --nmos and --pmos name transistor models. A card M or X of such a model becomes a card M of the model N or P.
 A cell that cellaware couldn't read would spoil the whole file. It is written as comments, and so is each line
-between the subcircuits that cellaware doesn't know; standard error tells each with its reason. No value is changed.
+between the subcircuits that cellaware doesn't know; standard error reports each with its reason. No value is changed.
 """
 import argparse
 import re

@@ -3,8 +3,8 @@
 
 usage: tools/check_map.py
 
-The crates stand in the same order under the same headings in both; each folder of crates/ has a line in both; what a row of the map says that a crate
-stands on is in its line of crates.txt. Python 3.9 or later, no packages.
+The crates are in the same order under the same headings in both; each folder of crates/ has a line in both; what
+a row of the map says that a crate depends on is in its line of crates.txt. Python 3.9 or later, no packages.
 """
 import os
 import re

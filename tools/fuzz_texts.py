@@ -6,7 +6,8 @@ usage: fuzz_texts.py PROGRAM COUNT [SEED]
 Each run takes one of the chips of examples/ (c17 with cells.sp, or acc with fa28.sp and scan.csv), or the text of a run
 (glitch.v with falls.order, under `replay`), and changes one to four places of one of its texts: a byte, a token, a line or a piece is
 put in, left out, doubled or exchanged. The program must end within ten seconds with one of its statuses: 0 and a line of counts or
-values; 1 to 3 with one line on the standard error that begins with `cellaware: `, or a second one behind two blanks. Anything else is told with its texts and counts.
+values; 1 to 3 with one line on the standard error that begins with `cellaware: `, or a second one after two blanks.
+Anything else is reported with its texts and counts.
 Python 3.9 or later, no packages.
 """
 import collections

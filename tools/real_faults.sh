@@ -1,5 +1,6 @@
 #!/usr/bin/env bash
-# Tries real faults of files and outputs at the program's edge, and looks at the status, the line and what stands afterwards.
+# Tries real faults of files and outputs at the program's edge, and looks at the status, the line and what is
+# there afterwards.
 #
 #   tools/real_faults.sh crates/cellaware/out/cellaware
 #

@@ -4,10 +4,11 @@
 #   tools/try_bugs.sh                  # of all crates that have some
 #   tools/try_bugs.sh ca_net ca_lex    # of these
 #
-# It works on a copy of what is committed, in which a crate's bugs stand beside its must-fail edits, and `rt ci CRATE ..` tries them. A crate
-# that `rt ci` has passed on this machine isn't proved again, and what was tried is kept until something that it stands on changes, crate by
-# crate: so a call that was broken off goes on where it stopped. A crate costs one more proof of it, and each bug some ten seconds to half a
-# minute of a processor.
+# It works on a copy of what is committed, in which a crate's bugs are beside its must-fail edits, and
+# `rt ci CRATE ..` tries them. A crate that `rt ci` has passed on this machine isn't proved again, and what
+# was tried is kept until something that it depends on changes, crate by crate: so a call that was broken off
+# goes on where it stopped. A crate costs one more proof of it, and each bug some ten seconds to half a minute
+# of a processor.
 # What isn't refused is listed. The last line counts the bugs that were refused and those that weren't; the status is 0 where all were.
 set -eu
 

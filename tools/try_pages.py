@@ -1,9 +1,9 @@
 #!/usr/bin/env python3
-"""Runs each command that README.md and docs/TUTORIAL.md show, in a scratch copy of examples/, and compares what it prints with what stands there.
+"""Runs each command that README.md and docs/TUTORIAL.md show, in a scratch copy of examples/, and compares what it prints with what is there.
 
 usage: tools/try_pages.py PROGRAM
 
-A command is a line that begins with four spaces and `$ `, and goes on as long as a quote is open. What it prints are the lines behind it that begin
+A command is a line that begins with four spaces and `$ `, and goes on as long as a quote is open. What it prints are the lines after it that begin
 with four spaces; a line with `...` stands for the rest. Pictures are left out. The status is 1 where something differs."""
 import os
 import shutil

@@ -1,4 +1,4 @@
--- The texts that tell test generation on a linked chip.
+-- The texts that report test generation on a linked chip.
 use Rattle.std.specs.Prelude.{ℕ, ◌≡◌, Bool, List}
 use Rattle.ca_net.specs.declared.trit.Trit.{Trit}
 use Rattle.ca_wired.specs.Linked.{Chip}
@@ -25,6 +25,6 @@ abbrev pub report_of : Chip → List Verdict → List ℕ
 report_of chip verdicts =
     report_text (output_names chip) (report_rows chip (task_of chip 0).defects verdicts)
 
--- the line that tells how many defects have which verdict, and how many pairs there are
+-- the line that says how many defects have which verdict, and how many pairs there are
 abbrev pub summary_text : List Verdict → ℕ → List ℕ
 summary_text verdicts pairs = summary.summary_line (summary.summary_of verdicts pairs)

@@ -96,8 +96,8 @@ fn made_over<T: Watch>(
     Ok(Made { generated, values })
 }
 
-// The same over the chip's tables and links. Here and below each thing is let go at one place, since that is
-// dear to prove.
+// The same over the chip's tables and links. Each value is dropped in one place here and below: more places
+// are slow to prove.
 fn made_by_rows<T: Watch>(
     alloc: Global,
     chip: &Chip,
@@ -143,9 +143,9 @@ fn made_for<T: Watch>(
     made
 }
 
-/// Searches for pairs that show the defects of a linked chip, with at most so many branches for each, and
-/// writes the texts. The watch is told after each defect's turn. Want of memory is also told of a chip with
-/// 2^14 chip inputs, with 2^32 defects or whose flat network may have 2^32 nodes or devices.
+/// Searches for pairs that show the defects of a linked chip, with at most `budget` branches for each, and
+/// writes the texts. The watch is notified after each defect's turn. Also answers out of memory for a chip
+/// with 2^14 chip inputs, with 2^32 defects or whose flat network may have 2^32 nodes or devices.
 pub fn atpg<T: Watch>(
     alloc: Global,
     chip: &Chip,

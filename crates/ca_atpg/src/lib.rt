@@ -1,4 +1,4 @@
-//! Test generation on a linked chip, with the texts that tell it: the patterns, the report and the summary.
+//! Test generation on a linked chip, with the texts that report it: the patterns, the report and the summary.
 #![tactic(auto)]
 
 mod generation;

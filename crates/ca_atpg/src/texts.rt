@@ -1,4 +1,4 @@
-//! The texts that tell test generation.
+//! The texts that report test generation.
 
 ghost use Rattle.std.specs.Prelude.{◌≡◌, length, IfOk};
 ghost use Rattle.std.specs.List.{All};
@@ -59,7 +59,7 @@ pub(crate) fn report_of(
     write_chip_report(alloc, chip, defects.as_slice(), verdicts)
 }
 
-/// The line that tells how many defects have which verdict, and how many pairs there are.
+/// The line that says how many defects have which verdict, and how many pairs there are.
 pub fn summary_text(alloc: Global, verdicts: &Verdicts, pairs: usize) -> Result<Text, NoMemory>
     ensures { IfOk result (λ text. text ≡ summary_text verdicts.now pairs) }
 {

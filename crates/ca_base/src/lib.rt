@@ -1,5 +1,5 @@
-//! What every crate shares: lists, the error of a call that can fail for want of memory alone, and in specs/
-//! the word for "the first that".
+//! What every crate shares: lists, the error of a call that fails only when out of memory, and in specs/ the
+//! word for "the first that".
 #![tactic(auto)]
 
 mod list;

@@ -31,7 +31,7 @@ impl<T: Drop> List<T> {
         }
     }
 
-    /// The list of no entries, with room for so many: the next `count` pushes take no memory.
+    /// The empty list, with room for `count` entries: the next `count` pushes take no memory.
     pub fn with_room(alloc: Global, count: usize) -> Result<Self, NoMemory>
         ensures { IfOk result (λ list. list ≡ []) }
     {

@@ -1,4 +1,4 @@
-//! Want of memory, as an error.
+//! Running out of memory, as an error.
 
 use std::alloc::{AllocError, AllocFailed};
 

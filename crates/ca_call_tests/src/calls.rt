@@ -1,4 +1,4 @@
-//! What the calls of linked chips tell.
+//! What the calls of linked chips answer.
 
 ghost use Rattle.std.specs.Prelude.{map, IfSome};
 ghost use Rattle.std.specs.List.{IsDistinct};
@@ -65,8 +65,8 @@ fn scan_table(alloc: Global) -> Option<ScanTable>
     }
 }
 
-// The chip of a netlist that was read, with a scan table, if it links. Here and below each thing is let go at
-// one place, since that is dear to prove.
+// The chip of a netlist that was read, with a scan table, if it links. Each value is dropped in one place
+// here and below: more places are slow to prove.
 fn linked_by_table(alloc: Global, raw: &RawNetlist, scan: &ScanTable) -> Option<Chip>
     requires netlist { IsNetlist raw.now }
     requires rows { IsDistinct bytes_eq (map (λ row. row.cell) scan.now) }
@@ -93,7 +93,7 @@ fn linked(alloc: Global, netlist: &[u8]) -> Option<Chip> {
     chip
 }
 
-// What is told of the chip of a netlist, if it links.
+// What is reported about the chip of a netlist, if it links.
 fn told(alloc: Global, netlist: &[u8]) -> Option<Text> {
     let chip = linked(alloc, netlist)?;
     let text = described(alloc, &chip).ok();

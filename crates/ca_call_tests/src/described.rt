@@ -102,8 +102,8 @@ fn names(text: &mut Text, names: &[Text]) -> Result<(), NoMemory> {
     text.append(b"\n")
 }
 
-// Appends the names of the outputs. Here and below each thing is let go at one place, since that is dear to
-// prove.
+// Appends the names of the outputs. Each value is dropped in one place here and below: more places are slow
+// to prove.
 fn end_names(alloc: Global, text: &mut Text, chip: &Chip) -> Result<(), NoMemory> {
     let list = output_names(alloc, chip)?;
     let is_appended = names(text, list.as_slice());
@@ -124,7 +124,7 @@ fn ends(alloc: Global, text: &mut Text, chip: &Chip) -> Result<(), NoMemory> {
     end_names(alloc, text, chip)
 }
 
-// Whether a library instance stands at its place in the order, and is found by its name.
+// Whether a library instance is at its place in the order, and is found by its name.
 fn is_found(chip: &Chip, u: InstanceId) -> bool
     requires { IsLibrary chip.now u.0 }
 {
@@ -167,8 +167,8 @@ fn places(text: &mut Text, chip: &Chip, u: InstanceId) -> Result<(), NoMemory>
     number(text, chip.place(u))
 }
 
-// Appends a library instance: its name and its cell's, the number of the cell, its place in the
-// order, the nets of its pins, and whether it stands there and is found by its name.
+// Appends a library instance: its name and its cell's, the number of the cell, its place in the order, the
+// nets of its pins, and whether it is there and is found by its name.
 fn instance(text: &mut Text, chip: &Chip, u: InstanceId) -> Result<(), NoMemory> {
     if u.0 as usize >= chip.parts() || !chip.is_library(u) {
         return text.append(b"none\n");
@@ -207,7 +207,7 @@ fn scan_instance(text: &mut Text, chip: &Chip, u: InstanceId) -> Result<(), NoMe
     text.append(b"\n")
 }
 
-// Appends all that the calls of a chip tell.
+// Appends all that the calls of a chip answer.
 fn describe(alloc: Global, text: &mut Text, chip: &Chip) -> Result<(), NoMemory> {
     counts(text, chip)?;
     ports(text, chip)?;
@@ -222,7 +222,7 @@ fn describe(alloc: Global, text: &mut Text, chip: &Chip) -> Result<(), NoMemory>
     Ok(())
 }
 
-/// All that the calls of a chip tell, a line for each port bit, net and instance.
+/// All that the calls of a chip answer, a line for each port bit, net and instance.
 pub(crate) fn described(alloc: Global, chip: &Chip) -> Result<Text, NoMemory> {
     let mut text = Text::new(alloc);
     match describe(alloc, &mut text, chip) {

@@ -1,4 +1,4 @@
-//! Netlists, and what the calls of their chips tell.
+//! Netlists, and what the calls of their chips answer.
 
 /// A library. Linking doesn't look at what cells compute, so the full adder is a stand-in with its pins.
 pub(crate) const LIBRARY: &[u8] = b"
@@ -50,7 +50,7 @@ SFF r0 (.D(s), .Q(q0), .SI(si), .SO(t), .SE(se), .CK(ck), .HOLD(hold));
 SFF r1 (.D(c), .Q(q1), .QN(), .SI(t), .SO(so), .SE(se), .CK(ck), .HOLD(hold));
 assign y[0] = s; assign y[1] = c; endmodule";
 
-/// Buses with a descending and an ascending range, a constant, and gates that stand before their drivers.
+/// Buses with a descending and an ascending range, a constant, and gates that come before their drivers.
 const BUSES: &[u8] =
     b"module buses(a, b, z, y); input [2:1] a; input [0:1] b; output [1:0] z; output [3:4] y; wire w;
 NAND2 v (.A1(w), .A2(b[0]), .ZN(z[1]));
@@ -58,7 +58,7 @@ NAND2 u (.A1(a[2]), .A2(1'b1), .ZN(w));
 INV t (.A(a[1]), .ZN(y[3]));
 assign z[0] = b[1]; assign y[4] = 1'b0; endmodule";
 
-// What is told of `glitch`.
+// What is reported about `glitch`.
 const GLITCH_TOLD: &[u8] = b"nets 8, instances 5, scan 0, inputs 3, outputs 1
 in  a 0
 in  s 1
@@ -81,7 +81,7 @@ u4 NAND2 cell 1 of 2 place 3 pins 5 6 7 found
 u5 NAND2 cell 1 of 2 place 4 pins 0 7 3 found
 ";
 
-// What is told of `c17`.
+// What is reported about `c17`.
 const C17_TOLD: &[u8] = b"nets 11, instances 6, scan 0, inputs 5, outputs 2
 in  N1 0
 in  N2 1
@@ -111,7 +111,7 @@ g4 NAND2 cell 0 of 1 place 4 pins 7 9 5 found
 g5 NAND2 cell 0 of 1 place 5 pins 9 10 6 found
 ";
 
-// What is told of `acc`.
+// What is reported about `acc`.
 const ACC_TOLD: &[u8] = b"nets 14, instances 1, scan 2, inputs 4, outputs 4
 in  x[1] 0
 in  x[0] 1
@@ -143,7 +143,7 @@ r0 SFF/D 7 9 5 11 2 3 4
 r1 SFF/D 6 10 11 8 2 3 4
 ";
 
-// What is told of `buses`.
+// What is reported about `buses`.
 const BUSES_TOLD: &[u8] = b"nets 9, instances 3, scan 0, inputs 4, outputs 4
 in  a[2] 0
 in  a[1] 1
@@ -169,7 +169,7 @@ u NAND2 cell 0 of 2 place 0 pins 0 8 7 found
 t INV cell 1 of 2 place 2 pins 1 5 found
 ";
 
-/// Netlists, each with what is told of its chip.
+/// Netlists, each with what is reported about its chip.
 pub(crate) const CHIPS: [(&[u8], &[u8]); 4] = [
     (GLITCH, GLITCH_TOLD),
     (C17, C17_TOLD),

@@ -25,7 +25,7 @@ use Rattle.ca_cell.specs.Raw.{nodes_of, device_of, circuit_of}
 use Rattle.ca_cell.specs.Transistors.{IsTransistor}
 use Rattle.ca_cell.specs.Rules.{IsRaw, node_count, KeepsRules, KeepsAllBut}
 
--- fewer pins with a role stand before a pin with it than there are in all
+-- fewer pins with a role come before a pin with it than there are in all
 role_count-take : (is_role : Role → Bool) (pins : List RawPin) (place : ℕ) (pin : RawPin) → slice_get pins place ≡ Some pin
     → is_role pin.role ≡ true → role_count is_role (take place pins) < role_count is_role pins
 role_count-take is_role pins place pin there has =

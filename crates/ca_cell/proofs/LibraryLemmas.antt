@@ -61,7 +61,7 @@ upper_case-upper_case [] = refl
 upper_case-upper_case (byte ∷ more) =
     ap (λ first. first ∷ upper_case (upper_case more)) (uppercase-uppercase byte) ∙ ap (λ rest. to_ascii_uppercase byte ∷ rest) (upper_case-upper_case more)
 
--- what a look-up finds stands in the list under a key that passes the test, and keeps what all entries keep
+-- what a look-up finds is in the list under a key that passes the test, and keeps what all entries keep
 found_kept : {K X : Type 0} (test : K → Bool) (P : K × X → Type 0) (entries : List (K × X)) → All P entries → (value : X)
     → lookup test entries ≡ Some value → (key : K) × (test key ≡ true) × P (key, value)
 found_kept test P [] all value found = cc
@@ -98,7 +98,7 @@ named_at entries i key entry there =
     slice_get-map (λ (kept : Vec ℕ Global × Entry). record { name = kept.0.items; entry = kept.1 }) entries i
     ∙ ap (option_map (λ (kept : Vec ℕ Global × Entry). record { name = kept.0.items; entry = kept.1 })) there
 
--- a place at which the entry of a name stands is its place
+-- a place that has the entry of a name is its place
 pub place_found : (entries : List (Vec ℕ Global × Entry)) (library : List Named) (name : List ℕ) (place : ℕ)
     (key : Vec ℕ Global) (entry : Entry) → named_entries entries ≡ library
     → slice_get entries place ≡ Some (key, entry) → entry_of library name ≡ Some entry

@@ -25,7 +25,7 @@ use Rattle.ca_net.specs.declared.node.NodeKind.{NodeKind}
 use Rattle.ca_cell.specs.Nodes.{IsInputPin, IsOffInputPins, GatesOnly, free_count}
 use Rattle.ca_cell.proofs.CircuitLemmas.{all_but, few_nodes, length-nodes_of}
 
--- a pin with a role, with so many of its role before it
+-- a pin with a role, with this many its role before it
 pub record HasPin (is_role : Role → Bool) (pins : List RawPin) (before : ℕ) : Type 0 where
   pub place : ℕ
   pub pin : RawPin
@@ -33,7 +33,7 @@ pub record HasPin (is_role : Role → Bool) (pins : List RawPin) (before : ℕ) 
   pub has : is_role pin.role ≡ true
   pub count : role_count is_role (take place pins) ≡ before
 
--- one place further on, behind another pin
+-- one place further on, after another pin
 one_on : (is_role : Role → Bool) (first : RawPin) (pins : List RawPin) (before : ℕ) → HasPin is_role pins before
     → HasPin is_role (first ∷ pins) (cond (is_role first.role) 1 0 + before)
 one_on is_role first pins before found = record {
@@ -45,7 +45,7 @@ one_on is_role first pins before found = record {
       ∙ ap (λ n. cond (is_role first.role) 1 0 + n) found.count;
 }
 
--- where more pins have a role, one has it with so many before it
+-- where more pins have a role, one has it with this many before it
 pub has_pin : (is_role : Role → Bool) (pins : List RawPin) (before : ℕ) → before < role_count is_role pins → HasPin is_role pins before
 has_pin is_role [] before more = absurd (omega arith)
 has_pin is_role (first ∷ pins) before more =
@@ -110,7 +110,7 @@ net_of_pin raw n place pin pins there is = record {
   is_node = ap (node_at raw.pins place) there ∙ is;
 }
 
--- an inner net is behind the pins
+-- an inner net is after the pins
 inner_net : (raw : RawCell) (n : ℕ) → length raw.pins ≤ length raw.nets → 2 + role_count is_input raw.pins + role_count is_output raw.pins ≤ n
     → n < node_count raw → HasNet raw n
 inner_net raw n pins from to =

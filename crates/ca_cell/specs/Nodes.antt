@@ -33,7 +33,7 @@ IsDeviceName raw d name = option_map (λ device. device.name) (slice_get raw.dev
 abbrev pub free_count : RawCell → ℕ
 free_count raw = 2 + role_count is_output raw.pins + inner_count raw
 
--- how many pairs of different nodes there are among so many
+-- how many pairs of different nodes there are among `nodes` nodes
 abbrev pub pair_count : ℕ → ℕ
 pair_count nodes = nodes * (nodes - 1) / 2
 

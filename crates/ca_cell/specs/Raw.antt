@@ -46,7 +46,7 @@ abbrev pub output_names : List RawPin → List (List ℕ)
 output_names [] = []
 output_names (pin ∷ pins) = if is_output pin.role then pin.name ∷ output_names pins else output_names pins
 
--- how many inner nets there are, behind the pins
+-- how many inner nets there are, after the pins
 abbrev pub inner_count : RawCell → ℕ
 inner_count raw = length raw.nets - length raw.pins
 
@@ -58,7 +58,7 @@ pin_node pins place Ground = 1
 pin_node pins place Input = 2 + role_count is_input (take place pins)
 pin_node pins place Output = 2 + role_count is_input pins + role_count is_output (take place pins)
 
--- the node of the net at a place: a pin's own, or behind all pins' nodes the inner nets in their order
+-- the node of the net at a place: a pin's own, or after all pins' nodes the inner nets in their order
 abbrev pub node_at : List RawPin → ℕ → Option RawPin → ℕ
 node_at pins place (Some pin) = pin_node pins place pin.role
 node_at pins place None = 2 + role_count is_input pins + role_count is_output pins + (place - length pins)

@@ -98,7 +98,7 @@ KeepsRules raw = (rule : CellRule) → Breaks raw rule → ⊥
 abbrev pub KeepsAllBut : CellRule → RawCell → Type 0
 KeepsAllBut but raw = (rule : CellRule) → (rule ≡ but → ⊥) → Breaks raw rule → ⊥
 
--- a broken rule is told as the first that is broken; want of memory may come with any subcircuit that breaks
+-- a broken rule is reported as the first that is broken; memory may run out with any subcircuit that breaks
 -- none
 abbrev pub IsCause : RawCell → CellFault → Type 0
 IsCause raw (Rule rule) = IsFirstBroken raw rule

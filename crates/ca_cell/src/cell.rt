@@ -163,7 +163,7 @@ impl Network for Cell {
     }
 }
 
-// Appends so many nodes of one kind.
+// Appends `count` nodes of one kind.
 fn push_nodes(nodes: &mut NodeList, count: usize, kind: NodeKind) -> Result<(), NoMemory>
     ensures ok { OnOk result (nodes.new ≡ nodes.old ++ replicate count kind) }
 {

@@ -32,7 +32,8 @@ static TYPED: [(&[u8], Option<Defect>); 12] = [
     (b"", None),
 ];
 
-// Asserts the name of a defect. Here and below each thing is let go at one place, since that is dear to prove.
+// Asserts the name of a defect. Each value is dropped in one place here and below: more places are slow to
+// prove.
 fn try_name(rt: &impl Abort, alloc: Global, cell: &Cell, defect: Defect, wanted: &[u8])
     requires { IsDefectOf cell.now defect }
 {

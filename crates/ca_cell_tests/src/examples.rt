@@ -1,4 +1,4 @@
-//! Subcircuits by tables: their pins, the nets behind them, and their transistors by places of nets.
+//! Subcircuits by tables: their pins, the nets after them, and their transistors by places of nets.
 
 use ca_cell::Role::{self, Ground, Input, Output, Power};
 use ca_cell::{Cell, RawCell, RawDevice, RawDevices, RawPin, RawPins};

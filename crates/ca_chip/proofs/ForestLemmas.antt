@@ -74,7 +74,7 @@ some_root parents back (suc most) w lt = elim (ℕ_discrete (parent_of parents w
   | no ne ↦ let le = back w in let found = some_root parents back most (parent_of parents w) (omega arith) in (found.0, Above found.1)
 ]
 
--- a wire that is linked to the one behind the next leads where it led
+-- a wire that is linked to the one after the next leads where it led
 module _ (parents : List ℕ) (at : ℕ) (within : at < length parents) where
   behind : ℕ
   behind = parent_of parents (parent_of parents at)
@@ -375,7 +375,7 @@ roots_more parents roots new w root count are here e = subst (AreRoots parents (
           subst (HasRoot parents x) (sym (get_or_append_left roots (root ∷ []) 0 x (omega (arith, count, ne, lt)))) (are x (omega (arith, ne, lt)))
     ]
 
--- the roots are the earliest of those that are joined, once each join is told
+-- the roots are the earliest of those that are joined, once each join is made
 pub roots_are_earliest : (joins : List Join) (parents roots : List ℕ) (wires : ℕ) → IsForest joins parents
     → ((join : Join) → Contains joins join → HaveOneRoot parents join.left join.right) → length parents ≡ wires → length roots ≡ length parents → AreRoots parents (length parents) roots → AreEarliest joins wires roots
 roots_are_earliest joins parents roots wires is told count room are = record {

@@ -23,7 +23,7 @@ pub record IsUnsound (meaning : Meaning) (tail : List ℕ) : Type 0 where
   pub at : tail ≡ 0 ∷ []
   pub unsound : IsKnown meaning → ⊥
 
--- a connection is stray, at the places behind it
+-- a connection is stray, at the places after it
 pub record IsStrayAt (meaning : Meaning) (uses : List RawUse) (tail : List ℕ) : Type 0 where
   pub place : ℕ
   pub pin : List ℕ
@@ -66,7 +66,7 @@ module _ (raw : RawNetlist) (library : List Named) (scan : List ScanRow) where
     pub is : slice_get raw.instances u ≡ Some instance
     pub breaks : BreaksPart (means instance) instance.pins tail
 
-  -- a rule behind those on instances
+  -- a rule after those on instances
   pub record IsBehind (at : List ℕ) : Type 0 where
     pub stage : ℕ
     pub tail : List ℕ
@@ -155,7 +155,7 @@ module _ (raw : RawNetlist) (library : List Named) (scan : List ScanRow) where
             let one : part.instance ≡ instance = cc in
             none part.tail rest (subst (λ (i : RawInstance). BreaksPart (means i) i.pins part.tail) one part.breaks)
 
-    -- nothing stands before the first place of an instance
+    -- nothing is before the first place of an instance
     none_first : (tail : List ℕ) → IsEarlier tail (0 ∷ []) → BreaksPart (means instance) instance.pins tail → ⊥
     none_first tail earlier (inl b) = by (subst (λ x. IsEarlier x (0 ∷ [])) b.at earlier)
       where

@@ -1,4 +1,4 @@
--- The first pins that are told are the first.
+-- The first pins that are reported are the first.
 use Rattle.std.proofs.Common.{◌≡◌, ℕ, zero, suc, ◌+◌, ◌<◌, ◌≤◌, List, [], ◌∷◌, ◌++◌, Bool, true, false}
 use Rattle.std.proofs.Common.{length, map, refl, sym, ◌∙◌, ap, subst, arith, ◌||◌, true≢false, cond, get_or}
 use Rattle.std.proofs.Common.{inl, inr}
@@ -64,7 +64,7 @@ module _ (meaning : Meaning) where
   names : List (List ℕ)
   names = pin_names meaning
 
-  -- a stray pin behind the first connection
+  -- a stray pin after the first connection
   behind : (used : RawUse) (more : List RawUse) (k : ℕ) (pin : List ℕ) → HasStrayPin meaning more k pin
       → HasStrayPin meaning (used ∷ more) (suc k) pin
   behind used more k pin has = record { used = has.used; at = has.at; named = has.named; stray = has.stray }
@@ -151,7 +151,7 @@ module _ (uses : List RawUse) where
         none_before = λ k other lt lacks. first.3 k other lt lacks.at lacks.is_open;
       }
 
--- what the place of a name says of the first place at which it stands
+-- what the place of a name says of the first place at which it is
 place_is : (name : List ℕ) (names : List (List ℕ)) (place : ℕ) → place_of name names ≡ Some place → position_or_len (bytes_eq name) names ≡ place
 place_is name names place told = by (nat_lt (position_or_len (bytes_eq name) names) (length names)) told
   where
@@ -185,7 +185,7 @@ get_past xs k le = elim (slice_get_cases xs k).1 [
   | inr past ↦ past.1
 ]
 
--- the row of a cell stands where its name stands among the cells
+-- the row of a cell is where its name is among the cells
 pub row_at : (scan : List ScanRow) (cell : List ℕ)
     → row_of scan cell ≡ slice_get scan (position_or_len (bytes_eq cell) (map (λ (row : ScanRow). row.cell) scan))
 row_at [] cell = refl
@@ -204,7 +204,7 @@ at_of P [] k x all at = absurd (let lt = slice_get_within [] k x at in omega (ar
 at_of P (first ∷ xs) zero x all at = let same : first ≡ x = cc in subst P same all.0
 at_of P (first ∷ xs) (suc k) x all at = at_of P xs k x all.1 at
 
--- what stands at a place of a list, in its image
+-- what is at a place of a list, in its image
 map_at : {X Y : Type 0} (f : X → Y) (xs : List X) (k : ℕ) (x : X) → slice_get xs k ≡ Some x → slice_get (map f xs) k ≡ Some (f x)
 map_at f [] k x at = absurd (let lt = slice_get_within [] k x at in omega (arith, lt))
 map_at f (first ∷ xs) zero x at = let same : first ≡ x = cc in ap (λ y. Some (f y)) same
@@ -215,7 +215,7 @@ map-take f zero xs = refl
 map-take f (suc k) [] = refl
 map-take f (suc k) (x ∷ xs) = ap (λ l. f x ∷ l) (map-take f k xs)
 
--- a name of different names doesn't stand before its place
+-- a name of different names isn't before its place
 pub new_name : (names : List (List ℕ)) → IsDistinct bytes_eq names → (k : ℕ) (name : List ℕ) → slice_get names k ≡ Some name
     → has_name name (take k names) ≡ false
 unfolding IsDistinct

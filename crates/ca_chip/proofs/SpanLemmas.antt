@@ -43,7 +43,7 @@ module _ (bits : ℕ) where
       ap (λ (l : ℕ). let made : Join = record { left = l; right = wire_of bits (bit_behind step raw.right) } in made) (behind raw.left step)
       ∙ ap (λ (r : ℕ). let made : Join = record { left = wire_behind (wire_of bits raw.left) (is_moving raw.left) step; right = r } in made) (behind raw.right step)
 
-  -- what stands among the pairs from one on, stands so far to the right
+  -- what is among the pairs from one on is that far to the right
   from_pairs : (raw : RawSpan) (count step : ℕ) (pair : RawJoin) → Contains (pairs_from raw step count) pair
       → (k : ℕ) × (k < count) × (pair_at raw (step + k) ≡ pair)
   from_pairs raw zero step pair has = absurd (let lt = has.1 in omega (arith, lt))
@@ -72,7 +72,7 @@ module _ (bits : ℕ) where
   to_span raw step lt =
       subst (λ s. Contains (pairs_of raw) (pair_at raw s)) (let s : 0 + step ≡ step = omega arith in s) (to_pairs raw raw.count 0 step lt)
 
-  -- what stands among the pairs of spans, stands among those of one
+  -- what is among the pairs of spans is among those of one
   pub from_all : (raws : List RawSpan) (pair : RawJoin) → Contains (flat_map pairs_of raws) pair
       → (place : ℕ) × (raw : RawSpan) × (slice_get raws place ≡ Some raw) × Contains (pairs_of raw) pair
   from_all [] pair has = absurd (let lt = has.1 in omega (arith, lt))
@@ -147,7 +147,7 @@ module _ (bits : ℕ) where
           subst (Contains (joins_of bits (flat_map pairs_of raws))) pair.2 (to_joins (flat_map pairs_of raws) pair.0 pair.1);
     }
 
-    -- all joins of the spans are of so many wires
+    -- all joins of the spans are of this many wires
     pub spans_within : (wires : ℕ) → bits + 1 < wires → All (IsJoinOf bits) (flat_map pairs_of raws) → All (IsSpanWithin wires) spans
     spans_within wires lt declared k d at = λ step within.
         let span = get_or spans k d in

@@ -66,7 +66,7 @@ pub record UnitesFirst (spans : List Span) (first : ℕ) (old new : List ℕ) : 
   pub forest : (joins : List Join) → ((join : Join) → IsAmongFirst spans first join → Contains joins join)
       → IsForest joins old → IsForest joins new
 
--- so many wires are each linked to themselves
+-- this many wires are each linked to themselves
 abbrev pub AreTheirOwn : ℕ → List ℕ → Type 0
 AreTheirOwn wires parents = (w : ℕ) → w < wires → slice_index parents w ≡ w
 

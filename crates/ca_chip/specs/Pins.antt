@@ -51,12 +51,12 @@ pub record IsFirstOpen (meaning : Meaning) (uses : List RawUse) (pin : List ℕ)
   pub here : LacksPin meaning uses place pin
   pub none_before : (before : ℕ) (other : List ℕ) → before < place → LacksPin meaning uses before other → ⊥
 
--- what is told of the first stray pin; where nothing is, there is none
+-- what is reported about the first stray pin; where nothing is, there is none
 abbrev pub TellsStray : Meaning → List RawUse → Option (List ℕ) → Type 0
 TellsStray meaning uses (Some pin) = IsFirstStray meaning uses pin
 TellsStray meaning uses None = NoStray meaning uses
 
--- what is told of the first open pin; where nothing is, there is none
+-- what is reported about the first open pin; where nothing is, there is none
 abbrev pub TellsOpen : Meaning → List RawUse → Option (List ℕ) → Type 0
 TellsOpen meaning uses (Some pin) = IsFirstOpen meaning uses pin
 TellsOpen meaning uses None = NoOpen meaning uses

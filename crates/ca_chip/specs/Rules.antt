@@ -75,7 +75,7 @@ pub record IsUndriven (wiring : Wiring) (net : ℕ) : Type 0 where
 abbrev pub IsOnInputPort : Wiring → ℕ → Type 0
 IsOnInputPort wiring wire = (bit : ℕ) × Drives wiring wire (PortBit bit)
 
--- the names of the scan enable, the clock and the hold of a scan cell, and so their places behind d and si
+-- the names of the scan enable, the clock and the hold of a scan cell, and so their places after d and si
 -- among the input pins
 abbrev pub control_names : Meaning → List (List ℕ)
 control_names Unknown = []
@@ -235,8 +235,8 @@ pub record IsFirstBroken (raw : RawNetlist) (library : List Named) (scan : List 
 abbrev pub KeepsRules : RawNetlist → List Named → List ScanRow → Type 0
 KeepsRules raw library scan = (at : List ℕ) (other : ChipFault) → BreaksAt raw library scan at other → ⊥
 
--- why a netlist isn't linked: the first rule that is broken, where a loop has each of its instances once; want
--- of memory may come with any
+-- why a netlist isn't linked: the first rule that is broken, where a loop has each of its instances once;
+-- memory may run out with any
 abbrev pub IsCause : RawNetlist → List Named → List ScanRow → ChipFault → Type 0
 IsCause raw library scan (fault.UnknownCell u) = IsFirstBroken raw library scan (fault.UnknownCell u)
 IsCause raw library scan (fault.Cell u rule) = IsFirstBroken raw library scan (fault.Cell u rule)

@@ -21,7 +21,7 @@ join_at span step = record {
   right = wire_behind span.right span.right_moves step;
 }
 
--- all joins of the span are of so many wires
+-- all joins of the span are of this many wires
 abbrev pub IsSpanWithin : ℕ → Span → Type 0
 IsSpanWithin wires span = (step : ℕ) → step < span.count → IsWithin wires (join_at span step)
 
@@ -45,7 +45,7 @@ abbrev pub is_moving : RawBit → Bool
 is_moving (Bit number) = true
 is_moving (Constant value) = false
 
--- the span over wires, where so many bits are declared
+-- the span over wires, where this many bits are declared
 abbrev pub span_of : ℕ → RawSpan → Span
 span_of bits raw = record {
   left = wire_of bits raw.left;

@@ -190,7 +190,7 @@ wired_parts library scan bits own (instance ∷ more) =
     ∷ wired_parts library scan bits (own + open_count instance.pins (output_names
     (meaning_of library scan instance.cell))) more
 
--- the wires that `assign`s join, where so many bits are declared
+-- the wires that `assign`s join, where this many bits are declared
 abbrev pub joins_of : ℕ → List RawJoin → List Join
 joins_of bits joins =
     map (λ join. record { left = wire_of bits join.left; right = wire_of bits join.right }) joins

@@ -20,7 +20,7 @@ pub struct Join {
     pub right: u32,
 }
 
-/// So many joins from this one on: each is one wire to the right of the one before, on the sides that move.
+/// `count` joins from this one on: each is one wire to the right of the one before, on the sides that move.
 #[derive(Clone, Copy, Debug, PartialEq, Eq, Hash)]
 pub(crate) struct Span {
     pub left: u32,
@@ -103,7 +103,7 @@ impl Links {
         self.parents[w as usize] = other;
     }
 
-    // Links a wire to the one behind the next, which is told.
+    // Links a wire to the one after the next, and answers that one.
     fn halve(&mut self, w: u32) -> u32
         requires back { LeadBack self.old }
         requires within { w < length self.old }
@@ -205,7 +205,7 @@ impl Links {
     }
 }
 
-/// For each of so many wires the earliest of those that are joined with it by the joins of the spans.
+/// For each of `wires` wires the earliest of those that are joined with it by the joins of the spans.
 pub(crate) fn earliest(alloc: Global, wires: usize, spans: &[Span]) -> Result<Vec<u32>, NoMemory>
     requires few { wires < 2 ^ 32 }
     requires within { All (IsSpanWithin wires) spans.now }

@@ -25,7 +25,7 @@ pub fn bit_on(uses: &[RawUse], pin: &Text) -> Option<RawBit>
     None
 }
 
-/// The wire of a bit, where so many bits are declared.
+/// The wire of a bit, where this many bits are declared.
 pub fn wire_of(bits: u32, bit: RawBit) -> u32
     requires { bits + 1 < 2 ^ 32 }
     ensures { result ≡ wire_of bits bit }

@@ -65,7 +65,7 @@ fn is_moving(bit: RawBit) -> bool
     matches!(bit, RawBit::Bit(_))
 }
 
-// A span over wires, where so many bits are declared.
+// A span over wires, where this many bits are declared.
 fn span_of(bits: u32, raw: &RawSpan) -> Span
     requires { bits + 1 < 2 ^ 32 }
     ensures { result ≡ span_of bits raw.now }
@@ -91,7 +91,7 @@ fn spans_of(alloc: Global, bits: u32, raws: &[RawSpan]) -> Result<SpanSet, NoMem
     Ok(spans)
 }
 
-/// For each of so many wires the earliest of those that are joined with it.
+/// For each of `wires` wires the earliest of those that are joined with it.
 pub fn earliest_wires(
     alloc: Global,
     bits: u32,

@@ -98,7 +98,7 @@ fn ones(alloc: Global, count: usize) -> Result<List<List<Trit>>, NoMemory> {
     Ok(expected)
 }
 
-// The STIL text of a pair of these digits with so many ones; none where they aren't of the chip.
+// The STIL text of a pair of these digits with `count` ones; none where they aren't of the chip.
 fn text_of(alloc: Global, chip: &Chip, digits: &[u8], count: usize) -> Option<Text> {
     let Ok(pairs) = pairs_of(alloc, digits) else {
         return None;

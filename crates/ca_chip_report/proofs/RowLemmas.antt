@@ -95,7 +95,7 @@ row_told P chip defects verdicts k defect are at holds = by (slice_get verdicts 
     by (Some verdict) some =
         subst (λ o. IsSomeAnd o P) (sym (row_at chip defects verdicts k defect verdict at some)) (holds verdict)
 
--- what a row tells of a verdict
+-- what a row says about a verdict
 pub verdict_told : (chip : Chip) (defects : List ChipDefect) (verdicts : List Verdict) (k : ℕ) (verdict : Verdict)
     (told : report.Verdict) → AreReported chip defects verdicts → slice_get verdicts k ≡ Some verdict
     → told_of verdict ≡ told → IsSomeAnd (slice_get (report_rows chip defects verdicts) k) (λ row. row.verdict ≡ told)

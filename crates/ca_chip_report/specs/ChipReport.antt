@@ -14,7 +14,7 @@ use Rattle.ca_report.specs.declared.rows.ReportRow.{ReportRow}
 use Rattle.ca_report.specs.declared.verdict.Verdict as report
 use Rattle.ca_report.specs.declared.verdict.Verdict.TheVariants as told
 
--- the verdict as a report tells it: without the code of a search that was aborted
+-- the verdict in a report: without the code of a search that was aborted
 abbrev pub told_of : Verdict → report.Verdict
 told_of (Credited pair output) = told.Credited pair output
 told_of Unexposable = told.Unexposable
@@ -49,7 +49,7 @@ pub record IsGateDefect (chip : Chip) (defect : ChipDefect) : Type 0 where
   pub is_defect : IsDefectIn (core_of chip) defect
   pub is_gate : IsLibrary chip defect.instance
 
--- the output that the verdict credits, if it does, is one of so many
+-- the output that the verdict credits, if it does, is one of this many outputs
 abbrev pub IsVerdictWithin : ℕ → Verdict → Type 0
 IsVerdictWithin outputs (Credited pair output) = output < outputs
 IsVerdictWithin outputs Unexposable = Unit {0}

@@ -1,4 +1,4 @@
--- The line that tells how many defects have which verdict, and how many pairs there are.
+-- The line that says how many defects have which verdict, and how many pairs there are.
 use Rattle.std.specs.Prelude.{ℕ, Bool, true, false, List, [], ◌++◌, length, codes, decimal}
 use Rattle.std.specs.List.{filter}
 use Rattle.ca_credit.specs.declared.verdict.Verdict.{Verdict}
@@ -30,7 +30,7 @@ summary_of verdicts pairs = record {
   pairs = pairs;
 }
 
--- the text with a label and a number behind it
+-- the text with a label and a number after it
 abbrev pub with_count : List ℕ → List ℕ → ℕ → List ℕ
 with_count text label count = (text ++ label) ++ decimal count
 

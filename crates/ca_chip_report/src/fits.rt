@@ -8,7 +8,7 @@ use ca_credit::{Verdict, Verdicts};
 use ca_flat::ChipDefect;
 use ca_wired::Chip;
 
-// Whether the output that a verdict credits, if it does, is one of so many.
+// Whether the output that a verdict credits, if it does, is one of `outputs` outputs.
 fn is_within(verdict: &Verdict, outputs: usize) -> bool
     ensures { IsTrue result ↔ IsVerdictWithin outputs verdict.now }
 {

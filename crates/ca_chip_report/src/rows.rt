@@ -44,7 +44,7 @@ fn name_of(alloc: Global, chip: &Chip, defect: ChipDefect) -> Result<Text, NoMem
     ca_defect::name(alloc, cell, defect.defect)
 }
 
-// The verdict as a report tells it.
+// The verdict in a report.
 fn told_of(verdict: &Verdict) -> ca_report::Verdict
     ensures { told_of verdict.now ≡ result }
 {

@@ -61,7 +61,7 @@ fn count_of(verdicts: &Verdicts, kind: Kind) -> usize
     count
 }
 
-/// The summary of a chip's verdicts and of so many pairs. It looks at each verdict once for each of the four
+/// The summary of a chip's verdicts and of `pairs` pairs. It looks at each verdict once for each of the four
 /// kinds.
 pub fn summary_of(verdicts: &Verdicts, pairs: usize) -> Summary
     ensures { result ≡ summary_of verdicts.now pairs }

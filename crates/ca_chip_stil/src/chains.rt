@@ -1,4 +1,4 @@
-//! The scan chains of a chip, as the text tells of them.
+//! The scan chains of a chip, as the text describes them.
 
 ghost use Rattle.std.specs.Prelude.{◌≡◌, ◌<◌, length, map, IfOk};
 ghost use Rattle.std.specs.List.{All};

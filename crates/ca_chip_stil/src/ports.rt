@@ -38,7 +38,7 @@ pub(crate) fn is_directed(chip: &Chip, input: bool, p: usize) -> bool
     }
 }
 
-// No port, so many times.
+// No port, `count` times.
 fn no_ports(alloc: Global, count: usize) -> Result<Vec<Option<u32>>, NoMemory>
     ensures { IfOk result (λ none. none.items ≡ replicate count None) }
 {

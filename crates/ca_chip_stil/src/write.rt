@@ -12,8 +12,8 @@ use ca_stil::{ExpectedValues, PatternBits, write_stil};
 use ca_wired::Chip;
 use std::alloc::Global;
 
-/// The STIL text of pairs of a chip, and of the values that its observed outputs end with under each. Which
-/// bit of a pair stands where is what the sites of the chip say.
+/// The STIL text of pairs of a chip, and of the values that its observed outputs end with under each. The
+/// sites of the chip say which bit of a pair is where.
 pub fn write_chip_stil<P: PatternBits, E: ExpectedValues>(
     alloc: Global,
     chip: &Chip,

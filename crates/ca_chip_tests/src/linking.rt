@@ -227,7 +227,7 @@ fn numbers_of_chips(rt: HostRuntime) {
     }
 }
 
-// Appends a netlist of so many instances with the same cell and pins.
+// Appends a netlist of `count` instances with the same cell and pins.
 fn repeat(
     alloc: Global,
     text: &mut Vec<u8>,
@@ -242,7 +242,7 @@ fn repeat(
     text.extend_from_slice(b"endmodule")
 }
 
-// Whether a netlist of so many instances with the same cell and pins links so.
+// Whether a netlist of `count` instances with the same cell and pins links like this.
 fn links_repeated(alloc: Global, count: usize, cell: &str, pins: &str, linked: Linked) -> bool {
     let mut netlist = Vec::new(alloc);
     let is_so = match repeat(alloc, &mut netlist, count, cell, pins) {

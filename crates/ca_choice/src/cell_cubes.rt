@@ -20,7 +20,7 @@ struct OutputCubes {
     passing: Vec<Vec<Cube>>,
 }
 
-/// The widest cubes of a cell's input pins. The place of a pin is how many pins stand behind it.
+/// The widest cubes of a cell's input pins. The place of a pin is how many pins follow it.
 #[derive(Drop)]
 pub(crate) struct CellCubes {
     inputs: usize,
@@ -75,12 +75,12 @@ impl CellCubes {
     }
 }
 
-// The place of a pin of so many.
+// The place of one of `inputs` pins.
 fn place_of(inputs: usize, pin: usize) -> usize {
     inputs.saturating_sub(1).saturating_sub(pin)
 }
 
-/// The set of so many places, up to six.
+/// The set of the first `count` places, up to six.
 pub(crate) fn first_places(count: usize) -> u16 {
     match count {
         0 => 0,

@@ -65,7 +65,7 @@ impl Cone {
         self.count = 0;
     }
 
-    // Puts an instance behind the others.
+    // Appends an instance.
     fn add(&mut self, plan: &Plan, part: u32) {
         let count = self.count;
         if count < self.parts.len() {

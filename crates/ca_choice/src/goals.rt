@@ -14,7 +14,7 @@ pub(crate) struct Goals {
 }
 
 impl Goals {
-    /// The room for so many goals.
+    /// The room for `most` goals.
     pub(crate) fn reserve(alloc: Global, most: usize) -> Result<Self, NoMemory> {
         let free = Goal {
             frame: Frame::First,
@@ -37,7 +37,7 @@ impl Goals {
         self.count
     }
 
-    /// Puts a goal behind the others, if there is room for it.
+    /// Appends a goal, if there is room for it.
     pub(crate) fn add(&mut self, goal: Goal) {
         let count = self.count;
         if count < self.goals.len() {

@@ -13,7 +13,7 @@ use std::alloc::Global;
 // The most rows of a cell.
 const MOST_ROWS: usize = 4096;
 
-// The places of the last pins stand below those of the first pins.
+// The places of the last pins are below those of the first pins.
 const FIRST_PINS: usize = 6;
 
 /// The widest cubes of the rows of a defect, in a room that is taken once.
@@ -41,8 +41,8 @@ impl RowCubes {
         })
     }
 
-    /// Finds the cubes of the rows of a cell with so many inputs. From each row as many places are let go as
-    /// can be, one after another: the first values first.
+    /// Finds the cubes of the rows of a cell with `inputs` inputs. From each row as many places are dropped
+    /// as possible, one after another: the first values first.
     pub(crate) fn find(&mut self, rows: &Rows, inputs: usize) {
         self.inputs = inputs;
         self.count = 0;

@@ -110,7 +110,7 @@ struct Offer {
     place: usize,
 }
 
-// What comes behind all rows that are met, and before all others.
+// What comes after all rows that are met, and before all others.
 const LAST_MET: Offer = Offer {
     price: 0,
     place: usize::MAX,
@@ -124,8 +124,8 @@ fn price_rows<S: Sight>(scene: &Scene<'_, S>, rows: &mut RowCubes, part: u32) {
     }
 }
 
-// The cheapest row that comes behind the one before, if one is in reach. Of those with one price the first
-// is the cheapest.
+// The cheapest row that comes after the one before, if one is in reach. Of those with one price the first is
+// the cheapest.
 fn next_row(rows: &RowCubes, before: Option<Offer>) -> Option<Offer> {
     let mut best: Option<Offer> = None;
     for place in 0..rows.len() {
@@ -138,7 +138,7 @@ fn next_row(rows: &RowCubes, before: Option<Offer>) -> Option<Offer> {
     best
 }
 
-// Whether an offer comes behind another one, if there is one.
+// Whether an offer comes after another one, if there is one.
 fn is_behind(offer: Offer, before: Option<Offer>) -> bool {
     match before {
         Some(before) => {

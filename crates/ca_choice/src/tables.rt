@@ -1,4 +1,4 @@
-//! What the choice is told of a chip.
+//! What the choice knows of a chip.
 
 use ca_net::Trit;
 
@@ -25,7 +25,7 @@ impl CellTable {
     }
 }
 
-/// The number of vectors of so many inputs, up to six.
+/// The number of vectors of `inputs` inputs, up to six.
 pub(crate) fn vector_count(inputs: usize) -> usize {
     match inputs {
         0 => 1,
@@ -53,8 +53,8 @@ pub struct Constant {
     pub value: bool,
 }
 
-/// A chip: its cells, its instances and an order of them in which each stands behind those that feed it, the
-/// net of each chip input, the constants, and the number of nets.
+/// A chip: its cells, its instances and an order of them in which each follows those that feed it, the net of
+/// each chip input, the constants, and the number of nets.
 #[derive(Drop)]
 pub struct ChipTables {
     pub cells: Vec<CellTable>,

@@ -31,7 +31,7 @@ pub(crate) struct Wants {
 }
 
 impl Wants {
-    /// The room for so many nets. Of others nothing is wanted.
+    /// The room for `nets` nets. Of others nothing is wanted.
     pub(crate) fn reserve(alloc: Global, nets: usize) -> Result<Self, NoMemory> {
         let none = Place {
             net: 0,

@@ -1,4 +1,4 @@
--- The core of a linked chip is one that a flat network can stand on.
+-- The core of a linked chip is one that a flat network can be built on.
 use Rattle.std.proofs.Common.{◌≡◌, ℕ, suc, ◌+◌, ◌-◌, ◌<◌, List, [], ◌∷◌, Bool, true, false, length, inl, inr}
 use Rattle.std.proofs.Common.{refl, sym, ◌∙◌, ap, subst, arith, get_or}
 use Rattle.std.specs.Prelude.{eqb, slice_get, Option, Some, IsSomeAnd, not, ◌&&◌, if◌then◌else◌}

@@ -64,7 +64,7 @@ module _ (chip : Chip) where
       length-append (core_kinds chip net) (if is_scan_path chip net then [] else kind_of chip net ∷ [])
       ∙ (let h = length-core_kinds net in let p = piece_length (is_scan_path chip net) (kind_of chip net) in omega arith)
 
-  -- the kind of a net stands at its number
+  -- the kind of a net is at its number
   pub kind_at : (m n : ℕ) → IsOutside chip m → m < n → get_or (core_kinds chip n) (core_net chip m) node.Input ≡ kind_of chip m
   kind_at m zero outside lt = absurd (omega (arith, lt))
   kind_at m (suc n) outside lt = elim (ℕ_discrete m n) [

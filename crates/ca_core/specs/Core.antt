@@ -1,6 +1,6 @@
--- The core of a linked chip, which the flat network stands on: its nets off the scan path, numbered anew, and
--- an instance for each of the chip's. A scan instance has a cell without devices, whose one pin drives the
--- net of the inverted output, if it has one.
+-- The core of a linked chip, which the flat network is built on: its nets off the scan path, numbered anew,
+-- and an instance for each of the chip's. A scan instance has a cell without devices, whose one pin drives
+-- the net of the inverted output, if it has one.
 use Rattle.std.specs.Prelude.{ℕ, zero, suc, ◌+◌, Bool, true, false, List, [], ◌∷◌, ◌++◌, map, option_to_list}
 use Rattle.std.specs.Prelude.{Option, Some, None, slice_get, if◌then◌else◌}
 use Rattle.std.specs.List.{list_any, position_or_len}
@@ -47,7 +47,7 @@ core_kinds chip (suc net) =
 abbrev pub bare_pin : Role → RawPin
 bare_pin role = record { name = []; role = role }
 
--- a cell without devices: power, ground, and so many output pins
+-- a cell without devices: power, ground, and an output pin where there is a net for it
 abbrev pub empty_cell : Option ℕ → RawCell
 empty_cell None = record { pins = bare_pin Power ∷ bare_pin Ground ∷ []; nets = [] ∷ [] ∷ []; devices = [] }
 empty_cell (Some net) = record {
@@ -93,12 +93,12 @@ core_of chip = record {
   outputs = map (core_net chip) (outputs_of chip);
 }
 
--- a library instance is ranked by its place in the order, behind all scan instances
+-- a library instance is ranked by its place in the order, after all scan instances
 abbrev pub body_rank : ℕ → Body → ℕ
 body_rank place (Gate cell inputs outputs) = suc place
 body_rank place (Scan nets) = 0
 
--- the rank of a library instance is behind those of scan instances, in order
+-- the rank of a library instance is after those of scan instances, in order
 abbrev pub rank_in : Chip → ℕ → Option Part → ℕ
 rank_in chip u None = 0
 rank_in chip u (Some part) = body_rank (position_or_len (eqb u) chip.order) part.body

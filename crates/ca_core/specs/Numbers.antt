@@ -8,7 +8,7 @@ pub record Numbers : Type 0 where
   pub numbers : List ℕ
   pub count : ℕ
 
--- each net has its number in the core, the core has so many nets, and the chip has few
+-- each net has its number in the core, the count is that of the core's nets, and the chip has few
 pub record AreCoreNumbers (chip : Chip) (table : Numbers) : Type 0 where
   pub room : length table.numbers ≡ net_count chip
   pub each : (net : ℕ) → net < net_count chip → slice_index table.numbers net ≡ core_net chip net

@@ -2,7 +2,7 @@
 
 ghost use Rattle.ca_core.specs.Laws.{CoreIsChip};
 
-/// The core of a chip that links is one that a flat network can stand on.
+/// The core of a chip that links is one that a flat network can be built on.
 pub fn core_is_chip()
     ensures { CoreIsChip }
 {}

@@ -1,4 +1,4 @@
-//! The core of a linked chip: the chip that the flat network stands on.
+//! The core of a linked chip: the chip that the flat network is built on.
 #![tactic(auto)]
 
 mod laws;

@@ -41,7 +41,7 @@ impl CoreNets {
     }
 }
 
-/// The numbers of a chip's nets in its core. Want of memory is also told of a chip with 2^32 nets, for which
+/// The numbers of a chip's nets in its core. Also answers out of memory for a chip with 2^32 nets, for which
 /// `wire` makes none.
 #[tactic(auto, using(crate::proofs::NumberLemmas::first_none))]
 pub fn core_nets(alloc: Global, chip: &Chip) -> Result<CoreNets, NoMemory>

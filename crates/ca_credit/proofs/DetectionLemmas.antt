@@ -36,7 +36,7 @@ get_or-other [] k d e within = absurd (omega arith)
 get_or-other (x ∷ xs) zero d e within = refl
 get_or-other (x ∷ xs) (suc k) d e within = get_or-other xs k d e (omega arith)
 
--- where none of the first so many has a property, and the next one doesn't either, none of one more has it
+-- where none of the first `count` has a property, and the next one doesn't either, none of one more has it
 pub none_more : (P : ℕ → Type 0) (count : ℕ) → ((k : ℕ) → k < count → P k → ⊥) → (P count → ⊥)
     → (k : ℕ) → k < count + 1 → P k → ⊥
 none_more P count before last k below has = elim (ℕ_discrete k count) [

@@ -20,7 +20,7 @@ use Rattle.ca_credit.specs.Table.{IsCreditOrKept, IsAfterPair, CreditsUpTo, Cred
 use Rattle.ca_credit.specs.Table.{CreditsPair, CreditsBlock, Credits}
 use Rattle.ca_credit.proofs.DetectionLemmas.{shown_by_first, get_or-other}
 
--- what is known at a place is what stands there
+-- what is known at a place is what is there
 pub known_at : (table : List (Option Verdict)) (k : ℕ) → AreAllKnown table → slice_get (known_verdicts table) k ≡ verdict_at table k
 known_at [] k known = refl
 known_at (None ∷ table) k known = absurd known
@@ -107,7 +107,7 @@ some_within [] k within = absurd (omega arith)
 some_within (x ∷ xs) zero within = (x, refl)
 some_within (x ∷ xs) (suc k) within = some_within xs k (omega arith)
 
--- of a table that is known, seen as its verdicts: a place of them is one of the table, where a verdict stands
+-- of a table that is known, seen as its verdicts: a place of them is one of the table, where a verdict is
 pub known_within : (table : List (Option Verdict)) (verdicts : List Verdict) (k : ℕ) → AreAllKnown table → known_verdicts table ≡ verdicts
     → k < length verdicts → k < length table
 known_within table verdicts k known is within = let l = length-known table known in let m = ap length is in omega arith

@@ -9,7 +9,7 @@ use Rattle.ca_credit.specs.Defects.{Task, IsDefectAt}
 use Rattle.ca_credit.specs.Detection.{IsAllowedByRows}
 use Rattle.ca_credit.specs.Table.{verdict_at, is_open, CreditsPair}
 
--- of the first so many places, that many have the property, or more
+-- of the first `count` places, `some` or more have the property
 pub data HaveAmong (P : ℕ → Type 0) : ℕ → ℕ → Type 0 where
   Start : HaveAmong P 0 0
   Passes : (count some : ℕ) → HaveAmong P count some → HaveAmong P (count + 1) some
@@ -27,7 +27,7 @@ abbrev pub AimsAtSuspect : Task → List Bool → List (Option Verdict) → ℕ 
 AimsAtSuspect task pair table place before after =
     (after ≤ before) ⊎ (IsSuspectAt task pair table place × (after ≤ before + 1))
 
--- one was aimed at most so often as there are suspect defects among the first so many
+-- one aimed at most as often as there are suspect defects among the first `count`
 pub record AimsUpTo (task : Task) (pair : List Bool) (count : ℕ) (table : List (Option Verdict))
     (before after : ℕ) : Type 0 where
   pub suspects : ℕ
@@ -41,17 +41,17 @@ pub record AimsAtSuspects (task : Task) (pair : List Bool) (table : List (Option
   pub are : HaveAmong (IsSuspectAt task pair table) (length table) suspects
   pub few : after ≤ before + suspects + 1
 
--- the bits after so many pairs of a list, from this place on: those of the last one, or those before
+-- the bits after this many pairs of a list, from this place on: those of the last one, or those before
 abbrev pub bits_after : List (List Bool) → ℕ → ℕ → List Trit → List Trit
 bits_after pairs from zero before = before
 bits_after pairs from (suc count) before = trits_of (slice_index_or pairs (from + count) [])
 
--- what is aimed at after so many pairs: nothing, or where there is no pair what was before
+-- what is aimed at after this many pairs: nothing, or where there is no pair what was before
 abbrev pub aimed_after : ℕ → Option ChipDefect → Option ChipDefect
 aimed_after zero before = before
 aimed_after (suc count) before = None
 
--- how often one may aim for pairs of a list, so many from this place on, which are credited one after
+-- how often one may aim for this many pairs of a list, from this place on, which are credited one after
 -- another: for each of them once more often than there are suspect defects, by the table that it meets
 pub data MayAimOver (task : Task) (pairs : List (List Bool)) (from : ℕ) (old : List (Option Verdict))
     : ℕ → List (Option Verdict) → ℕ → Type 0 where

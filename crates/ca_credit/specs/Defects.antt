@@ -5,13 +5,13 @@ use Rattle.ca_flat.specs.declared.chip_defect.ChipDefect.{ChipDefect}
 use Rattle.ca_flat.specs.Chip.{Chip, cell_at}
 use Rattle.ca_flat.specs.Waves.{IsFlatChip}
 
--- what is to be done: for each of these defects of the chip it is searched with at most so many branches
+-- what is to be done: each of these defects of the chip is searched for with at most `budget` branches
 pub record Task : Type 0 where
   pub chip : Chip
   pub defects : List ChipDefect
   pub budget : ℕ
 
--- the defect stands at this place of the list
+-- the defect is at this place of the list
 abbrev pub IsDefectAt : Task → ℕ → ChipDefect → Type 0
 IsDefectAt task place defect = slice_get task.defects place ≡ Some defect
 

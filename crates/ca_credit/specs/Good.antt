@@ -20,7 +20,7 @@ pub record HasVerdict (task : Task) (verdicts : List Verdict) (place : ℕ) (def
   pub is_defect : IsDefectAt task place defect
   pub is_verdict : slice_get verdicts place ≡ Some verdict
 
--- so many bits are all the support of the defect
+-- `count` bits are all the support of the defect
 pub record HasSupport (chip : Chip) (defect : ChipDefect) (count : ℕ) : Type 0 where
   pub bits : List ℕ
   pub counted : length bits ≡ count
@@ -39,8 +39,8 @@ pub record IsRightlyAborted (task : Task) (pairs : List (List Bool)) (defect : C
   pub undetected : NoneDetects task.chip defect pairs
   pub spent : IsSpentCode task.chip defect task.budget code
 
--- a spent code of which each leaf stands at a settled or a plainly ruled out pair, and no branch, nor its
--- next partial pair, at a plainly ruled out one
+-- a spent code of which each leaf is at a settled or a plainly ruled out pair, and no branch, nor its next
+-- partial pair, at a plainly ruled out one
 abbrev pub IsCheckedSpent : Chip → ChipDefect → ℕ → List Token → Type 0
 IsCheckedSpent chip defect budget code = IsSpentBy (search_rules chip defect) chip budget code
 

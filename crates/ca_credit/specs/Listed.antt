@@ -12,7 +12,7 @@ use Rattle.ca_search.specs.Filled.{filled}
 use Rattle.ca_credit.specs.Detection.{Detects}
 
 -- a search found the pair for the defect: a partial pair that is shown, and that is the next one of a front
--- with at most so many branches, gives it when its unset bits are filled with 0
+-- with at most `budget` branches, gives it when its unset bits are filled with 0
 pub record IsFoundFor (chip : Chip) (budget : ℕ) (defect : ChipDefect) (pair : List Bool) : Type 0 where
   pub partial : List Trit
   pub code : List Token

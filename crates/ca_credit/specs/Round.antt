@@ -37,7 +37,7 @@ pub record IsTried (task : Task) (pair : List Bool) (number : ℕ) (tried : List
       → IsAfterPair task.chip pair number defect (verdict_at old place) (verdict_at new place)
   pub others : (place : ℕ) → is_tried tried place ≡ false → verdict_at new place ≡ verdict_at old place
 
--- more defects were tried, and so many were credited
+-- more defects were tried, and `credited` were credited
 pub record TriesMore (task : Task) (pair : List Bool) (number credited : ℕ) (old new : Round) : Type 0 where
   pub tried : (table : List (Option Verdict))
       → IsTried task pair number old.tried.items table old.verdicts.items

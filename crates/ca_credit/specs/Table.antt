@@ -60,7 +60,7 @@ IsAfterPair chip pair number defect (Some Untestable) new = new ≡ Some Untesta
 IsAfterPair chip pair number defect (Some (Aborted code)) new =
     IsCreditOrKept chip pair number defect (Some (Aborted code)) new
 
--- what a pair makes of the verdicts of the first so many defects of the list; the others stay
+-- what a pair makes of the verdicts of the first `count` defects of the list; the others stay
 pub record CreditsUpTo (task : Task) (pair : List Bool) (number count : ℕ)
     (old new : List (Option Verdict)) : Type 0 where
   pub as_many : length new ≡ length old
@@ -72,8 +72,8 @@ pub record CreditsUpTo (task : Task) (pair : List Bool) (number count : ℕ)
 abbrev pub CreditsPair : Task → List Bool → ℕ → List (Option Verdict) → List (Option Verdict) → Type 0
 CreditsPair task pair number old new = CreditsUpTo task pair number (length old) old new
 
--- what pairs of a list make of the table, so many from this place on, one after another, each with its place
--- as its number
+-- what this many pairs of a list make of the table, from this place on, one after another, each with its
+-- place as its number
 pub data CreditsBlock (task : Task) (pairs : List (List Bool)) (from : ℕ) (old : List (Option Verdict))
     : ℕ → List (Option Verdict) → Type 0 where
   Begins : CreditsBlock task pairs from old 0 old

@@ -41,7 +41,7 @@ impl Model for Credits {
 }
 
 impl Credits {
-    /// The table of so many defects, of which none has a verdict.
+    /// The table of `count` defects, of which none has a verdict.
     pub fn reserve(alloc: Global, count: usize) -> Result<Self, NoMemory>
         ensures { IfOk result (λ credits. credits ≡ replicate count None) }
     {

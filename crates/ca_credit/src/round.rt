@@ -27,7 +27,7 @@ pub(crate) struct Round {
 }
 
 impl Round {
-    /// No verdict for so many defects.
+    /// No verdict for `count` defects.
     pub(crate) fn reserve(alloc: Global, count: usize) -> Result<Self, NoMemory>
         ensures { IfOk result (λ round. (round.verdicts.items ≡ replicate count None)
             × (length round.tried.items ≡ count)) }
@@ -172,7 +172,7 @@ impl Round {
         credited
     }
 
-    // Tries the pair on the defect at a place that wasn't tried, and on those behind it of the same instance
+    // Tries the pair on the defect at a place that wasn't tried, and on those after it of the same instance
     // that let it give the same. So what an instance gives is led through the chip once for all of these.
     fn try_from<S: Simulator>(&mut self, sim: &mut S, pair: &Pair, number: u32, place: usize) -> u32
         requires within { place < length self.old.verdicts.items }

@@ -44,7 +44,7 @@ alike_from_lower text other same = sym (upper_case-lower_case text) ∙ ap upper
 pub lower_from_alike : (text other : List ℕ) → upper_case text ≡ upper_case other → map to_ascii_lowercase text ≡ map to_ascii_lowercase other
 lower_from_alike text other same = sym (lower_case-upper_case text) ∙ ap (map to_ascii_lowercase) same ∙ lower_case-upper_case other
 
--- a text whose front is a piece in upper case is, in upper case, the piece and what stands behind it
+-- a text whose front is a piece in upper case is, in upper case, the piece and what follows it
 pub front_and_rest : (text : List ℕ) (size : ℕ) (piece : List ℕ) → upper_case (take size text) ≡ upper_case piece
     → upper_case text ≡ upper_case piece ++ upper_case (drop size text)
 front_and_rest text size piece same =
@@ -69,13 +69,13 @@ front_is text piece rest same =
           ∙ ap (λ n. take n (upper_case piece ++ rest)) (sym size) ∙ take-front (upper_case piece) rest,
     )
 
--- what stands behind the first piece of a name are the others
+-- what follows the first piece of a name are the others
 pub others_behind : (text first mark second behind name : List ℕ) → first ++ (mark ++ second) ≡ name → text ≡ first ++ behind → name ≡ text
     → behind ≡ mark ++ second
 others_behind text first mark second behind name whole front same = append_cancel_left first behind (mark ++ second) (sym front ∙ sym same ∙ sym whole)
 
--- a text that begins with two pieces is, with a third behind them, a name exactly where the third is what
--- stands behind the two
+-- a text that begins with two pieces is, with a third after them, a name exactly where the third is what
+-- follows the two
 pub three_pieces : (text first mark second behind_first behind_mark name : List ℕ) → first ++ (mark ++ second) ≡ name → text ≡ first ++ behind_first
     → behind_first ≡ mark ++ behind_mark → (behind_mark ≡ second → name ≡ text) × (name ≡ text → behind_mark ≡ second)
 three_pieces text first mark second behind_first behind_mark name whole front middle = (

@@ -54,7 +54,7 @@ slice_get_kept devices new defect place device there =
     (slice_get-changed_from defect new 0 devices place device there
     ∙ ap (λ at. Some (device_with defect new at device)) (let same : 0 + place ≡ place = omega arith in same))
 
--- a new device is behind all others
+-- a new device is after all others
 pub slice_get-new : (devices : List Device) (new : ℕ) (defect : Defect) (place : ℕ) (device : Device) → new_device defect ≡ Some device
     → place ≡ length devices → slice_get (devices_with devices new defect) place ≡ Some device
 slice_get-new devices new defect place device is behind =
@@ -181,7 +181,7 @@ no_more_devices devices new defect is =
     let longer = length-append_none (changed_devices devices new defect) (new_device defect) is in
     omega arith
 
--- behind the devices that were there stands the one that the defect adds
+-- the one that the defect adds follows the devices that were there
 pub adds_device : (devices : List Device) (new : ℕ) (defect : Defect) (place : ℕ) → place < length (devices_with devices new defect) → length devices ≤ place
     → IsSome (new_device defect)
 adds_device devices new defect place within behind = by (new_device defect) refl

@@ -51,7 +51,7 @@ length-behind give limit place (suc count) none one =
           ],
     )
 
--- a rail has shorts with the nodes behind the input pins
+-- a rail has shorts with the nodes after the input pins
 short_of_rail : (inputs low high : ℕ) → low < 2 → 2 + inputs ≤ high → is_short inputs low high ≡ true
 short_of_rail inputs low high rail behind = grind (arith, nat_tests)
 
@@ -114,7 +114,7 @@ pair_count-suc (suc m) =
     ∙ add-mul-div_right (suc m * m) (suc m) (omega arith)
     ∙ ap (λ n. suc m * n / 2 + suc m) (sym before_that)
 
--- the shorts of the nodes from one behind the input pins on
+-- the shorts of the nodes from one after the input pins on
 length-free_shorts : (inputs nodes place count : ℕ) → 2 + inputs ≤ place → place + count ≡ nodes
     → length (each_from (shorts_of nodes inputs) place count) ≡ pair_count count
 length-free_shorts inputs nodes place zero free all = refl

@@ -1,4 +1,4 @@
--- No defect stands twice in the list of a cell's defects.
+-- No defect occurs twice in the list of a cell's defects.
 use Rattle.std.proofs.Common.{◌≡◌, ℕ, zero, suc, ◌+◌, ◌-◌, ◌<◌, ◌≤◌, ◌⊎◌, inl, inr, List, Bool, true, false}
 use Rattle.std.proofs.Common.{[], ◌∷◌, ◌++◌, length, refl, sym, ◌∙◌, ap, subst, arith}
 use Rattle.std.specs.Prelude.{cond, Some, None, slice_get, option_map, Option}
@@ -21,11 +21,11 @@ use Rattle.ca_defect.specs.Laws.{DefectsDiffer}
 use Rattle.ca_defect.proofs.MemberLemmas.{all_listed}
 use Rattle.ca_defect.proofs.DifferLemmas.{one_defect}
 
--- a defect stands at one place
+-- a defect is at one place
 abbrev AreDistinct : List Defect → Type 0
 AreDistinct xs = (one other : ℕ) (x : Defect) → slice_get xs one ≡ Some x → slice_get xs other ≡ Some x → one ≡ other
 
--- where an entry of two lists stands
+-- where an entry of two lists is
 record IsBehind (xs ys : List Defect) (at : ℕ) (x : Defect) : Type 0 where
   place : ℕ
   there : slice_get ys place ≡ Some x
@@ -71,7 +71,7 @@ given give from (suc count) at x there =
         let rest = next later.place later.there in
         record { of = rest.of; place = rest.place; there = rest.there; behind = let behind = rest.behind in omega (arith, behind) }
 
--- lists that places give, where an entry tells its place
+-- lists that places give, where an entry determines its place
 distinct-each : (give : ℕ → List Defect) (key : Defect → ℕ) → ((k place : ℕ) (x : Defect) → slice_get (give k) place ≡ Some x → key x ≡ k)
     → ((k : ℕ) → AreDistinct (give k)) → (from count : ℕ) → AreDistinct (each_from give from count)
 distinct-each give key tells each from zero = λ one other x is is_too. absurd cc
@@ -104,7 +104,7 @@ abbrev high_of : Defect → ℕ
 high_of (Short low high) = high.0
 high_of _ = 0
 
--- an entry of a device's opens tells its place in them
+-- an entry of a device's opens determines its place in them
 open_place : (k place : ℕ) (x : Defect) → slice_get (device_opens k) place ≡ Some x → (key_of x ≡ k) × (kind_of x ≡ place) × (place < 3)
 open_place k zero x there =
     let same : OpenDrain (record { 0 = k }) ≡ x = cc in subst (λ d. (key_of d ≡ k) × (kind_of d ≡ 0) × (0 < 3)) same (refl, refl, omega arith)

@@ -9,7 +9,7 @@ use Rattle.ca_defect.specs.declared.defect.Defect.{Defect}
 use Rattle.ca_defect.specs.declared.defect.Defect.TheVariants.{OpenDrain, OpenSource, OpenGate}
 use Rattle.ca_defect.specs.List.{each_from, device_opens}
 
--- one more place gives its defects behind the others
+-- one more place gives its defects after the others
 each_from-suc : (give : ℕ → List Defect) (place count : ℕ) → each_from give place (suc count) ≡ each_from give place count ++ give (place + count)
 each_from-suc give place zero = append-nil (give place) ∙ ap give (sym (add-zero place))
 each_from-suc give place (suc count) =
@@ -25,7 +25,7 @@ one_more_place give count start list new before more =
     more ∙ ap (λ l. l ++ give count) before ∙ append_assoc start (each_from give 0 count) (give count)
     ∙ ap (λ l. start ++ l) (ap (λ at. each_from give 0 count ++ give at) (sym (zero-add count)) ∙ sym (each_from-suc give 0 count) ∙ ap (each_from give 0) (sym (add-one count)))
 
--- the opens of a device, one behind the other
+-- the opens of a device, one after the other
 pub opens_pushed : (place : ℕ) (list one two three : List Defect) → one ≡ list ++ OpenDrain (record { 0 = place }) ∷ []
     → two ≡ one ++ OpenSource (record { 0 = place }) ∷ [] → three ≡ two ++ OpenGate (record { 0 = place }) ∷ [] → three ≡ list ++ device_opens place
 opens_pushed place list one two three first second third =
@@ -34,7 +34,7 @@ opens_pushed place list one two three first second third =
     let gate : List Defect = OpenGate (record { 0 = place }) ∷ [] in
     third ∙ ap (λ l. l ++ gate) (second ∙ ap (λ l. l ++ source) first) ∙ append_assoc (list ++ drain) source gate ∙ append_assoc list drain (source ++ gate)
 
--- the places from one on are that one and those behind it
+-- the places from one on are that one and those after it
 each_from-front : (give : ℕ → List Defect) (place end : ℕ) → place < end → each_from give place (end - place) ≡ give place ++ each_from give (place + 1) (end - (place + 1))
 each_from-front give place end within = let same : end - place ≡ suc (end - (place + 1)) = omega arith in ap (each_from give place) same
 
@@ -53,7 +53,7 @@ find_here test give place end within (Some defect) is some =
     sym (ap (find test) (each_from-front give place end within) ∙ find-append test (give place) (each_from give (place + 1) (end - (place + 1)))
     ∙ ap (λ o. option_or o (find test (each_from give (place + 1) (end - (place + 1))))) (sym is))
 
--- behind all places nothing is found
+-- after all places nothing is found
 pub find_nowhere : (test : Defect → Bool) (give : ℕ → List Defect) (place end : ℕ) → end ≤ place → find test (each_from give place (end - place)) ≡ None
 find_nowhere test give place end past = let none : end - place ≡ 0 = omega arith in ap (λ n. find test (each_from give place n)) none
 

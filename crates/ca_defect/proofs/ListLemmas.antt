@@ -10,7 +10,7 @@ slice_get-append_left [] ys place x there = absurd (none-some x there)
 slice_get-append_left (first ∷ xs) ys zero x there = there
 slice_get-append_left (first ∷ xs) ys (suc place) x there = slice_get-append_left xs ys place x there
 
--- a new entry is behind all others
+-- a new entry is after all others
 pub slice_get-append_end : {T : Type 0} (xs : List T) (x : T) (place : ℕ) → place ≡ length xs → slice_get (xs ++ x ∷ []) place ≡ Some x
 slice_get-append_end [] x place is = subst (λ at. slice_get (x ∷ []) at ≡ Some x) (sym is) refl
 slice_get-append_end (first ∷ xs) x zero is = absurd (omega arith)

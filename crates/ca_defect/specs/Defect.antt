@@ -34,7 +34,7 @@ device_with (OpenGate opened) new place device = if place == opened.0 then gate_
 device_with (OpenPin pin) new place device = if device.gate.0 == pin.0 then gate_on new device else device
 device_with (Short low high) new place device = device
 
--- these devices, the first of which stands at a place of the list, with the defect
+-- these devices, the first of which is at a place of the list, with the defect
 abbrev pub changed_from : Defect → ℕ → ℕ → List Device → List Device
 changed_from defect new place [] = []
 changed_from defect new place (device ∷ more) = device_with defect new place device
@@ -80,7 +80,7 @@ circuit_with net defect = record {
       (length net.nodes) defect;
 }
 
--- of a cell with so many input pins, the node n is one: they stand behind power and ground
+-- of a cell with this many input pins, the node n is one: they follow power and ground
 abbrev pub is_pin : ℕ → ℕ → Bool
 is_pin inputs n = nat_le 2 n && nat_lt n (2 + inputs)
 
@@ -90,7 +90,7 @@ abbrev pub is_short : ℕ → ℕ → ℕ → Bool
 is_short inputs low high =
     nat_lt low high && not (is_pin inputs low) && not (is_pin inputs high) && not (low == 0 && high == 1)
 
--- the defect is one of a cell with this network and so many input pins
+-- the defect is one of a cell with this network and this many input pins
 abbrev pub IsDefect : Circuit → ℕ → Defect → Type 0
 IsDefect net inputs (OpenDrain opened) = opened.0 < length net.devices
 IsDefect net inputs (OpenSource opened) = opened.0 < length net.devices

@@ -7,7 +7,7 @@ use Rattle.ca_defect.specs.declared.defect.Defect.{Defect}
 use Rattle.ca_defect.specs.List.{IsDefectOf}
 use Rattle.ca_defect.specs.Name.{name_of, names_of}
 
--- two defects of a cell with one name are one, and no name stands twice in the list of names
+-- two defects of a cell with one name are one, and no name occurs twice in the list of names
 pub record DefectsDiffer (raw : RawCell) : Type 0 where
   pub defects : (defect other : Defect) → IsDefectOf raw defect → IsDefectOf raw other
       → name_of raw defect ≡ name_of raw other → defect ≡ other

@@ -10,7 +10,7 @@ use Rattle.ca_defect.specs.declared.defect.Defect.TheVariants.{OpenDrain, OpenSo
 use Rattle.ca_defect.specs.declared.defect.Defect.TheVariants.{Short}
 use Rattle.ca_defect.specs.Defect.{is_short, IsDefect, circuit_with}
 
--- the defects that each of so many places gives, from a place on, in order
+-- the defects that each of this many places gives, from a place on, in order
 abbrev pub each_from : (ℕ → List Defect) → ℕ → ℕ → List Defect
 each_from give place zero = []
 each_from give place (suc count) = give place ++ each_from give (place + 1) count
@@ -21,7 +21,7 @@ device_opens place =
     OpenDrain (record { 0 = place }) ∷ OpenSource (record { 0 = place }) ∷ OpenGate (record { 0 = place })
     ∷ []
 
--- the open of an input pin, of which this many stand before it
+-- the open of an input pin, with this many before it
 abbrev pub pin_open : ℕ → List Defect
 pin_open before = OpenPin (record { 0 = 2 + before }) ∷ []
 
@@ -34,8 +34,8 @@ short_of inputs low high =
 abbrev pub shorts_of : ℕ → ℕ → ℕ → List Defect
 shorts_of nodes inputs low = each_from (short_of inputs low) 0 nodes
 
--- The defects of a cell with this network and so many input pins: the opens of each device in order, the open
--- of each input pin in order, and the shorts in the order of their lower nodes and then of their higher
+-- The defects of a cell with this network and this many input pins: the opens of each device in order, the
+-- open of each input pin in order, and the shorts in the order of their lower nodes and then of their higher
 -- nodes.
 abbrev pub listed_defects : Circuit → ℕ → List Defect
 listed_defects net inputs =

@@ -11,7 +11,7 @@ use Rattle.ca_defect.specs.declared.defect.Defect.TheVariants.{OpenDrain, OpenSo
 use Rattle.ca_defect.specs.declared.defect.Defect.TheVariants.{Short}
 use Rattle.ca_defect.specs.List.{defects_of}
 
--- the first of these nets whose node is n; the first of them stands at a place of the list of nets
+-- the first of these nets whose node is n; the first of them is at a place of the list of nets
 abbrev pub net_from : List RawPin → ℕ → ℕ → List (List ℕ) → List ℕ
 net_from pins n place [] = []
 net_from pins n place (net ∷ more) = if node_of pins place == n then net else net_from pins n (place + 1) more

@@ -5,12 +5,12 @@ use Rattle.ca_net.specs.declared.trit.Trit.{Trit}
 use Rattle.ca_net.specs.declared.trit.Trit.TheVariants.{Zero, One}
 use Rattle.ca_defect.specs.declared.row.Row.{Row}
 
--- the row stands before the other: its first vector is the lower number, or it is the same and the last
--- vector is
+-- the row comes before the other: its first vector is the lower number, or it is the same and the last vector
+-- is
 abbrev pub IsBefore : Row → Row → Type 0
 IsBefore row other = (row.first < other.first) ⊎ ((row.first ≡ other.first) × (row.last < other.last))
 
--- each row stands before all later ones
+-- each row comes before all later ones
 abbrev pub IsAscending : List Row → Type 0
 IsAscending rows = AllPairs IsBefore rows
 
@@ -18,7 +18,7 @@ IsAscending rows = AllPairs IsBefore rows
 abbrev pub digit_value : ℕ → Trit
 digit_value digit = if digit == 0 then Zero else One
 
--- the vector of so many inputs that a number gives: its binary digits, of which the first input has the
+-- the vector of this many inputs that a number gives: its binary digits, of which the first input has the
 -- highest
 abbrev pub vector_of : ℕ → ℕ → List Trit
 vector_of zero number = []

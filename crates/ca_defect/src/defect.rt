@@ -42,7 +42,7 @@ pub fn changed_device(defect: Defect, new: NodeId, place: DeviceId, device: Devi
 impl Defect {
     ghost use Rattle.ca_defect.specs.Defect.{new_node, new_device};
 
-    /// The node that the defect adds, behind all others.
+    /// The node that the defect adds, after all others.
     pub fn new_node(self) -> Option<NodeKind>
         ensures { result ≡ new_node self }
     {
@@ -55,7 +55,7 @@ impl Defect {
         }
     }
 
-    /// The device that the defect adds, behind all others.
+    /// The device that the defect adds, after all others.
     pub fn new_device(self) -> Option<Device>
         ensures { result ≡ new_device self }
     {
@@ -82,14 +82,14 @@ fn bridge(low: NodeId, high: NodeId) -> Device
     }
 }
 
-// Whether the node is an input pin of a cell with so many.
+// Whether the node is an input pin of a cell with `inputs` input pins.
 fn is_pin(inputs: usize, n: usize) -> bool
     ensures { result ≡ is_pin inputs n }
 {
     2 <= n && n - 2 < inputs
 }
 
-/// Whether there is a short of the two nodes in a cell with so many input pins.
+/// Whether there is a short of the two nodes in a cell with `inputs` input pins.
 pub(crate) fn is_short(inputs: usize, low: usize, high: usize) -> bool
     ensures { result ≡ is_short inputs low high }
 {

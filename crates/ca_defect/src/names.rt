@@ -15,7 +15,7 @@ use ca_net::{DeviceId, NodeId};
 use std::alloc::Global;
 
 /// What the name of a defect is made of: the names of a device or of nodes as they are kept, and the mark
-/// behind the first.
+/// after the first.
 #[derive(Clone, Copy)]
 pub(crate) struct Parts<'a> {
     pub(crate) first: &'a [u8],

@@ -74,7 +74,7 @@ impl Rows {
         &self.rows
     }
 
-    /// Appends a row, which stands behind all that are there.
+    /// Appends a row, which follows all that are there.
     pub fn push(&mut self, row: Row) -> Result<(), NoMemory>
         requires { All (λ earlier. IsBefore earlier row) self.old }
         ensures ok { OnOk result (self.new ≡ self.old ++ row ∷ []) }

@@ -161,7 +161,7 @@ fn is_called(cell: &Cell, text: &[u8], defect: Defect) -> bool
     is_alike(behind_mark, parts.second)
 }
 
-// What stands behind a piece that the text begins with in upper or lower case.
+// What follows a piece that the text begins with in upper or lower case.
 fn behind<'a>(text: &'a [u8], piece: &[u8]) -> Option<&'a [u8]>
     ensures some { IfSome result (λ rest. upper_case text.now ≡ upper_case piece.now ++ upper_case rest.now) }
     ensures none { IfNone result ((rest : List ℕ) → upper_case text.now ≢ upper_case piece.now ++ rest) }

@@ -40,7 +40,7 @@ in_all f (first ∷ xs) zero x n at has =
     Contains-append_left (f first) (flat_map f xs) n (subst (λ y. Contains (f y) n) (sym (some_inj first x at)) has)
 in_all f (first ∷ xs) (suc k) x n at has = Contains-append_right (f first) (flat_map f xs) n (in_all f xs k x n at has)
 
--- what stands in a list of values
+-- what is in a list of values
 pub record IsValueOf {X Y : Type 0} (f : X → Y) (xs : List X) (k : ℕ) (y : Y) : Type 0 where
   pub item : X
   pub at : slice_get xs k ≡ Some item
@@ -82,7 +82,7 @@ any_passed p (first ∷ xs) is = by (λ e. any_passed p xs e) (p first) refl is
 abbrev pub sides_of : Join → List ℕ
 sides_of join = join.left ∷ join.right ∷ []
 
--- the wire of a constant, where so many bits are declared
+-- the wire of a constant, where this many bits are declared
 abbrev pub constant_at : ℕ → Bool → ℕ
 constant_at bits false = bits
 constant_at bits true = bits + 1

@@ -17,7 +17,7 @@ use Rattle.ca_chip.specs.Wiring.{header_bits}
 use Rattle.ca_draft.specs.OnWires.{header_of, AreFirsts}
 use Rattle.ca_wired.proofs.EndLemmas.{take_more}
 
--- the bits of some names, and of others behind them
+-- the bits of some names, and of others after them
 pub count_append : (buses more : List RawBus) → bit_count (buses ++ more) ≡ bit_count buses + bit_count more
 count_append [] more = omega arith
 count_append (bus ∷ buses) more = let e = count_append buses more in omega (arith, e)

@@ -79,7 +79,7 @@ head_of [] (suc k) = refl
 head_of (x ∷ xs) zero = refl
 head_of (x ∷ xs) (suc k) = head_of xs k
 
--- what stands at a place that isn't changed yet
+-- what is at a place that isn't changed yet
 pub unchanged_at : {X : Type 0} (f : X → X) (k : ℕ) (x : X) (old new : List X) → IsChanged f k old new → slice_get new k ≡ Some x → slice_get old k ≡ Some x
 unchanged_at f k x old new is at =
     sym (head_of old k) ∙ ap (λ l. slice_get l 0) (sym is.same) ∙ head_of new k ∙ at

@@ -13,7 +13,7 @@ use Rattle.ca_draft.specs.OnWires.{output_wire, next_own}
 use Rattle.ca_wired.proofs.EndLemmas.{drop_at}
 
 module _ (bits : ℕ) (uses : List RawUse) where
-  -- the wires of a pin and of those behind it
+  -- the wires of a pin and of those after it
   pub outputs_cons : (own : ℕ) (name : List ℕ) (names : List (List ℕ))
       → output_wires bits uses own (name ∷ names)
       ≡ output_wire bits own (bit_on uses name) ∷ output_wires bits uses (next_own own (bit_on uses name)) names
@@ -34,7 +34,7 @@ module _ (bits : ℕ) (uses : List RawUse) where
       by None rest = omega arith
       by (Some bit) rest = omega arith
 
-  -- those of some pins, and of others behind them
+  -- those of some pins, and of others after them
   pub outputs_append : (own : ℕ) (names more : List (List ℕ))
       → output_wires bits uses own (names ++ more)
       ≡ output_wires bits uses own names ++ output_wires bits uses (own + open_count uses names) more

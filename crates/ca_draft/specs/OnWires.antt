@@ -1,5 +1,5 @@
--- Instances and port bits before the nets are numbered: where a net will stand, there stands the number of
--- the wire. Only the proofs of the code cite this.
+-- Instances and port bits before the nets are numbered: where a net will be, the number of the wire is. Only
+-- the proofs of the code cite this.
 use Rattle.std.specs.Prelude.{ℕ, ◌+◌, ◌≡◌, ◌<◌, ◌^◌, ◌↔◌, ◌⊎◌, ◌||◌, ◌&&◌, Bool, IsTrue, true, false, List}
 use Rattle.std.specs.Prelude.{[], ◌∷◌, ◌++◌, map, length, drop, take, Option, Some, None, slice_get}
 use Rattle.std.specs.Prelude.{slice_index, slice_index_or, nat_lt, if◌then◌else◌}
@@ -36,7 +36,7 @@ use Rattle.ca_draft.specs.declared.draft.OnWires.{OnWires}
 abbrev pub cells_of : List Named → List RawCell
 cells_of library = map (λ named. raw_of named.entry) library
 
--- the cell stands at this place of the library
+-- the cell is at this place of the library
 abbrev pub IsCellAt : List Named → ℕ → RawCell → Type 0
 IsCellAt library place raw = slice_get (cells_of library) place ≡ Some raw
 
@@ -138,7 +138,7 @@ pub record AreMarks (earliest wires : List ℕ) (used : List Bool) : Type 0 wher
       → (slice_index_or used w false ≡ true)
       ↔ ((wire : ℕ) × Contains wires wire × (slice_index earliest wire ≡ w))
 
--- the number that is told of a wire
+-- the number that is given for a wire
 abbrev pub number_of : List ℕ → ℕ → ℕ
 number_of numbers wire = slice_index numbers wire
 
@@ -184,13 +184,13 @@ constant_number numbers is_named wire = if is_named then Some (number_of numbers
 abbrev pub constant_wires : ℕ → Bool → List ℕ
 constant_wires wire is_named = if is_named then wire ∷ [] else []
 
--- the wires that nets stand on: those of pins, of port bits, and of the constants that are named
+-- the wires that nets are on: those of pins, of port bits, and of the constants that are named
 abbrev pub touched_of : List Part → List PortBit → ℕ → Bool → Bool → List ℕ
 touched_of parts ports bits has_zero has_one =
     flat_map (λ part. pins_of part.body) parts
     ++ (map (λ port. port.net) ports ++ (constant_wires bits has_zero ++ constant_wires (bits + 1) has_one))
 
--- the table has the nets that stand on these wires, and the numbers of their nets
+-- the table has the nets that are on these wires, and the numbers of their nets
 pub record IsNumbering (joins : List Join) (wires : ℕ) (touched : List ℕ) (table : NetNumbers) : Type 0 where
   pub marks : WireMarks
   pub are : AreEarliest joins wires marks.earliest
@@ -217,8 +217,8 @@ abbrev pub wiring_made : RawNetlist → List Named → List ScanRow → OnWires 
 wiring_made raw library scan made =
     wiring_on library scan made.parts.items made.ports.items made.bits (joins_of made.bits raw.joins)
 
--- what was made is of the netlist: its instances, its port bits, the wires that nets stand on, and whether
--- each constant is named
+-- what was made is of the netlist: its instances, its port bits, the wires that nets are on, and whether each
+-- constant is named
 pub record IsNetlistOnWires (raw : RawNetlist) (library : List Named) (scan : List ScanRow)
     (made : OnWires) : Type 0 where
   pub is_wiring : wiring_made raw library scan made ≡ wiring_of raw library scan

@@ -24,7 +24,7 @@ use ca_wired::{Draft, Part, PortBit};
 use std::alloc::Global;
 
 /// A netlist on its wires: the numbers of declared bits and of wires, the instances and port bits, and what
-/// nets stand on.
+/// nets are on.
 #[derive(Drop)]
 pub(crate) struct OnWires {
     pub bits: u32,
@@ -72,7 +72,7 @@ fn on_wires(
     })
 }
 
-// The nets that stand on these wires.
+// The nets that are on these wires.
 fn numbering_of(
     alloc: Global,
     bits: u32,
@@ -92,8 +92,8 @@ fn numbering_of(
     Ok(table)
 }
 
-/// The draft of a netlist whose instances keep their rules. A netlist with 2^32 wires or port bits is told as
-/// one for which there is no memory.
+/// The draft of a netlist whose instances keep their rules. Also answers out of memory for a netlist with
+/// 2^32 wires or port bits.
 pub fn draft_of(
     alloc: Global,
     library: Library,

@@ -64,7 +64,7 @@ fn index_at(range: (u32, u32), k: u32) -> u32
     }
 }
 
-// A name with an index behind it.
+// A name with an index after it.
 fn indexed_name(alloc: Global, name: &Text, index: u32) -> Result<Text, NoMemory>
     ensures { IfOk result (λ text. text ≡ name.now ++ (codes "[" ++ (decimal index ++ codes "]"))) }
 {
@@ -114,8 +114,8 @@ fn add_port(
     Ok(())
 }
 
-/// The port bits of a netlist on their wires, in header order. A list of 2^32 or more is told as one for
-/// which there is no memory.
+/// The port bits of a netlist on their wires, in header order. Also answers out of memory for a list of 2^32
+/// or more.
 pub(crate) fn ports_of(
     alloc: Global,
     buses: &[RawBus],

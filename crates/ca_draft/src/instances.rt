@@ -160,7 +160,7 @@ pub(crate) struct Instances {
     pub wires: u32,
 }
 
-/// The instances of a netlist on their wires, where so many bits are declared.
+/// The instances of a netlist on their wires, where this many bits are declared.
 pub(crate) fn instances_of(
     alloc: Global,
     library: &Library,

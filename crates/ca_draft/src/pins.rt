@@ -18,8 +18,7 @@ use ca_wired::{NetList, ScanNets};
 use std::alloc::Global;
 
 // The wire of an output pin, where the next wire of its own has the number `own`. The last number isn't
-// given, so that the number of wires fits too: a netlist that reaches it is told as one for which there is
-// no memory.
+// given, so that the number of wires fits too: the answer for a netlist that reaches it is out of memory.
 fn output_wire(bits: u32, own: &mut u32, bit: Option<RawBit>) -> Result<u32, NoMemory>
     requires { bits + 1 < 2 ^ 32 }
     ensures wire { IfOk result (λ wire. wire ≡ output_wire bits own.old bit) }

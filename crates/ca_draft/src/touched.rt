@@ -1,4 +1,4 @@
-//! The wires that nets stand on: those of pins, of port bits, and of the constants that are named.
+//! The wires that nets are on: those of pins, of port bits, and of the constants that are named.
 
 ghost use Rattle.std.specs.Prelude.{◌≡◌, ◌<◌, ◌+◌, ◌^◌, ◌⊎◌, ◌↔◌, ◌++◌, true, false, IsTrue, map, IfOk, OnOk};
 ghost use Rattle.std.specs.List.{Contains, flat_map, list_any};
@@ -114,7 +114,7 @@ fn is_named(pins: &[u32], spans: &[RawSpan], wire: u32, value: bool) -> bool
     has_wire(pins, wire) || is_joined(value, spans)
 }
 
-/// The wires that nets stand on, and whether each constant is named.
+/// The wires that nets are on, and whether each constant is named.
 #[derive(Drop)]
 pub(crate) struct Touched {
     pub wires: Vec<u32>,
@@ -122,7 +122,7 @@ pub(crate) struct Touched {
     pub one: bool,
 }
 
-/// The wires that nets stand on, where so many bits are declared.
+/// The wires that nets are on, where this many bits are declared.
 pub(crate) fn touched_of(
     alloc: Global,
     bits: u32,

@@ -17,7 +17,7 @@ use Rattle.ca_credit.specs.Defects.{Task}
 use Rattle.ca_credit.specs.Listed.{IsAim}
 use Rattle.ca_expected.specs.Laws.{AimedPairsAreWhole}
 
--- the partial pairs of a reading have so many bits
+-- the partial pairs of a reading have this many bits
 AreWide : ℕ → List (List Trit) → Type 0
 AreWide count [] = Unit {0}
 AreWide count (pair ∷ later) = (length pair ≡ count) × AreWide count later

@@ -19,7 +19,7 @@ module _ {A : Type 0} (text_in : A → List ℕ) (pieces : List A) (place : ℕ)
       ∙ concat-append (map text_in (take place pieces)) (text_in (get_or pieces place other) ∷ [])
       ∙ ap (λ piece. concat (map text_in (take place pieces)) ++ piece) (append-nil (text_in (get_or pieces place other)))
 
-  -- all pieces are those before this place, the one here, and those behind it
+  -- all pieces are those before this place, the one here, and those after it
   pub pieces_parted : (concat (map text_in (take place pieces)) ++ text_in (get_or pieces place other))
       ++ concat (map text_in (drop (place + 1) pieces)) ≡ concat (map text_in pieces)
   pieces_parted =

@@ -63,7 +63,7 @@ text_of NoMemory = codes "out of memory"
 abbrev pub line_of : Fault → List ℕ
 line_of fault = codes "cellaware: " ++ (text_of fault ++ codes "\n")
 
--- a line of its own, behind two blanks; nothing where there is no text
+-- a line of its own, after two blanks; nothing where there is no text
 abbrev pub indented : List ℕ → List ℕ
 indented [] = []
 indented (letter ∷ letters) = codes "  " ++ ((letter ∷ letters) ++ codes "\n")
@@ -76,6 +76,6 @@ place_line (Cell name rule place) = indented place
 place_line (Limit kind count) = codes "  " ++ (decimal count ++ (most_text kind ++ codes "\n"))
 place_line _ = []
 
--- the lines that tell a fault
+-- the lines that report a fault
 abbrev pub lines_of : Fault → List ℕ
 lines_of fault = line_of fault ++ place_line fault

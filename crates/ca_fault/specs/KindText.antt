@@ -69,7 +69,7 @@ limit_text limit.Outputs = codes "Outputs"
 limit_text limit.Defects = codes "Defects"
 limit_text limit.Chains = codes "Chains"
 
--- what there is too much of, and how much there may be, behind its number
+-- what there is too much of, and how much there may be, after its number
 abbrev pub most_text : LimitKind → List ℕ
 most_text limit.Cells = codes " cells, at most 1024"
 most_text limit.Nets = codes " nets, at most 131072"

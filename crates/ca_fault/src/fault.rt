@@ -16,7 +16,7 @@ use ca_store::{Failed, Sink};
 use ca_verilog::VerilogKind;
 use itoa::Buffer;
 
-/// Why a command didn't end well. Words stand as they were typed.
+/// Why a command didn't end well. Words are as they were typed.
 #[derive(Drop)]
 pub enum Fault {
     /// The words are those of no command.
@@ -36,13 +36,13 @@ pub enum Fault {
         row: usize,
     },
     /// The gate netlist breaks a rule of linking, the first of those that it breaks. A rule that an
-    /// instance's cell breaks is told as `Cell`, a limit as `Limit`, and want of memory as `NoMemory`. The
+    /// instance's cell breaks is reported as `Cell`, a limit as `Limit`, and out of memory as `NoMemory`. The
     /// place names what the rule carries, and is empty where there was no memory for it.
     Chip {
         rule: ChipFault,
         place: Text,
     },
-    /// The scan instance is on no whole chain, the first of those. Its name stands as in the netlist.
+    /// The scan instance is on no whole chain, the first of those. Its name is as in the netlist.
     Chain {
         instance: Text,
     },
@@ -50,9 +50,9 @@ pub enum Fault {
     NoCell {
         word: Text,
     },
-    /// The cell breaks a rule of used cells, the first of those that it breaks. Its name stands in upper
-    /// case. The place names what the rule carries, and on a chip the instance; it is empty where there is
-    /// nothing to name, or was no memory for it.
+    /// The cell breaks a rule of used cells, the first of those that it breaks. Its name is in upper case.
+    /// The place names what the rule carries, and on a chip the instance; it is empty where there is nothing
+    /// to name, or was no memory for it.
     Cell {
         cell: Text,
         rule: CellRule,
@@ -70,18 +70,18 @@ pub enum Fault {
     NoDefect {
         word: Text,
     },
-    /// The order file has a line that is none, or that may not stand there, the first of those. Lines are
+    /// The order file has a line that is none, or that may not be there, the first of those. Lines are
     /// counted from 1.
     Order {
         line: usize,
     },
-    /// A file has more bytes than it may have. So many were taken of it.
+    /// A file has more bytes than it may have. That many were taken.
     TooLong {
         name: Text,
         taken: usize,
     },
-    /// As many pairs are listed as there may be, and one more was found. It stands last. Each has, as its
-    /// aim, the place of the defect for which it was found.
+    /// As many pairs are listed as there may be, and one more was found. It comes last. Each has, as its aim,
+    /// the place of the defect for which it was found.
     TooManyPairs {
         pairs: Pairs,
         aims: List<u32>,

@@ -9,7 +9,7 @@ use ca_chip::ChipFault;
 use ca_spice::SpiceKind;
 use ca_verilog::VerilogKind;
 
-/// The text of a kind of faulty line, behind the line's number.
+/// The text of a kind of faulty line, after the line's number.
 pub(crate) fn kind_text(kind: SpiceKind) -> &'static [u8]
     ensures { result.now ≡ codes ": " ++ kind_text kind }
 {
@@ -25,7 +25,7 @@ pub(crate) fn kind_text(kind: SpiceKind) -> &'static [u8]
     }
 }
 
-/// The text of a rule, behind the cell's name.
+/// The text of a rule, after the cell's name.
 pub(crate) fn rule_text(rule: CellRule) -> &'static [u8]
     ensures { result.now ≡ codes ": " ++ rule_text rule }
 {
@@ -40,7 +40,7 @@ pub(crate) fn rule_text(rule: CellRule) -> &'static [u8]
     }
 }
 
-/// The text of a kind of faulty token, behind the line's number.
+/// The text of a kind of faulty token, after the line's number.
 pub(crate) fn netlist_text(kind: VerilogKind) -> &'static [u8]
     ensures { result.now ≡ codes ": " ++ netlist_text kind }
 {
@@ -92,7 +92,7 @@ pub(crate) fn limit_text(kind: LimitKind) -> &'static [u8]
     }
 }
 
-/// What there is too much of, and how much there may be, behind its number.
+/// What there is too much of, and how much there may be, after its number.
 pub(crate) fn most_text(kind: LimitKind) -> &'static [u8]
     ensures { result.now ≡ most_text kind ++ codes "\n" }
 {

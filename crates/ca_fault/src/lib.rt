@@ -1,4 +1,4 @@
-//! What commands answer where they don't end well: the faults, their exit statuses, and the line that tells
+//! What commands answer where they don't end well: the faults, their exit statuses, and the line that reports
 //! each.
 #![tactic(auto)]
 

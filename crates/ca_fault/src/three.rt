@@ -33,7 +33,7 @@ impl<'a> FaultText<'a> {
         }
     }
 
-    /// A line of its own, behind two blanks; nothing where there is no word.
+    /// A line of its own, after two blanks; nothing where there is no word.
     pub(crate) fn indented(word: &'a Text) -> Self
         ensures { result.start.now ++ (result.word.now ++ result.end.now) ≡ indented word.now }
     {

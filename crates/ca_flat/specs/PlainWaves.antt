@@ -1,4 +1,4 @@
--- How plain two-frame values stand to waves: where a wave is 0 or 1, so is the plain value.
+-- How plain two-frame values relate to waves: where a wave is 0 or 1, so is the plain value.
 use Rattle.std.specs.Prelude.{ℕ, ◌<◌, List, length, None}
 use Rattle.ca_net.specs.declared.trit.Trit.{Trit}
 use Rattle.ca_net.specs.declared.wave.Wave.{Wave}

@@ -20,7 +20,7 @@ ruled_out pair whole completes shown = nothing_in shown.output shown.observed
 settled : (pair : List Trit) → IsSettledPair blind_chip open_gate pair
 settled pair output observed = absurd (nothing_in output observed)
 
--- behind the only tree there is no pair
+-- after the only tree there is no pair
 ended : (pair : List Trit) (later : List (List Trit)) → Ended ≡ At pair later → ⊥
 ended pair later is = cc
 

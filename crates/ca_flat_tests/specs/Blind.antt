@@ -22,8 +22,8 @@ blind_chip = record {
 }
 
 -- Every pair is settled and ruled out, and no bit is in the support. So a leaf is a whole code, and a checked
--- one; before it the reading stands at the pair without bits, and behind it at none; a branch stands nowhere,
--- and no code is spent.
+-- one; before it the reading is at the pair without bits, and after it at none; no branch is possible, and no
+-- code is spent.
 pub record BlindIsRuledOut : Type 0 where
   pub settled : (pair : List Trit) → IsSettledPair blind_chip open_gate pair
   pub ruled_out : (pair : List Trit) → IsRuledOut blind_chip open_gate pair

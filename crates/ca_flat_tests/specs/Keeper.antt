@@ -1,4 +1,4 @@
--- The chip of `src/tests.rt`: a cell with two outputs, and behind it a cell that keeps what it got.
+-- The chip of `src/tests.rt`: a cell with two outputs, and downstream of it a cell that keeps what it got.
 use Rattle.std.specs.Prelude.{◌≡◌, List, [], ◌∷◌, ◌++◌, None, Some}
 use Rattle.ca_net.specs.declared.scale.TheConstants.{INNER_NODE, OUTPUT_NET}
 use Rattle.ca_net.specs.declared.node.NodeKind.{NodeKind}

@@ -60,7 +60,7 @@ open_drain = record { instance = 0; defect = OpenDrain (record { 0 = 0 }) }
 abbrev pub TiedSupport : Type 0
 TiedSupport = IsSupportBit tied_chip open_drain 0 × IsSupportBit tied_chip open_drain 1
 
--- a leaf may stand where both bits are set, and a branch on a bit that is unset
+-- a leaf is allowed where both bits are set, and a branch on a bit that is unset
 abbrev pub full_rules : Rules
 full_rules = record {
   leaf = λ pair. (value_at pair 0 ≢ X) × (value_at pair 1 ≢ X);
@@ -71,7 +71,7 @@ full_rules = record {
 abbrev pub tied_code : List Token
 tied_code = Branch 0 false ∷ Branch 1 false ∷ Leaf ∷ Leaf ∷ Branch 1 false ∷ Leaf ∷ Leaf ∷ []
 
--- behind the tokens the reading stands at the pair
+-- after the tokens the reading is at the pair
 abbrev pub StandsAt : List Token → List Trit → Type 0
 StandsAt code pair = IsFrontBy full_rules tied_chip code pair
 

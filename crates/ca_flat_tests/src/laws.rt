@@ -17,7 +17,7 @@ pub fn inverter_is_flat()
     ensures { InverterIsFlat }
 {}
 
-/// Cells without devices may stand in a chip, with one output pin or with none.
+/// Cells without devices may be in a chip, with one output pin or with none.
 pub fn bare_cells_are_cells()
     ensures { BareCellsAreCells }
 {}

@@ -102,7 +102,7 @@ fn push_p(devices: &mut DeviceList, gate: u32, a: u32, b: u32) -> Result<(), Net
         .map_err(|_| NetFault::NoMemory)
 }
 
-// The inner net m, and behind it p and n: m is the inverse of b, e the NOR of m and a, y the NAND of m and c.
+// The inner net m, and after it p and n: m is the inverse of b, e the NOR of m and a, y the NAND of m and c.
 fn push_gates(devices: &mut DeviceList, m: u32) -> Result<(), NetFault>
     requires inner { m < 100 }
     requires strengths { All HasStrength devices.old }
@@ -161,9 +161,9 @@ fn cell(alloc: Global, faulty: bool) -> Result<FlatNet, NetFault>
     FlatNet::new(nodes, devices)
 }
 
-// The chip, flattened by hand: the observed net 7 z is behind e and y, and the inner nodes are 8 m, 9 p and
-// 10 n. The second cell has a transistor from power to z with its gate on y, and one from ground to z with
-// its gate on e.
+// The chip, flattened by hand: the observed net 7 z is downstream of e and y, and the inner nodes are 8 m, 9
+// p and 10 n. The second cell has a transistor from power to z with its gate on y, and one from ground to z
+// with its gate on e.
 fn chip(alloc: Global, faulty: bool) -> Result<FlatNet, NetFault>
     ensures count { IfOk result (λ net. length net.nodes ≡ 11) }
     ensures inputs { IfOk result (λ net. input_count net.nodes ≡ 5) }

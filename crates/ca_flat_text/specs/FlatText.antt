@@ -72,6 +72,6 @@ HasLineBy kind.P device = (device.strength ≡ WEAK) ⊎ (device.strength ≡ ST
 HasLineBy kind.N device = (device.strength ≡ WEAK) ⊎ (device.strength ≡ STRONG)
 HasLineBy kind.D device = (device.strength ≡ BRIDGE) × (device.gate ≡ device.a)
 
--- the line of the device tells all of it
+-- the line of the device says all of it
 abbrev pub HasLine : Device → Type 0
 HasLine device = HasLineBy device.kind device

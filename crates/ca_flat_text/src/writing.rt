@@ -12,7 +12,7 @@ use ca_net::{Device, DeviceId, DeviceKind, FlatNet, Network, NodeId, NodeKind, W
 use itoa::Buffer;
 use std::alloc::Global;
 
-// Appends a word behind others.
+// Appends a word to others.
 fn push_word(text: &mut Text, word: &[u8]) -> Result<(), NoMemory>
     ensures { OnOk result (text.new ≡ text.old ++ spaced word.now) }
 {
@@ -36,7 +36,7 @@ fn push_numbered(text: &mut Text, letter: &[u8], number: u32) -> Result<(), NoMe
     push_decimal(text, number)
 }
 
-// Appends the name of a node behind other words.
+// Appends the name of a node to other words.
 fn push_node(text: &mut Text, node: NodeId) -> Result<(), NoMemory>
     ensures { OnOk result (text.new ≡ text.old ++ spaced (numbered (codes "N") node.0)) }
 {

@@ -111,7 +111,7 @@ bridge_length core (Some given) = by given.defect
     by (OpenPin pin) = omega arith
     by (Short low high) = omega arith
 
--- what is counted of all instances tells that the flat network isn't too large
+-- what is counted of all instances shows that the flat network isn't too large
 few_counted : (chip : Chip) (given : Option ChipDefect) (u inner devices : ℕ) → AreCounted (core_of chip) u inner devices → u ≡ length chip.parts
     → 3 + length (core_of chip).nets + inner < 2 ^ 32 → devices + 1 < 2 ^ 32 → IsFew (core_of chip) given
 few_counted chip given u inner devices counted all few_nodes few_devices =

@@ -26,7 +26,7 @@ pub record AreGateMarks (chip : linked.Chip) (marks : List Bool) : Type 0 where
   pub each : (u : ℕ) → IsTrue (mark_at marks u) ↔ IsLibrary chip u
   pub few : length chip.parts < 2 ^ 32
 
--- the flat nodes from which on the inner nodes of the instance stand, and the new node of a defect
+-- the flat nodes from which on the inner nodes of the instance are, and the new node of a defect
 pub record IsSpot (chip : Chip) (spot : Spot) : Type 0 where
   pub inner : spot.inner ≡ 2 + length chip.nets + inner_before chip spot.instance.0
   pub new : spot.new ≡ 2 + length chip.nets + inner_before chip (count_of chip)

@@ -32,7 +32,7 @@ impl Gates {
     }
 }
 
-/// The library instances of a chip. Want of memory is also told of a chip with 2^32 instances, for which
+/// The library instances of a chip. Also answers out of memory for a chip with 2^32 instances, for which
 /// `wire` makes none.
 pub(crate) fn gates_of(alloc: Global, chip: &Chip) -> Result<Gates, NoMemory>
     ensures { IfOk result (AreGateMarks chip.now) }

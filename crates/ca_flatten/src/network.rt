@@ -40,7 +40,7 @@ fn network_of(
 }
 
 /// Whether the flat networks of a chip, good and with each of its defects, are small enough for their nodes
-/// and devices to have numbers of 32 bits. Want of memory is told where one of them may be too large.
+/// and devices to have numbers of 32 bits. Answers out of memory where one of them may be too large.
 pub fn judge_size(alloc: Global, chip: &Chip) -> Result<(), NoMemory>
     ensures { OnOk result ((given : Option ChipDefect) → IsFew (core_of chip.now) given) }
 {
@@ -54,7 +54,7 @@ pub fn judge_size(alloc: Global, chip: &Chip) -> Result<(), NoMemory>
 
 /// The flat network of a linked chip, good or with one of its defects: power, ground, the nets off the scan
 /// path in net order, the inner nodes by instance and the node that the defect adds; the devices by instance,
-/// and the bridge of a short. Want of memory is also told of a network that may have 2^32 nodes or devices.
+/// and the bridge of a short. Also answers out of memory for a network that may have 2^32 nodes or devices.
 pub fn flatten(alloc: Global, chip: &Chip, defect: Option<ChipDefect>) -> Result<FlatNet, NoMemory>
     requires defect { IsChipDefect (core_of chip.now) defect }
     ensures { IfOk result (λ net. net ≡ flat (core_of chip.now) defect) }

@@ -69,7 +69,7 @@ fn push_nets(
     Ok(())
 }
 
-// Appends so many inner nodes.
+// Appends `count` inner nodes.
 fn push_inner(nodes: &mut NodeList, count: usize) -> Result<(), NoMemory>
     ensures { OnOk result (nodes.new ≡ nodes.old ++ replicate count (Storage INNER_NODE)) }
 {

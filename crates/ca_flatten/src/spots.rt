@@ -1,4 +1,4 @@
-//! Where the nodes of instances stand in the flat network.
+//! Where the nodes of instances are in the flat network.
 
 ghost use Rattle.std.specs.Prelude.{◌≡◌, ◌+◌, ◌^◌, ◌<◌, ◌≤◌, length, slice_get, IsSomeAnd, IsTrue};
 ghost use Rattle.ca_net.specs.Circuit.{NamesWithin};
@@ -19,7 +19,7 @@ use ca_flat::ChipDefect;
 use ca_net::{Device, Network, NodeId};
 use ca_wired::{Chip, InstanceId};
 
-/// An instance, and the flat nodes from which on its inner nodes and the new node of the defect stand.
+/// An instance, and the flat nodes from which on its inner nodes and the new node of the defect are.
 #[derive(Clone, Copy)]
 pub(crate) struct Spot {
     pub(crate) instance: InstanceId,
@@ -46,7 +46,7 @@ fn gate_net(chip: &Chip, nets: &CoreNets, u: InstanceId, pin: usize) -> u32
     nets.get(chip.pin_net(u, pin))
 }
 
-// The place of the inverted output among a scan instance's pins: behind five inputs and `q`.
+// The place of the inverted output among a scan instance's pins: after five inputs and `q`.
 const INVERTED: usize = 6;
 
 // The core's net on the inverted output of a scan instance.
@@ -59,7 +59,7 @@ fn inverted_net(chip: &Chip, nets: &CoreNets, u: InstanceId) -> u32
     nets.get(chip.pin_net(u, INVERTED))
 }
 
-// The number of inner nodes of a library instance: those behind the rails and the pins.
+// The number of inner nodes of a library instance: those after the rails and the pins.
 fn gate_inner(chip: &Chip, u: InstanceId) -> usize
     requires { IsLibrary chip.now u.0 }
     ensures count { result ≡ inner_count (core_of chip.now) u.0 }

@@ -23,7 +23,7 @@ use Rattle.ca_credit.specs.Listed.{IsFoundFor}
 use Rattle.ca_search.specs.declared.trail.Outcome.TheVariants.{Found}
 use Rattle.ca_generate.specs.Outcome.{IsSearch}
 
--- all these pairs have so many bits
+-- all these pairs have `count` bits
 abbrev AllOf : ℕ → List (List Trit) → Type 0
 AllOf count [] = Unit {0}
 AllOf count (pair ∷ later) = (length pair ≡ count) × AllOf count later

@@ -1,4 +1,4 @@
--- After the last turn what stands is what is promised.
+-- After the last turn what holds is what is promised.
 use Rattle.std.proofs.Common.{◌≡◌, ℕ, zero, suc, ◌<◌, List, [], ◌∷◌, length, Bool, refl, sym, ◌∙◌, subst}
 use Rattle.std.proofs.Common.{arith, Some, None, Option}
 use Rattle.std.specs.Prelude.{slice_get}

@@ -1,5 +1,5 @@
--- The laws that the end of a search is one that a bench may tell, and that too many pairs need more
--- defects that can be exposed.
+-- The laws that the end of a search is one that a bench may report, and that too many pairs need more defects
+-- that can be exposed.
 use Rattle.std.specs.Prelude.{ℕ, ◌<◌, ◌≤◌, Bool, List, length, Some}
 use Rattle.std.specs.List.{Contains}
 use Rattle.ca_net.specs.declared.trit.Trit.{Trit}
@@ -15,7 +15,7 @@ use Rattle.ca_generate.specs.declared.fault.GenerateFault.TheVariants.{TooManyPa
 use Rattle.ca_generate.specs.GenerateFault.{IsCause}
 use Rattle.ca_generate.specs.Outcome.{IsSearch}
 
--- what a search for the defect is told: the chip of the task, the places of its instances, the defect, and
+-- what a search for the defect is given: the chip of the task, the places of its instances, the defect, and
 -- the bits
 abbrev pub judged_for : Task → List ℕ → ChipDefect → List Trit → Judged
 judged_for task places defect partial =

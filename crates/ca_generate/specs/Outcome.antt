@@ -10,7 +10,7 @@ use Rattle.ca_credit.specs.Good.{IsCheckedSpent}
 use Rattle.ca_search.specs.declared.trail.Outcome.{Outcome}
 use Rattle.ca_search.specs.declared.trail.Outcome.TheVariants.{Found, Exhausted, Spent}
 
--- the code is a front, and the partial pair at which its reading stands is shown
+-- the code is a front, and the partial pair of its reading is shown
 pub record IsShownFront (task : Task) (defect : ChipDefect) (code : List Token) (partial : List Trit) : Type 0
   where
     pub front : IsFront task.chip defect code partial

@@ -1,4 +1,4 @@
--- What stands while the defects have their turns.
+-- What holds while the defects have their turns.
 use Rattle.std.specs.Prelude.{ℕ, ◌≡◌, ◌<◌, ◌≤◌, Bool, List, length, slice_get, Option, Some, None}
 use Rattle.ca_flat.specs.declared.chip_defect.ChipDefect.{ChipDefect}
 use Rattle.ca_flat.specs.declared.token.Token.{Token}
@@ -38,7 +38,7 @@ pub record IsAbortedSearch (task : Task) (pairs : List (List Bool)) (defect : Ch
   pub rightly : IsRightlyAborted task pairs defect code
   pub checked : IsCheckedSpent task.chip defect task.budget code
 
--- what is so of the defect at a place, by its verdict, after the first so many defects had their turns
+-- what is true of the defect at a place, by its verdict, after the first `turns` defects had their turns
 abbrev pub IsEntry : Task → ℕ → List (List Bool) → List ℕ → ℕ → ChipDefect → Option Verdict → Type 0
 IsEntry task turns pairs aims place defect None = IsWaiting task turns pairs place defect
 IsEntry task turns pairs aims place defect (Some (Credited pair output)) =
@@ -52,7 +52,7 @@ pub record IsCreditAt (table : List (Option Verdict)) (pair place : ℕ) : Type 
   pub output : ℕ
   pub credited : verdict_at table place ≡ Some (Credited pair output)
 
--- after the first so many defects had their turns: what each verdict says is so, and each listed pair was
+-- after the first `turns` defects had their turns: what each verdict says is true, and each listed pair was
 -- found for its aim, which had its turn and is credited to it
 pub record StandsAfter (task : Task) (turns : ℕ) (table : List (Option Verdict)) (pairs : List (List Bool))
     (aims : List ℕ) : Type 0 where
@@ -76,7 +76,7 @@ IsScreenedEntry task defect (Some Unexposable) = ¬ (IsExposableIn task.chip def
 IsScreenedEntry task defect (Some Untestable) = ⊥
 IsScreenedEntry task defect (Some (Aborted code)) = ⊥
 
--- of the first so many defects that is known, and the others have no verdict yet
+-- of the first `count` defects that is known, and the others have no verdict yet
 pub record IsScreened (task : Task) (count : ℕ) (table : List (Option Verdict)) : Type 0 where
   pub as_many : length table ≡ length task.defects
   pub entries : (place : ℕ) (defect : ChipDefect) → place < count → IsDefectAt task place defect

@@ -12,7 +12,7 @@ pub type Aims = List<u32>;
 /// Why there is no result.
 #[derive(Drop, Debug)]
 pub enum GenerateFault {
-    /// As many pairs are listed as there may be, and one more was found. It stands last.
+    /// As many pairs are listed as there may be, and one more was found. It comes last.
     TooManyPairs { pairs: Pairs, aims: Aims },
     /// There was no memory.
     NoMemory,

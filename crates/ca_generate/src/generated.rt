@@ -21,7 +21,7 @@ pub struct Generated {
 }
 
 /// Searches for a pair for each defect that can be exposed and isn't credited to an earlier pair. Which bits
-/// are set afterwards, and which defect is aimed at, is open. The watch is told after each defect's turn.
+/// are set afterwards, and which defect is aimed at, is open. The watch is notified after each defect's turn.
 pub fn generate<B: Bench, T: Watch>(
     alloc: Global,
     bench: &mut B,

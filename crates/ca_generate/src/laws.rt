@@ -2,7 +2,7 @@
 
 ghost use Rattle.ca_generate.specs.Laws.{OutcomeIsSearch, TooManyNeedsExposable};
 
-/// What a search answers for a defect is the end of a search that a bench may tell.
+/// What a search answers for a defect is the end of a search that a bench may report.
 pub fn outcome_is_search()
     ensures { OutcomeIsSearch }
 {}

@@ -1,8 +1,8 @@
-//! What is told of long work while it goes on.
+//! Progress of long work.
 
 /// Hears how far test generation is.
 pub trait Watch {
-    /// So many of so many defects have had their turn.
+    /// `done` of `of` defects have had their turn.
     fn told(&mut self, done: usize, of: usize);
 }
 

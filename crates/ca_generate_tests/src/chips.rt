@@ -157,8 +157,8 @@ LEAD u1 (.A(a), .C(c), .P(p), .S(s));
 KEEP u2 (.P(p), .S(s), .Y(y));
 NOR2 u3 (.A1(y), .A2(a), .ZN(z)); endmodule";
 
-/// A chip with a hazard, a budget, the place of a defect, and what is told of its verdict. The defect, the
-/// open drain of `MP1` in `u5`, is shown where `a` falls while `y` stays at 1: with `d` at 1, and `s` at
+/// A chip with a hazard, a budget, the place of a defect, and what is reported about its verdict. The defect,
+/// the open drain of `MP1` in `u5`, is shown where `a` falls while `y` stays at 1: with `d` at 1, and `s` at
 /// rest, since a change of `s` would let `y` fall for a while.
 pub(crate) const HAZARD: (&[u8], u32, usize, &[u8]) = (GLITCH, 63, HAZARD_PLACE, b"c 111011");
 
@@ -172,6 +172,6 @@ pub(crate) const ONE_BRANCH: (&[u8], u32, usize, &[u8]) = (GLITCH, 1, HAZARD_PLA
 
 /// The same for the short of `VDD` and `w` in `u1`. Where `a` and `c` are 1 the good cell has 0 at both
 /// outputs, and the defective one 1, so that `y` is 1 and 0; but then `a` keeps `z` at 0. Where `a` falls
-/// both cells have 1 at `P` and 0 at `S`, `y` keeps its value, and `z` tells it. So no row of `u1` with the
+/// both cells have 1 at `P` and 0 at `S`, `y` keeps its value, and `z` shows it. So no row of `u1` with the
 /// last vector exposes the defect, and just one of the first vector alone does.
 pub(crate) const KEPT_CHARGE: (&[u8], u32, usize, &[u8]) = (KEPT, 63, 46, b"c 1101");

@@ -26,7 +26,7 @@ use ca_wired::Chip;
 use std::alloc::Global;
 use std::process::Abort;
 
-// A pair of so many bits: those of a number, the lowest first.
+// A pair of `bits` bits: those of a number, the lowest first.
 fn drawn(alloc: Global, number: usize, bits: usize) -> Option<Pair>
     ensures { IfSome result (λ pair. length pair ≡ bits) }
 {
@@ -39,7 +39,7 @@ fn drawn(alloc: Global, number: usize, bits: usize) -> Option<Pair>
     Some(pair)
 }
 
-// Pairs of so many bits, of the multiples of a number, the first of which is given.
+// Pairs of `bits` bits, of the multiples of a number, the first of which is given.
 fn drawn_pairs(
     alloc: Global,
     first: usize,
@@ -97,7 +97,7 @@ fn credit_singly<B: Bench>(bench: &mut B, pairs: &[Pair], credits: &mut Credits)
     credited
 }
 
-// The credits of pairs as a text, behind how many these are.
+// The credits of pairs as a text, after how many these are.
 fn credits_by<B: Bench>(
     alloc: Global,
     bench: &mut B,
@@ -134,7 +134,7 @@ fn verdict_by<B: Bench>(alloc: Global, bench: &mut B, place: usize) -> Option<Te
     verdict(alloc, &made, place).ok()
 }
 
-// What a bench answers, which has few defects and whose pairs have so many bits.
+// What a bench answers, which has few defects and whose pairs have `bits` bits.
 fn answer<B: Bench>(alloc: Global, bench: &mut B, pairs: &[Pair], asked: Asked) -> Option<Text>
     requires bits { All (λ pair. length pair ≡ bit_count (B.task bench.old).chip) pairs.now }
     requires numbers { length pairs.now < 2 ^ 32 }
@@ -150,7 +150,7 @@ fn answer<B: Bench>(alloc: Global, bench: &mut B, pairs: &[Pair], asked: Asked) 
     }
 }
 
-// What is told of a bench: its answer, how often was aimed, and how often an instance was evaluated.
+// What is reported about a bench: its answer, how often one aimed, and how often an instance was evaluated.
 #[derive(Drop)]
 struct Told {
     text: Option<Text>,
@@ -158,8 +158,8 @@ struct Told {
     evaluations: u64,
 }
 
-// What is told of a bench of a chip, of which tables, links and rows are at hand. Pairs have so many bits.
-// Here and below each thing is let go at one place, since that is dear to prove.
+// What is reported about a bench of a chip, given its tables, links and rows. Pairs have `bits` bits. Each
+// value is dropped in one place here and below: more places are slow to prove.
 fn tell_over<P: Choice + Drop>(
     alloc: Global,
     tables: &CoreTables<'_>,
@@ -286,7 +286,7 @@ fn tell(
     told
 }
 
-// What is told of a bench of the chip of a netlist.
+// What is reported about a bench of the chip of a netlist.
 fn told_of(
     rt: &impl Abort,
     alloc: Global,
@@ -362,7 +362,7 @@ fn a_search_of_one_branch(rt: HostRuntime) {
     assert!(rt; text.is(wanted), "{:?}", text.as_bytes());
 }
 
-// So many inverters, each between ports of its own.
+// `count` inverters, each between ports of its own.
 fn inverters(alloc: Global, count: usize) -> Option<String> {
     let last = count.checked_sub(1)?;
     let mut text = format!(in alloc;

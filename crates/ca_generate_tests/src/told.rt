@@ -113,7 +113,7 @@ fn tokens(text: &mut Text, code: &Code) -> Result<(), NoMemory> {
     Ok(())
 }
 
-/// The letter of the verdict on the defect at a place, and behind it the bits of the pair to which it is
+/// The letter of the verdict on the defect at a place, and after it the bits of the pair to which it is
 /// credited, or the code of the search that was given up.
 pub(crate) fn verdict(alloc: Global, made: &Generated, place: usize) -> Result<Text, NoMemory> {
     let mut text = Text::new(alloc);
@@ -134,7 +134,7 @@ pub(crate) fn verdict(alloc: Global, made: &Generated, place: usize) -> Result<T
     Ok(text)
 }
 
-/// What is told of a fault.
+/// What is reported about a fault.
 pub(crate) fn fault(fault: &GenerateFault) -> &'static [u8] {
     match fault {
         GenerateFault::TooManyPairs { .. } => b"too many pairs",

@@ -14,8 +14,8 @@ use ca_verilog::{RawNetlist, read_netlist};
 use ca_wired::Chip;
 use std::alloc::Global;
 
-// The chip of a netlist that was read, if it links. Here and below each thing is let go at one place, since
-// that is dear to prove.
+// The chip of a netlist that was read, if it links. Each value is dropped in one place here and below: more
+// places are slow to prove.
 fn linked_netlist(alloc: Global, raw: &RawNetlist) -> Option<Chip>
     requires { IsNetlist raw.now }
 {

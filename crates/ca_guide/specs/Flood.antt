@@ -10,7 +10,7 @@ linked_from links net = slice_index_or links net []
 abbrev pub AreWithin : List (List ℕ) → Type 0
 AreWithin links = All (All (λ net. net < length links)) links
 
--- so many nets; which of them may be entered, and at which of them the flood ends
+-- `count` nets; which of them may be entered, and at which of them the flood ends
 pub record Area : Type 0 where
   pub count : ℕ
   pub enters : ℕ → Bool

@@ -24,7 +24,7 @@ input_nets lists u = slice_index_or lists.input_pins u []
 abbrev pub output_nets : NetLists → ℕ → List ℕ
 output_nets lists u = slice_index_or lists.output_pins u []
 
--- these are the nets of the instance's pins, so many of them, which stand behind some others
+-- these are the nets of `count` of the instance's pins, which follow `before` others
 pub record ArePinNets (chip : Chip) (u before count : ℕ) (nets : List ℕ) : Type 0 where
   pub counted : length nets ≡ count
   pub each : (pin : ℕ) → pin < count → slice_index_or nets pin 0 ≡ net_of chip u (before + pin)

@@ -12,7 +12,7 @@ pub record Numbers : Type 0 where
 abbrev pub none_below : ℕ → Numbers
 none_below bound = record { bound = bound; members = [] }
 
--- a new number comes behind the others, and an old one changes nothing
+-- a new number comes after the others, and an old one changes nothing
 abbrev pub IsInsert : Bool → Numbers → Numbers → ℕ → Type 0
 IsInsert true old new number =
     (Contains old.members number → ⊥) × (new ≡ record old { members = old.members ++ number ∷ [] })

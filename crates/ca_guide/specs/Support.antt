@@ -20,7 +20,7 @@ pub record IsLeadingBit (inputs leading : List ℕ) (bit : ℕ) : Type 0 where
 abbrev pub AreSupportBits : List ℕ → List ℕ → List ℕ → Type 0
 AreSupportBits inputs leading bits = (bit : ℕ) → Contains bits bit ↔ IsLeadingBit inputs leading bit
 
--- the bit is so many behind one of the first places, the net of whose input leads to an output
+-- the bit is `from` after one of the first places, the net of whose input leads to an output
 pub record IsBitBehind (inputs leading : List ℕ) (from places bit : ℕ) : Type 0 where
   pub place : ℕ
   pub before : place < places

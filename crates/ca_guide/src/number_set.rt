@@ -72,7 +72,7 @@ impl NumberSet {
         place < self.is_member.len() && self.is_member[place]
     }
 
-    /// Puts the number behind the others, if it isn't in the set. The answer is whether it is new.
+    /// Appends the number, if it isn't in the set. The answer is whether it is new.
     pub fn insert(&mut self, number: u32) -> bool
         requires { number < self.old.bound }
         ensures { IsInsert result self.old self.new number }

@@ -72,7 +72,7 @@ fn value_at_end(wave: Wave, end: End) -> Trit
     }
 }
 
-// The digit of a number behind which so many stand.
+// The digit of a number that `after` digits follow.
 fn digit(number: u8, after: usize) -> Trit
     requires { after < MOST_INPUTS }
     ensures { result ≡ digit_value (number / 2 ^ after % 2) }

@@ -74,7 +74,7 @@ fn keep_if_observed<C: LinkedChip>(outputs: &mut NumberSet, chip: &C, net: u32)
     }
 }
 
-// Adds the bits of the inputs that lead to an output, so many behind the input's place.
+// Adds the bits of the inputs that lead to an output, each `from` after the input's place.
 fn add_bits<C: LinkedChip>(bits: &mut NumberSet, chip: &C, leading: &NumberSet, from: usize)
     requires room { from + length (C.lists chip.now).inputs ≤ bits.old.bound }
     requires few { bits.old.bound < 4294967296 }

@@ -40,7 +40,7 @@ bench_kept old new chip lists rows_chip guided outputs defect keeps is =
     subst (λ c. IsBench c new.seen.aim chip lists rows_chip guided outputs defect) (sym keeps.chip.chip)
     (subst (λ a. IsBench old.seen.chip a chip lists rows_chip guided outputs defect) (sym keeps.aim) is)
 
--- what a search is told changes with the pair alone
+-- what a search is given changes with the pair alone
 pub judged_kept : (old new : Simulator) (pair : List Trit) → new.seen.pair ≡ pair → KeepsAim old new
     → judged_of new.seen ≡ with_pair (judged_of old.seen) pair
 judged_kept old new pair is keeps =

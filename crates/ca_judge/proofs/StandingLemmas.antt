@@ -21,7 +21,7 @@ use Rattle.ca_search.specs.declared.judge.Standing.TheVariants.{Shown, Settled, 
 use Rattle.ca_judge.specs.Ends.{are_opposite, are_alike, is_opposite_at, is_alike_at, LooksSo, AreAlikeBelow}
 use Rattle.ca_judge.proofs.EndLemmas.{opposite_is, is_opposite, opposite_definite, alike_is, is_alike}
 
--- the pair stands so for the defect
+-- this is how the pair stands for the defect
 abbrev pub StandsSo : Chip → ChipDefect → List Trit → Standing → Type 0
 StandsSo chip defect pair Shown = IsShown chip defect pair
 StandsSo chip defect pair Settled = IsSettledPair chip defect pair

@@ -20,7 +20,7 @@ use Rattle.ca_guide.specs.Guide.{IsSupport}
 use Rattle.ca_guide.specs.Guide as guide
 use Rattle.ca_search.specs.SearchRules.{IsPlainPair, MayDecide}
 
--- a list has a number or hasn't
+-- a list has a number or doesn't
 has_or_not : (xs : List ℕ) (x : ℕ) → Contains xs x ⊎ (Contains xs x → ⊥)
 has_or_not [] x = inr (λ at. let lt = at.1 in omega arith)
 has_or_not (y ∷ xs) x = elim (ℕ_discrete y x) [

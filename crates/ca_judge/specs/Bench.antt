@@ -1,4 +1,4 @@
--- What a bench stands on, and what it keeps.
+-- What a bench is built on, and what it keeps.
 use Rattle.std.specs.Prelude.{ℕ, ◌≡◌, ◌≤◌, List, length, Option, None, Some}
 use Rattle.ca_net.specs.Circuit.{IsWellFormed}
 use Rattle.ca_flat.specs.declared.chip_defect.ChipDefect.{ChipDefect}
@@ -38,6 +38,6 @@ pub record IsBench (core : Chip) (aim : Option ChipDefect) (chip : Chip) (lists 
   pub aim_is : aim ≡ defect
   pub guided_to : IsGuidedTo core guided defect
 
--- what a search is told
+-- what a search is given
 abbrev pub judged_of : Seen → Judged
 judged_of seen = record { chip = seen.chip; places = seen.places; aim = seen.aim; pair = seen.pair }

@@ -43,12 +43,12 @@ LooksSo seen outputs Settled = All (λ net. is_alike_at seen net ≡ true) outpu
 LooksSo seen outputs Open = (Any (λ net. is_opposite_at seen net ≡ true) outputs → ⊥)
     × (All (λ net. is_alike_at seen net ≡ true) outputs → ⊥)
 
--- at none of the first so many nets do they end with opposite values
+-- at none of the first `count` nets do they end with opposite values
 abbrev pub IsNoneOppositeBelow : Seen → ℕ → List ℕ → Type 0
 IsNoneOppositeBelow seen count nets = (k : ℕ) (d : ℕ) → k < count → k < length nets
     → is_opposite_at seen (slice_index_or nets k d) ≡ true → ⊥
 
--- at each of the first so many they end with one value
+-- at each of the first `count` they end with one value
 abbrev pub AreAlikeBelow : Seen → ℕ → List ℕ → Type 0
 AreAlikeBelow seen count nets = (k : ℕ) (d : ℕ) → k < count → k < length nets
     → is_alike_at seen (slice_index_or nets k d) ≡ true

@@ -84,7 +84,7 @@ impl<'a, L: Linked, C: LinkedChip, R: ExposingRows, P: Choice + Drop> Bench<'a, 
         ensures { IfOk result (IsFresh (L.core linked.now) (L.places linked.now)) }
     {
         linked.linked();
-        // The largest comes last: each that is there when memory is wanting is let go once more.
+        // The largest comes last: each value that exists when memory runs out is dropped in one more place.
         let outputs = observed_nets(alloc, chip)?;
         let guide = Guide::reserve(alloc, chip)?;
         let sim = Sim::reserve(alloc, linked)?;

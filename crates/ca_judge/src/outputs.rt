@@ -7,7 +7,7 @@ use ca_base::NoMemory;
 use ca_guide::LinkedChip;
 use std::alloc::Global;
 
-// Puts the next net behind the others if it is observed.
+// Appends the next net if it is observed.
 #[tactic(auto, using(crate::proofs::OutputLemmas::observed_push, crate::proofs::OutputLemmas::observed_skip))]
 fn add_if_observed<C: LinkedChip>(chip: &C, net: u32, nets: &mut Vec<u32>) -> Result<(), NoMemory>
     requires within { net < length (C.lists chip.now).onward }

@@ -11,7 +11,7 @@ use Rattle.ca_lanes.specs.Allowed.{lanes_of}
 use Rattle.ca_lanes.specs.Given.{given_by, given_by_rows}
 use Rattle.ca_lanes.proofs.MaskLemmas.{lane_at}
 
--- within a list what stands past it doesn't count
+-- within a list what is past it doesn't count
 get_or_any : (values : List Trit) (place : ℕ) (a b : Trit) → place < length values → get_or values place a ≡ get_or values place b
 get_or_any [] place a b within = let no : ⊥ = omega (arith, within) in absurd no
 get_or_any (value ∷ values) zero a b within = refl

@@ -13,7 +13,7 @@ use Rattle.ca_defect.specs.declared.row.Row.{Row}
 use Rattle.ca_flat.specs.Chip.{Chip, instance_at, cell_at, inputs_at, outputs_at, net_of}
 use Rattle.ca_lanes.specs.Screened.{IsRowIn, DefectsAreScreenable}
 
--- a cell that may stand in a chip has few input pins
+-- a cell that may be in a chip has few input pins
 few_inputs : (raw : RawCell) → KeepsAllBut NoOutput raw → role_count is_input raw.pins ≤ MOST_INPUTS
 few_inputs raw keeps = elim (dec_le (role_count is_input raw.pins) MOST_INPUTS) [
   | yes few ↦ few

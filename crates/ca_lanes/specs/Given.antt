@@ -4,13 +4,13 @@ use Rattle.ca_net.specs.declared.trit.Trit.{Trit}
 use Rattle.ca_lanes.specs.Choice.{Choice, no_choice, either_choice, choice_over, choice_with}
 use Rattle.ca_lanes.specs.GoodRows.{good_at}
 
--- what the allowed ones of the first so many vectors give
+-- what the allowed ones of the vectors below this number give
 unfoldable pub given_by : List Bool → (ℕ → Trit) → ℕ → Choice
 given_by allowed value zero = no_choice
 given_by allowed value (suc n) =
     choice_with (given_by allowed value n) (get_or allowed n false) (value n)
 
--- what the allowed rows of the first so many first vectors give
+-- what the allowed rows of the first vectors below this number give
 unfoldable pub given_by_rows : List Bool → List Bool → (ℕ → ℕ → Trit) → ℕ → ℕ → Choice
 given_by_rows firsts lasts value count zero = no_choice
 given_by_rows firsts lasts value count (suc n) =

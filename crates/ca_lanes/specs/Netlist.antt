@@ -12,7 +12,7 @@ use Rattle.ca_lanes.specs.declared.netlist.Instance.{Instance}
 use Rattle.ca_lanes.specs.declared.netlist.Netlist.{Netlist}
 use Rattle.ca_lanes.specs.GoodRows.{AreGoodRows}
 
--- these are the rows of a cell with so many inputs and outputs
+-- these are the rows of a cell with `inputs` inputs and `outputs` outputs
 pub record HasRows (inputs outputs : ℕ) (values : List Trit) (rows : GoodRows) : Type 0 where
   pub inputs_are : rows.inputs ≡ inputs
   pub outputs_are : rows.outputs ≡ outputs
@@ -43,13 +43,13 @@ pub record IsReadable (nets : ℕ) (goods : List GoodRows) (netlist : Netlist) :
   pub order : All (λ u. u < length netlist.instances.items) netlist.order.items
   pub few : length netlist.inputs.items + length netlist.inputs.items < 2 ^ 64
 
--- the instance is one of the first so many of the order
+-- the instance is one of the first `count` of the order
 pub record IsAmong (order : List ℕ) (count u : ℕ) : Type 0 where
   pub place : ℕ
   pub before : place < count
   pub here : get_or order place 0 ≡ u
 
--- the order has each instance once, behind those that drive its input pins
+-- the order has each instance once, after those that drive its input pins
 pub record IsOrder (chip : Chip) (order : List ℕ) : Type 0 where
   pub known : (place : ℕ) → place < length order → get_or order place 0 < count_of chip
   pub once : (place other : ℕ) → place < length order → other < length order
@@ -100,6 +100,6 @@ NetlistsAreReadable =
     → All (λ instance. instance.cell < length goods) netlist.instances.items
     → IsReadable (length chip.nets) goods netlist
 
--- the pair has a bit for each of so many inputs, from one on
+-- the pair has a bit for each of `count` inputs, from one on
 pub record HasBits (bit count : ℕ) (pair : List Bool) : Type 0 where
   pub enough : bit + count ≤ length pair

@@ -7,6 +7,6 @@ use Rattle.ca_lanes.specs.declared.plane.Plane.{Plane}
 unfoldable pub lane_of : Plane → ℕ → Bool
 lane_of plane lane = bit_at (get_or plane.bits (lane / 64) 0) (lane % 64) == 1
 
--- whether the lane is one of the first so many
+-- whether the lane is one of the first `count`
 abbrev pub is_lane : ℕ → ℕ → Bool
 is_lane count lane = ltb lane count

@@ -20,7 +20,7 @@ firsts_in planes lane = choices_of planes.firsts.items lane
 abbrev pub lasts_in : Planes → ℕ → List Choice
 lasts_in planes lane = choices_of planes.lasts.items lane
 
--- there is room for so many nets, and no lane is loaded
+-- there is room for `nets` nets, and no lane is loaded
 pub record AreEmpty (nets : ℕ) (planes : Planes) : Type 0 where
   pub room : net_count planes ≡ nets
   pub unloaded : (lane : ℕ) → is_loaded planes lane ≡ false

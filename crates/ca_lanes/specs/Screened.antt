@@ -18,12 +18,12 @@ use Rattle.ca_flat.specs.Waves.{FlatWaves, wave_of, IsFlatChip}
 use Rattle.ca_lanes.specs.Choice.{Choice}
 use Rattle.ca_lanes.specs.Loaded.{trits_for, IsLoaded}
 
--- the row is of a cell with so many vectors
+-- the row is of a cell with `count` vectors
 pub record IsRowIn (count : ℕ) (row : Row) : Type 0 where
   pub first : row.first < count
   pub last : row.last < count
 
--- the input pins are few and on so many nets, and the rows are of a cell with so many input pins
+-- the input pins are few and on the first `nets` nets, and the rows are of a cell with as many input pins
 pub record IsScreenable (nets : ℕ) (pins : List ℕ) (rows : List Row) : Type 0 where
   pub few : length pins ≤ MOST_INPUTS
   pub within : All (λ net. net < nets) pins

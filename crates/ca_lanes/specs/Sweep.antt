@@ -29,7 +29,7 @@ pub record IsSettledAt (chip : Chip) (firsts lasts : List Choice) (u : ℕ) : Ty
   pub last_is : (output : ℕ) → output < outputs_at chip u
       → IsOfTrit (choice_at lasts (output_net chip u output))
 
--- the first so many instances are evaluated
+-- the first `count` instances are evaluated
 pub record IsLoadedTo (chip : Chip) (pair : List Trit) (order : List ℕ) (count : ℕ)
     (firsts lasts : List Choice) : Type 0 where
   pub inputs : HasInputs chip pair firsts lasts

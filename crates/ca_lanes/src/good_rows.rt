@@ -28,7 +28,7 @@ pub struct GoodRows {
 impl GoodRows {
     ghost use Rattle.ca_lanes.specs.Netlist.{HasRows};
 
-    /// The rows of a cell with so many inputs and outputs.
+    /// The rows of a cell with `inputs` inputs and `outputs` outputs.
     pub fn new(
         alloc: Global,
         inputs: usize,

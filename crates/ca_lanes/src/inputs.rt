@@ -12,7 +12,7 @@ use crate::values::Values;
 use ca_net::Trit;
 use ca_pair::Pair;
 
-// The lanes of so many pairs: pair k has lane k.
+// The lanes of `count` pairs: pair k has lane k.
 pub(crate) fn pair_lanes(count: usize) -> Plane
     requires { count ≤ LANES }
     ensures { (lane : ℕ) → lane_of result lane ≡ is_lane count lane }

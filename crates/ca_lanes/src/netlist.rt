@@ -9,8 +9,8 @@ pub struct Instance {
     pub pins: Vec<u32>,
 }
 
-/// The nets of a chip's inputs, its constants, its instances, and an order of them in which each stands
-/// behind those that drive its input pins.
+/// The nets of a chip's inputs, its constants, its instances, and an order of them in which each follows
+/// those that drive its input pins.
 #[derive(Drop)]
 pub struct Netlist {
     pub inputs: Vec<u32>,

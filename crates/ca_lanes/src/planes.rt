@@ -46,7 +46,7 @@ impl Planes {
     ghost use Rattle.ca_lanes.specs.Loaded.{trits_for};
     ghost use Rattle.ca_lanes.specs.Screened.{IsScreenable, SaysSuspect};
 
-    /// Takes the room for a chip with so many nets: 128 bytes each. No lane is loaded.
+    /// Takes the room for a chip with `nets` nets: 128 bytes each. No lane is loaded.
     pub fn reserve(alloc: Global, nets: usize) -> Result<Self, NoMemory>
         ensures { IfOk result (AreEmpty nets) }
     {

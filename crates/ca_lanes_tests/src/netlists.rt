@@ -93,7 +93,7 @@ pub(crate) fn hazard(alloc: Global) -> Result<Netlist, NoMemory> {
     })
 }
 
-// So many pairs: those of the table over and over.
+// `count` pairs: those of the table over and over.
 pub(crate) fn some_pairs(
     alloc: Global,
     table: &[[bool; 4]],

@@ -77,7 +77,7 @@ pub(crate) fn have_bits(pairs: &[Pair], inputs: usize) -> bool
     pairs.iter().all(|pair| has_bits(pair, inputs))
 }
 
-// Whether the row is of so many vectors.
+// Whether the row is of `count` vectors.
 fn is_within(row: Row, count: usize) -> bool
     ensures { IsTrue result → IsRowIn count row }
 {

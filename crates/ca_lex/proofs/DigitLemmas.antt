@@ -14,7 +14,7 @@ use Rattle.ca_lex.specs.LengthViews.{AllDigits}
 pub digit_bounds : (byte : ℕ) → is_digit byte ≡ true → (48 ≤ byte) × (byte ≤ 57)
 digit_bounds byte passes = (grind (arith, nat_tests), grind (arith, nat_tests))
 
--- digits stand in front
+-- digits are in front
 pub front_digits : (text : List ℕ) → AllDigits (take (digits_len text) text)
 front_digits text count above =
     let below : count < digits_len text = omega (arith, length-take (digits_len text) text) in
@@ -37,7 +37,7 @@ pow_le number more within =
     let is : number + (more - number) ≡ more = omega arith in
     rw is at (pow_up number (more - number))
 
--- one more digit behind a number
+-- one more digit after a number
 pub digit_behind : (value number places byte : ℕ) → value < (number + 1) * 10 ^ places → byte ≤ 9 → value * 10 + byte < (number + 1) * 10 ^ (places + 1)
 digit_behind value number places byte below digit =
     let is : (number + 1) * 10 ^ (places + 1) ≡ (number + 1) * 10 ^ places * 10 = ap (λ count. (number + 1) * count) (pow_more 10 places) ∙ sym (mul_assoc (number + 1) (10 ^ places) 10) in

@@ -6,7 +6,7 @@ use Rattle.std.specs.Prelude.{option_map}
 use Rattle.ca_lex.specs.FirstFault.{steps_from, IsFirstFault, located}
 use Rattle.ca_lex.specs.Reading.{IsFault}
 
--- what the items behind a step make of what it gave
+-- what the items after a step make of what it gave
 abbrev pub after_step : {State Item Fault : Type 0} → (Item → State → Result State Fault) → Result State Fault → List Item → Result State Fault
 after_step step (Ok next) items = steps_from step next items
 after_step step (Err fault) items = Err fault
@@ -40,26 +40,26 @@ stops {State} {Item} {Fault} step start items place item fault total within here
     ∙ steps_from-cons step start item (drop (place + 1) items)
     ∙ ap (λ (given : Result State Fault). after_step step given (drop (place + 1) items)) stepped
 
--- a fault that an item's step tells, or want of memory, is what the reading tells
+-- a fault that an item's step reports, or out of memory, is what the reading reports
 pub refused : {State Item Fault : Type 0} (step : Item → State → Result State Fault) (start : State) (items : List Item) (place : ℕ) (item : Item) (told : Option Fault) (total : Result State Fault)
     → place < length items → item ≡ get_or items place item → IsFault told (step item start)
     → steps_from step start (drop place items) ≡ total → IsFault told total
 refused step start items place item None total within here stepped so_far = tt
 refused step start items place item (Some fault) total within here stepped so_far = stops step start items place item fault total within here stepped so_far
 
--- behind the last item the reading is over
+-- after the last item the reading is over
 pub ends : {State Item Fault : Type 0} (step : Item → State → Result State Fault) (start : State) (items : List Item) (place : ℕ) (total : Result State Fault)
     → length items ≤ place → steps_from step start (drop place items) ≡ total → total ≡ Ok start
 unfolding steps_from
 ends step start items place total over so_far = sym so_far ∙ at_drop_all (steps_from step start) items place over
 
--- a step that gives a value gives it with its place told too
+-- a step that gives a value gives it with its place reported too
 pub located_value : {State Item Kind Fault : Type 0} (at : Item → Kind → Fault) (step : Item → State → Result State Kind) (item : Item) (state next : State)
     → step item state ≡ Ok next → located at step item state ≡ Ok next
 located_value {State} {Item} {Kind} {Fault} at step item state next is =
     ap (λ (given : Result State Kind). elim given as (λ _. Result State Fault) [ Ok next ↦ Ok next | Err kind ↦ Err (at item kind) ]) is
 
--- a fault that a step tells is told with the item that has it
+-- a fault that a step reports is reported with the item that has it
 pub located_fault : {State Item Kind Fault : Type 0} (at : Item → Kind → Fault) (step : Item → State → Result State Kind) (item : Item) (state : State) (told : Option Kind)
     → IsFault told (step item state) → IsFault (option_map (at item) told) (located at step item state)
 located_fault at step item state None is = tt

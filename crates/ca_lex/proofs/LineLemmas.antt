@@ -35,7 +35,7 @@ unfolding lines_of
 first_of_lines byte [] = last_byte byte (eqb byte 10)
 first_of_lines byte (second ∷ more) = one_more_byte byte second more (eqb byte 10) (first_of_lines second more)
 
--- the first line of a text, and what stands behind its line feed
+-- the first line of a text, and what follows its line feed
 pub cut_at : (text line rest : List ℕ) → 0 < length text → line ≡ take (line_len text) text → rest ≡ behind (drop (line_len text) text) → lines_of text ≡ line ∷ lines_of rest
 cut_at [] line rest some is rest_is = absurd (omega arith)
 cut_at (byte ∷ more) line rest some is rest_is = rw (is, rest_is) (first_of_lines byte more)

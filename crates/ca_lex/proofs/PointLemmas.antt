@@ -60,7 +60,7 @@ fraction_found whole (byte ∷ more) = by_point (eqb byte 46) refl
     by_point false is = no_fraction whole (byte ∷ more)
         (ap (λ (point : Bool). cond point (here (whole ++ take (digits_len more) more) (digits_len more) (drop (digits_len more) more)) (here whole 0 (byte ∷ more))) is)
 
--- the text behind the digits and the point begins with no digit and no point
+-- the text after the digits and the point begins with no digit and no point
 abbrev pub BeginsBehind : List ℕ → Type 0
 BeginsBehind [] = Unit {0}
 BeginsBehind (byte ∷ more) = (is_digit byte ≡ false) × (eqb byte 46 ≡ false)

@@ -21,7 +21,7 @@ pub record IsFirstFault {State Item Fault : Type 0} (step : Item → State → R
   pub read : steps_from step start before ≡ Ok so_far
   pub broken : step here so_far ≡ Err fault
 
--- a step whose fault is told with the item that has it
+-- a step whose fault is reported with the item that has it
 abbrev pub located : {State Item Kind Fault : Type 0} → (Item → Kind → Fault)
     → (Item → State → Result State Kind) → Item → State → Result State Fault
 located at step item state = elim (step item state) [

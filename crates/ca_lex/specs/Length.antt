@@ -25,13 +25,13 @@ with_digit number digit = number * 10 + (digit - 48)
 abbrev pub number_of : List ℕ → ℕ
 number_of digits = fold with_digit 0 digits
 
--- the digits before the exponent, how many of them stand behind the point, and the rest of the word
+-- the digits before the exponent, how many of them follow the point, and the rest of the word
 pub record Mantissa : Type 0 where
   pub digits : List ℕ
   pub places : ℕ
   pub rest : List ℕ
 
--- the digits before the point, and those that stand behind one in the text that follows them
+-- the digits before the point, and those that follow one in the text after them
 unfoldable pub fraction_at : List ℕ → List ℕ → Mantissa
 fraction_at whole [] = record { digits = whole; places = 0; rest = [] }
 fraction_at whole (byte ∷ more) = if byte == 46
@@ -100,7 +100,7 @@ suffix_of (letter ∷ []) = places_of letter
 suffix_of (letter ∷ second ∷ []) = if is_m second then places_of letter else None
 suffix_of (letter ∷ second ∷ third ∷ more) = None
 
--- a number with its point moved to the right and to the left, with what then stands behind it dropped
+-- a number with its point moved to the right and to the left, with what then follows it dropped
 abbrev pub scaled : ℕ → ℕ → ℕ → ℕ
 scaled number right left = number * 10 ^ right / 10 ^ left
 

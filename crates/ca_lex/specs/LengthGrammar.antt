@@ -9,7 +9,7 @@ use Rattle.ca_lex.specs.Length.{is_digit, is_e, is_m, number_of, places_of}
 abbrev pub AreDigits : List ℕ → Type 0
 AreDigits text = AllPass is_digit text
 
--- a point, or none and then nothing behind it
+-- a point, or none and then nothing after it
 abbrev pub IsPoint : List ℕ → List ℕ → Type 0
 IsPoint point fraction = (point ≡ codes ".") ⊎ ((point ≡ []) × (fraction ≡ []))
 
@@ -19,7 +19,7 @@ pub record AreOneOrTwoDigits (text : List ℕ) : Type 0 where
   pub some : 1 ≤ length text
   pub few : length text ≤ 2
 
--- nothing, or E, an optional sign and one or two digits: the point moves so many places to the right and to
+-- nothing, or E, an optional sign and one or two digits: the point moves this many places to the right and to
 -- the left
 pub data IsExponent : List ℕ → ℕ → ℕ → Type 0 where
   NoExponent : IsExponent [] 0 0
@@ -30,7 +30,7 @@ pub data IsExponent : List ℕ → ℕ → ℕ → Type 0 where
   Minus : (letter : ℕ) (digits : List ℕ) → is_e letter ≡ true → AreOneOrTwoDigits digits
       → IsExponent (letter ∷ 45 ∷ digits) 0 (number_of digits)
 
--- nothing, or one of the letters F, P, N, U and M, which one further M may follow: the point moves so many
+-- nothing, or one of the letters F, P, N, U and M, which one further M may follow: the point moves this many
 -- places to the left
 pub data IsSuffix : List ℕ → ℕ → Type 0 where
   NoSuffix : IsSuffix [] 0

@@ -8,7 +8,7 @@ use Rattle.ca_lex.specs.declared.length.Shift as moved
 abbrev pub AllDigits : List ℕ → Type 0
 AllDigits text = (k : ℕ) → k < length text → (48 ≤ slice_index text k) × (slice_index text k ≤ 57)
 
--- the code's digits before and behind the point are those of the definition
+-- the code's digits before and after the point are those of the definition
 pub record IsMantissa (found : code.Mantissa) (wanted : Mantissa) : Type 0 where
   pub digits : found.whole.now ++ found.fraction.now ≡ wanted.digits
   pub places : length found.fraction.now ≡ wanted.places

@@ -10,12 +10,12 @@ unfoldable pub lines_of : List ℕ → List (List ℕ)
 lines_of [] = []
 lines_of (byte ∷ more) = if byte == 10 then [] ∷ lines_of more else with_byte byte (lines_of more)
 
--- how many bytes stand before the first line feed
+-- how many bytes are before the first line feed
 abbrev pub line_len : List ℕ → ℕ
 line_len text = prefix_len (λ byte. not (byte == 10)) text
 
--- how many bytes stand before the first `$` that begins a word, where `begins` says whether a word can begin
--- at once
+-- how many bytes are before the first `$` that begins a word, where `begins` says whether a word can begin at
+-- once
 abbrev pub code_len : Bool → List ℕ → ℕ
 code_len begins [] = 0
 code_len begins (byte ∷ more) = if begins && byte == 36 then 0 else 1 + code_len (ends_word byte) more
@@ -48,6 +48,6 @@ physical_at (byte ∷ more) =
     (if is_pin_info (byte ∷ more) then PinInfo (without_comment (byte ∷ more)) else Nothing)
     else (if byte == 43 then Continuation (without_comment more) else card_of (without_comment (byte ∷ more)))
 
--- what a line is, which the bytes behind its blanks decide
+-- what a line is, which the bytes after its blanks decide
 abbrev pub physical_of : List ℕ → Physical
 physical_of line = physical_at (drop (prefix_len is_blank line) line)

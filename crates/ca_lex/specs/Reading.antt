@@ -1,23 +1,23 @@
--- What a reader's steps and calls give, where want of memory may come at any time.
+-- What a reader's steps and calls give, where memory may run out at any time.
 use Rattle.std.specs.Prelude.{◌≡◌, Bool, if◌then◌else◌, Option, Some, None, Result, Ok, Err, ⊤}
 
--- rules in the order in which they are tried: the first that is broken is told
+-- rules in the order in which they are tried: the first that is broken is reported
 abbrev pub unless : {Reading Kind : Type 0} → Bool → Kind → Result Reading Kind → Result Reading Kind
 unless is_broken kind next = if is_broken then Err kind else next
 
--- this fault is the one wanted; `None` stands for want of memory, which tells nothing of what was wanted
+-- this fault is the one wanted; `None` stands for out of memory, which says nothing about what was wanted
 abbrev pub IsFault : {Reading Fault : Type 0} → Option Fault → Result Reading Fault → Type 0
 IsFault None wanted = Unit {0}
 IsFault (Some fault) wanted = wanted ≡ Err fault
 
--- a call gave the view of what was wanted, or its fault; `told` is the fault that an error is, and None at
--- want of memory
+-- a call gave the view of what was wanted, or its fault; `told` is the fault that an error is, and None when
+-- out of memory
 abbrev pub Gives : {Value Reading Error Fault : Type 0} → (Error → Option Fault) → (Value → Reading)
     → Result Value Error → Result Reading Fault → Type 0
 Gives told view (Ok value) wanted = wanted ≡ Ok (view value)
 Gives told view (Err error) wanted = IsFault (told error) wanted
 
--- a step left `after` where that was wanted, or told the wanted fault; what it leaves with a fault is not
+-- a step left `after` where that was wanted, or reported the wanted fault; what it leaves with a fault is not
 -- said
 abbrev pub Steps : {Reading Error Fault : Type 0} → (Error → Option Fault) → Reading
     → Result ⊤ Error → Result Reading Fault → Type 0

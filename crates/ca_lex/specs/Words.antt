@@ -11,7 +11,7 @@ is_blank byte = byte == 32 || byte == 9 || byte == 13
 abbrev pub ends_word : ℕ → Bool
 ends_word byte = is_blank byte || byte == 61
 
--- how many bytes stand before the first one that ends a word
+-- how many bytes are before the first one that ends a word
 abbrev pub word_len : List ℕ → ℕ
 word_len text = prefix_len (λ byte. not (ends_word byte)) text
 
@@ -20,7 +20,7 @@ abbrev pub with_byte : ℕ → List (List ℕ) → List (List ℕ)
 with_byte byte [] = (byte ∷ []) ∷ []
 with_byte byte (first ∷ others) = (byte ∷ first) ∷ others
 
--- the words of a byte that belongs to a word and of the text behind it, which has these words
+-- the words of a byte that belongs to a word and of the text after it, which has these words
 abbrev pub words_with : ℕ → List ℕ → List (List ℕ) → List (List ℕ)
 words_with byte [] words = (byte ∷ []) ∷ words
 words_with byte (next ∷ more) words = if ends_word next then (byte ∷ []) ∷ words else with_byte byte words

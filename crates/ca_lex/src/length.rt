@@ -10,7 +10,7 @@ ghost use Rattle.ca_lex.specs.Length.{in_range, mantissa_of, length_of};
 #[derive(Clone, Copy, Debug, PartialEq, Eq, PartialOrd, Ord)]
 pub struct Length(pub u128);
 
-/// The digits before the exponent, before and behind the point, and the rest of the word.
+/// The digits before the exponent, before and after the point, and the rest of the word.
 #[derive(Clone, Copy)]
 struct Mantissa<'a> {
     whole: &'a [u8],
@@ -97,7 +97,7 @@ fn suffix_of(text: &[u8]) -> Option<u32>
     }
 }
 
-/// The number of these digits behind another.
+/// The number of these digits after another.
 fn with_digits(number: u128, digits: &[u8]) -> u128
     requires digits { AllDigits digits.now }
     requires room { (number + 1) * 10 ^ length digits.now ≤ 10 ^ 32 }
@@ -223,7 +223,7 @@ fn product(left: u128, right: u128) -> Option<u128>
     left.checked_mul(right)
 }
 
-/// The number with its point moved to the right by so many places.
+/// The number with its point moved to the right by `places` places.
 fn moved_right(number: u128, places: u32) -> Option<Length>
     ensures { option_map (λ found. found.0) result ≡ in_range (number * 10 ^ places) }
 {
@@ -239,7 +239,7 @@ fn moved_right(number: u128, places: u32) -> Option<Length>
     }
 }
 
-/// The number with its point moved to the left by so many places, without what then stands behind it.
+/// The number with its point moved to the left by this many places, without what then follows it.
 fn moved_left(number: u128, places: u32) -> Option<Length>
     requires { number < 10 ^ 32 }
     ensures { option_map (λ found. found.0) result ≡ in_range (number / 10 ^ places) }
@@ -250,7 +250,7 @@ fn moved_left(number: u128, places: u32) -> Option<Length>
     in_range(number / 10u128.pow(places))
 }
 
-/// The number with its point moved to the right and to the left, without what then stands behind it.
+/// The number with its point moved to the right and to the left, without what then follows it.
 fn scaled(number: u128, right: u32, left: u32) -> Option<Length>
     requires { number < 10 ^ 32 }
     ensures { option_map (λ found. found.0) result ≡ in_range (scaled number right left) }
@@ -275,7 +275,7 @@ impl Mantissa<'_> {
     }
 }
 
-/// The length that the word spells, if it spells one. Digits behind the eighteenth place of a metre are
+/// The length that the word spells, if it spells one. Digits after the eighteenth place of a metre are
 /// dropped.
 #[tactic(auto, unfolding(crate::specs::Length::length_of))]
 pub fn read_length(word: &[u8]) -> Option<Length>

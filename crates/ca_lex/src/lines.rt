@@ -51,7 +51,7 @@ fn stray(alloc: Global, text: &[u8]) -> Result<Text, NoMemory>
     Ok(stray)
 }
 
-/// The logical lines so far, and behind them the card that can be continued.
+/// The logical lines so far, and after them the card that can be continued.
 #[derive(Drop)]
 struct Joiner {
     lines: Vec<Line>,

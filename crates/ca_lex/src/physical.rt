@@ -34,7 +34,7 @@ fn line_len(text: &[u8]) -> usize
     len
 }
 
-/// The first line of a text without its line feed, and what stands behind that.
+/// The first line of a text without its line feed, and what follows that.
 pub(crate) fn first_line(text: &[u8]) -> (&[u8], &[u8])
     requires { 0 < length text.now }
     ensures lines { lines_of text.now ≡ result.0.now ∷ lines_of result.1.now }

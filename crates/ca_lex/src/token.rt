@@ -5,7 +5,7 @@
 pub enum TokenKind {
     /// A letter or `_`, and then letters, digits, `_` and `$`.
     Name,
-    /// A name behind a `\`, which ends at white space.
+    /// A name after a `\`, which ends at white space.
     Escaped,
     /// Decimal digits.
     Number,

@@ -57,7 +57,7 @@ fn first_word(text: &[u8]) -> (&[u8], &[u8])
 }
 
 /// The words of a text, in order: the longest runs of bytes that are neither blanks nor `=`, and each `=`.
-/// Bytes of any value may stand in a word.
+/// Bytes of any value may be in a word.
 pub fn spice_words(alloc: Global, text: &[u8]) -> Result<Vec<&[u8]>, NoMemory>
     ensures ok { IfOk result (λ words. map (λ word. word.now) words.items ≡ words_of text.now) }
 {

@@ -1,4 +1,4 @@
--- What is told of a fault is the first rule that is broken; where nothing is, none is.
+-- What is reported about a fault is the first rule that is broken; where nothing is, none is.
 use Rattle.std.proofs.Common.{◌≡◌, ℕ, ◌+◌, ◌<◌, ◌⊎◌, List, [], ◌∷◌, length, inl, inr, refl, sym, ◌∙◌, ap, ap₂}
 use Rattle.std.proofs.Common.{subst, arith}
 use Rattle.std.specs.Prelude.{Option, Some, None}
@@ -48,7 +48,7 @@ module _ (raw : RawNetlist) (library : List Named) (scan : List ScanRow) (chip :
   none_misused_before misused told u k (inr (last, uses)) (inr (same, less)) =
       let few = misused_pin chip misused told in omega (arith, few, less, last)
 
-  -- and none does where nothing is told
+  -- and none does where nothing is reported
   none_misused : misused_of chip ≡ None → (u k : ℕ) → IsMisused (wiring_of raw library scan) u k → ⊥
   none_misused told u k (inl (pin, breaks)) = controls_kept (wiring_of raw library scan) chip link told u k pin breaks
   none_misused told u k (inr (last, uses)) = inverted_kept (wiring_of raw library scan) chip link told u uses
@@ -132,7 +132,7 @@ module _ (raw : RawNetlist) (library : List Named) (scan : List ScanRow) (chip :
         (misused.pin, refl, control_broken (wiring_of raw library scan) chip link misused is few control.wired control.at name control.named)
         (before_pin driven misused is))
 
-    -- what is told of a fault of nets is why the netlist isn't linked
+    -- what is reported about a fault of nets is why the netlist isn't linked
     pub wire_cause : (broken : WireFault) → IsWireCause chip broken → (told : ChipFault) → TellsFault chip scan broken told → IsCause raw library scan told
     wire_cause (wire_fault.Misdriven net sources) first told tells =
         misdriven_cause net sources first told sources.first sources.second first.first first.flawed tells

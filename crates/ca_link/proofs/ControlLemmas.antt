@@ -254,7 +254,7 @@ module _ (wiring : Wiring) (chip : Chip) (link : IsLinkOf wiring chip) where
         by None are = absurd are.1.1
         by (Some qn) are = wire_loaded wiring chip link qn uses.qn are.1.0 uses.loaded
 
--- the instance that is told, and the pin
+-- the instance that is reported, and the pin
 module _ (chip : Chip) (misused : Misused) (told : misused_of chip ≡ Some misused) where
   pub told_at : IsMisusedAt chip (first_scan chip.parts) chip.parts misused.instance misused.pin
   told_at =
@@ -337,7 +337,7 @@ module _ (wiring : Wiring) (chip : Chip) (link : IsLinkOf wiring chip) where
       (here, told_inverted wiring chip link u here.nets here.scan here.place here.first here.is_first uses)
 
   module _ (misused : Misused) (told : misused_of chip ≡ Some misused) where
-    -- the pin that is told is the first of its instance that breaks its rule
+    -- the pin that is reported is the first of its instance that breaks its rule
     first_told : (u : ℕ) (here : IsJudged u) → u ≡ misused.instance → IsFirstPin chip here.first here.nets misused.pin
     first_told u here same =
         let at = told_at chip misused told in
@@ -346,7 +346,7 @@ module _ (wiring : Wiring) (chip : Chip) (link : IsLinkOf wiring chip) where
         first_pin chip here.first here.nets misused.pin
         (sym here.fault ∙ ap (λ (p : Part). body_fault chip (first_scan chip.parts) p.body) one ∙ at.broken)
 
-    -- the instance that is told
+    -- the instance that is reported
     told_here : (here : IsJudged misused.instance) × IsFirstPin chip here.first here.nets misused.pin
     told_here =
         let at = told_at chip misused told in
@@ -362,13 +362,13 @@ module _ (wiring : Wiring) (chip : Chip) (link : IsLinkOf wiring chip) where
         true≢false (sym broken ∙ no_pin chip here.first here.nets (sym here.fault ∙ none) k)
     none_earlier u k here (inr (same, before)) broken = true≢false (sym broken ∙ (first_told u here same).none_before k before)
 
-  -- where none is told, none breaks its rule
+  -- where none is reported, none breaks its rule
   none_at_all : misused_of chip ≡ None → (u k : ℕ) (here : IsJudged u) → breaks_pin chip here.first here.nets k ≡ true → ⊥
   none_at_all none u k here broken =
       let fault = none_misused chip (first_scan chip.parts) chip.parts 0 u here.scan.part none here.scan.is_part in
       true≢false (sym broken ∙ no_pin chip here.first here.nets (sym here.fault ∙ fault) k)
 
--- the control pin that is told breaks its rule in the wiring
+-- the control pin that is reported breaks its rule in the wiring
 pub control_broken : (wiring : Wiring) (chip : Chip) (link : IsLinkOf wiring chip) (misused : Misused) → misused_of chip ≡ Some misused
     → misused.pin < 3 → (part : WiredPart) → slice_get wiring.parts misused.instance ≡ Some part
     → (pin : List ℕ) → slice_get (control_names part.meaning) misused.pin ≡ Some pin → BreaksControl wiring misused.instance misused.pin pin
@@ -380,7 +380,7 @@ control_broken wiring chip link misused told few part at pin named =
     control_told wiring chip link misused.instance here.nets here.scan here.place here.first here.is_first misused.pin few first.here pin
     (subst (λ (p : WiredPart). slice_get (control_names p.meaning) misused.pin ≡ Some pin) same named)
 
--- and so does the inverted output that is told
+-- and so does the inverted output that is reported
 pub inverted_used : (wiring : Wiring) (chip : Chip) (link : IsLinkOf wiring chip) (misused : Misused) → misused_of chip ≡ Some misused
     → misused.pin ≡ 3 → UsesInverted wiring misused.instance
 inverted_used wiring chip link misused told last =
@@ -390,7 +390,7 @@ inverted_used wiring chip link misused told last =
     inverted_told wiring chip link misused.instance here.nets here.scan here.place here.first here.is_first
     (subst (λ pin. breaks_pin chip here.first here.nets pin ≡ true) last first.here)
 
--- no control pin before what is told breaks its rule in the wiring
+-- no control pin before what is reported breaks its rule in the wiring
 pub no_earlier_control : (wiring : Wiring) (chip : Chip) (link : IsLinkOf wiring chip) (misused : Misused) → misused_of chip ≡ Some misused
     → (u k : ℕ) (pin : List ℕ) → (u < misused.instance) ⊎ ((u ≡ misused.instance) × (k < misused.pin)) → BreaksControl wiring u k pin → ⊥
 no_earlier_control wiring chip link misused told u k pin before breaks =
@@ -404,7 +404,7 @@ no_earlier_inverted wiring chip link misused told u before uses =
     let found = inverted_breaks wiring chip link u uses in
     none_earlier wiring chip link misused told u 3 found.0 (inl before) found.1
 
--- where none is told, each control pin keeps its rule in the wiring
+-- where none is reported, each control pin keeps its rule in the wiring
 pub controls_kept : (wiring : Wiring) (chip : Chip) (link : IsLinkOf wiring chip) → misused_of chip ≡ None
     → (u k : ℕ) (pin : List ℕ) → BreaksControl wiring u k pin → ⊥
 controls_kept wiring chip link none u k pin breaks =
@@ -418,7 +418,7 @@ inverted_kept wiring chip link none u uses =
     let found = inverted_breaks wiring chip link u uses in
     none_at_all wiring chip link none u 3 found.0 found.1
 
--- The instance that is told has a row in the scan table, and the control pin its name there.
+-- The instance that is reported has a row in the scan table, and the control pin its name there.
 module _ (raw : RawNetlist) (library : List Named) (scan : List ScanRow) (chip : Chip) (link : IsLinkOf (wiring_of raw library scan) chip)
     (misused : Misused) (told : misused_of chip ≡ Some misused) (part : Part) (at : slice_get chip.parts misused.instance ≡ Some part) where
   told_scan : (nets : ScanNets) × IsScanAt (wiring_of raw library scan) chip link misused.instance nets

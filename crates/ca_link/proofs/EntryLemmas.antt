@@ -29,7 +29,7 @@ use Rattle.ca_link.specs.Limits.{body_defects}
 past_none : (cells : List RawCell) (place : ℕ) → length cells ≤ place → cell_of cells place ≡ no_cell
 past_none cells place past = get_or_past cells place no_cell past
 
--- a cell that keeps the rules stands in the list
+-- a cell that keeps the rules is in the list
 pub kept_within : (cells : List RawCell) (place : ℕ) → KeepsRules (cell_of cells place) → place < length cells
 kept_within cells place keeps = elim (cases_lt place (length cells)) [
   | inl within ↦ within

@@ -232,7 +232,7 @@ TellsLimit chip defects told =
 not_less : (a b : ℕ) → nat_lt a b ≡ false → a < b → ⊥
 not_less a b off lt = let ge = ltb-false a b off in omega (arith, ge, lt)
 
--- what is told, by which limits are passed
+-- what is reported, by which limits are passed
 abbrev limit_by : Chip → ℕ → Bool → Bool → Bool → Bool → Option ChipFault
 limit_by chip defects a b c d =
     if a then Some (fault.TooManyInstances (length (gates_of chip)))

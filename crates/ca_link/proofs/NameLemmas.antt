@@ -1,4 +1,4 @@
--- The names of a link's pins are those of its wiring, and so is what is told of what drives a net.
+-- The names of a link's pins are those of its wiring, and so is what is reported about what drives a net.
 use Rattle.std.proofs.Common.{◌≡◌, ℕ, zero, suc, ◌+◌, List, [], ◌∷◌, length, refl, sym, ◌∙◌, ap, subst, arith}
 use Rattle.std.specs.Prelude.{Option, Some, None, IsSomeAnd, slice_get}
 use Rattle.std.proofs.lemmas.Option.{slice_get_within, get_or_from_slice_get}
@@ -104,7 +104,7 @@ module _ (raw : RawNetlist) (library : List Named) (scan : List ScanRow) (chip :
   pub have_names : HaveNames chip scan
   have_names u part at = let is = wired_at u part at in ap (λ (names : List (List ℕ)). length names) (sym is.names) ∙ is.outputs
 
-  -- what is told of a source is told of what drives in the wiring
+  -- what is reported about a source is reported about what drives in the wiring
   pub told_driver : (net : ℕ) (source : Source) (told : Driver) → TellsSource chip scan net source told
       → IsDriver (wiring_of raw library scan) net (driving_of source) told
   told_driver net (FromPort p) told tells = tells

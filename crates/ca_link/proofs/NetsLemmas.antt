@@ -1,4 +1,4 @@
--- The nets of a wiring are its own, and what is on them stands in a link where it stands in the wiring.
+-- The nets of a wiring are its own, and what is on them is in a link where it is in the wiring.
 use Rattle.std.proofs.Common.{◌≡◌, ℕ, zero, suc, ◌<◌, ◌⊎◌, List, [], ◌∷◌, length, inl, inr, refl, sym, ◌∙◌}
 use Rattle.std.proofs.Common.{ap, subst, arith}
 use Rattle.std.specs.Prelude.{Some, slice_get}
@@ -19,7 +19,7 @@ use Rattle.ca_wired.proofs.DriverLemmas.{some_inj}
 abbrev pub Ascends : List ℕ → Type 0
 Ascends = AllPairs (λ a b. a < b)
 
--- what stands later in an ascending list is greater
+-- what is later in an ascending list is greater
 less_at : (xs : List ℕ) (j k x y : ℕ) → Ascends xs → j < k → slice_get xs j ≡ Some x → slice_get xs k ≡ Some y → x < y
 less_at xs j k x y ascending less at_j at_k =
     let lt = ascending j k x less (slice_get_within xs k y at_k) in
@@ -40,11 +40,11 @@ ascending_once xs j k x ascending at_j at_k = elim (cases_lt j k) [
 ascends_behind : (x : ℕ) (xs : List ℕ) → Ascends (x ∷ xs) → Ascends xs
 ascends_behind x xs ascending j k d less within = ascending (suc j) (suc k) d (omega (arith, less)) (omega (arith, within))
 
--- the number stands in the list
+-- the number is in the list
 abbrev IsAt : List ℕ → ℕ → Type 0
 IsAt xs z = (k : ℕ) × (slice_get xs k ≡ Some z)
 
--- what stands in an ascending list isn't less than its first
+-- what is in an ascending list isn't less than its first
 no_less : (x : ℕ) (xs : List ℕ) (z : ℕ) → Ascends (x ∷ xs) → IsAt (x ∷ xs) z → (z ≡ x) ⊎ ((x < z) × IsAt xs z)
 no_less x xs z ascending (zero, at) = inl (sym (some_inj x z at))
 no_less x xs z ascending (suc k, at) = inr (less_at (x ∷ xs) 0 (suc k) x z ascending (omega arith) refl at, (k, at))

@@ -91,7 +91,7 @@ first_fourth a b c d e n (suc (suc (suc (suc zero))), lt, is) = (4, omega arith,
 first_fourth a b c d e n (suc (suc (suc (suc (suc k)))), lt, is) = absurd (omega (arith, lt))
 
 module _ (wiring : Wiring) (nets : List ℕ) where
-  -- one list of nets behind another
+  -- one list of nets after another
   nets_append : (wires others list more : List ℕ) → AreNetsOf wiring nets wires list → AreNetsOf wiring nets others more
       → AreNetsOf wiring nets (wires ++ others) (list ++ more)
   nets_append [] others [] more are rest = rest
@@ -99,7 +99,7 @@ module _ (wiring : Wiring) (nets : List ℕ) where
   nets_append (wire ∷ wires) others [] more are rest = absurd are
   nets_append (wire ∷ wires) others (net ∷ list) more are rest = (are.0, nets_append wires others list more are.1 rest)
 
-  -- the nets behind the first, and the first
+  -- the nets after the first, and the first
   nets_behind : (wires list : List ℕ) (net : ℕ) → AreNetsOf wiring nets wires (net ∷ list) → AreNetsOf wiring nets (drop 1 wires) list
   nets_behind [] list net are = absurd are
   nets_behind (wire ∷ wires) list net are = are.1
@@ -183,7 +183,7 @@ abbrev last_place : Option ℕ → ℕ
 last_place None = 1
 last_place (Some qn) = 2
 
--- the scan output stands there
+-- the scan output is there
 last_output : (nets : ScanNets) → slice_get (output_nets (Scan nets)) (last_place nets.qn) ≡ Some nets.so
 last_output nets = by nets.qn
   where

@@ -61,14 +61,14 @@ body_scan cells (ScanCell row) body nets has is = (row, refl)
 pub is_scan : (meaning : Meaning) (row : ScanRow) → meaning ≡ ScanCell row → IsScan meaning
 is_scan meaning row is = subst IsScan (sym is) tt
 
--- where the first scan instance stands
+-- where the first scan instance is
 pub record IsFirstScan (parts : List Part) (place : ℕ) (nets : ScanNets) : Type 0 where
   pub part : Part
   pub at : slice_get parts place ≡ Some part
   pub body : part.body ≡ Scan nets
   pub none_before : (before : ℕ) (other : Part) → before < place → slice_get parts before ≡ Some other → IsGate other.body
 
--- the first that is told stands there
+-- the first that is reported is there
 pub first_scan_at : (parts : List Part) (nets : ScanNets) → first_scan parts ≡ Some nets → (place : ℕ) × IsFirstScan parts place nets
 first_scan_at [] nets e = absurd (let clash : None ≡ Some nets = e in cc)
 first_scan_at (part ∷ more) nets e = by (λ told. first_scan_at more nets told) part.body refl e
@@ -95,7 +95,7 @@ first_scan_at (part ∷ more) nets e = by (λ told. first_scan_at more nets told
       },
     )
 
--- where there is a scan instance, a first is told
+-- where there is a scan instance, a first is reported
 pub some_first : (parts : List Part) (u : ℕ) (part : Part) (nets : ScanNets) → slice_get parts u ≡ Some part
     → part.body ≡ Scan nets → (first : ScanNets) × (first_scan parts ≡ Some first)
 some_first [] u part nets at is = absurd (let lt = slice_get_within [] u part at in omega (arith, lt))
@@ -117,7 +117,7 @@ module _ (chip : Chip) (first : Option ScanNets) where
     pub none_before : (before : ℕ) (other : Part) → before < place → slice_get parts before ≡ Some other
         → body_fault chip first other.body ≡ None
 
-  -- the one that is told is
+  -- the one that is reported is
   pub misused_at : (parts : List Part) (u : ℕ) (misused : Misused) → misused_from chip first u parts ≡ Some misused
       → (place : ℕ) × (misused.instance ≡ u + place) × IsMisusedAt parts place misused.pin
   misused_at [] u misused e = absurd (let clash : None ≡ Some misused = e in cc)
@@ -152,7 +152,7 @@ module _ (chip : Chip) (first : Option ScanNets) where
             },
           )
 
-  -- where none is told, no instance has one
+  -- where none is reported, no instance has one
   pub none_misused : (parts : List Part) (u place : ℕ) (part : Part) → misused_from chip first u parts ≡ None
       → slice_get parts place ≡ Some part → body_fault chip first part.body ≡ None
   none_misused [] u place part e at = absurd (let lt = slice_get_within [] place part at in omega (arith, lt))
@@ -172,7 +172,7 @@ control_net nets zero = nets.se
 control_net nets (suc zero) = nets.ck
 control_net nets (suc (suc k)) = nets.hold
 
--- it is that of an input pin, behind d and si
+-- it is that of an input pin, after d and si
 pub control_input : (nets : ScanNets) (k : ℕ) → k < 3 → slice_get (input_nets (Scan nets)) (2 + k) ≡ Some (control_net nets k)
 control_input nets zero lt = refl
 control_input nets (suc zero) lt = refl
@@ -196,7 +196,7 @@ module _ (chip : Chip) (first nets : ScanNets) where
   abbrev told_by : Bool → Bool → Bool → Bool → Option ℕ
   told_by a b c d = if a then Some 0 else (if b then Some 1 else (if c then Some 2 else (if d then Some 3 else None)))
 
-  -- the pin that is told is the first
+  -- the pin that is reported is the first
   pub first_pin : (pin : ℕ) → pin_fault chip first nets ≡ Some pin → IsFirstPin pin
   first_pin pin e = by (breaks_pin 0) (breaks_pin 1) (breaks_pin 2) (breaks_pin 3) refl refl refl refl e
     where
@@ -227,7 +227,7 @@ module _ (chip : Chip) (first nets : ScanNets) where
           none (suc (suc (suc before))) lt = absurd (omega (arith, lt))
       by false false false false is_a is_b is_c is_d told = absurd (let clash : None ≡ Some pin = told in cc)
 
-  -- where none is told, none breaks its rule
+  -- where none is reported, none breaks its rule
   pub no_pin : pin_fault chip first nets ≡ None → (pin : ℕ) → breaks_pin pin ≡ false
   no_pin e = by (breaks_pin 0) (breaks_pin 1) (breaks_pin 2) (breaks_pin 3) refl refl refl refl e
     where

@@ -25,7 +25,7 @@ module _ (raw : RawNetlist) (library : List Named) (scan : List ScanRow) where
     pub loops : (loop : List ℕ) → IsLoop (FeedsWire (wiring_of raw library scan)) loop → P (5 ∷ []) → ⊥
     pub limits : (k : ℕ) → PassesLimit (wiring_of raw library scan) k → P (6 ∷ k ∷ []) → ⊥
 
-  -- a rule on instances isn't behind them
+  -- a rule on instances isn't after them
   not_behind : (at tail : List ℕ) → at ≡ 1 ∷ tail → IsBehind raw library scan at → ⊥
   not_behind at tail place behind =
       let same : 1 ∷ tail ≡ behind.stage ∷ behind.tail = sym place ∙ behind.place in

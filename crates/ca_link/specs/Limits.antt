@@ -22,7 +22,7 @@ abbrev pub chip_defects : Chip → ℕ
 chip_defects chip = sum_by (λ part. body_defects chip.cells part.body) chip.parts
 
 -- the first limit that a chip passes, with the quantity that is counted: library instances, chip inputs,
--- observed outputs, and so many defects
+-- observed outputs, and this many defects
 abbrev pub first_limit : Chip → ℕ → Option ChipFault
 first_limit chip defects =
     if nat_lt MOST_INSTANCES (length (gates_of chip))

@@ -15,7 +15,7 @@ abbrev pub IsMisdriven : Wiring → ℕ → Type 0
 IsMisdriven wiring net =
     ((first second : Driver) × IsDoubleDriven wiring net first second) ⊎ IsUndriven wiring net
 
--- a control pin of a scan instance breaks its rule, or its inverted output, behind the three, does
+-- a control pin of a scan instance breaks its rule, or its inverted output, after the three, does
 abbrev pub IsMisused : Wiring → ℕ → ℕ → Type 0
 IsMisused wiring u k = ((pin : List ℕ) × BreaksControl wiring u k pin) ⊎ ((k ≡ 3) × UsesInverted wiring u)
 

@@ -1,4 +1,4 @@
--- What is told of a fault of nets. Only the proofs of the code cite this.
+-- What is reported about a fault of nets. Only the proofs of the code cite this.
 use Rattle.std.specs.Prelude.{ℕ, ◌≡◌, ◌<◌, ◌⊎◌, List, Option, Some, None, slice_get}
 use Rattle.ca_chip.specs.declared.scan_row.ScanRow.{ScanRow}
 use Rattle.ca_chip.specs.declared.fault.Driver.{Driver}
@@ -22,7 +22,7 @@ pub record IsControlName (chip : Chip) (scan : List ScanRow) (u k : ℕ) (name :
   pub is_row : row_of scan part.cell ≡ Some row
   pub named : slice_get (control_names (ScanCell row)) k ≡ Some name
 
--- the net is told with the first two that drive it; or nothing does
+-- the net is reported with the first two that drive it; or nothing does
 abbrev pub TellsMisdriven : Chip → List ScanRow → ℕ → Option Source → Option Source → ChipFault → Type 0
 TellsMisdriven chip scan net None two told = told ≡ fault.Undriven (record { 0 = net })
 TellsMisdriven chip scan net (Some one) None told = told ≡ fault.Undriven (record { 0 = net })
@@ -30,14 +30,14 @@ TellsMisdriven chip scan net (Some one) (Some two) told =
     (first second : Driver) × TellsSource chip scan net one first × TellsSource chip scan net two second
     × (told ≡ fault.DoubleDriven (record { 0 = net }) first second)
 
--- a control pin is told by its name, the inverted output by its instance
+-- a control pin is reported by its name, the inverted output by its instance
 abbrev pub TellsMisused : Chip → List ScanRow → Misused → ChipFault → Type 0
 TellsMisused chip scan misused told =
     ((misused.pin ≡ 3) × (told ≡ fault.QnUsed (record { 0 = misused.instance })))
     ⊎ ((misused.pin < 3) × ((name : List ℕ) × IsControlName chip scan misused.instance misused.pin name
     × (told ≡ fault.ControlPin (record { 0 = misused.instance }) name)))
 
--- what is told of a fault
+-- what is reported about a fault
 abbrev pub TellsFault : Chip → List ScanRow → WireFault → ChipFault → Type 0
 TellsFault chip scan (wire_fault.Misdriven net sources) told =
     TellsMisdriven chip scan net sources.first sources.second told

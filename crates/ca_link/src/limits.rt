@@ -37,7 +37,7 @@ pub(crate) fn defects_of(draft: &Draft) -> usize
     defects
 }
 
-/// The first limit that a chip with so many defects passes.
+/// The first limit that a chip with `defects` defects passes.
 pub(crate) fn first_limit(chip: &Chip, defects: usize) -> Option<ChipFault>
     ensures { result ≡ limits.first_limit chip.now defects }
 {

@@ -43,8 +43,8 @@ pub fn link(
     }
 }
 
-/// The same where the instances were judged: each keeps its rules. So a caller that tells the place of a fault
-/// by the library, which is gone afterwards, judges the instances itself, and they are judged once.
+/// The same where the instances were judged: each keeps its rules. So a caller that finds the place of a
+/// fault by the library, which is gone afterwards, judges the instances itself, and they are judged once.
 pub fn link_instances(
     alloc: Global,
     netlist: &RawNetlist,

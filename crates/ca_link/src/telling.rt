@@ -1,4 +1,4 @@
-//! What is told of a fault of nets.
+//! What is reported about a fault of nets.
 
 ghost use Rattle.std.specs.Prelude.{◌≡◌, ◌<◌, Some, IfOk, slice_get, IsSomeAnd};
 ghost use Rattle.ca_wired.specs.Linked.{Drives};
@@ -108,7 +108,7 @@ fn tell_misused(
     }
 }
 
-/// What is told of a fault of nets.
+/// What is reported about a fault of nets.
 pub(crate) fn tell(
     alloc: Global,
     draft: &Draft,

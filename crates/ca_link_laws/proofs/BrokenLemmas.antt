@@ -23,7 +23,7 @@ use Rattle.ca_link_laws.proofs.TraceLemmas.{one_ports}
 use Rattle.ca_link_laws.proofs.DrivingLemmas.{one_pair, driven}
 use Rattle.ca_link_laws.proofs.PlaceLemmas.{in_order}
 
--- a number for each kind of fault, the same for two that may stand at one place
+-- a number for each kind of fault, the same for two that may be at one place
 abbrev code_of : ChipFault → ℕ
 code_of (UnknownCell u) = 100
 code_of (Cell u rule) = 100

@@ -1,4 +1,4 @@
--- What drives a net stands in one order, and the first two are one pair.
+-- What drives a net is in one order, and the first two are one pair.
 use Rattle.std.proofs.Common.{◌≡◌, ℕ, ◌<◌, ◌⊎◌, ◌∙◌, true, false, List, inl, inr, refl, sym, ap, subst, arith}
 use Rattle.std.proofs.Math.Decide.{dec_lt}
 use Rattle.std.specs.Prelude.{slice_get}
@@ -122,7 +122,7 @@ module _ (wiring : Wiring) (net : ℕ) (first second third fourth : Driver) (is 
   firsts : is.one ≡ also.one
   firsts = also.none_before is.one (there is.one is.drives_one) (subst (λ driving. ComesBefore is.one driving) seconds is.in_order)
 
-  -- the first two that drive a net are told as one pair
+  -- the first two that drive a net are reported as one pair
   pub one_pair : (first ≡ third) × (second ≡ fourth)
   one_pair = (
     one_driver wiring net also.one first third (subst (λ driving. IsDriver wiring net driving first) firsts is.told_one) also.told_one,

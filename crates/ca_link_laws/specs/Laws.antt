@@ -40,12 +40,12 @@ AlikeHaveOnePorts = (chip also : Chip) → AreAlike chip also → HaveOnePorts c
 abbrev pub AlikeHaveOneTrace : Type 0
 AlikeHaveOneTrace = (chip also : Chip) → AreAlike chip also → HaveOneTrace chip also
 
--- both faults tell a loop
+-- both faults report a loop
 abbrev pub AreLoops : ChipFault → ChipFault → Type 0
 AreLoops (fault.Loop instances) (fault.Loop others) = Unit {0}
 AreLoops _ _ = ⊥
 
--- the first rule that a netlist breaks is one, but that one of several loops may be told
+-- the first rule that a netlist breaks is one, but that one of several loops may be reported
 abbrev pub FirstBrokenIsOne : Type 0
 FirstBrokenIsOne =
     (raw : RawNetlist) (library : List Named) (scan : List ScanRow) (broken other : ChipFault)

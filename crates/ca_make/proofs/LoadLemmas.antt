@@ -27,7 +27,7 @@ or_assoc false true c = refl
 or_assoc false false true = refl
 or_assoc false false false = refl
 
--- a place has a mark behind that at another, or its own
+-- a place has a mark after that of another, or its own
 marked : (loads : List Bool) (place a : ℕ) → a < length loads
     → get_or (set loads a true) place false ≡ (get_or loads place false || (place == a))
 marked loads place a lt = elim (eqb_tells place a) [

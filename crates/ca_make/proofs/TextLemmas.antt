@@ -5,14 +5,14 @@ use Rattle.ca_make.specs.declared.gate.Gate.{Gate}
 use Rattle.ca_make.specs.NetlistText.{header_text, names_text, listed_from, instance_line, assign_line}
 use Rattle.ca_make.specs.NetlistText.{chip_text}
 
--- three pieces behind a text
+-- three pieces after a text
 pub three_pieces : (start one two three a b c : List ℕ) → one ≡ start ++ a → two ≡ one ++ b → three ≡ two ++ c
     → three ≡ start ++ (a ++ (b ++ c))
 three_pieces start one two three a b c is_one is_two is_three =
     is_three ∙ ap (λ t. t ++ c) (is_two ∙ ap (λ t. t ++ b) is_one)
     ∙ append_assoc (start ++ a) b c ∙ append_assoc start a (b ++ c)
 
--- what stands behind the declarations
+-- what follows the declarations
 abbrev rest_text : List Gate → List ℕ → List ℕ
 rest_text gates outputs =
     listed_from instance_line 0 gates ++ (listed_from assign_line 0 outputs ++ codes "endmodule\n")

@@ -10,7 +10,7 @@ use Rattle.ca_make.specs.Draw.{gates_from}
 unfoldable pub gates_of : ℕ → List Gate
 gates_of n = gates_from n INPUTS n
 
--- both inputs of a gate are among so many candidates
+-- both inputs of a gate are among this many candidates
 abbrev pub IsWithin : ℕ → Gate → Type 0
 IsWithin candidates (gate.Inv a) = a < candidates
 IsWithin candidates (gate.Nand2 a b) = (a < candidates) × (b < candidates)

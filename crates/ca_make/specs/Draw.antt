@@ -12,11 +12,12 @@ next_state state = (state * 6364136223846793005 + 1442695040888963407) % 2 ^ 64
 unfoldable pub drawn : ℕ → ℕ
 drawn state = state / 2 ^ 33
 
--- the place that the next draw takes among so many candidates: one of the last twelve, counted from the back
+-- the place that the next draw takes among this many candidates: one of the last twelve, counted from the
+-- back
 abbrev pub place_from : ℕ → ℕ → ℕ
 place_from state candidates = candidates - 1 - drawn (next_state state) % min 12 candidates
 
--- a gate of this kind, 0 for INV, 1 for NAND2 and 2 for NOR2, whose inputs the draws behind this state take,
+-- a gate of this kind, 0 for INV, 1 for NAND2 and 2 for NOR2, whose inputs the draws after this state take,
 -- in the order of its pins
 abbrev pub gate_of_kind : ℕ → ℕ → ℕ → Gate
 gate_of_kind kind state candidates =
@@ -28,13 +29,13 @@ gate_of_kind kind state candidates =
 unfoldable pub gate_from : ℕ → ℕ → Gate
 gate_from state candidates = gate_of_kind (drawn (next_state state) % 3) (next_state state) candidates
 
--- the state behind the draws of a gate: one for its kind, and one for each input
+-- the state after the draws of a gate: one for its kind, and one for each input
 abbrev pub state_behind : Gate → ℕ → ℕ
 state_behind (gate.Inv a) state = next_state (next_state state)
 state_behind (gate.Nand2 a b) state = next_state (next_state (next_state state))
 state_behind (gate.Nor2 a b) state = next_state (next_state (next_state state))
 
--- so many gates, drawn one after another; the output of each is a candidate for those behind it
+-- this many gates, drawn one after another; the output of each is a candidate for those after it
 abbrev pub gates_from : ℕ → ℕ → ℕ → List Gate
 gates_from state candidates zero = []
 gates_from state candidates (suc more) =

@@ -25,7 +25,7 @@ abbrev pub listed_from : {X : Type 0} → (ℕ → X → List ℕ) → ℕ → L
 listed_from part k [] = []
 listed_from part k (x ∷ xs) = part k x ++ listed_from part (k + 1) xs
 
--- a chip output in the header, behind the inputs
+-- a chip output in the header, after the inputs
 abbrev pub output_port : ℕ → List ℕ
 output_port j = numbered (codes ", o") j
 
@@ -59,12 +59,12 @@ instance_line k it =
 abbrev pub assign_line : ℕ → ℕ → List ℕ
 assign_line j k = numbered (codes "  assign o") j ++ (numbered (codes " = w") k ++ codes ";\n")
 
--- the header, with so many chip outputs
+-- the header, with this many chip outputs
 unfoldable pub header_text : ℕ → List ℕ
 header_text outputs =
     codes "module gen(i0, i1, i2, i3, i4, i5, i6, i7" ++ (counted output_port outputs ++ codes ");\n")
 
--- the declarations of the chip inputs, of so many outputs, and of a wire for each of so many gates
+-- the declarations of the chip inputs, of `outputs` outputs, and of a wire for each of `gates` gates
 unfoldable pub names_text : ℕ → ℕ → List ℕ
 names_text outputs gates =
     counted (declaration_line (codes "  input i")) INPUTS

@@ -29,7 +29,7 @@ impl Draws {
         (self.state / (1 << 33)) as u32
     }
 
-    // The place of one of the last twelve of so many candidates.
+    // The place of one of the last twelve of `candidates` candidates.
     fn place(&mut self, candidates: u32) -> u32
         requires { 0 < candidates }
         ensures state { self.new.state ≡ next_state self.old.state }
@@ -39,7 +39,7 @@ impl Draws {
         candidates - 1 - self.draw() % candidates.min(12)
     }
 
-    // A gate over so many candidates.
+    // A gate over `candidates` candidates.
     #[tactic(auto, unfolding(crate::specs::Draw::gate_from))]
     fn gate(&mut self, candidates: u32) -> Gate
         requires { 0 < candidates }

@@ -153,7 +153,7 @@ fn push_header(text: &mut Text, outputs: u32) -> Result<(), NoMemory>
     text.append(b");\n")
 }
 
-// Appends the declarations of a chip with so many outputs and gates.
+// Appends the declarations of a chip with `outputs` outputs and `gates` gates.
 #[tactic(auto, unfolding(crate::specs::NetlistText::names_text))]
 fn push_names(text: &mut Text, outputs: u32, gates: u32) -> Result<(), NoMemory>
     ensures { OnOk result (text.new ≡ text.old ++ names_text outputs gates) }

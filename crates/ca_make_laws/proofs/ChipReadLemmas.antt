@@ -1,4 +1,4 @@
--- The text of a generated chip is read, and nothing else is told of it.
+-- The text of a generated chip is read, and nothing else is answered about it.
 use Rattle.std.proofs.Common.{◌≡◌, ℕ, List, Ok, Err, Result, ap, ◌∙◌}
 use Rattle.ca_make.specs.Chip.{gates_of, unloaded}
 use Rattle.ca_make.specs.NetlistText.{netlist_text}

@@ -43,7 +43,7 @@ abbrev pub AreOthers : ℕ → ℕ → ℕ → List (List ℕ) → Type 0
 AreOthers letter from most names = All (λ name. (k : ℕ) → from ≤ k → k < most
     → bytes_eq (letter ∷ decimal k) name ≡ false) names
 
--- names of a letter with numbers from one on are new behind others
+-- names of a letter with numbers from one on are new after others
 pub names_new : (letter from count most : ℕ) (seen : List (List ℕ)) → from + count ≤ most → most ≤ 2 ^ 32
     → AreOthers letter from most seen → OneByOne IsNew seen (map (numbered (letter ∷ [])) (range_with_len from count))
 names_new letter from zero most seen le few others = tt
@@ -78,7 +78,7 @@ both_lists P seen (x ∷ one) other first second = (
       (subst (λ (s : List _). OneByOne P s other) (sym (append_assoc seen (x ∷ []) one)) second),
 )
 
--- so no word stands twice
+-- so no word occurs twice
 pub no_double : (seen words : List (List ℕ)) → OneByOne IsNew seen words → repeats seen words ≡ false
 unfolding repeats
 no_double seen [] new = refl

@@ -257,14 +257,14 @@ u_named k below = record { spelled = u_word k below; name = u_name k below }
 pub w_named : (k : ℕ) → IsSmall k → IsNamed (numbered (codes "w") k)
 w_named k below = record { spelled = w_word k below; name = w_name k below }
 
--- a name and what stands behind it
+-- a name and what follows it
 pub gives_name : (word : List ℕ) (next : ℕ) (tail : List ℕ) (symbols : List Symbol) → IsNamed word
     → is_name_byte next ≡ false → Gives (next ∷ tail) symbols
     → Gives (word ++ next ∷ tail) (Symbol.identifier word ∷ symbols)
 gives_name word next tail symbols it ends gives =
     gives_word word next tail (Symbol.identifier word) symbols it.spelled (ap (λ (l : Lexeme). symbol_of l word) it.name) ends gives
 
--- a keyword and a space before what stands behind it
+-- a keyword and a space before what follows it
 pub gives_keyword : (word : List ℕ) (it : Symbol) (tail : List ℕ) (symbols : List Symbol) → IsWord word
     → symbol_of (word_of word) word ≡ it → Gives tail symbols → Gives (word ++ 32 ∷ tail) (it ∷ symbols)
 gives_keyword word it tail symbols is same gives =
@@ -304,7 +304,7 @@ unfolding word_of
 wire_line k below =
     declared_line (codes "wire") (numbered (codes "w") k) (Symbol.other lexeme.Wire) wire_word refl (w_named k below)
 
--- a pin with the name that is on it, before what stands behind it
+-- a pin with the name that is on it, before what follows it
 pin_gives : (pin name tail : List ℕ) (symbols : List Symbol) → IsNamed pin → IsNamed name → Gives tail symbols
     → Gives (46 ∷ (pin ++ 40 ∷ (name ++ 41 ∷ tail)))
     (Symbol.other lexeme.Dot ∷ Symbol.identifier pin ∷ Symbol.other lexeme.Open ∷ Symbol.identifier name

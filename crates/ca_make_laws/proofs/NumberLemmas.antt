@@ -63,7 +63,7 @@ names_once outputs gates few_outputs few =
     (subst (OneByOne IsNew []) (sym (names_are outputs gates)) (all_new outputs gates few_outputs few))
     ∙ names_are outputs gates
 
--- where a name stands
+-- where a name is
 abbrev place : List ℕ → List (List ℕ) → ℕ
 place name names = position_or_len (bytes_eq name) names
 

@@ -40,7 +40,7 @@ use Rattle.ca_make_laws.proofs.FreshLemmas.{IsNew, names_new, other_letter, both
 use Rattle.ca_make_laws.proofs.FreshLemmas.{has_numbered}
 use Rattle.ca_make_laws.proofs.FreshLemmas.{has_first, has_second}
 
--- the names of the chip inputs, of so many outputs, and of so many wires
+-- the names of the chip inputs, of this many outputs, and of this many wires
 abbrev pub i_names : List (List ℕ)
 i_names = names_of (codes "i") INPUTS
 
@@ -351,7 +351,7 @@ gate_right seen k (gate.Nor2 a b) candidates within places wire = record {
       (known_on (declarations seen) (codes "ZN") (numbered (codes "w") k) wire);
 }
 
--- a list of items behind declarations of which each is right and declares nothing
+-- a list of items after declarations, each of which is right and declares nothing
 items_right : {X : Type 0} (item : ℕ → X → Item) (P : X → Type 0) (all : List Declared) (most : ℕ)
     → ((k : ℕ) (x : X) → declared_by (item k x) ≡ [])
     → ((seen : List Item) (k : ℕ) (x : X) → declarations seen ≡ all → k < most → P x → IsRightItem seen (item k x))

@@ -14,12 +14,12 @@ use Rattle.ca_verilog.specs.declared.lexeme.Lexeme.TheVariants as lexeme
 use Rattle.ca_verilog.specs.Lexeme.{lexeme_of, word_of, sign_of, name_of}
 use Rattle.ca_syntax.specs.Symbols.{Symbol, symbol_of, symbol_at}
 
--- these tokens of the whole text are the symbols, and no fault stands behind them
+-- these tokens of the whole text are the symbols, and no fault follows them
 pub record IsSpelled (text : List ℕ) (scan : Scan) (symbols : List Symbol) : Type 0 where
   pub whole : scan.flaw ≡ None
   pub spelled : map (symbol_at text) scan.tokens ≡ symbols
 
--- the text behind these bytes spells the symbols
+-- the text after these bytes spells the symbols
 abbrev pub Spells : List ℕ → List ℕ → List Symbol → Type 0
 Spells before text symbols = (begins_line : Bool)
     → IsSpelled (before ++ text) (scan_from begins_line 0 (length before) text) symbols
@@ -56,7 +56,7 @@ blank_spelled before byte text symbols is rest begins_line =
     ∙ sym (is begins_line (length before) text))
     (rest (begins_line || byte == 10))
 
--- the text of a token that stands behind these bytes
+-- the text of a token that follows these bytes
 text_is : (before word text : List ℕ) (kind : TokenKind)
     → text_of (token_at (length before) kind (length word)) (before ++ (word ++ text)) ≡ word
 text_is before word text kind =
@@ -97,7 +97,7 @@ token_spelled before byte more text kind symbols is rest begins_line =
           ∙ ap (λ (t : List ℕ). symbol_of (lexeme_of kind t) (name_of kind t) ∷ symbols) (text_is before word text kind);
     })
 
--- a part of a text that gives these symbols, whatever stands behind it
+-- a part of a text that gives these symbols, whatever follows it
 pub record Gives (part : List ℕ) (symbols : List Symbol) : Type 0 where
   pub over : (before text : List ℕ) (after : List Symbol) → Spells (before ++ part) text after
       → Spells before (part ++ text) (symbols ++ after)
@@ -142,7 +142,7 @@ gives_sign byte it is same = record {
       (token_spelled before byte [] text Sign after (is text) rest);
 }
 
--- a word: its first byte begins a name, and each may stand in one
+-- a word: its first byte begins a name, and each may be in one
 pub record IsWord (word : List ℕ) : Type 0 where
   pub first : ℕ
   pub more : List ℕ
@@ -151,7 +151,7 @@ pub record IsWord (word : List ℕ) : Type 0 where
   pub bytes : list_all is_name_byte word ≡ true
   pub opened : (rest : List ℕ) → BeginsToken Sign 1 40 (first ∷ rest)
 
--- a name ends before a byte that may not stand in it
+-- a name ends before a byte that may not be in it
 name_ends : (word : List ℕ) (next : ℕ) (text : List ℕ) → list_all is_name_byte word ≡ true → is_name_byte next ≡ false
     → name_len (word ++ next ∷ text) ≡ length word
 name_ends [] next text all ends = ap (λ (b : Bool). if b then 1 + prefix_len is_name_byte text else 0) ends
@@ -165,7 +165,7 @@ name_ends (byte ∷ word) next text all ends =
     and_true true b is = (refl, is)
     and_true false b is = absurd cc
 
--- a word and what stands behind it, which begins with a byte that may not stand in it
+-- a word and what follows it, which begins with a byte that may not be in it
 pub gives_word : (word : List ℕ) (next : ℕ) (tail : List ℕ) (symbol : Symbol) (symbols : List Symbol) → IsWord word
     → symbol_of (word_of word) word ≡ symbol → is_name_byte next ≡ false → Gives (next ∷ tail) symbols
     → Gives (word ++ next ∷ tail) (symbol ∷ symbols)

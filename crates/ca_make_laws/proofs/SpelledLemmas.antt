@@ -53,7 +53,7 @@ listed_give line item P from most (x ∷ xs) le all each =
 abbrev port_symbols : ℕ → List Symbol
 port_symbols j = Symbol.other lexeme.Comma ∷ Symbol.identifier (numbered (codes "o") j) ∷ []
 
--- a name of the header, and the chip outputs behind it
+-- a name of the header, and the chip outputs after it
 ports_give : (word : List ℕ) (from count most : ℕ) (tail : List ℕ) (symbols : List Symbol) → IsNamed word → from + count ≤ most
     → IsSmall most → Gives (41 ∷ tail) symbols
     → Gives (word ++ (flat_map output_port (range_with_len from count) ++ 41 ∷ tail))
@@ -69,7 +69,7 @@ ports_give word from (suc count) most tail symbols named le small gives =
     (ports_give (numbered (codes "o") from) (from + 1) count most tail symbols (o_named from (omega (arith, le, small)))
     (omega (arith, le)) small gives))))
 
--- a name of the header with the comma behind it
+-- a name of the header with the comma after it
 name_comma : (word tail : List ℕ) (symbols : List Symbol) → IsNamed word → Gives tail symbols
     → Gives (word ++ 44 ∷ 32 ∷ tail) (Symbol.identifier word ∷ Symbol.other lexeme.Comma ∷ symbols)
 name_comma word tail symbols named gives =

@@ -16,7 +16,7 @@ or_true : (a b : Bool) → (a || true || b) ≡ true
 or_true true b = refl
 or_true false b = refl
 
--- digits may stand in a name
+-- digits may be in a name
 digits_named : (digits : List ℕ) → AllByRecursion (λ byte. is_digit byte ≡ true) digits → list_all is_name_byte digits ≡ true
 digits_named [] all = refl
 digits_named (byte ∷ digits) all =

@@ -22,7 +22,7 @@ use Rattle.ca_make_laws.specs.ChipTree.{names_of}
 abbrev pub bus : Direction → List ℕ → RawBus
 bus direction name = record { name = name; direction = direction; range = None }
 
--- the bit of the candidate at a place: with so many outputs, the wires stand that much further
+-- the bit of the candidate at a place: the wires are as much further as there are outputs
 abbrev pub candidate_bit : ℕ → ℕ → ℕ
 candidate_bit outputs place = if nat_lt place INPUTS then place else outputs + place
 

@@ -53,7 +53,7 @@ abbrev pub items_from : {X : Type 0} → (ℕ → X → Item) → ℕ → List X
 items_from item k [] = []
 items_from item k (x ∷ xs) = item k x ∷ items_from item (k + 1) xs
 
--- the declarations: the chip inputs, so many outputs, and a wire for each of so many gates
+-- the declarations: the chip inputs, `outputs` outputs, and a wire for each of `gates` gates
 abbrev pub declared_items : ℕ → ℕ → List Item
 declared_items outputs gates = map (declared Input) (names_of (codes "i") INPUTS)
     ++ (map (declared Output) (names_of (codes "o") outputs)

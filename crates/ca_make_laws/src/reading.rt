@@ -15,8 +15,7 @@ use ca_spice::{SpiceFault, read_library};
 use ca_verilog::{RawNetlist, VerilogFault, read_netlist};
 use std::alloc::Global;
 
-/// The cells of generated chips, read from their text; each keeps the rules. No other fault is met than want
-/// of memory.
+/// The cells of generated chips, read from their text; each keeps the rules. Fails only when out of memory.
 pub fn made_library(alloc: Global) -> Result<Library, NoMemory>
     ensures sound { IfOk result (λ library. library ≡ sound_library) }
     ensures entries { IfOk result (λ library. All (λ named. IsEntry named.entry) library) }
@@ -30,8 +29,7 @@ pub fn made_library(alloc: Global) -> Result<Library, NoMemory>
     }
 }
 
-/// The netlist of the generated chip of a number, read from its text. No other fault is met than want of
-/// memory.
+/// The netlist of the generated chip of a number, read from its text. Fails only when out of memory.
 pub fn made_netlist(alloc: Global, n: u32) -> Result<RawNetlist, NoMemory>
     requires { n ≤ MOST_GATES }
     ensures netlist { IfOk result (λ raw. raw ≡ chip_netlist n) }

@@ -19,7 +19,7 @@ use Rattle.ca_make_links.specs.Laws.{HasNoChains}
 use Rattle.ca_make_links.proofs.DriverLemmas.{chip_wiring}
 use Rattle.ca_make_links.proofs.RuleLemmas.{IsGateBody, bodies}
 
--- nothing, so many times
+-- nothing, `count` times
 abbrev nothings : ℕ → List (Option (List ℕ))
 nothings zero = []
 nothings (suc count) = None ∷ nothings count

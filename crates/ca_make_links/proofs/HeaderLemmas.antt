@@ -26,7 +26,7 @@ mapped_at f from (suc count) (suc k) lt =
     mapped_at f (from + 1) count k (omega (arith, lt))
     ∙ ap (λ n. Some (f n)) (let e : from + 1 + k ≡ from + suc k = omega arith in e)
 
--- and what stands there is one
+-- and what is there is one
 pub mapped_only : {T : Type 0} (f : ℕ → T) (from count k : ℕ) (x : T) → slice_get (map f (range_with_len from count)) k ≡ Some x
     → (k < count) × (x ≡ f (from + k))
 mapped_only f from zero k x at = absurd cc

@@ -26,7 +26,7 @@ joins_are bits outputs from [] = refl
 joins_are bits outputs from (k ∷ xs) =
     ap (λ (list : List Join). chip_join outputs from k ∷ list) (joins_are bits outputs (from + 1) xs)
 
--- an entry of a list stands at a place
+-- an entry of a list is at a place
 pub entry_at : {T : Type 0} (xs : List T) (x : T) → Contains xs x → (k : ℕ) × (slice_get xs k ≡ Some x)
 entry_at xs x has = (has.0, slice_get-get_or xs has.0 x has.1 ∙ ap Some has.2)
 

@@ -25,8 +25,8 @@ fn want_of_memory(told: ChipFault) -> NoMemory
     NoMemory
 }
 
-/// The generated chip of a number, read from its texts and linked without scan cells. No other fault is met
-/// than want of memory.
+/// The generated chip of a number, read from its texts and linked without scan cells. Fails only when out of
+/// memory.
 pub fn made_chip(alloc: Global, n: u32) -> Result<Chip, NoMemory>
     requires { n ≤ MOST_GATES }
     ensures link { IfOk result (IsLinkOf (wiring_of (chip_netlist n) sound_library [])) }

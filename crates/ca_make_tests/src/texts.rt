@@ -88,7 +88,7 @@ const SEVEN: &[u8] = b"module gen(i0, i1, i2, i3, i4, i5, i6, i7, o0, o1, o2, o3
     \x20 assign o5 = w6;\n\
     endmodule\n";
 
-// The library that is read. Here and below each thing is let go at one place, since that is dear to prove.
+// The library that is read. Each value is dropped in one place here and below: more places are slow to prove.
 fn library_read(alloc: Global) -> Option<Library> {
     let text = library(alloc).ok()?;
     let cells = read_library(alloc, text.as_bytes()).ok();

@@ -96,8 +96,8 @@ fn settled(net: &FlatNet, a1: Wave, a2: Wave, work: &mut Work) -> Wave
     work.wave(NodeId(4))
 }
 
-// The same with room that is taken. Here and below each thing is let go at one place, since that is dear to
-// prove.
+// The same with room that is taken. Each value is dropped in one place here and below: more places are slow
+// to prove.
 fn limits(rt: &impl Abort, alloc: Global, net: &FlatNet, a1: Wave, a2: Wave) -> Wave
     requires a1 { IsWave a1 }
     requires a2 { IsWave a2 }

@@ -82,7 +82,7 @@ pub(crate) const NAND2: [Place; 6] = [Power, Ground, Pin, Pin, Output, Inner];
 
 pub(crate) const NAND2_PARTS: [Part; 4] = [P(2, 4, 0), P(3, 4, 0), N(2, 4, 5), N(3, 5, 1)];
 
-// the same, and a node behind them for an open
+// the same, and a node after them for an open
 pub(crate) const OPENED: [Place; 7] = [Power, Ground, Pin, Pin, Output, Inner, Inner];
 
 // the drain of the first transistor is on that node

@@ -222,8 +222,8 @@ fn state_of(alloc: Global, values: &[Trit]) -> Result<State, NoMemory>
     Ok(state)
 }
 
-// The response of a node of a network whose nodes have these values. Here and below each thing is let go at
-// one place, since that is dear to prove.
+// The response of a node of a network whose nodes have these values. Each value is dropped in one place here
+// and below: more places are slow to prove.
 fn response_at(
     rt: &impl Abort,
     alloc: Global,

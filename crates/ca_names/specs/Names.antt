@@ -15,15 +15,15 @@ place_of name names = position (bytes_eq name) names
 abbrev pub with_name : List ℕ → List (List ℕ) → List (List ℕ)
 with_name name names = if has_name name names then names else names ++ name ∷ []
 
--- the place of a name among the names with it: where it stands, or behind them if it is new
+-- the place of a name among the names with it: where it is, or after them if it is new
 abbrev pub place_with : List ℕ → List (List ℕ) → ℕ
 place_with name names = position_or_len (bytes_eq name) names
 
--- some of these words stands among those before it or among the names seen
+-- some of these words is among those before it or among the names seen
 unfoldable pub repeats : List (List ℕ) → List (List ℕ) → Bool
 repeats seen [] = false
 repeats seen (word ∷ words) = has_name word seen || repeats (seen ++ word ∷ []) words
 
--- some word stands twice
+-- some word occurs twice
 abbrev pub has_double : List (List ℕ) → Bool
 has_double words = repeats [] words

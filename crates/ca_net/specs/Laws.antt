@@ -27,7 +27,7 @@ ResponseRises =
     → IsStateBelow s t
     → IsResponse net s n v → IsResponse net t n w → IsBelow v w
 
--- a response never holds for want of paths: to each node some definite path isn't blocked
+-- a response never holds for lack of paths: to each node some definite path isn't blocked
 abbrev pub SomePathIsUnblocked : Type 0
 SomePathIsUnblocked =
     (net : Circuit) (s : List Trit) (n : ℕ) → IsWellFormed net → n < length net.nodes → HasUnblocked net s n

@@ -7,8 +7,7 @@ use Rattle.ca_net.specs.declared.flat_net.NetFault.{NetFault}
 use Rattle.ca_net.specs.declared.flat_net.NetFault.TheVariants.{BadNode, NoMemory}
 use Rattle.ca_net.specs.Circuit.{NamesPast}
 
--- a bad node is named by the first device that names one; want of memory never comes, since no memory is
--- taken
+-- a bad node is named by the first device that names one; memory never runs out, since none is taken
 abbrev pub IsCause : List NodeKind → List Device → NetFault → Type 0
 IsCause nodes devices (BadNode device) = IsFirst (NamesPast (length nodes)) devices device.0
 IsCause nodes devices NoMemory = ⊥

@@ -12,7 +12,7 @@ pub fn response_rises()
     ensures { ResponseRises }
 {}
 
-/// To each node some definite path isn't blocked, so that no response holds for want of paths.
+/// To each node some definite path isn't blocked, so that no response holds for lack of paths.
 pub fn some_path_is_unblocked()
     ensures { SomePathIsUnblocked }
 {}

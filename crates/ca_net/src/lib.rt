@@ -1,5 +1,5 @@
 //! Switch-level networks: values, nodes, devices and states, and the response of a node. The definitions of
-//! the model stand in specs/, from a trit to what every run of a network ends with.
+//! the model are in specs/, from a trit to what every run of a network ends with.
 #![tactic(auto)]
 
 mod device;

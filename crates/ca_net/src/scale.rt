@@ -1,6 +1,6 @@
-//! The scale of sizes and strengths, which stands here alone: each size of a storage node is at least 1 and
-//! below each strength of a device, and that is below the strength of an input node. Nothing else of these
-//! numbers is used, and the law `scale_is_ordered` says in which order they are.
+//! The scale of sizes and strengths, which is here alone: each size of a storage node is at least 1 and below
+//! each strength of a device, and that is below the strength of an input node. Nothing else of these numbers
+//! is used, and the law `scale_is_ordered` says in which order they are.
 
 /// The size of an inner node of a cell.
 pub const INNER_NODE: u8 = 1;

@@ -7,8 +7,8 @@ use ca_verilog::{
 use std::alloc::Global;
 use std::test::Fail;
 
-/// Each text with its declared names, the places of its ports, what it joins and its instances. A bit is told
-/// by its number, and a join by its first two bits and the number of pairs.
+/// Each text with its declared names, the places of its ports, what it joins and its instances. A bit is
+/// given by its number, and a join by its first two bits and the number of pairs.
 const READINGS: [(&[u8], &str); 17] = [
     (
         b"module inv1(a, z); input a; output z;
@@ -194,7 +194,7 @@ fn readings(rt: HostRuntime) -> Result<(), Fail> {
     Ok(())
 }
 
-// A text with so many copies of a part between its front and its end.
+// A text with `count` copies of a part between its front and its end.
 fn repeated(
     alloc: Global,
     front: &[u8],

@@ -4,7 +4,7 @@ use TokenKind::{Constant, Escaped, Name, Number, Sign};
 use ca_lex::TokenKind;
 use ca_token::{Flaw, LexFault, LexKind, Next, line_at, next_token, verilog_tokens};
 
-/// A text whose tokens are these, told by what they are.
+/// A text whose tokens are these, given by what they are.
 const TEXT: &[u8] =
     b"`resetall x\nmodule \\a[0]\t(* k = \"(\" *)(b$1); // c\n wire[12:007]_; assign b=1'b0,1'B1; /* d\n*/ .\\e*\n";
 
@@ -53,7 +53,7 @@ fn tokens_of_a_text(rt: HostRuntime) {
     }
 }
 
-/// Each text with where its faulty token begins, the line that is told, and the kind.
+/// Each text with where its faulty token begins, the line that is reported, and the kind.
 const FAULTS: [(&[u8], usize, usize, LexKind); 16] = [
     (b"a\n \x80", 3, 2, LexKind::NotText),
     (b"a /* b\n\nc", 2, 3, LexKind::Syntax),

@@ -26,7 +26,7 @@ typed_of raw first last typed (inr unfit) = inr unfit.0
 no_dash : (raw : RawCell) (defect : List ℕ) → IsNone (asked_network raw defect) → defect ≢ dash
 no_dash raw defect none = λ same. true≢false (subst (λ word. IsNone (asked_network raw word)) same none)
 
--- want of memory may come anywhere
+-- memory may run out anywhere
 pub no_memory_at_library : (name : List ℕ) (files : Option Files) (before after : ℕ) (fault : Fault) → fault ≡ NoMemory
     → IsLibraryCause name files before after fault
 no_memory_at_library name files before after fault is = rw is (inl tt)

@@ -44,8 +44,8 @@ IsPairCause first last defect (NoDefect typed) raw =
     (typed ≡ defect) × (KeepsRules raw × LacksDefect raw first last defect)
 IsPairCause first last defect _ raw = ⊥
 
--- the same of the cell that a word names in a file; the word told is one of those typed, whatever the store
--- tells
+-- the same of the cell that a word names in a file; the word reported is one of those typed, whatever files
+-- the store knows
 abbrev pub IsVectorCause : List ℕ → List ℕ → List ℕ → List ℕ → List ℕ → Option Files → Fault → Type 0
 IsVectorCause name word first last defect files (BadVector typed) =
     ((typed ≡ first) ⊎ (typed ≡ last))

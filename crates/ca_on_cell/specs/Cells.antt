@@ -11,7 +11,7 @@ use Rattle.ca_load.specs.Files as files
 abbrev pub IsFileWith : Files → List ℕ → (List ℕ → Type 0) → Type 0
 IsFileWith told name Holds = files.IsFileWith told name MAX_CELLS Holds
 
--- the same, where the files are told
+-- the same, where the files are known
 abbrev pub OfFile : Option Files → List ℕ → (List ℕ → Type 0) → Type 0
 OfFile told name Holds = files.OfFile told name MAX_CELLS Holds
 
@@ -23,6 +23,6 @@ HasCell word Holds bytes = IsSomeAnd (cell_called bytes word) Holds
 abbrev pub LacksCell : List ℕ → List ℕ → Type 0
 LacksCell word bytes = IsOk (library_of bytes) × IsNone (cell_called bytes word)
 
--- where the files are told, the word names a subcircuit of the file, and this holds of it
+-- where the files are known, the word names a subcircuit of the file, and this holds of it
 abbrev pub OfCell : Option Files → List ℕ → List ℕ → (RawCell → Type 0) → Type 0
 OfCell files cells word Holds = OfFile files cells (HasCell word Holds)

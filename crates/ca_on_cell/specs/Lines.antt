@@ -1,4 +1,4 @@
--- The lines that tell the work of a command on one cell.
+-- The lines that report the work of a command on one cell.
 use Rattle.std.specs.Prelude.{ℕ, ◌≡◌, List, ◌∷◌, ◌++◌, length, codes, decimal}
 use Rattle.ca_net.specs.Trit.{letter_of}
 use Rattle.ca_matrix.specs.Matrix.{Entries, shape_of, record_count}
@@ -19,8 +19,8 @@ summary_text defects exposable records =
     codes "defects " ++ (decimal defects
     ++ (codes ", exposable " ++ (decimal exposable ++ (codes ", rows " ++ (decimal records ++ codes "\n")))))
 
--- the line that tells of a matrix how many defects it has, how many of them some row shows, and how many
--- records stand in its text behind the header
+-- the line that reports how many defects a matrix has, how many of them some row shows, and how many records
+-- its text has after the header
 pub record IsSummary (matrix : Entries) (text : List ℕ) : Type 0 where
   pub exposable : ℕ
   pub counted : IsNumberOf (IsShownDefect matrix) exposable

@@ -25,9 +25,8 @@ asked_network raw word =
     if bytes_eq word dash then Some (circuit_of raw)
     else option_map (faulty_of raw) (defect_called raw word)
 
--- the values are of the output pins in their order, and each is 0 or 1 exactly where every run of the
--- network for the two vectors ends with it; the output pins are the nodes behind power, ground and the input
--- pins
+-- the values are of the output pins in their order, and each is 0 or 1 exactly where every run of the network
+-- for the two vectors ends with it; the output pins are the nodes after power, ground and the input pins
 pub record AreEnds (raw : RawCell) (first last : List Trit) (values : List PinValue) (net : Circuit)
     : Type 0 where
   pub of_pins : map (λ value. value.pin) values ≡ output_names raw.pins

@@ -14,8 +14,8 @@ use ca_place::rule_place;
 use ca_words::CellWords;
 use std::alloc::Global;
 
-/// What a fault says of the file and the cell of a command. It stands in memory of its own before the file is
-/// opened, so that no fault of the file or of the cell's name is told as want of memory.
+/// What a fault says of the file and the cell of a command. It is in memory of its own before the file is
+/// opened, so that no fault of the file or of the cell's name is reported as out of memory.
 #[derive(Drop)]
 pub struct TypedWords {
     pub cells: Text,
@@ -23,7 +23,7 @@ pub struct TypedWords {
     pub upper_cell: Text,
 }
 
-/// The words that faults of the file and the cell's name are told with.
+/// The words that faults of the file and the cell's name are reported with.
 pub fn typed_words(alloc: Global, words: &CellWords<'_>) -> Result<TypedWords, NoMemory>
     ensures { IfOk result (AreTyped words.now.cells.now words.now.cell.now) }
 {
@@ -34,8 +34,8 @@ pub fn typed_words(alloc: Global, words: &CellWords<'_>) -> Result<TypedWords, N
     })
 }
 
-/// The cell of a name, which may be in any case. Only the place of a rule takes memory: the word stands in
-/// memory of its own, as it was typed and in upper case.
+/// The cell of a name, which may be in any case. Only the place of a rule takes memory: the word is in memory
+/// of its own, as it was typed and in upper case.
 pub fn find_cell<'a>(
     alloc: Global,
     library: &'a Library,

@@ -1,4 +1,4 @@
-//! The commands on one cell: what each finds in its file, and the lines that tell it.
+//! The commands on one cell: what each finds in its file, and the lines that report it.
 #![tactic(auto)]
 
 mod inputs;

@@ -1,4 +1,4 @@
-//! The lines that tell names, and what a matrix holds.
+//! The lines that report names, and what a matrix holds.
 ghost use Rattle.std.specs.Prelude.{◌≡◌, ◌++◌, decimal, flat_map, IfOk, OnOk};
 ghost use Rattle.ca_on_cell.specs.Lines.{line_of_name, IsSummary};
 
@@ -28,7 +28,7 @@ fn add_line(text: &mut Text, name: &Text) -> Result<(), NoMemory>
     text.append(b"\n")
 }
 
-/// The line that tells what a matrix holds.
+/// The line that reports what a matrix holds.
 pub fn summary(alloc: Global, matrix: &Matrix) -> Result<Text, NoMemory>
     ensures { IfOk result (IsSummary matrix.now) }
 {

@@ -31,7 +31,7 @@ pub fn values_of<N: CellNet>(
     let pins = cell.raw().output_names(alloc)?;
     let mut work = Work::reserve(alloc, net.node_count(), net.device_count())?;
     let waves = respond(net, pairs(&first, &last).as_slice(), &mut work);
-    // What isn't needed any more is let go here, and not at each want of memory below.
+    // What isn't needed any more is dropped here, and not wherever memory runs out below.
     drop(work);
     drop(first);
     drop(last);

@@ -55,7 +55,7 @@ impl PinValues {
         Ok(self.values.push(value)?)
     }
 
-    // The lines that tell the values.
+    // The lines that report the values.
     pub fn lines(&self, alloc: Global) -> Result<Text, NoMemory>
         ensures { IfOk result (λ text. text ≡ flat_map line_of_pin self.now) }
     {

@@ -172,7 +172,7 @@ pub reads_allowed : (net : Circuit) (v1 v2 : List Trit) (places : List Place) (t
 reads_allowed net v1 v2 places text (Ok events) are reads = read_events_are_allowed_lem net v1 v2 places text events are reads
 reads_allowed net v1 v2 places text (Err fault) are reads = tt
 
--- what is answered for want of memory is free
+-- what is answered when out of memory is always allowed
 pub memory_is_free : (net : Circuit) (v1 v2 : List Trit) (text : List ℕ) (answer : Result (List Event) OrderFault)
     → IsErrAnd answer (λ given. given ≡ fault.NoMemory) → ReadsFor net v1 v2 text answer
 memory_is_free net v1 v2 text (Ok events) is = absurd is

@@ -27,7 +27,7 @@ unfoldable pub word_len : List ℕ → ℕ
 word_len [] = 0
 word_len (byte ∷ bytes) = elim (byte == 32) [ true ↦ 0 | false ↦ suc (word_len bytes) ]
 
--- the words of a line: what stands between two spaces, also where that is nothing
+-- the words of a line: what is between two spaces, also where that is nothing
 unfoldable pub words_of : List ℕ → List (List ℕ)
 words_of [] = [] ∷ []
 words_of (byte ∷ bytes) = elim (byte == 32) [
@@ -49,7 +49,7 @@ below number count = if nat_lt number count then Some (record { 0 = number }) el
 abbrev pub node_of : List Place → List ℕ → Option NodeId
 node_of places word = if is_number word then below (number_of word) (length places) else None
 
--- a node before others, where both are told
+-- a node before others, where both are known
 abbrev pub with_node : Option NodeId → Option (List NodeId) → Option (List NodeId)
 with_node None nodes = None
 with_node (Some node) None = None

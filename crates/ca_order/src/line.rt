@@ -24,7 +24,7 @@ fn line_len(text: &[u8]) -> usize
     len
 }
 
-/// The first line of a text, and the text behind it.
+/// The first line of a text, and the text after it.
 pub(crate) fn cut_line(text: &[u8]) -> (&[u8], &[u8])
     requires { 0 < length text.now }
     ensures { lines_of text.now ≡ result.0.now ∷ lines_of result.1.now }
@@ -55,7 +55,7 @@ fn word_len(text: &[u8]) -> usize
     len
 }
 
-/// The first word of a line, and what stands behind the space behind it.
+/// The first word of a line, and what follows the space after it.
 pub(crate) fn cut_word(text: &[u8]) -> (&[u8], Option<&[u8]>)
     ensures { MatchOption result.1 (words_of text.now ≡ result.0.now ∷ [])
         (λ rest. (words_of text.now ≡ result.0.now ∷ words_of rest.now)

@@ -33,7 +33,7 @@ pub fn read_order(alloc: Global, places: &[Place], bytes: &[u8]) -> Result<List<
         events.push(event)?;
         rest = behind;
     }
-    // No text has so many lines.
+    // No text has that many lines.
     Err(OrderFault::NoMemory)
 }
 

@@ -64,7 +64,7 @@ outputs_more outputs_at xs k x at =
     ∙ map-append (λ (output : Output). output.name) (flat_map outputs_at (take k xs)) (flat_map outputs_at (x ∷ []))
     ∙ ap (λ last. names_of (flat_map outputs_at (take k xs)) ++ names_of last) (append-nil (outputs_at x))
 
--- names behind others, with those of the next
+-- names after others, with those of the next
 pub names_more : {X : Type 0} (outputs_at : X → List Output) (xs : List X) (k : ℕ) (others before after : List (List ℕ))
     → before ≡ others ++ names_of (flat_map outputs_at (take k xs))
     → IsSomeAnd (slice_get xs k) (λ x. after ≡ before ++ names_of (outputs_at x))
@@ -79,7 +79,7 @@ names_more {X} outputs_at xs k others before after so_far grown = by (slice_get 
         ∙ append_assoc others (names_of (flat_map outputs_at (take k xs))) (names_of (outputs_at x))
         ∙ ap (λ names. others ++ names) (sym (outputs_more outputs_at xs k x at))
 
--- the names of all instances' outputs, behind those of port bits
+-- the names of all instances' outputs, after those of port bits
 pub all_names : (chip : Chip) (u : ℕ) (names : List (List ℕ))
     → names ≡ names_of (observed_ports chip) ++ names_of (flat_map part_outputs (take u chip.parts))
     → length chip.parts ≤ u → names ≡ output_names chip

@@ -53,7 +53,7 @@ same_from words others from (suc count) same =
     ∙ ap (λ (bits : List Bool). bit_in others from ∷ bits)
     (same_from words others (from + 1) count (λ k low high. same k (omega arith) (omega arith)))
 
--- words that differ in the next bit alone give the list with that bit behind it
+-- words that differ in the next bit alone give the list with that bit after it
 pub bit_added : (words others : List ℕ) (count : ℕ) (bit : Bool) → bit_in others count ≡ bit
     → ((k : ℕ) → k < count → bit_in others k ≡ bit_in words k)
     → bits_from others 0 (count + 1) ≡ bits_from words 0 count ++ bit ∷ []

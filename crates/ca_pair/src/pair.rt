@@ -10,7 +10,7 @@ use std::alloc::Global;
 use std::marker::Model;
 
 /// The pattern bits of a chip, all of them set: those of the first vector, and then those of the second. They
-/// stand in words, one bit each.
+/// are in words, one bit each.
 #[derive(Drop, Debug)]
 pub struct Pair {
     words: Vec<u64>,
@@ -42,7 +42,7 @@ impl Pair {
         }
     }
 
-    /// Appends a bit. Want of memory is also told where there are as many bits as a `usize` counts.
+    /// Appends a bit. Also answers out of memory where there are as many bits as a `usize` counts.
     pub fn push(&mut self, bit: bool) -> Result<(), NoMemory>
         ensures ok { OnOk result (self.new ≡ self.old ++ bit ∷ []) }
         ensures err { OnErr result (self.new ≡ self.old) }
@@ -72,7 +72,7 @@ impl Pair {
     }
 }
 
-// Appends a word where so many bits fill the words.
+// Appends a word where `bits` bits fill the words.
 fn make_room(words: &mut Vec<u64>, bits: usize) -> Result<(), NoMemory>
     requires { bits ≤ 64 * vec_len words.old }
     ensures room { OnOk result (bits / 64 < length words.new.items) }

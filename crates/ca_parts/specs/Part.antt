@@ -1,4 +1,4 @@
--- A network that stands in another with its nodes renamed.
+-- A network that is in another with its nodes renamed.
 use Rattle.std.specs.Prelude.{ℕ, ◌≡◌, ◌<◌, ◌⊎◌, length}
 use Rattle.std.specs.List.{Contains}
 use Rattle.ca_net.specs.declared.device.Device.{Device}
@@ -18,8 +18,8 @@ moved to d = record {
 abbrev pub OnChannel : Circuit → ℕ → Type 0
 OnChannel net n = IsStorage net n ⊎ ((d : Device) × Contains net.devices d × ((d.a.0 ≡ n) ⊎ (d.b.0 ≡ n)))
 
--- The network c stands in f with its nodes renamed. Two nodes may become one where no device joins them, as
--- two input pins on one net. The storage nodes of c are joined in f by the devices of c alone.
+-- The network c is in f with its nodes renamed. Two nodes may become one where no device joins them, as two
+-- input pins on one net. The storage nodes of c are joined in f by the devices of c alone.
 pub record IsPart (c f : Circuit) (to : ℕ → ℕ) : Type 0 where
   pub within : (n : ℕ) → n < length c.nodes → to n < length f.nodes
   pub distinct : (m n : ℕ) → OnChannel c m → OnChannel c n → to m ≡ to n → m ≡ n

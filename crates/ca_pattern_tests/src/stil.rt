@@ -379,7 +379,7 @@ fn text_with(
     Ok(Some(write_stil(alloc, chip, pairs, expected)?))
 }
 
-// The same with values as letters. Here and below each thing is let go at one place, since that is dear to
+// The same with values as letters. Each value is dropped in one place here and below: more places are slow to
 // prove.
 fn text_for(
     alloc: Global,

@@ -34,7 +34,7 @@ are_within count (node ∷ nodes) given =
     All-cons (IsWithin count) node nodes (given node.0 (contains_head node.0 (numbers nodes)))
     (are_within count nodes (λ n has. given n (contains_tail node.0 (numbers nodes) n has)))
 
--- the nodes behind the first are in range after a value was written
+-- the nodes after the first are in range after a value was written
 pub later_within : (s : List Trit) (node : NodeId) (nodes : List NodeId) (v : Trit) → All (IsWithin (length s)) (node ∷ nodes)
     → All (IsWithin (length (slice_set s node.0 v))) nodes
 later_within s node nodes v within =

@@ -22,7 +22,7 @@ pub record IsStart (net : Circuit) (v s : List Trit) : Type 0 where
 abbrev pub all_nodes : Circuit → List ℕ
 all_nodes net = range_with_len 0 (length net.nodes)
 
--- so many rounds, each of which settles all nodes at once
+-- this many rounds, each of which settles all nodes at once
 unfoldable pub rounds : Circuit → ℕ → List Event
 rounds net zero = []
 rounds net (suc count) = Settle (all_nodes net) ∷ rounds net count

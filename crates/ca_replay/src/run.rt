@@ -39,7 +39,7 @@ pub fn replay<N: Network>(
     ensures pair { IfOk result (PairRun (N.circuit net.now) first.now last.now) }
 {
     let nodes = net.node_count();
-    // The largest comes last: each that is there when memory is wanting is let go once more.
+    // The largest comes last: each value that exists when memory runs out is dropped in one more place.
     let mut at = start(alloc, net, first)?;
     let mut next = State::unknown(alloc, nodes)?;
     let mut scratch = Scratch::reserve(alloc, nodes, net.device_count())?;

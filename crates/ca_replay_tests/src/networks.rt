@@ -101,7 +101,7 @@ pub(crate) fn inputs_of(alloc: Global, net: &FlatNet) -> Result<List<NodeId>, No
     Ok(inputs)
 }
 
-// The vector of so many nodes with these values at the first of them, and X at the others.
+// The vector of `nodes` nodes with these values at the first of them, and X at the others.
 pub(crate) fn vector(alloc: Global, nodes: usize, values: &[Trit]) -> Result<State, NoMemory>
     ensures { IfOk result (λ vector. length vector ≡ nodes) }
 {
@@ -143,7 +143,7 @@ pub(crate) const GOOD: [Part; 18] = [
     N(9, 13, 1),
 ];
 
-// The drain of the transistor from power to z whose gate is a stands on the added node.
+// The drain of the transistor from power to z whose gate is a is on the added node.
 pub(crate) const OPENED: [Part; 18] = [
     P(3, 6, 0),
     N(3, 6, 1),

@@ -106,8 +106,8 @@ static REFUSED: [(&[u8], usize); 28] = [
     (b"settle 6\nset 0 1", 2),
 ];
 
-// Whether the events that a text reads as between two vectors are these. Here and below each thing is let go
-// at one place, since that is dear to prove.
+// Whether the events that a text reads as between two vectors are these. Each value is dropped in one place
+// here and below: more places are slow to prove.
 fn reads_as(
     alloc: Global,
     net: &FlatNet,
@@ -183,7 +183,7 @@ fn lines_are_read_up_to_the_first_that_is_none(rt: HostRuntime) {
     drop(net);
 }
 
-// So many lines.
+// `count` lines.
 fn lines(alloc: Global, count: usize) -> Result<Vec<u8>, NoMemory> {
     let mut text = Vec::new(alloc);
     for _ in 0..count {
@@ -192,7 +192,7 @@ fn lines(alloc: Global, count: usize) -> Result<Vec<u8>, NoMemory> {
     Ok(text)
 }
 
-// How many events so many lines read as, where both vectors are the same.
+// How many events `count` lines read as, where both vectors are the same.
 fn count_lines(
     rt: &impl Abort,
     alloc: Global,

@@ -94,7 +94,7 @@ fn end_of(
 }
 
 // The value of z with which the run ends that an order names, from the first values of a, s and d to the
-// last. Each thing is let go at one place, since that is dear to prove.
+// last. Each value is dropped in one place: more places are slow to prove.
 fn z_of(
     rt: &impl Abort,
     alloc: Global,

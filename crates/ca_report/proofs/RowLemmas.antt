@@ -7,7 +7,7 @@ use Rattle.std.proofs.lemmas.List.{take_all, take_more}
 use Rattle.std.proofs.lemmas.List.Elements.{All-get_or, All-push}
 use Rattle.std.proofs.lemmas.Option.{get_or_from_slice_get, slice_get_within, slice_get-get_or}
 
--- what is told of the entry at a place, as an equation
+-- what is said about the entry at a place, as an equation
 pub told : {T : Type 0} (at : Option T) (P : T → Type 0) → IsSomeAnd at P → (x : T) × (at ≡ Some x) × P x
 told None P there = absurd there
 told (Some x) P there = (x, refl, there)

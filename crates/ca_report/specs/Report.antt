@@ -41,13 +41,13 @@ record_of outputs row =
 unfoldable pub report_text : List (List ℕ) → List ReportRow → List ℕ
 report_text outputs rows = written (header ∷ map (record_of outputs) rows)
 
--- an output that is credited is one of so many
+-- an output that is credited is one of `outputs` outputs
 abbrev pub IsVerdictOf : ℕ → Verdict → Type 0
 IsVerdictOf outputs (Credited pair output) = output < outputs
 IsVerdictOf outputs Unexposable = Unit {0}
 IsVerdictOf outputs Untestable = Unit {0}
 IsVerdictOf outputs Aborted = Unit {0}
 
--- the output that the row credits, if it does, is one of so many
+-- the output that the row credits, if it does, is one of `outputs` outputs
 abbrev pub IsRowOf : ℕ → ReportRow → Type 0
 IsRowOf outputs row = IsVerdictOf outputs row.verdict

@@ -1,4 +1,4 @@
-//! What a report tells of, however it is kept.
+//! What a report says, however it is kept.
 
 ghost use Rattle.std.specs.Prelude.{◌≡◌, ◌<◌, length, slice_get, IsSomeAnd, IfOk};
 

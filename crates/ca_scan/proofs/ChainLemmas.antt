@@ -99,7 +99,7 @@ one_run chip net (u ∷ chain) (v ∷ other) driven runs also =
     let behind = one_run chip runs.0 chain other (so_drives chip runs.0 u runs.3) runs.4 rest in
     ap (λ w. w ∷ chain) same ∙ ap (λ c. v ∷ c) behind
 
--- what runs behind a scan instance of a run
+-- what runs after a scan instance of a run
 record RunsBehind (chip : Chip) (u : ℕ) (chain : List ℕ) : Type 0 where
   pub next : ℕ
   pub there : IsOnPin chip So u next
@@ -123,7 +123,7 @@ behind chip net (first ∷ chain) u runs there = by (eqb u first) refl there (be
         let found = later there in
         record { next = found.next; there = found.there; rest = found.rest; runs = found.runs; shorter = omega (arith, found.shorter) }
 
--- the first scan instance of a run isn't behind itself
+-- the first scan instance of a run doesn't come after itself
 not_again : (chip : Chip) (net u : ℕ) (chain : List ℕ) → RunsOut chip net (u ∷ chain) → has chain u ≡ true → ⊥
 not_again chip net u chain runs again =
     let found = behind chip runs.0 chain u runs.4 again in

@@ -89,7 +89,7 @@ five_nets chip u se ck hold si so is_se is_ck is_hold is_si is_so = by (slice_ge
     by None one two three four five = absurd one
     by (Some part) one two three four five = of_body part.body one two three four five
 
--- what stands behind others
+-- what follows others
 at_end : (before : List Part) (part : Part) (more : List Part) → slice_get (before ++ part ∷ more) (length before) ≡ Some part
 at_end [] part more = refl
 at_end (first ∷ before) part more = at_end before part more

@@ -38,7 +38,7 @@ pub take_fields : (xs : List (List ℕ)) (n : ℕ) → n ≡ length xs → take 
 take_fields [] n all = rw all refl
 take_fields (x ∷ xs) n all = rw all (ap (λ ys. x ∷ ys) (take_fields xs (length xs) refl))
 
--- behind a header come the rows
+-- after a header come the rows
 pub behind_header : (fields : List (List ℕ)) (records : List (List (List ℕ))) → is_header fields ≡ true
     → rows_of (fields ∷ records) ≡ steps_from record_step [] (numbered 2 records)
 behind_header fields records is = by (is_header fields) is

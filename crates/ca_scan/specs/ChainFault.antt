@@ -12,7 +12,7 @@ pub record AreAllChains (chip : Chip) (chains : List (List ℕ)) : Type 0 where
   pub on_chains : AreOnChains chip
   pub few : length chains ≤ MOST_CHAINS
 
--- each scan instance is on a whole chain, and there are so many of these, more than 64
+-- each scan instance is on a whole chain, and there are `count` of these, more than 64
 pub record AreTooMany (chip : Chip) (count : ℕ) : Type 0 where
   pub chains : List (List ℕ)
   pub are : AreChains chip chains
@@ -26,7 +26,7 @@ IsChainCause chip (ChainBroken instance) = IsFirstOff chip instance.0
 IsChainCause chip (TooManyChains count) = AreTooMany chip count
 IsChainCause chip NoMemory = Unit {0}
 
--- a chip has one list of chains at most, one cause at most to have none, and never both; want of memory aside
+-- a chip has one list of chains at most, one cause at most to have none, and never both; out of memory aside
 pub record HasOneAnswer (chip : Chip) : Type 0 where
   pub one_list : (chains others : List (List ℕ)) → AreAllChains chip chains → AreAllChains chip others
       → chains ≡ others

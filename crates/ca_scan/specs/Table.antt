@@ -116,7 +116,7 @@ unfoldable pub table_of : List ℕ → Result (List ScanRow) ℕ
 table_of text = rows_of (text_records text)
 
 -- what the code answers: the rows that the text reads as, or the number of the first record that breaks the
--- form; want of memory is free
+-- form; out of memory is always allowed
 abbrev pub Reads : Result (List ScanRow) ScanFault → Result (List ScanRow) ℕ → Type 0
 Reads (Ok rows) wanted = wanted ≡ Ok rows
 Reads (Err (fault.BadScanRow row)) wanted = wanted ≡ Err row

@@ -28,7 +28,7 @@ impl From<NoMemory> for ScanFault {
 pub enum ChainFault {
     /// This scan instance is the first, in netlist order, that is on no whole chain.
     ChainBroken { instance: InstanceId },
-    /// Each scan instance is on a whole chain, and there are so many chains, more than 64.
+    /// Each scan instance is on a whole chain, and there are `count` chains, more than 64.
     TooManyChains { count: usize },
     NoMemory,
 }

@@ -195,8 +195,8 @@ fn three(
     Ok((first, second, third))
 }
 
-// The row of these fields, three by three, since each that is there when memory is wanting is let go once
-// more.
+// The row of these fields, three by three, since each value that exists when memory runs out is dropped in
+// one more place.
 #[tactic(auto, unfolding(crate::specs::Table::row_of))]
 fn row_of(
     alloc: Global,

@@ -63,7 +63,7 @@ fn add(
     Ok(true)
 }
 
-// Reads the records behind those that were read, and adds their rows to a table of none.
+// Reads the records after those that were read, and adds their rows to a table of none.
 fn read_rows(
     alloc: Global,
     reader: &mut Reader<&[u8]>,
@@ -96,12 +96,12 @@ fn read_rows(
             return Err(ScanFault::BadScanRow { row });
         }
     }
-    // No text has so many records.
+    // No text has that many records.
     Err(ScanFault::NoMemory)
 }
 
-// The scan table of the records behind those that were read. Here and below each large value is let go at
-// one place, since that is dear to prove.
+// The scan table of the records after those that were read. Each large value is dropped in one place here and
+// below: more places are slow to prove.
 fn table_behind(
     alloc: Global,
     reader: &mut Reader<&[u8]>,

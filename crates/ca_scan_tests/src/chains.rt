@@ -81,8 +81,8 @@ fn port_bits(alloc: Global, ports: &[Port]) -> Option<Vec<PortBit>> {
     Some(bits)
 }
 
-// The chip of a draft, if it may be wired. Here and below each thing is let go at one place, since that is
-// dear to prove.
+// The chip of a draft, if it may be wired. Each value is dropped in one place here and below: more places are
+// slow to prove.
 fn wired(alloc: Global, draft: Draft) -> Option<Chip>
     requires { IsDrafted draft }
 {
@@ -101,7 +101,7 @@ fn drafted(alloc: Global, draft: Draft) -> Option<Chip> {
     }
 }
 
-// The draft of so many nets, instances and ports.
+// The draft of `nets` nets, and of these instances and ports.
 fn draft(alloc: Global, nets: usize, parts: Vec<Part>, bits: Vec<PortBit>) -> Option<Draft> {
     match Library::new(alloc) {
         Ok(library) => Some(Draft::new(library, nets, None, None, parts, bits)),
@@ -109,7 +109,7 @@ fn draft(alloc: Global, nets: usize, parts: Vec<Part>, bits: Vec<PortBit>) -> Op
     }
 }
 
-// The same, with the ports as they are told.
+// The same, with the ports as they are given.
 fn draft_of_parts(alloc: Global, nets: usize, parts: Vec<Part>, ports: &[Port]) -> Option<Draft> {
     match port_bits(alloc, ports) {
         Some(bits) => draft(alloc, nets, parts, bits),
@@ -117,7 +117,7 @@ fn draft_of_parts(alloc: Global, nets: usize, parts: Vec<Part>, ports: &[Port]) 
     }
 }
 
-// The chip of so many nets, of which the first three are those of the scan enable, the clock and the hold.
+// The chip of `nets` nets, of which the first three are those of the scan enable, the clock and the hold.
 fn chip(alloc: Global, nets: usize, scans: &[Scan], ports: &[Port]) -> Option<Chip> {
     let parts = parts(alloc, scans)?;
     let draft = draft_of_parts(alloc, nets, parts, ports)?;
@@ -164,7 +164,7 @@ fn has_chains(alloc: Global, chip: &Chip, lists: Lists) -> bool {
     is_so
 }
 
-// Whether the chip of so many nets has these chains, if there is such a chip.
+// Whether the chip of `nets` nets has these chains, if there is such a chip.
 fn has_chains_of(
     alloc: Global,
     nets: usize,

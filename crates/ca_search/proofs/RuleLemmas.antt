@@ -16,7 +16,7 @@ use Rattle.ca_flat.proofs.CheckedCodes.{plain_is_of_pair_lem}
 use Rattle.ca_search.specs.SearchRules.{IsPlainPair, MayLeave, MayDecide}
 use Rattle.ca_search.specs.Laws.{SearchCodesAreCodes, SearchCodesAreChecked}
 
--- tokens that may stand by stricter rules may stand
+-- tokens that stricter rules allow are allowed
 reads_wider : (strict wide : Rules) → ((pair : List Trit) → strict.leaf pair → wide.leaf pair)
     → ((pair : List Trit) (bit : ℕ) → strict.branch pair bit → wide.branch pair bit)
     → (code : List Token) (from to : Reading) → Reads strict code from to → Reads wide code from to
@@ -29,7 +29,7 @@ reads_wider strict wide leaf branch (Branch bit first ∷ code) (At pair later) 
   reads_wider strict wide leaf branch code (behind (Branch bit first) pair later) to reads.1,
 )
 
--- the same where it can't be that a leaf may not stand
+-- the same where it can't be that a leaf is not allowed
 reads_stable : (strict wide : Rules)
     → ((pair : List Trit) → strict.leaf pair → (wide.leaf pair → ⊥) → ⊥)
     → ((pair : List Trit) (bit : ℕ) → strict.branch pair bit → wide.branch pair bit)

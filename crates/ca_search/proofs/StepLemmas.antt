@@ -151,12 +151,12 @@ pub turns_out : (old now : Judged) (before : List Decision) → TurnsBack old no
 unfolding later_after
 turns_out old now before back = back.left
 
--- after a leaf the reading stands at the next pair, or the code is whole
+-- after a leaf the reading is at the next pair, or the code is whole
 abbrev pub IsLeftAt : Bool → Judged → List Token → List Decision → ℕ → ℕ → Type 0
 IsLeftAt true new code decisions branches budget = Stands new code decisions branches budget
 IsLeftAt false new code decisions branches budget = IsWholeBy (rules_for new.chip new.aim) new.chip code
 
--- a leaf, and the turn behind it
+-- a leaf, and the turn after it
 left_at : (b : Bool) (old : Judged) (pair : List Trit) (code : List Token) (ds after : List Decision)
     (branches budget : ℕ) → Stands old code ds branches budget → MayLeaveHere old
     → IsTurn b old (with_pair old pair) ds after → length after ≤ length ds

@@ -115,13 +115,13 @@ pub left_trail : (b : Bool) (new : Judged) (trail : Trail)
 left_trail true new trail stands bits = record { stands = stands; bits = bits }
 left_trail false new trail whole bits = whole
 
--- the code is a front that stands at the pair in hand
+-- the code is a front that is at the pair in hand
 pub front_of : (judged : Judged) (trail : Trail) → TrailStands judged trail
     → IsFrontBy (rules_for judged.chip judged.aim) judged.chip (tokens_of trail.numbers.items) judged.pair
 front_of judged trail stands =
     record { later = still_later judged trail.decisions.items; reads = stands.stands.reads }
 
--- it is spent where all branches of the budget stand and one more might
+-- it is spent where all branches of the budget are there and one more could be
 pub spent_of : (judged : Judged) (trail : Trail) (bit : ℕ) → TrailStands judged trail → MayDecideHere judged bit
     → trail.branches ≡ trail.budget
     → IsSpentBy (rules_for judged.chip judged.aim) judged.chip trail.budget (tokens_of trail.numbers.items)

@@ -1,4 +1,4 @@
--- What a search is told of the partial pair in hand.
+-- What a search learns about the partial pair in hand.
 use Rattle.std.specs.Prelude.{ℕ, ◌≡◌, List, Option, Some, None}
 use Rattle.ca_net.specs.declared.trit.Trit.{Trit}
 use Rattle.ca_flat.specs.declared.chip_defect.ChipDefect.{ChipDefect}
@@ -46,7 +46,7 @@ abbrev pub IsPlainFor : Chip → Option ChipDefect → List Trit → Type 0
 IsPlainFor chip None pair = ⊥
 IsPlainFor chip (Some defect) pair = IsPlainPair chip defect pair
 
--- the pair in hand stands so
+-- this is how the pair in hand stands
 abbrev pub IsStanding : Judged → Standing → Type 0
 IsStanding judged Shown = IsShownFor judged.chip judged.aim judged.pair
 IsStanding judged Settled = IsSettledFor judged.chip judged.aim judged.pair
@@ -57,7 +57,7 @@ abbrev pub IsStep : Judged → Step → Type 0
 IsStep judged (Branch bit first) = MayDecideFor judged.chip judged.aim judged.pair bit
 IsStep judged RuledOut = IsPlainFor judged.chip judged.aim judged.pair
 
--- a leaf may stand at the pair in hand
+-- a leaf is allowed at the pair in hand
 abbrev pub MayLeaveHere : Judged → Type 0
 MayLeaveHere judged = MayLeaveFor judged.chip judged.aim judged.pair
 

@@ -15,11 +15,11 @@ abbrev pub IsPlainPair : Chip → ChipDefect → List Trit → Type 0
 IsPlainPair chip defect pair = (good : FlatWaves chip None pair) (faulty : FlatWaves chip (Some defect) pair)
     → IsPlainlyRuledOut good faulty
 
--- a leaf may stand where the pair is settled or plainly ruled out
+-- a leaf is allowed where the pair is settled or plainly ruled out
 abbrev pub MayLeave : Chip → ChipDefect → List Trit → Type 0
 MayLeave chip defect pair = IsSettledPair chip defect pair ⊎ IsPlainPair chip defect pair
 
--- a branch may stand at an open pair that isn't plainly ruled out, on an unset bit of the support
+-- a branch is allowed at an open pair that isn't plainly ruled out, on an unset bit of the support
 pub record MayDecide (chip : Chip) (defect : ChipDefect) (pair : List Trit) (bit : ℕ) : Type 0 where
   pub may : MayBranch chip defect pair bit
   pub not_plain : IsPlainPair chip defect pair → ⊥
@@ -28,7 +28,7 @@ pub record MayDecide (chip : Chip) (defect : ChipDefect) (pair : List Trit) (bit
 abbrev pub search_rules : Chip → ChipDefect → Rules
 search_rules chip defect = record { leaf = MayLeave chip defect; branch = MayDecide chip defect }
 
--- a leaf may stand for the defect that is aimed at, if there is one
+-- a leaf is allowed for the defect that is aimed at, if there is one
 abbrev pub MayLeaveFor : Chip → Option ChipDefect → List Trit → Type 0
 MayLeaveFor chip None pair = ⊥
 MayLeaveFor chip (Some defect) pair = MayLeave chip defect pair
@@ -38,6 +38,6 @@ abbrev pub MayDecideFor : Chip → Option ChipDefect → List Trit → ℕ → T
 MayDecideFor chip None pair bit = ⊥
 MayDecideFor chip (Some defect) pair bit = MayDecide chip defect pair bit
 
--- the rules for the defect that is aimed at; where none is, no token may stand
+-- the rules for the defect that is aimed at; where none is, no token is allowed
 abbrev pub rules_for : Chip → Option ChipDefect → Rules
 rules_for chip aim = record { leaf = MayLeaveFor chip aim; branch = MayDecideFor chip aim }

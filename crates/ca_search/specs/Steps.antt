@@ -1,4 +1,4 @@
--- What only proofs of code cite: the decisions of a search, and how they stand to its code.
+-- What only proofs of code cite: the decisions of a search, and how they relate to its code.
 use Rattle.std.specs.Prelude.{ℕ, ◌≡◌, ◌<◌, ◌≤◌, Bool, true, false, not, cond, List, [], ◌∷◌, length}
 use Rattle.ca_net.specs.declared.trit.Trit.{Trit}
 use Rattle.ca_net.specs.declared.trit.Trit.TheVariants.{X}
@@ -42,7 +42,7 @@ pub record Follows (judged : Judged) (decisions : List Decision) : Type 0 where
 abbrev pub still_later : Judged → List Decision → List (List Trit)
 still_later judged decisions = later_after decisions (unset_pair judged.chip) []
 
--- the code is a front whose reading stands at the pair in hand, with the pairs that the decisions leave
+-- the code is a front whose reading is at the pair in hand, with the pairs that the decisions leave
 pub record Stands (judged : Judged) (code : List Token) (decisions : List Decision) (branches budget : ℕ)
     : Type 0 where
   pub follows : Follows judged decisions
@@ -62,7 +62,7 @@ pub record IsSameRoom (old new : Trail) : Type 0 where
   pub budget : new.budget ≡ old.budget
   pub bits : new.bits ≡ old.bits
 
--- what to do at a pair: stop where it is shown, leave it where a leaf may stand, or decide a bit
+-- what to do at a pair: stop where it is shown, leave it where a leaf is allowed, or decide a bit
 abbrev pub IsMove : Judged → Move → Type 0
 IsMove judged Stop = IsShownFor judged.chip judged.aim judged.pair
 IsMove judged Leave = MayLeaveHere judged
@@ -78,7 +78,7 @@ abbrev pub IsTurn : Bool → Judged → Judged → List Decision → List Decisi
 IsTurn true old new before after = TurnsTo old new before after
 IsTurn false old new before after = still_later old before ≡ []
 
--- after a leaf the search stands at the next pair, or the code is whole
+-- after a leaf the search is at the next pair, or the code is whole
 abbrev pub IsLeft : Bool → Judged → Trail → Type 0
 IsLeft true new trail = TrailStands new trail
 IsLeft false new trail = IsWholeBy (rules_for new.chip new.aim) new.chip (tokens_of trail.numbers.items)

@@ -28,7 +28,7 @@ impl Model for Search {
 }
 
 impl Search {
-    /// Takes the room for a search with so many branches at most.
+    /// Takes the room for a search with at most `budget` branches.
     pub fn reserve(alloc: Global, budget: u32) -> Result<Self, NoMemory>
         ensures { IfOk result (λ search. search.budget ≡ budget) }
     {

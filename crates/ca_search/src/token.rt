@@ -6,7 +6,7 @@ ghost use Rattle.ca_search.specs.Tokens.{token_of, IsNarrow};
 
 use ca_flat::Token;
 
-/// So many pattern bits at most have tokens of two bytes.
+/// Up to this many pattern bits, tokens have two bytes.
 pub const MOST_PATTERN_BITS: usize = 32_767;
 
 // The number of a token: 0 for a leaf.

@@ -1,4 +1,4 @@
-//! The decisions at which a search stands, and the numbers of the tokens that it has written.
+//! The current decisions of a search, and the numbers of the tokens that it has written.
 
 ghost use Rattle.std.specs.Prelude.{◌+◌, ◌*◌, ◌≤◌, vec_capacity};
 ghost use Rattle.ca_search.specs.declared.token.TheConstants.{MOST_PATTERN_BITS};
@@ -19,8 +19,8 @@ pub(crate) struct Decision {
     pub(crate) is_second: bool,
 }
 
-// The room of a search, the numbers of the tokens that it has written, and the decisions at which it stands,
-// the oldest first.
+// The room of a search, the numbers of the tokens that it has written, and its current decisions, the oldest
+// first.
 #[derive(Drop, Debug)]
 pub(crate) struct Trail {
     pub(crate) budget: u32,

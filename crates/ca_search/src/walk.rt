@@ -40,7 +40,7 @@ fn decide<J: Judge>(judge: &mut J) -> Move
 }
 
 impl Trail {
-    /// Takes the room for so many branches.
+    /// Takes the room for `budget` branches.
     pub(crate) fn reserve(alloc: Global, budget: u32) -> Result<Self, NoMemory>
         ensures { IfOk result (λ trail. trail.budget ≡ budget) }
     {

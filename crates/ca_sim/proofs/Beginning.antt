@@ -43,7 +43,7 @@ constants_none chip count waves count_is is = (
   (λ net within. ap (λ list. wave_at list net) is ∙ get_or-replicate count net unknown_wave unknown_wave (omega arith)),
 )
 
--- one more constant, which stands before the others
+-- one more constant, which comes before the others
 pub constants_more : (chip : Chip) (k : ℕ) (constant : Constant) (wave : Wave) (old new : List Wave)
     → slice_get chip.constants k ≡ Some constant → constant.net < length chip.nets
     → wave ≡ pair_of constant.value constant.value → new ≡ slice_set old constant.net wave

@@ -41,7 +41,7 @@ limits_over net v1 vm v2 w1 wm w2 first middle last h1 hm h2 limits = record {
   };
 }
 
--- values that are given to input nodes which all stand first are at their own places
+-- values that are given to input nodes which all come first are at their own places
 pub at_first_inputs : (kinds : List NodeKind) (values : List Trit) (n : ℕ) → n < length kinds
     → ((m : ℕ) → m ≤ n → get_or kinds m Input ≡ Input) → value_at (at_inputs kinds values) n ≡ value_at values n
 at_first_inputs [] values n lt all = absurd (omega arith)

@@ -42,7 +42,7 @@ reader_placed chip place_of number_of linked u net reads = record {
   ];
 }
 
--- so many of an instance's output nets have their waves, and each other net has the wave that it had
+-- the first `end` of an instance's output nets have their waves, and each other net has the wave that it had
 pub record IsWrittenTo (chip : Chip) (place_of : ℕ → ℕ) (u end : ℕ) (outputs : List Wave) (old new : Network) : Type 0 where
   pub count : length new.waves ≡ length old.waves
   pub written : (output : ℕ) → output < end → wave_at new.waves (output_net chip u output) ≡ wave_at outputs output

@@ -26,6 +26,6 @@ HoldsTrue chip place_of number_of (Some entry) =
 abbrev pub HoldTrue : Chip → (ℕ → ℕ) → (ℕ → ℕ) → List (Option Entry) → Type 0
 HoldTrue chip place_of number_of slots = All (HoldsTrue chip place_of number_of) slots
 
--- nothing stands in the slot
+-- nothing is in the slot
 abbrev pub IsEmpty : Option Entry → Type 0
 IsEmpty slot = slot ≡ None

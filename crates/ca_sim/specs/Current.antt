@@ -10,7 +10,7 @@ use Rattle.ca_flat.specs.Chip.{Chip, cell_at, inputs_at, outputs_at, net_of, out
 use Rattle.ca_flat.specs.Flat.{circuit_in}
 use Rattle.ca_flat.specs.Pair.{net_value}
 
--- the waves of the nets that so many pins are on, from a pin on
+-- the waves of the nets that this many pins are on, from a pin on
 unfoldable pub waves_from : (ℕ → ℕ) → List Wave → ℕ → ℕ → List Wave
 waves_from net waves pin zero = []
 waves_from net waves pin (suc count) = wave_at waves (net pin) ∷ waves_from net waves (pin + 1) count

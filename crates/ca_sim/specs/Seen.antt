@@ -35,7 +35,7 @@ pub record AreNetWaves (chip : Chip) (given : Option ChipDefect) (pair : List Tr
   pub exact : (flat_waves : FlatWaves chip given pair) (net : ℕ) → net < length chip.nets
       → wave_at waves net ≡ wave_of flat_waves net
 
--- there are so many waves and bits
+-- there is a wave for each net, and a value for each bit
 pub record IsWhole (seen : Seen) : Type 0 where
   pub bits : length seen.pair ≡ bit_count seen.chip
   pub good : length seen.good ≡ length seen.chip.nets

@@ -27,7 +27,7 @@ impl Bits for State {
     }
 }
 
-/// So many bits, none of which is set.
+/// `count` bits, none of which is set.
 #[derive(Clone, Copy, Debug)]
 pub(crate) struct Unset {
     pub(crate) count: usize,

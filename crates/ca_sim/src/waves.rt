@@ -24,7 +24,7 @@ impl Model for Waves {
 }
 
 impl Waves {
-    /// The unknown wave for so many nets.
+    /// The unknown wave for `nets` nets.
     pub fn unknown(alloc: Global, nets: usize) -> Result<Self, NoMemory>
         ensures { IfOk result (λ waves. waves ≡ replicate nets unknown_wave) }
     {

@@ -1,4 +1,4 @@
--- Chips for tests: instances with one output pin, each of which drives the net behind all nets before it.
+-- Chips for tests: instances with one output pin, each of which drives the net after all nets before it.
 use Rattle.std.specs.Prelude.{ℕ, suc, ◌+◌, ◌-◌, ◌*◌, ◌≤◌, ◌^◌, ◌≡◌, ◌<◌, List, [], ◌∷◌, ◌++◌, length, map}
 use Rattle.std.specs.Prelude.{replicate, slice_get, slice_index, slice_index_or, Some}
 use Rattle.std.specs.List.{All, Contains, range_with_len}
@@ -21,7 +21,7 @@ instances_from cells net (rung ∷ rungs) =
     record { cell = cell_of cells rung.cell; pins = rung.pins ++ net ∷ [] }
     ∷ instances_from cells (suc net) rungs
 
--- The chip: the first net has the constant 0, and those of the chip inputs follow. So many nets in all are
+-- The chip: the first net has the constant 0, and those of the chip inputs follow. `inputs` nets in all are
 -- driven by no instance.
 abbrev pub ladder_of : ℕ → List RawCell → List Rung → Chip
 ladder_of inputs cells rungs = record {
@@ -48,7 +48,7 @@ pub record IsRung (cells : List RawCell) (net : ℕ) (rung : Rung) : Type 0 wher
   pub out : role_count is_output (cell_of cells rung.cell).pins ≡ 1
   pub before : All (λ pin. pin < net) rung.pins
 
--- so are the first of them, the first driving the net behind the inputs
+-- so are the first of them, the first driving the net after the inputs
 abbrev pub AreRungsTo : List RawCell → ℕ → ℕ → List Rung → Type 0
 AreRungsTo cells inputs end rungs =
     (u : ℕ) (rung : Rung) → u < end → slice_get rungs u ≡ Some rung → IsRung cells (inputs + u) rung

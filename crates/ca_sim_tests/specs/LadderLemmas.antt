@@ -54,7 +54,7 @@ rung_at rungs u lt = elim (slice_get_cases rungs u).1 [
   | inr past ↦ absurd (let behind = past.0 in omega arith)
 ]
 
--- the place of an instance is behind its number
+-- the place of an instance is one after its number
 pub place_here : (rungs : List Rung) (u : ℕ) → u < length rungs → place_in (places_of rungs) u ≡ 1 + u
 place_here rungs u lt = get_or-range_with_len 1 (length rungs) u 0 lt
 
@@ -67,7 +67,7 @@ order_is inputs cells rungs place p =
     let is = place_here rungs p.instance (omega arith) in
     let at = p.at in omega arith
 
--- what was read stands at its place
+-- what was read is at its place
 pub at_read : (rungs : List Rung) (u : ℕ) (read : Rung) → u < length rungs → read ≡ get_or rungs u read
     → slice_get rungs u ≡ Some read
 at_read rungs u read lt is = slice_get-get_or rungs u read lt ∙ ap Some (sym is)

@@ -1,4 +1,4 @@
-//! Chips for tests: instances with one output pin, each of which drives the net behind all nets before it.
+//! Chips for tests: instances with one output pin, each of which drives the net after all nets before it.
 
 ghost use Rattle.std.specs.Prelude.{◌+◌, ◌≡◌, ◌<◌, IsTrue, IfOk, length, ◌↔◌};
 ghost use Rattle.std.specs.List.{All, Contains};

@@ -78,7 +78,7 @@ fn hazard_destroys_the_charge(rt: HostRuntime) {
     drop(glitch);
 }
 
-// The pin B of the last instance has a hazard, where A lets go of the net that it had pulled up.
+// The pin B of the last instance has a hazard, where A releases the net that it had pulled up.
 const KEPT: [(usize, &[u32]); 4] = [(INV, &[2]), (NAND2, &[2, 3]), (INV, &[4]), (KEEP, &[1, 5])];
 
 #[test]

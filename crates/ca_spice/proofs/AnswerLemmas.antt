@@ -43,6 +43,6 @@ not_given text (Err fault) read told =
     first.found (located at_line line_step) nothing (spice_lines text) NoMemory (read ∙ ap (λ (f : SpiceFault). Err f) same) in
     not_line it.here (line_step it.here it.so_far) it.broken
 
--- the definition of a reading never says that memory was wanting
+-- the definition of a reading never says that memory ran out
 pub reading_has_memory : (text : List ℕ) → library_of text ≡ Err NoMemory → ⊥
 reading_has_memory text told = not_given text (lines_from nothing (spice_lines text)) refl told

@@ -88,7 +88,7 @@ net_name-at nets place it = ap (λ (found : Option (List ℕ)). unwrap_or found 
 pub net_named : (nets : List (List ℕ)) (place : ℕ) → IsNetAt nets place → IsNameWord (net_name nets place)
 net_named nets place it = subst IsNameWord (sym (net_name-at nets place it)) it.named
 
--- the names with one more are these and maybe one behind them
+-- the names with one more are these and maybe one after them
 pub record Extends (names longer : List (List ℕ)) : Type 0 where
   pub more : List (List ℕ)
   pub is : longer ≡ names ++ more
@@ -106,7 +106,7 @@ extends_further first second third to_second to_third = record {
   is = to_third.is ∙ ap (λ (names : List (List ℕ)). names ++ to_third.more) to_second.is ∙ append_assoc first to_second.more to_third.more;
 }
 
--- a name stands at its place
+-- a name is at its place
 pub at_its_place : (name : List ℕ) (names : List (List ℕ)) → slice_get (with_name name names) (place_with name names) ≡ Some name
 at_its_place name [] = refl
 at_its_place name (first ∷ names) = by (bytes_eq name first) refl (at_its_place name names)
@@ -137,7 +137,7 @@ abbrev pub card_params : RawDevice → List (List ℕ)
 card_params device =
     codes "W" ∷ codes "=" ∷ value_word device.width.0 ∷ codes "L" ∷ codes "=" ∷ value_word device.length.0 ∷ []
 
--- the words that a written card reads as, behind the device's name
+-- the words that a written card reads as, after the device's name
 abbrev pub card_words : List (List ℕ) → List ℕ → RawDevice → List (List ℕ)
 card_words nets bulk device =
     net_name nets device.drain ∷ net_name nets device.gate ∷ net_name nets device.source ∷ bulk ∷ model_of device.kind ∷ card_params device

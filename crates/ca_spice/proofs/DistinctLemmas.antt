@@ -13,7 +13,7 @@ use Rattle.ca_spice.specs.OpenCell.{with_drain, with_gate, with_source, device_o
 use Rattle.ca_spice.proofs.SpelledLemmas.{IsSpelled, all_append}
 use Rattle.ca_spice.proofs.CardLemmas.{Extends, with_name-extends, extends_further, IsWired}
 
--- a name stands at one place
+-- a name is at one place
 abbrev pub AreDistinct : List (List ℕ) → Type 0
 AreDistinct names = (one other : ℕ) (name : List ℕ) → slice_get names one ≡ Some name → slice_get names other ≡ Some name → one ≡ other
 
@@ -21,7 +21,7 @@ AreDistinct names = (one other : ℕ) (name : List ℕ) → slice_get names one 
 abbrev pub names_of : List RawDevice → List (List ℕ)
 names_of devices = map (λ (device : RawDevice). device.name) devices
 
--- the names of a subcircuit: the pins are the first nets, and no name stands twice
+-- the names of a subcircuit: the pins are the first nets, and no name occurs twice
 pub record AreNames (pins nets : List (List ℕ)) (devices : List RawDevice) : Type 0 where
   pub pins_first : Extends pins nets
   pub spelled : AllByRecursion IsSpelled nets
@@ -36,7 +36,7 @@ right_false : (one other : Bool) → (one || other) ≡ false → other ≡ fals
 right_false true other is = absurd cc
 right_false false other is = is
 
--- a name that names don't have stands nowhere among them
+-- a name that names don't have is nowhere among them
 absent : (name : List ℕ) (names : List (List ℕ)) → has_name name names ≡ false → (place : ℕ) → slice_get names place ≡ Some name → ⊥
 absent name [] lacks place there = cc
 absent name (first ∷ names) lacks zero there =
@@ -45,7 +45,7 @@ absent name (first ∷ names) lacks zero there =
 absent name (first ∷ names) lacks (suc place) there =
     absent name names (right_false (bytes_eq name first) (has_name name names) lacks) place there
 
--- where a name stands among names with one more
+-- where a name is among names with one more
 in_pushed : (names : List (List ℕ)) (last name : List ℕ) (place : ℕ) → slice_get (names ++ last ∷ []) place ≡ Some name
     → (slice_get names place ≡ Some name) ⊎ ((place ≡ length names) × (last ≡ name))
 in_pushed [] last name zero there = inr (refl, cc)
@@ -80,7 +80,7 @@ spelled_with name names is all = by (has_name name names)
     by true = all
     by false = all_append IsSpelled names (name ∷ []) all (is, tt)
 
--- words of which none stands twice
+-- words of which none occurs twice
 distinct_behind : (seen words : List (List ℕ)) → repeats seen words ≡ false → AreDistinct seen → AreDistinct (seen ++ words)
 unfolding repeats
 distinct_behind seen [] none distinct = subst AreDistinct (sym (append-nil seen)) distinct

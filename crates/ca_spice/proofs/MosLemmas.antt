@@ -1,4 +1,4 @@
--- What is left behind the last triple of words.
+-- What is left after the last triple of words.
 use Rattle.std.proofs.Common.{◌≡◌, ℕ, ◌<◌, List, [], ◌∷◌, length, None, arith, refl}
 use Rattle.std.specs.Prelude.{◌==◌}
 use denote.Bor.{Bor}

@@ -48,7 +48,7 @@ pub all_words : (words : List (List ℕ)) → are_pin_words words ≡ true → l
 all_words [] are = absurd cc
 all_words (word ∷ words) are = are
 
--- a word that is taken leaves the words behind it
+-- a word that is taken leaves the words after it
 pub goes_on : (nets : List (List ℕ)) (word : List ℕ) (words : List (List ℕ)) (pins next : List Pin) (total : Result (List Pin) SpiceKind)
     → role_step nets word pins ≡ Ok next → steps_from (role_step nets) pins (word ∷ words) ≡ total → steps_from (role_step nets) next words ≡ total
 goes_on nets word words pins next total taken so_far =
@@ -66,12 +66,12 @@ pub pin_info-steps : (nets words : List (List ℕ)) (pins : List Pin) → are_pi
 unfolding pin_info
 pin_info-steps nets words pins are = ap (λ is. unless (not is) BadCard (steps_from (role_step nets) pins words)) are
 
--- behind the last word the pins are those that were made
+-- after the last word the pins are those that were made
 pub ends : (nets : List (List ℕ)) (pins : List Pin) (total : Result (List Pin) SpiceKind) → steps_from (role_step nets) pins [] ≡ total → total ≡ Ok pins
 unfolding steps_from
 ends nets pins total so_far = sym so_far
 
--- the words behind the first
+-- the words after the first
 abbrev pub behind : List (Bor (List ℕ)) → List (Bor (List ℕ))
 behind rest = take (length rest - 1) (drop 1 rest)
 
@@ -84,7 +84,7 @@ pub first_within : (rest : List (Bor (List ℕ))) (none : Bor (List ℕ)) → 1 
 first_within [] none some all = absurd (omega arith)
 first_within (word ∷ words) none some all = colon_within word.now (first_is word.now (texts words) all)
 
--- so are those behind it
+-- so are those after it
 pub behind_are : (rest : List (Bor (List ℕ))) → 1 ≤ length rest → list_all is_pin_word (texts rest) ≡ true → list_all is_pin_word (texts (behind rest)) ≡ true
 behind_are [] some all = absurd (omega arith)
 behind_are (word ∷ words) some all = ap (λ left. list_all is_pin_word (texts left)) (behind-cons word words) ∙ others_are word.now (texts words) all
@@ -102,7 +102,7 @@ pub behind_stops : (nets : List (List ℕ)) (rest : List (Bor (List ℕ))) (none
 behind_stops nets [] none pins told total some fault so_far = absurd (omega arith)
 behind_stops nets (word ∷ words) none pins told total some fault so_far = stops nets word.now (texts words) pins told total fault so_far
 
--- behind the last word the pins are those that were made
+-- after the last word the pins are those that were made
 pub rest_ends : (nets : List (List ℕ)) (rest : List (Bor (List ℕ))) (pins : List Pin) (total : Result (List Pin) SpiceKind)
     → length rest < 1 → steps_from (role_step nets) pins (texts rest) ≡ total → total ≡ Ok pins
 rest_ends nets [] pins total none so_far = ends nets pins total so_far

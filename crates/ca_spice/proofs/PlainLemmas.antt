@@ -43,7 +43,7 @@ plain_words : (words : List (List ℕ)) → AllByRecursion IsSpelled words → A
 plain_words [] all = tt
 plain_words (word ∷ words) all = (plain_word word all.0.one, plain_words words all.1)
 
--- a word that stands at a place is spelled
+-- a word at a place is spelled
 spelled_at : (words : List (List ℕ)) (place : ℕ) (word : List ℕ) → AllByRecursion IsSpelled words → slice_get words place ≡ Some word → IsSpelled word
 spelled_at [] place word all there = absurd cc
 spelled_at (first ∷ words) zero word all there =

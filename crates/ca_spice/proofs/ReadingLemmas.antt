@@ -108,13 +108,13 @@ pub first_upper : (words : List (Bor (List ℕ))) (none : Bor (List ℕ)) → Al
 first_upper [] none all some = absurd (omega arith)
 first_upper (word ∷ words) none all some = All-head IsUpper word.now (texts words) all
 
--- the words behind the first are in upper case, if all are
+-- the words after the first are in upper case, if all are
 pub behind_upper : (words : List (Bor (List ℕ))) → All IsUpper (texts words) → 1 ≤ length words → All IsUpper (texts (behind words))
 behind_upper [] all some = absurd (omega arith)
 behind_upper (word ∷ words) all some =
     subst (λ (left : List (Bor (List ℕ))). All IsUpper (texts left)) (sym (behind-cons word words)) (All-tail IsUpper word.now (texts words) all)
 
--- a refusal that is handed on tells what it told
+-- a refusal that is handed on reports what it reported
 pub handed_on : {X Y : Type 0} (view : X → Y) (result : Result X Refusal) (refusal : Refusal) (wanted : Result Y SpiceKind)
     → IsErrAnd result (λ other. other ≡ refusal) → IsFault (kind_told refusal) wanted → Gives kind_told view result wanted
 handed_on view (Ok value) refusal wanted is fault = absurd is

@@ -116,7 +116,7 @@ all_pin_words : (pins : List RawPin) → AllByRecursion IsPinName (pin_names pin
 all_pin_words [] all = refl
 all_pin_words (pin ∷ pins) all = λ j. is_pin_word-written pin all.0 j && all_pin_words pins all.1 j
 
--- a name that isn't among those before it stands behind them
+-- a name that isn't among those before it follows them
 place_behind : (name : List ℕ) (before behind : List (List ℕ)) → has_name name before ≡ false → place_with name (before ++ name ∷ behind) ≡ length before
 place_behind name [] behind new =
     ap (λ (same : Bool). cond (not same) (1 + place_with name behind) 0) ((bytes_eq-Decides name name).1 refl)

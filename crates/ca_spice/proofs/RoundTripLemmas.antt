@@ -52,7 +52,7 @@ use Rattle.ca_spice.proofs.ReadableLemmas.{readable_writable}
 use Rattle.ca_spice.proofs.RoleLemmas.{IsPinName, name_of, with_its_role, roles_read_again, pins_again}
 use Rattle.ca_spice.proofs.RoleLemmas.{pin_chunks, pin_words, pin_texts}
 
--- the bytes of words that are spelled may stand in words
+-- the bytes of words that are spelled may be in words
 spelled_texts : (words : List (List ℕ)) → AllByRecursion IsSpelled words → list_all is_text words ≡ true
 spelled_texts [] all = refl
 spelled_texts (word ∷ words) all = λ j. all.0.text j && spelled_texts words all.1 j
@@ -316,7 +316,7 @@ header_read name pins rest name_is header all distinct anew =
     (card_line 46 (codes "SUBCKT" ++ flat_map spaced (name ∷ pins)) refl refl refl (body_shown (codes ".SUBCKT") (name ∷ pins) header_chunk chunks)) anew
     (ap (λ (all : List (List ℕ)). words_step 1 all nothing) words ∙ header_made name pins header distinct (spelled_texts (name ∷ pins) (name_is, all)))
 
--- the line of the roles: where it stands, and what it makes
+-- the line of the roles: where it is, and what it makes
 roles_first_line : (pins : List RawPin) (rest : List ℕ) → AllByRecursion IsPinName (pin_names pins)
     → lines_of (line_of (codes "*.PININFO") (map pin_word pins) ++ rest) ≡ body (codes "*.PININFO") (map pin_word pins) ∷ lines_of rest
 roles_first_line pins rest all = first_line (codes "*.PININFO") (map pin_word pins) rest roles_chunk (pin_chunks pins all)

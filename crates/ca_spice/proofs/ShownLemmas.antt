@@ -128,7 +128,7 @@ joined (word ∷ words) one shown upper text = (
   joined words one.1 shown.1 upper.1 (right_true (is_text word) (list_all is_text words) text),
 )
 
--- the words of a line without a comment, if their bytes may stand in words
+-- the words of a line without a comment, if their bytes may be in words
 pub words_spelled : (text : List ℕ) → HasNoComment true text → list_all is_text (words_of (upper_case text)) ≡ true → AllByRecursion IsSpelled (words_of (upper_case text))
 words_spelled text shown are =
     joined (words_of (upper_case text)) (words_one (upper_case text)) ((words_shown true (upper_case text) (upper_shown true text shown)).1 refl)

@@ -51,7 +51,7 @@ more_digits number digits large spells = record {
 pub decimal_spells : (number : ℕ) → number < 10 ^ 64 → Spells number (decimal number)
 decimal_spells number below = decimal_by_steps_wide Spells one_digit more_digits number below
 
--- behind 0, what holds of each by recursion holds at each place
+-- after 0, what holds of each by recursion holds at each place
 are_digits : (digits : List ℕ) → AllByRecursion IsDigit digits → AreDigits digits
 are_digits [] all k d within = absurd (omega arith)
 are_digits (byte ∷ digits) all zero d within = all.0

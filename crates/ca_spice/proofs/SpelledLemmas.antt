@@ -27,7 +27,7 @@ abbrev pub IsOneWord : List ℕ → Type 0
 IsOneWord [] = ⊥
 IsOneWord (byte ∷ word) = (byte ∷ word ≡ 61 ∷ []) ⊎ AllByRecursion IsInside (byte ∷ word)
 
--- a word of a line in upper case, whose bytes may stand in one
+-- a word of a line in upper case, whose bytes may be in one
 pub record IsSpelled (word : List ℕ) : Type 0 where
   pub one : IsOneWord word
   pub shown : HasNoComment true word
@@ -53,7 +53,7 @@ not_sign byte is = by (is_blank byte) (eqb byte 61) is
     by true sign is = absurd cc
     by false sign is = is
 
--- a space parts the words before it from those behind it
+-- a space parts the words before it from those after it
 pub words_of-spaced : (text more : List ℕ) → words_of (text ++ 32 ∷ more) ≡ words_of text ++ words_of more
 unfolding words_of
 words_of-spaced [] more = refl
@@ -134,7 +134,7 @@ code_len-shown begins (byte ∷ text) shown =
 pub all_code : (text : List ℕ) → HasNoComment true text → without_comment text ≡ text
 all_code text shown = ap (λ (len : ℕ). take len text) (code_len-shown true text shown) ∙ take-length text
 
--- what stands before a comment has none
+-- what comes before a comment has none
 pub shown_before : (begins : Bool) (line : List ℕ) → HasNoComment begins (take (code_len begins line) line)
 shown_before begins [] = tt
 shown_before begins (byte ∷ line) = by (begins && eqb byte 36) refl (shown_before (ends_word byte) line)

@@ -19,7 +19,7 @@ use Rattle.ca_spice.proofs.PinLemmas.{left_true, right_true}
 use Rattle.ca_spice.proofs.SpelledLemmas.{HasNoComment, IsSpelled, alone, all_code, upper-chunks}
 use Rattle.ca_spice.proofs.SpelledLemmas.{words_of-chunks, shown_chunks}
 
--- a piece of a line that stands between two spaces
+-- a piece of a line between two spaces
 pub record IsChunk (chunk : List ℕ) : Type 0 where
   pub shown : HasNoComment true chunk
   pub text : is_text chunk ≡ true

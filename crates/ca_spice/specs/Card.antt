@@ -4,7 +4,7 @@ use Rattle.std.specs.Str.{bytes_eq}
 use Rattle.ca_spice.specs.declared.card.Card.{Card}
 use Rattle.ca_spice.specs.declared.card.Card.TheVariants as card
 
--- the card that a word's first letter tells: M is a device, C and D are ignored, and `+` is a continuation of
+-- the card that a word's first letter gives: M is a device, C and D are ignored, and `+` is a continuation of
 -- nothing
 unfoldable pub card_by_letter : List ℕ → Card
 card_by_letter [] = card.Unknown

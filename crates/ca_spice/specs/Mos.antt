@@ -20,7 +20,7 @@ are_params (name ∷ []) = false
 are_params (name ∷ sign ∷ []) = false
 are_params (name ∷ sign ∷ value ∷ more) = is_sign sign && are_params more
 
--- how often a parameter stands
+-- how often a parameter occurs
 unfoldable pub count_of : List ℕ → List (List ℕ) → ℕ
 count_of key [] = 0
 count_of key (name ∷ []) = 0
@@ -28,19 +28,19 @@ count_of key (name ∷ sign ∷ []) = 0
 count_of key (name ∷ sign ∷ value ∷ more) =
     if bytes_eq name key then 1 + count_of key more else count_of key more
 
--- the value of a parameter where it first stands
+-- the value of a parameter where it first occurs
 unfoldable pub value_of : List ℕ → List (List ℕ) → Option (List ℕ)
 value_of key [] = None
 value_of key (name ∷ []) = None
 value_of key (name ∷ sign ∷ []) = None
 value_of key (name ∷ sign ∷ value ∷ more) = if bytes_eq name key then Some value else value_of key more
 
--- parameters of which neither W nor L stands twice
+-- parameters of which neither W nor L occurs twice
 abbrev pub are_sound : List (List ℕ) → Bool
 are_sound params = are_params params && not (nat_lt 1 (count_of (codes "W") params))
     && not (nat_lt 1 (count_of (codes "L") params))
 
--- the kind of a device, which its model's first letter tells
+-- the kind of a device, which its model's first letter gives
 unfoldable pub kind_of : List ℕ → Option DeviceKind
 kind_of [] = None
 kind_of (letter ∷ model) = if letter == 78 then Some kind.N else (if letter == 80 then Some kind.P else None)
@@ -51,7 +51,7 @@ has_gate kind.N = true
 has_gate kind.P = true
 has_gate kind.D = false
 
--- what the words of an M card say behind the device's name; the bulk is not used
+-- what the words of an M card say after the device's name; the bulk is not used
 pub record Wiring : Type 0 where
   pub drain : List ℕ
   pub gate : List ℕ

@@ -104,7 +104,7 @@ pins_behind done (pin ∷ pins) = elim pin.role [
   | Some role ↦ pins_behind (done ++ record { name = pin.name; role = role } ∷ []) pins
 ]
 
--- the words behind .ENDS: none, or the cell's name
+-- the words after .ENDS: none, or the cell's name
 abbrev pub is_ended_by : List (List ℕ) → List ℕ → Bool
 is_ended_by [] name = true
 is_ended_by (word ∷ []) name = bytes_eq word name

@@ -1,4 +1,4 @@
--- The roles of pins: words PIN:ROLE behind *.PININFO.
+-- The roles of pins: words PIN:ROLE after *.PININFO.
 use Rattle.std.specs.Prelude.{ℕ, ◌+◌, ◌==◌, nat_lt, Bool, not, false, ◌&&◌, if◌then◌else◌, List, [], ◌∷◌}
 use Rattle.std.specs.Prelude.{codes, length, take, drop, slice_get, slice_set, Option, Some, None, is_some}
 use Rattle.std.specs.Prelude.{Result, Ok, Err}

@@ -48,11 +48,11 @@ has_cell name cells = list_any (λ cell. bytes_eq name cell.name) cells
 abbrev pub with_open : Reading → OpenCell → Reading
 with_open reading cell = record { cells = reading.cells; current = Some cell }
 
--- a word that may stand behind .SUBCKT
+-- a word that may follow .SUBCKT
 abbrev pub is_header_word : List ℕ → Bool
 is_header_word word = is_name word && not (is_sign word)
 
--- the words behind .SUBCKT: a name and one or more pins
+-- the words after .SUBCKT: a name and one or more pins
 abbrev pub is_header : List (List ℕ) → Bool
 is_header [] = false
 is_header (name ∷ []) = false
@@ -89,7 +89,7 @@ ends words reading = elim reading.current [
       (ended words cell)
 ]
 
--- each card, with its first word and those behind it
+-- each card, with its first word and those after it
 unfoldable pub card_step : Card → ℕ → List ℕ → List (List ℕ) → Reading → Step
 card_step card.Subckt line word words reading = subckt line words reading
 card_step card.Ends line word words reading = ends words reading
@@ -99,7 +99,7 @@ card_step card.Ignored line word words reading = Ok reading
 card_step card.Stray line word words reading = Err BadCard
 card_step card.Unknown line word words reading = Err UnknownCard
 
--- a continuation of nothing, which is told before its bytes are judged
+-- a continuation of nothing, which is reported before its bytes are judged
 abbrev pub is_stray : Card → Bool
 is_stray card.Stray = true
 is_stray _ = false
@@ -129,7 +129,7 @@ line_step line reading = words_step line.line (words_of (upper_case line.text)) 
 abbrev pub at_line : Line → SpiceKind → SpiceFault
 at_line line kind = At line.line kind
 
--- what these lines make of what was read; a fault is told at the line that has it
+-- what these lines make of what was read; a fault is reported at the line that has it
 abbrev pub lines_from : Reading → List Line → Result Reading SpiceFault
 lines_from reading lines = steps_from (located at_line line_step) reading lines
 

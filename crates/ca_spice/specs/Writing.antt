@@ -65,13 +65,13 @@ abbrev pub terminal_words : List (List ℕ) → RawDevice → List (List ℕ)
 terminal_words nets device =
     net_name nets device.drain ∷ net_name nets device.gate ∷ net_name nets device.source ∷ []
 
--- what stands behind them: the bulk, the model, W and L
+-- what follows them: the bulk, the model, W and L
 abbrev pub body_words : List ℕ → RawDevice → List (List ℕ)
 body_words bulk device =
     bulk ∷ model_of device.kind ∷ size_word (codes "W=") device.width.0
     ∷ size_word (codes "L=") device.length.0 ∷ []
 
--- the words of an M card behind the device's name
+-- the words of an M card after the device's name
 abbrev pub device_words : List (List ℕ) → List ℕ → RawDevice → List (List ℕ)
 device_words nets bulk device = terminal_words nets device ++ body_words bulk device
 

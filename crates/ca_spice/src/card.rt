@@ -2,7 +2,7 @@
 ghost use Rattle.std.specs.Prelude.{◌≡◌};
 ghost use Rattle.ca_spice.specs.Card.{card_by_letter, is_ignored, card_of};
 
-/// What a line is, as its first word tells.
+/// What a line is, by its first word.
 #[derive(Clone, Copy, Debug, PartialEq, Eq)]
 pub(crate) enum Card {
     Subckt,

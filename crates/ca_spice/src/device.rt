@@ -12,8 +12,8 @@ use ca_lex::Text;
 use ca_names::NameSet;
 use std::alloc::Global;
 
-/// Adds a transistor, whose name is new, with its nets and its name. What owns them all lets them go at one
-/// place, since that is dear to prove.
+/// Adds a transistor, whose name is new, with its nets and its name. Their owner drops them all in one place:
+/// more places are slow to prove.
 pub(crate) fn add_device(
     alloc: Global,
     nets: &mut NameSet,

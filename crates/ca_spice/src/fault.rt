@@ -30,10 +30,10 @@ pub enum SpiceKind {
 /// Why a text gives no library.
 #[derive(Clone, Copy, Debug, PartialEq, Eq)]
 pub enum SpiceFault {
-    /// The first faulty line, counted from 1, with the first rule that it breaks. A line is told by its first
-    /// physical line.
+    /// The first faulty line, counted from 1, with the first rule that it breaks. A line is reported by its
+    /// first physical line.
     At { line: usize, kind: SpiceKind },
-    /// The text has a reading, with so many subcircuits.
+    /// The text has a reading, with `count` subcircuits.
     TooManyCells { count: usize },
     /// There was no memory.
     NoMemory,

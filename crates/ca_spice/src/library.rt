@@ -77,8 +77,8 @@ fn judge_end(reading: &Reading) -> Result<(), SpiceFault>
     Ok(())
 }
 
-// The library of a whole text's reading. Here and below each large value is let go at one place, since that
-// is dear to prove.
+// The library of a whole text's reading. Each large value is dropped in one place here and below: more places
+// are slow to prove.
 fn library_from(alloc: Global, reading: Reading) -> Result<Library, SpiceFault>
     ensures exact { Gives fault_told (map subcircuit_seen) result (library_from (Ok (reading_seen reading))) }
     ensures entries { IfOk result (λ library. All (λ named. IsEntry named.entry) library) }

@@ -9,7 +9,7 @@ use crate::names::all_names;
 use ca_lex::{Length, read_length};
 use ca_net::{DeviceKind, STRONG, WEAK};
 
-/// What the words of an M card say behind the device's name.
+/// What the words of an M card say after the device's name.
 #[derive(Clone, Copy)]
 pub(crate) struct Wiring<'a> {
     pub drain: &'a [u8],
@@ -93,7 +93,7 @@ fn kind_of(model: &[u8]) -> Option<DeviceKind>
     }
 }
 
-/// What the words behind the device's name say, if the card has the form of an M card.
+/// What the words after the device's name say, if the card has the form of an M card.
 #[tactic(auto, unfolding(crate::specs::Mos::wiring_of))]
 pub(crate) fn wiring_of<'a>(name: &[u8], words: &'a [&'a [u8]]) -> Option<Wiring<'a>>
     ensures wiring { option_map wiring_seen result ≡ wiring_of name.now (texts words.now) }

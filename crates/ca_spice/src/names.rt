@@ -1,4 +1,4 @@
-//! Which words may stand in a text, which are names, and sets of words.
+//! Which words may be in a text, which are names, and sets of words.
 ghost use Rattle.std.specs.Prelude.{◌≡◌, ◌<◌, ◌^◌, length, IfOk, Ok};
 ghost use Rattle.std.specs.List.{list_all};
 ghost use Rattle.ca_lex.specs.Reading.{Gives, unless};
@@ -61,7 +61,7 @@ pub(crate) fn all_names(words: &[&[u8]]) -> bool
     true
 }
 
-/// The set of these words, if none stands twice.
+/// The set of these words, if none occurs twice.
 #[tactic(auto, unfolding(ca_names::specs::Names::repeats))]
 pub(crate) fn set_of(alloc: Global, words: &[&[u8]]) -> Result<NameSet, Refusal>
     ensures read { Gives kind_told (λ names. names) result

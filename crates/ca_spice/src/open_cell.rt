@@ -65,7 +65,7 @@ impl OpenCell {
         })
     }
 
-    /// The subcircuit behind a `*.PININFO` with these words.
+    /// The subcircuit after a `*.PININFO` with these words.
     #[tactic(auto, unfolding(crate::specs::OpenCell::pin_info))]
     pub(crate) fn pin_info(self, words: &[&[u8]]) -> Result<Self, Refusal>
         ensures read { Gives kind_told cell_seen result (pin_info (texts words.now) (cell_seen self)) }
@@ -131,7 +131,7 @@ impl OpenCell {
         })
     }
 
-    /// The subcircuit behind an M card with these words.
+    /// The subcircuit after an M card with these words.
     #[tactic(auto, unfolding(crate::specs::OpenCell::mos))]
     pub(crate) fn mos(self, alloc: Global, name: &[u8], words: &[&[u8]]) -> Result<Self, Refusal>
         ensures read { Gives kind_told cell_seen result (mos name.now (texts words.now) (cell_seen self)) }
@@ -188,7 +188,7 @@ impl OpenCell {
     }
 }
 
-// Whether these are the words behind the `.ENDS` of a subcircuit of this name.
+// Whether these are the words after the `.ENDS` of a subcircuit of this name.
 fn is_ended_by(words: &[&[u8]], name: &[u8]) -> bool
     ensures { result ≡ is_ended_by (texts words.now) name.now }
 {

@@ -13,8 +13,8 @@ use crate::open_cell::OpenCell;
 use ca_names::NameSet;
 use std::alloc::Global;
 
-/// The subcircuit of this name, which none of the names is; from now on it is one of them. What owns the
-/// names lets them go at one place, since that is dear to prove.
+/// The subcircuit of this name, which none of the names is; from now on it is one of them. The owner of the
+/// names drops them in one place: more places are slow to prove.
 pub(crate) fn opened(
     alloc: Global,
     names: &mut NameSet,

@@ -8,7 +8,7 @@ use ca_cell::{RawPin, RawPins, Role};
 use ca_lex::Text;
 use std::alloc::Global;
 
-/// A pin, with its role once a `*.PININFO` has told it.
+/// A pin, with its role once a `*.PININFO` has given it.
 #[derive(Drop)]
 pub(crate) struct Pin {
     pub name: Text,

@@ -206,8 +206,8 @@ impl Reading {
         if self.is_comment(card) {
             return Ok(self);
         }
-        // A continuation of nothing is told before its bytes are judged. What was read is let go by a call where
-        // it isn't handed on, since that is dear to prove.
+        // A continuation of nothing is reported before its bytes are judged. What was read is dropped by a
+        // call where it isn't handed on: drops are slow to prove.
         if matches!(card, Card::Stray) {
             drop(self);
             return Err(Refusal::Kind(SpiceKind::BadCard));
@@ -242,7 +242,7 @@ fn is_header_word(word: &[u8]) -> bool
     is_name(word) && !is_sign(word)
 }
 
-// Whether each word may stand behind `.SUBCKT`.
+// Whether each word may follow `.SUBCKT`.
 fn all_header_words(words: &[&[u8]]) -> bool
     ensures { result ≡ list_all is_header_word (texts words.now) }
 {
@@ -256,7 +256,7 @@ fn all_header_words(words: &[&[u8]]) -> bool
     true
 }
 
-// Whether these are words behind `.SUBCKT`: a name and one or more pins.
+// Whether these are words after `.SUBCKT`: a name and one or more pins.
 fn is_header(words: &[&[u8]]) -> bool
     ensures { result ≡ is_header (texts words.now) }
 {

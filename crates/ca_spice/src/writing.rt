@@ -16,7 +16,7 @@ use ca_net::DeviceKind;
 use itoa::Buffer;
 use std::alloc::Global;
 
-// Appends a word behind others.
+// Appends a word to others.
 fn push_word(text: &mut Text, word: &[u8]) -> Result<(), NoMemory>
     ensures { OnOk result (text.new ≡ text.old ++ spaced word.now) }
 {
@@ -146,7 +146,7 @@ fn bulk_of<'a>(p_bulk: &'a [u8], n_bulk: &'a [u8], kind: DeviceKind) -> &'a [u8]
     }
 }
 
-// Appends the words of an M card that stand behind its terminals.
+// Appends the words of an M card that follow its terminals.
 fn push_body(text: &mut Text, bulk: &[u8], device: &RawDevice) -> Result<(), NoMemory>
     ensures { OnOk result (text.new ≡ text.old ++ flat_map spaced (body_words bulk.now device.now)) }
 {

@@ -7,7 +7,7 @@ use Rattle.ca_stil.specs.declared.chip.StilChip.{StilChip}
 use Rattle.ca_stil.specs.declared.chip.End.{End}
 use Rattle.ca_stil.specs.declared.chip.End.TheVariants as at
 
--- so many values, from a place on
+-- `count` values, from a place on
 abbrev pub part : {Value : Type 0} → ℕ → ℕ → List Value → List Value
 part from count values = take count (drop from values)
 
@@ -34,7 +34,7 @@ unfoldable pub longest : List StilChain → ℕ
 longest [] = 0
 longest (chain ∷ chains) = max (length chain.places) (longest chains)
 
--- the chain's scan instances are among so many
+-- the chain's scan instances are among the first `count`
 abbrev pub IsWithin : ℕ → StilChain → Type 0
 IsWithin count chain = All (λ place. place < count) chain.places
 

@@ -1,5 +1,4 @@
--- What stands between the groups and the patterns: the timing, the chains, the burst and the macro that
--- shifts.
+-- What is between the groups and the patterns: the timing, the chains, the burst and the macro that shifts.
 use Rattle.std.specs.Prelude.{ℕ, ◌+◌, List, [], ◌∷◌, ◌++◌, length, codes, decimal}
 use Rattle.ca_stil.specs.declared.chip.StilChain.{StilChain}
 use Rattle.ca_stil.specs.declared.chip.StilChip.{StilChip}

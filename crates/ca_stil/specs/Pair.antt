@@ -1,7 +1,7 @@
 -- The statements of a pair of vectors. Of a chip with scan chains they are six: the first state is loaded,
--- the first vector is applied, the second state is loaded behind the hold, the second vector is applied and
--- the outputs are compared, the cells capture, and the chains are unloaded and compared. Of another chip
--- they are the two that apply the vectors.
+-- the first vector is applied, the second state is loaded while hold is 1, the second vector is applied and
+-- the outputs are compared, the cells capture, and the chains are unloaded and compared. Of another chip they
+-- are the two that apply the vectors.
 use Rattle.std.specs.Prelude.{ℕ, ◌+◌, ◌-◌, ◌==◌, Bool, false, List, [], ◌∷◌, ◌++◌, length, map, replicate}
 use Rattle.std.specs.Prelude.{codes, decimal, if◌then◌else◌}
 use Rattle.ca_net.specs.declared.trit.Trit.{Trit}
@@ -16,7 +16,7 @@ use Rattle.ca_stil.specs.Words.{quoted, digit_of, level_of, member_text, cell_bi
 -- Members of a shift. `most` is the number of cells of the longest chain; `values` are those of all scan
 -- instances, in netlist order.
 
--- the bits of a chain, behind zeros that fill up
+-- the bits of a chain, after zeros that fill up
 unfoldable pub state_text : ℕ → List Bool → StilChain → List ℕ
 state_text most values chain =
     member_text chain.scan_in
@@ -52,16 +52,16 @@ unfoldable pub hold_text : List StilChain → List ℕ
 hold_text [] = []
 hold_text (chain ∷ chains) = codes " \"_ctl_\"=000;"
 
--- the bits of so many chip inputs
+-- the bits of `count` chip inputs
 unfoldable pub vector_text : ℕ → List Bool → List ℕ
 vector_text count bits = if count == 0 then [] else codes " \"_pi_\"=" ++ (map digit_of bits ++ codes ";")
 
--- the expected values at so many observed outputs
+-- the expected values at `count` observed outputs
 unfoldable pub expected_text : ℕ → List Trit → List ℕ
 expected_text count values =
     if count == 0 then [] else codes " \"_po_\"=" ++ (map level_of values ++ codes ";")
 
--- nothing is compared at so many observed outputs
+-- nothing is compared at `count` observed outputs
 unfoldable pub unobserved_text : ℕ → List ℕ
 unobserved_text count =
     if count == 0 then [] else codes " \"_po_\"=" ++ (replicate count (level_of X) ++ codes ";")
@@ -78,7 +78,7 @@ unfoldable pub load_text : ℕ → List Bool → List StilChain → List ℕ
 load_text most state [] = []
 load_text most state (chain ∷ chains) = load_of_text most state (chain ∷ chains)
 
--- a vector is applied; what is compared stands behind
+-- a vector is applied; what is compared follows
 unfoldable pub apply_text : StilChip → List Bool → List ℕ
 apply_text chip vector = codes "V {" ++ (hold_text chip.chains ++ vector_text (length chip.inputs) vector)
 

@@ -7,7 +7,7 @@ use Rattle.ca_net.specs.declared.trit.Trit.TheVariants.{Zero, One, X}
 abbrev pub quoted : List ℕ → List ℕ
 quoted name = codes "\"" ++ (name ++ codes "\"")
 
--- names behind others, and names from the first on: joined by ` + `
+-- names after others, and names from the first on: joined by ` + `
 unfoldable pub joined_more : List (List ℕ) → List ℕ
 joined_more [] = []
 joined_more (name ∷ names) = codes " + " ++ (quoted name ++ joined_more names)

@@ -23,14 +23,14 @@ fn are_within(chip: &StilChip) -> bool
         .all(|chain| is_within(chain, count))
 }
 
-/// Whether each of the pairs has so many bits.
+/// Whether each of the pairs has `count` bits.
 pub fn have_bits<P: PatternBits>(pairs: &[P], count: u128) -> bool
     ensures { IsTrue result ↔ All (λ pair. length (P.bits pair) ≡ count) pairs.now }
 {
     pairs.iter().all(|pair| pair.len() as u128 == count)
 }
 
-/// Whether there are so many expected values under each pair.
+/// Whether there are `count` expected values under each pair.
 pub fn have_values<E: ExpectedValues>(expected: &[E], count: u128) -> bool
     ensures { IsTrue result ↔ All (λ values. length (E.values values) ≡ count) expected.now }
 {

@@ -1,4 +1,4 @@
-//! What stands between the groups and the patterns.
+//! What is between the groups and the patterns.
 
 ghost use Rattle.std.specs.Prelude.{◌≡◌, ◌++◌, ◌<◌, ◌+◌, length, OnOk, codes, decimal};
 ghost use Rattle.ca_stil.specs.Chip.{end_of};

@@ -13,7 +13,7 @@ const CHAIN: usize = 160;
 
 const PAIR: usize = 320;
 
-// Bytes of these names, with what stands beside each.
+// Bytes of these names, with what is beside each.
 fn names_room(names: &[Text]) -> usize {
     let mut room = 0usize;
     for name in names {
@@ -31,7 +31,7 @@ fn signals_room(signals: &[Signal]) -> usize {
     room
 }
 
-// Bytes of the ports of the chains, with what stands beside each wherever it is named.
+// Bytes of the ports of the chains, with what is beside each wherever it is named.
 fn ends_room(chains: &[StilChain]) -> usize {
     let mut room = 0usize;
     for chain in chains {
@@ -56,7 +56,7 @@ fn pair_room(chip: &StilChip, most: usize) -> usize {
         .saturating_add(PAIR)
 }
 
-/// How many bytes the text of so many pairs has at most; `most` is the number of cells of the longest chain.
+/// How many bytes the text of `pairs` pairs has at most; `most` is the number of cells of the longest chain.
 pub(crate) fn room_of(chip: &StilChip, most: usize, pairs: usize) -> usize {
     let chains = chip.chains.as_slice();
     let blocks = ends_room(chains)

@@ -27,7 +27,7 @@ pub(crate) fn push_hold(text: &mut Text, chains: &[StilChain]) -> Result<(), NoM
     }
 }
 
-// Appends so many bits.
+// Appends `count` bits.
 #[tactic(auto, using(crate::proofs::CellLemmas::digits_more, crate::proofs::CellLemmas::digits_none))]
 fn push_digits<P: PatternBits>(
     text: &mut Text,
@@ -63,7 +63,7 @@ pub(crate) fn push_vector<P: PatternBits>(
     text.append(b";")
 }
 
-// Appends so many expected values.
+// Appends `count` expected values.
 #[tactic(auto, using(crate::proofs::CellLemmas::letters_more, crate::proofs::CellLemmas::letters_none))]
 fn push_letters_of<E: ExpectedValues>(
     text: &mut Text,

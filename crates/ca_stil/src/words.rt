@@ -43,7 +43,7 @@ pub(crate) fn push_decimal(text: &mut Text, number: usize) -> Result<(), NoMemor
     text.append(buffer.format(number).as_bytes())
 }
 
-/// Appends a word and a number behind it, in double quotes.
+/// Appends a word and a number after it, in double quotes.
 pub(crate) fn push_numbered(text: &mut Text, word: &[u8], number: usize) -> Result<(), NoMemory>
     ensures { OnOk result (text.new ≡ text.old ++ quoted (word.now ++ decimal number)) }
 {
@@ -53,7 +53,7 @@ pub(crate) fn push_numbered(text: &mut Text, word: &[u8], number: usize) -> Resu
     text.append(b"\"")
 }
 
-/// Appends so many of a letter.
+/// Appends `count` copies of a letter.
 pub(crate) fn push_letters(text: &mut Text, letter: u8, count: usize) -> Result<(), NoMemory>
     ensures { OnOk result (text.new ≡ text.old ++ replicate count letter) }
 {
@@ -63,7 +63,7 @@ pub(crate) fn push_letters(text: &mut Text, letter: u8, count: usize) -> Result<
     Ok(())
 }
 
-// Appends names behind others of their group.
+// Appends names to others of their group.
 #[tactic(auto, unfolding(crate::specs::Words::joined_more))]
 fn push_more_names(text: &mut Text, names: &[Text]) -> Result<(), NoMemory>
     ensures { OnOk result (text.new ≡ text.old ++ joined_more names.now) }
@@ -100,7 +100,7 @@ pub(crate) fn end_of(chain: &StilChain, end: End) -> &[u8]
     }
 }
 
-// Appends the ports of chains behind others.
+// Appends the ports of chains to others.
 #[tactic(auto, unfolding(crate::specs::Words::joined_more))]
 fn push_more_ends(text: &mut Text, chains: &[StilChain], end: End) -> Result<(), NoMemory>
     ensures { OnOk result (text.new ≡ text.old ++ joined_more (ends_of end chains.now)) }

@@ -1,4 +1,4 @@
--- Readers that are exact for one token, for fixed tokens, for one form behind another, and for items up to a
+-- Readers that are exact for one token, for fixed tokens, for one form after another, and for items up to a
 -- closing token.
 use Rattle.std.proofs.Common.{◌≡◌, Bool, true, false, ◌&&◌, List, [], ◌∷◌, ◌++◌, Option, Some, None, refl}
 use Rattle.std.proofs.Common.{sym, ap, ◌∙◌, append_assoc}

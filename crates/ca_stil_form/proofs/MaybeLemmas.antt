@@ -1,4 +1,4 @@
--- A reader of a form that may be left out, and of another one behind it, is exact where both readers are.
+-- A reader of a form that may be left out, and of another one after it, is exact where both readers are.
 use Rattle.std.proofs.Common.{◌≡◌, Bool, true, false, ◌&&◌, List, [], ◌∷◌, ◌++◌, Option, Some, None, refl}
 use Rattle.std.proofs.Common.{sym, ap, ◌∙◌, append_assoc}
 use Rattle.std.specs.Str.{bytes_eq}

@@ -61,7 +61,7 @@ group_found (name ∷ names) is =
 pub group_named : (names : Names) → is_group names ≡ true → list_all is_name names ≡ true
 group_named names is = right_true (not (length names == 0)) (list_all is_name names) is
 
--- a group of one name that stands first
+-- a group of one name that comes first
 pub first_fits : (name : List ℕ) (names : Names) → is_name name ≡ true → fits_in_order (name ∷ names) (name ∷ []) ≡ true
 unfolding is_among
 first_fits name names is = λ j. (is j && true) && elim ((bytes_eq-Decides name name).1 refl j) [ true ↦ true | false ↦ is_among (name ∷ []) names ]

@@ -38,7 +38,7 @@ frame_seen chip =
 abbrev pub count_of : StilChain → List ℕ
 count_of chain = decimal (length chain.places)
 
--- the frame that the text tells is that of the chip
+-- the frame that the text gives is that of the chip
 abbrev Reads : ℕ → List ℕ → Type 0
 Reads number digits = number_of digits ≡ number
 

@@ -28,7 +28,7 @@ read_written {Value} form exact tokens value is = by (form.read tokens) refl is
     by (Got other (token ∷ rest)) read is = absurd cc
     by (Stuck rest) read is = absurd cc
 
--- a reading that is told to be faulty is so, at its first faulty token
+-- a reading that is reported to be faulty is faulty, at its first faulty token
 pub fault_found : {Value : Type 0} (form : Form Value) → IsExactForm form → (tokens : List Token) (left : ℕ)
     → whole form tokens ≡ Err left → IsFirstFaulty form tokens left
 fault_found {Value} form exact tokens left is = by (form.read tokens) refl is
@@ -85,7 +85,7 @@ parted (token ∷ one) (first ∷ other) behind beyond same below =
     let found = parted one other behind beyond tails (omega (arith, below)) in
     (found.0, found.1, found.2, found.3, ap (λ (given : List Token). first ∷ given) found.4 ∙ ap (λ (given : Token). given ∷ one ++ found.0 ∷ found.1) (sym heads))
 
--- where a first faulty token stands earlier, the later one isn't the first
+-- where a first faulty token comes earlier, the later one isn't the first
 not_before : {Value : Type 0} (form : Form Value) (tokens : List Token) (left other : ℕ) → IsFirstFaulty form tokens left → IsFirstFaulty form tokens other
     → length tokens + left < length tokens + other → ⊥
 not_before {Value} form tokens left other late early below =
@@ -109,7 +109,7 @@ not_before {Value} form tokens left other late early below =
 equal : (total one other : ℕ) → (total + one < total + other → ⊥) → (total + other < total + one → ⊥) → one ≡ other
 equal total one other not_less not_more = grind arith
 
--- and a first faulty token is told
+-- and a first faulty token is reported
 pub fault_told : {Value : Type 0} (form : Form Value) → IsExactForm form → (tokens : List Token) (left : ℕ)
     → IsFirstFaulty form tokens left → whole form tokens ≡ Err left
 fault_told {Value} form exact tokens left first = by (whole form tokens) refl

@@ -24,7 +24,7 @@ spells_both text other tokens others first second rest =
 pub spells_nothing : Spells [] []
 spells_nothing rest = refl
 
--- where a reading stands behind a text, and the tokens that end in it
+-- where a reading is after a text, and the tokens that end in it
 abbrev pub place_behind : Place → List ℕ → Place
 place_behind place [] = place
 place_behind place (byte ∷ bytes) = place_behind (next_place place byte) bytes

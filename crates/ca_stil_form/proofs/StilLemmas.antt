@@ -156,7 +156,7 @@ signals_named number (signal ∷ signals) is =
 abbrev scan_written : (inputs outputs : Option Names) → Option Scan → Rest → List Token
 scan_written inputs outputs scan rest = written_maybe (scan_form []).written (λ (scan : Option Scan). (rest_form inputs outputs scan).written) scan rest
 
--- what stands behind the outputs begins neither with their key nor with the key of the inputs
+-- what follows the outputs begins neither with their key nor with the key of the inputs
 scan_apart : (inputs outputs : Option Names) (scan : Option Scan) (rest : Rest)
     → BeginsOther key_outputs (scan_written inputs outputs scan rest) × BeginsOther key_inputs (scan_written inputs outputs scan rest)
 scan_apart inputs outputs None rest = (refl, refl)

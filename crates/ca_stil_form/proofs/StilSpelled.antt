@@ -40,7 +40,7 @@ use Rattle.ca_stil_form.proofs.SpelledLemmas.{nothing_piece, both_pieces, each_p
 use Rattle.ca_stil_form.proofs.SpelledLemmas.{behind_spelled, before_spelled, word_spelled, token_spelled}
 use Rattle.ca_stil_form.proofs.SpelledLemmas.{items_spelled, each_spelled, maybe_spelled}
 
--- words of letters that may stand in words
+-- words of letters that may be in words
 all_replicate : (count letter : ℕ) → is_inside letter ≡ true → list_all is_inside (replicate count letter) ≡ true
 all_replicate zero letter is = refl
 all_replicate (suc count) letter is = λ j. is j && all_replicate count letter is j

@@ -90,7 +90,7 @@ inputs_same signals (name ∷ names) outputs scan rest =
     ap (λ (text : List ℕ). text ++ (outputs_part signals (group_of (name ∷ names))).text (outputs, (scan, rest)))
     (inputs_line (λ names. true) (name ∷ names))
 
--- the lines of all groups, with what stands behind them
+-- the lines of all groups, with what follows them
 pub groups_same : (chip : StilChip) (rest : Rest)
     → (inputs_part (map signal_seen chip.signals)).text
     (group_of chip.inputs, (group_of chip.outputs, (scan_of chip.controls chip.chains, rest)))

@@ -57,7 +57,7 @@ seen_named (signal ∷ signals) named =
     let later = seen_named signals named.1 in
     λ j. here j && later j
 
--- names that stand among others in their order, or anywhere, are names as those are
+-- names that are among others in their order, or anywhere, are names as those are
 same_named : (name other : List ℕ) → bytes_eq name other ≡ true → is_name other ≡ true → is_name name ≡ true
 same_named name other same named = subst (λ (given : List ℕ). is_name given ≡ true) (sym ((bytes_eq-Decides name other).0 same)) named
 
@@ -98,7 +98,7 @@ in_named (name ∷ names) pool named found =
     let more = in_named names pool named (right_true (list_any (bytes_eq name) pool) (all_in pool names) found) in
     λ j. one j && more j
 
--- where a name stands, there are some
+-- where a name is, there are some
 some_there : (count : ℕ) → not (suc count == 0) ≡ true
 some_there count = ap not (ne_eqb (suc count) 0 (λ same. omega (arith, same)))
 
@@ -111,7 +111,7 @@ in_some : (name : List ℕ) (pool : Names) → list_any (bytes_eq name) pool ≡
 in_some name [] found = absurd cc
 in_some name (other ∷ pool) found = some_there (length pool)
 
--- a group of one direction, and what stands after it
+-- a group of one direction, and what follows it
 group_allowed : {Second : Type 0} (pool names : Names) (second : Option Names → Second → Bool) (rest : Second)
     → list_all is_name pool ≡ true → is_among names pool ≡ true → second (group_of names) rest ≡ true
     → allowed_maybe (not (length pool == 0)) (fits_in_order pool) second (group_of names) rest ≡ true
@@ -279,7 +279,7 @@ all_cells most signals controls [] groups below small = refl
 all_cells most signals controls (chain ∷ chains) groups below small =
     cells_allowed 0 most (chain ∷ chains) (by_recursion HasCells (chain ∷ chains) groups.cells) below small
 
--- the scan groups, and what stands after them
+-- the scan groups, and what follows them
 scan_allowed : {Second : Type 0} (signals : List code.Signal) (controls : Names) (chains : List StilChain)
     (second : Option Scan → Second → Bool) (rest : Second)
     → list_all is_name (signal_names true signals) ≡ true → list_all is_name (signal_names false signals) ≡ true

@@ -48,7 +48,7 @@ names_of input [] = []
 names_of input (signal ∷ signals) =
     if goes input signal then signal.0 ∷ names_of input signals else names_of input signals
 
--- the names stand among these, in this order
+-- the names are among these, in this order
 unfoldable pub is_among : Names → Names → Bool
 is_among [] pool = true
 is_among (name ∷ names) [] = false
@@ -67,7 +67,7 @@ is_group names = not (length names == 0) && list_all is_name names
 abbrev pub fits_in_order : Names → Names → Bool
 fits_in_order pool names = is_group names && is_among names pool
 
--- a group of so many signals, in any order: the three control ports, the scan-out ports of the chains
+-- a group of `count` signals, in any order: the three control ports, the scan-out ports of the chains
 abbrev pub fits_in_number : ℕ → Names → Names → Bool
 fits_in_number count pool names = is_group names && ((length names == count) && all_in pool names)
 
@@ -93,7 +93,7 @@ unfoldable pub longest : List Chain → ℕ
 longest [] = 0
 longest (chain ∷ chains) = max chain.cells (longest chains)
 
--- a member of a statement: a key, and a word for so many values behind so many that fill up
+-- a member of a statement: a key, and a word for the values used, after those that fill up
 pub record Member : Type 0 where
   pub key : Token
   pub used : ℕ

@@ -64,7 +64,7 @@ word allowed spelled look = record {
   read = read_one (spelled_value allowed spelled look);
 }
 
--- one form behind another, on whose value it may depend
+-- one form after another, on whose value it may depend
 abbrev pub and_then : {First Second : Type 0} → Form First → (First → Form Second) → Form (First × Second)
 and_then {First} {Second} first second = record {
   allowed = λ both. first.allowed both.0 && (second both.0).allowed both.1;
@@ -73,7 +73,7 @@ and_then {First} {Second} first second = record {
   read = read_then first.read (λ one. (second one).read);
 }
 
--- a form behind a piece
+-- a form after a piece
 abbrev pub behind : {Value : Type 0} → Piece → Form Value → Form Value
 behind piece form = record {
   allowed = form.allowed;
@@ -124,7 +124,7 @@ for_each item parts = record {
   read = read_each (λ part. (item part).read) parts;
 }
 
--- a form that may be left out, told by its first token, where it is possible at all, and another one behind
+-- a form that may be left out, known by its first token, where it is possible at all, and another one after
 -- it
 abbrev pub maybe : {First Second : Type 0} → Bool → Token → Form First → (Option First → Form Second)
     → Form (Option First × Second)

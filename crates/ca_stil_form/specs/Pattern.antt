@@ -14,7 +14,7 @@ use Rattle.ca_stil_form.specs.Frame.{load_members, unload_members, quoted}
 abbrev pub level_at : ℕ → Trit
 level_at byte = if byte == 76 then Zero else (if byte == 72 then One else X)
 
--- the bits of a member, behind zeros that fill up
+-- the bits of a member, after zeros that fill up
 abbrev pub bits_word : Member → List Bool → Token
 bits_word member bits = replicate member.filled 48 ++ map digit_of bits
 
@@ -63,20 +63,20 @@ pair_begins frame number =
     blank (codes "  ") <> token (quoted (codes "pair " ++ decimal number)) <> fixed (codes ": ")
     <> first_begins frame.chains
 
--- behind the bits of a load: nothing is compared, and a vector is applied
+-- after the bits of a load: nothing is compared, and a vector is applied
 abbrev pub load_ends : List Chain → Piece
 load_ends [] = no_piece
 load_ends (chain ∷ chains) =
     pieces (steady 88) (unload_members (chain ∷ chains)) <> fixed (codes " }\n  V { \"_ctl_\"=000;")
 
--- behind the first vector: nothing is observed, and the second state is loaded, or the second vector is
+-- after the first vector: nothing is observed, and the second state is loaded, or the second vector is
 -- applied
 abbrev pub first_ends : Frame → Piece
 first_ends frame =
     pieces (steady 88) (group_member key_outputs frame.outputs) <> fixed (codes " }\n  ")
     <> first_begins frame.chains
 
--- behind what is observed in the second vector: the cells capture, and zeros are shifted in
+-- after what is observed in the second vector: the cells capture, and zeros are shifted in
 abbrev pub capture : List Member → List Chain → Piece
 capture outputs [] = no_piece
 capture outputs (chain ∷ chains) =
@@ -86,7 +86,7 @@ capture outputs (chain ∷ chains) =
 abbrev pub last_ends : Frame → Piece
 last_ends frame = fixed (codes " }\n") <> capture (group_member key_outputs frame.outputs) frame.chains
 
--- behind what is unloaded
+-- after what is unloaded
 abbrev pub unload_ends : List Chain → Piece
 unload_ends [] = no_piece
 unload_ends (chain ∷ chains) = fixed (codes " }\n")

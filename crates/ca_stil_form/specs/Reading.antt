@@ -3,8 +3,8 @@ use Rattle.std.specs.Prelude.{ℕ, ◌≡◌, true, List, [], ◌∷◌, ◌++�
 use Rattle.ca_stil_form.specs.Form.{Token, Outcome, Got, Stuck}
 use Rattle.ca_stil_form.specs.Grammar.{Form}
 
--- what a reading gives where nothing may stand behind it: a value, or how many tokens are left from the
--- first faulty one on
+-- what a reading gives where nothing may follow it: a value, or how many tokens are left from the first
+-- faulty one on
 abbrev pub at_end : {Value : Type 0} → Outcome Value → Result Value ℕ
 at_end (Got value []) = Ok value
 at_end (Got value (token ∷ tokens)) = Err (length (token ∷ tokens))
@@ -25,8 +25,8 @@ pub record Begins {Value : Type 0} (form : Form Value) (tokens : List Token) : T
   pub more : List Token
   pub written : IsWritten form value (tokens ++ more)
 
--- of these tokens so many are left from the first one on that no text of the form has behind the tokens
--- before it; none is left where the tokens end too early
+-- of these tokens `left` are left from the first one on that no text of the form has after the tokens before
+-- it; none is left where the tokens end too early
 pub record IsFirstFaulty {Value : Type 0} (form : Form Value) (tokens : List Token) (left : ℕ) : Type 0 where
   pub seen : List Token
   pub rest : List Token

@@ -16,12 +16,12 @@ is_mark byte = byte == 123 || byte == 125 || byte == 59 || byte == 58 || byte ==
 abbrev pub is_quote : ℕ → Bool
 is_quote byte = byte == 34 || byte == 39
 
--- any other byte stands in a word
+-- any other byte belongs to a word
 abbrev pub is_inside : ℕ → Bool
 is_inside byte = not (is_space byte || is_mark byte || is_quote byte)
 
--- where the reading of a text stands, with what was read of the token there: between tokens, in a word, in
--- a text in double quotes, and in one in single quotes, outside and inside the double quotes in it
+-- where the reading of a text is, with what was read of the token there: between tokens, in a word, in a text
+-- in double quotes, and in one in single quotes, outside and inside the double quotes in it
 pub data Place : Type 0 where
   Between : Place
   InWord : List ℕ → Place
@@ -29,7 +29,7 @@ pub data Place : Type 0 where
   InGroup : List ℕ → Place
   InMember : List ℕ → Place
 
--- where the reading stands behind a byte that begins something, and the token that such a byte is
+-- where the reading is after a byte that begins something, and the token that such a byte is
 abbrev pub begun : ℕ → Place
 begun byte =
     if is_inside byte then InWord (byte ∷ [])
@@ -38,7 +38,7 @@ begun byte =
 abbrev pub alone : ℕ → List Token
 alone byte = if is_mark byte then (byte ∷ []) ∷ [] else []
 
--- where the reading stands behind the next byte
+-- where the reading is after the next byte
 abbrev pub next_place : Place → ℕ → Place
 next_place Between byte = begun byte
 next_place (InWord text) byte = if is_inside byte then InWord (text ++ byte ∷ []) else begun byte

@@ -13,7 +13,7 @@ use Rattle.ca_stil_form.specs.Frame.{quoted_from, names_of, fits_in_order, fits_
 use Rattle.ca_stil_form.specs.Frame.{key_inputs, key_outputs, key_controls}
 use Rattle.ca_stil_form.specs.Pattern.{PairValues, pair_form}
 
--- what stands between a token's first and last byte
+-- what is between a token's first and last byte
 abbrev pub name_in : Token → List ℕ
 name_in token = take (length token - 2) (drop 1 token)
 
@@ -123,7 +123,7 @@ abbrev pub chains_end : Option Scan → Piece
 chains_end None = no_piece
 chains_end (Some scan) = fixed (codes "}\n")
 
--- the groups end, and the timing stands up to the chains
+-- the groups end, and the timing follows up to the chains
 abbrev pub timing : Option Names → Option Names → Option Scan → Piece
 timing inputs outputs scan =
     token (codes "}") <> fixed
@@ -141,14 +141,14 @@ macro (Some scan) =
     fixed (codes "MacroDefs {\n  \"_shift_\" {\n    W \"_wft_\";\n    Shift {\n      V { \"_ctl_\"=1P1;")
     <> pieces shifted scan.1.0 <> pieces shifted scan.1.1 <> fixed (codes " }\n    }\n  }\n}\n")
 
--- the chains end, and all stands up to the first pair
+-- the chains end, and all else follows up to the first pair
 abbrev pub pattern_begins : Option Scan → Piece
 pattern_begins scan = chains_end scan
     <> fixed (codes "PatternBurst \"_burst_\" {\n  PatList { \"_pattern_\"; }\n}\n"
     ++ codes "PatternExec {\n  PatternBurst \"_burst_\";\n}\n")
     <> macro scan <> fixed (codes "Pattern \"_pattern_\" {\n  W \"_wft_\";\n")
 
--- what stands behind the groups: the numbers of cells of the chains, and the pairs
+-- what follows the groups: the numbers of cells of the chains, and the pairs
 abbrev pub Rest : Type 0
 Rest = List (List ℕ) × List PairValues
 
@@ -161,7 +161,7 @@ rest_form inputs outputs scan =
 abbrev pub Stil : Type 0
 Stil = List Signal × (Option Names × (Option Names × (Option Scan × Rest)))
 
--- a group is told by its key, and may be left out; it is possible where some signal can be in it
+-- a group is known by its key, and may be left out; it is possible where some signal can be in it
 abbrev pub scan_part : List Signal → Option Names → Option Names → Form (Option Scan × Rest)
 scan_part signals inputs outputs =
     maybe (has_some true signals && has_some false signals) key_controls (scan_form signals)

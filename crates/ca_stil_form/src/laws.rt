@@ -13,7 +13,7 @@ ghost use Rattle.ca_stil_form.specs.Value.{stil_value};
 ghost use Rattle.ca_stil_form.specs.Allowed.{NamedValuesAreAllowed};
 
 /// Tokens read as some values exactly where they are the tokens of these values' text; and they are faulty
-/// exactly at their first token that no text of the form has behind the tokens before it, or at their end
+/// exactly at their first token that no text of the form has after the tokens before it, or at their end
 /// where they end too early.
 pub fn stil_reading()
     ensures written { (tokens : List Token) (value : Stil) → IsWritten stil_form value tokens

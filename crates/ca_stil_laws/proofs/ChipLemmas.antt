@@ -51,7 +51,7 @@ use Rattle.ca_stil_laws.proofs.PortLemmas.{found_among}
 some_inj : {X : Type 0} (x y : X) → Some x ≡ Some y → x ≡ y
 some_inj x y is = cc
 
--- what is said of a place is said of what stands there
+-- what is said of a place is said of what is there
 of_there : {X : Type 0} (P : X → Type 0) (xs : List X) (k : ℕ) (x : X) → slice_get xs k ≡ Some x → IsSomeAnd (slice_get xs k) P → P x
 of_there P xs k x at has = subst (λ found. IsSomeAnd found P) at has
 

@@ -150,7 +150,7 @@ in_pool input (first ∷ ports) (suc p) port at is = by (goes input (first.name,
         ∙ or_right (bytes_eq port.name first.name) (list_any (bytes_eq port.name) (pool input ports)) later
     by false way later = ap (list_any (bytes_eq port.name)) (pool_more input first ports false way) ∙ later
 
--- names stand in order where one more name stands before the others, or one less is asked for
+-- names are in order where one more name comes before the others, or one less is asked for
 record GoesOnAmong (others : Names) : Type 0 where
   pub skip : (names : Names) (other : List ℕ) → is_among names others ≡ true → is_among names (other ∷ others) ≡ true
   pub tail : (name : List ℕ) (names : Names) → is_among (name ∷ names) others ≡ true → is_among names others ≡ true

@@ -37,7 +37,7 @@ place_last passes xs y within none hit =
     last : (p l : ℕ) → p ≤ l → found_place p l ≡ None → found_place (cond (nat_eq p l) (l + 0) p) (l + 1) ≡ Some l
     last p l within none = grind (arith, nat_tests, none)
 
--- an element that stood in the list before
+-- an element that was in the list before
 slice_get_before : {X : Type 0} (xs : List X) (y : X) (place : ℕ) → place < length xs
     → slice_get (xs ++ y ∷ []) place ≡ slice_get xs place
 slice_get_before [] y place below = absurd (omega arith)

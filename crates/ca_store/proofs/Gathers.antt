@@ -41,7 +41,7 @@ pub grown_by : (text grown into : List ℕ) (n m : ℕ) → grown ≡ text ++ ta
 grown_by text grown into n m is_grown room =
     omega (arith, ap length is_grown, length-append text (take n into), length-take n into)
 
--- what was read of a file that was opened, where it is told
+-- what was read of a file that was opened, where it is known
 pub read_of : (files mid_files : Option Files) (name text : List ℕ) (limit : ℕ) (opened : Opened) (is_whole : Bool)
     → OpensFile files name opened → mid_files ≡ files → IsReadUpTo is_whole limit text mid_files opened
     → (told : Files) → files ≡ Some told → (bytes : List ℕ) × (told name ≡ Some bytes) × IsEnd is_whole limit text bytes

@@ -43,7 +43,7 @@ is_here (f ∷ files) name (suc place) next after within none same =
     let none_after : files_of (drop (place + 1) files) name ≡ None = rw more at none in
     rw (is_here files name place (place + 1) refl (omega arith) none_after same) refl
 
--- no file stands past the end
+-- no file is past the end
 pub none_past : (files : List File) (name : List ℕ) (place : ℕ) → place ≡ length files
     → files_of (drop place files) name ≡ None
 none_past files name place past =

@@ -19,7 +19,7 @@ unequal xs ys other = at (bytes_eq xs ys) refl
 pub equal : (xs : List ℕ) → bytes_eq xs xs ≡ true
 equal xs = (bytes_eq-Decides xs xs).1 refl
 
--- a part that stood there before more was added
+-- a part that was there before more was added
 pub part_before : (xs more : List ℕ) (start end : ℕ) → start ≤ end → end ≤ length xs
     → part (xs ++ more) start end ≡ part xs start end
 part_before xs more start end ordered within =

@@ -1,4 +1,4 @@
--- Files that stand one after another in one list of bytes.
+-- Files one after another in one list of bytes.
 use Rattle.std.proofs.Common.{◌≡◌, ℕ, zero, suc, ◌+◌, ◌<◌, ◌≤◌, List, [], ◌∷◌, ◌++◌, length, drop}
 use Rattle.std.proofs.Common.{Some, refl, ap, sym, ◌∙◌, arith, length-append, get_or}
 use Rattle.std.specs.List.{slice_get}

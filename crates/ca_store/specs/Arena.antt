@@ -1,5 +1,4 @@
--- Files that stand one after another in one list of bytes: a name, then the bytes of the file, up to the next
--- name.
+-- Files one after another in one list of bytes: a name, then the bytes of the file, up to the next name.
 use Rattle.std.specs.Prelude.{◌≡◌, ◌<◌, ◌≤◌, ℕ, ◌-◌, List, [], ◌∷◌, ◌++◌, length, take, drop, Option, Some}
 use Rattle.std.specs.Prelude.{None, ⊤}
 use Rattle.ca_store.specs.Memory.{files_of, name_at, bytes_at}

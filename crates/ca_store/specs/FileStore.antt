@@ -1,10 +1,10 @@
--- The files of the system, of which nothing is told but whether one is open.
+-- The files of the system, of which nothing is known but whether one is open.
 use Rattle.std.specs.Prelude.{[]}
 use Rattle.ca_store.specs.Store.{Opened, Nothing, Reading, Writing}
 use Rattle.ca_store.specs.declared.file_store.OpenFile.{OpenFile}
 use Rattle.ca_store.specs.declared.file_store.OpenFile.TheVariants.{Closed, InReading, InWriting}
 
--- what is open, where no name and no place is told
+-- what is open, where no name and no place is known
 abbrev pub untold : {F : Type 0} → OpenFile F → Opened
 untold Closed = Nothing
 untold (InReading file) = Reading [] 0

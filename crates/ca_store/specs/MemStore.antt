@@ -1,5 +1,5 @@
--- A store in memory: what it was made with, what it tells, what it has room for, and exactly when its calls
--- fail.
+-- A store in memory: what it was made with, which files it has, what it has room for, and exactly when its
+-- calls fail.
 use Rattle.std.specs.Prelude.{◌≡◌, ◌<◌, ℕ, ◌-◌, ◌↔◌, ◌⊎◌, min, List, length, Contains, IsNone}
 use Rattle.std.specs.Prelude.{Result, IsErr, IfOk, OnOk, OnErr}
 use Rattle.std.specs.Option.{ForSome}
@@ -99,7 +99,7 @@ pub record FindsNoRoom (from : List ℕ) (room : Room) : Type 0 where
   pub full : room.bytes ≡ 0
 
 -- a write fails exactly where it is listed or finds no room; else it takes as much as fits, up to a piece,
--- and the room of so many bytes
+-- and the room of that many bytes
 pub record WritesExactly {E : Type 0} (from : List ℕ) (result : Result ℕ E)
     (old new : MemStore) : Type 0 where
   pub fails : IsErr result ↔

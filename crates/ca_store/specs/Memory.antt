@@ -27,7 +27,7 @@ abbrev pub HasDistinctNames : List File → Type 0
 HasDistinctNames files = (place : ℕ) (file : File) → slice_get files place ≡ Some file
     → place_named files file.name ≡ Some place
 
--- what a later file tells, or else the bytes of this one, if it is the one that is meant
+-- the bytes of a later file, or else those of this one, if it is the one that is meant
 abbrev pub later_or : Option (List ℕ) → Bool → List ℕ → Option (List ℕ)
 later_or (Some later) is_meant bytes = Some later
 later_or None true bytes = Some bytes

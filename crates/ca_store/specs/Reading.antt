@@ -5,12 +5,12 @@ use Rattle.ca_store.specs.Store.{Files, Opened, Nothing, Reading, IsReading, Ros
 use Rattle.ca_store.specs.declared.reading.ReadFault.{ReadFault}
 use Rattle.ca_store.specs.declared.reading.ReadFault.TheVariants.{StoreFailed, TooLong, NoMemory}
 
--- the file that was opened is still open, where it is told, and this is what it gave so far
+-- the file that was opened is still open, where it is known, and this is what it gave so far
 pub record IsSoFar (name bytes : List ℕ) (opened : Opened) (text : List ℕ) : Type 0 where
   pub place : opened ≡ Reading name (length text)
   pub first : text ≡ take (length text) bytes
 
--- the same of a store that may tell its files, where this was open before and this is after
+-- the same of a store whose files may be known, where this was open before and this is after
 abbrev pub IsReadSoFar : Option Files → Opened → Opened → List ℕ → Type 0
 IsReadSoFar files old new text = (name : List ℕ) → old ≡ Reading name 0
     → ForSome files (λ told. ForSome (told name) (λ bytes. IsSoFar name bytes new text))
@@ -20,7 +20,7 @@ abbrev pub IsEnd : Bool → ℕ → List ℕ → List ℕ → Type 0
 IsEnd true limit text bytes = text ≡ bytes
 IsEnd false limit text bytes = limit < length bytes
 
--- the same of a store that may tell its files, where this was open
+-- the same of a store whose files may be known, where this was open
 abbrev pub IsReadUpTo : Bool → ℕ → List ℕ → Option Files → Opened → Type 0
 IsReadUpTo is_whole limit text files old = (name : List ℕ) → old ≡ Reading name 0
     → ForSome files (λ told. ForSome (told name) (IsEnd is_whole limit text))

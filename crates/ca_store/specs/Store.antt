@@ -32,7 +32,7 @@ IsOpen Nothing = ⊥
 IsOpen (Reading name place) = Unit {0}
 IsOpen (Writing name) = Unit {0}
 
--- a count of faults rose in a call: it is greater than before, or stands at its greatest value
+-- a count of faults rose in a call: it is greater than before, or is at its greatest value
 abbrev pub Rose : ℕ → ℕ → Type 0
 Rose before after = after < 2 ^ 64 - 1 → before < after
 
@@ -41,22 +41,22 @@ pub record KeepsCount {T E : Type 0} (result : Result T E) (before after : ℕ) 
   pub quiet : OnOk result (after ≡ before)
   pub later : before ≤ after
 
--- where the files are told, one has this name
+-- where the files are known, one has this name
 abbrev pub MayHave : Option Files → List ℕ → Type 0
 MayHave files name = ForSome files (λ told. IsSome (told name))
 
--- the files are told, and none has this name
+-- the files are known, and none has this name
 abbrev pub Lacks : Option Files → List ℕ → Type 0
 Lacks files name = IsSomeAnd files (λ told. IsNone (told name))
 
--- an open fails and counts no fault at a name that the told files lack, and else it fails only where the
+-- an open fails and counts no fault at a name that the known files lack, and else it fails only where the
 -- count rises
 pub record FailsAtMissing {T E : Type 0} (result : Result T E) (files : Option Files) (name : List ℕ)
     (before after : ℕ) : Type 0 where
   pub missing : Lacks files name → IsErr result × (after ≡ before)
   pub cause : MayHave files name → OnErr result (Rose before after)
 
--- after the file of this name was opened: it may be there, and where the files are told it is open at its
+-- after the file of this name was opened: it may be there, and where the files are known it is open at its
 -- start
 pub record OpensFile (files : Option Files) (name : List ℕ) (opened : Opened) : Type 0 where
   pub in_reading : IsReading opened
@@ -72,14 +72,14 @@ pub record GivesNext (n : ℕ) (into name : List ℕ) (place : ℕ) (bytes : Lis
   pub got : take n into ≡ take n (drop place bytes)
   pub at_end : n ≡ 0 → 0 < length into → length bytes ≤ place
 
--- a read that put n bytes into a buffer leaves a file open, which is the same one where the files are told
+-- a read that put n bytes into a buffer leaves a file open, which is the same one where the files are known
 pub record ReadsOn (n : ℕ) (into : List ℕ) (files : Option Files) (old new : Opened) : Type 0 where
   pub fits : n ≤ length into
   pub in_reading : IsReading new
   pub next : (name : List ℕ) (place : ℕ) → old ≡ Reading name place
       → ForSome files (λ told. ForSome (told name) (λ bytes. GivesNext n into name place bytes new))
 
--- bytes that are told, or not, after more were appended
+-- bytes that are known, or not, after more were appended
 abbrev pub appended : List ℕ → Option (List ℕ) → Option (List ℕ)
 appended more None = None
 appended more (Some held) = Some (held ++ more)

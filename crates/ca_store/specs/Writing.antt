@@ -3,7 +3,7 @@ use Rattle.std.specs.Prelude.{◌≡◌, ◌≢◌, ◌⊎◌, ◌<◌, ◌≤�
 use Rattle.std.specs.Option.{ForSome}
 use Rattle.ca_store.specs.Store.{Files, Opened, Writing, IsWriting, appended}
 
--- the new files are told, this name stands for this, and every other name for what it stood for before
+-- the new files are known, this name stands for this, and every other name for what it stood for before
 pub record SetsOne (before : Files) (new : Option Files) (name : List ℕ)
     (content : Option (List ℕ)) : Type 0 where
   pub after : Files
@@ -11,7 +11,7 @@ pub record SetsOne (before : Files) (new : Option Files) (name : List ℕ)
   pub set : after name ≡ content
   pub others : (other : List ℕ) → other ≢ name → after other ≡ before other
 
--- where the files are told, this name now stands for this and nothing else changed; files that aren't told
+-- where the files are known, this name now stands for this and nothing else changed; files that aren't known
 -- stay so
 pub record ChangesOnly (old new : Option Files) (name : List ℕ) (content : Option (List ℕ)) : Type 0 where
   pub told : ForSome old (λ before. SetsOne before new name content)
@@ -34,7 +34,7 @@ pub record AppendsTo (before : Files) (new : Option Files) (name more : List ℕ
   pub appends : SetsOne before new name (appended more (before name))
 
 -- a write that took n bytes of a piece appended them to the open file, took some of a piece that is not
--- empty, and leaves a file open, which is the same one where the files are told
+-- empty, and leaves a file open, which is the same one where the files are known
 pub record WritesOn (n : ℕ) (from : List ℕ) (old new : Option Files) (was now : Opened) : Type 0 where
   pub fits : n ≤ length from
   pub some : 0 < length from → 0 < n

@@ -1,4 +1,4 @@
-//! The files of the system. Nothing is told of what they hold.
+//! The files of the system. Nothing is said about what they hold.
 ghost use Rattle.std.specs.Prelude.{◌≡◌, ◌<◌, ◌^◌, None};
 ghost use Rattle.ca_store.specs.Store.{Nothing};
 ghost use Rattle.ca_store.specs.FileStore.{untold};

@@ -16,7 +16,7 @@ pub enum ReadFault {
     /// A call of the store failed.
     StoreFailed,
 
-    /// The file has more bytes than the limit. So many were taken of it.
+    /// The file has more bytes than the limit. That many were taken.
     TooLong { taken: usize },
 
     /// There was no memory for the bytes.

@@ -8,7 +8,7 @@ use ca_base::NoMemory;
 use std::alloc::Global;
 use std::marker::Model;
 
-// Where a file stands: its name from the start to the middle, and its bytes from there up to the next start.
+// Where a file is: its name from the start to the middle, and its bytes from there up to the next start.
 #[derive(Clone, Copy)]
 pub(crate) struct Span {
     start: usize,
@@ -42,7 +42,7 @@ impl Model for Shelf {
 }
 
 impl Shelf {
-    // A shelf of these files, with room for so many bytes and files more.
+    // A shelf of these files, with room for `room` more bytes and `creates` more files.
     pub(crate) fn holding(
         alloc: Global,
         files: &[File],

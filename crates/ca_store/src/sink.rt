@@ -6,7 +6,7 @@ use crate::store::Failed;
 
 /// What takes bytes, in order.
 pub trait Sink {
-    /// The bytes that it holds, where it tells them.
+    /// The bytes that it holds, where they are known.
     ghost bytes: { Self → Option (List ℕ) };
 
     /// How often a write failed, up to 2^64 - 1.

@@ -1,4 +1,4 @@
-//! The standard output and the standard error. Nothing is told of what they hold.
+//! The standard output and the standard error. Nothing is said about what they hold.
 ghost use Rattle.std.specs.Prelude.{◌≡◌, ◌<◌, ◌^◌, None};
 
 use crate::sink::Sink;

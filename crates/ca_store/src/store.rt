@@ -11,13 +11,13 @@ pub struct Failed;
 
 /// A store of files. After `Failed` nothing is open.
 pub trait Store {
-    /// What the names stand for, where the store tells it.
+    /// What the names stand for, where that is known.
     ghost files: { Self → Option Files };
 
-    /// What is open. Its name and place mean something where the files are told.
+    /// What is open. Its name and place mean something where the files are known.
     ghost opened: { Self → Opened };
 
-    /// How often a call failed, up to 2^64 - 1. A name that the told files lack doesn't count.
+    /// How often a call failed, up to 2^64 - 1. A name that the known files lack doesn't count.
     ghost faults: { Self → ℕ };
 
     /// Opens a file for reading, at its start.

@@ -1,9 +1,9 @@
--- Each of a list is right behind those before it: one after another, and at any place.
+-- Each of a list is right given those before it: one after another, and at any place.
 use Rattle.std.proofs.Common.{◌≡◌, List, [], ◌∷◌, ◌++◌, refl, sym, subst, append_assoc, append-nil}
 use Rattle.std.specs.Prelude.{⊤}
 use Rattle.ca_syntax.specs.Rules.{EachBehind}
 
--- each is right behind those before it and these
+-- each is right given those before it and these
 abbrev pub OneByOne : {T : Type 0} → (List T → T → Type 0) → List T → List T → Type 0
 OneByOne P seen [] = ⊤
 OneByOne P seen (here ∷ more) = P seen here × OneByOne P (seen ++ here ∷ []) more

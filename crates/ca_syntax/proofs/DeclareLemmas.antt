@@ -108,7 +108,7 @@ set_one declared it (name ∷ listed) (suc at) new distinct is changed =
     λ j. apart declared it name (got_apart name it.name listed at distinct.0 is) j
     ∷ set_one declared it listed at new distinct.1 is changed j
 
--- where a declared name stands
+-- where a declared name is
 pub place_seen : (name : List ℕ) (declared : List Declared) → is_declared name declared ≡ true
     → (at : ℕ) × (slice_get (names_in declared) at ≡ Some name) × (place_of name (names_in declared) ≡ Some at)
 place_seen name declared is =

@@ -33,7 +33,7 @@ use Rattle.ca_syntax.proofs.NetlistLemmas.{right_read, large_refused}
 use Rattle.ca_syntax.proofs.ParseLemmas.{tree_parsed}
 use Rattle.ca_syntax.proofs.TreeOnlyLemmas.{tree_only}
 
--- a whole text is read: nothing is left of it, and the reading stands behind `endmodule`
+-- a whole text is read: nothing is left of it, and the reading is after `endmodule`
 record IsReadAs (text : List ℕ) (last : Reading) : Type 0 where
   whole : (scan_of text).flaw ≡ None
   read : tokens_from text nothing (scan_of text).tokens ≡ Ok last
@@ -126,7 +126,7 @@ text_has_tree text raw is =
     let tree = tree_of text read.0 read.1 in
     (tree.0, netlist_of_tree text tree.0 raw tree.1 (right_of text read.0 tree.0 read.1 tree.1) is)
 
--- a token's fault is told on its line
+-- a token's fault is reported on its line
 no_count : (text : List ℕ) (tokens : List Token) (it : Reading) (count : ℕ) → tokens_from text it tokens ≡ Err (TooManyNets count) → ⊥
 unfolding steps_from
 no_count text [] it count is = absurd cc

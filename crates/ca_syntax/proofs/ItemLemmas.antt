@@ -48,7 +48,7 @@ keyword_step direction.Input it = refl
 keyword_step direction.Output it = refl
 keyword_step direction.Inner it = refl
 
--- where the first name of a declaration stands
+-- where the first name of a declaration is
 abbrev pub behind_range : Direction → Option Range → Place
 behind_range way None = place.Declaration way
 behind_range way (Some range) = place.Declared way (Some range)
@@ -202,7 +202,7 @@ instance_over it = refl
 abbrev pub hand_of : Instance → Hand → Hand
 hand_of here hand = record hand { cell = upper_case here.cell; name = here.name; uses = [] }
 
--- what is in hand behind an instance
+-- what is in hand after an instance
 abbrev pub emptied : Hand → Hand
 emptied hand = record hand { cell = []; name = []; uses = [] }
 

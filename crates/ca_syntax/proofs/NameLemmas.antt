@@ -18,7 +18,7 @@ use Rattle.ca_syntax.specs.Tree.{Declared}
 use Rattle.ca_syntax.specs.Names.{names_in, is_declared, directs, is_directed, is_wire, direction_of}
 use Rattle.ca_syntax.specs.Names.{range_of}
 
--- names, each once, behind those seen
+-- names, each once, after those seen
 abbrev pub once_behind : List (List ℕ) → List (List ℕ) → List (List ℕ)
 once_behind seen names = fold (λ seen name. with_name name seen) seen names
 

@@ -63,7 +63,7 @@ differs first name (other ∷ listed) zero all is =
     subst (λ (n : List ℕ). bytes_eq first n ≡ false) same all.0
 differs first name (other ∷ listed) (suc at) all is = differs first name listed at all.1 is
 
--- the bits of a name stand behind those of the names before it
+-- the bits of a name follow those of the names before it
 first_seen : (declared : List Declared) (listed : List (List ℕ)) (bits at : ℕ) (name : List ℕ) → IsDistinct bytes_eq listed
     → slice_get listed at ≡ Some name
     → first_at at (first_bits bits (map (seen_bus declared) listed)) ≡ bits + bits_before name (map (bus_in declared) listed)
@@ -102,7 +102,7 @@ declared_kept name declared later is =
     ∙ list_any-append (bytes_eq name) (names.all_names declared) (names.all_names later)
     ∙ ap (λ found. found || has_name name (names.all_names later)) is
 
--- an operand that is right behind some declarations is right behind all
+-- an operand that is right given some declarations is right given all
 right_whole : (declared later : List Declared) (on : Operand) → IsRightOperand declared on → IsRightOperand (declared ++ later) on
 right_whole declared later (Operand.whole name) right = declared_kept name declared later right
 right_whole declared later (Operand.bit name index) right =

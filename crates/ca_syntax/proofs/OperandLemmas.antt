@@ -34,7 +34,7 @@ use Rattle.ca_syntax.proofs.ReadLemmas.{symbol_step, Reads, nothing_read, then_m
 use Rattle.ca_syntax.proofs.DeclareLemmas.{unbroken}
 use Rattle.ca_syntax.proofs.SeenLemmas.{seen_operand, seen_use, IsSeen}
 
--- the place behind an operand
+-- the place after an operand
 abbrev pub behind_operand : Side → Operand → Place
 behind_operand at (Operand.whole name) = place.NameEnd at
 behind_operand at (Operand.bit name index) = place.OperandEnd at
@@ -47,7 +47,7 @@ unfolding lexeme_step row_of act
 name_step at name it found is =
     ap (λ (given : Option ℕ). elim given as (λ _. Step) [ None ↦ Err Undeclared | Some found ↦ Ok (at_place (place.NameEnd at) (with_operand (operand.Whole found) it)) ]) is
 
--- the `[` behind a vector
+-- the `[` after a vector
 pub open_step : (at : Side) (it : Reading) (found : ℕ) (range : Range) → range_at found it.buses ≡ Some range
     → symbol_step (Symbol.other lexeme.OpenBracket) (at_place (place.NameEnd at) (with_operand (operand.Whole found) it))
     ≡ Ok (at_place (place.Index at) (with_operand (operand.Whole found) it))
@@ -108,7 +108,7 @@ abbrev operand_after : List Declared → reader.Operand → Option Operand → r
 operand_after whole old None = old
 operand_after whole old (Some on) = seen_operand whole on
 
--- what is in hand behind a connection
+-- what is in hand after a connection
 abbrev pub hand_after : List Declared → Hand → Connection → Hand
 hand_after whole hand it = record hand {
   uses = hand.uses ++ seen_use whole it ∷ [];
@@ -136,7 +136,7 @@ pin_read pin it new =
     then_more _ _ _ _ _ (dot_step it) (then_more _ _ _ _ _ (pin_step pin it new)
     (one_symbol _ _ _ (pin_open_step (with_hand (record it.hand { pin = upper_case pin }) it))))
 
--- the `)` behind an operand
+-- the `)` after an operand
 pub connect_step : (on : Operand) (it : Reading) → is_vector it.buses it.hand.operand ≡ false
     → symbol_step (Symbol.other lexeme.Close) (at_place (behind_operand side.Pin on) it) ≡ Ok (at_place place.PinEnd (with_use (Some it.hand.operand) it))
 unfolding lexeme_step row_of act
@@ -148,7 +148,7 @@ leave_step : (it : Reading) → symbol_step (Symbol.other lexeme.Close) (at_plac
 unfolding lexeme_step row_of act
 leave_step it = refl
 
--- what is on a pin is read, with the `)` behind it
+-- what is on a pin is read, with the `)` after it
 value_read : (whole : List Declared) (value : Option Operand) (pin : List ℕ) (it : Reading) → IsSeenValue whole it.buses value
     → Reads (at_place place.PinValue (with_hand (record it.hand { pin = upper_case pin }) it)) (value_symbols value ++ Symbol.other lexeme.Close ∷ [])
     (at_place place.PinEnd (with_hand (hand_after whole it.hand (record { pin = pin; value = value })) it))
@@ -169,7 +169,7 @@ connection_read whole on it new seen =
     _ (at_place place.PinValue (with_hand (record it.hand { pin = upper_case on.pin }) it)) _
     (pin_read on.pin it new) (value_read whole on.value on.pin it seen)
 
--- what is in hand behind connections
+-- what is in hand after connections
 abbrev pub hands_after : List Declared → Hand → List Connection → Hand
 hands_after whole hand [] = hand
 hands_after whole hand (on ∷ more) = hands_after whole (hand_after whole hand on) more
@@ -191,7 +191,7 @@ pub pins_grow : (whole : List Declared) (uses : List Use) (on : Connection) (mor
 pins_grow whole uses on more is =
     subst (λ (seen : List (List ℕ)). repeats seen (pins_of more) ≡ false) (sym (map-append (λ (used : Use). used.pin) uses (seen_use whole on ∷ []))) is
 
--- the word is new, and so are those behind it
+-- the word is new, and so are those after it
 pub first_new : (seen : List (List ℕ)) (word : List ℕ) (words : List (List ℕ)) → repeats seen (word ∷ words) ≡ false
     → (has_name word seen ≡ false) × (repeats (seen ++ word ∷ []) words ≡ false)
 unfolding repeats
@@ -218,7 +218,7 @@ pub first_begins : (on : Connection) (it : Reading)
 unfolding steps_from lexeme_step row_of act
 first_begins on it = refl
 
--- the place behind the connections of an instance
+-- the place after the connections of an instance
 abbrev pub behind_connections : List Connection → Place
 behind_connections [] = place.FirstPin
 behind_connections (on ∷ more) = place.PinEnd
@@ -239,7 +239,7 @@ connections_read whole (on ∷ more) hand it new seen =
     (more_connections whole more (hand_after whole hand on) it (pins_grow whole hand.uses on more fresh.1)
     (All-tail (λ (on : Connection). IsSeenValue whole it.buses on.value) on more seen))
 
--- what the hand has behind them
+-- what the hand has after them
 pub record HasInHand (whole : List Declared) (connections : List Connection) (before after : Hand) : Type 0 where
   pub cell : after.cell ≡ before.cell
   pub name : after.name ≡ before.name

@@ -39,7 +39,7 @@ seen_instance whole it = record {
   uses = map (seen_use whole) it.connections;
 }
 
--- the reading at a place, behind these declarations, `assign`s and instances
+-- the reading at a place, after these declarations, `assign`s and instances
 abbrev pub state : List Declared → List (List ℕ) → List Declared → List Assign → List Instance → Place → Hand → Reading
 state whole ports declared assigned instances at hand = record {
   place = at;
@@ -50,7 +50,7 @@ state whole ports declared assigned instances at hand = record {
   hand = hand;
 }
 
--- a declared name is found where it stands among all
+-- a declared name is found where it is among all
 pub record IsFoundIn (whole declared : List Declared) (name : List ℕ) : Type 0 where
   pub here : bus_of name (seen_buses declared) ≡ Some (port_of whole name)
   pub there : slice_get (names_in whole) (port_of whole name) ≡ Some name

@@ -65,7 +65,7 @@ more_ports (name ∷ listed) seen it new =
     (more_ports listed (seen ++ name ∷ []) it fresh.1
     ∙ ap (λ (ports : List (List ℕ)). Ok (at_place place.PortEnd (with_ports ports it))) (append_assoc seen (name ∷ []) listed))
 
--- the place behind the header
+-- the place after the header
 abbrev pub behind_header : Option (List (List ℕ)) → Place
 behind_header None = place.Header
 behind_header (Some names) = place.HeaderEnd
@@ -99,7 +99,7 @@ header_read (Some (name ∷ listed)) new =
     (then_more _ _ _ _ _ (header_opens nothing) (then_more _ _ _ _ _ (first_port name nothing fresh.0) (more_ports listed (name ∷ []) nothing fresh.1)))
     (one_symbol _ _ _ (header_closes (with_ports (name ∷ listed) nothing)))
 
--- the reading behind these items
+-- the reading after these items
 abbrev pub behind : Module → List Item → Hand → Reading
 behind tree before hand = state (declarations tree.items) (ports_of tree) (declarations before) (assigns before) (instances before) place.Item hand
 
@@ -130,7 +130,7 @@ value_seen whole declared later (Some (Operand.bit name index)) is (right, scala
     (operand_seen whole declared later (Operand.bit name index) is right, refl)
 value_seen whole declared later (Some (Operand.constant value)) is (right, scalar) = (tt, refl)
 
--- a name that comes behind others differs from them
+-- a name that comes after others differs from them
 new_behind : (seen before after : List (List ℕ)) (here : List ℕ) → repeats seen (before ++ here ∷ after) ≡ false
     → has_name here (seen ++ before) ≡ false
 new_behind seen [] after here new = ap (has_name here) (append-nil seen) ∙ (first_new seen here after new).0
@@ -143,7 +143,7 @@ pub placed_names : (whole : List Declared) (listed : List Instance)
 placed_names whole [] = refl
 placed_names whole (it ∷ listed) = ap (λ more. it.name ∷ more) (placed_names whole listed)
 
--- an item that is right behind those before it, told for itself
+-- an item that is right given those before it, said for itself
 abbrev pub IsNextItem : Module → List Item → Item → Type 0
 IsNextItem tree before (Item.declaration here) =
     EachBehind (IsRightDeclared (ports_of tree)) (declarations before ++ declared_by (Item.declaration here))
@@ -193,7 +193,7 @@ item_read tree before after (Item.instance here) hand rule is =
           ∙ moved tree before (Item.instance here) last _ _ _ (sym (append-nil (declarations before))) (sym (append-nil (assigns before))) refl),
     )
 
--- those at the front are right behind each other too
+-- those at the front are right given each other too
 front_behind : {T : Type 0} (P : List T → T → Type 0) (list front more : List T) → list ≡ front ++ more → EachBehind P list → EachBehind P front
 front_behind P list front more is right = λ before here after parts.
     right before here (after ++ more) (is ∙ ap (λ one. one ++ more) parts ∙ append_assoc before (here ∷ after) more)

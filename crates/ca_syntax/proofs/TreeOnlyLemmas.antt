@@ -116,13 +116,13 @@ repeats_append seen (here ∷ front) more first second =
 abbrev instance_names : List Instance → List (List ℕ)
 instance_names listed = map (λ (it : Instance). it.name) listed
 
--- what holds of items behind others
+-- what holds of items after others
 record AreNext (tree : Module) (before listed : List Item) : Type 0 where
   declared : OneByOne (IsRightDeclared (ports_of tree)) (declarations before) (declarations listed)
   right : OneByOne IsRightItem before listed
   new : repeats (instance_names (instances before)) (instance_names (instances listed)) ≡ false
 
--- an item that is read is right behind those before it
+-- an item that is read is right given those before it
 item_only : (tree : Module) (before after : List Item) (here : Item) (hand : Hand) (last : Reading) (rest : List Symbol)
     → Reads (behind tree before hand) (item_symbols here ++ rest) last → AreNext tree before (here ∷ [])
 item_only tree before after (Item.declaration here) hand last rest whole = record {

@@ -36,14 +36,14 @@ abbrev pub ReadTextHasTree : Type 0
 ReadTextHasTree = (text : List ℕ) (netlist : RawNetlist) → netlist_of text ≡ Ok netlist
     → (tree : Module) × IsTreeOf text netlist tree
 
--- this tree has the text and is right, and declares so many bits, which are too many
+-- this tree has the text and is right, and declares `count` bits, which are too many
 pub record IsLargeTreeOf (text : List ℕ) (count : ℕ) (tree : Module) : Type 0 where
   pub spelled : IsTextOf text tree
   pub right : IsRight tree
   pub many_bits : MOST_BITS < tree_bits tree
   pub same : tree_bits tree ≡ count
 
--- a text that is refused for its number of bits is that of a right tree with so many
+-- a text that is refused for its number of bits is that of a right tree with that many
 abbrev pub LargeTextHasTree : Type 0
 LargeTextHasTree = (text : List ℕ) (count : ℕ) → netlist_of text ≡ Err (TooManyNets count)
     → (tree : Module) × IsLargeTreeOf text count tree

@@ -10,7 +10,7 @@ use Rattle.ca_verilog.specs.declared.table.Range.{Range}
 use Rattle.ca_verilog.specs.Bus.{is_inner}
 use Rattle.ca_syntax.specs.Tree.{Declared}
 
--- each name once, where it stands first
+-- each name once, where it occurs first
 abbrev pub each_once : List (List ℕ) → List (List ℕ)
 each_once names = fold (λ seen name. with_name name seen) [] names
 

@@ -11,7 +11,7 @@ use Rattle.ca_syntax.specs.Tree.{Operand, Assign, Instance, Item, Module, Declar
 use Rattle.ca_syntax.specs.Tree.{instances, ports_of}
 use Rattle.ca_syntax.specs.Names.{is_declared, is_directed, is_wire, range_of}
 
--- each of these is such behind those before it
+-- each of these has the property, given those before it
 abbrev pub EachBehind : {T : Type 0} → (List T → T → Type 0) → List T → Type 0
 EachBehind {T} P list = (before : List T) (here : T) (after : List T) → list ≡ before ++ here ∷ after
     → P before here
@@ -72,8 +72,8 @@ IsRightItem before (Item.declaration it) = ⊤
 IsRightItem before (Item.assign it) = IsRightAssign (declarations before) it
 IsRightItem before (Item.instance it) = IsRightInstance (declarations before) it
 
--- the names of the header are different, and each has a direction; what is declared is right behind what was
--- declared before it; items are right behind those before them; the names of instances are different
+-- the names of the header are different, and each has a direction; what is declared is right given what was
+-- declared before it; items are right given those before them; the names of instances are different
 pub record IsRight (tree : Module) : Type 0 where
   pub ports : has_double (ports_of tree) ≡ false
   pub directed : All (λ name. is_directed name (declarations tree.items) ≡ true) (ports_of tree)

@@ -31,7 +31,7 @@ bus_in declared name = record {
 abbrev pub buses_of : List Declared → List RawBus
 buses_of declared = map (bus_in declared) (names_in declared)
 
--- how many bits stand before those of a name
+-- how many bits are before those of a name
 abbrev pub bits_before : List ℕ → List RawBus → ℕ
 bits_before name [] = 0
 bits_before name (bus ∷ more) =

@@ -19,7 +19,7 @@ pub fn read_text_has_tree()
     ensures { ReadTextHasTree }
 {}
 
-/// A text that is refused for the number of its bits is that of a right tree with so many.
+/// A text that is refused for the number of its bits is that of a right tree with that many.
 pub fn large_text_has_tree()
     ensures { LargeTextHasTree }
 {}

@@ -96,7 +96,7 @@ place_below (wave ∷ pins) =
     let power : 11 ^ suc (length pins) ≡ 11 * 11 ^ length pins = pow-succ' 11 (length pins) in
     omega arith
 
--- so many waves are found, and what is left gives the others
+-- `end` waves are found, and what is left gives the others
 pub record IsDecodedTo (inputs place end rest : ℕ) (pins : List Wave) : Type 0 where
   pub count : length pins ≡ end
   pub within : end ≤ inputs
@@ -133,7 +133,7 @@ decoded_all inputs place end rest pins so_far all =
     let none : inputs - end ≡ 0 = omega arith in
     sym (append-nil pins) ∙ ap (λ k. pins ++ pins_at k rest) (sym none) ∙ so_far.found
 
--- so many entries are what the network gives
+-- the first `end` entries are what the network gives
 pub record IsBuiltTo (raw : RawCell) (net : Circuit) (end : ℕ) (table : List (List Wave)) : Type 0 where
   pub count : length table ≡ end
   pub each : (place : ℕ) → place < end → Gives raw net (pins_at (role_count is_input raw.pins) place) (entry_at table place)

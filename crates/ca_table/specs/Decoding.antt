@@ -18,7 +18,7 @@ coded_wave code =
     else (if code == 1 then pair_of One One
     else record { first = trit_of ((code - 2) / 3); mid = X; last = trit_of ((code - 2) % 3) })
 
--- the waves of so many input pins that the entry at a place is for
+-- the waves of this many input pins that the entry at a place is for
 unfoldable pub pins_at : ℕ → ℕ → List Wave
 pins_at zero place = []
 pins_at (suc count) place = coded_wave (place % 11) ∷ pins_at count (place / 11)

@@ -68,7 +68,7 @@ fn written(rt: HostRuntime, name: &str, bytes: &[u8]) -> Done {
     done
 }
 
-// Neither under its own name nor by another path or link: it stands as it was. A store that hasn't read it
+// Neither under its own name nor by another path or link: it stays as it was. A store that hasn't read it
 // may.
 #[test]
 fn a_file_that_was_read_is_not_created(rt: HostRuntime) -> Result<(), Fail> {

@@ -58,7 +58,7 @@ abbrev begins_white : List ℕ → Bool
 begins_white [] = false
 begins_white (byte ∷ more) = is_white byte
 
--- white space stands behind an escaped name
+-- white space follows an escaped name
 abbrev IsParted : List ℕ → Piece → Type 0
 IsParted text Blank = Unit {0}
 IsParted text (Skipped len) = Unit {0}
@@ -177,7 +177,7 @@ piece_parted begins_line byte more =
 some_same : {X : Type 0} (one other : X) → ◌≡◌ {A = Option X} (Some one) (Some other) → one ≡ other
 some_same one other is = cc
 
--- a fault stands behind what was passed over before it
+-- a fault follows what was passed over before it
 flaw_behind : (begins_line : Bool) (passed place : ℕ) (text : List ℕ) (flaw : fault.Flaw) → (scan_from begins_line passed place text).flaw ≡ Some flaw
     → place + passed ≤ flaw.at
 unfolding scan_from
@@ -207,7 +207,7 @@ star_piece : (more : List ℕ) → piece_of false (42 ∷ more) ≡ Broken 0 Syn
 unfolding piece_of
 star_piece more = refl
 
--- the fault stands behind white space that stands behind what was passed over
+-- the fault follows white space that follows what was passed over
 white_behind : (passed place : ℕ) (text : List ℕ) (flaw : fault.Flaw) → begins_white (drop passed text) ≡ true
     → (scan_from false passed place text).flaw ≡ Some flaw → place + passed + 1 ≤ flaw.at
 unfolding scan_from
@@ -236,7 +236,7 @@ star_here place (byte ∷ more) flaw star is =
 abbrev pub sound : Scan → Scan
 sound scan = record { tokens = scan.tokens; flaw = None }
 
--- what is read before the first fault, which stands so far on, is all that the bytes before it are
+-- what is read before the first fault, which is that far on, is all that the bytes before it are
 pub before_flaw : (begins_line : Bool) (passed place : ℕ) (text : List ℕ) (flaw : fault.Flaw)
     → (scan_from begins_line passed place text).flaw ≡ Some flaw
     → scan_from begins_line passed place (take (flaw.at - place) text) ≡ sound (scan_from begins_line passed place text)

@@ -1,4 +1,4 @@
--- A piece stays the same where the text behind it is cut off.
+-- A piece stays the same where the text after it is cut off.
 use Rattle.std.proofs.Common.{◌≡◌, ℕ, zero, suc, ◌+◌, ◌-◌, ◌<◌, ◌≤◌, List, Bool, true, false, cond, not, ◌&&◌}
 use Rattle.std.proofs.Common.{◌||◌, [], ◌∷◌, length}
 use Rattle.std.proofs.Common.{take, drop, arith, refl, sym, ap, ◌∙◌, subst, ◌==◌, true≢false}
@@ -43,7 +43,7 @@ run_cut test cut text within =
     ap (λ (count : ℕ). take count (take cut text)) (prefix_cut test cut text within)
     ∙ take-take (prefix_len test text) cut text within
 
--- two bytes that close a comment stand before the cut
+-- two bytes that close a comment are before the cut
 closes_cut : (sign cut : ℕ) (text : List ℕ) → 2 ≤ cut → closes sign (take cut text) ≡ closes sign text
 closes_cut sign zero text some = absurd (omega arith)
 closes_cut sign (suc cut) [] some = refl
@@ -51,15 +51,15 @@ closes_cut sign (suc zero) (byte ∷ more) some = absurd (omega arith)
 closes_cut sign (suc (suc cut)) (byte ∷ []) some = refl
 closes_cut sign (suc (suc cut)) (byte ∷ next ∷ more) some = refl
 
--- the piece ends before the cut, which stands so many bytes behind its first; an escaped name ends before
--- another byte
+-- the piece ends before the cut, which is `cut` bytes after its first; an escaped name ends before another
+-- byte
 abbrev pub IsUncut : ℕ → Piece → Type 0
 IsUncut cut Blank = Unit {0}
 IsUncut cut (Skipped len) = len ≤ suc cut
 IsUncut cut (Found found len) = (len ≤ suc cut) × (found ≡ kind.Escaped → len ≤ cut)
 IsUncut cut (Broken shift fault) = ⊥
 
--- something that is skipped and has so many bytes at least, or a fault
+-- something that is skipped and has at least this many bytes, or a fault
 abbrev IsRead : ℕ → Piece → Type 0
 IsRead least Blank = ⊥
 IsRead least (Skipped len) = least ≤ len
@@ -294,7 +294,7 @@ escaped_cut cut more piece uncut is =
         less : (len : ℕ) → len ≡ text_len more → 1 + len ≤ cut → text_len more < cut
         less len same is = omega (arith, same, is)
 
--- digits with what stands behind them up to the cut, where so many bytes stand before it
+-- digits with what follows them up to the cut, where `less` bytes are before it
 number_behind : (whole : ℕ) (digits : List ℕ) (less : ℕ) (rest : List ℕ) (piece : Piece) → length digits + less ≡ suc whole → IsUncut whole piece
     → number_before digits rest ≡ piece → number_before digits (take less rest) ≡ piece
 unfolding constant_piece
@@ -367,7 +367,7 @@ name_cut : (cut : ℕ) (text : List ℕ) (piece : Piece) → IsUncut cut piece �
 name_cut cut text piece uncut is =
     ap (λ (len : ℕ). Found kind.Name len) (prefix_cut is_name_byte (suc cut) text (subst (IsUncut cut) (sym is) uncut).0) ∙ is
 
--- the ways of a piece, one behind another
+-- the ways of a piece, one after another
 abbrev pub behind_name : ℕ → List ℕ → Piece
 behind_name byte rest = cond (is_digit byte) (number_piece (byte ∷ rest)) (sign_piece byte)
 

@@ -272,7 +272,7 @@ first_is begins_line place byte more = whole (piece_of begins_line (byte ∷ mor
     whole (Found found len) = refl
     whole (Broken shift told) = refl
 
--- a text behind one more byte
+-- a text after one more byte
 next_text : (whole : List ℕ) (place byte : ℕ) (more : List ℕ) → drop place whole ≡ byte ∷ more → drop (place + 1) whole ≡ more
 next_text [] zero byte more at = absurd cc
 next_text [] (suc place) byte more at = absurd cc

@@ -22,7 +22,7 @@ passed_over begins_line (suc passed) place (byte ∷ more) =
     let next : place + 1 + passed ≡ place + suc passed = omega arith in
     passed_over begins_line passed (place + 1) more ∙ ap (λ (at : ℕ). scan_from begins_line 0 at (drop passed more)) next
 
--- what is left behind the piece that a text begins with
+-- what is left after the piece that a text begins with
 abbrev pub behind_piece : Bool → ℕ → List ℕ → Piece → Scan
 behind_piece begins_line place [] piece = nothing
 behind_piece begins_line place (byte ∷ more) Blank = scan_from (begins_line || byte == 10) 0 (place + 1) more
@@ -60,7 +60,7 @@ first_piece begins_line place byte more piece is within = ap by_piece (sym is) �
     passed (Found kind len) (some, few) = ap (with_token (token_at place kind len)) (passed_piece place len byte more some)
     passed (Broken shift kind) some = refl
 
--- what is left of a text behind a place, by the piece that stands there
+-- what is left of a text after a place, by the piece there
 pub piece_at : (begins_line : Bool) (text : List ℕ) (at : ℕ) (piece : Piece) → at < length text → piece ≡ piece_of begins_line (drop at text)
     → IsWithin (length (drop at text)) piece
     → scan_from begins_line 0 at (drop at text) ≡ behind_piece begins_line at (drop at text) piece
@@ -71,7 +71,7 @@ piece_at begins_line text at piece within = by (drop at text) (length-drop at te
     by [] count is some = absurd (omega arith)
     by (byte ∷ more) count is some = first_piece begins_line at byte more piece is some
 
--- what is left behind a piece that isn't white space, as a function of the text that begins with it
+-- what is left after a piece that isn't white space, as a function of the text that begins with it
 drop_first : (begins_line : Bool) (text : List ℕ) (at : ℕ) (piece : Piece) → at < length text → (left_of : List ℕ → Scan)
     → ((byte : ℕ) (more : List ℕ) → behind_piece begins_line at (byte ∷ more) piece ≡ left_of (byte ∷ more))
     → piece ≡ piece_of begins_line (drop at text) → IsWithin (length (drop at text)) piece
@@ -111,7 +111,7 @@ skipped_passed begins_line text at len total here here_is within is some so_far 
     ap (scan_from false 0 (at + len)) (sym (drop-drop len at text))
     ∙ sym (drop_first begins_line text at (Skipped len) within (λ (left : List ℕ). scan_from false 0 (at + len) (drop len left)) (λ byte more. refl) at_piece fits) ∙ so_far
 
--- a token comes before those behind it
+-- a token comes before those after it
 pub token_found : (begins_line : Bool) (text : List ℕ) (place at len : ℕ) (kind : TokenKind) → (here : List ℕ) → here ≡ drop at text → at < length text → place ≤ at → Found kind len ≡ piece_of begins_line here
     → (0 < len) × (len ≤ length here) → scan_from begins_line 0 at (drop at text) ≡ tokens_behind place text
     → IsNextToken text place (token_at at kind len) (tokens_behind place text)

@@ -15,7 +15,7 @@ is_unquoted byte = is_text byte && not (byte == 34)
 abbrev pub is_plain_name : List ℕ → Bool
 is_plain_name name = not (length name == 0) && list_all is_unquoted name
 
--- an identifier of this kind and text has such a name, which stands after the `\` of an escaped one
+-- an identifier of this kind and text has such a name, which follows the `\` of an escaped one
 abbrev pub HasPlainName : TokenKind → List ℕ → Type 0
 HasPlainName Name text = is_plain_name text ≡ true
 HasPlainName Escaped text = is_plain_name (drop 1 text) ≡ true

@@ -15,28 +15,28 @@ abbrev pub closes : ℕ → List ℕ → Bool
 closes sign [] = false
 closes sign (byte ∷ more) = byte == 42 && begins_with sign more
 
--- a comment up to `*/`, of which `len` bytes stand before this text; at the text's end it is told at its last
--- byte
+-- a comment up to `*/`, of which `len` bytes are before this text; at the text's end it is reported at its
+-- last byte
 abbrev pub comment_from : ℕ → List ℕ → Piece
 comment_from len [] = Broken (len - 1) Syntax
 comment_from len (byte ∷ more) =
     if closes 47 (byte ∷ more) then Skipped (len + 2) else comment_from (len + 1) more
 
--- an attribute up to `*)`, of which `len` bytes stand before this text; its bytes are judged
+-- an attribute up to `*)`, of which `len` bytes are before this text; its bytes are judged
 abbrev pub attribute_from : ℕ → List ℕ → Piece
 attribute_from len [] = Broken (len - 1) Syntax
 attribute_from len (byte ∷ more) =
     if closes 41 (byte ∷ more) then Skipped (len + 2)
     else (if is_plain byte then attribute_from (len + 1) more else Broken len NotText)
 
--- what a `/` begins, by the bytes behind it: a comment, or nothing that is known
+-- what a `/` begins, by the bytes after it: a comment, or nothing that is known
 unfoldable pub slash_piece : List ℕ → Piece
 slash_piece [] = Broken 0 Syntax
 slash_piece (byte ∷ more) =
     if byte == 47 then Skipped (2 + line_len more)
     else (if byte == 42 then comment_from 2 more else Broken 0 Syntax)
 
--- what a `(` begins, by the bytes behind it: an attribute, unless `*)` follows, or a sign
+-- what a `(` begins, by the bytes after it: an attribute, unless `*)` follows, or a sign
 unfoldable pub open_piece : List ℕ → Piece
 open_piece [] = Found Sign 1
 open_piece (byte ∷ more) =
@@ -52,7 +52,7 @@ is_directive word = bytes_eq word (codes "timescale") || bytes_eq word (codes "c
 abbrev pub directive_line : List ℕ → Piece
 directive_line line = if list_all is_plain line then Skipped (1 + length line) else Broken 0 NotText
 
--- what a backquote begins, where only white space stands before it on its line or not, by the bytes behind it
+-- what a backquote begins, where only white space is before it on its line or not, by the bytes after it
 unfoldable pub directive_piece : Bool → List ℕ → Piece
 directive_piece begins_line more =
     if begins_line && is_directive (take (name_len more) more) then directive_line (take (line_len more) more)
@@ -62,7 +62,7 @@ directive_piece begins_line more =
 abbrev pub has_quote : List ℕ → Bool
 has_quote name = list_any (λ byte. byte == 34) name
 
--- a name behind a `\`, with what stands behind it: white space ends it
+-- a name after a `\`, with what follows it: white space ends it
 abbrev pub escaped_before : List ℕ → List ℕ → Piece
 escaped_before name [] = if has_quote name then Broken 0 Unsupported else Broken 0 Syntax
 escaped_before name (next ∷ more) =
@@ -70,11 +70,11 @@ escaped_before name (next ∷ more) =
     else (if has_quote name then Broken 0 Unsupported
     else (if length name == 0 then Broken 0 Syntax else Found Escaped (1 + length name)))
 
--- what a `\` begins, by the bytes behind it
+-- what a `\` begins, by the bytes after it
 unfoldable pub escaped_piece : List ℕ → Piece
 escaped_piece more = escaped_before (take (text_len more) more) (drop (text_len more) more)
 
--- the value of a constant of one bit, behind its `'`
+-- the value of a constant of one bit, after its `'`
 abbrev pub is_bit : List ℕ → Bool
 is_bit value = bytes_eq value (codes "b0") || bytes_eq value (codes "b1") || bytes_eq value (codes "B0")
     || bytes_eq value (codes "B1")
@@ -85,7 +85,7 @@ constant_piece digits value =
     if bytes_eq digits (codes "1") && is_bit value then Found Constant (length digits + 1 + length value)
     else Broken 0 Unsupported
 
--- digits, with what stands behind them: a number, or a constant where a `'` follows
+-- digits, with what follows them: a number, or a constant where a `'` follows
 abbrev pub number_before : List ℕ → List ℕ → Piece
 number_before digits [] = Found Number (length digits)
 number_before digits (next ∷ more) =
@@ -95,7 +95,7 @@ number_before digits (next ∷ more) =
 unfoldable pub number_piece : List ℕ → Piece
 number_piece text = number_before (take (digits_len text) text) (drop (digits_len text) text)
 
--- what a `'` begins, by the bytes behind it: a constant without a width, or nothing that is known
+-- what a `'` begins, by the bytes after it: a constant without a width, or nothing that is known
 unfoldable pub quote_piece : List ℕ → Piece
 quote_piece [] = Broken 0 Syntax
 quote_piece (byte ∷ more) = if is_letter byte || is_digit byte then Broken 0 Unsupported else Broken 0 Syntax
@@ -108,7 +108,7 @@ sign_piece byte =
     else (if not (is_text byte) then Broken 0 NotText
     else (if byte == 35 || byte == 123 then Broken 0 Unsupported else Broken 0 Syntax))
 
--- what a text begins with, where only white space stands before it on its line or not
+-- what a text begins with, where only white space is before it on its line or not
 unfoldable pub piece_of : Bool → List ℕ → Piece
 piece_of begins_line [] = Blank
 piece_of begins_line (byte ∷ more) =
@@ -121,7 +121,7 @@ piece_of begins_line (byte ∷ more) =
     else (if begins_name byte then Found Name (name_len (byte ∷ more))
     else (if is_digit byte then number_piece (byte ∷ more) else sign_piece byte)))))))
 
--- the piece stands within so many bytes, and has some
+-- the piece is within `count` bytes, and has some
 abbrev pub IsWithin : ℕ → Piece → Type 0
 IsWithin count Blank = 0 < count
 IsWithin count (Skipped len) = (0 < len) × (len ≤ count)

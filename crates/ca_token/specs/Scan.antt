@@ -19,7 +19,7 @@ pub record Scan : Type 0 where
 abbrev pub nothing : Scan
 nothing = record { tokens = []; flaw = None }
 
--- a fault of the token that begins at this place, at the byte so far behind it
+-- a fault of the token that begins at this place, at the byte that is `shift` after it
 abbrev pub broken_at : ℕ → ℕ → LexKind → Scan
 broken_at place shift kind = record {
   tokens = [];
@@ -30,12 +30,12 @@ broken_at place shift kind = record {
 abbrev pub with_token : Token → Scan → Scan
 with_token token rest = record { tokens = token ∷ rest.tokens; flaw = rest.flaw }
 
--- the token of so many bytes that begins at this place
+-- the token of `len` bytes that begins at this place
 abbrev pub token_at : ℕ → TokenKind → ℕ → Token
 token_at place kind len = record { kind = kind; start = place; end = place + len }
 
 -- the tokens of a text that begins at this place of the whole, without its first `passed` bytes, which belong
--- to the piece before; the Bool says whether only white space stands before it on its line
+-- to the piece before; the Bool says whether only white space is before it on its line
 unfoldable pub scan_from : Bool → ℕ → ℕ → List ℕ → Scan
 scan_from begins_line passed place [] = nothing
 scan_from begins_line (suc passed) place (byte ∷ more) = scan_from begins_line passed (place + 1) more
@@ -46,7 +46,7 @@ scan_from begins_line zero place (byte ∷ more) = elim (piece_of begins_line (b
   | Broken shift kind ↦ broken_at place shift kind
 ]
 
--- the tokens of a text behind this place, which is 0 or the end of a token
+-- the tokens of a text after this place, which is 0 or the end of a token
 abbrev pub tokens_behind : ℕ → List ℕ → Scan
 tokens_behind place text = scan_from (place == 0) 0 place (drop place text)
 

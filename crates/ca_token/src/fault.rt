@@ -16,8 +16,7 @@ pub enum LexKind {
     NotText,
 }
 
-/// The first fault of a text: its token begins at byte `at`, and the byte that breaks the rule stands at
-/// `place`.
+/// The first fault of a text: its token begins at byte `at`, and the byte that breaks the rule is at `place`.
 #[derive(Clone, Copy, Debug, PartialEq, Eq)]
 pub struct Flaw {
     pub at: usize,

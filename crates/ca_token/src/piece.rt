@@ -20,9 +20,9 @@ use ca_lex::TokenKind;
 pub(crate) enum Piece {
     /// One byte of white space.
     Blank,
-    /// So many bytes of a comment, an attribute or a directive.
+    /// This many bytes of a comment, an attribute or a directive.
     Skipped(usize),
-    /// A token of so many bytes.
+    /// A token of this many bytes.
     Found(TokenKind, usize),
     /// A fault, with the place of the byte that breaks the rule, counted from the piece's first byte.
     Broken(usize, LexKind),
@@ -34,7 +34,7 @@ fn has_quote(name: &[u8]) -> bool
     name.iter().any(|byte| *byte == b'"')
 }
 
-// A name behind a `\`, with what stands behind it.
+// A name after a `\`, with what follows it.
 fn escaped_before(name: &[u8], rest: &[u8]) -> Piece
     ensures piece { result ≡ escaped_before name.now rest.now }
     ensures within { IsWithin (1 + length name.now) result }
@@ -61,7 +61,7 @@ fn escaped_before(name: &[u8], rest: &[u8]) -> Piece
     }
 }
 
-// What a `\` begins, by the bytes behind it.
+// What a `\` begins, by the bytes after it.
 #[tactic(auto, unfolding(crate::specs::Piece::escaped_piece))]
 fn escaped_piece(more: &[u8]) -> Piece
     ensures piece { result ≡ escaped_piece more.now }
@@ -93,7 +93,7 @@ fn constant_piece(digits: &[u8], value: &[u8]) -> Piece
     }
 }
 
-// Digits, with what stands behind them.
+// Digits, with what follows them.
 fn number_before(digits: &[u8], rest: &[u8]) -> Piece
     requires { 0 < length digits.now }
     ensures piece { result ≡ number_before digits.now rest.now }
@@ -116,7 +116,7 @@ fn number_piece(text: &[u8]) -> Piece
     number_before(digits, rest)
 }
 
-// What a `'` begins, by the bytes behind it.
+// What a `'` begins, by the bytes after it.
 #[tactic(auto, unfolding(crate::specs::Piece::quote_piece))]
 fn quote_piece(more: &[u8]) -> Piece
     ensures piece { result ≡ quote_piece more.now }
@@ -144,7 +144,7 @@ fn sign_piece(byte: u8) -> Piece
     }
 }
 
-/// What a text begins with, where only white space stands before it on its line or not.
+/// What a text begins with, where only white space is before it on its line or not.
 #[tactic(auto, unfolding(crate::specs::Piece::piece_of))]
 pub(crate) fn piece_of(begins_line: bool, text: &[u8]) -> Piece
     requires { 0 < length text.now }

@@ -1,4 +1,4 @@
-//! Which bytes may stand where, and how many of a kind a text begins with.
+//! Which bytes may be where, and how many of a kind a text begins with.
 ghost use Rattle.std.specs.Prelude.{◌≡◌, ◌≤◌, length};
 ghost use Rattle.std.specs.List.{list_all};
 ghost use Rattle.ca_token.specs.Bytes.{is_white, is_text, is_plain, is_letter, is_digit, begins_name};

@@ -17,7 +17,7 @@ fn closes(sign: u8, text: &[u8]) -> bool
     }
 }
 
-// A comment, by the bytes behind its `/*`.
+// A comment, by the bytes after its `/*`.
 fn comment(text: &[u8]) -> Piece
     ensures piece { result ≡ comment_from 2 text.now }
     ensures within { IsWithin (2 + length text.now) result }
@@ -34,7 +34,7 @@ fn comment(text: &[u8]) -> Piece
     Piece::Broken(len - 1, LexKind::Syntax)
 }
 
-// An attribute, by the bytes behind its `(*`.
+// An attribute, by the bytes after its `(*`.
 fn attribute(text: &[u8]) -> Piece
     ensures piece { result ≡ attribute_from 2 text.now }
     ensures within { IsWithin (2 + length text.now) result }
@@ -54,7 +54,7 @@ fn attribute(text: &[u8]) -> Piece
     Piece::Broken(len - 1, LexKind::Syntax)
 }
 
-/// What a `/` begins, by the bytes behind it.
+/// What a `/` begins, by the bytes after it.
 #[tactic(auto, unfolding(crate::specs::Piece::slash_piece))]
 pub(crate) fn slash_piece(more: &[u8]) -> Piece
     ensures piece { result ≡ slash_piece more.now }
@@ -67,7 +67,7 @@ pub(crate) fn slash_piece(more: &[u8]) -> Piece
     }
 }
 
-/// What a `(` begins, by the bytes behind it.
+/// What a `(` begins, by the bytes after it.
 #[tactic(auto, unfolding(crate::specs::Piece::open_piece))]
 pub(crate) fn open_piece(more: &[u8]) -> Piece
     ensures piece { result ≡ open_piece more.now }

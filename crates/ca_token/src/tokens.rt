@@ -66,14 +66,14 @@ pub fn line_at(text: &[u8], place: usize) -> usize
     line
 }
 
-// Whether only white space stands before the byte behind a byte of white space, on its line.
+// Whether only white space is before the byte after a byte of white space, on its line.
 fn begins_line_behind(begins_line: bool, byte: u8) -> bool
     ensures { result ≡ (begins_line || byte == 10) }
 {
     begins_line || byte == b'\n'
 }
 
-/// The token, the fault or the end that follows in a text behind a place, which is 0 or the end of the token
+/// The token, the fault or the end that follows in a text after a place, which is 0 or the end of the token
 /// before.
 pub fn next_token(text: &[u8], place: usize) -> Next
     requires { place ≤ length text.now }

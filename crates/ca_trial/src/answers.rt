@@ -32,7 +32,7 @@ pub(crate) fn before<'a>(setup: &'a Setup, put: Option<Put<'a>>, name: &str) -> 
 }
 
 // Appends the names of the files that hold something else than before. A file with a second text is named
-// once, since it is looked at where it stands last.
+// once, since it is looked at where it occurs last.
 fn report_changed(
     text: &mut Text,
     setup: &Setup,

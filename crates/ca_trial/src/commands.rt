@@ -82,7 +82,7 @@ fn again<C: Commands>(
     Ok(run(alloc, commands, answers, setup, words, Some(put))?)
 }
 
-// The command with one piece of a file, which stands there once, in place of another.
+// The command with one piece of a file, which occurs there once, in place of another.
 fn alter<C: Commands>(
     alloc: Global,
     commands: &mut C,
@@ -106,7 +106,7 @@ fn alter<C: Commands>(
     Ok(run(alloc, commands, answers, setup, words, Some(put))?)
 }
 
-// A text with one piece in place of another, which stands there once.
+// A text with one piece in place of another, which occurs there once.
 fn altered(alloc: Global, whole: &[u8], old: &[u8], new: &[u8]) -> Result<Text, Stop> {
     let (Ok(whole), Ok(old)) = (str::from_utf8(whole), str::from_utf8(old)) else {
         return Err(Stop::Form);

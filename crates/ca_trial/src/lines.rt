@@ -1,4 +1,4 @@
-//! The lines of a case file that say what stands before a command.
+//! The lines of a case file that say what comes before a command.
 
 use crate::setup::{FailedCall, Setup, Show};
 use crate::stop::Stop;
@@ -77,7 +77,7 @@ fn number_of(word: &str, most: usize) -> Result<usize, Stop> {
     }
 }
 
-// So many copies of a piece.
+// Copies of a piece, as many as the line says.
 fn add_copies(alloc: Global, setup: &mut Setup, rest: &str) -> Result<(), Stop> {
     let (word, letters) = rest.split_once(' ').ok_or(Stop::Form)?;
     let count = number_of(word, MOST_COPIES)?;
@@ -89,7 +89,7 @@ fn add_copies(alloc: Global, setup: &mut Setup, rest: &str) -> Result<(), Stop> 
     Ok(setup.append(copies.as_bytes())?)
 }
 
-// Copies of a letter, up to so many bytes.
+// Copies of a letter, up to as many bytes as the line says.
 fn fill(alloc: Global, setup: &mut Setup, rest: &str) -> Result<(), Stop> {
     let (word, letters) = rest.split_once(' ').ok_or(Stop::Form)?;
     let size = number_of(word, MOST_FILLED)?;

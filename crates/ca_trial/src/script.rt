@@ -8,8 +8,8 @@ use crate::texts::push_number;
 use crate::trial::Commands;
 use ca_lex::Text;
 
-/// A case file that is played: what stands before the next command, the words of the last one, and the
-/// answers so far.
+/// A case file that is played: what comes before the next command, the words of the last one, and the answers
+/// so far.
 #[derive(Drop)]
 pub(crate) struct Script {
     rt: HostRuntime,

@@ -1,4 +1,4 @@
-//! What stands before the commands of a case: the files of the store, the limits, and the calls that fail.
+//! What comes before the commands of a case: the files of the store, the limits, and the calls that fail.
 
 use ca_base::NoMemory;
 use ca_lex::Text;
@@ -43,7 +43,7 @@ pub(crate) struct Show {
     pub(crate) lines: Vec<usize>,
 }
 
-/// What stands before a command. Of two files with one name the later one counts.
+/// What comes before a command. Of two files with one name the later one counts.
 #[derive(Drop)]
 pub(crate) struct Setup {
     pub(crate) files: Vec<CaseFile>,
@@ -74,13 +74,13 @@ impl Setup {
         }
     }
 
-    /// What stands here is what all cases share.
+    /// This is what all cases share.
     pub(crate) fn end_head(&mut self) {
         self.head = self.files.len();
         self.head_limits = self.limits;
     }
 
-    /// What the cases share stands here alone.
+    /// What the cases share is here alone.
     pub(crate) fn begin_case(&mut self) {
         self.files.truncate(self.head);
         self.limits = self.head_limits;
@@ -96,7 +96,7 @@ impl Setup {
         }
     }
 
-    /// Appends copies of a letter to the text of the last file, until it has so many bytes.
+    /// Appends copies of a letter to the text of the last file, until it has `size` bytes.
     pub(crate) fn fill(&mut self, size: usize, letter: u8) -> Result<(), NoMemory> {
         match self.files.last_mut() {
             Some(file) => fill_text(&mut file.text, size, letter),
@@ -147,7 +147,7 @@ impl Setup {
     }
 }
 
-// Appends copies of a letter, until there are so many bytes.
+// Appends copies of a letter, until there are `size` bytes.
 fn fill_text(text: &mut Text, size: usize, letter: u8) -> Result<(), NoMemory> {
     for _ in text.len()..size {
         text.push(letter)?;

@@ -34,7 +34,7 @@ pub counted : (bits : ℕ) (buses : List Bus) → bits_with bits buses ≡ bits 
 counted bits [] = omega arith
 counted bits (bus ∷ more) = omega (arith, counted (bits + width_in bus.range) more, width_told bus.range)
 
--- the bits of the name at a place stand among all
+-- the bits of the name at a place are among all
 pub bits_at : (bits : ℕ) (buses : List Bus) (place : ℕ) → place < length buses
     → first_at place (first_bits bits buses) + width_in (range_at place buses) ≤ bits_with bits buses
 bits_at bits [] place within = absurd (omega arith)
@@ -61,7 +61,7 @@ between index range false true low_is high_is is =
     omega (arith, leb-true range.right index ends.0, leb-true index range.left ends.1)
 between index range false false low_is high_is is = absurd cc
 
--- an index of a range stands among its bits
+-- an index of a range is among its bits
 pub offset_within : (range : Option Range) (index : ℕ) → IsIndexOf index range → offset_in range index < width_in range
 offset_within None index is = absurd is
 offset_within (Some range) index is = between index range _ _ refl refl is

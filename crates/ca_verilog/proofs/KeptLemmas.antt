@@ -75,7 +75,7 @@ port_added ports buses name are new =
       of_header = All-weaker (IsOfHeader ports) (IsOfHeader (ports ++ name ∷ [])) (of_header_grown ports name) buses are.of_header;
     })
 
--- what all have, one has that stands at a place
+-- what all have, one at a place has
 pub all_at : {X : Type 0} (P : X → Type 0) (xs : List X) (place : ℕ) (x : X) → All P xs → slice_get xs place ≡ Some x → P x
 all_at P [] place x all is = absurd cc
 all_at P (first ∷ more) zero x all is =

@@ -80,7 +80,7 @@ found_in text line kind (Err fault) read told =
 pub found : (text : List ℕ) (line : ℕ) (kind : VerilogKind) → netlist_of text ≡ Err (At line kind) → IsFirstFaulty text line kind
 found text line kind told = found_in text line kind (tokens_from text nothing (scan_of text).tokens) refl told
 
--- the first fault of a text is told
+-- the first fault of a text is reported
 pub only : (text : List ℕ) (line : ℕ) (kind : VerilogKind) → IsFirstFaulty text line kind → netlist_of text ≡ Err (At line kind)
 only text line kind (inl it) =
     let at : located (at_token text) (token_step text) it.here it.so_far ≡ Err (At line kind) =

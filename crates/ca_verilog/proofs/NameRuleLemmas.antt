@@ -39,7 +39,7 @@ use Rattle.ca_verilog.specs.Text.{is_end}
 use Rattle.ca_verilog.proofs.ModuleLemmas.{tokens_led}
 use Rattle.ca_verilog.proofs.PathLemmas.{module_leads}
 
--- a rule on names and ranges, or one behind it
+-- a rule on names and ranges, or one after it
 ruled : {Value : Type 0} (broken : Bool) (rule kind : VerilogKind) (next : Result Value VerilogKind) → IsOfNames rule
     → (next ≡ Err kind → IsOfNames kind) → unless broken rule next ≡ Err kind → IsOfNames kind
 ruled true rule kind next is later told =

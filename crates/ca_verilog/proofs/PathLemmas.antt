@@ -14,7 +14,7 @@ use Rattle.ca_verilog.specs.Grammar as grammar
 use Rattle.ca_verilog.specs.Grammar.{IsNames, IsRange, IsOperand, IsPin, IsPins, IsDirection, IsItem}
 use Rattle.ca_verilog.specs.Grammar.{IsItems, IsHeader, IsModule}
 
--- names of the header lead behind them
+-- names of the header lead to the place after them
 pub port_names : {names rest : List Lexeme} → IsNames names rest → places_from place.Port names ≡ places_from place.PortEnd rest
 unfolding steps_from row_of
 port_names grammar.IsNames.last = refl
@@ -31,7 +31,7 @@ header_leads grammar.IsHeader.none = refl
 header_leads grammar.IsHeader.bare = refl
 header_leads (grammar.IsHeader.ports names) = first_ports names
 
--- names of a declaration lead behind them
+-- names of a declaration lead to the place after them
 declared_names : (direction : Direction) (range : Option Range) {names rest : List Lexeme} → IsNames names rest
     → places_from (place.Declared direction range) names ≡ places_from (place.DeclaredEnd direction range) rest
 unfolding steps_from row_of
@@ -50,7 +50,7 @@ unfolding steps_from row_of
 declaration_leads direction grammar.IsRange.none names = first_names direction names
 declaration_leads direction (grammar.IsRange.some {left} {right}) names = declared_names direction (Some (record { left = left; right = right })) names
 
--- an operand leads behind what follows it
+-- an operand leads to the place after what follows it
 left_leads : {operand rest : List Lexeme} → IsOperand operand (lexeme.Equals ∷ rest)
     → places_from (place.Operand side.Left) operand ≡ places_from (place.Operand side.Right) rest
 unfolding steps_from row_of
@@ -71,7 +71,7 @@ value_leads grammar.IsOperand.name = refl
 value_leads grammar.IsOperand.bit = refl
 value_leads grammar.IsOperand.constant = refl
 
--- pins lead behind them
+-- pins lead to the place after them
 pin_leads : {pin rest : List Lexeme} → IsPin pin rest → places_from place.NextPin pin ≡ places_from place.PinEnd rest
 unfolding steps_from row_of
 pin_leads grammar.IsPin.open_pin = refl

@@ -67,7 +67,7 @@ place_first (first ∷ more) distinct (suc place) name is =
     let later : position_or_len (bytes_eq name) more ≡ place = place_first more distinct.1 place name is in
     ap (λ (found : Bool). cond (not found) (1 + position_or_len (bytes_eq name) more) 0) other ∙ omega (arith, later)
 
--- the place of a name among different ones is told
+-- the place of a name among different ones is determined
 pub place_told : (names : List (List ℕ)) → IsDistinct bytes_eq names → (place : ℕ) (name : List ℕ) → slice_get names place ≡ Some name
     → place_of name names ≡ Some place
 place_told names distinct place name is =

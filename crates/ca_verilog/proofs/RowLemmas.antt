@@ -12,13 +12,13 @@ use Rattle.ca_verilog.specs.Kept.{in_instance, in_pin}
 use Rattle.ca_verilog.specs.Table.{Move, row_of}
 use Rattle.ca_verilog.specs.Text.{is_end}
 
--- the name in hand is new behind the action, where it was before or not
+-- the name in hand is new after the action, where it was before or not
 abbrev pub name_behind : Action → Bool → Bool
 name_behind action.TakeInstance was_new = true
 name_behind action.EndInstance was_new = false
 name_behind _ was_new = was_new
 
--- the pin in hand is new behind the action
+-- the pin in hand is new after the action
 abbrev pub pin_behind : Action → Bool → Bool
 pin_behind action.TakePin was_new = true
 pin_behind action.TakeInstance was_new = false

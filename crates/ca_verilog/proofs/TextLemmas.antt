@@ -30,7 +30,7 @@ token_taken text it next token left rest total is taken so_far =
     sym (first_step text it token rest (Ok next) (located_value (at_token text) (token_step text) token it next taken))
     ∙ ap (reads_scan text it) (sym is) ∙ so_far
 
--- a token that is refused ends the reading with its fault, or with want of memory
+-- a token that is refused ends the reading with its fault, or with out of memory
 pub token_refused : (text : List ℕ) (it : Reading) (token : Token) (left rest : Scan) (told : Option VerilogKind) (total : Result Reading VerilogFault) → left ≡ with_token token rest
     → IsFault told (token_step text token it) → reads_scan text it left ≡ total → IsFault (option_map (at_token text token) told) total
 token_refused text it token left rest None total is refused so_far = tt
@@ -38,7 +38,7 @@ token_refused text it token left rest (Some kind) total is refused so_far =
     sym so_far ∙ ap (reads_scan text it) is
     ∙ first_step text it token rest (Err (at_token text token kind)) (located_fault (at_token text) (token_step text) token it (Some kind) refused)
 
--- the same, of the fault that the code tells
+-- the same, of the fault that the code reports
 pub fault_refused : (text : List ℕ) (it : Reading) (token : Token) (left rest : Scan) (told : Option VerilogKind) (total : Result Reading VerilogFault)
     (line : ℕ) (fault : Option VerilogFault) → left ≡ with_token token rest → IsFault told (token_step text token it) → reads_scan text it left ≡ total
     → line ≡ line_at token.start text → fault ≡ option_map (At line) told → IsFault fault total

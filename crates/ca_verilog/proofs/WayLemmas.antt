@@ -84,7 +84,7 @@ data FirstPinRest : List Lexeme → Type 0 where
 abbrev PinRest : List Lexeme → Type 0
 PinRest lexemes = (rest : List Lexeme) × IsPin lexemes rest × PinEndRest rest
 
--- the rest of an item that begins with these, and the items behind it
+-- the rest of an item that begins with these, and the items after it
 abbrev ItemRest : List Lexeme → Type 0
 ItemRest lexemes = (rest : List Lexeme) × IsItem lexemes rest × AreItems rest
 

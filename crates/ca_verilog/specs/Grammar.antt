@@ -1,5 +1,5 @@
 -- The grammar of a gate netlist, over what its tokens are. Each definition says that the first list begins
--- with such a part, behind which the second list stands.
+-- with such a part, which the second list follows.
 use Rattle.std.specs.Prelude.{ℕ, Bool, List, [], ◌∷◌}
 use Rattle.ca_verilog.specs.declared.lexeme.Lexeme.{Lexeme}
 use Rattle.ca_verilog.specs.declared.lexeme.Lexeme.TheVariants as lexeme
@@ -66,7 +66,7 @@ pub data IsHeader : List Lexeme → List Lexeme → Type 0 where
   ports : {names rest : List Lexeme} → IsNames names (lexeme.Close ∷ lexeme.Semicolon ∷ rest)
       → IsHeader (lexeme.Open ∷ names) rest
 
--- "module" id header { item } "endmodule", and nothing behind it
+-- "module" id header { item } "endmodule", and nothing after it
 pub data IsModule : List Lexeme → Type 0 where
   module_of : {header items : List Lexeme} → IsHeader header items → IsItems items (lexeme.Endmodule ∷ [])
       → IsModule (lexeme.Module ∷ lexeme.Name ∷ header)

@@ -22,7 +22,7 @@ abbrev pub bit_count : List RawBus → ℕ
 bit_count [] = 0
 bit_count (bus ∷ more) = range_width bus.range + bit_count more
 
--- the bit is a constant, or one of so many
+-- the bit is a constant, or one of `count` bits
 abbrev pub IsBit : ℕ → RawBit → Type 0
 IsBit count (bit.Bit number) = number < count
 IsBit count (bit.Constant value) = ⊤

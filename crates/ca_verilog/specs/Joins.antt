@@ -10,7 +10,7 @@ abbrev pub bit_behind : ℕ → RawBit → RawBit
 bit_behind step (bit.Bit number) = bit.Bit (number + step)
 bit_behind step (bit.Constant value) = bit.Constant value
 
--- so many pairs of a span, from this one on
+-- this many pairs of a span, from this one on
 abbrev pub pairs_from : RawSpan → ℕ → ℕ → List RawJoin
 pairs_from span step zero = []
 pairs_from span step (suc count) =

@@ -96,7 +96,7 @@ pub record IsNew (at : Place) (hand : Hand) (instances : List Instance) : Type 0
 abbrev pub IsClosed : Place → List (List ℕ) → List Bus → Type 0
 IsClosed at ports buses = is_end at ≡ true → list_all (has_direction buses) ports ≡ true
 
--- what each reading keeps that stands at this place
+-- what each reading keeps that is at this place
 pub record IsKept (at : Place) (it : Reading) : Type 0 where
   pub names : AreNames it.ports it.buses
   pub closed : IsClosed at it.ports it.buses
@@ -105,7 +105,7 @@ pub record IsKept (at : Place) (it : Reading) : Type 0 where
   pub hand : IsHand it.buses it.hand
   pub new : IsNew at it.hand it.instances
 
--- a whole text was read: the reading stands at the module's end
+-- a whole text was read: the reading is at the module's end
 pub record IsWhole (it : Reading) : Type 0 where
   pub kept : IsKept it.place it
   pub over : is_end it.place ≡ true

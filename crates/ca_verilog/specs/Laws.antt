@@ -9,8 +9,8 @@ use Rattle.ca_verilog.specs.Reading.{Reading, nothing}
 use Rattle.ca_verilog.specs.Text.{token_step, tokens_from, is_end}
 use Rattle.ca_verilog.specs.VerilogFault.{kind_of}
 
--- the tokens before `here` are read without a fault, and `here`, which stands on this line, breaks a rule
--- of this kind
+-- the tokens before `here` are read without a fault, and `here`, which is on this line, breaks a rule of this
+-- kind
 pub record BreaksRule (text : List ℕ) (line : ℕ) (kind : VerilogKind) : Type 0 where
   pub before : List Token
   pub here : Token
@@ -21,7 +21,7 @@ pub record BreaksRule (text : List ℕ) (line : ℕ) (kind : VerilogKind) : Type
   pub read : tokens_from text nothing before ≡ Ok so_far
   pub broken : token_step text here so_far ≡ Err kind
 
--- all tokens before a fault that no token begins with are read, and it stands on this line
+-- all tokens before a fault that no token begins with are read, and it is on this line
 pub record IsFlawed (text : List ℕ) (line : ℕ) (kind : VerilogKind) : Type 0 where
   pub so_far : Reading
   pub flaw : Flaw
@@ -30,7 +30,7 @@ pub record IsFlawed (text : List ℕ) (line : ℕ) (kind : VerilogKind) : Type 0
   pub number : line_at flaw.place text ≡ line
   pub same_kind : kind_of flaw.kind ≡ kind
 
--- all tokens are read, and the module isn't at its end; the text's last byte stands on this line
+-- all tokens are read, and the module isn't at its end; the text's last byte is on this line
 pub record EndsEarly (text : List ℕ) (line : ℕ) (kind : VerilogKind) : Type 0 where
   pub so_far : Reading
   pub read : tokens_from text nothing (scan_of text).tokens ≡ Ok so_far
@@ -40,7 +40,7 @@ pub record EndsEarly (text : List ℕ) (line : ℕ) (kind : VerilogKind) : Type 
   pub same_kind : kind ≡ Syntax
 
 -- the first fault of a text: a token that can't follow those before it, a fault that no token begins with
--- behind tokens that were read, or an end that comes too early
+-- after tokens that were read, or an end that comes too early
 abbrev pub IsFirstFaulty : List ℕ → ℕ → VerilogKind → Type 0
 IsFirstFaulty text line kind =
     BreaksRule text line kind ⊎ (IsFlawed text line kind ⊎ EndsEarly text line kind)

@@ -24,7 +24,7 @@ word_of word = if bytes_eq word (codes "module") then lexeme.Module
     else (if bytes_eq word (codes "assign") then lexeme.Assign
     else (if is_refused word then lexeme.Refused else lexeme.Name))))))
 
--- the number of digits behind those of this value; one whose first digits pass the greatest number is larger
+-- the number of digits after those of this value; one whose first digits pass the greatest number is larger
 abbrev pub number_from : ℕ → List ℕ → Lexeme
 number_from value [] = lexeme.Number value
 number_from value (digit ∷ more) =
@@ -59,7 +59,7 @@ lexeme_of kind.Number text = number_from 0 text
 lexeme_of kind.Constant text = constant_of text
 lexeme_of kind.Sign text = sign_of text
 
--- the bytes behind the first
+-- the bytes after the first
 abbrev pub behind_first : List ℕ → List ℕ
 behind_first [] = []
 behind_first (byte ∷ more) = more

@@ -29,7 +29,7 @@ abbrev pub bits_with : ℕ → List Bus → ℕ
 bits_with bits [] = bits
 bits_with bits (bus ∷ more) = bits_with (bits + width_in bus.range) more
 
--- the number of the first bit of each name, behind so many bits
+-- the number of the first bit of each name, after `bits` bits
 abbrev pub first_bits : ℕ → List Bus → List ℕ
 first_bits bits [] = []
 first_bits bits (bus ∷ more) = bits ∷ first_bits (bits + width_in bus.range) more

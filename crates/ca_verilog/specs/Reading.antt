@@ -33,8 +33,8 @@ pub record Hand : Type 0 where
   pub left : Operand
   pub operand : Operand
 
--- what was read so far: where the reading stands in the grammar, the header's names, the declared ones,
--- what is joined, the instances, and what is in hand
+-- what was read so far: where the reading is in the grammar, the header's names, the declared ones, what is
+-- joined, the instances, and what is in hand
 pub record Reading : Type 0 where
   pub place : Place
   pub ports : List (List ℕ)
@@ -123,7 +123,7 @@ abbrev pub is_vector : List Bus → Operand → Bool
 is_vector buses (Whole place) = is_some (range_at place buses)
 is_vector buses _ = false
 
--- the `[` behind an operand
+-- the `[` after an operand
 abbrev pub open_index : Reading → Step
 open_index it = unless (not (is_vector it.buses it.hand.operand)) BadRange (Ok it)
 

@@ -67,7 +67,7 @@ port_end_row lexeme.Comma = go place.Port
 port_end_row lexeme.Close = go place.HeaderEnd
 port_end_row other = stray other
 
--- the `;` behind the header
+-- the `;` after the header
 abbrev pub header_end_row : Lexeme → Move
 header_end_row lexeme.Semicolon = go place.Item
 header_end_row other = stray other
@@ -115,7 +115,7 @@ abbrev pub range_end_row : Direction → Range → Lexeme → Move
 range_end_row direction range lexeme.CloseBracket = go (place.Declared direction (Some range))
 range_end_row _ _ other = stray other
 
--- a name behind a range or a `,`
+-- a name after a range or a `,`
 abbrev pub declared_row : Direction → Option Range → Lexeme → Move
 declared_row direction range lexeme.Name =
     act (place.DeclaredEnd direction range) (action.Declare direction range)
@@ -152,7 +152,7 @@ abbrev pub index_row : Side → Lexeme → Move
 index_row side (lexeme.Number index) = act (place.IndexEnd side) (action.Select index)
 index_row _ other = stray other
 
--- the `]` behind it; a part select is of the larger language
+-- the `]` after it; a part select is of the larger language
 abbrev pub index_end_row : Side → Lexeme → Move
 index_end_row side lexeme.CloseBracket = go (place.OperandEnd side)
 index_end_row _ lexeme.Colon = Err Unsupported
@@ -187,7 +187,7 @@ abbrev pub pin_name_row : Lexeme → Move
 pin_name_row lexeme.Name = act place.PinOpen action.TakePin
 pin_name_row other = stray other
 
--- the `(` behind it
+-- the `(` after it
 abbrev pub pin_open_row : Lexeme → Move
 pin_open_row lexeme.Open = go place.PinValue
 pin_open_row other = stray other
@@ -203,7 +203,7 @@ pin_end_row lexeme.Comma = go place.NextPin
 pin_end_row lexeme.Close = go place.InstanceEnd
 pin_end_row other = stray other
 
--- the `;` behind the pins
+-- the `;` after the pins
 abbrev pub instance_end_row : Lexeme → Move
 instance_end_row lexeme.Semicolon = act place.Item action.EndInstance
 instance_end_row other = stray other

@@ -25,26 +25,26 @@ token_step text token it =
 abbrev pub at_token : List ℕ → Token → VerilogKind → VerilogFault
 at_token text token kind = At (line_at token.start text) kind
 
--- what these tokens make of what was read; a fault is told at the token that has it
+-- what these tokens make of what was read; a fault is reported at the token that has it
 abbrev pub tokens_from : List ℕ → Reading → List Token → Result Reading VerilogFault
 tokens_from text it tokens = steps_from (located (at_token text) (token_step text)) it tokens
 
--- the fault behind the tokens of a text, if there is one
+-- the fault after the tokens of a text, if there is one
 abbrev pub then_flaw : List ℕ → Option Flaw → Result Reading VerilogFault → Result Reading VerilogFault
 then_flaw text flaw (Err fault) = Err fault
 then_flaw text None (Ok it) = Ok it
 then_flaw text (Some flaw) (Ok it) = Err (At (line_at flaw.place text) (kind_of flaw.kind))
 
--- what the tokens of a text and the fault behind them make of what was read
+-- what the tokens of a text and the fault after them make of what was read
 abbrev pub reads_scan : List ℕ → Reading → Scan → Result Reading VerilogFault
 reads_scan text it scan = then_flaw text scan.flaw (tokens_from text it scan.tokens)
 
--- the reading stands behind `endmodule`
+-- the reading is after `endmodule`
 abbrev pub is_end : Place → Bool
 is_end End = true
 is_end _ = false
 
--- a text may end behind `endmodule` alone; a fault there is told on the line of its last byte
+-- a text may end after `endmodule` alone; a fault there is reported on the line of its last byte
 abbrev pub ended : List ℕ → Result Reading VerilogFault → Result Reading VerilogFault
 ended text (Err fault) = Err fault
 ended text (Ok it) = elim (is_end it.place) [

@@ -73,7 +73,7 @@ pub(crate) fn range_end_row(
     }
 }
 
-/// A name behind a range or a `,`.
+/// A name after a range or a `,`.
 pub(crate) fn declared_row(
     direction: Direction,
     range: Option<Range>,

@@ -30,7 +30,7 @@ pub enum VerilogKind {
 pub enum VerilogFault {
     /// The line of the first faulty token, counted from 1, with the first rule that it breaks.
     At { line: usize, kind: VerilogKind },
-    /// The text has a reading, with so many bits.
+    /// The text has a reading, with `count` bits.
     TooManyNets { count: usize },
     /// There was no memory.
     NoMemory,
@@ -47,7 +47,7 @@ impl Refusal {
     ghost use Rattle.ca_verilog.specs.declared.fault.VerilogFault.TheVariants.{At};
     ghost use Rattle.ca_verilog.specs.VerilogFault.{fault_told, kind_told};
 
-    /// The fault of the token that was not taken, which stands on this line.
+    /// The fault of the token that was not taken, which is on this line.
     pub(crate) fn at(self, line: usize) -> VerilogFault
         ensures { fault_told result ≡ option_map (At line) (kind_told self) }
     {

@@ -8,7 +8,7 @@ use ca_names::NameSet;
 use std::alloc::Global;
 use std::marker::Model;
 
-/// What stands on a side of an `assign` or on a pin. Declared names are told by their places.
+/// What is on a side of an `assign` or on a pin. Declared names are given by their places.
 #[derive(Clone, Copy, Debug, PartialEq, Eq)]
 pub enum Operand {
     /// A name as a whole.

@@ -152,7 +152,7 @@ pub(crate) fn name_of(kind: TokenKind, text: &[u8]) -> &[u8]
     }
 }
 
-// The bytes behind the first.
+// The bytes after the first.
 fn behind_first(text: &[u8]) -> &[u8]
     ensures { result.now ≡ behind_first text.now }
 {

@@ -54,7 +54,7 @@ pub(crate) fn index_row(side: Side, lexeme: Lexeme) -> Result<Row, VerilogKind>
     }
 }
 
-/// The `]` behind it; a part select is of the larger language.
+/// The `]` after it; a part select is of the larger language.
 pub(crate) fn index_end_row(side: Side, lexeme: Lexeme) -> Result<Row, VerilogKind>
     ensures { result ≡ index_end_row side lexeme }
 {
@@ -119,7 +119,7 @@ pub(crate) fn pin_name_row(lexeme: Lexeme) -> Result<Row, VerilogKind>
     }
 }
 
-/// The `(` behind it.
+/// The `(` after it.
 pub(crate) fn pin_open_row(lexeme: Lexeme) -> Result<Row, VerilogKind>
     ensures { result ≡ pin_open_row lexeme }
 {
@@ -150,7 +150,7 @@ pub(crate) fn pin_end_row(lexeme: Lexeme) -> Result<Row, VerilogKind>
     }
 }
 
-/// The `;` behind the pins.
+/// The `;` after the pins.
 pub(crate) fn instance_end_row(lexeme: Lexeme) -> Result<Row, VerilogKind>
     ensures { result ≡ instance_end_row lexeme }
 {

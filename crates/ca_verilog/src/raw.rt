@@ -44,7 +44,7 @@ pub struct RawJoin {
     pub right: RawBit,
 }
 
-/// What an `assign` joins: so many pairs of bits, from these two on, each pair one bit to the right of the
+/// What an `assign` joins: `count` pairs of bits, from these two on, each pair one bit to the right of the
 /// one before.
 #[derive(Clone, Copy, Debug, PartialEq, Eq)]
 pub struct RawSpan {

@@ -52,7 +52,7 @@ impl Range {
     }
 }
 
-/// Where an operand stands: on the left or the right side of an `assign`, or on a pin.
+/// Where an operand is: on the left or the right side of an `assign`, or on a pin.
 #[derive(Clone, Copy, Debug, PartialEq, Eq)]
 pub enum Side {
     Left,
@@ -60,7 +60,7 @@ pub enum Side {
     Pin,
 }
 
-/// Where the reading stands in the grammar, by what is due there.
+/// Where the reading is in the grammar, by what is due there.
 #[derive(Clone, Copy, Debug, PartialEq, Eq)]
 pub enum Place {
     /// `module`.
@@ -75,7 +75,7 @@ pub enum Place {
     Port,
     /// `,` or `)`.
     PortEnd,
-    /// `;` behind the header.
+    /// `;` after the header.
     HeaderEnd,
     /// An item or `endmodule`.
     Item,
@@ -115,13 +115,13 @@ pub enum Place {
     NextPin,
     /// The name of a pin.
     PinName,
-    /// `(` behind it.
+    /// `(` after it.
     PinOpen,
     /// What is on the pin, or `)`.
     PinValue,
     /// `,` or `)`.
     PinEnd,
-    /// `;` behind the pins.
+    /// `;` after the pins.
     InstanceEnd,
 }
 
@@ -256,7 +256,7 @@ fn port_end_row(lexeme: Lexeme) -> Result<Row, VerilogKind>
     }
 }
 
-// The `;` behind the header.
+// The `;` after the header.
 fn header_end_row(lexeme: Lexeme) -> Result<Row, VerilogKind>
     ensures { result ≡ header_end_row lexeme }
 {

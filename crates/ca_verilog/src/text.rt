@@ -16,7 +16,7 @@ use ca_token::{Next, line_at, next_token};
 use std::alloc::Global;
 
 impl Place {
-    // Whether the reading stands behind `endmodule`.
+    // Whether the reading is after `endmodule`.
     fn is_end(self) -> bool
         ensures { result ≡ is_end self }
     {

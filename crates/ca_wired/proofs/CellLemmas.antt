@@ -38,7 +38,7 @@ module _ (chip : Chip) (is : IsWired chip) where
   gate_keeps u part cell inputs outputs at body =
       (subst (IsBody chip.cells) body (of_all (λ (p : Part). IsBody chip.cells p.body) chip.parts u part is.bodies at)).keeps
 
-  -- it is one of the library's: what stands past the last cell keeps no rule on rails
+  -- it is one of the library's: what is past the last cell keeps no rule on rails
   pub gate_within : (u : ℕ) (part : Part) (cell : ℕ) (inputs outputs : List ℕ) → slice_get chip.parts u ≡ Some part
       → part.body ≡ Gate cell inputs outputs → cell < length chip.cells
   gate_within u part cell inputs outputs at body = elim (cases_lt cell (length chip.cells)) [

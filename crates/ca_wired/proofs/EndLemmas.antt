@@ -19,7 +19,7 @@ flat_more f xs k x at =
     ap (flat_map f) (take_more xs k x at) ∙ flat_map-append f (take k xs) (x ∷ [])
     ∙ ap (λ l. flat_map f (take k xs) ++ l) (append-nil (f x))
 
--- what stands from a place on
+-- what there is from a place on
 pub drop_at : {X : Type 0} (xs : List X) (k : ℕ) (x : X) → slice_get xs k ≡ Some x → drop k xs ≡ x ∷ drop (k + 1) xs
 drop_at [] k x at = absurd (let lt = slice_get_within [] k x at in omega (arith, lt))
 drop_at (first ∷ xs) zero x at = let same : first ≡ x = cc in ap (λ y. y ∷ xs) same

@@ -75,13 +75,13 @@ module _ (chip : Chip) (net : ℕ) where
   source_told (FromPin u pin) w e = (pin, ap (λ x. FromPin x pin) (some_inj u w e))
 
   module _ (table : List Sources) (is : IsDrivenBy chip table net) where
-    -- a library instance that drives the net is the one that the table tells
+    -- a library instance that drives the net is the one that the table gives
     told_is : (w : ℕ) → DrivesFromGate chip w net → first_instance (sources_at table net).first ≡ Some w
     told_is w has =
         let from = from_pin w has in
         ap first_instance is.told ∙ instance_told is.source w from.pin (is.only.none_other (FromPin w from.pin) from.drives)
 
-    -- the instance that the table tells is of a library cell, or it isn't, or the table tells none
+    -- the instance that the table gives is of a library cell, or it isn't, or the table gives none
     pub gate_there : (w : ℕ) (part : Part) → first_instance (sources_at table net).first ≡ Some w → slice_get chip.parts w ≡ Some part → IsGate part.body
         → IsGateOn chip net (Some w)
     gate_there w part told at is_gate v = (
@@ -111,7 +111,7 @@ module _ (chip : Chip) (net : ℕ) where
       λ e. absurd (let clash : None ≡ Some v = e in cc),
     )
 
-    -- the instance that the table tells is one of the chip's
+    -- the instance that the table gives is one of the chip's
     pub instance_within : (w : ℕ) → first_instance (sources_at table net).first ≡ Some w → w < length chip.parts
     instance_within w told =
         let source = source_told is.source w (sym (ap first_instance is.told) ∙ told) in

@@ -98,7 +98,7 @@ back_more trail place (suc more) =
     ap (λ xs. instance_at trail (suc place + more) ∷ xs) (back_more trail place more)
     ∙ ap (λ k. instance_at trail k ∷ back_from trail place (suc more)) (let e : suc place + more ≡ place + suc more = omega arith in e)
 
--- what stands at a place of them is an instance of the trail
+-- what is at a place of them is an instance of the trail
 at_back : (trail : List Visit) (place count j u : ℕ) → slice_get (back_from trail place count) j ≡ Some u
     → (j < count) × (instance_at trail (place + (count - suc j)) ≡ u)
 unfolding back_from

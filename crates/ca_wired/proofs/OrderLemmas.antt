@@ -8,7 +8,7 @@ use Rattle.std.proofs.lemmas.List.Elements.{All-tail}
 use Rattle.std.proofs.lemmas.Option.{slice_get_within, slice_get-get_or, get_or_from_slice_get}
 use Rattle.ca_wired.specs.Order.{IsChain, IsLoop, IsOnce, HasNoLoop, IsOrder}
 
--- what a list contains stands at a place
+-- what a list contains is at a place
 pub place_of : (xs : List ℕ) (x : ℕ) (has : Contains xs x) → slice_get xs has.0 ≡ Some x
 place_of xs x has = slice_get-get_or xs has.0 x has.1 ∙ ap Some has.2
 
@@ -16,7 +16,7 @@ pub contained_at : (xs : List ℕ) (k x : ℕ) → slice_get xs k ≡ Some x →
 contained_at xs k x e = (k, slice_get_within xs k x e, get_or_from_slice_get xs k x x e)
 
 module _ (Feeds : ℕ → ℕ → Type 0) (Has : ℕ → Type 0) (order : List ℕ) (is : IsOrder Feeds Has order) where
-  -- what a chain begins with stands before its end
+  -- what a chain begins with is before its end
   pub chain_falls : (more : List ℕ) (u to k : ℕ) → slice_get order k ≡ Some to → IsChain Feeds u more to
       → (j : ℕ) × (j < k) × (slice_get order j ≡ Some u)
   chain_falls [] u to k at chain = is.after k to u at chain
@@ -70,7 +70,7 @@ module _ (Feeds : ℕ → ℕ → Type 0) where
       let same : u ≡ w = cc in
       (loop, subst (λ x. All (λ y. x ≤ y) more) same (All-tail (λ y. u ≤ y) w more lowest))
 
--- where a member of one list stands in both
+-- where a member of one list is in both
 in_left : (xs ys : List ℕ) (k u : ℕ) → slice_get xs k ≡ Some u → slice_get (xs ++ ys) k ≡ Some u
 in_left [] ys k u at = absurd cc
 in_left (x ∷ xs) ys zero u at = at

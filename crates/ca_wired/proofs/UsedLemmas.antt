@@ -66,7 +66,7 @@ pub cell_is_used : (chip : Chip) (u : ℕ) (part : Part) (cell : ℕ) (inputs ou
     → part.body ≡ Gate cell inputs outputs → has (used_cells chip) cell ≡ true
 cell_is_used chip u part cell inputs outputs at body = used_at [] chip.parts u part cell inputs outputs at body
 
--- a place that the list has stands somewhere in it
+-- a place that the list has is somewhere in it
 pub has_place : (places : List ℕ) (cell : ℕ) → has places cell ≡ true → (k : ℕ) × (slice_get places k ≡ Some cell)
 has_place places cell there =
     let found = has_contains places cell there in (found.0, place_of places cell found)

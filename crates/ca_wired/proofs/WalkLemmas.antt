@@ -33,7 +33,7 @@ get-push_cases (z ∷ zs) y (suc i) x e = elim (get-push_cases zs y i x e) [
   | inr new ↦ inr (ap suc new.0, new.1)
 ]
 
--- what a mark is can be told
+-- what a mark is can be decided
 pub not_open : (m : Mark) → m ≡ New → m ≡ Open → ⊥
 not_open m e f = cc
 

@@ -150,7 +150,7 @@ single_too chip table single order = record {
   };
 }
 
--- what stands in the order is an instance
+-- what is in the order is an instance
 pub order_within : (chip : Chip) (order : List ℕ) → IsOrder (Feeds chip) (IsLibrary chip) order → All (λ u. u < length chip.parts) order
 order_within chip order sorted k d lt =
     some_within (λ (part : Part). IsGate part.body) chip.parts (get_or order k d)

@@ -16,7 +16,7 @@ use Rattle.ca_wired.specs.Walk.{KeepsReached, mark_work, visit_work, GoesOn, Mee
 use Rattle.ca_wired.proofs.OrderLemmas.{contained_at}
 use Rattle.ca_wired.proofs.WalkLemmas.{not_open, mark_within, mark_set, mark_other, advanced, left, entered}
 
--- a list is what stands before its last, and its last
+-- a list is what comes before its last, and its last
 pub last_apart : {X : Type 0} (xs : List X) (k : ℕ) (x : X) → suc k ≡ length xs → slice_get xs k ≡ Some x → xs ≡ take k xs ++ x ∷ []
 last_apart [] k x e here = absurd (omega (arith, e))
 last_apart (z ∷ []) zero x e here = let same : z ≡ x = cc in ap (λ y. y ∷ []) same

@@ -43,7 +43,7 @@ AreFirst Has None (Some two) = ⊥
 AreFirst Has (Some one) None = IsOnly Has one
 AreFirst Has (Some one) (Some two) = AreFirstTwo Has one two
 
--- what stands past the last net
+-- what is past the last net
 abbrev pub no_sources : Sources
 no_sources = record { first = None; second = None }
 

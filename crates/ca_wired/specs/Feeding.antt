@@ -16,7 +16,7 @@ pub record IsDrivenBy (chip : Chip) (table : List Sources) (net : ℕ) : Type 0 
   pub told : (sources_at table net).first ≡ Some source
   pub only : IsOnly (Drives chip net) source
 
--- each net has one driver, which the table tells
+-- each net has one driver, which the table gives
 pub record AreSingle (chip : Chip) (table : List Sources) : Type 0 where
   pub count : length table ≡ net_count chip
   pub each : (net : ℕ) → net < net_count chip → IsDrivenBy chip table net

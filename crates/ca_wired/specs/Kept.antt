@@ -22,7 +22,7 @@ pub record KeptTables : Type 0 where
   pub scans : List ℕ
   pub used : List ℕ
 
--- the list has the place of each number below a count that stands among the first of the order
+-- the list has the place of each number below a count that is among the first of the order
 pub record ArePlaces (order : List ℕ) (count instances : ℕ) (places : List ℕ) : Type 0 where
   pub room : length places ≡ instances
   pub each : (k u : ℕ) → k < count → slice_get order k ≡ Some u → slice_index places u ≡ k

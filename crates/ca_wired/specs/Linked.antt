@@ -36,7 +36,7 @@ abbrev pub constant_net : Chip → Bool → Option ℕ
 constant_net chip false = chip.zero
 constant_net chip true = chip.one
 
--- what stands past the last cell
+-- what is past the last cell
 abbrev pub no_cell : RawCell
 no_cell = record { pins = []; nets = []; devices = [] }
 

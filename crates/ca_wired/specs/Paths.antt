@@ -40,7 +40,7 @@ pub record Marks (nets : List ℕ) (old new : List Bool) : Type 0 where
   pub count : length new ≡ length old
   pub each : (net : ℕ) → net < length old → mark_at new net ≡ (mark_at old net || has nets net)
 
--- each of so many nets is marked where it passes the test
+-- each of `count` nets is marked where it passes the test
 pub record AreMarks (count : ℕ) (test : ℕ → Bool) (marks : List Bool) : Type 0 where
   pub room : length marks ≡ count
   pub each : (net : ℕ) → net < count → mark_at marks net ≡ test net

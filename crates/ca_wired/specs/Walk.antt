@@ -27,11 +27,11 @@ pub record WalkState : Type 0 where
 abbrev pub mark_of : List Mark → ℕ → Mark
 mark_of marks u = slice_index_or marks u New
 
--- the visit of u stands at place i of the trail, and so many of those that feed u are done
+-- the visit of u is at place i of the trail, and `done` of those that feed u are done
 abbrev pub IsVisit : List Visit → ℕ → ℕ → ℕ → Type 0
 IsVisit trail i u done = slice_get trail i ≡ Some (record { instance = u; done = done })
 
--- the number stands somewhere in the list
+-- the number is somewhere in the list
 abbrev pub Stands : List ℕ → ℕ → Type 0
 Stands xs x = (k : ℕ) × (slice_get xs k ≡ Some x)
 
@@ -127,7 +127,7 @@ IsVisitOf trail u place = (done : ℕ) × IsVisit trail place u done
 abbrev pub IsOnTrail : List Visit → ℕ → Type 0
 IsOnTrail trail u = (place : ℕ) × IsVisitOf trail u place
 
--- what stands past the last visit
+-- what is past the last visit
 abbrev pub no_visit : Visit
 no_visit = record { instance = 0; done = 0 }
 
@@ -135,7 +135,7 @@ no_visit = record { instance = 0; done = 0 }
 abbrev pub instance_at : List Visit → ℕ → ℕ
 instance_at trail place = (slice_index_or trail place no_visit).instance
 
--- so many instances of the trail from this place on, from the last back to the first
+-- this many instances of the trail from this place on, from the last back to the first
 unfoldable pub back_from : List Visit → ℕ → ℕ → List ℕ
 back_from trail place zero = []
 back_from trail place (suc more) = instance_at trail (place + more) ∷ back_from trail place more

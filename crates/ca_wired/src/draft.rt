@@ -40,7 +40,7 @@ impl Draft {
     ghost use Rattle.std.specs.Prelude.{[], map};
     ghost use Rattle.ca_cell.specs.Library.{raw_of};
 
-    /// A draft of so many nets, with those that the constants 0 and 1 drive, the instances and the port bits.
+    /// A draft of `nets` nets, with those that the constants 0 and 1 drive, the instances and the port bits.
     pub fn new(
         library: Library,
         nets: usize,

@@ -13,7 +13,7 @@ use ca_base::NoMemory;
 use std::alloc::Global;
 use std::marker::Model;
 
-/// The first two that drive a net, if there are so many.
+/// The first two that drive a net, if there are two.
 #[derive(Clone, Copy, Debug)]
 pub struct Sources {
     pub first: Option<Source>,

@@ -223,7 +223,7 @@ impl Walk {
     }
 
     // Goes on from the last of the trail: to the next that feeds it, or, once all of those are in order, back
-    // to the one before. Where the next is on the trail, it is told.
+    // to the one before. Where the next is on the trail, it is the answer.
     fn step(&mut self, feeders: &Feeders, roots: &[u32]) -> Result<Option<u32>, NoMemory>
         requires walk { IsWalk feeders.now (Contains roots.now) self.old }
         requires closed { AreClosed feeders.now roots.now }
@@ -353,7 +353,7 @@ fn lowest_place(numbers: &[u32]) -> usize
     lowest
 }
 
-// The list from its lowest on, and then what stands before that.
+// The list from its lowest on, and then what is before that.
 fn turned(alloc: Global, numbers: &[u32]) -> Result<InstanceList, NoMemory>
     requires { 0 < length numbers.now }
     ensures { IfOk result (IsTurned numbers.now) }

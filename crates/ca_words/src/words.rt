@@ -101,7 +101,7 @@ pub struct AtpgWords<'a> {
     pub budget: u32,
 }
 
-/// The words of a command that replays one run of a chip, whose events stand in a file.
+/// The words of a command that replays one run of a chip, whose events are in a file.
 #[derive(Clone, Copy)]
 pub struct ReplayWords<'a> {
     pub of: SimulateWords<'a>,

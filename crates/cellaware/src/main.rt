@@ -12,7 +12,7 @@ use std::env;
 use std::io::ErrorKind;
 use std::process::ExitCode;
 
-// The word before a command whose progress is to be told.
+// The word before a command whose progress is to be reported.
 const PROGRESS: &str = "--progress";
 
 fn main(rt: HostRuntime) -> ExitCode {

@@ -1,10 +1,10 @@
-//! How far long work is, told while it goes on.
+//! How far long work is, reported while it goes on.
 
 use ca_flow::Watch;
 use std::io::{Stderr, Write};
 use std::time::Instant;
 
-// How many seconds a line stands at least.
+// How many seconds a line stays at least.
 const PAUSE: u64 = 1;
 
 // As long as a line may be.
