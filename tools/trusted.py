@@ -153,6 +153,9 @@ def page_text():
 
 
 def main():
+    if any(word != "--check" for word in sys.argv[1:]):
+        print("usage: tools/trusted.py [--check]", file=sys.stderr)
+        return 2
     text = page_text()
     if "--check" in sys.argv[1:]:
         with open(PAGE, encoding="utf-8") as page:
