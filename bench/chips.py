@@ -108,7 +108,7 @@ def mapped(folder):
 
 
 def row_of_inverters(folder, count):
-    """The netlist of so many inverters, each behind the one before."""
+    """The netlist of `count` inverters, each after the one before."""
     path = f"{folder}/row{count}.v"
     with open(path, "w") as out:
         out.write("module row (a, z);\n  input a;\n  output z;\n")

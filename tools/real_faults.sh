@@ -45,7 +45,7 @@ mkdir dir
 expect "folder in place of a file" 4 "cellaware: file fault: dir"
 "$program" atpg cells.sp inv.v - dir r.csv 3 > out 2> err; status=$?
 expect "folder in place of STIL" 4 "cellaware: file fault: dir"
-holds "no report behind a failed STIL" test ! -e r.csv
+holds "no report after a failed STIL" test ! -e r.csv
 holds "nothing printed" test ! -s out
 "$program" atpg cells.sp inv.v - p.stil dir 3 > out 2> err; status=$?
 expect "folder in place of REPORT" 4 "cellaware: file fault: dir"
@@ -55,7 +55,7 @@ holds "nothing printed" test ! -s out
 expect "no such folder" 4 "cellaware: file fault: none/p.stil"
 "$program" atpg cells.sp inv.v - /dev/full r.csv 3 > out 2> err; status=$?
 expect "full disk" 4 "cellaware: file fault: /dev/full"
-holds "no report behind a full disk" test ! -e r.csv
+holds "no report after a full disk" test ! -e r.csv
 "$program" atpg cells.sp inv.v - ./inv.v r.csv 3 > out 2> err; status=$?
 expect "STIL is a file that was read" 4 "cellaware: file fault: ./inv.v"
 holds "the netlist stands" cmp -s inv.v "$examples/inv.v"
