@@ -1,4 +1,4 @@
--- A command that can be answered is refused only for want of memory, where no call failed.
+-- A command that can be answered is refused only when out of memory, where no call failed.
 use Rattle.std.proofs.Common.{ℕ, ◌≡◌, ◌≤◌, ◌<◌, ◌⊎◌, ◌∙◌, inl, inr, refl, sym, ap, subst, List, length}
 use Rattle.std.proofs.Common.{Option, Some, None, Err, arith, true≢false}
 use Rattle.std.proofs.lemmas.Option.{same_Some}
@@ -181,7 +181,7 @@ at_write words before after quiet fault cause = cause
 IsLeft : List (List ℕ) → Fault → Type 0
 IsLeft words fault = (fault ≡ NoMemory) ⊎ (GeneratesTests words × IsPairsFault fault)
 
--- where its work was refused for want of memory alone, a command was
+-- where its work was refused only when out of memory, a command was
 only_memory : (words : List (List ℕ)) (before after : Outside) → IsCommand words
     → ¬ (Rose before.store_faults after.store_faults) → ¬ (Rose before.sink_faults after.sink_faults) → (fault : Fault)
     → (IsWorkCause words before.files before.store_faults after.store_faults fault → IsLeft words fault)
@@ -195,7 +195,7 @@ only_memory words before after is quiet_store quiet_sink fault no_work (inr (inr
 only_memory words before after is quiet_store quiet_sink fault no_work (inr (inr (inr print))) =
     inl (at_print before.sink_faults after.sink_faults quiet_sink fault print)
 
--- words that ask for no file have no work that is refused but for want of memory, or for too many pairs
+-- words that ask for no file have no work that is refused but when out of memory, or for too many pairs
 pub asking_work : (words : List (List ℕ)) (files : Option Files) (before after : ℕ) (fault : Fault) → AsksNoFile words
     → IsWorkCause words files before after fault → (fault ≡ NoMemory) ⊎ (GeneratesTests words × IsPairsFault fault)
 asking_work words files before after fault asks (inl (is, cause)) = absurd (no_asking_cell words asks (inl is))
@@ -319,7 +319,7 @@ only_outside words fault before after quiet (inl (inl memory)) = inl memory
 only_outside words fault before after quiet (inl (inr (name, (is, rose)))) = absurd (quiet rose)
 only_outside words fault before after quiet (inr many) = inr many
 
--- a command that can be answered is refused for want of memory alone
+-- a command that can be answered is refused only when out of memory
 answerable_memory : (words : List (List ℕ)) (before after : Outside) → IsAnswerable words before.files
     → ¬ (Rose before.store_faults after.store_faults) → ¬ (Rose before.sink_faults after.sink_faults) → (fault : Fault)
     → IsCause words before after fault → IsLeft words fault

@@ -64,7 +64,7 @@ none_told (Some it) P none = absurd (true≢false none)
 none_for : {A : Type 0} (told : Option A) (P : A → Type 0) → IsNone told → ForSome told P
 none_for told P none = λ it is. absurd (true≢false (sym (ap is_some is) ∙ none))
 
--- a command that is refused before its work is whole has its fault's status, tells no work, prints nothing
+-- a command that is refused before its work is whole has its fault's status, reports no work, prints nothing
 -- and writes nothing
 module _ (words : List (List ℕ)) (end : Finished) (fault : Fault) (is : end.fault ≡ Some fault) (status : end.status ≡ status_of fault)
     (none : IsNone end.done) where
@@ -364,7 +364,7 @@ module _ (words : List (List ℕ)) (before after : Outside) (done : Done) (file 
         of_sink = record { told = λ more. absurd (omega (arith, more, quiet)); later = omega (arith, quiet) };
       }
 
--- work that was asked for was told
+-- work that was asked for was reported
 pub work_asked : (words : List (List ℕ)) (files : Option Files) (done : Done) (told : Option Done) → ForSome told (λ it. it ≡ done)
     → IsAsked words files done → IfSome told (IsAsked words files)
 work_asked words files done None same asked = tt
@@ -378,7 +378,7 @@ work_cause words before after None cause = tt
 work_cause words before after (Some fault) (inl write) = inr (inr (inl write))
 work_cause words before after (Some fault) (inr print) = inr (inr (inr print))
 
--- words are not refused behind the work
+-- words are not refused after the work
 pub work_has_words : (words : List (List ℕ)) (before after : Outside) (told : Option Fault)
     → IfSome told (λ fault. IsWriteCause words before.store_faults after.store_faults fault ⊎ IsPrintCause before.sink_faults after.sink_faults fault)
     → told ≡ Some BadWords → ⊥

@@ -7,7 +7,7 @@ use Rattle.ca_fault.specs.FaultLine.{lines_of}
 use Rattle.ca_flow.specs.Fault.{Outside}
 use Rattle.ca_flow.specs.Ends.{Ends}
 
--- the error output, by the bytes that it holds, where they are told, and how often it failed
+-- the error output, by the bytes that it holds, where they are known, and how often it failed
 pub record Errors : Type 0 where
   pub bytes : Option (List ℕ)
   pub faults : ℕ
@@ -18,13 +18,13 @@ abbrev pub TellsLines : Fault → Errors → Errors → Type 0
 TellsLines fault old new = (new.bytes ≡ appended (lines_of fault) old.bytes)
     ⊎ (AppendsPart (lines_of fault) old.bytes new.bytes × Rose old.faults new.faults)
 
--- the error output tells the fault, and nothing where there is none
+-- the error output reports the fault, and nothing where there is none
 abbrev pub Tells : Option Fault → Errors → Errors → Type 0
 Tells None old new = new ≡ old
 Tells (Some fault) old new = TellsLines fault old new
 
--- The command of these words ended, the answer is the exit status of its end, and the error output tells its
--- fault.
+-- The command of these words ended, the answer is the exit status of its end, and the error output reports
+-- its fault.
 pub record Answers (words : List (List ℕ)) (before after : Outside) (old new : Errors) (status : ℕ)
     : Type 0 where
   pub end : Finished

@@ -93,7 +93,7 @@ pub record FitsChip (words : List (List ℕ)) (told : Files) : Type 0 where
   pub gives : GiveChip inputs
   pub own : (chip : Chip) → IsChipOf inputs chip → FitsOwn words told chip
 
--- the words ask for no file, or the files are told and the words fit those that they name
+-- the words ask for no file, or the files are known and the words fit those that they name
 abbrev pub IsAnswerable : List (List ℕ) → Option Files → Type 0
 IsAnswerable words files =
     AsksNoFile words ⊎ IsSomeAnd files (λ told. FitsFile words told ⊎ FitsChip words told)

@@ -24,8 +24,8 @@ use Rattle.ca_on_chip.specs.Making.{AreMadeTests}
 use Rattle.ca_flow.specs.Fault.{Outside, IsCause}
 use Rattle.ca_flow.specs.Complete.{Completes}
 
--- the work that is told is that of the command, on the cell that the words name in the file that they name,
--- or on the chip that their files give
+-- the work that is reported is that of the command, on the cell that the words name in the file that they
+-- name, or on the chip that their files give
 abbrev pub IsAsked : List (List ℕ) → Option Files → Done → Type 0
 IsAsked words files (Respond values) = IsRespond words × OfCell files (cells_word words) (cell_word words)
     (AreValues (vector_word words) (vector_word words) dash values)

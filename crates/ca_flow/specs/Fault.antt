@@ -16,7 +16,7 @@ use Rattle.ca_on_chip.specs.OnChip.{IsFlattenCause, IsSimulateCause, IsAtpgCause
 use Rattle.ca_on_chip.specs.Replay.{IsReplayCause}
 use Rattle.ca_on_chip.specs.Making.{IsMakeCause}
 
--- what is seen of a store and a sink: the files and the bytes that the sink holds, where they are told, and
+-- what is seen of a store and a sink: the files and the bytes that the sink holds, where they are known, and
 -- how often each failed
 pub record Outside : Type 0 where
   pub files : Option Files

@@ -20,7 +20,7 @@ use Rattle.ca_on_chip.specs.Lines.{check_text, flatten_text, simulate_text, repl
 use Rattle.ca_flow.specs.Usage.{usage_text, version_text}
 use Rattle.ca_words.specs.Words.{out_word, flat_out_word, stil_word, report_word, HasOut}
 
--- the text tells a command's work
+-- the text reports a command's work
 abbrev pub IsTold : Done → List ℕ → Type 0
 IsTold (Respond values) text = text ≡ flat_map line_of_pin values
 IsTold (Pair values) text = text ≡ flat_map line_of_pin values
@@ -44,14 +44,14 @@ status_told (Some fault) = status_of fault
 abbrev pub IsOutFault : List (List ℕ) → Option Fault → Type 0
 IsOutFault words fault = (name : List ℕ) × (HasOut words name × (fault ≡ Some (StoreFailed name)))
 
--- the status is that of the fault, and the work is told exactly where it is 0, or the output or the writing
--- of a file failed
+-- the status is that of the fault, and the work is reported exactly where it is 0, or the output or the
+-- writing of a file failed
 pub record IsAnswer (words : List (List ℕ)) (end : Finished) : Type 0 where
   pub status : end.status ≡ status_told end.fault
   pub done : IsSome end.done
       ↔ ((end.status ≡ 0) ⊎ ((end.fault ≡ Some SinkFailed) ⊎ IsOutFault words end.fault))
 
--- this holds of a text that tells the work
+-- this holds of a text that reports the work
 abbrev pub HasText : Done → (List ℕ → Type 0) → Type 0
 HasText done Holds = (text : List ℕ) × (IsTold done text × Holds text)
 
@@ -92,7 +92,7 @@ pub record LeavesBoth (words : List (List ℕ)) (fault : Option Fault) (old new 
       → MayChangeSecond old new (stil_word words) stil (report_word words) text
   pub both : ¬ (IsOutFault words fault) → ChangesBoth old new (stil_word words) stil (report_word words) text
 
--- what work that is told leaves of the files
+-- what work that is reported leaves of the files
 abbrev pub LeavesFiles : List (List ℕ) → Option Fault → Option Files → Option Files → Done → Type 0
 LeavesFiles words fault old new (Matrix matrix) =
     LeavesText words fault old new (out_word words) (text_of matrix)
@@ -102,7 +102,7 @@ LeavesFiles words fault old new (Atpg chip chains pairs aims verdicts) =
     LeavesBoth words fault old new (IsStil chip chains pairs) (report_of chip verdicts)
 LeavesFiles words fault old new _ = new ≡ old
 
--- what a command leaves of the files: where no work is told they are as they were
+-- what a command leaves of the files: where no work is reported they are as they were
 pub record Writes (words : List (List ℕ)) (end : Finished) (old new : Option Files) : Type 0 where
   pub done : IfSome end.done (LeavesFiles words end.fault old new)
   pub nothing : IsNone end.done → new ≡ old

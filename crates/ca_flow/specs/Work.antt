@@ -66,7 +66,7 @@ pub record HaveBeenWritten (file second : Option OutFile) (old new : Option File
   pub first_is : HasWritten file old between
   pub second_is : HasWritten second between new
 
--- the second file could not be written, behind the first
+-- the second file could not be written, after the first
 pub record FailsBehind (old new : Option Files) (before after : ℕ) (fault : Fault)
     (file second : Option OutFile) : Type 0 where
   pub between : Option Files

@@ -12,7 +12,7 @@ use ca_store::{Failed, Sink, Store};
 use std::alloc::Global;
 
 /// Does one command, whose words come without the program's name, and prints the line of its fault on `err`,
-/// if there is one. The answer is the exit status. The watch is told how far test generation is.
+/// if there is one. The answer is the exit status. The watch is notified how far test generation is.
 pub fn answer<S: Store, W: Sink, E: Sink, T: Watch>(
     alloc: Global,
     words: &[String],
@@ -61,7 +61,7 @@ fn tell_end<E: Sink>(fault: &Option<Fault>, err: &mut E)
 }
 
 /// Prints the line of a fault, and a second one with the names of what it carries, if it carries any; and
-/// answers its exit status. Where the output fails the status alone tells the
+/// answers its exit status. Where the output fails the status alone reports the
 /// fault.
 pub fn tell<E: Sink>(fault: &Fault, err: &mut E) -> u8
     ensures status { result ≡ status_of fault.now }

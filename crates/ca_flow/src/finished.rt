@@ -97,7 +97,7 @@ pub enum Done {
 }
 
 impl Done {
-    // The lines that tell the work.
+    // The lines that report the work.
     fn lines(&self, alloc: Global) -> Result<Text, NoMemory>
         ensures { IfOk result (IsTold self.now) }
     {
@@ -126,7 +126,7 @@ impl Done {
 }
 
 impl Finished {
-    /// Lets the end of a command go. Where it is let go otherwise, the prover goes through all that it may
+    /// Drops the end of a command. Where it is dropped otherwise, the prover goes through all that it may
     /// have once more.
     pub fn let_go(self) {
         let Finished { done, .. } = self;

@@ -32,8 +32,8 @@ use std::alloc::Global;
 
 /// Does one command, whose words come without the program's name. Nothing is written or printed before all
 /// inputs are judged, and all memory is taken before the first file is created and the first byte is
-/// printed. Words that are no command's leave the store and the sink uncalled. The watch is told how far test
-/// generation is.
+/// printed. Words that are no command's leave the store and the sink uncalled. The watch is notified how far
+/// test generation is.
 #[tactic(auto, using(crate::proofs::CauseLemmas::is_whole))]
 pub fn run<S: Store, W: Sink, T: Watch>(
     alloc: Global,

@@ -1,4 +1,4 @@
--- A command that did its work could be answered, so that a fault of input that has a cause is told.
+-- A command that did its work could be answered, so that a fault of input that has a cause is reported.
 use Rattle.std.proofs.Common.{ℕ, ◌≡◌, ◌≤◌, ◌⊎◌, ◌∙◌, inl, inr, refl, sym, ap, subst, arith, List, length, Option, Some, None, Ok}
 use Rattle.std.proofs.Common.{true≢false}
 use Rattle.std.specs.Prelude.{IfSome, IsSome, IsSomeAnd}
@@ -223,7 +223,7 @@ module _ (words : List (List ℕ)) (files : Option Files) (told : Files) (are : 
   answered Help is = inl (inl is)
   answered Version is = inl (inr (inl is))
 
--- a cause is told
+-- a cause is reported
 pub told_cause : (words : List (List ℕ)) (files : Files) (before after : Outside) (end : Finished) (fault : Fault)
     → TellsFiles words files before → Ends words before after end → IsInputFault fault → IsCause words before after fault
     → IsSomeAnd end.fault (λ told. IsCallFault told ⊎ IsSame told fault)

@@ -1,4 +1,4 @@
--- What is told of a command on a cell is one fault.
+-- What is reported of a command on a cell is one fault.
 use Rattle.std.proofs.Common.{ℕ, ◌≡◌, ◌⊎◌, ◌∙◌, inl, inr, refl, sym, ap, subst, arith, List}
 use Rattle.std.proofs.Common.{Option, Some, None, Result, Ok, Err, true≢false}
 use Rattle.std.specs.Prelude.{IsNone, IsOk, IsSomeAnd}
@@ -85,12 +85,12 @@ one_unfit raw first last typed other (inl here) (inr there) = absurd (here.1 the
 one_unfit raw first last typed other (inr here) (inl there) = absurd (there.1 here.1.0)
 one_unfit raw first last typed other (inr here) (inr there) = here.0 ∙ sym there.0
 
--- a vector that doesn't fit is told before a defect
+-- a vector that doesn't fit is reported before a defect
 fits_before : (raw : RawCell) (first last defect typed : List ℕ) → IsFirstUnfit raw first last typed → LacksDefect raw first last defect → ⊥
 fits_before raw first last defect typed (inl unfit) lacks = unfit.1 lacks.0
 fits_before raw first last defect typed (inr unfit) lacks = unfit.1.1 lacks.1.0
 
--- what is told of a cell is one fault
+-- what is reported of a cell is one fault
 module _ (words : List (List ℕ)) (raw : RawCell) (fault other : Fault) where
   both_misfit : Misfits words raw fault → Misfits words raw other → fault ≡ other
   both_misfit here there =
@@ -130,7 +130,7 @@ one_at_cell words raw fault other (inr (inr here)) (inl there) = absurd (here.ke
 one_at_cell words raw fault other (inr (inr here)) (inr (inl there)) = absurd (misfits_or_lacks words raw other fault there here)
 one_at_cell words raw fault other (inr (inr here)) (inr (inr there)) = both_lack words raw fault other here there
 
--- what is told of the subcircuit that the words name in a library, where they name one
+-- what is reported of the subcircuit that the words name in a library, where they name one
 abbrev pub AtCalled : List (List ℕ) → Option RawCell → Fault → Type 0
 AtCalled words None fault = fault ≡ NoCell (cell_word words)
 AtCalled words (Some raw) fault = AtCell words raw fault
@@ -140,7 +140,7 @@ one_at_called : (words : List (List ℕ)) (called : Option RawCell) (fault other
 one_at_called words None fault other here there = here ∙ sym there
 one_at_called words (Some raw) fault other here there = one_at_cell words raw fault other here there
 
--- what is told of a reading, in which the words name a subcircuit or none
+-- what is reported of a reading, in which the words name a subcircuit or none
 abbrev pub AtReading : {S : Type 0} → List (List ℕ) → Result S SpiceFault → (S → Option RawCell) → Fault → Type 0
 AtReading words (Ok cells) called fault = AtCalled words (called cells) fault
 AtReading words (Err (spice.At line kind)) called fault = fault ≡ Cells line kind
@@ -162,7 +162,7 @@ one_at_library : (words : List (List ℕ)) (bytes : List ℕ) (fault other : Fau
 one_at_library words bytes fault other here there =
     one_at_reading words (library_of bytes) (λ cells. called_among cells (upper_case (cell_word words))) fault other here there
 
--- what is told of the file of a command on a cell
+-- what is reported of the file of a command on a cell
 abbrev pub TellsCell : List (List ℕ) → Fault → List ℕ → Type 0
 TellsCell words fault bytes = AtLibrary words bytes fault
 

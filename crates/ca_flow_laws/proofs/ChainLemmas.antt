@@ -80,7 +80,7 @@ module _ (chip : Chip) where
     on_chains : (AreOnChains chip → ⊥) → ⊥
     on_chains refutes = on_below (length chip.parts) (λ all. refutes (λ u scan. all u (scan_within u scan) scan))
 
-  -- where nothing is told of a chip, it has chains
+  -- where nothing is reported of a chip, it has chains
   pub traced_or : ((fault : Fault) → IsTracingCause fault chip → ⊥) → (IsTraced chip → ⊥) → ⊥
   traced_or none refutes = ports_found (length chip.ports) (λ are. on_chains first (λ on.
       let chains : List (List ℕ) = flat_map option_to_list are.list in

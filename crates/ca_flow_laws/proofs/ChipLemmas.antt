@@ -1,4 +1,4 @@
--- What is told of a command on a chip is one fault; of several loops any may be told.
+-- What is reported of a command on a chip is one fault; of several loops any may be reported.
 use Rattle.std.proofs.Common.{ap, sym, ◌∙◌, ℕ, ◌≡◌, ◌≤◌, ◌⊎◌, inl, inr, refl, arith, List, length, Option, Some, None}
 use Rattle.std.specs.Prelude.{IsSomeAnd}
 use Rattle.ca_store.specs.Store.{Files}
@@ -42,7 +42,7 @@ atpg_or_simulate words one other = let seven = one.seven in let eight = other.ei
 pub atpg_or_replay : (words : List (List ℕ)) → IsAtpg words → IsReplay words → ⊥
 atpg_or_replay words one other = let seven = one.seven in let nine = other.nine in omega (arith, seven, nine)
 
--- what is told of the own words of a command, of a chip
+-- what is reported of the own words of a command, of a chip
 abbrev pub AtOwn : List (List ℕ) → Files → Chip → Fault → Type 0
 AtOwn words given chip fault =
     (IsFlatten words × AtDefect (instance_word words) (chip_defect_word words) chip fault)
@@ -51,7 +51,7 @@ AtOwn words given chip fault =
     ⊎ (IsReplay words
     × AtRun (instance_word words) (chip_defect_word words) (chip_first_word words) (chip_last_word words) (order_word words) given chip fault))
 
--- the inputs give a chip with chains, of which it is told
+-- the inputs give a chip with chains, of which it is reported
 pub record IsOwn (words : List (List ℕ)) (given : Files) (fault : Fault) (inputs : Inputs) : Type 0 where
   pub chip : Chip
   pub is : IsChipOf inputs chip
@@ -98,19 +98,19 @@ module _ (words : List (List ℕ)) (given : Files) where
       one_of_chip here.chip (names_one (chip_files words) inputs given here.chip read here.is) fault other here.at
       (own_also there.chip here.chip one other there.at)
 
-  -- what is told of a command on a chip is one fault
+  -- what is reported of a command on a chip is one fault
   pub one_at_chip : (fault other : Fault) → AtChipWords words given fault → AtChipWords words given other → IsSame fault other
   one_at_chip = one_of IsSame (AtLoad (chip_files words) given) (λ fault. AreReadAs (chip_files words) given (IsOwn words given fault))
       (one_load (chip_files words) given)
       (λ fault other here there. inl (one_own fault other here there))
       (λ fault other here there. no_load (chip_files words) given there.0 there.1.0 there.1.1.chip there.1.1.is there.1.1.traced fault here)
 
--- a fault that tells pairs is none of input
+-- a fault that has pairs is none of input
 pub pairs_input : (fault : Fault) → IsInputFault fault → IsPairsFault fault → ⊥
 pairs_input (TooManyPairs pairs aims) is many = is
 pairs_input fault is many = many
 
--- what the store tells, where it has the given files
+-- what is known of the store, where it has the given files
 module _ (words : List (List ℕ)) (files : Option Files) (told : Files) (are : files ≡ Some told) (given : Files)
     (agree : (name : List ℕ) → IsInputFile words name → told name ≡ given name) (chip : IsOnChip words) where
   of_names : (name : List ℕ) → IsChipFile (chip_files words) name → told name ≡ given name
@@ -190,7 +190,7 @@ module _ (words : List (List ℕ)) (files : Option Files) (told : Files) (are : 
         ))) held
     of_own fault is (inr (inr (inr (replay, inr order)))) = of_order replay fault is order
 
-    -- what the store tells is told of the given files
+    -- what the store has is reported of the given files
     pub of_work : (fault : Fault) → IsInputFault fault
         → IsLoadCause (chip_files words) files before after fault ⊎ IsOwnCause words files before after fault → AtChipWords words given fault
     of_work fault is (inl load) = inl (of_load files told are (chip_files words) given of_names before after fault is load)

@@ -19,7 +19,7 @@ pub no_made_input : (number : ℕ) (fault : Fault) → IsInputFault fault → Is
 no_made_input number fault is (inl memory) = subst IsInputFault memory is
 no_made_input number fault is (inr many) = pairs_input fault is many.pairs
 
--- what is told of words and of their files
+-- what is reported of words and of their files
 abbrev pub AtWords : List (List ℕ) → Files → Fault → Type 0
 AtWords words given fault =
     ((¬ (IsCommand words)) × (fault ≡ BadWords))

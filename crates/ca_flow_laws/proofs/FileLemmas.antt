@@ -1,4 +1,4 @@
--- What is told of one file: it is too long, or a fault of its text.
+-- What is reported of one file: it is too long, or a fault of its text.
 use Rattle.std.proofs.Common.{ℕ, ◌≡◌, ◌≤◌, ◌<◌, ◌+◌, ◌⊎◌, ◌∙◌, inl, inr, refl, sym, subst, arith, List, length}
 use Rattle.std.proofs.Common.{Option, Some, None}
 use Rattle.std.specs.Prelude.{IsSomeAnd}
@@ -17,12 +17,12 @@ one_of Same A B one other never f g (inl here) (inr there) = absurd (never f g h
 one_of Same A B one other never f g (inr here) (inl there) = absurd (never g f there here)
 one_of Same A B one other never f g (inr here) (inr there) = other f g here there
 
--- what is told of bytes: there are too many, or a fault of them
+-- what is reported of bytes: there are too many, or a fault of them
 abbrev pub AtBytes : ℕ → List ℕ → (Fault → List ℕ → Type 0) → Fault → List ℕ → Type 0
 AtBytes limit name Tells fault bytes =
     ((limit < length bytes) × (fault ≡ TooLong name (limit + 1))) ⊎ ((length bytes ≤ limit) × Tells fault bytes)
 
--- what is told of a file
+-- what is reported of a file
 abbrev pub AtFile : ℕ → List ℕ → (Fault → List ℕ → Type 0) → Option (List ℕ) → Fault → Type 0
 AtFile limit name Tells file fault = IsSomeAnd file (AtBytes limit name Tells fault)
 
@@ -52,7 +52,7 @@ module _ (limit : ℕ) (name : List ℕ) (Tells : Fault → List ℕ → Type 0)
   of_bytes None P fault next held = absurd held
   of_bytes (Some bytes) P fault next held = inr (held.0, next bytes held.1)
 
--- what the store tells of a file, where it has these bytes, or isn't there
+-- what is known of the store of a file, where it has these bytes, or isn't there
 module _ (files : Option Files) (told : Files) (are : files ≡ Some told) (name : List ℕ) (file : Option (List ℕ)) (same : told name ≡ file) where
   pub of_file : (limit : ℕ) (P : List ℕ → Type 0) → OfFile files name limit P → IsSomeAnd file (λ bytes. (length bytes ≤ limit) × P bytes)
   of_file limit P held = subst (λ there. IsSomeAnd there (λ bytes. (length bytes ≤ limit) × P bytes)) same (held told are)

@@ -1,4 +1,4 @@
--- The own words of a command are of a chip, or, up to a double negation, something is told of them.
+-- The own words of a command are of a chip, or, up to a double negation, something is reported of them.
 use Rattle.std.proofs.Common.{ℕ, zero, suc, ◌≡◌, ◌≢◌, ◌<◌, ◌∙◌, inl, inr, refl, sym, subst, arith, List, [], ◌∷◌, ◌++◌, length}
 use Rattle.std.proofs.Common.{Option, Some, None, Result, Ok, Err, length-append, Bool, true, false, true≢false}
 use Rattle.std.specs.Prelude.{IsSome, slice_get}
@@ -36,7 +36,7 @@ use Rattle.ca_flow_laws.proofs.FirstLemmas.{either}
 use Rattle.ca_flow_laws.proofs.OneLemmas.{NamesOne}
 use Rattle.ca_flow_laws.proofs.SomeLemmas.{same_or_other}
 
--- an instance and a defect, where words of which this is told are refuted
+-- an instance and a defect, where words of which this is reported are refuted
 pub defect_or : (words : List (List ℕ)) (chip : Chip) → NamesOne chip
     → ((fault : Fault) → IsDefectCause chip (instance_word words) (chip_defect_word words) fault → ⊥)
     → (FitsDefect words chip → ⊥) → ⊥

@@ -1,5 +1,5 @@
--- What is told of inputs that don't link, or give a chip without chains, is one fault; of several loops any
--- may be told.
+-- What is reported of inputs that don't link, or give a chip without chains, is one fault; of several loops any
+-- may be reported.
 use Rattle.std.proofs.Common.{ℕ, ◌≡◌, ◌≢◌, ◌∙◌, inl, inr, refl, sym, ap, subst, List, Option, Some, None}
 use Rattle.std.specs.Prelude.{IsSomeAnd, slice_get}
 use Rattle.ca_lex.specs.Words.{upper_case}
@@ -57,13 +57,13 @@ module _ (raw : RawNetlist) (library : List Named) (scan : List ScanRow) (text o
   one_place (rule.TooManyDefects count) is also = is ∙ sym also
   one_place rule.NoMemory is also = is ∙ sym also
 
--- the fault tells the broken rule as it is, with its place
+-- the fault reports the broken rule as it is, with its place
 pub record IsPlain (inputs : Inputs) (broken : ChipFault) (fault : Fault) : Type 0 where
   pub place : List ℕ
   pub placed : IsPlaceOf inputs broken place
   pub is : fault ≡ fault_.Chip broken place
 
--- it tells the rule of a cell, with the cell's name and the place
+-- it reports the rule of a cell, with the cell's name and the place
 pub record IsOfRefused (inputs : Inputs) (u : InstanceId) (broken : CellRule) (fault : Fault) : Type 0 where
   pub name : List ℕ
   pub place : List ℕ
@@ -71,7 +71,7 @@ pub record IsOfRefused (inputs : Inputs) (u : InstanceId) (broken : CellRule) (f
   pub placed : IsPlaceOf inputs (rule.Cell u broken) place
   pub is : fault ≡ Cell name broken place
 
--- the fault tells the broken rule
+-- the fault reports the broken rule
 abbrev pub IsToldBy : Inputs → ChipFault → Fault → Type 0
 IsToldBy inputs (rule.UnknownCell u) fault = IsPlain inputs (rule.UnknownCell u) fault
 IsToldBy inputs (rule.Cell u broken) fault = IsOfRefused inputs u broken fault
@@ -89,7 +89,7 @@ IsToldBy inputs (rule.TooManyOutputs count) fault = fault ≡ Limit limit.Output
 IsToldBy inputs (rule.TooManyDefects count) fault = fault ≡ Limit limit.Defects count
 IsToldBy inputs rule.NoMemory fault = ⊥
 
--- what is told of inputs that don't link
+-- what is reported of inputs that don't link
 pub record AtLink (inputs : Inputs) (fault : Fault) : Type 0 where
   pub broken : ChipFault
   pub first : BreakFirst inputs broken
@@ -151,7 +151,7 @@ module _ (inputs : Inputs) where
       let place = one_place inputs.netlist inputs.library inputs.rows told.place also.place (rule.Cell u broken) told.placed also.placed in
       told.is ∙ (λ j. Cell (name j) broken (place j)) ∙ sym also.is
 
-  -- a broken rule is told by one fault
+  -- a broken rule is reported by one fault
   one_told : (broken : ChipFault) (fault other : Fault) → IsToldBy inputs broken fault → IsToldBy inputs broken other → fault ≡ other
   one_told (rule.UnknownCell u) fault other told also = one_plain (rule.UnknownCell u) fault other told also
   one_told (rule.Cell u broken) fault other told also = one_refused u broken fault other told also
@@ -169,7 +169,7 @@ module _ (inputs : Inputs) where
   one_told (rule.TooManyDefects count) fault other told also = told ∙ sym also
   one_told rule.NoMemory fault other told also = absurd told
 
-  -- two loops are told as loops
+  -- two loops are reported as loops
   both_loops : (broken also : ChipFault) (fault other : Fault) → link.AreLoops broken also → IsToldBy inputs broken fault → IsToldBy inputs also other
       → AreLoops fault other
   both_loops (rule.Loop instances) (rule.Loop others) fault other loops told also =
@@ -184,14 +184,14 @@ module _ (inputs : Inputs) where
         | inr loops ↦ inr (both_loops here.broken there.broken fault other loops here.told there.told)
       ]
 
--- the fault tells why a chip has no chains
+-- the fault says why a chip has no chains
 abbrev pub IsTracedBy : Chip → ChainFault → Fault → Type 0
 IsTracedBy chip (chain.ChainBroken u) fault =
     (name : List ℕ) × (IsSomeAnd (slice_get chip.parts u.0) (λ part. name ≡ part.name) × (fault ≡ Chain name))
 IsTracedBy chip (chain.TooManyChains count) fault = fault ≡ Limit limit.Chains count
 IsTracedBy chip chain.NoMemory fault = ⊥
 
--- what is told of a chip without chains
+-- what is reported of a chip without chains
 pub record AtTrace (chip : Chip) (fault : Fault) : Type 0 where
   pub broken : ChainFault
   pub cause : IsChainCause chip broken
@@ -218,7 +218,7 @@ one_traced chip (chain.ChainBroken u) fault other (name, (named, is)) (also, (na
 one_traced chip (chain.TooManyChains count) fault other told also = told ∙ sym also
 one_traced chip chain.NoMemory fault other told also = absurd told
 
--- a chip that is alike tells the same
+-- of a chip that is alike the same is reported
 traced_alike : (chip also : Chip) → AreAlike chip also → (broken : ChainFault) (fault : Fault) → IsTracedBy chip broken fault → IsTracedBy also broken fault
 traced_alike chip also alike (chain.ChainBroken u) fault (name, (named, is)) = (name, (by (slice_get chip.parts u.0) refl named, is))
   where

@@ -1,4 +1,4 @@
--- What is told of the files of a command on a chip is one fault.
+-- What is reported of the files of a command on a chip is one fault.
 use Rattle.std.proofs.Common.{ℕ, ◌≡◌, ◌≤◌, ◌⊎◌, ◌∙◌, inl, inr, refl, sym, subst, List, length, Option, Some, None}
 use Rattle.std.proofs.Common.{Result, Ok, Err, true≢false}
 use Rattle.std.specs.Prelude.{IsOk, IsSomeAnd}
@@ -31,7 +31,7 @@ use Rattle.ca_flow_laws.proofs.LinkLemmas.{AtLink, of_link, one_link, AtTrace, o
 use Rattle.ca_flow_laws.proofs.LinkLemmas.{traced_also}
 use Rattle.ca_flow_laws.proofs.OneLemmas.{one_chip}
 
--- what is told of a reading of a cell netlist
+-- what is reported of a reading of a cell netlist
 abbrev pub AtCells : {S : Type 0} → Result S SpiceFault → Fault → Type 0
 AtCells (Ok cells) fault = ⊥
 AtCells (Err (spice.At line kind)) fault = fault ≡ Cells line kind
@@ -103,7 +103,7 @@ TellsTokens fault bytes = AtTokens (netlist_of bytes) fault
 abbrev pub TellsRows : Fault → List ℕ → Type 0
 TellsRows fault bytes = AtRows (table_of bytes) fault
 
--- what is told of the table of scan cells, where a chip has one
+-- what is reported of the table of scan cells, where a chip has one
 abbrev pub AtTable : Option (List ℕ) → Files → Fault → Type 0
 AtTable None given fault = ⊥
 AtTable (Some name) given fault = AtFile MAX_SCAN name TellsRows (given name) fault
@@ -115,12 +115,12 @@ HasCells names given = IsFileWith given names.cells MAX_CELLS (λ bytes. IsOk (l
 abbrev pub HasTokens : InputFiles → Files → Type 0
 HasTokens names given = IsFileWith given names.netlist MAX_NETLIST (λ bytes. IsOk (netlist_of bytes))
 
--- what is told of the second file, and of the third
+-- what is reported of the second file, and of the third
 abbrev pub AtLater : InputFiles → Files → Fault → Type 0
 AtLater names given fault =
     AtFile MAX_NETLIST names.netlist TellsTokens (given names.netlist) fault ⊎ (HasTokens names given × AtTable names.scan given fault)
 
--- what is told of the files, one after another
+-- what is reported of the files, one after another
 abbrev pub AtInput : InputFiles → Files → Fault → Type 0
 AtInput names given fault = AtFile MAX_CELLS names.cells TellsCells (given names.cells) fault ⊎ (HasCells names given × AtLater names given fault)
 
@@ -130,7 +130,7 @@ pub record LacksChains (inputs : Inputs) (fault : Fault) : Type 0 where
   pub is : IsChipOf inputs chip
   pub at : AtTrace chip fault
 
--- what is told of what the files read as
+-- what is reported of what the files read as
 abbrev pub AtChip : Inputs → Fault → Type 0
 AtChip inputs fault = AtLink inputs fault ⊎ LacksChains inputs fault
 
@@ -138,7 +138,7 @@ AtChip inputs fault = AtLink inputs fault ⊎ LacksChains inputs fault
 abbrev pub AreReadAs : InputFiles → Files → (Inputs → Type 0) → Type 0
 AreReadAs names given Holds = (inputs : Inputs) × (ReadAs names inputs given × Holds inputs)
 
--- what is told of the files and of what they read as
+-- what is reported of the files and of what they read as
 abbrev pub AtLoad : InputFiles → Files → Fault → Type 0
 AtLoad names given fault = AtInput names given fault ⊎ AreReadAs names given (λ inputs. AtChip inputs fault)
 
@@ -183,7 +183,7 @@ module _ (names : InputFiles) (given : Files) where
         none_of_read MAX_NETLIST names.netlist TellsTokens (IsNetlistOf inputs.netlist) (given names.netlist) fault (no_netlist fault) here read.netlist
     no_input fault (inr (has, inr (too, here))) = no_table names.scan read.rows fault here
 
-  -- what is told of the inputs is one fault
+  -- what is reported of the inputs is one fault
   one_lack : (inputs : Inputs) (fault other : Fault) → LacksChains inputs fault → LacksChains inputs other → fault ≡ other
   one_lack inputs fault other here there =
       let one = one_chip inputs there.chip here.chip there.is here.is in
@@ -203,7 +203,7 @@ module _ (names : InputFiles) (given : Files) where
   one_linked fault other here there =
       one_of_inputs here.0 fault other here.1.1 (one_read (λ inputs. AtChip inputs other) here.0 here.1.0 there)
 
-  -- what is told of loading is one fault
+  -- what is reported of loading is one fault
   pub one_load : (fault other : Fault) → AtLoad names given fault → AtLoad names given other → IsSame fault other
   one_load = one_of IsSame (AtInput names given) (λ fault. AreReadAs names given (λ inputs. AtChip inputs fault))
       (λ fault other here there. inl (one_input fault other here there)) one_linked
@@ -221,7 +221,7 @@ module _ (names : InputFiles) (given : Files) where
           let one = one_chip inputs chip lacks.chip is lacks.is in
           none_of_traced lacks.chip fault lacks.at (traced_also chip lacks.chip one.alike traced)
 
--- what the store tells, where it has the given files
+-- what is known of the store, where it has the given files
 module _ (files : Option Files) (told : Files) (are : files ≡ Some told) (names : InputFiles) (given : Files)
     (agree : (name : List ℕ) → IsChipFile names name → told name ≡ given name) where
   agree_cells : told names.cells ≡ given names.cells
@@ -299,7 +299,7 @@ module _ (files : Option Files) (told : Files) (are : files ≡ Some told) (name
     of_chip inputs (inl link) = inl (of_link inputs fault link)
     of_chip inputs (inr lack) = inr (record { chip = lack.chip; is = lack.is; at = of_trace lack.chip fault lack.cause })
 
-    -- what the store tells is told of the given files
+    -- what the store has is reported of the given files
     pub of_load : IsLoadCause names files before after fault → AtLoad names given fault
     of_load (inl cause) = inl (of_input cause)
     of_load (inr (is, held)) =

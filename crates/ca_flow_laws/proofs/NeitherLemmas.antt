@@ -67,7 +67,7 @@ use Rattle.ca_flow_laws.proofs.AnsweredLemmas.{atpg_own, replay_own}
 within_or_past : (n most : ℕ) → (n ≤ most) ⊎ (most < n)
 within_or_past n most = elim (dec_le n most) [ yes within ↦ inl within | no past ↦ inr (omega (arith, past)) ]
 
--- what a fault tells that has a cause
+-- what a fault reports that has a cause
 defect_told : (instance defect : List ℕ) (chip : Chip) (fault : Fault) → IsDefectCause chip instance defect fault
     → IsInputFault fault × IsDefectWord instance defect fault
 defect_told instance defect chip (NoInstance typed) (same, (some, lacks)) = (tt, (same, some))

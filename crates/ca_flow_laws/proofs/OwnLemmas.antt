@@ -1,4 +1,4 @@
--- What is told of the own words of a command on a chip is one fault.
+-- What is reported of the own words of a command on a chip is one fault.
 use Rattle.std.proofs.Common.{ℕ, ◌≡◌, ◌≢◌, ◌⊎◌, ◌∙◌, inl, inr, refl, sym, ap, subst, List, length, Option, Some, None}
 use Rattle.std.proofs.Common.{true≢false}
 use Rattle.std.specs.Prelude.{IsNone}
@@ -26,7 +26,7 @@ use Rattle.ca_flow_laws.proofs.NamedLemmas.{named_alike}
 use Rattle.ca_flow_laws.proofs.OneLemmas.{AreOne, one_back, NamesOne}
 use Rattle.ca_flow_laws.proofs.OrderLemmas.{one_line}
 
--- what is told of two vectors
+-- what is reported of two vectors
 abbrev pub AtVectors : List ℕ → List ℕ → Chip → Fault → Type 0
 AtVectors first last chip fault =
     ((fault ≡ BadVector first) × ¬ (FitsInputs chip first))
@@ -36,28 +36,28 @@ AtVectors first last chip fault =
 abbrev pub LacksGate : Chip → List ℕ → Type 0
 LacksGate chip instance = (u : ℕ) → IsNamedGate chip instance u → ⊥
 
--- what is told of an instance and a defect
+-- what is reported of an instance and a defect
 abbrev pub AtDefect : List ℕ → List ℕ → Chip → Fault → Type 0
 AtDefect instance defect chip fault = (instance ≢ dash)
     × (((fault ≡ NoInstance instance) × LacksGate chip instance) ⊎ ((fault ≡ NoDefect defect) × LacksDefect chip instance defect))
 
--- what is told of vectors, an instance and a defect, the vectors first
+-- what is reported of vectors, an instance and a defect, the vectors first
 abbrev pub AtPair : List ℕ → List ℕ → List ℕ → List ℕ → Chip → Fault → Type 0
 AtPair instance defect first last chip fault =
     AtVectors first last chip fault ⊎ ((FitsInputs chip first × FitsInputs chip last) × AtDefect instance defect chip fault)
 
--- what is told of a text of events
+-- what is reported of a text of events
 abbrev pub TellsLine : List ℕ → List ℕ → List ℕ → List ℕ → Chip → Fault → List ℕ → Type 0
 TellsLine instance defect first last chip fault bytes =
     (line : ℕ) × ((fault ≡ Order line) × HasFaultyLine instance defect first last line chip bytes)
 
--- what is told of the file of events, where the words name a run
+-- what is reported of the file of events, where the words name a run
 abbrev pub AtOrder : List ℕ → List ℕ → List ℕ → List ℕ → List ℕ → Files → Chip → Fault → Type 0
 AtOrder instance defect first last order given chip fault =
     HasRun instance defect first last chip
     × AtFile MAX_ORDER order (TellsLine instance defect first last chip) (given order) fault
 
--- what is told of all of these
+-- what is reported of all of these
 abbrev pub AtRun : List ℕ → List ℕ → List ℕ → List ℕ → List ℕ → Files → Chip → Fault → Type 0
 AtRun instance defect first last order given chip fault =
     AtPair instance defect first last chip fault ⊎ AtOrder instance defect first last order given chip fault
@@ -79,7 +79,7 @@ pub of_simulation : (instance defect first last : List ℕ) (chip : Chip) (fault
 of_simulation instance defect first last chip fault (inl vectors) = inl (of_vectors first last chip fault vectors)
 of_simulation instance defect first last chip fault (inr (fits, (too, cause))) = inr ((fits, too), of_defect instance defect chip fault cause)
 
--- a chip that is one with another has the same told of it
+-- a chip that is one with another has the same reported of it
 module _ (chip also : Chip) (are : AreOne chip also) where
   pub fits_also : (word : List ℕ) → FitsInputs chip word → FitsInputs also word
   fits_also word fits = subst (λ (nets : List ℕ). length (letters_of word) ≡ length nets) (one_ports chip also are.alike).inputs fits
@@ -161,7 +161,7 @@ module _ (chip also : Chip) (are : AreOne chip also) where
   at_run_also instance defect first last order given fault (inl at) = inl (pair_also instance defect first last fault at)
   at_run_also instance defect first last order given fault (inr at) = inr (order_also instance defect first last order given fault at)
 
--- of one chip, in which a name means one instance, one fault is told
+-- of one chip, in which a name means one instance, one fault is reported
 module _ (chip : Chip) where
   one_vectors : (first last : List ℕ) (fault other : Fault) → AtVectors first last chip fault → AtVectors first last chip other → fault ≡ other
   one_vectors first last fault other (inl here) (inl there) = here.0 ∙ sym there.0

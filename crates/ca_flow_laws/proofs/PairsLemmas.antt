@@ -19,7 +19,7 @@ use Rattle.ca_flow_laws.proofs.LoadLemmas.{read_given, no_load}
 use Rattle.ca_flow_laws.proofs.ChipLemmas.{atpg_or_flatten, atpg_or_simulate, atpg_or_replay, AtOwn}
 use Rattle.ca_flow_laws.proofs.ExactLemmas.{AtWords, of_cause}
 
--- a fault is one of a call or of memory, one of input, or tells pairs
+-- a fault is one of a call or of memory, one of input, or has pairs
 pub kind_of_fault : (fault : Fault) → IsCallFault fault ⊎ (IsInputFault fault ⊎ IsPairsFault fault)
 kind_of_fault BadWords = inr (inl tt)
 kind_of_fault (Cells line kind) = inr (inl tt)
@@ -45,7 +45,7 @@ abbrev pub IsGenerating : List (List ℕ) → Option Files → Fault → Type 0
 IsGenerating words files fault =
     (IsAtpg words × ((budget : ℕ) × OfChip files (chip_files words) (IsPairsCause budget fault))) ⊎ IsMake words
 
--- where a fault tells pairs
+-- where a fault has pairs
 module _ (words : List (List ℕ)) (pairs : _) (aims : _) (files : Option Files) (before after : ℕ) where
   no_cell : IsCellCause (cells_word words) (cell_word words) files before after (TooManyPairs pairs aims) → ⊥
   no_cell (inl (inl read)) = read
@@ -104,7 +104,7 @@ no_own_words words given chip fault is (inr (inl (simulate, at))) = atpg_or_simu
 no_own_words words given chip fault is (inr (inr (replay, at))) = atpg_or_replay words is replay
 
 module _ (words : List (List ℕ)) (given : Files) (other : Fault) where
-  -- a chip that has too many pairs is one of which nothing is told
+  -- a chip that has too many pairs is one of which nothing is reported
   no_words : (files : Option Files) (told : Files) → files ≡ Some told → ((name : List ℕ) → IsInputFile words name → told name ≡ given name)
       → (fault : Fault) → IsGenerating words files fault → AtWords words given other → ⊥
   no_words files told are agree fault (inl (is, found)) (inl bad) = bad.0 (inr (inl (inr (inr (inr (inl is))))))
@@ -120,7 +120,7 @@ module _ (words : List (List ℕ)) (given : Files) (other : Fault) where
   no_words files told are agree fault (inr make) (inr (inl cell)) = no_asking_cell words (inr (inr make)) cell.0
   no_words files told are agree fault (inr make) (inr (inr chip)) = no_asking_chip words (inr (inr make)) chip.0
 
--- where a fault of input has a cause none that tells pairs has one
+-- where a fault of input has a cause none with pairs has one
 pub no_pairs : (words : List (List ℕ)) (given : Files) (before after again later : Outside) (fault other : Fault) → TellsFiles words given before
     → TellsFiles words given again → IsPairsFault fault → IsInputFault other → IsCause words before after fault → IsCause words again later other → ⊥
 no_pairs words given before after again later fault other tells tells_too many is cause cause_too = by before.files refl tells

@@ -42,7 +42,7 @@ use Rattle.ca_spice.proofs.ReadingLemmas.{placed_ended}
 use Rattle.ca_load.specs.declared.cells.TheConstants.{MAX_CELLS}
 use Rattle.ca_flow_laws.proofs.LengthLemmas.{weight_of, weights_of, text_weight}
 
--- the subcircuit that is being read has at most so many nets and devices, each terminal at one of the nets
+-- the subcircuit that is being read has at most this many nets and devices, each terminal at one of the nets
 record IsHeld (most : ℕ) (cell : OpenCell) : Type 0 where
   pub few_nets : length cell.nets ≤ most
   pub few_devices : length cell.devices ≤ most

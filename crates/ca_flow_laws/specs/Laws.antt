@@ -47,7 +47,7 @@ NeverNeitherOnChip =
     → ¬ (¬ (IsAnswerable words outside.files ⊎ HasInputCause words outside))
 
 -- a command of whose words and files a fault of input has a cause ends with this fault, or with another loop
--- where it tells one, or with a fault of the store, the output or memory
+-- where it reports one, or with a fault of the store, the output or memory
 abbrev pub CauseIsTold : Type 0
 CauseIsTold =
     (words : List (List ℕ)) (files : Files) (before after : Outside) (end : Finished) (fault : Fault)

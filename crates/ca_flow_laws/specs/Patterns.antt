@@ -24,8 +24,8 @@ pub record ReadsBack (chip : Chip) (chains : List (List ℕ)) (pairs : List (Lis
   pub are_expected : AreExpected (core_of chip) pairs expected
   pub reads : whole stil_form (tokens_of text) ≡ Ok (stil_value (stil_chip chip chains) pairs expected)
 
--- where `atpg` does its work, and the store tells its files, the text of the pairs reads back: that is the text
--- which STIL holds after status 0
+-- where `atpg` does its work, and the store's files are known, the text of the pairs reads back: that is the
+-- text which STIL holds after status 0
 abbrev pub AtpgTextIsRead : Type 0
 AtpgTextIsRead =
     (words : List (List ℕ)) (before after : Outside) (end : Finished) (chip : Chip) (chains : List (List ℕ))

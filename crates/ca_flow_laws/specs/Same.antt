@@ -35,11 +35,11 @@ IsCallFault SinkFailed = ⊤
 IsCallFault NoMemory = ⊤
 IsCallFault _ = ⊥
 
--- both faults tell a loop of a chip; of several loops any may be told
+-- both faults report a loop of a chip; of several loops any may be reported
 abbrev pub AreLoops : Fault → Fault → Type 0
 AreLoops (Chip (rule.Loop instances) place) (Chip (rule.Loop others) other) = ⊤
 AreLoops _ _ = ⊥
 
--- the faults are one, or both tell a loop
+-- the faults are one, or both report a loop
 abbrev pub IsSame : Fault → Fault → Type 0
 IsSame fault other = (fault ≡ other) ⊎ AreLoops fault other

@@ -1,4 +1,4 @@
--- What a store tells of the files that a command reads.
+-- What is known of a store of the files that a command reads.
 use Rattle.std.specs.Prelude.{◌≡◌, ◌⊎◌, ℕ, List, Some, IsSome, IsSomeAnd}
 use Rattle.ca_store.specs.Store.{Files}
 use Rattle.ca_load.specs.Texts.{InputFiles}
@@ -16,12 +16,12 @@ IsInputFile words name =
     ⊎ ((IsOnChip words × IsChipFile (chip_files words) name)
     ⊎ (IsReplay words × (name ≡ order_word words)))
 
--- the store tells what stands under the name of each file that the command reads: these bytes, or no file
+-- it is known what the store has under the name of each file that the command reads: these bytes, or no file
 abbrev pub TellsFiles : List (List ℕ) → Files → Outside → Type 0
 TellsFiles words files outside =
     IsSomeAnd outside.files (λ told. (name : List ℕ) → IsInputFile words name → told name ≡ files name)
 
--- the store tells of each of these files that it is there
+-- each of these files is known to be there
 abbrev pub TellsAllFiles : List (List ℕ) → Outside → Type 0
 TellsAllFiles words outside =
     IsSomeAnd outside.files (λ told. (name : List ℕ) → IsInputFile words name → IsSome (told name))

@@ -27,8 +27,8 @@ pub fn never_neither_on_chip()
     ensures { NeverNeitherOnChip }
 {}
 
-/// Where a fault of the words or of the contents has a cause, a command doesn't end well, and tells no other
-/// such fault; of several loops it may tell any.
+/// Where a fault of the words or of the contents has a cause, a command doesn't end well, and reports no
+/// other such fault; of several loops it may report any.
 pub fn cause_is_told()
     ensures { CauseIsTold }
 {}

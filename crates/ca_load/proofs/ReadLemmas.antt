@@ -41,7 +41,7 @@ pub has_netlist : (files : Option Files) (name : List ℕ) (netlist : RawNetlist
 has_netlist files name netlist read =
     of_file_then files name MAX_NETLIST (IsNetlistOf netlist) _ (λ bytes is. rw is refl) read
 
--- the counts of a store may be told from an earlier one that is the same
+-- the counts of a store may be compared with an earlier one that is the same
 pub told_since : (fault : Option Fault) (before mid after : ℕ) → mid ≡ before → TellsStoreFault fault mid after
     → TellsStoreFault fault before after
 told_since fault before mid after quiet told = subst (λ count. TellsStoreFault fault count after) quiet told
@@ -49,14 +49,14 @@ told_since fault before mid after quiet told = subst (λ count. TellsStoreFault 
 module _ (names : InputFiles) (files mid : Option Files) (before between after : ℕ) (kept : mid ≡ files)
     (quiet : between ≡ before) (library : List Named)
     (cells : OfFile files names.cells MAX_CELLS (IsLibraryOf library)) (fault : Fault) where
-  -- a gate netlist that wasn't read, behind a cell netlist that was
+  -- a gate netlist that wasn't read, after a cell netlist that was
   pub at_netlist : IsNetlistCause names.netlist mid between after fault
       → IsInputCause names files before after fault
   at_netlist cause =
       let here : IsNetlistCause names.netlist files before after fault = rw (kept, quiet) at cause in
       inr (inl (has_library files names.cells library cells, here))
 
-  -- a table of scan cells that wasn't read, behind both
+  -- a table of scan cells that wasn't read, after both
   pub at_scan : (netlist : RawNetlist) → OfFile files names.netlist MAX_NETLIST (IsNetlistOf netlist)
       → IsScanCause names.scan mid between after fault → IsInputCause names files before after fault
   at_scan netlist read cause =

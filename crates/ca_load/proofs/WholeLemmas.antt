@@ -1,4 +1,4 @@
--- Files that give a chip are refused for want of memory alone, or where the store failed.
+-- Files that give a chip are refused only when out of memory, or where the store failed.
 use Rattle.std.proofs.Common.{ℕ, ◌≡◌, ◌≤◌, ◌<◌, ◌⊎◌, ◌∙◌, inl, inr, refl, sym, ap, subst, arith, List, length}
 use Rattle.std.proofs.Common.{Option, Some, None, Result, Ok, Err}
 use Rattle.std.specs.Prelude.{IsSome, IsSomeAnd}
@@ -32,7 +32,7 @@ use Rattle.ca_load.specs.Causes.{IsTextCause, IsCellsCause, IsModuleCause, IsTok
 use Rattle.ca_load.specs.Causes.{IsRowsCause, IsScanCause, IsInputCause, IsLinkedCause, IsLoadCause}
 use Rattle.ca_load.proofs.SameLemmas.{one_reading}
 
--- the fault is that of a call of the store, or want of memory
+-- the fault is that of a call of the store, or out of memory
 abbrev pub IsOutsideFault : Fault → ℕ → ℕ → Type 0
 IsOutsideFault fault before after = (fault ≡ NoMemory) ⊎ ((name : List ℕ) × ((fault ≡ StoreFailed name) × Rose before after))
 

@@ -75,7 +75,7 @@ abbrev pub IsScanCause : Option (List ℕ) → Option Files → ℕ → ℕ → 
 IsScanCause None files before after fault = ⊥
 IsScanCause (Some name) files before after fault = IsTableCause name files before after fault
 
--- where the files are told, the file of this name is there and reads as a library
+-- where the files are known, the file of this name is there and reads as a library
 abbrev pub HasLibrary : Option Files → List ℕ → Type 0
 HasLibrary files name = OfFile files name MAX_CELLS (λ bytes. IsOk (library_of bytes))
 

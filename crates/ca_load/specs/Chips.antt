@@ -31,8 +31,8 @@ pub record IsChipOf (inputs : Inputs) (chip : Chip) : Type 0 where
 abbrev pub BreakFirst : Inputs → ChipFault → Type 0
 BreakFirst inputs broken = IsFirstBroken inputs.netlist inputs.library inputs.rows broken
 
--- a rule of linking that is told as it is: not that of an instance's cell, no limit, and not want of memory;
--- of a loop, with each of its instances once
+-- a rule of linking that is reported as it is: not that of an instance's cell, no limit, and not out of
+-- memory; of a loop, with each of its instances once
 abbrev pub IsPlainRule : ChipFault → Type 0
 IsPlainRule (rule.UnknownCell u) = ⊤
 IsPlainRule (rule.Cell u broken) = ⊥

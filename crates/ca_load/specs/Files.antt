@@ -6,11 +6,11 @@ use Rattle.ca_store.specs.ReadFault.{IsTooLong}
 use Rattle.ca_fault.specs.declared.fault.Fault.{Fault}
 use Rattle.ca_fault.specs.declared.fault.Fault.TheVariants.{TooLong, StoreFailed, NoMemory}
 
--- the file of this name is there with at most so many bytes, and this holds of them
+-- the file of this name is there with at most this many bytes, and this holds of them
 abbrev pub IsFileWith : Files → List ℕ → ℕ → (List ℕ → Type 0) → Type 0
 IsFileWith told name limit Holds = IsSomeAnd (told name) (λ bytes. (length bytes ≤ limit) × Holds bytes)
 
--- the same, where the files are told
+-- the same, where the files are known
 abbrev pub OfFile : Option Files → List ℕ → ℕ → (List ℕ → Type 0) → Type 0
 OfFile files name limit Holds = ForSome files (λ told. IsFileWith told name limit Holds)
 

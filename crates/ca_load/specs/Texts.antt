@@ -62,11 +62,11 @@ pub record ReadAs (names : InputFiles) (inputs : Inputs) (told : Files) : Type 0
   pub netlist : IsFileWith told names.netlist MAX_NETLIST (IsNetlistOf inputs.netlist)
   pub rows : IsTableAt (Some told) names.scan inputs.rows
 
--- the same, where the files are told
+-- the same, where the files are known
 abbrev pub AreRead : Option Files → InputFiles → Inputs → Type 0
 AreRead files names inputs = ForSome files (ReadAs names inputs)
 
--- where the files are told, this holds of what they read as
+-- where the files are known, this holds of what they read as
 abbrev pub OfInputs : Option Files → InputFiles → (Inputs → Type 0) → Type 0
 OfInputs files names Holds =
     ForSome files (λ told. (inputs : Inputs) × (ReadAs names inputs told × Holds inputs))

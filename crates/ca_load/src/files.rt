@@ -9,7 +9,8 @@ use ca_lex::Text;
 use ca_store::{ReadFault, Store, read_file};
 use std::alloc::Global;
 
-/// The bytes of the file of this name, which may have so many. A fault takes over the name as it was typed.
+/// The bytes of the file of this name, which has at most `limit` bytes. A fault takes over the name as it was
+/// typed.
 pub fn read_input<S: Store>(
     alloc: Global,
     name: &str,

@@ -1,5 +1,6 @@
 //! The chip of what was read, and its chains.
-ghost use Rattle.std.specs.Prelude.{◌≡◌, ◌<◌, ℕ, List, map, length, Some, IsSomeAnd, slice_get, IfErr, IfOk, OnOk};
+ghost use Rattle.std.specs.Prelude.{◌≡◌, ◌<◌, ℕ, List, map, length, Some, IsSomeAnd, slice_get};
+ghost use Rattle.std.specs.Prelude.{IfErr, IfOk, OnOk};
 ghost use Rattle.std.specs.List.{IsDistinct};
 ghost use Rattle.std.specs.Str.{bytes_eq};
 ghost use Rattle.ca_verilog.specs.IsNetlist.{IsNetlist};
@@ -158,8 +159,8 @@ fn chip_of(
     }
 }
 
-// What a rule that is broken, but that of an instance's cell, is answered with: the rule and its place, or the
-// limit that is passed.
+// The fault for a broken rule other than that of an instance's cell: the rule and its place, or the limit that
+// is passed.
 fn broken_rule(alloc: Global, netlist: &RawNetlist, fault: ChipFault) -> Fault
     requires rules { IsNetlist netlist.now }
     requires of_netlist { IsOfNetlist fault }

@@ -32,7 +32,7 @@ pub struct Loaded {
 
 /// The chip that the files give. The library is read and judged whole, then the netlist, then the table of
 /// scan cells; only then is the netlist linked, and last its chains are traced. Names that faults of files
-/// tell are in memory before the first file is opened.
+/// report are in memory before the first file is opened.
 #[tactic(auto, using(crate::proofs::LinkLemmas::of_read, crate::proofs::LinkLemmas::at_inputs))]
 pub fn load<S: Store>(alloc: Global, names: &FileNames<'_>, store: &mut S) -> Result<Loaded, Fault>
     requires closed { S.opened store.old ≡ Nothing }

@@ -31,8 +31,8 @@ pub(crate) struct Read {
     pub scan: ScanTable,
 }
 
-/// What faults say of the files. It stands in memory of its own before the first file is opened, so that no
-/// fault of a file is told as want of memory.
+/// What faults say of the files. It is in memory of its own before the first file is opened, so that no
+/// fault of a file is reported as out of memory.
 #[derive(Drop)]
 pub(crate) struct TypedNames {
     pub cells: Text,
@@ -40,7 +40,7 @@ pub(crate) struct TypedNames {
     pub scan: Text,
 }
 
-// The names that faults of the files are told with.
+// The names that faults of the files report.
 fn typed_names(alloc: Global, names: &FileNames<'_>) -> Result<TypedNames, NoMemory>
     ensures { IfOk result (AreTyped (names_of names.now)) }
 {

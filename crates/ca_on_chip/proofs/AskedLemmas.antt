@@ -36,7 +36,7 @@ pub is_traced : (files : Option Files) (names : InputFiles) (chip : Chip) (chain
     → IsChipOfFiles files names chip → AreAllChains chip chains → IsTracedChipOf files names chip
 is_traced files names chip chains held all = record { of_files = held; traced = (chains, all) }
 
--- the fault of a defect tells a word that was typed
+-- the fault of a defect reports a word that was typed
 defect_word : (chip : Chip) (instance defect : List ℕ) (fault : Fault) → IsDefectCause chip instance defect fault
     → IsDefectWord instance defect fault
 defect_word chip instance defect (NoInstance typed) (same, (some, lacks)) = (same, some)
@@ -79,7 +79,7 @@ at_ends files names before after chip instance defect first last fault held (inr
   of_chip files names chip (IsSimulationCause instance defect first last fault) held cause,
 )
 
--- one pair more than may be listed is told
+-- one pair more than may be listed is reported
 pub pairs_fault : (budget : ℕ) (chip : Chip) (fault : Fault) → IsPairsCause budget fault chip → IsPairsFault fault
 pairs_fault budget chip (TooManyPairs pairs aims) cause = tt
 pairs_fault budget chip fault cause = absurd cause

@@ -1,4 +1,4 @@
--- The lines that tell the work of a command on a chip.
+-- The lines that report the work of a command on a chip.
 use Rattle.std.specs.Prelude.{ℕ, zero, suc, List, [], ◌∷◌, ◌++◌, length, codes, decimal, Option, Some, None}
 use Rattle.std.specs.Prelude.{slice_get, slice_index_or}
 use Rattle.std.specs.List.{sum_by}
@@ -28,11 +28,11 @@ part_defects cells (Some part) = body_defects cells part.body
 abbrev pub chip_defects : Chip → ℕ
 chip_defects chip = sum_by (λ u. part_defects chip.cells (slice_get chip.parts u)) (gates_of chip)
 
--- the text with a label and a number behind it
+-- the text with a label and a number after it
 abbrev pub with_count : List ℕ → List ℕ → ℕ → List ℕ
 with_count text label count = (text ++ label) ++ decimal count
 
--- the line that tells how many library instances, scan instances, inputs, observed outputs, chains and
+-- the line that says how many library instances, scan instances, inputs, observed outputs, chains and
 -- defects a chip has
 abbrev pub check_text : Chip → List (List ℕ) → List ℕ
 check_text chip chains =
@@ -43,7 +43,7 @@ check_text chip chains =
     let all = with_count outputs (codes ", chains ") (length chains) in
     with_count all (codes ", defects ") (chip_defects chip) ++ codes "\n"
 
--- the line that tells how many nodes and devices a network has
+-- the line that says how many nodes and devices a network has
 abbrev pub flatten_text : Circuit → List ℕ
 flatten_text net =
     with_count (with_count [] (codes "nodes ") (length net.nodes)) (codes ", devices ") (length net.devices)
@@ -58,7 +58,7 @@ abbrev pub output_line : List (List ℕ) → List Trit → List Trit → ℕ →
 output_line names good faulty o =
     line_of_output (slice_index_or names o []) (value_at good o) (value_at faulty o)
 
--- so many lines, one after the other
+-- this many lines, one after the other
 unfoldable pub lines_by : (ℕ → List ℕ) → ℕ → List ℕ
 lines_by line zero = []
 lines_by line (suc o) = lines_by line o ++ line o

@@ -23,7 +23,7 @@ use Rattle.ca_generate.specs.GenerateFault.{IsCause}
 use Rattle.ca_core_bench.specs.ChipTask.{task_of}
 use Rattle.ca_words.specs.Budget.{HasBudget}
 
--- where the files are told, the chip is that of what they read as
+-- where the files are known, the chip is that of what they read as
 abbrev pub IsChipOfFiles : Option Files → InputFiles → Chip → Type 0
 IsChipOfFiles files names chip = OfInputs files names (λ inputs. IsChipOf inputs chip)
 
@@ -39,7 +39,7 @@ pub record GiveChipWith (Holds : Chip → Type 0) (inputs : Inputs) : Type 0 whe
   pub traced : IsTraced chip
   pub holds : Holds chip
 
--- where the files are told, they give a chip with chains, of which this holds
+-- where the files are known, they give a chip with chains, of which this holds
 abbrev pub OfChip : Option Files → InputFiles → (Chip → Type 0) → Type 0
 OfChip files names Holds = OfInputs files names (GiveChipWith Holds)
 
@@ -59,7 +59,7 @@ pub record AreEndsOf (instance defect first last : List ℕ) (chip : Chip) (good
   pub asked : IsAskedDefect chip instance defect given
   pub ends : AreSimulated (core_of chip) given (pair_of (letters_of first) (letters_of last)) good faulty
 
--- the fault of an instance and a defect tells the word that was typed, whatever the store tells
+-- the fault of an instance and a defect reports the word that was typed, whatever is known of the store
 abbrev pub IsDefectWord : List ℕ → List ℕ → Fault → Type 0
 IsDefectWord instance defect (NoInstance typed) = (typed ≡ instance) × (instance ≢ dash)
 IsDefectWord instance defect (NoDefect typed) = (typed ≡ defect) × (instance ≢ dash)
@@ -111,7 +111,7 @@ pub record AreTestsOf (budget_word : List ℕ) (chip : Chip) (pairs : List (List
   pub said : HasBudget budget_word budget
   pub good : IsGood (task_of chip budget) pairs aims verdicts
 
--- the fault tells pairs, whatever the store tells
+-- the fault has pairs, whatever is known of the store
 abbrev pub IsPairsFault : Fault → Type 0
 IsPairsFault (TooManyPairs pairs aims) = ⊤
 IsPairsFault _ = ⊥

@@ -1,4 +1,4 @@
-//! The commands on a chip: what each finds in its files, and the lines that tell it.
+//! The commands on a chip: what each finds in its files, and the lines that report it.
 #![tactic(auto)]
 
 mod chips;

@@ -1,4 +1,4 @@
-//! The lines that tell what a chip and its network have, and what its observed outputs settle to.
+//! The lines that say what a chip and its network have, and what its observed outputs settle to.
 ghost use Rattle.std.specs.Prelude.{◌≡◌, ◌<◌, ◌++◌, length, slice_get, slice_index, IfOk, OnOk};
 ghost use Rattle.ca_wired.specs.Instances.{gates_of};
 ghost use Rattle.ca_net.specs.State.{value_at};
@@ -15,7 +15,7 @@ use ca_wired::Chip;
 use itoa::Buffer;
 use std::alloc::Global;
 
-/// The line that tells what a chip has.
+/// The line that says what a chip has.
 pub fn check_line(alloc: Global, chip: &Chip, chains: &Chains) -> Result<Text, NoMemory>
     ensures { IfOk result (λ text. text ≡ check_text chip.now chains.now) }
 {
@@ -64,7 +64,7 @@ fn gate_defects(chip: &Chip, k: usize) -> usize
     chip.cell_of(chip.instance(k)).defect_count()
 }
 
-/// The line that tells what a flat network has.
+/// The line that says what a flat network has.
 pub fn flatten_line(alloc: Global, net: &FlatNet) -> Result<Text, NoMemory>
     ensures { IfOk result (λ text. text ≡ flatten_text net.now) }
 {

@@ -29,7 +29,7 @@ pub struct MadeChip {
     pub verdicts: Verdicts,
 }
 
-/// The tests of the generated chip of a number. The watch is told after each defect's turn.
+/// The tests of the generated chip of a number. The watch is notified after each defect's turn.
 #[tactic(auto, using(crate::proofs::MakeLemmas::too_many))]
 pub fn find_made<T: Watch>(alloc: Global, number: u32, watch: &mut T) -> Result<MadeChip, Fault>
     requires { number ≤ MOST_GATES }

@@ -27,7 +27,7 @@ pub struct TestedChip {
     pub made: Tested,
 }
 
-/// The tests of the chip that the words name in their files. The watch is told after each defect's turn.
+/// The tests of the chip that the words name in their files. The watch is notified after each defect's turn.
 #[tactic(auto, using(crate::proofs::AskedLemmas::at_tests))]
 pub fn find_tests<S: Store, T: Watch>(
     alloc: Global,

@@ -40,7 +40,7 @@ lt_trichotomy a b = by (nat_lt a b) (nat_lt b a) refl refl
     by false true lt gt = inr (inr (ltb-true b a gt))
     by false false lt gt = let le = ltb-false a b lt in let ge = ltb-false b a gt in inr (inl (omega (arith, le, ge)))
 
--- joins of so many wires lead from one of them to one of them
+-- joins of this many wires lead from one of them to one of them
 pub joined_within : (joins : List Join) (wires : ℕ) → All (IsWithin wires) joins → (a b : ℕ) → AreJoined joins a b → a < wires → b < wires
 joined_within joins wires all a b (Same e) lt = subst (λ n. n < wires) e lt
 joined_within joins wires all a b (Across join c before has links) lt =

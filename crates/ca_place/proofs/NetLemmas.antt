@@ -1,4 +1,4 @@
--- The net that a fault tells is known by the wire that the code finds.
+-- The net that a fault names is known by the wire that the code finds.
 use Rattle.std.proofs.Common.{◌≡◌, ℕ, ◌+◌, ◌<◌, ◌∙◌, ◌⊎◌, List, [], ◌∷◌, inl, inr, refl, sym, subst, arith, Result, Ok, Err}
 use Rattle.std.proofs.lemmas.Bool.{lt-ltb, le-ltb}
 use Rattle.std.proofs.lemmas.Option.{same_Some}
@@ -45,7 +45,7 @@ module _ (raw : RawNetlist) (library : List Named) (scan : List ScanRow) where
       by (Library raw) means = tt
       by (ScanCell row) means = tt
 
-  -- a rule behind those on instances is the first that is broken
+  -- a rule after those on instances is the first that is broken
   sound_before : (stage : ℕ) (tail : List ℕ) (broken : ChipFault) (first : IsFirstBroken raw library scan broken) → first.at ≡ stage ∷ tail
       → 1 < stage → AreSound raw library scan
   sound_before stage tail broken first at later =

@@ -10,7 +10,7 @@ use Rattle.ca_chip.specs.Wiring.{HeaderBit, header_bits, header_bits_from, heade
 use Rattle.ca_wired.proofs.EndLemmas.{take_more}
 use Rattle.ca_place.specs.Touched.{wires_from}
 
--- the next of so many wires
+-- the next of this many wires
 pub from_step : (first k count : ℕ) → k < count
     → wires_from (first + k) (count - k) ≡ (first + k) ∷ wires_from (first + (k + 1)) (count - (k + 1))
 from_step first k count lt =

@@ -78,7 +78,7 @@ use_of bits (first ∷ uses) name bit e = by (λ rest. use_of bits uses name bit
         in_all (λ (used : RawUse). use_wires bits used.bit) (first ∷ uses) (suc found.place) found.part (wire_of bits bit) found.at found.has
 
 module _ (bits : ℕ) (uses : List RawUse) where
-  -- the wires of an output pin that this is on, and of those behind it
+  -- the wires of an output pin that this is on, and of those after it
   abbrev outputs_with : ℕ → List (List ℕ) → Option RawBit → List ℕ
   outputs_with own names b =
       elim b [

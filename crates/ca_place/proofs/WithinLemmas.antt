@@ -76,7 +76,7 @@ module _ (raw : RawNetlist) (is : IsNetlist raw) where
         ]
       ]
 
--- the earliest wire that is joined with one of so many is one of them
+-- the earliest wire that is joined with one of this many is one of them
 pub earliest_within : (joins : List Join) (wires : ℕ) (earliest : List ℕ) → AreEarliest joins wires earliest → (m : ℕ) → m < wires
     → get_or earliest m 0 < wires
 earliest_within joins wires earliest are m lt = let le = (are.each m lt).none_before m (Same refl) in omega (arith, le, lt)

@@ -50,7 +50,7 @@ abbrev pub constant_name : Bool → List ℕ
 constant_name false = codes "1'b0"
 constant_name true = codes "1'b1"
 
--- the constant whose wire is the first behind those of declared bits, and the one behind it
+-- the constant whose wire is the first after those of declared bits, and the one after it
 abbrev pub constant_behind : ℕ → List ℕ
 constant_behind zero = constant_name false
 constant_behind (suc more) = constant_name true
@@ -62,8 +62,8 @@ wire_name (bus ∷ more) wire =
     if nat_lt wire (range_width bus.range) then bit_name bus bus.range wire
     else wire_name more (wire - range_width bus.range)
 
--- the text of a net that is known by the wire: its name makes the text; a net of an open output pin alone, which
--- stands after the declared bits and the constants, has no name and no text
+-- the text of a net that is known by the wire: its name makes the text; a net of an open output pin alone,
+-- which is after the declared bits and the constants, has no name and no text
 abbrev pub wire_text : List RawBus → ℕ → (List ℕ → List ℕ) → List ℕ
 wire_text buses wire text_of =
     if nat_lt wire (bit_count buses + 2) then text_of (wire_name buses wire) else []

@@ -21,7 +21,7 @@ use Rattle.ca_chip.specs.Rules.{IsNetAt}
 use Rattle.ca_place.specs.Names.{instance_name, cell_name, input_pin_name, device_name, constant_name}
 use Rattle.ca_place.specs.Names.{wire_text}
 
--- so many of something, and how many there may be
+-- a number of something, and how many there may be
 abbrev pub count_text : ℕ → List ℕ → ℕ → List ℕ
 count_text count what most = decimal count ++ (what ++ decimal most)
 
@@ -48,7 +48,7 @@ cell_text instances u = instance_text instances u ++ (codes ", cell " ++ cell_na
 abbrev pub pin_text : List RawInstance → ℕ → List ℕ → List ℕ
 pin_text instances u pin = instance_text instances u ++ (codes ", pin " ++ pin)
 
--- more behind a comma, if there is more
+-- more after a comma, if there is more
 abbrev pub behind_comma : List ℕ → List ℕ
 behind_comma [] = []
 behind_comma (letter ∷ letters) = codes ", " ++ (letter ∷ letters)

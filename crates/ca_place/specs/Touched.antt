@@ -28,7 +28,7 @@ use_wires bits (Some bit) = wire_of bits bit ∷ []
 abbrev pub instance_wires : ℕ → RawInstance → List ℕ
 instance_wires bits instance = flat_map (λ used. use_wires bits used.bit) instance.pins
 
--- so many wires from this one on
+-- this many wires from this one on
 abbrev pub wires_from : ℕ → ℕ → List ℕ
 wires_from first zero = []
 wires_from first (suc count) = first ∷ wires_from (first + 1) count

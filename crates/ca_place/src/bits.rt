@@ -40,7 +40,7 @@ fn index_at(range: (u32, u32), k: u32) -> u32
     }
 }
 
-// A name with an index behind it.
+// A name with an index after it.
 fn indexed_name(alloc: Global, name: &Text, index: u32) -> Result<Text, NoMemory>
     ensures { IfOk result (λ text. text ≡ name.now ++ (codes "[" ++ (decimal index ++ codes "]"))) }
 {
@@ -62,7 +62,7 @@ fn bit_name(alloc: Global, bus: &RawBus, k: u32) -> Result<Text, NoMemory>
     }
 }
 
-// The constant whose wire is the first behind those of declared bits, and the one behind it.
+// The constant whose wire is the first after those of declared bits, and the one after it.
 fn constant_behind(more: u32) -> &'static [u8]
     ensures { result.now ≡ constant_behind more }
 {

@@ -1,4 +1,4 @@
-//! What is told of a rule that a cell breaks.
+//! What is said of a rule that a cell breaks.
 
 ghost use Rattle.std.specs.Prelude.{◌≡◌, ◌++◌, [], codes, decimal, slice_get, IfOk, OnOk};
 ghost use Rattle.ca_cell.specs.Raw.{is_input};
@@ -61,7 +61,8 @@ fn channel_text(
     device: DeviceId,
 ) -> Result<Text, NoMemory>
     ensures { IfOk result (λ text. text
-        ≡ codes "pin " ++ (input_pin_name raw.now pin.0 ++ (codes ", device " ++ device_name raw.now device.0))) }
+        ≡ codes "pin " ++ (input_pin_name raw.now pin.0
+        ++ (codes ", device " ++ device_name raw.now device.0))) }
 {
     let mut text = Text::from_bytes(alloc, b"pin ")?;
     text.append(input_name(raw.pins.as_slice(), pin.0.saturating_sub(2)))?;

@@ -1,4 +1,4 @@
-//! What is told of instances.
+//! What is said of instances.
 
 ghost use Rattle.std.specs.Prelude.{◌≡◌, ◌<◌, ◌≤◌, ◌++◌, ◌-◌, [], codes, decimal, length, take, IfOk, OnOk};
 ghost use Rattle.std.specs.Prelude.{slice_index};
@@ -120,7 +120,7 @@ fn arrows(
     Ok(text)
 }
 
-/// The most instances of a loop that are told.
+/// The most instances of a loop that are named.
 const MOST_TOLD: usize = 20;
 
 /// A loop, from its first instance to the first again; of a long one the first, and how many there are more.
@@ -139,7 +139,7 @@ pub(crate) fn loop_text(
     }
 }
 
-// A loop that is told whole.
+// A loop that is named whole.
 fn short_loop(
     alloc: Global,
     instances: &[RawInstance],

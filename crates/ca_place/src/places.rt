@@ -23,8 +23,8 @@ use ca_verilog::RawNetlist;
 use ca_wired::{InstanceId, NetId};
 use std::alloc::Global;
 
-/// The names of what a fault carries, as they stand in the netlist; an empty text where it carries none. Those
-/// of an instance's cell are known to the library: `refused_place` tells them.
+/// The names of what a fault carries, as they are in the netlist; an empty text where it carries none. Those
+/// of an instance's cell are known to the library: `refused_place` names them.
 pub fn place_of(alloc: Global, netlist: &RawNetlist, fault: &ChipFault) -> Result<Text, NoMemory>
     requires netlist { IsNetlist netlist.now }
     requires of_netlist { IsOfNetlist fault.now }
@@ -133,7 +133,7 @@ pub fn refused_place(
     Ok(text)
 }
 
-// Appends more behind a comma, if there is more.
+// Appends more after a comma, if there is more.
 fn add_behind(text: &mut Text, more: &Text) -> Result<(), NoMemory>
     ensures { OnOk result (text.new ≡ text.old ++ behind_comma more.now) }
 {

@@ -70,7 +70,7 @@ fn wires_of_uses(alloc: Global, bits: u32, instances: &[RawInstance]) -> Result<
     Ok(wires)
 }
 
-// Appends so many wires from this one on.
+// Appends `count` wires from this one on.
 fn push_from(first: u32, count: u32, wires: &mut Vec<u32>) -> Result<(), NoMemory>
     requires { first + count < 2 ^ 32 }
     ensures { OnOk result (wires.new.items ≡ wires.old.items ++ wires_from first count) }
