@@ -1,0 +1,4 @@
+-- What the contracts of this crate say, in reading order.
+pub mod Static
+pub mod Flips
+pub mod Laws
