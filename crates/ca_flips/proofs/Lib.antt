@@ -1,1 +1,4 @@
 pub mod CellLemmas
+pub mod ReachLemmas
+pub mod PinLemmas
+pub mod FlipLemmas

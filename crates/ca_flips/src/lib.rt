@@ -4,4 +4,6 @@
 
 mod laws;
 
-pub use laws::{last_end_is_one, lasts_are_of_lasts, ends_by_last_is_limit};
+pub use laws::{
+    ends_by_last_is_limit, flipped_are_above, last_end_is_one, lasts_are_of_lasts,
+};
