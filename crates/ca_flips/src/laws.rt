@@ -1,7 +1,8 @@
 //! Laws of the definitions, each the contract of a function that does nothing.
 
 ghost use Rattle.ca_flips.specs.Laws.{EndsByLastIsLimit, LastsAreOfLasts, LastEndIsOne};
-ghost use Rattle.ca_flips.specs.Laws.{FlippedAreAbove};
+ghost use Rattle.ca_flips.specs.Laws.{FaultyLastIsGiven, FlippedAreAbove, FlippedAreFaulty};
+ghost use Rattle.ca_flips.specs.Laws.{DetectedIsFlipped, DetectedIsForced, UnflippedIsUndetected};
 
 /// What a cell ends with by the last vector alone is the last limit for unknown firsts and middles.
 pub fn ends_by_last_is_limit()
@@ -21,4 +22,29 @@ pub fn last_end_is_one()
 /// Where the outputs are at or above the faulty lasts, so are the flipped values.
 pub fn flipped_are_above()
     ensures { FlippedAreAbove }
+{}
+
+/// The faulty lasts of the defect's instance are those of its cell under the good waves.
+pub fn faulty_last_is_given()
+    ensures { FaultyLastIsGiven }
+{}
+
+/// Where the outputs that lead to a net are the faulty lasts, its flipped value is its faulty last.
+pub fn flipped_are_faulty()
+    ensures { FlippedAreFaulty }
+{}
+
+/// There a defect is detected exactly where the flipped value is the opposite of the good one.
+pub fn detected_is_flipped()
+    ensures { DetectedIsFlipped }
+{}
+
+/// A detected defect forces the net to the opposite.
+pub fn detected_is_forced()
+    ensures { DetectedIsForced }
+{}
+
+/// Where no faulty last of the instance is opposite to the good one, the defect is detected nowhere.
+pub fn unflipped_is_undetected()
+    ensures { UnflippedIsUndetected }
 {}

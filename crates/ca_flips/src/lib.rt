@@ -5,5 +5,7 @@
 mod laws;
 
 pub use laws::{
-    ends_by_last_is_limit, flipped_are_above, last_end_is_one, lasts_are_of_lasts,
+    detected_is_flipped, detected_is_forced, ends_by_last_is_limit, faulty_last_is_given,
+    flipped_are_above, flipped_are_faulty, last_end_is_one, lasts_are_of_lasts,
+    unflipped_is_undetected,
 };
