@@ -19,10 +19,10 @@ use Rattle.ca_flips.proofs.ReachLemmas.{reached_no_input, reached_is_behind, unr
 use Rattle.ca_flips.proofs.PinLemmas.{output_is, output_below}
 
 -- what holds in both cases holds
-below_by_cases : (P : Type 0) (a b : Trit) → (P → IsBelow a b) → ((P → ⊥) → IsBelow a b) → IsBelow a b
+pub below_by_cases : (P : Type 0) (a b : Trit) → (P → IsBelow a b) → ((P → ⊥) → IsBelow a b) → IsBelow a b
 below_by_cases P a b if_so off = below_stable a b (λ out. out (off (λ p. out (if_so p))))
 
-same_by_cases : (P : Type 0) (a b : Trit) → (P → a ≡ b) → ((P → ⊥) → a ≡ b) → a ≡ b
+pub same_by_cases : (P : Type 0) (a b : Trit) → (P → a ≡ b) → ((P → ⊥) → a ≡ b) → a ≡ b
 same_by_cases P a b if_so off = same_stable a b (λ out. out (off (λ p. out (if_so p))))
 
 module _ (chip : Chip) (rank : ℕ → ℕ) (defect : ChipDefect) (is : IsFlatChip chip rank defect) (pair : List Trit) (good : FlatWaves chip None pair)

@@ -5,3 +5,5 @@ pub mod FlipLemmas
 pub mod FaultyLemmas
 pub mod VectorLemmas
 pub mod DetectLemmas
+pub mod ThereLemmas
+pub mod ForcedLemmas

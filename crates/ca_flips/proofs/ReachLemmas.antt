@@ -1,6 +1,6 @@
 -- Nets that an instance reaches, and those that it doesn't.
-use Rattle.std.proofs.Common.{◌≡◌, ℕ, ◌+◌, ◌<◌, List, [], ◌∷◌, ◌++◌, length, None, Some, inl, inr, refl, sym, ◌∙◌, subst}
-use Rattle.std.proofs.Common.{arith}
+use Rattle.std.proofs.Common.{◌≡◌, ℕ, ◌+◌, ◌<◌, ◌≤◌, List, [], ◌∷◌, ◌++◌, length, None, Some, inl, inr, refl, sym, ◌∙◌, subst}
+use Rattle.std.proofs.Common.{ap, arith}
 use Rattle.ca_net.specs.declared.scale.TheConstants.{OUTPUT_NET}
 use Rattle.ca_net.specs.declared.trit.Trit.{Trit}
 use Rattle.ca_net.specs.declared.wave.Wave.{Wave}
@@ -42,18 +42,45 @@ reached_own chip u output within = record {
 }
 
 module _ (chip : Chip) (rank : ℕ → ℕ) (is : IsChip chip rank) (u : ℕ) (known : u < count_of chip) where
-  driven_after : (from : ℕ) (path : List ℕ) (to : ℕ) → Drives chip from → IsChain chip from path to → Drives chip to
-  driven_after from [] to drives chain = subst (Drives chip) chain drives
-  driven_after from (next ∷ more) to drives chain =
-      let f = chain.0 in
-      driven_after next more to (record { instance = f.instance; output = f.output; known = f.known; within = f.output_within; on = f.drives }) chain.1
+  -- a driver of the net whose rank isn't lower than that of u
+  pub record LateDriver (net : ℕ) : Type 0 where
+    pub drives : Drives chip net
+    pub late : rank u ≤ rank drives.instance
 
-  -- what is reached is driven, and so no input net
+  late_after : (from : ℕ) (path : List ℕ) (to : ℕ) → LateDriver from → IsChain chip from path to → LateDriver to
+  late_after from [] to late chain = subst LateDriver chain late
+  late_after from (next ∷ more) to late chain =
+      let f = chain.0 in
+      late_after next more to (record {
+        drives = record { instance = f.instance; output = f.output; known = f.known; within = f.output_within; on = f.drives };
+        late = (let driver = subst (Drives chip) (sym f.reads) late.drives in
+            let same : rank late.drives.instance ≡ rank driver.instance =
+            ap rank (is.one_driver (net_of chip f.instance f.pin) (record { instance = late.drives.instance; output = late.drives.output; known = late.drives.known; within = late.drives.within; on = late.drives.on ∙ sym f.reads }) driver).0 in
+            let less : rank driver.instance < rank f.instance = is.ranked f.instance f.pin f.known f.pin_within driver in
+            let least = late.late in omega arith);
+      }) chain.1
+
+  -- a reached net has one
+  pub reached_late : (net : ℕ) → IsReachedFrom chip u net → LateDriver net
+  reached_late net reached =
+      let o = reached.is_output in
+      late_after reached.from reached.leads.path net (record {
+        drives = record { instance = u; output = o.output; known = known; within = o.within; on = o.on };
+        late = omega arith;
+      }) reached.leads.is_chain
+
+  -- so it is no input net
   pub reached_no_input : (net : ℕ) → IsReachedFrom chip u net → net_kind chip net ≡ Input → ⊥
   reached_no_input net reached kind =
-      let o = reached.is_output in
-      let drives = driven_after reached.from reached.leads.path net (record { instance = u; output = o.output; known = known; within = o.within; on = o.on }) reached.leads.is_chain in
-      let e : Storage OUTPUT_NET ≡ Input = sym (is.drives net drives) ∙ kind in cc
+      let e : Storage OUTPUT_NET ≡ Input = sym (is.drives net (reached_late net reached).drives) ∙ kind in cc
+
+  -- an instance behind u isn't u
+  pub behind_other : (w : ℕ) → IsBehind chip u w → w ≡ u → ⊥
+  behind_other w behind e =
+      let late = reached_late (net_of chip w behind.pin) behind.reached in
+      let less : rank late.drives.instance < rank w = is.ranked w behind.pin behind.known behind.within late.drives in
+      let least = late.late in
+      let same : rank w ≡ rank u = ap rank e in omega arith
 
   -- an instance of which an output net is reached, other than u, is behind u
   module _ (w output : ℕ) (lt : w < count_of chip) (within : output < outputs_at chip w) where
@@ -88,3 +115,8 @@ unreached_same chip rank defect is pair good faulty = net_induction chip rank is
       | inr other ↦ other_same chip rank defect is pair good faulty w lt other
           (λ pin k. pins pin k (λ reached. no (reached_on chip defect.instance _ _ reached (feeds_of chip w pin output lt k within)))) output within
     ])
+
+-- the output nets of an instance behind u are reached
+pub behind_reached : (chip : Chip) (u w output : ℕ) → IsBehind chip u w → output < outputs_at chip w → IsReachedFrom chip u (output_net chip w output)
+behind_reached chip u w output behind within =
+    reached_on chip u (net_of chip w behind.pin) (output_net chip w output) behind.reached (feeds_of chip w behind.pin output behind.known behind.within within)

@@ -3,6 +3,7 @@
 ghost use Rattle.ca_flips.specs.Laws.{EndsByLastIsLimit, LastsAreOfLasts, LastEndIsOne};
 ghost use Rattle.ca_flips.specs.Laws.{FaultyLastIsGiven, FlippedAreAbove, FlippedAreFaulty};
 ghost use Rattle.ca_flips.specs.Laws.{DetectedIsFlipped, DetectedIsForced, UnflippedIsUndetected};
+ghost use Rattle.ca_flips.specs.Laws.{FlippedAreUnique, FlippedAreThere, DetectedWhereForced};
 
 /// What a cell ends with by the last vector alone is the last limit for unknown firsts and middles.
 pub fn ends_by_last_is_limit()
@@ -47,4 +48,19 @@ pub fn detected_is_forced()
 /// Where no faulty last of the instance is opposite to the good one, the defect is detected nowhere.
 pub fn unflipped_is_undetected()
     ensures { UnflippedIsUndetected }
+{}
+
+/// Flipped values are one.
+pub fn flipped_are_unique()
+    ensures { FlippedAreUnique }
+{}
+
+/// There are flipped values for all definite outputs.
+pub fn flipped_are_there()
+    ensures { FlippedAreThere }
+{}
+
+/// Where all faulty lasts are definite, a defect is detected exactly where they force a net to the opposite.
+pub fn detected_where_forced()
+    ensures { DetectedWhereForced }
 {}
