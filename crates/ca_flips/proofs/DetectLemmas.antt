@@ -11,12 +11,13 @@ use Rattle.ca_flat.specs.Chip.{Chip, cell_at, outputs_at, output_net, count_of}
 use Rattle.ca_flat.specs.Pair.{NetEndsAt, DetectsAt}
 use Rattle.ca_flat.specs.Waves.{FlatWaves, wave_of, IsFlatChip}
 use Rattle.ca_flat.proofs.Clashes.{opposite_definite, opposite_differs}
-use Rattle.ca_flat.proofs.InstanceWaves.{last_ends}
+use Rattle.ca_flat.proofs.InstanceWaves.{ends_last, last_ends}
 use Rattle.ca_flat.proofs.Detected.{good_flat, faulty_flat, some_faulty, detected_clashes}
 use Rattle.ca_flips.specs.Static.{EndsByLast}
 use Rattle.ca_flips.specs.Flips.{IsBehind, AreStaticBehind, AreDefiniteBehind, AreFlipped, IsOpposite, lasts_of}
-use Rattle.ca_flips.specs.Flips.{vector_at}
-use Rattle.ca_flips.specs.Laws.{FlippedAreFaulty, DetectedIsFlipped, DetectedIsForced, UnflippedIsUndetected}
+use Rattle.ca_flips.specs.Flips.{vector_at, known_or, filled_in}
+use Rattle.ca_flips.specs.Laws.{FlippedAreFaulty, FlippedAreEnds, DetectedIsFlipped, DetectedIsForced, UnflippedIsUndetected}
+use Rattle.ca_flips.specs.Laws.{DetectedIsFilledIn}
 use Rattle.ca_flips.proofs.PinLemmas.{output_is}
 use Rattle.ca_flips.proofs.VectorLemmas.{vector_definite}
 use Rattle.ca_flips.proofs.FlipLemmas.{all_below, all_exact}
@@ -75,6 +76,32 @@ detected_is_flipped_lem chip rank defect pair good pins outputs values net is pi
 -- a value at or above an opposite one is opposite
 opposite_above : (good low high : Trit) → IsOpposite good low → IsBelow low high → IsOpposite good high
 opposite_above good low high opposite up = (opposite.0, kept low high (λ e. opposite_definite good opposite.0 (sym opposite.1 ∙ e)) up ∙ opposite.1)
+
+pub flipped_are_ends_lem : FlippedAreEnds
+flipped_are_ends_lem chip rank defect pair good pins outputs values net v is pin_waves given flipped within =
+    let exact = λ (faulty : FlatWaves chip (Some defect) pair).
+    flipped_are_faulty_lem chip rank defect pair good faulty pins outputs values net is pin_waves given flipped within in
+    (
+      (λ h. ends_stable chip (Some defect) pair net v (λ out. some_faulty chip rank defect is pair (λ faulty.
+      out (last_ends chip rank (Some defect) (faulty_flat chip rank defect is) pair faulty net v within h.0 (exact faulty ∙ h.1))))),
+      (λ ends. (ends.definite, same_stable _ _ (λ out. some_faulty chip rank defect is pair (λ faulty.
+      out (sym (exact faulty) ∙ ends_last chip rank (Some defect) (faulty_flat chip rank defect is) pair faulty net v within ends))))),
+    )
+
+pub known_below : (known good : Trit) → IsBelow known (known_or known good)
+known_below Zero good = inr refl
+known_below One good = inr refl
+known_below X good = inl refl
+
+pub detected_is_filled_in_lem : DetectedIsFilledIn
+detected_is_filled_in_lem chip rank defect pair good pins known values net is pin_waves given flipped within detects =
+    opposite_stable chip rank defect is pair good net within (values net) (λ out. some_faulty chip rank defect is pair (λ faulty.
+    out (opposite_above _ _ _ (detected_clashes chip rank defect is pair good faulty net within detects)
+    (all_below chip rank defect is pair good faulty (filled_in chip defect.instance (lasts_of good) known) values flipped
+    (λ output k. subst (λ x. IsBelow x (filled_in chip defect.instance (lasts_of good) known output))
+    (sym (faulty_last chip rank defect is pair good faulty pins pin_waves output (known output) k (given output k)))
+    (known_below (known output) (lasts_of good (output_net chip defect.instance output))))
+    net within))))
 
 pub detected_is_forced_lem : DetectedIsForced
 detected_is_forced_lem chip rank defect pair good pins known net is pin_waves given within detects outputs values definite over flipped =

@@ -9,9 +9,9 @@ use Rattle.ca_flat.proofs.NetInduction.{net_induction}
 use Rattle.ca_flat.proofs.Detected.{same_instance}
 use Rattle.ca_flips.specs.Static.{EndsByLast}
 use Rattle.ca_flips.specs.Flips.{IsBehind, AreStaticBehind, AreDefiniteBehind, AreFlipped, vector_at}
-use Rattle.ca_flips.specs.Laws.{FlippedAreUnique, FlippedAreThere}
+use Rattle.ca_flips.specs.Laws.{FlippedAreUnique, FlippedAreThere, FlippedAreDefinite}
 use Rattle.ca_flips.proofs.CellLemmas.{last_end_is_one_lem}
-use Rattle.ca_flips.proofs.ReachLemmas.{reached_no_input, reached_is_behind, reached_own, behind_other, behind_reached}
+use Rattle.ca_flips.proofs.ReachLemmas.{reached_late, reached_no_input, reached_is_behind, reached_own, behind_other, behind_reached}
 use Rattle.ca_flips.proofs.FlipLemmas.{same_by_cases}
 use Rattle.ca_flips.proofs.VectorLemmas.{vector_same, values_same, values_definite}
 
@@ -218,3 +218,16 @@ flipped_are_there_lem chip rank u goods outputs is known static definite chosen 
     together (Found chip rank is u known goods outputs) (length chip.nets)
     (some_found chip rank is u known goods outputs static definite chosen)
     (λ values found. out values (found_flipped chip rank is u known goods outputs values found))
+
+pub flipped_are_definite_lem : FlippedAreDefinite
+flipped_are_definite_lem chip rank u goods outputs values net is known chosen flipped reached =
+    let drives = (reached_late chip rank is u known net reached).drives in
+    subst (λ x. values x ≢ X) drives.on (elim (same_instance drives.instance u) [
+      | inl e ↦ own drives.instance drives.output e drives.within
+      | inr other ↦ (flipped.behind drives.instance drives.output
+          (reached_is_behind chip rank is u known drives.instance drives.output drives.known drives.within other (subst (IsReachedFrom chip u) (sym drives.on) reached)) drives.within).definite
+    ])
+  where
+    own : (w output : ℕ) → w ≡ u → output < outputs_at chip w → values (output_net chip w output) ≢ X
+    own w output e within = subst (λ x. values (output_net chip x output) ≢ X) (sym e)
+        (let k = subst (λ x. output < outputs_at chip x) e within in subst (λ x. x ≢ X) (sym (flipped.given output k)) (chosen output k))

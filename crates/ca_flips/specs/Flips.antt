@@ -1,7 +1,7 @@
 -- Flips: the last values of the nets behind an instance, where those of its output nets are given.
 use Rattle.std.specs.Prelude.{ℕ, ◌+◌, ◌≡◌, ◌≢◌, ◌<◌, List, length, slice_index_or, Option}
 use Rattle.ca_net.specs.declared.trit.Trit.{Trit}
-use Rattle.ca_net.specs.declared.trit.Trit.TheVariants.{X}
+use Rattle.ca_net.specs.declared.trit.Trit.TheVariants.{Zero, One, X}
 use Rattle.ca_net.specs.declared.wave.Wave.{Wave}
 use Rattle.ca_net.specs.Trit.{IsBelow}
 use Rattle.ca_net.specs.State.{value_at}
@@ -59,6 +59,16 @@ IsForced chip u goods known net =
     → ((output : ℕ) → output < outputs_at chip u → outputs output ≢ X)
     → ((output : ℕ) → output < outputs_at chip u → IsBelow (known output) (outputs output))
     → AreFlipped chip u goods outputs values → IsOpposite (goods net) (values net)
+
+-- a value that is known, else the good one
+abbrev pub known_or : Trit → Trit → Trit
+known_or Zero good = Zero
+known_or One good = One
+known_or X good = good
+
+-- what is known of the output pins of u, and of those of which nothing is known the good values of their nets
+abbrev pub filled_in : Chip → ℕ → (ℕ → Trit) → (ℕ → Trit) → ℕ → Trit
+filled_in chip u goods known output = known_or (known output) (goods (output_net chip u output))
 
 -- the last value of each net
 abbrev pub lasts_of : {chip : Chip} {given : Option ChipDefect} {pair : List Trit}

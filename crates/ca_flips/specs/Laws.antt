@@ -11,11 +11,12 @@ use Rattle.ca_cell.specs.Raw.{is_output, role_count, circuit_of}
 use Rattle.ca_defect.specs.Exposes.{pin_vector}
 use Rattle.ca_flat.specs.declared.chip_defect.ChipDefect.{ChipDefect}
 use Rattle.ca_flat.specs.Chip.{Chip, IsChip, IsCell, outputs_at, output_net, count_of}
-use Rattle.ca_flat.specs.Pair.{DetectsAt}
+use Rattle.ca_flat.specs.Pair.{NetEndsAt, DetectsAt}
 use Rattle.ca_flat.specs.Waves.{FlatWaves, wave_of, IsFlatChip}
+use Rattle.ca_flat.specs.Chain.{Leads, IsReachedFrom}
 use Rattle.ca_flips.specs.Static.{node_of_output, EndsByLast}
 use Rattle.ca_flips.specs.Flips.{AreStaticBehind, AreDefiniteBehind, AreFlipped, IsOpposite, IsForced}
-use Rattle.ca_flips.specs.Flips.{lasts_of, ArePinWaves, IsFaultyLast, AreFaultyLasts, AreFaultyLastsTo}
+use Rattle.ca_flips.specs.Flips.{filled_in, lasts_of, ArePinWaves, IsFaultyLast, AreFaultyLasts, AreFaultyLastsTo}
 
 -- a cell ends with v by the last vector alone exactly where v is definite and is the last limit at the output
 -- pin for waves whose firsts and middles are unknown
@@ -86,6 +87,29 @@ DetectedIsFlipped =
     → AreFlipped chip defect.instance (lasts_of good) outputs values → net < length chip.nets
     → DetectsAt chip defect pair net ↔ IsOpposite (lasts_of good net) (values net)
 
+-- so the flipped value is what every run of the faulty network ends with there
+abbrev pub FlippedAreEnds : Type 0
+FlippedAreEnds =
+    (chip : Chip) (rank : ℕ → ℕ) (defect : ChipDefect) (pair : List Trit) (good : FlatWaves chip None pair)
+    (pins : List Wave) (outputs values : ℕ → Trit) (net : ℕ) (v : Trit)
+    → IsFlatChip chip rank defect → ArePinWaves chip (wave_of good) defect.instance pins
+    → AreFaultyLastsTo chip defect pins outputs net
+    → AreFlipped chip defect.instance (lasts_of good) outputs values → net < length chip.nets
+    → ((v ≢ X) × (values net ≡ v)) ↔ NetEndsAt chip (Some defect) pair net v
+
+-- Where the pair detects the defect, the faulty lasts that are definite and opposite are enough to make the
+-- flipped value opposite: in the place of each that is unknown stands the good value. So a net whose flipped
+-- value then isn't opposite is one at which the defect isn't detected.
+abbrev pub DetectedIsFilledIn : Type 0
+DetectedIsFilledIn =
+    (chip : Chip) (rank : ℕ → ℕ) (defect : ChipDefect) (pair : List Trit) (good : FlatWaves chip None pair)
+    (pins : List Wave) (known values : ℕ → Trit) (net : ℕ)
+    → IsFlatChip chip rank defect → ArePinWaves chip (wave_of good) defect.instance pins
+    → AreFaultyLasts chip defect pins known
+    → AreFlipped chip defect.instance (lasts_of good)
+    (filled_in chip defect.instance (lasts_of good) known) values
+    → net < length chip.nets → DetectsAt chip defect pair net → IsOpposite (lasts_of good net) (values net)
+
 -- a net at which the pair detects the defect is forced to the opposite by what is known of the faulty lasts
 abbrev pub DetectedIsForced : Type 0
 DetectedIsForced =
@@ -125,8 +149,17 @@ FlippedAreThere =
     → ((output : ℕ) → output < outputs_at chip u → outputs output ≢ X)
     → ((values : ℕ → Trit) → AreFlipped chip u goods outputs values → ⊥) → ⊥
 
--- where all instances behind that of the defect are static, the good lasts are definite there, and all faulty
--- lasts of the instance are definite, the defect is detected exactly where they force a net to the opposite
+-- for definite outputs the flipped values of all nets that u reaches are definite
+abbrev pub FlippedAreDefinite : Type 0
+FlippedAreDefinite =
+    (chip : Chip) (rank : ℕ → ℕ) (u : ℕ) (goods outputs values : ℕ → Trit) (net : ℕ)
+    → IsChip chip rank → u < count_of chip
+    → ((output : ℕ) → output < outputs_at chip u → outputs output ≢ X)
+    → AreFlipped chip u goods outputs values → IsReachedFrom chip u net → values net ≢ X
+
+-- where all instances behind that of the defect are static, the good lasts are definite there, and each
+-- faulty last of the instance that leads to a net is definite, the defect is detected at the net exactly
+-- where they force it to the opposite
 abbrev pub DetectedWhereForced : Type 0
 DetectedWhereForced =
     (chip : Chip) (rank : ℕ → ℕ) (defect : ChipDefect) (pair : List Trit) (good : FlatWaves chip None pair)
@@ -134,6 +167,7 @@ DetectedWhereForced =
     → IsFlatChip chip rank defect → ArePinWaves chip (wave_of good) defect.instance pins
     → AreStaticBehind chip defect.instance → AreDefiniteBehind chip defect.instance (lasts_of good)
     → AreFaultyLasts chip defect pins known
-    → ((output : ℕ) → output < outputs_at chip defect.instance → known output ≢ X)
+    → ((output : ℕ) → output < outputs_at chip defect.instance
+    → Leads chip (output_net chip defect.instance output) net → known output ≢ X)
     → net < length chip.nets
     → DetectsAt chip defect pair net ↔ IsForced chip defect.instance (lasts_of good) known net

@@ -3,7 +3,8 @@
 ghost use Rattle.ca_flips.specs.Laws.{EndsByLastIsLimit, LastsAreOfLasts, LastEndIsOne};
 ghost use Rattle.ca_flips.specs.Laws.{FaultyLastIsGiven, FlippedAreAbove, FlippedAreFaulty};
 ghost use Rattle.ca_flips.specs.Laws.{DetectedIsFlipped, DetectedIsForced, UnflippedIsUndetected};
-ghost use Rattle.ca_flips.specs.Laws.{FlippedAreUnique, FlippedAreThere, DetectedWhereForced};
+ghost use Rattle.ca_flips.specs.Laws.{FlippedAreUnique, FlippedAreThere, FlippedAreDefinite};
+ghost use Rattle.ca_flips.specs.Laws.{FlippedAreEnds, DetectedIsFilledIn, DetectedWhereForced};
 
 /// What a cell ends with by the last vector alone is the last limit for unknown firsts and middles.
 pub fn ends_by_last_is_limit()
@@ -60,7 +61,24 @@ pub fn flipped_are_there()
     ensures { FlippedAreThere }
 {}
 
-/// Where all faulty lasts are definite, a defect is detected exactly where they force a net to the opposite.
+/// Where the faulty lasts that lead to a net are definite, a defect is detected there exactly where they force
+/// it to the opposite.
 pub fn detected_where_forced()
     ensures { DetectedWhereForced }
+{}
+
+/// For definite outputs the flipped values of all nets that the instance reaches are definite.
+pub fn flipped_are_definite()
+    ensures { FlippedAreDefinite }
+{}
+
+/// Where the outputs that lead to a net are the faulty lasts, every run ends with its flipped value.
+pub fn flipped_are_ends()
+    ensures { FlippedAreEnds }
+{}
+
+/// Where a defect is detected, the faulty lasts that are definite make the net opposite, with the good value
+/// in the place of each that is unknown.
+pub fn detected_is_filled_in()
+    ensures { DetectedIsFilledIn }
 {}
