@@ -29,11 +29,11 @@ use Rattle.ca_flips.specs.Laws.{EndsByLastIsLimit, LastsAreOfLasts, LastEndIsOne
 pub below_stable : (a b : Trit) → ((IsBelow a b → ⊥) → ⊥) → IsBelow a b
 below_stable X b h = inl refl
 below_stable Zero Zero h = inr refl
-below_stable Zero One h = absurd (h (λ p. elim p [ | inl e ↦ cc | inr e ↦ cc ]))
-below_stable Zero X h = absurd (h (λ p. elim p [ | inl e ↦ cc | inr e ↦ cc ]))
-below_stable One Zero h = absurd (h (λ p. elim p [ | inl e ↦ cc | inr e ↦ cc ]))
+below_stable Zero One h = absurd (h (λ p. elim p [ inl e ↦ cc | inr e ↦ cc ]))
+below_stable Zero X h = absurd (h (λ p. elim p [ inl e ↦ cc | inr e ↦ cc ]))
+below_stable One Zero h = absurd (h (λ p. elim p [ inl e ↦ cc | inr e ↦ cc ]))
 below_stable One One h = inr refl
-below_stable One X h = absurd (h (λ p. elim p [ | inl e ↦ cc | inr e ↦ cc ]))
+below_stable One X h = absurd (h (λ p. elim p [ inl e ↦ cc | inr e ↦ cc ]))
 
 -- every run for the vectors a and b ends with v at the node n
 module _ (c : Circuit) (formed : IsWellFormed c) (a b : List Trit) (n : ℕ) (v : Trit) (within : n < length c.nodes) (ends : EndsAt c a b n v) where

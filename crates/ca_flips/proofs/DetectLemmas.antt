@@ -1,15 +1,13 @@
 -- Detection by flipped values.
-use Rattle.std.proofs.Common.{◌≡◌, ◌≢◌, ℕ, ◌+◌, ◌<◌, List, length, Option, None, Some, inl, inr, refl, sym, ◌∙◌, ap, subst}
+use Rattle.std.proofs.Common.{◌≡◌, ◌≢◌, ℕ, ◌<◌, List, length, Option, None, Some, inl, inr, refl, sym, ◌∙◌, subst}
 use Rattle.ca_net.specs.declared.trit.Trit.{Trit}
 use Rattle.ca_net.specs.declared.trit.Trit.TheVariants.{Zero, One, X}
-use Rattle.ca_net.specs.declared.wave.Wave.{Wave}
 use Rattle.ca_net.specs.Trit.{IsBelow}
 use Rattle.ca_parts.proofs.TritLemmas.{same_stable, kept}
-use Rattle.ca_defect.specs.Exposes.{opposite_of}
 use Rattle.ca_flat.specs.declared.chip_defect.ChipDefect.{ChipDefect}
-use Rattle.ca_flat.specs.Chip.{Chip, cell_at, outputs_at, output_net, count_of}
+use Rattle.ca_flat.specs.Chip.{Chip, cell_at, outputs_at, output_net}
 use Rattle.ca_flat.specs.Pair.{NetEndsAt, DetectsAt}
-use Rattle.ca_flat.specs.Waves.{FlatWaves, wave_of, IsFlatChip}
+use Rattle.ca_flat.specs.Waves.{FlatWaves, IsFlatChip}
 use Rattle.ca_flat.proofs.Clashes.{opposite_definite, opposite_differs}
 use Rattle.ca_flat.proofs.InstanceWaves.{ends_last, last_ends}
 use Rattle.ca_flat.proofs.Detected.{good_flat, faulty_flat, some_faulty, detected_clashes}
@@ -65,12 +63,11 @@ module _ (chip : Chip) (rank : ℕ → ℕ) (defect : ChipDefect) (is : IsFlatCh
 pub detected_is_flipped_lem : DetectedIsFlipped
 detected_is_flipped_lem chip rank defect pair good pins outputs values net is pin_waves given flipped within =
     let exact = λ (faulty : FlatWaves chip (Some defect) pair).
-    flipped_are_faulty_lem chip rank defect pair good faulty pins outputs values net is pin_waves given flipped within in
-    (
+    flipped_are_faulty_lem chip rank defect pair good faulty pins outputs values net is pin_waves given flipped within in (
       (λ detects. opposite_stable chip rank defect is pair good net within (values net) (λ out. some_faulty chip rank defect is pair (λ faulty.
-      out (subst (IsOpposite (lasts_of good net)) (exact faulty) (detected_clashes chip rank defect is pair good faulty net within detects))))),
+          out (subst (IsOpposite (lasts_of good net)) (exact faulty) (detected_clashes chip rank defect is pair good faulty net within detects))))),
       (λ opposite. detects_stable chip rank defect is pair good net within (λ out. some_faulty chip rank defect is pair (λ faulty.
-      out (clash_detects chip rank defect is pair good net within faulty (subst (IsOpposite (lasts_of good net)) (sym (exact faulty)) opposite))))),
+          out (clash_detects chip rank defect is pair good net within faulty (subst (IsOpposite (lasts_of good net)) (sym (exact faulty)) opposite))))),
     )
 
 -- a value at or above an opposite one is opposite
@@ -80,12 +77,14 @@ opposite_above good low high opposite up = (opposite.0, kept low high (λ e. opp
 pub flipped_are_ends_lem : FlippedAreEnds
 flipped_are_ends_lem chip rank defect pair good pins outputs values net v is pin_waves given flipped within =
     let exact = λ (faulty : FlatWaves chip (Some defect) pair).
-    flipped_are_faulty_lem chip rank defect pair good faulty pins outputs values net is pin_waves given flipped within in
-    (
+    flipped_are_faulty_lem chip rank defect pair good faulty pins outputs values net is pin_waves given flipped within in (
       (λ h. ends_stable chip (Some defect) pair net v (λ out. some_faulty chip rank defect is pair (λ faulty.
-      out (last_ends chip rank (Some defect) (faulty_flat chip rank defect is) pair faulty net v within h.0 (exact faulty ∙ h.1))))),
-      (λ ends. (ends.definite, same_stable _ _ (λ out. some_faulty chip rank defect is pair (λ faulty.
-      out (sym (exact faulty) ∙ ends_last chip rank (Some defect) (faulty_flat chip rank defect is) pair faulty net v within ends))))),
+          out (last_ends chip rank (Some defect) (faulty_flat chip rank defect is) pair faulty net v within h.0 (exact faulty ∙ h.1))))),
+      (λ ends. (
+        ends.definite,
+        same_stable _ _ (λ out. some_faulty chip rank defect is pair (λ faulty.
+            out (sym (exact faulty) ∙ ends_last chip rank (Some defect) (faulty_flat chip rank defect is) pair faulty net v within ends))),
+      )),
     )
 
 pub known_below : (known good : Trit) → IsBelow known (known_or known good)

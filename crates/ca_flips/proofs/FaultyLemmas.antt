@@ -10,7 +10,7 @@ use Rattle.ca_net.specs.Wave.{firsts, mids, lasts}
 use Rattle.ca_parts.proofs.RisingLimits.{limits_over}
 use Rattle.ca_defect.specs.Exposes.{pin_vector}
 use Rattle.ca_flat.specs.declared.chip_defect.ChipDefect.{ChipDefect}
-use Rattle.ca_flat.specs.Chip.{Chip, inputs_at, outputs_at, net_of, output_net, count_of}
+use Rattle.ca_flat.specs.Chip.{Chip, inputs_at, outputs_at, net_of, output_net}
 use Rattle.ca_flat.specs.Flat.{circuit_in, flat}
 use Rattle.ca_flat.specs.Pair.{flat_vector}
 use Rattle.ca_flat.specs.Waves.{FlatWaves, wave_of, unknown_wave, IsFlatChip}

@@ -1,14 +1,12 @@
 -- Flipped values against the waves of the faulty network.
-use Rattle.std.proofs.Common.{◌≡◌, ℕ, ◌+◌, ◌<◌, List, length, None, Some, inl, inr, refl, sym, ◌∙◌, ap, subst}
+use Rattle.std.proofs.Common.{◌≡◌, ℕ, ◌+◌, ◌<◌, List, length, None, Some, inl, inr, sym, ◌∙◌, ap, subst}
 use Rattle.std.proofs.Common.{arith}
 use Rattle.ca_net.specs.declared.trit.Trit.{Trit}
-use Rattle.ca_net.specs.declared.wave.Wave.{Wave}
 use Rattle.ca_net.specs.Trit.{IsBelow}
 use Rattle.ca_parts.proofs.TritLemmas.{same_stable}
 use Rattle.ca_flat.specs.declared.chip_defect.ChipDefect.{ChipDefect}
-use Rattle.ca_flat.specs.Chip.{Chip, circuit_at, inputs_at, outputs_at, net_of, output_net, count_of}
-use Rattle.ca_flat.specs.Flat.{circuit_in}
-use Rattle.ca_flat.specs.Waves.{FlatWaves, wave_of, IsFlatChip}
+use Rattle.ca_flat.specs.Chip.{Chip, inputs_at, outputs_at, output_net}
+use Rattle.ca_flat.specs.Waves.{FlatWaves, IsFlatChip}
 use Rattle.ca_flat.specs.Chain.{Leads, IsReachedFrom}
 use Rattle.ca_flat.proofs.NetInduction.{net_induction}
 use Rattle.ca_flat.proofs.Detected.{same_instance, other_circuit, faulty_flat}

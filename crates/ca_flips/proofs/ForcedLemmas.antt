@@ -23,11 +23,11 @@ pub detected_where_forced_lem : DetectedWhereForced
 detected_where_forced_lem chip rank defect pair good pins known net is pin_waves static definite given certain within = (
   detected_is_forced_lem chip rank defect pair good pins known net is pin_waves given within,
   (λ forced. detects_stable chip rank defect is pair good net within (λ out.
-  flipped_are_there_lem chip rank defect.instance (lasts_of good) chosen is.chip_is is.defect_is.known static definite chosen_definite (λ values flipped.
-  out ((detected_is_flipped_lem chip rank defect pair good pins chosen values net is pin_waves
-  (λ output k leads. subst (IsFaultyLast chip defect pins output) (known_is (known output) (lasts_of good (output_net chip defect.instance output)) (certain output k leads)) (given output k))
-  flipped within).1
-  (forced chosen values chosen_definite (λ output k. known_below (known output) (lasts_of good (output_net chip defect.instance output))) flipped))))),
+      flipped_are_there_lem chip rank defect.instance (lasts_of good) chosen is.chip_is is.defect_is.known static definite chosen_definite (λ values flipped.
+      out ((detected_is_flipped_lem chip rank defect pair good pins chosen values net is pin_waves
+      (λ output k leads. subst (IsFaultyLast chip defect pins output) (known_is (known output) (lasts_of good (output_net chip defect.instance output)) (certain output k leads)) (given output k))
+      flipped within).1
+      (forced chosen values chosen_definite (λ output k. known_below (known output) (lasts_of good (output_net chip defect.instance output))) flipped))))),
 )
   where
     chosen : ℕ → Trit

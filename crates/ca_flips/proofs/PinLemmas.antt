@@ -1,10 +1,10 @@
 -- The limits of an instance in the flat network, against vectors of its input pins.
-use Rattle.std.proofs.Common.{◌≡◌, ℕ, zero, suc, ◌+◌, ◌<◌, ◌≤◌, List, [], ◌∷◌, length, Option, inl, inr, refl, sym, ◌∙◌}
+use Rattle.std.proofs.Common.{◌≡◌, ℕ, zero, suc, ◌+◌, ◌<◌, List, [], ◌∷◌, length, Option, inl, inr, refl, sym, ◌∙◌}
 use Rattle.std.proofs.Common.{ap, subst, arith}
 use Rattle.ca_net.specs.declared.trit.Trit.{Trit}
-use Rattle.ca_net.specs.declared.trit.Trit.TheVariants.{Zero, One, X}
+use Rattle.ca_net.specs.declared.trit.Trit.TheVariants.{Zero, One}
 use Rattle.ca_net.specs.Trit.{IsBelow}
-use Rattle.ca_net.specs.Circuit.{Circuit, IsWellFormed, IsInput}
+use Rattle.ca_net.specs.Circuit.{Circuit, IsInput}
 use Rattle.ca_net.specs.State.{value_at}
 use Rattle.ca_net.specs.PairRun.{EndsAt}
 use Rattle.ca_net.specs.Limits.{HasInputs}
@@ -14,7 +14,7 @@ use Rattle.ca_defect.specs.Exposes.{pin_vector}
 use Rattle.ca_flat.specs.declared.chip_defect.ChipDefect.{ChipDefect}
 use Rattle.ca_flat.specs.Chip.{Chip, cell_at, circuit_at, inputs_at, outputs_at, net_of, output_net, count_of}
 use Rattle.ca_flat.specs.Flat.{circuit_in, place, flat}
-use Rattle.ca_flat.specs.Pair.{flat_vector, values_from}
+use Rattle.ca_flat.specs.Pair.{flat_vector}
 use Rattle.ca_flat.specs.Simulation.{IsFlattened}
 use Rattle.ca_flat.specs.Waves.{FlatWaves}
 use Rattle.ca_flat.proofs.Places.{place_rail, place_pin}

@@ -1,15 +1,13 @@
 -- Nets that an instance reaches, and those that it doesn't.
-use Rattle.std.proofs.Common.{◌≡◌, ℕ, ◌+◌, ◌<◌, ◌≤◌, List, [], ◌∷◌, ◌++◌, length, None, Some, inl, inr, refl, sym, ◌∙◌, subst}
+use Rattle.std.proofs.Common.{◌≡◌, ℕ, ◌<◌, ◌≤◌, List, [], ◌∷◌, ◌++◌, length, None, Some, inl, inr, refl, sym, ◌∙◌, subst}
 use Rattle.std.proofs.Common.{ap, arith}
 use Rattle.ca_net.specs.declared.scale.TheConstants.{OUTPUT_NET}
 use Rattle.ca_net.specs.declared.trit.Trit.{Trit}
-use Rattle.ca_net.specs.declared.wave.Wave.{Wave}
-use Rattle.ca_net.specs.declared.node.NodeKind.{NodeKind}
 use Rattle.ca_net.specs.declared.node.NodeKind.TheVariants.{Input, Storage}
 use Rattle.ca_flat.specs.declared.chip_defect.ChipDefect.{ChipDefect}
 use Rattle.ca_flat.specs.Chip.{Chip, inputs_at, outputs_at, net_of, output_net, count_of, net_kind, Drives, IsChip}
 use Rattle.ca_flat.specs.Waves.{FlatWaves, wave_of, IsFlatChip}
-use Rattle.ca_flat.specs.Chain.{Feeds, IsChain, Leads, IsOutputOf, IsReachedFrom}
+use Rattle.ca_flat.specs.Chain.{Feeds, IsChain, Leads, IsReachedFrom}
 use Rattle.ca_flat.proofs.NetInduction.{net_induction}
 use Rattle.ca_flat.proofs.Detected.{same_instance, input_same, other_same}
 use Rattle.ca_flips.specs.Flips.{IsBehind}
