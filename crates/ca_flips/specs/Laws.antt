@@ -16,7 +16,8 @@ use Rattle.ca_flat.specs.Waves.{FlatWaves, wave_of, IsFlatChip}
 use Rattle.ca_flat.specs.Chain.{Leads, IsReachedFrom}
 use Rattle.ca_flips.specs.Static.{node_of_output, EndsByLast}
 use Rattle.ca_flips.specs.Flips.{AreStaticBehind, AreDefiniteBehind, AreFlipped, IsOpposite, IsForced}
-use Rattle.ca_flips.specs.Flips.{filled_in, lasts_of, ArePinWaves, IsFaultyLast, AreFaultyLasts, AreFaultyLastsTo}
+use Rattle.ca_flips.specs.Flips.{filled_in, lasts_of, ArePinWaves, IsFaultyLast, AreFaultyLasts}
+use Rattle.ca_flips.specs.Flips.{AreFaultyLastsTo}
 
 -- a cell ends with v by the last vector alone exactly where v is definite and is the last limit at the output
 -- pin for waves whose firsts and middles are unknown
