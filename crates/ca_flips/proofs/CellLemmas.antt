@@ -16,14 +16,15 @@ use Rattle.ca_net.specs.Limits.{AreLimits, IsMeet}
 use Rattle.ca_net.proofs.StateLemmas.{IsBelow-trans}
 use Rattle.ca_net.proofs.LastLimit.{last_limit_is_end_lem}
 use Rattle.ca_parts.specs.Composition.{InputsUnder}
-use Rattle.ca_parts.proofs.TritLemmas.{same_stable, kept}
-use Rattle.ca_parts.proofs.RisingLimits.{limits_rise_lem, limits_exist_lem}
+use Rattle.ca_parts.proofs.TritLemmas.{same_stable, kept, meet_same}
+use Rattle.ca_parts.proofs.RisingLimits.{limits_rise_lem, limits_exist_lem, steady_limits_lem}
 use Rattle.ca_parts.proofs.EndLaws.{meets, are_meets, meets_under_first, meets_under_last, ends_are_unique_lem}
+use Rattle.ca_parts.proofs.EndLaws.{ends_are_kept_lem}
 use Rattle.ca_cell.specs.Raw.{is_input, is_output, role_count, circuit_of}
-use Rattle.ca_defect.specs.Exposes.{pin_vector}
+use Rattle.ca_defect.specs.Exposes.{pin_vector, CellEndsAt}
 use Rattle.ca_flat.proofs.Shapes.{IsCellCircuit, good_circuit}
-use Rattle.ca_flips.specs.Static.{node_of_output}
-use Rattle.ca_flips.specs.Laws.{EndsByLastIsLimit, LastsAreOfLasts, LastEndIsOne}
+use Rattle.ca_flips.specs.Static.{node_of_output, EndsByLast}
+use Rattle.ca_flips.specs.Laws.{EndsByLastIsLimit, LastsAreOfLasts, LastEndIsOne, EndsByLastIsSteady}
 
 -- what can't fail to be below is below
 pub below_stable : (a b : Trit) → ((IsBelow a b → ⊥) → ⊥) → IsBelow a b
@@ -124,3 +125,39 @@ last_end_is_one_lem raw vector output v w is within one two =
     let cell = good_circuit raw is in
     let k = cell.counted in
     ends_are_unique_lem (circuit_of raw) _ _ (node_of_output raw output) v w cell.formed (omega arith) one two
+
+-- the last limit over a vector is at or above the first limit over it, which is the last one of runs that keep it
+pub ends_by_last_is_steady_lem : EndsByLastIsSteady
+ends_by_last_is_steady_lem raw vector output v is within = (to_last, from_last)
+  where
+    c : Circuit
+    c = circuit_of raw
+
+    cell : IsCellCircuit (role_count is_input raw.pins) (role_count is_output raw.pins) (circuit_of raw)
+    cell = good_circuit raw is
+
+    inside : node_of_output raw output < length (circuit_of raw).nodes
+    inside = let k = cell.counted in omega arith
+
+    from_last : EndsByLast raw vector output v → CellEndsAt (circuit_of raw) vector vector (node_of_output raw output) v
+    from_last ends = ends_are_kept_lem (circuit_of raw) _ _ (pin_vector (circuit_of raw) vector) (pin_vector (circuit_of raw) vector) (node_of_output raw output) v
+        (vector_under (circuit_of raw) (role_count is_input raw.pins) (role_count is_output raw.pins) cell [] vector (λ n. inl refl)) (λ n i. inr refl) ends
+
+    reached : CellEndsAt (circuit_of raw) vector vector (node_of_output raw output) v → (EndsByLast raw vector output v → ⊥) → ⊥
+    reached ends out =
+        let under = vector_under (circuit_of raw) (role_count is_input raw.pins) (role_count is_output raw.pins) cell [] vector (λ n. inl refl) in
+        limits_exist_lem (circuit_of raw) (pin_vector (circuit_of raw) []) (pin_vector (circuit_of raw) []) (pin_vector (circuit_of raw) vector) cell.formed (λ n i. inr refl) under (λ f m l low.
+        limits_exist_lem (circuit_of raw) (pin_vector (circuit_of raw) vector) (pin_vector (circuit_of raw) vector) (pin_vector (circuit_of raw) vector) cell.formed (λ n i. inr refl) (λ n i. inr refl) (λ first middle last steady.
+        let at_last : value_at last (node_of_output raw output) ≡ v =
+        ((last_limit_is_end_lem (circuit_of raw) _ _ _ first middle last (node_of_output raw output) v cell.formed inside (λ n i. sym (meet_same _)) steady).1 ends).1 in
+        let at_first : value_at first (node_of_output raw output) ≡ v =
+        sym (steady_limits_lem (circuit_of raw) (pin_vector (circuit_of raw) vector) first middle last cell.formed steady (node_of_output raw output)) ∙ at_last in
+        let up : IsBelow (value_at first (node_of_output raw output)) (value_at l (node_of_output raw output)) = steady.is_first.least l low.is_last.fixed (node_of_output raw output) in
+        out ((ends_by_last_is_limit_lem raw vector f m l output v is within low).0
+        (ends.definite, kept v _ ends.definite (subst (λ x. IsBelow x (value_at l (node_of_output raw output))) at_first up)))))
+
+    to_last : CellEndsAt (circuit_of raw) vector vector (node_of_output raw output) v → EndsByLast raw vector output v
+    to_last ends = record {
+      definite = ends.definite;
+      every_run = λ end run. same_stable _ _ (λ differs. reached ends (λ held. differs (held.every_run end run)));
+    }

@@ -7,3 +7,4 @@ pub mod VectorLemmas
 pub mod DetectLemmas
 pub mod ThereLemmas
 pub mod ForcedLemmas
+pub mod KnownLemmas

@@ -4,13 +4,15 @@ use Rattle.ca_net.specs.declared.trit.Trit.{Trit}
 use Rattle.ca_net.specs.declared.trit.Trit.TheVariants.{X}
 use Rattle.ca_net.specs.declared.wave.Wave.{Wave}
 use Rattle.ca_net.specs.Trit.{IsBelow}
+use Rattle.ca_net.specs.Circuit.{IsWellFormed}
 use Rattle.ca_net.specs.State.{value_at, IsStateBelow}
 use Rattle.ca_net.specs.Limits.{AreLimits}
 use Rattle.ca_cell.specs.declared.raw.RawCell.{RawCell}
 use Rattle.ca_cell.specs.Raw.{is_output, role_count, circuit_of}
-use Rattle.ca_defect.specs.Exposes.{pin_vector}
+use Rattle.ca_defect.specs.Exposes.{pin_vector, CellEndsAt}
 use Rattle.ca_flat.specs.declared.chip_defect.ChipDefect.{ChipDefect}
 use Rattle.ca_flat.specs.Chip.{Chip, IsChip, IsCell, outputs_at, output_net, count_of}
+use Rattle.ca_flat.specs.Flat.{flat}
 use Rattle.ca_flat.specs.Pair.{NetEndsAt, DetectsAt}
 use Rattle.ca_flat.specs.Waves.{FlatWaves, wave_of, IsFlatChip}
 use Rattle.ca_flat.specs.Chain.{Leads, IsReachedFrom}
@@ -18,6 +20,7 @@ use Rattle.ca_flips.specs.Static.{node_of_output, EndsByLast}
 use Rattle.ca_flips.specs.Flips.{AreStaticBehind, AreDefiniteBehind, AreFlipped, IsOpposite, IsForced}
 use Rattle.ca_flips.specs.Flips.{filled_in, lasts_of, ArePinWaves, IsFaultyLast, AreFaultyLasts}
 use Rattle.ca_flips.specs.Flips.{AreFaultyLastsTo}
+use Rattle.ca_flips.specs.Known.{AreKnownLasts}
 
 -- a cell ends with v by the last vector alone exactly where v is definite and is the last limit at the output
 -- pin for waves whose firsts and middles are unknown
@@ -39,12 +42,27 @@ LastsAreOfLasts =
     (pin_vector (circuit_of raw) vector) first middle last
     → EndsByLast raw vector output v → value_at last (node_of_output raw output) ≡ v
 
+-- a cell ends with v by the last vector alone exactly where every run that keeps the vector ends with v; so
+-- the rows of one vector of a cell show whether it is static
+abbrev pub EndsByLastIsSteady : Type 0
+EndsByLastIsSteady =
+    (raw : RawCell) (vector : List Trit) (output : ℕ) (v : Trit) → IsCell raw
+    → output < role_count is_output raw.pins
+    → CellEndsAt (circuit_of raw) vector vector (node_of_output raw output) v ↔ EndsByLast raw vector output v
+
 -- what a cell ends with by the last vector alone is one value
 abbrev pub LastEndIsOne : Type 0
 LastEndIsOne =
     (raw : RawCell) (vector : List Trit) (output : ℕ) (v w : Trit)
     → IsCell raw → output < role_count is_output raw.pins
     → EndsByLast raw vector output v → EndsByLast raw vector output w → v ≡ w
+
+-- known lasts are at or below the good ones, so that a definite one is the good one
+abbrev pub KnownLastsAreGood : Type 0
+KnownLastsAreGood =
+    (chip : Chip) (rank : ℕ → ℕ) (pair : List Trit) (good : FlatWaves chip None pair) (values : ℕ → Trit)
+    (net : ℕ) → IsChip chip rank → IsWellFormed (flat chip None) → AreKnownLasts chip pair values
+    → net < length chip.nets → IsBelow (values net) (lasts_of good net)
 
 -- the last value of an output pin of the defect's instance, under the good waves of its input nets, is that
 -- of the faulty network

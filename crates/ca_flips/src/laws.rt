@@ -1,6 +1,7 @@
 //! Laws of the definitions, each the contract of a function that does nothing.
 
-ghost use Rattle.ca_flips.specs.Laws.{EndsByLastIsLimit, LastsAreOfLasts, LastEndIsOne};
+ghost use Rattle.ca_flips.specs.Laws.{EndsByLastIsLimit, EndsByLastIsSteady, LastsAreOfLasts};
+ghost use Rattle.ca_flips.specs.Laws.{LastEndIsOne, KnownLastsAreGood};
 ghost use Rattle.ca_flips.specs.Laws.{FaultyLastIsGiven, FlippedAreAbove, FlippedAreFaulty};
 ghost use Rattle.ca_flips.specs.Laws.{DetectedIsFlipped, DetectedIsForced, UnflippedIsUndetected};
 ghost use Rattle.ca_flips.specs.Laws.{FlippedAreUnique, FlippedAreThere, FlippedAreDefinite};
@@ -9,6 +10,11 @@ ghost use Rattle.ca_flips.specs.Laws.{FlippedAreEnds, DetectedIsFilledIn, Detect
 /// What a cell ends with by the last vector alone is the last limit for unknown firsts and middles.
 pub fn ends_by_last_is_limit()
     ensures { EndsByLastIsLimit }
+{}
+
+/// It is what every run that keeps the vector ends with.
+pub fn ends_by_last_is_steady()
+    ensures { EndsByLastIsSteady }
 {}
 
 /// It is the last limit for any waves with these lasts.
@@ -24,6 +30,11 @@ pub fn last_end_is_one()
 /// Where the outputs are at or above the faulty lasts, so are the flipped values.
 pub fn flipped_are_above()
     ensures { FlippedAreAbove }
+{}
+
+/// Known lasts are at or below the good ones.
+pub fn known_lasts_are_good()
+    ensures { KnownLastsAreGood }
 {}
 
 /// The faulty lasts of the defect's instance are those of its cell under the good waves.

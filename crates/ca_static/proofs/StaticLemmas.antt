@@ -1,8 +1,8 @@
 -- A cell is static where it is so at the vector of each number.
 use Rattle.std.proofs.Common.{ℕ, zero, suc, ◌^◌, ◌<◌, ◌≡◌, ◌≢◌, refl, sym, ap, ◌∙◌, subst, List, [], ◌∷◌, ◌++◌}
-use Rattle.std.proofs.Common.{length, Some, replicate, get_or}
+use Rattle.std.proofs.Common.{length, replicate, get_or}
 use Rattle.std.specs.List.{All}
-use Rattle.std.proofs.lemmas.Option.{slice_get_within, slice_get-get_or, get_or_from_slice_get}
+use Rattle.std.proofs.lemmas.Option.{slice_get-get_or}
 use Rattle.std.proofs.lemmas.List.Elements.{All-from_get_or}
 use Rattle.ca_net.specs.declared.trit.Trit.{Trit}
 use Rattle.ca_net.specs.declared.trit.Trit.TheVariants.{One, Zero, X}
@@ -14,7 +14,7 @@ use Rattle.ca_net.specs.PairRun.{EndsAt}
 use Rattle.ca_cell.specs.declared.raw.RawCell.{RawCell}
 use Rattle.ca_cell.specs.Raw.{is_input, is_output, role_count, circuit_of}
 use Rattle.ca_defect.specs.Row.{vector_of}
-use Rattle.ca_defect.specs.Exposes.{IsDefiniteVector, pin_vector, CellEndsAt}
+use Rattle.ca_defect.specs.Exposes.{pin_vector, CellEndsAt}
 use Rattle.ca_defect.proofs.NumberLemmas.{number_of, number_within, vector_again, vector_definite}
 use Rattle.ca_response.specs.Outputs.{output_node, AreEndsOf}
 use Rattle.ca_flips.specs.Static.{EndsByLast, LastEnd, IsStatic}

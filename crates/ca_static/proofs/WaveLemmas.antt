@@ -1,13 +1,11 @@
 -- Waves of which the lasts alone are known.
 use Rattle.std.proofs.Common.{ℕ, zero, suc, ◌+◌, ◌-◌, ◌/◌, ◌%◌, ◌^◌, ◌<◌, ◌≡◌, refl, sym, ap, ◌∙◌, subst, List, []}
-use Rattle.std.proofs.Common.{◌∷◌, ◌++◌, length, arith, append_assoc, append-nil, replicate}
+use Rattle.std.proofs.Common.{◌∷◌, ◌++◌, length, arith, append_assoc, replicate}
 use Rattle.std.specs.List.{All}
-use Rattle.ca_net.specs.declared.trit.Trit.{Trit}
 use Rattle.ca_net.specs.declared.trit.Trit.TheVariants.{X}
 use Rattle.ca_net.specs.declared.wave.Wave.{Wave}
 use Rattle.ca_net.specs.Wave.{IsWave, pair_of}
 use Rattle.ca_defect.specs.Row.{digit_value, vector_of}
-use Rattle.ca_response.specs.Outputs.{pairs_of}
 use Rattle.ca_response.proofs.PairLemmas.{pairs_are_waves, length-pairs_of}
 use Rattle.ca_static.specs.StaticAt.{waves_to}
 

@@ -1,4 +1,4 @@
-use Rattle.std.proofs.Common.{◌≡◌, ◌^◌, ◌<◌, ◌∙◌, ap, arith}
+use Rattle.std.proofs.Common.{◌≡◌, ◌^◌, ◌∙◌, ap, arith}
 use Rattle.ca_cell.specs.Raw.{is_input, role_count}
 use Rattle.ca_static.proofs.StaticLemmas.{static_of_each, each_of_static}
 use Rattle.ca_static.proofs.statics.is_static.Goals as goal

@@ -1,4 +1,4 @@
-use Rattle.std.proofs.Common.{◌≡◌, ◌≢◌, length, replicate, sym, ◌∙◌, subst}
+use Rattle.std.proofs.Common.{◌≡◌, ◌≢◌, replicate, sym, ◌∙◌, subst}
 use Rattle.std.specs.List.{All}
 use Rattle.ca_net.specs.declared.trit.Trit.TheVariants.{X}
 use Rattle.ca_net.specs.declared.wave.Wave.{Wave}
@@ -18,8 +18,7 @@ returns-clause-exact c =
     (c.respond-waves.ensures.ends (replicate c.inputs.result X) (vector_of c.inputs.result c.args.number) (same_count c.inputs.result c.args.number)
     (c.as_slice.ensures.value ∙ c.waves_to-pins.ensures.same)) in
     let count = c.respond-waves.ensures.limits.count in
-    let same : c.as_slice-2.result.now ≡ outputs = c.as_slice-2.ensures.value in
-    (
+    let same : c.as_slice-2.result.now ≡ outputs = c.as_slice-2.ensures.value in (
       (λ is. static_of_definite raw c.args.number outputs count ends (subst (All (λ (wave : Wave). wave.last ≢ X)) same (c.are_definite.ensures.0 is))),
       (λ static. c.are_definite.ensures.1 (subst (All (λ (wave : Wave). wave.last ≢ X)) (sym same) (definite_of_static raw c.args.number outputs count ends static))),
     )
