@@ -36,6 +36,12 @@ below_stable One Zero h = absurd (h (λ p. elim p [ inl e ↦ cc | inr e ↦ cc 
 below_stable One One h = inr refl
 below_stable One X h = absurd (h (λ p. elim p [ inl e ↦ cc | inr e ↦ cc ]))
 
+-- a value is below another where that is the same wherever it is definite
+pub below_if : (low high : Trit) → ((low ≡ X → ⊥) → high ≡ low) → IsBelow low high
+below_if X high same = inl refl
+below_if Zero high same = inr (sym (same (λ e. cc)))
+below_if One high same = inr (sym (same (λ e. cc)))
+
 -- every run for the vectors a and b ends with v at the node n
 module _ (c : Circuit) (formed : IsWellFormed c) (a b : List Trit) (n : ℕ) (v : Trit) (within : n < length c.nodes) (ends : EndsAt c a b n v) where
   -- so do limits over higher waves

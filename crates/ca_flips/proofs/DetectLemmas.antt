@@ -1,21 +1,22 @@
 -- Detection by flipped values.
-use Rattle.std.proofs.Common.{◌≡◌, ◌≢◌, ℕ, ◌<◌, List, length, Option, None, Some, inl, inr, refl, sym, ◌∙◌, subst}
+use Rattle.std.proofs.Common.{◌≡◌, ◌≢◌, ◌↔◌, ℕ, ◌<◌, List, length, Option, None, Some, inl, inr, refl, sym, ◌∙◌, subst}
 use Rattle.ca_net.specs.declared.trit.Trit.{Trit}
 use Rattle.ca_net.specs.declared.trit.Trit.TheVariants.{Zero, One, X}
+use Rattle.ca_net.specs.declared.wave.Wave.{Wave}
 use Rattle.ca_net.specs.Trit.{IsBelow}
 use Rattle.ca_parts.proofs.TritLemmas.{same_stable, kept}
 use Rattle.ca_flat.specs.declared.chip_defect.ChipDefect.{ChipDefect}
 use Rattle.ca_flat.specs.Chip.{Chip, cell_at, outputs_at, output_net}
 use Rattle.ca_flat.specs.Pair.{NetEndsAt, DetectsAt}
-use Rattle.ca_flat.specs.Waves.{FlatWaves, IsFlatChip}
+use Rattle.ca_flat.specs.Waves.{FlatWaves, wave_of, IsFlatChip}
 use Rattle.ca_flat.proofs.Clashes.{opposite_definite, opposite_differs}
 use Rattle.ca_flat.proofs.InstanceWaves.{ends_last, last_ends}
 use Rattle.ca_flat.proofs.Detected.{good_flat, faulty_flat, some_faulty, detected_clashes}
 use Rattle.ca_flips.specs.Static.{EndsByLast}
 use Rattle.ca_flips.specs.Flips.{IsBehind, AreStaticBehind, AreDefiniteBehind, AreFlipped, IsOpposite, lasts_of}
 use Rattle.ca_flips.specs.Flips.{vector_at, known_or, filled_in}
-use Rattle.ca_flips.specs.Laws.{FlippedAreFaulty, FlippedAreEnds, DetectedIsFlipped, DetectedIsForced, UnflippedIsUndetected}
-use Rattle.ca_flips.specs.Laws.{DetectedIsFilledIn}
+use Rattle.ca_flips.specs.Flips.{IsForced, ArePinWaves, AreFaultyLasts, AreFaultyLastsTo}
+use Rattle.ca_flips.specs.Laws.{FlippedAreFaulty}
 use Rattle.ca_flips.proofs.PinLemmas.{output_is}
 use Rattle.ca_flips.proofs.VectorLemmas.{vector_definite}
 use Rattle.ca_flips.proofs.FlipLemmas.{all_below, all_exact}
@@ -60,8 +61,11 @@ module _ (chip : Chip) (rank : ℕ → ℕ) (defect : ChipDefect) (is : IsFlatCh
   pub opposite_stable : (other : Trit) → ((IsOpposite (lasts_of good net) other → ⊥) → ⊥) → IsOpposite (lasts_of good net) other
   opposite_stable other out = ((λ e. out (λ is. is.0 e)), same_stable _ _ (λ differs. out (λ is. differs is.1)))
 
-pub detected_is_flipped_lem : DetectedIsFlipped
-detected_is_flipped_lem chip rank defect pair good pins outputs values net is pin_waves given flipped within =
+pub detected_is_flipped_by_waves : (chip : Chip) (rank : ℕ → ℕ) (defect : ChipDefect) (pair : List Trit) (good : FlatWaves chip None pair) (pins : List Wave) (outputs values : ℕ → Trit) (net : ℕ)
+    → IsFlatChip chip rank defect → ArePinWaves chip (wave_of good) defect.instance pins
+    → AreFaultyLastsTo chip defect pins outputs net → AreFlipped chip defect.instance (lasts_of good) outputs values → net < length chip.nets
+    → DetectsAt chip defect pair net ↔ IsOpposite (lasts_of good net) (values net)
+detected_is_flipped_by_waves chip rank defect pair good pins outputs values net is pin_waves given flipped within =
     let exact = λ (faulty : FlatWaves chip (Some defect) pair).
     flipped_are_faulty_lem chip rank defect pair good faulty pins outputs values net is pin_waves given flipped within in (
       (λ detects. opposite_stable chip rank defect is pair good net within (values net) (λ out. some_faulty chip rank defect is pair (λ faulty.
@@ -71,11 +75,14 @@ detected_is_flipped_lem chip rank defect pair good pins outputs values net is pi
     )
 
 -- a value at or above an opposite one is opposite
-opposite_above : (good low high : Trit) → IsOpposite good low → IsBelow low high → IsOpposite good high
+pub opposite_above : (good low high : Trit) → IsOpposite good low → IsBelow low high → IsOpposite good high
 opposite_above good low high opposite up = (opposite.0, kept low high (λ e. opposite_definite good opposite.0 (sym opposite.1 ∙ e)) up ∙ opposite.1)
 
-pub flipped_are_ends_lem : FlippedAreEnds
-flipped_are_ends_lem chip rank defect pair good pins outputs values net v is pin_waves given flipped within =
+pub flipped_are_ends_by_waves : (chip : Chip) (rank : ℕ → ℕ) (defect : ChipDefect) (pair : List Trit) (good : FlatWaves chip None pair) (pins : List Wave) (outputs values : ℕ → Trit) (net : ℕ) (v : Trit)
+    → IsFlatChip chip rank defect → ArePinWaves chip (wave_of good) defect.instance pins
+    → AreFaultyLastsTo chip defect pins outputs net → AreFlipped chip defect.instance (lasts_of good) outputs values → net < length chip.nets
+    → ((v ≢ X) × (values net ≡ v)) ↔ NetEndsAt chip (Some defect) pair net v
+flipped_are_ends_by_waves chip rank defect pair good pins outputs values net v is pin_waves given flipped within =
     let exact = λ (faulty : FlatWaves chip (Some defect) pair).
     flipped_are_faulty_lem chip rank defect pair good faulty pins outputs values net is pin_waves given flipped within in (
       (λ h. ends_stable chip (Some defect) pair net v (λ out. some_faulty chip rank defect is pair (λ faulty.
@@ -92,8 +99,11 @@ known_below Zero good = inr refl
 known_below One good = inr refl
 known_below X good = inl refl
 
-pub detected_is_filled_in_lem : DetectedIsFilledIn
-detected_is_filled_in_lem chip rank defect pair good pins known values net is pin_waves given flipped within detects =
+pub detected_is_filled_in_by_waves : (chip : Chip) (rank : ℕ → ℕ) (defect : ChipDefect) (pair : List Trit) (good : FlatWaves chip None pair) (pins : List Wave) (known values : ℕ → Trit) (net : ℕ)
+    → IsFlatChip chip rank defect → ArePinWaves chip (wave_of good) defect.instance pins
+    → AreFaultyLasts chip defect pins known → AreFlipped chip defect.instance (lasts_of good) (filled_in chip defect.instance (lasts_of good) known) values
+    → net < length chip.nets → DetectsAt chip defect pair net → IsOpposite (lasts_of good net) (values net)
+detected_is_filled_in_by_waves chip rank defect pair good pins known values net is pin_waves given flipped within detects =
     opposite_stable chip rank defect is pair good net within (values net) (λ out. some_faulty chip rank defect is pair (λ faulty.
     out (opposite_above _ _ _ (detected_clashes chip rank defect is pair good faulty net within detects)
     (all_below chip rank defect is pair good faulty (filled_in chip defect.instance (lasts_of good) known) values flipped
@@ -102,8 +112,11 @@ detected_is_filled_in_lem chip rank defect pair good pins known values net is pi
     (known_below (known output) (lasts_of good (output_net chip defect.instance output))))
     net within))))
 
-pub detected_is_forced_lem : DetectedIsForced
-detected_is_forced_lem chip rank defect pair good pins known net is pin_waves given within detects outputs values definite over flipped =
+pub detected_is_forced_by_waves : (chip : Chip) (rank : ℕ → ℕ) (defect : ChipDefect) (pair : List Trit) (good : FlatWaves chip None pair) (pins : List Wave) (known : ℕ → Trit) (net : ℕ)
+    → IsFlatChip chip rank defect → ArePinWaves chip (wave_of good) defect.instance pins
+    → AreFaultyLasts chip defect pins known → net < length chip.nets → DetectsAt chip defect pair net
+    → IsForced chip defect.instance (lasts_of good) known net
+detected_is_forced_by_waves chip rank defect pair good pins known net is pin_waves given within detects outputs values definite over flipped =
     opposite_stable chip rank defect is pair good net within (values net) (λ out. some_faulty chip rank defect is pair (λ faulty.
     out (opposite_above _ _ _ (detected_clashes chip rank defect is pair good faulty net within detects)
     (all_below chip rank defect is pair good faulty outputs values flipped
@@ -134,8 +147,12 @@ module _ (chip : Chip) (rank : ℕ → ℕ) (defect : ChipDefect) (is : IsFlatCh
   pub good_is_flipped : AreFlipped chip defect.instance (lasts_of good) (λ output. lasts_of good (output_net chip defect.instance output)) (lasts_of good)
   good_is_flipped = record { apart = λ net within off. refl; given = λ output within. refl; behind = good_ends }
 
-pub unflipped_is_undetected_lem : UnflippedIsUndetected
-unflipped_is_undetected_lem chip rank defect pair good pins known net is pin_waves static definite given none within detects =
+pub unflipped_is_undetected_by_waves : (chip : Chip) (rank : ℕ → ℕ) (defect : ChipDefect) (pair : List Trit) (good : FlatWaves chip None pair) (pins : List Wave) (known : ℕ → Trit) (net : ℕ)
+    → IsFlatChip chip rank defect → ArePinWaves chip (wave_of good) defect.instance pins
+    → AreStaticBehind chip defect.instance → AreDefiniteBehind chip defect.instance (lasts_of good) → AreFaultyLasts chip defect pins known
+    → ((output : ℕ) → output < outputs_at chip defect.instance → IsOpposite (lasts_of good (output_net chip defect.instance output)) (known output) → ⊥)
+    → net < length chip.nets → DetectsAt chip defect pair net → ⊥
+unflipped_is_undetected_by_waves chip rank defect pair good pins known net is pin_waves static definite given none within detects =
     some_faulty chip rank defect is pair (λ faulty.
     let clash = detected_clashes chip rank defect is pair good faulty net within detects in
     let below = all_below chip rank defect is pair good faulty (λ output. lasts_of good (output_net chip defect.instance output)) (lasts_of good)

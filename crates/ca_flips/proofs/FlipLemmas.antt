@@ -10,9 +10,9 @@ use Rattle.ca_flat.specs.Waves.{FlatWaves, IsFlatChip}
 use Rattle.ca_flat.specs.Chain.{Leads, IsReachedFrom}
 use Rattle.ca_flat.proofs.NetInduction.{net_induction}
 use Rattle.ca_flat.proofs.Detected.{same_instance, other_circuit, faulty_flat}
-use Rattle.ca_flips.specs.Flips.{AreFlipped, lasts_of}
+use Rattle.ca_flips.specs.Flips.{AreFlipped, AreKnownFlipped, lasts_of}
 use Rattle.ca_flips.specs.Laws.{FlippedAreAbove}
-use Rattle.ca_flips.proofs.CellLemmas.{below_stable}
+use Rattle.ca_flips.proofs.CellLemmas.{below_stable, below_if}
 use Rattle.ca_flips.proofs.ReachLemmas.{reached_no_input, reached_is_behind, unreached_same, leads_on, feeds_of, leads_self}
 use Rattle.ca_flips.proofs.PinLemmas.{output_is, output_below}
 
@@ -70,6 +70,35 @@ module _ (chip : Chip) (rank : ℕ → ℕ) (defect : ChipDefect) (is : IsFlatCh
             (flipped.behind w output (reached_is_behind chip rank is.chip_is defect.instance is.defect_is.known w output lt within other reached) within)
             (λ pin k. inr (sym (pins pin k (λ from j leads. given from j (leads_on chip _ _ _ leads (feeds_of chip w pin output lt k within)))))))
             (λ off. unreached (output_net chip w output) (is.chip_is.on_nets w (inputs_at chip w + output) lt (omega arith)) off)
+      ])
+
+-- what is known is at or below the faulty lasts
+module _ (chip : Chip) (rank : ℕ → ℕ) (defect : ChipDefect) (is : IsFlatChip chip rank defect) (pair : List Trit) (good : FlatWaves chip None pair)
+    (faulty : FlatWaves chip (Some defect) pair) (goods known values : ℕ → Trit) (same : (net : ℕ) → net < length chip.nets → goods net ≡ lasts_of good net)
+    (given : (output : ℕ) → output < outputs_at chip defect.instance → lasts_of faulty (output_net chip defect.instance output) ≡ known output)
+    (flipped : AreKnownFlipped chip defect.instance goods known values) where
+  abbrev Known : ℕ → Type 0
+  Known net = IsBelow (values net) (lasts_of faulty net)
+
+  known_apart : (net : ℕ) → net < length chip.nets → (IsReachedFrom chip defect.instance net → ⊥) → Known net
+  known_apart net within off = subst (IsBelow (values net)) (same net within ∙ ap (λ w. w.last) (unreached_same chip rank defect is pair good faulty net within off))
+      (flipped.apart net within off)
+
+  known_own : (w output : ℕ) → w ≡ defect.instance → output < outputs_at chip w → Known (output_net chip w output)
+  known_own w output e within = subst (λ x. Known (output_net chip x output)) (sym e)
+      (let k = subst (λ x. output < outputs_at chip x) e within in
+      subst (λ x. IsBelow (values (output_net chip defect.instance output)) x) (sym (given output k)) (flipped.given output k))
+
+  pub all_known : (net : ℕ) → net < length chip.nets → Known net
+  all_known = net_induction chip rank is.chip_is Known
+      (λ net within kind. known_apart net within (λ reached. reached_no_input chip rank is.chip_is defect.instance is.defect_is.known net reached kind))
+      (λ w lt pins output within. elim (same_instance w defect.instance) [
+        | inl e ↦ known_own w output e within
+        | inr other ↦ below_by_cases (IsReachedFrom chip defect.instance (output_net chip w output)) _ _
+            (λ reached. below_if _ _ (λ definite.
+            output_is chip rank (Some defect) (faulty_flat chip rank defect is) w lt pair faulty (other_circuit chip defect w other) values output _ within
+            (flipped.behind w output (reached_is_behind chip rank is.chip_is defect.instance is.defect_is.known w output lt within other reached) within definite) pins))
+            (λ off. known_apart (output_net chip w output) (is.chip_is.on_nets w (inputs_at chip w + output) lt (omega arith)) off)
       ])
 
 pub flipped_are_above_lem : FlippedAreAbove

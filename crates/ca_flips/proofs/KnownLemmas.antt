@@ -1,7 +1,5 @@
 -- Known lasts are at or below the good ones.
-use Rattle.std.proofs.Common.{◌≡◌, None, inl, inr, refl, sym, ap, subst}
-use Rattle.ca_net.specs.declared.trit.Trit.{Trit}
-use Rattle.ca_net.specs.declared.trit.Trit.TheVariants.{Zero, One, X}
+use Rattle.std.proofs.Common.{None, refl, sym, ap, subst}
 use Rattle.ca_net.specs.declared.wave.Wave.{Wave}
 use Rattle.ca_net.specs.Trit.{IsBelow}
 use Rattle.ca_flat.specs.Chip.{output_net}
@@ -10,12 +8,8 @@ use Rattle.ca_flat.proofs.InstanceWaves.{input_wave}
 use Rattle.ca_flat.proofs.NetInduction.{net_induction}
 use Rattle.ca_flips.specs.Flips.{lasts_of}
 use Rattle.ca_flips.specs.Laws.{KnownLastsAreGood}
+use Rattle.ca_flips.proofs.CellLemmas.{below_if}
 use Rattle.ca_flips.proofs.PinLemmas.{output_is}
-
-below_if : (low high : Trit) → ((low ≡ X → ⊥) → high ≡ low) → IsBelow low high
-below_if X high same = inl refl
-below_if Zero high same = inr (sym (same (λ e. cc)))
-below_if One high same = inr (sym (same (λ e. cc)))
 
 pub known_lasts_are_good_lem : KnownLastsAreGood
 known_lasts_are_good_lem chip rank pair good values net is formed known within =

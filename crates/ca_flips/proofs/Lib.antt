@@ -8,3 +8,4 @@ pub mod DetectLemmas
 pub mod ThereLemmas
 pub mod ForcedLemmas
 pub mod KnownLemmas
+pub mod GoodLemmas

@@ -1,5 +1,5 @@
 -- Flips: the last values of the nets behind an instance, where those of its output nets are given.
-use Rattle.std.specs.Prelude.{ℕ, ◌+◌, ◌≡◌, ◌≢◌, ◌<◌, List, length, slice_index_or, Option}
+use Rattle.std.specs.Prelude.{ℕ, ◌+◌, ◌≡◌, ◌≢◌, ◌<◌, List, length, slice_index_or, Option, None}
 use Rattle.ca_net.specs.declared.trit.Trit.{Trit}
 use Rattle.ca_net.specs.declared.trit.Trit.TheVariants.{Zero, One, X}
 use Rattle.ca_net.specs.declared.wave.Wave.{Wave}
@@ -47,6 +47,18 @@ pub record AreFlipped (chip : Chip) (u : ℕ) (goods outputs values : ℕ → Tr
   pub behind : (w output : ℕ) → IsBehind chip u w → output < outputs_at chip w
       → EndsByLast (cell_at chip w) (vector_at chip w values) output (values (output_net chip w output))
 
+-- The values of nets that are known where the output pins of u have these: a net that u doesn't reach has its
+-- good value or X, an output net of u has its output or X, and each output net of an instance behind u has
+-- what its cell ends with by the values of its input nets alone, be they definite or not, or X.
+pub record AreKnownFlipped (chip : Chip) (u : ℕ) (goods outputs values : ℕ → Trit) : Type 0 where
+  pub apart : (net : ℕ) → net < length chip.nets → ¬ (IsReachedFrom chip u net)
+      → IsBelow (values net) (goods net)
+  pub given : (output : ℕ) → output < outputs_at chip u
+      → IsBelow (values (output_net chip u output)) (outputs output)
+  pub behind : (w output : ℕ) → IsBehind chip u w → output < outputs_at chip w
+      → values (output_net chip w output) ≢ X
+      → EndsByLast (cell_at chip w) (vector_at chip w values) output (values (output_net chip w output))
+
 -- the value is definite, and the other is its opposite
 abbrev pub IsOpposite : Trit → Trit → Type 0
 IsOpposite good other = (good ≢ X) × (other ≡ opposite_of good)
@@ -80,6 +92,14 @@ pub record ArePinWaves (chip : Chip) (wave : ℕ → Wave) (u : ℕ) (pins : Lis
   pub count : length pins ≡ inputs_at chip u
   pub each : (pin : ℕ) → pin < inputs_at chip u
       → slice_index_or pins pin unknown_wave ≡ wave (net_of chip u pin)
+
+-- the last values of the nets, and the waves of the input nets of the instance u, whichever states have the
+-- good waves
+pub record AreGoodLasts (chip : Chip) (pair : List Trit) (u : ℕ) (pins : List Wave) (goods : ℕ → Trit)
+    : Type 0 where
+  pub pin_waves : (good : FlatWaves chip None pair) → ArePinWaves chip (wave_of good) u pins
+  pub lasts : (good : FlatWaves chip None pair) (net : ℕ) → net < length chip.nets
+      → lasts_of good net ≡ goods net
 
 -- the network of the cell of the defect's instance, with the defect
 abbrev pub faulty_cell : Chip → ChipDefect → Circuit

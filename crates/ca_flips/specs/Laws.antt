@@ -17,9 +17,10 @@ use Rattle.ca_flat.specs.Pair.{NetEndsAt, DetectsAt}
 use Rattle.ca_flat.specs.Waves.{FlatWaves, wave_of, IsFlatChip}
 use Rattle.ca_flat.specs.Chain.{Leads, IsReachedFrom}
 use Rattle.ca_flips.specs.Static.{node_of_output, EndsByLast}
-use Rattle.ca_flips.specs.Flips.{AreStaticBehind, AreDefiniteBehind, AreFlipped, IsOpposite, IsForced}
+use Rattle.ca_flips.specs.Flips.{AreStaticBehind, AreDefiniteBehind, AreFlipped, AreKnownFlipped}
+use Rattle.ca_flips.specs.Flips.{IsOpposite, IsForced}
 use Rattle.ca_flips.specs.Flips.{filled_in, lasts_of, ArePinWaves, IsFaultyLast, AreFaultyLasts}
-use Rattle.ca_flips.specs.Flips.{AreFaultyLastsTo}
+use Rattle.ca_flips.specs.Flips.{AreFaultyLastsTo, AreGoodLasts}
 use Rattle.ca_flips.specs.Known.{AreKnownLasts}
 
 -- a cell ends with v by the last vector alone exactly where v is definite and is the last limit at the output
@@ -74,6 +75,12 @@ FaultyLastIsGiven =
     → output < outputs_at chip defect.instance → IsFaultyLast chip defect pins output v
     → lasts_of faulty (output_net chip defect.instance output) ≡ v
 
+-- states with the good waves give the last values of the nets and the waves of an instance's input nets
+abbrev pub GoodLastsAreOfWaves : Type 0
+GoodLastsAreOfWaves =
+    (chip : Chip) (pair : List Trit) (good : FlatWaves chip None pair) (u : ℕ) (pins : List Wave)
+    → ArePinWaves chip (wave_of good) u pins → AreGoodLasts chip pair u pins (lasts_of good)
+
 -- where the outputs are at or above the faulty lasts of the defect's instance, so are the flipped values
 abbrev pub FlippedAreAbove : Type 0
 FlippedAreAbove =
@@ -99,21 +106,21 @@ FlippedAreFaulty =
 -- so there the pair detects the defect exactly where the flipped value is the opposite of the good one
 abbrev pub DetectedIsFlipped : Type 0
 DetectedIsFlipped =
-    (chip : Chip) (rank : ℕ → ℕ) (defect : ChipDefect) (pair : List Trit) (good : FlatWaves chip None pair)
-    (pins : List Wave) (outputs values : ℕ → Trit) (net : ℕ)
-    → IsFlatChip chip rank defect → ArePinWaves chip (wave_of good) defect.instance pins
+    (chip : Chip) (rank : ℕ → ℕ) (defect : ChipDefect) (pair : List Trit) (pins : List Wave)
+    (goods outputs values : ℕ → Trit) (net : ℕ)
+    → IsFlatChip chip rank defect → AreGoodLasts chip pair defect.instance pins goods
     → AreFaultyLastsTo chip defect pins outputs net
-    → AreFlipped chip defect.instance (lasts_of good) outputs values → net < length chip.nets
-    → DetectsAt chip defect pair net ↔ IsOpposite (lasts_of good net) (values net)
+    → AreFlipped chip defect.instance goods outputs values → net < length chip.nets
+    → DetectsAt chip defect pair net ↔ IsOpposite (goods net) (values net)
 
 -- so the flipped value is what every run of the faulty network ends with there
 abbrev pub FlippedAreEnds : Type 0
 FlippedAreEnds =
-    (chip : Chip) (rank : ℕ → ℕ) (defect : ChipDefect) (pair : List Trit) (good : FlatWaves chip None pair)
-    (pins : List Wave) (outputs values : ℕ → Trit) (net : ℕ) (v : Trit)
-    → IsFlatChip chip rank defect → ArePinWaves chip (wave_of good) defect.instance pins
+    (chip : Chip) (rank : ℕ → ℕ) (defect : ChipDefect) (pair : List Trit) (pins : List Wave)
+    (goods outputs values : ℕ → Trit) (net : ℕ) (v : Trit)
+    → IsFlatChip chip rank defect → AreGoodLasts chip pair defect.instance pins goods
     → AreFaultyLastsTo chip defect pins outputs net
-    → AreFlipped chip defect.instance (lasts_of good) outputs values → net < length chip.nets
+    → AreFlipped chip defect.instance goods outputs values → net < length chip.nets
     → ((v ≢ X) × (values net ≡ v)) ↔ NetEndsAt chip (Some defect) pair net v
 
 -- Where the pair detects the defect, the faulty lasts that are definite and opposite are enough to make the
@@ -121,34 +128,43 @@ FlippedAreEnds =
 -- value then isn't opposite is one at which the defect isn't detected.
 abbrev pub DetectedIsFilledIn : Type 0
 DetectedIsFilledIn =
-    (chip : Chip) (rank : ℕ → ℕ) (defect : ChipDefect) (pair : List Trit) (good : FlatWaves chip None pair)
-    (pins : List Wave) (known values : ℕ → Trit) (net : ℕ)
-    → IsFlatChip chip rank defect → ArePinWaves chip (wave_of good) defect.instance pins
+    (chip : Chip) (rank : ℕ → ℕ) (defect : ChipDefect) (pair : List Trit) (pins : List Wave)
+    (goods known values : ℕ → Trit) (net : ℕ)
+    → IsFlatChip chip rank defect → AreGoodLasts chip pair defect.instance pins goods
     → AreFaultyLasts chip defect pins known
-    → AreFlipped chip defect.instance (lasts_of good)
-    (filled_in chip defect.instance (lasts_of good) known) values
-    → net < length chip.nets → DetectsAt chip defect pair net → IsOpposite (lasts_of good net) (values net)
+    → AreFlipped chip defect.instance goods (filled_in chip defect.instance goods known) values
+    → net < length chip.nets → DetectsAt chip defect pair net → IsOpposite (goods net) (values net)
 
 -- a net at which the pair detects the defect is forced to the opposite by what is known of the faulty lasts
 abbrev pub DetectedIsForced : Type 0
 DetectedIsForced =
-    (chip : Chip) (rank : ℕ → ℕ) (defect : ChipDefect) (pair : List Trit) (good : FlatWaves chip None pair)
-    (pins : List Wave) (known : ℕ → Trit) (net : ℕ)
-    → IsFlatChip chip rank defect → ArePinWaves chip (wave_of good) defect.instance pins
+    (chip : Chip) (rank : ℕ → ℕ) (defect : ChipDefect) (pair : List Trit) (pins : List Wave)
+    (goods known : ℕ → Trit) (net : ℕ)
+    → IsFlatChip chip rank defect → AreGoodLasts chip pair defect.instance pins goods
     → AreFaultyLasts chip defect pins known → net < length chip.nets
-    → DetectsAt chip defect pair net → IsForced chip defect.instance (lasts_of good) known net
+    → DetectsAt chip defect pair net → IsForced chip defect.instance goods known net
+
+-- where what is known of the faulty lasts makes a net opposite, the pair detects the defect there
+abbrev pub KnownFlippedIsDetected : Type 0
+KnownFlippedIsDetected =
+    (chip : Chip) (rank : ℕ → ℕ) (defect : ChipDefect) (pair : List Trit) (pins : List Wave)
+    (goods known values : ℕ → Trit) (net : ℕ)
+    → IsFlatChip chip rank defect → AreGoodLasts chip pair defect.instance pins goods
+    → AreFaultyLasts chip defect pins known
+    → AreKnownFlipped chip defect.instance goods known values → net < length chip.nets
+    → IsOpposite (goods net) (values net) → DetectsAt chip defect pair net
 
 -- where all instances behind that of the defect are static, the good lasts are definite there, and no faulty
 -- last of the instance is definite and the opposite of the good one, the defect is detected at no net
 abbrev pub UnflippedIsUndetected : Type 0
 UnflippedIsUndetected =
-    (chip : Chip) (rank : ℕ → ℕ) (defect : ChipDefect) (pair : List Trit) (good : FlatWaves chip None pair)
-    (pins : List Wave) (known : ℕ → Trit) (net : ℕ)
-    → IsFlatChip chip rank defect → ArePinWaves chip (wave_of good) defect.instance pins
-    → AreStaticBehind chip defect.instance → AreDefiniteBehind chip defect.instance (lasts_of good)
+    (chip : Chip) (rank : ℕ → ℕ) (defect : ChipDefect) (pair : List Trit) (pins : List Wave)
+    (goods known : ℕ → Trit) (net : ℕ)
+    → IsFlatChip chip rank defect → AreGoodLasts chip pair defect.instance pins goods
+    → AreStaticBehind chip defect.instance → AreDefiniteBehind chip defect.instance goods
     → AreFaultyLasts chip defect pins known
     → ((output : ℕ) → output < outputs_at chip defect.instance
-    → ¬ (IsOpposite (lasts_of good (output_net chip defect.instance output)) (known output)))
+    → ¬ (IsOpposite (goods (output_net chip defect.instance output)) (known output)))
     → net < length chip.nets → DetectsAt chip defect pair net → ⊥
 
 -- flipped values are one
@@ -181,12 +197,12 @@ FlippedAreDefinite =
 -- where they force it to the opposite
 abbrev pub DetectedWhereForced : Type 0
 DetectedWhereForced =
-    (chip : Chip) (rank : ℕ → ℕ) (defect : ChipDefect) (pair : List Trit) (good : FlatWaves chip None pair)
-    (pins : List Wave) (known : ℕ → Trit) (net : ℕ)
-    → IsFlatChip chip rank defect → ArePinWaves chip (wave_of good) defect.instance pins
-    → AreStaticBehind chip defect.instance → AreDefiniteBehind chip defect.instance (lasts_of good)
+    (chip : Chip) (rank : ℕ → ℕ) (defect : ChipDefect) (pair : List Trit) (pins : List Wave)
+    (goods known : ℕ → Trit) (net : ℕ)
+    → IsFlatChip chip rank defect → AreGoodLasts chip pair defect.instance pins goods
+    → AreStaticBehind chip defect.instance → AreDefiniteBehind chip defect.instance goods
     → AreFaultyLasts chip defect pins known
     → ((output : ℕ) → output < outputs_at chip defect.instance
     → Leads chip (output_net chip defect.instance output) net → known output ≢ X)
     → net < length chip.nets
-    → DetectsAt chip defect pair net ↔ IsForced chip defect.instance (lasts_of good) known net
+    → DetectsAt chip defect pair net ↔ IsForced chip defect.instance goods known net

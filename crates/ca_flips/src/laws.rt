@@ -1,7 +1,8 @@
 //! Laws of the definitions, each the contract of a function that does nothing.
 
 ghost use Rattle.ca_flips.specs.Laws.{EndsByLastIsLimit, EndsByLastIsSteady, LastsAreOfLasts};
-ghost use Rattle.ca_flips.specs.Laws.{LastEndIsOne, KnownLastsAreGood};
+ghost use Rattle.ca_flips.specs.Laws.{LastEndIsOne, KnownLastsAreGood, GoodLastsAreOfWaves};
+ghost use Rattle.ca_flips.specs.Laws.{KnownFlippedIsDetected};
 ghost use Rattle.ca_flips.specs.Laws.{FaultyLastIsGiven, FlippedAreAbove, FlippedAreFaulty};
 ghost use Rattle.ca_flips.specs.Laws.{DetectedIsFlipped, DetectedIsForced, UnflippedIsUndetected};
 ghost use Rattle.ca_flips.specs.Laws.{FlippedAreUnique, FlippedAreThere, FlippedAreDefinite};
@@ -35,6 +36,11 @@ pub fn flipped_are_above()
 /// Known lasts are at or below the good ones.
 pub fn known_lasts_are_good()
     ensures { KnownLastsAreGood }
+{}
+
+/// States with the good waves give the last values of the nets.
+pub fn good_lasts_are_of_waves()
+    ensures { GoodLastsAreOfWaves }
 {}
 
 /// The faulty lasts of the defect's instance are those of its cell under the good waves.
@@ -92,4 +98,9 @@ pub fn flipped_are_ends()
 /// in the place of each that is unknown.
 pub fn detected_is_filled_in()
     ensures { DetectedIsFilledIn }
+{}
+
+/// Where what is known of the faulty lasts makes a net opposite, the defect is detected there.
+pub fn known_flipped_is_detected()
+    ensures { KnownFlippedIsDetected }
 {}

@@ -1,4 +1,4 @@
-use Rattle.ca_flips.proofs.DetectLemmas.{flipped_are_ends_lem}
+use Rattle.ca_flips.proofs.GoodLemmas.{flipped_are_ends_lem}
 use Rattle.ca_flips.proofs.laws.flipped_are_ends.Goals as goal
 
 pub returns : goal.returns
