@@ -9,3 +9,4 @@ pub mod ThereLemmas
 pub mod ForcedLemmas
 pub mod KnownLemmas
 pub mod GoodLemmas
+pub mod SweepLemmas

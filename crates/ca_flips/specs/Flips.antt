@@ -1,8 +1,9 @@
 -- Flips: the last values of the nets behind an instance, where those of its output nets are given.
-use Rattle.std.specs.Prelude.{ℕ, ◌+◌, ◌≡◌, ◌≢◌, ◌<◌, List, length, slice_index_or, Option, None}
+use Rattle.std.specs.Prelude.{ℕ, ◌+◌, ◌≡◌, ◌≢◌, ◌<◌, ◌⊎◌, List, length, slice_index_or, Option, None}
 use Rattle.ca_net.specs.declared.trit.Trit.{Trit}
 use Rattle.ca_net.specs.declared.trit.Trit.TheVariants.{Zero, One, X}
 use Rattle.ca_net.specs.declared.wave.Wave.{Wave}
+use Rattle.ca_net.specs.declared.node.NodeKind.TheVariants.{Input}
 use Rattle.ca_net.specs.Trit.{IsBelow}
 use Rattle.ca_net.specs.State.{value_at}
 use Rattle.ca_net.specs.Circuit.{Circuit}
@@ -12,6 +13,7 @@ use Rattle.ca_defect.specs.Exposes.{opposite_of, pin_vector}
 use Rattle.ca_defect.specs.List.{faulty_of}
 use Rattle.ca_flat.specs.declared.chip_defect.ChipDefect.{ChipDefect}
 use Rattle.ca_flat.specs.Chip.{Chip, cell_at, inputs_at, outputs_at, net_of, output_net, count_of}
+use Rattle.ca_flat.specs.Chip.{net_kind}
 use Rattle.ca_flat.specs.Pair.{values_from}
 use Rattle.ca_flat.specs.Waves.{FlatWaves, wave_of, unknown_wave}
 use Rattle.ca_flat.specs.Chain.{Leads, IsReachedFrom}
@@ -46,6 +48,27 @@ pub record AreFlipped (chip : Chip) (u : ℕ) (goods outputs values : ℕ → Tr
       → values (output_net chip u output) ≡ outputs output
   pub behind : (w output : ℕ) → IsBehind chip u w → output < outputs_at chip w
       → EndsByLast (cell_at chip w) (vector_at chip w values) output (values (output_net chip w output))
+
+-- the instance w has good values at all its pins
+pub record KeepsGood (chip : Chip) (w : ℕ) (goods values : ℕ → Trit) : Type 0 where
+  pub pins : (pin : ℕ) → pin < inputs_at chip w → values (net_of chip w pin) ≡ goods (net_of chip w pin)
+  pub outputs : (output : ℕ) → output < outputs_at chip w
+      → values (output_net chip w output) ≡ goods (output_net chip w output)
+
+-- the output nets of the instance w have what its cell ends with by the values of its input nets alone
+abbrev pub IsEvaluated : Chip → ℕ → (ℕ → Trit) → Type 0
+IsEvaluated chip w values =
+    (output : ℕ) → output < outputs_at chip w
+    → EndsByLast (cell_at chip w) (vector_at chip w values) output (values (output_net chip w output))
+
+-- The values of the nets where the output pins of u have these, found an instance at a time: an input net has
+-- its good value, and each other instance than u keeps good values or is evaluated.
+pub record AreSwept (chip : Chip) (u : ℕ) (goods outputs values : ℕ → Trit) : Type 0 where
+  pub inputs : (net : ℕ) → net < length chip.nets → net_kind chip net ≡ Input → values net ≡ goods net
+  pub given : (output : ℕ) → output < outputs_at chip u
+      → values (output_net chip u output) ≡ outputs output
+  pub others : (w : ℕ) → w < count_of chip → (w ≡ u → ⊥)
+      → KeepsGood chip w goods values ⊎ IsEvaluated chip w values
 
 -- The values of nets that are known where the output pins of u have these: a net that u doesn't reach has its
 -- good value or X, an output net of u has its output or X, and each output net of an instance behind u has
@@ -93,13 +116,16 @@ pub record ArePinWaves (chip : Chip) (wave : ℕ → Wave) (u : ℕ) (pins : Lis
   pub each : (pin : ℕ) → pin < inputs_at chip u
       → slice_index_or pins pin unknown_wave ≡ wave (net_of chip u pin)
 
--- the last values of the nets, and the waves of the input nets of the instance u, whichever states have the
--- good waves
+-- the last values of the nets, whichever states have the good waves
+abbrev pub AreLastsOf : Chip → List Trit → (ℕ → Trit) → Type 0
+AreLastsOf chip pair goods =
+    (good : FlatWaves chip None pair) (net : ℕ) → net < length chip.nets → lasts_of good net ≡ goods net
+
+-- so are they, and these are the waves of the input nets of the instance u
 pub record AreGoodLasts (chip : Chip) (pair : List Trit) (u : ℕ) (pins : List Wave) (goods : ℕ → Trit)
     : Type 0 where
   pub pin_waves : (good : FlatWaves chip None pair) → ArePinWaves chip (wave_of good) u pins
-  pub lasts : (good : FlatWaves chip None pair) (net : ℕ) → net < length chip.nets
-      → lasts_of good net ≡ goods net
+  pub lasts : AreLastsOf chip pair goods
 
 -- the network of the cell of the defect's instance, with the defect
 abbrev pub faulty_cell : Chip → ChipDefect → Circuit

@@ -20,7 +20,7 @@ use Rattle.ca_flips.specs.Static.{node_of_output, EndsByLast}
 use Rattle.ca_flips.specs.Flips.{AreStaticBehind, AreDefiniteBehind, AreFlipped, AreKnownFlipped}
 use Rattle.ca_flips.specs.Flips.{IsOpposite, IsForced}
 use Rattle.ca_flips.specs.Flips.{filled_in, lasts_of, ArePinWaves, IsFaultyLast, AreFaultyLasts}
-use Rattle.ca_flips.specs.Flips.{AreFaultyLastsTo, AreGoodLasts}
+use Rattle.ca_flips.specs.Flips.{AreFaultyLastsTo, AreLastsOf, AreGoodLasts, AreSwept}
 use Rattle.ca_flips.specs.Known.{AreKnownLasts}
 
 -- a cell ends with v by the last vector alone exactly where v is definite and is the last limit at the output
@@ -166,6 +166,15 @@ UnflippedIsUndetected =
     → ((output : ℕ) → output < outputs_at chip defect.instance
     → ¬ (IsOpposite (goods (output_net chip defect.instance output)) (known output)))
     → net < length chip.nets → DetectsAt chip defect pair net → ⊥
+
+-- behind static instances, where the good lasts are definite, values that are found an instance at a time are
+-- the flipped ones
+abbrev pub SweptAreFlipped : Type 0
+SweptAreFlipped =
+    (chip : Chip) (rank : ℕ → ℕ) (pair : List Trit) (u : ℕ) (goods outputs values : ℕ → Trit)
+    → IsChip chip rank → IsWellFormed (flat chip None) → u < count_of chip → AreLastsOf chip pair goods
+    → AreStaticBehind chip u → AreDefiniteBehind chip u goods → AreSwept chip u goods outputs values
+    → AreFlipped chip u goods outputs values
 
 -- flipped values are one
 abbrev pub FlippedAreUnique : Type 0

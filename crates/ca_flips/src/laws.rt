@@ -2,7 +2,7 @@
 
 ghost use Rattle.ca_flips.specs.Laws.{EndsByLastIsLimit, EndsByLastIsSteady, LastsAreOfLasts};
 ghost use Rattle.ca_flips.specs.Laws.{LastEndIsOne, KnownLastsAreGood, GoodLastsAreOfWaves};
-ghost use Rattle.ca_flips.specs.Laws.{KnownFlippedIsDetected};
+ghost use Rattle.ca_flips.specs.Laws.{KnownFlippedIsDetected, SweptAreFlipped};
 ghost use Rattle.ca_flips.specs.Laws.{FaultyLastIsGiven, FlippedAreAbove, FlippedAreFaulty};
 ghost use Rattle.ca_flips.specs.Laws.{DetectedIsFlipped, DetectedIsForced, UnflippedIsUndetected};
 ghost use Rattle.ca_flips.specs.Laws.{FlippedAreUnique, FlippedAreThere, FlippedAreDefinite};
@@ -103,4 +103,9 @@ pub fn detected_is_filled_in()
 /// Where what is known of the faulty lasts makes a net opposite, the defect is detected there.
 pub fn known_flipped_is_detected()
     ensures { KnownFlippedIsDetected }
+{}
+
+/// Values that are found an instance at a time are flipped ones.
+pub fn swept_are_flipped()
+    ensures { SweptAreFlipped }
 {}

@@ -9,5 +9,5 @@ pub use laws::{
     ends_by_last_is_limit, ends_by_last_is_steady, faulty_last_is_given, flipped_are_above,
     flipped_are_definite, flipped_are_ends, flipped_are_faulty, flipped_are_there,
     flipped_are_unique, good_lasts_are_of_waves, known_flipped_is_detected, known_lasts_are_good,
-    last_end_is_one, lasts_are_of_lasts, unflipped_is_undetected,
+    last_end_is_one, lasts_are_of_lasts, swept_are_flipped, unflipped_is_undetected,
 };
