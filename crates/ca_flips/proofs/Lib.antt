@@ -1,0 +1,12 @@
+pub mod CellLemmas
+pub mod ReachLemmas
+pub mod PinLemmas
+pub mod FlipLemmas
+pub mod FaultyLemmas
+pub mod VectorLemmas
+pub mod DetectLemmas
+pub mod ThereLemmas
+pub mod ForcedLemmas
+pub mod KnownLemmas
+pub mod GoodLemmas
+pub mod SweepLemmas

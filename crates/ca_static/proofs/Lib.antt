@@ -1,0 +1,2 @@
+pub mod WaveLemmas
+pub mod StaticLemmas
