@@ -20,7 +20,7 @@ use Rattle.ca_wired.specs.Linked.{Chip, cell_of, IsGate, IsLibrary}
 use Rattle.ca_wired.specs.Instances.{IsOfCell, IsCellOf, if_gate, gates_from, gates_of}
 use Rattle.ca_wired.proofs.OrderLemmas.{place_of}
 use Rattle.ca_core.specs.Core.{core_of}
-use Rattle.ca_core_tables.proofs.PartFacts.{gate_at, at_some, core_gate}
+use Rattle.ca_view.proofs.PartFacts.{gate_at, at_some, core_gate}
 use Rattle.ca_exposing.specs.CellTable.{CellTable}
 use Rattle.ca_chip_rows.specs.ChipTable.{IsOfCellAt, HasTable, AreFound, IsChipTable}
 

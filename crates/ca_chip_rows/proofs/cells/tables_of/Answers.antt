@@ -1,5 +1,5 @@
 use Rattle.std.proofs.Common.{◌∙◌, arith}
-use Rattle.ca_core_tables.proofs.RankLemmas.{listed_is_library}
+use Rattle.ca_view.proofs.RankLemmas.{listed_is_library}
 use Rattle.ca_chip_rows.proofs.TableLemmas.{cell_read_at, has_table, found_before, found_now}
 use Rattle.ca_chip_rows.proofs.cells.tables_of.Goals as goal
 use Rattle.ca_chip_rows.proofs.cells.tables_of.Goals.{then-is_none+in_ok-new+in-Some-1}
