@@ -4,9 +4,9 @@ use Rattle.ca_atpg.proofs.generation.texts_of.Goals as goal
 pub stil_of-requires-clause-whole : goal.stil_of-requires-clause-whole
 stil_of-requires-clause-whole c =
     let made = c.args.made.now.generated in
-    task_pairs_fit c.args.chip.now c.args.budget made.pairs made.aims made.verdicts c.requires.good
+    task_pairs_fit c.args.view.now.chip c.args.budget made.pairs made.aims made.verdicts c.requires.good
 
 pub report_of-requires-clause-outputs : goal.report_of-requires-clause-outputs
 report_of-requires-clause-outputs c =
     let made = c.args.made.now.generated in
-    verdicts_within c.args.chip.now c.args.budget made.pairs made.aims made.verdicts c.requires.good
+    verdicts_within c.args.view.now.chip c.args.budget made.pairs made.aims made.verdicts c.requires.good
