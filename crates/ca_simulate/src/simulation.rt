@@ -29,7 +29,7 @@ pub struct OutputEnds {
 
 /// What the observed outputs settle to under two vectors that have one letter for each chip input, without
 /// the defect and with it. Without a defect both are the same. Want of memory is also told of a chip whose
-/// flat network may have 2^32 nodes or devices, or that has 2^31 inputs.
+/// flat network may have 2^32 nodes or devices, or that has 2^14 inputs.
 pub fn simulate(
     alloc: Global,
     chip: &Chip,
