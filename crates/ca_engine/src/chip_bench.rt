@@ -24,8 +24,8 @@ use std::alloc::Global;
 use std::marker::Model;
 
 /// The simulator and the guide of a linked chip, the list of its defects, and the room of a search. Memory is
-/// taken by `reserve`, and for a code that is kept. It is for rows and a choice of any type, so that what drops
-/// one has few parts to the prover.
+/// taken by `reserve`, and for a code that is kept. It is for rows and a choice of any type, so that what
+/// drops one has few parts to the prover.
 #[derive(Drop)]
 pub struct ChipBench<'a, R: ExposableDefects, P: Choice + Drop> {
     view: &'a View<'a>,

@@ -1,4 +1,5 @@
-//! The engine of test generation on a linked chip: the choice of bits, the bench, and the work, over one view.
+//! The engine of test generation on a linked chip: the choice of bits, the bench, and the work, over one
+//! view.
 #![tactic(auto)]
 
 mod cell_tables;

@@ -1,5 +1,5 @@
-//! A linked chip and its core as tables: the one picture of a chip that the simulator, the guide and the search
-//! have.
+//! A linked chip and its core as tables: the one picture of a chip that the simulator, the guide and the
+//! search have.
 #![tactic(auto)]
 
 mod constants;

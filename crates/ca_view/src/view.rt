@@ -23,9 +23,9 @@ use std::marker::Model;
 // Two bits for each input have numbers below 2^15.
 const MOST_PATTERN_INPUTS: usize = 16_383;
 
-/// A linked chip, which it borrows, and its core as tables: the rank of each instance, the instances that read
-/// each net, the constants, the nets of the pins of each instance, for each net those that it feeds and those
-/// that feed it, and the nets of the chip inputs and of the observed outputs.
+/// A linked chip, which it borrows, and its core as tables: the rank of each instance, the instances that
+/// read each net, the constants, the nets of the pins of each instance, for each net those that it feeds and
+/// those that feed it, and the nets of the chip inputs and of the observed outputs.
 #[derive(Drop)]
 pub struct View<'a> {
     chip: &'a Chip,
@@ -79,8 +79,8 @@ impl<'a> Model for View<'a> {
 }
 
 impl<'a> View<'a> {
-    /// The view of a chip. Want of memory is also told of a chip with 2^14 chip inputs: one that is linked has
-    /// at most 4,096.
+    /// The view of a chip. Want of memory is also told of a chip with 2^14 chip inputs: one that is linked
+    /// has at most 4,096.
     pub fn new(alloc: Global, chip: &'a Chip) -> Result<Self, NoMemory>
         ensures { IfOk result (IsViewOf chip.now) }
     {
