@@ -22,18 +22,15 @@ use Rattle.ca_credit.specs.declared.verdict.Verdict.TheVariants.{Credited, Unexp
 use Rattle.ca_credit.specs.Defects.{Task}
 use Rattle.ca_credit.specs.Detection.{IsFirstOutput}
 use Rattle.ca_credit.specs.Good.{IsGood}
-use Rattle.ca_chip_defects.specs.ChipDefects.{chip_defects, placed_instances}
-use Rattle.ca_bench.specs.ChipBench.{IsTaskOf}
-use Rattle.ca_core_tables.specs.Tables.{Tables, AreTablesOf}
-use Rattle.ca_core_tables.proofs.LinkedLemmas.{placed_is_library}
+use Rattle.ca_view.specs.View.{Viewed, IsViewOf}
+use Rattle.ca_view.proofs.LinkedLemmas.{placed_is_library}
 use Rattle.ca_expected.specs.Expected.{AreExpected}
 use Rattle.ca_expected.proofs.WholeLemmas.{pairs_whole}
 use Rattle.ca_stil.specs.Text.{stil_text}
 use Rattle.ca_chip_stil.specs.ChipStil.{stil_chip, AreOfChip}
 use Rattle.ca_report.specs.Report.{report_text}
 use Rattle.ca_chip_report.specs.ChipReport.{report_rows, IsGateDefect, IsVerdictWithin, AreReported}
-use Rattle.ca_core_bench.specs.ChipTask.{task_of}
-use Rattle.ca_core_bench.proofs.TaskLemmas.{task_is}
+use Rattle.ca_engine.specs.ChipTask.{task_of}
 use Rattle.ca_atpg.specs.Atpg.{IsStil, report_of}
 
 -- what each value has that has another
@@ -55,11 +52,6 @@ task_pairs_fit chip budget pairs aims verdicts good = pairs_whole (task_of chip 
 pub one_verdict_each : (chip : Chip) (budget : ℕ) (pairs : List (List Bool)) (aims : List ℕ) (verdicts : List Verdict)
     → IsGood (task_of chip budget) pairs aims verdicts → length verdicts ≡ length (task_of chip 0).defects
 one_verdict_each chip budget pairs aims verdicts good = good.one_each
-
--- what a bench of the chip's tables is to do
-pub bench_task_is : (chip : Chip) (tables : Tables) (budget : ℕ) (task : Task) → AreTablesOf chip tables
-    → IsTaskOf (core_of tables.chip) tables.ranks budget task → task ≡ task_of chip budget
-bench_task_is chip tables budget task are is = task_is chip tables budget task are is
 
 module _ (chip : Chip) (chains : List (List ℕ)) (pairs : List (List Bool)) (expected : List (List Trit)) where
   pub are_of_chip : AreAllChains chip chains → All (λ pair. length pair ≡ bit_count (core_of chip)) pairs → AreExpected (core_of chip) pairs expected
@@ -120,34 +112,20 @@ verdicts_within chip budget pairs aims verdicts good = All-from_get_or (IsVerdic
     by k lt Untestable at = tt
     by k lt (Aborted code) at = tt
 
-module _ (chip : Chip) (tables : Tables) (are : AreTablesOf chip tables) (list : List ChipDefect)
-    (is : list ≡ chip_defects (core_of tables.chip) (placed_instances (core_of tables.chip) tables.ranks)) where
-  -- what a bench of the tables is to do
-  bench_task : Task
-  bench_task = record {
-    chip = core_of tables.chip;
-    defects = chip_defects (core_of tables.chip) (placed_instances (core_of tables.chip) tables.ranks);
-    budget = 0;
-  }
-
-  listed : list ≡ (task_of chip 0).defects
-  unfolding bench_task
-  listed = is ∙ ap (λ (task : Task). task.defects)
-      (task_is chip tables 0 bench_task are (record { chip_is = refl; defects_are = refl; budget_is = refl }))
-
-  pub are_reported : IsWired chip → All (IsPlacedDefect (core_of tables.chip) (place_in tables.ranks)) list → (verdicts : List Verdict)
-      → length verdicts ≡ length (task_of chip 0).defects → All (IsVerdictWithin (length (outputs_of chip))) verdicts → AreReported chip list verdicts
+module _ (view : Viewed) (are : IsViewOf view.chip view) (list : List ChipDefect) (is : list ≡ (task_of view.chip 0).defects) where
+  pub are_reported : IsWired view.chip → All (IsPlacedDefect (core_of view.chip) (place_in view.ranks)) list → (verdicts : List Verdict)
+      → length verdicts ≡ length (task_of view.chip 0).defects → All (IsVerdictWithin (length (outputs_of view.chip))) verdicts
+      → AreReported view.chip list verdicts
   are_reported wired placed verdicts one_each outputs = record {
-    defects_are = All-weaker (IsPlacedDefect (core_of tables.chip) (place_in tables.ranks)) (IsGateDefect chip) (λ defect one. record {
-      is_defect = subst (λ (c : Chip). IsDefectIn (core_of c) defect) are.chip_is one.defect_is;
-      is_gate = placed_is_library chip wired tables.ranks are.ranked defect.instance
-          (subst (λ (c : Chip). IsPlaced (core_of c) (place_in tables.ranks) defect.instance) are.chip_is
-          (record { known = one.defect_is.known; placed = one.placed }));
+    defects_are = All-weaker (IsPlacedDefect (core_of view.chip) (place_in view.ranks)) (IsGateDefect view.chip) (λ defect one. record {
+      is_defect = one.defect_is;
+      is_gate = placed_is_library view.chip wired view.ranks are.ranked defect.instance
+          (record { known = one.defect_is.known; placed = one.placed });
     }) list placed;
-    one_each = one_each ∙ ap length (sym listed);
+    one_each = one_each ∙ ap length (sym is);
     outputs = outputs;
   }
 
-  pub is_report : (verdicts : List Verdict) (text : List ℕ) → text ≡ report_text (output_names chip) (report_rows chip list verdicts)
-      → text ≡ report_of chip verdicts
-  is_report verdicts text text_is = text_is ∙ ap (λ (l : List ChipDefect). report_text (output_names chip) (report_rows chip l verdicts)) listed
+  pub is_report : (verdicts : List Verdict) (text : List ℕ) → text ≡ report_text (output_names view.chip) (report_rows view.chip list verdicts)
+      → text ≡ report_of view.chip verdicts
+  is_report verdicts text text_is = text_is ∙ ap (λ (l : List ChipDefect). report_text (output_names view.chip) (report_rows view.chip l verdicts)) is

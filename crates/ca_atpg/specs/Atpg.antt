@@ -11,7 +11,7 @@ use Rattle.ca_chip_stil.specs.ChipStil.{stil_chip}
 use Rattle.ca_report.specs.Report.{report_text}
 use Rattle.ca_chip_report.specs.ChipReport.{report_rows}
 use Rattle.ca_chip_report.specs.Summary as summary
-use Rattle.ca_core_bench.specs.ChipTask.{task_of}
+use Rattle.ca_engine.specs.ChipTask.{task_of}
 
 -- the text of these pairs and of what the good chip ends with under each
 pub record IsStil (chip : Chip) (chains : List (List ℕ)) (pairs : List (List Bool)) (text : List ℕ) : Type 0

@@ -3,29 +3,26 @@
 ghost use Rattle.std.specs.Prelude.{◌≡◌, length, IfOk, IfErr};
 ghost use Rattle.std.specs.List.{All};
 ghost use Rattle.ca_flat.specs.Pair.{bit_count};
-ghost use Rattle.ca_core_links.specs.CoreLinks.{AreLinksOf};
 ghost use Rattle.ca_scan.specs.ChainFault.{AreAllChains};
 ghost use Rattle.ca_credit.specs.Good.{IsGood};
 ghost use Rattle.ca_generate.specs.GenerateFault.{IsCause};
 ghost use Rattle.ca_core.specs.Core.{core_of};
-ghost use Rattle.ca_core_tables.specs.Tables.{AreTablesOf};
-ghost use Rattle.ca_core_bench.specs.ChipTask.{task_of};
+ghost use Rattle.ca_engine.specs.ChipTask.{task_of};
 ghost use Rattle.ca_expected.specs.Expected.{AreExpected};
 ghost use Rattle.ca_atpg.specs.Atpg.{IsStil, report_of};
 
 use crate::texts::{report_of, stil_of};
 use ca_base::NoMemory;
-use ca_chip_rows::ChipRows;
-use ca_core_bench::{core_bench, generate_over};
-use ca_core_links::CoreLinks;
-use ca_core_tables::CoreTables;
 use ca_credit::Verdicts;
+use ca_engine::{ChipBench, generate_over};
 use ca_expected::{Expected, expected};
 use ca_generate::{Aims, GenerateFault, Generated, Watch};
 use ca_guide::LowestUnset;
 use ca_lex::Text;
 use ca_pair::Pairs;
+use ca_rows::ChipRows;
 use ca_scan::Chains;
+use ca_view::View;
 use ca_wired::Chip;
 use std::alloc::Global;
 
@@ -48,98 +45,62 @@ struct Made {
 }
 
 // What the good chip ends with under each pair.
-#[tactic(auto, using(crate::proofs::AtpgLemmas::bench_task_is))]
 fn values_for(
     alloc: Global,
-    chip: &Chip,
-    tables: &CoreTables<'_>,
-    links: &CoreLinks<'_>,
+    view: &View<'_>,
     rows: &ChipRows<'_>,
     pairs: &Pairs,
 ) -> Result<Expected, NoMemory>
-    requires tables { AreTablesOf chip.now tables.now }
-    requires links { AreLinksOf tables.now.chip links.now }
-    requires rows { rows.now.chip ≡ tables.now.chip }
-    requires whole { All (λ pair. length pair ≡ bit_count (core_of chip.now)) pairs.now }
+    requires rows { rows.now.chip ≡ view.now.chip }
+    requires whole { All (λ pair. length pair ≡ bit_count (core_of view.now.chip)) pairs.now }
 
-    ensures { IfOk result (AreExpected (core_of chip.now) pairs.now) }
+    ensures { IfOk result (AreExpected (core_of view.now.chip) pairs.now) }
 {
-    let mut bench = core_bench(alloc, tables, links, rows, LowestUnset, 0)?;
+    let mut bench = ChipBench::reserve(alloc, view, rows, LowestUnset, 0)?;
     let values = expected(alloc, &mut bench, pairs.as_slice());
     drop(bench);
     values
 }
 
-// Both, over the chip's tables, links and rows.
+// Both, over the chip's view and rows.
 #[tactic(auto, using(crate::proofs::AtpgLemmas::task_pairs_fit))]
 fn made_over<T: Watch>(
     alloc: Global,
-    chip: &Chip,
-    tables: &CoreTables<'_>,
-    links: &CoreLinks<'_>,
+    view: &View<'_>,
     rows: &ChipRows<'_>,
     budget: u32,
     watch: &mut T,
 ) -> Result<Made, GenerateFault>
-    requires tables { AreTablesOf chip.now tables.now }
-    requires links { AreLinksOf tables.now.chip links.now }
-    requires rows { rows.now.chip ≡ tables.now.chip }
+    requires { rows.now.chip ≡ view.now.chip }
 
-    ensures good { IfOk result (λ made. IsGood (task_of chip.now budget)
+    ensures good { IfOk result (λ made. IsGood (task_of view.now.chip budget)
         made.generated.pairs made.generated.aims made.generated.verdicts) }
     ensures values { IfOk result
-        (λ made. AreExpected (core_of chip.now) made.generated.pairs made.values) }
-    ensures cause { IfErr result (IsCause (task_of chip.now budget)) }
+        (λ made. AreExpected (core_of view.now.chip) made.generated.pairs made.values) }
+    ensures cause { IfErr result (IsCause (task_of view.now.chip budget)) }
 {
-    let generated = generate_over(alloc, chip, tables, links, rows, budget, watch)?;
-    let values = values_for(alloc, chip, tables, links, rows, &generated.pairs)?;
+    let generated = generate_over(alloc, view, rows, budget, watch)?;
+    let values = values_for(alloc, view, rows, &generated.pairs)?;
     Ok(Made { generated, values })
 }
 
-// The same over the chip's tables and links. Each value is dropped in one place here and below: more places
-// are slow to prove.
-fn made_by_rows<T: Watch>(
-    alloc: Global,
-    chip: &Chip,
-    tables: &CoreTables<'_>,
-    links: &CoreLinks<'_>,
-    budget: u32,
-    watch: &mut T,
-) -> Result<Made, GenerateFault>
-    requires tables { AreTablesOf chip.now tables.now }
-    requires links { AreLinksOf tables.now.chip links.now }
-
-    ensures good { IfOk result (λ made. IsGood (task_of chip.now budget)
-        made.generated.pairs made.generated.aims made.generated.verdicts) }
-    ensures values { IfOk result
-        (λ made. AreExpected (core_of chip.now) made.generated.pairs made.values) }
-    ensures cause { IfErr result (IsCause (task_of chip.now budget)) }
-{
-    let rows = ChipRows::new(alloc, chip)?;
-    let made = made_over(alloc, chip, tables, links, &rows, budget, watch);
-    drop(rows);
-    made
-}
-
-// The same over the chip's tables.
+// The same over the chip's view. Each value is dropped in one place here and below: more places are slow to
+// prove.
 fn made_for<T: Watch>(
     alloc: Global,
-    chip: &Chip,
-    tables: &CoreTables<'_>,
+    view: &View<'_>,
     budget: u32,
     watch: &mut T,
 ) -> Result<Made, GenerateFault>
-    requires { AreTablesOf chip.now tables.now }
-
-    ensures good { IfOk result (λ made. IsGood (task_of chip.now budget)
+    ensures good { IfOk result (λ made. IsGood (task_of view.now.chip budget)
         made.generated.pairs made.generated.aims made.generated.verdicts) }
     ensures values { IfOk result
-        (λ made. AreExpected (core_of chip.now) made.generated.pairs made.values) }
-    ensures cause { IfErr result (IsCause (task_of chip.now budget)) }
+        (λ made. AreExpected (core_of view.now.chip) made.generated.pairs made.values) }
+    ensures cause { IfErr result (IsCause (task_of view.now.chip budget)) }
 {
-    let links = CoreLinks::new(alloc, chip)?;
-    let made = made_by_rows(alloc, chip, tables, &links, budget, watch);
-    drop(links);
+    let rows = ChipRows::new(alloc, view.chip())?;
+    let made = made_over(alloc, view, &rows, budget, watch);
+    drop(rows);
     made
 }
 
@@ -161,32 +122,30 @@ pub fn atpg<T: Watch>(
     ensures report { IfOk result (λ made. made.report ≡ report_of chip.now made.verdicts) }
     ensures cause { IfErr result (IsCause (task_of chip.now budget)) }
 {
-    let tables = CoreTables::new(alloc, chip)?;
-    let tested = tested_for(alloc, chip, chains, &tables, budget, watch);
-    drop(tables);
+    let view = View::new(alloc, chip)?;
+    let tested = tested_for(alloc, chains, &view, budget, watch);
+    drop(view);
     tested
 }
 
-// The same over the chip's tables.
+// The same over the chip's view.
 fn tested_for<T: Watch>(
     alloc: Global,
-    chip: &Chip,
     chains: &Chains,
-    tables: &CoreTables<'_>,
+    view: &View<'_>,
     budget: u32,
     watch: &mut T,
 ) -> Result<Tested, GenerateFault>
-    requires chains { AreAllChains chip.now chains.now }
-    requires tables { AreTablesOf chip.now tables.now }
+    requires { AreAllChains view.now.chip chains.now }
 
     ensures good { IfOk result
-        (λ made. IsGood (task_of chip.now budget) made.pairs made.aims made.verdicts) }
-    ensures stil { IfOk result (λ made. IsStil chip.now chains.now made.pairs made.stil) }
-    ensures report { IfOk result (λ made. made.report ≡ report_of chip.now made.verdicts) }
-    ensures cause { IfErr result (IsCause (task_of chip.now budget)) }
+        (λ made. IsGood (task_of view.now.chip budget) made.pairs made.aims made.verdicts) }
+    ensures stil { IfOk result (λ made. IsStil view.now.chip chains.now made.pairs made.stil) }
+    ensures report { IfOk result (λ made. made.report ≡ report_of view.now.chip made.verdicts) }
+    ensures cause { IfErr result (IsCause (task_of view.now.chip budget)) }
 {
-    let made = made_for(alloc, chip, tables, budget, watch)?;
-    let texts = texts_of(alloc, chip, chains, tables, budget, &made)?;
+    let made = made_for(alloc, view, budget, watch)?;
+    let texts = texts_of(alloc, chains, view, budget, &made)?;
     Ok(with_texts(made, texts))
 }
 
@@ -201,30 +160,28 @@ struct Texts {
 #[tactic(auto, using(crate::proofs::AtpgLemmas::task_pairs_fit, crate::proofs::AtpgLemmas::verdicts_within, crate::proofs::AtpgLemmas::one_verdict_each))]
 fn texts_of(
     alloc: Global,
-    chip: &Chip,
     chains: &Chains,
-    tables: &CoreTables<'_>,
+    view: &View<'_>,
     budget: u32,
     made: &Made,
 ) -> Result<Texts, NoMemory>
-    requires chains { AreAllChains chip.now chains.now }
-    requires tables { AreTablesOf chip.now tables.now }
-    requires good { IsGood (task_of chip.now budget)
+    requires chains { AreAllChains view.now.chip chains.now }
+    requires good { IsGood (task_of view.now.chip budget)
         made.now.generated.pairs made.now.generated.aims made.now.generated.verdicts }
-    requires values { AreExpected (core_of chip.now) made.now.generated.pairs made.now.values }
+    requires values { AreExpected (core_of view.now.chip) made.now.generated.pairs made.now.values }
 
     ensures stil { IfOk result
-        (λ texts. IsStil chip.now chains.now made.now.generated.pairs texts.stil) }
+        (λ texts. IsStil view.now.chip chains.now made.now.generated.pairs texts.stil) }
     ensures report { IfOk result
-        (λ texts. texts.report ≡ report_of chip.now made.now.generated.verdicts) }
+        (λ texts. texts.report ≡ report_of view.now.chip made.now.generated.verdicts) }
 {
     let Generated {
         pairs,
         verdicts,
         ..
     } = &made.generated;
-    let stil = stil_of(alloc, chip, chains, pairs, &made.values)?;
-    let report = report_of(alloc, chip, tables, verdicts)?;
+    let stil = stil_of(alloc, view.chip(), chains, pairs, &made.values)?;
+    let report = report_of(alloc, view, verdicts)?;
     Ok(Texts { stil, report })
 }
 

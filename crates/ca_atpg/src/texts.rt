@@ -8,20 +8,19 @@ ghost use Rattle.ca_scan.specs.ChainFault.{AreAllChains};
 ghost use Rattle.ca_flat.specs.Pair.{bit_count};
 ghost use Rattle.ca_expected.specs.Expected.{AreExpected};
 ghost use Rattle.ca_chip_report.specs.ChipReport.{IsVerdictWithin};
-ghost use Rattle.ca_core_tables.specs.Tables.{AreTablesOf};
-ghost use Rattle.ca_core_bench.specs.ChipTask.{task_of};
+ghost use Rattle.ca_engine.specs.ChipTask.{task_of};
 ghost use Rattle.ca_atpg.specs.Atpg.{IsStil, report_of, summary_text};
 
 use ca_base::NoMemory;
-use ca_chip_defects::chip_defects;
 use ca_chip_report::{summary_line, summary_of, write_chip_report};
 use ca_chip_stil::write_chip_stil;
-use ca_core_tables::CoreTables;
 use ca_credit::Verdicts;
+use ca_engine::chip_defects;
 use ca_expected::Expected;
 use ca_lex::Text;
 use ca_pair::Pairs;
 use ca_scan::Chains;
+use ca_view::View;
 use ca_wired::Chip;
 use std::alloc::Global;
 
@@ -45,18 +44,16 @@ pub(crate) fn stil_of(
 #[tactic(auto, using(crate::proofs::AtpgLemmas::are_reported, crate::proofs::AtpgLemmas::is_report))]
 pub(crate) fn report_of(
     alloc: Global,
-    chip: &Chip,
-    tables: &CoreTables<'_>,
+    view: &View<'_>,
     verdicts: &Verdicts,
 ) -> Result<Text, NoMemory>
-    requires tables { AreTablesOf chip.now tables.now }
-    requires one_each { length verdicts.now ≡ length (task_of chip.now 0).defects }
-    requires outputs { All (IsVerdictWithin (length (outputs_of chip.now))) verdicts.now }
-    ensures { IfOk result (λ text. text ≡ report_of chip.now verdicts.now) }
+    requires one_each { length verdicts.now ≡ length (task_of view.now.chip 0).defects }
+    requires outputs { All (IsVerdictWithin (length (outputs_of view.now.chip))) verdicts.now }
+    ensures { IfOk result (λ text. text ≡ report_of view.now.chip verdicts.now) }
 {
-    chip.wired();
-    let defects = chip_defects(alloc, tables)?;
-    write_chip_report(alloc, chip, defects.as_slice(), verdicts)
+    view.viewed();
+    let defects = chip_defects(alloc, view)?;
+    write_chip_report(alloc, view.chip(), defects.as_slice(), verdicts)
 }
 
 /// The line that says how many defects have which verdict, and how many pairs there are.

@@ -137,7 +137,7 @@ fn is_found(chip: &Chip, u: InstanceId) -> bool
 }
 
 // Appends the nets of the pins of a library instance.
-#[tactic(auto, using(ca_core_tables::proofs::PartFacts::pin_within, ca_core_tables::proofs::PartFacts::cell_read))]
+#[tactic(auto, using(ca_view::proofs::PartFacts::pin_within, ca_view::proofs::PartFacts::cell_read))]
 fn pins(text: &mut Text, chip: &Chip, u: InstanceId) -> Result<(), NoMemory>
     requires { IsLibrary chip.now u.0 }
 {

@@ -14,7 +14,7 @@ ghost use Rattle.ca_chip_replay.specs.Kept.{AreOutputValues};
 use crate::input_nodes::input_nodes;
 use crate::vectors::vector_of;
 use ca_base::{List, NoMemory};
-use ca_core_tables::CoreTables;
+use ca_view::View;
 use ca_flat::ChipDefect;
 use ca_flatten::flatten;
 use ca_net::{FlatNet, Network, NodeId, State, Trit};
@@ -28,7 +28,7 @@ use std::marker::Model;
 /// event by event.
 #[derive(Drop)]
 pub struct ChipRun<'a, B: Bits> {
-    tables: &'a CoreTables<'a>,
+    view: &'a View<'a>,
     defect: Option<ChipDefect>,
     pair: &'a B,
     net: FlatNet,
@@ -45,27 +45,27 @@ impl<'a, B: Bits> Model for ChipRun<'a, B> {
     ghost Value = { RunOf };
 
     ghost view = { λ run. record {
-      chip = core_of run.tables.now.chip;
+      chip = core_of run.view.now.chip;
       given = run.defect;
       pair = B.bits run.pair.now;
     } };
 
     ghost invariant = { λ run. IsReady (record {
-      chip = core_of run.tables.now.chip;
+      chip = core_of run.view.now.chip;
       given = run.defect;
       pair = B.bits run.pair.now;
     }) run.net run.inputs.items run.first run.last };
 }
 
 // The values of the observed outputs in a state of the flat network.
-fn output_values(alloc: Global, tables: &CoreTables<'_>, end: &State) -> Result<Vec<Trit>, NoMemory>
-    requires { 2 + length (core_of tables.now.chip).nets ≤ length end.now }
-    ensures { IfOk result (λ values. AreOutputValues (core_of tables.now.chip) end.now values.items) }
+fn output_values(alloc: Global, view: &View<'_>, end: &State) -> Result<Vec<Trit>, NoMemory>
+    requires { 2 + length (core_of view.now.chip).nets ≤ length end.now }
+    ensures { IfOk result (λ values. AreOutputValues (core_of view.now.chip) end.now values.items) }
 {
-    tables.linked();
+    view.linked();
     let mut values = Vec::new(alloc);
-    for o in 0..tables.outputs() {
-        values.push(end.get(2 + tables.output(o)))?;
+    for o in 0..view.outputs() {
+        values.push(end.get(2 + view.output(o)))?;
     }
     Ok(values)
 }
@@ -75,32 +75,32 @@ impl<'a, B: Bits> ChipRun<'a, B> {
     /// flat network may have 2^32 nodes or devices.
     pub fn new(
         alloc: Global,
-        tables: &'a CoreTables<'a>,
+        view: &'a View<'a>,
         defect: Option<ChipDefect>,
         pair: &'a B,
     ) -> Result<Self, NoMemory>
-        requires defect { IsChipDefect (core_of tables.now.chip) defect }
-        requires pair { length (B.bits pair.now) ≡ bit_count (core_of tables.now.chip) }
+        requires defect { IsChipDefect (core_of view.now.chip) defect }
+        requires pair { length (B.bits pair.now) ≡ bit_count (core_of view.now.chip) }
         ensures { IfOk result (λ run. run
-            ≡ record { chip = core_of tables.now.chip; given = defect; pair = B.bits pair.now }) }
+            ≡ record { chip = core_of view.now.chip; given = defect; pair = B.bits pair.now }) }
     {
-        tables.linked();
-        let net = flatten(alloc, tables.chip(), defect)?;
+        view.linked();
+        let net = flatten(alloc, view.chip(), defect)?;
         let nodes = net.node_count();
-        let Ok(inputs) = input_nodes(alloc, tables) else {
+        let Ok(inputs) = input_nodes(alloc, view) else {
             drop(net);
             return Err(NoMemory);
         };
-        let Ok(first) = vector_of(alloc, tables, nodes, pair, 0) else {
+        let Ok(first) = vector_of(alloc, view, nodes, pair, 0) else {
             drop(net);
             return Err(NoMemory);
         };
-        let Ok(last) = vector_of(alloc, tables, nodes, pair, tables.inputs()) else {
+        let Ok(last) = vector_of(alloc, view, nodes, pair, view.inputs()) else {
             drop(net);
             return Err(NoMemory);
         };
         Ok(ChipRun {
-            tables,
+            view,
             defect,
             pair,
             net,
@@ -138,6 +138,6 @@ impl<'a, B: Bits> ChipRun<'a, B> {
             &self.last,
             events,
         )?;
-        output_values(alloc, self.tables, &end)
+        output_values(alloc, self.view, &end)
     }
 }

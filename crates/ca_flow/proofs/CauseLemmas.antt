@@ -39,7 +39,7 @@ use Rattle.ca_on_chip.specs.Replay.{AreRunEndsOf, IsRunCause}
 use Rattle.ca_flow.specs.declared.work.OutFile.{OutFile}
 use Rattle.ca_credit.specs.declared.verdict.Verdict.{Verdict}
 use Rattle.ca_credit.specs.Good.{IsGood}
-use Rattle.ca_core_bench.specs.ChipTask.{task_of}
+use Rattle.ca_engine.specs.ChipTask.{task_of}
 use Rattle.ca_atpg.specs.Atpg.{IsStil, report_of}
 use Rattle.ca_flow.specs.Work.{IsOutFile, HasFiles}
 use Rattle.ca_words.specs.declared.words.Command.{Command}

@@ -4,24 +4,20 @@
 ghost use Rattle.std.specs.Prelude.{◌≡◌, ◌<◌, ◌^◌, length, IfSome};
 ghost use Rattle.std.specs.List.{All};
 ghost use Rattle.ca_flat.specs.Pair.{bit_count};
-ghost use Rattle.ca_core_links.specs.CoreLinks.{AreLinksOf};
-ghost use Rattle.ca_core_tables.specs.Tables.{AreTablesOf};
 
 use crate::chips::{C17, INV, ONE_BRANCH};
 use crate::told::{summary, verdict};
 use crate::worked::linked;
 use ca_base::NoMemory;
-use ca_chip_choice::chip_choice;
-use ca_chip_rows::ChipRows;
-use ca_core_bench::core_bench;
-use ca_core_links::CoreLinks;
-use ca_core_tables::CoreTables;
 use ca_credit::{BLOCK, Credits, Simulator};
+use ca_engine::{ChipBench, chip_choice};
 use ca_generate::{Bench, Unwatched, generate};
 use ca_guide::{Choice, LowestUnset};
 use ca_lex::Text;
 use ca_pair::{Pair, Pairs};
+use ca_rows::ChipRows;
 use ca_sim::Linked;
+use ca_view::View;
 use ca_wired::Chip;
 use std::alloc::Global;
 use std::process::Abort;
@@ -158,12 +154,11 @@ struct Told {
     evaluations: u64,
 }
 
-// What is reported about a bench of a chip, given its tables, links and rows. Pairs have `bits` bits. Each
-// value is dropped in one place here and below: more places are slow to prove.
+// What is reported about a bench of a chip, given its view and its rows. Pairs have `bits` bits. Each value is
+// dropped in one place here and below: more places are slow to prove.
 fn tell_over<P: Choice + Drop>(
     alloc: Global,
-    tables: &CoreTables<'_>,
-    links: &CoreLinks<'_>,
+    view: &View<'_>,
     rows: &ChipRows<'_>,
     choice: P,
     budget: u32,
@@ -171,16 +166,15 @@ fn tell_over<P: Choice + Drop>(
     bits: usize,
     asked: Asked,
 ) -> Result<Told, NoMemory>
-    requires links { AreLinksOf tables.now.chip links.now }
-    requires rows { rows.now.chip ≡ tables.now.chip }
+    requires rows { rows.now.chip ≡ view.now.chip }
     requires bits { All (λ pair. length pair ≡ bits) pairs.now }
     requires numbers { length pairs.now < 2 ^ 32 }
 {
-    tables.linked();
-    if bits != 2 * tables.inputs() {
+    view.linked();
+    if bits != 2 * view.inputs() {
         return Err(NoMemory);
     }
-    let mut bench = core_bench(alloc, tables, links, rows, choice, budget)?;
+    let mut bench = ChipBench::reserve(alloc, view, rows, choice, budget)?;
     let text = answer(alloc, &mut bench, pairs, asked);
     let told = Told {
         text,
@@ -194,77 +188,39 @@ fn tell_over<P: Choice + Drop>(
 // The same with the choice that is asked for.
 fn tell_by_choice(
     alloc: Global,
-    tables: &CoreTables<'_>,
-    links: &CoreLinks<'_>,
+    view: &View<'_>,
     rows: &ChipRows<'_>,
     budget: u32,
     pairs: &[Pair],
     bits: usize,
     asked: Asked,
 ) -> Result<Told, NoMemory>
-    requires links { AreLinksOf tables.now.chip links.now }
-    requires rows { rows.now.chip ≡ tables.now.chip }
+    requires rows { rows.now.chip ≡ view.now.chip }
     requires bits { All (λ pair. length pair ≡ bits) pairs.now }
     requires numbers { length pairs.now < 2 ^ 32 }
 {
     if let Asked::Verdict(_) = asked {
-        return tell_over(
-            alloc,
-            tables,
-            links,
-            rows,
-            LowestUnset,
-            budget,
-            pairs,
-            bits,
-            asked,
-        );
+        return tell_over(alloc, view, rows, LowestUnset, budget, pairs, bits, asked);
     }
-    let choice = chip_choice(alloc, tables, links)?;
-    tell_over(
-        alloc, tables, links, rows, choice, budget, pairs, bits, asked,
-    )
+    let choice = chip_choice(alloc, view)?;
+    tell_over(alloc, view, rows, choice, budget, pairs, bits, asked)
 }
 
-// The same, of which tables and links are at hand.
+// The same, of which a view is at hand.
 fn tell_by_rows(
     alloc: Global,
-    chip: &Chip,
-    tables: &CoreTables<'_>,
-    links: &CoreLinks<'_>,
+    view: &View<'_>,
     budget: u32,
     pairs: &[Pair],
     bits: usize,
     asked: Asked,
 ) -> Result<Told, NoMemory>
-    requires tables { AreTablesOf chip.now tables.now }
-    requires links { AreLinksOf tables.now.chip links.now }
     requires bits { All (λ pair. length pair ≡ bits) pairs.now }
     requires numbers { length pairs.now < 2 ^ 32 }
 {
-    let rows = ChipRows::new(alloc, chip)?;
-    let told = tell_by_choice(alloc, tables, links, &rows, budget, pairs, bits, asked);
+    let rows = ChipRows::new(alloc, view.chip())?;
+    let told = tell_by_choice(alloc, view, &rows, budget, pairs, bits, asked);
     drop(rows);
-    told
-}
-
-// The same, of which tables are at hand.
-fn tell_by_links(
-    alloc: Global,
-    chip: &Chip,
-    tables: &CoreTables<'_>,
-    budget: u32,
-    pairs: &[Pair],
-    bits: usize,
-    asked: Asked,
-) -> Result<Told, NoMemory>
-    requires tables { AreTablesOf chip.now tables.now }
-    requires bits { All (λ pair. length pair ≡ bits) pairs.now }
-    requires numbers { length pairs.now < 2 ^ 32 }
-{
-    let links = CoreLinks::new(alloc, chip)?;
-    let told = tell_by_rows(alloc, chip, tables, &links, budget, pairs, bits, asked);
-    drop(links);
     told
 }
 
@@ -280,9 +236,9 @@ fn tell(
     requires bits { All (λ pair. length pair ≡ bits) pairs.now }
     requires numbers { length pairs.now < 2 ^ 32 }
 {
-    let tables = CoreTables::new(alloc, chip)?;
-    let told = tell_by_links(alloc, chip, &tables, budget, pairs, bits, asked);
-    drop(tables);
+    let view = View::new(alloc, chip)?;
+    let told = tell_by_rows(alloc, &view, budget, pairs, bits, asked);
+    drop(view);
     told
 }
 

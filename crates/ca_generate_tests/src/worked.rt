@@ -5,7 +5,7 @@ ghost use Rattle.ca_verilog.specs.IsNetlist.{IsNetlist};
 use crate::chips::{COUNTED, HAZARD, KEPT_CHARGE, LIBRARY, SPELT};
 use crate::told::{all, fault, summary, verdict};
 use ca_chip::ScanTable;
-use ca_core_bench::generate_chip;
+use ca_engine::generate_chip;
 use ca_generate::{Generated, Unwatched};
 use ca_lex::Text;
 use ca_link::link;

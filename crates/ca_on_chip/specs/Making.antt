@@ -5,7 +5,7 @@ use Rattle.ca_verilog.specs.declared.raw.RawNetlist.{RawNetlist}
 use Rattle.ca_wired.specs.Linked.{Chip}
 use Rattle.ca_credit.specs.declared.verdict.Verdict.{Verdict}
 use Rattle.ca_credit.specs.Good.{IsGood}
-use Rattle.ca_core_bench.specs.ChipTask.{task_of}
+use Rattle.ca_engine.specs.ChipTask.{task_of}
 use Rattle.ca_fault.specs.declared.fault.Fault.{Fault}
 use Rattle.ca_fault.specs.declared.fault.Fault.TheVariants.{NoMemory}
 use Rattle.ca_make.specs.LibraryText.{library_text}

@@ -20,7 +20,7 @@ use Rattle.ca_credit.specs.declared.verdict.Verdict.{Verdict}
 use Rattle.ca_credit.specs.Good.{IsGood}
 use Rattle.ca_generate.specs.declared.fault.GenerateFault.TheVariants as generate
 use Rattle.ca_generate.specs.GenerateFault.{IsCause}
-use Rattle.ca_core_bench.specs.ChipTask.{task_of}
+use Rattle.ca_engine.specs.ChipTask.{task_of}
 use Rattle.ca_words.specs.Budget.{HasBudget}
 
 -- where the files are known, the chip is that of what they read as

@@ -1,12 +1,12 @@
 //! What `make` asks for.
 ghost use Rattle.std.specs.Prelude.{◌≤◌, IfErr, IfOk};
 ghost use Rattle.ca_credit.specs.Good.{IsGood};
-ghost use Rattle.ca_core_bench.specs.ChipTask.{task_of};
+ghost use Rattle.ca_engine.specs.ChipTask.{task_of};
 ghost use Rattle.ca_make.specs.declared.gate.TheConstants.{MOST_GATES};
 ghost use Rattle.ca_on_chip.specs.OnChip.{IsTestsStage};
 ghost use Rattle.ca_on_chip.specs.Making.{IsMadeChip, IsMakeStage};
 
-use ca_core_bench::generate_chip;
+use ca_engine::generate_chip;
 use ca_credit::Verdicts;
 use ca_fault::Fault;
 use ca_generate::{Aims, GenerateFault, Generated, Watch};

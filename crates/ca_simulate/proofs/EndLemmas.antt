@@ -25,9 +25,9 @@ use Rattle.ca_net.specs.Circuit.{IsWellFormed}
 use Rattle.ca_flat.specs.Flat.{flat as flat_of}
 use Rattle.ca_sim.specs.Seen.{Seen, AreNetWaves, IsExact}
 use Rattle.ca_sim.proofs.Exact.{definite_last_is_end_lem}
-use Rattle.ca_core_tables.specs.Tables.{AreRanks}
-use Rattle.ca_core_tables.proofs.PartFacts.{library_known}
-use Rattle.ca_core_tables.proofs.RankLemmas.{library_place}
+use Rattle.ca_view.specs.Places.{AreRanks}
+use Rattle.ca_view.proofs.PartFacts.{library_known}
+use Rattle.ca_view.proofs.RankLemmas.{library_place}
 use Rattle.ca_asked.specs.Asked.{IsLibraryDefect}
 use Rattle.ca_simulate.specs.Simulated.{AreOutputEnds, AreSimulated}
 use Rattle.ca_simulate.specs.Lasts.{HaveLasts, AreLasts}

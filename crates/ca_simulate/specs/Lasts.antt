@@ -9,7 +9,8 @@ use Rattle.ca_flat.specs.declared.chip_defect.ChipDefect.{ChipDefect}
 use Rattle.ca_wired.specs.Linked.{IsWired}
 use Rattle.ca_core.specs.Core.{core_of}
 use Rattle.ca_flatten.specs.Few.{IsFew}
-use Rattle.ca_core_tables.specs.Tables.{Tables, AreRanks}
+use Rattle.ca_view.specs.Places.{AreRanks}
+use Rattle.ca_view.specs.View.{Viewed}
 use Rattle.ca_sim.specs.Seen.{Seen}
 use Rattle.ca_simulate.specs.declared.simulation.OutputEnds.{OutputEnds}
 
@@ -23,8 +24,8 @@ pub record AreLasts (outputs : List ℕ) (seen : Seen) (ends : OutputEnds) : Typ
   pub good : HaveLasts outputs seen.good (length outputs) ends.good.items
   pub faulty : HaveLasts outputs seen.faulty (length outputs) ends.faulty.items
 
--- the tables are those of a linked chip whose flat networks have few enough nodes and devices
-pub record AreReady (tables : Tables) : Type 0 where
-  pub wired : IsWired tables.chip
-  pub ranked : AreRanks tables.chip tables.ranks
-  pub few : (given : Option ChipDefect) → IsFew (core_of tables.chip) given
+-- the view are those of a linked chip whose flat networks have few enough nodes and devices
+pub record AreReady (view : Viewed) : Type 0 where
+  pub wired : IsWired view.chip
+  pub ranked : AreRanks view.chip view.ranks
+  pub few : (given : Option ChipDefect) → IsFew (core_of view.chip) given

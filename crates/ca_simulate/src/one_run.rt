@@ -10,7 +10,7 @@ ghost use Rattle.ca_simulate.specs.OneRun.{AreRunEnds, IsRunFault};
 use crate::letters::Letters;
 use ca_asked::Vectors;
 use ca_chip_replay::ChipRun;
-use ca_core_tables::CoreTables;
+use ca_view::View;
 use ca_flat::ChipDefect;
 use ca_net::Trit;
 use ca_order::OrderFault;
@@ -44,9 +44,9 @@ pub fn replay(
     }) text.now) }
 {
     chip.wired();
-    let tables = CoreTables::new(alloc, chip)?;
+    let view = View::new(alloc, chip)?;
     let letters = Letters { vectors };
-    let run = ChipRun::new(alloc, &tables, defect, &letters)?;
+    let run = ChipRun::new(alloc, &view, defect, &letters)?;
     let events = run.read(alloc, text)?;
     Ok(run.replay(alloc, events.as_slice())?)
 }

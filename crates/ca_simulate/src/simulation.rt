@@ -11,7 +11,7 @@ ghost use Rattle.ca_simulate.specs.Lasts.{AreLasts, AreReady};
 use crate::letters::Letters;
 use ca_asked::Vectors;
 use ca_base::NoMemory;
-use ca_core_tables::CoreTables;
+use ca_view::View;
 use ca_flat::ChipDefect;
 use ca_flatten::judge_size;
 use ca_net::Trit;
@@ -29,7 +29,7 @@ pub struct OutputEnds {
 
 /// What the observed outputs settle to under two vectors that have one letter for each chip input, without
 /// the defect and with it. Without a defect both are the same. Want of memory is also told of a chip whose
-/// flat network may have 2^32 nodes or devices, or that has 2^31 inputs.
+/// flat network may have 2^32 nodes or devices, or that has 2^14 inputs.
 pub fn simulate(
     alloc: Global,
     chip: &Chip,
@@ -44,31 +44,31 @@ pub fn simulate(
 {
     judge_size(alloc, chip)?;
     chip.wired();
-    let tables = CoreTables::new(alloc, chip)?;
-    let ends = simulate_on(alloc, &tables, defect, vectors);
-    drop(tables);
+    let view = View::new(alloc, chip)?;
+    let ends = simulate_on(alloc, &view, defect, vectors);
+    drop(view);
     ends
 }
 
-// What the observed outputs settle to, by a simulator over the tables of a chip.
+// What the observed outputs settle to, by a simulator over the view of a chip.
 fn simulate_on(
     alloc: Global,
-    tables: &CoreTables<'_>,
+    view: &View<'_>,
     defect: Option<ChipDefect>,
     vectors: Vectors<'_>,
 ) -> Result<OutputEnds, NoMemory>
-    requires chip { AreReady tables.now }
-    requires defect { IsLibraryDefect tables.now.chip defect }
-    requires first { length vectors.first.now ≡ length (inputs_of tables.now.chip) }
-    requires last { length vectors.last.now ≡ length (inputs_of tables.now.chip) }
-    ensures { IfOk result (λ ends. AreSimulated (core_of tables.now.chip) defect
+    requires chip { AreReady view.now }
+    requires defect { IsLibraryDefect view.now.chip defect }
+    requires first { length vectors.first.now ≡ length (inputs_of view.now.chip) }
+    requires last { length vectors.last.now ≡ length (inputs_of view.now.chip) }
+    ensures { IfOk result (λ ends. AreSimulated (core_of view.now.chip) defect
         (pair_of vectors.entry.first.now vectors.entry.last.now) ends.good.items ends.faulty.items) }
 {
-    let mut sim = Sim::reserve(alloc, tables)?;
+    let mut sim = Sim::reserve(alloc, view)?;
     sim.aim(defect);
     sim.load(&Letters { vectors });
     sim.exact();
-    let ends = last_values(alloc, tables, &sim);
+    let ends = last_values(alloc, view, &sim);
     drop(sim);
     ends
 }
@@ -76,16 +76,16 @@ fn simulate_on(
 // The last values of the waves at the observed outputs.
 fn last_values<N: NetWaves>(
     alloc: Global,
-    tables: &CoreTables<'_>,
+    view: &View<'_>,
     sim: &N,
 ) -> Result<OutputEnds, NoMemory>
-    requires { (N.seen sim.now).chip ≡ core_of tables.now.chip }
-    ensures { IfOk result (AreLasts (core_of tables.now.chip).outputs (N.seen sim.now)) }
+    requires { (N.seen sim.now).chip ≡ core_of view.now.chip }
+    ensures { IfOk result (AreLasts (core_of view.now.chip).outputs (N.seen sim.now)) }
 {
     let mut good = Vec::new(alloc);
     let mut faulty = Vec::new(alloc);
-    for o in 0..tables.outputs() {
-        let net = tables.output(o);
+    for o in 0..view.outputs() {
+        let net = view.output(o);
         good.push(sim.good(net).last)?;
         faulty.push(sim.faulty(net).last)?;
     }

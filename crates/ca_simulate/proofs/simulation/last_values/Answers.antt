@@ -8,7 +8,7 @@ use Rattle.ca_simulate.proofs.simulation.last_values.Goals as goal
 
 pub loop-o-init : goal.loop-o-init
 loop-o-init g c =
-    let outputs = (core_of c.args.tables.now.chip).outputs in
+    let outputs = (core_of c.args.view.now.chip).outputs in
     let seen = g.N.NetWaves.seen c.args.sim.now in
     record {
       good = subst (HaveLasts outputs seen.good 0) (sym c.new-good.ensures.items) (no_lasts outputs seen.good);
@@ -17,7 +17,7 @@ loop-o-init g c =
 
 pub loop-o-preserved : goal.loop-o-preserved
 loop-o-preserved g c =
-    let outputs = (core_of c.args.tables.now.chip).outputs in
+    let outputs = (core_of c.args.view.now.chip).outputs in
     let seen = g.N.NetWaves.seen c.args.sim.now in
     record {
       good = lasts_more outputs seen.good c.loop-o.o c.loop-o.good.items c.push.new.self.items c.good.result.last c.loop-o.invariant.good
@@ -29,7 +29,7 @@ loop-o-preserved g c =
 
 pub returns : goal.returns
 returns g c =
-    let outputs = (core_of c.args.tables.now.chip).outputs in
+    let outputs = (core_of c.args.view.now.chip).outputs in
     let seen = g.N.NetWaves.seen c.args.sim.now in
     let count : c.loop-o.o ≡ length outputs =
     let end = c.outputs-o-end.ensures in

@@ -4,6 +4,6 @@ use Rattle.ca_simulate.proofs.simulation.last_values.Given as goal
 
 abbrev pub invariant-loop-o : goal.invariant-loop-o
 invariant-loop-o g l = record {
-  good : HaveLasts (core_of l.tables.chip).outputs (g.N.NetWaves.seen l.sim).good l.o l.good.items;
-  faulty : HaveLasts (core_of l.tables.chip).outputs (g.N.NetWaves.seen l.sim).faulty l.o l.faulty.items;
+  good : HaveLasts (core_of l.view.chip).outputs (g.N.NetWaves.seen l.sim).good l.o l.good.items;
+  faulty : HaveLasts (core_of l.view.chip).outputs (g.N.NetWaves.seen l.sim).faulty l.o l.faulty.items;
 }

@@ -4,37 +4,37 @@ use Rattle.ca_flat.specs.declared.chip_defect.ChipDefect.{ChipDefect}
 use Rattle.ca_wired.specs.Linked.{Chip, IsWired, inputs_of}
 use Rattle.ca_core.specs.Core.{core_of}
 use Rattle.ca_flatten.specs.Few.{IsFew}
-use Rattle.ca_core_tables.specs.Tables.{AreRanks}
+use Rattle.ca_view.specs.Places.{AreRanks}
 use Rattle.ca_asked.specs.Asked.{IsLibraryDefect}
 use Rattle.ca_simulate.specs.Simulated.{pair_of, AreSimulated}
 use Rattle.ca_simulate.proofs.simulation.simulate.Goals as goal
 
 pub simulate_on-ends-requires-clause-chip : goal.simulate_on-ends-requires-clause-chip
 simulate_on-ends-requires-clause-chip c =
-    let tables = c.in_ok-tables.ensures {u = tt} in
+    let view = c.in_ok-view.ensures {u = tt} in
     record {
-      wired = subst IsWired (sym tables.chip_is) c.wired.ensures;
-      ranked = subst (λ (chip : Chip). AreRanks chip c.in_ok-tables.tables.ranks) (sym tables.chip_is) tables.ranked;
-      few = subst (λ (chip : Chip). (given : Option ChipDefect) → IsFew (core_of chip) given) (sym tables.chip_is) (c.in_ok-judge_size.ensures {u = tt});
+      wired = subst IsWired (sym view.chip_is) c.wired.ensures;
+      ranked = subst (λ (chip : Chip). AreRanks chip c.in_ok-view.view.ranks) (sym view.chip_is) view.ranked;
+      few = subst (λ (chip : Chip). (given : Option ChipDefect) → IsFew (core_of chip) given) (sym view.chip_is) (c.in_ok-judge_size.ensures {u = tt});
     }
 
 pub simulate_on-ends-requires-clause-defect : goal.simulate_on-ends-requires-clause-defect
 simulate_on-ends-requires-clause-defect c =
-    let tables = c.in_ok-tables.ensures {u = tt} in
-    subst (λ (chip : Chip). IsLibraryDefect chip c.args.defect) (sym tables.chip_is) c.requires.defect
+    let view = c.in_ok-view.ensures {u = tt} in
+    subst (λ (chip : Chip). IsLibraryDefect chip c.args.defect) (sym view.chip_is) c.requires.defect
 
 pub simulate_on-ends-requires-clause-first : goal.simulate_on-ends-requires-clause-first
 simulate_on-ends-requires-clause-first c =
-    let tables = c.in_ok-tables.ensures {u = tt} in
-    c.requires.first ∙ ap (λ (chip : Chip). length (inputs_of chip)) (sym tables.chip_is)
+    let view = c.in_ok-view.ensures {u = tt} in
+    c.requires.first ∙ ap (λ (chip : Chip). length (inputs_of chip)) (sym view.chip_is)
 
 pub simulate_on-ends-requires-clause-last : goal.simulate_on-ends-requires-clause-last
 simulate_on-ends-requires-clause-last c =
-    let tables = c.in_ok-tables.ensures {u = tt} in
-    c.requires.last ∙ ap (λ (chip : Chip). length (inputs_of chip)) (sym tables.chip_is)
+    let view = c.in_ok-view.ensures {u = tt} in
+    c.requires.last ∙ ap (λ (chip : Chip). length (inputs_of chip)) (sym view.chip_is)
 
 pub returns : goal.returns
 returns c =
-    let tables = c.in_ok-tables.ensures {u = tt} in
+    let view = c.in_ok-view.ensures {u = tt} in
     subst (λ (chip : Chip). IfOk c.simulate_on-ends.result (λ ends. AreSimulated (core_of chip) c.args.defect
-    (pair_of c.args.vectors.first.now c.args.vectors.last.now) ends.good.items ends.faulty.items)) tables.chip_is c.simulate_on-ends.ensures
+    (pair_of c.args.vectors.first.now c.args.vectors.last.now) ends.good.items ends.faulty.items)) view.chip_is c.simulate_on-ends.ensures

@@ -8,18 +8,18 @@ use Rattle.ca_simulate.proofs.simulation.simulate_on.Goals as goal
 
 pub aim-requires : goal.aim-requires
 aim-requires c =
-    let tables = c.args.tables.now in
+    let view = c.args.view.now in
     let seen = c.in_ok-sim.sim.seen in
     let fresh = c.in_ok-sim.ensures {u = tt} in
     subst (λ (core : flat.Chip). IsAim core (place_in seen.places) c.args.defect) (sym fresh.chip_is)
-    (subst (λ (places : List ℕ). IsAim (core_of tables.chip) (place_in places) c.args.defect) (sym fresh.places_are)
-    (aimed_at tables.chip c.requires.chip.wired tables.ranks c.requires.chip.ranked c.args.defect c.requires.defect))
+    (subst (λ (places : List ℕ). IsAim (core_of view.chip) (place_in places) c.args.defect) (sym fresh.places_are)
+    (aimed_at view.chip c.requires.chip.wired view.ranks c.requires.chip.ranked c.args.defect c.requires.defect))
 
 pub returns : goal.returns
 returns c =
-    let tables = c.args.tables.now in
+    let view = c.args.view.now in
     let fresh = c.in_ok-sim.ensures {u = tt} in
-    simulated_ends tables.chip c.requires.chip.wired c.requires.chip.few c.args.defect c.requires.defect c.load.new.self.seen
+    simulated_ends view.chip c.requires.chip.wired c.requires.chip.few c.args.defect c.requires.defect c.load.new.self.seen
     (pair_of c.args.vectors.first.now c.args.vectors.last.now) c.last_values-ends.result
     (c.load.ensures.kept.chip.chip ∙ c.aim.ensures.kept.chip.chip ∙ fresh.chip_is)
     c.load.ensures.pair (c.load.ensures.kept.aim ∙ c.aim.ensures.aim) c.exact.ensures c.last_values-ends.ensures

@@ -1,6 +1,0 @@
-use Rattle.std.specs.Prelude.{◌≡◌, take}
-use Rattle.ca_core.specs.Core.{core_of}
-use Rattle.ca_core_bench.proofs.outputs.output_nets.Given as goal
-
-abbrev pub invariant-loop-o : goal.invariant-loop-o
-invariant-loop-o l = l.nets.items ≡ take l.o (core_of l.tables.chip).outputs

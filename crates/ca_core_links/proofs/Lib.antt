@@ -1,4 +1,0 @@
-pub mod PartFacts
-pub mod PinLemmas
-pub mod EndLemmas
-pub mod LinkLemmas

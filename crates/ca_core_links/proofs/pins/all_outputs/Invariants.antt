@@ -1,7 +1,0 @@
-use Rattle.ca_core.specs.Core.{core_of}
-use Rattle.ca_links.specs.Links.{items_of}
-use Rattle.ca_core_links.specs.Kept.{AreOutputNets}
-use Rattle.ca_core_links.proofs.pins.all_outputs.Given as goal
-
-abbrev pub invariant-loop-u : goal.invariant-loop-u
-invariant-loop-u l = AreOutputNets (core_of l.chip) l.u (items_of l.rows.items)

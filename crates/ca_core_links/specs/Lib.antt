@@ -1,2 +1,0 @@
-pub mod CoreLinks
-pub mod Kept

@@ -1,0 +1,5 @@
+pub mod ListingLemmas
+pub mod PlacedLemmas
+pub mod CoreLemmas
+pub mod BenchLemmas
+pub mod PairLemmas

@@ -1,0 +1,40 @@
+use Rattle.std.proofs.Common.{◌<◌, ◌∙◌, length, slice_index, sym, ap, subst}
+use Rattle.ca_net.specs.declared.wave.Wave.{Wave}
+use Rattle.ca_table.specs.Gives.{wave_at}
+use Rattle.ca_core.specs.Core.{core_of}
+use Rattle.ca_credit.specs.Detection.{IsNetEnd}
+use Rattle.ca_engine.specs.ChipBench.{Benched}
+use Rattle.ca_engine.proofs.BenchLemmas.{output_within, faulty_ends}
+use Rattle.ca_engine.proofs.chip_bench.ChipBenchSimulator.faulty_end.Goals as goal
+
+pub output-requires : goal.output-requires
+output-requires g c =
+    let listed = subst (λ (bench : Benched). c.args.output < length bench.task.chip.outputs) (sym c.self.view_is)
+    c.requires in
+    subst (λ nets. c.args.output < length nets) (sym c.self.invariant.outputs_are) listed
+
+pub faulty-requires : goal.faulty-requires
+faulty-requires g c =
+    let inside = c.self.inside in
+    let listed = subst (λ (bench : Benched). c.args.output < length bench.task.chip.outputs) (sym c.self.view_is)
+    c.requires in
+    let within = subst (λ nets. c.args.output < length nets) (sym c.self.invariant.outputs_are) listed in
+    subst (λ net. net < length inside.judge.seen.chip.nets)
+    (sym c.output.ensures.net)
+    (output_within inside.judge.seen _ inside.defects (core_of inside.view.now.chip).outputs inside.aim c.self.invariant
+    c.args.output within)
+
+pub returns : goal.returns
+returns g c =
+    let inside = c.self.inside in
+    let seen = inside.judge.seen in
+    let listed = subst (λ (bench : Benched). c.args.output < length bench.task.chip.outputs) (sym c.self.view_is)
+    c.requires in
+    let within = subst (λ nets. c.args.output < length nets) (sym c.self.invariant.outputs_are) listed in
+    let net_is = c.output.ensures.net in
+    let value_is = ap (λ (wave : Wave). wave.last) (c.faulty.ensures ∙ ap (wave_at seen.faulty) net_is) in
+    subst (λ (bench : Benched). IsNetEnd bench.task.chip bench.aimed bench.bits
+    (slice_index bench.task.chip.outputs c.args.output) c.faulty.result.last) c.self.view_is
+    (subst (IsNetEnd seen.chip seen.aim seen.pair (slice_index seen.chip.outputs c.args.output)) (sym value_is)
+    (faulty_ends seen _ inside.defects (core_of inside.view.now.chip).outputs inside.aim c.self.invariant
+    c.definite_last_is_end.ensures c.exact.ensures c.args.output within))

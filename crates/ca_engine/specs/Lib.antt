@@ -1,0 +1,3 @@
+pub mod ChipDefects
+pub mod ChipTask
+pub mod ChipBench

@@ -1,0 +1,229 @@
+//! The bench of a linked chip.
+
+ghost use Rattle.std.specs.Prelude.{◌≡◌, ◌<◌, ◌^◌, length, IfOk};
+ghost use Rattle.ca_core.specs.Core.{core_of};
+ghost use Rattle.ca_sim.specs.Simulator.{IsFresh};
+ghost use Rattle.ca_judge.specs.Bench.{IsSearchable};
+ghost use Rattle.ca_engine.specs.ChipTask.{task_of};
+
+use crate::listing::{ChipDefects, chip_defects};
+use crate::pair_bits::PairBits;
+use ca_base::NoMemory;
+use ca_credit::Simulator;
+use ca_flat::ChipDefect;
+use ca_flatten::{flat_is_well_formed, judge_size};
+use ca_generate::{Bench, outcome_is_search};
+use ca_guide::{Choice, LinkedChip};
+use ca_net::Trit;
+use ca_pair::Pair;
+use ca_rows::ExposableDefects;
+use ca_search::{Code, Judge, Outcome, Search};
+use ca_sim::{Linked, NetWaves, definite_last_is_end};
+use ca_view::View;
+use std::alloc::Global;
+use std::marker::Model;
+
+/// The simulator and the guide of a linked chip, the list of its defects, and the room of a search. Memory is
+/// taken by `reserve`, and for a code that is kept. It is for rows and a choice of any type, so that what
+/// drops one has few parts to the prover.
+#[derive(Drop)]
+pub struct ChipBench<'a, R: ExposableDefects, P: Choice + Drop> {
+    view: &'a View<'a>,
+    judge: ca_judge::Bench<'a, View<'a>, View<'a>, R, P>,
+    rows: &'a R,
+    defects: ChipDefects,
+    search: Search,
+    aim: Option<ChipDefect>,
+}
+
+// The judge over a view, which is simulated and guided alike. The view is of any type, since the checker of
+// borrows takes one reference twice only where its type shows no reference.
+fn judge_over<'a, V: Linked + LinkedChip, R: ExposableDefects, P: Choice + Drop>(
+    alloc: Global,
+    view: &'a V,
+    rows: &'a R,
+    choice: P,
+) -> Result<ca_judge::Bench<'a, V, V, R, P>, NoMemory>
+    requires view { IsSearchable (V.core view.now) (V.chip view.now) (V.lists view.now) }
+    requires rows { R.chip rows.now ≡ V.core view.now }
+    ensures { IfOk result (IsFresh (V.core view.now) (V.places view.now)) }
+{
+    ca_judge::Bench::reserve(alloc, view, view, rows, choice)
+}
+
+impl<'a, R: ExposableDefects, P: Choice + Drop> Model for ChipBench<'a, R, P> {
+    ghost use Rattle.ca_core.specs.Core.{core_of};
+    ghost use Rattle.ca_engine.specs.ChipBench.{Benched, IsChipBench};
+
+    ghost Value = { Benched };
+
+    ghost view = { λ bench. record {
+      task = record {
+        chip = bench.judge.seen.chip;
+        defects = bench.defects;
+        budget = bench.search.budget;
+      };
+      bits = bench.judge.seen.pair;
+      aimed = bench.judge.seen.aim;
+      code = bench.search.code;
+      aims = bench.judge.aimed;
+      evaluated = bench.judge.evaluated;
+    } };
+
+    ghost invariant = { λ bench. IsChipBench bench.judge.seen.chip bench.judge.seen.places
+        bench.judge.seen.aim (R.chip bench.rows.now) bench.defects
+        (core_of bench.view.now.chip).outputs bench.aim };
+}
+
+impl<'a, R: ExposableDefects, P: Choice + Drop> ChipBench<'a, R, P> {
+    ghost use Rattle.ca_engine.specs.ChipBench.{IsUnused};
+
+    /// The bench of a linked chip. Its task is to search for each defect of a library instance, with at most
+    /// so many branches. No bit is set, and no defect is aimed at. Want of memory is also told of a chip with
+    /// 2^32 observed outputs, with 2^32 defects or whose flat network may have 2^32 nodes or devices.
+    #[tactic(auto, using(crate::proofs::CoreLemmas::core_is_searchable))]
+    pub fn reserve(
+        alloc: Global,
+        view: &'a View<'a>,
+        rows: &'a R,
+        choice: P,
+        budget: u32,
+    ) -> Result<Self, NoMemory>
+        requires { R.chip rows.now ≡ core_of view.now.chip }
+        ensures task { IfOk result (λ bench. bench.task ≡ task_of view.now.chip budget) }
+        ensures few { IfOk result (λ bench. length bench.task.defects < 2 ^ 32) }
+        ensures unused { IfOk result IsUnused }
+    {
+        view.viewed();
+        view.linked();
+        flat_is_well_formed();
+        judge_size(alloc, view.chip())?;
+        // The largest comes last: each that is there when memory is wanting is let go once more.
+        let defects = chip_defects(alloc, view)?;
+        if view.outputs() > u32::MAX as usize || defects.len() > u32::MAX as usize {
+            return Err(NoMemory);
+        }
+        let search = Search::reserve(alloc, budget)?;
+        let judge = judge_over(alloc, view, rows, choice)?;
+        Ok(ChipBench {
+            view,
+            judge,
+            rows,
+            defects,
+            search,
+            aim: None,
+        })
+    }
+
+    /// How often was aimed at a defect or at none since `reserve`, up to the type's greatest value.
+    pub fn aim_count(&self) -> u64
+        ensures { result ≡ self.now.aims }
+    {
+        self.judge.aimed()
+    }
+
+    /// How often an instance was evaluated since `reserve`, up to the type's greatest value.
+    pub fn evaluation_count(&self) -> u64
+        ensures { result ≡ self.now.evaluated }
+    {
+        self.judge.evaluated()
+    }
+}
+
+impl<R: ExposableDefects, P: Choice + Drop> Simulator for ChipBench<'_, R, P> {
+    ghost task = { λ bench. bench.task };
+
+    ghost bits = { λ bench. bench.bits };
+
+    ghost aimed = { λ bench. bench.aimed };
+
+    ghost aims = { λ bench. bench.aims };
+
+    fn defect_count(&self) -> usize {
+        self.defects.len()
+    }
+
+    fn output_count(&self) -> u32 {
+        self.view.outputs() as u32
+    }
+
+    #[tactic(auto, using(crate::proofs::BenchLemmas::bench_loads, crate::proofs::PairLemmas::count_of_trits))]
+    fn load(&mut self, pair: &Pair) {
+        self.judge.exact();
+        self.judge.load(&PairBits { pair });
+    }
+
+    fn may_detect(&self, place: usize) -> bool {
+        self.judge.may_show(self.defects.get(place))
+    }
+
+    #[tactic(auto, using(crate::proofs::BenchLemmas::bench_aims))]
+    fn aim(&mut self, place: usize) {
+        let defect = self.defects.get(place);
+        self.judge.aim(Some(defect));
+        self.aim = Some(defect);
+    }
+
+    fn shares_instance(&self, place: usize) -> bool {
+        match self.aim {
+            Some(aim) => self.defects.get(place).instance == aim.instance,
+            None => false,
+        }
+    }
+
+    fn is_alike(&mut self, place: usize) -> bool {
+        definite_last_is_end();
+        self.judge.exact();
+        self.judge.is_alike(self.defects.get(place))
+    }
+
+    #[tactic(auto, using(crate::proofs::BenchLemmas::bench_aims))]
+    fn aim_at_none(&mut self) {
+        self.judge.aim(None);
+        self.aim = None;
+    }
+
+    fn good_end(&self, output: u32) -> Trit {
+        definite_last_is_end();
+        self.judge.exact();
+        self.judge.good(self.view.output(output as usize)).last
+    }
+
+    fn faulty_end(&self, output: u32) -> Trit {
+        definite_last_is_end();
+        self.judge.exact();
+        self.judge.faulty(self.view.output(output as usize)).last
+    }
+}
+
+impl<R: ExposableDefects, P: Choice + Drop> Bench for ChipBench<'_, R, P> {
+    ghost code = { λ bench. bench.code };
+
+    fn is_exposable(&self, place: usize) -> bool {
+        self.rows.is_exposable(self.defects.get(place))
+    }
+
+    fn find(&mut self) -> Outcome {
+        outcome_is_search();
+        if self.aim.is_none() {
+            return Outcome::Spent;
+        }
+        self.search.find(&mut self.judge)
+    }
+
+    fn bit_count(&self) -> usize {
+        self.judge.exact();
+        self.judge.bit_count()
+    }
+
+    fn is_one(&self, bit: usize) -> bool {
+        match self.judge.bit(bit) {
+            Some(value) => value,
+            None => false,
+        }
+    }
+
+    fn keep_code(&self, alloc: Global) -> Result<Code, NoMemory> {
+        self.search.keep_code(alloc)
+    }
+}

@@ -1,0 +1,93 @@
+//! Test generation on a linked chip.
+
+ghost use Rattle.std.specs.Prelude.{◌≡◌, IfOk, IfErr};
+ghost use Rattle.ca_core.specs.Core.{core_of};
+ghost use Rattle.ca_credit.specs.Good.{IsGood};
+ghost use Rattle.ca_generate.specs.GenerateFault.{IsCause};
+ghost use Rattle.ca_engine.specs.ChipTask.{task_of};
+
+use crate::chip_bench::ChipBench;
+use crate::choice::chip_choice;
+use ca_generate::{GenerateFault, Generated, Watch, generate};
+use ca_guide::Choice;
+use ca_rows::{ChipRows, ExposableDefects};
+use ca_view::View;
+use ca_wired::Chip;
+use std::alloc::Global;
+
+/// Searches for pairs that show the defects of a linked chip, with at most so many branches for each: the
+/// pairs, their aims, and a verdict for each defect of a library instance. Want of memory is also told of a
+/// chip with 2^14 chip inputs, with 2^32 defects or whose flat network may have 2^32 nodes or devices. The
+/// watch is told after each defect's turn.
+pub fn generate_chip<T: Watch>(
+    alloc: Global,
+    chip: &Chip,
+    budget: u32,
+    watch: &mut T,
+) -> Result<Generated, GenerateFault>
+    ensures good { IfOk result
+        (λ made. IsGood (task_of chip.now budget) made.pairs made.aims made.verdicts) }
+    ensures cause { IfErr result (IsCause (task_of chip.now budget)) }
+{
+    let view = View::new(alloc, chip)?;
+    let made = generate_viewed(alloc, &view, budget, watch);
+    drop(view);
+    made
+}
+
+// The same over the chip's view. Here and above each thing is let go at one place, since that is dear to
+// prove.
+fn generate_viewed<T: Watch>(
+    alloc: Global,
+    view: &View<'_>,
+    budget: u32,
+    watch: &mut T,
+) -> Result<Generated, GenerateFault>
+    ensures good { IfOk result
+        (λ made. IsGood (task_of view.now.chip budget) made.pairs made.aims made.verdicts) }
+    ensures cause { IfErr result (IsCause (task_of view.now.chip budget)) }
+{
+    let rows = ChipRows::new(alloc, view.chip())?;
+    let made = generate_over(alloc, view, &rows, budget, watch);
+    drop(rows);
+    made
+}
+
+/// The same over the chip's view and rows.
+pub fn generate_over<T: Watch>(
+    alloc: Global,
+    view: &View<'_>,
+    rows: &ChipRows<'_>,
+    budget: u32,
+    watch: &mut T,
+) -> Result<Generated, GenerateFault>
+    requires { rows.now.chip ≡ view.now.chip }
+
+    ensures good { IfOk result
+        (λ made. IsGood (task_of view.now.chip budget) made.pairs made.aims made.verdicts) }
+    ensures cause { IfErr result (IsCause (task_of view.now.chip budget)) }
+{
+    let choice = chip_choice(alloc, view)?;
+    generate_by(alloc, view, rows, choice, budget, watch)
+}
+
+// The same by rows and a choice of any type: so the bench that is dropped here has few parts to the prover.
+fn generate_by<R: ExposableDefects, P: Choice + Drop, T: Watch>(
+    alloc: Global,
+    view: &View<'_>,
+    rows: &R,
+    choice: P,
+    budget: u32,
+    watch: &mut T,
+) -> Result<Generated, GenerateFault>
+    requires { R.chip rows.now ≡ core_of view.now.chip }
+
+    ensures good { IfOk result
+        (λ made. IsGood (task_of view.now.chip budget) made.pairs made.aims made.verdicts) }
+    ensures cause { IfErr result (IsCause (task_of view.now.chip budget)) }
+{
+    let mut bench = ChipBench::reserve(alloc, view, rows, choice, budget)?;
+    let made = generate(alloc, &mut bench, watch);
+    drop(bench);
+    made
+}

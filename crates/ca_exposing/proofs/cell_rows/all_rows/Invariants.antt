@@ -1,5 +1,0 @@
-use Rattle.ca_exposing.specs.CellTable.{AreShown}
-use Rattle.ca_exposing.proofs.cell_rows.all_rows.Given as goal
-
-abbrev pub invariant-loop-place : goal.invariant-loop-place
-invariant-loop-place l = AreShown l.matrix l.place l.rows.items

@@ -1,0 +1,3 @@
+pub mod CellTableLemmas
+pub mod ChipTableLemmas
+pub mod BareLemmas

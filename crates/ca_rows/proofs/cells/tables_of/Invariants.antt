@@ -1,0 +1,5 @@
+use Rattle.ca_rows.specs.ChipTable.{AreFound}
+use Rattle.ca_rows.proofs.cells.tables_of.Given as goal
+
+abbrev pub invariant-loop-k : goal.invariant-loop-k
+invariant-loop-k l = AreFound l.chip l.k l.tables.items

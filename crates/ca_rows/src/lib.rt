@@ -1,0 +1,11 @@
+//! For each defect of a linked chip the rows that expose it, found once for each library cell that it uses.
+#![tactic(auto)]
+
+mod cell_rows;
+mod cells;
+mod chip_rows;
+mod exposable;
+
+pub use cell_rows::CellRows;
+pub use chip_rows::ChipRows;
+pub use exposable::ExposableDefects;

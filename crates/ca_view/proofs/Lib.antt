@@ -1,0 +1,12 @@
+pub mod PartFacts
+pub mod CoreFacts
+pub mod RankLemmas
+pub mod ReaderLemmas
+pub mod ConstantLemmas
+pub mod InputLemmas
+pub mod LinkedLemmas
+pub mod PinLemmas
+pub mod LinkLemmas
+pub mod FeedLemmas
+pub mod EndLemmas
+pub mod ViewLemmas

@@ -1,0 +1,6 @@
+use Rattle.std.proofs.Common.{[], replicate}
+use Rattle.ca_view.specs.Links.{Grows, IsLinkOfFirst, turned}
+use Rattle.ca_view.proofs.links.LinkTable.back.Given as goal
+
+abbrev pub invariant-loop-instance : goal.invariant-loop-instance
+invariant-loop-instance l = Grows (IsLinkOfFirst (turned l.pins) l.instance) (replicate l.pins.nets []) l.table

@@ -1,0 +1,42 @@
+-- A linked chip and its core as tables: the picture that the code has of a chip.
+use Rattle.std.specs.Prelude.{ℕ, ◌^◌, ◌≡◌, ◌<◌, List, length}
+use Rattle.std.specs.List.{All}
+use Rattle.ca_wired.specs.Linked.{Chip, net_count, IsWired}
+use Rattle.ca_flat.specs.Pair.{bit_count}
+use Rattle.ca_core.specs.Core.{core_of, core_constants}
+use Rattle.ca_sim.specs.declared.linked.FixedNet.{FixedNet}
+use Rattle.ca_guide.specs.NetLists.{NetLists, AreNetsOf}
+use Rattle.ca_view.specs.Constants.{constants_of}
+use Rattle.ca_view.specs.Places.{AreRanks}
+use Rattle.ca_view.specs.Readers.{AreRows}
+use Rattle.ca_view.specs.Pins.{Pins, ArePinsOf}
+
+-- the chip, the rank of each instance, and in the numbers of the core the readers of each net, the constants,
+-- the lists that the guide reads, and the net of each observed output
+pub record Viewed : Type 0 where
+  pub chip : Chip
+  pub ranks : List ℕ
+  pub readers : List (List ℕ)
+  pub constants : List FixedNet
+  pub lists : NetLists
+  pub outputs : List ℕ
+
+-- the tables are those of this chip, whose core has few bits
+pub record IsViewOf (chip : Chip) (view : Viewed) : Type 0 where
+  pub chip_is : view.chip ≡ chip
+  pub ranked : AreRanks chip view.ranks
+  pub read : AreRows chip view.readers
+  pub constants_are : constants_of view.constants ≡ core_constants chip
+  pub nets : AreNetsOf (core_of chip) view.lists
+  pub outputs_are : view.outputs ≡ (core_of chip).outputs
+  pub few : bit_count (core_of chip) < 2 ^ 15
+
+-- The chip is wired and has few nets, the tables are its own, and the pins are those of its instances. Only
+-- the proofs of the code cite this.
+pub record IsKept (pins : Pins) (view : Viewed) : Type 0 where
+  pub wired : IsWired view.chip
+  pub few_nets : net_count view.chip < 2 ^ 32
+  pub is_view : IsViewOf view.chip view
+  pub pins_are : ArePinsOf (core_of view.chip) pins
+  pub room : length view.lists.observed ≡ length (core_of view.chip).nets
+  pub inputs_within : All (λ net. net < length (core_of view.chip).nets) view.lists.inputs

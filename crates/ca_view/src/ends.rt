@@ -1,0 +1,58 @@
+//! The nets of the chip inputs and of the observed outputs.
+
+ghost use Rattle.std.specs.Prelude.{◌≡◌, ◌<◌, length, IfOk};
+ghost use Rattle.std.specs.List.{All};
+ghost use Rattle.ca_core.specs.Core.{core_of};
+ghost use Rattle.ca_core.specs.Numbers.{AreCoreNumbers};
+ghost use Rattle.ca_view.specs.Ends.{AreMarked};
+
+use ca_base::NoMemory;
+use ca_core::CoreNets;
+use ca_wired::Chip;
+use std::alloc::Global;
+
+/// The net of each chip input.
+pub(crate) fn input_nets(
+    alloc: Global,
+    chip: &Chip,
+    numbers: &CoreNets,
+) -> Result<Vec<u32>, NoMemory>
+    requires { AreCoreNumbers chip.now numbers.now }
+    ensures { IfOk result (λ nets. nets.items ≡ (core_of chip.now).inputs) }
+{
+    chip.wired();
+    let mut nets = Vec::new(alloc);
+    for i in 0..chip.inputs() {
+        nets.push(numbers.get(chip.input(i)))?;
+    }
+    Ok(nets)
+}
+
+/// The net of each observed output.
+pub(crate) fn output_nets(
+    alloc: Global,
+    chip: &Chip,
+    numbers: &CoreNets,
+) -> Result<Vec<u32>, NoMemory>
+    requires { AreCoreNumbers chip.now numbers.now }
+    ensures { IfOk result (λ nets. nets.items ≡ (core_of chip.now).outputs) }
+{
+    chip.wired();
+    let mut nets = Vec::new(alloc);
+    for o in 0..chip.outputs() {
+        nets.push(numbers.get(chip.output(o)))?;
+    }
+    Ok(nets)
+}
+
+/// Of so many nets those that are listed, marked.
+pub(crate) fn marks_of(alloc: Global, count: usize, nets: &[u32]) -> Result<Vec<bool>, NoMemory>
+    requires { All (λ net. net < count) nets.now }
+    ensures { IfOk result (λ marks. AreMarked count nets.now marks.items) }
+{
+    let mut marks = vec![in alloc; false; count]?;
+    for net in nets {
+        marks[*net as usize] = true;
+    }
+    Ok(marks)
+}
