@@ -15,8 +15,8 @@ use Rattle.ca_chip_replay.specs.ChipRun.{RunOf, input_nodes}
 abbrev pub unknown_nets : ℕ → Trit
 unknown_nets net = X
 
--- a value for each of so many nodes: those of power and ground, of each of so many nets that of the function,
--- and nothing is known of the others
+-- a value for each of this many nodes: those of power and ground, of each of this many nets that of the
+-- function, and nothing is known of the others
 pub record IsVector (nodes nets : ℕ) (value : ℕ → Trit) (vector : List Trit) : Type 0 where
   pub count : length vector ≡ nodes
   pub power : value_at vector 0 ≡ One
@@ -28,7 +28,7 @@ pub record IsVector (nodes nets : ℕ) (value : ℕ → Trit) (vector : List Tri
 abbrev pub HaveOneValue : List Trit → List Trit → Type 0
 HaveOneValue one other = (n : ℕ) → value_at one n ≡ value_at other n
 
--- the network, the nodes of the inputs, and the vectors, whose bits begin at 0 and behind the chip inputs
+-- the network, the nodes of the inputs, and the vectors, whose bits begin at 0 and after the chip inputs
 pub record IsReady (run : RunOf) (net : Circuit) (inputs : List NodeId)
     (first last : List Trit) : Type 0 where
   pub pinned : IsPinned run.chip

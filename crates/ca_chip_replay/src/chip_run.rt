@@ -14,13 +14,13 @@ ghost use Rattle.ca_chip_replay.specs.Kept.{AreOutputValues};
 use crate::input_nodes::input_nodes;
 use crate::vectors::vector_of;
 use ca_base::{List, NoMemory};
-use ca_view::View;
 use ca_flat::ChipDefect;
 use ca_flatten::flatten;
 use ca_net::{FlatNet, Network, NodeId, State, Trit};
 use ca_order::{Event, OrderFault, read_order_for};
 use ca_replay::replay;
 use ca_sim::{Bits, Linked};
+use ca_view::View;
 use std::alloc::Global;
 use std::marker::Model;
 
@@ -71,7 +71,7 @@ fn output_values(alloc: Global, view: &View<'_>, end: &State) -> Result<Vec<Trit
 }
 
 impl<'a, B: Bits> ChipRun<'a, B> {
-    /// The runs of a chip for the pair, good or with the defect. Want of memory is also told of a chip whose
+    /// The runs of a chip for the pair, good or with the defect. Also answers out of memory for a chip whose
     /// flat network may have 2^32 nodes or devices.
     pub fn new(
         alloc: Global,

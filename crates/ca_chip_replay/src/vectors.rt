@@ -55,7 +55,7 @@ fn set_constants<C: Linked, B: Bits>(vector: &mut State, chip: &C, pair: &B, fro
     }
 }
 
-/// The vector of a flat network with so many nodes in which the bits of the chip inputs begin at this one. No
+/// The vector of a flat network with this many nodes in which bits of the chip inputs begin at this one. No
 /// storage node is known in it.
 pub(crate) fn vector_of<C: Linked, B: Bits>(
     alloc: Global,

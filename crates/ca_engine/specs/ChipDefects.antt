@@ -23,7 +23,7 @@ abbrev pub if_placed : ℕ → ℕ → List ℕ
 if_placed zero u = []
 if_placed (suc place) u = u ∷ []
 
--- of the first so many instances those that have a place, in order
+-- of the first `count` instances those that have a place, in order
 unfoldable pub placed_before : List ℕ → ℕ → List ℕ
 placed_before places zero = []
 placed_before places (suc u) = placed_before places u ++ if_placed (place_in places u) u

@@ -6,7 +6,7 @@ use Rattle.ca_wired.specs.Linked.{Chip}
 use Rattle.ca_wired.specs.Instances.{gates_of}
 use Rattle.ca_core.specs.Core.{core_of}
 
--- to search, with at most so many branches for each, for pairs that show the defects of the chip's library
+-- to search, with at most `budget` branches for each, for pairs that show the defects of the chip's library
 -- instances: by instance in netlist order, and then in the order of its cell's list
 abbrev pub task_of : Chip → ℕ → Task
 task_of chip budget = record {

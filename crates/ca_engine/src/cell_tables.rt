@@ -26,7 +26,7 @@ pub(crate) fn table_of(alloc: Global, cell: &Cell) -> Result<CellTable, NoMemory
     })
 }
 
-// Finds the outputs' values for one vector of so many.
+// Finds the outputs' values for one vector of a given number.
 fn add_vector(
     alloc: Global,
     cell: &Cell,

@@ -79,8 +79,9 @@ impl<'a, R: ExposableDefects, P: Choice + Drop> ChipBench<'a, R, P> {
     ghost use Rattle.ca_engine.specs.ChipBench.{IsUnused};
 
     /// The bench of a linked chip. Its task is to search for each defect of a library instance, with at most
-    /// so many branches. No bit is set, and no defect is aimed at. Want of memory is also told of a chip with
-    /// 2^32 observed outputs, with 2^32 defects or whose flat network may have 2^32 nodes or devices.
+    /// `budget` branches. No bit is set, and no defect is aimed at. Also answers out of memory for a
+    /// chip with 2^32 observed outputs, with 2^32 defects or whose flat network may have 2^32 nodes or
+    /// devices.
     #[tactic(auto, using(crate::proofs::CoreLemmas::core_is_searchable))]
     pub fn reserve(
         alloc: Global,
@@ -98,7 +99,7 @@ impl<'a, R: ExposableDefects, P: Choice + Drop> ChipBench<'a, R, P> {
         view.linked();
         flat_is_well_formed();
         judge_size(alloc, view.chip())?;
-        // The largest comes last: each that is there when memory is wanting is let go once more.
+        // The largest comes last: each that is there when memory runs out is dropped once more.
         let defects = chip_defects(alloc, view)?;
         if view.outputs() > u32::MAX as usize || defects.len() > u32::MAX as usize {
             return Err(NoMemory);

@@ -15,10 +15,10 @@ use ca_view::View;
 use ca_wired::Chip;
 use std::alloc::Global;
 
-/// Searches for pairs that show the defects of a linked chip, with at most so many branches for each: the
-/// pairs, their aims, and a verdict for each defect of a library instance. Want of memory is also told of a
+/// Searches for pairs that show the defects of a linked chip, with at most `budget` branches for each: the
+/// pairs, their aims, and a verdict for each defect of a library instance. Also answers out of memory for a
 /// chip with 2^14 chip inputs, with 2^32 defects or whose flat network may have 2^32 nodes or devices. The
-/// watch is told after each defect's turn.
+/// watch is notified after each defect's turn.
 pub fn generate_chip<T: Watch>(
     alloc: Global,
     chip: &Chip,
@@ -35,8 +35,8 @@ pub fn generate_chip<T: Watch>(
     made
 }
 
-// The same over the chip's view. Here and above each thing is let go at one place, since that is dear to
-// prove.
+// The same over the chip's view. Each value is dropped in one place here and above: more places are slow
+// to prove.
 fn generate_viewed<T: Watch>(
     alloc: Global,
     view: &View<'_>,

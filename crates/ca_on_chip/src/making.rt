@@ -6,8 +6,8 @@ ghost use Rattle.ca_make.specs.declared.gate.TheConstants.{MOST_GATES};
 ghost use Rattle.ca_on_chip.specs.OnChip.{IsTestsStage};
 ghost use Rattle.ca_on_chip.specs.Making.{IsMadeChip, IsMakeStage};
 
-use ca_engine::generate_chip;
 use ca_credit::Verdicts;
+use ca_engine::generate_chip;
 use ca_fault::Fault;
 use ca_generate::{Aims, GenerateFault, Generated, Watch};
 use ca_make_laws::{library_is_read, netlist_is_read};

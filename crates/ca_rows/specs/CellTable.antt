@@ -26,7 +26,7 @@ pub record IsCellTable (table : CellTable) : Type 0 where
   pub lists : (place : ℕ) (defect : Defect) → slice_get table.defects place ≡ Some defect
       → ListsRows table.cell defect (slice_index_or table.rows place [])
 
--- the first so many defects of the matrix have their rows; only the proofs of the code cite this
+-- the first `count` defects of the matrix have their rows; only the proofs of the code cite this
 pub record AreShown (matrix : Entries) (count : ℕ) (rows : List (List Row)) : Type 0 where
   pub room : length rows ≡ count
   pub each : (place : ℕ) → place < count → ListsExposing matrix place (slice_index_or rows place [])

@@ -27,7 +27,7 @@ pub record AreTables (chip : Chip) (tables : List (Option CellTable)) : Type 0 w
   pub each : (place : ℕ) (table : CellTable) → slice_get tables place ≡ Some (Some table)
       → table.cell ≡ cell_of chip.cells place
 
--- so it is, and the rows of the cells of the first so many library instances were found; only the proofs of
+-- so it is, and the rows of the cells of the first `count` library instances were found; only the proofs of
 -- the code cite this
 pub record AreFound (chip : Chip) (count : ℕ) (tables : List (Option CellTable)) : Type 0 where
   pub are : AreTables chip tables

@@ -39,7 +39,7 @@ impl<'a> Model for CellRows<'a> {
 }
 
 impl<'a> CellRows<'a> {
-    /// The rows of all defects of a cell, from its matrix, which is let go of.
+    /// The rows of all defects of a cell, from its matrix, which is dropped.
     pub fn new(alloc: Global, cell: &'a Cell) -> Result<Self, NoMemory>
         ensures { IfOk result (λ table. table.cell ≡ cell.now) }
     {

@@ -1,5 +1,5 @@
--- The values that the loop over the observed outputs takes. Only functions of this crate and their proofs cite
--- this.
+-- The values that the loop over the observed outputs takes. Only functions of this crate and their proofs
+-- cite this.
 use Rattle.std.specs.Prelude.{ℕ, ◌≡◌, ◌<◌, List, length, slice_index, Option}
 use Rattle.ca_net.specs.declared.trit.Trit.{Trit}
 use Rattle.ca_net.specs.declared.wave.Wave.{Wave}

@@ -1,4 +1,4 @@
--- What a simulation of a linked chip tells: the values at its observed outputs.
+-- What a simulation of a linked chip answers: the values at its observed outputs.
 use Rattle.std.specs.Prelude.{ℕ, ◌+◌, ◌≡◌, ◌≢◌, ◌<◌, ◌↔◌, List, ◌++◌, map, length, slice_index, Option, None}
 use Rattle.ca_net.specs.declared.trit.Trit.{Trit}
 use Rattle.ca_net.specs.declared.trit.Trit.TheVariants.{X}

@@ -10,10 +10,10 @@ ghost use Rattle.ca_simulate.specs.OneRun.{AreRunEnds, IsRunFault};
 use crate::letters::Letters;
 use ca_asked::Vectors;
 use ca_chip_replay::ChipRun;
-use ca_view::View;
 use ca_flat::ChipDefect;
 use ca_net::Trit;
 use ca_order::OrderFault;
+use ca_view::View;
 use ca_wired::Chip;
 use std::alloc::Global;
 

@@ -11,11 +11,11 @@ ghost use Rattle.ca_simulate.specs.Lasts.{AreLasts, AreReady};
 use crate::letters::Letters;
 use ca_asked::Vectors;
 use ca_base::NoMemory;
-use ca_view::View;
 use ca_flat::ChipDefect;
 use ca_flatten::judge_size;
 use ca_net::Trit;
 use ca_sim::{NetWaves, Sim};
+use ca_view::View;
 use ca_wired::Chip;
 use std::alloc::Global;
 
@@ -28,7 +28,7 @@ pub struct OutputEnds {
 }
 
 /// What the observed outputs settle to under two vectors that have one letter for each chip input, without
-/// the defect and with it. Without a defect both are the same. Want of memory is also told of a chip whose
+/// the defect and with it. Without a defect both are the same. Also answers out of memory for a chip whose
 /// flat network may have 2^32 nodes or devices, or that has 2^14 inputs.
 pub fn simulate(
     alloc: Global,
@@ -74,11 +74,7 @@ fn simulate_on(
 }
 
 // The last values of the waves at the observed outputs.
-fn last_values<N: NetWaves>(
-    alloc: Global,
-    view: &View<'_>,
-    sim: &N,
-) -> Result<OutputEnds, NoMemory>
+fn last_values<N: NetWaves>(alloc: Global, view: &View<'_>, sim: &N) -> Result<OutputEnds, NoMemory>
     requires { (N.seen sim.now).chip ≡ core_of view.now.chip }
     ensures { IfOk result (AreLasts (core_of view.now.chip).outputs (N.seen sim.now)) }
 {

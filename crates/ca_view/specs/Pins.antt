@@ -27,7 +27,7 @@ outputs_of pins u = slice_index_or pins.outputs u []
 abbrev pub items_of : List (Vec ℕ Global) → List (List ℕ)
 items_of lists = map (λ list. list.items) lists
 
--- each net of each list is one of the first so many
+-- each net of each list is below this number
 abbrev pub AreBelow : ℕ → List (List ℕ) → Type 0
 AreBelow count lists = All (All (λ net. net < count)) lists
 
@@ -45,7 +45,7 @@ pub record AreCorePins (chip : Chip) (pins : Pins) : Type 0 where
   pub input_rows : length pins.inputs ≡ pins.count
   pub output_rows : length pins.outputs ≡ pins.count
 
--- the first so many instances have the nets of their pins in the list: so many pins behind others
+-- the first `count` instances have the nets of their pins in the list: a number of pins after others
 pub record HaveNets (chip : Chip) (before pins : ℕ → ℕ) (count : ℕ) (rows : List (List ℕ)) : Type 0 where
   pub room : length rows ≡ count
   pub each : (u : ℕ) → u < count → ArePinNets chip u (before u) (pins u) (slice_index_or rows u [])

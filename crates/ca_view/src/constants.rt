@@ -67,7 +67,7 @@ fn fixed_by(chip: &Chip, numbers: &CoreNets, value: bool) -> Option<FixedNet>
     }
 }
 
-// Whether both are there, and the second is not behind the first.
+// Whether both are there, and the second is not after the first.
 fn is_swapped(low: Option<FixedNet>, high: Option<FixedNet>) -> bool
     ensures { in_net_order (fixed_of low) (fixed_of high)
         ≡ (if result then fixed_of high ++ fixed_of low else fixed_of low ++ fixed_of high) }

@@ -45,7 +45,7 @@ pub(crate) fn output_nets(
     Ok(nets)
 }
 
-/// Of so many nets those that are listed, marked.
+/// The marks of a given number of nets, of which those that are listed are set.
 pub(crate) fn marks_of(alloc: Global, count: usize, nets: &[u32]) -> Result<Vec<bool>, NoMemory>
     requires { All (λ net. net < count) nets.now }
     ensures { IfOk result (λ marks. AreMarked count nets.now marks.items) }

@@ -38,7 +38,7 @@ impl Links for LinkTable {
 }
 
 impl LinkTable {
-    /// A table of so many nets without links.
+    /// A table of `nets` nets without links.
     fn empty(alloc: Global, nets: usize) -> Result<Self, NoMemory>
         ensures { IfOk result (λ table. table ≡ replicate nets []) }
     {

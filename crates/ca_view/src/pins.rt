@@ -18,7 +18,7 @@ use ca_wired::{Chip, InstanceId, NetId};
 use std::alloc::Global;
 use std::marker::Model;
 
-// A scan instance's pin behind its five input pins and its output: the inverted output, if it has one, or
+// A scan instance's pin after its five input pins and its output: the inverted output, if it has one, or
 // else the scan output.
 const INVERTED_PIN: usize = 6;
 
@@ -111,7 +111,7 @@ fn inverted_net(chip: &Chip, u: InstanceId) -> Option<u32>
     }
 }
 
-// The nets of so many pins of a library instance behind the first ones.
+// The nets of `count` pins of a library instance after the first ones.
 fn gate_pins(
     alloc: Global,
     chip: &Chip,

@@ -79,7 +79,7 @@ impl<'a> Model for View<'a> {
 }
 
 impl<'a> View<'a> {
-    /// The view of a chip. Want of memory is also told of a chip with 2^14 chip inputs: one that is linked
+    /// The view of a chip. Also answers out of memory for a chip with 2^14 chip inputs: a linked one
     /// has at most 4,096.
     pub fn new(alloc: Global, chip: &'a Chip) -> Result<Self, NoMemory>
         ensures { IfOk result (IsViewOf chip.now) }
