@@ -78,8 +78,8 @@ pub fn flipped_are_there()
     ensures { FlippedAreThere }
 {}
 
-/// Where the faulty lasts that lead to a net are definite, a defect is detected there exactly where they force
-/// it to the opposite.
+/// Where the faulty lasts that lead to a net are definite, a defect is detected there exactly where they
+/// force it to the opposite.
 pub fn detected_where_forced()
     ensures { DetectedWhereForced }
 {}

@@ -1,4 +1,5 @@
-//! Whether a cell is static: whether each definite vector alone, whatever came before, says what it ends with.
+//! Whether a cell is static: whether each definite vector alone, whatever came before, says what it ends
+//! with.
 #![tactic(auto)]
 
 mod statics;
