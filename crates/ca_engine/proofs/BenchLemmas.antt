@@ -16,9 +16,9 @@ use Rattle.ca_table.specs.Gives.{wave_at}
 use Rattle.ca_defect.specs.Exposes.{opposite_of}
 use Rattle.ca_sim.specs.Seen.{Seen, IsExact, aimed_anew}
 use Rattle.ca_sim.specs.Laws.{DefiniteLastIsEnd}
-use Rattle.ca_sim.specs.Linked.{IsLinked, IsPlacedDefect, place_in}
+use Rattle.ca_view.specs.Linked.{IsLinked, IsPlacedDefect, place_in}
 use Rattle.ca_sim.specs.Simulator.{Simulator, IsFresh, KeepsAim, KeepsPair}
-use Rattle.ca_guide.specs.NetLists.{NetLists}
+use Rattle.ca_view.specs.NetLists.{NetLists}
 use Rattle.ca_search.specs.declared.trail.Outcome.{Outcome}
 use Rattle.ca_search.specs.Judged.{IsSameAim}
 use Rattle.ca_search.specs.Outcome.{IsOutcome}

@@ -5,7 +5,7 @@ ghost use Rattle.std.specs.List.{All};
 ghost use Rattle.ca_flat.specs.Chip.{count_of};
 ghost use Rattle.ca_wired.specs.Instances.{gates_of};
 ghost use Rattle.ca_core.specs.Core.{core_of};
-ghost use Rattle.ca_sim.specs.Linked.{IsPlacedDefect, place_in};
+ghost use Rattle.ca_view.specs.Linked.{IsPlacedDefect, place_in};
 ghost use Rattle.ca_engine.specs.ChipDefects.{chip_defects, if_placed};
 
 use ca_base::{List, NoMemory};

@@ -12,10 +12,10 @@ use Rattle.ca_flat.specs.Flat.{flat}
 use Rattle.ca_flat.specs.Pair.{IsOpenPair}
 use Rattle.ca_flat.specs.Waves.{IsFlatChip}
 use Rattle.ca_sim.specs.Seen.{Seen, IsExact, AreNetWaves}
-use Rattle.ca_sim.specs.Linked.{IsAim, IsLinked, IsPinned, place_in}
+use Rattle.ca_view.specs.Linked.{IsAim, IsLinked, IsPinned, place_in}
 use Rattle.ca_sim.specs.Simulator.{Simulator, IsFresh, KeepsAim, KeepsPair}
 use Rattle.ca_guide.specs.Seen as guide
-use Rattle.ca_guide.specs.NetLists.{NetLists, AreNetsOf}
+use Rattle.ca_view.specs.NetLists.{NetLists, AreNetsOf}
 use Rattle.ca_guide.specs.Guide.{Guided, HasRoomFor, IsSupport, ShowsPair}
 use Rattle.ca_guide.specs.Guide as guided
 use Rattle.ca_guide.specs.declared.guide.Step.{Step}

@@ -11,7 +11,7 @@ use Rattle.ca_flat.specs.RuleOut.{RowsRuleOut}
 use Rattle.ca_flat.specs.Waves.{FlatWaves, wave_of, unknown_wave, IsFlatChip}
 use Rattle.ca_flat.proofs.Detected.{some_good, detected_is_exposed_lem}
 use Rattle.ca_flat.proofs.Filled.{fill, fill_definite, fill_above}
-use Rattle.ca_guide.specs.NetLists.{NetLists, input_nets}
+use Rattle.ca_view.specs.NetLists.{NetLists, input_nets}
 use Rattle.ca_guide.specs.Seen.{AreGoodWaves}
 use Rattle.ca_guide.specs.PinRows.{IsNoneAllowed, IsSomeAllowed}
 use Rattle.ca_guide.specs.Guide.{Guided}

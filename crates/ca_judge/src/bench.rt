@@ -2,7 +2,7 @@
 
 ghost use Rattle.std.specs.Prelude.{◌≡◌, length, IfOk};
 ghost use Rattle.ca_flat.specs.Chip.{IsChipDefect};
-ghost use Rattle.ca_guide.specs.NetLists.{AreNetsOf};
+ghost use Rattle.ca_view.specs.NetLists.{AreNetsOf};
 ghost use Rattle.ca_guide.specs.Guide.{HasRoomFor};
 ghost use Rattle.ca_judge.specs.Bench.{IsGuidedTo};
 
@@ -65,7 +65,7 @@ impl<'a, L: Linked, C: LinkedChip, R: ExposingRows, P: Choice + Drop> Bench<'a, 
     ghost use Rattle.ca_flat.specs.Waves.{FlatWaves};
     ghost use Rattle.ca_flat.specs.Code.{unset_pair};
     ghost use Rattle.ca_flat.specs.Pair.{IsShown};
-    ghost use Rattle.ca_sim.specs.Linked.{IsAim, IsPlacedDefect, place_in};
+    ghost use Rattle.ca_view.specs.Linked.{IsAim, IsPlacedDefect, place_in};
     ghost use Rattle.ca_sim.specs.Seen.{IsExact, aimed_anew};
     ghost use Rattle.ca_sim.specs.Simulator.{IsFresh, KeepsAim, KeepsPair, KeepsSeen, counted_up};
     ghost use Rattle.ca_judge.specs.Bench.{IsSearchable};

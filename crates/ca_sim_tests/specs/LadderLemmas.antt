@@ -18,7 +18,7 @@ use Rattle.ca_cell.specs.declared.raw.RawCell.{RawCell}
 use Rattle.ca_cell.specs.Raw.{is_input, is_output, role_count}
 use Rattle.ca_flat.specs.Chip.{Chip, Instance, Constant, no_instance, instance_at, cell_at, inputs_at}
 use Rattle.ca_flat.specs.Chip.{outputs_at, net_of, count_of, net_kind, IsCell, IsChip, Drives}
-use Rattle.ca_sim.specs.Linked.{AreReaders, IsLinked, IsPinned, IsPlace, place_in}
+use Rattle.ca_view.specs.Linked.{AreReaders, IsLinked, IsPinned, IsPlace, place_in}
 use Rattle.ca_sim_tests.specs.declared.rung.Rung.{Rung}
 use Rattle.ca_sim_tests.specs.Ladder.{cell_of, instances_from, ladder_of, places_of, number_in, IsRung}
 use Rattle.ca_sim_tests.specs.Ladder.{AreRungsTo, IsRowTo, row_of, IsLadder}

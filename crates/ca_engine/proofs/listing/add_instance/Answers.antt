@@ -9,7 +9,7 @@ use Rattle.ca_defect.specs.List.{defects_of, IsDefectOf}
 use Rattle.ca_flat.specs.declared.chip_defect.ChipDefect.{ChipDefect}
 use Rattle.ca_flat.specs.Chip.{cell_at}
 use Rattle.ca_core.specs.Core.{core_of}
-use Rattle.ca_sim.specs.Linked.{IsPlacedDefect, place_in}
+use Rattle.ca_view.specs.Linked.{IsPlacedDefect, place_in}
 use Rattle.ca_engine.specs.ChipDefects.{placed_at}
 use Rattle.ca_engine.proofs.ListingLemmas.{placed_has, defect_adds}
 use Rattle.ca_engine.proofs.listing.add_instance.Goals as goal

@@ -3,7 +3,7 @@ use Rattle.std.specs.List.{All}
 use Rattle.std.proofs.lemmas.List.Elements.{All-nil}
 use Rattle.ca_flat.specs.declared.chip_defect.ChipDefect.{ChipDefect}
 use Rattle.ca_core.specs.Core.{core_of}
-use Rattle.ca_sim.specs.Linked.{IsPlacedDefect, place_in}
+use Rattle.ca_view.specs.Linked.{IsPlacedDefect, place_in}
 use Rattle.ca_flat.specs.Chip.{count_of}
 use Rattle.ca_engine.specs.ChipDefects.{chip_defects, placed_before}
 use Rattle.ca_engine.proofs.PlacedLemmas.{placed_are_gates}

@@ -1,7 +1,7 @@
 use Rattle.std.proofs.Common.{◌≡◌}
 use Rattle.std.specs.List.{All}
 use Rattle.ca_core.specs.Core.{core_of}
-use Rattle.ca_sim.specs.Linked.{IsPlacedDefect, place_in}
+use Rattle.ca_view.specs.Linked.{IsPlacedDefect, place_in}
 use Rattle.ca_engine.specs.ChipDefects.{chip_defects, placed_before}
 use Rattle.ca_engine.proofs.listing.chip_defects.Given as goal
 

@@ -1,6 +1,6 @@
 use Rattle.std.proofs.Common.{◌≡◌, ◌<◌, length, Some, sym, subst}
 use Rattle.std.specs.Prelude.{slice_get}
-use Rattle.ca_sim.specs.Linked.{place_in}
+use Rattle.ca_view.specs.Linked.{place_in}
 use Rattle.ca_sim.specs.Seen.{IsExact, aimed_anew}
 use Rattle.ca_core.specs.Core.{core_of}
 use Rattle.ca_credit.specs.Defects.{IsDefectAt}

@@ -1,5 +1,5 @@
 use Rattle.std.proofs.Common.{sym, subst}
-use Rattle.ca_sim.specs.Linked.{IsAim, place_in}
+use Rattle.ca_view.specs.Linked.{IsAim, place_in}
 use Rattle.ca_judge.proofs.BenchLemmas.{nets_of_guide, aim_in_chip}
 use Rattle.ca_judge.proofs.bench.Bench.aim.Goals as goal
 

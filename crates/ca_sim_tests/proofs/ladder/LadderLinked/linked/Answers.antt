@@ -1,5 +1,5 @@
 use Rattle.std.proofs.Common.{ℕ, ◌<◌, length, subst}
-use Rattle.ca_sim.specs.Linked.{IsLinked, IsPinned, AreReaders, place_in}
+use Rattle.ca_view.specs.Linked.{IsLinked, IsPinned, AreReaders, place_in}
 use Rattle.ca_sim_tests.specs.Ladder.{Shape, core_of, places_of, number_in, row_of}
 use Rattle.ca_sim_tests.specs.LadderLemmas.{ladder_linked, ladder_pinned, ladder_read}
 use Rattle.ca_sim_tests.proofs.ladder.LadderLinked.linked.Goals as goal

@@ -1,5 +1,5 @@
 use Rattle.std.proofs.Common.{◌≡◌, sym, subst}
-use Rattle.ca_sim.specs.Linked.{IsPlaced, place_in}
+use Rattle.ca_view.specs.Linked.{IsPlaced, place_in}
 use Rattle.ca_sim_tests.specs.Ladder.{core_of, places_of}
 use Rattle.ca_sim_tests.specs.LadderLemmas.{order_is}
 use Rattle.ca_sim_tests.proofs.ladder.LadderLinked.order.Goals as goal

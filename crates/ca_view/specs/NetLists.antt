@@ -1,10 +1,17 @@
--- What the guide reads of a linked chip: lists of nets.
+-- Lists of nets of a linked chip: links onward and back, pins, chip inputs.
 use Rattle.std.specs.Prelude.{ℕ, ◌+◌, ◌≡◌, ◌<◌, ◌≤◌, ◌↔◌, Bool, true, false, List, [], length, slice_index_or}
-use Rattle.std.specs.List.{Contains}
+use Rattle.std.specs.List.{All, Contains}
 use Rattle.ca_cell.specs.declared.rule.TheConstants.{MOST_INPUTS}
 use Rattle.ca_flat.specs.Chip.{Chip, inputs_at, outputs_at, net_of, count_of}
 use Rattle.ca_flat.specs.Chain.{Feeds}
-use Rattle.ca_guide.specs.Flood.{linked_from}
+
+-- the nets to which a net is linked; past the list none
+abbrev pub linked_from : List (List ℕ) → ℕ → List ℕ
+linked_from links net = slice_index_or links net []
+
+-- each link leads to a place of the list
+abbrev pub AreWithin : List (List ℕ) → Type 0
+AreWithin links = All (All (λ net. net < length links)) links
 
 -- For each net the nets that it feeds, those that feed it, and whether it is observed; for each instance the
 -- nets of its input pins and of its output pins; and the net of each chip input.

@@ -1,17 +1,61 @@
 //! The values of a cell's outputs.
 
-ghost use Rattle.std.specs.Prelude.{◌≡◌, length};
+ghost use Rattle.std.specs.Prelude.{◌≡◌, ◌<◌, length};
 
+use crate::tables::CellTable;
 use ca_base::NoMemory;
 use ca_cell::Cell;
-use ca_choice::CellTable;
 use ca_net::{Network, Trit, Wave};
 use ca_response::{pairs, respond};
 use ca_settle::Work;
+use ca_wired::{Chip, InstanceId};
 use std::alloc::Global;
 
-/// The values of the cell's outputs for each vector of its inputs.
-pub(crate) fn table_of(alloc: Global, cell: &Cell) -> Result<CellTable, NoMemory> {
+// Tables of a number of cells of which nothing is known.
+fn no_tables(alloc: Global, count: usize) -> Result<Vec<CellTable>, NoMemory> {
+    let mut tables = Vec::new(alloc);
+    for _ in 0..count {
+        tables.push(CellTable {
+            inputs: 0,
+            outputs: 0,
+            values: Vec::new(alloc),
+        })?;
+    }
+    Ok(tables)
+}
+
+/// The table of each cell of the library that an instance is of, by the cell's place in the library; a cell that
+/// no instance is of has an empty one.
+pub(crate) fn cells_of(alloc: Global, chip: &Chip) -> Result<Vec<CellTable>, NoMemory> {
+    chip.wired();
+    let mut tables = no_tables(alloc, chip.library_cells())?;
+    for u in 0..chip.parts() {
+        add_cell(alloc, chip, InstanceId(u as u32), &mut tables)?;
+    }
+    Ok(tables)
+}
+
+// Finds the values of an instance's cell, if it is of a library cell and they aren't there.
+fn add_cell(
+    alloc: Global,
+    chip: &Chip,
+    u: InstanceId,
+    tables: &mut [CellTable],
+) -> Result<(), NoMemory>
+    requires { u.0 < length chip.now.parts }
+{
+    if !chip.is_library(u) {
+        return Ok(());
+    }
+    let place = chip.library_place(u);
+    if place < tables.len() && tables[place].outputs == 0 {
+        tables[place] = table_of(alloc, chip.cell_of(u))?;
+    }
+    Ok(())
+}
+
+// The values of the cell's outputs for each vector of its inputs.
+fn table_of(alloc: Global, cell: &Cell) -> Result<CellTable, NoMemory> {
     let inputs = cell.inputs();
     let outputs = cell.outputs();
     let vectors = 2usize.pow(inputs as u32);
