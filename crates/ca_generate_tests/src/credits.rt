@@ -171,7 +171,7 @@ fn tell_over<P: Choice + Drop>(
     requires numbers { length pairs.now < 2 ^ 32 }
 {
     view.linked();
-    if bits != 2 * view.inputs() {
+    if bits != 2 * view.input_count() {
         return Err(NoMemory);
     }
     let mut bench = ChipBench::reserve(alloc, view, rows, choice, budget)?;

@@ -170,7 +170,10 @@ fn linked_netlist(rt: &impl Abort, alloc: Global, raw: &RawNetlist) -> Chip
     requires { IsNetlist raw.now }
 {
     let library = read_library(alloc, CELLS).expect(rt, "a library");
-    link(alloc, raw, library, &ScanTable::new(alloc)).expect(rt, "a chip")
+    match link(alloc, raw, library, &ScanTable::new(alloc)) {
+        Ok(chip) => chip,
+        Err(_) => panic!(rt; "no chip"),
+    }
 }
 
 /// The chip of these instances: of each its cell and the nets that it reads.
