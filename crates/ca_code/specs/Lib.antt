@@ -1,0 +1,5 @@
+pub mod Tokens
+pub mod ClaimedCode
+pub mod Examined
+pub mod CodeEnd
+pub mod Walk
