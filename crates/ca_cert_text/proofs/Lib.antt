@@ -1,0 +1,5 @@
+pub mod NumberLemmas
+pub mod CutLemmas
+pub mod FreeLemmas
+pub mod WordLemmas
+pub mod LineLemmas

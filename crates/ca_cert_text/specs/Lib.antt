@@ -1,0 +1,4 @@
+pub mod CertText
+pub mod CertFault
+pub mod Cut
+pub mod Reading
