@@ -14,9 +14,9 @@ use crate::detection::{Detection, detections};
 use crate::tester::Tester;
 use ca_base::NoMemory;
 use ca_claim::{Answer, Certificate, Claim};
+use ca_code::{Code, is_spent, is_whole};
 use ca_flat::ChipDefect;
 use ca_pair::Pairs;
-use ca_code::{Code, is_spent, is_whole};
 use std::alloc::Global;
 
 // Whether the detection that was found is this one.
@@ -129,7 +129,14 @@ pub fn check<T: Tester>(
     for place in 0..claims.len() {
         let detection = found[place];
         let defect = defects[place];
-        if !stands(alloc, tester, &claims[place], detection, certificate.budget, defect)? {
+        if !stands(
+            alloc,
+            tester,
+            &claims[place],
+            detection,
+            certificate.budget,
+            defect,
+        )? {
             return Ok(Answer::No {
                 defect: place as u32,
             });

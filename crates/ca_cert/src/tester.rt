@@ -1,8 +1,8 @@
 //! What the check of a certificate asks of a chip.
 
+use ca_code::Examiner;
 use ca_flat::ChipDefect;
 use ca_pair::Pair;
-use ca_code::Examiner;
 
 /// A chip, and of its defects which pairs detect them, which can be exposed, and what may stand in a code.
 pub trait Tester: Examiner {

@@ -29,7 +29,7 @@ pub free_decimal : (byte number : ℕ) → byte < 48 → number < 2 ^ 64 → IsF
 free_decimal byte number low few = decimal_by_steps (λ m digits. IsFree byte digits)
     (λ m below. free_one byte (48 + m) [] (λ e. omega (arith, e, low)) (free_none byte))
     (λ m digits more before. free_both byte digits ((48 + m % 10) ∷ []) before
-      (free_one byte (48 + m % 10) [] (λ e. omega (arith, e, low)) (free_none byte)))
+    (free_one byte (48 + m % 10) [] (λ e. omega (arith, e, low)) (free_none byte)))
     number few
 
 pub free_token : (token : Token) → IsTokenOf token → (byte : ℕ) → byte < 43 → IsFree byte (token_word token)

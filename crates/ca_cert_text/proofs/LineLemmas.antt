@@ -48,7 +48,7 @@ pub one_claim : (text : List ℕ) (claims new : List Claim) (rest line after : L
     → text ≡ claim_lines new ++ tail_of after
 one_claim text claims new rest line after claim read parts some begins is pushed =
     let here : rest ≡ claim_line claim ++ tail_of after =
-        parts ∙ (λ i. is i ++ first_is 10 after some begins i) ∙ sym (append_assoc (claim_words claim) (10 ∷ []) (tail_of after)) in
+    parts ∙ (λ i. is i ++ first_is 10 after some begins i) ∙ sym (append_assoc (claim_words claim) (10 ∷ []) (tail_of after)) in
     read ∙ ap (λ (rest : List ℕ). claim_lines claims ++ rest) here
     ∙ sym (append_assoc (claim_lines claims) (claim_line claim) (tail_of after))
     ∙ ap (λ (front : List ℕ). front ++ tail_of after) (sym (lines_push claims claim) ∙ ap claim_lines (sym pushed))

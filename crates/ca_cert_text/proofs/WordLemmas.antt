@@ -78,7 +78,7 @@ pub lines_next : (before text new : List ℕ) (claims items : List Claim) (k : �
     → new ≡ text ++ claim_lines (take (k + 1) claims)
 lines_next before text new claims items k claim same within at read is =
     let next : take (k + 1) claims ≡ take k claims ++ claim ∷ [] =
-        ap (take (k + 1)) (sym same) ∙ take_more items k claim within ∙ (λ i. take k (same i) ++ sym at i ∷ []) in
+    ap (take (k + 1)) (sym same) ∙ take_more items k claim within ∙ (λ i. take k (same i) ++ sym at i ∷ []) in
     is ∙ ap (λ (front : List ℕ). front ++ claim_line claim) read ∙ append_assoc text (claim_lines (take k claims)) (claim_line claim)
     ∙ ap (λ (lines : List ℕ). text ++ lines) (sym (lines_push (take k claims) claim) ∙ ap claim_lines (sym next))
 

@@ -7,6 +7,8 @@ use Rattle.ca_flat.specs.Code.{IsSpentCode}
 use Rattle.ca_flat.specs.Waves.{IsFlatChip}
 use Rattle.ca_claim.specs.declared.claim.Claim.{Claim}
 use Rattle.ca_claim.specs.declared.claim.Claim.TheVariants.{Credited, Unexposable, Untestable, Aborted}
+use Rattle.ca_claim.specs.declared.certificate.Answer.{Answer}
+use Rattle.ca_claim.specs.declared.certificate.Answer.TheVariants.{Yes, No}
 use Rattle.ca_flat.specs.Detection.{IsExposableIn, NoneDetects, IsUntestable, IsFirstDetection}
 use Rattle.ca_claim.specs.Stands.{StandBelow}
 
@@ -49,6 +51,11 @@ StandingClaimsAreTrue =
     (chip : Chip) (rank : ℕ → ℕ) (defects : List ChipDefect) (pairs : List (List Bool)) (budget : ℕ)
     (claims : List Claim)
     → ((place : ℕ) (defect : ChipDefect) → slice_get defects place ≡ Some defect
-      → IsFlatChip chip rank defect)
+    → IsFlatChip chip rank defect)
     → length claims ≡ length defects → StandBelow chip defects pairs budget claims (length claims)
     → AreTrue chip defects pairs budget claims
+
+-- where the answer is yes, each claim says what is so
+abbrev pub IsYesTrue : Chip → List ChipDefect → List (List Bool) → ℕ → List Claim → Answer → Type 0
+IsYesTrue chip defects pairs budget claims Yes = AreTrue chip defects pairs budget claims
+IsYesTrue chip defects pairs budget claims (No defect) = Unit {0}

@@ -73,10 +73,13 @@ module _ (old : Examined) (ds : List Decision) (bit : ℕ) (first : Bool) (follo
 
   branch_at : IsStride (Branch bit first) old (with_pair old (with_bit old.pair bit first)) ds
       (ds ++ first_to bit first ∷ []) Goes
-  branch_at = (branched_follows, λ rest to. (
-    λ reads. subst (λ here. Reads (rules_of old) rest here to) branched_reading reads.1,
-    λ reads. (may, subst (λ here. Reads (rules_of old) rest here to) (sym branched_reading) reads),
-  ))
+  branch_at = (
+    branched_follows,
+    λ rest to. (
+      λ reads. subst (λ here. Reads (rules_of old) rest here to) branched_reading reads.1,
+      λ reads. (may, subst (λ here. Reads (rules_of old) rest here to) (sym branched_reading) reads),
+    ),
+  )
 
 -- a branch that may stand
 pub branch_goes : (old new : Examined) (ds after : List Decision) (bit : ℕ) (first : Bool) → Follows old ds
@@ -90,10 +93,13 @@ branch_goes old new ds after bit first follows may is_new is_after =
 -- a leaf that may stand, with a pair after it
 pub leaf_goes : (old new : Examined) (ds after : List Decision) → MayLeaveHere old → TurnsTo old new ds after
     → IsStride Leaf old new ds after Goes
-leaf_goes old new ds after may turn = (turn.follows, λ rest to. (
-  λ reads. subst (λ here. Reads (rules_of old) rest here to) (ap behind_tree turn.next) reads.1,
-  λ reads. (may, subst (λ here. Reads (rules_of old) rest here to) (sym (ap behind_tree turn.next)) reads),
-))
+leaf_goes old new ds after may turn = (
+  turn.follows,
+  λ rest to. (
+    λ reads. subst (λ here. Reads (rules_of old) rest here to) (ap behind_tree turn.next) reads.1,
+    λ reads. (may, subst (λ here. Reads (rules_of old) rest here to) (sym (ap behind_tree turn.next)) reads),
+  ),
+)
 
 -- a leaf that may stand, and ends the tree
 pub leaf_ends : (old new : Examined) (ds after : List Decision) → MayLeaveHere old → still_later old ds ≡ []

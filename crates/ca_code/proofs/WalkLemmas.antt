@@ -83,4 +83,3 @@ set_back pair bit a within unset = set_twice pair bit a X within
           (bit_itself pair bit X within ∙ sym unset)
       | no other ↦ bit_other pair bit n X other
     ])
-

@@ -5,10 +5,10 @@ ghost use Rattle.ca_flat.specs.Code.{branch_count, IsWholeBy, IsSpentBy};
 ghost use Rattle.ca_code.specs.Examined.{IsSameAim};
 ghost use Rattle.ca_code.specs.CodeEnd.{rules_of, end_by, IsEnd};
 
+use crate::code::Code;
 use crate::examiner::Examiner;
 use crate::walk::{CodeEnd, Stride, read_token};
 use ca_base::NoMemory;
-use crate::code::Code;
 use ca_flat::Token;
 use std::alloc::Global;
 
@@ -33,7 +33,11 @@ fn read<E: Examiner>(alloc: Global, examiner: &mut E, code: &Code) -> Result<Cod
 fn end_at(is_last: bool) -> CodeEnd
     ensures { result ≡ end_by is_last }
 {
-    if is_last { CodeEnd::Whole } else { CodeEnd::Unlawful }
+    if is_last {
+        CodeEnd::Whole
+    } else {
+        CodeEnd::Unlawful
+    }
 }
 
 // How many of the tokens are branches.

@@ -6,11 +6,10 @@ mod cell_tables;
 mod chip_bench;
 mod choice;
 mod generate;
-mod listing;
 mod pair_bits;
 mod parts;
 
+pub use ca_chip_defects::{ChipDefects, chip_defects};
 pub use chip_bench::ChipBench;
 pub use choice::chip_choice;
 pub use generate::{generate_chip, generate_over};
-pub use listing::{ChipDefects, chip_defects};

@@ -28,10 +28,13 @@ marked_within (mark ∷ marks) (suc net) is = let w = marked_within marks net is
 pub listed_begin : (others : List Bool) (nets : List ℕ) (marks : List Bool) → MarksListedTo others nets 0 marks marks
 listed_begin others nets marks = record {
   size = refl;
-  each = λ net. (λ was. inl was, λ either. elim either [
-    | inl was ↦ was
-    | inr here ↦ let lt = here.0.below in absurd (omega arith)
-  ]);
+  each = λ net. (
+    λ was. inl was,
+    λ either. elim either [
+      | inl was ↦ was
+      | inr here ↦ let lt = here.0.below in absurd (omega arith)
+    ],
+  );
 }
 
 -- one more net of the list
@@ -47,19 +50,25 @@ listed_more others nets count d old mid new within before more = record {
     there net marked = elim ((more.each net).0 marked) [
       | inl was ↦ elim ((before.each net).0 was) [
         | inl first ↦ inl first
-        | inr here ↦ inr (record {
+        | inr here ↦ inr (
+          record {
             place = here.0.place;
             below = (let lt = here.0.below in omega arith);
             within = here.0.within;
             is = here.0.is;
-          }, here.1)
+          },
+          here.1,
+        )
       ]
-      | inr here ↦ inr (record {
+      | inr here ↦ inr (
+        record {
           place = count;
           below = omega arith;
           within = within;
           is = get_or_default nets count net d within ∙ here.0;
-        }, subst (IsMarked others) here.0 here.1)
+        },
+        subst (IsMarked others) here.0 here.1,
+      )
     ]
 
     back : (net : ℕ) → IsMarked old net ⊎ (IsListedBelow nets (count + 1) net × IsMarked others net) → IsMarked new net
@@ -67,15 +76,18 @@ listed_more others nets count d old mid new within before more = record {
       | inl first ↦ (more.each net).1 (inl ((before.each net).1 (inl first)))
       | inr here ↦ elim (ℕ_discrete here.0.place count) [
         | yes at ↦ (more.each net).1 (inr (
-            sym (get_or_default nets count net d within) ∙ subst (λ k. get_or nets k net ≡ net) at here.0.is,
-            subst (IsMarked others) (sym (sym (get_or_default nets count net d within) ∙ subst (λ k. get_or nets k net ≡ net) at here.0.is)) here.1,
-          ))
-        | no apart ↦ (more.each net).1 (inl ((before.each net).1 (inr (record {
+          sym (get_or_default nets count net d within) ∙ subst (λ k. get_or nets k net ≡ net) at here.0.is,
+          subst (IsMarked others) (sym (sym (get_or_default nets count net d within) ∙ subst (λ k. get_or nets k net ≡ net) at here.0.is)) here.1,
+        ))
+        | no apart ↦ (more.each net).1 (inl ((before.each net).1 (inr (
+          record {
             place = here.0.place;
             below = (let lt = here.0.below in let far : here.0.place ≡ count → ⊥ = apart in omega arith);
             within = here.0.within;
             is = here.0.is;
-          }, here.1))))
+          },
+          here.1,
+        ))))
       ]
     ]
 
@@ -91,12 +103,15 @@ listed_all others nets count old new past are = record {
     ],
     λ either. (are.each net).1 (elim either [
       | inl was ↦ inl was
-      | inr here ↦ inr (record {
+      | inr here ↦ inr (
+        record {
           place = here.0.0;
           below = (let lt = here.0.1 in omega arith);
           within = here.0.1;
           is = here.0.2;
-        }, here.1)
+        },
+        here.1,
+      )
     ]),
   );
 }
@@ -105,10 +120,13 @@ listed_all others nets count old new past are = record {
 pub pins_begin : (chip : Chip) (others : List Bool) (u from : ℕ) (marks : List Bool) → MarksPins chip others u from 0 marks marks
 pins_begin chip others u from marks = record {
   size = refl;
-  each = λ net. (λ was. inl was, λ either. elim either [
-    | inl was ↦ was
-    | inr here ↦ let lt = here.0.within in absurd (omega arith)
-  ]);
+  each = λ net. (
+    λ was. inl was,
+    λ either. elim either [
+      | inl was ↦ was
+      | inr here ↦ let lt = here.0.within in absurd (omega arith)
+    ],
+  );
 }
 
 -- one more pin
@@ -136,11 +154,14 @@ pins_more chip others u from count net old mid new before is more = record {
         | yes at ↦
             let same : net ≡ n = is ∙ ap (λ k. net_of chip u (from + k)) (sym at) ∙ here.0.on in
             (more.each n).1 (inr (same, subst (IsMarked others) (sym same) here.1))
-        | no apart ↦ (more.each n).1 (inl ((before.each n).1 (inr (record {
+        | no apart ↦ (more.each n).1 (inl ((before.each n).1 (inr (
+          record {
             pin = here.0.pin;
             within = (let lt = here.0.within in let far : here.0.pin ≡ count → ⊥ = apart in omega arith);
             on = here.0.on;
-          }, here.1))))
+          },
+          here.1,
+        ))))
       ]
     ]
 

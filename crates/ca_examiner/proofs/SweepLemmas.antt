@@ -102,16 +102,20 @@ module _ (chip : Chip) (place_of number_of : ℕ → ℕ) (linked : IsLinked chi
             let earlier_chain = swept.chains (net_of chip w (0 + some.pin)) some.marked in
             record {
               before = net_of chip w (0 + some.pin) ∷ earlier_chain.before;
-              chain = (here.2, record {
-                instance = w;
-                known = placed_w.known;
-                pin = some.pin;
-                pin_within = some.within;
-                reads = ap (net_of chip w) (sym (none_plus some.pin));
-                output = out.output;
-                output_within = out.within;
-                drives = out.on;
-              }, earlier_chain.chain);
+              chain = (
+                here.2,
+                record {
+                  instance = w;
+                  known = placed_w.known;
+                  pin = some.pin;
+                  pin_within = some.within;
+                  reads = ap (net_of chip w) (sym (none_plus some.pin));
+                  output = out.output;
+                  output_within = out.within;
+                  drives = out.on;
+                },
+                earlier_chain.chain,
+              );
             }
       ]
 
@@ -237,16 +241,19 @@ module _ (chip : Chip) (place_of number_of : ℕ → ℕ) (linked : IsLinked chi
               marked = later.marked;
               leads = record {
                 path = net_of chip w (inputs_at chip w + some.pin) ∷ later.leads.path;
-                is_chain = (record {
-                  instance = w;
-                  known = placed_w.known;
-                  pin = on.pin;
-                  pin_within = on.within;
-                  reads = ap (net_of chip w) (sym (none_plus on.pin)) ∙ on.on;
-                  output = some.pin;
-                  output_within = some.within;
-                  drives = refl;
-                }, later.leads.is_chain);
+                is_chain = (
+                  record {
+                    instance = w;
+                    known = placed_w.known;
+                    pin = on.pin;
+                    pin_within = on.within;
+                    reads = ap (net_of chip w) (sym (none_plus on.pin)) ∙ on.on;
+                    output = some.pin;
+                    output_within = some.within;
+                    drives = refl;
+                  },
+                  later.leads.is_chain,
+                );
               };
             }
       ]

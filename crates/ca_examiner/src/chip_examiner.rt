@@ -10,9 +10,9 @@ use crate::leave::{may_branch, may_go_on, may_leave};
 use crate::order::order_of;
 use crate::support::mark_leading;
 use ca_base::NoMemory;
+use ca_code::Examiner;
 use ca_flat::{ChipDefect, ExposableDefects};
 use ca_net::Wave;
-use ca_code::Examiner;
 use ca_sim::{Bits, Linked, NetWaves, Sim};
 use std::alloc::Global;
 use std::marker::Model;
@@ -54,12 +54,7 @@ impl<'a, L: Linked, R: ExposableDefects> Model for ChipExaminer<'a, L, R> {
 
 impl<'a, L: Linked, R: ExposableDefects> ChipExaminer<'a, L, R> {
     /// An examiner of the chip, whose observed nets these are. No bit is set, and no defect is aimed at.
-    pub fn new(
-        alloc: Global,
-        chip: &'a L,
-        rows: &'a R,
-        outputs: Vec<u32>,
-    ) -> Result<Self, NoMemory>
+    pub fn new(alloc: Global, chip: &'a L, rows: &'a R, outputs: Vec<u32>) -> Result<Self, NoMemory>
         requires networks { AreNetworks (L.core chip.now) }
         requires rows { R.chip rows.now ≡ L.core chip.now }
         requires outputs { outputs.items ≡ (L.core chip.now).outputs }
@@ -179,12 +174,6 @@ impl<L: Linked, R: ExposableDefects> Examiner for ChipExaminer<'_, L, R> {
         let Some(defect) = self.defect else {
             return false;
         };
-        may_go_on(
-            self.chip,
-            &self.sim,
-            &self.outputs,
-            &self.leading,
-            defect,
-        )
+        may_go_on(self.chip, &self.sim, &self.outputs, &self.leading, defect)
     }
 }

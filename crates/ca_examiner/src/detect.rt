@@ -7,14 +7,13 @@ ghost use Rattle.ca_sim.specs.Linked.{IsPlacedDefect, place_in};
 ghost use Rattle.ca_cert.specs.Tested.{IsDetectingOutput};
 ghost use Rattle.ca_examiner.specs.ChipExaminer.{AreNetworks, IsSeenOf};
 ghost use Rattle.ca_examiner.specs.Ends.{IsFirstOpposite};
+ghost use Rattle.std.specs.List.{All};
 
 use crate::rows::is_some_row_allowed;
 use crate::standing::are_opposite;
 use ca_defect::Rows;
 use ca_flat::ChipDefect;
 use ca_sim::{Linked, NetWaves};
-
-ghost use Rattle.std.specs.List.{All};
 
 // The first of the nets at which the waves end with opposite values.
 fn first_opposite<V: NetWaves>(waves: &V, outputs: &[u32]) -> Option<u32>
@@ -49,7 +48,12 @@ pub(crate) fn detecting_output<L: Linked, V: NetWaves>(
 }
 
 /// Whether the rows that expose the defect let the pair show it.
-pub(crate) fn may_show<L: Linked, V: NetWaves>(chip: &L, waves: &V, rows: &Rows, defect: ChipDefect) -> bool
+pub(crate) fn may_show<L: Linked, V: NetWaves>(
+    chip: &L,
+    waves: &V,
+    rows: &Rows,
+    defect: ChipDefect,
+) -> bool
     requires same { (V.seen waves.now).chip ≡ L.core chip.now }
     requires networks { AreNetworks (L.core chip.now) }
     requires defect { IsPlacedDefect (L.core chip.now) (place_in (L.places chip.now)) defect }

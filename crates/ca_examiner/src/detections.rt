@@ -1,8 +1,8 @@
 //! The tests of pairs that the check of a certificate asks for.
 
+use crate::chip_examiner::ChipExaminer;
 use crate::detect::{detecting_output, may_show};
 use crate::pair_bits::PairBits;
-use crate::chip_examiner::ChipExaminer;
 use ca_cert::Tester;
 use ca_flat::{ChipDefect, ExposableDefects};
 use ca_pair::Pair;

@@ -13,6 +13,7 @@ ghost use Rattle.ca_examiner.specs.Marks.{IsMarked};
 ghost use Rattle.ca_examiner.specs.OpenNets.{AreOpenNets};
 ghost use Rattle.ca_examiner.specs.Support.{AreLeadingNets};
 ghost use Rattle.ca_examiner.specs.ChipExaminer.{IsSeenOf, ReachesOutput, HasUnset};
+ghost use Rattle.std.specs.List.{Any};
 
 use crate::open_nets::mark_open;
 use crate::rows::is_some_row_allowed;
@@ -22,8 +23,6 @@ use crate::sweep::mark_onward;
 use ca_defect::Rows;
 use ca_flat::ChipDefect;
 use ca_sim::{Linked, NetWaves};
-
-ghost use Rattle.std.specs.List.{Any};
 
 // Whether one of the nets has a mark.
 fn is_some_marked(marks: &[bool], nets: &[u32]) -> bool
@@ -90,7 +89,12 @@ ghost use Rattle.ca_net.specs.declared.trit.Trit.TheVariants.{X};
 ghost use Rattle.ca_net.specs.State.{value_at};
 
 // Whether some bit of the support is unset.
-fn has_unset<L: Linked, V: NetWaves>(chip: &L, waves: &V, leading: &[bool], defect: ChipDefect) -> bool
+fn has_unset<L: Linked, V: NetWaves>(
+    chip: &L,
+    waves: &V,
+    leading: &[bool],
+    defect: ChipDefect,
+) -> bool
     requires chip { (V.seen waves.now).chip ≡ L.core chip.now }
     requires leading { AreLeadingNets (L.core chip.now) defect.instance leading.now }
     ensures { IsTrue result ↔ HasUnset (V.seen waves.now) defect }
@@ -105,7 +109,12 @@ fn has_unset<L: Linked, V: NetWaves>(chip: &L, waves: &V, leading: &[bool], defe
 }
 
 // Whether the pair is open.
-fn is_open_pair<L: Linked, V: NetWaves>(chip: &L, waves: &V, outputs: &[u32], defect: ChipDefect) -> bool
+fn is_open_pair<L: Linked, V: NetWaves>(
+    chip: &L,
+    waves: &V,
+    outputs: &[u32],
+    defect: ChipDefect,
+) -> bool
     requires seen { IsSeenOf (L.core chip.now) (place_in (L.places chip.now)) (V.seen waves.now) defect }
     requires outputs { outputs.now ≡ (L.core chip.now).outputs }
     ensures { IsTrue result ↔ IsOpenPair (V.seen waves.now).chip defect (V.seen waves.now).pair }

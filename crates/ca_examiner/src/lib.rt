@@ -1,6 +1,7 @@
 //! What may stand at a partial pair of a chip, and what a pair detects, seen in the waves of its nets.
 #![tactic(auto)]
 
+mod checking;
 mod chip_examiner;
 mod detect;
 mod detections;
@@ -15,4 +16,5 @@ mod standing;
 mod support;
 mod sweep;
 
+pub use checking::check_linked;
 pub use chip_examiner::ChipExaminer;

@@ -43,7 +43,13 @@ pub(crate) fn output_pins<L: Linked>(chip: &L, u: usize) -> Pins
 }
 
 // Marks the nets on the pins that have a mark in the other list.
-pub(crate) fn mark_pins<L: Linked>(marks: &mut Vec<bool>, others: &[bool], chip: &L, u: usize, pins: Pins)
+pub(crate) fn mark_pins<L: Linked>(
+    marks: &mut Vec<bool>,
+    others: &[bool],
+    chip: &L,
+    u: usize,
+    pins: Pins,
+)
     requires placed { IsPlaced (L.core chip.now) (place_in (L.places chip.now)) u }
     requires pins { pins.from + pins.count
         ≤ inputs_at (L.core chip.now) u + outputs_at (L.core chip.now) u }

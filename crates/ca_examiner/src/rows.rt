@@ -21,7 +21,12 @@ pub(crate) enum End {
 
 // Whether some row's vectors are at or above the values of the instance's pins, or it has one vector, which
 // is at or above the first ones.
-pub(crate) fn is_some_row_allowed<L: Linked, V: NetWaves>(chip: &L, waves: &V, u: usize, rows: &Rows) -> bool
+pub(crate) fn is_some_row_allowed<L: Linked, V: NetWaves>(
+    chip: &L,
+    waves: &V,
+    u: usize,
+    rows: &Rows,
+) -> bool
     requires chip { (V.seen waves.now).chip ≡ L.core chip.now }
     requires placed { IsPlaced (L.core chip.now) (place_in (L.places chip.now)) u }
     ensures some { IsTrue result → IsSomeAllowed (V.seen waves.now) u rows.now }

@@ -40,7 +40,12 @@ pub(crate) fn mark_leading<L: Linked>(
 }
 
 // Whether the bit is one of the support of the defect.
-pub(crate) fn supports<L: Linked>(chip: &L, leading: &[bool], bit: usize, defect: ChipDefect) -> bool
+pub(crate) fn supports<L: Linked>(
+    chip: &L,
+    leading: &[bool],
+    bit: usize,
+    defect: ChipDefect,
+) -> bool
     requires { AreLeadingNets (L.core chip.now) defect.instance leading.now }
     ensures { IsTrue result ↔ IsSupportBit (L.core chip.now) defect bit }
 {

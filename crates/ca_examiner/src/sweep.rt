@@ -30,7 +30,14 @@ pub(crate) fn mark_onward<L: Linked>(
     for place in chip.place(u)..order.len() {
         if let Some(w) = order[place] {
             let w = w as usize;
-            pass(marks, open_nets, chip, w, input_pins(chip, w), output_pins(chip, w));
+            pass(
+                marks,
+                open_nets,
+                chip,
+                w,
+                input_pins(chip, w),
+                output_pins(chip, w),
+            );
         }
     }
 }
@@ -54,7 +61,14 @@ pub(crate) fn mark_back<L: Linked>(
         let place = count - 1 - done;
         if let Some(w) = order[place] {
             let w = w as usize;
-            pass(marks, all_nets, chip, w, output_pins(chip, w), input_pins(chip, w));
+            pass(
+                marks,
+                all_nets,
+                chip,
+                w,
+                output_pins(chip, w),
+                input_pins(chip, w),
+            );
         }
     }
 }

@@ -5,6 +5,6 @@ mod cell_rows;
 mod cells;
 mod chip_rows;
 
+pub use ca_flat::ExposableDefects;
 pub use cell_rows::CellRows;
 pub use chip_rows::ChipRows;
-pub use ca_flat::ExposableDefects;

@@ -37,8 +37,7 @@ pub returns-then-not-has_open_chain-clause-leaf : goal.returns-then-not-has_open
 returns-then-not-has_open_chain-clause-leaf g c =
     let rank = place_in (g.L.Linked.places c.args.chip.now) in
     let seen = g.V.NetWaves.seen c.args.waves.now in
-    let view = view_of (g.L.Linked.core c.args.chip.now) rank seen c.args.defect c.linked.ensures.linked.is_chip c.requires.seen c.exact.ensures in
-    (
+    let view = view_of (g.L.Linked.core c.args.chip.now) rank seen c.args.defect c.linked.ensures.linked.is_chip c.requires.seen c.exact.ensures in (
       λ yes. inr (plain_by_chains rank seen c.args.defect view c.has_open_chain.new.open_nets.items c.has_open_chain.ensures.open_nets
           (λ reaches. let clash : true ≡ false = sym (c.has_open_chain.ensures.chain.1
           (subst (λ x. ReachesOutput x c.has_open_chain.new.open_nets.items c.args.defect.instance) c.requires.seen.same reaches)) ∙ c.if-not-has_open_chain.true in cc)),
@@ -52,8 +51,7 @@ returns-then-has_unset-clause-leaf g c =
     let view = view_of (g.L.Linked.core c.args.chip.now) rank seen c.args.defect c.linked.ensures.linked.is_chip c.requires.seen c.exact.ensures in
     let outputs_are = c.requires.outputs ∙ sym (ap (λ (x : Chip). x.outputs) c.requires.seen.same) in
     let lists = subst (λ x. ListsExposingRows x c.args.defect c.args.rows.now) (sym c.requires.seen.same) c.requires.rows in
-    let settled = settled_is rank seen c.args.defect view c.args.outputs.now outputs_are c.is_settled.result c.is_settled.ensures in
-    (
+    let settled = settled_is rank seen c.args.defect view c.args.outputs.now outputs_are c.is_settled.result c.is_settled.ensures in (
       λ yes. absurd (let clash : false ≡ true = yes in cc),
       λ may. absurd (unset_stays rank seen c.args.defect view c.args.rows.now lists (c.is_some_row_allowed.ensures.some c.if-not-is_some_row_allowed.false)
           c.has_open_chain.new.open_nets.items c.has_open_chain.ensures.open_nets

@@ -12,8 +12,7 @@ pub returns-then-not-below : goal.returns-then-not-below
 returns-then-not-below g c =
     let seen = g.V.NetWaves.seen c.args.waves.now in
     let count : c.input_pins-count.result.count ≡ inputs_at seen.chip c.args.u = c.input_pins-count.ensures.count ∙ ap (λ x. inputs_at x c.args.u) (sym c.requires.chip) in
-    let net : c.pin_net.result ≡ net_of seen.chip c.args.u c.loop-pin.pin = c.pin_net.ensures ∙ ap (λ x. net_of x c.args.u c.loop-pin.pin) (sym c.requires.chip) in
-    (
+    let net : c.pin_net.result ≡ net_of seen.chip c.args.u c.loop-pin.pin = c.pin_net.ensures ∙ ap (λ x. net_of x c.args.u c.loop-pin.pin) (sym c.requires.chip) in (
       λ yes. absurd (let clash : false ≡ true = yes in cc),
       λ over. absurd (not_over seen c.args.end c.args.u c.args.number c.loop-pin.pin c.good.result c.value_at_end-value.result c.digit.result
           (omega arith) (c.good.ensures ∙ ap (wave_at seen.good) net) c.value_at_end-value.ensures

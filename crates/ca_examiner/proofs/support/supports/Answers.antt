@@ -5,8 +5,7 @@ use Rattle.ca_examiner.proofs.support.supports.Goals as goal
 pub returns-then-bit-inputs-2 : goal.returns-then-bit-inputs-2
 returns-then-bit-inputs-2 g c =
     let chip = g.L.Linked.core c.args.chip.now in
-    let is_bit : c.args.bit ≡ length chip.inputs + (c.args.bit - c.inputs-inputs.result) = (let e = c.inputs-inputs.ensures in let f = c.if-bit-inputs.false in omega arith) in
-    (
+    let is_bit : c.args.bit ≡ length chip.inputs + (c.args.bit - c.inputs-inputs.result) = (let e = c.inputs-inputs.ensures in let f = c.if-bit-inputs.false in omega arith) in (
       λ yes. support_to chip c.args.defect c.args.leading.now (record { size = c.requires.size; each = c.requires.each; leads = c.requires.leads })
           (c.args.bit - c.inputs-inputs.result) c.args.bit c.input-then-bit-inputs-2.result
           (let e = c.inputs-inputs.ensures in let f = c.if-bit-inputs.false in omega arith) (inr is_bit) c.input-then-bit-inputs-2.ensures yes,

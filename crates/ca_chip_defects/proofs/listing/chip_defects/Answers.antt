@@ -5,10 +5,10 @@ use Rattle.ca_flat.specs.declared.chip_defect.ChipDefect.{ChipDefect}
 use Rattle.ca_core.specs.Core.{core_of}
 use Rattle.ca_sim.specs.Linked.{IsPlacedDefect, place_in}
 use Rattle.ca_flat.specs.Chip.{count_of}
-use Rattle.ca_engine.specs.ChipDefects.{chip_defects, placed_before}
-use Rattle.ca_engine.proofs.PlacedLemmas.{placed_are_gates}
-use Rattle.ca_engine.proofs.ListingLemmas.{none_before, instance_adds}
-use Rattle.ca_engine.proofs.listing.chip_defects.Goals as goal
+use Rattle.ca_chip_defects.specs.ChipDefects.{chip_defects, placed_before}
+use Rattle.ca_chip_defects.proofs.PlacedLemmas.{placed_are_gates}
+use Rattle.ca_chip_defects.proofs.ListingLemmas.{none_before, instance_adds}
+use Rattle.ca_chip_defects.proofs.listing.chip_defects.Goals as goal
 
 pub loop-u-init : goal.loop-u-init
 loop-u-init c =

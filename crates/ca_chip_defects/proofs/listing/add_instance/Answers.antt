@@ -10,9 +10,9 @@ use Rattle.ca_flat.specs.declared.chip_defect.ChipDefect.{ChipDefect}
 use Rattle.ca_flat.specs.Chip.{cell_at}
 use Rattle.ca_core.specs.Core.{core_of}
 use Rattle.ca_sim.specs.Linked.{IsPlacedDefect, place_in}
-use Rattle.ca_engine.specs.ChipDefects.{placed_at}
-use Rattle.ca_engine.proofs.ListingLemmas.{placed_has, defect_adds}
-use Rattle.ca_engine.proofs.listing.add_instance.Goals as goal
+use Rattle.ca_chip_defects.specs.ChipDefects.{placed_at}
+use Rattle.ca_chip_defects.proofs.ListingLemmas.{placed_has, defect_adds}
+use Rattle.ca_chip_defects.proofs.listing.add_instance.Goals as goal
 
 pub loop-defect-preserved : goal.loop-defect-preserved
 loop-defect-preserved c =

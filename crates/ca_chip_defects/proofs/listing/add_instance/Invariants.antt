@@ -2,8 +2,8 @@ use Rattle.std.proofs.Common.{◌≡◌, ◌++◌, take, map}
 use Rattle.std.specs.List.{All}
 use Rattle.ca_core.specs.Core.{core_of}
 use Rattle.ca_sim.specs.Linked.{IsPlacedDefect, place_in}
-use Rattle.ca_engine.specs.ChipDefects.{placed_at}
-use Rattle.ca_engine.proofs.listing.add_instance.Given as goal
+use Rattle.ca_chip_defects.specs.ChipDefects.{placed_at}
+use Rattle.ca_chip_defects.proofs.listing.add_instance.Given as goal
 
 abbrev pub invariant-loop-defect : goal.invariant-loop-defect
 invariant-loop-defect l =

@@ -2,8 +2,8 @@ use Rattle.std.proofs.Common.{◌≡◌}
 use Rattle.std.specs.List.{All}
 use Rattle.ca_core.specs.Core.{core_of}
 use Rattle.ca_sim.specs.Linked.{IsPlacedDefect, place_in}
-use Rattle.ca_engine.specs.ChipDefects.{chip_defects, placed_before}
-use Rattle.ca_engine.proofs.listing.chip_defects.Given as goal
+use Rattle.ca_chip_defects.specs.ChipDefects.{chip_defects, placed_before}
+use Rattle.ca_chip_defects.proofs.listing.chip_defects.Given as goal
 
 abbrev pub invariant-loop-u : goal.invariant-loop-u
 invariant-loop-u l =

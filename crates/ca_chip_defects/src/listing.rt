@@ -6,7 +6,7 @@ ghost use Rattle.ca_flat.specs.Chip.{count_of};
 ghost use Rattle.ca_wired.specs.Instances.{gates_of};
 ghost use Rattle.ca_core.specs.Core.{core_of};
 ghost use Rattle.ca_sim.specs.Linked.{IsPlacedDefect, place_in};
-ghost use Rattle.ca_engine.specs.ChipDefects.{chip_defects, if_placed};
+ghost use Rattle.ca_chip_defects.specs.ChipDefects.{chip_defects, if_placed};
 
 use ca_base::{List, NoMemory};
 use ca_defect::defects;
