@@ -48,14 +48,17 @@ cut_begins byte (first ∷ rest) = by (cut_begins byte rest) (first == byte) ref
     by : BeginsWith byte (drop (len_before byte rest) rest) → (test : Bool) → (first == byte) ≡ test
         → BeginsWith byte (drop (len_before byte (first ∷ rest)) (first ∷ rest))
     by later true is =
-        subst (λ n. BeginsWith byte (drop n (first ∷ rest))) (sym (by_first byte first rest true is)) (eqb-true first byte is)
-    by later false is = subst (λ n. BeginsWith byte (drop n (first ∷ rest))) (sym (by_first byte first rest false is)) later
+        subst (λ n. BeginsWith byte (drop n (first ∷ rest))) (sym (by_first byte first rest true is))
+        (eqb-true first byte is)
+    by later false is = subst (λ n. BeginsWith byte (drop n (first ∷ rest)))
+        (sym (by_first byte first rest false is)) later
 
 -- the two parts of a text are the only ones of their kind
 pub cut_only : (byte : ℕ) (text : List ℕ)
     → IsOnlyCut byte text (take (len_before byte text) text) (drop (len_before byte text) text)
 cut_only byte text front rest free begins is =
-    let at : len_before byte text ≡ length front = ap (len_before byte) is ∙ cut_length byte front rest free begins in (
+    let at : len_before byte text ≡ length front = ap (len_before byte) is
+    ∙ cut_length byte front rest free begins in (
       sym (take-append_seam front rest) ∙ (λ i. take (sym at i) (sym is i)),
       sym (drop-append_seam front rest) ∙ (λ i. drop (sym at i) (sym is i)),
     )

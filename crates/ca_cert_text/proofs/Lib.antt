@@ -3,3 +3,4 @@ pub mod CutLemmas
 pub mod FreeLemmas
 pub mod WordLemmas
 pub mod LineLemmas
+pub mod SameLemmas

@@ -25,72 +25,90 @@ whole_is [] some = absurd (omega (arith, some))
 whole_is (first ∷ rest) some = ap (λ (bytes : List ℕ). first ∷ bytes) (sym (take_rest (first ∷ rest) 1))
 
 -- a text that is two numbers in digits is one number
-pub same_number : (m n : ℕ) (digits : List ℕ) → m < 2 ^ 32 → n < 2 ^ 32 → digits ≡ decimal m → digits ≡ decimal n → m ≡ n
+pub same_number : (m n : ℕ) (digits : List ℕ) → m < 2 ^ 32 → n < 2 ^ 32 → digits ≡ decimal m
+    → digits ≡ decimal n → m ≡ n
 same_number m n digits small few one other =
     decimal_injective m n (omega (arith, small)) (omega (arith, few)) (sym one ∙ other)
 
 -- one more token
-pub tokens_push : (code new : List Token) (token : Token) → AreTokens code → IsTokenOf token → new ≡ code ++ token ∷ [] → AreTokens new
+pub tokens_push : (code new : List Token) (token : Token) → AreTokens code → IsTokenOf token
+    → new ≡ code ++ token ∷ [] → AreTokens new
 tokens_push code new token are is pushed = subst AreTokens (sym pushed) (by code are)
   where
     by : (code : List Token) → AreTokens code → AreTokens (code ++ token ∷ [])
     by [] are = (is, tt)
     by (first ∷ code) are = (are.0, by code are.1)
 
-pub words_push : (code : List Token) (token : Token) → code_words (code ++ token ∷ []) ≡ code_words code ++ 32 ∷ token_word token
+pub words_push : (code : List Token) (token : Token) → code_words
+    (code ++ token ∷ []) ≡ code_words code ++ 32 ∷ token_word token
 words_push [] token = ap (λ (words : List ℕ). 32 ∷ words) (append-nil (token_word token))
 words_push (first ∷ code) token =
     ap (λ (words : List ℕ). 32 ∷ (token_word first ++ words)) (words_push code token)
-    ∙ ap (λ (words : List ℕ). 32 ∷ words) (sym (append_assoc (token_word first) (code_words code) (32 ∷ token_word token)))
+    ∙ ap (λ (words : List ℕ). 32 ∷ words) (sym
+    (append_assoc (token_word first) (code_words code) (32 ∷ token_word token)))
 
 -- one more claim
-pub claims_push : (claims new : List Claim) (claim : Claim) → AreClaims claims → IsClaimOf claim → new ≡ claims ++ claim ∷ [] → AreClaims new
+pub claims_push : (claims new : List Claim) (claim : Claim) → AreClaims claims → IsClaimOf claim
+    → new ≡ claims ++ claim ∷ [] → AreClaims new
 claims_push claims new claim are is pushed = subst AreClaims (sym pushed) (by claims are)
   where
     by : (claims : List Claim) → AreClaims claims → AreClaims (claims ++ claim ∷ [])
     by [] are = (is, tt)
     by (first ∷ claims) are = (are.0, by claims are.1)
 
-pub lines_push : (claims : List Claim) (claim : Claim) → claim_lines (claims ++ claim ∷ []) ≡ claim_lines claims ++ claim_line claim
+pub lines_push : (claims : List Claim) (claim : Claim)
+    → claim_lines (claims ++ claim ∷ []) ≡ claim_lines claims ++ claim_line claim
 lines_push [] claim = append-nil (claim_line claim)
 lines_push (first ∷ claims) claim =
     ap (λ (lines : List ℕ). claim_line first ++ lines) (lines_push claims claim)
     ∙ sym (append_assoc (claim_line first) (claim_lines claims) (claim_line claim))
 
 -- the first tokens, with the next
-pub take_next : {A : Type 0} (xs : List A) (k : ℕ) (x : A) → slice_get xs k ≡ Some x → take (k + 1) xs ≡ take k xs ++ x ∷ []
+pub take_next : {A : Type 0} (xs : List A) (k : ℕ) (x : A) → slice_get xs k ≡ Some x
+    → take (k + 1) xs ≡ take k xs ++ x ∷ []
 take_next [] k x at = absurd (let lt = slice_get_within [] k x at in omega (arith, lt))
 take_next (first ∷ xs) zero x at = let same : first ≡ x = cc in ap (λ y. y ∷ []) same
 take_next (first ∷ xs) (suc k) x at =
-    ap (λ n. take n (first ∷ xs)) (let s : suc k + 1 ≡ suc (k + 1) = omega arith in s) ∙ ap (λ l. first ∷ l) (take_next xs k x at)
+    ap (λ n. take n (first ∷ xs)) (let s : suc k + 1 ≡ suc (k + 1) = omega arith in s) ∙ ap (λ l. first ∷ l)
+    (take_next xs k x at)
 
 -- the words of one more
-pub words_next : (before text new : List ℕ) (code : List Token) (k : ℕ) (token : Token) → slice_get code k ≡ Some token
-    → before ≡ text ++ code_words (take k code) → new ≡ (before ++ 32 ∷ []) ++ token_word token → new ≡ text ++ code_words (take (k + 1) code)
+pub words_next : (before text new : List ℕ) (code : List Token) (k : ℕ) (token : Token)
+    → slice_get code k ≡ Some token
+    → before ≡ text ++ code_words (take k code) → new ≡ (before ++ 32 ∷ []) ++ token_word token
+    → new ≡ text ++ code_words (take (k + 1) code)
 words_next before text new code k token at read is =
-    is ∙ append_assoc before (32 ∷ []) (token_word token) ∙ ap (λ (front : List ℕ). front ++ 32 ∷ token_word token) read
+    is ∙ append_assoc before (32 ∷ []) (token_word token) ∙ ap
+    (λ (front : List ℕ). front ++ 32 ∷ token_word token) read
     ∙ append_assoc text (code_words (take k code)) (32 ∷ token_word token)
-    ∙ ap (λ (words : List ℕ). text ++ words) (sym (words_push (take k code) token) ∙ ap code_words (sym (take_next code k token at)))
+    ∙ ap (λ (words : List ℕ). text ++ words) (sym (words_push (take k code) token) ∙ ap code_words
+    (sym (take_next code k token at)))
 
 -- the lines of one more
-pub lines_next : (before text new : List ℕ) (claims items : List Claim) (k : ℕ) (claim : Claim) → items ≡ claims → k < length items
-    → claim ≡ get_or items k claim → before ≡ text ++ claim_lines (take k claims) → new ≡ before ++ claim_line claim
+pub lines_next : (before text new : List ℕ) (claims items : List Claim) (k : ℕ) (claim : Claim)
+    → items ≡ claims → k < length items
+    → claim ≡ get_or items k claim → before ≡ text ++ claim_lines (take k claims)
+    → new ≡ before ++ claim_line claim
     → new ≡ text ++ claim_lines (take (k + 1) claims)
 lines_next before text new claims items k claim same within at read is =
     let next : take (k + 1) claims ≡ take k claims ++ claim ∷ [] =
     ap (take (k + 1)) (sym same) ∙ take_more items k claim within ∙ (λ i. take k (same i) ++ sym at i ∷ []) in
-    is ∙ ap (λ (front : List ℕ). front ++ claim_line claim) read ∙ append_assoc text (claim_lines (take k claims)) (claim_line claim)
-    ∙ ap (λ (lines : List ℕ). text ++ lines) (sym (lines_push (take k claims) claim) ∙ ap claim_lines (sym next))
+    is ∙ ap (λ (front : List ℕ). front ++ claim_line claim) read ∙ append_assoc text
+    (claim_lines (take k claims)) (claim_line claim)
+    ∙ ap (λ (lines : List ℕ). text ++ lines) (sym (lines_push (take k claims) claim) ∙ ap claim_lines
+    (sym next))
 
 -- what begins a code's text is a space
-begins_code : (code : List Token) → BeginsWith 32 (code_words code)
+pub begins_code : (code : List Token) → BeginsWith 32 (code_words code)
 begins_code [] = tt
 begins_code (token ∷ code) = refl
 
-module _ (rest word after : List ℕ) (some : 1 ≤ length rest) (only : IsOnlyCut 32 (tail_of rest) word after) where
+module _ (rest word after : List ℕ) (some : 1 ≤ length rest)
+    (only : IsOnlyCut 32 (tail_of rest) word after) where
   parts : (token : Token) (code : List Token) → IsTokenOf token → rest ≡ code_words (token ∷ code)
       → (token_word token ≡ word) × (code_words code ≡ after)
-  parts token code is text = only (token_word token) (code_words code) (free_token token is 32 (omega arith)) (begins_code code)
+  parts token code is text = only (token_word token) (code_words code) (free_token token is 32 (omega arith))
+      (begins_code code)
       (tail_is rest 32 (token_word token ++ code_words code) text)
 
   -- a code is left only where a token comes next
@@ -117,23 +135,29 @@ not_space rest some differs code = by code.code code.is
     by (token ∷ code) is = differs (ap (λ (text : List ℕ). slice_index_or text 0 0) is)
 
 -- the token that was read is one more of the text's
-pub one_token : (text : List ℕ) (code new : List Token) (rest word after : List ℕ) (token : Token) → text ≡ code_words code ++ rest
-    → 1 ≤ length rest → slice_index_or rest 0 0 ≡ 32 → tail_of rest ≡ word ++ after → word ≡ token_word token → new ≡ code ++ token ∷ []
+pub one_token : (text : List ℕ) (code new : List Token) (rest word after : List ℕ) (token : Token)
+    → text ≡ code_words code ++ rest
+    → 1 ≤ length rest → slice_index_or rest 0 0 ≡ 32 → tail_of rest ≡ word ++ after → word ≡ token_word token
+    → new ≡ code ++ token ∷ []
     → text ≡ code_words new ++ after
 one_token text code new rest word after token read some space tail is pushed =
-    let here : rest ≡ 32 ∷ (token_word token ++ after) = whole_is rest some ∙ (λ i. space i ∷ tail i) ∙ ap (λ (word : List ℕ). 32 ∷ (word ++ after)) is in
+    let here : rest ≡ 32 ∷ (token_word token ++ after) = whole_is rest some ∙ (λ i. space i ∷ tail i) ∙ ap
+    (λ (word : List ℕ). 32 ∷ (word ++ after)) is in
     read ∙ ap (λ (rest : List ℕ). code_words code ++ rest) here
     ∙ sym (append_assoc (code_words code) (32 ∷ token_word token) after)
     ∙ ap (λ (front : List ℕ). front ++ after) (sym (words_push code token) ∙ ap code_words (sym pushed))
 
 -- the digits of the first line's budget
-pub budget_digits : (line digits : List ℕ) (count budget : ℕ) → digits ≡ drop count line → count ≡ 31 → line ≡ head_words budget
+pub budget_digits : (line digits : List ℕ) (count budget : ℕ) → digits ≡ drop count line → count ≡ 31
+    → line ≡ head_words budget
     → digits ≡ decimal budget
 budget_digits line digits count budget is all line_is =
-    is ∙ (λ i. drop (all i) (line_is i)) ∙ drop-append_seam (codes "cellaware certificate 1 budget ") (decimal budget)
+    is ∙ (λ i. drop (all i) (line_is i)) ∙ drop-append_seam (codes "cellaware certificate 1 budget ")
+    (decimal budget)
 
 -- the two numbers of a credit
-pub credit_parts : (text word after : List ℕ) (pair output : ℕ) → pair < 2 ^ 32 → IsOnlyCut 32 (tail_of text) word after
+pub credit_parts : (text word after : List ℕ) (pair output : ℕ) → pair < 2 ^ 32 → IsOnlyCut 32
+    (tail_of text) word after
     → text ≡ credit_words pair output → (decimal pair ≡ word) × (32 ∷ decimal output ≡ after)
 credit_parts text word after pair output few only is =
     only (decimal pair) (32 ∷ decimal output) (free_decimal 32 pair (omega arith) (omega (arith, few))) refl

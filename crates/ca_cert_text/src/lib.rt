@@ -4,12 +4,14 @@
 mod code;
 mod cut;
 mod fault;
+mod laws;
 mod line;
 mod number;
 mod read;
 mod write;
 
 pub use fault::CertFault;
+pub use laws::{faulty_line_is_one, text_is_read};
 pub use number::{GREATEST_BIT, MOST_BUDGET};
 pub use read::read_certificate;
 pub use write::write_certificate;

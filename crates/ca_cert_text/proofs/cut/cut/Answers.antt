@@ -11,4 +11,6 @@ returns-clause-only c =
     let front = c.split_at.ensures.front ∙ ap (λ n. take n c.args.text.now) c.len_before.ensures.len in
     let back = c.split_at.ensures.back ∙ ap (λ n. drop n c.args.text.now) c.len_before.ensures.len in
     subst (IsOnlyCut c.args.byte c.args.text.now c.split_at.result.0.now) (sym back)
-    (subst (λ (word : List ℕ). IsOnlyCut c.args.byte c.args.text.now word (drop (len_before c.args.byte c.args.text.now) c.args.text.now)) (sym front) (cut_only c.args.byte c.args.text.now))
+    (subst (λ (word : List ℕ). IsOnlyCut c.args.byte c.args.text.now word
+    (drop (len_before c.args.byte c.args.text.now) c.args.text.now)) (sym front)
+    (cut_only c.args.byte c.args.text.now))

@@ -8,5 +8,6 @@ returns-then-budget-gt-MOST_BUDGET c = λ budget few is.
     let read = c.in-Some.ensures in
     let digits = budget_digits c.args.line.now c.split_at.result.1.now _ budget c.split_at.ensures.back
     (ap length c.as_slice-head.ensures) is in
-    let same = same_number c.in-Some.budget budget c.split_at.result.1.now read.0 (omega (arith, few)) read.1 digits in
+    let same = same_number c.in-Some.budget budget c.split_at.result.1.now read.0
+    (omega (arith, few)) read.1 digits in
     omega (arith, same, few, great)

@@ -7,4 +7,5 @@ pub loop-place-preserved : goal.loop-place-preserved
 loop-place-preserved c =
     words_next c.loop-place.text c.args.text.now c.put_token.new.text c.args.code.now c.loop-place.place c.get.result c.get.ensures
     c.loop-place.invariant
-    (c.in_ok-put_token.ensures ∙ ap (λ (front : List ℕ). front ++ token_word c.get.result) c.in_ok-push.ensures.ok)
+    (c.in_ok-put_token.ensures ∙ ap
+    (λ (front : List ℕ). front ++ token_word c.get.result) c.in_ok-push.ensures.ok)
