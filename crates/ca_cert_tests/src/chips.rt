@@ -16,14 +16,15 @@ MN2 n1 A2 VSS VSS nch W=0.415u L=0.05u
 .ENDS
 ";
 
-/// One inverter. Bit 0 is its input in the first vector, bit 1 in the last. Its defects are the opens of drain,
-/// source and gate of MP1, then of MN1, the open of A, and the shorts of the output with power and ground. The
-/// first two and the last are shown by a falling input, the fourth, fifth and eighth by a rising one.
+/// One inverter. Bit 0 is its input in the first vector, bit 1 in the last. Its defects are the opens of
+/// drain, source and gate of MP1, then of MN1, the open of A, and the shorts of the output with power and
+/// ground. The first two and the last are shown by a falling input, the fourth, fifth and eighth by a rising
+/// one.
 const INV: &[u8] = b"module inv1(a, z); input a; output z;
 INV u1 (.A(a), .ZN(z)); endmodule";
 
-/// A gate with both inputs on one net. The opens of drain and source of its p-transistors are exposed where the
-/// pins end with different values alone, which they never have.
+/// A gate with both inputs on one net. The opens of drain and source of its p-transistors are exposed where
+/// the pins end with different values alone, which they never have.
 const TIED: &[u8] = b"module tied(a, z); input a; output z;
 NAND2 u1 (.A1(a), .A2(a), .ZN(z)); endmodule";
 
@@ -211,56 +212,64 @@ pub(crate) static OF_TIED: [Claimed; 8] = [
     (
         TIED,
         &[b"01", b"00"],
-        b"cellaware certificate 1 budget 3\nu -1 . .\nu -1 . .\nx\nu -1 . .\nu -1 . .\nx\nc 0 0\nc 0 0\nx\nc 0 0\nc 0 0\nx\nx\nx\nc 0 0\nc 0 0\nc 1 0\nx\nx\n",
+        b"cellaware certificate 1 budget 3\nu -1 . .\nu -1 . .\nx\nu -1 . .\nu -1 . .\nx\nc 0 0\n\
+        c 0 0\nx\nc 0 0\nc 0 0\nx\nx\nx\nc 0 0\nc 0 0\nc 1 0\nx\nx\n",
         None,
     ),
     // a leaf where nothing is set
     (
         TIED,
         &[b"01", b"00"],
-        b"cellaware certificate 1 budget 3\nu .\nu -1 . .\nx\nu -1 . .\nu -1 . .\nx\nc 0 0\nc 0 0\nx\nc 0 0\nc 0 0\nx\nx\nx\nc 0 0\nc 0 0\nc 1 0\nx\nx\n",
+        b"cellaware certificate 1 budget 3\nu .\nu -1 . .\nx\nu -1 . .\nu -1 . .\nx\nc 0 0\nc 0 0\n\
+        x\nc 0 0\nc 0 0\nx\nx\nx\nc 0 0\nc 0 0\nc 1 0\nx\nx\n",
         Some(0),
     ),
     // a code one leaf short
     (
         TIED,
         &[b"01", b"00"],
-        b"cellaware certificate 1 budget 3\nu -1 . .\nu -1 .\nx\nu -1 . .\nu -1 . .\nx\nc 0 0\nc 0 0\nx\nc 0 0\nc 0 0\nx\nx\nx\nc 0 0\nc 0 0\nc 1 0\nx\nx\n",
+        b"cellaware certificate 1 budget 3\nu -1 . .\nu -1 .\nx\nu -1 . .\nu -1 . .\nx\nc 0 0\n\
+        c 0 0\nx\nc 0 0\nc 0 0\nx\nx\nx\nc 0 0\nc 0 0\nc 1 0\nx\nx\n",
         Some(1),
     ),
     // a code one leaf too long
     (
         TIED,
         &[b"01", b"00"],
-        b"cellaware certificate 1 budget 3\nu -1 . .\nu -1 . .\nx\nu -1 . . .\nu -1 . .\nx\nc 0 0\nc 0 0\nx\nc 0 0\nc 0 0\nx\nx\nx\nc 0 0\nc 0 0\nc 1 0\nx\nx\n",
+        b"cellaware certificate 1 budget 3\nu -1 . .\nu -1 . .\nx\nu -1 . . .\nu -1 . .\nx\nc 0 0\n\
+        c 0 0\nx\nc 0 0\nc 0 0\nx\nx\nx\nc 0 0\nc 0 0\nc 1 0\nx\nx\n",
         Some(3),
     ),
     // no code
     (
         TIED,
         &[b"01", b"00"],
-        b"cellaware certificate 1 budget 3\nu -1 . .\nu -1 . .\nx\nu -1 . .\nu\nx\nc 0 0\nc 0 0\nx\nc 0 0\nc 0 0\nx\nx\nx\nc 0 0\nc 0 0\nc 1 0\nx\nx\n",
+        b"cellaware certificate 1 budget 3\nu -1 . .\nu -1 . .\nx\nu -1 . .\nu\nx\nc 0 0\nc 0 0\nx\n\
+        c 0 0\nc 0 0\nx\nx\nx\nc 0 0\nc 0 0\nc 1 0\nx\nx\n",
         Some(4),
     ),
     // a branch where the pair is settled
     (
         TIED,
         &[b"01", b"00"],
-        b"cellaware certificate 1 budget 3\nu -1 . -0 . .\nu -1 . .\nx\nu -1 . .\nu -1 . .\nx\nc 0 0\nc 0 0\nx\nc 0 0\nc 0 0\nx\nx\nx\nc 0 0\nc 0 0\nc 1 0\nx\nx\n",
+        b"cellaware certificate 1 budget 3\nu -1 . -0 . .\nu -1 . .\nx\nu -1 . .\nu -1 . .\nx\n\
+        c 0 0\nc 0 0\nx\nc 0 0\nc 0 0\nx\nx\nx\nc 0 0\nc 0 0\nc 1 0\nx\nx\n",
         Some(0),
     ),
     // the other order
     (
         TIED,
         &[b"01", b"00"],
-        b"cellaware certificate 1 budget 3\nu +1 . .\nu -1 . .\nx\nu -1 . .\nu -1 . .\nx\nc 0 0\nc 0 0\nx\nc 0 0\nc 0 0\nx\nx\nx\nc 0 0\nc 0 0\nc 1 0\nx\nx\n",
+        b"cellaware certificate 1 budget 3\nu +1 . .\nu -1 . .\nx\nu -1 . .\nu -1 . .\nx\nc 0 0\n\
+        c 0 0\nx\nc 0 0\nc 0 0\nx\nx\nx\nc 0 0\nc 0 0\nc 1 0\nx\nx\n",
         None,
     ),
     // a branch on the first vector first
     (
         TIED,
         &[b"01", b"00"],
-        b"cellaware certificate 1 budget 3\nu -0 -1 . . -1 . .\nu -1 . .\nx\nu -1 . .\nu -1 . .\nx\nc 0 0\nc 0 0\nx\nc 0 0\nc 0 0\nx\nx\nx\nc 0 0\nc 0 0\nc 1 0\nx\nx\n",
+        b"cellaware certificate 1 budget 3\nu -0 -1 . . -1 . .\nu -1 . .\nx\nu -1 . .\nu -1 . .\nx\n\
+        c 0 0\nc 0 0\nx\nc 0 0\nc 0 0\nx\nx\nx\nc 0 0\nc 0 0\nc 1 0\nx\nx\n",
         None,
     ),
 ];

@@ -7,4 +7,5 @@ use Rattle.ca_cert_tests.proofs.claims.linked_netlist.Goals as goal
 pub link-requires-clause-rows : goal.link-requires-clause-rows
 unfolding IsDistinct
 link-requires-clause-rows c =
-    subst (λ (rows : List ScanRow). IsDistinct bytes_eq (map (λ (row : ScanRow). row.cell) rows)) (sym c.new.ensures) tt
+    subst (λ (rows : List ScanRow). IsDistinct bytes_eq (map (λ (row : ScanRow). row.cell) rows))
+    (sym c.new.ensures) tt
