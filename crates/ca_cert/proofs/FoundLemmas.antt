@@ -13,7 +13,7 @@ use Rattle.ca_flat.specs.Chip.{Chip}
 use Rattle.ca_flat.specs.Pair.{DetectsAt, IsShown}
 use Rattle.ca_claim.specs.declared.claim.Claim.{Claim}
 use Rattle.ca_flat.specs.Detection.{trits_of, Detects, NoneDetects, IsFirstOutput}
-use Rattle.ca_code.specs.Examined.{Examined, with_pair}
+use Rattle.ca_read_code.specs.Examined.{Examined, with_pair}
 use Rattle.ca_cert.specs.declared.detection.Detection.{Detection}
 use Rattle.ca_cert.specs.Tested.{KeepsChip, IsDetectingOutput}
 use Rattle.ca_cert.specs.Found.{IsFoundTo, IsFoundAt, AreFound}

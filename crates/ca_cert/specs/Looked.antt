@@ -3,7 +3,7 @@ use Rattle.std.specs.Prelude.{ℕ, ◌≡◌, true, List, length, slice_get, sli
 use Rattle.std.specs.Prelude.{Option, None, Some}
 use Rattle.ca_flat.specs.declared.chip_defect.ChipDefect.{ChipDefect}
 use Rattle.ca_claim.specs.declared.claim.Claim.{Claim}
-use Rattle.ca_code.specs.Examined.{Examined}
+use Rattle.ca_read_code.specs.Examined.{Examined}
 use Rattle.ca_cert.specs.declared.detection.Detection.{Detection}
 use Rattle.ca_cert.specs.Tested.{KeepsChip, IsDetectingOutput}
 use Rattle.ca_cert.specs.Found.{asks}

@@ -7,7 +7,7 @@ use Rattle.ca_flat.specs.Code.{IsSpentBy}
 use Rattle.ca_claim.specs.declared.claim.Claim.{Claim}
 use Rattle.ca_claim.specs.declared.claim.Claim.TheVariants.{Credited, Unexposable, Untestable, Aborted}
 use Rattle.ca_flat.specs.Detection.{IsExposableIn}
-use Rattle.ca_code.specs.ClaimedCode.{claim_rules}
+use Rattle.ca_read_code.specs.ClaimedCode.{claim_rules}
 use Rattle.ca_claim.specs.Stands.{IsProvenUntestable}
 use Rattle.ca_cert.specs.declared.detection.Detection.{Detection}
 

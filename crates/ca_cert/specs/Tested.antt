@@ -7,7 +7,7 @@ use Rattle.ca_flat.specs.declared.chip_defect.ChipDefect.{ChipDefect}
 use Rattle.ca_flat.specs.Chip.{Chip}
 use Rattle.ca_flat.specs.Pair.{DetectsAt, IsShown}
 use Rattle.ca_sim.specs.Linked.{IsPlacedDefect, place_in}
-use Rattle.ca_code.specs.Examined.{Examined}
+use Rattle.ca_read_code.specs.Examined.{Examined}
 
 -- the same, aimed at the defect
 abbrev pub with_aim : Examined → ChipDefect → Examined

@@ -6,7 +6,7 @@ ghost use Rattle.ca_flat.specs.Pair.{bit_count};
 ghost use Rattle.ca_claim.specs.Stands.{IsAnswer};
 ghost use Rattle.std.specs.Prelude.{None};
 ghost use Rattle.ca_flat.specs.Code.{IsWholeBy, IsSpentBy};
-ghost use Rattle.ca_code.specs.ClaimedCode.{claim_rules};
+ghost use Rattle.ca_read_code.specs.ClaimedCode.{claim_rules};
 ghost use Rattle.ca_cert.specs.Tested.{KeepsChip, IsTestable, AreTestable};
 ghost use Rattle.ca_cert.specs.Standing.{StandsBy};
 
@@ -14,9 +14,10 @@ use crate::detection::{Detection, detections};
 use crate::tester::Tester;
 use ca_base::NoMemory;
 use ca_claim::{Answer, Certificate, Claim};
-use ca_code::{Code, is_spent, is_whole};
+use ca_code::Code;
 use ca_flat::ChipDefect;
 use ca_pair::Pairs;
+use ca_read_code::{is_spent, is_whole};
 use std::alloc::Global;
 
 // Whether the detection that was found is this one.

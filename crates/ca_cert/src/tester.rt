@@ -1,15 +1,15 @@
 //! What the check of a certificate asks of a chip.
 
-use ca_code::Examiner;
 use ca_flat::ChipDefect;
 use ca_pair::Pair;
+use ca_read_code::Examiner;
 
 /// A chip, and of its defects which pairs detect them, which can be exposed, and what may stand in a code.
 pub trait Tester: Examiner {
     ghost use Rattle.std.specs.Prelude.{◌≡◌, ◌↔◌, length, Some, IsTrue, IsFalse};
     ghost use Rattle.ca_flat.specs.Pair.{bit_count, IsShown};
     ghost use Rattle.ca_flat.specs.Detection.{trits_of, IsExposableIn};
-    ghost use Rattle.ca_code.specs.Examined.{with_pair};
+    ghost use Rattle.ca_read_code.specs.Examined.{with_pair};
     ghost use Rattle.ca_cert.specs.Tested.{with_aim, IsTestable, IsDetectingOutput};
 
     /// Aims at the defect. The bits stay.

@@ -7,4 +7,6 @@ mod chips;
 #[cfg(test)]
 mod claims;
 #[cfg(test)]
+mod found;
+#[cfg(test)]
 mod texts;

@@ -25,7 +25,7 @@ placed_is_gate chip ranks u part rank at = ap (λ r. if_placed r u) (rank ∙ ap
     by (Gate cell inputs outputs) = refl
     by (Scan nets) = refl
 
--- those of these instances that have a place, of which the first is the instance `from`, stand behind those
+-- those of these instances that have a place, of which the first is the instance `from`, stand after those
 -- before it
 abbrev AreAlike : List ℕ → ℕ → List Part → Type 0
 AreAlike ranks from parts =

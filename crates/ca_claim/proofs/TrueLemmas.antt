@@ -20,7 +20,7 @@ use Rattle.ca_claim.specs.declared.claim.Claim.TheVariants.{Credited, Unexposabl
 use Rattle.ca_flat.specs.Detection.{trits_of, Detects, IsUntestable, IsExposableIn, IsFirstDetection}
 use Rattle.ca_claim.specs.Stands.{Stands, StandsAt}
 use Rattle.ca_claim.specs.Laws.{HasClaim, StandingClaimsAreTrue}
-use Rattle.ca_code.proofs.CodeLemmas.{claimed_codes_are_codes_lem}
+use Rattle.ca_read_code.proofs.CodeLemmas.{claimed_codes_are_codes_lem}
 
 known_bits : (pair : List Bool) (bit : ℕ) → bit < length pair → value_at (trits_of pair) bit ≡ X → ⊥
 known_bits [] bit within = absurd (omega arith)

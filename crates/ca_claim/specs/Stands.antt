@@ -9,7 +9,7 @@ use Rattle.ca_claim.specs.declared.claim.Claim.TheVariants.{Credited, Unexposabl
 use Rattle.ca_claim.specs.declared.certificate.Answer.{Answer}
 use Rattle.ca_claim.specs.declared.certificate.Answer.TheVariants.{Yes, No}
 use Rattle.ca_flat.specs.Detection.{IsExposableIn, NoneDetects, IsFirstDetection}
-use Rattle.ca_code.specs.ClaimedCode.{claim_rules}
+use Rattle.ca_read_code.specs.ClaimedCode.{claim_rules}
 
 -- the defect can be exposed, and the code is a whole one
 pub record IsProvenUntestable (chip : Chip) (defect : ChipDefect) (code : List Token) : Type 0 where

@@ -1,6 +1,1 @@
 pub mod TokenLemmas
-pub mod CodeLemmas
-pub mod WalkLemmas
-pub mod TurnLemmas
-pub mod StrideLemmas
-pub mod ReadLemmas

@@ -1,5 +1,1 @@
 pub mod Tokens
-pub mod ClaimedCode
-pub mod Examined
-pub mod CodeEnd
-pub mod Walk

@@ -1,7 +1,8 @@
 //! Codes that are kept.
 
-ghost use Rattle.std.specs.Prelude.{◌≡◌, ◌<◌, ◌++◌, [], ◌∷◌, length, slice_get, Some, OnOk, OnErr};
-ghost use Rattle.ca_code.specs.Tokens.{IsNarrow};
+ghost use Rattle.std.specs.Prelude.{◌≡◌, ◌<◌, ◌++◌, [], ◌∷◌, length, slice_get, Some};
+ghost use Rattle.std.specs.Prelude.{IfOk, OnOk, OnErr};
+ghost use Rattle.ca_code.specs.Tokens.{tokens_of, IsNarrow};
 
 use crate::token::{packed, unpacked};
 use ca_base::NoMemory;
@@ -33,6 +34,15 @@ impl Code {
         Code {
             numbers: Vec::new(alloc),
         }
+    }
+
+    /// The code of these numbers.
+    pub fn of(alloc: Global, numbers: &[u16]) -> Result<Self, NoMemory>
+        ensures { IfOk result (λ code. code ≡ tokens_of numbers.now) }
+    {
+        Ok(Code {
+            numbers: numbers.to_vec(alloc)?,
+        })
     }
 
     /// Appends a token.

@@ -1,15 +1,8 @@
-//! Codes in two bytes a token, and whether one is whole or spent, read without recursion.
+//! Codes that are kept, a token in two bytes.
 #![tactic(auto)]
 
 mod code;
-mod examiner;
-mod laws;
-mod read;
 mod token;
-mod walk;
 
 pub use code::Code;
-pub use examiner::Examiner;
-pub use laws::claimed_codes_are_codes;
-pub use read::{is_spent, is_whole};
-pub use token::MOST_PATTERN_BITS;
+pub use token::{MOST_PATTERN_BITS, packed};

@@ -6,11 +6,11 @@ ghost use Rattle.ca_code.specs.Tokens.{token_of, IsNarrow};
 
 use ca_flat::Token;
 
-/// The most pattern bits whose tokens are two bytes.
+/// Up to this many pattern bits, tokens have two bytes.
 pub const MOST_PATTERN_BITS: usize = 32_767;
 
-// The number of a token: 0 for a leaf.
-pub(crate) fn packed(token: Token) -> u16
+/// The number of a token: 0 for a leaf.
+pub fn packed(token: Token) -> u16
     requires { IsNarrow token }
     ensures { token_of result ≡ token }
 {

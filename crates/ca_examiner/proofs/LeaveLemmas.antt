@@ -27,7 +27,7 @@ use Rattle.ca_examiner.specs.Sweep.{AreReached}
 use Rattle.ca_examiner.specs.OpenNets.{AreOpenNets}
 use Rattle.ca_examiner.specs.PinRows.{IsSomeAllowed, IsNoneAllowed}
 use Rattle.ca_examiner.specs.Ends.{is_opposite_at, is_alike_at}
-use Rattle.ca_code.specs.Examined.{MayLeaveFor, MayBranchFor, MayLeaveHere, MayBranchHere, MayGoOn}
+use Rattle.ca_read_code.specs.Examined.{MayLeaveFor, MayBranchFor, MayLeaveHere, MayBranchHere, MayGoOn}
 use Rattle.ca_examiner.specs.ChipExaminer.{AreNetworks, IsSeenOf, ReachesOutput, HasUnset, CanBranch, examined_of}
 use Rattle.ca_examiner.proofs.OpenLemmas.{unreached_rules_out, reached_is_chain}
 use Rattle.ca_examiner.proofs.RowLemmas.{none_rules_out, some_is_allowed}

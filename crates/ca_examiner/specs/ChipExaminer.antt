@@ -11,7 +11,7 @@ use Rattle.ca_flat.specs.Chain.{IsSupportBit}
 use Rattle.ca_flat.specs.Code.{MayBranch}
 use Rattle.ca_sim.specs.Linked.{IsPlacedDefect}
 use Rattle.ca_sim.specs.Seen.{Seen}
-use Rattle.ca_code.specs.Examined.{Examined}
+use Rattle.ca_read_code.specs.Examined.{Examined}
 use Rattle.ca_examiner.specs.Order.{IsOrder}
 use Rattle.ca_examiner.specs.Sweep.{HasOpenChain}
 use Rattle.ca_examiner.specs.Support.{AreLeadingNets}

@@ -10,7 +10,7 @@ use crate::leave::{may_branch, may_go_on, may_leave};
 use crate::order::order_of;
 use crate::support::mark_leading;
 use ca_base::NoMemory;
-use ca_code::Examiner;
+use ca_read_code::Examiner;
 use ca_flat::{ChipDefect, ExposableDefects};
 use ca_net::Wave;
 use ca_sim::{Bits, Linked, NetWaves, Sim};

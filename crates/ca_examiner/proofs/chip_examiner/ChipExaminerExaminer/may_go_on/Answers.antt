@@ -1,7 +1,7 @@
 use Rattle.std.proofs.Common.{◌∙◌, subst}
 use Rattle.std.specs.Prelude.{IsTrue, ◌↔◌}
 use Rattle.ca_sim.specs.Simulator.{Simulator}
-use Rattle.ca_code.specs.Examined.{MayGoOn}
+use Rattle.ca_read_code.specs.Examined.{MayGoOn}
 use Rattle.ca_examiner.specs.ChipExaminer.{examined_of}
 use Rattle.ca_examiner.proofs.LeaveLemmas.{goes_on_here}
 use Rattle.ca_examiner.proofs.chip_examiner.ChipExaminerExaminer.may_go_on.Goals as goal

@@ -2,7 +2,7 @@ use Rattle.std.proofs.Common.{◌∙◌, subst}
 use Rattle.std.specs.Prelude.{IsTrue, ◌↔◌}
 use Rattle.ca_flat.specs.Rows.{ListsExposingRows}
 use Rattle.ca_sim.specs.Simulator.{Simulator}
-use Rattle.ca_code.specs.Examined.{MayLeaveHere}
+use Rattle.ca_read_code.specs.Examined.{MayLeaveHere}
 use Rattle.ca_examiner.specs.ChipExaminer.{examined_of}
 use Rattle.ca_examiner.proofs.LeaveLemmas.{leaves_here}
 use Rattle.ca_examiner.proofs.chip_examiner.ChipExaminerExaminer.may_leave.Goals as goal
