@@ -3,7 +3,6 @@
 ghost use Rattle.std.specs.Prelude.{◌≡◌, length, IfSome};
 ghost use Rattle.std.specs.List.{All};
 ghost use Rattle.ca_flat.specs.Pair.{bit_count};
-ghost use Rattle.ca_core.specs.Core.{core_of};
 ghost use Rattle.ca_verilog.specs.IsNetlist.{IsNetlist};
 
 use crate::chips::{Claimed, LIBRARY, OF_INVERTER, OF_TIED};
@@ -16,7 +15,6 @@ use ca_lex::Text;
 use ca_link::link;
 use ca_pair::{Pair, Pairs};
 use ca_rows::ChipRows;
-use ca_sim::Linked;
 use ca_spice::read_library;
 use ca_verilog::{RawNetlist, read_netlist};
 use ca_view::View;
@@ -70,7 +68,7 @@ pub(crate) fn answer_over(
     certificate: &Certificate,
 ) -> Option<Answer>
     requires rows { rows.now.chip ≡ view.now.chip }
-    requires bits { All (λ bits. length bits ≡ bit_count (core_of view.now.chip)) pairs.now }
+    requires bits { All (λ bits. length bits ≡ bit_count view.now.core) pairs.now }
 {
     let defects = chip_defects(alloc, view).ok()?;
     if defects.len() != certificate.claims.len() {
@@ -87,7 +85,7 @@ fn answer_viewed(
     certificate: &Certificate,
 ) -> Option<Answer> {
     view.linked();
-    let pairs = pairs_of(alloc, words, 2 * Linked::inputs(view))?;
+    let pairs = pairs_of(alloc, words, 2 * view.input_count())?;
     let rows = ChipRows::new(alloc, view.chip()).ok()?;
     let answer = answer_over(alloc, view, &rows, &pairs, certificate);
     drop(rows);

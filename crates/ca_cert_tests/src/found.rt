@@ -11,7 +11,6 @@ use ca_engine::generate_chip;
 use ca_generate::{Generated, Unwatched};
 use ca_pair::{Pair, Pairs};
 use ca_rows::ChipRows;
-use ca_sim::Linked;
 use ca_view::View;
 use ca_wired::Chip;
 use std::alloc::Global;
@@ -80,7 +79,7 @@ fn answer_viewed(
     certificate: &Certificate,
 ) -> Option<Answer> {
     view.linked();
-    let pairs = all_copied(alloc, pairs, 2 * Linked::inputs(view))?;
+    let pairs = all_copied(alloc, pairs, 2 * view.input_count())?;
     let rows = ChipRows::new(alloc, view.chip()).ok()?;
     let answer = answer_over(alloc, view, &rows, &pairs, certificate);
     drop(rows);

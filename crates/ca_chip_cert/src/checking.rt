@@ -6,7 +6,7 @@ ghost use Rattle.ca_flat.specs.Pair.{bit_count};
 ghost use Rattle.ca_core.specs.Core.{core_of};
 ghost use Rattle.ca_claim.specs.Stands.{IsAnswer};
 ghost use Rattle.ca_claim.specs.Laws.{IsYesTrue};
-ghost use Rattle.ca_chip_cert.specs.Listed.{listed_defects};
+ghost use Rattle.ca_chip_cert.specs.Listed.{listed_defects, viewed_defects};
 
 use crate::outputs::output_nets;
 use ca_base::NoMemory;
@@ -16,7 +16,6 @@ use ca_examiner::check_linked;
 use ca_flatten::{flat_is_well_formed, judge_size};
 use ca_pair::Pairs;
 use ca_rows::ChipRows;
-use ca_sim::Linked;
 use ca_view::View;
 use ca_wired::Chip;
 use std::alloc::Global;
@@ -50,11 +49,11 @@ fn check_viewed(
     pairs: &Pairs,
     certificate: &Certificate,
 ) -> Result<Answer, NoMemory>
-    requires one_each { length certificate.now.claims ≡ length (listed_defects view.now.chip) }
-    requires bits { All (λ bits. length bits ≡ bit_count (core_of view.now.chip)) pairs.now }
-    ensures answer { IfOk result (IsAnswer (core_of view.now.chip) (listed_defects view.now.chip) pairs.now
+    requires one_each { length certificate.now.claims ≡ length (viewed_defects view.now) }
+    requires bits { All (λ bits. length bits ≡ bit_count view.now.core) pairs.now }
+    ensures answer { IfOk result (IsAnswer view.now.core (viewed_defects view.now) pairs.now
         certificate.now.budget certificate.now.claims) }
-    ensures proves { IfOk result (IsYesTrue (core_of view.now.chip) (listed_defects view.now.chip) pairs.now
+    ensures proves { IfOk result (IsYesTrue view.now.core (viewed_defects view.now) pairs.now
         certificate.now.budget certificate.now.claims) }
 {
     let rows = ChipRows::new(alloc, view.chip())?;
@@ -72,18 +71,18 @@ pub fn check_over(
     certificate: &Certificate,
 ) -> Result<Answer, NoMemory>
     requires rows { rows.now.chip ≡ view.now.chip }
-    requires one_each { length certificate.now.claims ≡ length (listed_defects view.now.chip) }
-    requires bits { All (λ bits. length bits ≡ bit_count (core_of view.now.chip)) pairs.now }
-    ensures answer { IfOk result (IsAnswer (core_of view.now.chip) (listed_defects view.now.chip) pairs.now
+    requires one_each { length certificate.now.claims ≡ length (viewed_defects view.now) }
+    requires bits { All (λ bits. length bits ≡ bit_count view.now.core) pairs.now }
+    ensures answer { IfOk result (IsAnswer view.now.core (viewed_defects view.now) pairs.now
         certificate.now.budget certificate.now.claims) }
-    ensures proves { IfOk result (IsYesTrue (core_of view.now.chip) (listed_defects view.now.chip) pairs.now
+    ensures proves { IfOk result (IsYesTrue view.now.core (viewed_defects view.now) pairs.now
         certificate.now.budget certificate.now.claims) }
 {
     view.viewed();
     flat_is_well_formed();
     judge_size(alloc, view.chip())?;
     let most = u32::MAX as usize;
-    if view.outputs() > most || pairs.len() > most || certificate.claims.len() > most {
+    if view.output_count() > most || pairs.len() > most || certificate.claims.len() > most {
         return Err(NoMemory);
     }
     let defects = chip_defects(alloc, view)?;

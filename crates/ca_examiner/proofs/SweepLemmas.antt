@@ -7,7 +7,7 @@ use Rattle.std.specs.List.{All}
 use Rattle.ca_flat.specs.Chip.{Chip, inputs_at, outputs_at, net_of, count_of}
 use Rattle.ca_flat.specs.Chain.{IsChain, IsOutputOf}
 use Rattle.ca_flat.specs.RuleOut.{IsOpenChain}
-use Rattle.ca_sim.specs.Linked.{IsPlaced, IsLinked}
+use Rattle.ca_view.specs.Linked.{IsPlaced, IsLinked}
 use Rattle.ca_examiner.specs.Marks.{IsMarked, IsOnPins, MarksPins, Passes}
 use Rattle.ca_examiner.specs.Order.{IsOrder}
 use Rattle.ca_examiner.specs.Sweep.{HasOpenChain, IsSweptTo, AreReached, LeadsToRoot, IsSweptFrom, AreLeading}

@@ -5,7 +5,7 @@ use Rattle.ca_base.specs.declared.no_memory.NoMemory.{NoMemory}
 use Rattle.ca_flat.specs.declared.chip_defect.ChipDefect.{ChipDefect}
 use Rattle.ca_flat.specs.Chip.{Chip, IsChip}
 use Rattle.ca_flat.specs.Waves.{IsFlatChip}
-use Rattle.ca_sim.specs.Linked.{IsPlacedDefect}
+use Rattle.ca_view.specs.Linked.{IsPlacedDefect}
 use Rattle.ca_claim.specs.declared.claim.Claim.{Claim}
 use Rattle.ca_claim.specs.declared.certificate.Answer.{Answer}
 use Rattle.ca_claim.specs.declared.certificate.Answer.TheVariants.{Yes, No}

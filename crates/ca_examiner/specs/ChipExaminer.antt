@@ -9,7 +9,7 @@ use Rattle.ca_flat.specs.Chip.{Chip, IsDefectIn}
 use Rattle.ca_flat.specs.Flat.{flat}
 use Rattle.ca_flat.specs.Chain.{IsSupportBit}
 use Rattle.ca_flat.specs.Code.{MayBranch}
-use Rattle.ca_sim.specs.Linked.{IsPlacedDefect}
+use Rattle.ca_view.specs.Linked.{IsPlacedDefect}
 use Rattle.ca_sim.specs.Seen.{Seen}
 use Rattle.ca_read_code.specs.Examined.{Examined}
 use Rattle.ca_examiner.specs.Order.{IsOrder}

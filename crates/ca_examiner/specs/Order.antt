@@ -1,7 +1,7 @@
 -- The instances at the places of an order.
 use Rattle.std.specs.Prelude.{ℕ, ◌+◌, ◌≡◌, ◌<◌, List, length, Option, Some, slice_get}
 use Rattle.ca_flat.specs.Chip.{Chip, count_of}
-use Rattle.ca_sim.specs.Linked.{IsPlaced}
+use Rattle.ca_view.specs.Linked.{IsPlaced}
 
 -- at each place of the order stands the instance that has it, if it is one of the first `count`
 pub record IsOrderTo (chip : Chip) (place_of : ℕ → ℕ) (count : ℕ) (order : List (Option ℕ)) : Type 0 where

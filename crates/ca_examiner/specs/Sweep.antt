@@ -3,7 +3,7 @@ use Rattle.std.specs.Prelude.{ℕ, ◌≡◌, ◌<◌, ◌≤◌, Bool, List, �
 use Rattle.ca_flat.specs.Chip.{Chip, inputs_at, net_of}
 use Rattle.ca_flat.specs.Chain.{Leads, IsOutputOf}
 use Rattle.ca_flat.specs.RuleOut.{IsOpenChain}
-use Rattle.ca_sim.specs.Linked.{IsPlaced}
+use Rattle.ca_view.specs.Linked.{IsPlaced}
 use Rattle.ca_examiner.specs.Marks.{IsMarked}
 
 -- a chain of open nets leads from the instance u to the net

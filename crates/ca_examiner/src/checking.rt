@@ -1,9 +1,9 @@
-//! The check of a certificate for a chip as the simulator sees it.
+//! The check of a certificate for a chip that is viewed.
 
 ghost use Rattle.std.specs.Prelude.{◌≡◌, ◌<◌, ◌^◌, length, IfOk};
 ghost use Rattle.std.specs.List.{All};
 ghost use Rattle.ca_flat.specs.Pair.{bit_count};
-ghost use Rattle.ca_sim.specs.Linked.{IsPlacedDefect, place_in};
+ghost use Rattle.ca_view.specs.Linked.{IsPlacedDefect, place_in};
 ghost use Rattle.ca_claim.specs.Stands.{IsAnswer};
 ghost use Rattle.ca_claim.specs.Laws.{IsYesTrue};
 ghost use Rattle.ca_examiner.specs.ChipExaminer.{AreNetworks};
@@ -14,32 +14,32 @@ use ca_cert::check;
 use ca_claim::{Answer, Certificate, standing_claims_are_true};
 use ca_flat::{ChipDefect, ExposableDefects};
 use ca_pair::Pairs;
-use ca_sim::Linked;
+use ca_view::View;
 use std::alloc::Global;
 
 /// Whether every claim on these defects of the chip stands, or else the first that doesn't. The outputs are
 /// the chip's observed nets.
-pub fn check_linked<L: Linked, R: ExposableDefects>(
+pub fn check_linked<R: ExposableDefects>(
     alloc: Global,
-    chip: &L,
+    chip: &View<'_>,
     rows: &R,
     outputs: Vec<u32>,
     defects: &[ChipDefect],
     pairs: &Pairs,
     certificate: &Certificate,
 ) -> Result<Answer, NoMemory>
-    requires networks { AreNetworks (L.core chip.now) }
-    requires rows { R.chip rows.now ≡ L.core chip.now }
-    requires outputs { outputs.items ≡ (L.core chip.now).outputs }
+    requires networks { AreNetworks chip.now.core }
+    requires rows { R.chip rows.now ≡ chip.now.core }
+    requires outputs { outputs.items ≡ chip.now.core.outputs }
     requires few_outputs { length outputs.items < 2 ^ 32 }
     requires few_pairs { length pairs.now < 2 ^ 32 }
     requires few_claims { length certificate.now.claims < 2 ^ 32 }
-    requires bits { All (λ bits. length bits ≡ bit_count (L.core chip.now)) pairs.now }
+    requires bits { All (λ bits. length bits ≡ bit_count chip.now.core) pairs.now }
     requires one_each { length defects.now ≡ length certificate.now.claims }
-    requires placed { All (IsPlacedDefect (L.core chip.now) (place_in (L.places chip.now))) defects.now }
-    ensures answer { IfOk result (IsAnswer (L.core chip.now) defects.now pairs.now
+    requires placed { All (IsPlacedDefect chip.now.core (place_in chip.now.ranks)) defects.now }
+    ensures answer { IfOk result (IsAnswer chip.now.core defects.now pairs.now
         certificate.now.budget certificate.now.claims) }
-    ensures proves { IfOk result (IsYesTrue (L.core chip.now) defects.now pairs.now
+    ensures proves { IfOk result (IsYesTrue chip.now.core defects.now pairs.now
         certificate.now.budget certificate.now.claims) }
 {
     chip.linked();

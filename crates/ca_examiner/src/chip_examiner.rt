@@ -2,7 +2,7 @@
 
 ghost use Rattle.std.specs.Prelude.{◌≡◌, ◌<◌, ◌^◌, length, IfOk, None, Some};
 ghost use Rattle.ca_flat.specs.Chip.{Chip};
-ghost use Rattle.ca_sim.specs.Linked.{IsPlacedDefect, place_in};
+ghost use Rattle.ca_view.specs.Linked.{IsPlacedDefect, place_in};
 ghost use Rattle.ca_sim.specs.Simulator.{Simulator, IsFresh, KeepsAim, KeepsPair};
 ghost use Rattle.ca_examiner.specs.ChipExaminer.{AreNetworks};
 
@@ -10,18 +10,19 @@ use crate::leave::{may_branch, may_go_on, may_leave};
 use crate::order::order_of;
 use crate::support::mark_leading;
 use ca_base::NoMemory;
-use ca_read_code::Examiner;
 use ca_flat::{ChipDefect, ExposableDefects};
 use ca_net::Wave;
-use ca_sim::{Bits, Linked, NetWaves, Sim};
+use ca_read_code::Examiner;
+use ca_sim::{Bits, NetWaves, Sim};
+use ca_view::View;
 use std::alloc::Global;
 use std::marker::Model;
 
 /// A simulator of a chip, and the marks of nets by which is seen what may stand at a partial pair.
 #[derive(Drop)]
-pub struct ChipExaminer<'a, L: Linked, R: ExposableDefects> {
-    pub(crate) sim: Sim<'a, L>,
-    pub(crate) chip: &'a L,
+pub struct ChipExaminer<'a, R: ExposableDefects> {
+    pub(crate) sim: Sim<'a>,
+    pub(crate) chip: &'a View<'a>,
     pub(crate) rows: &'a R,
     // the observed nets
     pub(crate) outputs: Vec<u32>,
@@ -35,9 +36,9 @@ pub struct ChipExaminer<'a, L: Linked, R: ExposableDefects> {
     pub(crate) defect: Option<ChipDefect>,
 }
 
-impl<'a, L: Linked, R: ExposableDefects> Model for ChipExaminer<'a, L, R> {
+impl<'a, R: ExposableDefects> Model for ChipExaminer<'a, R> {
     ghost use Rattle.std.specs.Prelude.{◌≡◌};
-    ghost use Rattle.ca_sim.specs.Linked.{place_in};
+    ghost use Rattle.ca_view.specs.Linked.{place_in};
     ghost use Rattle.ca_sim.specs.Simulator.{Simulator};
     ghost use Rattle.ca_examiner.specs.ChipExaminer.{IsChipExaminer};
 
@@ -45,21 +46,26 @@ impl<'a, L: Linked, R: ExposableDefects> Model for ChipExaminer<'a, L, R> {
 
     ghost view = { λ own. own.sim };
 
-    ghost invariant = { λ own. (own.sim.seen.chip ≡ L.core own.chip.now)
-        × (own.sim.seen.places ≡ L.places own.chip.now)
-        × IsChipExaminer (L.core own.chip.now) (place_in (L.places own.chip.now)) own.sim.seen.aim
+    ghost invariant = { λ own. (own.sim.seen.chip ≡ own.chip.now.core)
+        × (own.sim.seen.places ≡ own.chip.now.ranks)
+        × IsChipExaminer (own.chip.now.core) (place_in (own.chip.now.ranks)) own.sim.seen.aim
         (R.chip own.rows.now) own.outputs.items own.order.items own.all_nets.items
         own.open_nets.items own.marks.items own.leading.items own.defect };
 }
 
-impl<'a, L: Linked, R: ExposableDefects> ChipExaminer<'a, L, R> {
+impl<'a, R: ExposableDefects> ChipExaminer<'a, R> {
     /// An examiner of the chip, whose observed nets these are. No bit is set, and no defect is aimed at.
-    pub fn new(alloc: Global, chip: &'a L, rows: &'a R, outputs: Vec<u32>) -> Result<Self, NoMemory>
-        requires networks { AreNetworks (L.core chip.now) }
-        requires rows { R.chip rows.now ≡ L.core chip.now }
-        requires outputs { outputs.items ≡ (L.core chip.now).outputs }
+    pub fn new(
+        alloc: Global,
+        chip: &'a View<'a>,
+        rows: &'a R,
+        outputs: Vec<u32>,
+    ) -> Result<Self, NoMemory>
+        requires networks { AreNetworks chip.now.core }
+        requires rows { R.chip rows.now ≡ chip.now.core }
+        requires outputs { outputs.items ≡ chip.now.core.outputs }
         requires few { length outputs.items < 2 ^ 32 }
-        ensures { IfOk result (IsFresh (L.core chip.now) (L.places chip.now)) }
+        ensures { IfOk result (IsFresh chip.now.core chip.now.ranks) }
     {
         let nets = chip.nets();
         Ok(ChipExaminer {
@@ -105,7 +111,7 @@ impl<'a, L: Linked, R: ExposableDefects> ChipExaminer<'a, L, R> {
     }
 }
 
-impl<L: Linked, R: ExposableDefects> NetWaves for ChipExaminer<'_, L, R> {
+impl<R: ExposableDefects> NetWaves for ChipExaminer<'_, R> {
     ghost seen = { λ examiner. examiner.seen };
 
     fn good(&self, net: usize) -> Wave {
@@ -125,7 +131,7 @@ impl<L: Linked, R: ExposableDefects> NetWaves for ChipExaminer<'_, L, R> {
     }
 }
 
-impl<L: Linked, R: ExposableDefects> Examiner for ChipExaminer<'_, L, R> {
+impl<R: ExposableDefects> Examiner for ChipExaminer<'_, R> {
     ghost use Rattle.ca_examiner.specs.ChipExaminer.{examined_of};
 
     ghost examined = { λ examiner. examined_of examiner.seen };

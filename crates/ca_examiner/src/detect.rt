@@ -3,7 +3,7 @@
 ghost use Rattle.std.specs.Prelude.{◌≡◌, ◌<◌, ◌^◌, length, IsFalse};
 ghost use Rattle.ca_flat.specs.Pair.{IsShown};
 ghost use Rattle.ca_flat.specs.Rows.{ListsExposingRows};
-ghost use Rattle.ca_sim.specs.Linked.{IsPlacedDefect, place_in};
+ghost use Rattle.ca_view.specs.Linked.{IsPlacedDefect, place_in};
 ghost use Rattle.ca_cert.specs.Tested.{IsDetectingOutput};
 ghost use Rattle.ca_examiner.specs.ChipExaminer.{AreNetworks, IsSeenOf};
 ghost use Rattle.ca_examiner.specs.Ends.{IsFirstOpposite};
@@ -13,7 +13,8 @@ use crate::rows::is_some_row_allowed;
 use crate::standing::are_opposite;
 use ca_defect::Rows;
 use ca_flat::ChipDefect;
-use ca_sim::{Linked, NetWaves};
+use ca_sim::NetWaves;
+use ca_view::View;
 
 // The first of the nets at which the waves end with opposite values.
 fn first_opposite<V: NetWaves>(waves: &V, outputs: &[u32]) -> Option<u32>
@@ -31,14 +32,14 @@ fn first_opposite<V: NetWaves>(waves: &V, outputs: &[u32]) -> Option<u32>
 }
 
 /// The first observed output at which the pair detects the defect that is aimed at.
-pub(crate) fn detecting_output<L: Linked, V: NetWaves>(
-    chip: &L,
+pub(crate) fn detecting_output<V: NetWaves>(
+    chip: &View<'_>,
     waves: &V,
     outputs: &[u32],
     defect: ChipDefect,
 ) -> Option<u32>
-    requires seen { IsSeenOf (L.core chip.now) (place_in (L.places chip.now)) (V.seen waves.now) defect }
-    requires outputs { outputs.now ≡ (L.core chip.now).outputs }
+    requires seen { IsSeenOf chip.now.core (place_in chip.now.ranks) (V.seen waves.now) defect }
+    requires outputs { outputs.now ≡ chip.now.core.outputs }
     requires few { length outputs.now < 2 ^ 32 }
     ensures { IsDetectingOutput (V.seen waves.now).chip defect (V.seen waves.now).pair result }
 {
@@ -48,16 +49,16 @@ pub(crate) fn detecting_output<L: Linked, V: NetWaves>(
 }
 
 /// Whether the rows that expose the defect let the pair show it.
-pub(crate) fn may_show<L: Linked, V: NetWaves>(
-    chip: &L,
+pub(crate) fn may_show<V: NetWaves>(
+    chip: &View<'_>,
     waves: &V,
     rows: &Rows,
     defect: ChipDefect,
 ) -> bool
-    requires same { (V.seen waves.now).chip ≡ L.core chip.now }
-    requires networks { AreNetworks (L.core chip.now) }
-    requires defect { IsPlacedDefect (L.core chip.now) (place_in (L.places chip.now)) defect }
-    requires rows { ListsExposingRows (L.core chip.now) defect rows.now }
+    requires same { (V.seen waves.now).chip ≡ chip.now.core }
+    requires networks { AreNetworks chip.now.core }
+    requires defect { IsPlacedDefect chip.now.core (place_in chip.now.ranks) defect }
+    requires rows { ListsExposingRows chip.now.core defect rows.now }
     ensures { IsFalse result → ¬ (IsShown (V.seen waves.now).chip defect (V.seen waves.now).pair) }
 {
     chip.linked();

@@ -6,9 +6,10 @@ use crate::pair_bits::PairBits;
 use ca_cert::Tester;
 use ca_flat::{ChipDefect, ExposableDefects};
 use ca_pair::Pair;
-use ca_sim::{Linked, NetWaves};
+use ca_sim::NetWaves;
+use ca_view::View;
 
-impl<L: Linked, R: ExposableDefects> Tester for ChipExaminer<'_, L, R> {
+impl<R: ExposableDefects> Tester for ChipExaminer<'_, R> {
     fn aim(&mut self, defect: ChipDefect) {
         ChipExaminer::aim(self, defect);
     }

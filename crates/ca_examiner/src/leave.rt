@@ -6,7 +6,7 @@ ghost use Rattle.ca_flat.specs.Chain.{IsSupportBit};
 ghost use Rattle.ca_flat.specs.Code.{MayBranch};
 ghost use Rattle.ca_flat.specs.Pair.{IsOpenPair};
 ghost use Rattle.ca_flat.specs.Rows.{ListsExposingRows};
-ghost use Rattle.ca_sim.specs.Linked.{IsPlaced, place_in};
+ghost use Rattle.ca_view.specs.Linked.{IsPlaced, place_in};
 ghost use Rattle.ca_flat.specs.CheckedCode.{MayLeave};
 ghost use Rattle.ca_examiner.specs.Order.{IsOrder};
 ghost use Rattle.ca_examiner.specs.Marks.{IsMarked};
@@ -22,7 +22,8 @@ use crate::support::supports;
 use crate::sweep::mark_onward;
 use ca_defect::Rows;
 use ca_flat::ChipDefect;
-use ca_sim::{Linked, NetWaves};
+use ca_sim::NetWaves;
+use ca_view::View;
 
 // Whether one of the nets has a mark.
 fn is_some_marked(marks: &[bool], nets: &[u32]) -> bool
@@ -38,24 +39,24 @@ fn is_some_marked(marks: &[bool], nets: &[u32]) -> bool
 }
 
 // Whether a chain of open nets leads from the instance to one of the outputs. The two lists are room.
-fn has_open_chain<L: Linked, V: NetWaves>(
+fn has_open_chain<V: NetWaves>(
     open_nets: &mut Vec<bool>,
     marks: &mut Vec<bool>,
-    chip: &L,
+    chip: &View<'_>,
     waves: &V,
     order: &[Option<u32>],
     outputs: &[u32],
     u: usize,
 ) -> bool
-    requires chip { (V.seen waves.now).chip ≡ L.core chip.now }
-    requires placed { IsPlaced (L.core chip.now) (place_in (L.places chip.now)) u }
-    requires open_nets { length open_nets.old.items ≡ length (L.core chip.now).nets }
-    requires marks { length marks.old.items ≡ length (L.core chip.now).nets }
-    requires order { IsOrder (L.core chip.now) (place_in (L.places chip.now)) order.now }
-    requires outputs { outputs.now ≡ (L.core chip.now).outputs }
+    requires chip { (V.seen waves.now).chip ≡ chip.now.core }
+    requires placed { IsPlaced chip.now.core (place_in chip.now.ranks) u }
+    requires open_nets { length open_nets.old.items ≡ length chip.now.core.nets }
+    requires marks { length marks.old.items ≡ length chip.now.core.nets }
+    requires order { IsOrder chip.now.core (place_in chip.now.ranks) order.now }
+    requires outputs { outputs.now ≡ chip.now.core.outputs }
     ensures open_nets { AreOpenNets (V.seen waves.now) open_nets.new.items }
-    ensures marks { length marks.new.items ≡ length (L.core chip.now).nets }
-    ensures chain { IsTrue result ↔ ReachesOutput (L.core chip.now) open_nets.new.items u }
+    ensures marks { length marks.new.items ≡ length chip.now.core.nets }
+    ensures chain { IsTrue result ↔ ReachesOutput chip.now.core open_nets.new.items u }
 {
     chip.linked();
     mark_open(open_nets, waves);
@@ -64,15 +65,15 @@ fn has_open_chain<L: Linked, V: NetWaves>(
 }
 
 // Whether the bit is an unset one of the support.
-fn is_unset_support<L: Linked, V: NetWaves>(
-    chip: &L,
+fn is_unset_support<V: NetWaves>(
+    chip: &View<'_>,
     waves: &V,
     leading: &[bool],
     bit: usize,
     defect: ChipDefect,
 ) -> bool
-    requires chip { (V.seen waves.now).chip ≡ L.core chip.now }
-    requires leading { AreLeadingNets (L.core chip.now) defect.instance leading.now }
+    requires chip { (V.seen waves.now).chip ≡ chip.now.core }
+    requires leading { AreLeadingNets chip.now.core defect.instance leading.now }
     ensures support { IsTrue result → IsSupportBit (V.seen waves.now).chip defect bit }
     ensures unset { IsTrue result → value_at (V.seen waves.now).pair bit ≡ X }
     ensures only { IsSupportBit (V.seen waves.now).chip defect bit → value_at (V.seen waves.now).pair bit ≡ X
@@ -89,18 +90,13 @@ ghost use Rattle.ca_net.specs.declared.trit.Trit.TheVariants.{X};
 ghost use Rattle.ca_net.specs.State.{value_at};
 
 // Whether some bit of the support is unset.
-fn has_unset<L: Linked, V: NetWaves>(
-    chip: &L,
-    waves: &V,
-    leading: &[bool],
-    defect: ChipDefect,
-) -> bool
-    requires chip { (V.seen waves.now).chip ≡ L.core chip.now }
-    requires leading { AreLeadingNets (L.core chip.now) defect.instance leading.now }
+fn has_unset<V: NetWaves>(chip: &View<'_>, waves: &V, leading: &[bool], defect: ChipDefect) -> bool
+    requires chip { (V.seen waves.now).chip ≡ chip.now.core }
+    requires leading { AreLeadingNets chip.now.core defect.instance leading.now }
     ensures { IsTrue result ↔ HasUnset (V.seen waves.now) defect }
 {
     chip.linked();
-    for bit in 0..2 * chip.inputs() {
+    for bit in 0..2 * chip.input_count() {
         if is_unset_support(chip, waves, leading, bit, defect) {
             return true;
         }
@@ -109,14 +105,14 @@ fn has_unset<L: Linked, V: NetWaves>(
 }
 
 // Whether the pair is open.
-fn is_open_pair<L: Linked, V: NetWaves>(
-    chip: &L,
+fn is_open_pair<V: NetWaves>(
+    chip: &View<'_>,
     waves: &V,
     outputs: &[u32],
     defect: ChipDefect,
 ) -> bool
-    requires seen { IsSeenOf (L.core chip.now) (place_in (L.places chip.now)) (V.seen waves.now) defect }
-    requires outputs { outputs.now ≡ (L.core chip.now).outputs }
+    requires seen { IsSeenOf chip.now.core (place_in chip.now.ranks) (V.seen waves.now) defect }
+    requires outputs { outputs.now ≡ chip.now.core.outputs }
     ensures { IsTrue result ↔ IsOpenPair (V.seen waves.now).chip defect (V.seen waves.now).pair }
 {
     chip.linked();
@@ -125,17 +121,17 @@ fn is_open_pair<L: Linked, V: NetWaves>(
 }
 
 /// Whether a branch on the bit may stand at the pair.
-pub(crate) fn may_branch<L: Linked, V: NetWaves>(
-    chip: &L,
+pub(crate) fn may_branch<V: NetWaves>(
+    chip: &View<'_>,
     waves: &V,
     outputs: &[u32],
     leading: &[bool],
     bit: usize,
     defect: ChipDefect,
 ) -> bool
-    requires seen { IsSeenOf (L.core chip.now) (place_in (L.places chip.now)) (V.seen waves.now) defect }
-    requires outputs { outputs.now ≡ (L.core chip.now).outputs }
-    requires leading { AreLeadingNets (L.core chip.now) defect.instance leading.now }
+    requires seen { IsSeenOf chip.now.core (place_in chip.now.ranks) (V.seen waves.now) defect }
+    requires outputs { outputs.now ≡ chip.now.core.outputs }
+    requires leading { AreLeadingNets chip.now.core defect.instance leading.now }
     ensures { IsTrue result ↔ MayBranch (V.seen waves.now).chip defect (V.seen waves.now).pair bit }
 {
     if !is_unset_support(chip, waves, leading, bit, defect) {
@@ -145,16 +141,16 @@ pub(crate) fn may_branch<L: Linked, V: NetWaves>(
 }
 
 /// Whether a branch on some bit may.
-pub(crate) fn may_go_on<L: Linked, V: NetWaves>(
-    chip: &L,
+pub(crate) fn may_go_on<V: NetWaves>(
+    chip: &View<'_>,
     waves: &V,
     outputs: &[u32],
     leading: &[bool],
     defect: ChipDefect,
 ) -> bool
-    requires seen { IsSeenOf (L.core chip.now) (place_in (L.places chip.now)) (V.seen waves.now) defect }
-    requires outputs { outputs.now ≡ (L.core chip.now).outputs }
-    requires leading { AreLeadingNets (L.core chip.now) defect.instance leading.now }
+    requires seen { IsSeenOf chip.now.core (place_in chip.now.ranks) (V.seen waves.now) defect }
+    requires outputs { outputs.now ≡ chip.now.core.outputs }
+    requires leading { AreLeadingNets chip.now.core defect.instance leading.now }
     ensures { IsTrue result ↔ CanBranch (V.seen waves.now) defect }
 {
     if !has_unset(chip, waves, leading, defect) {
@@ -166,10 +162,10 @@ pub(crate) fn may_go_on<L: Linked, V: NetWaves>(
 ghost use Rattle.ca_examiner.specs.ChipExaminer.{CanBranch};
 
 /// Whether a leaf may stand at the pair. The first two lists are room.
-pub(crate) fn may_leave<L: Linked, V: NetWaves>(
+pub(crate) fn may_leave<V: NetWaves>(
     open_nets: &mut Vec<bool>,
     marks: &mut Vec<bool>,
-    chip: &L,
+    chip: &View<'_>,
     waves: &V,
     order: &[Option<u32>],
     outputs: &[u32],
@@ -177,15 +173,15 @@ pub(crate) fn may_leave<L: Linked, V: NetWaves>(
     rows: &Rows,
     defect: ChipDefect,
 ) -> bool
-    requires seen { IsSeenOf (L.core chip.now) (place_in (L.places chip.now)) (V.seen waves.now) defect }
-    requires open_nets { length open_nets.old.items ≡ length (L.core chip.now).nets }
-    requires marks { length marks.old.items ≡ length (L.core chip.now).nets }
-    requires order { IsOrder (L.core chip.now) (place_in (L.places chip.now)) order.now }
-    requires outputs { outputs.now ≡ (L.core chip.now).outputs }
-    requires leading { AreLeadingNets (L.core chip.now) defect.instance leading.now }
-    requires rows { ListsExposingRows (L.core chip.now) defect rows.now }
-    ensures open_nets { length open_nets.new.items ≡ length (L.core chip.now).nets }
-    ensures marks { length marks.new.items ≡ length (L.core chip.now).nets }
+    requires seen { IsSeenOf chip.now.core (place_in chip.now.ranks) (V.seen waves.now) defect }
+    requires open_nets { length open_nets.old.items ≡ length chip.now.core.nets }
+    requires marks { length marks.old.items ≡ length chip.now.core.nets }
+    requires order { IsOrder chip.now.core (place_in chip.now.ranks) order.now }
+    requires outputs { outputs.now ≡ chip.now.core.outputs }
+    requires leading { AreLeadingNets chip.now.core defect.instance leading.now }
+    requires rows { ListsExposingRows chip.now.core defect rows.now }
+    ensures open_nets { length open_nets.new.items ≡ length chip.now.core.nets }
+    ensures marks { length marks.new.items ≡ length chip.now.core.nets }
     ensures leaf { IsTrue result ↔ MayLeave (V.seen waves.now).chip defect (V.seen waves.now).pair }
 {
     chip.linked();

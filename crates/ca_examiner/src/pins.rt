@@ -3,11 +3,11 @@
 ghost use Rattle.std.specs.Prelude.{◌≡◌, ◌<◌, ◌≤◌, ◌+◌, ◌↔◌, length, IsTrue};
 ghost use Rattle.ca_flat.specs.Chip.{inputs_at, outputs_at};
 ghost use Rattle.ca_cell.specs.declared.rule.TheConstants.{MOST_INPUTS};
-ghost use Rattle.ca_sim.specs.Linked.{IsPlaced, place_in};
+ghost use Rattle.ca_view.specs.Linked.{IsPlaced, place_in};
 ghost use Rattle.ca_examiner.specs.Marks.{MarksPins, HasMarkedPin, Passes};
 
 use crate::marks::mark_if;
-use ca_sim::Linked;
+use ca_view::View;
 
 // Some pins of an instance: this many from a pin on.
 #[derive(Clone, Copy, Debug)]
@@ -17,10 +17,10 @@ pub(crate) struct Pins {
 }
 
 // The input pins of an instance.
-pub(crate) fn input_pins<L: Linked>(chip: &L, u: usize) -> Pins
-    requires { IsPlaced (L.core chip.now) (place_in (L.places chip.now)) u }
+pub(crate) fn input_pins(chip: &View<'_>, u: usize) -> Pins
+    requires { IsPlaced chip.now.core (place_in chip.now.ranks) u }
     ensures from { result.from ≡ 0 }
-    ensures count { result.count ≡ inputs_at (L.core chip.now) u }
+    ensures count { result.count ≡ inputs_at chip.now.core u }
     ensures few { result.count ≤ MOST_INPUTS }
 {
     Pins {
@@ -30,10 +30,10 @@ pub(crate) fn input_pins<L: Linked>(chip: &L, u: usize) -> Pins
 }
 
 // Its output pins.
-pub(crate) fn output_pins<L: Linked>(chip: &L, u: usize) -> Pins
-    requires { IsPlaced (L.core chip.now) (place_in (L.places chip.now)) u }
-    ensures from { result.from ≡ inputs_at (L.core chip.now) u }
-    ensures count { result.count ≡ outputs_at (L.core chip.now) u }
+pub(crate) fn output_pins(chip: &View<'_>, u: usize) -> Pins
+    requires { IsPlaced chip.now.core (place_in chip.now.ranks) u }
+    ensures from { result.from ≡ inputs_at chip.now.core u }
+    ensures count { result.count ≡ outputs_at chip.now.core u }
 {
     let cell = chip.cell(u);
     Pins {
@@ -43,19 +43,19 @@ pub(crate) fn output_pins<L: Linked>(chip: &L, u: usize) -> Pins
 }
 
 // Marks the nets on the pins that have a mark in the other list.
-pub(crate) fn mark_pins<L: Linked>(
+pub(crate) fn mark_pins(
     marks: &mut Vec<bool>,
     others: &[bool],
-    chip: &L,
+    chip: &View<'_>,
     u: usize,
     pins: Pins,
 )
-    requires placed { IsPlaced (L.core chip.now) (place_in (L.places chip.now)) u }
+    requires placed { IsPlaced chip.now.core (place_in chip.now.ranks) u }
     requires pins { pins.from + pins.count
-        ≤ inputs_at (L.core chip.now) u + outputs_at (L.core chip.now) u }
-    requires count { length marks.old.items ≡ length (L.core chip.now).nets }
-    requires others { length others.now ≡ length (L.core chip.now).nets }
-    ensures { MarksPins (L.core chip.now) others.now u pins.from pins.count marks.old.items marks.new.items }
+        ≤ inputs_at chip.now.core u + outputs_at chip.now.core u }
+    requires count { length marks.old.items ≡ length chip.now.core.nets }
+    requires others { length others.now ≡ length chip.now.core.nets }
+    ensures { MarksPins chip.now.core others.now u pins.from pins.count marks.old.items marks.new.items }
 {
     chip.linked();
     for pin in 0..pins.count {
@@ -64,12 +64,12 @@ pub(crate) fn mark_pins<L: Linked>(
 }
 
 // Whether some net on the pins has a mark.
-fn has_marked_pin<L: Linked>(marks: &[bool], chip: &L, u: usize, pins: Pins) -> bool
-    requires placed { IsPlaced (L.core chip.now) (place_in (L.places chip.now)) u }
+fn has_marked_pin(marks: &[bool], chip: &View<'_>, u: usize, pins: Pins) -> bool
+    requires placed { IsPlaced chip.now.core (place_in chip.now.ranks) u }
     requires pins { pins.from + pins.count
-        ≤ inputs_at (L.core chip.now) u + outputs_at (L.core chip.now) u }
-    requires count { length marks.now ≡ length (L.core chip.now).nets }
-    ensures { IsTrue result ↔ HasMarkedPin (L.core chip.now) marks.now u pins.from pins.count }
+        ≤ inputs_at chip.now.core u + outputs_at chip.now.core u }
+    requires count { length marks.now ≡ length chip.now.core.nets }
+    ensures { IsTrue result ↔ HasMarkedPin chip.now.core marks.now u pins.from pins.count }
 {
     chip.linked();
     for pin in 0..pins.count {
@@ -82,22 +82,22 @@ fn has_marked_pin<L: Linked>(marks: &[bool], chip: &L, u: usize, pins: Pins) -> 
 }
 
 // Where some net on the one pins has a mark, marks the nets on the others that have one in the other list.
-pub(crate) fn pass<L: Linked>(
+pub(crate) fn pass(
     marks: &mut Vec<bool>,
     others: &[bool],
-    chip: &L,
+    chip: &View<'_>,
     u: usize,
     pins: Pins,
     onto: Pins,
 )
-    requires placed { IsPlaced (L.core chip.now) (place_in (L.places chip.now)) u }
+    requires placed { IsPlaced chip.now.core (place_in chip.now.ranks) u }
     requires pins { pins.from + pins.count
-        ≤ inputs_at (L.core chip.now) u + outputs_at (L.core chip.now) u }
+        ≤ inputs_at chip.now.core u + outputs_at chip.now.core u }
     requires onto { onto.from + onto.count
-        ≤ inputs_at (L.core chip.now) u + outputs_at (L.core chip.now) u }
-    requires count { length marks.old.items ≡ length (L.core chip.now).nets }
-    requires others { length others.now ≡ length (L.core chip.now).nets }
-    ensures { Passes (L.core chip.now) others.now u pins.from pins.count onto.from onto.count
+        ≤ inputs_at chip.now.core u + outputs_at chip.now.core u }
+    requires count { length marks.old.items ≡ length chip.now.core.nets }
+    requires others { length others.now ≡ length chip.now.core.nets }
+    ensures { Passes chip.now.core others.now u pins.from pins.count onto.from onto.count
         marks.old.items marks.new.items }
 {
     if !has_marked_pin(marks, chip, u, pins) {

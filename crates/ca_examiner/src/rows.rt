@@ -3,14 +3,15 @@
 ghost use Rattle.std.specs.Prelude.{◌≡◌, ◌<◌, ◌+◌, ◌/◌, ◌%◌, ◌^◌, ◌↔◌, length, IsTrue, IsFalse};
 ghost use Rattle.ca_cell.specs.declared.rule.TheConstants.{MOST_INPUTS};
 ghost use Rattle.ca_defect.specs.Row.{digit_value};
-ghost use Rattle.ca_sim.specs.Linked.{IsPlaced, place_in};
+ghost use Rattle.ca_view.specs.Linked.{IsPlaced, place_in};
 ghost use Rattle.ca_examiner.specs.PinRows.{end_of, IsOver, IsAllowed, IsSomeAllowed, IsNoneAllowed};
 
 use crate::pins::input_pins;
 use ca_cell::MOST_INPUTS;
 use ca_defect::{Row, Rows};
 use ca_net::{Trit, Wave, below};
-use ca_sim::{Linked, NetWaves};
+use ca_sim::NetWaves;
+use ca_view::View;
 
 // Which vector of a pair.
 #[derive(Clone, Copy, Debug, PartialEq, Eq)]
@@ -21,14 +22,14 @@ pub(crate) enum End {
 
 // Whether some row's vectors are at or above the values of the instance's pins, or it has one vector, which
 // is at or above the first ones.
-pub(crate) fn is_some_row_allowed<L: Linked, V: NetWaves>(
-    chip: &L,
+pub(crate) fn is_some_row_allowed<V: NetWaves>(
+    chip: &View<'_>,
     waves: &V,
     u: usize,
     rows: &Rows,
 ) -> bool
-    requires chip { (V.seen waves.now).chip ≡ L.core chip.now }
-    requires placed { IsPlaced (L.core chip.now) (place_in (L.places chip.now)) u }
+    requires chip { (V.seen waves.now).chip ≡ chip.now.core }
+    requires placed { IsPlaced chip.now.core (place_in chip.now.ranks) u }
     ensures some { IsTrue result → IsSomeAllowed (V.seen waves.now) u rows.now }
     ensures none { IsFalse result → IsNoneAllowed (V.seen waves.now) u rows.now }
 {
@@ -41,9 +42,9 @@ pub(crate) fn is_some_row_allowed<L: Linked, V: NetWaves>(
 }
 
 // Whether the row is allowed.
-fn is_row_allowed<L: Linked, V: NetWaves>(chip: &L, waves: &V, u: usize, row: Row) -> bool
-    requires chip { (V.seen waves.now).chip ≡ L.core chip.now }
-    requires placed { IsPlaced (L.core chip.now) (place_in (L.places chip.now)) u }
+fn is_row_allowed<V: NetWaves>(chip: &View<'_>, waves: &V, u: usize, row: Row) -> bool
+    requires chip { (V.seen waves.now).chip ≡ chip.now.core }
+    requires placed { IsPlaced chip.now.core (place_in chip.now.ranks) u }
     ensures { IsTrue result ↔ IsAllowed (V.seen waves.now) u row }
 {
     if !is_over(chip, waves, u, End::First, row.first) {
@@ -53,9 +54,9 @@ fn is_row_allowed<L: Linked, V: NetWaves>(chip: &L, waves: &V, u: usize, row: Ro
 }
 
 // Whether the vector of this number is at or above the values of the pins.
-fn is_over<L: Linked, V: NetWaves>(chip: &L, waves: &V, u: usize, end: End, number: u8) -> bool
-    requires chip { (V.seen waves.now).chip ≡ L.core chip.now }
-    requires placed { IsPlaced (L.core chip.now) (place_in (L.places chip.now)) u }
+fn is_over<V: NetWaves>(chip: &View<'_>, waves: &V, u: usize, end: End, number: u8) -> bool
+    requires chip { (V.seen waves.now).chip ≡ chip.now.core }
+    requires placed { IsPlaced chip.now.core (place_in chip.now.ranks) u }
     ensures { IsTrue result ↔ IsOver (V.seen waves.now) end u number }
 {
     chip.linked();

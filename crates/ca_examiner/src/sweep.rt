@@ -2,32 +2,32 @@
 
 ghost use Rattle.std.specs.Prelude.{◌≡◌, length, true};
 ghost use Rattle.std.specs.List.{All};
-ghost use Rattle.ca_sim.specs.Linked.{IsPlaced, place_in};
+ghost use Rattle.ca_view.specs.Linked.{IsPlaced, place_in};
 ghost use Rattle.ca_examiner.specs.Order.{IsOrder};
 ghost use Rattle.ca_examiner.specs.Sweep.{AreReached, AreLeading};
 
 use crate::marks::unmark;
 use crate::pins::{input_pins, mark_pins, output_pins, pass};
-use ca_sim::Linked;
+use ca_view::View;
 
 // Marks the nets to which a chain of open nets leads from the instance.
-pub(crate) fn mark_onward<L: Linked>(
+pub(crate) fn mark_onward(
     marks: &mut Vec<bool>,
     open_nets: &[bool],
-    chip: &L,
+    chip: &View<'_>,
     order: &[Option<u32>],
     u: usize,
 )
-    requires placed { IsPlaced (L.core chip.now) (place_in (L.places chip.now)) u }
-    requires count { length marks.old.items ≡ length (L.core chip.now).nets }
-    requires open_count { length open_nets.now ≡ length (L.core chip.now).nets }
-    requires order { IsOrder (L.core chip.now) (place_in (L.places chip.now)) order.now }
-    ensures { AreReached (L.core chip.now) open_nets.now u marks.new.items }
+    requires placed { IsPlaced chip.now.core (place_in chip.now.ranks) u }
+    requires count { length marks.old.items ≡ length chip.now.core.nets }
+    requires open_count { length open_nets.now ≡ length chip.now.core.nets }
+    requires order { IsOrder chip.now.core (place_in chip.now.ranks) order.now }
+    ensures { AreReached chip.now.core open_nets.now u marks.new.items }
 {
     chip.linked();
     unmark(marks);
     mark_pins(marks, open_nets, chip, u, output_pins(chip, u));
-    for place in chip.place(u)..order.len() {
+    for place in chip.rank(u)..order.len() {
         if let Some(w) = order[place] {
             let w = w as usize;
             pass(
@@ -43,17 +43,17 @@ pub(crate) fn mark_onward<L: Linked>(
 }
 
 // Marks the nets from which a chain of instances leads to one that has a mark.
-pub(crate) fn mark_back<L: Linked>(
+pub(crate) fn mark_back(
     marks: &mut Vec<bool>,
     all_nets: &[bool],
-    chip: &L,
+    chip: &View<'_>,
     order: &[Option<u32>],
 )
-    requires count { length marks.old.items ≡ length (L.core chip.now).nets }
-    requires all_count { length all_nets.now ≡ length (L.core chip.now).nets }
+    requires count { length marks.old.items ≡ length chip.now.core.nets }
+    requires all_count { length all_nets.now ≡ length chip.now.core.nets }
     requires all { All (λ mark. mark ≡ true) all_nets.now }
-    requires order { IsOrder (L.core chip.now) (place_in (L.places chip.now)) order.now }
-    ensures { AreLeading (L.core chip.now) marks.old.items marks.new.items }
+    requires order { IsOrder chip.now.core (place_in chip.now.ranks) order.now }
+    ensures { AreLeading chip.now.core marks.old.items marks.new.items }
 {
     chip.linked();
     let count = order.len();

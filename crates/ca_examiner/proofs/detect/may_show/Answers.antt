@@ -1,14 +1,14 @@
 use Rattle.std.proofs.Common.{sym, subst}
 use Rattle.ca_flat.specs.Chip.{IsChip, IsDefectIn}
 use Rattle.ca_flat.specs.Rows.{ListsExposingRows}
-use Rattle.ca_sim.specs.Linked.{place_in}
+use Rattle.ca_view.specs.Linked.{place_in}
 use Rattle.ca_examiner.specs.ChipExaminer.{AreNetworks}
 use Rattle.ca_examiner.proofs.DetectLemmas.{none_shows}
 use Rattle.ca_examiner.proofs.detect.may_show.Goals as goal
 
 pub returns : goal.returns
 returns g c denied shown =
-    let rank = place_in (g.L.Linked.places c.args.chip.now) in
+    let rank = place_in c.args.chip.now.ranks in
     none_shows (g.V.NetWaves.seen c.args.waves.now) rank c.args.defect
     (subst (λ x. IsChip x rank) (sym c.requires.same) c.linked.ensures.linked.is_chip)
     (subst (λ x. IsDefectIn x c.args.defect) (sym c.requires.same) c.requires.defect.defect_is)

@@ -11,5 +11,5 @@ pub returns : goal.returns
 returns g c = (
   λ yes. absurd (let clash : false ≡ true = yes in cc),
   λ has. absurd (no_unset_all (g.V.NetWaves.seen c.args.waves.now) c.args.defect c.loop-bit.bit
-      (let e = ap (λ (x : Chip). length x.inputs) c.requires.chip in omega (arith, c.loop-bit-test.false, c.inputs-bit-end.ensures, e)) c.loop-bit.invariant has),
+      (let e = ap (λ (x : Chip). length x.inputs) c.requires.chip in omega (arith, c.loop-bit-test.false, c.input_count-bit-end.ensures, e)) c.loop-bit.invariant has),
 )

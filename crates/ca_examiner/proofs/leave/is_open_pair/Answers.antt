@@ -1,21 +1,21 @@
 use Rattle.std.proofs.Common.{◌≡◌, ◌∙◌, sym, subst, true, false}
 use Rattle.ca_flat.specs.Chip.{Chip}
-use Rattle.ca_sim.specs.Linked.{place_in}
+use Rattle.ca_view.specs.Linked.{place_in}
 use Rattle.ca_examiner.proofs.LeaveLemmas.{view_of, outputs_within, shown_is, settled_is, open_by_settled, open_by_shown}
 use Rattle.ca_examiner.proofs.leave.is_open_pair.Goals as goal
 
 pub is_shown-requires : goal.is_shown-requires
-is_shown-requires g c = outputs_within (g.L.Linked.core c.args.chip.now) (place_in (g.L.Linked.places c.args.chip.now))
+is_shown-requires g c = outputs_within c.args.chip.now.core (place_in c.args.chip.now.ranks)
     (g.V.NetWaves.seen c.args.waves.now).chip c.args.outputs.now c.linked.ensures.linked.is_chip c.requires.seen.same c.requires.outputs
 
 pub is_settled-requires : goal.is_settled-requires
-is_settled-requires g c = outputs_within (g.L.Linked.core c.args.chip.now) (place_in (g.L.Linked.places c.args.chip.now))
+is_settled-requires g c = outputs_within c.args.chip.now.core (place_in c.args.chip.now.ranks)
     (g.V.NetWaves.seen c.args.waves.now).chip c.args.outputs.now c.linked.ensures.linked.is_chip c.requires.seen.same c.requires.outputs
 
 pub returns-then-not-is_shown : goal.returns-then-not-is_shown
 returns-then-not-is_shown g c =
-    let chip = g.L.Linked.core c.args.chip.now in
-    let rank = place_in (g.L.Linked.places c.args.chip.now) in
+    let chip = c.args.chip.now.core in
+    let rank = place_in c.args.chip.now.ranks in
     let seen = g.V.NetWaves.seen c.args.waves.now in
     let view = view_of chip rank seen c.args.defect c.linked.ensures.linked.is_chip c.requires.seen c.exact.ensures in
     let outputs_are = c.requires.outputs ∙ sym (Rattle.std.proofs.Common.ap (λ (x : Chip). x.outputs) c.requires.seen.same) in
@@ -25,8 +25,8 @@ returns-then-not-is_shown g c =
 
 pub returns-else-not-is_shown : goal.returns-else-not-is_shown
 returns-else-not-is_shown g c =
-    let chip = g.L.Linked.core c.args.chip.now in
-    let rank = place_in (g.L.Linked.places c.args.chip.now) in
+    let chip = c.args.chip.now.core in
+    let rank = place_in c.args.chip.now.ranks in
     let seen = g.V.NetWaves.seen c.args.waves.now in
     let view = view_of chip rank seen c.args.defect c.linked.ensures.linked.is_chip c.requires.seen c.exact.ensures in
     let outputs_are = c.requires.outputs ∙ sym (Rattle.std.proofs.Common.ap (λ (x : Chip). x.outputs) c.requires.seen.same) in

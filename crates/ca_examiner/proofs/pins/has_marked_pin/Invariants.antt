@@ -4,4 +4,4 @@ use Rattle.ca_examiner.specs.Marks.{IsMarked}
 use Rattle.ca_examiner.proofs.pins.has_marked_pin.Given as goal
 
 abbrev pub invariant-loop-pin : goal.invariant-loop-pin
-invariant-loop-pin g l = (k : ℕ) → k < l.pin → IsMarked l.marks (net_of (g.L.Linked.core l.chip) l.u (l.pins.from + k)) → ⊥
+invariant-loop-pin l = (k : ℕ) → k < l.pin → IsMarked l.marks (net_of l.chip.core l.u (l.pins.from + k)) → ⊥

@@ -4,14 +4,14 @@ use Rattle.ca_examiner.proofs.MarkLemmas.{pass_some, pass_none}
 use Rattle.ca_examiner.proofs.pins.pass.Goals as goal
 
 pub returns-then-not-has_marked_pin : goal.returns-then-not-has_marked_pin
-returns-then-not-has_marked_pin g c =
-    pass_none (g.L.Linked.core c.args.chip.now) c.args.others.now c.args.u c.args.pins.from c.args.pins.count c.args.onto.from c.args.onto.count
+returns-then-not-has_marked_pin c =
+    pass_none c.args.chip.now.core c.args.others.now c.args.u c.args.pins.from c.args.pins.count c.args.onto.from c.args.onto.count
     c.args.marks.now.items (λ has. let clash : true ≡ false = sym (c.has_marked_pin.ensures.1
-    (subst (λ m. HasMarkedPin (g.L.Linked.core c.args.chip.now) m c.args.u c.args.pins.from c.args.pins.count) (sym c.deref.ensures.value) has)) ∙ c.if-not-has_marked_pin.true in cc)
+    (subst (λ m. HasMarkedPin c.args.chip.now.core m c.args.u c.args.pins.from c.args.pins.count) (sym c.deref.ensures.value) has)) ∙ c.if-not-has_marked_pin.true in cc)
 
 pub returns : goal.returns
-returns g c =
-    pass_some (g.L.Linked.core c.args.chip.now) c.args.others.now c.args.u c.args.pins.from c.args.pins.count c.args.onto.from c.args.onto.count
+returns c =
+    pass_some c.args.chip.now.core c.args.others.now c.args.u c.args.pins.from c.args.pins.count c.args.onto.from c.args.onto.count
     c.args.marks.now.items c.mark_pins.new.marks.items
-    (subst (λ m. HasMarkedPin (g.L.Linked.core c.args.chip.now) m c.args.u c.args.pins.from c.args.pins.count) c.deref.ensures.value
+    (subst (λ m. HasMarkedPin c.args.chip.now.core m c.args.u c.args.pins.from c.args.pins.count) c.deref.ensures.value
     (c.has_marked_pin.ensures.0 c.if-not-has_marked_pin.false)) c.mark_pins.ensures
