@@ -30,7 +30,7 @@ fn linked_netlist(alloc: Global, raw: &RawNetlist) -> Option<Chip>
 }
 
 // The chip of a netlist, if it links.
-pub(crate) fn linked(alloc: Global, netlist: &[u8]) -> Option<Chip> {
+fn linked(alloc: Global, netlist: &[u8]) -> Option<Chip> {
     let raw = read_netlist(alloc, netlist).ok()?;
     let chip = linked_netlist(alloc, &raw);
     drop(raw);
@@ -60,7 +60,7 @@ fn pairs_of(alloc: Global, words: &[&[u8]], bits: usize) -> Option<Pairs>
 }
 
 // What the check answers over a view and rows, where there is a claim for each defect.
-pub(crate) fn answer_over(
+fn answer_over(
     alloc: Global,
     view: &View<'_>,
     rows: &ChipRows<'_>,

@@ -7,6 +7,4 @@ mod chips;
 #[cfg(test)]
 mod claims;
 #[cfg(test)]
-mod found;
-#[cfg(test)]
 mod texts;
