@@ -3,9 +3,9 @@
 ghost use Rattle.std.specs.Prelude.{◌≡◌, ◌<◌, ◌^◌, length, IfOk};
 ghost use Rattle.ca_engine.specs.ChipTask.{task_of};
 
-use crate::listing::{ChipDefects, chip_defects};
 use crate::pair_bits::PairBits;
 use ca_base::NoMemory;
+use ca_chip_defects::{ChipDefects, chip_defects};
 use ca_credit::Simulator;
 use ca_flat::ChipDefect;
 use ca_flatten::{flat_is_well_formed, judge_size};
