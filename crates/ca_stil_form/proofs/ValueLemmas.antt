@@ -245,7 +245,7 @@ long_part : {Value : Type 0} (from count : ℕ) (values : List Value) → from +
 long_part from count values long = length-take-le count (drop from values) (omega (arith, length-drop from values))
 
 -- a pair
-pair_allowed : (chip : StilChip) (number : ℕ) (pair : List Bool) (expected : List Trit) → IsPairOf chip pair → AreValuesOf chip expected
+pub pair_allowed : (chip : StilChip) (number : ℕ) (pair : List Bool) (expected : List Trit) → IsPairOf chip pair → AreValuesOf chip expected
     → (pair_form (frame_seen chip) number).allowed (pair_values chip pair expected) ≡ true
 pair_allowed chip number pair expected pair_long expected_long =
     let inputs : ℕ = length chip.inputs in

@@ -121,7 +121,7 @@ static ROWS: [Row; 15] = [
     // With a chain; a captured word that is too long; a number of cells that begins with 0.
     (&[Chain, Other(b"2"), Cells, Loads, Other(b"HL; }\n}\n")], Seen::Pairs(1, 8, 4)),
     (&[Chain, Other(b"2"), Cells, Loads, Other(b"HLX; }\n}\n")], Seen::Line(60)),
-    (&[Chain, Other(b"02"), Cells, Other(b"}\n")], Seen::Line(32)),
+    (&[Chain, Other(b"02"), Cells, Other(b"}\n")], Seen::Line(34)),
     // More cells than any text has bytes: without pairs, and with one.
     (&[Chain, Other(b"18446744073709551616"), Cells, Other(b"}\n")], Seen::Pairs(0, 0, 0)),
     (&[Chain, Other(b"18446744073709551616"), Cells, Loads, Other(b"HL; }\n}\n")], Seen::Line(55)),

@@ -1,0 +1,7 @@
+mod PlaceLemmas
+mod ListLemmas
+mod SameLemmas
+mod OrderLemmas
+mod ShapeLemmas
+mod PairLemmas
+mod WholeLemmas
