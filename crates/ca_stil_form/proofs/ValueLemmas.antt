@@ -34,7 +34,7 @@ use Rattle.ca_stil_form.proofs.PairTexts.{chain_seen, frame_seen, count_of, IsUp
 use Rattle.ca_stil_form.proofs.PairTexts.{all_up_to}
 
 -- what holds of each holds by recursion
-by_recursion : {Item : Type 0} (P : Item → Type 0) (items : List Item) → All P items → AllByRecursion P items
+pub by_recursion : {Item : Type 0} (P : Item → Type 0) (items : List Item) → All P items → AllByRecursion P items
 by_recursion P [] all = tt
 by_recursion P (item ∷ items) all =
     (all 0 item (omega arith), by_recursion P items (λ k other within. all (suc k) other (omega (arith, within))))

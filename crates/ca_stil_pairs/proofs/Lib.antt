@@ -5,3 +5,5 @@ mod OrderLemmas
 mod ShapeLemmas
 mod PairLemmas
 mod WholeLemmas
+mod UniqueLemmas
+mod BackLemmas

@@ -2,4 +2,5 @@
 pub mod Chip
 pub mod Places
 pub mod File
+pub mod Laws
 pub mod Same

@@ -4,9 +4,11 @@
 
 mod chip;
 mod file;
+mod laws;
 mod order;
 mod places;
 mod read;
 
 pub use file::StilFile;
+pub use laws::{text_is_one_file, written_is_read_back};
 pub use read::{StilFault, read_stil};
