@@ -1,9 +1,9 @@
-mod PlaceLemmas
-mod ListLemmas
-mod SameLemmas
-mod OrderLemmas
-mod ShapeLemmas
-mod PairLemmas
-mod WholeLemmas
-mod UniqueLemmas
-mod BackLemmas
+pub mod PlaceLemmas
+pub mod ListLemmas
+pub mod SameLemmas
+pub mod OrderLemmas
+pub mod ShapeLemmas
+pub mod PairLemmas
+pub mod WholeLemmas
+pub mod UniqueLemmas
+pub mod BackLemmas

@@ -19,7 +19,7 @@ use Rattle.ca_stil_pairs.specs.Chip.{order_of, IsCovered}
 use Rattle.ca_stil_pairs.specs.Places.{AreSites, sited}
 use Rattle.ca_stil_pairs.proofs.ListLemmas.{long_part, all_of}
 
-reversed : {One Two : Type 0} (f : One → Two) (list : List One) → reverse (map f list) ≡ map f (reverse list)
+pub reversed : {One Two : Type 0} (f : One → Two) (list : List One) → reverse (map f list) ≡ map f (reverse list)
 reversed f [] = refl
 reversed f (one ∷ list) =
     reverse-append (f one ∷ []) (map f list)

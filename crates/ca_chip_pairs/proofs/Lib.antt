@@ -1,0 +1,3 @@
+mod RunLemmas
+mod PlaceLemmas
+mod CoverLemmas
