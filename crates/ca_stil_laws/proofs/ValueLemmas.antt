@@ -43,7 +43,7 @@ site_count chip input list are =
     omega (arith, both, ports, scans, named, all, counted)
 
 -- pairs and expected values of the chip are of its text
-of_text : SetSitesAreInputs → SeenSitesAreOutputs → (chip : Chip) (chains : List (List ℕ)) (pairs : List (List Bool)) (expected : List (List Trit))
+pub of_text : SetSitesAreInputs → SeenSitesAreOutputs → (chip : Chip) (chains : List (List ℕ)) (pairs : List (List Bool)) (expected : List (List Trit))
     → AreOfChip chip chains pairs expected → AreOf (stil_chip chip chains) pairs expected
 of_text set seen chip chains pairs expected of = record {
   chains = chains_within chip chains of.chains_are;
