@@ -3,6 +3,8 @@
 
 mod grade;
 mod grades;
+mod judged;
 
 pub use grade::{Grade, Grades};
 pub use grades::grade_pairs;
+pub use judged::{GradeFault, grade_judged};

@@ -31,7 +31,7 @@ use Rattle.ca_stil_laws.proofs.PortLemmas.{data_among}
 use Rattle.ca_stil_laws.proofs.ChipLemmas.{chains_within, chains_short, scan_groups}
 
 -- how many ends there are of each direction
-site_count : (chip : Chip) (input : Bool) (list : List ℕ) → map (site_net chip input) (sites_of chip input) ≡ list
+pub site_count : (chip : Chip) (input : Bool) (list : List ℕ) → map (site_net chip input) (sites_of chip input) ≡ list
     → length (chips.names_of (data_ports chip input)) + length (scans_of chip) ≡ length list
 site_count chip input list are =
     let both = length-append (map AtPort (data_ports chip input)) (map InScan (scans_of chip)) in
