@@ -23,10 +23,11 @@ use Rattle.ca_wired.specs.declared.parts.Source.{Source}
 use Rattle.ca_wired.specs.declared.parts.Source.TheVariants.{FromPort, FromConstant, FromPin}
 use Rattle.ca_wired.specs.Linked.{Chip, net_count, constant_net, data_nets, is_scan_path, gate_inputs, gate_outputs}
 use Rattle.ca_wired.specs.Linked.{input_nets, output_nets, Drives, Feeds, IsGate, IsLibrary, IsBody, IsGateOf}
-use Rattle.ca_wired.specs.Linked.{IsWired, cell_of, no_cell}
+use Rattle.ca_wired.specs.Linked.{IsWired, cell_of, no_cell, has, inverted_nets, is_read}
+use Rattle.ca_wired.specs.Wired.{IsReady}
 use Rattle.ca_wired.specs.Order.{IsChain, HasNoLoop, IsOrder}
 use Rattle.ca_wired.proofs.OrderLemmas.{place_of, contained_at}
-use Rattle.ca_wired.proofs.PartLemmas.{of_all}
+use Rattle.ca_wired.proofs.PartLemmas.{of_all, has_contains, contains_has}
 use Rattle.ca_flat.specs.Chip.{Instance, IsChip, inputs_at, outputs_at, net_of, output_net}
 use Rattle.ca_core.specs.Core.{core_net, stored_nets, core_instance, core_of, rank_of}
 use Rattle.ca_core.proofs.CoreLemmas.{IsOutside}
@@ -40,8 +41,9 @@ use Rattle.ca_merged.proofs.Lists.{listed_contains, contains_listed, IsDistinct}
 use Rattle.ca_merged.proofs.Seats.{map-Contains, inputs_are, outputs_are, cluster_is_cell}
 use Rattle.ca_merge.specs.Draft.{no_part, part_of, drives_net, reads_net, feeds_members, cluster_input_nets}
 use Rattle.ca_merge.specs.Draft.{cluster_output_nets, cluster_part, other_parts, merged_draft, AreGates}
-use Rattle.ca_merge.specs.Laws.{AreMergeable, DraftHasNoLoop, DraftIsWired, IsReady, DraftIsReady}
+use Rattle.ca_merge.specs.Laws.{AreMergeable, DraftHasNoLoop, DraftIsWired, DraftIsReady}
 use Rattle.ca_merge.proofs.DraftLemmas.{places, parts_are, ports_are, nets_are, zero_is, one_is, cells_are}
+use Rattle.ca_merge.proofs.DraftLemmas.{part_passes, passes_chip, reads_from}
 use Rattle.ca_merge.proofs.DraftLemmas.{place_within, place_listed, gate_at, path_same, drives_from, drives_at}
 use Rattle.ca_merge.proofs.DraftLemmas.{driven_data, read_data, output_net_listed, output_net_holds}
 use Rattle.ca_merge.proofs.DraftLemmas.{outputs_numbered, inputs_numbered, cell_within, all_same}
@@ -190,6 +192,31 @@ module _ (chip : Chip) (members : List ℕ) (can : AreMergeable chip members) wh
   off_path = all_parts (λ (part : Part). All (λ net. is_scan_path d net ≡ false) (data_nets part.body))
       (λ u lt k e less. path_same chip members is gates (get_or (data_nets (part_of chip u).body) k e) ∙ is.off_path u no_part lt k e less)
       (all_from (λ net. is_scan_path d net ≡ false) (ins ++ outs) (λ net c. path_same chip members is gates net ∙ (pin_net net c).1))
+
+  -- what an input pin of the draft is on, one of the chip is on
+  gate_input : (body : Body) (net : ℕ) → Contains (gate_inputs body) net → has (input_nets body) net ≡ true
+  gate_input (Gate cell inputs outputs) net c = contains_has inputs net c
+  gate_input (Scan nets) net c = absurd (omega (arith, c.1))
+
+  reads_less : (net : ℕ) → is_read d net ≡ true → is_read chip net ≡ true
+  reads_less net h = elim (part_passes chip members (λ (part : Part). has (input_nets part.body) net) h) [
+    | inl o ↦ passes_chip chip members (λ (part : Part). has (input_nets part.body) net) o.0 (place_within chip members o.0 o.1) o.2
+    | inr c ↦
+        let r = reads_from chip members is gates net (fed_listed net (has_contains ins net c)) in
+        passes_chip chip members (λ (part : Part). has (input_nets part.body) net) r.0 (gate_at chip members is gates r.0 r.1).0
+        (gate_input (part_of chip r.0).body net r.2)
+  ]
+
+  unread_net : (net : ℕ) → is_read chip net ≡ false → is_read d net ≡ false
+  unread_net net off = elim (cases_Bool (is_read d net)) [
+    | inl on ↦ absurd (both_ways (is_read chip net) off (reads_less net on))
+    | inr unread ↦ unread
+  ]
+
+  unread : All (λ (part : Part). All (λ net. is_read d net ≡ false) (inverted_nets part.body)) d.parts
+  unread = all_parts (λ (part : Part). All (λ net. is_read d net ≡ false) (inverted_nets part.body))
+      (λ u lt k e less. unread_net (get_or (inverted_nets (part_of chip u).body) k e) (is.unread u no_part lt k e less))
+      (λ k e less. absurd (omega arith))
 
   ports_on_nets : All (λ (port : PortBit). port.net < net_count d) d.ports
   ports_on_nets = subst (λ xs. All (λ (port : PortBit). port.net < net_count d) xs) (sym (ports_are chip members))
@@ -392,6 +419,7 @@ module _ (chip : Chip) (members : List ℕ) (can : AreMergeable chip members) wh
     driven = driven;
     one_driver = one_driver;
     off_path = off_path;
+    unread = unread;
     ordered = record { has = ordered.has; once = ordered.once; after = λ k u w at f. ordered.after k u w at (record { driver = f.driver; reader = f.reader; is_driver = f.is_driver; is_reader = f.is_reader; net = f.net; driven = f.driven; read = f.read }) };
   }
 

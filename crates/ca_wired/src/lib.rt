@@ -17,6 +17,7 @@ mod parts;
 mod paths;
 mod pins;
 mod readers;
+mod ready;
 mod used;
 mod wiring;
 
@@ -28,4 +29,5 @@ pub use instances::{InstanceId, InstanceList};
 pub use laws::order_has_no_loop;
 pub use parts::{Body, NetId, NetList, Part, PortBit, ScanNets, Source};
 pub use pins::ScanPin;
+pub use ready::wire_draft;
 pub use wiring::{Judged, WireFault, judge, wire};
