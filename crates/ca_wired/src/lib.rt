@@ -27,6 +27,7 @@ pub use draft::Draft;
 pub use drivers::Sources;
 pub use instances::{InstanceId, InstanceList};
 pub use laws::order_has_no_loop;
+pub use marks::NetMarks;
 pub use parts::{Body, NetId, NetList, Part, PortBit, ScanNets, Source};
 pub use pins::ScanPin;
 pub use ready::wire_draft;
