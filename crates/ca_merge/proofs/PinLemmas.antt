@@ -1,24 +1,23 @@
 -- The nets on pins of members, as the code finds them.
 use Rattle.std.proofs.Common.{◌≡◌, ℕ, zero, suc, ◌+◌, ◌<◌, ◌≤◌, List, [], ◌∷◌, ◌++◌, length, take, Bool, true, false}
 use Rattle.std.proofs.Common.{inl, inr, refl, sym, ◌∙◌, ap, subst, arith, get_or}
-use Rattle.std.specs.Prelude.{◌||◌, ◌&&◌, not, Some, slice_get, if◌then◌else◌, eqb}
-use Rattle.std.specs.List.{All, Contains, list_any, filter, range_with_len}
-use Rattle.std.proofs.lemmas.Bool.{cases_lt, cases_Bool, cond-true, cond-false}
-use Rattle.std.proofs.lemmas.List.{length-append, get_or_append_left, get_or-append-add, get_or_push, take_more, append-nil}
-use Rattle.std.proofs.lemmas.List.FromFn.{length-range_with_len}
+use Rattle.std.specs.Prelude.{◌||◌, ◌&&◌, not, Some, slice_get, if◌then◌else◌}
+use Rattle.std.specs.List.{All, list_any, filter, range_with_len}
+use Rattle.std.proofs.lemmas.Bool.{cases_lt}
+use Rattle.std.proofs.lemmas.List.{length-append, get_or_append_left, get_or-append-add, get_or_push, take_more}
 use Rattle.std.proofs.lemmas.List.Elements.{filter-append}
 use Rattle.std.proofs.lemmas.List.Folds.{list_any-append}
-use Rattle.std.proofs.lemmas.Option.{slice_get-get_or, get_or_from_slice_get}
+use Rattle.std.proofs.lemmas.Option.{get_or_from_slice_get}
 use Rattle.ca_wired.specs.declared.parts.Body.{Body}
 use Rattle.ca_wired.specs.declared.parts.Part.{Part}
 use Rattle.ca_wired.specs.declared.parts.Body.TheVariants.{Gate, Scan}
-use Rattle.ca_wired.specs.Linked.{Chip, net_count, has, data_nets, gate_inputs, gate_outputs, IsGate, IsWired}
+use Rattle.ca_wired.specs.Linked.{Chip, net_count, has, data_nets, gate_inputs, gate_outputs, IsWired}
 use Rattle.ca_wired.specs.Paths.{mark_at, Marks, AreMarks}
 use Rattle.ca_wired.proofs.PartLemmas.{of_all}
 use Rattle.ca_merged.proofs.Lists.{get_or_contains}
 use Rattle.ca_merge.specs.Draft.{part_of, no_part, AreGates, reads_net, drives_net, feeds_members}
 use Rattle.ca_merge.specs.Pins.{IsListed}
-use Rattle.ca_merge.proofs.DraftLemmas.{gate_at, at_place}
+use Rattle.ca_merge.proofs.DraftLemmas.{gate_at}
 
 -- a member at a place of the list is an instance
 pub member_within : (chip : Chip) (members : List ℕ) (k u : ℕ) → IsWired chip → AreGates chip members → k < length members

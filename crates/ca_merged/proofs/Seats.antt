@@ -1,5 +1,5 @@
 -- Where the nodes of the members stand in the cluster, and the network of the cluster's cell.
-use Rattle.std.proofs.Common.{◌≡◌, ℕ, ◌+◌, ◌-◌, ◌<◌, ◌≤◌, ◌⊎◌, List, [], ◌∷◌, ◌++◌, length}
+use Rattle.std.proofs.Common.{◌≡◌, ℕ, ◌+◌, ◌-◌, ◌<◌, ◌≤◌, ◌^◌, ◌⊎◌, List, [], ◌∷◌, ◌++◌, length}
 use Rattle.std.proofs.Common.{true, eqb, inl, inr, refl, sym, ◌∙◌, ap, subst, arith, get_or, map}
 use Rattle.std.specs.List.{Contains, position_or_len, flat_map, sum_by}
 use Rattle.std.proofs.lemmas.Bool.{cases_lt, cases_Bool, cond_below, cond_above, cond-true, cond-false, both_ways}
@@ -13,7 +13,7 @@ use Rattle.ca_cell.specs.declared.raw.RawCell.{RawCell}
 use Rattle.ca_cell.specs.declared.rule.CellRule.TheVariants.{NoOutput}
 use Rattle.ca_cell.specs.Raw.{is_input, is_output, role_count, node_of, device_of, circuit_of}
 use Rattle.ca_cell.specs.Transistors.{IsTransistor}
-use Rattle.ca_cell.specs.Rules.{PlacesWithin, KeepsAllBut, node_count}
+use Rattle.ca_cell.specs.Rules.{IsRaw, PlacesWithin, KeepsAllBut, node_count}
 use Rattle.ca_cell.proofs.CircuitLemmas.{length-nodes_of, node_of-within, few_nodes_all_but}
 use Rattle.ca_cell.proofs.NodeLemmas.{few_devices_all_but}
 use Rattle.ca_flat.specs.Chip.{Chip, IsChip, IsCell, cell_at, circuit_at, inputs_at, outputs_at, net_of}
@@ -83,7 +83,7 @@ module _ (chip : Chip) (members : List ℕ) where
   unfolding cluster_cell
   outputs_are = count_outputs ni no
 
-  nets_are : length cluster.nets ≡ 2 + ni + no + inner_total
+  pub nets_are : length cluster.nets ≡ 2 + ni + no + inner_total
   unfolding cluster_cell
   nets_are = length-replicate (2 + ni + no + inner_total) []
 
@@ -95,7 +95,7 @@ module _ (chip : Chip) (members : List ℕ) where
   unfolding cluster_cell
   places_are n = node_is_place ni no n
 
-  devices_are : cluster.devices ≡ seated_devices chip members members
+  pub devices_are : cluster.devices ≡ seated_devices chip members members
   unfolding cluster_cell
   devices_are = refl
 
@@ -217,40 +217,44 @@ module _ (chip : Chip) (members : List ℕ) where
           ]
         ]
 
-    -- the cluster's cell is a cell, where it breaks no rule but that it may have no output pin
-    module _ (keeps : KeepsAllBut NoOutput cluster) where
-      member_device : (e : RawDevice) → Contains cluster.devices e → (u : ℕ) × Contains members u × ((d : RawDevice) × Contains (cell_at chip u).devices d × (seated chip members u d ≡ e))
-      member_device e h =
-          let r = out_of_flat_map (λ u. map (seated chip members u) (cell_at chip u).devices) members e (subst (λ xs. Contains xs e) devices_are h) in
-          (r.0, r.1, map-Contains (seated chip members r.0) (cell_at chip r.0).devices e r.2)
+    member_device : (e : RawDevice) → Contains cluster.devices e → (u : ℕ) × Contains members u × ((d : RawDevice) × Contains (cell_at chip u).devices d × (seated chip members u d ≡ e))
+    member_device e h =
+        let r = out_of_flat_map (λ u. map (seated chip members u) (cell_at chip u).devices) members e (subst (λ xs. Contains xs e) devices_are h) in
+        (r.0, r.1, map-Contains (seated chip members r.0) (cell_at chip r.0).devices e r.2)
 
-      terminal_within : (u t : ℕ) → Contains members u → t < length (cell_at chip u).nets → seat chip members u (node_of (cell_at chip u).pins t) < length cluster.nets
-      terminal_within u t c lt =
-          let w = node_of-within (cell_at chip u) t (is.cells u (known u c)).is_raw lt in
-          let l = length-nodes_of (cell_at chip u) in
-          let s = seat_within u (node_of (cell_at chip u).pins t) c (omega arith) in
-          let n = nets_are in omega arith
+    terminal_within : (u t : ℕ) → Contains members u → t < length (cell_at chip u).nets → seat chip members u (node_of (cell_at chip u).pins t) < length cluster.nets
+    terminal_within u t c lt =
+        let w = node_of-within (cell_at chip u) t (is.cells u (known u c)).is_raw lt in
+        let l = length-nodes_of (cell_at chip u) in
+        let s = seat_within u (node_of (cell_at chip u).pins t) c (omega arith) in
+        let n = nets_are in omega arith
 
-      placed : (u : ℕ) (d : RawDevice) → Contains members u → Contains (cell_at chip u).devices d → PlacesWithin (length cluster.nets) (seated chip members u d)
-      placed u d c h =
-          let p : PlacesWithin (length (cell_at chip u).nets) d = subst (PlacesWithin (length (cell_at chip u).nets)) h.2 ((is.cells u (known u c)).is_raw.places h.0 d h.1) in
-          record { drain = terminal_within u d.drain c p.drain; gate = terminal_within u d.gate c p.gate; source = terminal_within u d.source c p.source }
+    placed : (u : ℕ) (d : RawDevice) → Contains members u → Contains (cell_at chip u).devices d → PlacesWithin (length cluster.nets) (seated chip members u d)
+    placed u d c h =
+        let p : PlacesWithin (length (cell_at chip u).nets) d = subst (PlacesWithin (length (cell_at chip u).nets)) h.2 ((is.cells u (known u c)).is_raw.places h.0 d h.1) in
+        record { drain = terminal_within u d.drain c p.drain; gate = terminal_within u d.gate c p.gate; source = terminal_within u d.source c p.source }
 
-      transistor : (u : ℕ) (d : RawDevice) → Contains members u → Contains (cell_at chip u).devices d → IsTransistor d.kind d.strength
-      transistor u d c h = subst (λ x. IsTransistor x.kind x.strength) h.2 ((is.cells u (known u c)).is_raw.transistors h.0 d h.1)
+    transistor : (u : ℕ) (d : RawDevice) → Contains members u → Contains (cell_at chip u).devices d → IsTransistor d.kind d.strength
+    transistor u d c h = subst (λ x. IsTransistor x.kind x.strength) h.2 ((is.cells u (known u c)).is_raw.transistors h.0 d h.1)
 
-      pub cluster_is_cell : IsCell cluster
-      cluster_is_cell = record {
-        is_raw = record {
-          few_nets = let f = few_nodes_all_but cluster keeps in let n = nets_are in let k = node_count_is in omega arith;
-          few_devices = let f = few_devices_all_but cluster keeps in omega arith;
-          pins = let n = nets_are in let k = pins_are in omega arith;
-          places = λ k d lt.
-              let m = member_device (get_or cluster.devices k d) (Contains-get_or cluster.devices k d lt) in
-              subst (PlacesWithin (length cluster.nets)) m.2.2 (placed m.0 m.2.0 m.1 m.2.1);
-          transistors = λ k d lt.
-              let m = member_device (get_or cluster.devices k d) (Contains-get_or cluster.devices k d lt) in
-              subst (λ x. IsTransistor x.kind x.strength) m.2.2 (transistor m.0 m.2.0 m.1 m.2.1);
-        };
-        keeps = keeps;
-      }
+    -- the cluster's cell is a subcircuit, where it has few nets and devices
+    pub cluster_is_raw : length cluster.nets < 2 ^ 32 → length cluster.devices < 2 ^ 32 → IsRaw cluster
+    cluster_is_raw nets devices = record {
+      few_nets = nets;
+      few_devices = devices;
+      pins = let n = nets_are in let k = pins_are in omega arith;
+      places = λ k d lt.
+          let m = member_device (get_or cluster.devices k d) (Contains-get_or cluster.devices k d lt) in
+          subst (PlacesWithin (length cluster.nets)) m.2.2 (placed m.0 m.2.0 m.1 m.2.1);
+      transistors = λ k d lt.
+          let m = member_device (get_or cluster.devices k d) (Contains-get_or cluster.devices k d lt) in
+          subst (λ x. IsTransistor x.kind x.strength) m.2.2 (transistor m.0 m.2.0 m.1 m.2.1);
+    }
+
+    -- and a cell, where it breaks no rule but that it may have no output pin
+    pub cluster_is_cell : KeepsAllBut NoOutput cluster → IsCell cluster
+    cluster_is_cell keeps = record {
+      is_raw = cluster_is_raw (let f = few_nodes_all_but cluster keeps in let n = nets_are in let k = node_count_is in omega arith)
+          (let f = few_devices_all_but cluster keeps in omega arith);
+      keeps = keeps;
+    }

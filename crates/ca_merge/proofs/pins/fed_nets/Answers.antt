@@ -1,4 +1,4 @@
-use Rattle.std.proofs.Common.{◌<◌, ◌≤◌, ◌∙◌, length, subst, sym, ap, arith}
+use Rattle.std.proofs.Common.{◌<◌, ◌≤◌, ◌∙◌, length, subst, sym, arith}
 use Rattle.ca_wired.specs.Linked.{net_count}
 use Rattle.ca_merge.specs.Draft.{feeds_members}
 use Rattle.ca_merge.proofs.PinLemmas.{fed_same, passing_few, listed_more}
