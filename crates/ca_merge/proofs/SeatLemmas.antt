@@ -34,6 +34,19 @@ use Rattle.ca_merge.proofs.PinLemmas.{passing_more}
 use Rattle.ca_merge.proofs.DraftLemmas.{gate_at, drives_at, reads_at, driven_data, read_data, driven_same}
 use Rattle.ca_merge.proofs.DraftLemmas.{outputs_numbered, inputs_numbered}
 
+-- the cell of an instance
+pub cell_here : (chip : Chip) (u : ℕ) (raw : RawCell) → IsSomeAnd (slice_get chip.parts u) (λ part. IsCellOf chip.cells part.body raw)
+    → cell_at (core_of chip) u ≡ raw
+cell_here chip u raw h = by (slice_get chip.parts u) refl h
+  where
+    of : (body : Body) → IsCellOf chip.cells body raw → (core_instance chip body).cell ≡ raw
+    of (Gate cell inputs outputs) h = sym h
+    of (Scan nets) h = absurd h
+
+    by : (o : Option Part) → slice_get chip.parts u ≡ o → IsSomeAnd o (λ part. IsCellOf chip.cells part.body raw) → cell_at (core_of chip) u ≡ raw
+    by None e h = absurd h
+    by (Some part) e h = ap (λ (i : Instance). i.cell) (core_at chip u part e) ∙ of part.body h
+
 -- the place of a number that passes, among those that do
 rank_in : (p : ℕ → Bool) (n net : ℕ) → net < n → p net ≡ true
     → (length (filter p (range_with_len 0 net)) < length (filter p (range_with_len 0 n)))
@@ -141,15 +154,7 @@ module _ (chip : Chip) (members : List ℕ) (nets : ClusterNets) (u start : ℕ)
 
   -- the cell of the member
   pub cell_same : (raw : RawCell) → IsSomeAnd (slice_get chip.parts u) (λ part. IsCellOf chip.cells part.body raw) → cell_at (core_of chip) u ≡ raw
-  cell_same raw h = by (slice_get chip.parts u) refl h
-    where
-      of : (body : Body) → IsCellOf chip.cells body raw → (core_instance chip body).cell ≡ raw
-      of (Gate cell inputs outputs) h = sym h
-      of (Scan nets) h = absurd h
-
-      by : (o : Option Part) → slice_get chip.parts u ≡ o → IsSomeAnd o (λ part. IsCellOf chip.cells part.body raw) → cell_at (core_of chip) u ≡ raw
-      by None e h = absurd h
-      by (Some part) e h = ap (λ (i : Instance). i.cell) (core_at chip u part e) ∙ of part.body h
+  cell_same raw h = cell_here chip u raw h
 
   -- the net of a pin
   record OnPin (pin net : ℕ) : Type 0 where

@@ -153,6 +153,30 @@ fn driven_nets(
     Ok(pins)
 }
 
+/// The nets of the cluster's input pins, and those of its output pins.
+pub(crate) fn lists_of(nets: ClusterNets) -> (NetList, NetList)
+    ensures inputs { result.0 ≡ nets.inputs.nets }
+    ensures outputs { result.1 ≡ nets.outputs.nets }
+{
+    let ClusterNets {
+        driven,
+        inputs,
+        outputs,
+    } = nets;
+    drop(driven);
+    let PinNets {
+        nets: input_nets,
+        seats,
+    } = inputs;
+    drop(seats);
+    let PinNets {
+        nets: output_nets,
+        seats,
+    } = outputs;
+    drop(seats);
+    (input_nets, output_nets)
+}
+
 /// The nets of the cluster's pins.
 pub(crate) fn cluster_nets(
     alloc: Global,

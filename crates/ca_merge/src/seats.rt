@@ -114,8 +114,8 @@ fn push_devices(
     Ok(())
 }
 
-// The number of inner nodes of a cell.
-fn inner_count(cell: &Cell) -> usize
+/// The number of inner nodes of a cell.
+pub(crate) fn inner_count(cell: &Cell) -> usize
     ensures { result ≡ inner_count cell.now }
 {
     let raw = cell.raw();

@@ -15,7 +15,7 @@ use Rattle.ca_cell.specs.Raw.{is_input, is_output, role_count, node_at, node_of}
 use Rattle.ca_merged.specs.Cluster.{bare_pin, pins_of}
 
 module _ (is_role : Role → Bool) where
-  role_cons : (pin : RawPin) (pins : List RawPin) → role_count is_role (pin ∷ pins) ≡ cond (is_role pin.role) 1 0 + role_count is_role pins
+  pub role_cons : (pin : RawPin) (pins : List RawPin) → role_count is_role (pin ∷ pins) ≡ cond (is_role pin.role) 1 0 + role_count is_role pins
   role_cons pin pins = sum_by-cons (λ x. cond (is_role x.role) 1 0) pin pins
 
   role_append : (pins more : List RawPin) → role_count is_role (pins ++ more) ≡ role_count is_role pins + role_count is_role more
