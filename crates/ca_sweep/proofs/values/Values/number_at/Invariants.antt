@@ -1,0 +1,9 @@
+use Rattle.std.proofs.Common.{◌≡◌, ◌<◌, ◌^◌}
+use Rattle.ca_net.specs.State.{value_at}
+use Rattle.ca_flat.specs.Chip.{net_of}
+use Rattle.ca_flat.specs.Pair.{values_from}
+use Rattle.ca_sweep.proofs.NumberLemmas.{IsNumberTo}
+use Rattle.ca_sweep.proofs.values.Values.number_at.Given as goal
+
+abbrev pub invariant-loop-pin : goal.invariant-loop-pin
+invariant-loop-pin g l = IsNumberTo (λ pin. value_at l.self.values (net_of (g.C.Linked.core l.chip) l.w pin)) l.pin l.number

@@ -1,0 +1,89 @@
+//! The tables of the cells of a chip, and its instances by their places.
+
+ghost use Rattle.std.specs.Prelude.{◌<◌, ◌≡◌, ◌+◌, None, Some, slice_set, length, IfOk};
+ghost use Rattle.ca_sim.specs.Linked.{place_in};
+ghost use Rattle.ca_sweep.specs.Cells.{AreTables, FitsNumber, IsOneOf, IsOrder};
+
+use ca_base::NoMemory;
+use ca_cell::Cell;
+use ca_net::Network;
+use ca_settle::Work;
+use ca_sim::Linked;
+use ca_static::LastTable;
+use std::alloc::Global;
+
+/// For each cell its table, if it is static.
+pub(crate) type Tables = Vec<Option<LastTable>>;
+
+/// The tables of the cells of all instances with a place.
+pub(crate) fn tables_of<C: Linked>(alloc: Global, chip: &C) -> Result<Tables, NoMemory>
+    ensures { IfOk result (λ tables. AreTables (C.core chip.now) (place_in (C.places chip.now))
+        (C.number_of chip.now) tables.items) }
+{
+    let mut tables = Vec::new(alloc);
+    for number in 0..chip.numbers() {
+        tables.push(table_for(alloc, chip, number)?)?;
+    }
+    Ok(tables)
+}
+
+// The table of the cell with a number, if some instance has it.
+fn table_for<C: Linked>(
+    alloc: Global,
+    chip: &C,
+    number: usize,
+) -> Result<Option<LastTable>, NoMemory>
+    ensures { IfOk result (FitsNumber (C.core chip.now) (place_in (C.places chip.now))
+        (C.number_of chip.now) number) }
+{
+    chip.linked();
+    match instance_with(chip, number) {
+        Some(u) => table_of(alloc, chip.cell(u)),
+        None => Ok(None),
+    }
+}
+
+ghost use Rattle.ca_static.specs.LastTable.{IsTableWhereStatic};
+
+// The table of a cell.
+fn table_of(alloc: Global, cell: &Cell) -> Result<Option<LastTable>, NoMemory>
+    ensures { IfOk result (IsTableWhereStatic cell.now) }
+{
+    let mut work = Work::reserve(alloc, cell.node_count(), cell.device_count())?;
+    LastTable::of(alloc, cell, &mut work)
+}
+
+// Some instance with a place whose cell has the number.
+fn instance_with<C: Linked>(chip: &C, number: usize) -> Option<usize>
+    ensures { IsOneOf (C.core chip.now) (place_in (C.places chip.now)) (C.number_of chip.now) number result }
+{
+    for u in 0..chip.instances() {
+        if chip.place(u) > 0 && chip.number(u) == number {
+            return Some(u);
+        }
+    }
+    None
+}
+
+// Puts an instance at its place.
+fn put_at(order: &mut Vec<Option<usize>>, place: usize, u: usize)
+    requires { place < length order.old.items }
+    ensures { order.new.items ≡ slice_set order.old.items place (Some u) }
+{
+    order[place] = Some(u);
+}
+
+/// The instances by their places.
+pub(crate) fn order_of<C: Linked>(alloc: Global, chip: &C) -> Result<Vec<Option<usize>>, NoMemory>
+    ensures { IfOk result (λ order. IsOrder (C.core chip.now) (place_in (C.places chip.now)) order.items) }
+{
+    chip.linked();
+    let mut order = vec![in alloc; None; chip.instances() + 1]?;
+    for u in 0..chip.instances() {
+        let place = chip.place(u);
+        if place > 0 {
+            put_at(&mut order, place, u);
+        }
+    }
+    Ok(order)
+}
