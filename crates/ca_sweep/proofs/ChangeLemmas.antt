@@ -1,17 +1,20 @@
 -- Marks of places, and values of nets, that change one after another.
 use Rattle.std.proofs.Common.{◌≡◌, ◌≢◌, ℕ, ◌+◌, ◌<◌, ◌⊎◌, Bool, true, false, List, length, inl, inr, refl, sym, ◌∙◌, ap, subst, arith}
 use Rattle.std.proofs.Common.{get_or, slice_set, below_more}
-use Rattle.std.specs.List.{Contains}
 use Rattle.std.proofs.lemmas.Bool.{cases_eq}
-use Rattle.std.proofs.lemmas.List.{get_or-set_same, get_or-set_other, length-set}
+use Rattle.std.proofs.lemmas.List.{get_or_default, get_or-set_same, get_or-set_other, length-set}
 use Rattle.std.proofs.lemmas.List.Elements.{All-contains, All-from_get_or}
 use Rattle.ca_net.specs.declared.trit.Trit.{Trit}
 use Rattle.ca_net.specs.declared.trit.Trit.TheVariants.{X}
 use Rattle.ca_net.specs.State.{value_at}
-use Rattle.ca_flat.specs.Chip.{Chip, outputs_at, output_net, count_of, Drives, IsChip}
+use Rattle.ca_flat.specs.Chip.{Chip, outputs_at, output_net, count_of, IsChip}
 use Rattle.ca_sim.specs.Linked.{Reads, AreReaders}
 use Rattle.ca_sweep.specs.declared.values.Values.{Values}
 use Rattle.ca_sweep.specs.Changes.{IsDue, IsMarked, Changes, IsPut, IsOutputBelow, IsWrittenTo}
+
+-- the mark that was read
+pub due_read : (due : List Bool) (place : ℕ) (read : Bool) → place < length due → read ≡ get_or due place read → read ≡ true → IsDue due place
+due_read due place read within at is = get_or_default due place false read within ∙ sym at ∙ is
 
 -- the first `end` readers are due, and all that was, and nothing else
 pub record IsMarkedTo (chip : Chip) (place_of : ℕ → ℕ) (net : ℕ) (readers : List ℕ) (end : ℕ) (old new : List Bool) : Type 0 where

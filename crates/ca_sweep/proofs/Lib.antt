@@ -1,3 +1,6 @@
 pub mod CellLemmas
 pub mod ChangeLemmas
 pub mod NumberLemmas
+pub mod ClearLemmas
+pub mod SweepLemmas
+pub mod SeenLemmas

@@ -1,5 +1,5 @@
 -- What only proofs of code cite: values of nets that change, and the readers of these nets, which are due.
-use Rattle.std.specs.Prelude.{ℕ, ◌+◌, ◌^◌, ◌≡◌, ◌≢◌, ◌<◌, ◌≤◌, ◌⊎◌, Bool, true, false, List, length}
+use Rattle.std.specs.Prelude.{ℕ, ◌+◌, ◌^◌, ◌≡◌, ◌<◌, ◌≤◌, ◌⊎◌, Bool, true, false, List, length}
 use Rattle.std.specs.Prelude.{slice_index_or}
 use Rattle.ca_net.specs.declared.trit.Trit.{Trit}
 use Rattle.ca_net.specs.declared.node.NodeKind.TheVariants.{Input}
@@ -8,7 +8,7 @@ use Rattle.ca_defect.specs.Row.{vector_of}
 use Rattle.ca_flat.specs.Chip.{Chip, cell_at, inputs_at, outputs_at, net_of, output_net, count_of, net_kind}
 use Rattle.ca_flips.specs.Static.{EndsByLast}
 use Rattle.ca_flips.specs.Flips.{IsBehind, vector_at, KeepsGood, IsEvaluated}
-use Rattle.ca_sim.specs.Linked.{Reads}
+use Rattle.ca_sim.specs.Linked.{Reads, IsPlaced}
 use Rattle.ca_sweep.specs.declared.values.Values.{Values}
 
 -- the instance at this place is due
@@ -72,6 +72,19 @@ pub record IsEvaluatedOut (chip : Chip) (place_of : ℕ → ℕ) (w : ℕ) (old 
   pub written : IsWritten chip place_of w outputs old new
   pub ends : (output : ℕ) → output < outputs_at chip w
       → EndsByLast (cell_at chip w) (vector_at chip w (value_at old.values)) output (outputs output)
+
+-- so is the instance at a place
+pub record IsEvaluatedAt (chip : Chip) (place_of : ℕ → ℕ) (place : ℕ) (old new : Values) : Type 0 where
+  pub instance : ℕ
+  pub placed : IsPlaced chip place_of instance
+  pub at : place_of instance ≡ place
+  pub evaluated : IsEvaluatedOut chip place_of instance old new
+
+-- the instance at a place is due and is evaluated, or it isn't due and nothing changes
+abbrev pub IsPassed : Chip → (ℕ → ℕ) → ℕ → Values → Values → Type 0
+IsPassed chip place_of place old new =
+    (IsDue old.due.items place × IsEvaluatedAt chip place_of place old new)
+    ⊎ (¬ (IsDue old.due.items place) × (new ≡ old))
 
 -- Values that are found an instance at a time, in the order, where the output pins of u have these: before
 -- this place each instance keeps good values or is evaluated. From there on the output nets have good values,

@@ -2,3 +2,4 @@
 pub mod Seen
 pub mod Cells
 pub mod Changes
+pub mod Kept

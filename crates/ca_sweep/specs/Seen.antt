@@ -1,8 +1,8 @@
 -- What a sweep answers: the first observed output at which a flip of an instance's outputs is seen.
-use Rattle.std.specs.Prelude.{ℕ, zero, suc, ◌≡◌, ◌<◌, Bool, true, false, List, length, slice_index}
+use Rattle.std.specs.Prelude.{ℕ, zero, suc, ◌≡◌, ◌<◌, Bool, true, false, List, length, map, slice_index}
 use Rattle.std.specs.Prelude.{Option, None, Some}
 use Rattle.ca_net.specs.declared.trit.Trit.{Trit}
-use Rattle.ca_net.specs.State.{value_at}
+use Rattle.ca_net.specs.declared.wave.Wave.{Wave}
 use Rattle.ca_defect.specs.Exposes.{opposite_of}
 use Rattle.ca_flat.specs.Chip.{Chip, output_net}
 use Rattle.ca_flips.specs.Flips.{AreStaticBehind, AreDefiniteBehind, AreSwept, IsOpposite}
@@ -15,6 +15,15 @@ pub record Swept : Type 0 where
   pub chip : Chip
   pub places : List ℕ
   pub lasts : List Trit
+
+-- so they are of this chip
+pub record IsOfChip (chip : Chip) (places : List ℕ) (swept : Swept) : Type 0 where
+  pub chip_is : swept.chip ≡ chip
+  pub places_are : swept.places ≡ places
+
+-- the last values of waves
+abbrev pub lasts_in : List Wave → List Trit
+lasts_in waves = map (λ (wave : Wave). wave.last) waves
 
 -- whether the output pin is flipped
 abbrev pub is_flipped : Flips → ℕ → Bool
@@ -36,22 +45,19 @@ pub record IsClear (chip : Chip) (goods : ℕ → Trit) (u : ℕ) : Type 0 where
   pub all_static : AreStaticBehind chip u
   pub definite : AreDefiniteBehind chip u goods
 
--- the values are opposite to the good ones at this observed output, counted from 0
-abbrev pub IsOppositeAt : Chip → (ℕ → Trit) → (ℕ → Trit) → ℕ → Type 0
-IsOppositeAt chip goods values output =
-    IsOpposite (goods (slice_index chip.outputs output)) (values (slice_index chip.outputs output))
+-- the values are opposite to the good ones at the net at a place of the list
+abbrev pub IsOppositeAt : (ℕ → Trit) → (ℕ → Trit) → List ℕ → ℕ → Type 0
+IsOppositeAt goods values nets place = IsOpposite (goods (slice_index nets place)) (values (slice_index nets place))
 
 -- so they are at none before this one
-abbrev pub AreNotOppositeBefore : Chip → (ℕ → Trit) → (ℕ → Trit) → ℕ → Type 0
-AreNotOppositeBefore chip goods values end =
-    (output : ℕ) → output < end → ¬ (IsOppositeAt chip goods values output)
+abbrev pub AreNotOppositeBefore : (ℕ → Trit) → (ℕ → Trit) → List ℕ → ℕ → Type 0
+AreNotOppositeBefore goods values nets end = (place : ℕ) → place < end → ¬ (IsOppositeAt goods values nets place)
 
--- the first observed output at which they are opposite, if there is one
-abbrev pub IsFirstOpposite : Chip → (ℕ → Trit) → (ℕ → Trit) → Option ℕ → Type 0
-IsFirstOpposite chip goods values None = AreNotOppositeBefore chip goods values (length chip.outputs)
-IsFirstOpposite chip goods values (Some output) =
-    (output < length chip.outputs) × IsOppositeAt chip goods values output
-    × AreNotOppositeBefore chip goods values output
+-- the first of the nets at which they are opposite, if there is one
+abbrev pub IsFirstIn : (ℕ → Trit) → (ℕ → Trit) → List ℕ → Option ℕ → Type 0
+IsFirstIn goods values nets None = AreNotOppositeBefore goods values nets (length nets)
+IsFirstIn goods values nets (Some place) =
+    (place < length nets) × IsOppositeAt goods values nets place × AreNotOppositeBefore goods values nets place
 
 -- where these output pins of u are flipped, values that are found an instance at a time are first opposite
 -- there
@@ -60,7 +66,7 @@ pub record IsSeenFrom (chip : Chip) (goods : ℕ → Trit) (u : ℕ) (flips : Fl
     pub clear : IsClear chip goods u
     pub values : ℕ → Trit
     pub swept : AreSwept chip u goods (flipped_outputs chip u goods flips) values
-    pub first : IsFirstOpposite chip goods values answer
+    pub first : IsFirstIn goods values chip.outputs answer
 
 -- so says an answer that decides
 abbrev pub IsSeen : Chip → (ℕ → Trit) → ℕ → Flips → Seen → Type 0

@@ -3,7 +3,11 @@
 #![tactic(auto)]
 
 mod cells;
+mod clear;
+mod run;
 mod seen;
+mod sweep;
 mod values;
 
 pub use seen::{Flips, Seen};
+pub use sweep::Sweep;

@@ -121,8 +121,9 @@ impl Values {
         requires room { AreRoomy (C.core chip.now) self.old }
         requires tables { AreTables (C.core chip.now) (place_in (C.places chip.now)) (C.number_of chip.now)
             tables.now.items }
-        ensures { IsTrue result
+        ensures evaluated { IsTrue result
             → IsEvaluatedOut (C.core chip.now) (place_in (C.places chip.now)) w self.old self.new }
+        ensures room { AreRoomy (C.core chip.now) self.new }
     {
         let number = match self.number_at(chip, w) {
             Some(number) => number,

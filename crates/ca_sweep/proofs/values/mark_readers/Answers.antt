@@ -1,6 +1,5 @@
-use Rattle.std.proofs.Common.{◌≡◌, ◌+◌, ◌<◌, length, arith, rules, subst, sym, true, slice_set, ap, ◌∙◌}
+use Rattle.std.proofs.Common.{arith, rules, true, slice_set, ap}
 use Rattle.std.proofs.lemmas.Option.{get_or_from_slice_get}
-use Rattle.ca_flat.specs.Chip.{count_of}
 use Rattle.ca_sim.specs.Linked.{place_in}
 use Rattle.ca_sim.proofs.Marking.{listed_reads}
 use Rattle.ca_sweep.proofs.ChangeLemmas.{marked_more, marked_all}

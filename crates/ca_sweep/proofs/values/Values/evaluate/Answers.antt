@@ -1,14 +1,12 @@
-use Rattle.std.proofs.Common.{◌≡◌, ◌+◌, ◌<◌, length, None, Some, get_or, arith, sym, subst, ap, ◌∙◌}
-use Rattle.ca_net.specs.State.{value_at}
-use Rattle.ca_flat.specs.Chip.{cell_at, inputs_at}
+use Rattle.std.proofs.Common.{◌≡◌, ◌<◌, length, None, get_or, sym, subst}
+use Rattle.ca_flat.specs.Chip.{cell_at}
 use Rattle.ca_flips.specs.Static.{EndsByLast}
-use Rattle.ca_flips.specs.Flips.{vector_at}
 use Rattle.ca_static.specs.LastTable.{last_at, IsLastTable, IsTableWhereStatic}
 use Rattle.ca_sweep.proofs.CellLemmas.{table_read}
 use Rattle.ca_sweep.proofs.values.Values.evaluate.Goals as goal
 
-pub returns-in-Some-index : goal.returns-in-Some-index
-returns-in-Some-index g c = λ is.
+pub returns-in-Some-index-clause-evaluated : goal.returns-in-Some-index-clause-evaluated
+returns-in-Some-index-clause-evaluated g c = λ is.
     let core = g.C.Linked.core c.args.chip.now in
     let placed = c.requires.placed in
     let at : c.number.result ≡ g.C.Linked.number_of c.args.chip.now c.args.w = c.number.ensures in

@@ -1,11 +1,11 @@
-use Rattle.std.proofs.Common.{◌≡◌, ◌+◌, ◌<◌, length, arith, subst, sym, ap, ◌∙◌}
+use Rattle.std.proofs.Common.{◌≡◌, arith, subst, sym, ap, ◌∙◌}
 use Rattle.ca_net.specs.State.{value_at}
 use Rattle.ca_cell.specs.declared.raw.RawCell.{RawCell}
 use Rattle.ca_cell.specs.Raw.{is_input, role_count}
 use Rattle.ca_flat.specs.Chip.{net_of, inputs_at}
 use Rattle.ca_flat.specs.Pair.{values_from}
 use Rattle.ca_sweep.specs.Changes.{IsNumberOf}
-use Rattle.ca_sweep.proofs.NumberLemmas.{IsNumberTo, number_none, number_more_zero, number_more_one, number_small, number_all}
+use Rattle.ca_sweep.proofs.NumberLemmas.{number_none, number_more_zero, number_more_one, number_small, number_all}
 use Rattle.ca_sweep.proofs.values.Values.number_at.Goals.{in-Zero, in-One}
 use Rattle.ca_sweep.proofs.values.Values.number_at.Goals as goal
 

@@ -1,7 +1,5 @@
-use Rattle.std.proofs.Common.{◌≡◌, ◌<◌, ◌^◌}
 use Rattle.ca_net.specs.State.{value_at}
 use Rattle.ca_flat.specs.Chip.{net_of}
-use Rattle.ca_flat.specs.Pair.{values_from}
 use Rattle.ca_sweep.proofs.NumberLemmas.{IsNumberTo}
 use Rattle.ca_sweep.proofs.values.Values.number_at.Given as goal
 

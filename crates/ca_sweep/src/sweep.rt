@@ -1,0 +1,129 @@
+//! Where flips of an instance's outputs are seen.
+
+ghost use Rattle.std.specs.Prelude.{◌≡◌, ◌<◌, ◌^◌, length, map, replicate, IfOk};
+ghost use Rattle.ca_net.specs.State.{value_at};
+ghost use Rattle.ca_sim.specs.Linked.{IsPlaced, place_in};
+ghost use Rattle.ca_sweep.specs.Seen.{IsSeen, IsOfChip, lasts_in};
+
+use crate::cells::{Tables, order_of, tables_of};
+use crate::clear::find_clear;
+use crate::run::{first_opposite, sweep};
+use crate::seen::{Flips, Seen};
+use crate::values::Values;
+use ca_base::NoMemory;
+use ca_net::State;
+use ca_sim::{Linked, NetWaves};
+use std::alloc::Global;
+use std::marker::Model;
+
+/// The good last values of the nets of a chip, and the room for values behind an instance whose output pins
+/// are flipped. All memory is taken by `reserve`.
+#[derive(Drop)]
+pub struct Sweep<'a, C: Linked> {
+    chip: &'a C,
+    outputs: Vec<u32>,
+    tables: Tables,
+    order: Vec<Option<usize>>,
+    lasts: State,
+    clear: Vec<bool>,
+    passing: Vec<bool>,
+    values: Values,
+}
+
+impl<'a, C: Linked> Model for Sweep<'a, C> {
+    ghost use Rattle.ca_sim.specs.Linked.{place_in};
+    ghost use Rattle.ca_sweep.specs.Seen.{Swept};
+    ghost use Rattle.ca_sweep.specs.Kept.{IsKept};
+
+    ghost Value = { Swept };
+
+    ghost view = { λ sweep. record {
+      chip = C.core sweep.chip.now;
+      places = C.places sweep.chip.now;
+      lasts = sweep.lasts;
+    } };
+
+    ghost invariant = { λ sweep. IsKept (C.core sweep.chip.now) (place_in (C.places sweep.chip.now))
+        (C.number_of sweep.chip.now) sweep.outputs.items sweep.tables.items sweep.order.items sweep.lasts
+        sweep.clear.items sweep.passing.items sweep.values };
+}
+
+impl<'a, C: Linked> Sweep<'a, C> {
+    /// Takes all memory. The nets of the observed outputs come in their order. No last value is known.
+    pub fn reserve(alloc: Global, chip: &'a C, outputs: Vec<u32>) -> Result<Self, NoMemory>
+        requires outputs { outputs.items ≡ (C.core chip.now).outputs }
+        requires few { length outputs.items < 2 ^ 32 }
+        ensures { IfOk result (IsOfChip (C.core chip.now) (C.places chip.now)) }
+    {
+        chip.linked();
+        Ok(Sweep {
+            chip,
+            outputs,
+            tables: tables_of(alloc, chip)?,
+            order: order_of(alloc, chip)?,
+            lasts: State::unknown(alloc, chip.nets())?,
+            clear: vec![in alloc; false; chip.instances()]?,
+            passing: vec![in alloc; false; chip.instances()]?,
+            values: Values::reserve(alloc, chip)?,
+        })
+    }
+
+    /// Takes over the last values of the good waves.
+    pub fn load<V: NetWaves>(&mut self, waves: &V)
+        requires { (V.seen waves.now).chip ≡ self.old.chip }
+        ensures lasts { self.new.lasts ≡ lasts_in (V.seen waves.now).good }
+        ensures chip { self.new.chip ≡ self.old.chip }
+        ensures places { self.new.places ≡ self.old.places }
+    {
+        waves.exact();
+        load(waves, &mut self.lasts);
+        find_clear(
+            self.chip,
+            &self.tables,
+            &self.order,
+            &self.lasts,
+            &mut self.clear,
+            &mut self.passing,
+        );
+    }
+
+    /// Where it is first seen that some output pins of an instance are flipped. It is undecided where an
+    /// instance behind it isn't static, or a good last value isn't definite there.
+    pub fn see(&mut self, u: usize, flips: Flips) -> Seen
+        requires { IsPlaced self.old.chip (place_in self.old.places) u }
+        ensures seen { IsSeen self.old.chip (value_at self.old.lasts) u flips result }
+        ensures kept { self.new ≡ self.old }
+    {
+        self.chip.linked();
+        if !self.clear[u] {
+            return Seen::Undecided;
+        }
+        let done = sweep(
+            self.chip,
+            &self.tables,
+            &self.order,
+            &self.lasts,
+            &mut self.values,
+            u,
+            flips,
+        );
+        if !done {
+            return Seen::Undecided;
+        }
+        match first_opposite(&self.outputs, &self.lasts, &self.values.values) {
+            Some(output) => Seen::At(output as u32),
+            None => Seen::Nowhere,
+        }
+    }
+}
+
+// Takes over the last values of the good waves.
+fn load<V: NetWaves>(waves: &V, lasts: &mut State)
+    requires { length lasts.old ≡ length (V.seen waves.now).chip.nets }
+    ensures { lasts.new ≡ lasts_in (V.seen waves.now).good }
+{
+    waves.exact();
+    for net in 0..lasts.len() {
+        lasts.set(net, waves.good(net).last);
+    }
+}
