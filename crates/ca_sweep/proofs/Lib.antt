@@ -4,3 +4,5 @@ pub mod NumberLemmas
 pub mod ClearLemmas
 pub mod SweepLemmas
 pub mod SeenLemmas
+pub mod FaultyLemmas
+pub mod FoundLemmas

@@ -24,11 +24,6 @@ pub record AreTables (chip : Chip) (place_of number_of : ℕ → ℕ) (tables : 
   pub each : (u : ℕ) → IsPlaced chip place_of u
       → IsTableWhereStatic (cell_at chip u) (slice_index_or tables (number_of u) None)
 
--- some instance with the number, if there is one
-abbrev pub IsOneOf : Chip → (ℕ → ℕ) → (ℕ → ℕ) → ℕ → Option ℕ → Type 0
-IsOneOf chip place_of number_of number None = (u : ℕ) → IsPlaced chip place_of u → ¬ (number_of u ≡ number)
-IsOneOf chip place_of number_of number (Some u) = IsPlaced chip place_of u × (number_of u ≡ number)
-
 -- of the first `count` instances each that has a place is at it, and nothing else is at a place
 pub record AreAtPlaces (chip : Chip) (place_of : ℕ → ℕ) (count : ℕ) (order : List (Option ℕ)) : Type 0 where
   pub room : length order ≡ count_of chip + 1

@@ -2,7 +2,7 @@
 
 ghost use Rattle.std.specs.Prelude.{◌<◌, ◌≡◌, ◌+◌, None, Some, slice_set, length, IfOk};
 ghost use Rattle.ca_sim.specs.Linked.{place_in};
-ghost use Rattle.ca_sweep.specs.Cells.{AreTables, FitsNumber, IsOneOf, IsOrder};
+ghost use Rattle.ca_sweep.specs.Cells.{AreTables, FitsNumber, IsOrder};
 
 use ca_base::NoMemory;
 use ca_cell::Cell;
@@ -44,6 +44,7 @@ fn table_for<C: Linked>(
 }
 
 ghost use Rattle.ca_static.specs.LastTable.{IsTableWhereStatic};
+ghost use Rattle.ca_sim.specs.Cells.{IsOneOf};
 
 // The table of a cell.
 fn table_of(alloc: Global, cell: &Cell) -> Result<Option<LastTable>, NoMemory>
@@ -53,8 +54,8 @@ fn table_of(alloc: Global, cell: &Cell) -> Result<Option<LastTable>, NoMemory>
     LastTable::of(alloc, cell, &mut work)
 }
 
-// Some instance with a place whose cell has the number.
-fn instance_with<C: Linked>(chip: &C, number: usize) -> Option<usize>
+/// Some instance with a place whose cell has the number.
+pub(crate) fn instance_with<C: Linked>(chip: &C, number: usize) -> Option<usize>
     ensures { IsOneOf (C.core chip.now) (place_in (C.places chip.now)) (C.number_of chip.now) number result }
 {
     for u in 0..chip.instances() {

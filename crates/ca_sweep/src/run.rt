@@ -96,8 +96,8 @@ pub(crate) fn first_opposite(nets: &[u32], lasts: &State, values: &State) -> Opt
 ghost use Rattle.std.specs.Prelude.{◌↔◌};
 ghost use Rattle.ca_flips.specs.Flips.{IsOpposite};
 
-// Whether the good value is definite, and the other the opposite.
-fn are_opposite(good: Trit, other: Trit) -> bool
+/// Whether the good value is definite, and the other the opposite.
+pub(crate) fn are_opposite(good: Trit, other: Trit) -> bool
     ensures { IsTrue result ↔ IsOpposite good other }
 {
     match (good, other) {

@@ -11,7 +11,7 @@ use crate::run::{first_opposite, sweep};
 use crate::seen::{Flips, Seen};
 use crate::values::Values;
 use ca_base::NoMemory;
-use ca_net::State;
+use ca_net::{State, Trit};
 use ca_sim::{Linked, NetWaves};
 use std::alloc::Global;
 use std::marker::Model;
@@ -85,6 +85,14 @@ impl<'a, C: Linked> Sweep<'a, C> {
             &mut self.clear,
             &mut self.passing,
         );
+    }
+
+    /// The good last value of a net.
+    pub(crate) fn last(&self, net: usize) -> Trit
+        requires { net < length self.now.chip.nets }
+        ensures { result ≡ value_at self.now.lasts net }
+    {
+        self.lasts.get(net)
     }
 
     /// Where it is first seen that some output pins of an instance are flipped. It is undecided where an
