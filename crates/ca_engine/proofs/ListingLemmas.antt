@@ -7,7 +7,7 @@ use Rattle.std.proofs.lemmas.List.Concat.{flat_map-append}
 use Rattle.ca_defect.specs.declared.defect.Defect.{Defect}
 use Rattle.ca_flat.specs.declared.chip_defect.ChipDefect.{ChipDefect}
 use Rattle.ca_flat.specs.Chip.{Chip}
-use Rattle.ca_sim.specs.Linked.{place_in}
+use Rattle.ca_view.specs.Linked.{place_in}
 use Rattle.ca_engine.specs.ChipDefects.{placed_at, defects_at, chip_defects, if_placed, placed_before}
 
 before_next : (places : List ℕ) (u : ℕ)

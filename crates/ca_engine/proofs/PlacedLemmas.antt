@@ -11,7 +11,7 @@ use Rattle.ca_wired.specs.declared.parts.Body.TheVariants.{Gate, Scan}
 use Rattle.ca_wired.specs.Linked.{Chip}
 use Rattle.ca_wired.specs.Instances.{if_gate, gates_from, gates_of}
 use Rattle.ca_core.specs.Core.{body_rank, rank_in, rank_of, core_of}
-use Rattle.ca_sim.specs.Linked.{place_in}
+use Rattle.ca_view.specs.Linked.{place_in}
 use Rattle.ca_engine.specs.ChipDefects.{if_placed, placed_before, placed_instances}
 use Rattle.ca_view.specs.Places.{AreRanks}
 use Rattle.ca_view.proofs.CoreFacts.{core_count}

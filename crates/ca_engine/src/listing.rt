@@ -4,14 +4,12 @@ ghost use Rattle.std.specs.Prelude.{◌≡◌, ◌++◌, ◌<◌, IfOk, OnOk};
 ghost use Rattle.std.specs.List.{All};
 ghost use Rattle.ca_flat.specs.Chip.{count_of};
 ghost use Rattle.ca_wired.specs.Instances.{gates_of};
-ghost use Rattle.ca_core.specs.Core.{core_of};
-ghost use Rattle.ca_sim.specs.Linked.{IsPlacedDefect, place_in};
+ghost use Rattle.ca_view.specs.Linked.{IsPlacedDefect, place_in};
 ghost use Rattle.ca_engine.specs.ChipDefects.{chip_defects, if_placed};
 
 use ca_base::{List, NoMemory};
 use ca_defect::defects;
 use ca_flat::ChipDefect;
-use ca_sim::Linked;
 use ca_view::View;
 use std::alloc::Global;
 
@@ -22,9 +20,9 @@ pub type ChipDefects = List<ChipDefect>;
 /// list. A scan instance, which has no place in the order of evaluation, has none.
 pub fn chip_defects(alloc: Global, view: &View<'_>) -> Result<ChipDefects, NoMemory>
     ensures exact { IfOk result
-        (λ list. list ≡ chip_defects (core_of view.now.chip) (gates_of view.now.chip)) }
+        (λ list. list ≡ chip_defects view.now.core (gates_of view.now.chip)) }
     ensures placed { IfOk result
-        (All (IsPlacedDefect (core_of view.now.chip) (place_in view.now.ranks))) }
+        (All (IsPlacedDefect view.now.core (place_in view.now.ranks))) }
 {
     view.linked();
     view.viewed();
@@ -42,15 +40,15 @@ fn add_instance(
     u: usize,
     list: &mut ChipDefects,
 ) -> Result<(), NoMemory>
-    requires known { u < count_of (core_of view.now.chip) }
-    requires before { All (IsPlacedDefect (core_of view.now.chip) (place_in view.now.ranks)) list.old }
+    requires known { u < count_of view.now.core }
+    requires before { All (IsPlacedDefect view.now.core (place_in view.now.ranks)) list.old }
 
-    ensures more { OnOk result (list.new ≡ list.old ++ chip_defects (core_of view.now.chip)
+    ensures more { OnOk result (list.new ≡ list.old ++ chip_defects view.now.core
         (if_placed (place_in view.now.ranks u) u)) }
     ensures placed { OnOk result
-        (All (IsPlacedDefect (core_of view.now.chip) (place_in view.now.ranks)) list.new) }
+        (All (IsPlacedDefect view.now.core (place_in view.now.ranks)) list.new) }
 {
-    if view.place(u) == 0 {
+    if view.rank(u) == 0 {
         return Ok(());
     }
     view.linked();

@@ -8,15 +8,14 @@ use Rattle.ca_defect.specs.declared.defect.Defect.{Defect}
 use Rattle.ca_defect.specs.List.{defects_of, IsDefectOf}
 use Rattle.ca_flat.specs.declared.chip_defect.ChipDefect.{ChipDefect}
 use Rattle.ca_flat.specs.Chip.{cell_at}
-use Rattle.ca_core.specs.Core.{core_of}
-use Rattle.ca_sim.specs.Linked.{IsPlacedDefect, place_in}
+use Rattle.ca_view.specs.Linked.{IsPlacedDefect, place_in}
 use Rattle.ca_engine.specs.ChipDefects.{placed_at}
 use Rattle.ca_engine.proofs.ListingLemmas.{placed_has, defect_adds}
 use Rattle.ca_engine.proofs.listing.add_instance.Goals as goal
 
 pub loop-defect-preserved : goal.loop-defect-preserved
 loop-defect-preserved c =
-    let chip = core_of c.args.view.now.chip in
+    let chip = c.args.view.now.core in
     let places = c.args.view.now.ranks in
     let P = IsPlacedDefect chip (place_in places) in
     let items = c.as_slice-defect-items.result.now in
@@ -38,7 +37,7 @@ loop-defect-preserved c =
 
 pub returns-clause-more : goal.returns-clause-more
 returns-clause-more c =
-    let chip = core_of c.args.view.now.chip in
+    let chip = c.args.view.now.core in
     let place = place_in c.args.view.now.ranks c.args.u in
     let u = c.args.u in
     let items = c.as_slice-defect-items.result.now in
