@@ -6,7 +6,7 @@ use Rattle.std.proofs.lemmas.Bool.{cases_eq, cases_lt}
 use Rattle.ca_net.specs.declared.wave.Wave.{Wave}
 use Rattle.ca_cell.specs.declared.raw.RawCell.{RawCell}
 use Rattle.ca_flat.specs.Chip.{Chip, cell_at, count_of}
-use Rattle.ca_sim.specs.Linked.{IsLinked, IsPlaced}
+use Rattle.ca_view.specs.Linked.{IsLinked, IsPlaced}
 use Rattle.ca_static.specs.LastTable.{IsLastTable, IsTableWhereStatic}
 use Rattle.ca_sweep.specs.Cells.{FitsNumber, AreAtPlaces}
 

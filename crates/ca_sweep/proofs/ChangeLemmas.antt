@@ -8,7 +8,7 @@ use Rattle.ca_net.specs.declared.trit.Trit.{Trit}
 use Rattle.ca_net.specs.declared.trit.Trit.TheVariants.{X}
 use Rattle.ca_net.specs.State.{value_at}
 use Rattle.ca_flat.specs.Chip.{Chip, outputs_at, output_net, count_of, IsChip}
-use Rattle.ca_sim.specs.Linked.{Reads, AreReaders}
+use Rattle.ca_view.specs.Linked.{Reads, AreReaders}
 use Rattle.ca_sweep.specs.declared.values.Values.{Values}
 use Rattle.ca_sweep.specs.Changes.{IsDue, IsMarked, Changes, IsPut, IsOutputBelow, IsWrittenTo}
 

@@ -7,7 +7,7 @@ use Rattle.ca_flat.specs.Chip.{Chip, cell_at, inputs_at, outputs_at, net_of, cou
 use Rattle.ca_flat.specs.Chain.{IsChain}
 use Rattle.ca_flips.specs.Static.{IsStatic}
 use Rattle.ca_flips.specs.Flips.{IsBehind}
-use Rattle.ca_sim.specs.Linked.{Reads}
+use Rattle.ca_view.specs.Linked.{Reads}
 use Rattle.ca_sweep.specs.Seen.{IsClear}
 use Rattle.ca_sweep.specs.Kept.{IsPassing, AreDefinitePins, AreOutputsClear, AreMarks, is_marked}
 

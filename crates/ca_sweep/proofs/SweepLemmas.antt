@@ -11,7 +11,7 @@ use Rattle.ca_flips.specs.Static.{EndsByLast}
 use Rattle.ca_flips.specs.Flips.{IsBehind, vector_at, KeepsGood, IsEvaluated, AreSwept}
 use Rattle.ca_flips.proofs.ReachLemmas.{reached_own, behind_reached, behind_other}
 use Rattle.ca_flips.proofs.VectorLemmas.{vector_same}
-use Rattle.ca_sim.specs.Linked.{IsLinked, IsPlaced}
+use Rattle.ca_view.specs.Linked.{IsLinked, IsPlaced}
 use Rattle.ca_sweep.specs.declared.seen.Flips.{Flips}
 use Rattle.ca_sweep.specs.declared.values.Values.{Values}
 use Rattle.ca_sweep.specs.Seen.{flipped_outputs, flipped_if, is_flipped}

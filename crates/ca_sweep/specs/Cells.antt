@@ -2,7 +2,7 @@
 use Rattle.std.specs.Prelude.{ℕ, ◌+◌, ◌≡◌, ◌<◌, List, length, slice_index_or, Option, None, Some}
 use Rattle.ca_net.specs.declared.wave.Wave.{Wave}
 use Rattle.ca_flat.specs.Chip.{Chip, cell_at, count_of}
-use Rattle.ca_sim.specs.Linked.{IsPlaced}
+use Rattle.ca_view.specs.Linked.{IsPlaced}
 use Rattle.ca_static.specs.LastTable.{IsTableWhereStatic}
 
 -- the table is that of each instance whose cell has the number

@@ -8,7 +8,7 @@ use Rattle.ca_defect.specs.Row.{vector_of}
 use Rattle.ca_flat.specs.Chip.{Chip, cell_at, inputs_at, outputs_at, net_of, output_net, count_of, net_kind}
 use Rattle.ca_flips.specs.Static.{EndsByLast}
 use Rattle.ca_flips.specs.Flips.{IsBehind, vector_at, KeepsGood, IsEvaluated}
-use Rattle.ca_sim.specs.Linked.{Reads, IsPlaced}
+use Rattle.ca_view.specs.Linked.{Reads, IsPlaced}
 use Rattle.ca_sweep.specs.declared.values.Values.{Values}
 
 -- the instance at this place is due

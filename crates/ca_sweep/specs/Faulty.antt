@@ -11,7 +11,7 @@ use Rattle.ca_defect.specs.List.{faulty_of}
 use Rattle.ca_table.specs.Gives.{Gives, wave_at}
 use Rattle.ca_flat.specs.Chip.{Chip, cell_at, inputs_at, outputs_at, net_of, output_net}
 use Rattle.ca_flips.specs.Flips.{IsOpposite}
-use Rattle.ca_sim.specs.Linked.{IsPlaced}
+use Rattle.ca_view.specs.Linked.{IsPlaced}
 use Rattle.ca_sim.specs.Cells.{AreCellRooms}
 use Rattle.ca_sweep.specs.declared.faulty.Entry.{Entry}
 use Rattle.ca_sweep.specs.declared.faulty.Faulty.{Faulty}

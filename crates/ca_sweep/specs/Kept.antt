@@ -6,7 +6,7 @@ use Rattle.ca_net.specs.declared.wave.Wave.{Wave}
 use Rattle.ca_net.specs.State.{value_at}
 use Rattle.ca_flat.specs.Chip.{Chip, cell_at, inputs_at, net_of, output_net, count_of}
 use Rattle.ca_flips.specs.Static.{IsStatic}
-use Rattle.ca_sim.specs.Linked.{Reads}
+use Rattle.ca_view.specs.Linked.{Reads}
 use Rattle.ca_sweep.specs.declared.values.Values.{Values}
 use Rattle.ca_sweep.specs.Seen.{IsClear}
 use Rattle.ca_sweep.specs.Cells.{AreTables, IsOrder}

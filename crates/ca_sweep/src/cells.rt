@@ -1,14 +1,15 @@
 //! The tables of the cells of a chip, and its instances by their places.
 
 ghost use Rattle.std.specs.Prelude.{◌<◌, ◌≡◌, ◌+◌, None, Some, slice_set, length, IfOk};
-ghost use Rattle.ca_sim.specs.Linked.{place_in};
+ghost use Rattle.ca_view.specs.Linked.{place_in};
+ghost use Rattle.ca_view.specs.Places.{cell_number};
 ghost use Rattle.ca_sweep.specs.Cells.{AreTables, FitsNumber, IsOrder};
 
 use ca_base::NoMemory;
 use ca_cell::Cell;
 use ca_net::Network;
 use ca_settle::Work;
-use ca_sim::Linked;
+use ca_view::View;
 use ca_static::LastTable;
 use std::alloc::Global;
 
@@ -16,9 +17,9 @@ use std::alloc::Global;
 pub(crate) type Tables = Vec<Option<LastTable>>;
 
 /// The tables of the cells of all instances with a place.
-pub(crate) fn tables_of<C: Linked>(alloc: Global, chip: &C) -> Result<Tables, NoMemory>
-    ensures { IfOk result (λ tables. AreTables (C.core chip.now) (place_in (C.places chip.now))
-        (C.number_of chip.now) tables.items) }
+pub(crate) fn tables_of(alloc: Global, chip: &View<'_>) -> Result<Tables, NoMemory>
+    ensures { IfOk result (λ tables. AreTables chip.now.core (place_in chip.now.ranks)
+        (cell_number chip.now.chip) tables.items) }
 {
     let mut tables = Vec::new(alloc);
     for number in 0..chip.numbers() {
@@ -28,13 +29,13 @@ pub(crate) fn tables_of<C: Linked>(alloc: Global, chip: &C) -> Result<Tables, No
 }
 
 // The table of the cell with a number, if some instance has it.
-fn table_for<C: Linked>(
+fn table_for(
     alloc: Global,
-    chip: &C,
+    chip: &View<'_>,
     number: usize,
 ) -> Result<Option<LastTable>, NoMemory>
-    ensures { IfOk result (FitsNumber (C.core chip.now) (place_in (C.places chip.now))
-        (C.number_of chip.now) number) }
+    ensures { IfOk result (FitsNumber chip.now.core (place_in chip.now.ranks)
+        (cell_number chip.now.chip) number) }
 {
     chip.linked();
     match instance_with(chip, number) {
@@ -55,11 +56,11 @@ fn table_of(alloc: Global, cell: &Cell) -> Result<Option<LastTable>, NoMemory>
 }
 
 /// Some instance with a place whose cell has the number.
-pub(crate) fn instance_with<C: Linked>(chip: &C, number: usize) -> Option<usize>
-    ensures { IsOneOf (C.core chip.now) (place_in (C.places chip.now)) (C.number_of chip.now) number result }
+pub(crate) fn instance_with(chip: &View<'_>, number: usize) -> Option<usize>
+    ensures { IsOneOf chip.now.core (place_in chip.now.ranks) (cell_number chip.now.chip) number result }
 {
     for u in 0..chip.instances() {
-        if chip.place(u) > 0 && chip.number(u) == number {
+        if chip.rank(u) > 0 && chip.number(u) == number {
             return Some(u);
         }
     }
@@ -75,13 +76,13 @@ fn put_at(order: &mut Vec<Option<usize>>, place: usize, u: usize)
 }
 
 /// The instances by their places.
-pub(crate) fn order_of<C: Linked>(alloc: Global, chip: &C) -> Result<Vec<Option<usize>>, NoMemory>
-    ensures { IfOk result (λ order. IsOrder (C.core chip.now) (place_in (C.places chip.now)) order.items) }
+pub(crate) fn order_of(alloc: Global, chip: &View<'_>) -> Result<Vec<Option<usize>>, NoMemory>
+    ensures { IfOk result (λ order. IsOrder chip.now.core (place_in chip.now.ranks) order.items) }
 {
     chip.linked();
     let mut order = vec![in alloc; None; chip.instances() + 1]?;
     for u in 0..chip.instances() {
-        let place = chip.place(u);
+        let place = chip.rank(u);
         if place > 0 {
             put_at(&mut order, place, u);
         }

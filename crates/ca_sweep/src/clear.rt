@@ -3,20 +3,21 @@
 ghost use Rattle.std.specs.Prelude.{ℕ, ◌≡◌, ◌<◌, length, true, IsTrue};
 ghost use Rattle.ca_net.specs.State.{value_at};
 ghost use Rattle.ca_flat.specs.Chip.{outputs_at, count_of};
-ghost use Rattle.ca_sim.specs.Linked.{IsPlaced, place_in};
+ghost use Rattle.ca_view.specs.Linked.{IsPlaced, place_in};
+ghost use Rattle.ca_view.specs.Places.{cell_number};
 ghost use Rattle.ca_sweep.specs.Seen.{IsClear};
 ghost use Rattle.ca_sweep.specs.Cells.{AreTables, IsOrder};
 ghost use Rattle.ca_sweep.specs.Kept.{AreDefinitePins, IsPassing, AreReadersMarked, AreOutputsClear, AreMarks};
 
 use crate::cells::Tables;
 use ca_net::{State, Trit};
-use ca_sim::Linked;
+use ca_view::View;
 
 // Whether the values of an instance's input nets are definite.
-fn are_definite_pins<C: Linked>(chip: &C, lasts: &State, w: usize) -> bool
-    requires placed { IsPlaced (C.core chip.now) (place_in (C.places chip.now)) w }
-    requires nets { length lasts.now ≡ length (C.core chip.now).nets }
-    ensures { IsTrue result → AreDefinitePins (C.core chip.now) (value_at lasts.now) w }
+fn are_definite_pins(chip: &View<'_>, lasts: &State, w: usize) -> bool
+    requires placed { IsPlaced chip.now.core (place_in chip.now.ranks) w }
+    requires nets { length lasts.now ≡ length chip.now.core.nets }
+    ensures { IsTrue result → AreDefinitePins chip.now.core (value_at lasts.now) w }
 {
     chip.linked();
     for pin in 0..chip.cell(w).inputs() {
@@ -28,10 +29,10 @@ fn are_definite_pins<C: Linked>(chip: &C, lasts: &State, w: usize) -> bool
 }
 
 // Whether all that read a net are marked.
-fn are_readers_marked<C: Linked>(chip: &C, marks: &[bool], net: usize) -> bool
-    requires known { net < length (C.core chip.now).nets }
-    requires room { length marks.now ≡ count_of (C.core chip.now) }
-    ensures { IsTrue result → AreReadersMarked (C.core chip.now) marks.now net }
+fn are_readers_marked(chip: &View<'_>, marks: &[bool], net: usize) -> bool
+    requires known { net < length chip.now.core.nets }
+    requires room { length marks.now ≡ count_of chip.now.core }
+    ensures { IsTrue result → AreReadersMarked chip.now.core marks.now net }
 {
     chip.linked();
     for k in 0..chip.reader_count(net) {
@@ -43,12 +44,12 @@ fn are_readers_marked<C: Linked>(chip: &C, marks: &[bool], net: usize) -> bool
 }
 
 // Whether the values of an instance's output nets are definite, and all that read one are marked.
-fn are_outputs_clear<C: Linked>(chip: &C, lasts: &State, marks: &[bool], u: usize) -> bool
-    requires placed { IsPlaced (C.core chip.now) (place_in (C.places chip.now)) u }
-    requires nets { length lasts.now ≡ length (C.core chip.now).nets }
-    requires room { length marks.now ≡ count_of (C.core chip.now) }
-    ensures { IsTrue result → AreOutputsClear (C.core chip.now) (value_at lasts.now) marks.now u
-        (outputs_at (C.core chip.now) u) }
+fn are_outputs_clear(chip: &View<'_>, lasts: &State, marks: &[bool], u: usize) -> bool
+    requires placed { IsPlaced chip.now.core (place_in chip.now.ranks) u }
+    requires nets { length lasts.now ≡ length chip.now.core.nets }
+    requires room { length marks.now ≡ count_of chip.now.core }
+    ensures { IsTrue result → AreOutputsClear chip.now.core (value_at lasts.now) marks.now u
+        (outputs_at chip.now.core u) }
 {
     chip.linked();
     let first = chip.cell(u).inputs();
@@ -62,13 +63,13 @@ fn are_outputs_clear<C: Linked>(chip: &C, lasts: &State, marks: &[bool], u: usiz
 }
 
 // Whether a flip of an input net of a clear instance passes it on by last values alone.
-fn is_passing<C: Linked>(chip: &C, tables: &Tables, lasts: &State, w: usize) -> bool
-    requires placed { IsPlaced (C.core chip.now) (place_in (C.places chip.now)) w }
-    requires tables { AreTables (C.core chip.now) (place_in (C.places chip.now)) (C.number_of chip.now)
+fn is_passing(chip: &View<'_>, tables: &Tables, lasts: &State, w: usize) -> bool
+    requires placed { IsPlaced chip.now.core (place_in chip.now.ranks) w }
+    requires tables { AreTables chip.now.core (place_in chip.now.ranks) (cell_number chip.now.chip)
         tables.now.items }
-    requires nets { length lasts.now ≡ length (C.core chip.now).nets }
-    requires clear { IsClear (C.core chip.now) (value_at lasts.now) w }
-    ensures { IsTrue result → IsPassing (C.core chip.now) (value_at lasts.now) w }
+    requires nets { length lasts.now ≡ length chip.now.core.nets }
+    requires clear { IsClear chip.now.core (value_at lasts.now) w }
+    ensures { IsTrue result → IsPassing chip.now.core (value_at lasts.now) w }
 {
     tables[chip.number(w)].is_some() && are_definite_pins(chip, lasts, w)
 }
@@ -86,24 +87,24 @@ fn unmark(marks: &mut Vec<bool>)
 ghost use Rattle.ca_sweep.specs.Kept.{is_marked};
 
 /// Finds the clear instances, the last ones first, and marks those that pass flips on.
-pub(crate) fn find_clear<C: Linked>(
-    chip: &C,
+pub(crate) fn find_clear(
+    chip: &View<'_>,
     tables: &Tables,
     order: &[Option<usize>],
     lasts: &State,
     clear: &mut Vec<bool>,
     passing: &mut Vec<bool>,
 )
-    requires tables { AreTables (C.core chip.now) (place_in (C.places chip.now)) (C.number_of chip.now)
+    requires tables { AreTables chip.now.core (place_in chip.now.ranks) (cell_number chip.now.chip)
         tables.now.items }
-    requires order { IsOrder (C.core chip.now) (place_in (C.places chip.now)) order.now }
-    requires nets { length lasts.now ≡ length (C.core chip.now).nets }
-    requires clear_room { length clear.old.items ≡ count_of (C.core chip.now) }
-    requires passing_room { length passing.old.items ≡ count_of (C.core chip.now) }
+    requires order { IsOrder chip.now.core (place_in chip.now.ranks) order.now }
+    requires nets { length lasts.now ≡ length chip.now.core.nets }
+    requires clear_room { length clear.old.items ≡ count_of chip.now.core }
+    requires passing_room { length passing.old.items ≡ count_of chip.now.core }
 
-    ensures clear { AreMarks (C.core chip.now) (IsClear (C.core chip.now) (value_at lasts.now))
+    ensures clear { AreMarks chip.now.core (IsClear chip.now.core (value_at lasts.now))
         clear.new.items }
-    ensures passing { AreMarks (C.core chip.now) (IsPassing (C.core chip.now) (value_at lasts.now))
+    ensures passing { AreMarks chip.now.core (IsPassing chip.now.core (value_at lasts.now))
         passing.new.items }
 {
     unmark(clear);
@@ -117,26 +118,26 @@ pub(crate) fn find_clear<C: Linked>(
 }
 
 // Marks an instance, if it is clear and if it passes flips on.
-fn mark<C: Linked>(
-    chip: &C,
+fn mark(
+    chip: &View<'_>,
     tables: &Tables,
     lasts: &State,
     u: usize,
     clear: &mut Vec<bool>,
     passing: &mut Vec<bool>,
 )
-    requires placed { IsPlaced (C.core chip.now) (place_in (C.places chip.now)) u }
-    requires tables { AreTables (C.core chip.now) (place_in (C.places chip.now)) (C.number_of chip.now)
+    requires placed { IsPlaced chip.now.core (place_in chip.now.ranks) u }
+    requires tables { AreTables chip.now.core (place_in chip.now.ranks) (cell_number chip.now.chip)
         tables.now.items }
-    requires nets { length lasts.now ≡ length (C.core chip.now).nets }
-    requires clear { AreMarks (C.core chip.now) (IsClear (C.core chip.now) (value_at lasts.now))
+    requires nets { length lasts.now ≡ length chip.now.core.nets }
+    requires clear { AreMarks chip.now.core (IsClear chip.now.core (value_at lasts.now))
         clear.old.items }
-    requires passing { AreMarks (C.core chip.now) (IsPassing (C.core chip.now) (value_at lasts.now))
+    requires passing { AreMarks chip.now.core (IsPassing chip.now.core (value_at lasts.now))
         passing.old.items }
 
-    ensures clear { AreMarks (C.core chip.now) (IsClear (C.core chip.now) (value_at lasts.now))
+    ensures clear { AreMarks chip.now.core (IsClear chip.now.core (value_at lasts.now))
         clear.new.items }
-    ensures passing { AreMarks (C.core chip.now) (IsPassing (C.core chip.now) (value_at lasts.now))
+    ensures passing { AreMarks chip.now.core (IsPassing chip.now.core (value_at lasts.now))
         passing.new.items }
 {
     chip.linked();

@@ -6,7 +6,8 @@ ghost use Rattle.ca_net.specs.Wave.{IsWave};
 ghost use Rattle.ca_defect.specs.List.{faulty_of};
 ghost use Rattle.ca_table.specs.Gives.{Gives};
 ghost use Rattle.ca_flat.specs.Chip.{cell_at, inputs_at, IsDefectIn};
-ghost use Rattle.ca_sim.specs.Linked.{IsPlaced, IsPlacedDefect, place_in};
+ghost use Rattle.ca_view.specs.Linked.{IsPlaced, IsPlacedDefect, place_in};
+ghost use Rattle.ca_view.specs.Places.{cell_number};
 ghost use Rattle.ca_sim.specs.Cells.{AreCellRooms, FitCellsOf};
 ghost use Rattle.ca_sweep.specs.Faulty.{AreFaulty, HoldsTrue};
 
@@ -16,7 +17,7 @@ use ca_defect::Defect;
 use ca_flat::ChipDefect;
 use ca_net::{Trit, Wave};
 use ca_response::{OutWaves, PinWaves};
-use ca_sim::Linked;
+use ca_view::View;
 use ca_table::{Rooms, copied};
 use std::alloc::Global;
 
@@ -44,9 +45,9 @@ pub struct Faulty {
 
 impl Faulty {
     /// Takes the room for the cells of all instances with a place. Nothing is kept yet.
-    pub(crate) fn reserve<C: Linked>(alloc: Global, chip: &C) -> Result<Self, NoMemory>
-        ensures { IfOk result (AreFaulty (C.core chip.now) (place_in (C.places chip.now))
-            (C.number_of chip.now)) }
+    pub(crate) fn reserve(alloc: Global, chip: &View<'_>) -> Result<Self, NoMemory>
+        ensures { IfOk result (AreFaulty chip.now.core (place_in chip.now.ranks)
+            (cell_number chip.now.chip)) }
     {
         let rooms = rooms_of(alloc, chip)?;
         Ok(Faulty {
@@ -56,16 +57,16 @@ impl Faulty {
     }
 
     // What the cell of a defect's instance gives with it, computed.
-    fn compute<C: Linked>(&mut self, chip: &C, defect: ChipDefect, pins: &[Wave]) -> OutWaves
-        requires defect { IsPlacedDefect (C.core chip.now) (place_in (C.places chip.now)) defect }
-        requires pins { length pins.now ≡ inputs_at (C.core chip.now) defect.instance }
+    fn compute(&mut self, chip: &View<'_>, defect: ChipDefect, pins: &[Wave]) -> OutWaves
+        requires defect { IsPlacedDefect chip.now.core (place_in chip.now.ranks) defect }
+        requires pins { length pins.now ≡ inputs_at chip.now.core defect.instance }
         requires waves { All IsWave pins.now }
-        requires rooms { AreCellRooms (C.core chip.now) (place_in (C.places chip.now)) (C.number_of chip.now)
+        requires rooms { AreCellRooms chip.now.core (place_in chip.now.ranks) (cell_number chip.now.chip)
             self.old.rooms.items }
 
-        ensures gives { Gives (cell_at (C.core chip.now) defect.instance)
-            (faulty_of (cell_at (C.core chip.now) defect.instance) defect.defect) pins.now result.items }
-        ensures rooms { AreCellRooms (C.core chip.now) (place_in (C.places chip.now)) (C.number_of chip.now)
+        ensures gives { Gives (cell_at chip.now.core defect.instance)
+            (faulty_of (cell_at chip.now.core defect.instance) defect.defect) pins.now result.items }
+        ensures rooms { AreCellRooms chip.now.core (place_in chip.now.ranks) (cell_number chip.now.chip)
             self.new.rooms.items }
         ensures slots { self.new.slots.items ≡ self.old.slots.items }
     {
@@ -77,20 +78,20 @@ impl Faulty {
     }
 
     // What the cell of an instance gives with a defect, if it is in the slot.
-    fn get<C: Linked>(
+    fn get(
         &self,
-        chip: &C,
+        chip: &View<'_>,
         defect: ChipDefect,
         slot: usize,
         pins: &[Wave],
     ) -> Option<OutWaves>
-        requires defect { IsPlacedDefect (C.core chip.now) (place_in (C.places chip.now)) defect }
+        requires defect { IsPlacedDefect chip.now.core (place_in chip.now.ranks) defect }
         requires slot { slot < length self.now.slots.items }
-        requires slots { All (HoldsTrue (C.core chip.now) (place_in (C.places chip.now))
-            (C.number_of chip.now)) self.now.slots.items }
+        requires slots { All (HoldsTrue chip.now.core (place_in chip.now.ranks)
+            (cell_number chip.now.chip)) self.now.slots.items }
 
-        ensures { IfSome result (λ outputs. Gives (cell_at (C.core chip.now) defect.instance)
-            (faulty_of (cell_at (C.core chip.now) defect.instance) defect.defect) pins.now outputs.items) }
+        ensures { IfSome result (λ outputs. Gives (cell_at chip.now.core defect.instance)
+            (faulty_of (cell_at chip.now.core defect.instance) defect.defect) pins.now outputs.items) }
     {
         let number = chip.number(defect.instance as usize);
         match &self.slots[slot] {
@@ -101,21 +102,21 @@ impl Faulty {
 
     /// What the cell of a defect's instance gives with it, for these waves of the input pins. It takes no
     /// memory.
-    pub(crate) fn respond<C: Linked>(
+    pub(crate) fn respond(
         &mut self,
-        chip: &C,
+        chip: &View<'_>,
         defect: ChipDefect,
         pins: PinWaves,
     ) -> OutWaves
-        requires defect { IsPlacedDefect (C.core chip.now) (place_in (C.places chip.now)) defect }
-        requires pins { length pins.items ≡ inputs_at (C.core chip.now) defect.instance }
+        requires defect { IsPlacedDefect chip.now.core (place_in chip.now.ranks) defect }
+        requires pins { length pins.items ≡ inputs_at chip.now.core defect.instance }
         requires waves { All IsWave pins.items }
-        requires kept { AreFaulty (C.core chip.now) (place_in (C.places chip.now)) (C.number_of chip.now)
+        requires kept { AreFaulty chip.now.core (place_in chip.now.ranks) (cell_number chip.now.chip)
             self.old }
 
-        ensures gives { Gives (cell_at (C.core chip.now) defect.instance)
-            (faulty_of (cell_at (C.core chip.now) defect.instance) defect.defect) pins.items result.items }
-        ensures kept { AreFaulty (C.core chip.now) (place_in (C.places chip.now)) (C.number_of chip.now)
+        ensures gives { Gives (cell_at chip.now.core defect.instance)
+            (faulty_of (cell_at chip.now.core defect.instance) defect.defect) pins.items result.items }
+        ensures kept { AreFaulty chip.now.core (place_in chip.now.ranks) (cell_number chip.now.chip)
             self.new }
     {
         chip.linked();
@@ -136,9 +137,9 @@ impl Faulty {
 }
 
 // The room for the cells, by their numbers.
-fn rooms_of<C: Linked>(alloc: Global, chip: &C) -> Result<Vec<Rooms>, NoMemory>
-    ensures { IfOk result (λ rooms. AreCellRooms (C.core chip.now) (place_in (C.places chip.now))
-        (C.number_of chip.now) rooms.items) }
+fn rooms_of(alloc: Global, chip: &View<'_>) -> Result<Vec<Rooms>, NoMemory>
+    ensures { IfOk result (λ rooms. AreCellRooms chip.now.core (place_in chip.now.ranks)
+        (cell_number chip.now.chip) rooms.items) }
 {
     let mut rooms = Vec::new(alloc);
     for number in 0..chip.numbers() {
@@ -148,9 +149,9 @@ fn rooms_of<C: Linked>(alloc: Global, chip: &C) -> Result<Vec<Rooms>, NoMemory>
 }
 
 // The room for the cell of a number, if some instance has it.
-fn rooms_for<C: Linked>(alloc: Global, chip: &C, number: usize) -> Result<Rooms, NoMemory>
+fn rooms_for(alloc: Global, chip: &View<'_>, number: usize) -> Result<Rooms, NoMemory>
     ensures { IfOk result
-        (FitCellsOf (C.core chip.now) (place_in (C.places chip.now)) (C.number_of chip.now) number) }
+        (FitCellsOf chip.now.core (place_in chip.now.ranks) (cell_number chip.now.chip) number) }
 {
     chip.linked();
     match instance_with(chip, number) {

@@ -10,7 +10,8 @@ ghost use Rattle.ca_net.specs.State.{value_at};
 ghost use Rattle.ca_flat.specs.Chip.{outputs_at};
 ghost use Rattle.ca_flat.specs.Flat.{flat};
 ghost use Rattle.ca_flips.specs.Flips.{AreLastsOf};
-ghost use Rattle.ca_sim.specs.Linked.{IsPlaced, IsPlacedDefect, place_in};
+ghost use Rattle.ca_view.specs.Linked.{IsPlaced, IsPlacedDefect, place_in};
+ghost use Rattle.ca_view.specs.Places.{cell_number};
 ghost use Rattle.ca_sweep.specs.Seen.{IsSeen, IsOfChip, lasts_in};
 ghost use Rattle.ca_sweep.specs.Found.{IsFound};
 ghost use Rattle.ca_sweep.specs.Faulty.{AreWavesAt, AreFlipsOf};
@@ -25,22 +26,24 @@ use ca_flat::ChipDefect;
 use ca_flips::{detected_is_filled_in, detected_is_flipped, swept_are_flipped};
 use ca_net::{Trit, Wave};
 use ca_response::PinWaves;
-use ca_sim::{Linked, NetWaves};
+use ca_sim::NetWaves;
+use ca_view::View;
 use std::alloc::Global;
 use std::marker::Model;
 
 /// Finds where a pair detects defects, by the last values of the nets behind their instances. All memory is
 /// taken by `reserve`.
 #[derive(Drop)]
-pub struct Finder<'a, C: Linked> {
-    chip: &'a C,
-    sweep: Sweep<'a, C>,
+pub struct Finder<'a> {
+    chip: &'a View<'a>,
+    sweep: Sweep<'a>,
     faulty: Faulty,
     memo: Memo,
 }
 
-impl<'a, C: Linked> Model for Finder<'a, C> {
-    ghost use Rattle.ca_sim.specs.Linked.{place_in};
+impl<'a> Model for Finder<'a> {
+    ghost use Rattle.ca_view.specs.Linked.{place_in};
+    ghost use Rattle.ca_view.specs.Places.{cell_number};
     ghost use Rattle.ca_sweep.specs.Seen.{Swept};
     ghost use Rattle.ca_sweep.specs.Faulty.{IsFinder};
 
@@ -48,17 +51,17 @@ impl<'a, C: Linked> Model for Finder<'a, C> {
 
     ghost view = { λ finder. finder.sweep };
 
-    ghost invariant = { λ finder. IsFinder (C.core finder.chip.now) (C.places finder.chip.now)
-        (place_in (C.places finder.chip.now)) (C.number_of finder.chip.now) finder.sweep finder.faulty
+    ghost invariant = { λ finder. IsFinder finder.chip.now.core finder.chip.now.ranks
+        (place_in finder.chip.now.ranks) (cell_number finder.chip.now.chip) finder.sweep finder.faulty
         finder.memo };
 }
 
-impl<'a, C: Linked> Finder<'a, C> {
+impl<'a> Finder<'a> {
     /// Takes all memory. The nets of the observed outputs come in their order. No last value is known.
-    pub fn reserve(alloc: Global, chip: &'a C, outputs: Vec<u32>) -> Result<Self, NoMemory>
-        requires outputs { outputs.items ≡ (C.core chip.now).outputs }
+    pub fn reserve(alloc: Global, chip: &'a View<'a>, outputs: Vec<u32>) -> Result<Self, NoMemory>
+        requires outputs { outputs.items ≡ chip.now.core.outputs }
         requires few { length outputs.items < 2 ^ 32 }
-        ensures { IfOk result (IsOfChip (C.core chip.now) (C.places chip.now)) }
+        ensures { IfOk result (IsOfChip chip.now.core chip.now.ranks) }
     {
         let faulty = Faulty::reserve(alloc, chip)?;
         let memo = Memo::reserve(alloc)?;
@@ -185,10 +188,10 @@ fn is_wave(wave: Wave) -> bool
 }
 
 // The good waves of an instance's input nets. All are waves, so that there always are some.
-fn pin_waves<C: Linked, V: NetWaves>(chip: &C, waves: &V, u: usize) -> Option<PinWaves>
-    requires placed { IsPlaced (C.core chip.now) (place_in (C.places chip.now)) u }
-    requires chip { (V.seen waves.now).chip ≡ C.core chip.now }
-    ensures { IfSome result (λ pins. AreWavesAt (C.core chip.now) (V.seen waves.now).good u pins.items) }
+fn pin_waves<V: NetWaves>(chip: &View<'_>, waves: &V, u: usize) -> Option<PinWaves>
+    requires placed { IsPlaced chip.now.core (place_in chip.now.ranks) u }
+    requires chip { (V.seen waves.now).chip ≡ chip.now.core }
+    ensures { IfSome result (λ pins. AreWavesAt chip.now.core (V.seen waves.now).good u pins.items) }
 {
     chip.linked();
     let mut pins = PinWaves::new();

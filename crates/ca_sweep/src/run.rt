@@ -4,7 +4,8 @@ ghost use Rattle.std.specs.Prelude.{◌≡◌, ◌<◌, length, IsTrue, Some};
 ghost use Rattle.std.specs.List.{All};
 ghost use Rattle.ca_net.specs.State.{value_at};
 ghost use Rattle.ca_flips.specs.Flips.{AreSwept};
-ghost use Rattle.ca_sim.specs.Linked.{IsPlaced, place_in};
+ghost use Rattle.ca_view.specs.Linked.{IsPlaced, place_in};
+ghost use Rattle.ca_view.specs.Places.{cell_number};
 ghost use Rattle.ca_sweep.specs.Seen.{flipped_outputs, IsFirstIn};
 ghost use Rattle.ca_sweep.specs.Cells.{AreTables, IsOrder};
 ghost use Rattle.ca_sweep.specs.Changes.{AreRoomy, IsSweptTo};
@@ -13,12 +14,12 @@ use crate::cells::Tables;
 use crate::seen::Flips;
 use crate::values::Values;
 use ca_net::{State, Trit};
-use ca_sim::Linked;
+use ca_view::View;
 
 /// Finds the values of the nets where some output pins of an instance are flipped. Answers false where an
 /// instance that is due isn't static, or the values of its input nets aren't definite.
-pub(crate) fn sweep<C: Linked>(
-    chip: &C,
+pub(crate) fn sweep(
+    chip: &View<'_>,
     tables: &Tables,
     order: &[Option<usize>],
     lasts: &State,
@@ -26,21 +27,21 @@ pub(crate) fn sweep<C: Linked>(
     u: usize,
     flips: Flips,
 ) -> bool
-    requires placed { IsPlaced (C.core chip.now) (place_in (C.places chip.now)) u }
-    requires tables { AreTables (C.core chip.now) (place_in (C.places chip.now)) (C.number_of chip.now)
+    requires placed { IsPlaced chip.now.core (place_in chip.now.ranks) u }
+    requires tables { AreTables chip.now.core (place_in chip.now.ranks) (cell_number chip.now.chip)
         tables.now.items }
-    requires order { IsOrder (C.core chip.now) (place_in (C.places chip.now)) order.now }
-    requires nets { length lasts.now ≡ length (C.core chip.now).nets }
-    requires room { AreRoomy (C.core chip.now) values.old }
+    requires order { IsOrder chip.now.core (place_in chip.now.ranks) order.now }
+    requires nets { length lasts.now ≡ length chip.now.core.nets }
+    requires room { AreRoomy chip.now.core values.old }
 
-    ensures swept { IsTrue result → AreSwept (C.core chip.now) u (value_at lasts.now)
-        (flipped_outputs (C.core chip.now) u (value_at lasts.now) flips) (value_at values.new.values) }
-    ensures room { AreRoomy (C.core chip.now) values.new }
+    ensures swept { IsTrue result → AreSwept chip.now.core u (value_at lasts.now)
+        (flipped_outputs chip.now.core u (value_at lasts.now) flips) (value_at values.new.values) }
+    ensures room { AreRoomy chip.now.core values.new }
 {
     chip.linked();
     values.begin(lasts);
     values.flip(chip, u, flips);
-    for place in chip.place(u) + 1..order.len() {
+    for place in chip.rank(u) + 1..order.len() {
         let passed = pass(chip, tables, order, values, place);
         if !passed {
             return false;
@@ -50,22 +51,22 @@ pub(crate) fn sweep<C: Linked>(
 }
 
 // Evaluates the instance at a place, if it is due.
-fn pass<C: Linked>(
-    chip: &C,
+fn pass(
+    chip: &View<'_>,
     tables: &Tables,
     order: &[Option<usize>],
     values: &mut Values,
     place: usize,
 ) -> bool
-    requires tables { AreTables (C.core chip.now) (place_in (C.places chip.now)) (C.number_of chip.now)
+    requires tables { AreTables chip.now.core (place_in chip.now.ranks) (cell_number chip.now.chip)
         tables.now.items }
-    requires order { IsOrder (C.core chip.now) (place_in (C.places chip.now)) order.now }
+    requires order { IsOrder chip.now.core (place_in chip.now.ranks) order.now }
     requires within { place < length order.now }
-    requires room { AreRoomy (C.core chip.now) values.old }
+    requires room { AreRoomy chip.now.core values.old }
 
     ensures passed { IsTrue result
-        → IsPassed (C.core chip.now) (place_in (C.places chip.now)) place values.old values.new }
-    ensures room { AreRoomy (C.core chip.now) values.new }
+        → IsPassed chip.now.core (place_in chip.now.ranks) place values.old values.new }
+    ensures room { AreRoomy chip.now.core values.new }
 {
     if !values.due[place] {
         return true;

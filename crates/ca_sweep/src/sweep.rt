@@ -2,7 +2,8 @@
 
 ghost use Rattle.std.specs.Prelude.{◌≡◌, ◌<◌, ◌^◌, length, map, replicate, IfOk};
 ghost use Rattle.ca_net.specs.State.{value_at};
-ghost use Rattle.ca_sim.specs.Linked.{IsPlaced, place_in};
+ghost use Rattle.ca_view.specs.Linked.{IsPlaced, place_in};
+ghost use Rattle.ca_view.specs.Places.{cell_number};
 ghost use Rattle.ca_sweep.specs.Seen.{IsSeen, IsOfChip, lasts_in};
 
 use crate::cells::{Tables, order_of, tables_of};
@@ -12,15 +13,16 @@ use crate::seen::{Flips, Seen};
 use crate::values::Values;
 use ca_base::NoMemory;
 use ca_net::{State, Trit};
-use ca_sim::{Linked, NetWaves};
+use ca_sim::NetWaves;
+use ca_view::View;
 use std::alloc::Global;
 use std::marker::Model;
 
 /// The good last values of the nets of a chip, and the room for values behind an instance whose output pins
 /// are flipped. All memory is taken by `reserve`.
 #[derive(Drop)]
-pub struct Sweep<'a, C: Linked> {
-    chip: &'a C,
+pub struct Sweep<'a> {
+    chip: &'a View<'a>,
     outputs: Vec<u32>,
     tables: Tables,
     order: Vec<Option<usize>>,
@@ -30,30 +32,31 @@ pub struct Sweep<'a, C: Linked> {
     values: Values,
 }
 
-impl<'a, C: Linked> Model for Sweep<'a, C> {
-    ghost use Rattle.ca_sim.specs.Linked.{place_in};
+impl<'a> Model for Sweep<'a> {
+    ghost use Rattle.ca_view.specs.Linked.{place_in};
+    ghost use Rattle.ca_view.specs.Places.{cell_number};
     ghost use Rattle.ca_sweep.specs.Seen.{Swept};
     ghost use Rattle.ca_sweep.specs.Kept.{IsKept};
 
     ghost Value = { Swept };
 
     ghost view = { λ sweep. record {
-      chip = C.core sweep.chip.now;
-      places = C.places sweep.chip.now;
+      chip = sweep.chip.now.core;
+      places = sweep.chip.now.ranks;
       lasts = sweep.lasts;
     } };
 
-    ghost invariant = { λ sweep. IsKept (C.core sweep.chip.now) (place_in (C.places sweep.chip.now))
-        (C.number_of sweep.chip.now) sweep.outputs.items sweep.tables.items sweep.order.items sweep.lasts
+    ghost invariant = { λ sweep. IsKept sweep.chip.now.core (place_in sweep.chip.now.ranks)
+        (cell_number sweep.chip.now.chip) sweep.outputs.items sweep.tables.items sweep.order.items sweep.lasts
         sweep.clear.items sweep.passing.items sweep.values };
 }
 
-impl<'a, C: Linked> Sweep<'a, C> {
+impl<'a> Sweep<'a> {
     /// Takes all memory. The nets of the observed outputs come in their order. No last value is known.
-    pub fn reserve(alloc: Global, chip: &'a C, outputs: Vec<u32>) -> Result<Self, NoMemory>
-        requires outputs { outputs.items ≡ (C.core chip.now).outputs }
+    pub fn reserve(alloc: Global, chip: &'a View<'a>, outputs: Vec<u32>) -> Result<Self, NoMemory>
+        requires outputs { outputs.items ≡ chip.now.core.outputs }
         requires few { length outputs.items < 2 ^ 32 }
-        ensures { IfOk result (IsOfChip (C.core chip.now) (C.places chip.now)) }
+        ensures { IfOk result (IsOfChip chip.now.core chip.now.ranks) }
     {
         chip.linked();
         Ok(Sweep {

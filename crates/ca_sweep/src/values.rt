@@ -4,7 +4,8 @@ ghost use Rattle.std.specs.Prelude.{ℕ, ◌+◌, ◌≡◌, ◌<◌, ◌≤◌,
 ghost use Rattle.ca_net.specs.State.{value_at};
 ghost use Rattle.ca_flat.specs.Chip.{cell_at, inputs_at, outputs_at, count_of};
 ghost use Rattle.ca_flips.specs.Flips.{vector_at};
-ghost use Rattle.ca_sim.specs.Linked.{IsPlaced, place_in};
+ghost use Rattle.ca_view.specs.Linked.{IsPlaced, place_in};
+ghost use Rattle.ca_view.specs.Places.{cell_number};
 ghost use Rattle.ca_static.specs.LastTable.{IsLastTable, last_at};
 ghost use Rattle.ca_sweep.specs.Seen.{flipped_outputs};
 ghost use Rattle.ca_sweep.specs.Cells.{AreTables};
@@ -15,7 +16,7 @@ use crate::cells::Tables;
 use crate::seen::Flips;
 use ca_base::NoMemory;
 use ca_net::{State, Trit};
-use ca_sim::Linked;
+use ca_view::View;
 use ca_static::LastTable;
 use std::alloc::Global;
 
@@ -28,8 +29,8 @@ pub struct Values {
 
 impl Values {
     /// Takes the room for the nets and instances of a chip.
-    pub(crate) fn reserve<C: Linked>(alloc: Global, chip: &C) -> Result<Self, NoMemory>
-        ensures { IfOk result (AreRoomy (C.core chip.now)) }
+    pub(crate) fn reserve(alloc: Global, chip: &View<'_>) -> Result<Self, NoMemory>
+        ensures { IfOk result (AreRoomy chip.now.core) }
     {
         chip.linked();
         Ok(Values {
@@ -51,10 +52,10 @@ impl Values {
     }
 
     // Gives a net a value; if that is another one, its readers are due.
-    fn put<C: Linked>(&mut self, chip: &C, net: usize, value: Trit)
-        requires known { net < length (C.core chip.now).nets }
-        requires room { AreRoomy (C.core chip.now) self.old }
-        ensures { IsPut (C.core chip.now) (place_in (C.places chip.now)) net value self.old self.new }
+    fn put(&mut self, chip: &View<'_>, net: usize, value: Trit)
+        requires known { net < length chip.now.core.nets }
+        requires room { AreRoomy chip.now.core self.old }
+        ensures { IsPut chip.now.core (place_in chip.now.ranks) net value self.old self.new }
     {
         if self.values.get(net) == value {
             return;
@@ -64,11 +65,11 @@ impl Values {
     }
 
     /// Gives the output nets of an instance the opposite of their values, where the pins are flipped.
-    pub(crate) fn flip<C: Linked>(&mut self, chip: &C, u: usize, flips: Flips)
-        requires placed { IsPlaced (C.core chip.now) (place_in (C.places chip.now)) u }
-        requires room { AreRoomy (C.core chip.now) self.old }
-        ensures { IsWritten (C.core chip.now) (place_in (C.places chip.now)) u
-            (flipped_outputs (C.core chip.now) u (value_at self.old.values) flips) self.old self.new }
+    pub(crate) fn flip(&mut self, chip: &View<'_>, u: usize, flips: Flips)
+        requires placed { IsPlaced chip.now.core (place_in chip.now.ranks) u }
+        requires room { AreRoomy chip.now.core self.old }
+        ensures { IsWritten chip.now.core (place_in chip.now.ranks) u
+            (flipped_outputs chip.now.core u (value_at self.old.values) flips) self.old self.new }
     {
         chip.linked();
         let first = chip.cell(u).inputs();
@@ -80,12 +81,12 @@ impl Values {
     }
 
     // Gives the output nets of an instance the last values of an entry of its cell's table.
-    fn write<C: Linked>(&mut self, chip: &C, w: usize, table: &LastTable, number: usize)
-        requires placed { IsPlaced (C.core chip.now) (place_in (C.places chip.now)) w }
-        requires room { AreRoomy (C.core chip.now) self.old }
-        requires table { IsLastTable (cell_at (C.core chip.now) w) table.now }
+    fn write(&mut self, chip: &View<'_>, w: usize, table: &LastTable, number: usize)
+        requires placed { IsPlaced chip.now.core (place_in chip.now.ranks) w }
+        requires room { AreRoomy chip.now.core self.old }
+        requires table { IsLastTable (cell_at chip.now.core w) table.now }
         requires number { number < length table.now }
-        ensures { IsWritten (C.core chip.now) (place_in (C.places chip.now)) w
+        ensures { IsWritten chip.now.core (place_in chip.now.ranks) w
             (last_at table.now number) self.old self.new }
     {
         chip.linked();
@@ -96,11 +97,11 @@ impl Values {
     }
 
     // The number of the vector of an instance's input nets, if it is definite.
-    fn number_at<C: Linked>(&self, chip: &C, w: usize) -> Option<usize>
-        requires placed { IsPlaced (C.core chip.now) (place_in (C.places chip.now)) w }
-        requires room { AreRoomy (C.core chip.now) self.now }
-        ensures { IfSome result (IsNumberOf (inputs_at (C.core chip.now) w)
-            (vector_at (C.core chip.now) w (value_at self.now.values))) }
+    fn number_at(&self, chip: &View<'_>, w: usize) -> Option<usize>
+        requires placed { IsPlaced chip.now.core (place_in chip.now.ranks) w }
+        requires room { AreRoomy chip.now.core self.now }
+        ensures { IfSome result (IsNumberOf (inputs_at chip.now.core w)
+            (vector_at chip.now.core w (value_at self.now.values))) }
     {
         chip.linked();
         let mut number = 0;
@@ -116,14 +117,14 @@ impl Values {
 
     /// Gives the output nets of an instance what its cell ends with by the values of its input nets alone.
     /// Answers false and does nothing where these aren't definite, or the cell isn't static.
-    pub(crate) fn evaluate<C: Linked>(&mut self, chip: &C, tables: &Tables, w: usize) -> bool
-        requires placed { IsPlaced (C.core chip.now) (place_in (C.places chip.now)) w }
-        requires room { AreRoomy (C.core chip.now) self.old }
-        requires tables { AreTables (C.core chip.now) (place_in (C.places chip.now)) (C.number_of chip.now)
+    pub(crate) fn evaluate(&mut self, chip: &View<'_>, tables: &Tables, w: usize) -> bool
+        requires placed { IsPlaced chip.now.core (place_in chip.now.ranks) w }
+        requires room { AreRoomy chip.now.core self.old }
+        requires tables { AreTables chip.now.core (place_in chip.now.ranks) (cell_number chip.now.chip)
             tables.now.items }
         ensures evaluated { IsTrue result
-            → IsEvaluatedOut (C.core chip.now) (place_in (C.places chip.now)) w self.old self.new }
-        ensures room { AreRoomy (C.core chip.now) self.new }
+            → IsEvaluatedOut chip.now.core (place_in chip.now.ranks) w self.old self.new }
+        ensures room { AreRoomy chip.now.core self.new }
     {
         let number = match self.number_at(chip, w) {
             Some(number) => number,
@@ -140,14 +141,14 @@ impl Values {
 }
 
 // The instances that read a net become due.
-fn mark_readers<C: Linked>(chip: &C, net: usize, due: &mut Vec<bool>)
-    requires known { net < length (C.core chip.now).nets }
-    requires room { length due.old.items ≡ count_of (C.core chip.now) + 1 }
-    ensures { IsMarked (C.core chip.now) (place_in (C.places chip.now)) net due.old.items due.new.items }
+fn mark_readers(chip: &View<'_>, net: usize, due: &mut Vec<bool>)
+    requires known { net < length chip.now.core.nets }
+    requires room { length due.old.items ≡ count_of chip.now.core + 1 }
+    ensures { IsMarked chip.now.core (place_in chip.now.ranks) net due.old.items due.new.items }
 {
     chip.linked();
     for k in 0..chip.reader_count(net) {
-        due[chip.place(chip.reader(net, k))] = true;
+        due[chip.rank(chip.reader(net, k))] = true;
     }
 }
 

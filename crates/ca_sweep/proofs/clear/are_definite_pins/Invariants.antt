@@ -5,4 +5,4 @@ use Rattle.ca_flat.specs.Chip.{net_of}
 use Rattle.ca_sweep.proofs.clear.are_definite_pins.Given as goal
 
 abbrev pub invariant-loop-pin : goal.invariant-loop-pin
-invariant-loop-pin g l = (pin : ℕ) → pin < l.pin → value_at l.lasts (net_of (g.C.Linked.core l.chip) l.w pin) ≡ X → ⊥
+invariant-loop-pin l = (pin : ℕ) → pin < l.pin → value_at l.lasts (net_of l.chip.core l.w pin) ≡ X → ⊥

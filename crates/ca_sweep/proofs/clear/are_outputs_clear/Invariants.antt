@@ -3,4 +3,4 @@ use Rattle.ca_sweep.specs.Kept.{AreOutputsClear}
 use Rattle.ca_sweep.proofs.clear.are_outputs_clear.Given as goal
 
 abbrev pub invariant-loop-output : goal.invariant-loop-output
-invariant-loop-output g l = AreOutputsClear (g.C.Linked.core l.chip) (value_at l.lasts) l.marks l.u l.output
+invariant-loop-output l = AreOutputsClear l.chip.core (value_at l.lasts) l.marks l.u l.output

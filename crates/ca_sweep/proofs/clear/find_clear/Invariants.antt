@@ -4,7 +4,7 @@ use Rattle.ca_sweep.specs.Kept.{AreMarks, IsPassing}
 use Rattle.ca_sweep.proofs.clear.find_clear.Given as goal
 
 abbrev pub invariant-loop-before : goal.invariant-loop-before
-invariant-loop-before g l = record {
-  clear : AreMarks (g.C.Linked.core l.chip) (IsClear (g.C.Linked.core l.chip) (value_at l.lasts)) l.clear.items;
-  passing : AreMarks (g.C.Linked.core l.chip) (IsPassing (g.C.Linked.core l.chip) (value_at l.lasts)) l.passing.items;
+invariant-loop-before l = record {
+  clear : AreMarks l.chip.core (IsClear l.chip.core (value_at l.lasts)) l.clear.items;
+  passing : AreMarks l.chip.core (IsPassing l.chip.core (value_at l.lasts)) l.passing.items;
 }

@@ -3,15 +3,16 @@ use Rattle.std.proofs.lemmas.List.{length-set}
 use Rattle.ca_defect.specs.List.{faulty_of}
 use Rattle.ca_table.specs.Gives.{Gives}
 use Rattle.ca_flat.specs.Chip.{cell_at}
-use Rattle.ca_sim.specs.Linked.{place_in}
+use Rattle.ca_view.specs.Linked.{place_in}
+use Rattle.ca_view.specs.Places.{cell_number}
 use Rattle.ca_sweep.proofs.FaultyLemmas.{entry_true, kept_more}
 use Rattle.ca_sweep.proofs.faulty.Faulty.respond.Goals as goal
 
 pub returns-clause-kept : goal.returns-clause-kept
-returns-clause-kept g c =
-    let core = g.C.Linked.core c.args.chip.now in
-    let place_of = place_in (g.C.Linked.places c.args.chip.now) in
-    let number_of = g.C.Linked.number_of c.args.chip.now in
+returns-clause-kept c =
+    let core = c.args.chip.now.core in
+    let place_of = place_in c.args.chip.now.ranks in
+    let number_of = cell_number c.args.chip.now.chip in
     record {
       rooms = c.compute-outputs.ensures.rooms;
       slots = kept_more core place_of number_of c.args.self.now.slots.items c.compute-outputs.new.self.slots.items c.slot_of-slot.result _ c.requires.kept.slots c.compute-outputs.ensures.slots

@@ -8,7 +8,7 @@ use Rattle.ca_flat.specs.Chip.{IsDefectIn}
 use Rattle.ca_flat.specs.Flat.{flat}
 use Rattle.ca_flips.specs.Flips.{AreLastsOf}
 use Rattle.ca_table.specs.Gives.{unknown_wave}
-use Rattle.ca_sim.specs.Linked.{place_in}
+use Rattle.ca_view.specs.Linked.{place_in}
 use Rattle.ca_sim.specs.Seen.{AreNetWaves}
 use Rattle.ca_sweep.specs.Seen.{Swept, IsSeen}
 use Rattle.ca_sweep.specs.Found.{IsFound}
@@ -18,8 +18,8 @@ use Rattle.ca_sweep.proofs.finder.Finder.find.Goals as goal
 
 pub returns-clause-found : goal.returns-clause-found
 returns-clause-found g c =
-    let core = g.C.Linked.core c.self.inside.chip.now in
-    let rank = place_in (g.C.Linked.places c.self.inside.chip.now) in
+    let core = c.self.inside.chip.now.core in
+    let rank = place_in c.self.inside.chip.now.ranks in
     let pair = (g.V.NetWaves.seen c.args.waves.now).pair in
     let waves = (g.V.NetWaves.seen c.args.waves.now).good in
     let pins = c.in-Some.pins.items in
@@ -27,7 +27,7 @@ returns-clause-found g c =
     let goods = value_at c.self.inside.sweep.lasts in
     let flips = c.flips_of-flips.result in
     let is_chip = c.linked.ensures.linked.is_chip in
-    let own : c.args.self.now.chip ≡ g.C.Linked.core c.self.inside.chip.now = ap (λ (s : Swept). s.chip) (sym c.self.view_is) ∙ c.self.invariant.chip_is in
+    let own : c.args.self.now.chip ≡ c.self.inside.chip.now.core = ap (λ (s : Swept). s.chip) (sym c.self.view_is) ∙ c.self.invariant.chip_is in
     let defect_is = subst (λ chip. IsDefectIn chip c.args.defect) own c.requires.defect.defect_is in
     let good_is = subst (λ chip. IsWellFormed (flat chip None)) own c.requires.good_is in
     let lasts = subst (λ chip. AreLastsOf chip (g.V.NetWaves.seen c.args.waves.now).pair (value_at c.self.inside.sweep.lasts)) c.self.invariant.chip_is

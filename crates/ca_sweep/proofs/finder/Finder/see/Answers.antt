@@ -1,15 +1,16 @@
 use Rattle.std.proofs.Common.{subst, sym}
 use Rattle.ca_net.specs.State.{value_at}
-use Rattle.ca_sim.specs.Linked.{place_in}
+use Rattle.ca_view.specs.Linked.{place_in}
+use Rattle.ca_view.specs.Places.{cell_number}
 use Rattle.ca_sweep.specs.Seen.{Swept, IsSeen}
 use Rattle.ca_sweep.specs.Faulty.{IsFinder}
 use Rattle.ca_sweep.proofs.finder.Finder.see.Goals as goal
 
 pub get-requires : goal.get-requires
-get-requires g c = (c.turn_to.ensures.memo _ _ c.self.invariant.memo_is).room
+get-requires c = (c.turn_to.ensures.memo _ _ c.self.invariant.memo_is).room
 
 pub invariant_of-self : goal.invariant_of-self
-invariant_of-self g c = record {
+invariant_of-self c = record {
   chip_is = c.self.invariant.chip_is;
   places_are = c.self.invariant.places_are;
   faulty_are = c.self.invariant.faulty_are;
@@ -17,14 +18,14 @@ invariant_of-self g c = record {
 }
 
 pub put-requires : goal.put-requires
-put-requires g c = (c.turn_to.ensures.memo _ _ c.self.invariant.memo_is).room
+put-requires c = (c.turn_to.ensures.memo _ _ c.self.invariant.memo_is).room
 
 pub invariant_of-self-in-None : goal.invariant_of-self-in-None
-invariant_of-self-in-None g c =
+invariant_of-self-in-None c =
     let chip = c.self.inside.sweep.chip in
     let lasts = c.self.inside.sweep.lasts in
-    subst (λ (s : Swept). IsFinder (g.C.Linked.core c.self.inside.chip.now) (g.C.Linked.places c.self.inside.chip.now)
-    (place_in (g.C.Linked.places c.self.inside.chip.now)) (g.C.Linked.number_of c.self.inside.chip.now) s c.self.inside.faulty c.put.new.self) (sym c.see-seen.ensures.kept)
+    subst (λ (s : Swept). IsFinder c.self.inside.chip.now.core c.self.inside.chip.now.ranks
+    (place_in c.self.inside.chip.now.ranks) (cell_number c.self.inside.chip.now.chip) s c.self.inside.faulty c.put.new.self) (sym c.see-seen.ensures.kept)
     (record {
       chip_is = c.self.invariant.chip_is;
       places_are = c.self.invariant.places_are;
@@ -34,7 +35,7 @@ invariant_of-self-in-None g c =
     })
 
 pub returns-in-Some-clause-seen : goal.returns-in-Some-clause-seen
-returns-in-Some-clause-seen g c =
+returns-in-Some-clause-seen c =
     subst (λ (s : Swept). IsSeen s.chip (value_at s.lasts) c.args.u c.args.flips c.in-Some.seen) c.self.view_is
     (subst (λ u. IsSeen c.self.inside.sweep.chip (value_at c.self.inside.sweep.lasts) u c.args.flips c.in-Some.seen) c.turn_to.ensures.instance
     (c.in-Some.ensures c.self.inside.sweep.chip (value_at c.self.inside.sweep.lasts) (c.turn_to.ensures.memo _ _ c.self.invariant.memo_is)))

@@ -10,8 +10,8 @@ use Rattle.ca_sweep.proofs.sweep.Sweep.see.Goals.{in-Some, in-None}
 use Rattle.ca_sweep.proofs.sweep.Sweep.see.Goals as goal
 
 pub first_opposite-requires-clause-nets : goal.first_opposite-requires-clause-nets
-first_opposite-requires-clause-nets g c = λ k d less.
-    let core = g.C.Linked.core c.self.inside.chip.now in
+first_opposite-requires-clause-nets c = λ k d less.
+    let core = c.self.inside.chip.now.core in
     let kept = c.self.invariant in
     let are = c.deref-2.ensures.value ∙ kept.outputs_are in
     subst (λ n. get_or c.deref-2.result.now k d < n) (sym kept.nets)
@@ -19,8 +19,8 @@ first_opposite-requires-clause-nets g c = λ k d less.
     (subst (λ list. Contains list (get_or c.deref-2.result.now k d)) are (Contains-get_or c.deref-2.result.now k d less)))
 
 pub returns-clause-seen : goal.returns-clause-seen
-returns-clause-seen g c =
-    let core = g.C.Linked.core c.self.inside.chip.now in
+returns-clause-seen c =
+    let core = c.self.inside.chip.now.core in
     let goods = value_at c.self.inside.lasts in
     let kept = c.self.invariant in
     let known : c.args.u < count_of core = subst (λ (s : Swept). c.args.u < count_of s.chip) (sym c.self.view_is) c.requires.known in

@@ -2,14 +2,15 @@ use Rattle.std.proofs.Common.{◌≡◌, ◌<◌, length, None, get_or, sym, sub
 use Rattle.ca_flat.specs.Chip.{cell_at}
 use Rattle.ca_flips.specs.Static.{EndsByLast}
 use Rattle.ca_static.specs.LastTable.{last_at, IsLastTable, IsTableWhereStatic}
+use Rattle.ca_view.specs.Places.{cell_number}
 use Rattle.ca_sweep.proofs.CellLemmas.{table_read}
 use Rattle.ca_sweep.proofs.values.Values.evaluate.Goals as goal
 
 pub returns-in-Some-index-clause-evaluated : goal.returns-in-Some-index-clause-evaluated
-returns-in-Some-index-clause-evaluated g c = λ is.
-    let core = g.C.Linked.core c.args.chip.now in
+returns-in-Some-index-clause-evaluated c = λ is.
+    let core = c.args.chip.now.core in
     let placed = c.requires.placed in
-    let at : c.number.result ≡ g.C.Linked.number_of c.args.chip.now c.args.w = c.number.ensures in
+    let at : c.number.result ≡ cell_number c.args.chip.now.chip c.args.w = c.number.ensures in
     let table : IsLastTable (cell_at core c.args.w) c.in-Some-index.table =
     table_read (cell_at core c.args.w) c.args.tables.now.items c.number.result c.index.result.now c.in-Some-index.table
     (subst (λ n. n < length c.args.tables.now.items) (sym at) (c.requires.tables.room c.args.w placed))

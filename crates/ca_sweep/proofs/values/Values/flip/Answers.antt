@@ -3,15 +3,15 @@ use Rattle.ca_net.specs.State.{value_at}
 use Rattle.ca_cell.specs.declared.raw.RawCell.{RawCell}
 use Rattle.ca_cell.specs.Raw.{is_input, is_output, role_count}
 use Rattle.ca_flat.specs.Chip.{net_of, output_net, inputs_at, outputs_at}
-use Rattle.ca_sim.specs.Linked.{place_in}
+use Rattle.ca_view.specs.Linked.{place_in}
 use Rattle.ca_sweep.specs.Seen.{flipped_outputs, flipped_if, is_flipped}
 use Rattle.ca_sweep.proofs.ChangeLemmas.{written_more, still}
 use Rattle.ca_sweep.proofs.values.Values.flip.Goals as goal
 
 pub loop-output-preserved : goal.loop-output-preserved
-loop-output-preserved g c =
-    let core = g.C.Linked.core c.args.chip.now in
-    let place_of = place_in (g.C.Linked.places c.args.chip.now) in
+loop-output-preserved c =
+    let core = c.args.chip.now.core in
+    let place_of = place_in c.args.chip.now.ranks in
     let is_chip = c.linked.ensures.linked.is_chip in
     let inputs : c.inputs-first.result ≡ inputs_at core c.args.u = c.inputs-first.ensures.count ∙ ap (λ (raw : RawCell). role_count is_input raw.pins) c.cell.ensures in
     let outputs : c.outputs-output-end.result ≡ outputs_at core c.args.u = c.outputs-output-end.ensures.count ∙ ap (λ (raw : RawCell). role_count is_output raw.pins) c.cell-2.ensures in

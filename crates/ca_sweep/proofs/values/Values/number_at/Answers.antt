@@ -10,29 +10,29 @@ use Rattle.ca_sweep.proofs.values.Values.number_at.Goals.{in-Zero, in-One}
 use Rattle.ca_sweep.proofs.values.Values.number_at.Goals as goal
 
 pub loop-pin-init : goal.loop-pin-init
-loop-pin-init g c = number_none (λ pin. value_at c.args.self.now.values (net_of (g.C.Linked.core c.args.chip.now) c.args.w pin))
+loop-pin-init c = number_none (λ pin. value_at c.args.self.now.values (net_of c.args.chip.now.core c.args.w pin))
 
 pub overflow_mul-number : goal.overflow_mul-number
-overflow_mul-number g c =
+overflow_mul-number c =
     let few = c.inputs-pin-end.ensures.few in
     let small = number_small _ c.loop-pin.pin c.loop-pin.number c.loop-pin.invariant (omega arith) in
     omega arith
 
 pub overflow_mul-number-in-One : goal.overflow_mul-number-in-One
-overflow_mul-number-in-One g c =
+overflow_mul-number-in-One c =
     let few = c.inputs-pin-end.ensures.few in
     let small = number_small _ c.loop-pin.pin c.loop-pin.number c.loop-pin.invariant (omega arith) in
     omega arith
 
 pub overflow_add-number : goal.overflow_add-number
-overflow_add-number g c =
+overflow_add-number c =
     let few = c.inputs-pin-end.ensures.few in
     let small = number_small _ c.loop-pin.pin c.loop-pin.number c.loop-pin.invariant (omega arith) in
     omega arith
 
 pub loop-pin-preserved : goal.loop-pin-preserved
-loop-pin-preserved g c =
-    let core = g.C.Linked.core c.args.chip.now in
+loop-pin-preserved c =
+    let core = c.args.chip.now.core in
     let value = λ (pin : _). value_at c.args.self.now.values (net_of core c.args.w pin) in
     elim c.match-get.branch [
       | in-Zero w ↦ number_more_zero (λ pin. value_at c.args.self.now.values (net_of core c.args.w pin)) c.loop-pin.pin c.loop-pin.number _ c.loop-pin.invariant
@@ -42,8 +42,8 @@ loop-pin-preserved g c =
     ]
 
 pub returns : goal.returns
-returns g c =
-    let core = g.C.Linked.core c.args.chip.now in
+returns c =
+    let core = c.args.chip.now.core in
     let inputs : c.inputs-pin-end.result ≡ inputs_at core c.args.w = c.inputs-pin-end.ensures.count ∙ ap (λ (raw : RawCell). role_count is_input raw.pins) c.cell.ensures in
     let all : c.loop-pin.pin ≡ inputs_at core c.args.w = omega arith in
     subst (λ n. IsNumberOf n (values_from (λ pin. value_at c.args.self.now.values (net_of core c.args.w pin)) 0 n) c.loop-pin.number) all

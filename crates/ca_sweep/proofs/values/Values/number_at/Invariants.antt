@@ -4,4 +4,4 @@ use Rattle.ca_sweep.proofs.NumberLemmas.{IsNumberTo}
 use Rattle.ca_sweep.proofs.values.Values.number_at.Given as goal
 
 abbrev pub invariant-loop-pin : goal.invariant-loop-pin
-invariant-loop-pin g l = IsNumberTo (λ pin. value_at l.self.values (net_of (g.C.Linked.core l.chip) l.w pin)) l.pin l.number
+invariant-loop-pin l = IsNumberTo (λ pin. value_at l.self.values (net_of l.chip.core l.w pin)) l.pin l.number
