@@ -1,6 +1,6 @@
 -- Which pairs detect a defect, and where.
 use Rattle.std.specs.Prelude.{ℕ, ◌≡◌, ◌≢◌, ◌<◌, ◌↔◌, Bool, List, length, All, IsSomeAnd}
-use Rattle.std.specs.Prelude.{slice_get, slice_index, Option, None}
+use Rattle.std.specs.Prelude.{slice_get, slice_index, Option, None, Some}
 use Rattle.ca_base.specs.First.{IsFirst}
 use Rattle.ca_net.specs.declared.trit.Trit.{Trit}
 use Rattle.ca_net.specs.declared.trit.Trit.TheVariants.{X}
@@ -10,6 +10,8 @@ use Rattle.ca_flat.specs.Pair.{bit_count, NetEndsAt, DetectsAt, IsShown}
 use Rattle.ca_flat.specs.RuleOut.{RowsRuleOut}
 use Rattle.ca_flat.specs.Waves.{FlatWaves}
 use Rattle.ca_search.specs.Filled.{trits_of}
+use Rattle.ca_credit.specs.declared.by_lasts.ByLasts.{ByLasts}
+use Rattle.ca_credit.specs.declared.by_lasts.ByLasts.TheVariants.{Undecided, Nowhere, At}
 
 -- the value is v in {0, 1} exactly where every run of the flat network ends with v at the net; so it is X
 -- where there is no such v
@@ -49,3 +51,22 @@ pub record IsFirstDetection (chip : Chip) (defect : ChipDefect) (pairs : List (L
     : Type 0 where
   pub first_pair : IsFirst (Detects chip defect) pairs pair
   pub first_output : IsSomeAnd (slice_get pairs pair) (IsFirstOutput chip defect output)
+
+-- the defect is detected at this observed output, and at none before it
+pub record IsFirstAt (chip : Chip) (defect : ChipDefect) (pair : List Trit) (output : ℕ) : Type 0 where
+  pub within : output < length chip.outputs
+  pub here : DetectsAt chip defect pair (slice_index chip.outputs output)
+  pub none_before : (before : ℕ) → before < output
+      → ¬ (DetectsAt chip defect pair (slice_index chip.outputs before))
+
+-- the first observed output at which the defect is detected, if there is one
+abbrev pub IsAnswer : Chip → ChipDefect → List Trit → Option ℕ → Type 0
+IsAnswer chip defect pair None = (output : ℕ) → output < length chip.outputs
+    → ¬ (DetectsAt chip defect pair (slice_index chip.outputs output))
+IsAnswer chip defect pair (Some output) = IsFirstAt chip defect pair output
+
+-- so say last values alone, where they say it
+abbrev pub IsDecided : Chip → ChipDefect → List Trit → ByLasts → Type 0
+IsDecided chip defect pair Undecided = Unit {0}
+IsDecided chip defect pair Nowhere = IsAnswer chip defect pair None
+IsDecided chip defect pair (At output) = IsAnswer chip defect pair (Some output)

@@ -2,8 +2,10 @@
 #![tactic(auto)]
 
 mod chip_bench;
+mod flip_bench;
 mod generate;
 mod listing;
+mod outputs;
 mod pair_bits;
 
 pub use chip_bench::ChipBench;
