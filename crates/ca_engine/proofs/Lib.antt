@@ -3,3 +3,4 @@ pub mod PlacedLemmas
 pub mod CoreLemmas
 pub mod BenchLemmas
 pub mod PairLemmas
+pub mod FlipLemmas

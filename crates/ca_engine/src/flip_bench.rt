@@ -35,7 +35,9 @@ impl<'a, R: ExposingRows, P: Choice + Drop> Model for FlipBench<'a, R, P> {
 }
 
 impl<'a, R: ExposingRows, P: Choice + Drop> FlipBench<'a, R, P> {
-    ghost use Rattle.std.specs.Prelude.{IsFalse, IsTrue, None};
+    ghost use Rattle.std.specs.Prelude.{IsFalse, IsTrue, None, Some};
+    ghost use Rattle.ca_net.specs.Circuit.{IsWellFormed};
+    ghost use Rattle.ca_flat.specs.Flat.{flat};
     ghost use Rattle.ca_flat.specs.Chip.{IsDefectIn};
     ghost use Rattle.ca_flat.specs.RuleOut.{RowsRuleOut};
     ghost use Rattle.ca_flat.specs.Waves.{FlatWaves};
@@ -93,14 +95,17 @@ impl<'a, R: ExposingRows, P: Choice + Drop> FlipBench<'a, R, P> {
     /// What last values alone say of a defect: where the bits first detect it.
     pub(crate) fn by_lasts(&mut self, defect: ChipDefect) -> Seen
         requires defect { IsPlacedDefect self.old.seen.chip (place_in self.old.seen.places) defect }
-        requires judged { CanBeJudged self.old.seen.chip }
+        requires good_is { IsWellFormed (flat self.old.seen.chip None) }
+        requires faulty_is { IsWellFormed (flat self.old.seen.chip (Some defect)) }
         ensures found { IsFound self.old.seen.chip defect self.old.seen.pair result }
         ensures kept { self.new ≡ self.old }
     {
-        if !self.is_loaded {
-            self.finder.load(&self.judge);
-            self.is_loaded = true;
+        if self.is_loaded {
+            return self.finder.find(&self.judge, defect);
         }
+        self.judge.exact();
+        self.finder.load(&self.judge);
+        self.is_loaded = true;
         self.finder.find(&self.judge, defect)
     }
 
