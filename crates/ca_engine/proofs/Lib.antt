@@ -1,3 +1,4 @@
 pub mod CoreLemmas
 pub mod BenchLemmas
 pub mod PairLemmas
+pub mod FlipLemmas

@@ -3,10 +3,12 @@
 ghost use Rattle.std.specs.Prelude.{◌≡◌, ◌<◌, ◌^◌, length, IfOk};
 ghost use Rattle.ca_engine.specs.ChipTask.{task_of};
 
+use crate::flip_bench::FlipBench;
+use crate::outputs::output_nets;
 use crate::pair_bits::PairBits;
 use ca_base::NoMemory;
 use ca_chip_defects::{ChipDefects, chip_defects};
-use ca_credit::Simulator;
+use ca_credit::{ByLasts, Simulator};
 use ca_flat::ChipDefect;
 use ca_flatten::{flat_is_well_formed, judge_size};
 use ca_generate::{Bench, outcome_is_search};
@@ -16,6 +18,7 @@ use ca_pair::Pair;
 use ca_rows::ExposableDefects;
 use ca_search::{Code, Judge, Outcome, Search};
 use ca_sim::{NetWaves, definite_last_is_end};
+use ca_sweep::Seen;
 use ca_view::View;
 use std::alloc::Global;
 use std::marker::Model;
@@ -26,7 +29,7 @@ use std::marker::Model;
 #[derive(Drop)]
 pub struct ChipBench<'a, R: ExposableDefects, P: Choice + Drop> {
     view: &'a View<'a>,
-    judge: ca_judge::Bench<'a, R, P>,
+    judge: FlipBench<'a, R, P>,
     rows: &'a R,
     defects: ChipDefects,
     search: Search,
@@ -85,8 +88,9 @@ impl<'a, R: ExposableDefects, P: Choice + Drop> ChipBench<'a, R, P> {
         if view.output_count() > u32::MAX as usize || defects.len() > u32::MAX as usize {
             return Err(NoMemory);
         }
+        let outputs = output_nets(alloc, view)?;
         let search = Search::reserve(alloc, budget)?;
-        let judge = ca_judge::Bench::reserve(alloc, view, rows, choice)?;
+        let judge = FlipBench::reserve(alloc, view, rows, choice, outputs)?;
         Ok(ChipBench {
             view,
             judge,
@@ -133,6 +137,14 @@ impl<R: ExposableDefects, P: Choice + Drop> Simulator for ChipBench<'_, R, P> {
     fn load(&mut self, pair: &Pair) {
         self.judge.exact();
         self.judge.load(&PairBits { pair });
+    }
+
+    fn by_lasts(&mut self, place: usize) -> ByLasts {
+        match self.judge.by_lasts(self.defects.get(place)) {
+            Seen::Undecided => ByLasts::Undecided,
+            Seen::Nowhere => ByLasts::Nowhere,
+            Seen::At(output) => ByLasts::At(output),
+        }
     }
 
     fn may_detect(&self, place: usize) -> bool {

@@ -2,7 +2,9 @@
 #![tactic(auto)]
 
 mod chip_bench;
+mod flip_bench;
 mod generate;
+mod outputs;
 mod pair_bits;
 
 pub use ca_chip_defects::{ChipDefects, chip_defects};
