@@ -10,8 +10,8 @@ pub fn chains_cover()
     ensures { ChainsCover }
 {}
 
-/// The STIL text that is written of a linked chip, whose ports have names of the form, is the file of its pairs
-/// and expected values, and has no fault.
+/// The STIL text that is written of a linked chip, whose ports have names of the form, is the file of its
+/// pairs and expected values, and has no fault.
 pub fn written_chip_is_read_back()
     ensures { WrittenChipIsReadBack }
 {

@@ -10,7 +10,8 @@ use Rattle.ca_expected.specs.Expected.{AreGoodEnds}
 
 -- the value is what the good chip ends with at the observed output: 0 or 1, or X where it ends with neither
 abbrev pub IsRightAt : Chip → List Trit → List Trit → ℕ → Type 0
-IsRightAt chip pair values output = IsNetEnd chip None pair (slice_index chip.outputs output) (value_at values output)
+IsRightAt chip pair values output =
+    IsNetEnd chip None pair (slice_index chip.outputs output) (value_at values output)
 
 -- it isn't at this output, and it is at each before
 pub record IsWrongFrom (chip : Chip) (pair values : List Trit) (output : ℕ) : Type 0 where

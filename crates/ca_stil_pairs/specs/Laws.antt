@@ -30,7 +30,8 @@ pub record IsReadBack (chip : StilChip) (bytes : List ℕ) (pairs : List (List B
 
 -- so it is of each chip whose values the form allows
 abbrev pub WrittenIsReadBack : Type 0
-WrittenIsReadBack = (chip : StilChip) (pairs : List (List Bool)) (expected : List (List Trit)) → IsCovered chip
+WrittenIsReadBack = (chip : StilChip) (pairs : List (List Bool)) (expected : List (List Trit))
+    → IsCovered chip
     → longest chip.chains < 2 ^ 64 → AreOf chip pairs expected
     → stil_form.allowed (stil_value chip pairs expected) ≡ true
     → IsReadBack chip (stil_text chip pairs expected) pairs expected

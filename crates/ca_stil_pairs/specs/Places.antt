@@ -44,5 +44,6 @@ chip_levels chip sites pair = levels_from (length chip.outputs) sites pair.level
 -- the text's pair has a bit for each chip input and each cell in both vectors, and a value for each observed
 -- output and each cell
 pub record IsPairFor (chip : StilChip) (pair : TextPair) : Type 0 where
-  pub bits : length pair.bits ≡ (cell_count chip + length chip.inputs) + (cell_count chip + length chip.inputs)
+  pub bits : length pair.bits
+      ≡ (cell_count chip + length chip.inputs) + (cell_count chip + length chip.inputs)
   pub levels : length pair.levels ≡ length chip.outputs + cell_count chip

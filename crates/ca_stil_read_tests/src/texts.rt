@@ -82,7 +82,8 @@ enum Part {
     Other(&'static [u8]),
 }
 
-use Part::{Burst, Cells, Chain, Groups, Loads, Long, Out, Pair, Pattern, Second, Signals, Third, Timing, Other};
+use Part::{Burst, Cells, Chain, Groups, Loads, Long, Other, Out};
+use Part::{Pair, Pattern, Second, Signals, Third, Timing};
 
 fn bytes_of(part: Part) -> &'static [u8] {
     match part {

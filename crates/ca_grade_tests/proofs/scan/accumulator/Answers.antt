@@ -1,0 +1,11 @@
+use Rattle.std.proofs.Common.{List, [], ◌∷◌, ◌++◌, map, sym, ◌∙◌, ap, subst}
+use Rattle.std.specs.List.{IsDistinct}
+use Rattle.std.specs.Str.{bytes_eq}
+use Rattle.ca_chip.specs.declared.scan_row.ScanRow.{ScanRow}
+use Rattle.ca_grade_tests.proofs.scan.accumulator.Goals as goal
+
+pub link-requires-clause-rows : goal.link-requires-clause-rows
+unfolding IsDistinct
+link-requires-clause-rows c =
+    subst (λ (rows : List ScanRow). IsDistinct bytes_eq (map (λ (row : ScanRow). row.cell) rows))
+    (sym (c.in-Ok-push.ensures.ok ∙ ap (λ (rows : List ScanRow). rows ++ c.in-Ok.row ∷ []) c.new-scan.ensures)) (tt, tt)
