@@ -47,10 +47,14 @@ fn all_instances(alloc: Global, chip: &Chip) -> Option<InstanceList>
     let mut list = InstanceList::new(alloc);
     for k in 0..chip.parts() {
         let u = InstanceId(k as u32);
-        if !chip.is_library(u) {
+        if chip.is_library(u) {
+            match list.push(u) {
+                Ok(()) => {}
+                Err(_) => return None,
+            }
+        } else {
             return None;
         }
-        list.push(u).ok()?;
     }
     if list.len() == 0 {
         return None;
