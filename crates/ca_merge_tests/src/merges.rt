@@ -72,6 +72,8 @@ fn put_node(text: &mut Text, before: u8, node: NodeId) -> Result<(), NoMemory> {
 fn put_device(text: &mut Text, cell: &Cell, d: usize) -> Result<(), NoMemory>
     requires { d < length cell.now.devices }
 {
+    // A subcircuit has fewer than 2^32 devices.
+    let _raw = cell.raw();
     let device = cell.device(DeviceId(d as u32));
     put_node(text, b' ', device.a)?;
     put_node(text, b'-', device.gate)?;

@@ -1,4 +1,4 @@
-use Rattle.std.proofs.Common.{◌≡◌, ◌<◌, ◌∙◌, length, sym, arith, below_more}
+use Rattle.std.proofs.Common.{◌≡◌, ◌∙◌, length, arith, below_more}
 use Rattle.ca_merge_tests.proofs.MemberLemmas.{list_more, all_can}
 use Rattle.ca_merge_tests.proofs.merges.all_instances.Goals as goal
 
