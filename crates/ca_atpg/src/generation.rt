@@ -56,6 +56,7 @@ fn values_for(
 
     ensures { IfOk result (AreExpected (core_of view.now.chip) pairs.now) }
 {
+    view.viewed();
     let mut bench = ChipBench::reserve(alloc, view, rows, LowestUnset, 0)?;
     let values = expected(alloc, &mut bench, pairs.as_slice());
     drop(bench);

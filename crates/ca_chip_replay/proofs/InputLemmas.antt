@@ -19,7 +19,7 @@ use Rattle.ca_flat.proofs.Spots.{flat_net}
 use Rattle.ca_order.specs.Allowed.{numbers}
 use Rattle.ca_replay.specs.Replay.{CoverInputs}
 use Rattle.ca_replay.proofs.ValueLemmas.{contains_head, contains_tail}
-use Rattle.ca_sim.specs.Linked.{IsPinned}
+use Rattle.ca_view.specs.Linked.{IsPinned}
 use Rattle.ca_sim.proofs.Feeding.{neq-eqb}
 use Rattle.ca_chip_replay.specs.ChipRun.{input_nodes}
 use Rattle.ca_chip_replay.specs.Kept.{IsVector}

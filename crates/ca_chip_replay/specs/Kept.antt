@@ -8,7 +8,7 @@ use Rattle.ca_net.specs.State.{value_at}
 use Rattle.ca_flat.specs.Chip.{Chip}
 use Rattle.ca_flat.specs.Flat.{flat}
 use Rattle.ca_flat.specs.Pair.{net_value, bit_count}
-use Rattle.ca_sim.specs.Linked.{IsPinned}
+use Rattle.ca_view.specs.Linked.{IsPinned}
 use Rattle.ca_chip_replay.specs.ChipRun.{RunOf, input_nodes}
 
 -- no net is known

@@ -6,7 +6,6 @@ ghost use Rattle.ca_net.specs.State.{value_at};
 ghost use Rattle.ca_flat.specs.Flat.{flat};
 ghost use Rattle.ca_flat.specs.Chip.{IsChipDefect};
 ghost use Rattle.ca_flat.specs.Pair.{bit_count, first_vector, last_vector};
-ghost use Rattle.ca_core.specs.Core.{core_of};
 ghost use Rattle.ca_order.specs.Allowed.{meaning, IsAllowed, ReadsFor};
 ghost use Rattle.ca_chip_replay.specs.ChipRun.{AreReplayed};
 ghost use Rattle.ca_chip_replay.specs.Kept.{AreOutputValues};
@@ -19,7 +18,7 @@ use ca_flatten::flatten;
 use ca_net::{FlatNet, Network, NodeId, State, Trit};
 use ca_order::{Event, OrderFault, read_order_for};
 use ca_replay::replay;
-use ca_sim::{Bits, Linked};
+use ca_sim::Bits;
 use ca_view::View;
 use std::alloc::Global;
 use std::marker::Model;
@@ -38,20 +37,19 @@ pub struct ChipRun<'a, B: Bits> {
 }
 
 impl<'a, B: Bits> Model for ChipRun<'a, B> {
-    ghost use Rattle.ca_core.specs.Core.{core_of};
     ghost use Rattle.ca_chip_replay.specs.ChipRun.{RunOf};
     ghost use Rattle.ca_chip_replay.specs.Kept.{IsReady};
 
     ghost Value = { RunOf };
 
     ghost view = { λ run. record {
-      chip = core_of run.view.now.chip;
+      chip = run.view.now.core;
       given = run.defect;
       pair = B.bits run.pair.now;
     } };
 
     ghost invariant = { λ run. IsReady (record {
-      chip = core_of run.view.now.chip;
+      chip = run.view.now.core;
       given = run.defect;
       pair = B.bits run.pair.now;
     }) run.net run.inputs.items run.first run.last };
@@ -59,12 +57,12 @@ impl<'a, B: Bits> Model for ChipRun<'a, B> {
 
 // The values of the observed outputs in a state of the flat network.
 fn output_values(alloc: Global, view: &View<'_>, end: &State) -> Result<Vec<Trit>, NoMemory>
-    requires { 2 + length (core_of view.now.chip).nets ≤ length end.now }
-    ensures { IfOk result (λ values. AreOutputValues (core_of view.now.chip) end.now values.items) }
+    requires { 2 + length view.now.core.nets ≤ length end.now }
+    ensures { IfOk result (λ values. AreOutputValues view.now.core end.now values.items) }
 {
     view.linked();
     let mut values = Vec::new(alloc);
-    for o in 0..view.outputs() {
+    for o in 0..view.output_count() {
         values.push(end.get(2 + view.output(o)))?;
     }
     Ok(values)
@@ -79,11 +77,12 @@ impl<'a, B: Bits> ChipRun<'a, B> {
         defect: Option<ChipDefect>,
         pair: &'a B,
     ) -> Result<Self, NoMemory>
-        requires defect { IsChipDefect (core_of view.now.chip) defect }
-        requires pair { length (B.bits pair.now) ≡ bit_count (core_of view.now.chip) }
+        requires defect { IsChipDefect view.now.core defect }
+        requires pair { length (B.bits pair.now) ≡ bit_count view.now.core }
         ensures { IfOk result (λ run. run
-            ≡ record { chip = core_of view.now.chip; given = defect; pair = B.bits pair.now }) }
+            ≡ record { chip = view.now.core; given = defect; pair = B.bits pair.now }) }
     {
+        view.viewed();
         view.linked();
         let net = flatten(alloc, view.chip(), defect)?;
         let nodes = net.node_count();
@@ -95,7 +94,7 @@ impl<'a, B: Bits> ChipRun<'a, B> {
             drop(net);
             return Err(NoMemory);
         };
-        let Ok(last) = vector_of(alloc, view, nodes, pair, view.inputs()) else {
+        let Ok(last) = vector_of(alloc, view, nodes, pair, view.input_count()) else {
             drop(net);
             return Err(NoMemory);
         };

@@ -5,18 +5,18 @@ ghost use Rattle.ca_chip_replay.specs.ChipRun.{input_nodes};
 
 use ca_base::NoMemory;
 use ca_net::NodeId;
-use ca_sim::Linked;
+use ca_view::View;
 use std::alloc::Global;
 
 /// The nodes of the chip inputs, in their order.
-pub(crate) fn input_nodes<C: Linked>(alloc: Global, chip: &C) -> Result<Vec<NodeId>, NoMemory>
-    requires { 2 + length (C.core chip.now).nets ≤ 2 ^ 32 }
-    ensures { IfOk result (λ nodes. nodes.items ≡ input_nodes (C.core chip.now)) }
+pub(crate) fn input_nodes(alloc: Global, view: &View<'_>) -> Result<Vec<NodeId>, NoMemory>
+    requires { 2 + length view.now.core.nets ≤ 2 ^ 32 }
+    ensures { IfOk result (λ nodes. nodes.items ≡ input_nodes view.now.core) }
 {
-    chip.linked();
+    view.linked();
     let mut nodes = Vec::new(alloc);
-    for input in 0..chip.inputs() {
-        nodes.push(NodeId((2 + chip.input(input)) as u32))?;
+    for input in 0..view.input_count() {
+        nodes.push(NodeId((2 + view.input(input)) as u32))?;
     }
     Ok(nodes)
 }

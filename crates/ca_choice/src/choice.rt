@@ -9,15 +9,15 @@ use crate::prices::Prices;
 use crate::row_cubes::RowCubes;
 use crate::row_goals::{unknown_pin, want_row};
 use crate::scene::{BitValue, Scene};
-use crate::sight::{Sight, View};
-use crate::tables::ChipTables;
+use crate::sight::{GuideSight, Sight};
 use crate::trial::Trial;
 use crate::wants::Wants;
 use crate::ways::{Asked, Ways, best_output, showing_output};
 use ca_base::NoMemory;
 use ca_defect::Rows;
 use ca_flat::ChipDefect;
-use ca_guide::{Choice, Guide, LinkedChip, NetWaves, Proposal};
+use ca_guide::{Choice, Guide, NetWaves, Proposal};
+use ca_view::View;
 use std::alloc::Global;
 
 // The most goals of a row: two for each of six pins.
@@ -27,8 +27,8 @@ const MOST_ROW_GOALS: usize = 12;
 /// the dearest value first. A value after which the defect couldn't be seen gives way to the opposite one.
 /// All memory is taken by `reserve`.
 #[derive(Drop)]
-pub struct CheapestWay {
-    plan: Plan,
+pub struct CheapestWay<'a> {
+    plan: Plan<'a>,
     prices: Prices,
     rows: RowCubes,
     cone: Cone,
@@ -43,20 +43,11 @@ pub struct CheapestWay {
     defect: Option<ChipDefect>,
 }
 
-impl CheapestWay {
-    /// Takes all memory for a chip, and finds the cubes of its cells and the costs of its nets. The tables
-    /// may be any: with wrong ones the choice is a bad one.
-    pub fn reserve(alloc: Global, tables: ChipTables) -> Result<Self, NoMemory> {
-        let ChipTables {
-            cells,
-            parts,
-            order,
-            inputs,
-            constants,
-            nets,
-        } = tables;
-        let plan = Plan::new(alloc, &cells, parts, order, inputs, nets)?;
-        let prices = Prices::new(alloc, &plan, &constants)?;
+impl<'a> CheapestWay<'a> {
+    /// Takes all memory for a chip, and finds the cubes of its cells and the costs of its nets.
+    pub fn reserve(alloc: Global, view: &'a View<'a>) -> Result<Self, NoMemory> {
+        let plan = Plan::new(alloc, view)?;
+        let prices = Prices::new(alloc, &plan)?;
         Ok(CheapestWay {
             rows: RowCubes::reserve(alloc)?,
             cone: Cone::reserve(alloc, &plan)?,
@@ -157,16 +148,16 @@ impl CheapestWay {
     }
 }
 
-impl Choice for CheapestWay {
-    fn propose<C: LinkedChip, V: NetWaves>(
+impl Choice for CheapestWay<'_> {
+    fn propose<V: NetWaves>(
         &mut self,
         guide: &Guide,
-        chip: &C,
+        chip: &View<'_>,
         waves: &V,
         rows: &Rows,
         defect: ChipDefect,
     ) -> Proposal {
-        let sight = View { guide, chip, waves };
+        let sight = GuideSight { guide, chip, waves };
         self.turn_to(defect, rows);
         match self.bit(&sight, defect.instance) {
             Some(found) => proposal(found),

@@ -14,7 +14,7 @@ pub(crate) struct Cone {
 
 impl Cone {
     /// The room for a chip.
-    pub(crate) fn reserve(alloc: Global, plan: &Plan) -> Result<Self, NoMemory> {
+    pub(crate) fn reserve(alloc: Global, plan: &Plan<'_>) -> Result<Self, NoMemory> {
         Ok(Cone {
             parts: vec![in alloc; 0; plan.part_count()]?,
             count: 0,
@@ -23,11 +23,11 @@ impl Cone {
     }
 
     /// Finds the cone of an instance.
-    pub(crate) fn find(&mut self, plan: &Plan, part: u32) {
+    pub(crate) fn find(&mut self, plan: &Plan<'_>, part: u32) {
         self.clear(plan);
         self.add(plan, part);
         let order = plan.order();
-        for place in plan.rank(part)..order.len() {
+        for place in plan.place(part)..order.len() {
             let next = order[place];
             if next != part && self.is_reached(plan, next) {
                 self.add(plan, next);
@@ -57,7 +57,7 @@ impl Cone {
     }
 
     // Takes all instances out.
-    fn clear(&mut self, plan: &Plan) {
+    fn clear(&mut self, plan: &Plan<'_>) {
         for place in 0..self.count {
             let part = self.get(place);
             self.mark(plan, part, false);
@@ -66,7 +66,7 @@ impl Cone {
     }
 
     // Appends an instance.
-    fn add(&mut self, plan: &Plan, part: u32) {
+    fn add(&mut self, plan: &Plan<'_>, part: u32) {
         let count = self.count;
         if count < self.parts.len() {
             self.parts[count] = part;
@@ -76,14 +76,14 @@ impl Cone {
     }
 
     // Notes for the nets of an instance's outputs whether they are in.
-    fn mark(&mut self, plan: &Plan, part: u32, is_in: bool) {
+    fn mark(&mut self, plan: &Plan<'_>, part: u32, is_in: bool) {
         for net in plan.outputs(part) {
             put(&mut self.has_net, *net, is_in);
         }
     }
 
     // Whether a net of the cone is on an input pin of the instance.
-    fn is_reached(&self, plan: &Plan, part: u32) -> bool {
+    fn is_reached(&self, plan: &Plan<'_>, part: u32) -> bool {
         for net in plan.inputs(part) {
             if self.has_net(*net) {
                 return true;

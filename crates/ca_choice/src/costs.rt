@@ -2,8 +2,9 @@
 
 use crate::cube::Cube;
 use crate::plan::Plan;
-use crate::tables::Constant;
 use ca_base::NoMemory;
+use ca_net::Trit;
+use ca_view::View;
 use std::alloc::Global;
 
 /// The cost of what can't be.
@@ -29,23 +30,18 @@ pub(crate) struct Costs {
 }
 
 impl Costs {
-    /// The costs of a chip, in which a value of a chip input costs so much.
-    pub(crate) fn new(
-        alloc: Global,
-        plan: &Plan,
-        constants: &[Constant],
-        input_cost: u32,
-    ) -> Result<Self, NoMemory> {
+    /// The costs of a chip, in which a value of a chip input has the given cost.
+    pub(crate) fn new(alloc: Global, plan: &Plan<'_>, input_cost: u32) -> Result<Self, NoMemory> {
         let nets = plan.net_count();
         let mut costs = Costs {
             zeros: vec![in alloc; NEVER; nets]?,
             ones: vec![in alloc; NEVER; nets]?,
         };
-        for net in plan.input_nets() {
+        for net in plan.view().inputs() {
             costs.put(*net, false, input_cost);
             costs.put(*net, true, input_cost);
         }
-        costs.put_constants(constants);
+        costs.put_constants(plan.view());
         for part in plan.order() {
             costs.add_part(plan, *part);
         }
@@ -71,14 +67,17 @@ impl Costs {
     }
 
     // A constant costs nothing.
-    fn put_constants(&mut self, constants: &[Constant]) {
-        for constant in constants {
-            self.put(constant.net, constant.value, 0);
+    fn put_constants(&mut self, view: &View<'_>) {
+        for k in 0..view.constant_count() {
+            let fixed = view.constant(k);
+            if fixed.net <= u32::MAX as usize {
+                self.put(fixed.net as u32, fixed.value == Trit::One, 0);
+            }
         }
     }
 
     // Finds the costs of an instance's outputs.
-    fn add_part(&mut self, plan: &Plan, part: u32) {
+    fn add_part(&mut self, plan: &Plan<'_>, part: u32) {
         for (output, net) in plan.outputs(part).iter().enumerate() {
             let zero = self.least(plan, part, output, false);
             let one = self.least(plan, part, output, true);
@@ -88,7 +87,7 @@ impl Costs {
     }
 
     // The least cost of the cubes that bring the value to the instance's output.
-    fn least(&self, plan: &Plan, part: u32, output: usize, value: bool) -> u32 {
+    fn least(&self, plan: &Plan<'_>, part: u32, output: usize, value: bool) -> u32 {
         let mut least = NEVER;
         for cube in plan.bringing(part, output, value) {
             least = least.min(self.cube_cost(plan, part, *cube));
@@ -97,7 +96,7 @@ impl Costs {
     }
 
     // The cost of a cube: the sum over its pins.
-    fn cube_cost(&self, plan: &Plan, part: u32, cube: Cube) -> u32 {
+    fn cube_cost(&self, plan: &Plan<'_>, part: u32, cube: Cube) -> u32 {
         let mut cost = 0u32;
         for (pin, net) in plan.inputs(part).iter().enumerate() {
             if let Some(value) = plan.literal(part, cube, pin) {

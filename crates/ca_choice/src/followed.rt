@@ -36,7 +36,7 @@ pub(crate) struct Followed {
 
 impl Followed {
     /// The room for a chip.
-    pub(crate) fn reserve(alloc: Global, plan: &Plan) -> Result<Self, NoMemory> {
+    pub(crate) fn reserve(alloc: Global, plan: &Plan<'_>) -> Result<Self, NoMemory> {
         let nets = plan.net_count();
         Ok(Followed {
             good: vec![in alloc; Trit::X; nets]?,

@@ -4,6 +4,7 @@
 
 mod ahead;
 mod cell_cubes;
+mod cell_tables;
 mod choice;
 mod cone;
 mod costs;
@@ -24,4 +25,3 @@ mod wants;
 mod ways;
 
 pub use choice::CheapestWay;
-pub use tables::{CellTable, ChipTables, Constant, Part};

@@ -1,9 +1,11 @@
 //! A chip as the choice keeps it.
 
 use crate::cell_cubes::CellCubes;
+use crate::cell_tables::cells_of;
 use crate::cube::Cube;
-use crate::tables::{CellTable, ChipTables, Constant, Part};
 use ca_base::NoMemory;
+use ca_view::View;
+use ca_wired::{Chip, InstanceId};
 use std::alloc::Global;
 
 /// What drives a net.
@@ -17,49 +19,39 @@ pub(crate) enum Source {
     Other,
 }
 
-/// The cubes of the cells, the instances with their order, and what drives each net.
+/// A chip, its instances in their order, the cubes of its cells by their places in the library, and what drives
+/// each net. Instances and nets have the numbers of the chip's core.
 #[derive(Drop)]
-pub(crate) struct Plan {
-    cells: Vec<CellCubes>,
-    parts: Vec<Part>,
+pub(crate) struct Plan<'a> {
+    view: &'a View<'a>,
     order: Vec<u32>,
-    // for each instance its place in the order
-    ranks: Vec<usize>,
+    cells: Vec<CellCubes>,
     sources: Vec<Source>,
-    inputs: Vec<u32>,
 }
 
-impl Plan {
+impl<'a> Plan<'a> {
     /// The plan of a chip.
-    pub(crate) fn new(
-        alloc: Global,
-        cells: &[CellTable],
-        parts: Vec<Part>,
-        order: Vec<u32>,
-        inputs: Vec<u32>,
-        nets: usize,
-    ) -> Result<Self, NoMemory> {
-        let cells = all_cubes(alloc, cells)?;
-        let mut sources = vec![in alloc; Source::Other; nets]?;
-        mark_inputs(&mut sources, &inputs);
-        for (place, part) in parts.iter().enumerate() {
-            mark_outputs(&mut sources, place, &part.outputs);
-        }
-        let mut ranks = vec![in alloc; 0; parts.len()]?;
-        mark_ranks(&mut ranks, &order);
+    pub(crate) fn new(alloc: Global, view: &'a View<'a>) -> Result<Self, NoMemory> {
+        let cells = cubes_of(alloc, view.chip())?;
+        let mut sources = vec![in alloc; Source::Other; view.nets()]?;
+        mark_inputs(&mut sources, view.inputs());
+        mark_all_outputs(&mut sources, view);
         Ok(Plan {
+            view,
+            order: order_of(alloc, view)?,
             cells,
-            parts,
-            order,
-            ranks,
             sources,
-            inputs,
         })
+    }
+
+    /// The chip.
+    pub(crate) fn view(&self) -> &'a View<'a> {
+        self.view
     }
 
     /// The number of instances.
     pub(crate) fn part_count(&self) -> usize {
-        self.parts.len()
+        self.view.instances()
     }
 
     /// The number of nets.
@@ -69,32 +61,28 @@ impl Plan {
 
     /// The number of chip inputs.
     pub(crate) fn input_count(&self) -> usize {
-        self.inputs.len()
-    }
-
-    /// The nets of the chip inputs.
-    pub(crate) fn input_nets(&self) -> &[u32] {
-        &self.inputs
+        self.view.inputs().len()
     }
 
     /// The net of a chip input; one that isn't there if there is no such input.
     pub(crate) fn input(&self, input: usize) -> u32 {
-        match self.inputs.get(input) {
+        match self.view.inputs().get(input) {
             Some(net) => *net,
             None => u32::MAX,
         }
     }
 
-    /// The instances in their order.
+    /// The instances in the order, in which each follows those that feed it.
     pub(crate) fn order(&self) -> &[u32] {
         &self.order
     }
 
     /// The place of an instance in the order.
-    pub(crate) fn rank(&self, part: u32) -> usize {
-        match self.ranks.get(part as usize) {
-            Some(rank) => *rank,
-            None => 0,
+    pub(crate) fn place(&self, part: u32) -> usize {
+        if (part as usize) < self.view.instances() {
+            self.view.rank(part as usize).saturating_sub(1)
+        } else {
+            0
         }
     }
 
@@ -108,25 +96,33 @@ impl Plan {
 
     /// The nets of the instance's input pins.
     pub(crate) fn inputs(&self, part: u32) -> &[u32] {
-        match self.parts.get(part as usize) {
-            Some(part) => &part.inputs,
-            None => &[],
+        self.view.linked();
+        if (part as usize) < self.view.instances() {
+            self.view.input_pins(part)
+        } else {
+            &[]
         }
     }
 
     /// The nets of the instance's output pins.
     pub(crate) fn outputs(&self, part: u32) -> &[u32] {
-        match self.parts.get(part as usize) {
-            Some(part) => &part.outputs,
-            None => &[],
+        self.view.linked();
+        if (part as usize) < self.view.instances() {
+            self.view.output_pins(part)
+        } else {
+            &[]
         }
     }
 
-    /// The cubes of the instance's cell, if it has one.
+    /// The cubes of the instance's cell, if it is one of the library.
+    #[tactic(auto, using(ca_view::proofs::CoreFacts::core_count))]
     pub(crate) fn cubes(&self, part: u32) -> Option<&CellCubes> {
-        match self.parts.get(part as usize) {
-            Some(part) => self.cells.get(part.cell as usize),
-            None => None,
+        self.view.viewed();
+        let chip = self.view.chip();
+        if (part as usize) < self.view.instances() && chip.is_library(InstanceId(part)) {
+            self.cells.get(chip.library_place(InstanceId(part)))
+        } else {
+            None
         }
     }
 
@@ -155,13 +151,26 @@ impl Plan {
     }
 }
 
-// The cubes of all cells.
-fn all_cubes(alloc: Global, cells: &[CellTable]) -> Result<Vec<CellCubes>, NoMemory> {
+// The cubes of each cell that an instance is of, found once.
+fn cubes_of(alloc: Global, chip: &Chip) -> Result<Vec<CellCubes>, NoMemory> {
     let mut all = Vec::new(alloc);
-    for cell in cells {
+    for cell in &cells_of(alloc, chip)? {
         all.push(CellCubes::new(alloc, cell)?)?;
     }
     Ok(all)
+}
+
+// The instances in their order.
+fn order_of(alloc: Global, view: &View<'_>) -> Result<Vec<u32>, NoMemory> {
+    view.linked();
+    let mut order = vec![in alloc; u32::MAX; view.chip().instances()]?;
+    for part in 0..view.instances() {
+        let rank = view.rank(part);
+        if 0 < rank && rank <= order.len() {
+            order[rank - 1] = part as u32;
+        }
+    }
+    Ok(order)
 }
 
 // Notes what drives a net.
@@ -179,23 +188,18 @@ fn mark_inputs(sources: &mut [Source], inputs: &[u32]) {
     }
 }
 
-// Notes the nets of an instance's outputs.
-fn mark_outputs(sources: &mut [Source], part: usize, outputs: &[u32]) {
-    if part > u32::MAX as usize {
-        return;
-    }
-    let part = part as u32;
-    for (output, net) in outputs.iter().enumerate() {
-        mark(sources, *net, Source::Output { part, output });
+// Notes the nets of all instances' outputs.
+fn mark_all_outputs(sources: &mut [Source], view: &View<'_>) {
+    view.linked();
+    for part in 0..view.instances() {
+        let part = part as u32;
+        mark_outputs(sources, part, view.output_pins(part));
     }
 }
 
-// Notes the places of the instances in the order.
-fn mark_ranks(ranks: &mut [usize], order: &[u32]) {
-    for (rank, part) in order.iter().enumerate() {
-        let part = *part as usize;
-        if part < ranks.len() {
-            ranks[part] = rank;
-        }
+// Notes the nets of an instance's outputs.
+fn mark_outputs(sources: &mut [Source], part: u32, outputs: &[u32]) {
+    for (output, net) in outputs.iter().enumerate() {
+        mark(sources, *net, Source::Output { part, output });
     }
 }

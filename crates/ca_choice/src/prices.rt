@@ -5,7 +5,6 @@ use crate::costs::{Costs, NEVER};
 use crate::goal::{Frame, Goal, trit_of};
 use crate::plan::Plan;
 use crate::sight::Sight;
-use crate::tables::Constant;
 use ca_base::NoMemory;
 use ca_net::{Trit, Wave};
 use std::alloc::Global;
@@ -25,14 +24,10 @@ pub(crate) struct Prices {
 
 impl Prices {
     /// The costs of a chip.
-    pub(crate) fn new(
-        alloc: Global,
-        plan: &Plan,
-        constants: &[Constant],
-    ) -> Result<Self, NoMemory> {
+    pub(crate) fn new(alloc: Global, plan: &Plan<'_>) -> Result<Self, NoMemory> {
         Ok(Prices {
-            once: Costs::new(alloc, plan, constants, ONE_BIT)?,
-            stable: Costs::new(alloc, plan, constants, BOTH_BITS)?,
+            once: Costs::new(alloc, plan, ONE_BIT)?,
+            stable: Costs::new(alloc, plan, BOTH_BITS)?,
         })
     }
 

@@ -23,7 +23,7 @@ pub(crate) struct BitValue {
 /// All that a decision looks at.
 #[derive(Drop)]
 pub(crate) struct Scene<'a, S: Sight> {
-    pub(crate) plan: &'a Plan,
+    pub(crate) plan: &'a Plan<'a>,
     pub(crate) prices: &'a Prices,
     pub(crate) cone: &'a Cone,
     pub(crate) sight: &'a S,

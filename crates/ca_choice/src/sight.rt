@@ -1,10 +1,12 @@
 //! What the choice sees at a decision.
 
+ghost use Rattle.std.specs.Prelude.{◌<◌, length, IsTrue};
 ghost use Rattle.ca_guide.specs.Seen.{Covers};
 
 use crate::cell_cubes::are_opposite;
-use ca_guide::{Guide, LinkedChip, NetWaves};
+use ca_guide::{Guide, NetWaves};
 use ca_net::{Trit, Wave};
+use ca_view::View;
 
 /// The waves and the bits. Of nets and bits that aren't there nothing is known.
 pub(crate) trait Sight {
@@ -29,16 +31,24 @@ pub(crate) trait Sight {
 
 /// The sight of a guide.
 #[derive(Drop)]
-pub(crate) struct View<'a, C: LinkedChip, V: NetWaves> {
+pub(crate) struct GuideSight<'a, V: NetWaves> {
     pub(crate) guide: &'a Guide,
-    pub(crate) chip: &'a C,
+    pub(crate) chip: &'a View<'a>,
     pub(crate) waves: &'a V,
-    ghost covers: { Covers (C.lists chip.now) (V.seen waves.now) },
+    ghost covers: { Covers chip.now.lists (V.seen waves.now) },
 }
 
-impl<C: LinkedChip, V: NetWaves> Sight for View<'_, C, V> {
+// Whether there is such a net.
+fn has_net(chip: &View<'_>, net: u32) -> bool
+    ensures { IsTrue result → net < length chip.now.lists.onward }
+{
+    chip.linked();
+    (net as usize) < chip.nets()
+}
+
+impl<V: NetWaves> Sight for GuideSight<'_, V> {
     fn good(&self, net: u32) -> Wave {
-        if (net as usize) < self.chip.net_count() {
+        if has_net(self.chip, net) {
             self.waves.good(net)
         } else {
             Wave::default()
@@ -46,7 +56,7 @@ impl<C: LinkedChip, V: NetWaves> Sight for View<'_, C, V> {
     }
 
     fn faulty(&self, net: u32) -> Wave {
-        if (net as usize) < self.chip.net_count() {
+        if has_net(self.chip, net) {
             self.waves.faulty(net)
         } else {
             Wave::default()
@@ -54,11 +64,11 @@ impl<C: LinkedChip, V: NetWaves> Sight for View<'_, C, V> {
     }
 
     fn is_observed(&self, net: u32) -> bool {
-        (net as usize) < self.chip.net_count() && self.chip.is_observed(net)
+        has_net(self.chip, net) && self.chip.is_observed(net)
     }
 
     fn onward(&self, net: u32) -> &[u32] {
-        if (net as usize) < self.chip.net_count() {
+        if has_net(self.chip, net) {
             self.chip.onward(net)
         } else {
             &[]

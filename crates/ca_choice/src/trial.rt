@@ -22,7 +22,7 @@ pub(crate) struct Trial {
 
 impl Trial {
     /// The room for a chip.
-    pub(crate) fn reserve(alloc: Global, plan: &Plan) -> Result<Self, NoMemory> {
+    pub(crate) fn reserve(alloc: Global, plan: &Plan<'_>) -> Result<Self, NoMemory> {
         Ok(Trial {
             followed: Followed::reserve(alloc, plan)?,
             ways: Ways::reserve(alloc, plan)?,
@@ -86,7 +86,7 @@ impl Trial {
 }
 
 // A bit as a value of its input's net.
-fn frame_value(plan: &Plan, set: BitValue) -> FrameValue {
+fn frame_value(plan: &Plan<'_>, set: BitValue) -> FrameValue {
     let inputs = plan.input_count();
     let is_last = set.bit >= inputs;
     let input = if is_last {

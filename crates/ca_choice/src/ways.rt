@@ -42,7 +42,7 @@ pub(crate) struct Ways {
 
 impl Ways {
     /// The room for a chip.
-    pub(crate) fn reserve(alloc: Global, plan: &Plan) -> Result<Self, NoMemory> {
+    pub(crate) fn reserve(alloc: Global, plan: &Plan<'_>) -> Result<Self, NoMemory> {
         Ok(Ways {
             costs: vec![in alloc; NEVER; plan.net_count()]?,
             pieces: vec![in alloc; None; plan.net_count()]?,

@@ -11,19 +11,6 @@ use Rattle.ca_credit.specs.declared.round.Round.{Round}
 use Rattle.ca_credit.specs.Defects.{Task, IsDefectAt}
 use Rattle.ca_credit.specs.Table.{verdict_at, credit_count, IsAfterPair}
 
--- the defect is detected at this observed output, and at none before it
-pub record IsFirstAt (chip : Chip) (defect : ChipDefect) (pair : List Trit) (output : ℕ) : Type 0 where
-  pub within : output < length chip.outputs
-  pub here : DetectsAt chip defect pair (slice_index chip.outputs output)
-  pub none_before : (before : ℕ) → before < output
-      → ¬ (DetectsAt chip defect pair (slice_index chip.outputs before))
-
--- the first observed output at which the defect is detected, if there is one
-abbrev pub IsAnswer : Chip → ChipDefect → List Trit → Option ℕ → Type 0
-IsAnswer chip defect pair None = (output : ℕ) → output < length chip.outputs
-    → ¬ (DetectsAt chip defect pair (slice_index chip.outputs output))
-IsAnswer chip defect pair (Some output) = IsFirstAt chip defect pair output
-
 -- the defect at the place was tried
 abbrev pub is_tried : List Bool → ℕ → Bool
 is_tried tried place = slice_index_or tried place false

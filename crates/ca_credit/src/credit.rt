@@ -3,7 +3,7 @@
 ghost use Rattle.std.specs.Prelude.{◌≡◌, ◌<◌, ◌↔◌, length, slice_index, IsTrue, Some};
 ghost use Rattle.ca_flat.specs.declared.chip_defect.ChipDefect.{ChipDefect};
 ghost use Rattle.ca_flat.specs.Pair.{DetectsAt};
-ghost use Rattle.ca_credit.specs.Round.{IsAnswer};
+ghost use Rattle.ca_credit.specs.Detection.{IsAnswer};
 
 use crate::simulator::Simulator;
 use ca_net::Trit;

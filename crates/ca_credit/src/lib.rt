@@ -1,6 +1,7 @@
 //! Which pair detects which defect: verdicts, and the table in which they are gathered.
 #![tactic(auto)]
 
+mod by_lasts;
 mod credit;
 mod credits;
 mod laws;
@@ -10,6 +11,7 @@ mod simulator;
 mod verdict;
 mod verdicts;
 
+pub use by_lasts::ByLasts;
 pub use credits::{BLOCK, Credits};
 pub use laws::{
     ample_is_never_aborted, pattern_bits_are_never_aborted, suspect_is_allowed_by_rows,

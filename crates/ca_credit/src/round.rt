@@ -1,7 +1,7 @@
 //! The verdicts so far, and which defects were tried with the pair in hand.
 
 ghost use Rattle.std.specs.Prelude.{◌≡◌, ◌↔◌, ◌<◌, ◌≤◌, ◌^◌, ◌+◌, ℕ, length, replicate};
-ghost use Rattle.std.specs.Prelude.{true, false, List, Bool, None, Some, IsSome, IfOk, IsTrue, IsFalse};
+ghost use Rattle.std.specs.Prelude.{true, false, List, Bool, None, Some, IsSome, IfSome, IfOk, IsTrue, IsFalse};
 ghost use Rattle.ca_flat.specs.declared.chip_defect.ChipDefect.{ChipDefect};
 ghost use Rattle.ca_flat.specs.Pair.{bit_count};
 ghost use Rattle.ca_search.specs.Filled.{trits_of};
@@ -10,8 +10,10 @@ ghost use Rattle.ca_credit.specs.Detection.{IsAllowedByRows};
 ghost use Rattle.ca_credit.specs.Table.{verdict_at, is_open, IsAfterPair, CreditsOne, CreditsPair};
 ghost use Rattle.ca_credit.specs.Table.{credit_count, one_if};
 ghost use Rattle.ca_credit.specs.Aims.{AimsAtSuspect, AimsUpTo};
-ghost use Rattle.ca_credit.specs.Round.{IsAnswer, is_tried, TriesMore};
+ghost use Rattle.ca_credit.specs.Detection.{IsAnswer};
+ghost use Rattle.ca_credit.specs.Round.{is_tried, TriesMore};
 
+use crate::by_lasts::ByLasts;
 use crate::credit::detecting_output;
 use crate::simulator::Simulator;
 use crate::verdict::Verdict;
@@ -200,7 +202,49 @@ impl Round {
         if here { behind + 1 } else { behind }
     }
 
-    // The turn of the defect at a place: the pair is tried on it, unless it was tried already.
+    // Tries the pair on the defect at a place that wasn't tried, by the rows and by last values alone. Answers
+    // how many it is credited with, or nothing where that says nothing; then nothing changes.
+    fn try_by_lasts<S: Simulator>(
+        &mut self,
+        sim: &mut S,
+        pair: &Pair,
+        number: u32,
+        place: usize,
+    ) -> Option<u32>
+        requires within { place < length self.old.verdicts.items }
+        requires same { length self.old.verdicts.items ≡ length (S.task sim.old).defects }
+        requires marks { length self.old.tried.items ≡ length self.old.verdicts.items }
+        requires untried { is_tried self.old.tried.items place ≡ false }
+        requires bits { S.bits sim.old ≡ trits_of pair.now }
+
+        ensures tries { IfSome result
+            (λ credited. TriesMore (S.task sim.old) pair.now number credited self.old self.new) }
+        ensures here { IfSome result (λ _. is_tried self.new.tried.items place ≡ true) }
+        ensures none { result ≡ None → self.new ≡ self.old }
+        ensures task { S.task sim.new ≡ S.task sim.old }
+        ensures bits { S.bits sim.new ≡ S.bits sim.old }
+        ensures aims { S.aims sim.new ≡ S.aims sim.old }
+    {
+        if !self.may_credit(sim, place) {
+            self.tried[place] = true;
+            return Some(0);
+        }
+        match sim.by_lasts(place) {
+            ByLasts::At(output) => {
+                self.tried[place] = true;
+                let given = self.give(number, place, Some(output));
+                Some(if given { 1 } else { 0 })
+            }
+            ByLasts::Nowhere => {
+                self.tried[place] = true;
+                Some(0)
+            }
+            ByLasts::Undecided => None,
+        }
+    }
+
+    // The turn of the defect at a place: the pair is tried on it, unless it was tried already. Waves are asked
+    // where last values alone say nothing.
     fn take_turn<S: Simulator>(
         &mut self,
         sim: &mut S,
@@ -226,7 +270,10 @@ impl Round {
         if self.tried[place] {
             return 0;
         }
-        self.try_from(sim, pair, number, place)
+        match self.try_by_lasts(sim, pair, number, place) {
+            Some(credited) => credited,
+            None => self.try_from(sim, pair, number, place),
+        }
     }
 
     /// Tries the pair in hand on all defects. Answers how many it is credited with.

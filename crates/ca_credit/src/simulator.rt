@@ -1,5 +1,6 @@
 //! What credits ask of the simulator of a chip.
 
+use crate::by_lasts::ByLasts;
 use ca_net::Trit;
 use ca_pair::Pair;
 
@@ -14,6 +15,7 @@ pub trait Simulator {
     ghost use Rattle.ca_credit.specs.Defects.{Task, IsDefectAt};
     ghost use Rattle.ca_search.specs.Filled.{trits_of};
     ghost use Rattle.ca_credit.specs.Detection.{IsNetEnd, IsAllowedByRows, AreDetectedAlike};
+    ghost use Rattle.ca_credit.specs.Detection.{IsDecided};
 
     /// The chip, the list of its defects, and how many branches each search may have.
     ghost task: { Self → Task };
@@ -52,6 +54,18 @@ pub trait Simulator {
             → IsFalse result → ¬ (IsShown (task self.now).chip defect (bits self.now)) }
         ensures allowed { (defect : ChipDefect) → IsDefectAt (task self.now) place defect
             → IsTrue result → IsAllowedByRows (task self.now).chip defect (bits self.now) };
+
+    /// What last values alone say of the defect at this place of the list, under the bits that are set. Where
+    /// it is undecided the defect has to be aimed at. The bits and the aim stay.
+    fn by_lasts(&mut self, place: usize) -> ByLasts
+        requires { place < length (task self.old).defects }
+
+        ensures decided { (defect : ChipDefect) → IsDefectAt (task self.old) place defect
+            → IsDecided (task self.old).chip defect (bits self.old) result }
+        ensures aimed { aimed self.new ≡ aimed self.old }
+        ensures task { task self.new ≡ task self.old }
+        ensures bits { bits self.new ≡ bits self.old }
+        ensures aims { aims self.new ≡ aims self.old };
 
     /// Aims at the defect at this place of the list. The bits stay.
     fn aim(&mut self, place: usize)

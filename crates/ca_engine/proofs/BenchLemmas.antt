@@ -16,9 +16,9 @@ use Rattle.ca_table.specs.Gives.{wave_at}
 use Rattle.ca_defect.specs.Exposes.{opposite_of}
 use Rattle.ca_sim.specs.Seen.{Seen, IsExact, aimed_anew}
 use Rattle.ca_sim.specs.Laws.{DefiniteLastIsEnd}
-use Rattle.ca_sim.specs.Linked.{IsLinked, IsPlacedDefect, place_in}
+use Rattle.ca_view.specs.Linked.{IsLinked, IsPlacedDefect, place_in}
 use Rattle.ca_sim.specs.Simulator.{Simulator, IsFresh, KeepsAim, KeepsPair}
-use Rattle.ca_guide.specs.NetLists.{NetLists}
+use Rattle.ca_view.specs.NetLists.{NetLists}
 use Rattle.ca_search.specs.declared.trail.Outcome.{Outcome}
 use Rattle.ca_search.specs.Judged.{IsSameAim}
 use Rattle.ca_search.specs.Outcome.{IsOutcome}
@@ -44,19 +44,19 @@ pub same_entry : (defects : List ChipDefect) (place : ℕ) (one other : ChipDefe
 same_entry defects place one other is also = let e : Some one ≡ Some other = sym is ∙ also in cc
 
 -- the bench of a chip begins without a defect
-pub bench_begins : (core : Chip) (places : List ℕ) (number_of : ℕ → ℕ) (sim : Simulator) (chip : Chip)
-    (lists : NetLists) (rows_chip : Chip) (defects : List ChipDefect) (outputs : List ℕ)
-    → IsFresh core places sim → IsLinked core (place_in places) number_of → judge.IsSearchable core chip lists
+pub bench_begins : (core : Chip) (places : List ℕ) (number_of : ℕ → ℕ) (sim : Simulator)
+    (rows_chip : Chip) (defects : List ChipDefect) (outputs : List ℕ)
+    → IsFresh core places sim → IsLinked core (place_in places) number_of → judge.CanBeJudged core
     → rows_chip ≡ core → All (IsPlacedDefect core (place_in places)) defects → outputs ≡ core.outputs
     → length outputs < 2 ^ 32
     → IsChipBench sim.seen.chip sim.seen.places sim.seen.aim rows_chip defects outputs None
-bench_begins core places number_of sim chip lists rows_chip defects outputs fresh linked searchable same placed are few =
+bench_begins core places number_of sim rows_chip defects outputs fresh linked judged same placed are few =
     subst (λ c. IsChipBench c sim.seen.places sim.seen.aim rows_chip defects outputs None) (sym fresh.chip_is)
     (subst (λ p. IsChipBench core p sim.seen.aim rows_chip defects outputs None) (sym fresh.places_are) (record {
       rank = place_in places;
       chip_is = linked.is_chip;
-      good_is = searchable.good_is;
-      faulty_are = searchable.faulty_are;
+      good_is = judged.good_is;
+      faulty_are = judged.faulty_are;
       placed = placed;
       outputs_are = are;
       few = few;

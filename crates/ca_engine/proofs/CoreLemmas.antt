@@ -1,26 +1,23 @@
--- The core of a linked chip may be searched.
-use Rattle.std.proofs.Common.{◌≡◌, ℕ, List, Option, None, Some, refl, ◌∙◌, ap, arith}
+-- The core of a linked chip can be judged.
+use Rattle.std.proofs.Common.{◌≡◌, ℕ, List, Option, None, Some, sym, ◌∙◌, ap, subst, arith}
 use Rattle.ca_flat.specs.declared.chip_defect.ChipDefect.{ChipDefect}
 use Rattle.ca_flat.specs.Chip.{Chip}
 use Rattle.ca_wired.specs.Linked.{IsWired}
 use Rattle.ca_core.specs.Core.{core_of}
 use Rattle.ca_flatten.specs.Few.{IsFew}
 use Rattle.ca_flatten.specs.Laws.{FlatIsWellFormed}
-use Rattle.ca_judge.specs.Bench.{IsSearchable}
+use Rattle.ca_judge.specs.Bench.{CanBeJudged}
 use Rattle.ca_credit.specs.Defects.{Task}
 use Rattle.ca_view.specs.View.{Viewed, IsViewOf}
 
--- its flat networks are networks where they are small enough, and its lists are those of the core
-pub core_is_searchable : (view : Viewed) → IsWired view.chip → FlatIsWellFormed
-    → ((given : Option ChipDefect) → IsFew (core_of view.chip) given) → IsViewOf view.chip view
-    → IsSearchable (core_of view.chip) (core_of view.chip) view.lists
-core_is_searchable view wired law few are = record {
-  same = refl;
-  nets = are.nets;
+-- its flat networks are networks where they are small enough
+pub core_can_be_judged : (view : Viewed) → IsWired view.chip → FlatIsWellFormed
+    → ((given : Option ChipDefect) → IsFew (core_of view.chip) given) → IsViewOf view.chip view → CanBeJudged view.core
+core_can_be_judged view wired law few are = subst CanBeJudged (sym are.core_is) (record {
   few = let few_bits = are.few in omega (arith, few_bits);
   good_is = law view.chip None wired tt (few None);
   faulty_are = λ defect one. law view.chip (Some defect) wired one (few (Some defect));
-}
+})
 
 -- tasks of the same chip, defects and budget are one
 pub task_ext : (one other : Task) → one.chip ≡ other.chip → one.defects ≡ other.defects → one.budget ≡ other.budget → one ≡ other

@@ -8,7 +8,7 @@ use Rattle.ca_flat.specs.declared.token.Token.{Token}
 use Rattle.ca_flat.specs.Chip.{Chip, IsChip, IsDefectIn, IsChipDefect}
 use Rattle.ca_flat.specs.Flat.{flat}
 use Rattle.ca_flat.specs.Code.{unset_pair}
-use Rattle.ca_sim.specs.Linked.{IsPlacedDefect, place_in}
+use Rattle.ca_view.specs.Linked.{IsPlacedDefect, place_in}
 use Rattle.ca_credit.specs.Defects.{Task}
 
 -- what is to be done, the bits that are set, the defect that is aimed at, the code of the last search, how

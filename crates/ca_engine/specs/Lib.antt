@@ -1,3 +1,4 @@
 pub mod ChipDefects
 pub mod ChipTask
 pub mod ChipBench
+pub mod FlipBench

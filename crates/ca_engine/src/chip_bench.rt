@@ -1,24 +1,24 @@
 //! The bench of a linked chip.
 
 ghost use Rattle.std.specs.Prelude.{◌≡◌, ◌<◌, ◌^◌, length, IfOk};
-ghost use Rattle.ca_core.specs.Core.{core_of};
-ghost use Rattle.ca_sim.specs.Simulator.{IsFresh};
-ghost use Rattle.ca_judge.specs.Bench.{IsSearchable};
 ghost use Rattle.ca_engine.specs.ChipTask.{task_of};
 
-use crate::listing::{ChipDefects, chip_defects};
+use crate::flip_bench::FlipBench;
+use crate::outputs::output_nets;
 use crate::pair_bits::PairBits;
 use ca_base::NoMemory;
-use ca_credit::Simulator;
+use ca_chip_defects::{ChipDefects, chip_defects};
+use ca_credit::{ByLasts, Simulator};
 use ca_flat::ChipDefect;
 use ca_flatten::{flat_is_well_formed, judge_size};
 use ca_generate::{Bench, outcome_is_search};
-use ca_guide::{Choice, LinkedChip};
+use ca_guide::Choice;
 use ca_net::Trit;
 use ca_pair::Pair;
 use ca_rows::ExposableDefects;
 use ca_search::{Code, Judge, Outcome, Search};
-use ca_sim::{Linked, NetWaves, definite_last_is_end};
+use ca_sim::{NetWaves, definite_last_is_end};
+use ca_sweep::Seen;
 use ca_view::View;
 use std::alloc::Global;
 use std::marker::Model;
@@ -29,30 +29,14 @@ use std::marker::Model;
 #[derive(Drop)]
 pub struct ChipBench<'a, R: ExposableDefects, P: Choice + Drop> {
     view: &'a View<'a>,
-    judge: ca_judge::Bench<'a, View<'a>, View<'a>, R, P>,
+    judge: FlipBench<'a, R, P>,
     rows: &'a R,
     defects: ChipDefects,
     search: Search,
     aim: Option<ChipDefect>,
 }
 
-// The judge over a view, which is simulated and guided alike. The view is of any type, since the checker of
-// borrows takes one reference twice only where its type shows no reference.
-fn judge_over<'a, V: Linked + LinkedChip, R: ExposableDefects, P: Choice + Drop>(
-    alloc: Global,
-    view: &'a V,
-    rows: &'a R,
-    choice: P,
-) -> Result<ca_judge::Bench<'a, V, V, R, P>, NoMemory>
-    requires view { IsSearchable (V.core view.now) (V.chip view.now) (V.lists view.now) }
-    requires rows { R.chip rows.now ≡ V.core view.now }
-    ensures { IfOk result (IsFresh (V.core view.now) (V.places view.now)) }
-{
-    ca_judge::Bench::reserve(alloc, view, view, rows, choice)
-}
-
 impl<'a, R: ExposableDefects, P: Choice + Drop> Model for ChipBench<'a, R, P> {
-    ghost use Rattle.ca_core.specs.Core.{core_of};
     ghost use Rattle.ca_engine.specs.ChipBench.{Benched, IsChipBench};
 
     ghost Value = { Benched };
@@ -72,7 +56,7 @@ impl<'a, R: ExposableDefects, P: Choice + Drop> Model for ChipBench<'a, R, P> {
 
     ghost invariant = { λ bench. IsChipBench bench.judge.seen.chip bench.judge.seen.places
         bench.judge.seen.aim (R.chip bench.rows.now) bench.defects
-        (core_of bench.view.now.chip).outputs bench.aim };
+        bench.view.now.core.outputs bench.aim };
 }
 
 impl<'a, R: ExposableDefects, P: Choice + Drop> ChipBench<'a, R, P> {
@@ -82,7 +66,7 @@ impl<'a, R: ExposableDefects, P: Choice + Drop> ChipBench<'a, R, P> {
     /// `budget` branches. No bit is set, and no defect is aimed at. Also answers out of memory for a
     /// chip with 2^32 observed outputs, with 2^32 defects or whose flat network may have 2^32 nodes or
     /// devices.
-    #[tactic(auto, using(crate::proofs::CoreLemmas::core_is_searchable))]
+    #[tactic(auto, using(crate::proofs::CoreLemmas::core_can_be_judged))]
     pub fn reserve(
         alloc: Global,
         view: &'a View<'a>,
@@ -90,7 +74,7 @@ impl<'a, R: ExposableDefects, P: Choice + Drop> ChipBench<'a, R, P> {
         choice: P,
         budget: u32,
     ) -> Result<Self, NoMemory>
-        requires { R.chip rows.now ≡ core_of view.now.chip }
+        requires { R.chip rows.now ≡ view.now.core }
         ensures task { IfOk result (λ bench. bench.task ≡ task_of view.now.chip budget) }
         ensures few { IfOk result (λ bench. length bench.task.defects < 2 ^ 32) }
         ensures unused { IfOk result IsUnused }
@@ -101,11 +85,12 @@ impl<'a, R: ExposableDefects, P: Choice + Drop> ChipBench<'a, R, P> {
         judge_size(alloc, view.chip())?;
         // The largest comes last: each that is there when memory runs out is dropped once more.
         let defects = chip_defects(alloc, view)?;
-        if view.outputs() > u32::MAX as usize || defects.len() > u32::MAX as usize {
+        if view.output_count() > u32::MAX as usize || defects.len() > u32::MAX as usize {
             return Err(NoMemory);
         }
+        let outputs = output_nets(alloc, view)?;
         let search = Search::reserve(alloc, budget)?;
-        let judge = judge_over(alloc, view, rows, choice)?;
+        let judge = FlipBench::reserve(alloc, view, rows, choice, outputs)?;
         Ok(ChipBench {
             view,
             judge,
@@ -145,13 +130,21 @@ impl<R: ExposableDefects, P: Choice + Drop> Simulator for ChipBench<'_, R, P> {
     }
 
     fn output_count(&self) -> u32 {
-        self.view.outputs() as u32
+        self.view.output_count() as u32
     }
 
     #[tactic(auto, using(crate::proofs::BenchLemmas::bench_loads, crate::proofs::PairLemmas::count_of_trits))]
     fn load(&mut self, pair: &Pair) {
         self.judge.exact();
         self.judge.load(&PairBits { pair });
+    }
+
+    fn by_lasts(&mut self, place: usize) -> ByLasts {
+        match self.judge.by_lasts(self.defects.get(place)) {
+            Seen::Undecided => ByLasts::Undecided,
+            Seen::Nowhere => ByLasts::Nowhere,
+            Seen::At(output) => ByLasts::At(output),
+        }
     }
 
     fn may_detect(&self, place: usize) -> bool {

@@ -1,13 +1,12 @@
 //! Test generation on a linked chip.
 
 ghost use Rattle.std.specs.Prelude.{◌≡◌, IfOk, IfErr};
-ghost use Rattle.ca_core.specs.Core.{core_of};
 ghost use Rattle.ca_credit.specs.Good.{IsGood};
 ghost use Rattle.ca_generate.specs.GenerateFault.{IsCause};
 ghost use Rattle.ca_engine.specs.ChipTask.{task_of};
 
 use crate::chip_bench::ChipBench;
-use crate::choice::chip_choice;
+use ca_choice::CheapestWay;
 use ca_generate::{GenerateFault, Generated, Watch, generate};
 use ca_guide::Choice;
 use ca_rows::{ChipRows, ExposableDefects};
@@ -67,7 +66,8 @@ pub fn generate_over<T: Watch>(
         (λ made. IsGood (task_of view.now.chip budget) made.pairs made.aims made.verdicts) }
     ensures cause { IfErr result (IsCause (task_of view.now.chip budget)) }
 {
-    let choice = chip_choice(alloc, view)?;
+    view.viewed();
+    let choice = CheapestWay::reserve(alloc, view)?;
     generate_by(alloc, view, rows, choice, budget, watch)
 }
 
@@ -80,7 +80,7 @@ fn generate_by<R: ExposableDefects, P: Choice + Drop, T: Watch>(
     budget: u32,
     watch: &mut T,
 ) -> Result<Generated, GenerateFault>
-    requires { R.chip rows.now ≡ core_of view.now.chip }
+    requires { R.chip rows.now ≡ view.now.core }
 
     ensures good { IfOk result
         (λ made. IsGood (task_of view.now.chip budget) made.pairs made.aims made.verdicts) }

@@ -9,14 +9,14 @@ use crate::chips::{C17, INV, ONE_BRANCH};
 use crate::told::{summary, verdict};
 use crate::worked::linked;
 use ca_base::NoMemory;
+use ca_choice::CheapestWay;
 use ca_credit::{BLOCK, Credits, Simulator};
-use ca_engine::{ChipBench, chip_choice};
+use ca_engine::ChipBench;
 use ca_generate::{Bench, Unwatched, generate};
 use ca_guide::{Choice, LowestUnset};
 use ca_lex::Text;
 use ca_pair::{Pair, Pairs};
 use ca_rows::ChipRows;
-use ca_sim::Linked;
 use ca_view::View;
 use ca_wired::Chip;
 use std::alloc::Global;
@@ -171,7 +171,7 @@ fn tell_over<P: Choice + Drop>(
     requires numbers { length pairs.now < 2 ^ 32 }
 {
     view.linked();
-    if bits != 2 * view.inputs() {
+    if bits != 2 * view.input_count() {
         return Err(NoMemory);
     }
     let mut bench = ChipBench::reserve(alloc, view, rows, choice, budget)?;
@@ -202,7 +202,7 @@ fn tell_by_choice(
     if let Asked::Verdict(_) = asked {
         return tell_over(alloc, view, rows, LowestUnset, budget, pairs, bits, asked);
     }
-    let choice = chip_choice(alloc, view)?;
+    let choice = CheapestWay::reserve(alloc, view)?;
     tell_over(alloc, view, rows, choice, budget, pairs, bits, asked)
 }
 

@@ -26,7 +26,7 @@ use Rattle.ca_flat.proofs.ListedRows.{listed_rows_are_enough_lem}
 use Rattle.ca_guide.specs.declared.rows.End.{End}
 use Rattle.ca_guide.specs.declared.rows.End.TheVariants.{First, Last}
 use Rattle.ca_guide.specs.Flood.{IsFlood, EndsFlood}
-use Rattle.ca_guide.specs.NetLists.{NetLists, input_nets, output_nets, AreNetsOf}
+use Rattle.ca_view.specs.NetLists.{NetLists, input_nets, output_nets, AreNetsOf}
 use Rattle.ca_guide.specs.Seen.{Seen, AreGoodWaves, set_trit, pair_of, open_area, Covers}
 use Rattle.ca_guide.specs.PinRows.{end_of, pin_value, IsOver, IsAllowed, IsSomeAllowed, IsNoneAllowed}
 use Rattle.ca_guide.specs.Guide.{IsSupport, ShowsPair, IsUnsetIn}

@@ -8,7 +8,7 @@ use Rattle.ca_flat.specs.Waves.{FlatWaves, wave_of, unknown_wave}
 use Rattle.ca_flat.specs.Chain.{Feeds, IsOutputOf}
 use Rattle.ca_flat.specs.RuleOut.{IsOpenNet, IsOpenChain, HasNoOpenChain}
 use Rattle.ca_guide.specs.Flood.{IsPath, IsFlood, EndsFlood}
-use Rattle.ca_guide.specs.NetLists.{NetLists, output_nets, AreNetsOf}
+use Rattle.ca_view.specs.NetLists.{NetLists, output_nets, AreNetsOf}
 use Rattle.ca_guide.specs.Seen.{Seen, pair_of, ShowsWaves, is_closed_wave, open_area}
 use Rattle.ca_guide.proofs.WaveTests.{not_closed_to, not_closed_from}
 use Rattle.std.proofs.lemmas.Grind.{get_or_default_zero}

@@ -1,14 +1,7 @@
 -- Floods: the nets to which links lead from some roots, through nets that may be entered.
-use Rattle.std.specs.Prelude.{ℕ, ◌≡◌, ◌<◌, Bool, true, false, List, [], ◌∷◌, length, slice_index_or}
-use Rattle.std.specs.List.{All, Contains}
-
--- the nets to which a net is linked; past the list none
-abbrev pub linked_from : List (List ℕ) → ℕ → List ℕ
-linked_from links net = slice_index_or links net []
-
--- each link leads to a place of the list
-abbrev pub AreWithin : List (List ℕ) → Type 0
-AreWithin links = All (All (λ net. net < length links)) links
+use Rattle.std.specs.Prelude.{ℕ, ◌≡◌, Bool, true, false, List, [], ◌∷◌}
+use Rattle.std.specs.List.{Contains}
+use Rattle.ca_view.specs.NetLists.{linked_from}
 
 -- `count` nets; which of them may be entered, and at which of them the flood ends
 pub record Area : Type 0 where

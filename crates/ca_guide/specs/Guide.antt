@@ -9,7 +9,7 @@ use Rattle.ca_flat.specs.Chain.{IsSupportBit}
 use Rattle.ca_flat.specs.CheckedCode.{IsPlain, IsCheckedBranch}
 use Rattle.ca_guide.specs.declared.guide.Step.{Step}
 use Rattle.ca_guide.specs.declared.guide.Step.TheVariants.{Branch, RuledOut}
-use Rattle.ca_guide.specs.NetLists.{NetLists}
+use Rattle.ca_view.specs.NetLists.{NetLists}
 use Rattle.ca_guide.specs.Seen.{Seen, pair_of, ShowsWaves}
 
 -- the numbers of nets and of bits for which there is room, and the support of the defect that is aimed at

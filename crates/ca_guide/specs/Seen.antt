@@ -10,7 +10,7 @@ use Rattle.ca_flat.specs.Pair.{bit_count}
 use Rattle.ca_flat.specs.Code.{bit_trit}
 use Rattle.ca_flat.specs.Waves.{FlatWaves, wave_of, unknown_wave}
 use Rattle.ca_guide.specs.Flood.{Area}
-use Rattle.ca_guide.specs.NetLists.{NetLists}
+use Rattle.ca_view.specs.NetLists.{NetLists}
 
 -- the good and the faulty wave of each net, and each bit
 pub record Seen : Type 0 where

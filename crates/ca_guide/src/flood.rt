@@ -2,7 +2,8 @@
 
 ghost use Rattle.std.specs.Prelude.{◌≡◌, ◌<◌, ◌≤◌, [], ◌∷◌, length};
 ghost use Rattle.std.specs.List.{All};
-ghost use Rattle.ca_guide.specs.Flood.{AreWithin, IsFloodTo};
+ghost use Rattle.ca_guide.specs.Flood.{IsFloodTo};
+ghost use Rattle.ca_view.specs.NetLists.{AreWithin};
 ghost use Rattle.ca_guide.specs.Visit.{IsVisit};
 
 use crate::number_set::NumberSet;
@@ -10,7 +11,7 @@ use crate::number_set::NumberSet;
 /// For each net the nets to which it is linked.
 pub trait Links {
     ghost use Rattle.std.specs.Prelude.{ℕ, List, ◌≡◌, ◌<◌, length};
-    ghost use Rattle.ca_guide.specs.Flood.{linked_from, AreWithin};
+    ghost use Rattle.ca_view.specs.NetLists.{linked_from, AreWithin};
 
     /// The list of a net's links, for each net.
     ghost links: { Self → List (List ℕ) };

@@ -5,11 +5,9 @@ ghost use Rattle.std.specs.List.{Contains};
 ghost use Rattle.ca_flat.specs.Chip.{count_of};
 ghost use Rattle.ca_flat.specs.Pair.{IsOpenPair};
 ghost use Rattle.ca_flat.specs.Rows.{ListsExposingRows};
-ghost use Rattle.ca_guide.specs.NetLists.{AreNetsOf};
 ghost use Rattle.ca_guide.specs.Seen.{pair_of, Covers};
 ghost use Rattle.ca_guide.specs.Guide.{HasRoomFor, IsSupport, ShowsPair, IsStep, IsUnsetAnswer};
 
-use crate::chip::LinkedChip;
 use crate::number_set::NumberSet;
 use crate::open_chain::reaches_output;
 use crate::rows::is_some_row_allowed;
@@ -18,6 +16,7 @@ use crate::waves::NetWaves;
 use ca_base::NoMemory;
 use ca_defect::Rows;
 use ca_flat::ChipDefect;
+use ca_view::View;
 use std::alloc::Global;
 use std::marker::Model;
 
@@ -39,21 +38,19 @@ pub struct Proposal {
 pub trait Choice {
     ghost use Rattle.std.specs.Prelude.{◌<◌};
     ghost use Rattle.ca_flat.specs.Chip.{count_of};
-    ghost use Rattle.ca_guide.specs.NetLists.{AreNetsOf};
     ghost use Rattle.ca_guide.specs.Seen.{Covers};
 
     /// A bit, and its first value, at a pair that neither its rows nor its chains rule out.
-    fn propose<C: LinkedChip, V: NetWaves>(
+    fn propose<V: NetWaves>(
         &mut self,
         guide: &Guide,
-        chip: &C,
+        chip: &View,
         waves: &V,
         rows: &Rows,
         defect: ChipDefect,
     ) -> Proposal
-        requires linked { AreNetsOf (C.chip chip.now) (C.lists chip.now) }
-        requires defect { defect.instance < count_of (C.chip chip.now) }
-        requires covers { Covers (C.lists chip.now) (V.seen waves.now) };
+        requires defect { defect.instance < count_of chip.now.core }
+        requires covers { Covers chip.now.lists (V.seen waves.now) };
 }
 
 /// The plainest choice: it leaves the bit to the guide, which takes the lowest unset one, and decides for 0.
@@ -61,10 +58,10 @@ pub trait Choice {
 pub struct LowestUnset;
 
 impl Choice for LowestUnset {
-    fn propose<C: LinkedChip, V: NetWaves>(
+    fn propose<V: NetWaves>(
         &mut self,
         _guide: &Guide,
-        _chip: &C,
+        _chip: &View,
         _waves: &V,
         _rows: &Rows,
         _defect: ChipDefect,
@@ -106,10 +103,11 @@ impl Model for Guide {
 
 impl Guide {
     /// Takes the room for a chip. Until the first `aim` the support is open.
-    pub fn reserve<C: LinkedChip>(alloc: Global, chip: &C) -> Result<Self, NoMemory>
-        ensures { IfOk result (HasRoomFor (C.lists chip.now)) }
+    pub fn reserve(alloc: Global, chip: &View) -> Result<Self, NoMemory>
+        ensures { IfOk result (HasRoomFor chip.now.lists) }
     {
-        let nets = chip.net_count();
+        chip.linked();
+        let nets = chip.nets();
         let bits = 2 * chip.inputs().len();
         Ok(Guide {
             nets: NumberSet::reserve(alloc, nets)?,
@@ -120,12 +118,11 @@ impl Guide {
     }
 
     /// Aims at a defect: its support is found.
-    pub fn aim<C: LinkedChip>(&mut self, chip: &C, defect: ChipDefect)
-        requires room { HasRoomFor (C.lists chip.now) self.old }
-        requires linked { AreNetsOf (C.chip chip.now) (C.lists chip.now) }
-        requires defect { defect.instance < count_of (C.chip chip.now) }
-        ensures room { HasRoomFor (C.lists chip.now) self.new }
-        ensures support { IsSupport (C.chip chip.now) defect self.new.support }
+    pub fn aim(&mut self, chip: &View, defect: ChipDefect)
+        requires room { HasRoomFor chip.now.lists self.old }
+        requires defect { defect.instance < count_of chip.now.core }
+        ensures room { HasRoomFor chip.now.lists self.new }
+        ensures support { IsSupport chip.now.core defect self.new.support }
     {
         find_support(
             &mut self.nets,
@@ -139,25 +136,25 @@ impl Guide {
 
     /// The next step at an open pair. It takes no memory. What is said of the step is said under the limits
     /// of the flat networks that the waves are: they are there, but no call hands them out.
-    pub fn next<C: LinkedChip, V: NetWaves, P: Choice>(
+    pub fn next<V: NetWaves, P: Choice>(
         &mut self,
-        chip: &C,
+        chip: &View,
         waves: &V,
         rows: &Rows,
         defect: ChipDefect,
         choice: &mut P,
     ) -> Step
-        requires room { HasRoomFor (C.lists chip.now) self.old }
-        requires linked { AreNetsOf (C.chip chip.now) (C.lists chip.now) }
-        requires defect { defect.instance < count_of (C.chip chip.now) }
-        requires support { IsSupport (C.chip chip.now) defect self.old.support }
-        requires covers { Covers (C.lists chip.now) (V.seen waves.now) }
-        requires is_open { IsOpenPair (C.chip chip.now) defect (pair_of (V.seen waves.now)) }
-        requires rows { ListsExposingRows (C.chip chip.now) defect rows.now }
+        requires room { HasRoomFor chip.now.lists self.old }
+        requires defect { defect.instance < count_of chip.now.core }
+        requires support { IsSupport chip.now.core defect self.old.support }
+        requires covers { Covers chip.now.lists (V.seen waves.now) }
+        requires is_open { IsOpenPair chip.now.core defect (pair_of (V.seen waves.now)) }
+        requires rows { ListsExposingRows chip.now.core defect rows.now }
         ensures same { self.new ≡ self.old }
-        ensures step { ShowsPair (C.chip chip.now) defect (V.seen waves.now)
-            → IsStep (C.chip chip.now) defect (pair_of (V.seen waves.now)) result }
+        ensures step { ShowsPair chip.now.core defect (V.seen waves.now)
+            → IsStep chip.now.core defect (pair_of (V.seen waves.now)) result }
     {
+        chip.linked();
         if !is_some_row_allowed(waves, chip.input_pins(defect.instance), rows) {
             return Step::RuledOut;
         }

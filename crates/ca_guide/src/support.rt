@@ -5,38 +5,38 @@ ghost use Rattle.std.specs.List.{Contains};
 ghost use Rattle.ca_flat.specs.declared.chip_defect.ChipDefect.{ChipDefect};
 ghost use Rattle.ca_flat.specs.Chip.{count_of};
 ghost use Rattle.ca_guide.specs.Guide.{IsSupport};
-ghost use Rattle.ca_guide.specs.NetLists.{AreNetsOf};
 ghost use Rattle.ca_guide.specs.NumberSet.{AddsIf};
 ghost use Rattle.ca_guide.specs.Support.{AreObserved, AddsBits};
 
-use crate::chip::{AllNets, Back, LinkedChip, Onward};
+use crate::chip::{AllNets, Back, Onward};
 use crate::flood::flood;
 use crate::number_set::NumberSet;
+use ca_view::View;
 
 // Finds the support of the instance's defects, in the last set. The three others are room: for the nets that
 // the instance reaches, the observed ones among them, and the nets that lead to these.
-pub(crate) fn find_support<C: LinkedChip>(
+pub(crate) fn find_support(
     reached: &mut NumberSet,
     outputs: &mut NumberSet,
     leading: &mut NumberSet,
     support: &mut NumberSet,
-    chip: &C,
+    chip: &View,
     instance: u32,
 )
-    requires linked { AreNetsOf (C.chip chip.now) (C.lists chip.now) }
-    requires instance { instance < count_of (C.chip chip.now) }
-    requires reached { reached.old.bound ≡ length (C.lists chip.now).onward }
-    requires outputs { outputs.old.bound ≡ length (C.lists chip.now).onward }
-    requires leading { leading.old.bound ≡ length (C.lists chip.now).onward }
+    requires instance { instance < count_of chip.now.core }
+    requires reached { reached.old.bound ≡ length chip.now.lists.onward }
+    requires outputs { outputs.old.bound ≡ length chip.now.lists.onward }
+    requires leading { leading.old.bound ≡ length chip.now.lists.onward }
     requires support { support.old.bound
-        ≡ length (C.lists chip.now).inputs + length (C.lists chip.now).inputs }
+        ≡ length chip.now.lists.inputs + length chip.now.lists.inputs }
     ensures reached { reached.new.bound ≡ reached.old.bound }
     ensures outputs { outputs.new.bound ≡ outputs.old.bound }
     ensures leading { leading.new.bound ≡ leading.old.bound }
     ensures room { support.new.bound ≡ support.old.bound }
     ensures support { (defect : ChipDefect) → defect.instance ≡ instance
-        → IsSupport (C.chip chip.now) defect support.new.members }
+        → IsSupport chip.now.core defect support.new.members }
 {
+    chip.linked();
     let nets = AllNets { chip };
     let onward = Onward { chip };
     flood(reached, &onward, &nets, chip.output_pins(instance));
@@ -50,11 +50,11 @@ pub(crate) fn find_support<C: LinkedChip>(
 }
 
 // Keeps the reached nets that are observed.
-fn keep_observed<C: LinkedChip>(outputs: &mut NumberSet, chip: &C, reached: &NumberSet)
-    requires reached { reached.now.bound ≡ length (C.lists chip.now).onward }
-    requires room { outputs.old.bound ≡ length (C.lists chip.now).onward }
+fn keep_observed(outputs: &mut NumberSet, chip: &View, reached: &NumberSet)
+    requires reached { reached.now.bound ≡ length chip.now.lists.onward }
+    requires room { outputs.old.bound ≡ length chip.now.lists.onward }
     ensures room { outputs.new.bound ≡ outputs.old.bound }
-    ensures outputs { AreObserved (C.lists chip.now).observed reached.now.members outputs.new.members }
+    ensures outputs { AreObserved chip.now.lists.observed reached.now.members outputs.new.members }
 {
     outputs.clear();
     for place in 0..reached.len() {
@@ -63,10 +63,10 @@ fn keep_observed<C: LinkedChip>(outputs: &mut NumberSet, chip: &C, reached: &Num
 }
 
 // Keeps the net if it is observed.
-fn keep_if_observed<C: LinkedChip>(outputs: &mut NumberSet, chip: &C, net: u32)
+fn keep_if_observed(outputs: &mut NumberSet, chip: &View, net: u32)
     requires net { net < outputs.old.bound }
-    requires room { outputs.old.bound ≡ length (C.lists chip.now).onward }
-    ensures { AddsIf (slice_index_or (C.lists chip.now).observed net false ≡ true) net outputs.old
+    requires room { outputs.old.bound ≡ length chip.now.lists.onward }
+    ensures { AddsIf (slice_index_or chip.now.lists.observed net false ≡ true) net outputs.old
         outputs.new }
 {
     if chip.is_observed(net) {
@@ -75,12 +75,12 @@ fn keep_if_observed<C: LinkedChip>(outputs: &mut NumberSet, chip: &C, net: u32)
 }
 
 // Adds the bits of the inputs that lead to an output, each `from` after the input's place.
-fn add_bits<C: LinkedChip>(bits: &mut NumberSet, chip: &C, leading: &NumberSet, from: usize)
-    requires room { from + length (C.lists chip.now).inputs ≤ bits.old.bound }
+fn add_bits(bits: &mut NumberSet, chip: &View, leading: &NumberSet, from: usize)
+    requires room { from + length chip.now.lists.inputs ≤ bits.old.bound }
     requires few { bits.old.bound < 4294967296 }
     ensures room { bits.new.bound ≡ bits.old.bound }
-    ensures bits { AddsBits (C.lists chip.now).inputs leading.now.members from
-        (length (C.lists chip.now).inputs) bits.old.members bits.new.members }
+    ensures bits { AddsBits chip.now.lists.inputs leading.now.members from
+        (length chip.now.lists.inputs) bits.old.members bits.new.members }
 {
     for (place, net) in chip.inputs().iter().enumerate() {
         add_bit_if(bits, leading, *net, (from + place) as u32);

@@ -12,10 +12,10 @@ use Rattle.ca_flat.specs.Flat.{flat}
 use Rattle.ca_flat.specs.Pair.{IsOpenPair}
 use Rattle.ca_flat.specs.Waves.{IsFlatChip}
 use Rattle.ca_sim.specs.Seen.{Seen, IsExact, AreNetWaves}
-use Rattle.ca_sim.specs.Linked.{IsAim, IsLinked, IsPinned, place_in}
+use Rattle.ca_view.specs.Linked.{IsAim, IsLinked, IsPinned, place_in}
 use Rattle.ca_sim.specs.Simulator.{Simulator, IsFresh, KeepsAim, KeepsPair}
 use Rattle.ca_guide.specs.Seen as guide
-use Rattle.ca_guide.specs.NetLists.{NetLists, AreNetsOf}
+use Rattle.ca_view.specs.NetLists.{NetLists, AreNetsOf}
 use Rattle.ca_guide.specs.Guide.{Guided, HasRoomFor, IsSupport, ShowsPair}
 use Rattle.ca_guide.specs.Guide as guided
 use Rattle.ca_guide.specs.declared.guide.Step.{Step}
@@ -26,7 +26,7 @@ use Rattle.ca_search.specs.Judged.{with_pair, IsStanding, IsStep, IsOpenFor}
 use Rattle.ca_judge.specs.Ends.{LooksSo}
 use Rattle.ca_judge.specs.Outputs.{AreObservedBelow}
 use Rattle.ca_judge.specs.GuideSeen.{guide_seen}
-use Rattle.ca_judge.specs.Bench.{IsBench, IsGuidedTo, IsSearchable, judged_of}
+use Rattle.ca_judge.specs.Bench.{IsBench, IsGuidedTo, CanBeJudged, judged_of}
 use Rattle.ca_judge.proofs.StandingLemmas.{SeesBoth, StandsSo, stands_so}
 use Rattle.ca_judge.proofs.StepLemmas.{IsSearchStep, search_step}
 use Rattle.ca_judge.proofs.SeenLemmas.{pair_again, bits_count, shows_pair}
@@ -65,15 +65,15 @@ module _ (seen : Seen) (chip : Chip) (lists : NetLists) (rows_chip : Chip) (guid
   -- the outputs are those of the chip
   outputs_of : (net : ℕ) → Contains outputs net ↔ Contains seen.chip.outputs net
   outputs_of net = (
-    (λ at. (is.searchable.nets.observed net).0 ((is.outputs_are.each net).0 at).1),
+    (λ at. (is.nets.observed net).0 ((is.outputs_are.each net).0 at).1),
     (λ at. (is.outputs_are.each net).1 (
-      subst (λ n. net < n) (sym is.searchable.nets.onward_count) (is.chip_is.observed net at),
-      (is.searchable.nets.observed net).1 at,
+      subst (λ n. net < n) (sym is.nets.onward_count) (is.chip_is.observed net at),
+      (is.nets.observed net).1 at,
     )),
   )
 
   pub outputs_within : All (λ net. net < length seen.chip.nets) outputs
-  outputs_within k d lt = subst (λ n. slice_index_or outputs k d < n) is.searchable.nets.onward_count
+  outputs_within k d lt = subst (λ n. slice_index_or outputs k d < n) is.nets.onward_count
       ((is.outputs_are.each (slice_index_or outputs k d)).0 (Contains-get_or outputs k d lt)).0
 
   module _ (exact : IsExact seen) where
@@ -82,11 +82,11 @@ module _ (seen : Seen) (chip : Chip) (lists : NetLists) (rows_chip : Chip) (guid
     sees_both d e =
         let in_chip : IsDefectIn seen.chip d = (subst (IsGuidedTo seen.chip guide_is) e is.guided_to).0 in
         let aimed : seen.aim ≡ Some d = is.aim_is ∙ e in
-        let formed = is.searchable.faulty_are d in_chip in
+        let formed = is.judged.faulty_are d in_chip in
         record {
-          good_flat = record { chip_is = is.chip_is; defect_is = tt; formed = is.searchable.good_is };
+          good_flat = record { chip_is = is.chip_is; defect_is = tt; formed = is.judged.good_is };
           faulty_flat = record { chip_is = is.chip_is; defect_is = in_chip; formed = formed };
-          good_are = exact.good is.searchable.good_is;
+          good_are = exact.good is.judged.good_is;
           faulty_are = subst (λ a. AreNetWaves seen.chip a seen.pair seen.faulty) aimed
               (exact.faulty (subst (λ a. IsWellFormed (flat seen.chip a)) (sym aimed) formed));
         }
@@ -120,16 +120,16 @@ module _ (seen : Seen) (chip : Chip) (lists : NetLists) (rows_chip : Chip) (guid
     -- what the guide asks
     pub asks : (d : ChipDefect) → defect ≡ Some d → IsOpenFor seen.chip seen.aim seen.pair
         → IsAsked chip lists guide_is d seen
-    asks d e is_open = subst (λ c. IsAsked c lists guide_is d seen) (sym is.searchable.same) (record {
-      linked = is.searchable.nets;
+    asks d e is_open = subst (λ c. IsAsked c lists guide_is d seen) (sym is.same) (record {
+      linked = is.nets;
       instance = (sees_both d e).faulty_flat.defect_is.known;
       support = (subst (IsGuidedTo seen.chip guide_is) e is.guided_to).1;
       covers = record {
-        good = exact.whole.good ∙ sym is.searchable.nets.onward_count;
-        faulty = exact.whole.faulty ∙ sym is.searchable.nets.onward_count;
+        good = exact.whole.good ∙ sym is.nets.onward_count;
+        faulty = exact.whole.faulty ∙ sym is.nets.onward_count;
         bits =
             let bits = bits_count seen in let whole = exact.whole.bits in
-            let same = ap length is.searchable.nets.inputs in omega arith;
+            let same = ap length is.nets.inputs in omega arith;
       };
       is_open = subst (IsOpenPair seen.chip d) (sym (pair_again seen))
           (subst (λ a. IsOpenFor seen.chip a seen.pair) (is.aim_is ∙ e) is_open);
@@ -147,7 +147,7 @@ module _ (seen : Seen) (chip : Chip) (lists : NetLists) (rows_chip : Chip) (guid
         let aimed : seen.aim ≡ Some d = is.aim_is ∙ e in
         let sees = sees_both d e in
         let at_core = subst (λ c. ShowsPair c d (guide_seen seen)
-        → guided.IsStep c d (guide.pair_of (guide_seen seen)) step) is.searchable.same each in
+        → guided.IsStep c d (guide.pair_of (guide_seen seen)) step) is.same each in
         subst (λ a. IsStep (record { chip = seen.chip; places = seen.places; aim = a; pair = seen.pair }) step) (sym aimed)
         (so_step d step (subst (λ p. IsSearchStep seen.chip d p step) (pair_again seen)
         (search_step seen.chip is.rank d (flat_chip d e) (guide.pair_of (guide_seen seen)) guide_is.support
@@ -162,12 +162,14 @@ module _ (seen : Seen) (chip : Chip) (lists : NetLists) (rows_chip : Chip) (guid
 -- a bench begins without a defect
 pub bench_begins : (core : Chip) (places : List ℕ) (number_of : ℕ → ℕ) (sim : Simulator) (chip : Chip)
     (lists : NetLists) (rows_chip : Chip) (guide_is : Guided) (outputs : List ℕ) → IsFresh core places sim
-    → IsLinked core (place_in places) number_of → IsSearchable core chip lists → rows_chip ≡ core
+    → IsLinked core (place_in places) number_of → CanBeJudged core → chip ≡ core → AreNetsOf core lists → rows_chip ≡ core
     → HasRoomFor lists guide_is → AreObservedBelow lists.observed (length lists.onward) outputs
     → IsBench sim.seen.chip sim.seen.aim chip lists rows_chip guide_is outputs None
-bench_begins core places number_of sim chip lists rows_chip guide_is outputs fresh linked searchable same room are =
+bench_begins core places number_of sim chip lists rows_chip guide_is outputs fresh linked judged one nets same room are =
     subst (λ c. IsBench c sim.seen.aim chip lists rows_chip guide_is outputs None) (sym fresh.chip_is) (record {
-      searchable = searchable;
+      judged = judged;
+      same = one;
+      nets = nets;
       rank = place_in places;
       chip_is = linked.is_chip;
       rows_are = same;
@@ -178,10 +180,8 @@ bench_begins core places number_of sim chip lists rows_chip guide_is outputs fre
     })
 
 -- its nets have numbers of four bytes
-pub few_onward : (core chip : Chip) (lists : NetLists) → IsPinned core → IsSearchable core chip lists
-    → length lists.onward < 2 ^ 32
-few_onward core chip lists pinned searchable =
-    subst (λ n. n < 2 ^ 32) (sym searchable.nets.onward_count) pinned.few_nets
+pub few_onward : (core : Chip) (lists : NetLists) → IsPinned core → AreNetsOf core lists → length lists.onward < 2 ^ 32
+few_onward core lists pinned nets = subst (λ n. n < 2 ^ 32) (sym nets.onward_count) pinned.few_nets
 
 -- a defect that may be aimed at is one of the chip
 pub aim_in_chip : (core chip : Chip) (place_of : ℕ → ℕ) (defect : Option ChipDefect) → chip ≡ core
@@ -197,16 +197,14 @@ pub bench_aims : (old new : Simulator) (chip : Chip) (lists : NetLists) (rows_ch
     → IsBench new.seen.chip new.seen.aim chip lists rows_chip guide_new outputs defect
 bench_aims old new chip lists rows_chip guide_is guide_new outputs before defect is keeps aimed room guided_to =
     subst (λ c. IsBench c new.seen.aim chip lists rows_chip guide_new outputs defect) (sym keeps.chip.chip) (record {
-      searchable = is.searchable;
+      judged = is.judged;
+      same = is.same;
+      nets = is.nets;
       rank = is.rank;
       chip_is = is.chip_is;
       rows_are = is.rows_are;
       room = room;
       outputs_are = is.outputs_are;
       aim_is = aimed;
-      guided_to = subst (λ c. IsGuidedTo c guide_new defect) is.searchable.same guided_to;
+      guided_to = subst (λ c. IsGuidedTo c guide_new defect) is.same guided_to;
     })
-
--- the lists are those of the guide's chip
-pub nets_of_guide : (core chip : Chip) (lists : NetLists) → IsSearchable core chip lists → AreNetsOf chip lists
-nets_of_guide core chip lists searchable = subst (λ c. AreNetsOf c lists) (sym searchable.same) searchable.nets

@@ -11,7 +11,7 @@ use Rattle.ca_flat.specs.RuleOut.{RowsRuleOut}
 use Rattle.ca_flat.specs.Waves.{FlatWaves, wave_of, unknown_wave, IsFlatChip}
 use Rattle.ca_flat.proofs.Detected.{some_good, detected_is_exposed_lem}
 use Rattle.ca_flat.proofs.Filled.{fill, fill_definite, fill_above}
-use Rattle.ca_guide.specs.NetLists.{NetLists, input_nets}
+use Rattle.ca_view.specs.NetLists.{NetLists, input_nets}
 use Rattle.ca_guide.specs.Seen.{AreGoodWaves}
 use Rattle.ca_guide.specs.PinRows.{IsNoneAllowed, IsSomeAllowed}
 use Rattle.ca_guide.specs.Guide.{Guided}
@@ -39,19 +39,19 @@ module _ (seen : Seen) (chip : Chip) (lists : NetLists) (rows_chip : Chip) (guid
   flat_chip = record {
     chip_is = is.chip_is;
     defect_is = in_chip;
-    good_is = is.searchable.good_is;
-    faulty_is = is.searchable.faulty_are defect in_chip;
+    good_is = is.judged.good_is;
+    faulty_is = is.judged.faulty_are defect in_chip;
   }
 
   good_waves : (good : FlatWaves seen.chip None seen.pair) → AreGoodWaves seen.chip seen.pair seen.good good
   good_waves good net within = slice_get-get_or seen.good net unknown_wave (subst (λ n. net < n) (sym exact.whole.good) within)
-      ∙ ap Some ((exact.good is.searchable.good_is).exact good net within)
+      ∙ ap Some ((exact.good is.judged.good_is).exact good net within)
 
   pub none_shows : (rows : List Row) → ListsExposingRows rows_chip defect rows
       → IsNoneAllowed seen.good (input_nets lists defect.instance) rows → IsShown seen.chip defect seen.pair → ⊥
   none_shows rows are none shown = some_good seen.chip is.rank defect flat_chip seen.pair (λ good.
       rows_show_nothing seen.chip is.rank defect seen.pair flat_chip good
-      (none_rules_out seen.chip defect lists seen.good seen.pair is.searchable.nets good (good_waves good) in_chip.known rows
+      (none_rules_out seen.chip defect lists seen.good seen.pair is.nets good (good_waves good) in_chip.known rows
       (subst (λ c. ListsExposingRows c defect rows) is.rows_are are) none) shown)
 
   -- where an exposing row is allowed, the rows don't rule the pair out
@@ -59,5 +59,5 @@ module _ (seen : Seen) (chip : Chip) (lists : NetLists) (rows_chip : Chip) (guid
       → IsSomeAllowed seen.good (input_nets lists defect.instance) rows
       → (good : FlatWaves seen.chip None seen.pair) → RowsRuleOut seen.chip defect seen.pair good → ⊥
   some_allows rows are some good rule =
-      some_is_allowed seen.chip defect lists seen.good seen.pair is.searchable.nets good (good_waves good) in_chip.known rows
+      some_is_allowed seen.chip defect lists seen.good seen.pair is.nets good (good_waves good) in_chip.known rows
       (subst (λ c. ListsExposingRows c defect rows) is.rows_are are) some rule

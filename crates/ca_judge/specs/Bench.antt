@@ -6,17 +6,14 @@ use Rattle.ca_flat.specs.Chip.{Chip, IsChip, IsDefectIn}
 use Rattle.ca_flat.specs.Flat.{flat}
 use Rattle.ca_flat.specs.Pair.{bit_count}
 use Rattle.ca_sim.specs.Seen.{Seen}
-use Rattle.ca_guide.specs.NetLists.{NetLists, AreNetsOf}
+use Rattle.ca_view.specs.NetLists.{NetLists, AreNetsOf}
 use Rattle.ca_guide.specs.Guide.{Guided, HasRoomFor, IsSupport}
-use Rattle.ca_search.specs.declared.token.TheConstants.{MOST_PATTERN_BITS}
+use Rattle.ca_code.specs.declared.token.TheConstants.{MOST_PATTERN_BITS}
 use Rattle.ca_search.specs.Judged.{Judged}
 use Rattle.ca_judge.specs.Outputs.{AreObservedBelow}
 
--- The simulator and the guide are of one chip, whose lists are these. Its tokens fit into two bytes, and the
--- good flat network and those with a defect are networks.
-pub record IsSearchable (core chip : Chip) (lists : NetLists) : Type 0 where
-  pub same : chip ≡ core
-  pub nets : AreNetsOf core lists
+-- Tokens of the chip's bits fit into two bytes, and the good flat network and those with a defect are networks.
+pub record CanBeJudged (core : Chip) : Type 0 where
   pub few : bit_count core ≤ MOST_PATTERN_BITS
   pub good_is : IsWellFormed (flat core None)
   pub faulty_are : (defect : ChipDefect) → IsDefectIn core defect → IsWellFormed (flat core (Some defect))
@@ -26,10 +23,13 @@ abbrev pub IsGuidedTo : Chip → Guided → Option ChipDefect → Type 0
 IsGuidedTo chip guided None = Unit {0}
 IsGuidedTo chip guided (Some defect) = IsDefectIn chip defect × IsSupport chip defect guided.support
 
--- what the fields of a bench keep
+-- What the fields of a bench keep: the simulator's chip, `core`, is that of the view, `chip`, whose lists these
+-- are.
 pub record IsBench (core : Chip) (aim : Option ChipDefect) (chip : Chip) (lists : NetLists) (rows_chip : Chip)
     (guided : Guided) (outputs : List ℕ) (defect : Option ChipDefect) : Type 0 where
-  pub searchable : IsSearchable core chip lists
+  pub judged : CanBeJudged core
+  pub same : chip ≡ core
+  pub nets : AreNetsOf core lists
   pub rank : ℕ → ℕ
   pub chip_is : IsChip core rank
   pub rows_are : rows_chip ≡ core

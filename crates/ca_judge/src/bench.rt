@@ -2,41 +2,39 @@
 
 ghost use Rattle.std.specs.Prelude.{◌≡◌, length, IfOk};
 ghost use Rattle.ca_flat.specs.Chip.{IsChipDefect};
-ghost use Rattle.ca_guide.specs.NetLists.{AreNetsOf};
 ghost use Rattle.ca_guide.specs.Guide.{HasRoomFor};
 ghost use Rattle.ca_judge.specs.Bench.{IsGuidedTo};
 
 use crate::guide_waves::GuideWaves;
 use crate::outputs::observed_nets;
-use crate::rows::ExposingRows;
 use crate::standing::standing;
 use ca_base::NoMemory;
-use ca_flat::ChipDefect;
-use ca_guide::{Choice, Guide, LinkedChip, Step, is_some_row_allowed};
+use ca_flat::{ChipDefect, ExposingRows};
+use ca_guide::{Choice, Guide, Step, is_some_row_allowed};
 use ca_net::Wave;
 use ca_search::{Judge, Standing};
-use ca_sim::{Bits, Linked, NetWaves, Sim};
+use ca_sim::{Bits, NetWaves, Sim};
+use ca_view::View;
 use std::alloc::Global;
 use std::marker::Model;
 
 // Aims the guide at a defect, if there is one.
-fn guide_to<C: LinkedChip>(guide: &mut Guide, chip: &C, defect: Option<ChipDefect>)
-    requires room { HasRoomFor (C.lists chip.now) guide.old }
-    requires linked { AreNetsOf (C.chip chip.now) (C.lists chip.now) }
-    requires defect { IsChipDefect (C.chip chip.now) defect }
-    ensures room { HasRoomFor (C.lists chip.now) guide.new }
-    ensures guided { IsGuidedTo (C.chip chip.now) guide.new defect }
+fn guide_to(guide: &mut Guide, view: &View<'_>, defect: Option<ChipDefect>)
+    requires room { HasRoomFor view.now.lists guide.old }
+    requires defect { IsChipDefect view.now.core defect }
+    ensures room { HasRoomFor view.now.lists guide.new }
+    ensures guided { IsGuidedTo view.now.core guide.new defect }
 {
     if let Some(defect) = defect {
-        guide.aim(chip, defect);
+        guide.aim(view, defect);
     }
 }
 
 /// A simulator of a chip, and the guide of the defect that is aimed at. All memory is taken by `reserve`.
 #[derive(Drop)]
-pub struct Bench<'a, L: Linked, C: LinkedChip, R: ExposingRows, P: Choice + Drop> {
-    sim: Sim<'a, L>,
-    chip: &'a C,
+pub struct Bench<'a, R: ExposingRows, P: Choice + Drop> {
+    sim: Sim<'a>,
+    view: &'a View<'a>,
     rows: &'a R,
     guide: Guide,
     choice: P,
@@ -45,8 +43,7 @@ pub struct Bench<'a, L: Linked, C: LinkedChip, R: ExposingRows, P: Choice + Drop
     defect: Option<ChipDefect>,
 }
 
-impl<'a, L: Linked, C: LinkedChip, R: ExposingRows, P: Choice + Drop> Model
-    for Bench<'a, L, C, R, P> {
+impl<'a, R: ExposingRows, P: Choice + Drop> Model for Bench<'a, R, P> {
     ghost use Rattle.ca_sim.specs.Simulator.{Simulator};
     ghost use Rattle.ca_judge.specs.Bench.{IsBench};
 
@@ -54,43 +51,42 @@ impl<'a, L: Linked, C: LinkedChip, R: ExposingRows, P: Choice + Drop> Model
 
     ghost view = { λ bench. bench.sim };
 
-    ghost invariant = { λ bench. IsBench bench.sim.seen.chip bench.sim.seen.aim (C.chip bench.chip.now)
-        (C.lists bench.chip.now) (R.chip bench.rows.now) bench.guide bench.outputs.items bench.defect };
+    ghost invariant = { λ bench. IsBench bench.sim.seen.chip bench.sim.seen.aim bench.view.now.core
+        bench.view.now.lists (R.chip bench.rows.now) bench.guide bench.outputs.items bench.defect };
 }
 
-impl<'a, L: Linked, C: LinkedChip, R: ExposingRows, P: Choice + Drop> Bench<'a, L, C, R, P> {
+impl<'a, R: ExposingRows, P: Choice + Drop> Bench<'a, R, P> {
     ghost use Rattle.std.specs.Prelude.{IsFalse, IsTrue, None};
     ghost use Rattle.ca_flat.specs.Chip.{IsDefectIn};
     ghost use Rattle.ca_flat.specs.RuleOut.{RowsRuleOut};
     ghost use Rattle.ca_flat.specs.Waves.{FlatWaves};
     ghost use Rattle.ca_flat.specs.Code.{unset_pair};
     ghost use Rattle.ca_flat.specs.Pair.{IsShown};
-    ghost use Rattle.ca_sim.specs.Linked.{IsAim, IsPlacedDefect, place_in};
+    ghost use Rattle.ca_view.specs.Linked.{IsAim, IsPlacedDefect, place_in};
     ghost use Rattle.ca_sim.specs.Seen.{IsExact, aimed_anew};
     ghost use Rattle.ca_sim.specs.Simulator.{IsFresh, KeepsAim, KeepsPair, KeepsSeen, counted_up};
-    ghost use Rattle.ca_judge.specs.Bench.{IsSearchable};
+    ghost use Rattle.ca_judge.specs.Bench.{CanBeJudged};
 
     /// Takes all memory. No bit is set, and no defect is aimed at.
     #[tactic(auto, using(crate::proofs::BenchLemmas::bench_begins, crate::proofs::BenchLemmas::few_onward))]
     pub fn reserve(
         alloc: Global,
-        linked: &'a L,
-        chip: &'a C,
+        view: &'a View<'a>,
         rows: &'a R,
         choice: P,
     ) -> Result<Self, NoMemory>
-        requires chip { IsSearchable (L.core linked.now) (C.chip chip.now) (C.lists chip.now) }
-        requires rows { R.chip rows.now ≡ L.core linked.now }
-        ensures { IfOk result (IsFresh (L.core linked.now) (L.places linked.now)) }
+        requires judged { CanBeJudged view.now.core }
+        requires rows { R.chip rows.now ≡ view.now.core }
+        ensures { IfOk result (IsFresh view.now.core view.now.ranks) }
     {
-        linked.linked();
+        view.linked();
         // The largest comes last: each value that exists when memory runs out is dropped in one more place.
-        let outputs = observed_nets(alloc, chip)?;
-        let guide = Guide::reserve(alloc, chip)?;
-        let sim = Sim::reserve(alloc, linked)?;
+        let outputs = observed_nets(alloc, view)?;
+        let guide = Guide::reserve(alloc, view)?;
+        let sim = Sim::reserve(alloc, view)?;
         Ok(Bench {
             sim,
-            chip,
+            view,
             rows,
             guide,
             choice,
@@ -108,7 +104,7 @@ impl<'a, L: Linked, C: LinkedChip, R: ExposingRows, P: Choice + Drop> Bench<'a, 
         ensures kept { KeepsPair self.old self.new }
     {
         self.sim.aim(defect);
-        guide_to(&mut self.guide, self.chip, defect);
+        guide_to(&mut self.guide, self.view, defect);
         self.defect = defect;
     }
 
@@ -122,7 +118,7 @@ impl<'a, L: Linked, C: LinkedChip, R: ExposingRows, P: Choice + Drop> Bench<'a, 
     {
         self.sim.exact();
         let waves = GuideWaves { waves: &self.sim };
-        let pins = self.chip.input_pins(defect.instance);
+        let pins = self.view.input_pins(defect.instance);
         is_some_row_allowed(&waves, pins, self.rows.rows(defect))
     }
 
@@ -160,8 +156,7 @@ impl<'a, L: Linked, C: LinkedChip, R: ExposingRows, P: Choice + Drop> Bench<'a, 
     }
 }
 
-impl<L: Linked, C: LinkedChip, R: ExposingRows, P: Choice + Drop> NetWaves
-    for Bench<'_, L, C, R, P> {
+impl<R: ExposingRows, P: Choice + Drop> NetWaves for Bench<'_, R, P> {
     ghost seen = { λ bench. bench.seen };
 
     fn good(&self, net: usize) -> Wave {
@@ -181,13 +176,13 @@ impl<L: Linked, C: LinkedChip, R: ExposingRows, P: Choice + Drop> NetWaves
     }
 }
 
-impl<L: Linked, C: LinkedChip, R: ExposingRows, P: Choice + Drop> Judge for Bench<'_, L, C, R, P> {
+impl<R: ExposingRows, P: Choice + Drop> Judge for Bench<'_, R, P> {
     ghost use Rattle.ca_judge.specs.Bench.{judged_of};
 
     ghost judged = { λ bench. judged_of bench.seen };
 
     fn bit_count(&self) -> usize {
-        2 * self.chip.inputs().len()
+        2 * self.view.inputs().len()
     }
 
     fn clear(&mut self) {
@@ -209,7 +204,7 @@ impl<L: Linked, C: LinkedChip, R: ExposingRows, P: Choice + Drop> Judge for Benc
         let waves = GuideWaves { waves: &self.sim };
         match self.defect {
             Some(defect) => self.guide.next(
-                self.chip,
+                self.view,
                 &waves,
                 self.rows.rows(defect),
                 defect,

@@ -26,7 +26,7 @@ use Rattle.ca_flat.specs.Code.{unset_pair}
 use Rattle.ca_flat.proofs.Clashes.{wave_ext}
 use Rattle.ca_flat.proofs.Spots.{body}
 use Rattle.ca_flat.proofs.Undriven.{first_unknown, middle_unknown, last_unknown, not_input}
-use Rattle.ca_sim.specs.Linked.{IsLinked, IsPinned}
+use Rattle.ca_view.specs.Linked.{IsLinked, IsPinned}
 use Rattle.ca_sim.specs.Current.{IsCurrent, pair_wave}
 use Rattle.ca_sim.specs.PlaceSet.{Has, HoldsUpTo}
 use Rattle.ca_sim.specs.Marking.{HasPlacesTo, HasAllPlaces}

@@ -5,7 +5,7 @@ use Rattle.std.proofs.lemmas.List.{get_or-set_same, get_or-set_other, length-set
 use Rattle.ca_cell.specs.declared.raw.RawCell.{RawCell}
 use Rattle.ca_flat.specs.Chip.{Chip, cell_at}
 use Rattle.ca_table.specs.declared.rooms.Rooms.{Rooms}
-use Rattle.ca_sim.specs.Linked.{IsLinked, IsPlaced}
+use Rattle.ca_view.specs.Linked.{IsLinked, IsPlaced}
 use Rattle.ca_table.specs.Rooms.{AreRoomsOf}
 use Rattle.ca_sim.specs.Cells.{AreCellRooms}
 

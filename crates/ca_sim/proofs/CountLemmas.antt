@@ -12,7 +12,7 @@ use Rattle.ca_table.specs.Gives.{wave_at}
 use Rattle.ca_flat.specs.Chip.{Chip, net_of}
 use Rattle.ca_flat.specs.Chain.{IsBitOf}
 use Rattle.ca_flat.specs.Pair.{bit_count}
-use Rattle.ca_sim.specs.Linked.{Reads, IsLinked, IsPinned}
+use Rattle.ca_view.specs.Linked.{Reads, IsLinked, IsPinned}
 use Rattle.ca_sim.specs.PlaceSet.{Has}
 use Rattle.ca_sim.specs.Simulator.{counted_up, CountsOne}
 use Rattle.ca_sim.specs.declared.network.Network.{Network}

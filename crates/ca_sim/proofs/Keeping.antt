@@ -2,7 +2,7 @@
 use Rattle.std.proofs.Common.{ℕ, List, Option, None, Some}
 use Rattle.ca_flat.specs.declared.chip_defect.ChipDefect.{ChipDefect}
 use Rattle.ca_flat.specs.Chip.{Chip, IsChipDefect}
-use Rattle.ca_sim.specs.Linked.{IsAim}
+use Rattle.ca_view.specs.Linked.{IsAim}
 use Rattle.ca_sim.specs.Seen.{IsExact}
 use Rattle.ca_sim.specs.declared.cells.Cells.{Cells}
 use Rattle.ca_sim.specs.declared.networks.Networks.{Networks}

@@ -12,7 +12,7 @@ use Rattle.ca_flat.specs.Flat.{circuit_in}
 use Rattle.ca_table.specs.Gives.{Gives}
 use Rattle.ca_sim.specs.Current.{input_waves, IsSimulated}
 use Rattle.ca_sim.specs.Current.{none_due}
-use Rattle.ca_sim.specs.Linked.{IsLinked, IsPlaced}
+use Rattle.ca_view.specs.Linked.{IsLinked, IsPlaced}
 use Rattle.ca_sim.specs.declared.place_set.PlaceSet.{PlaceSet}
 use Rattle.ca_sim.specs.declared.network.Network.{Network}
 use Rattle.ca_sim.specs.PlaceSet.{Has, HoldsUpTo, IsNext}

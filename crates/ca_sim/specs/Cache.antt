@@ -7,7 +7,7 @@ use Rattle.ca_defect.specs.declared.defect.Defect.{Defect}
 use Rattle.ca_table.specs.Gives.{Gives}
 use Rattle.ca_flat.specs.Chip.{Chip, cell_at, circuit_at}
 use Rattle.ca_flat.specs.Flat.{with_defect}
-use Rattle.ca_sim.specs.Linked.{IsPlaced}
+use Rattle.ca_view.specs.Linked.{IsPlaced}
 use Rattle.ca_sim.specs.declared.cache.Entry.{Entry}
 
 -- the cell of the instance, with this defect or without, gives these waves, which are waves

@@ -3,7 +3,7 @@ use Rattle.std.specs.Prelude.{ℕ, ◌≡◌, ◌<◌, List, length, slice_index
 use Rattle.ca_table.specs.declared.rooms.Rooms.{Rooms}
 use Rattle.ca_table.specs.Rooms.{AreRoomsOf}
 use Rattle.ca_flat.specs.Chip.{Chip, cell_at}
-use Rattle.ca_sim.specs.Linked.{IsPlaced}
+use Rattle.ca_view.specs.Linked.{IsPlaced}
 use Rattle.ca_sim.specs.declared.cells.Cells.{Cells}
 use Rattle.ca_sim.specs.Cache.{HoldTrue}
 

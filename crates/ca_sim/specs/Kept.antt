@@ -2,7 +2,7 @@
 use Rattle.std.specs.Prelude.{ℕ, Option}
 use Rattle.ca_flat.specs.declared.chip_defect.ChipDefect.{ChipDefect}
 use Rattle.ca_flat.specs.Chip.{Chip}
-use Rattle.ca_sim.specs.Linked.{IsLinked, IsAim}
+use Rattle.ca_view.specs.Linked.{IsLinked, IsAim}
 use Rattle.ca_sim.specs.declared.cells.Cells.{Cells}
 use Rattle.ca_sim.specs.Cells.{AreCells}
 use Rattle.ca_sim.specs.declared.networks.Networks.{Networks}

@@ -1,4 +1,3 @@
-pub mod Linked
 pub mod Seen
 pub mod Simulator
 pub mod Laws

@@ -11,7 +11,7 @@ use Rattle.ca_flat.specs.declared.chip_defect.ChipDefect.{ChipDefect}
 use Rattle.ca_flat.specs.Chip.{Chip, Constant, cell_at, count_of}
 use Rattle.ca_flat.specs.Flat.{circuit_in}
 use Rattle.ca_flat.specs.Pair.{constant_value}
-use Rattle.ca_sim.specs.Linked.{Reads, IsPlace}
+use Rattle.ca_view.specs.Linked.{Reads, IsPlace}
 use Rattle.ca_sim.specs.Current.{IsCurrent, IsSimulated, none_due}
 use Rattle.ca_sim.specs.Changes.{IsWritten, HasReadersDue}
 use Rattle.ca_sim.specs.declared.place_set.PlaceSet.{PlaceSet}

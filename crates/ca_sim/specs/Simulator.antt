@@ -6,7 +6,7 @@ use Rattle.ca_net.specs.State.{value_at}
 use Rattle.ca_flat.specs.Chip.{Chip}
 use Rattle.ca_flat.specs.Chain.{IsBitOf}
 use Rattle.ca_flat.specs.Code.{unset_pair}
-use Rattle.ca_sim.specs.Linked.{Reads}
+use Rattle.ca_view.specs.Linked.{Reads}
 use Rattle.ca_sim.specs.Seen.{Seen}
 
 -- the waves and what they are of, how often an instance was evaluated, and how often was aimed

@@ -6,17 +6,18 @@ ghost use Rattle.ca_net.specs.Wave.{IsWave};
 ghost use Rattle.ca_table.specs.Gives.{Gives};
 ghost use Rattle.ca_flat.specs.Chip.{cell_at, inputs_at, count_of, IsChipDefect};
 ghost use Rattle.ca_flat.specs.Flat.{circuit_in, defect_at};
-ghost use Rattle.ca_sim.specs.Linked.{IsPlaced, place_in};
+ghost use Rattle.ca_view.specs.Linked.{IsPlaced, place_in};
+ghost use Rattle.ca_view.specs.Places.{cell_number};
 ghost use Rattle.ca_sim.specs.Simulator.{CountsOne};
 
 use crate::cache::{Cache, Entry};
-use crate::linked::Linked;
 use ca_base::NoMemory;
 use ca_defect::Defect;
 use ca_flat::ChipDefect;
 use ca_net::{Trit, Wave};
 use ca_response::{OutWaves, PinWaves};
 use ca_table::{MOST_TABLE_INPUTS, Rooms, copied};
+use ca_view::View;
 use std::alloc::Global;
 
 // The number of slots of the cache: about a MiB.
@@ -37,9 +38,9 @@ impl Cells {
     ghost use Rattle.ca_sim.specs.Cells.{AreCellRooms, AreCells, AreRoomsTo};
 
     /// Takes the room for the cells of all instances with a place, and builds their tables.
-    pub(crate) fn reserve<C: Linked>(alloc: Global, chip: &C) -> Result<Self, NoMemory>
-        ensures { IfOk result (AreCells (C.core chip.now) (place_in (C.places chip.now))
-            (C.number_of chip.now)) }
+    pub(crate) fn reserve(alloc: Global, chip: &View) -> Result<Self, NoMemory>
+        ensures { IfOk result (AreCells chip.now.core (place_in chip.now.ranks)
+            (cell_number chip.now.chip)) }
     {
         let mut rooms = Vec::new(alloc);
         for number in 0..chip.numbers() {
@@ -65,24 +66,18 @@ impl Cells {
     }
 
     /// How an instance responds, without a look at the cache.
-    fn compute<C: Linked>(
-        &mut self,
-        chip: &C,
-        u: usize,
-        aim: Option<ChipDefect>,
-        pins: &[Wave],
-    ) -> OutWaves
-        requires placed { IsPlaced (C.core chip.now) (place_in (C.places chip.now)) u }
-        requires listed { IsChipDefect (C.core chip.now) aim }
-        requires pins { length pins.now ≡ inputs_at (C.core chip.now) u }
+    fn compute(&mut self, chip: &View, u: usize, aim: Option<ChipDefect>, pins: &[Wave]) -> OutWaves
+        requires placed { IsPlaced chip.now.core (place_in chip.now.ranks) u }
+        requires listed { IsChipDefect chip.now.core aim }
+        requires pins { length pins.now ≡ inputs_at chip.now.core u }
         requires waves { All IsWave pins.now }
-        requires rooms { AreCellRooms (C.core chip.now) (place_in (C.places chip.now)) (C.number_of chip.now)
+        requires rooms { AreCellRooms chip.now.core (place_in chip.now.ranks) (cell_number chip.now.chip)
             self.old.rooms.items }
 
-        ensures gives { Gives (cell_at (C.core chip.now) u) (circuit_in (C.core chip.now) aim u) pins.now
+        ensures gives { Gives (cell_at chip.now.core u) (circuit_in chip.now.core aim u) pins.now
             result.items }
         ensures waves { All IsWave result.items }
-        ensures rooms { AreCellRooms (C.core chip.now) (place_in (C.places chip.now)) (C.number_of chip.now)
+        ensures rooms { AreCellRooms chip.now.core (place_in chip.now.ranks) (cell_number chip.now.chip)
             self.new.rooms.items }
         ensures cache { self.new.cache ≡ self.old.cache }
         ensures count { self.new.evaluated ≡ self.old.evaluated }
@@ -98,25 +93,25 @@ impl Cells {
 
     /// How an instance responds to waves of its input pins, good or with the defect that is aimed at: by the
     /// table of its cell, or as the cache has it, or computed.
-    pub(crate) fn respond<C: Linked>(
+    pub(crate) fn respond(
         &mut self,
-        chip: &C,
+        chip: &View,
         u: usize,
         aim: Option<ChipDefect>,
         pins: PinWaves,
     ) -> OutWaves
-        requires placed { IsPlaced (C.core chip.now) (place_in (C.places chip.now)) u }
-        requires listed { IsChipDefect (C.core chip.now) aim }
-        requires pins { length pins.items ≡ inputs_at (C.core chip.now) u }
+        requires placed { IsPlaced chip.now.core (place_in chip.now.ranks) u }
+        requires listed { IsChipDefect chip.now.core aim }
+        requires pins { length pins.items ≡ inputs_at chip.now.core u }
         requires waves { All IsWave pins.items }
-        requires cells { AreCells (C.core chip.now) (place_in (C.places chip.now))
-            (C.number_of chip.now) self.old }
+        requires cells { AreCells chip.now.core (place_in chip.now.ranks)
+            (cell_number chip.now.chip) self.old }
 
-        ensures gives { Gives (cell_at (C.core chip.now) u) (circuit_in (C.core chip.now) aim u) pins.items
+        ensures gives { Gives (cell_at chip.now.core u) (circuit_in chip.now.core aim u) pins.items
             result.items }
         ensures waves { All IsWave result.items }
-        ensures cells { AreCells (C.core chip.now) (place_in (C.places chip.now))
-            (C.number_of chip.now) self.new }
+        ensures cells { AreCells chip.now.core (place_in chip.now.ranks)
+            (cell_number chip.now.chip) self.new }
         ensures count { CountsOne self.old.evaluated self.new.evaluated }
     {
         self.evaluated = self.evaluated.saturating_add(1);
@@ -147,9 +142,9 @@ impl Cells {
 ghost use Rattle.ca_sim.specs.Cells.{IsOneOf, FitCellsOf};
 
 // The room for the cell of a number, if some instance has it.
-fn rooms_for<C: Linked>(alloc: Global, chip: &C, number: usize) -> Result<Rooms, NoMemory>
+fn rooms_for(alloc: Global, chip: &View, number: usize) -> Result<Rooms, NoMemory>
     ensures { IfOk result
-        (FitCellsOf (C.core chip.now) (place_in (C.places chip.now)) (C.number_of chip.now) number) }
+        (FitCellsOf chip.now.core (place_in chip.now.ranks) (cell_number chip.now.chip) number) }
 {
     chip.linked();
     match instance_with(chip, number) {
@@ -159,11 +154,11 @@ fn rooms_for<C: Linked>(alloc: Global, chip: &C, number: usize) -> Result<Rooms,
 }
 
 // Some instance with a place whose cell has the number.
-fn instance_with<C: Linked>(chip: &C, number: usize) -> Option<usize>
-    ensures { IsOneOf (C.core chip.now) (place_in (C.places chip.now)) (C.number_of chip.now) number result }
+fn instance_with(chip: &View, number: usize) -> Option<usize>
+    ensures { IsOneOf chip.now.core (place_in chip.now.ranks) (cell_number chip.now.chip) number result }
 {
     for u in 0..chip.instances() {
-        if chip.place(u) > 0 && chip.number(u) == number {
+        if chip.rank(u) > 0 && chip.number(u) == number {
             return Some(u);
         }
     }

@@ -6,7 +6,6 @@ mod bits;
 mod cache;
 mod cells;
 mod laws;
-mod linked;
 mod net_waves;
 mod network;
 mod networks;
@@ -16,6 +15,5 @@ mod waves;
 
 pub use bits::Bits;
 pub use laws::{definite_last_is_end, waves_are_there};
-pub use linked::{FixedNet, Linked};
 pub use net_waves::NetWaves;
 pub use sim::Sim;

@@ -7,17 +7,18 @@ ghost use Rattle.ca_net.specs.Wave.{pair_of};
 ghost use Rattle.ca_flat.specs.Chip.{count_of, outputs_at, IsChipDefect};
 ghost use Rattle.ca_flat.specs.Pair.{bit_count};
 ghost use Rattle.ca_flat.specs.Code.{unset_pair};
-ghost use Rattle.ca_sim.specs.Linked.{Reads, IsPlaced, IsAim, place_in};
+ghost use Rattle.ca_view.specs.Linked.{Reads, IsPlaced, IsAim, place_in};
+ghost use Rattle.ca_view.specs.Places.{cell_number};
 
 use crate::cache::same_waves;
 use crate::cells::{Cells, defect_here};
-use crate::linked::Linked;
 use crate::place_set::PlaceSet;
 use crate::waves::Waves;
 use ca_base::NoMemory;
 use ca_flat::ChipDefect;
 use ca_net::{State, Wave};
 use ca_response::{OutWaves, PinWaves};
+use ca_view::View;
 use std::alloc::Global;
 
 /// A wave for each net, and the places in the order whose instances are due.
@@ -36,10 +37,10 @@ impl Network {
     ghost use Rattle.ca_sim.specs.Cells.{AreCells};
 
     /// Takes the room for the waves of a chip's nets. No bit is set, and each instance with a place is due.
-    pub(crate) fn reserve<C: Linked>(alloc: Global, chip: &C) -> Result<Self, NoMemory>
+    pub(crate) fn reserve(alloc: Global, chip: &View) -> Result<Self, NoMemory>
         ensures { IfOk result
-            (IsUnderway (C.core chip.now) (place_in (C.places chip.now)) None
-            (unset_pair (C.core chip.now))) }
+            (IsUnderway chip.now.core (place_in chip.now.ranks) None
+            (unset_pair chip.now.core)) }
     {
         chip.linked();
         Ok(Network {
@@ -49,8 +50,8 @@ impl Network {
     }
 
     /// The same waves, and nothing is due.
-    pub(crate) fn copy<C: Linked>(&self, alloc: Global, chip: &C) -> Result<Self, NoMemory>
-        ensures { IfOk result (IsRestingCopy (C.core chip.now) self.now) }
+    pub(crate) fn copy(&self, alloc: Global, chip: &View) -> Result<Self, NoMemory>
+        ensures { IfOk result (IsRestingCopy chip.now.core self.now) }
     {
         chip.linked();
         Ok(Network {
@@ -60,12 +61,12 @@ impl Network {
     }
 
     /// Gives a net a wave; if that is another one, its readers are due.
-    pub(crate) fn put<C: Linked>(&mut self, chip: &C, net: usize, wave: Wave)
-        requires known { net < length (C.core chip.now).nets }
-        requires count { length self.old.waves ≡ length (C.core chip.now).nets }
-        requires room { HoldsUpTo self.old.due (count_of (C.core chip.now) + 1) }
+    pub(crate) fn put(&mut self, chip: &View, net: usize, wave: Wave)
+        requires known { net < length chip.now.core.nets }
+        requires count { length self.old.waves ≡ length chip.now.core.nets }
+        requires room { HoldsUpTo self.old.due (count_of chip.now.core + 1) }
 
-        ensures { IsPut (C.core chip.now) (place_in (C.places chip.now)) net wave self.old self.new }
+        ensures { IsPut chip.now.core (place_in chip.now.ranks) net wave self.old self.new }
     {
         if self.waves.get(net) == wave {
             return;
@@ -75,17 +76,17 @@ impl Network {
     }
 
     /// Gives the net of a chip input the wave of its two bits.
-    pub(crate) fn feed<C: Linked>(&mut self, chip: &C, input: usize, bits: &State)
-        requires known { input < length (C.core chip.now).inputs }
-        requires bits { length bits.now ≡ bit_count (C.core chip.now) }
-        requires ready { IsReady (C.core chip.now) (place_in (C.places chip.now)) self.old }
+    pub(crate) fn feed(&mut self, chip: &View, input: usize, bits: &State)
+        requires known { input < length chip.now.core.inputs }
+        requires bits { length bits.now ≡ bit_count chip.now.core }
+        requires ready { IsReady chip.now.core (place_in chip.now.ranks) self.old }
 
-        ensures fed { IsFedAt (C.core chip.now) (place_in (C.places chip.now)) input bits.now
+        ensures fed { IsFedAt chip.now.core (place_in chip.now.ranks) input bits.now
             self.old self.new }
-        ensures ready { IsReady (C.core chip.now) (place_in (C.places chip.now)) self.new }
+        ensures ready { IsReady chip.now.core (place_in chip.now.ranks) self.new }
     {
         chip.linked();
-        let last = chip.inputs() + input;
+        let last = chip.input_count() + input;
         self.put(
             chip,
             chip.input(input),
@@ -94,26 +95,26 @@ impl Network {
     }
 
     /// The instance of a defect becomes due.
-    pub(crate) fn turn<C: Linked>(&mut self, chip: &C, aim: Option<ChipDefect>)
-        requires aim { IsAim (C.core chip.now) (place_in (C.places chip.now)) aim }
-        requires ready { IsReady (C.core chip.now) (place_in (C.places chip.now)) self.old }
+    pub(crate) fn turn(&mut self, chip: &View, aim: Option<ChipDefect>)
+        requires aim { IsAim chip.now.core (place_in chip.now.ranks) aim }
+        requires ready { IsReady chip.now.core (place_in chip.now.ranks) self.old }
 
-        ensures { IsTurned (C.core chip.now) (place_in (C.places chip.now)) aim self.old self.new }
+        ensures { IsTurned chip.now.core (place_in chip.now.ranks) aim self.old self.new }
     {
         chip.linked();
         if let Some(aim) = aim {
-            self.due.insert(chip.place(aim.instance as usize));
+            self.due.insert(chip.rank(aim.instance as usize));
         }
     }
 
     /// Gives the output nets of an instance their waves.
-    fn write<C: Linked>(&mut self, chip: &C, u: usize, outputs: &[Wave])
-        requires placed { IsPlaced (C.core chip.now) (place_in (C.places chip.now)) u }
-        requires outputs { length outputs.now ≡ outputs_at (C.core chip.now) u }
-        requires count { length self.old.waves ≡ length (C.core chip.now).nets }
-        requires room { HoldsUpTo self.old.due (count_of (C.core chip.now) + 1) }
+    fn write(&mut self, chip: &View, u: usize, outputs: &[Wave])
+        requires placed { IsPlaced chip.now.core (place_in chip.now.ranks) u }
+        requires outputs { length outputs.now ≡ outputs_at chip.now.core u }
+        requires count { length self.old.waves ≡ length chip.now.core.nets }
+        requires room { HoldsUpTo self.old.due (count_of chip.now.core + 1) }
 
-        ensures { IsWrittenOut (C.core chip.now) (place_in (C.places chip.now)) u outputs.now
+        ensures { IsWrittenOut chip.now.core (place_in chip.now.ranks) u outputs.now
             self.old self.new }
     {
         chip.linked();
@@ -124,10 +125,10 @@ impl Network {
     }
 
     /// The waves of an instance's input pins.
-    fn input_waves<C: Linked>(&self, chip: &C, u: usize) -> PinWaves
-        requires placed { IsPlaced (C.core chip.now) (place_in (C.places chip.now)) u }
-        requires count { length self.now.waves ≡ length (C.core chip.now).nets }
-        ensures { result.items ≡ input_waves (C.core chip.now) self.now.waves u }
+    fn input_waves(&self, chip: &View, u: usize) -> PinWaves
+        requires placed { IsPlaced chip.now.core (place_in chip.now.ranks) u }
+        requires count { length self.now.waves ≡ length chip.now.core.nets }
+        ensures { result.items ≡ input_waves chip.now.core self.now.waves u }
     {
         chip.linked();
         let mut pins = PinWaves::new();
@@ -138,10 +139,10 @@ impl Network {
     }
 
     /// The waves of an instance's output pins.
-    fn output_waves<C: Linked>(&self, chip: &C, u: usize) -> OutWaves
-        requires placed { IsPlaced (C.core chip.now) (place_in (C.places chip.now)) u }
-        requires count { length self.now.waves ≡ length (C.core chip.now).nets }
-        ensures { result.items ≡ output_waves (C.core chip.now) self.now.waves u }
+    fn output_waves(&self, chip: &View, u: usize) -> OutWaves
+        requires placed { IsPlaced chip.now.core (place_in chip.now.ranks) u }
+        requires count { length self.now.waves ≡ length chip.now.core.nets }
+        ensures { result.items ≡ output_waves chip.now.core self.now.waves u }
     {
         chip.linked();
         let first = chip.cell(u).inputs();
@@ -153,22 +154,22 @@ impl Network {
     }
 
     /// Whether an instance gives for its waves at the input pins those that it has at the output pins.
-    pub(crate) fn is_current<C: Linked>(
+    pub(crate) fn is_current(
         &self,
-        chip: &C,
+        chip: &View,
         u: usize,
         aim: Option<ChipDefect>,
         cells: &mut Cells,
     ) -> bool
-        requires placed { IsPlaced (C.core chip.now) (place_in (C.places chip.now)) u }
-        requires listed { IsChipDefect (C.core chip.now) aim }
-        requires ready { IsReady (C.core chip.now) (place_in (C.places chip.now)) self.now }
-        requires cells { AreCells (C.core chip.now) (place_in (C.places chip.now))
-            (C.number_of chip.now) cells.old }
+        requires placed { IsPlaced chip.now.core (place_in chip.now.ranks) u }
+        requires listed { IsChipDefect chip.now.core aim }
+        requires ready { IsReady chip.now.core (place_in chip.now.ranks) self.now }
+        requires cells { AreCells chip.now.core (place_in chip.now.ranks)
+            (cell_number chip.now.chip) cells.old }
 
-        ensures current { IsTrue result → IsCurrent (C.core chip.now) aim self.now.waves u }
-        ensures cells { AreCells (C.core chip.now) (place_in (C.places chip.now))
-            (C.number_of chip.now) cells.new }
+        ensures current { IsTrue result → IsCurrent chip.now.core aim self.now.waves u }
+        ensures cells { AreCells chip.now.core (place_in chip.now.ranks)
+            (cell_number chip.now.chip) cells.new }
     {
         let pins = self.input_waves(chip, u);
         let outputs = cells.respond(chip, u, aim, pins);
@@ -177,16 +178,16 @@ impl Network {
 
     /// What an instance gives for these waves, if it has no defect and has them in this network too, which is
     /// good and at rest.
-    fn twin_outputs<C: Linked>(
+    fn twin_outputs(
         &self,
-        chip: &C,
+        chip: &View,
         u: usize,
         aim: Option<ChipDefect>,
         pins: &[Wave],
     ) -> Option<OutWaves>
-        requires placed { IsPlaced (C.core chip.now) (place_in (C.places chip.now)) u }
-        requires twin { IsTwin (C.core chip.now) self.now }
-        ensures { IfSome result (λ outputs. IsGiven (C.core chip.now) aim u pins.now outputs.items) }
+        requires placed { IsPlaced chip.now.core (place_in chip.now.ranks) u }
+        requires twin { IsTwin chip.now.core self.now }
+        ensures { IfSome result (λ outputs. IsGiven chip.now.core aim u pins.now outputs.items) }
     {
         if defect_here(aim, u).is_some() {
             return None;
@@ -201,22 +202,22 @@ impl Network {
     /// Evaluates the instances that are due, in the order, until none is. Where there is a good network
     /// beside this one, and an instance has its waves at the input pins and no defect, the instance has them
     /// at the output pins too.
-    pub(crate) fn settle<C: Linked>(
+    pub(crate) fn settle(
         &mut self,
-        chip: &C,
+        chip: &View,
         aim: Option<ChipDefect>,
         twin: Option<&Network>,
         cells: &mut Cells,
     )
-        requires listed { IsChipDefect (C.core chip.now) aim }
-        requires ready { IsReady (C.core chip.now) (place_in (C.places chip.now)) self.old }
-        requires twin { ForSome twin (λ good. IsTwin (C.core chip.now) good.now) }
-        requires cells { AreCells (C.core chip.now) (place_in (C.places chip.now))
-            (C.number_of chip.now) cells.old }
+        requires listed { IsChipDefect chip.now.core aim }
+        requires ready { IsReady chip.now.core (place_in chip.now.ranks) self.old }
+        requires twin { ForSome twin (λ good. IsTwin chip.now.core good.now) }
+        requires cells { AreCells chip.now.core (place_in chip.now.ranks)
+            (cell_number chip.now.chip) cells.old }
 
-        ensures settled { IsSettled (C.core chip.now) (place_in (C.places chip.now)) aim self.old self.new }
-        ensures cells { AreCells (C.core chip.now) (place_in (C.places chip.now))
-            (C.number_of chip.now) cells.new }
+        ensures settled { IsSettled chip.now.core (place_in chip.now.ranks) aim self.old self.new }
+        ensures cells { AreCells chip.now.core (place_in chip.now.ranks)
+            (cell_number chip.now.chip) cells.new }
         ensures grows { cells.old.evaluated ≤ cells.new.evaluated }
         ensures count { twin.entry ≡ None → CountsDue self.old cells.old.evaluated cells.new.evaluated }
     {
@@ -238,12 +239,12 @@ ghost use Rattle.ca_sim.specs.Marking.{IsMarked, HasAllPlaces};
 ghost use Rattle.ca_sim.specs.Network.{HasConstants};
 
 // The waves of the nets while no bit is set and no instance has been evaluated: those of constants are known.
-fn constant_waves<C: Linked>(alloc: Global, chip: &C) -> Result<Waves, NoMemory>
-    ensures { IfOk result (HasConstants (C.core chip.now)) }
+fn constant_waves(alloc: Global, chip: &View) -> Result<Waves, NoMemory>
+    ensures { IfOk result (HasConstants chip.now.core) }
 {
     chip.linked();
     let mut waves = Waves::unknown(alloc, chip.nets())?;
-    let count = chip.constants();
+    let count = chip.constant_count();
     for k in 0..count {
         // The first constant of a net counts, so it comes last.
         let constant = chip.constant(count - 1 - k);
@@ -253,13 +254,13 @@ fn constant_waves<C: Linked>(alloc: Global, chip: &C) -> Result<Waves, NoMemory>
 }
 
 // The places of all instances.
-fn all_places<C: Linked>(alloc: Global, chip: &C) -> Result<PlaceSet, NoMemory>
-    ensures { IfOk result (HasAllPlaces (C.core chip.now) (place_in (C.places chip.now))) }
+fn all_places(alloc: Global, chip: &View) -> Result<PlaceSet, NoMemory>
+    ensures { IfOk result (HasAllPlaces chip.now.core (place_in chip.now.ranks)) }
 {
     chip.linked();
     let mut due = PlaceSet::reserve(alloc, chip.instances() + 1)?;
     for u in 0..chip.instances() {
-        let place = chip.place(u);
+        let place = chip.rank(u);
         if place > 0 {
             due.insert(place);
         }
@@ -268,14 +269,14 @@ fn all_places<C: Linked>(alloc: Global, chip: &C) -> Result<PlaceSet, NoMemory>
 }
 
 /// The instances that read a net become due.
-fn mark_readers<C: Linked>(chip: &C, net: usize, due: &mut PlaceSet)
-    requires known { net < length (C.core chip.now).nets }
-    requires room { HoldsUpTo due.old (count_of (C.core chip.now) + 1) }
-    ensures { IsMarked (C.core chip.now) (place_in (C.places chip.now)) net due.old due.new }
+fn mark_readers(chip: &View, net: usize, due: &mut PlaceSet)
+    requires known { net < length chip.now.core.nets }
+    requires room { HoldsUpTo due.old (count_of chip.now.core + 1) }
+    ensures { IsMarked chip.now.core (place_in chip.now.ranks) net due.old due.new }
 {
     chip.linked();
     for k in 0..chip.reader_count(net) {
-        due.insert(chip.place(chip.reader(net, k)));
+        due.insert(chip.rank(chip.reader(net, k)));
     }
 }
 
@@ -289,27 +290,27 @@ ghost use Rattle.ca_sim.specs.Cells.{AreCells};
 ghost use Rattle.ca_sim.specs.Simulator.{CountsOne};
 
 /// How an instance responds: as in the good network, if it can.
-fn respond_beside<C: Linked>(
-    chip: &C,
+fn respond_beside(
+    chip: &View,
     u: usize,
     aim: Option<ChipDefect>,
     pins: PinWaves,
     twin: Option<&Network>,
     cells: &mut Cells,
 ) -> OutWaves
-    requires placed { IsPlaced (C.core chip.now) (place_in (C.places chip.now)) u }
-    requires listed { IsChipDefect (C.core chip.now) aim }
-    requires pins { length pins.items ≡ inputs_at (C.core chip.now) u }
+    requires placed { IsPlaced chip.now.core (place_in chip.now.ranks) u }
+    requires listed { IsChipDefect chip.now.core aim }
+    requires pins { length pins.items ≡ inputs_at chip.now.core u }
     requires waves { All IsWave pins.items }
-    requires twin { ForSome twin (λ good. IsTwin (C.core chip.now) good.now) }
-    requires cells { AreCells (C.core chip.now) (place_in (C.places chip.now))
-        (C.number_of chip.now) cells.old }
+    requires twin { ForSome twin (λ good. IsTwin chip.now.core good.now) }
+    requires cells { AreCells chip.now.core (place_in chip.now.ranks)
+        (cell_number chip.now.chip) cells.old }
 
-    ensures gives { Gives (cell_at (C.core chip.now) u) (circuit_in (C.core chip.now) aim u) pins.items
+    ensures gives { Gives (cell_at chip.now.core u) (circuit_in chip.now.core aim u) pins.items
         result.items }
     ensures waves { All IsWave result.items }
-    ensures cells { AreCells (C.core chip.now) (place_in (C.places chip.now))
-        (C.number_of chip.now) cells.new }
+    ensures cells { AreCells chip.now.core (place_in chip.now.ranks)
+        (cell_number chip.now.chip) cells.new }
     ensures grows { cells.old.evaluated ≤ cells.new.evaluated }
     ensures count { twin.entry ≡ None → CountsOne cells.old.evaluated cells.new.evaluated }
 {

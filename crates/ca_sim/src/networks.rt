@@ -7,10 +7,10 @@ ghost use Rattle.ca_flat.specs.declared.chip_defect.ChipDefect.{ChipDefect};
 
 use crate::bits::Bits;
 use crate::cells::Cells;
-use crate::linked::Linked;
 use crate::network::Network;
 use ca_flat::ChipDefect;
 use ca_net::{State, Trit};
+use ca_view::View;
 
 /// The bits that are set, and the waves of all nets without a defect and with one.
 #[derive(Drop, Debug)]
@@ -22,60 +22,61 @@ pub struct Networks {
 
 impl Networks {
     ghost use Rattle.ca_flat.specs.Chip.{IsChipDefect};
-    ghost use Rattle.ca_sim.specs.Linked.{IsAim, place_in};
+    ghost use Rattle.ca_view.specs.Linked.{IsAim, place_in};
+    ghost use Rattle.ca_view.specs.Places.{cell_number};
     ghost use Rattle.ca_sim.specs.Cells.{AreCells};
     ghost use Rattle.ca_sim.specs.Network.{CountsDue};
     ghost use Rattle.ca_sim.specs.Networks.{AreUnderway, AreAtRest, AreReady, MakesReadersDue};
 
     /// Gives a chip input two bits.
-    pub(crate) fn change<C: Linked>(&mut self, chip: &C, input: usize, first: Trit, last: Trit)
-        requires input { input < length (C.core chip.now).inputs }
-        requires ready { AreReady (C.core chip.now) (place_in (C.places chip.now)) self.old }
+    pub(crate) fn change(&mut self, chip: &View, input: usize, first: Trit, last: Trit)
+        requires input { input < length chip.now.core.inputs }
+        requires ready { AreReady chip.now.core (place_in chip.now.ranks) self.old }
 
         ensures bits { self.new.bits ≡ slice_set (slice_set self.old.bits input first)
-            (length (C.core chip.now).inputs + input) last }
-        ensures ready { AreReady (C.core chip.now) (place_in (C.places chip.now)) self.new }
+            (length chip.now.core.inputs + input) last }
+        ensures ready { AreReady chip.now.core (place_in chip.now.ranks) self.new }
         ensures underway { (aim : Option ChipDefect)
-            → AreUnderway (C.core chip.now) (place_in (C.places chip.now)) aim self.old
-            → AreUnderway (C.core chip.now) (place_in (C.places chip.now)) aim self.new }
-        ensures due { MakesReadersDue (C.core chip.now) (place_in (C.places chip.now)) input first last
+            → AreUnderway chip.now.core (place_in chip.now.ranks) aim self.old
+            → AreUnderway chip.now.core (place_in chip.now.ranks) aim self.new }
+        ensures due { MakesReadersDue chip.now.core (place_in chip.now.ranks) input first last
             self.old self.new }
     {
         chip.linked();
         self.bits.set(input, first);
-        self.bits.set(chip.inputs() + input, last);
+        self.bits.set(chip.input_count() + input, last);
         self.good.feed(chip, input, &self.bits);
         self.faulty.feed(chip, input, &self.bits);
     }
 
     /// Gives all chip inputs their bits.
-    pub(crate) fn load<C: Linked, B: Bits>(&mut self, chip: &C, bits: &B)
-        requires count { length (B.bits bits.now) ≡ bit_count (C.core chip.now) }
-        requires ready { AreReady (C.core chip.now) (place_in (C.places chip.now)) self.old }
+    pub(crate) fn load<B: Bits>(&mut self, chip: &View, bits: &B)
+        requires count { length (B.bits bits.now) ≡ bit_count chip.now.core }
+        requires ready { AreReady chip.now.core (place_in chip.now.ranks) self.old }
 
         ensures bits { self.new.bits ≡ B.bits bits.now }
         ensures underway { (aim : Option ChipDefect)
-            → AreUnderway (C.core chip.now) (place_in (C.places chip.now)) aim self.old
-            → AreUnderway (C.core chip.now) (place_in (C.places chip.now)) aim self.new }
+            → AreUnderway chip.now.core (place_in chip.now.ranks) aim self.old
+            → AreUnderway chip.now.core (place_in chip.now.ranks) aim self.new }
     {
         chip.linked();
-        let inputs = chip.inputs();
+        let inputs = chip.input_count();
         for input in 0..inputs {
             self.change(chip, input, bits.value(input), bits.value(inputs + input));
         }
     }
 
     /// Evaluates the instances that are due, in the order, until none is.
-    pub(crate) fn settle<C: Linked>(&mut self, chip: &C, aim: Option<ChipDefect>, cells: &mut Cells)
-        requires aim { IsAim (C.core chip.now) (place_in (C.places chip.now)) aim }
-        requires underway { AreUnderway (C.core chip.now) (place_in (C.places chip.now)) aim self.old }
-        requires cells { AreCells (C.core chip.now) (place_in (C.places chip.now))
-            (C.number_of chip.now) cells.old }
+    pub(crate) fn settle(&mut self, chip: &View, aim: Option<ChipDefect>, cells: &mut Cells)
+        requires aim { IsAim chip.now.core (place_in chip.now.ranks) aim }
+        requires underway { AreUnderway chip.now.core (place_in chip.now.ranks) aim self.old }
+        requires cells { AreCells chip.now.core (place_in chip.now.ranks)
+            (cell_number chip.now.chip) cells.old }
 
         ensures bits { self.new.bits ≡ self.old.bits }
-        ensures rest { AreAtRest (C.core chip.now) (place_in (C.places chip.now)) aim self.new }
-        ensures cells { AreCells (C.core chip.now) (place_in (C.places chip.now))
-            (C.number_of chip.now) cells.new }
+        ensures rest { AreAtRest chip.now.core (place_in chip.now.ranks) aim self.new }
+        ensures cells { AreCells chip.now.core (place_in chip.now.ranks)
+            (cell_number chip.now.chip) cells.new }
         ensures count { CountsDue self.old.good cells.old.evaluated cells.new.evaluated }
     {
         self.good.settle(chip, None, None, cells);
@@ -83,23 +84,23 @@ impl Networks {
     }
 
     /// The faulty network becomes that of another defect.
-    pub(crate) fn aim<C: Linked>(
+    pub(crate) fn aim(
         &mut self,
-        chip: &C,
+        chip: &View,
         old: Option<ChipDefect>,
         new: Option<ChipDefect>,
         cells: &mut Cells,
     )
-        requires old { IsAim (C.core chip.now) (place_in (C.places chip.now)) old }
-        requires new { IsAim (C.core chip.now) (place_in (C.places chip.now)) new }
-        requires rest { AreAtRest (C.core chip.now) (place_in (C.places chip.now)) old self.old }
-        requires cells { AreCells (C.core chip.now) (place_in (C.places chip.now))
-            (C.number_of chip.now) cells.old }
+        requires old { IsAim chip.now.core (place_in chip.now.ranks) old }
+        requires new { IsAim chip.now.core (place_in chip.now.ranks) new }
+        requires rest { AreAtRest chip.now.core (place_in chip.now.ranks) old self.old }
+        requires cells { AreCells chip.now.core (place_in chip.now.ranks)
+            (cell_number chip.now.chip) cells.old }
 
         ensures bits { self.new.bits ≡ self.old.bits }
-        ensures rest { AreAtRest (C.core chip.now) (place_in (C.places chip.now)) new self.new }
-        ensures cells { AreCells (C.core chip.now) (place_in (C.places chip.now))
-            (C.number_of chip.now) cells.new }
+        ensures rest { AreAtRest chip.now.core (place_in chip.now.ranks) new self.new }
+        ensures cells { AreCells chip.now.core (place_in chip.now.ranks)
+            (cell_number chip.now.chip) cells.new }
     {
         self.faulty.turn(chip, old);
         self.faulty.turn(chip, new);
@@ -108,23 +109,23 @@ impl Networks {
 
     /// Whether the instance of the defect that is aimed at gives the same with another of its defects, so
     /// that all waves would stay.
-    pub(crate) fn is_alike<C: Linked>(
+    pub(crate) fn is_alike(
         &self,
-        chip: &C,
+        chip: &View,
         old: ChipDefect,
         new: ChipDefect,
         cells: &mut Cells,
     ) -> bool
-        requires old { IsAim (C.core chip.now) (place_in (C.places chip.now)) (Some old) }
-        requires new { IsAim (C.core chip.now) (place_in (C.places chip.now)) (Some new) }
-        requires rest { AreAtRest (C.core chip.now) (place_in (C.places chip.now)) (Some old) self.now }
-        requires cells { AreCells (C.core chip.now) (place_in (C.places chip.now))
-            (C.number_of chip.now) cells.old }
+        requires old { IsAim chip.now.core (place_in chip.now.ranks) (Some old) }
+        requires new { IsAim chip.now.core (place_in chip.now.ranks) (Some new) }
+        requires rest { AreAtRest chip.now.core (place_in chip.now.ranks) (Some old) self.now }
+        requires cells { AreCells chip.now.core (place_in chip.now.ranks)
+            (cell_number chip.now.chip) cells.old }
 
         ensures rest { IsTrue result
-            → AreAtRest (C.core chip.now) (place_in (C.places chip.now)) (Some new) self.now }
-        ensures cells { AreCells (C.core chip.now) (place_in (C.places chip.now))
-            (C.number_of chip.now) cells.new }
+            → AreAtRest chip.now.core (place_in chip.now.ranks) (Some new) self.now }
+        ensures cells { AreCells chip.now.core (place_in chip.now.ranks)
+            (cell_number chip.now.chip) cells.new }
     {
         if old.instance != new.instance {
             return false;

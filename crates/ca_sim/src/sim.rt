@@ -6,38 +6,39 @@ ghost use Rattle.ca_sim.specs.Seen.{value_of};
 
 use crate::bits::{Bits, Unset};
 use crate::cells::Cells;
-use crate::linked::Linked;
 use crate::net_waves::NetWaves;
 use crate::network::Network;
 use crate::networks::Networks;
 use ca_base::NoMemory;
 use ca_flat::ChipDefect;
 use ca_net::{State, Trit, Wave};
+use ca_view::View;
 use std::alloc::Global;
 use std::marker::Model;
 
 /// The bits that are set, the defect that is aimed at, and the waves of all nets of a chip without it and
 /// with it. All memory is taken by `reserve`.
 #[derive(Drop)]
-pub struct Sim<'a, C: Linked> {
-    chip: &'a C,
+pub struct Sim<'a> {
+    chip: &'a View<'a>,
     aim: Option<ChipDefect>,
     networks: Networks,
     cells: Cells,
     aimed: u64,
 }
 
-impl<'a, C: Linked> Model for Sim<'a, C> {
+impl<'a> Model for Sim<'a> {
     ghost use Rattle.ca_sim.specs.Simulator.{Simulator};
-    ghost use Rattle.ca_sim.specs.Linked.{place_in};
+    ghost use Rattle.ca_view.specs.Linked.{place_in};
+    ghost use Rattle.ca_view.specs.Places.{cell_number};
     ghost use Rattle.ca_sim.specs.Kept.{IsKept};
 
     ghost Value = { Simulator };
 
     ghost view = { λ sim. record {
       seen = record {
-        chip = C.core sim.chip.now;
-        places = C.places sim.chip.now;
+        chip = sim.chip.now.core;
+        places = sim.chip.now.ranks;
         aim = sim.aim;
         pair = sim.networks.bits;
         good = sim.networks.good.waves;
@@ -47,24 +48,25 @@ impl<'a, C: Linked> Model for Sim<'a, C> {
       aimed = sim.aimed;
     } };
 
-    ghost invariant = { λ sim. IsKept (C.core sim.chip.now) (place_in (C.places sim.chip.now))
-        (C.number_of sim.chip.now) sim.aim sim.networks sim.cells };
+    ghost invariant = { λ sim. IsKept sim.chip.now.core (place_in sim.chip.now.ranks)
+        (cell_number sim.chip.now.chip) sim.aim sim.networks sim.cells };
 }
 
-impl<'a, C: Linked> Sim<'a, C> {
+impl<'a> Sim<'a> {
     ghost use Rattle.ca_flat.specs.Code.{unset_pair};
     ghost use Rattle.std.specs.Prelude.{IsTrue};
-    ghost use Rattle.ca_sim.specs.Linked.{IsAim, IsPlacedDefect, place_in};
+    ghost use Rattle.ca_view.specs.Linked.{IsAim, IsPlacedDefect, place_in};
+    ghost use Rattle.ca_view.specs.Places.{cell_number};
     ghost use Rattle.ca_sim.specs.Seen.{IsExact, aimed_anew};
     ghost use Rattle.ca_sim.specs.Simulator.{IsFresh, KeepsAim, KeepsPair, KeepsSeen, CountsReaders};
     ghost use Rattle.ca_sim.specs.Simulator.{counted_up};
 
     /// Takes all memory. No bit is set, and no defect is aimed at.
-    pub fn reserve(alloc: Global, chip: &'a C) -> Result<Self, NoMemory>
-        ensures { IfOk result (IsFresh (C.core chip.now) (C.places chip.now)) }
+    pub fn reserve(alloc: Global, chip: &'a View<'a>) -> Result<Self, NoMemory>
+        ensures { IfOk result (IsFresh chip.now.core chip.now.ranks) }
     {
         chip.linked();
-        let bits = State::unknown(alloc, 2 * chip.inputs())?;
+        let bits = State::unknown(alloc, 2 * chip.input_count())?;
         let mut cells = Cells::reserve(alloc, chip)?;
         let mut good = Network::reserve(alloc, chip)?;
         good.settle(chip, None, None, &mut cells);
@@ -79,9 +81,9 @@ impl<'a, C: Linked> Sim<'a, C> {
     }
 
     /// The chip.
-    pub fn chip(&self) -> &'a C
-        ensures core { C.core result.now ≡ self.now.seen.chip }
-        ensures places { C.places result.now ≡ self.now.seen.places }
+    pub fn chip(&self) -> &'a View<'a>
+        ensures core { result.now.core ≡ self.now.seen.chip }
+        ensures places { result.now.ranks ≡ self.now.seen.places }
     {
         self.chip
     }
@@ -97,7 +99,7 @@ impl<'a, C: Linked> Sim<'a, C> {
         let chip = self.chip;
         chip.linked();
         let bit = bit as usize;
-        let inputs = chip.inputs();
+        let inputs = chip.input_count();
         let input = input_of(bit, inputs);
         let value = trit_of(value);
         let first = chosen(input, bit, value, self.networks.bits.get(input));
@@ -127,7 +129,7 @@ impl<'a, C: Linked> Sim<'a, C> {
         let chip = self.chip;
         chip.linked();
         let unset = Unset {
-            count: 2 * chip.inputs(),
+            count: 2 * chip.input_count(),
         };
         self.load(&unset);
     }
@@ -176,7 +178,7 @@ impl<'a, C: Linked> Sim<'a, C> {
     }
 }
 
-impl<C: Linked> NetWaves for Sim<'_, C> {
+impl NetWaves for Sim<'_> {
     ghost seen = { λ sim. sim.seen };
 
     fn good(&self, net: usize) -> Wave {

@@ -2,12 +2,13 @@
 
 ghost use Rattle.std.specs.Prelude.{◌<◌};
 
-use crate::chips::{INV, KEEP, NAND2, NOR4, chip, ladder};
-use crate::{Ladder, Numbers, Rung};
+use crate::chips::{INV, Instances, KEEP, NAND2, NOR4, chip};
 use ca_defect::parse;
 use ca_flat::ChipDefect;
 use ca_net::{State, Trit, Wave};
-use ca_sim::{Linked, NetWaves, Sim};
+use ca_sim::{NetWaves, Sim};
+use ca_view::View;
+use ca_wired::Chip;
 use std::alloc::Global;
 use std::process::Abort;
 
@@ -18,21 +19,21 @@ const ONE: Trit = Trit::One;
 const X: Trit = Trit::X;
 
 // Sets a bit.
-fn set(rt: &impl Abort, sim: &mut Sim<'_, Ladder>, bit: usize, value: Option<bool>) {
+fn set(rt: &impl Abort, sim: &mut Sim<'_>, bit: usize, value: Option<bool>) {
     sim.exact();
     let chip = sim.chip();
     assert!(rt;
-        chip.inputs() < 32_768 && bit < 2 * chip.inputs(),
+        chip.input_count() < 32_768 && bit < 2 * chip.input_count(),
         "bit {bit}"
     );
     sim.set(bit as u16, value);
 }
 
 // Aims at a defect of an instance, by its name.
-fn aim(rt: &impl Abort, sim: &mut Sim<'_, Ladder>, u: usize, name: &[u8]) {
+fn aim(rt: &impl Abort, sim: &mut Sim<'_>, u: usize, name: &[u8]) {
     let chip = sim.chip();
     assert!(rt;
-        u < 65_536 && u < chip.instances() && chip.place(u) > 0,
+        u < 65_536 && u < chip.instances() && chip.rank(u) > 0,
         "instance {u}"
     );
     let defect = parse(chip.cell(u), name).expect(rt, "a defect");
@@ -42,8 +43,17 @@ fn aim(rt: &impl Abort, sim: &mut Sim<'_, Ladder>, u: usize, name: &[u8]) {
     }));
 }
 
+// The net that an instance's output pin is on.
+fn output_of(rt: &impl Abort, sim: &Sim<'_>, u: usize) -> usize {
+    let chip = sim.chip();
+    assert!(rt; u < chip.instances() && chip.rank(u) > 0, "instance {u}");
+    let cell = chip.cell(u);
+    assert!(rt; 0 < cell.outputs(), "an output pin");
+    chip.pin_net(u, cell.inputs())
+}
+
 // The good and the faulty wave of a net.
-fn both(rt: &impl Abort, sim: &Sim<'_, Ladder>, net: usize) -> (Wave, Wave) {
+fn both(rt: &impl Abort, sim: &Sim<'_>, net: usize) -> (Wave, Wave) {
     assert!(rt; net < sim.chip().nets(), "net {net}");
     (sim.good(net), sim.faulty(net))
 }
@@ -60,7 +70,8 @@ const GLITCH: [(usize, &[u32]); 5] = [
 #[test]
 fn hazard_destroys_the_charge(rt: HostRuntime) {
     let glitch = chip(&rt, rt.alloc(), 4, &GLITCH);
-    let mut sim = Sim::reserve(rt.alloc(), &glitch).expect(&rt, "memory");
+    let view = View::new(rt.alloc(), &glitch).expect(&rt, "memory");
+    let mut sim = Sim::reserve(rt.alloc(), &view).expect(&rt, "memory");
     for (bit, value) in [true, true, true, false, false, true]
         .into_iter()
         .enumerate()
@@ -68,13 +79,14 @@ fn hazard_destroys_the_charge(rt: HostRuntime) {
         set(&rt, &mut sim, bit, Some(value));
     }
     aim(&rt, &mut sim, 4, b"MP1(D)");
-    let (y, _) = both(&rt, &sim, 7);
+    let (y, _) = both(&rt, &sim, output_of(&rt, &sim, 3));
     assert_eq!(rt; (y.first, y.mid, y.last), (ONE, X, ONE));
-    let (good, faulty) = both(&rt, &sim, 8);
+    let (good, faulty) = both(&rt, &sim, output_of(&rt, &sim, 4));
     assert_eq!(rt; good.last, ONE);
     assert_eq!(rt; faulty.last, X);
     assert_eq!(rt; sim.aimed(), 1);
     drop(sim);
+    drop(view);
     drop(glitch);
 }
 
@@ -84,29 +96,30 @@ const KEPT: [(usize, &[u32]); 4] = [(INV, &[2]), (NAND2, &[2, 3]), (INV, &[4]), 
 #[test]
 fn a_hazard_lets_a_kept_charge_go(rt: HostRuntime) {
     let kept = chip(&rt, rt.alloc(), 3, &KEPT);
-    let mut sim = Sim::reserve(rt.alloc(), &kept).expect(&rt, "memory");
+    let view = View::new(rt.alloc(), &kept).expect(&rt, "memory");
+    let mut sim = Sim::reserve(rt.alloc(), &view).expect(&rt, "memory");
     for (bit, value) in [false, true, true, false].into_iter().enumerate() {
         set(&rt, &mut sim, bit, Some(value));
     }
-    let (b, _) = both(&rt, &sim, 5);
+    let (b, _) = both(&rt, &sim, output_of(&rt, &sim, 2));
     assert_eq!(rt; (b.first, b.mid, b.last), (ZERO, X, ZERO));
-    let (k, _) = both(&rt, &sim, 6);
+    let (k, _) = both(&rt, &sim, output_of(&rt, &sim, 3));
     assert_eq!(rt; (k.first, k.mid, k.last), (ONE, X, X));
     drop(sim);
+    drop(view);
     drop(kept);
 }
 
 // A bit that changes takes one evaluation or two, and one that is unset already may take none.
 #[test]
 fn a_set_bit_evaluates_two_instances_of_a_thousand(rt: HostRuntime) {
-    let mut rungs = Vec::new(rt.alloc());
+    let mut instances = Instances::new(rt.alloc(), 1001, 1000);
     for input in 1..1001_u32 {
-        let mut pins = Numbers::new(rt.alloc());
-        pins.push(input).expect(&rt, "memory");
-        rungs.push(Rung { cell: INV, pins }).expect(&rt, "memory");
+        instances.push(INV, &[input]).expect(&rt, "memory");
     }
-    let row = ladder(&rt, rt.alloc(), 1001, rungs);
-    let mut sim = Sim::reserve(rt.alloc(), &row).expect(&rt, "memory");
+    let row = instances.linked(&rt, rt.alloc());
+    let view = View::new(rt.alloc(), &row).expect(&rt, "memory");
+    let mut sim = Sim::reserve(rt.alloc(), &view).expect(&rt, "memory");
     assert_eq!(rt; sim.evaluated(), 0);
     for (bit, value, least) in [
         (3, Some(true), 1),
@@ -120,10 +133,11 @@ fn a_set_bit_evaluates_two_instances_of_a_thousand(rt: HostRuntime) {
         let more = sim.evaluated().saturating_sub(before);
         assert!(rt; least <= more && more <= 2, "bit {bit}: {more}");
     }
-    let (good, faulty) = both(&rt, &sim, 2000);
+    let (good, faulty) = both(&rt, &sim, output_of(&rt, &sim, 999));
     assert_eq!(rt; (good.first, good.mid, good.last), (X, X, ZERO));
     assert_eq!(rt; faulty, good);
     drop(sim);
+    drop(view);
     drop(row);
 }
 
@@ -158,8 +172,8 @@ const BITS: usize = 12;
 const INSTANCES: usize = 30;
 
 // Thirty instances, each of which reads nets before its own.
-fn drawn(rt: &impl Abort, alloc: Global, draw: &mut Draw) -> Ladder {
-    let mut rungs = Vec::new(alloc);
+fn drawn(rt: &impl Abort, alloc: Global, draw: &mut Draw) -> Chip {
+    let mut instances = Instances::new(alloc, NETS, INSTANCES);
     for u in 0..INSTANCES {
         let cell = draw.below(3) as usize;
         let count = match cell {
@@ -167,22 +181,22 @@ fn drawn(rt: &impl Abort, alloc: Global, draw: &mut Draw) -> Ladder {
             NAND2 => 2,
             _ => 4,
         };
-        let mut pins = Numbers::new(alloc);
+        let mut pins = Vec::new(alloc);
         for _pin in 0..count {
             pins.push(draw.below((NETS + u) as u64) as u32)
                 .expect(rt, "memory");
         }
-        rungs.push(Rung { cell, pins }).expect(rt, "memory");
+        instances.push(cell, &pins).expect(rt, "memory");
     }
-    ladder(rt, alloc, NETS, rungs)
+    instances.linked(rt, alloc)
 }
 
 // Asserts that the waves are those of a simulator of which nothing but this was asked.
 fn is_as_fresh(
     rt: &impl Abort,
     alloc: Global,
-    chip: &Ladder,
-    sim: &Sim<'_, Ladder>,
+    chip: &View<'_>,
+    sim: &Sim<'_>,
     bits: &State,
     aimed: Option<(usize, &[u8])>,
 ) {
@@ -191,10 +205,10 @@ fn is_as_fresh(
         aim(rt, &mut fresh, u, name);
     }
     fresh.exact();
-    let inputs = fresh.chip().inputs();
+    let inputs = fresh.chip().input_count();
     assert!(rt; inputs < 32_768 && bits.len() == 2 * inputs, "bits");
     fresh.load(bits);
-    for net in 0..NETS + INSTANCES {
+    for net in 0..chip.nets() {
         assert_eq!(rt; both(rt, sim, net), both(rt, &fresh, net), "net {net}");
     }
     drop(fresh);
@@ -204,7 +218,8 @@ fn is_as_fresh(
 fn waves_are_those_of_a_fresh_simulator(rt: HostRuntime) {
     let mut draw = Draw { state: 1 };
     let chip = drawn(&rt, rt.alloc(), &mut draw);
-    let mut sim = Sim::reserve(rt.alloc(), &chip).expect(&rt, "memory");
+    let view = View::new(rt.alloc(), &chip).expect(&rt, "memory");
+    let mut sim = Sim::reserve(rt.alloc(), &view).expect(&rt, "memory");
     let mut bits = State::unknown(rt.alloc(), BITS).expect(&rt, "memory");
     let mut aimed = None;
     for step in 0..400 {
@@ -236,10 +251,11 @@ fn waves_are_those_of_a_fresh_simulator(rt: HostRuntime) {
             }
         }
         if step % 4 == 0 {
-            is_as_fresh(&rt, rt.alloc(), &chip, &sim, &bits, aimed);
+            is_as_fresh(&rt, rt.alloc(), &view, &sim, &bits, aimed);
         }
     }
     drop(bits);
     drop(sim);
+    drop(view);
     drop(chip);
 }

@@ -20,7 +20,7 @@ use Rattle.ca_core.specs.Core.{core_of, rank_of}
 use Rattle.ca_core.proofs.CoreIsChip.{core_is}
 use Rattle.ca_flatten.specs.Few.{IsFew}
 use Rattle.ca_flatten.proofs.NetworkLemmas.{formed}
-use Rattle.ca_sim.specs.Linked.{IsAim, place_in}
+use Rattle.ca_view.specs.Linked.{IsAim, place_in}
 use Rattle.ca_net.specs.Circuit.{IsWellFormed}
 use Rattle.ca_flat.specs.Flat.{flat as flat_of}
 use Rattle.ca_sim.specs.Seen.{Seen, AreNetWaves, IsExact}

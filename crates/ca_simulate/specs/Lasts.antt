@@ -27,5 +27,6 @@ pub record AreLasts (outputs : List ℕ) (seen : Seen) (ends : OutputEnds) : Typ
 -- the view are those of a linked chip whose flat networks have few enough nodes and devices
 pub record AreReady (view : Viewed) : Type 0 where
   pub wired : IsWired view.chip
+  pub core_is : view.core ≡ core_of view.chip
   pub ranked : AreRanks view.chip view.ranks
   pub few : (given : Option ChipDefect) → IsFew (core_of view.chip) given

@@ -75,12 +75,12 @@ fn simulate_on(
 
 // The last values of the waves at the observed outputs.
 fn last_values<N: NetWaves>(alloc: Global, view: &View<'_>, sim: &N) -> Result<OutputEnds, NoMemory>
-    requires { (N.seen sim.now).chip ≡ core_of view.now.chip }
-    ensures { IfOk result (AreLasts (core_of view.now.chip).outputs (N.seen sim.now)) }
+    requires { (N.seen sim.now).chip ≡ view.now.core }
+    ensures { IfOk result (AreLasts view.now.core.outputs (N.seen sim.now)) }
 {
     let mut good = Vec::new(alloc);
     let mut faulty = Vec::new(alloc);
-    for o in 0..view.outputs() {
+    for o in 0..view.output_count() {
         let net = view.output(o);
         good.push(sim.good(net).last)?;
         faulty.push(sim.faulty(net).last)?;

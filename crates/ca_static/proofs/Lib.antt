@@ -1,2 +1,3 @@
 pub mod WaveLemmas
 pub mod StaticLemmas
+pub mod TableLemmas

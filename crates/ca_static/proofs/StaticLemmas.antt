@@ -49,7 +49,7 @@ module _ (raw : RawCell) (number : ℕ) (outputs : List Wave) (count : length ou
   from_last output v at = subst (λ x. EndsAt (circuit_of raw) x (pin_vector (circuit_of raw) (vector_of (role_count is_input raw.pins) number)) (output_node raw output) v)
       (sym (unknown_pins raw (role_count is_input raw.pins))) at
 
-  past : Wave
+  abbrev past : Wave
   past = record { first = X; mid = X; last = X }
 
   pub static_of_definite : All (λ (wave : Wave). wave.last ≢ X) outputs → IsStaticAt raw number
@@ -65,6 +65,15 @@ module _ (raw : RawCell) (number : ℕ) (outputs : List Wave) (count : length ou
       let end = static output (subst (λ n. output < n) count inside) in
       let at = (ends output (get_or outputs output past) end.value (slice_get-get_or outputs output past inside)).1 (from_last output end.value end.ends) in
       λ e. at.0 (sym at.1 ∙ e))
+
+  -- where the cell is static at the vector, it ends with the last values of the outputs
+  pub ends_with_lasts : IsStaticAt raw number → (output : ℕ) → output < role_count is_output raw.pins
+      → EndsByLast raw (vector_of (role_count is_input raw.pins) number) output (get_or outputs output past).last
+  ends_with_lasts static output within =
+      let end = static output within in
+      let inside : output < length outputs = subst (λ n. output < n) (sym count) within in
+      let at = (ends output (get_or outputs output past) end.value (slice_get-get_or outputs output past inside)).1 (from_last output end.value end.ends) in
+      subst (EndsByLast raw (vector_of (role_count is_input raw.pins) number) output) (sym at.1) end.ends
 
 -- each definite vector is that of a number
 pub static_of_each : (raw : RawCell) → ((number : ℕ) → number < 2 ^ role_count is_input raw.pins → IsStaticAt raw number) → IsStatic raw

@@ -1,7 +1,9 @@
 //! Whether a cell is static: whether each definite vector alone, whatever came before, says what it ends
-//! with.
+//! with; and what that is.
 #![tactic(auto)]
 
+mod last_table;
 mod statics;
 
+pub use last_table::LastTable;
 pub use statics::is_static;

@@ -51,7 +51,7 @@ fn are_definite(waves: &[Wave]) -> bool
 }
 
 // Waves of so many input pins, of which the lasts alone are known: they are the vector of a number.
-fn waves_to(inputs: usize, number: usize) -> PinWaves
+pub(crate) fn waves_to(inputs: usize, number: usize) -> PinWaves
     requires { inputs ≤ MOST_INPUTS }
     ensures same { result.items ≡ waves_to inputs number }
     ensures waves { All IsWave result.items }

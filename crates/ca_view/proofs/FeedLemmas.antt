@@ -4,7 +4,7 @@ use Rattle.std.specs.List.{Contains}
 use Rattle.std.proofs.lemmas.Grind.{get_or_default_zero}
 use Rattle.ca_flat.specs.Chip.{Chip, inputs_at, outputs_at, net_of, count_of}
 use Rattle.ca_flat.specs.Chain.{Feeds}
-use Rattle.ca_guide.specs.NetLists.{ArePinNets}
+use Rattle.ca_view.specs.NetLists.{ArePinNets}
 use Rattle.ca_view.specs.Pins.{Pins, inputs_of, outputs_of, ArePinsOf}
 use Rattle.ca_view.specs.Links.{turned, LinksPins, AreFeeds}
 

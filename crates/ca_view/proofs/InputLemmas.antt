@@ -30,7 +30,7 @@ use Rattle.ca_core.specs.Core.{core_net, stored_nets, trit_of, constant_on, in_n
 use Rattle.ca_core.specs.Core.{core_of}
 use Rattle.ca_core.proofs.CoreLemmas.{IsOutside, core_same, length-core_kinds, kind_at}
 use Rattle.ca_core.proofs.CorePartLemmas.{first_stored, stored_is_driven}
-use Rattle.ca_sim.specs.Linked.{IsPinned}
+use Rattle.ca_view.specs.Linked.{IsPinned}
 use Rattle.ca_core.proofs.CoreIsChip.{data_within, data_outside, number_within}
 use Rattle.ca_view.proofs.PartFacts.{some_at}
 

@@ -13,7 +13,7 @@ use Rattle.ca_flat.specs.Chip.{Instance, cell_at, count_of, IsChip}
 use Rattle.ca_core.specs.Core.{core_of, core_instance, empty_cell}
 use Rattle.ca_core.proofs.CoreIsChip.{core_is}
 use Rattle.ca_core.proofs.CorePartLemmas.{core_at, part_at}
-use Rattle.ca_sim.specs.Linked.{IsLinked, IsPlaced, IsPlace, IsBare, place_in}
+use Rattle.ca_view.specs.Linked.{IsLinked, IsPlaced, IsPlace, IsBare, place_in}
 use Rattle.ca_view.specs.Places.{body_number, part_number, cell_number, AreRanks}
 use Rattle.ca_view.proofs.CoreFacts.{core_count, inputs_are}
 use Rattle.ca_view.proofs.PartFacts.{GateAt, gate_at, core_gate, some_at, at_some}
@@ -25,6 +25,7 @@ no_devices (Some net) = refl
 
 -- the number of a library instance's cell is the cell's place
 pub number_is : (chip : Chip) (u : ℕ) (g : GateAt chip u) → cell_number chip u ≡ g.cell
+unfolding cell_number
 number_is chip u g = ap part_number g.at ∙ ap body_number g.body
 
 pub number_read : (chip : Chip) (u number : ℕ) → IsLibrary chip u → IsSomeAnd (slice_get chip.parts u) (λ part. IsOfCell number part.body) → number ≡ cell_number chip u

@@ -13,7 +13,7 @@ use Rattle.ca_wired.specs.Reading as wired
 use Rattle.ca_core.specs.Core.{core_net, core_of}
 use Rattle.ca_core.proofs.CoreLemmas.{IsOutside, core_less, core_same, length-core_kinds, net_of_number}
 use Rattle.ca_core.proofs.CorePartLemmas.{part_at, read_is_data}
-use Rattle.ca_sim.specs.Linked.{Reads, AreReaders}
+use Rattle.ca_view.specs.Linked.{Reads, AreReaders}
 use Rattle.ca_view.specs.Readers.{row_at, AreFirstRows, AreRows}
 use Rattle.ca_core.proofs.CoreIsChip.{data_outside}
 use Rattle.ca_view.proofs.CoreFacts.{core_count, inputs_are, input_net_is}

@@ -1,3 +1,5 @@
+pub mod Linked
+pub mod NetLists
 pub mod Places
 pub mod Readers
 pub mod Constants

@@ -3,7 +3,7 @@ use Rattle.std.specs.Prelude.{ℕ, ◌≡◌, ◌<◌, ◌⊎◌, ◌↔◌, Lis
 use Rattle.std.specs.List.{Contains}
 use Rattle.ca_flat.specs.Chip.{Chip}
 use Rattle.ca_flat.specs.Chain.{Feeds}
-use Rattle.ca_guide.specs.Flood.{linked_from}
+use Rattle.ca_view.specs.NetLists.{linked_from}
 use Rattle.ca_view.specs.Pins.{Pins, inputs_of, outputs_of}
 
 -- input pins for output pins

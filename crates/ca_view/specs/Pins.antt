@@ -6,7 +6,7 @@ use Rattle.std.specs.List.{All}
 use Rattle.ca_wired.specs.Linked as linked
 use Rattle.ca_flat.specs.Chip.{Chip, inputs_at, outputs_at, count_of}
 use Rattle.ca_core.specs.Core.{stored_nets}
-use Rattle.ca_guide.specs.NetLists.{ArePinNets}
+use Rattle.ca_view.specs.NetLists.{ArePinNets}
 
 -- the number of nets and of instances, and the nets of the input pins and of the output pins of each instance
 pub record Pins : Type 0 where

@@ -16,7 +16,7 @@ part_number None = 0
 part_number (Some part) = body_number part.body
 
 -- the number of an instance's cell: its place in the library
-abbrev pub cell_number : Chip → ℕ → ℕ
+unfoldable pub cell_number : Chip → ℕ → ℕ
 cell_number chip u = part_number (slice_get chip.parts u)
 
 -- each instance has its rank in the table

@@ -9,9 +9,15 @@ ghost use Rattle.ca_view.specs.Constants.{fixed_of, constants_of};
 use ca_base::NoMemory;
 use ca_core::CoreNets;
 use ca_net::Trit;
-use ca_sim::FixedNet;
 use ca_wired::{Chip, NetId};
 use std::alloc::Global;
+
+/// An input net whose value is fixed.
+#[derive(Clone, Copy, Debug)]
+pub struct FixedNet {
+    pub net: usize,
+    pub value: Trit,
+}
 
 // Whether a constant drives a net.
 fn is_driven_by(chip: &Chip, net: NetId, value: bool) -> bool

@@ -10,4 +10,5 @@ mod places;
 mod readers;
 mod view;
 
+pub use constants::FixedNet;
 pub use view::View;

@@ -2,12 +2,11 @@
 
 ghost use Rattle.std.specs.Prelude.{◌≡◌, ◌<◌, [], ◌++◌, ◌∷◌, length, replicate, slice_set, OnOk, IfOk};
 ghost use Rattle.std.specs.List.{All};
-ghost use Rattle.ca_guide.specs.Flood.{linked_from};
+ghost use Rattle.ca_view.specs.NetLists.{linked_from};
 ghost use Rattle.ca_view.specs.Links.{Grows, IsLinkToEach, IsLinkOfPins, LinksPins, turned};
 
 use crate::pins::CorePins;
 use ca_base::NoMemory;
-use ca_guide::Links;
 use std::alloc::Global;
 use std::marker::Model;
 
@@ -19,7 +18,7 @@ pub(crate) struct LinkTable {
 
 impl Model for LinkTable {
     ghost use Rattle.std.specs.Prelude.{ℕ, List};
-    ghost use Rattle.ca_guide.specs.Flood.{AreWithin};
+    ghost use Rattle.ca_view.specs.NetLists.{AreWithin};
     ghost use Rattle.ca_view.specs.Pins.{items_of};
 
     ghost Value = { List (List ℕ) };
@@ -29,15 +28,18 @@ impl Model for LinkTable {
     ghost invariant = { λ table. AreWithin (items_of table.lists.items) };
 }
 
-impl Links for LinkTable {
-    ghost links = { λ table. table };
+impl LinkTable {
+    ghost use Rattle.ca_view.specs.NetLists.{AreWithin};
 
-    fn from(&self, net: u32) -> &[u32] {
+    /// The nets to which a net is linked.
+    pub(crate) fn from(&self, net: u32) -> &[u32]
+        requires { net < length self.now }
+        ensures same { result.now ≡ linked_from self.now net }
+        ensures within { AreWithin self.now }
+    {
         &self.lists[net as usize]
     }
-}
 
-impl LinkTable {
     /// A table of `nets` nets without links.
     fn empty(alloc: Global, nets: usize) -> Result<Self, NoMemory>
         ensures { IfOk result (λ table. table ≡ replicate nets []) }

@@ -8,7 +8,7 @@ ghost use Rattle.ca_wired.specs.Linked.{IsLibrary};
 ghost use Rattle.ca_wired.specs.Instances.{IsScan};
 ghost use Rattle.ca_core.specs.Core.{core_of};
 ghost use Rattle.ca_core.specs.Numbers.{AreCoreNumbers};
-ghost use Rattle.ca_guide.specs.NetLists.{ArePinNets};
+ghost use Rattle.ca_view.specs.NetLists.{ArePinNets};
 ghost use Rattle.ca_view.specs.Pins.{inputs_of, outputs_of, items_of};
 ghost use Rattle.ca_view.specs.Pins.{AreCorePins, AreInputNets, AreOutputNets, IsInverted};
 

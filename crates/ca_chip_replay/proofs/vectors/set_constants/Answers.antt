@@ -8,9 +8,9 @@ use Rattle.ca_chip_replay.proofs.vectors.set_constants.Goals as goal
 
 pub loop-k-preserved : goal.loop-k-preserved
 loop-k-preserved g c =
-    let core = g.C.Linked.core c.args.chip.now in
+    let core = c.args.view.now.core in
     let bits = g.B.Bits.bits c.args.pair.now in
-    let count : ℕ = c.constants-constants.result in
+    let count : ℕ = c.constant_count-constants.result in
     let k : ℕ = count - (c.loop-k.k + 1) in
     let constant : Constant = record { net = c.constant-constant.result.net; value = c.constant-constant.result.value } in
     let at : slice_get core.constants k ≡ Some constant =

@@ -10,17 +10,17 @@ pub overflow_add-from : goal.overflow_add-from
 overflow_add-from g c =
     let few = c.linked.ensures.pinned.few in
     let within = c.requires.from in
-    let count = c.inputs-inputs.ensures in
+    let count = c.input_count-inputs.ensures in
     omega (arith, few, within, count, c.loop-k-test.true)
 
 pub loop-k-preserved : goal.loop-k-preserved
 loop-k-preserved g c =
-    let core = g.C.Linked.core c.args.chip.now in
+    let core = c.args.view.now.core in
     let bits = g.B.Bits.bits c.args.pair.now in
-    let count : ℕ = c.inputs-inputs.result in
+    let count : ℕ = c.input_count-inputs.result in
     let k : ℕ = count - (c.loop-k.k + 1) in
     let same : count - 1 - c.loop-k.k ≡ k = omega arith in
-    let all = c.inputs-inputs.ensures in
+    let all = c.input_count-inputs.ensures in
     let lt : k < length core.inputs = omega (arith, all, c.loop-k-test.true) in
     let from : c.args.from + (count - 1 - c.loop-k.k) ≡ c.args.from + k = ap (λ (n : ℕ). c.args.from + n) same in
     let has = subst (λ (j : ℕ). IsVector (length c.args.vector.now) (length core.nets) (input_value (drop j core.inputs) bits (c.args.from + j)) c.loop-k.vector)

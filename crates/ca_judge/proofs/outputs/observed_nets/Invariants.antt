@@ -2,4 +2,4 @@ use Rattle.ca_judge.specs.Outputs.{AreObservedBelow}
 use Rattle.ca_judge.proofs.outputs.observed_nets.Given as goal
 
 abbrev pub invariant-loop-net : goal.invariant-loop-net
-invariant-loop-net g l = AreObservedBelow (g.C.LinkedChip.lists l.chip).observed l.net l.nets.items
+invariant-loop-net l = AreObservedBelow l.view.lists.observed l.net l.nets.items

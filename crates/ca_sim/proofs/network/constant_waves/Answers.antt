@@ -6,9 +6,9 @@ use Rattle.ca_sim.proofs.Beginning.{constants_more}
 use Rattle.ca_sim.proofs.network.constant_waves.Goals as goal
 
 pub loop-k-preserved : goal.loop-k-preserved
-loop-k-preserved g c =
-    let core = g.C.Linked.core c.args.chip.now in
-    let count = c.constants-count.result in
+loop-k-preserved c =
+    let core = c.args.chip.now.core in
+    let count = c.constant_count-count.result in
     let k : ℕ = count - (c.loop-k.k + 1) in
     let constant : Constant = record { net = c.constant-constant.result.net; value = c.constant-constant.result.value } in
     let at : slice_get core.constants k ≡ Some constant =

@@ -1,14 +1,13 @@
 use Rattle.std.proofs.Common.{◌≡◌, length, sym, ◌∙◌, ap, subst, arith}
 use Rattle.ca_net.specs.declared.wave.Wave.{Wave}
 use Rattle.ca_table.specs.Gives.{wave_at}
-use Rattle.ca_core.specs.Core.{core_of}
 use Rattle.ca_simulate.specs.Lasts.{HaveLasts}
 use Rattle.ca_simulate.proofs.EndLemmas.{no_lasts, lasts_more}
 use Rattle.ca_simulate.proofs.simulation.last_values.Goals as goal
 
 pub loop-o-init : goal.loop-o-init
 loop-o-init g c =
-    let outputs = (core_of c.args.view.now.chip).outputs in
+    let outputs = c.args.view.now.core.outputs in
     let seen = g.N.NetWaves.seen c.args.sim.now in
     record {
       good = subst (HaveLasts outputs seen.good 0) (sym c.new-good.ensures.items) (no_lasts outputs seen.good);
@@ -17,7 +16,7 @@ loop-o-init g c =
 
 pub loop-o-preserved : goal.loop-o-preserved
 loop-o-preserved g c =
-    let outputs = (core_of c.args.view.now.chip).outputs in
+    let outputs = c.args.view.now.core.outputs in
     let seen = g.N.NetWaves.seen c.args.sim.now in
     record {
       good = lasts_more outputs seen.good c.loop-o.o c.loop-o.good.items c.push.new.self.items c.good.result.last c.loop-o.invariant.good
@@ -29,10 +28,10 @@ loop-o-preserved g c =
 
 pub returns : goal.returns
 returns g c =
-    let outputs = (core_of c.args.view.now.chip).outputs in
+    let outputs = c.args.view.now.core.outputs in
     let seen = g.N.NetWaves.seen c.args.sim.now in
     let count : c.loop-o.o ≡ length outputs =
-    let end = c.outputs-o-end.ensures in
+    let end = c.output_count-o-end.ensures in
     let low = c.loop-o.auto.o-end in
     let high = c.loop-o-test.false in
     omega (arith, end, low, high) in

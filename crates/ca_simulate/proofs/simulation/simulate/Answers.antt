@@ -14,6 +14,7 @@ simulate_on-ends-requires-clause-chip c =
     let view = c.in_ok-view.ensures {u = tt} in
     record {
       wired = subst IsWired (sym view.chip_is) c.wired.ensures;
+      core_is = view.core_is ∙ ap core_of (sym view.chip_is);
       ranked = subst (λ (chip : Chip). AreRanks chip c.in_ok-view.view.ranks) (sym view.chip_is) view.ranked;
       few = subst (λ (chip : Chip). (given : Option ChipDefect) → IsFew (core_of chip) given) (sym view.chip_is) (c.in_ok-judge_size.ensures {u = tt});
     }

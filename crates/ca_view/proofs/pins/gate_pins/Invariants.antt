@@ -1,5 +1,5 @@
 use Rattle.ca_core.specs.Core.{core_of}
-use Rattle.ca_guide.specs.NetLists.{ArePinNets}
+use Rattle.ca_view.specs.NetLists.{ArePinNets}
 use Rattle.ca_view.proofs.pins.gate_pins.Given as goal
 
 abbrev pub invariant-loop-pin : goal.invariant-loop-pin

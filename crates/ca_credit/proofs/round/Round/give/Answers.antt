@@ -1,6 +1,6 @@
 use Rattle.std.proofs.Common.{ℕ, Option, subst}
 use Rattle.ca_search.specs.Filled.{trits_of}
-use Rattle.ca_credit.specs.Round.{IsAnswer}
+use Rattle.ca_credit.specs.Detection.{IsAnswer}
 use Rattle.ca_credit.proofs.RoundLemmas.{gives_some, gives_none}
 use Rattle.ca_credit.proofs.round.Round.give.Goals as goal
 

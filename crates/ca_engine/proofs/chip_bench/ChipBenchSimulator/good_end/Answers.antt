@@ -1,7 +1,6 @@
 use Rattle.std.proofs.Common.{◌<◌, ◌∙◌, length, slice_index, None, sym, ap, subst}
 use Rattle.ca_net.specs.declared.wave.Wave.{Wave}
 use Rattle.ca_table.specs.Gives.{wave_at}
-use Rattle.ca_core.specs.Core.{core_of}
 use Rattle.ca_credit.specs.Detection.{IsNetEnd}
 use Rattle.ca_engine.specs.ChipBench.{Benched}
 use Rattle.ca_engine.proofs.BenchLemmas.{output_within, good_ends}
@@ -21,7 +20,7 @@ good-requires g c =
     let within = subst (λ nets. c.args.output < length nets) (sym c.self.invariant.outputs_are) listed in
     subst (λ net. net < length inside.judge.seen.chip.nets)
     (sym c.output.ensures.net)
-    (output_within inside.judge.seen _ inside.defects (core_of inside.view.now.chip).outputs inside.aim c.self.invariant
+    (output_within inside.judge.seen _ inside.defects inside.view.now.core.outputs inside.aim c.self.invariant
     c.args.output within)
 
 pub returns : goal.returns
@@ -36,5 +35,5 @@ returns g c =
     subst (λ (bench : Benched). IsNetEnd bench.task.chip None bench.bits
     (slice_index bench.task.chip.outputs c.args.output) c.good.result.last) c.self.view_is
     (subst (IsNetEnd seen.chip None seen.pair (slice_index seen.chip.outputs c.args.output)) (sym value_is)
-    (good_ends seen _ inside.defects (core_of inside.view.now.chip).outputs inside.aim c.self.invariant
+    (good_ends seen _ inside.defects inside.view.now.core.outputs inside.aim c.self.invariant
     c.definite_last_is_end.ensures c.exact.ensures c.args.output within))

@@ -1,13 +1,10 @@
 use Rattle.std.proofs.Common.{sym, subst}
-use Rattle.ca_sim.specs.Linked.{IsAim, place_in}
-use Rattle.ca_judge.proofs.BenchLemmas.{nets_of_guide, aim_in_chip}
+use Rattle.ca_view.specs.Linked.{IsAim, place_in}
+use Rattle.ca_judge.proofs.BenchLemmas.{aim_in_chip}
 use Rattle.ca_judge.proofs.bench.Bench.aim.Goals as goal
-
-pub guide_to-requires-clause-linked : goal.guide_to-requires-clause-linked
-guide_to-requires-clause-linked g c = nets_of_guide _ _ _ c.self.invariant.searchable
 
 pub guide_to-requires-clause-defect : goal.guide_to-requires-clause-defect
 guide_to-requires-clause-defect g c =
     let aim = subst (λ sim. IsAim sim.seen.chip (place_in sim.seen.places) c.args.defect) (sym c.self.view_is)
     c.requires in
-    aim_in_chip _ _ _ c.args.defect c.self.invariant.searchable.same aim
+    aim_in_chip _ _ _ c.args.defect c.self.invariant.same aim

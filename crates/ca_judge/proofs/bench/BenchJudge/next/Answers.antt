@@ -20,7 +20,7 @@ next-requires-clause-is_open g c =
 pub next-requires-clause-rows : goal.next-requires-clause-rows
 next-requires-clause-rows g c =
     subst (λ chip. ListsExposingRows chip c.in-Some.defect c.rows.result.now)
-    (c.self.invariant.rows_are ∙ sym c.self.invariant.searchable.same) c.rows.ensures
+    (c.self.invariant.rows_are ∙ sym c.self.invariant.same) c.rows.ensures
 
 pub returns-in-Some-clause-step : goal.returns-in-Some-clause-step
 returns-in-Some-clause-step g c =

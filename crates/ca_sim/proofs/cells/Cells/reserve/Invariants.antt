@@ -1,6 +1,7 @@
-use Rattle.ca_sim.specs.Linked.{place_in}
+use Rattle.ca_view.specs.Linked.{place_in}
 use Rattle.ca_sim.specs.Cells.{AreRoomsTo}
+use Rattle.ca_view.specs.Places.{cell_number}
 use Rattle.ca_sim.proofs.cells.Cells.reserve.Given as goal
 
 abbrev pub invariant-loop-number : goal.invariant-loop-number
-invariant-loop-number g l = AreRoomsTo (g.C.Linked.core l.chip) (place_in (g.C.Linked.places l.chip)) (g.C.Linked.number_of l.chip) l.number l.rooms.items
+invariant-loop-number l = AreRoomsTo l.chip.core (place_in l.chip.ranks) (cell_number l.chip.chip) l.number l.rooms.items

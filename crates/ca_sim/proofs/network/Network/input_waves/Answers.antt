@@ -7,17 +7,17 @@ use Rattle.ca_sim.proofs.WaveLemmas.{waves_from-none, waves_from-more, length-wa
 use Rattle.ca_sim.proofs.network.Network.input_waves.Goals as goal
 
 pub loop-pin-init : goal.loop-pin-init
-loop-pin-init g c = c.new-pins.ensures ∙ waves_from-none (net_of (g.C.Linked.core c.args.chip.now) c.args.u) c.args.self.now.waves 0
+loop-pin-init c = c.new-pins.ensures ∙ waves_from-none (net_of c.args.chip.now.core c.args.u) c.args.self.now.waves 0
 
 pub push-requires : goal.push-requires
-push-requires g c =
-    let core = g.C.Linked.core c.args.chip.now in
+push-requires c =
+    let core = c.args.chip.now.core in
     let count : length c.loop-pin.pins.items ≡ c.loop-pin.pin = ap length c.loop-pin.invariant ∙ length-waves_from (net_of core c.args.u) c.args.self.now.waves 0 c.loop-pin.pin in
     omega arith
 
 pub loop-pin-preserved : goal.loop-pin-preserved
-loop-pin-preserved g c =
-    let core = g.C.Linked.core c.args.chip.now in
+loop-pin-preserved c =
+    let core = c.args.chip.now.core in
     let waves = c.args.self.now.waves in
     let more = waves_from-more (net_of core c.args.u) waves c.loop-pin.pin in
     let read : c.get.result ≡ wave_at waves (net_of core c.args.u c.loop-pin.pin) = c.get.ensures ∙ ap (wave_at waves) c.pin_net.ensures in

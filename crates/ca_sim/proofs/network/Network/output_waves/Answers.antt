@@ -9,18 +9,18 @@ use Rattle.ca_sim.proofs.WaveLemmas.{waves_from-none, waves_from-more, length-wa
 use Rattle.ca_sim.proofs.network.Network.output_waves.Goals as goal
 
 pub loop-output-init : goal.loop-output-init
-loop-output-init g c = c.new-outputs.ensures ∙ waves_from-none (output_net (g.C.Linked.core c.args.chip.now) c.args.u) c.args.self.now.waves 0
+loop-output-init c = c.new-outputs.ensures ∙ waves_from-none (output_net c.args.chip.now.core c.args.u) c.args.self.now.waves 0
 
 pub push-requires : goal.push-requires
-push-requires g c =
-    let core = g.C.Linked.core c.args.chip.now in
+push-requires c =
+    let core = c.args.chip.now.core in
     let count : length c.loop-output.outputs.items ≡ c.loop-output.output =
     ap length c.loop-output.invariant ∙ length-waves_from (output_net core c.args.u) c.args.self.now.waves 0 c.loop-output.output in
     omega arith
 
 pub loop-output-preserved : goal.loop-output-preserved
-loop-output-preserved g c =
-    let core = g.C.Linked.core c.args.chip.now in
+loop-output-preserved c =
+    let core = c.args.chip.now.core in
     let waves = c.args.self.now.waves in
     let more = waves_from-more (output_net core c.args.u) waves c.loop-output.output in
     let inputs : c.inputs-first.result ≡ inputs_at core c.args.u = c.inputs-first.ensures.count ∙ ap (λ (raw : RawCell). role_count is_input raw.pins) c.cell.ensures in

@@ -6,30 +6,31 @@ use Rattle.ca_flat.specs.Flat.{circuit_in}
 use Rattle.ca_table.specs.Gives.{Gives}
 use Rattle.ca_sim.specs.Current.{input_waves}
 use Rattle.ca_sim.specs.Network.{IsWrittenOut}
+use Rattle.ca_view.specs.Places.{cell_number}
 use Rattle.ca_sim.proofs.WaveLemmas.{length-waves_from, all_waves_from}
 use Rattle.ca_sim.proofs.Settling.{settled_more, settled_all}
 use Rattle.ca_sim.proofs.CountLemmas.{counted_more}
-use Rattle.ca_sim.specs.Linked.{place_in}
+use Rattle.ca_view.specs.Linked.{place_in}
 use Rattle.ca_sim.proofs.network.Network.settle.Goals as goal
 
 pub respond_beside-outputs-requires-clause-pins : goal.respond_beside-outputs-requires-clause-pins
-respond_beside-outputs-requires-clause-pins g c =
-    let core = g.C.Linked.core c.args.chip.now in
+respond_beside-outputs-requires-clause-pins c =
+    let core = c.args.chip.now.core in
     ap length (c.input_waves-pins.ensures) ∙ length-waves_from (net_of core c.order-u.result) c.loop-place.self.waves 0 (inputs_at core c.order-u.result)
 
 pub respond_beside-outputs-requires-clause-waves : goal.respond_beside-outputs-requires-clause-waves
-respond_beside-outputs-requires-clause-waves g c =
-    let core = g.C.Linked.core c.args.chip.now in
+respond_beside-outputs-requires-clause-waves c =
+    let core = c.args.chip.now.core in
     subst (All IsWave) (sym (c.input_waves-pins.ensures))
     (all_waves_from (net_of core c.order-u.result) c.loop-place.self.waves c.loop-place.invariant.settled.ready.are_waves (inputs_at core c.order-u.result))
 
 pub write-requires-clause-room : goal.write-requires-clause-room
-write-requires-clause-room g c = c.remove.ensures.room _ c.loop-place.invariant.settled.ready.room
+write-requires-clause-room c = c.remove.ensures.room _ c.loop-place.invariant.settled.ready.room
 
 pub loop-place-preserved : goal.loop-place-preserved
-loop-place-preserved g c =
-    let core = g.C.Linked.core c.args.chip.now in
-    let place_of = place_in (g.C.Linked.places c.args.chip.now) in
+loop-place-preserved c =
+    let core = c.args.chip.now.core in
+    let place_of = place_in c.args.chip.now.ranks in
     let linked = c.linked.ensures.linked in
     let u = c.order-u.result in
     let mid = c.loop-place.self in
@@ -41,7 +42,7 @@ loop-place-preserved g c =
     let bound = linked.within place_within.instance place_within.is_placed.known in
     let at = place_within.at in
     record {
-      settled = settled_more core place_of (g.C.Linked.number_of c.args.chip.now) linked c.args.aim c.args.self.now c.loop-place.from c.in-Some.place u
+      settled = settled_more core place_of (cell_number c.args.chip.now.chip) linked c.args.aim c.args.self.now c.loop-place.from c.in-Some.place u
           c.respond_beside-outputs.result.items mid c.write.new.self c.remove.new.self c.loop-place.invariant.settled c.in-Some.ensures c.remove.ensures.here c.remove.ensures.others
           c.remove.ensures.room c.order-u.ensures.placed c.order-u.ensures.at given c.respond_beside-outputs.ensures.waves out;
       cells = c.respond_beside-outputs.ensures.cells;
@@ -51,13 +52,13 @@ loop-place-preserved g c =
     }
 
 pub returns-clause-settled : goal.returns-clause-settled
-returns-clause-settled g c =
-    settled_all (g.C.Linked.core c.args.chip.now) (place_in (g.C.Linked.places c.args.chip.now)) (g.C.Linked.number_of c.args.chip.now) c.linked.ensures.linked
+returns-clause-settled c =
+    settled_all c.args.chip.now.core (place_in c.args.chip.now.ranks) (cell_number c.args.chip.now.chip) c.linked.ensures.linked
     c.args.aim c.args.self.now c.loop-place.from (record { waves = c.loop-place.self.waves; due = c.loop-place.self.due }) c.loop-place.invariant.settled c.in_default.ensures
 
 pub returns-clause-count : goal.returns-clause-count
-returns-clause-count g c = λ none place was.
-    let settled = settled_all (g.C.Linked.core c.args.chip.now) (place_in (g.C.Linked.places c.args.chip.now)) (g.C.Linked.number_of c.args.chip.now) c.linked.ensures.linked
+returns-clause-count c = λ none place was.
+    let settled = settled_all c.args.chip.now.core (place_in c.args.chip.now.ranks) (cell_number c.args.chip.now.chip) c.linked.ensures.linked
     c.args.aim c.args.self.now c.loop-place.from (record { waves = c.loop-place.self.waves; due = c.loop-place.self.due }) c.loop-place.invariant.settled c.in_default.ensures in
     elim (c.loop-place.invariant.count none place was) [
       | inl has ↦ absurd (settled.none place has)

@@ -1,21 +1,22 @@
 use Rattle.std.proofs.Common.{◌∙◌}
 use Rattle.std.specs.Prelude.{None}
 use Rattle.ca_flat.specs.Chip.{Chip}
-use Rattle.ca_sim.specs.Linked.{place_in}
+use Rattle.ca_view.specs.Linked.{place_in}
+use Rattle.ca_view.specs.Places.{cell_number}
 use Rattle.ca_sim.proofs.CountLemmas.{reader_due}
 use Rattle.ca_sim.proofs.Loading.{changed_same, changed_length, set_both}
 use Rattle.ca_sim.proofs.SimLemmas.{underway_fed}
 use Rattle.ca_sim.proofs.networks.Networks.change.Goals as goal
 
 pub returns-clause-underway : goal.returns-clause-underway
-returns-clause-underway g c = λ aim under.
-    let core : Chip = g.C.Linked.core c.args.chip.now in
-    let place_of = place_in (g.C.Linked.places c.args.chip.now) in
-    let number_of = g.C.Linked.number_of c.args.chip.now in
+returns-clause-underway c = λ aim under.
+    let core : Chip = c.args.chip.now.core in
+    let place_of = place_in c.args.chip.now.ranks in
+    let number_of = (cell_number c.args.chip.now.chip) in
     let linked = c.linked.ensures.linked in
     let pinned = c.linked.ensures.pinned in
-    let next_is = set_both core c.args.self.now.bits c.set.new.self c.set-2.new.self c.args.input c.inputs.result c.args.first
-    c.args.last c.inputs.ensures c.set.ensures c.set-2.ensures in
+    let next_is = set_both core c.args.self.now.bits c.set.new.self c.set-2.new.self c.args.input c.input_count.result c.args.first
+    c.args.last c.input_count.ensures c.set.ensures c.set-2.ensures in
     let same = changed_same core c.args.self.now.bits c.set-2.new.self c.args.input c.args.first c.args.last c.requires.input next_is in
     record {
       bits = changed_length core c.args.self.now.bits c.set-2.new.self c.args.input c.args.first c.args.last c.requires.input next_is ∙ under.bits;
@@ -26,10 +27,10 @@ returns-clause-underway g c = λ aim under.
     }
 
 pub returns-clause-due : goal.returns-clause-due
-returns-clause-due g c = λ u reads differ under.
-    let core : Chip = g.C.Linked.core c.args.chip.now in
-    let next_is = set_both core c.args.self.now.bits c.set.new.self c.set-2.new.self c.args.input c.inputs.result c.args.first
-    c.args.last c.inputs.ensures c.set.ensures c.set-2.ensures in
-    reader_due core (place_in (g.C.Linked.places c.args.chip.now)) (g.C.Linked.number_of c.args.chip.now) c.linked.ensures.linked
+returns-clause-due c = λ u reads differ under.
+    let core : Chip = c.args.chip.now.core in
+    let next_is = set_both core c.args.self.now.bits c.set.new.self c.set-2.new.self c.args.input c.input_count.result c.args.first
+    c.args.last c.input_count.ensures c.set.ensures c.set-2.ensures in
+    reader_due core (place_in c.args.chip.now.ranks) (cell_number c.args.chip.now.chip) c.linked.ensures.linked
     c.linked.ensures.pinned c.args.input c.requires.input c.args.self.now.bits c.set-2.new.self c.args.first c.args.last
     c.args.self.now.good c.feed.new.self u c.requires.ready.bits next_is under c.feed.ensures.fed reads differ

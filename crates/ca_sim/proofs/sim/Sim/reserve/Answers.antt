@@ -4,19 +4,20 @@ use Rattle.std.proofs.lemmas.List.{length-replicate}
 use Rattle.ca_net.specs.declared.trit.Trit.TheVariants.{X}
 use Rattle.ca_flat.specs.Pair.{bit_count}
 use Rattle.ca_flat.specs.Code.{unset_pair}
-use Rattle.ca_sim.specs.Linked.{place_in}
+use Rattle.ca_view.specs.Linked.{place_in}
 use Rattle.ca_sim.specs.Network.{IsAtRest}
 use Rattle.ca_sim.specs.Cells.{AreCellRooms}
 use Rattle.ca_sim.specs.Cache.{HoldTrue}
 use Rattle.ca_sim.specs.declared.cache.Cache.{Cache}
+use Rattle.ca_view.specs.Places.{cell_number}
 use Rattle.ca_sim.proofs.SimLemmas.{at_rest, copy_at_rest}
 use Rattle.ca_sim.proofs.sim.Sim.reserve.Goals as goal
 
 pub invariant_of-result : goal.invariant_of-result
-invariant_of-result g c =
-    let core = g.C.Linked.core c.args.chip.now in
-    let place_of = place_in (g.C.Linked.places c.args.chip.now) in
-    let unset : c.in_ok-bits.bits ≡ unset_pair core = c.in_ok-bits.ensures ∙ ap (λ k. replicate (2 * k) X) c.inputs.ensures in
+invariant_of-result c =
+    let core = c.args.chip.now.core in
+    let place_of = place_in c.args.chip.now.ranks in
+    let unset : c.in_ok-bits.bits ≡ unset_pair core = c.in_ok-bits.ensures ∙ ap (λ k. replicate (2 * k) X) c.input_count.ensures in
     let good : IsAtRest core place_of None (unset_pair core) c.settle.new.self =
     at_rest core place_of None (unset_pair core) c.in_ok-good.good c.settle.new.self c.in_ok-good.ensures c.settle.ensures.settled in
     record {
@@ -29,8 +30,8 @@ invariant_of-result g c =
             (copy_at_rest core place_of None (unset_pair core) c.settle.new.self c.in_ok-faulty.faulty good c.in_ok-faulty.ensures);
       };
       rooms = record {
-        rooms = subst (AreCellRooms core place_of (g.C.Linked.number_of c.args.chip.now)) (sym c.counted_anew.ensures.rooms) c.settle.ensures.cells.rooms;
-        slots = subst (λ (cache : Cache). HoldTrue core place_of (g.C.Linked.number_of c.args.chip.now) cache.slots.items) (sym c.counted_anew.ensures.cache) c.settle.ensures.cells.slots;
+        rooms = subst (AreCellRooms core place_of (cell_number c.args.chip.now.chip)) (sym c.counted_anew.ensures.rooms) c.settle.ensures.cells.rooms;
+        slots = subst (λ (cache : Cache). HoldTrue core place_of (cell_number c.args.chip.now.chip) cache.slots.items) (sym c.counted_anew.ensures.cache) c.settle.ensures.cells.slots;
         some = subst (λ (cache : Cache). 0 < length cache.slots.items) (sym c.counted_anew.ensures.cache) c.settle.ensures.cells.some;
       };
     }

@@ -1,5 +1,5 @@
 use Rattle.std.proofs.Common.{◌<◌, length, subst, sym}
-use Rattle.ca_guide.specs.Flood.{AreWithin}
+use Rattle.ca_view.specs.NetLists.{AreWithin}
 use Rattle.ca_view.proofs.LinkLemmas.{longer_list, within_more, same_list}
 use Rattle.ca_view.proofs.links.LinkTable.add.Goals as goal
 

@@ -1,0 +1,194 @@
+//! The judge of a linked chip, beside a finder that works by last values alone.
+
+ghost use Rattle.std.specs.Prelude.{◌≡◌, ◌<◌, ◌^◌, length, IfOk};
+
+use ca_base::NoMemory;
+use ca_flat::ChipDefect;
+use ca_guide::{Choice, Step};
+use ca_judge::ExposingRows;
+use ca_net::Wave;
+use ca_search::{Judge, Standing};
+use ca_sim::{Bits, NetWaves};
+use ca_sweep::{Finder, Seen};
+use ca_view::View;
+use std::alloc::Global;
+use std::marker::Model;
+
+/// A judge, and a finder, which is loaded with the good last values for the bits when it is asked. All memory
+/// is taken by `reserve`.
+#[derive(Drop)]
+pub(crate) struct FlipBench<'a, R: ExposingRows, P: Choice + Drop> {
+    judge: ca_judge::Bench<'a, R, P>,
+    finder: Finder<'a>,
+    is_loaded: bool,
+}
+
+impl<'a, R: ExposingRows, P: Choice + Drop> Model for FlipBench<'a, R, P> {
+    ghost use Rattle.ca_sim.specs.Simulator.{Simulator};
+    ghost use Rattle.ca_engine.specs.FlipBench.{IsFlipBench};
+
+    ghost Value = { Simulator };
+
+    ghost view = { λ bench. bench.judge };
+
+    ghost invariant = { λ bench. IsFlipBench bench.judge bench.finder bench.is_loaded };
+}
+
+impl<'a, R: ExposingRows, P: Choice + Drop> FlipBench<'a, R, P> {
+    ghost use Rattle.std.specs.Prelude.{IsFalse, IsTrue, None, Some};
+    ghost use Rattle.ca_net.specs.Circuit.{IsWellFormed};
+    ghost use Rattle.ca_flat.specs.Flat.{flat};
+    ghost use Rattle.ca_flat.specs.Chip.{IsDefectIn};
+    ghost use Rattle.ca_flat.specs.RuleOut.{RowsRuleOut};
+    ghost use Rattle.ca_flat.specs.Waves.{FlatWaves};
+    ghost use Rattle.ca_flat.specs.Pair.{IsShown};
+    ghost use Rattle.ca_view.specs.Linked.{IsAim, IsPlacedDefect, place_in};
+    ghost use Rattle.ca_sim.specs.Seen.{IsExact, aimed_anew};
+    ghost use Rattle.ca_sim.specs.Simulator.{IsFresh, KeepsAim, KeepsPair, KeepsSeen, counted_up};
+    ghost use Rattle.ca_judge.specs.Bench.{CanBeJudged};
+    ghost use Rattle.ca_sweep.specs.Found.{IsFound};
+
+    /// Takes all memory. No bit is set, and no defect is aimed at.
+    pub(crate) fn reserve(
+        alloc: Global,
+        view: &'a View<'a>,
+        rows: &'a R,
+        choice: P,
+        outputs: Vec<u32>,
+    ) -> Result<Self, NoMemory>
+        requires judged { CanBeJudged view.now.core }
+        requires rows { R.chip rows.now ≡ view.now.core }
+        requires outputs { outputs.items ≡ view.now.core.outputs }
+        requires few { length outputs.items < 2 ^ 32 }
+        ensures { IfOk result (IsFresh view.now.core view.now.ranks) }
+    {
+        let finder = Finder::reserve(alloc, view, outputs)?;
+        let judge = ca_judge::Bench::reserve(alloc, view, rows, choice)?;
+        Ok(FlipBench {
+            judge,
+            finder,
+            is_loaded: false,
+        })
+    }
+
+    /// Aims at a defect, or at none. The bits stay.
+    pub(crate) fn aim(&mut self, defect: Option<ChipDefect>)
+        requires { IsAim self.old.seen.chip (place_in self.old.seen.places) defect }
+        ensures aim { self.new.seen.aim ≡ defect }
+        ensures aimed { self.new.aimed ≡ counted_up self.old.aimed }
+        ensures kept { KeepsPair self.old self.new }
+    {
+        self.judge.aim(defect);
+    }
+
+    /// Whether a row that exposes the defect is allowed by what the good chip has at its instance's input
+    /// pins. Where none is, the pair doesn't show the defect.
+    pub(crate) fn may_show(&self, defect: ChipDefect) -> bool
+        requires { IsDefectIn self.now.seen.chip defect }
+        ensures not_shown { IsFalse result → ¬ (IsShown self.now.seen.chip defect self.now.seen.pair) }
+        ensures allowed { IsTrue result → (good : FlatWaves self.now.seen.chip None self.now.seen.pair)
+            → ¬ (RowsRuleOut self.now.seen.chip defect self.now.seen.pair good) }
+    {
+        self.judge.may_show(defect)
+    }
+
+    /// What last values alone say of a defect: where the bits first detect it.
+    pub(crate) fn by_lasts(&mut self, defect: ChipDefect) -> Seen
+        requires defect { IsPlacedDefect self.old.seen.chip (place_in self.old.seen.places) defect }
+        requires good_is { IsWellFormed (flat self.old.seen.chip None) }
+        requires faulty_is { IsWellFormed (flat self.old.seen.chip (Some defect)) }
+        ensures found { IsFound self.old.seen.chip defect self.old.seen.pair result }
+        ensures kept { self.new ≡ self.old }
+    {
+        if self.is_loaded {
+            return self.finder.find(&self.judge, defect);
+        }
+        self.judge.exact();
+        self.finder.load(&self.judge);
+        self.is_loaded = true;
+        self.finder.find(&self.judge, defect)
+    }
+
+    /// Whether the instance of the defect that is aimed at gives the same with this other one of its defects.
+    /// Then all waves are those of the flat network with this one too.
+    pub(crate) fn is_alike(&mut self, defect: ChipDefect) -> bool
+        requires { IsPlacedDefect self.old.seen.chip (place_in self.old.seen.places) defect }
+        ensures alike { IsTrue result → IsExact (aimed_anew self.old.seen defect) }
+        ensures kept { KeepsSeen self.old self.new }
+    {
+        self.judge.is_alike(defect)
+    }
+
+    /// How often was aimed since `reserve`, up to the type's greatest value.
+    pub(crate) fn aimed(&self) -> u64
+        ensures { result ≡ self.now.aimed }
+    {
+        self.judge.aimed()
+    }
+
+    /// How often an instance was evaluated since `reserve`, up to the type's greatest value.
+    pub(crate) fn evaluated(&self) -> u64
+        ensures { result ≡ self.now.evaluated }
+    {
+        self.judge.evaluated()
+    }
+
+    /// Gives all bits their values.
+    pub(crate) fn load<B: Bits>(&mut self, bits: &B)
+        requires { length (B.bits bits.now) ≡ length self.old.seen.pair }
+        ensures pair { self.new.seen.pair ≡ B.bits bits.now }
+        ensures kept { KeepsAim self.old self.new }
+    {
+        self.is_loaded = false;
+        self.judge.load(bits);
+    }
+}
+
+impl<R: ExposingRows, P: Choice + Drop> NetWaves for FlipBench<'_, R, P> {
+    ghost seen = { λ bench. bench.seen };
+
+    fn good(&self, net: usize) -> Wave {
+        self.judge.good(net)
+    }
+
+    fn faulty(&self, net: usize) -> Wave {
+        self.judge.faulty(net)
+    }
+
+    fn bit(&self, bit: usize) -> Option<bool> {
+        self.judge.bit(bit)
+    }
+
+    fn exact(&self) {
+        self.judge.exact();
+    }
+}
+
+impl<R: ExposingRows, P: Choice + Drop> Judge for FlipBench<'_, R, P> {
+    ghost use Rattle.ca_judge.specs.Bench.{judged_of};
+
+    ghost judged = { λ bench. judged_of bench.seen };
+
+    fn bit_count(&self) -> usize {
+        self.judge.bit_count()
+    }
+
+    fn clear(&mut self) {
+        self.is_loaded = false;
+        self.judge.clear();
+    }
+
+    fn set(&mut self, bit: u16, value: Option<bool>) {
+        self.is_loaded = false;
+        self.judge.set(bit, value);
+    }
+
+    fn standing(&self) -> Standing {
+        self.judge.standing()
+    }
+
+    fn next(&mut self) -> Step {
+        self.is_loaded = false;
+        self.judge.next()
+    }
+}

@@ -1,2 +1,0 @@
-pub mod Ladder
-pub mod LadderLemmas

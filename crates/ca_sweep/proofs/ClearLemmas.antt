@@ -1,0 +1,67 @@
+-- An instance is clear where its output nets are definite, and all that read one pass flips on.
+use Rattle.std.proofs.Common.{◌≡◌, ℕ, ◌<◌, Bool, true, false, List, [], ◌∷◌, length, get_or, set, sym, ◌∙◌, ap, subst, arith, inl, inr}
+use Rattle.std.proofs.lemmas.Bool.{cases_eq}
+use Rattle.std.proofs.lemmas.List.{get_or-set_same, get_or-set_other, length-set}
+use Rattle.ca_net.specs.declared.trit.Trit.{Trit}
+use Rattle.ca_flat.specs.Chip.{Chip, cell_at, inputs_at, outputs_at, net_of, count_of}
+use Rattle.ca_flat.specs.Chain.{IsChain}
+use Rattle.ca_flips.specs.Static.{IsStatic}
+use Rattle.ca_flips.specs.Flips.{IsBehind}
+use Rattle.ca_view.specs.Linked.{Reads}
+use Rattle.ca_sweep.specs.Seen.{IsClear}
+use Rattle.ca_sweep.specs.Kept.{IsPassing, AreDefinitePins, AreOutputsClear, AreMarks, is_marked}
+
+module _ (chip : Chip) (goods : ℕ → Trit) where
+  -- what holds of an instance that a chain from the net leads to, where all that read the net pass flips on
+  module _ (w pin : ℕ) (known : w < count_of chip) (within : pin < inputs_at chip w) where
+    passes_on : (from : ℕ) (path : List ℕ) → ((reader : ℕ) → Reads chip reader from → IsPassing chip goods reader) → IsChain chip from path (net_of chip w pin)
+        → IsStatic (cell_at chip w) × AreDefinitePins chip goods w
+    passes_on from [] passing chain =
+        let is = passing w (record { known = known; pin = pin; within = within; on = sym chain }) in
+        (is.cell_static, is.pins)
+    passes_on from (next ∷ more) passing chain =
+        let feeds = chain.0 in
+        let first = passing feeds.instance (record { known = feeds.known; pin = feeds.pin; within = feeds.pin_within; on = feeds.reads }) in
+        let behind : IsBehind chip feeds.instance w = record {
+          known = known;
+          pin = pin;
+          within = within;
+          reached = record {
+            from = next;
+            is_output = record { output = feeds.output; within = feeds.output_within; on = feeds.drives };
+            leads = record { path = more; is_chain = chain.1 };
+          };
+        } in
+        (first.clear.all_static w behind, λ p p_within. first.clear.definite.read w p behind p_within)
+
+  pub clear_of : (marks : List Bool) (u : ℕ) → AreMarks chip (IsPassing chip goods) marks → AreOutputsClear chip goods marks u (outputs_at chip u) → IsClear chip goods u
+  clear_of marks u are clear = record {
+    all_static = λ w behind. (passed w behind).0;
+    definite = record {
+      outputs = λ output within. (clear output within).0;
+      read = λ w pin behind within. (passed w behind).1 pin within;
+    };
+  }
+    where
+      passed : (w : ℕ) → IsBehind chip u w → IsStatic (cell_at chip w) × AreDefinitePins chip goods w
+      passed w behind =
+          let out = behind.reached.is_output in
+          passes_on w behind.pin behind.known behind.within behind.reached.from behind.reached.leads.path
+          (λ reader reads. are.each reader ((clear out.output out.within).1 reader (subst (Reads chip reader) (sym out.on) reads)))
+          behind.reached.leads.is_chain
+
+-- one instance more is marked, or not
+pub marks_put : (chip : Chip) (P : ℕ → Type 0) (old new : List Bool) (u : ℕ) (mark : Bool) → AreMarks chip P old → u < count_of chip → new ≡ set old u mark
+    → (mark ≡ true → P u) → AreMarks chip P new
+marks_put chip P old new u mark are known is holds = record {
+  room = ap length is ∙ length-set old u mark ∙ are.room;
+  each = λ w marked. elim (cases_eq w u) [
+    | inl e ↦ subst P (sym e) (holds (sym (ap (λ list. get_or list u false) is ∙ get_or-set_same old u mark false (let r = are.room in omega arith))
+        ∙ ap (λ k. get_or new k false) (sym e) ∙ marked))
+    | inr other ↦ are.each w (sym (ap (λ list. get_or list w false) is ∙ get_or-set_other old u w mark false other) ∙ marked)
+  ];
+}
+
+-- nothing is marked
+pub marks_none : (chip : Chip) (P : ℕ → Type 0) (marks : List Bool) → length marks ≡ count_of chip → ((u : ℕ) → is_marked marks u ≡ true → ⊥) → AreMarks chip P marks
+marks_none chip P marks room none = record { room = room; each = λ u marked. absurd (none u marked) }

@@ -1,0 +1,6 @@
+use Rattle.std.proofs.Common.{◌≡◌, ℕ, ◌<◌}
+use Rattle.ca_table.specs.Gives.{wave_at}
+use Rattle.ca_sweep.proofs.faulty.same_waves.Given as goal
+
+abbrev pub invariant-loop-place : goal.invariant-loop-place
+invariant-loop-place l = (k : ℕ) → k < l.place → wave_at l.a k ≡ wave_at l.b k

@@ -1,0 +1,107 @@
+-- What only proofs of code cite: values of nets that change, and the readers of these nets, which are due.
+use Rattle.std.specs.Prelude.{ℕ, ◌+◌, ◌^◌, ◌≡◌, ◌<◌, ◌≤◌, ◌⊎◌, Bool, true, false, List, length}
+use Rattle.std.specs.Prelude.{slice_index_or}
+use Rattle.ca_net.specs.declared.trit.Trit.{Trit}
+use Rattle.ca_net.specs.declared.node.NodeKind.TheVariants.{Input}
+use Rattle.ca_net.specs.State.{value_at}
+use Rattle.ca_defect.specs.Row.{vector_of}
+use Rattle.ca_flat.specs.Chip.{Chip, cell_at, inputs_at, outputs_at, net_of, output_net, count_of, net_kind}
+use Rattle.ca_flips.specs.Static.{EndsByLast}
+use Rattle.ca_flips.specs.Flips.{IsBehind, vector_at, KeepsGood, IsEvaluated}
+use Rattle.ca_view.specs.Linked.{Reads, IsPlaced}
+use Rattle.ca_sweep.specs.declared.values.Values.{Values}
+
+-- the instance at this place is due
+abbrev pub IsDue : List Bool → ℕ → Type 0
+IsDue due place = slice_index_or due place false ≡ true
+
+-- a value for each net, and a mark for each place
+pub record AreRoomy (chip : Chip) (values : Values) : Type 0 where
+  pub nets : length values.values ≡ length chip.nets
+  pub places : length values.due.items ≡ count_of chip + 1
+
+-- the readers of the net are due, and all that was, and nothing else
+pub record IsMarked (chip : Chip) (place_of : ℕ → ℕ) (net : ℕ) (old new : List Bool) : Type 0 where
+  pub room : length new ≡ length old
+  pub kept : (place : ℕ) → IsDue old place → IsDue new place
+  pub readers : (w : ℕ) → Reads chip w net → IsDue new (place_of w)
+  pub added : (place : ℕ) → IsDue new place
+      → IsDue old place ⊎ ((w : ℕ) × Reads chip w net × (place_of w ≡ place))
+
+-- Some nets are given values: the readers of those that change are due, and all that was. What comes to be
+-- due reads a net with the property.
+pub record Changes (chip : Chip) (place_of : ℕ → ℕ) (given : ℕ → Type 0) (old new : Values) : Type 0 where
+  pub nets : length new.values ≡ length old.values
+  pub places : length new.due.items ≡ length old.due.items
+  pub others : (net : ℕ) → ¬ (given net) → value_at new.values net ≡ value_at old.values net
+  pub kept : (place : ℕ) → IsDue old.due.items place → IsDue new.due.items place
+  pub readers : (w net : ℕ) → Reads chip w net
+      → (value_at new.values net ≡ value_at old.values net) ⊎ IsDue new.due.items (place_of w)
+  pub added : (place : ℕ) → IsDue new.due.items place → IsDue old.due.items place
+      ⊎ ((w : ℕ) × (net : ℕ) × given net × Reads chip w net × (place_of w ≡ place))
+
+-- the net is given a value
+pub record IsPut (chip : Chip) (place_of : ℕ → ℕ) (net : ℕ) (value : Trit) (old new : Values) : Type 0 where
+  pub here : value_at new.values net ≡ value
+  pub changes : Changes chip place_of (λ other. other ≡ net) old new
+
+-- the net is on one of the first `count` output pins of the instance
+pub record IsOutputBelow (chip : Chip) (u count net : ℕ) : Type 0 where
+  pub output : ℕ
+  pub within : output < count
+  pub on : output_net chip u output ≡ net
+
+-- the nets of the first `count` output pins of an instance are given these values
+pub record IsWrittenTo (chip : Chip) (place_of : ℕ → ℕ) (u count : ℕ) (outputs : ℕ → Trit)
+    (old new : Values) : Type 0 where
+  pub written : (output : ℕ) → output < count → value_at new.values (output_net chip u output) ≡ outputs output
+  pub changes : Changes chip place_of (IsOutputBelow chip u count) old new
+
+-- so are those of all its output pins
+abbrev pub IsWritten : Chip → (ℕ → ℕ) → ℕ → (ℕ → Trit) → Values → Values → Type 0
+IsWritten chip place_of u outputs old new = IsWrittenTo chip place_of u (outputs_at chip u) outputs old new
+
+-- the vector of this many inputs is that of the number
+pub record IsNumberOf (inputs : ℕ) (vector : List Trit) (number : ℕ) : Type 0 where
+  pub within : number < 2 ^ inputs
+  pub vector_is : vector_of inputs number ≡ vector
+
+-- the output nets of the instance are given what its cell ends with by the values of its input nets alone
+pub record IsEvaluatedOut (chip : Chip) (place_of : ℕ → ℕ) (w : ℕ) (old new : Values) : Type 0 where
+  pub outputs : ℕ → Trit
+  pub written : IsWritten chip place_of w outputs old new
+  pub ends : (output : ℕ) → output < outputs_at chip w
+      → EndsByLast (cell_at chip w) (vector_at chip w (value_at old.values)) output (outputs output)
+
+-- so is the instance at a place
+pub record IsEvaluatedAt (chip : Chip) (place_of : ℕ → ℕ) (place : ℕ) (old new : Values) : Type 0 where
+  pub instance : ℕ
+  pub placed : IsPlaced chip place_of instance
+  pub at : place_of instance ≡ place
+  pub evaluated : IsEvaluatedOut chip place_of instance old new
+
+-- the instance at a place is due and is evaluated, or it isn't due and nothing changes
+abbrev pub IsPassed : Chip → (ℕ → ℕ) → ℕ → Values → Values → Type 0
+IsPassed chip place_of place old new =
+    (IsDue old.due.items place × IsEvaluatedAt chip place_of place old new)
+    ⊎ (¬ (IsDue old.due.items place) × (new ≡ old))
+
+-- Values that are found an instance at a time, in the order, where the output pins of u have these: before
+-- this place each instance keeps good values or is evaluated. From there on the output nets have good values,
+-- and so have the input nets unless the instance is due. What is due is behind u.
+pub record IsSweptTo (chip : Chip) (place_of : ℕ → ℕ) (u : ℕ) (goods outputs : ℕ → Trit) (place : ℕ)
+    (values : Values) : Type 0 where
+  pub room : AreRoomy chip values
+  pub inputs : (net : ℕ) → net < length chip.nets → net_kind chip net ≡ Input
+      → value_at values.values net ≡ goods net
+  pub given : (output : ℕ) → output < outputs_at chip u
+      → value_at values.values (output_net chip u output) ≡ outputs output
+  pub before : (w : ℕ) → w < count_of chip → (w ≡ u → ⊥) → place_of w < place
+      → KeepsGood chip w goods (value_at values.values) ⊎ IsEvaluated chip w (value_at values.values)
+  pub ahead : (w output : ℕ) → w < count_of chip → (w ≡ u → ⊥) → place ≤ place_of w
+      → output < outputs_at chip w
+      → value_at values.values (output_net chip w output) ≡ goods (output_net chip w output)
+  pub waiting : (w pin : ℕ) → w < count_of chip → (w ≡ u → ⊥) → place ≤ place_of w → pin < inputs_at chip w
+      → (value_at values.values (net_of chip w pin) ≡ goods (net_of chip w pin))
+      ⊎ IsDue values.due.items (place_of w)
+  pub due : (at : ℕ) → IsDue values.due.items at → (w : ℕ) × IsBehind chip u w × (place_of w ≡ at)

@@ -1,0 +1,32 @@
+-- What is found of a defect: the first observed output at which a pair detects it.
+use Rattle.std.specs.Prelude.{ℕ, ◌<◌, Bool, true, false, List, length, slice_index}
+use Rattle.ca_net.specs.declared.trit.Trit.{Trit}
+use Rattle.ca_flat.specs.declared.chip_defect.ChipDefect.{ChipDefect}
+use Rattle.ca_flat.specs.Chip.{Chip}
+use Rattle.ca_flat.specs.Pair.{DetectsAt}
+use Rattle.ca_sweep.specs.declared.seen.Seen.{Seen}
+use Rattle.ca_sweep.specs.declared.seen.Seen.TheVariants.{Undecided, Nowhere, At}
+
+-- what is told where flips are seen so: that a detection was found only where all last values of the outputs
+-- of the defect's instance are known
+abbrev pub told : Bool → Seen → Seen
+told known Undecided = Undecided
+told known Nowhere = Nowhere
+told true (At output) = At output
+told false (At output) = Undecided
+
+-- the pair detects the defect at this observed output, counted from 0
+abbrev pub IsDetectedAt : Chip → ChipDefect → List Trit → ℕ → Type 0
+IsDetectedAt chip defect pair output = DetectsAt chip defect pair (slice_index chip.outputs output)
+
+-- it does at none before this one
+abbrev pub IsUndetectedBefore : Chip → ChipDefect → List Trit → ℕ → Type 0
+IsUndetectedBefore chip defect pair end = (output : ℕ) → output < end → ¬ (IsDetectedAt chip defect pair output)
+
+-- so says an answer that decides
+abbrev pub IsFound : Chip → ChipDefect → List Trit → Seen → Type 0
+IsFound chip defect pair Undecided = Unit {0}
+IsFound chip defect pair Nowhere = IsUndetectedBefore chip defect pair (length chip.outputs)
+IsFound chip defect pair (At output) =
+    (output < length chip.outputs) × IsDetectedAt chip defect pair output
+    × IsUndetectedBefore chip defect pair output

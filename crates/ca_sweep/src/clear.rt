@@ -1,0 +1,148 @@
+//! Which instances are clear: those behind them are static, and the good last values are definite there.
+
+ghost use Rattle.std.specs.Prelude.{ℕ, ◌≡◌, ◌<◌, length, true, IsTrue};
+ghost use Rattle.ca_net.specs.State.{value_at};
+ghost use Rattle.ca_flat.specs.Chip.{outputs_at, count_of};
+ghost use Rattle.ca_view.specs.Linked.{IsPlaced, place_in};
+ghost use Rattle.ca_view.specs.Places.{cell_number};
+ghost use Rattle.ca_sweep.specs.Seen.{IsClear};
+ghost use Rattle.ca_sweep.specs.Cells.{AreTables, IsOrder};
+ghost use Rattle.ca_sweep.specs.Kept.{AreDefinitePins, IsPassing, AreReadersMarked, AreOutputsClear, AreMarks};
+
+use crate::cells::Tables;
+use ca_net::{State, Trit};
+use ca_view::View;
+
+// Whether the values of an instance's input nets are definite.
+fn are_definite_pins(chip: &View<'_>, lasts: &State, w: usize) -> bool
+    requires placed { IsPlaced chip.now.core (place_in chip.now.ranks) w }
+    requires nets { length lasts.now ≡ length chip.now.core.nets }
+    ensures { IsTrue result → AreDefinitePins chip.now.core (value_at lasts.now) w }
+{
+    chip.linked();
+    for pin in 0..chip.cell(w).inputs() {
+        if lasts.get(chip.pin_net(w, pin)) == Trit::X {
+            return false;
+        }
+    }
+    true
+}
+
+// Whether all that read a net are marked.
+fn are_readers_marked(chip: &View<'_>, marks: &[bool], net: usize) -> bool
+    requires known { net < length chip.now.core.nets }
+    requires room { length marks.now ≡ count_of chip.now.core }
+    ensures { IsTrue result → AreReadersMarked chip.now.core marks.now net }
+{
+    chip.linked();
+    for k in 0..chip.reader_count(net) {
+        if !marks[chip.reader(net, k)] {
+            return false;
+        }
+    }
+    true
+}
+
+// Whether the values of an instance's output nets are definite, and all that read one are marked.
+fn are_outputs_clear(chip: &View<'_>, lasts: &State, marks: &[bool], u: usize) -> bool
+    requires placed { IsPlaced chip.now.core (place_in chip.now.ranks) u }
+    requires nets { length lasts.now ≡ length chip.now.core.nets }
+    requires room { length marks.now ≡ count_of chip.now.core }
+    ensures { IsTrue result → AreOutputsClear chip.now.core (value_at lasts.now) marks.now u
+        (outputs_at chip.now.core u) }
+{
+    chip.linked();
+    let first = chip.cell(u).inputs();
+    for output in 0..chip.cell(u).outputs() {
+        let net = chip.pin_net(u, first + output);
+        if lasts.get(net) == Trit::X || !are_readers_marked(chip, marks, net) {
+            return false;
+        }
+    }
+    true
+}
+
+// Whether a flip of an input net of a clear instance passes it on by last values alone.
+fn is_passing(chip: &View<'_>, tables: &Tables, lasts: &State, w: usize) -> bool
+    requires placed { IsPlaced chip.now.core (place_in chip.now.ranks) w }
+    requires tables { AreTables chip.now.core (place_in chip.now.ranks) (cell_number chip.now.chip)
+        tables.now.items }
+    requires nets { length lasts.now ≡ length chip.now.core.nets }
+    requires clear { IsClear chip.now.core (value_at lasts.now) w }
+    ensures { IsTrue result → IsPassing chip.now.core (value_at lasts.now) w }
+{
+    tables[chip.number(w)].is_some() && are_definite_pins(chip, lasts, w)
+}
+
+// No instance is marked.
+fn unmark(marks: &mut Vec<bool>)
+    ensures room { length marks.new.items ≡ length marks.old.items }
+    ensures none { (u : ℕ) → ¬ (is_marked marks.new.items u ≡ true) }
+{
+    for u in 0..marks.len() {
+        marks[u] = false;
+    }
+}
+
+ghost use Rattle.ca_sweep.specs.Kept.{is_marked};
+
+/// Finds the clear instances, the last ones first, and marks those that pass flips on.
+pub(crate) fn find_clear(
+    chip: &View<'_>,
+    tables: &Tables,
+    order: &[Option<usize>],
+    lasts: &State,
+    clear: &mut Vec<bool>,
+    passing: &mut Vec<bool>,
+)
+    requires tables { AreTables chip.now.core (place_in chip.now.ranks) (cell_number chip.now.chip)
+        tables.now.items }
+    requires order { IsOrder chip.now.core (place_in chip.now.ranks) order.now }
+    requires nets { length lasts.now ≡ length chip.now.core.nets }
+    requires clear_room { length clear.old.items ≡ count_of chip.now.core }
+    requires passing_room { length passing.old.items ≡ count_of chip.now.core }
+
+    ensures clear { AreMarks chip.now.core (IsClear chip.now.core (value_at lasts.now))
+        clear.new.items }
+    ensures passing { AreMarks chip.now.core (IsPassing chip.now.core (value_at lasts.now))
+        passing.new.items }
+{
+    unmark(clear);
+    unmark(passing);
+    let places = order.len();
+    for before in 0..places {
+        if let Some(u) = order[places - 1 - before] {
+            mark(chip, tables, lasts, u, clear, passing);
+        }
+    }
+}
+
+// Marks an instance, if it is clear and if it passes flips on.
+fn mark(
+    chip: &View<'_>,
+    tables: &Tables,
+    lasts: &State,
+    u: usize,
+    clear: &mut Vec<bool>,
+    passing: &mut Vec<bool>,
+)
+    requires placed { IsPlaced chip.now.core (place_in chip.now.ranks) u }
+    requires tables { AreTables chip.now.core (place_in chip.now.ranks) (cell_number chip.now.chip)
+        tables.now.items }
+    requires nets { length lasts.now ≡ length chip.now.core.nets }
+    requires clear { AreMarks chip.now.core (IsClear chip.now.core (value_at lasts.now))
+        clear.old.items }
+    requires passing { AreMarks chip.now.core (IsPassing chip.now.core (value_at lasts.now))
+        passing.old.items }
+
+    ensures clear { AreMarks chip.now.core (IsClear chip.now.core (value_at lasts.now))
+        clear.new.items }
+    ensures passing { AreMarks chip.now.core (IsPassing chip.now.core (value_at lasts.now))
+        passing.new.items }
+{
+    chip.linked();
+    if are_outputs_clear(chip, lasts, passing, u) {
+        clear[u] = true;
+        passing[u] = is_passing(chip, tables, lasts, u);
+    }
+}

@@ -1,0 +1,17 @@
+//! Sweeps: the last values of the nets behind an instance some of whose output pins are flipped, the first
+//! observed output at which that is seen, and where a pair so detects a defect.
+#![tactic(auto)]
+
+mod cells;
+mod clear;
+mod faulty;
+mod finder;
+mod memo;
+mod run;
+mod seen;
+mod sweep;
+mod values;
+
+pub use finder::Finder;
+pub use seen::{Flips, Seen};
+pub use sweep::Sweep;

@@ -1,0 +1,140 @@
+//! Where flips of an instance's outputs are seen.
+
+ghost use Rattle.std.specs.Prelude.{◌≡◌, ◌<◌, ◌^◌, length, map, replicate, IfOk};
+ghost use Rattle.ca_net.specs.State.{value_at};
+ghost use Rattle.ca_view.specs.Linked.{IsPlaced, place_in};
+ghost use Rattle.ca_view.specs.Places.{cell_number};
+ghost use Rattle.ca_sweep.specs.Seen.{IsSeen, IsOfChip, lasts_in};
+
+use crate::cells::{Tables, order_of, tables_of};
+use crate::clear::find_clear;
+use crate::run::{first_opposite, sweep};
+use crate::seen::{Flips, Seen};
+use crate::values::Values;
+use ca_base::NoMemory;
+use ca_net::{State, Trit};
+use ca_sim::NetWaves;
+use ca_view::View;
+use std::alloc::Global;
+use std::marker::Model;
+
+/// The good last values of the nets of a chip, and the room for values behind an instance whose output pins
+/// are flipped. All memory is taken by `reserve`.
+#[derive(Drop)]
+pub struct Sweep<'a> {
+    chip: &'a View<'a>,
+    outputs: Vec<u32>,
+    tables: Tables,
+    order: Vec<Option<usize>>,
+    lasts: State,
+    clear: Vec<bool>,
+    passing: Vec<bool>,
+    values: Values,
+}
+
+impl<'a> Model for Sweep<'a> {
+    ghost use Rattle.ca_view.specs.Linked.{place_in};
+    ghost use Rattle.ca_view.specs.Places.{cell_number};
+    ghost use Rattle.ca_sweep.specs.Seen.{Swept};
+    ghost use Rattle.ca_sweep.specs.Kept.{IsKept};
+
+    ghost Value = { Swept };
+
+    ghost view = { λ sweep. record {
+      chip = sweep.chip.now.core;
+      places = sweep.chip.now.ranks;
+      lasts = sweep.lasts;
+    } };
+
+    ghost invariant = { λ sweep. IsKept sweep.chip.now.core (place_in sweep.chip.now.ranks)
+        (cell_number sweep.chip.now.chip) sweep.outputs.items sweep.tables.items sweep.order.items sweep.lasts
+        sweep.clear.items sweep.passing.items sweep.values };
+}
+
+impl<'a> Sweep<'a> {
+    /// Takes all memory. The nets of the observed outputs come in their order. No last value is known.
+    pub fn reserve(alloc: Global, chip: &'a View<'a>, outputs: Vec<u32>) -> Result<Self, NoMemory>
+        requires outputs { outputs.items ≡ chip.now.core.outputs }
+        requires few { length outputs.items < 2 ^ 32 }
+        ensures { IfOk result (IsOfChip chip.now.core chip.now.ranks) }
+    {
+        chip.linked();
+        Ok(Sweep {
+            chip,
+            outputs,
+            tables: tables_of(alloc, chip)?,
+            order: order_of(alloc, chip)?,
+            lasts: State::unknown(alloc, chip.nets())?,
+            clear: vec![in alloc; false; chip.instances()]?,
+            passing: vec![in alloc; false; chip.instances()]?,
+            values: Values::reserve(alloc, chip)?,
+        })
+    }
+
+    /// Takes over the last values of the good waves.
+    pub fn load<V: NetWaves>(&mut self, waves: &V)
+        requires { (V.seen waves.now).chip ≡ self.old.chip }
+        ensures lasts { self.new.lasts ≡ lasts_in (V.seen waves.now).good }
+        ensures chip { self.new.chip ≡ self.old.chip }
+        ensures places { self.new.places ≡ self.old.places }
+    {
+        waves.exact();
+        load(waves, &mut self.lasts);
+        find_clear(
+            self.chip,
+            &self.tables,
+            &self.order,
+            &self.lasts,
+            &mut self.clear,
+            &mut self.passing,
+        );
+    }
+
+    /// The good last value of a net.
+    pub(crate) fn last(&self, net: usize) -> Trit
+        requires { net < length self.now.chip.nets }
+        ensures { result ≡ value_at self.now.lasts net }
+    {
+        self.lasts.get(net)
+    }
+
+    /// Where it is first seen that some output pins of an instance are flipped. It is undecided where an
+    /// instance behind it isn't static, or a good last value isn't definite there.
+    pub fn see(&mut self, u: usize, flips: Flips) -> Seen
+        requires { IsPlaced self.old.chip (place_in self.old.places) u }
+        ensures seen { IsSeen self.old.chip (value_at self.old.lasts) u flips result }
+        ensures kept { self.new ≡ self.old }
+    {
+        self.chip.linked();
+        if !self.clear[u] {
+            return Seen::Undecided;
+        }
+        let done = sweep(
+            self.chip,
+            &self.tables,
+            &self.order,
+            &self.lasts,
+            &mut self.values,
+            u,
+            flips,
+        );
+        if !done {
+            return Seen::Undecided;
+        }
+        match first_opposite(&self.outputs, &self.lasts, &self.values.values) {
+            Some(output) => Seen::At(output as u32),
+            None => Seen::Nowhere,
+        }
+    }
+}
+
+// Takes over the last values of the good waves.
+fn load<V: NetWaves>(waves: &V, lasts: &mut State)
+    requires { length lasts.old ≡ length (V.seen waves.now).chip.nets }
+    ensures { lasts.new ≡ lasts_in (V.seen waves.now).good }
+{
+    waves.exact();
+    for net in 0..lasts.len() {
+        lasts.set(net, waves.good(net).last);
+    }
+}
