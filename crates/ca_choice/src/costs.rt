@@ -31,11 +31,7 @@ pub(crate) struct Costs {
 
 impl Costs {
     /// The costs of a chip, in which a value of a chip input has the given cost.
-    pub(crate) fn new(
-        alloc: Global,
-        plan: &Plan<'_>,
-        input_cost: u32,
-    ) -> Result<Self, NoMemory> {
+    pub(crate) fn new(alloc: Global, plan: &Plan<'_>, input_cost: u32) -> Result<Self, NoMemory> {
         let nets = plan.net_count();
         let mut costs = Costs {
             zeros: vec![in alloc; NEVER; nets]?,

@@ -13,8 +13,8 @@ use ca_wired::PortBit;
 use itoa::Buffer;
 use std::alloc::Global;
 
-// The number of bits of a range.
-fn range_width(range: Option<(u32, u32)>) -> u32
+/// The number of bits of a range: 1 where there is none.
+pub fn range_width(range: Option<(u32, u32)>) -> u32
     requires { range_width range < 2 ^ 32 }
     ensures { result ≡ range_width range }
 {
@@ -32,13 +32,13 @@ fn range_width(range: Option<(u32, u32)>) -> u32
 
 /// For each declared name the number of its first bit, and the number of all bits.
 #[derive(Drop)]
-pub(crate) struct Bits {
+pub struct DeclaredBits {
     pub firsts: Vec<u32>,
     pub count: u32,
 }
 
 /// Counts the declared bits.
-pub(crate) fn bits_of(alloc: Global, buses: &[RawBus]) -> Result<Bits, NoMemory>
+pub fn bits_of(alloc: Global, buses: &[RawBus]) -> Result<DeclaredBits, NoMemory>
     requires { bit_count buses.now < 2 ^ 32 }
     ensures firsts { IfOk result (λ bits. AreFirsts buses.now (length buses.now) bits.firsts.items) }
     ensures count { IfOk result (λ bits. bits.count ≡ bit_count buses.now) }
@@ -49,7 +49,7 @@ pub(crate) fn bits_of(alloc: Global, buses: &[RawBus]) -> Result<Bits, NoMemory>
         firsts.push(count)?;
         count += range_width(buses[place].range);
     }
-    Ok(Bits { firsts, count })
+    Ok(DeclaredBits { firsts, count })
 }
 
 // The index of the k-th bit of a vector, from its left index to its right one.
@@ -75,8 +75,8 @@ fn indexed_name(alloc: Global, name: &Text, index: u32) -> Result<Text, NoMemory
     Ok(text)
 }
 
-// The name of the k-th bit of a declared name.
-fn bit_name(alloc: Global, bus: &RawBus, k: u32) -> Result<Text, NoMemory>
+/// The name of the k-th bit of a declared name, from its left index on.
+pub fn bit_name(alloc: Global, bus: &RawBus, k: u32) -> Result<Text, NoMemory>
     requires { k < range_width bus.now.range }
     ensures { IfOk result (λ name. name ≡ bit_name bus.now bus.now.range k) }
 {

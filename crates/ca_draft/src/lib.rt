@@ -10,3 +10,5 @@ mod renumber;
 mod touched;
 
 pub use draft::draft_of;
+pub use header::{DeclaredBits, bit_name, bits_of, range_width};
+pub use touched::{is_joined, push_constant};

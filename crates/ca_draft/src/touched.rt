@@ -67,8 +67,8 @@ fn has_constant(value: bool, span: &RawSpan) -> bool
     0 < span.count && (is_constant(value, span.left) || is_constant(value, span.right))
 }
 
-// Whether some `assign` names this constant.
-fn is_joined(value: bool, spans: &[RawSpan]) -> bool
+/// Whether some `assign` names this constant.
+pub fn is_joined(value: bool, spans: &[RawSpan]) -> bool
     ensures { result ≡ list_any (has_constant value) spans.now }
 {
     for k in 0..spans.len() {
@@ -96,8 +96,8 @@ fn push_ports(ports: &[PortBit], wires: &mut Vec<u32>) -> Result<(), NoMemory>
     Ok(())
 }
 
-// Appends the wire of a constant, if the constant is named.
-fn push_constant(wire: u32, is_named: bool, wires: &mut Vec<u32>) -> Result<(), NoMemory>
+/// Appends the wire of a constant, if the constant is named.
+pub fn push_constant(wire: u32, is_named: bool, wires: &mut Vec<u32>) -> Result<(), NoMemory>
     ensures { OnOk result (wires.new.items ≡ wires.old.items ++ constant_wires wire is_named) }
 {
     if is_named {

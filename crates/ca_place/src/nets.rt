@@ -6,9 +6,10 @@ ghost use Rattle.ca_verilog.specs.IsNetlist.{IsNetlist};
 ghost use Rattle.ca_draft.specs.OnWires.{AreMarks};
 ghost use Rattle.ca_place.specs.Touched.{IsFoundAmong, IsFoundFor};
 
-use crate::touched::{bits_of, touched_of};
+use crate::touched::touched_of;
 use ca_base::NoMemory;
 use ca_chip::earliest_wires;
+use ca_draft::bits_of;
 use ca_verilog::RawNetlist;
 use std::alloc::Global;
 

@@ -4,36 +4,14 @@ ghost use Rattle.std.specs.Prelude.{◌≡◌, ◌<◌, ◌+◌, ◌++◌, ◌^�
 ghost use Rattle.std.specs.List.{All, flat_map, list_any};
 ghost use Rattle.ca_verilog.specs.IsNetlist.{IsPort, bit_count, range_width};
 ghost use Rattle.ca_chip.specs.Wiring.{header_bits};
-ghost use Rattle.ca_draft.specs.OnWires.{AreFirsts, constant_wires, has_constant, is_constant};
+ghost use Rattle.ca_draft.specs.OnWires.{AreFirsts, constant_wires, has_constant};
 ghost use Rattle.ca_place.specs.Touched.{IsTouched, instance_wires, use_wires, wires_from};
 
-use crate::bits::range_width;
 use ca_base::NoMemory;
 use ca_chip::wire_of;
+use ca_draft::{DeclaredBits, is_joined, push_constant, range_width};
 use ca_verilog::{RawBit, RawBus, RawInstance, RawNetlist, RawSpan, RawUse};
 use std::alloc::Global;
-
-/// For each declared name the number of its first bit, and the number of all bits.
-#[derive(Drop)]
-pub(crate) struct Bits {
-    pub firsts: Vec<u32>,
-    pub count: u32,
-}
-
-/// Counts the declared bits.
-pub(crate) fn bits_of(alloc: Global, buses: &[RawBus]) -> Result<Bits, NoMemory>
-    requires { bit_count buses.now < 2 ^ 32 }
-    ensures firsts { IfOk result (λ bits. AreFirsts buses.now (length buses.now) bits.firsts.items) }
-    ensures count { IfOk result (λ bits. bits.count ≡ bit_count buses.now) }
-{
-    let mut firsts = Vec::new(alloc);
-    let mut count: u32 = 0;
-    for place in 0..buses.len() {
-        firsts.push(count)?;
-        count += range_width(buses[place].range);
-    }
-    Ok(Bits { firsts, count })
-}
 
 // Appends the wires of an instance's connections.
 fn push_uses(bits: u32, uses: &[RawUse], wires: &mut Vec<u32>) -> Result<(), NoMemory>
@@ -101,51 +79,11 @@ fn push_ports(
     Ok(())
 }
 
-// Whether the bit is this constant.
-fn is_constant(value: bool, bit: RawBit) -> bool
-    ensures { result ≡ is_constant value bit }
-{
-    match bit {
-        RawBit::Bit(_) => false,
-        RawBit::Constant(other) => value == other,
-    }
-}
-
-// Whether a side of the span is this constant.
-fn has_constant(value: bool, span: &RawSpan) -> bool
-    ensures { result ≡ has_constant value span.now }
-{
-    0 < span.count && (is_constant(value, span.left) || is_constant(value, span.right))
-}
-
-// Whether some `assign` names this constant.
-fn is_joined(value: bool, spans: &[RawSpan]) -> bool
-    ensures { result ≡ list_any (has_constant value) spans.now }
-{
-    for k in 0..spans.len() {
-        if has_constant(value, &spans[k]) {
-            return true;
-        }
-    }
-    false
-}
-
-// Appends the wire of a constant, if the constant is named.
-fn push_constant(wire: u32, is_named: bool, wires: &mut Vec<u32>) -> Result<(), NoMemory>
-    ensures { OnOk result (wires.new.items ≡ wires.old.items ++ constant_wires wire is_named) }
-{
-    if is_named {
-        Ok(wires.push(wire)?)
-    } else {
-        Ok(())
-    }
-}
-
 /// The wires that nets stand on.
 pub(crate) fn touched_of(
     alloc: Global,
     netlist: &RawNetlist,
-    bits: &Bits,
+    bits: &DeclaredBits,
 ) -> Result<Vec<u32>, NoMemory>
     requires bits { bit_count netlist.now.buses + 1 < 2 ^ 32 }
     requires firsts { AreFirsts netlist.now.buses (length netlist.now.buses) bits.now.firsts.items }

@@ -66,13 +66,7 @@ impl Cells {
     }
 
     /// How an instance responds, without a look at the cache.
-    fn compute(
-        &mut self,
-        chip: &View,
-        u: usize,
-        aim: Option<ChipDefect>,
-        pins: &[Wave],
-    ) -> OutWaves
+    fn compute(&mut self, chip: &View, u: usize, aim: Option<ChipDefect>, pins: &[Wave]) -> OutWaves
         requires placed { IsPlaced chip.now.core (place_in chip.now.ranks) u }
         requires listed { IsChipDefect chip.now.core aim }
         requires pins { length pins.now ≡ inputs_at chip.now.core u }

@@ -108,7 +108,8 @@ impl Instances {
         let (name, pins) = PINS[cell % 4];
         self.text.append(name)?;
         self.text.append(b" u")?;
-        self.text.append(Buffer::new().format(self.next).as_bytes())?;
+        self.text
+            .append(Buffer::new().format(self.next).as_bytes())?;
         self.text.append(b" (")?;
         for (pin, name) in pins.iter().enumerate() {
             match reads.get(pin) {

@@ -109,12 +109,12 @@ shows_core pins view kept =
     let core_is = kept.is_view.core_is in
     record {
       linked = subst (λ (core : Chip). IsLinked core (place_in view.ranks) (cell_number chip)) (sym core_is)
-      (core_linked chip is view.ranks kept.is_view.ranked is.few_parts);
+          (core_linked chip is view.ranks kept.is_view.ranked is.few_parts);
       pinned = subst IsPinned (sym core_is) (
-        core_pinned chip is
-        (let few = kept.is_view.few in let l = length-map (inputs_of chip) (core_net chip) in omega arith) kept.few_nets
-      );
+          core_pinned chip is
+          (let few = kept.is_view.few in let l = length-map (inputs_of chip) (core_net chip) in omega arith) kept.few_nets
+          );
       read = subst (λ (core : Chip). (net : ℕ) → net < length core.nets → AreReaders core net (row_at view.readers net)) (sym core_is)
-      (rows_read chip is view.readers kept.is_view.read);
+          (rows_read chip is view.readers kept.is_view.read);
       nets = subst (λ (core : Chip). AreNetsOf core view.lists) (sym core_is) kept.is_view.nets;
     }
