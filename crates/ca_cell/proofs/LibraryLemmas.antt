@@ -1,6 +1,6 @@
 -- A look-up in a library is one in its map.
-use Rattle.std.proofs.Common.{◌≡◌, ℕ, suc, ◌+◌, ◌<◌, List, Bool, true, false, [], ◌∷◌, ◌++◌, length, drop}
-use Rattle.std.proofs.Common.{get_or, refl, sym, ◌∙◌, ap, subst, drop-cons, add-one, true≢false, Bor, ◌≤◌}
+use Rattle.std.proofs.Common.{◌≡◌, ℕ, suc, ◌+◌, ◌<◌, ◌^◌, List, Bool, true, false, [], ◌∷◌, ◌++◌, length, drop}
+use Rattle.std.proofs.Common.{get_or, refl, sym, ◌∙◌, ap, subst, drop-cons, add-one, true≢false, Bor}
 use Rattle.std.proofs.Common.{arith, length-append}
 use Rattle.std.specs.Prelude.{Option, Some, None, IsSome, IsSomeAnd, IsNone, IfSome, Vec, cond, slice_get}
 use Rattle.std.specs.Option.{option_copied, option_map}
@@ -17,7 +17,6 @@ use Rattle.std.specs.Str.{bytes_eq}
 use Rattle.std.specs.Map.{lookup}
 use Rattle.std.specs.declared.alloc.Global.{Global}
 use Rattle.ca_cell.specs.declared.library.Entry.{Entry}
-use Rattle.ca_cell.specs.declared.library.TheConstants.{MOST_CELLS}
 use Rattle.ca_cell.specs.Library.{Named, IsEntry, entry_of, IsPlaceOf}
 use Rattle.ca_lex.specs.Words.{upper_case}
 use Rattle.ca_cell.specs.Entries.{named_entries, AllUpperCase, AllEntries}
@@ -124,11 +123,11 @@ added_last kept library key entry view fresh =
 
 -- what a library keeps of its entries
 abbrev pub IsKept : List (Vec ℕ Global × Entry) → Type 0
-IsKept entries = AllUpperCase entries × AllEntries entries × (length entries ≤ MOST_CELLS)
+IsKept entries = AllUpperCase entries × AllEntries entries × (length entries < 2 ^ 32)
 
 -- it is kept with one entry more, where there is room
 pub kept_grown : (entries : List (Vec ℕ Global × Entry)) (key : Vec ℕ Global) (entry : Entry) → IsKept entries
-    → upper_case key.items ≡ key.items → IsEntry entry → length (named_entries entries) < MOST_CELLS → IsKept (entries ++ (key, entry) ∷ [])
+    → upper_case key.items ≡ key.items → IsEntry entry → length (named_entries entries) + 1 < 2 ^ 32 → IsKept (entries ++ (key, entry) ∷ [])
 kept_grown entries key entry kept in_case is_entry room =
     let count : length (named_entries entries) ≡ length entries = length-map entries (λ (e : Vec ℕ Global × Entry). record { name = e.0.items; entry = e.1 }) in (
       All-push (λ (e : Vec ℕ Global × Entry). upper_case e.0.items ≡ e.0.items) entries (key, entry) kept.0 in_case,

@@ -1,5 +1,5 @@
 -- Libraries of cells by name.
-use Rattle.std.specs.Prelude.{ℕ, ◌+◌, ◌≡◌, List, [], ◌∷◌, length, Option, Some, None, IsSome, IsNone}
+use Rattle.std.specs.Prelude.{ℕ, ◌+◌, ◌≡◌, ◌≤◌, List, [], ◌∷◌, ◌++◌, length, Option, Some, None, IsSome, IsNone}
 use Rattle.std.specs.Prelude.{IsSomeAnd, slice_get, if◌then◌else◌}
 use Rattle.std.specs.Str.{bytes_eq}
 use Rattle.ca_lex.specs.Words.{upper_case}
@@ -37,10 +37,17 @@ abbrev pub IsPlaceOf : List Named → List ℕ → ℕ → Type 0
 IsPlaceOf library name place = IsSomeAnd (slice_get library place)
     (λ named. entry_of library name ≡ Some named.entry)
 
--- why an entry wasn't added: its name is there; or it isn't, and the library is full, with one cell more than
--- it may have; or there was no memory
+-- the library with one more entry, which is a cell, under a name that none of the others has
+pub record HasOneMore (old : List Named) (raw : RawCell) (new : List Named) : Type 0 where
+  pub name : List ℕ
+  pub fresh : IsNone (entry_of old name)
+  pub is : new ≡ old ++ record { name = name; entry = Sound raw } ∷ []
+
+-- why an entry wasn't added: its name is there; or it isn't, and the library has the most cells that are added
+-- by name, or more, with one more than it has; or there was no memory
 abbrev pub IsCause : List Named → List ℕ → LibraryFault → Type 0
 IsCause library name DoubleName = IsSome (entry_of library (upper_case name))
 IsCause library name (TooManyCells count) =
-    IsNone (entry_of library (upper_case name)) × (length library ≡ MOST_CELLS) × (count ≡ MOST_CELLS + 1)
+    IsNone (entry_of library (upper_case name)) × (MOST_CELLS ≤ length library)
+    × (count ≡ length library + 1)
 IsCause library name NoMemory = Unit {0}

@@ -66,6 +66,17 @@ impl Cell {
         }
     }
 
+    /// A cell of its own that is the same.
+    pub fn copy(&self, alloc: Global) -> Result<Self, NoMemory>
+        ensures { IfOk result (λ cell. cell ≡ self.now) }
+    {
+        match Cell::check(alloc, self.raw()) {
+            Ok(cell) => Ok(cell),
+            Err(CellFault::NoMemory) => Err(NoMemory),
+            Err(CellFault::Rule(_)) => unreachable!(),
+        }
+    }
+
     /// The subcircuit.
     pub fn raw(&self) -> &RawCell
         ensures same { result.now ≡ self.now }

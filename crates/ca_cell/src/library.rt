@@ -1,7 +1,8 @@
 //! Libraries of cells by name.
 
-ghost use Rattle.std.specs.Prelude.{◌≡◌, ◌<◌, ◌≤◌, [], ◌∷◌, ◌++◌, length, map, ◌↔◌, IsTrue, IsSome, IsNone};
-ghost use Rattle.std.specs.Prelude.{IfSome, IsSomeAnd, slice_get, IfOk, IfErr, OnOk, OnErr};
+ghost use Rattle.std.specs.Prelude.{◌≡◌, ◌+◌, ◌<◌, ◌≤◌, ◌^◌, [], ◌∷◌, ◌++◌, length, map, take, ◌↔◌, IsTrue, IsSome};
+ghost use Rattle.std.specs.Prelude.{IsNone, IfSome, IsSomeAnd, slice_get, IfOk, IfErr, OnOk, OnErr};
+ghost use Rattle.std.specs.List.{All};
 ghost use Rattle.std.specs.Option.{option_copied};
 ghost use Rattle.ca_lex.specs.Words.{upper_case};
 ghost use Rattle.ca_cell.specs.declared.library.LibraryFault.TheVariants as fault;
@@ -15,7 +16,7 @@ use indexmap::IndexMap;
 use std::alloc::{AllocError, Global};
 use std::marker::Model;
 
-/// The most cells of a library.
+/// The most cells that are added to a library by name.
 pub const MOST_CELLS: usize = 1024;
 
 /// A subcircuit of a library: a cell, or a subcircuit that breaks a rule, with the first rule that it breaks.
@@ -42,6 +43,16 @@ impl Entry {
             Err(CellFault::NoMemory) => Err(NoMemory),
         }
     }
+
+    // An entry of its own that is the same.
+    fn copy(&self, alloc: Global) -> Result<Self, NoMemory>
+        ensures { IfOk result (λ entry. entry ≡ self.now) }
+    {
+        match self {
+            Entry::Sound(cell) => Ok(Entry::Sound(cell.copy(alloc)?)),
+            Entry::Refused(raw, rule) => Ok(Entry::Refused(raw.copy(alloc)?, *rule)),
+        }
+    }
 }
 
 /// Why an entry wasn't added. The library is as it was, and the entry is dropped.
@@ -49,7 +60,7 @@ impl Entry {
 pub enum LibraryFault {
     /// The library has an entry of that name.
     DoubleName,
-    /// The library is full; the count is one more than its cells.
+    /// The library has the most cells, or more; the count is one more than its cells.
     TooManyCells { count: usize },
     /// There was no memory.
     NoMemory,
@@ -79,21 +90,20 @@ pub struct Library {
 }
 
 impl Model for Library {
-    ghost use Rattle.std.specs.Prelude.{List, ◌≤◌, length};
+    ghost use Rattle.std.specs.Prelude.{List, ◌<◌, ◌^◌, length};
     ghost use Rattle.ca_cell.specs.Library.{Named};
     ghost use Rattle.ca_cell.specs.Entries.{named_entries, AllUpperCase, AllEntries};
-    ghost use Rattle.ca_cell.specs.declared.library.TheConstants.{MOST_CELLS};
 
     ghost Value = { List Named };
 
     ghost view = { λ library. named_entries library.entries.entries };
 
     ghost invariant = { λ library. AllUpperCase library.entries.entries × AllEntries library.entries.entries
-        × (length library.entries.entries ≤ MOST_CELLS) };
+        × (length library.entries.entries < 2 ^ 32) };
 }
 
 impl Library {
-    ghost use Rattle.ca_cell.specs.Library.{Named, IsEntry, IsCause, entry_of, IsPlaceOf};
+    ghost use Rattle.ca_cell.specs.Library.{Named, IsEntry, IsCause, entry_of, IsPlaceOf, HasOneMore};
 
     /// The library of no cells.
     pub fn new(alloc: Global) -> Result<Self, NoMemory>
@@ -108,7 +118,7 @@ impl Library {
     /// The number of cells.
     pub fn len(&self) -> usize
         ensures count { result ≡ length self.now }
-        ensures most { result ≤ MOST_CELLS }
+        ensures most { result < 2 ^ 32 }
     {
         self.entries.len()
     }
@@ -211,10 +221,9 @@ impl Library {
         if self.find(&key).is_some() {
             return Err(LibraryFault::DoubleName);
         }
-        if self.len() == MOST_CELLS {
-            return Err(LibraryFault::TooManyCells {
-                count: MOST_CELLS + 1,
-            });
+        let count = self.len();
+        if count >= MOST_CELLS {
+            return Err(LibraryFault::TooManyCells { count: count + 1 });
         }
         self.insert(key, entry)?;
         Ok(())
@@ -224,7 +233,7 @@ impl Library {
     fn insert(&mut self, key: Vec<u8>, entry: Entry) -> Result<(), NoMemory>
         requires upper { upper_case key.items ≡ key.items }
         requires fresh { IsNone (entry_of self.old key.items) }
-        requires room { length self.old < MOST_CELLS }
+        requires room { length self.old + 1 < 2 ^ 32 }
         requires entry { IsEntry entry }
         ensures ok { OnOk result (self.new ≡ self.old ++ record { name = key.items; entry = entry } ∷ []) }
         ensures err { OnErr result (self.new ≡ self.old) }
@@ -232,6 +241,87 @@ impl Library {
         self.entries.insert(key, entry)?;
         Ok(())
     }
+
+    // The name of the entry at a place.
+    fn name(&self, place: usize) -> &[u8]
+        requires { place < length self.now }
+        ensures at { IsSomeAnd (slice_get self.now place) (λ named. named.name ≡ result.now) }
+        ensures upper { upper_case result.now ≡ result.now }
+        ensures new { IsNone (entry_of (take place self.now) result.now) }
+    {
+        // No two names are the same.
+        let _ = self.entries.len();
+        match self.entries.get_index(place) {
+            Some((name, _)) => name,
+            None => unreachable!(),
+        }
+    }
+
+    // Adds a copy of the entry at a place of another library, where it has those before it.
+    fn push_copy(&mut self, other: &Library, place: usize) -> Result<(), NoMemory>
+        requires within { place < length other.now }
+        requires few { length other.now < 2 ^ 32 }
+        requires before { self.old ≡ take place other.now }
+        ensures { OnOk result (self.new ≡ take (place + 1) other.now) }
+    {
+        let key = other.name(place).to_ascii_uppercase(self.alloc)?;
+        let entry = other.entry(place).copy(self.alloc)?;
+        self.insert(key, entry)
+    }
+
+    // A library of its own with the same entries.
+    fn copy(&self, alloc: Global) -> Result<Self, NoMemory>
+        ensures { IfOk result (λ library. library ≡ self.now) }
+    {
+        let mut library = Library::new(alloc)?;
+        for place in 0..self.len() {
+            library.push_copy(self, place)?;
+        }
+        Ok(library)
+    }
+
+    // The length of the longest name.
+    fn longest(&self) -> usize
+        ensures { All (λ named. length named.name ≤ result) self.now }
+    {
+        let mut most = 0;
+        for place in 0..self.len() {
+            most = greater(most, self.name(place).len());
+        }
+        most
+    }
+
+    // A name that no entry has: it is longer than all names.
+    fn new_name(&self, alloc: Global) -> Result<Vec<u8>, NoMemory>
+        ensures upper { IfOk result (λ key. upper_case key.items ≡ key.items) }
+        ensures fresh { IfOk result (λ key. IsNone (entry_of self.now key.items)) }
+    {
+        let mut name = vec![in alloc; b' '; self.longest()]?;
+        name.push(b' ')?;
+        Ok(name)
+    }
+
+    /// A library of its own with the same entries, and after them a cell under a name that none of them has.
+    /// It may have more cells than `add` allows. Also answers out of memory where it would have 2^32 entries.
+    pub fn with_cell(&self, alloc: Global, cell: Cell) -> Result<Self, NoMemory>
+        ensures { IfOk result (HasOneMore self.now cell) }
+    {
+        if self.len() >= u32::MAX as usize {
+            return Err(NoMemory);
+        }
+        let name = self.new_name(alloc)?;
+        let mut library = self.copy(alloc)?;
+        let _raw = cell.raw();
+        library.insert(name, Entry::Sound(cell))?;
+        Ok(library)
+    }
+}
+
+// The greater of two numbers.
+fn greater(a: usize, b: usize) -> usize
+    ensures { (a ≤ result) × (b ≤ result) }
+{
+    if a < b { b } else { a }
 }
 
 // Whether a name gives the key, once its letters are in upper case.

@@ -1,9 +1,9 @@
 -- What is to be done with the defects of a chip.
 use Rattle.std.specs.Prelude.{ℕ, ◌≡◌, Some, List, slice_get}
-use Rattle.ca_defect.specs.Exposes.{IsExposable}
 use Rattle.ca_flat.specs.declared.chip_defect.ChipDefect.{ChipDefect}
-use Rattle.ca_flat.specs.Chip.{Chip, cell_at}
+use Rattle.ca_flat.specs.Chip.{Chip}
 use Rattle.ca_flat.specs.Waves.{IsFlatChip}
+pub use Rattle.ca_flat.specs.Detection.{IsExposableIn}
 
 -- what is to be done: each of these defects of the chip is searched for with at most `budget` branches
 pub record Task : Type 0 where
@@ -14,10 +14,6 @@ pub record Task : Type 0 where
 -- the defect is at this place of the list
 abbrev pub IsDefectAt : Task → ℕ → ChipDefect → Type 0
 IsDefectAt task place defect = slice_get task.defects place ≡ Some defect
-
--- some pair of definite vectors exposes the defect in its cell
-abbrev pub IsExposableIn : Chip → ChipDefect → Type 0
-IsExposableIn chip defect = IsExposable (cell_at chip defect.instance) defect.defect
 
 -- the chip's drivers have lower ranks, the defect is one of the chip's, and the good and the faulty flat
 -- network are networks

@@ -7,6 +7,7 @@ ghost use Rattle.ca_search.specs.Filled.{trits_of};
 ghost use Rattle.ca_credit.specs.Table.{known_verdicts, AreAllKnown, verdict_at, is_open, IsSettling};
 ghost use Rattle.std.specs.Prelude.{◌-◌, min};
 ghost use Rattle.std.specs.List.{All};
+ghost use Rattle.std.specs.Option.{option_copied};
 ghost use Rattle.ca_credit.specs.Table.{CreditsPair, CreditsBlock, credit_count};
 ghost use Rattle.ca_credit.specs.Aims.{AimsAtSuspects, AimsOverBlock, aimed_after, bits_after};
 
@@ -56,6 +57,14 @@ impl Credits {
         ensures { IsTrue result ↔ (verdict_at self.now place ≡ None) }
     {
         self.round.verdicts[place].is_none()
+    }
+
+    /// The verdict of the defect at this place, counted from 0, if there is one yet.
+    pub fn verdict(&self, place: usize) -> Option<&Verdict>
+        requires { place < length self.now }
+        ensures { option_copied result ≡ verdict_at self.now place }
+    {
+        self.round.verdicts[place].as_ref()
     }
 
     /// Gives a defect that has no credit a verdict that isn't one.

@@ -1,5 +1,3 @@
-pub mod ListingLemmas
-pub mod PlacedLemmas
 pub mod CoreLemmas
 pub mod BenchLemmas
 pub mod PairLemmas

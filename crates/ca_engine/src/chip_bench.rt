@@ -4,10 +4,10 @@ ghost use Rattle.std.specs.Prelude.{◌≡◌, ◌<◌, ◌^◌, length, IfOk};
 ghost use Rattle.ca_engine.specs.ChipTask.{task_of};
 
 use crate::flip_bench::FlipBench;
-use crate::listing::{ChipDefects, chip_defects};
 use crate::outputs::output_nets;
 use crate::pair_bits::PairBits;
 use ca_base::NoMemory;
+use ca_chip_defects::{ChipDefects, chip_defects};
 use ca_credit::{ByLasts, Simulator};
 use ca_flat::ChipDefect;
 use ca_flatten::{flat_is_well_formed, judge_size};

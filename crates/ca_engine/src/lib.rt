@@ -4,10 +4,9 @@
 mod chip_bench;
 mod flip_bench;
 mod generate;
-mod listing;
 mod outputs;
 mod pair_bits;
 
+pub use ca_chip_defects::{ChipDefects, chip_defects};
 pub use chip_bench::ChipBench;
 pub use generate::{generate_chip, generate_over};
-pub use listing::{ChipDefects, chip_defects};

@@ -1,3 +1,4 @@
 pub mod Expected
+pub mod Wrong
 pub mod Laws
 pub mod Kept

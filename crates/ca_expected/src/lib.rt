@@ -3,6 +3,8 @@
 
 mod laws;
 mod values;
+mod wrong;
 
 pub use laws::aimed_pairs_are_whole;
 pub use values::{Expected, expected};
+pub use wrong::{WrongValue, first_wrong};

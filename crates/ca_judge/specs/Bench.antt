@@ -8,7 +8,7 @@ use Rattle.ca_flat.specs.Pair.{bit_count}
 use Rattle.ca_sim.specs.Seen.{Seen}
 use Rattle.ca_view.specs.NetLists.{NetLists, AreNetsOf}
 use Rattle.ca_guide.specs.Guide.{Guided, HasRoomFor, IsSupport}
-use Rattle.ca_search.specs.declared.token.TheConstants.{MOST_PATTERN_BITS}
+use Rattle.ca_code.specs.declared.token.TheConstants.{MOST_PATTERN_BITS}
 use Rattle.ca_search.specs.Judged.{Judged}
 use Rattle.ca_judge.specs.Outputs.{AreObservedBelow}
 

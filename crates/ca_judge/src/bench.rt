@@ -7,10 +7,9 @@ ghost use Rattle.ca_judge.specs.Bench.{IsGuidedTo};
 
 use crate::guide_waves::GuideWaves;
 use crate::outputs::observed_nets;
-use crate::rows::ExposingRows;
 use crate::standing::standing;
 use ca_base::NoMemory;
-use ca_flat::ChipDefect;
+use ca_flat::{ChipDefect, ExposingRows};
 use ca_guide::{Choice, Guide, Step, is_some_row_allowed};
 use ca_net::Wave;
 use ca_search::{Judge, Standing};

@@ -4,8 +4,7 @@
 mod bench;
 mod guide_waves;
 mod outputs;
-mod rows;
 mod standing;
 
 pub use bench::Bench;
-pub use rows::ExposingRows;
+pub use ca_flat::ExposingRows;

@@ -15,6 +15,7 @@ pub use laws::{first_fault, length_grammar};
 pub use length::{Length, read_length};
 pub use lines::{Line, Lines, spice_lines};
 pub use names::Names;
+pub use physical::{first_line, line_len};
 pub use text::Text;
 pub use token::{Token, TokenKind};
 pub use words::{fold, spice_words};

@@ -18,7 +18,8 @@ pub(crate) enum Piece<'a> {
     Card(&'a [u8]),
 }
 
-fn line_len(text: &[u8]) -> usize
+/// The number of bytes before the first line feed, or of all bytes.
+pub fn line_len(text: &[u8]) -> usize
     ensures len { result ≡ line_len text.now }
     ensures within { result ≤ length text.now }
 {
@@ -35,7 +36,7 @@ fn line_len(text: &[u8]) -> usize
 }
 
 /// The first line of a text without its line feed, and what follows that.
-pub(crate) fn first_line(text: &[u8]) -> (&[u8], &[u8])
+pub fn first_line(text: &[u8]) -> (&[u8], &[u8])
     requires { 0 < length text.now }
     ensures lines { lines_of text.now ≡ result.0.now ∷ lines_of result.1.now }
     ensures shorter { length result.1.now < length text.now }

@@ -16,7 +16,8 @@ use Rattle.ca_order.specs.declared.event.Event.{Event}
 use Rattle.ca_order.specs.declared.event.Event.TheVariants as event
 use Rattle.ca_order.specs.declared.event.Place.{Place}
 use Rattle.ca_order.specs.declared.event.Place.TheVariants as place
-use Rattle.ca_order.specs.Lines.{lines_of, words_of, is_number, below, node_of, with_node, nodes_of}
+use Rattle.ca_lex.specs.Physical.{lines_of}
+use Rattle.ca_order.specs.Lines.{words_of, is_number, below, node_of, with_node, nodes_of}
 use Rattle.ca_order.specs.Lines.{some_nodes, value_of}
 use Rattle.ca_order.specs.Order.{set_of, set_with, settled, blurred, event_of, event_at, Numbered, numbered}
 use Rattle.ca_order.specs.Order.{line_step, order_of, most_lines}

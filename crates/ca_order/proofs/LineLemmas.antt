@@ -1,42 +1,8 @@
--- A text is cut into its first line and the rest.
+-- A line is cut into its first word and the rest.
 use Rattle.std.proofs.Common.{◌≡◌, ℕ, suc, ◌<◌, ◌≤◌, ◌==◌, Bool, true, false, List, [], ◌∷◌, length, take}
 use Rattle.std.proofs.Common.{drop, ap, arith, refl}
 use Rattle.ca_lex.specs.Words.{with_byte}
-use Rattle.ca_order.specs.Lines.{lines_of, line_len, words_of, word_len}
-
-pub cut_here : (text : List ℕ) → line_len text < length text
-    → lines_of text ≡ take (line_len text) text ∷ lines_of (drop (suc (line_len text)) text)
-unfolding lines_of line_len
-cut_here [] below = absurd (omega (arith, below))
-cut_here (byte ∷ bytes) below = by (byte == 10) (cut_here bytes) below
-  where
-    by : (test : Bool) → (line_len bytes < length bytes → lines_of bytes ≡ take (line_len bytes) bytes ∷ lines_of (drop (suc (line_len bytes)) bytes))
-        → elim test as (λ _. ℕ) [ true ↦ 0 | false ↦ suc (line_len bytes) ] < suc (length bytes)
-        → elim test as (λ _. List (List ℕ)) [ true ↦ [] ∷ lines_of bytes | false ↦ with_byte byte (lines_of bytes) ]
-        ≡ take (elim test as (λ _. ℕ) [ true ↦ 0 | false ↦ suc (line_len bytes) ]) (byte ∷ bytes)
-        ∷ lines_of (drop (suc (elim test as (λ _. ℕ) [ true ↦ 0 | false ↦ suc (line_len bytes) ])) (byte ∷ bytes))
-    by true later below = refl
-    by false later below = ap (with_byte byte) (later (omega (arith, below)))
-
-pub cut_last : (text : List ℕ) → 0 < length text → length text ≤ line_len text → lines_of text ≡ text ∷ []
-unfolding lines_of line_len
-cut_last [] some past = absurd (omega (arith, some))
-cut_last (byte ∷ bytes) some past = by (byte == 10) (whole bytes (cut_last bytes)) past
-  where
-    whole : (bytes : List ℕ) → (0 < length bytes → length bytes ≤ line_len bytes → lines_of bytes ≡ bytes ∷ []) → length bytes ≤ line_len bytes
-        → with_byte byte (lines_of bytes) ≡ (byte ∷ bytes) ∷ []
-    whole [] later past = refl
-    whole (next ∷ more) later past = ap (with_byte byte) (later (omega arith) past)
-
-    by : (test : Bool) → (length bytes ≤ line_len bytes → with_byte byte (lines_of bytes) ≡ (byte ∷ bytes) ∷ [])
-        → suc (length bytes) ≤ elim test as (λ _. ℕ) [ true ↦ 0 | false ↦ suc (line_len bytes) ]
-        → elim test as (λ _. List (List ℕ)) [ true ↦ [] ∷ lines_of bytes | false ↦ with_byte byte (lines_of bytes) ] ≡ (byte ∷ bytes) ∷ []
-    by true later past = absurd (omega (arith, past))
-    by false later past = later (omega (arith, past))
-
-pub no_lines : lines_of [] ≡ []
-unfolding lines_of
-no_lines = refl
+use Rattle.ca_order.specs.Lines.{words_of, word_len}
 
 pub word_here : (text : List ℕ) → word_len text < length text
     → words_of text ≡ take (word_len text) text ∷ words_of (drop (suc (word_len text)) text)

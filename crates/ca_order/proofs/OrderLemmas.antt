@@ -4,7 +4,7 @@ use Rattle.std.proofs.Common.{Result, Ok, Err}
 use Rattle.ca_lex.specs.FirstFault.{steps_from}
 use Rattle.ca_order.specs.declared.event.Event.{Event}
 use Rattle.ca_order.specs.declared.event.Place.{Place}
-use Rattle.ca_order.specs.Lines.{lines_of}
+use Rattle.ca_lex.specs.Physical.{lines_of}
 use Rattle.ca_order.specs.Order.{event_at, line_step, numbered, order_of}
 
 pub begins : (places : List Place) (text : List ℕ) (events : List Event) → events ≡ []

@@ -9,19 +9,6 @@ use Rattle.ca_net.specs.declared.trit.Trit.TheVariants.{Zero, One, X}
 use Rattle.ca_net.specs.declared.node.NodeId.{NodeId}
 use Rattle.ca_order.specs.declared.event.Place.{Place}
 
--- the lines of a text: each ends with a line feed, which the last one may lack
-unfoldable pub lines_of : List ℕ → List (List ℕ)
-lines_of [] = []
-lines_of (byte ∷ bytes) = elim (byte == 10) [
-  | true ↦ [] ∷ lines_of bytes
-  | false ↦ with_byte byte (lines_of bytes)
-]
-
--- the number of bytes before the first line feed, or of all bytes
-unfoldable pub line_len : List ℕ → ℕ
-line_len [] = 0
-line_len (byte ∷ bytes) = elim (byte == 10) [ true ↦ 0 | false ↦ suc (line_len bytes) ]
-
 -- the number of bytes before the first space, or of all bytes
 unfoldable pub word_len : List ℕ → ℕ
 word_len [] = 0

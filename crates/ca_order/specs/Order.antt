@@ -9,7 +9,8 @@ use Rattle.ca_order.specs.declared.event.Event.{Event}
 use Rattle.ca_order.specs.declared.event.Event.TheVariants as event
 use Rattle.ca_order.specs.declared.event.Place.{Place}
 use Rattle.ca_order.specs.declared.event.Place.TheVariants as place
-use Rattle.ca_order.specs.Lines.{lines_of, words_of, node_of, some_nodes, value_of}
+use Rattle.ca_lex.specs.Physical.{lines_of}
+use Rattle.ca_order.specs.Lines.{words_of, node_of, some_nodes, value_of}
 
 -- the setting of a node to a value, where the node is free
 abbrev pub set_of : List Place → Option NodeId → Option Trit → Option Event

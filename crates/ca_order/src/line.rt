@@ -1,41 +1,10 @@
-//! The lines and the words of an order file.
+//! The words of the lines of an order file.
 
 ghost use Rattle.std.specs.Prelude.{◌≡◌, ◌∷◌, ◌<◌, ◌≤◌, [], length, Some, None, MatchOption};
 ghost use Rattle.ca_net.specs.declared.trit.Trit.TheVariants.{Zero, One, X};
-ghost use Rattle.ca_order.specs.Lines.{lines_of, line_len, words_of, word_len, value_of};
+ghost use Rattle.ca_order.specs.Lines.{words_of, word_len, value_of};
 
 use ca_net::Trit;
-
-// The number of bytes before the first line feed, or of all bytes.
-#[tactic(auto, unfolding(crate::specs::Lines::line_len))]
-fn line_len(text: &[u8]) -> usize
-    ensures len { result ≡ line_len text.now }
-    ensures within { result ≤ length text.now }
-{
-    let mut len = 0;
-    let mut rest = text;
-    'bytes: while let [byte, more @ ..] = rest {
-        if *byte == b'\n' {
-            return len;
-        }
-        len += 1;
-        rest = more;
-    }
-    len
-}
-
-/// The first line of a text, and the text after it.
-pub(crate) fn cut_line(text: &[u8]) -> (&[u8], &[u8])
-    requires { 0 < length text.now }
-    ensures { lines_of text.now ≡ result.0.now ∷ lines_of result.1.now }
-{
-    let len = line_len(text);
-    if len < text.len() {
-        (&text[..len], &text[len + 1..])
-    } else {
-        (text, &[])
-    }
-}
 
 // The number of bytes before the first space, or of all bytes.
 #[tactic(auto, unfolding(crate::specs::Lines::word_len))]

@@ -7,10 +7,10 @@ ghost use Rattle.ca_order.specs.OrderFault.{Reads};
 ghost use Rattle.ca_order.specs.Allowed.{ReadsFor, IsAllowed};
 
 use crate::event::{Event, OrderFault, Place};
-use crate::line::cut_line;
 use crate::place::places;
 use crate::read::event_at;
 use ca_base::List;
+use ca_lex::first_line;
 use ca_net::{Network, State};
 use std::alloc::Global;
 
@@ -26,7 +26,7 @@ pub fn read_order(alloc: Global, places: &[Place], bytes: &[u8]) -> Result<List<
         if rest.is_empty() {
             return Ok(events);
         }
-        let (text, behind) = cut_line(rest);
+        let (text, behind) = first_line(rest);
         let Some(event) = event_at(alloc, places, line, text)? else {
             return Err(OrderFault::At { line });
         };

@@ -29,7 +29,7 @@ use Rattle.ca_wired.specs.declared.parts.Body.TheVariants.{Gate, Scan}
 use Rattle.ca_wired.specs.Linked.{Chip, IsGate, IsLibrary}
 use Rattle.ca_core.specs.Core.{empty_cell, core_instance, core_of}
 use Rattle.ca_core.proofs.CorePartLemmas.{core_at, part_at, body_is_cell}
-use Rattle.ca_credit.specs.Defects.{IsExposableIn}
+use Rattle.ca_flat.specs.Detection.{IsExposableIn}
 
 -- no run's end is sure at a node that no device reaches
 never_ends : (net : Circuit) → net.devices ≡ [] → IsWellFormed net → (v1 v2 : List Trit) (n : ℕ) (v : Trit) → IsStorage net n → EndsAt net v1 v2 n v → ⊥

@@ -7,11 +7,9 @@ ghost use Rattle.ca_core.specs.Core.{core_of};
 
 use crate::cell_rows::CellRows;
 use crate::cells::{Tables, tables_of};
-use crate::exposable::ExposableDefects;
 use ca_base::NoMemory;
 use ca_defect::Rows;
-use ca_flat::ChipDefect;
-use ca_judge::ExposingRows;
+use ca_flat::{ChipDefect, ExposableDefects, ExposingRows};
 use ca_wired::{Chip, InstanceId};
 use std::alloc::Global;
 use std::marker::Model;

@@ -4,8 +4,7 @@
 mod cell_rows;
 mod cells;
 mod chip_rows;
-mod exposable;
 
+pub use ca_flat::ExposableDefects;
 pub use cell_rows::CellRows;
 pub use chip_rows::ChipRows;
-pub use exposable::ExposableDefects;

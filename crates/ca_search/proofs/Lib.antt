@@ -1,4 +1,3 @@
-pub mod TokenLemmas
 pub mod WalkLemmas
 pub mod StepLemmas
 pub mod TrailLemmas

@@ -14,7 +14,7 @@ use Rattle.ca_search.specs.declared.trail.Trail.{Trail}
 use Rattle.ca_search.specs.SearchRules.{rules_for}
 use Rattle.ca_search.specs.Steps.{AreFresh, Follows, still_later, Stands, TrailStands, TurnsTo, IsTurn}
 use Rattle.ca_search.specs.Steps.{IsLeft}
-use Rattle.ca_search.proofs.TokenLemmas.{tokens_push, tokens_counted}
+use Rattle.ca_code.proofs.TokenLemmas.{tokens_push, tokens_counted}
 use Rattle.ca_search.proofs.WalkLemmas.{fresh_pop, length-pair_after, length-unset}
 use Rattle.ca_search.proofs.StepLemmas.{begins, first_to, branched, TurnsBack, takes_back, turned, turns}
 use Rattle.ca_search.proofs.StepLemmas.{turns_out, IsLeftAt, left, has_room, leaf_within}

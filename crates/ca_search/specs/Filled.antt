@@ -5,7 +5,7 @@ use Rattle.ca_net.specs.declared.trit.Trit.TheVariants.{Zero, One, X}
 use Rattle.ca_flat.specs.declared.chip_defect.ChipDefect.{ChipDefect}
 use Rattle.ca_flat.specs.Chip.{Chip}
 use Rattle.ca_flat.specs.Pair.{bit_count, IsShown}
-use Rattle.ca_flat.specs.Code.{bit_trit}
+pub use Rattle.ca_flat.specs.Detection.{trits_of}
 
 -- a bit, 0 where it is unset
 abbrev pub filled_bit : Trit → Bool
@@ -16,10 +16,6 @@ filled_bit X = false
 -- the pair that a partial pair gives when its unset bits are filled with 0
 abbrev pub filled : List Trit → List Bool
 filled partial = map filled_bit partial
-
--- the bits of a pair as values
-abbrev pub trits_of : List Bool → List Trit
-trits_of bits = map bit_trit bits
 
 -- where a partial pair shows the defect, so does the pair that it gives
 abbrev pub FilledIsShown : Type 0

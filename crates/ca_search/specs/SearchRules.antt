@@ -1,23 +1,12 @@
 -- The rules of the codes that a search writes. They are those of checked codes, but that they ask for no
 -- states which are the limits of a pair: that there are limits is known by a double negation alone, so no
 -- search can hand them out. What is said of the pair's waves is said of every such states.
-use Rattle.std.specs.Prelude.{ℕ, ◌⊎◌, List, Option, None, Some}
+use Rattle.std.specs.Prelude.{ℕ, List, Option, None, Some}
 use Rattle.ca_net.specs.declared.trit.Trit.{Trit}
 use Rattle.ca_flat.specs.declared.chip_defect.ChipDefect.{ChipDefect}
 use Rattle.ca_flat.specs.Chip.{Chip}
-use Rattle.ca_flat.specs.Pair.{IsSettledPair}
-use Rattle.ca_flat.specs.Waves.{FlatWaves}
-use Rattle.ca_flat.specs.RuleOut.{IsPlainlyRuledOut}
 use Rattle.ca_flat.specs.Code.{Rules, MayBranch}
-
--- whatever states are the limits of the flat networks for the pair, it is plainly ruled out under them
-abbrev pub IsPlainPair : Chip → ChipDefect → List Trit → Type 0
-IsPlainPair chip defect pair = (good : FlatWaves chip None pair) (faulty : FlatWaves chip (Some defect) pair)
-    → IsPlainlyRuledOut good faulty
-
--- a leaf is allowed where the pair is settled or plainly ruled out
-abbrev pub MayLeave : Chip → ChipDefect → List Trit → Type 0
-MayLeave chip defect pair = IsSettledPair chip defect pair ⊎ IsPlainPair chip defect pair
+pub use Rattle.ca_flat.specs.CheckedCode.{IsPlainPair, MayLeave}
 
 -- a branch is allowed at an open pair that isn't plainly ruled out, on an unset bit of the support
 pub record MayDecide (chip : Chip) (defect : ChipDefect) (pair : List Trit) (bit : ℕ) : Type 0 where

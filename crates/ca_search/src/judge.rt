@@ -16,7 +16,7 @@ pub trait Judge {
     ghost use Rattle.ca_flat.specs.Pair.{bit_count};
     ghost use Rattle.ca_flat.specs.Code.{unset_pair};
     ghost use Rattle.ca_guide.specs.Seen.{set_trit};
-    ghost use Rattle.ca_search.specs.declared.token.TheConstants.{MOST_PATTERN_BITS};
+    ghost use Rattle.ca_code.specs.declared.token.TheConstants.{MOST_PATTERN_BITS};
     ghost use Rattle.ca_search.specs.Judged.{Judged, with_pair, IsOpenFor, IsStanding, IsStep};
 
     /// The chip, the defect that is aimed at, and the bits that are set.

@@ -1,17 +1,14 @@
 //! The branching search for a partial pair that shows a defect, over a simulator and a guide.
 #![tactic(auto)]
 
-mod code;
 mod judge;
 mod laws;
 mod search;
-mod token;
 mod trail;
 mod walk;
 
-pub use code::Code;
+pub use ca_code::{Code, MOST_PATTERN_BITS};
 pub use judge::{Judge, Standing};
 pub use laws::{filled_is_shown, search_codes_are_checked, search_codes_are_codes};
 pub use search::Search;
-pub use token::MOST_PATTERN_BITS;
 pub use trail::Outcome;

@@ -5,10 +5,10 @@ ghost use Rattle.ca_flat.specs.Code.{branch_count};
 ghost use Rattle.ca_search.specs.Judged.{IsSameAim};
 ghost use Rattle.ca_search.specs.Outcome.{IsOutcome};
 
-use crate::code::Code;
 use crate::judge::Judge;
 use crate::trail::{Outcome, Trail};
 use ca_base::NoMemory;
+use ca_code::Code;
 use std::alloc::Global;
 use std::marker::Model;
 

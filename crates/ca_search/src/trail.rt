@@ -1,7 +1,7 @@
 //! The current decisions of a search, and the numbers of the tokens that it has written.
 
 ghost use Rattle.std.specs.Prelude.{◌+◌, ◌*◌, ◌≤◌, vec_capacity};
-ghost use Rattle.ca_search.specs.declared.token.TheConstants.{MOST_PATTERN_BITS};
+ghost use Rattle.ca_code.specs.declared.token.TheConstants.{MOST_PATTERN_BITS};
 
 /// How a search ended.
 #[derive(Clone, Copy, Debug, PartialEq, Eq)]

@@ -8,9 +8,9 @@ ghost use Rattle.ca_search.specs.Outcome.{IsOutcome};
 ghost use Rattle.ca_search.specs.Steps.{Follows, TrailStands, IsSameRoom, IsMove, IsTurn, IsLeft};
 
 use crate::judge::{Judge, Standing};
-use crate::token::packed;
 use crate::trail::{Decision, Outcome, Trail};
 use ca_base::NoMemory;
+use ca_code::packed;
 use ca_flat::Token;
 use ca_guide::Step;
 use std::alloc::Global;

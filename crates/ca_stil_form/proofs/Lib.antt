@@ -1,14 +1,14 @@
-mod FormLemmas
-mod ItemsLemmas
-mod MaybeLemmas
-mod GrammarLemmas
-mod NameLemmas
-mod SpellLemmas
-mod SpelledLemmas
-mod StilSpelled
-mod StilLemmas
-mod ReadingLemmas
-mod TextLemmas
-mod PairTexts
-mod WholeText
-mod ValueLemmas
+pub mod FormLemmas
+pub mod ItemsLemmas
+pub mod MaybeLemmas
+pub mod GrammarLemmas
+pub mod NameLemmas
+pub mod SpellLemmas
+pub mod SpelledLemmas
+pub mod StilSpelled
+pub mod StilLemmas
+pub mod ReadingLemmas
+pub mod TextLemmas
+pub mod PairTexts
+pub mod WholeText
+pub mod ValueLemmas

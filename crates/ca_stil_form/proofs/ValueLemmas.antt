@@ -34,7 +34,7 @@ use Rattle.ca_stil_form.proofs.PairTexts.{chain_seen, frame_seen, count_of, IsUp
 use Rattle.ca_stil_form.proofs.PairTexts.{all_up_to}
 
 -- what holds of each holds by recursion
-by_recursion : {Item : Type 0} (P : Item → Type 0) (items : List Item) → All P items → AllByRecursion P items
+pub by_recursion : {Item : Type 0} (P : Item → Type 0) (items : List Item) → All P items → AllByRecursion P items
 by_recursion P [] all = tt
 by_recursion P (item ∷ items) all =
     (all 0 item (omega arith), by_recursion P items (λ k other within. all (suc k) other (omega (arith, within))))
@@ -245,7 +245,7 @@ long_part : {Value : Type 0} (from count : ℕ) (values : List Value) → from +
 long_part from count values long = length-take-le count (drop from values) (omega (arith, length-drop from values))
 
 -- a pair
-pair_allowed : (chip : StilChip) (number : ℕ) (pair : List Bool) (expected : List Trit) → IsPairOf chip pair → AreValuesOf chip expected
+pub pair_allowed : (chip : StilChip) (number : ℕ) (pair : List Bool) (expected : List Trit) → IsPairOf chip pair → AreValuesOf chip expected
     → (pair_form (frame_seen chip) number).allowed (pair_values chip pair expected) ≡ true
 pair_allowed chip number pair expected pair_long expected_long =
     let inputs : ℕ = length chip.inputs in

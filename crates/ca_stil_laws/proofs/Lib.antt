@@ -3,4 +3,4 @@ mod SymbolLemmas
 mod NameLemmas
 mod PortLemmas
 mod ChipLemmas
-mod ValueLemmas
+pub mod ValueLemmas

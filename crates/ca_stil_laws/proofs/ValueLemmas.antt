@@ -31,7 +31,7 @@ use Rattle.ca_stil_laws.proofs.PortLemmas.{data_among}
 use Rattle.ca_stil_laws.proofs.ChipLemmas.{chains_within, chains_short, scan_groups}
 
 -- how many ends there are of each direction
-site_count : (chip : Chip) (input : Bool) (list : List ℕ) → map (site_net chip input) (sites_of chip input) ≡ list
+pub site_count : (chip : Chip) (input : Bool) (list : List ℕ) → map (site_net chip input) (sites_of chip input) ≡ list
     → length (chips.names_of (data_ports chip input)) + length (scans_of chip) ≡ length list
 site_count chip input list are =
     let both = length-append (map AtPort (data_ports chip input)) (map InScan (scans_of chip)) in
@@ -43,7 +43,7 @@ site_count chip input list are =
     omega (arith, both, ports, scans, named, all, counted)
 
 -- pairs and expected values of the chip are of its text
-of_text : SetSitesAreInputs → SeenSitesAreOutputs → (chip : Chip) (chains : List (List ℕ)) (pairs : List (List Bool)) (expected : List (List Trit))
+pub of_text : SetSitesAreInputs → SeenSitesAreOutputs → (chip : Chip) (chains : List (List ℕ)) (pairs : List (List Bool)) (expected : List (List Trit))
     → AreOfChip chip chains pairs expected → AreOf (stil_chip chip chains) pairs expected
 of_text set seen chip chains pairs expected of = record {
   chains = chains_within chip chains of.chains_are;

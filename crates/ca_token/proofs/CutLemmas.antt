@@ -15,7 +15,8 @@ use Rattle.ca_token.specs.declared.piece.Piece.{Piece}
 use Rattle.ca_token.specs.declared.piece.Piece.TheVariants.{Blank, Skipped, Found, Broken}
 use Rattle.ca_token.specs.Bytes.{is_white, is_text, is_plain, is_name_byte, is_constant_byte, begins_name}
 use Rattle.ca_token.specs.Bytes.{is_letter, is_digit, begins_with, name_len, digits_len, text_len}
-use Rattle.ca_token.specs.Bytes.{constant_len, line_len}
+use Rattle.ca_lex.specs.Physical.{line_len}
+use Rattle.ca_token.specs.Bytes.{constant_len}
 use Rattle.ca_token.specs.Piece.{has_quote, is_bit, closes, comment_from, attribute_from, slash_piece}
 use Rattle.ca_token.specs.Piece.{open_piece, is_directive, directive_line}
 use Rattle.ca_token.specs.Piece.{directive_piece, escaped_before, escaped_piece, constant_piece}

@@ -14,7 +14,8 @@ use Rattle.ca_token.specs.declared.piece.Piece.TheVariants.{Blank, Skipped, Foun
 use Rattle.ca_token.specs.declared.fault.LexKind.TheVariants.{Syntax, Unsupported, NotText}
 use Rattle.ca_token.specs.Bytes as bytes
 use Rattle.ca_token.specs.Bytes.{is_white, is_text, is_plain, is_letter, is_digit, begins_name, is_sign}
-use Rattle.ca_token.specs.Bytes.{begins_with, name_len, digits_len, text_len, constant_len, line_len}
+use Rattle.ca_lex.specs.Physical.{line_len}
+use Rattle.ca_token.specs.Bytes.{begins_with, name_len, digits_len, text_len, constant_len}
 use Rattle.ca_token.specs.Piece.{closes, comment_from, attribute_from, slash_piece, open_piece, is_directive}
 use Rattle.ca_token.specs.Piece.{directive_line, directive_piece, has_quote, is_bit, escaped_before}
 use Rattle.ca_token.specs.Piece.{escaped_piece, constant_piece, number_before, number_piece, quote_piece}

@@ -8,7 +8,8 @@ use Rattle.ca_token.specs.declared.fault.LexKind.TheVariants.{Syntax, Unsupporte
 use Rattle.ca_token.specs.declared.piece.Piece.{Piece}
 use Rattle.ca_token.specs.declared.piece.Piece.TheVariants.{Blank, Skipped, Found, Broken}
 use Rattle.ca_token.specs.Bytes.{is_white, is_text, is_plain, is_letter, is_digit, begins_name, is_sign}
-use Rattle.ca_token.specs.Bytes.{begins_with, name_len, digits_len, text_len, constant_len, line_len}
+use Rattle.ca_lex.specs.Physical.{line_len}
+use Rattle.ca_token.specs.Bytes.{begins_with, name_len, digits_len, text_len, constant_len}
 
 -- the text begins with a `*` and this sign, which end a comment or an attribute
 abbrev pub closes : ℕ → List ℕ → Bool

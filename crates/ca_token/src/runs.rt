@@ -3,7 +3,7 @@ ghost use Rattle.std.specs.Prelude.{◌≡◌, ◌≤◌, length};
 ghost use Rattle.std.specs.List.{list_all};
 ghost use Rattle.ca_token.specs.Bytes.{is_white, is_text, is_plain, is_letter, is_digit, begins_name};
 ghost use Rattle.ca_token.specs.Bytes.{is_name_byte, is_constant_byte, is_sign, begins_with, name_len};
-ghost use Rattle.ca_token.specs.Bytes.{digits_len, text_len, constant_len, line_len};
+ghost use Rattle.ca_token.specs.Bytes.{digits_len, text_len, constant_len};
 
 pub(crate) fn is_white(byte: u8) -> bool
     ensures { result ≡ is_white byte }
@@ -138,22 +138,6 @@ pub(crate) fn constant_len(text: &[u8]) -> usize
     let mut rest = text;
     'bytes: while let [byte, more @ ..] = rest {
         if !is_constant_byte(*byte) {
-            return len;
-        }
-        len += 1;
-        rest = more;
-    }
-    len
-}
-
-pub(crate) fn line_len(text: &[u8]) -> usize
-    ensures len { result ≡ line_len text.now }
-    ensures within { result ≤ length text.now }
-{
-    let mut len = 0;
-    let mut rest = text;
-    'bytes: while let [byte, more @ ..] = rest {
-        if *byte == b'\n' {
             return len;
         }
         len += 1;

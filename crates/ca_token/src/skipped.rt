@@ -5,8 +5,8 @@ ghost use Rattle.ca_token.specs.Piece.{open_piece};
 
 use crate::fault::LexKind;
 use crate::piece::Piece;
-use crate::runs::{begins_with, is_plain, line_len};
-use ca_lex::TokenKind;
+use crate::runs::{begins_with, is_plain};
+use ca_lex::{TokenKind, line_len};
 
 fn closes(sign: u8, text: &[u8]) -> bool
     ensures { result ≡ closes sign text.now }

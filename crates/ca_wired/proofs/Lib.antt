@@ -11,4 +11,5 @@ pub mod WiredLemmas
 pub mod ReaderLemmas
 pub mod EndLemmas
 pub mod CellLemmas
+pub mod ReadyLemmas
 pub mod UsedLemmas

@@ -1,9 +1,8 @@
 -- The cell of each library instance is among those that are used.
 use Rattle.std.proofs.Common.{◌≡◌, ℕ, zero, suc, Bool, true, false, List, [], ◌∷◌, ◌++◌, cond, refl, sym, ap, subst, ◌∙◌}
 use Rattle.std.proofs.Common.{◌||◌, eqb}
-use Rattle.std.specs.Prelude.{Option, Some, None, slice_get}
+use Rattle.std.specs.Prelude.{Some, slice_get}
 use Rattle.std.proofs.lemmas.Bool.{eq-eqb}
-use Rattle.std.specs.List.{list_any}
 use Rattle.ca_wired.specs.Linked.{Body, Gate, Scan, Part, Chip, has}
 use Rattle.ca_wired.specs.Cells.{with_cell, used_from, used_cells}
 use Rattle.ca_wired.proofs.PartLemmas.{has_contains}

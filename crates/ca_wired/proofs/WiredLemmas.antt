@@ -1,13 +1,16 @@
 -- A chip whose rules hold is wired.
-use Rattle.std.proofs.Common.{◌≡◌, ℕ, ◌<◌, Bool, true, false, List, length, refl, sym, ◌∙◌, subst, arith}
+use Rattle.std.proofs.Common.{◌≡◌, ℕ, zero, suc, ◌+◌, ◌<◌, Bool, true, false, List, [], ◌∷◌, length, ap, cond, eqb, refl, sym, ◌∙◌, subst, arith}
 use Rattle.std.proofs.Common.{get_or}
-use Rattle.std.specs.Prelude.{Option, Some, None, IsSome, IsNone, IsTrue, slice_get, ◌&&◌, ◌||◌}
+use Rattle.std.specs.Prelude.{Option, Some, None, IsSome, IsNone, IsTrue, slice_get, option_to_list, ◌&&◌, ◌||◌}
 use Rattle.std.specs.List.{All}
 use Rattle.std.proofs.lemmas.List.{get_or_default}
 use Rattle.std.proofs.lemmas.List.Folds.{list_any-from_Any}
 use Rattle.ca_wired.specs.declared.drivers.Sources.{Sources}
 use Rattle.ca_wired.specs.Order.{IsOrder}
 use Rattle.ca_wired.specs.Linked.{Source, FromPort, FromConstant, FromPin, Part, PortBit, Chip, net_count}
+use Rattle.ca_wired.specs.Linked.{Body, ScanNets, Gate, Scan, inverted_nets, is_read}
+use Rattle.ca_wired.specs.Controls.{is_misplaced, is_used, pin_fault, scan_or, first_scan, body_fault, misused_or, misused_from}
+use Rattle.ca_wired.specs.Controls.{misused_of}
 use Rattle.ca_wired.specs.Linked.{constant_net, has, is_scan_path, output_nets, data_nets, Drives, Feeds}
 use Rattle.ca_wired.specs.Linked.{IsGate, IsLibrary, IsWired}
 use Rattle.ca_wired.specs.Drivers.{AreFirst, sources_at, AreDrivers, IsSingle, IsFirstFlaw, AreAllSingle}
@@ -55,6 +58,85 @@ module _ (chip : Chip) (table : List Sources) (drivers : AreDrivers chip table) 
 pub are_driven : (chip : Chip) (table : List Sources) → AreSingle chip table → AreDriven chip
 are_driven chip table single net lt = let is = single.each net lt in record { source = is.source; only = is.only }
 
+-- no scan instance has a pin that breaks its rule, from this place on
+none_from : (chip : Chip) (first : Option ScanNets) (u : ℕ) (parts : List Part) → misused_from chip first u parts ≡ None
+    → (k : ℕ) (d : Part) → k < length parts → body_fault chip first (get_or parts k d).body ≡ None
+none_from chip first u [] none k d lt = absurd (omega arith)
+none_from chip first u (part ∷ more) none k d lt =
+    by k (body_fault chip first part.body) refl none lt (λ j n l. none_from chip first (u + 1) more n j d l)
+  where
+    by : (j : ℕ) (fault : Option ℕ) → body_fault chip first part.body ≡ fault → misused_or u fault (misused_from chip first (u + 1) more) ≡ None
+        → j < length (part ∷ more)
+        → ((i : ℕ) → misused_from chip first (u + 1) more ≡ None → i < length more → body_fault chip first (get_or more i d).body ≡ None)
+        → body_fault chip first (get_or (part ∷ more) j d).body ≡ None
+    by j (Some pin) e none lt later = cc
+    by zero None e none lt later = e
+    by (suc j) None e none lt later = later j none (omega arith)
+
+gate_is_no_scan : (cell : ℕ) (inputs outputs : List ℕ) (nets : ScanNets) → Gate cell inputs outputs ≡ Scan nets → ⊥
+gate_is_no_scan cell inputs outputs nets same = cc
+
+-- a list with a scan instance has a first one
+is_first_scan : (parts : List Part) (k : ℕ) (d : Part) (nets : ScanNets) → k < length parts → (get_or parts k d).body ≡ Scan nets
+    → (first : ScanNets) × (first_scan parts ≡ Some first)
+is_first_scan [] k d nets lt is = absurd (omega arith)
+is_first_scan (part ∷ more) k d nets lt is = by part.body refl k lt is (λ j l i. is_first_scan more j d nets l i)
+  where
+    by : (body : Body) → part.body ≡ body → (j : ℕ) → j < length (part ∷ more) → (get_or (part ∷ more) j d).body ≡ Scan nets
+        → ((i : ℕ) → i < length more → (get_or more i d).body ≡ Scan nets → (first : ScanNets) × (first_scan more ≡ Some first))
+        → (first : ScanNets) × (first_scan (part ∷ more) ≡ Some first)
+    by (Scan here) e j lt is later = (here, ap (λ body. scan_or body (first_scan more)) e)
+    by (Gate cell inputs outputs) e zero lt is later = absurd (gate_is_no_scan cell inputs outputs nets (sym e ∙ is))
+    by (Gate cell inputs outputs) e (suc j) lt is later =
+        let found = later j (omega arith) is in
+        (found.0, ap (λ body. scan_or body (first_scan more)) e ∙ found.1)
+
+-- which of four rules is broken first
+abbrev told : Bool → Bool → Bool → Bool → Option ℕ
+told a b c e = cond a (Some 0) (cond b (Some 1) (cond c (Some 2) (cond e (Some 3) None)))
+
+-- a scan instance whose pins keep their rules has no load on its inverted output
+unused : (chip : Chip) (first nets : ScanNets) → pin_fault chip first nets ≡ None → is_used chip nets.qn ≡ false
+unused chip first nets none =
+    by (is_misplaced chip first.se nets.se) (is_misplaced chip first.ck nets.ck || eqb nets.ck nets.se)
+    (is_misplaced chip first.hold nets.hold || (eqb nets.hold nets.se || eqb nets.hold nets.ck)) (is_used chip nets.qn) refl none
+  where
+    by : (a b c e : Bool) → is_used chip nets.qn ≡ e
+        → told a b c e ≡ None → is_used chip nets.qn ≡ false
+    by true b c e is h = cc
+    by false true c e is h = cc
+    by false false true e is h = cc
+    by false false false true is h = cc
+    by false false false false is h = is
+
+-- the first of two flags that aren't on
+first_off : (a b : Bool) → (a || b) ≡ false → a ≡ false
+first_off false b off = refl
+first_off true b off = off
+
+-- no input pin is on the net of an inverted output, where no pin of a scan instance breaks its rule
+pub none_read : (chip : Chip) → misused_of chip ≡ None
+    → All (λ part. All (λ net. is_read chip net ≡ false) (inverted_nets part.body)) chip.parts
+none_read chip none u part lt = by (get_or chip.parts u part).body refl
+  where
+    each : (qn : Option ℕ) → is_used chip qn ≡ false → All (λ net. is_read chip net ≡ false) (option_to_list qn)
+    each None off k d lt = absurd (omega arith)
+    each (Some net) off zero d lt = first_off (is_read chip net) (is_on_port chip false net) off
+    each (Some net) off (suc k) d lt = absurd (omega arith)
+
+    by : (body : Body) → (get_or chip.parts u part).body ≡ body
+        → All (λ net. is_read chip net ≡ false) (inverted_nets (get_or chip.parts u part).body)
+    by (Gate cell inputs outputs) e = rw e (λ k d lt. absurd (omega arith))
+    by (Scan nets) e =
+        let first = is_first_scan chip.parts u part nets lt e in
+        let sound : body_fault chip (first_scan chip.parts) (get_or chip.parts u part).body ≡ None =
+        none_from chip (first_scan chip.parts) 0 chip.parts none u part lt in
+        let fault : pin_fault chip first.0 nets ≡ None =
+        ap (λ body. body_fault chip (Some first.0) body) (sym e)
+        ∙ ap (λ f. body_fault chip f (get_or chip.parts u part).body) (sym first.1) ∙ sound in
+        subst (λ (body : Body). All (λ net. is_read chip net ≡ false) (inverted_nets body)) (sym e)
+        (each nets.qn (unused chip first.0 nets fault))
+
 -- a flag that is off, beside one that is on
 and_off : (a b c : Bool) → b ≡ true → (a && (b || c)) ≡ false → a ≡ false
 and_off false b c on off = refl
@@ -94,7 +176,7 @@ module _ (chip : Chip) (drafted : IsDrafted chip) where
         contains_has (data_nets at.body) net (k, less, get_or_default (data_nets at.body) k net d less),
       )
 
-  module _ (table : List Sources) (single : AreSingle chip table) (unobserved : AreUnobserved chip) (order : List ℕ)
+  module _ (table : List Sources) (single : AreSingle chip table) (used : misused_of chip ≡ None) (unobserved : AreUnobserved chip) (order : List ℕ)
       (sorted : IsOrder (Feeds chip) (IsLibrary chip) order) where
     -- the order is one of the chip that has it
     sorted_too : IsOrder (Feeds (record chip { order = order })) (IsLibrary (record chip { order = order })) order
@@ -131,6 +213,7 @@ module _ (chip : Chip) (drafted : IsDrafted chip) where
           let net = get_or (data_nets (get_or chip.parts u part).body) k d in
           and_off (is_scan_path chip net) (is_on_data chip net) (is_on_port chip true net && is_on_port chip false net)
           (data_marked u part k d lt less) (unobserved net (data_on_nets u part lt k d less));
+      unread = none_read chip used;
       ordered = sorted_too;
     }
 

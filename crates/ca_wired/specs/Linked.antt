@@ -82,6 +82,15 @@ has numbers n = list_any (eqb n) numbers
 abbrev pub is_scan_path : Chip → ℕ → Bool
 is_scan_path chip net = list_any (λ part. has (path_nets part.body) net) chip.parts
 
+-- the net of a scan cell's inverted output, if it has one
+abbrev pub inverted_nets : Body → List ℕ
+inverted_nets (Gate cell inputs outputs) = []
+inverted_nets (Scan nets) = option_to_list nets.qn
+
+-- whether an input pin is on the net
+abbrev pub is_read : Chip → ℕ → Bool
+is_read chip net = list_any (λ part. has (input_nets part.body) net) chip.parts
+
 -- the source drives the net
 abbrev pub Drives : Chip → ℕ → Source → Type 0
 Drives chip net (FromPort p) =
@@ -121,8 +130,9 @@ abbrev pub IsBody : List RawCell → Body → Type 0
 IsBody cells (Gate cell inputs outputs) = IsGateOf (cell_of cells cell) inputs outputs
 IsBody cells (Scan nets) = Unit {0}
 
--- the pins, ports and constants are on nets; each net has one driver, the data pins are off the scan path,
--- and there is an order; and instances, port bits and nets are few enough for numbers of 32 bits
+-- the pins, ports and constants are on nets; each net has one driver, the data pins are off the scan path, no
+-- input pin is on a net that an inverted output drives, and there is an order; and instances, port bits and
+-- nets are few enough for numbers of 32 bits
 pub record IsWired (chip : Chip) : Type 0 where
   pub bodies : All (λ part. IsBody chip.cells part.body) chip.parts
   pub on_nets : All (λ part. All (λ net. net < net_count chip) (data_nets part.body)) chip.parts
@@ -136,6 +146,7 @@ pub record IsWired (chip : Chip) : Type 0 where
   pub driven : (net : ℕ) → net < net_count chip → (s : Source) × Drives chip net s
   pub one_driver : (net : ℕ) (s t : Source) → Drives chip net s → Drives chip net t → s ≡ t
   pub off_path : All (λ part. All (λ net. is_scan_path chip net ≡ false) (data_nets part.body)) chip.parts
+  pub unread : All (λ part. All (λ net. is_read chip net ≡ false) (inverted_nets part.body)) chip.parts
   pub ordered : IsOrder (Feeds chip) (IsLibrary chip) chip.order
 
 -- the port bits of one direction that are off the scan path

@@ -1,6 +1,6 @@
 -- Why a chip's nets aren't wired: the rules on drivers, on control pins, on the scan path and on loops, in
 -- the order in which they are tried.
-use Rattle.std.specs.Prelude.{ℕ, ◌≡◌, ◌<◌, false, Some, None, length}
+use Rattle.std.specs.Prelude.{ℕ, ◌≡◌, ◌<◌, false, List, Some, None, length}
 use Rattle.ca_wired.specs.declared.drivers.Sources.{Sources}
 use Rattle.ca_wired.specs.declared.order.SortFault.{SortFault}
 use Rattle.ca_wired.specs.declared.order.SortFault.TheVariants as sort_fault
@@ -8,10 +8,10 @@ use Rattle.ca_wired.specs.declared.wiring.WireFault.{WireFault}
 use Rattle.ca_wired.specs.declared.wiring.WireFault.TheVariants.{Misdriven, Misused, Observed, Loop, NoMemory}
 use Rattle.ca_wired.specs.declared.wiring.Judged.{Judged}
 use Rattle.ca_wired.specs.declared.wiring.Tables.{Tables}
-use Rattle.ca_wired.specs.Order.{IsSimpleLoop, IsOrder}
+use Rattle.ca_wired.specs.Order.{IsSimpleLoop, IsOrder, HasNoLoop}
 use Rattle.ca_wired.specs.Linked.{Source, Chip, net_count, is_scan_path, Drives, Feeds, IsLibrary, inputs_of}
-use Rattle.ca_wired.specs.Linked.{outputs_of}
-use Rattle.ca_wired.specs.Drivers.{IsOnly, AreFirst, IsSingle}
+use Rattle.ca_wired.specs.Linked.{outputs_of, IsWired}
+use Rattle.ca_wired.specs.Drivers.{IsOnly, AreFirst, IsSingle, IsDrafted}
 use Rattle.ca_wired.specs.Paths.{is_observed, IsFirstObserved, AreMarks}
 use Rattle.ca_wired.specs.Feeding.{AreSingle}
 use Rattle.ca_wired.specs.Controls.{misused_of}
@@ -60,13 +60,26 @@ IsWireCause chip (Observed net) = AreDriven chip × (misused_of chip ≡ None) �
 IsWireCause chip (Loop loop) = KeepsNetRules chip × IsSimpleLoop (Feeds chip) loop
 IsWireCause chip NoMemory = Unit {0}
 
--- what was found is of this chip, which keeps the rules: the driver of each net, the nets of the scan path,
--- and an order of the library instances
-pub record IsJudged (chip : Chip) (judged : Judged) : Type 0 where
-  pub kept : KeepsNetRules chip
+-- what was found is of this chip: the driver of each net, the nets of the scan path, and an order of the
+-- library instances
+pub record IsFound (chip : Chip) (judged : Judged) : Type 0 where
   pub single : AreSingle chip judged.drivers
   pub path : AreMarks (net_count chip) (is_scan_path chip) judged.path
   pub ordered : IsOrder (Feeds chip) (IsLibrary chip) judged.order
+
+-- what was found is of this chip, which keeps the rules
+pub record IsJudged (chip : Chip) (judged : Judged) : Type 0 where
+  pub kept : KeepsNetRules chip
+  pub found : IsFound chip judged
+
+-- the draft of a chip needs no judgement: it is drafted, each net has one driver, no chain returns to its
+-- first, and with each order of the library instances it is a wired chip
+pub record IsReady (draft : Chip) : Type 0 where
+  pub drafted : IsDrafted draft
+  pub driven : AreDriven draft
+  pub no_loop : HasNoLoop (Feeds draft)
+  pub wired : (order : List ℕ) → IsOrder (Feeds draft) (IsLibrary draft) order
+      → IsWired (record draft { order = order })
 
 -- the tables are of this chip and of the order that was found
 pub record AreTables (chip : Chip) (judged : Judged) (tables : Tables) : Type 0 where

@@ -76,6 +76,10 @@ impl Model for Chip {
 }
 
 impl Chip {
+    ghost use Rattle.std.specs.Prelude.{map};
+    ghost use Rattle.ca_cell.specs.Library.{raw_of};
+    ghost use Rattle.ca_wired.specs.Linked.{constant_net};
+
     /// The chip is wired. The body does nothing: the call is for the fact.
     pub fn wired(&self)
         ensures { IsWired self.now }
@@ -83,11 +87,25 @@ impl Chip {
         let _ = &self.library;
     }
 
+    /// The library.
+    pub fn library(&self) -> &Library
+        ensures { map (λ named. raw_of named.entry) result.now ≡ self.now.cells }
+    {
+        &self.library
+    }
+
     /// The number of nets.
     pub fn nets(&self) -> usize
         ensures { result ≡ net_count self.now }
     {
         self.nets
+    }
+
+    /// The net that a constant drives, if it drives one.
+    pub fn constant_net(&self, value: bool) -> Option<u32>
+        ensures { result ≡ constant_net self.now value }
+    {
+        if value { self.one } else { self.zero }
     }
 
     /// The constant that drives a net, if one does.
@@ -171,6 +189,14 @@ impl Chip {
         self.parts.len()
     }
 
+    /// An instance.
+    pub fn part(&self, u: InstanceId) -> &Part
+        requires { u.0 < length self.now.parts }
+        ensures { slice_get self.now.parts u.0 ≡ Some result.now }
+    {
+        &self.parts[u.0 as usize]
+    }
+
     /// The k-th library instance of the order.
     pub fn order(&self, k: usize) -> InstanceId
         requires { k < length self.now.order }
@@ -192,6 +218,14 @@ impl Chip {
         ensures { result ≡ length self.now.ports }
     {
         self.ports.len()
+    }
+
+    /// A port bit.
+    pub fn port(&self, p: usize) -> &PortBit
+        requires { p < length self.now.ports }
+        ensures { slice_get self.now.ports p ≡ Some result.now }
+    {
+        &self.ports[p]
     }
 
     /// The net of a port bit.

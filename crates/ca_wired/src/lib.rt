@@ -17,6 +17,7 @@ mod parts;
 mod paths;
 mod pins;
 mod readers;
+mod ready;
 mod used;
 mod wiring;
 
@@ -26,6 +27,8 @@ pub use draft::Draft;
 pub use drivers::Sources;
 pub use instances::{InstanceId, InstanceList};
 pub use laws::order_has_no_loop;
+pub use marks::NetMarks;
 pub use parts::{Body, NetId, NetList, Part, PortBit, ScanNets, Source};
 pub use pins::ScanPin;
+pub use ready::wire_draft;
 pub use wiring::{Judged, WireFault, judge, wire};

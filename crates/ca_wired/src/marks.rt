@@ -8,9 +8,9 @@ use ca_base::NoMemory;
 use std::alloc::Global;
 use std::marker::Model;
 
-/// A mark for each net. Contracts see a list.
+/// A mark for each net, or for each of other numbers. Contracts see a list.
 #[derive(Drop)]
-pub(crate) struct NetMarks {
+pub struct NetMarks {
     marks: Vec<bool>,
 }
 
@@ -24,7 +24,7 @@ impl Model for NetMarks {
 
 impl NetMarks {
     /// No net is marked.
-    pub(crate) fn new(alloc: Global, nets: usize) -> Result<Self, NoMemory>
+    pub fn new(alloc: Global, nets: usize) -> Result<Self, NoMemory>
         ensures { IfOk result (λ marks. marks ≡ replicate nets false) }
     {
         Ok(NetMarks {
@@ -33,7 +33,7 @@ impl NetMarks {
     }
 
     /// Whether a net is marked.
-    pub(crate) fn get(&self, net: u32) -> bool
+    pub fn get(&self, net: u32) -> bool
         requires { net < length self.now }
         ensures { result ≡ mark_at self.now net }
     {
@@ -41,7 +41,7 @@ impl NetMarks {
     }
 
     /// Marks a net.
-    pub(crate) fn mark(&mut self, net: u32)
+    pub fn mark(&mut self, net: u32)
         requires { net < length self.old }
         ensures { self.new ≡ slice_set self.old net true }
     {
@@ -49,7 +49,7 @@ impl NetMarks {
     }
 
     /// Marks the nets of a list.
-    pub(crate) fn mark_all(&mut self, nets: &[u32])
+    pub fn mark_all(&mut self, nets: &[u32])
         requires { All (λ net. net < length self.old) nets.now }
         ensures { Marks nets.now self.old self.new }
     {

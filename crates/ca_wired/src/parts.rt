@@ -1,7 +1,7 @@
 //! The instances, port bits and drivers of a linked chip.
 
 ghost use Rattle.std.specs.Prelude.{◌≡◌, ◌<◌, ◌↔◌, ◌++◌, [], ◌∷◌, if◌then◌else◌, length, IsTrue, Some};
-ghost use Rattle.std.specs.Prelude.{slice_get, OnOk, OnErr};
+ghost use Rattle.std.specs.Prelude.{slice_get, IfOk, OnOk, OnErr};
 ghost use Rattle.ca_wired.specs.Linked.{Scan, input_nets, output_nets, IsGate};
 
 use ca_base::NoMemory;
@@ -65,6 +65,17 @@ impl NetList {
         ensures err { OnErr result (self.new ≡ self.old) }
     {
         Ok(self.numbers.push(net)?)
+    }
+
+    /// A list of its own with the same nets.
+    pub fn copy(&self, alloc: Global) -> Result<Self, NoMemory>
+        ensures { IfOk result (λ list. list ≡ self.now) }
+    {
+        let mut list = NetList::new(alloc);
+        for k in 0..self.len() {
+            list.push(self.get(k))?;
+        }
+        Ok(list)
     }
 
     /// Appends a net, if it passed a test.
@@ -195,6 +206,24 @@ impl Body {
         }
     }
 
+    /// A body of its own that is the same.
+    pub fn copy(&self, alloc: Global) -> Result<Self, NoMemory>
+        ensures { IfOk result (λ body. body ≡ self.now) }
+    {
+        match self {
+            Body::Gate {
+                cell,
+                inputs,
+                outputs,
+            } => Ok(Body::Gate {
+                cell: *cell,
+                inputs: inputs.copy(alloc)?,
+                outputs: outputs.copy(alloc)?,
+            }),
+            Body::Scan(nets) => Ok(Body::Scan(*nets)),
+        }
+    }
+
     /// Whether the instance is of a library cell.
     pub fn is_gate(&self) -> bool
         ensures { IsTrue result ↔ IsGate self.now }
@@ -213,12 +242,39 @@ pub struct Part {
     pub body: Body,
 }
 
+impl Part {
+    /// An instance of its own that is the same.
+    pub fn copy(&self, alloc: Global) -> Result<Self, NoMemory>
+        ensures { IfOk result (λ part. part ≡ self.now) }
+    {
+        Ok(Part {
+            name: self.name.copy(alloc)?,
+            cell: self.cell.copy(alloc)?,
+            data: self.data.copy(alloc)?,
+            body: self.body.copy(alloc)?,
+        })
+    }
+}
+
 /// A bit of a port, with its name and its net.
 #[derive(Drop)]
 pub struct PortBit {
     pub name: Text,
     pub is_input: bool,
     pub net: u32,
+}
+
+impl PortBit {
+    /// A port bit of its own that is the same.
+    pub fn copy(&self, alloc: Global) -> Result<Self, NoMemory>
+        ensures { IfOk result (λ port. port ≡ self.now) }
+    {
+        Ok(PortBit {
+            name: self.name.copy(alloc)?,
+            is_input: self.is_input,
+            net: self.net,
+        })
+    }
 }
 
 /// What drives a net: a port bit by its place in the header, a constant, or an output pin of an instance.

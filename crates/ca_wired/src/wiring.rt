@@ -8,7 +8,7 @@ ghost use Rattle.ca_wired.specs.Feeding.{AreSingle};
 ghost use Rattle.ca_wired.specs.Paths.{AreMarks};
 ghost use Rattle.ca_wired.specs.Kept.{ArePlaces};
 ghost use Rattle.ca_wired.specs.Order.{IsOnce};
-ghost use Rattle.ca_wired.specs.Wired.{wire_fault, KeepsNetRules, IsWireCause, IsJudged, AreTables};
+ghost use Rattle.ca_wired.specs.Wired.{wire_fault, KeepsNetRules, IsWireCause, IsFound, IsJudged, AreTables};
 
 use crate::chip::Chip;
 use crate::controls::{Misused, first_misused};
@@ -46,9 +46,9 @@ pub enum WireFault {
 /// library instances.
 #[derive(Drop)]
 pub struct Judged {
-    drivers: Drivers,
-    path: NetMarks,
-    order: InstanceList,
+    pub(crate) drivers: Drivers,
+    pub(crate) path: NetMarks,
+    pub(crate) order: InstanceList,
 }
 
 impl From<NoMemory> for WireFault {
@@ -136,7 +136,7 @@ pub fn judge(alloc: Global, draft: &Draft) -> Result<Judged, WireFault>
 
 // What a chip keeps beside its draft and what was judged.
 #[derive(Drop)]
-struct Tables {
+pub(crate) struct Tables {
     readers: Readers,
     inputs: NetList,
     outputs: NetList,
@@ -146,10 +146,10 @@ struct Tables {
     places: Vec<usize>,
 }
 
-// The tables of a draft that keeps the rules on nets.
-fn tables_of(alloc: Global, draft: &Draft, judged: &Judged) -> Result<Tables, NoMemory>
+/// The tables of a draft.
+pub(crate) fn tables_of(alloc: Global, draft: &Draft, judged: &Judged) -> Result<Tables, NoMemory>
     requires drafted { IsDrafted draft.now }
-    requires judged { IsJudged draft.now judged.now }
+    requires found { IsFound draft.now judged.now }
     ensures { IfOk result (λ tables. AreTables draft.now judged.now tables) }
 {
     Ok(Tables {
@@ -163,10 +163,10 @@ fn tables_of(alloc: Global, draft: &Draft, judged: &Judged) -> Result<Tables, No
     })
 }
 
-// The chip of a draft, of what was judged and of the tables.
-fn chip_of(draft: Draft, judged: Judged, tables: Tables) -> Chip
-    requires drafted { IsDrafted draft }
-    requires judged { IsJudged draft judged }
+/// The chip of a draft, of what was found and of the tables.
+pub(crate) fn chip_of(draft: Draft, judged: Judged, tables: Tables) -> Chip
+    requires wired { IsWired (record draft { order = judged.order }) }
+    requires found { IsFound draft judged }
     requires tables { AreTables draft judged tables }
     ensures chip { result ≡ record draft { order = judged.order } }
     ensures wired { IsWired result }

@@ -1,6 +1,6 @@
 use Rattle.std.proofs.Common.{◌≡◌}
 use Rattle.ca_lex.specs.FirstFault.{steps_from}
-use Rattle.ca_order.specs.Lines.{lines_of}
+use Rattle.ca_lex.specs.Physical.{lines_of}
 use Rattle.ca_order.specs.Order.{line_step, numbered, order_of}
 use Rattle.ca_order.proofs.order.read_order.Given as goal
 

@@ -2,12 +2,12 @@ use Rattle.std.proofs.Common.{sym, subst}
 use Rattle.ca_wired.specs.Linked.{Chip, IsWired}
 use Rattle.ca_wired.specs.Kept.{KeptTables, IsKept}
 use Rattle.ca_wired.proofs.ReaderLemmas.{readers_too}
-use Rattle.ca_wired.proofs.WiredLemmas.{single_too, wired}
+use Rattle.ca_wired.proofs.WiredLemmas.{single_too}
 use Rattle.ca_wired.proofs.wiring.chip_of.Goals as goal
 
 pub invariant_of-result : goal.invariant_of-result
 invariant_of-result c =
-    let judged = c.requires.judged in
+    let found = c.requires.found in
     let tables = c.requires.tables in
     let order = c.args.judged.order in
     let kept_tables : KeptTables = record {
@@ -22,9 +22,9 @@ invariant_of-result c =
       used = c.args.tables.used.items;
     } in
     let kept : IsKept (record c.args.draft { order = order }) kept_tables = record {
-      wired = wired c.args.draft c.requires.drafted c.args.judged.drivers judged.single judged.kept.unobserved order judged.ordered;
-      marked = judged.path;
-      single = single_too c.args.draft c.args.judged.drivers judged.single order;
+      wired = c.requires.wired;
+      marked = found.path;
+      single = single_too c.args.draft c.args.judged.drivers found.single order;
       read = readers_too c.args.draft c.args.tables.readers tables.read order;
       placed = tables.placed;
       are_inputs = tables.are_inputs;
@@ -37,7 +37,4 @@ invariant_of-result c =
 
 pub returns-clause-wired : goal.returns-clause-wired
 returns-clause-wired c =
-    let judged = c.requires.judged in
-    let order = c.args.judged.order in
-    subst (λ (d : Chip). IsWired (record d { order = order })) (sym c.draft.view_is)
-    (wired c.args.draft c.requires.drafted c.args.judged.drivers judged.single judged.kept.unobserved order judged.ordered)
+    subst (λ (d : Chip). IsWired (record d { order = c.args.judged.order })) (sym c.draft.view_is) c.requires.wired

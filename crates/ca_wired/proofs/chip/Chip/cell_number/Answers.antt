@@ -1,4 +1,3 @@
-use Rattle.std.proofs.Common.{ap}
 use Rattle.std.proofs.lemmas.Option.{slice_get_within}
 use Rattle.ca_wired.specs.Cells.{used_cells}
 use Rattle.ca_wired.proofs.UsedLemmas.{has_place}

@@ -1,4 +1,4 @@
-use Rattle.std.proofs.Common.{◌≡◌, ◌∙◌, List, Some, slice_get, subst, ap, get_or, true}
+use Rattle.std.proofs.Common.{◌≡◌, ◌∙◌, List, subst, ap, get_or}
 use Rattle.ca_wired.specs.declared.parts.Part.{Part}
 use Rattle.ca_wired.specs.Linked.{Chip, IsWired}
 use Rattle.ca_wired.proofs.CellLemmas.{part_read, gate_within}

@@ -1,0 +1,1 @@
+-- The contracts of this crate need no words of their own.

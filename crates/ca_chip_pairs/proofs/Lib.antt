@@ -1,0 +1,4 @@
+mod RunLemmas
+mod PlaceLemmas
+mod CoverLemmas
+mod FitLemmas

@@ -1,0 +1,5 @@
+use Rattle.ca_examiner.specs.Ends.{IsNoneOppositeBelow}
+use Rattle.ca_examiner.proofs.standing.is_shown.Given as goal
+
+abbrev pub invariant-loop-net : goal.invariant-loop-net
+invariant-loop-net g l = IsNoneOppositeBelow (g.V.NetWaves.seen l.waves) l.net-index l.outputs

@@ -1,0 +1,10 @@
+//! A grade for each defect of a chip: the first of the given pairs that detects it, or none.
+#![tactic(auto)]
+
+mod grade;
+mod grades;
+mod judged;
+
+pub use grade::{Grade, Grades};
+pub use grades::grade_pairs;
+pub use judged::{GradeFault, grade_judged};

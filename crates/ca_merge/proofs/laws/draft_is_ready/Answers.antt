@@ -1,0 +1,5 @@
+use Rattle.ca_merge.proofs.WiringLemmas.{draft_is_ready_lem}
+use Rattle.ca_merge.proofs.laws.draft_is_ready.Goals as goal
+
+pub returns : goal.returns
+returns c = draft_is_ready_lem

@@ -1,0 +1,54 @@
+-- All instances of a chip may be merged.
+use Rattle.std.proofs.Common.{◌≡◌, ℕ, ◌+◌, ◌<◌, List, [], ◌∷◌, length, inl, inr, refl, sym, ◌∙◌, ap, subst, arith, get_or}
+use Rattle.std.specs.List.{Contains, range_with_len}
+use Rattle.std.proofs.lemmas.List.{length-map}
+use Rattle.std.proofs.lemmas.List.FromFn.{length-range_with_len, get_or-range_with_len}
+use Rattle.ca_flat.specs.Chip as flat
+use Rattle.ca_wired.specs.declared.parts.Part.{Part}
+use Rattle.ca_wired.specs.Linked.{Chip, IsLibrary}
+use Rattle.ca_core.specs.Core.{core_of, core_instance}
+use Rattle.ca_merged.specs.Merged.{IsInstanceChain}
+use Rattle.ca_merged.proofs.Lists.{cons_cases, none_in_nil}
+use Rattle.ca_merge.specs.Merge.{CanMerge}
+
+-- what is on a chain is an instance
+chain_known : (chip : flat.Chip) (u : ℕ) (path : List ℕ) (w : ℕ) → IsInstanceChain chip u path w → (x : ℕ) → Contains path x → x < flat.count_of chip
+chain_known chip u [] w h x c = absurd (none_in_nil x c)
+chain_known chip u (next ∷ more) w h x c = elim (cons_cases next more x c) [
+  | inl e ↦ subst (λ y. y < flat.count_of chip) e h.0.fed_known
+  | inr later ↦ chain_known chip next more w h.1 x later
+]
+
+in_range : (n x : ℕ) → x < n → Contains (range_with_len 0 n) x
+in_range n x lt = (x, subst (λ k. x < k) (sym (length-range_with_len 0 n)) lt, get_or-range_with_len 0 n x x lt ∙ omega arith)
+
+of_range : (n x : ℕ) → Contains (range_with_len 0 n) x → x < n
+of_range n x c =
+    let lt : c.0 < n = subst (λ k. c.0 < k) (length-range_with_len 0 n) c.1 in
+    let e : 0 + c.0 ≡ x = sym (get_or-range_with_len 0 n c.0 x lt) ∙ c.2 in
+    omega arith
+
+all_range : (chip : Chip) (n : ℕ) → n ≡ length chip.parts → ((w : ℕ) → w < n → IsLibrary chip w) → 0 < n → CanMerge chip (range_with_len 0 n)
+all_range chip n count gates some =
+    let known : flat.count_of (core_of chip) ≡ n = length-map chip.parts (λ (part : Part). core_instance chip part.body) ∙ sym count in
+    record {
+      gates = λ u c. gates u (of_range n u c);
+      some = subst (λ k. 0 < k) (sym (length-range_with_len 0 n)) some;
+      are = record {
+        known = λ u c. let lt = of_range n u c in omega arith;
+        ascending = λ i j d lt within.
+            let within_n : j < n = subst (λ k. j < k) (length-range_with_len 0 n) within in
+            let a = get_or-range_with_len 0 n i d (omega arith) in
+            let b = get_or-range_with_len 0 n j d within_n in
+            omega arith;
+        closed = λ u w path cu cw chain x cx.
+            let lt = chain_known (core_of chip) u path w chain x cx in
+            in_range n x (omega arith);
+      };
+    }
+
+pub all_can : (chip : Chip) (list : List ℕ) (n : ℕ) → list ≡ range_with_len 0 n → n ≡ length chip.parts → ((w : ℕ) → w < n → IsLibrary chip w)
+    → 0 < length list → CanMerge chip list
+all_can chip list n same count gates some =
+    subst (CanMerge chip) (sym same)
+    (all_range chip n count gates (let l = ap (λ xs. length xs) same ∙ length-range_with_len 0 n in omega arith))

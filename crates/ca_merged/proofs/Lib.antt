@@ -1,0 +1,17 @@
+pub mod Lists
+pub mod Blocks
+pub mod Pins
+pub mod Nets
+pub mod Seats
+pub mod Instances
+pub mod After
+pub mod MergedChip
+pub mod Numbers
+pub mod Places
+pub mod Renumbering
+pub mod Counts
+pub mod Shorts
+pub mod Ends
+pub mod Members
+pub mod MarkedCluster
+pub mod Bridged

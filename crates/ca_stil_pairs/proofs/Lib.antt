@@ -1,0 +1,9 @@
+pub mod PlaceLemmas
+pub mod ListLemmas
+pub mod SameLemmas
+pub mod OrderLemmas
+pub mod ShapeLemmas
+pub mod PairLemmas
+pub mod WholeLemmas
+pub mod UniqueLemmas
+pub mod BackLemmas

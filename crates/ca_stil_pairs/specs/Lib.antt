@@ -1,0 +1,6 @@
+-- What the contracts of this crate say, in reading order.
+pub mod Chip
+pub mod Places
+pub mod File
+pub mod Laws
+pub mod Same

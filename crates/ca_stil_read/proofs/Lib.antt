@@ -1,0 +1,15 @@
+mod TokenLemmas
+mod ExpectLemmas
+mod ItemSteps
+mod OnwardLemmas
+mod PlanLemmas
+mod WholeLemmas
+mod LoopLemmas
+mod WordLemmas
+mod GroupLemmas
+mod FrameLemmas
+mod ScanLemmas
+mod HalfLemmas
+mod Appending
+mod ChainLemmas
+mod LongLemmas
