@@ -1,7 +1,8 @@
 //! The verdicts so far, and which defects were tried with the pair in hand.
 
 ghost use Rattle.std.specs.Prelude.{◌≡◌, ◌↔◌, ◌<◌, ◌≤◌, ◌^◌, ◌+◌, ℕ, length, replicate};
-ghost use Rattle.std.specs.Prelude.{true, false, List, Bool, None, Some, IsSome, IfSome, IfOk, IsTrue, IsFalse};
+ghost use Rattle.std.specs.Prelude.{true, false, List, Bool, None, Some, IsSome, IfSome, IfOk, IsTrue};
+ghost use Rattle.std.specs.Prelude.{IsFalse};
 ghost use Rattle.ca_flat.specs.declared.chip_defect.ChipDefect.{ChipDefect};
 ghost use Rattle.ca_flat.specs.Pair.{bit_count};
 ghost use Rattle.ca_search.specs.Filled.{trits_of};
@@ -202,8 +203,8 @@ impl Round {
         if here { behind + 1 } else { behind }
     }
 
-    // Tries the pair on the defect at a place that wasn't tried, by the rows and by last values alone. Answers
-    // how many it is credited with, or nothing where that says nothing; then nothing changes.
+    // Tries the pair on the defect at a place that wasn't tried, by the rows and by last values alone.
+    // Answers how many it is credited with, or nothing where that says nothing; then nothing changes.
     fn try_by_lasts<S: Simulator>(
         &mut self,
         sim: &mut S,
@@ -243,8 +244,8 @@ impl Round {
         }
     }
 
-    // The turn of the defect at a place: the pair is tried on it, unless it was tried already. Waves are asked
-    // where last values alone say nothing.
+    // The turn of the defect at a place: the pair is tried on it, unless it was tried already. Waves are
+    // asked where last values alone say nothing.
     fn take_turn<S: Simulator>(
         &mut self,
         sim: &mut S,

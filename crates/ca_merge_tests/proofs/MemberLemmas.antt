@@ -1,6 +1,8 @@
 -- All instances of a chip may be merged.
-use Rattle.std.proofs.Common.{◌≡◌, ℕ, ◌+◌, ◌<◌, List, [], ◌∷◌, length, inl, inr, refl, sym, ◌∙◌, ap, subst, arith, get_or}
-use Rattle.std.specs.List.{Contains, range_with_len}
+use Rattle.std.proofs.Common.{◌≡◌, ℕ, zero, suc, ◌+◌, ◌<◌, List, [], ◌∷◌, ◌++◌, length, inl, inr, sym, ◌∙◌, ap, subst, arith}
+use Rattle.std.specs.Prelude.{map}
+use Rattle.std.specs.List.{Contains, IsDistinct, range_with_len}
+use Rattle.std.specs.Str.{bytes_eq}
 use Rattle.std.proofs.lemmas.List.{length-map}
 use Rattle.std.proofs.lemmas.List.FromFn.{length-range_with_len, get_or-range_with_len}
 use Rattle.ca_flat.specs.Chip as flat
@@ -10,6 +12,20 @@ use Rattle.ca_core.specs.Core.{core_of, core_instance}
 use Rattle.ca_merged.specs.Merged.{IsInstanceChain}
 use Rattle.ca_merged.proofs.Lists.{cons_cases, none_in_nil}
 use Rattle.ca_merge.specs.Merge.{CanMerge}
+
+-- a range with its next number
+range_last : (a n j : ℕ) → a + n ≡ j → range_with_len a (suc n) ≡ range_with_len a n ++ j ∷ []
+range_last a zero j e = let same : a ≡ j = omega arith in ap (λ k. k ∷ []) same
+range_last a (suc n) j e = ap (λ l. a ∷ l) (range_last (a + 1) n j (omega arith))
+
+pub list_more : (n : ℕ) (old new : List ℕ) → old ≡ range_with_len 0 n → new ≡ old ++ n ∷ [] → new ≡ range_with_len 0 (n + 1)
+list_more n old new was grown =
+    grown ∙ ap (λ xs. xs ++ n ∷ []) was ∙ sym (range_last 0 n n (omega arith)) ∙ ap (range_with_len 0) (let e : suc n ≡ n + 1 = omega arith in e)
+
+-- a list of no rows has different ones
+pub none_double : {X : Type 0} (name : X → List ℕ) (rows : List X) → rows ≡ [] → IsDistinct bytes_eq (map name rows)
+unfolding IsDistinct
+none_double name rows none = subst (λ xs. IsDistinct bytes_eq (map name xs)) (sym none) tt
 
 -- what is on a chain is an instance
 chain_known : (chip : flat.Chip) (u : ℕ) (path : List ℕ) (w : ℕ) → IsInstanceChain chip u path w → (x : ℕ) → Contains path x → x < flat.count_of chip

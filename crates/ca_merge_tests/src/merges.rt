@@ -47,10 +47,14 @@ fn all_instances(alloc: Global, chip: &Chip) -> Option<InstanceList>
     let mut list = InstanceList::new(alloc);
     for k in 0..chip.parts() {
         let u = InstanceId(k as u32);
-        if !chip.is_library(u) {
+        if chip.is_library(u) {
+            match list.push(u) {
+                Ok(()) => {}
+                Err(_) => return None,
+            }
+        } else {
             return None;
         }
-        list.push(u).ok()?;
     }
     if list.len() == 0 {
         return None;
@@ -68,6 +72,8 @@ fn put_node(text: &mut Text, before: u8, node: NodeId) -> Result<(), NoMemory> {
 fn put_device(text: &mut Text, cell: &Cell, d: usize) -> Result<(), NoMemory>
     requires { d < length cell.now.devices }
 {
+    // A subcircuit has fewer than 2^32 devices.
+    let _raw = cell.raw();
     let device = cell.device(DeviceId(d as u32));
     put_node(text, b' ', device.a)?;
     put_node(text, b'-', device.gate)?;

@@ -54,7 +54,8 @@ pub record IsOutputBelow (chip : Chip) (u count net : ℕ) : Type 0 where
 -- the nets of the first `count` output pins of an instance are given these values
 pub record IsWrittenTo (chip : Chip) (place_of : ℕ → ℕ) (u count : ℕ) (outputs : ℕ → Trit)
     (old new : Values) : Type 0 where
-  pub written : (output : ℕ) → output < count → value_at new.values (output_net chip u output) ≡ outputs output
+  pub written : (output : ℕ) → output < count
+      → value_at new.values (output_net chip u output) ≡ outputs output
   pub changes : Changes chip place_of (IsOutputBelow chip u count) old new
 
 -- so are those of all its output pins

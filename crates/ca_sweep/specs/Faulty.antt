@@ -50,7 +50,8 @@ code_of true true = 3
 -- the answers that are kept are those for one instance
 pub record IsMemo (chip : Chip) (goods : ℕ → Trit) (memo : Memo) : Type 0 where
   pub room : length memo.answers.items ≡ 4
-  pub each : (flips : Flips) (seen : Seen) → slice_index_or memo.answers.items (code_of flips.first flips.second) None ≡ Some seen
+  pub each : (flips : Flips) (seen : Seen)
+      → slice_index_or memo.answers.items (code_of flips.first flips.second) None ≡ Some seen
       → IsSeen chip goods memo.instance flips seen
 
 -- an answer that is kept says where the flips are seen
@@ -68,7 +69,8 @@ pub record AreWavesAt (chip : Chip) (waves : List Wave) (u : ℕ) (pins : List W
 abbrev pub AreFlipsOf : Chip → (ℕ → Trit) → ℕ → List Wave → Flips → Type 0
 AreFlipsOf chip goods u outputs flips =
     (output : ℕ) → output < outputs_at chip u
-    → (is_flipped flips output ≡ true) ↔ IsOpposite (goods (output_net chip u output)) (wave_at outputs output).last
+    → (is_flipped flips output ≡ true)
+    ↔ IsOpposite (goods (output_net chip u output)) (wave_at outputs output).last
 
 -- so is one of them, where it is there
 abbrev pub IsFlippedAt : Chip → (ℕ → Trit) → ℕ → List Wave → ℕ → Bool → Type 0

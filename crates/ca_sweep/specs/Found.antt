@@ -21,7 +21,8 @@ IsDetectedAt chip defect pair output = DetectsAt chip defect pair (slice_index c
 
 -- it does at none before this one
 abbrev pub IsUndetectedBefore : Chip → ChipDefect → List Trit → ℕ → Type 0
-IsUndetectedBefore chip defect pair end = (output : ℕ) → output < end → ¬ (IsDetectedAt chip defect pair output)
+IsUndetectedBefore chip defect pair end =
+    (output : ℕ) → output < end → ¬ (IsDetectedAt chip defect pair output)
 
 -- so says an answer that decides
 abbrev pub IsFound : Chip → ChipDefect → List Trit → Seen → Type 0

@@ -47,17 +47,20 @@ pub record IsClear (chip : Chip) (goods : ℕ → Trit) (u : ℕ) : Type 0 where
 
 -- the values are opposite to the good ones at the net at a place of the list
 abbrev pub IsOppositeAt : (ℕ → Trit) → (ℕ → Trit) → List ℕ → ℕ → Type 0
-IsOppositeAt goods values nets place = IsOpposite (goods (slice_index nets place)) (values (slice_index nets place))
+IsOppositeAt goods values nets place =
+    IsOpposite (goods (slice_index nets place)) (values (slice_index nets place))
 
 -- so they are at none before this one
 abbrev pub AreNotOppositeBefore : (ℕ → Trit) → (ℕ → Trit) → List ℕ → ℕ → Type 0
-AreNotOppositeBefore goods values nets end = (place : ℕ) → place < end → ¬ (IsOppositeAt goods values nets place)
+AreNotOppositeBefore goods values nets end =
+    (place : ℕ) → place < end → ¬ (IsOppositeAt goods values nets place)
 
 -- the first of the nets at which they are opposite, if there is one
 abbrev pub IsFirstIn : (ℕ → Trit) → (ℕ → Trit) → List ℕ → Option ℕ → Type 0
 IsFirstIn goods values nets None = AreNotOppositeBefore goods values nets (length nets)
 IsFirstIn goods values nets (Some place) =
-    (place < length nets) × IsOppositeAt goods values nets place × AreNotOppositeBefore goods values nets place
+    (place < length nets) × IsOppositeAt goods values nets place
+    × AreNotOppositeBefore goods values nets place
 
 -- where these output pins of u are flipped, values that are found an instance at a time are first opposite
 -- there

@@ -7,7 +7,8 @@ ghost use Rattle.ca_view.specs.Linked.{IsPlaced, place_in};
 ghost use Rattle.ca_view.specs.Places.{cell_number};
 ghost use Rattle.ca_sweep.specs.Seen.{IsClear};
 ghost use Rattle.ca_sweep.specs.Cells.{AreTables, IsOrder};
-ghost use Rattle.ca_sweep.specs.Kept.{AreDefinitePins, IsPassing, AreReadersMarked, AreOutputsClear, AreMarks};
+ghost use Rattle.ca_sweep.specs.Kept.{AreDefinitePins, IsPassing, AreReadersMarked, AreOutputsClear};
+ghost use Rattle.ca_sweep.specs.Kept.{AreMarks};
 
 use crate::cells::Tables;
 use ca_net::{State, Trit};

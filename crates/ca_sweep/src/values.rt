@@ -1,6 +1,7 @@
 //! Last values of the nets behind an instance, found in the order of the instances.
 
-ghost use Rattle.std.specs.Prelude.{ℕ, ◌+◌, ◌≡◌, ◌<◌, ◌≤◌, length, false, IsTrue, IfOk, IfSome, slice_index_or};
+ghost use Rattle.std.specs.Prelude.{ℕ, ◌+◌, ◌≡◌, ◌<◌, ◌≤◌, length, false, IsTrue, IfOk, IfSome};
+ghost use Rattle.std.specs.Prelude.{slice_index_or};
 ghost use Rattle.ca_net.specs.State.{value_at};
 ghost use Rattle.ca_flat.specs.Chip.{cell_at, inputs_at, outputs_at, count_of};
 ghost use Rattle.ca_flips.specs.Flips.{vector_at};

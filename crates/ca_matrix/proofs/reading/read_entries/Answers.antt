@@ -1,8 +1,8 @@
-use Rattle.std.proofs.Common.{◌≡◌, ◌∙◌, ◌≤◌, ◌<◌, ◌++◌, ◌∷◌, ◌*◌, ◌+◌, ℕ, List, length, true, false, refl, ap, sym}
+use Rattle.std.proofs.Common.{◌≡◌, ◌∙◌, ◌≤◌, ◌<◌, ◌++◌, ◌∷◌, ◌+◌, ℕ, List, length, true, false, refl, ap, sym}
 use Rattle.std.proofs.Common.{subst, arith, rules}
 use Rattle.csv.specs.Records.{fields_of}
 use Rattle.ca_csv.proofs.CsvLemmas.{found_none, found_some}
-use Rattle.ca_matrix.specs.Matrix.{record_count, width_of}
+use Rattle.ca_matrix.specs.Matrix.{record_count}
 use Rattle.ca_matrix.specs.Text.{header_of, records_from}
 use Rattle.ca_matrix.proofs.FieldLemmas.{append_none}
 use Rattle.ca_matrix.proofs.ReadLemmas.{not_taken, taken, no_header, same_header, missing, malformed}
