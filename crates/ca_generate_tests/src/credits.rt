@@ -261,24 +261,15 @@ fn told_of(
     (text, told.aims, told.evaluations)
 }
 
-// Three of the nine defects of an inverter are detected where its input falls, and four are suspect. Each of
-// these is aimed at or compared with one that is, which takes an evaluation.
+// Three of the nine defects of an inverter are detected where its input falls, and four are suspect. Last values
+// alone say which of these are, so a bench aims at six of them at most.
 #[test]
 fn a_falling_input_of_an_inverter(rt: HostRuntime) {
     let alloc = rt.alloc();
     let pairs = drawn_pairs(alloc, 1, 1, 1, 2).expect(&rt, "memory");
-    let (text, aims, evaluations) = told_of(
-        &rt,
-        alloc,
-        INV,
-        0,
-        pairs.as_slice(),
-        2,
-        Asked::Singles,
-    );
+    let (text, aims, _) = told_of(&rt, alloc, INV, 0, pairs.as_slice(), 2, Asked::Singles);
     assert!(rt; text.as_bytes().starts_with(b"3 "), "{:?}", text.as_bytes());
-    assert!(rt; 1 <= aims && aims <= 6, "{aims}");
-    assert!(rt; evaluations >= 4, "{evaluations}");
+    assert!(rt; aims <= 6, "{aims}");
 }
 
 // The credits of 257 pairs in two blocks, which are those of the pairs one by one. The bits of a pair are
