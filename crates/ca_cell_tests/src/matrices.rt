@@ -5,7 +5,7 @@ ghost use Rattle.ca_matrix.specs.Matrix.{shape_of, IsRowOf};
 
 use crate::examples::{AND2, NAND2, cell_of};
 use ca_defect::{Row, Rows, defects, parse};
-use ca_matrix::Matrix;
+use ca_matrix::{Matrix, exposing};
 use ca_net::Trit;
 use ca_net::Trit::{One, X, Zero};
 use std::alloc::Global;
@@ -107,6 +107,22 @@ fn exposing_rows_of_a_nand(rt: HostRuntime) {
         );
     }
     drop(matrix);
+}
+
+#[test]
+fn exposing_rows_without_a_matrix(rt: HostRuntime) {
+    let alloc = rt.alloc();
+    let cell = cell_of(&rt, alloc, &NAND2);
+    let count = defects(alloc, &cell).expect(&rt, "memory").len();
+    for (defect, expected) in &EXPOSING {
+        assert!(rt; *defect < count);
+        try_rows(
+            &rt,
+            &exposing(alloc, &cell, *defect).expect(&rt, "memory"),
+            expected,
+        );
+    }
+    drop(cell);
 }
 
 #[test]
