@@ -2,6 +2,8 @@
 #![tactic(auto)]
 
 mod budget;
+mod checks;
+mod chip_words;
 mod words;
 
 pub use budget::{MOST_BUDGET, budget_of, chip_number_of};

@@ -4,13 +4,13 @@ use Rattle.std.specs.String.{string_bytes}
 use Rattle.ca_asked.specs.Asked.{AreBothOrNeither}
 use Rattle.ca_words.specs.Words.{AreChipFiles, IsOtherFile, IsVector}
 use Rattle.ca_words.proofs.WordLemmas.{word_of}
-use Rattle.ca_words.proofs.words.parse_replay.Goals as goal
-use Rattle.ca_words.proofs.words.parse_replay.Goals.{else-eq-via-then-eq+then-are_chip_files+then-are_both_or_neither+then-is_vector+then-is_vector-2+else-is_other_file}
-use Rattle.ca_words.proofs.words.parse_replay.Goals.{else-eq-via-then-eq+then-are_chip_files+then-are_both_or_neither+then-is_vector+else-is_vector-2}
-use Rattle.ca_words.proofs.words.parse_replay.Goals.{else-eq-via-then-eq+then-are_chip_files+then-are_both_or_neither+else-is_vector}
-use Rattle.ca_words.proofs.words.parse_replay.Goals.{else-eq-via-then-eq+then-are_chip_files+else-are_both_or_neither}
-use Rattle.ca_words.proofs.words.parse_replay.Goals.{else-eq-via-then-eq+else-are_chip_files}
-use Rattle.ca_words.proofs.words.parse_replay.Goals.{else-eq-via-else-eq}
+use Rattle.ca_words.proofs.chip_words.parse_replay.Goals as goal
+use Rattle.ca_words.proofs.chip_words.parse_replay.Goals.{else-eq-via-then-eq+then-are_chip_files+then-are_both_or_neither+then-is_vector+then-is_vector-2+else-is_other_file}
+use Rattle.ca_words.proofs.chip_words.parse_replay.Goals.{else-eq-via-then-eq+then-are_chip_files+then-are_both_or_neither+then-is_vector+else-is_vector-2}
+use Rattle.ca_words.proofs.chip_words.parse_replay.Goals.{else-eq-via-then-eq+then-are_chip_files+then-are_both_or_neither+else-is_vector}
+use Rattle.ca_words.proofs.chip_words.parse_replay.Goals.{else-eq-via-then-eq+then-are_chip_files+else-are_both_or_neither}
+use Rattle.ca_words.proofs.chip_words.parse_replay.Goals.{else-eq-via-then-eq+else-are_chip_files}
+use Rattle.ca_words.proofs.chip_words.parse_replay.Goals.{else-eq-via-else-eq}
 
 pub returns-then-is_other_file-clause-found : goal.returns-then-is_other_file-clause-found
 returns-then-is_other_file-clause-found c =

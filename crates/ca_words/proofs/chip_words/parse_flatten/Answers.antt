@@ -2,7 +2,7 @@ use Rattle.std.proofs.Common.{rules, arith, ◌≡◌, length, ◌∙◌}
 use Rattle.std.proofs.lemmas.List.{length-map}
 use Rattle.std.specs.String.{string_bytes}
 use Rattle.ca_words.proofs.WordLemmas.{word_of}
-use Rattle.ca_words.proofs.words.parse_flatten.Goals as goal
+use Rattle.ca_words.proofs.chip_words.parse_flatten.Goals as goal
 
 pub returns-then-is_other_file-clause-found : goal.returns-then-is_other_file-clause-found
 returns-then-is_other_file-clause-found c =

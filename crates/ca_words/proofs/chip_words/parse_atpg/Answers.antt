@@ -4,12 +4,12 @@ use Rattle.std.specs.String.{string_bytes}
 use Rattle.ca_words.specs.Budget.{IsBudget}
 use Rattle.ca_words.specs.Words.{AreChipFiles, IsOtherFile, report_word}
 use Rattle.ca_words.proofs.WordLemmas.{word_of}
-use Rattle.ca_words.proofs.words.parse_atpg.Goals as goal
-use Rattle.ca_words.proofs.words.parse_atpg.Goals.{else-eq-via-then-eq+then-are_chip_files+then-is_other_file+then-is_other_file-2+else-ne}
-use Rattle.ca_words.proofs.words.parse_atpg.Goals.{else-eq-via-then-eq+then-are_chip_files+then-is_other_file+else-is_other_file-2}
-use Rattle.ca_words.proofs.words.parse_atpg.Goals.{else-eq-via-then-eq+then-are_chip_files+else-is_other_file}
-use Rattle.ca_words.proofs.words.parse_atpg.Goals.{else-eq-via-then-eq+else-are_chip_files}
-use Rattle.ca_words.proofs.words.parse_atpg.Goals.{else-eq-via-else-eq}
+use Rattle.ca_words.proofs.chip_words.parse_atpg.Goals as goal
+use Rattle.ca_words.proofs.chip_words.parse_atpg.Goals.{else-eq-via-then-eq+then-are_chip_files+then-is_other_file+then-is_other_file-2+else-ne}
+use Rattle.ca_words.proofs.chip_words.parse_atpg.Goals.{else-eq-via-then-eq+then-are_chip_files+then-is_other_file+else-is_other_file-2}
+use Rattle.ca_words.proofs.chip_words.parse_atpg.Goals.{else-eq-via-then-eq+then-are_chip_files+else-is_other_file}
+use Rattle.ca_words.proofs.chip_words.parse_atpg.Goals.{else-eq-via-then-eq+else-are_chip_files}
+use Rattle.ca_words.proofs.chip_words.parse_atpg.Goals.{else-eq-via-else-eq}
 
 pub returns-then-ne-clause-found : goal.returns-then-ne-clause-found
 returns-then-ne-clause-found c =

@@ -2,7 +2,7 @@ use Rattle.std.proofs.Common.{rules, arith, ◌≡◌, length, ◌∙◌}
 use Rattle.std.proofs.lemmas.List.{length-map}
 use Rattle.std.specs.String.{string_bytes}
 use Rattle.ca_words.proofs.WordLemmas.{word_of}
-use Rattle.ca_words.proofs.words.parse_check.Goals as goal
+use Rattle.ca_words.proofs.chip_words.parse_check.Goals as goal
 
 pub returns-then-are_chip_files-clause-found : goal.returns-then-are_chip_files-clause-found
 returns-then-are_chip_files-clause-found c =
