@@ -16,7 +16,7 @@ use ca_generate::Aims;
 use ca_lex::{Names, Text};
 use ca_matrix::Matrix;
 use ca_net::{FlatNet, Trit};
-use ca_on_cell::{PinValues, lines_of_names, summary};
+use ca_on_cell::{PinValues, lines_of_names, lines_of_values, summary};
 use ca_on_chip::{check_line, flatten_line, replay_lines, simulate_lines};
 use ca_pair::Pairs;
 use ca_scan::Chains;
@@ -102,7 +102,7 @@ impl Done {
         ensures { IfOk result (IsTold self.now) }
     {
         match self {
-            Done::Respond { values } | Done::Pair { values } => values.lines(alloc),
+            Done::Respond { values } | Done::Pair { values } => lines_of_values(alloc, values),
             Done::Defects { names } => lines_of_names(alloc, names),
             Done::Matrix { matrix } => summary(alloc, matrix),
             Done::Check { chip, chains } => check_line(alloc, chip, chains),

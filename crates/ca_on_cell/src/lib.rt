@@ -11,6 +11,6 @@ mod values;
 
 pub use lines::{lines_of_names, summary};
 pub use listing::find_names;
-pub use pin_values::{PinValue, PinValues};
+pub use pin_values::{PinValue, PinValues, lines_of_values};
 pub use tables::find_matrix;
 pub use values::find_values;
