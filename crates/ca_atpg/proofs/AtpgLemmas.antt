@@ -8,7 +8,7 @@ use Rattle.std.proofs.lemmas.List.Elements.{All-weaker, All-from_get_or}
 use Rattle.std.proofs.lemmas.Option.{slice_get-get_or, slice_get_within}
 use Rattle.ca_net.specs.declared.trit.Trit.{Trit}
 use Rattle.ca_defect.specs.declared.defect.Defect.TheVariants.{OpenPin}
-use Rattle.ca_wired.specs.Linked.{Chip, inputs_of, outputs_of, IsWired}
+use Rattle.ca_linked.specs.Linked.{LinkedChip, inputs_of, outputs_of, IsWired}
 use Rattle.ca_core.specs.Core.{core_of, core_net}
 use Rattle.ca_outputs.specs.Outputs.{output_names}
 use Rattle.ca_flat.specs.declared.chip_defect.ChipDefect.{ChipDefect}
@@ -44,16 +44,16 @@ pub pairs_fit : (task : Task) (pairs : List (List Bool)) (aims : List ℕ) (verd
 pairs_fit task pairs aims verdicts good = pairs_whole task pairs aims good.aims_are
 
 -- so have those of the chip's
-pub task_pairs_fit : (chip : Chip) (budget : ℕ) (pairs : List (List Bool)) (aims : List ℕ) (verdicts : List Verdict)
+pub task_pairs_fit : (chip : LinkedChip) (budget : ℕ) (pairs : List (List Bool)) (aims : List ℕ) (verdicts : List Verdict)
     → IsGood (task_of chip budget) pairs aims verdicts → All (λ pair. length pair ≡ bit_count (core_of chip)) pairs
 task_pairs_fit chip budget pairs aims verdicts good = pairs_whole (task_of chip budget) pairs aims good.aims_are
 
 -- there is a verdict for each defect
-pub one_verdict_each : (chip : Chip) (budget : ℕ) (pairs : List (List Bool)) (aims : List ℕ) (verdicts : List Verdict)
+pub one_verdict_each : (chip : LinkedChip) (budget : ℕ) (pairs : List (List Bool)) (aims : List ℕ) (verdicts : List Verdict)
     → IsGood (task_of chip budget) pairs aims verdicts → length verdicts ≡ length (task_of chip 0).defects
 one_verdict_each chip budget pairs aims verdicts good = good.one_each
 
-module _ (chip : Chip) (chains : List (List ℕ)) (pairs : List (List Bool)) (expected : List (List Trit)) where
+module _ (chip : LinkedChip) (chains : List (List ℕ)) (pairs : List (List Bool)) (expected : List (List Trit)) where
   pub are_of_chip : AreAllChains chip chains → All (λ pair. length pair ≡ bit_count (core_of chip)) pairs → AreExpected (core_of chip) pairs expected
       → AreOfChip chip chains pairs expected
   are_of_chip are whole exp = record {
@@ -91,7 +91,7 @@ some_pair pairs k P Q some then = by (slice_get pairs k) some
     by None here = absurd here
     by (Some x) here = then x here
 
-pub verdicts_within : (chip : Chip) (budget : ℕ) (pairs : List (List Bool)) (aims : List ℕ) (verdicts : List Verdict)
+pub verdicts_within : (chip : LinkedChip) (budget : ℕ) (pairs : List (List Bool)) (aims : List ℕ) (verdicts : List Verdict)
     → IsGood (task_of chip budget) pairs aims verdicts → All (IsVerdictWithin (length (outputs_of chip))) verdicts
 verdicts_within chip budget pairs aims verdicts good = All-from_get_or (IsVerdictWithin (length (outputs_of chip))) verdicts Unexposable (λ k lt.
     by k lt (get_or verdicts k Unexposable) (slice_get-get_or verdicts k Unexposable lt))

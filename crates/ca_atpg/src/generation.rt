@@ -23,7 +23,7 @@ use ca_pair::Pairs;
 use ca_rows::ChipRows;
 use ca_scan::Chains;
 use ca_view::View;
-use ca_wired::Chip;
+use ca_linked::Chip;
 use std::alloc::Global;
 
 /// The listed pairs, for each the place of the defect for which it was found, a verdict for each defect, and

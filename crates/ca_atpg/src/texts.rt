@@ -2,7 +2,7 @@
 
 ghost use Rattle.std.specs.Prelude.{◌≡◌, length, IfOk};
 ghost use Rattle.std.specs.List.{All};
-ghost use Rattle.ca_wired.specs.Linked.{outputs_of};
+ghost use Rattle.ca_linked.specs.Linked.{outputs_of};
 ghost use Rattle.ca_core.specs.Core.{core_of};
 ghost use Rattle.ca_scan.specs.ChainFault.{AreAllChains};
 ghost use Rattle.ca_flat.specs.Pair.{bit_count};
@@ -21,7 +21,7 @@ use ca_lex::Text;
 use ca_pair::Pairs;
 use ca_scan::Chains;
 use ca_view::View;
-use ca_wired::Chip;
+use ca_linked::Chip;
 use std::alloc::Global;
 
 /// The text of the patterns.

@@ -1,12 +1,12 @@
 //! A linked chip as a text, in which each call of it has its say.
 
 ghost use Rattle.std.specs.Prelude.{◌<◌, length};
-ghost use Rattle.ca_wired.specs.Linked.{IsLibrary};
+ghost use Rattle.ca_linked.specs.Linked.{IsLibrary};
 
 use ca_base::NoMemory;
 use ca_lex::Text;
 use ca_outputs::output_names;
-use ca_wired::{Chip, InstanceId, NetId, ScanPin, Source};
+use ca_linked::{Chip, InstanceId, NetId, ScanPin, Source};
 use std::alloc::Global;
 
 // Appends a number with a space before it.

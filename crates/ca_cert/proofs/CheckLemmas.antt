@@ -17,7 +17,7 @@ use Rattle.ca_claim.proofs.TrueLemmas.{one_entry}
 use Rattle.ca_cert.specs.declared.detection.Detection.{Detection}
 use Rattle.ca_cert.specs.Found.{asks, IsFoundTo, AreFound}
 use Rattle.ca_flat.specs.declared.token.Token.{Token}
-use Rattle.ca_flat.specs.Code.{IsSpentBy}
+use Rattle.ca_flat.specs.Codes.{IsSpentBy}
 use Rattle.ca_read_code.specs.ClaimedCode.{claim_rules}
 use Rattle.ca_read_code.specs.Examined.{Examined, with_pair, IsSameAim}
 use Rattle.ca_cert.specs.Tested.{with_aim}

@@ -5,7 +5,7 @@ ghost use Rattle.std.specs.List.{All};
 ghost use Rattle.ca_flat.specs.Pair.{bit_count};
 ghost use Rattle.ca_claim.specs.Stands.{IsAnswer};
 ghost use Rattle.std.specs.Prelude.{None};
-ghost use Rattle.ca_flat.specs.Code.{IsWholeBy, IsSpentBy};
+ghost use Rattle.ca_flat.specs.Codes.{IsWholeBy, IsSpentBy};
 ghost use Rattle.ca_read_code.specs.ClaimedCode.{claim_rules};
 ghost use Rattle.ca_cert.specs.Tested.{KeepsChip, IsTestable, AreTestable};
 ghost use Rattle.ca_cert.specs.Standing.{StandsBy};

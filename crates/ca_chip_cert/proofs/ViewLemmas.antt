@@ -2,9 +2,9 @@
 use Rattle.std.proofs.Common.{◌≡◌, List, Option, None, Some, sym, subst}
 use Rattle.ca_flat.specs.declared.chip_defect.ChipDefect.{ChipDefect}
 use Rattle.ca_flat.specs.Chip.{Chip}
-use Rattle.ca_wired.specs.Linked as linked
-use Rattle.ca_wired.specs.Linked.{IsWired}
-use Rattle.ca_wired.specs.Instances.{gates_of}
+use Rattle.ca_linked.specs.Linked as linked
+use Rattle.ca_linked.specs.Linked.{IsWired}
+use Rattle.ca_linked.specs.Instances.{gates_of}
 use Rattle.ca_core.specs.Core.{core_of}
 use Rattle.ca_flatten.specs.Few.{IsFew}
 use Rattle.ca_flatten.specs.Laws.{FlatIsWellFormed}
@@ -14,7 +14,7 @@ use Rattle.ca_examiner.specs.ChipExaminer.{AreNetworks}
 use Rattle.ca_chip_cert.specs.Listed.{listed_defects, viewed_defects}
 
 -- the defects of the chip that is viewed are its own
-pub viewed_list : (chip : linked.Chip) (view : Viewed) → IsViewOf chip view → viewed_defects view ≡ listed_defects chip
+pub viewed_list : (chip : linked.LinkedChip) (view : Viewed) → IsViewOf chip view → viewed_defects view ≡ listed_defects chip
 viewed_list chip view is = λ i. chip_defects (is.core_is i) (gates_of (is.chip_is i))
 
 -- its flat networks are networks where they are small enough

@@ -17,7 +17,7 @@ use ca_flatten::{flat_is_well_formed, judge_size};
 use ca_pair::Pairs;
 use ca_rows::ChipRows;
 use ca_view::View;
-use ca_wired::Chip;
+use ca_linked::Chip;
 use std::alloc::Global;
 
 /// Whether every claim of the certificate on the defects of a linked chip stands for the listed pairs, or else

@@ -5,11 +5,11 @@ use Rattle.std.specs.Prelude.{eqb, slice_get, Some}
 use Rattle.std.specs.List.{position_or_len}
 use Rattle.std.proofs.lemmas.List.{append-nil, append_assoc}
 use Rattle.std.proofs.lemmas.Option.{slice_get_within}
-use Rattle.ca_wired.specs.declared.parts.Body.{Body}
-use Rattle.ca_wired.specs.declared.parts.Part.{Part}
-use Rattle.ca_wired.specs.declared.parts.Body.TheVariants.{Gate, Scan}
-use Rattle.ca_wired.specs.Linked.{Chip}
-use Rattle.ca_wired.specs.Instances.{if_gate, gates_from, gates_of}
+use Rattle.ca_linked.specs.declared.parts.Body.{Body}
+use Rattle.ca_linked.specs.declared.parts.Part.{Part}
+use Rattle.ca_linked.specs.declared.parts.Body.TheVariants.{Gate, Scan}
+use Rattle.ca_linked.specs.Linked.{LinkedChip}
+use Rattle.ca_linked.specs.Instances.{if_gate, gates_from, gates_of}
 use Rattle.ca_core.specs.Core.{body_rank, rank_in, rank_of, core_of}
 use Rattle.ca_view.specs.Linked.{place_in}
 use Rattle.ca_chip_defects.specs.ChipDefects.{if_placed, placed_before, placed_instances}
@@ -17,7 +17,7 @@ use Rattle.ca_view.specs.Places.{AreRanks}
 use Rattle.ca_view.proofs.CoreFacts.{core_count}
 
 -- an instance has a place exactly if it is one of the library
-placed_is_gate : (chip : Chip) (ranks : List ℕ) (u : ℕ) (part : Part) → get_or ranks u 0 ≡ rank_of chip u → slice_get chip.parts u ≡ Some part
+placed_is_gate : (chip : LinkedChip) (ranks : List ℕ) (u : ℕ) (part : Part) → get_or ranks u 0 ≡ rank_of chip u → slice_get chip.parts u ≡ Some part
     → if_placed (place_in ranks u) u ≡ if_gate u part.body
 placed_is_gate chip ranks u part rank at = ap (λ r. if_placed r u) (rank ∙ ap (rank_in chip u) at) ∙ by part.body
   where
@@ -55,7 +55,7 @@ placed_none : (ranks : List ℕ) → placed_before ranks 0 ≡ []
 unfolding placed_before
 placed_none ranks = refl
 
-pub placed_are_gates : (chip : Chip) (ranks : List ℕ) → AreRanks chip ranks → placed_instances (core_of chip) ranks ≡ gates_of chip
+pub placed_are_gates : (chip : LinkedChip) (ranks : List ℕ) → AreRanks chip ranks → placed_instances (core_of chip) ranks ≡ gates_of chip
 placed_are_gates chip ranks ranked =
     ap (placed_before ranks) (core_count chip ∙ (let e : length chip.parts ≡ 0 + length chip.parts = omega arith in e))
     ∙ placed_from ranks 0 chip.parts (λ k part at.

@@ -3,7 +3,7 @@
 ghost use Rattle.std.specs.Prelude.{◌≡◌, ◌++◌, ◌<◌, IfOk, OnOk};
 ghost use Rattle.std.specs.List.{All};
 ghost use Rattle.ca_flat.specs.Chip.{count_of};
-ghost use Rattle.ca_wired.specs.Instances.{gates_of};
+ghost use Rattle.ca_linked.specs.Instances.{gates_of};
 ghost use Rattle.ca_view.specs.Linked.{IsPlacedDefect, place_in};
 ghost use Rattle.ca_chip_defects.specs.ChipDefects.{chip_defects, if_placed};
 

@@ -20,7 +20,7 @@ use ca_pair::Pair;
 use ca_rows::{ChipRows, ExposableDefects};
 use ca_scan::Chains;
 use ca_view::View;
-use ca_wired::Chip;
+use ca_linked::Chip;
 use std::alloc::Global;
 
 // The grades by rows of any type: so the bench that is dropped here has few parts to the prover.

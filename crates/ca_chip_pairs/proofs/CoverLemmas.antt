@@ -7,9 +7,9 @@ use Rattle.std.specs.List.{flat_map}
 use Rattle.std.proofs.lemmas.Bool.{eqb-true}
 use Rattle.std.proofs.lemmas.List.{map-append, reverse-append}
 use Rattle.std.proofs.lemmas.Option.{slice_get-map, slice_get_within, slice_get-get_or}
-use Rattle.ca_wired.specs.declared.parts.PortBit.{PortBit}
-use Rattle.ca_wired.specs.Linked.{Chip, has}
-use Rattle.ca_wired.specs.Instances.{scans_of}
+use Rattle.ca_linked.specs.declared.parts.PortBit.{PortBit}
+use Rattle.ca_linked.specs.Linked.{LinkedChip, has}
+use Rattle.ca_linked.specs.Instances.{scans_of}
 use Rattle.ca_scan.specs.Chain.{count_of, IsChainFrom, AreChains, IsOnChain, IsScanAt}
 use Rattle.ca_scan.specs.ChainFault.{AreAllChains}
 use Rattle.ca_scan.proofs.ChainLemmas.{one_found}
@@ -91,21 +91,21 @@ all_back [] = refl
 all_back (None ∷ found) = all_back found
 all_back (Some chain ∷ found) = ap (λ rest. reverse chain ++ rest) (all_back found)
 
-order_is : (chip : Chip) (chains : List (List ℕ)) → order_of (map (chain_of chip) chains) ≡ map (place_of chip) (flat_map reverse chains)
+order_is : (chip : LinkedChip) (chains : List (List ℕ)) → order_of (map (chain_of chip) chains) ≡ map (place_of chip) (flat_map reverse chains)
 order_is chip [] = refl
 order_is chip (chain ∷ chains) =
     (λ j. reversed (place_of chip) chain j ++ order_is chip chains j)
     ∙ sym (map-append (place_of chip) (reverse chain) (flat_map reverse chains))
 
 -- where an instance of the chains is
-record IsOn (chip : Chip) (found : List (Option (List ℕ))) (u : ℕ) : Type 0 where
+record IsOn (chip : LinkedChip) (found : List (Option (List ℕ))) (u : ℕ) : Type 0 where
   pub port : ℕ
   pub chain : List ℕ
   pub at : slice_get found port ≡ Some (Some chain)
   pub place : ℕ
   pub there : slice_get chain place ≡ Some u
 
-is_on : (chip : Chip) (found : List (Option (List ℕ))) (u : ℕ) → 1 ≤ count_of u (flat_map back found) → IsOn chip found u
+is_on : (chip : LinkedChip) (found : List (Option (List ℕ))) (u : ℕ) → 1 ≤ count_of u (flat_map back found) → IsOn chip found u
 unfolding count_of
 is_on chip found u some = from (found_in back u found some).place (found_in back u found some).item
     (found_in back u found some).at (found_in back u found some).here
@@ -118,7 +118,7 @@ is_on chip found u some = from (found_in back u found some).place (found_in back
         record { port = p; chain = chain; at = at; place = there.place; there = there.at }
 
 -- each instance is counted once at most
-one_count : (chip : Chip) (chains : List (List ℕ)) (are : AreChains chip chains) (u : ℕ) → count_of u (flat_map back are.at_port) ≤ 1
+one_count : (chip : LinkedChip) (chains : List (List ℕ)) (are : AreChains chip chains) (u : ℕ) → count_of u (flat_map back are.at_port) ≤ 1
 unfolding count_of
 one_count chip chains are u = sum_one back u are.at_port each once
   where
@@ -142,7 +142,7 @@ one_count chip chains are u = sum_one back u are.at_port each once
         (same_place chip p q one two j.place k.place u (are.each p (Some one) at_p) (are.each q (Some two) at_q) j.at k.at).port
 
 -- an instance of the chains is a scan instance
-scan_of : (chip : Chip) (chains : List (List ℕ)) (are : AreChains chip chains) (u : ℕ) → 1 ≤ count_of u (flat_map back are.at_port)
+scan_of : (chip : LinkedChip) (chains : List (List ℕ)) (are : AreChains chip chains) (u : ℕ) → 1 ≤ count_of u (flat_map back are.at_port)
     → IsScanAt chip u
 scan_of chip chains are u some =
     let on = is_on chip are.at_port u some in
@@ -161,7 +161,7 @@ has_counted u (v ∷ chain) there = by (eqb u v) there (λ more. has_counted u c
     by false one later = let more = later one in omega (arith, more)
 
 -- each scan instance is on the chains
-on_chains : (chip : Chip) (chains : List (List ℕ)) (are : AreChains chip chains) (u : ℕ) → IsOnChain chip u
+on_chains : (chip : LinkedChip) (chains : List (List ℕ)) (are : AreChains chip chains) (u : ℕ) → IsOnChain chip u
     → 1 ≤ count_of u (flat_map back are.at_port)
 unfolding count_of
 on_chains chip chains are u on =
@@ -175,19 +175,19 @@ on_chains chip chains are u on =
     counted back u are.at_port on.port (Some on.chain) (there ∙ ap Some same) (omega (arith, turned, some))
 
 -- what a list of places has
-record IsPlaced (chip : Chip) (list : List ℕ) (i place : ℕ) : Type 0 where
+record IsPlaced (chip : LinkedChip) (list : List ℕ) (i place : ℕ) : Type 0 where
   pub u : ℕ
   pub at : slice_get list i ≡ Some u
   pub is : place_of chip u ≡ place
 
-placed : (chip : Chip) (list : List ℕ) (i place : ℕ) → slice_get (map (place_of chip) list) i ≡ Some place → IsPlaced chip list i place
+placed : (chip : LinkedChip) (list : List ℕ) (i place : ℕ) → slice_get (map (place_of chip) list) i ≡ Some place → IsPlaced chip list i place
 placed chip list i place at = by (slice_get list i) refl (sym (slice_get-map (place_of chip) list i) ∙ at)
   where
     by : (o : Option ℕ) → slice_get list i ≡ o → option_map (place_of chip) o ≡ Some place → IsPlaced chip list i place
     by None is mapped = absurd (let clash : None ≡ Some place = mapped in cc)
     by (Some u) is mapped = record { u = u; at = is; is = cc }
 
-pub covered : (chip : Chip) (chains : List (List ℕ)) → AreAllChains chip chains → IsCovered (stil_chip chip chains)
+pub covered : (chip : LinkedChip) (chains : List (List ℕ)) → AreAllChains chip chains → IsCovered (stil_chip chip chains)
 covered chip chains all = record { within = within; once = once; each = each }
   where
     list : List ℕ

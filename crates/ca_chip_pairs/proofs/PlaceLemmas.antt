@@ -5,18 +5,18 @@ use Rattle.std.specs.Prelude.{eqb, Option, Some, None, IsSomeAnd, slice_get}
 use Rattle.std.proofs.lemmas.Bool.{cases_lt, eq-eqb, eqb-true}
 use Rattle.std.proofs.lemmas.List.Sums.{fails_before_first, passes_at_first}
 use Rattle.std.proofs.lemmas.Option.{slice_get_within, slice_get-get_or, get_or_from_slice_get}
-use Rattle.ca_wired.specs.declared.pins.ScanPin.TheVariants.{Si}
-use Rattle.ca_wired.specs.declared.parts.Body.{Body}
-use Rattle.ca_wired.specs.declared.parts.Body.TheVariants.{Gate, Scan}
-use Rattle.ca_wired.specs.declared.parts.Part.{Part}
-use Rattle.ca_wired.specs.Linked.{Chip}
-use Rattle.ca_wired.specs.Instances.{HasOnPin, IsScan, if_scan, scans_from, scans_of}
+use Rattle.ca_linked.specs.declared.pins.ScanPin.TheVariants.{Si}
+use Rattle.ca_linked.specs.declared.parts.Body.{Body}
+use Rattle.ca_linked.specs.declared.parts.Body.TheVariants.{Gate, Scan}
+use Rattle.ca_linked.specs.declared.parts.Part.{Part}
+use Rattle.ca_linked.specs.Linked.{LinkedChip}
+use Rattle.ca_linked.specs.Instances.{HasOnPin, IsScan, if_scan, scans_from, scans_of}
 use Rattle.ca_scan.specs.Chain.{IsOnPin, IsScanAt}
 use Rattle.ca_scan.proofs.JointLemmas.{scan_place}
 use Rattle.ca_chip_stil.specs.ChipStil.{place_of}
 
 -- what is on a scan pin is a scan instance
-pub scan_on_pin : (chip : Chip) (u net : ℕ) → IsOnPin chip Si u net → IsScanAt chip u
+pub scan_on_pin : (chip : LinkedChip) (u net : ℕ) → IsOnPin chip Si u net → IsScanAt chip u
 scan_on_pin chip u net there = by (slice_get chip.parts u) there
   where
     of_body : (body : Body) → HasOnPin Si net body → IsScan body
@@ -28,7 +28,7 @@ scan_on_pin chip u net there = by (slice_get chip.parts u) there
     by (Some part) is = of_body part.body is
 
 -- a scan instance has a place among them, and it is there
-pub place_within : (chip : Chip) (u : ℕ) → IsScanAt chip u → place_of chip u < length (scans_of chip)
+pub place_within : (chip : LinkedChip) (u : ℕ) → IsScanAt chip u → place_of chip u < length (scans_of chip)
 place_within chip u there =
     let place = scan_place chip u there in
     elim (cases_lt place.0 (place_of chip u)) [
@@ -42,7 +42,7 @@ place_within chip u there =
           omega (arith, not_before, lt)
     ]
 
-pub at_place : (chip : Chip) (u : ℕ) → IsScanAt chip u → slice_get (scans_of chip) (place_of chip u) ≡ Some u
+pub at_place : (chip : LinkedChip) (u : ℕ) → IsScanAt chip u → slice_get (scans_of chip) (place_of chip u) ≡ Some u
 at_place chip u there =
     let within = place_within chip u there in
     let found = passes_at_first (eqb u) (scans_of chip) 0 within in
@@ -81,5 +81,5 @@ once_from u (part ∷ more) j k v at_j at_k = by part.body j k at_j at_k (λ i l
         absurd (omega (arith, same, less))
     by (Scan nets) (suc j) (suc k) at_j at_k later = ap suc (later j k at_j at_k)
 
-pub scan_once : (chip : Chip) (j k v : ℕ) → slice_get (scans_of chip) j ≡ Some v → slice_get (scans_of chip) k ≡ Some v → j ≡ k
+pub scan_once : (chip : LinkedChip) (j k v : ℕ) → slice_get (scans_of chip) j ≡ Some v → slice_get (scans_of chip) k ≡ Some v → j ≡ k
 scan_once chip j k v at_j at_k = once_from 0 chip.parts j k v at_j at_k

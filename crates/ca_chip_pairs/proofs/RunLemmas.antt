@@ -3,13 +3,13 @@ use Rattle.std.proofs.Common.{◌≡◌, ℕ, zero, suc, ◌+◌, ◌≤◌, tru
 use Rattle.std.proofs.Common.{refl, sym, ap, subst, arith}
 use Rattle.std.specs.Prelude.{if◌then◌else◌, Some, None, slice_get}
 use Rattle.std.specs.List.{flat_map}
-use Rattle.ca_wired.specs.declared.pins.ScanPin.TheVariants.{Si, So}
-use Rattle.ca_wired.specs.declared.parts.Body.{Body}
-use Rattle.ca_wired.specs.declared.parts.Body.TheVariants.{Gate, Scan}
-use Rattle.ca_wired.specs.declared.parts.Part.{Part}
-use Rattle.ca_wired.specs.declared.parts.PortBit.{PortBit}
-use Rattle.ca_wired.specs.Linked.{Chip}
-use Rattle.ca_wired.specs.Instances.{HasOnPin}
+use Rattle.ca_linked.specs.declared.pins.ScanPin.TheVariants.{Si, So}
+use Rattle.ca_linked.specs.declared.parts.Body.{Body}
+use Rattle.ca_linked.specs.declared.parts.Body.TheVariants.{Gate, Scan}
+use Rattle.ca_linked.specs.declared.parts.Part.{Part}
+use Rattle.ca_linked.specs.declared.parts.PortBit.{PortBit}
+use Rattle.ca_linked.specs.Linked.{LinkedChip}
+use Rattle.ca_linked.specs.Instances.{HasOnPin}
 use Rattle.ca_scan.specs.Chain.{count_of, IsLink, IsOnPin, IsAtPort, RunsOut, IsChainFrom}
 use Rattle.ca_scan.specs.Kept.{drivers_of, in_nets, so_nets}
 use Rattle.ca_scan.proofs.ChainLemmas.{one_net}
@@ -17,13 +17,13 @@ use Rattle.ca_scan.proofs.CountLemmas.{item_of, count_here, counted, one_place, 
 use Rattle.ca_scan.proofs.FollowLemmas.{found_in}
 
 -- from bit p of the ports a net is reached through these scan instances, the last one first
-abbrev pub Arrives : Chip → ℕ → List ℕ → ℕ → Type 0
+abbrev pub Arrives : LinkedChip → ℕ → List ℕ → ℕ → Type 0
 Arrives chip p [] net = IsAtPort chip true p net
 Arrives chip p (v ∷ passed) net =
     IsOnPin chip So v net × (before : ℕ) × IsLink chip before × IsOnPin chip Si v before × Arrives chip p passed before
 
 -- how an instance is reached
-pub record IsReached (chip : Chip) (p u : ℕ) (count : ℕ) : Type 0 where
+pub record IsReached (chip : LinkedChip) (p u : ℕ) (count : ℕ) : Type 0 where
   pub net : ℕ
   pub link : IsLink chip net
   pub taken : IsOnPin chip Si u net
@@ -31,7 +31,7 @@ pub record IsReached (chip : Chip) (p u : ℕ) (count : ℕ) : Type 0 where
   pub counted : length passed ≡ count
   pub arrives : Arrives chip p passed net
 
-pub reached : (chip : Chip) (p net : ℕ) (chain passed : List ℕ) (k u : ℕ) → RunsOut chip net chain → Arrives chip p passed net
+pub reached : (chip : LinkedChip) (p net : ℕ) (chain passed : List ℕ) (k u : ℕ) → RunsOut chip net chain → Arrives chip p passed net
     → slice_get chain k ≡ Some u → IsReached chip p u (length passed + k)
 reached chip p net [] passed k u runs arrives at = absurd (let clash : None ≡ Some u = at in cc)
 reached chip p net (first ∷ chain) passed zero u runs arrives at =
@@ -56,7 +56,7 @@ reached chip p net (first ∷ chain) passed (suc k) u runs arrives at =
     }
 
 -- what drives a net
-port_counts : (chip : Chip) (p net : ℕ) → IsAtPort chip true p net → 1 ≤ count_of net (flat_map in_nets chip.ports)
+port_counts : (chip : LinkedChip) (p net : ℕ) → IsAtPort chip true p net → 1 ≤ count_of net (flat_map in_nets chip.ports)
 port_counts chip p net there =
     let found = item_of chip.ports p (λ (port : PortBit). (port.is_input ≡ true) × (port.net ≡ net)) there in
     counted in_nets net chip.ports p found.item found.at (in_here net found.item found.has.0 found.has.1)
@@ -68,19 +68,19 @@ so_here : (net : ℕ) (body : Body) → HasOnPin So net body → 1 ≤ count_of 
 so_here net (Gate cell inputs outputs) is = absurd is
 so_here net (Scan nets) is = count_here net nets.so is
 
-so_counts : (chip : Chip) (v net : ℕ) → IsOnPin chip So v net → 1 ≤ count_of net (flat_map (λ part. so_nets part.body) chip.parts)
+so_counts : (chip : LinkedChip) (v net : ℕ) → IsOnPin chip So v net → 1 ≤ count_of net (flat_map (λ part. so_nets part.body) chip.parts)
 so_counts chip v net there =
     let found = item_of chip.parts v (λ (part : Part). HasOnPin So net part.body) there in
     counted (λ (part : Part). so_nets part.body) net chip.parts v found.item found.at (so_here net found.item.body found.has)
 
 -- a link to a scan-in has one driver
-one_driver : (chip : Chip) (net u : ℕ) → IsLink chip net → IsOnPin chip Si u net → drivers_of chip net ≤ 1
+one_driver : (chip : LinkedChip) (net u : ℕ) → IsLink chip net → IsOnPin chip Si u net → drivers_of chip net ≤ 1
 one_driver chip net u link taken =
     let all = enough chip net in
     let some = takes chip net u taken in
     omega (arith, link, all, some)
 
-one_port : (chip : Chip) (net p q : ℕ) → drivers_of chip net ≤ 1 → IsAtPort chip true p net → IsAtPort chip true q net → p ≡ q
+one_port : (chip : LinkedChip) (net p q : ℕ) → drivers_of chip net ≤ 1 → IsAtPort chip true p net → IsAtPort chip true q net → p ≡ q
 one_port chip net p q one there also =
     let found = item_of chip.ports p (λ (port : PortBit). (port.is_input ≡ true) × (port.net ≡ net)) there in
     let other = item_of chip.ports q (λ (port : PortBit). (port.is_input ≡ true) × (port.net ≡ net)) also in
@@ -90,14 +90,14 @@ one_port chip net p q one there also =
     in_here : (net : ℕ) (port : PortBit) → port.is_input ≡ true → port.net ≡ net → 1 ≤ count_of net (in_nets port)
     in_here net port input is = subst (λ nets. 1 ≤ count_of net nets) (sym (λ j. if input j then port.net ∷ [] else [])) (count_here net port.net is)
 
-one_so : (chip : Chip) (net v w : ℕ) → drivers_of chip net ≤ 1 → IsOnPin chip So v net → IsOnPin chip So w net → v ≡ w
+one_so : (chip : LinkedChip) (net v w : ℕ) → drivers_of chip net ≤ 1 → IsOnPin chip So v net → IsOnPin chip So w net → v ≡ w
 one_so chip net v w one there also =
     let found = item_of chip.parts v (λ (part : Part). HasOnPin So net part.body) there in
     let other = item_of chip.parts w (λ (part : Part). HasOnPin So net part.body) also in
     one_place (λ (part : Part). so_nets part.body) net chip.parts v w found.item other.item (omega (arith, one)) found.at other.at
     (so_here net found.item.body found.has) (so_here net other.item.body other.has)
 
-not_both : (chip : Chip) (net p v : ℕ) → drivers_of chip net ≤ 1 → IsAtPort chip true p net → IsOnPin chip So v net → ⊥
+not_both : (chip : LinkedChip) (net p v : ℕ) → drivers_of chip net ≤ 1 → IsAtPort chip true p net → IsOnPin chip So v net → ⊥
 not_both chip net p v one there also =
     let port = port_counts chip p net there in
     let scan = so_counts chip v net also in
@@ -108,7 +108,7 @@ pub record AreOneWay (p q : ℕ) (one two : List ℕ) : Type 0 where
   pub port : p ≡ q
   pub counted : length one ≡ length two
 
-one_way : (chip : Chip) (net u p q : ℕ) (one two : List ℕ) → IsLink chip net → IsOnPin chip Si u net → Arrives chip p one net
+one_way : (chip : LinkedChip) (net u p q : ℕ) (one two : List ℕ) → IsLink chip net → IsOnPin chip Si u net → Arrives chip p one net
     → Arrives chip q two net → AreOneWay p q one two
 one_way chip net u p q [] [] link taken here there = record {
   port = one_port chip net p q (one_driver chip net u link taken) here there;
@@ -129,7 +129,7 @@ pub record AreOnePlace (p q j k : ℕ) : Type 0 where
   pub port : p ≡ q
   pub place : j ≡ k
 
-pub same_place : (chip : Chip) (p q : ℕ) (chain other : List ℕ) (j k u : ℕ) → IsChainFrom chip p chain → IsChainFrom chip q other
+pub same_place : (chip : LinkedChip) (p q : ℕ) (chain other : List ℕ) (j k u : ℕ) → IsChainFrom chip p chain → IsChainFrom chip q other
     → slice_get chain j ≡ Some u → slice_get other k ≡ Some u → AreOnePlace p q j k
 same_place chip p q chain other j k u is also at_j at_k =
     let here = reached chip p is.net chain [] j u is.runs is.at at_j in

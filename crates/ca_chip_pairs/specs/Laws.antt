@@ -3,23 +3,23 @@ use Rattle.std.specs.Prelude.{ℕ, Bool, List}
 use Rattle.ca_net.specs.declared.trit.Trit.{Trit}
 use Rattle.ca_cell.specs.Library.{Named}
 use Rattle.ca_verilog.specs.declared.raw.RawNetlist.{RawNetlist}
-use Rattle.ca_chip.specs.declared.scan_row.ScanRow.{ScanRow}
+use Rattle.ca_wiring.specs.declared.scan_row.ScanRow.{ScanRow}
 use Rattle.ca_stil.specs.Text.{stil_text}
 use Rattle.ca_stil_laws.specs.Laws.{IsNamedLink}
 use Rattle.ca_stil_pairs.specs.Laws.{IsReadBack}
-use Rattle.ca_wired.specs.Linked.{Chip}
+use Rattle.ca_linked.specs.Linked.{LinkedChip}
 use Rattle.ca_scan.specs.ChainFault.{AreAllChains}
 use Rattle.ca_chip_stil.specs.ChipStil.{stil_chip, AreOfChip}
 use Rattle.ca_stil_pairs.specs.Chip.{IsCovered}
 
 -- where the whole chains of a chip have all its scan instances, each of these is on one of them, once
 abbrev pub ChainsCover : Type 0
-ChainsCover = (chip : Chip) (chains : List (List ℕ)) → AreAllChains chip chains
+ChainsCover = (chip : LinkedChip) (chains : List (List ℕ)) → AreAllChains chip chains
     → IsCovered (stil_chip chip chains)
 
 -- the STIL text of such a chip, its chains, its pairs and their expected values is read back
 abbrev pub WrittenChipIsReadBack : Type 0
-WrittenChipIsReadBack = (netlist : RawNetlist) (library : List Named) (scan : List ScanRow) (chip : Chip)
+WrittenChipIsReadBack = (netlist : RawNetlist) (library : List Named) (scan : List ScanRow) (chip : LinkedChip)
     (chains : List (List ℕ)) (pairs : List (List Bool)) (expected : List (List Trit))
     → IsNamedLink netlist library scan chip → AreOfChip chip chains pairs expected
     → IsReadBack (stil_chip chip chains) (stil_text (stil_chip chip chains) pairs expected) pairs expected

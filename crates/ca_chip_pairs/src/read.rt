@@ -9,7 +9,7 @@ use crate::laws::chains_cover;
 use ca_chip_stil::{sites_are_ends, stil_chip};
 use ca_scan::Chains;
 use ca_stil_pairs::{StilFault, StilFile, read_stil};
-use ca_wired::Chip;
+use ca_linked::Chip;
 use std::alloc::Global;
 
 /// The pairs of a linked chip with these whole chains that a STIL text has, and the values that are expected

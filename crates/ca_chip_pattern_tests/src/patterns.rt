@@ -1,7 +1,7 @@
 //! An accumulator, and what is written of a pair.
 
 use ca_base::{List, NoMemory};
-use ca_chip::{ScanRow, ScanTable};
+use ca_wiring::{ScanRow, ScanTable};
 use ca_chip_stil::{are_of_chip, write_chip_stil};
 use ca_lex::Text;
 use ca_link::link;
@@ -10,7 +10,7 @@ use ca_pair::Pair;
 use ca_scan::trace;
 use ca_spice::read_library;
 use ca_verilog::read_netlist;
-use ca_wired::Chip;
+use ca_linked::Chip;
 use std::alloc::Global;
 
 // A full adder of which nothing is asked but its pins.

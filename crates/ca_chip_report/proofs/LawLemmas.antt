@@ -10,10 +10,10 @@ use Rattle.ca_flat.specs.declared.chip_defect.ChipDefect.{ChipDefect}
 use Rattle.ca_flat.specs.Chip as flat
 use Rattle.ca_flat.specs.Pair.{DetectsAt}
 use Rattle.ca_search.specs.Filled.{trits_of}
-use Rattle.ca_wired.specs.declared.parts.Body.{Body}
-use Rattle.ca_wired.specs.declared.parts.Body.TheVariants.{Gate, Scan}
-use Rattle.ca_wired.specs.declared.parts.Part.{Part}
-use Rattle.ca_wired.specs.Linked.{Chip, outputs_of, IsGate, IsLibrary}
+use Rattle.ca_linked.specs.declared.parts.Body.{Body}
+use Rattle.ca_linked.specs.declared.parts.Body.TheVariants.{Gate, Scan}
+use Rattle.ca_linked.specs.declared.parts.Part.{Part}
+use Rattle.ca_linked.specs.Linked.{LinkedChip, outputs_of, IsGate, IsLibrary}
 use Rattle.ca_core.specs.Core.{core_net, core_of, body_rank, rank_in, rank_of}
 use Rattle.ca_credit.specs.declared.verdict.Verdict.{Verdict}
 use Rattle.ca_credit.specs.declared.verdict.Verdict.TheVariants.{Credited, Unexposable, Untestable, Aborted}
@@ -43,7 +43,7 @@ output_within core defect pairs pair output first = by (slice_get pairs pair) fi
     by None is = absurd is
     by (Some bits) is = some_within (DetectsAt core defect (trits_of bits)) core.outputs output is.here
 
-pub good_reported : (chip : Chip) (task : Task) (pairs : List (List Bool)) (aims : List ℕ) (verdicts : List Verdict)
+pub good_reported : (chip : LinkedChip) (task : Task) (pairs : List (List Bool)) (aims : List ℕ) (verdicts : List Verdict)
     → task.chip ≡ core_of chip → All (IsGateDefect chip) task.defects → IsGood task pairs aims verdicts
     → AreReported chip task.defects verdicts
 good_reported chip task pairs aims verdicts is_core gates good = record {
@@ -69,7 +69,7 @@ good_reported chip task pairs aims verdicts is_core gates good = record {
     within k Untestable at lt = tt
     within k (Aborted code) at lt = tt
 
-pub ranked_library : (chip : Chip) (u : ℕ) → 0 < rank_of chip u → IsLibrary chip u
+pub ranked_library : (chip : LinkedChip) (u : ℕ) → 0 < rank_of chip u → IsLibrary chip u
 ranked_library chip u ranked = by (slice_get chip.parts u) ranked
   where
     of_body : (place : ℕ) (body : Body) → 0 < body_rank place body → IsGate body

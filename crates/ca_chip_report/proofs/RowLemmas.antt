@@ -9,16 +9,16 @@ use Rattle.std.proofs.lemmas.Option.{slice_get_within}
 use Rattle.ca_cell.specs.declared.raw.RawCell.{RawCell}
 use Rattle.ca_flat.specs.declared.chip_defect.ChipDefect.{ChipDefect}
 use Rattle.ca_flat.specs.Chip.{cell_at}
-use Rattle.ca_wired.specs.declared.parts.Body.{Body}
-use Rattle.ca_wired.specs.declared.parts.Body.TheVariants.{Gate, Scan}
-use Rattle.ca_wired.specs.declared.parts.Part.{Part}
-use Rattle.ca_wired.specs.Linked.{Chip, IsGate}
-use Rattle.ca_wired.specs.Instances.{IsCellOf}
+use Rattle.ca_linked.specs.declared.parts.Body.{Body}
+use Rattle.ca_linked.specs.declared.parts.Body.TheVariants.{Gate, Scan}
+use Rattle.ca_linked.specs.declared.parts.Part.{Part}
+use Rattle.ca_linked.specs.Linked.{LinkedChip, IsGate}
+use Rattle.ca_linked.specs.Instances.{IsCellOf}
 use Rattle.ca_core.specs.Core.{core_instance, core_of}
 use Rattle.ca_core.proofs.CorePartLemmas.{core_at}
 use Rattle.ca_credit.specs.declared.verdict.Verdict.{Verdict}
 use Rattle.ca_credit.specs.declared.verdict.Verdict.TheVariants.{Credited, Unexposable, Untestable, Aborted}
-use Rattle.ca_wired.proofs.PartLemmas.{of_all}
+use Rattle.ca_linked.proofs.PartLemmas.{of_all}
 use Rattle.ca_report.specs.declared.rows.ReportRow.{ReportRow}
 use Rattle.ca_report.specs.declared.verdict.Verdict as report
 use Rattle.ca_report.specs.Report.{IsRowOf}
@@ -26,7 +26,7 @@ use Rattle.ca_chip_report.specs.ChipReport.{told_of, instance_name, cell_name, r
 use Rattle.ca_chip_report.specs.ChipReport.{IsGateDefect, IsVerdictWithin, AreReported}
 
 -- a library instance is one of the chip's
-pub gate_within : (chip : Chip) (defect : ChipDefect) → IsGateDefect chip defect → defect.instance < length chip.parts
+pub gate_within : (chip : LinkedChip) (defect : ChipDefect) → IsGateDefect chip defect → defect.instance < length chip.parts
 gate_within chip defect is = by (slice_get chip.parts defect.instance) refl is.is_gate
   where
     by : (o : Option Part) → slice_get chip.parts defect.instance ≡ o → IsSomeAnd o (λ part. IsGate part.body)
@@ -43,7 +43,7 @@ cell_told None name there = absurd there
 cell_told (Some part) name there = there
 
 -- the cell of a library instance is that of the core
-pub core_cell : (chip : Chip) (u : ℕ) (raw : RawCell)
+pub core_cell : (chip : LinkedChip) (u : ℕ) (raw : RawCell)
     → IsSomeAnd (slice_get chip.parts u) (λ part. IsCellOf chip.cells part.body raw) → raw ≡ cell_at (core_of chip) u
 core_cell chip u raw there = by (slice_get chip.parts u) refl there
   where
@@ -63,12 +63,12 @@ none_past (x ∷ xs) zero is = absurd (let clash : Some x ≡ None = is in cc)
 none_past (x ∷ xs) (suc n) is = let more = none_past xs n is in omega (arith, more)
 
 -- a row is that of a defect
-pub row_within : (chip : Chip) (defects : List ChipDefect) (verdicts : List Verdict) (k : ℕ)
+pub row_within : (chip : LinkedChip) (defects : List ChipDefect) (verdicts : List Verdict) (k : ℕ)
     → AreReported chip defects verdicts → k < length (report_rows chip defects verdicts) → k < length defects
 row_within chip defects verdicts k are below =
     let long = length-zip2 (row_of chip) defects verdicts (sym are.one_each) in omega (arith, long, below)
 
-row_at : (chip : Chip) (defects : List ChipDefect) (verdicts : List Verdict) (k : ℕ) (defect : ChipDefect)
+row_at : (chip : LinkedChip) (defects : List ChipDefect) (verdicts : List Verdict) (k : ℕ) (defect : ChipDefect)
     (verdict : Verdict) → slice_get defects k ≡ Some defect → slice_get verdicts k ≡ Some verdict
     → slice_get (report_rows chip defects verdicts) k ≡ Some (row_of chip defect verdict)
 row_at chip [] verdicts k defect verdict at also = absurd (let clash : None ≡ Some defect = at in cc)
@@ -81,7 +81,7 @@ row_at chip (first ∷ defects) (one ∷ verdicts) (suc k) defect verdict at als
     row_at chip defects verdicts k defect verdict at also
 
 -- what holds of the row of a defect, whatever its verdict
-pub row_told : (P : ReportRow → Type 0) (chip : Chip) (defects : List ChipDefect) (verdicts : List Verdict) (k : ℕ)
+pub row_told : (P : ReportRow → Type 0) (chip : LinkedChip) (defects : List ChipDefect) (verdicts : List Verdict) (k : ℕ)
     (defect : ChipDefect) → AreReported chip defects verdicts → slice_get defects k ≡ Some defect
     → ((verdict : Verdict) → P (row_of chip defect verdict))
     → IsSomeAnd (slice_get (report_rows chip defects verdicts) k) P
@@ -96,7 +96,7 @@ row_told P chip defects verdicts k defect are at holds = by (slice_get verdicts 
         subst (λ o. IsSomeAnd o P) (sym (row_at chip defects verdicts k defect verdict at some)) (holds verdict)
 
 -- what a row says about a verdict
-pub verdict_told : (chip : Chip) (defects : List ChipDefect) (verdicts : List Verdict) (k : ℕ) (verdict : Verdict)
+pub verdict_told : (chip : LinkedChip) (defects : List ChipDefect) (verdicts : List Verdict) (k : ℕ) (verdict : Verdict)
     (told : report.Verdict) → AreReported chip defects verdicts → slice_get verdicts k ≡ Some verdict
     → told_of verdict ≡ told → IsSomeAnd (slice_get (report_rows chip defects verdicts) k) (λ row. row.verdict ≡ told)
 verdict_told chip defects verdicts k verdict told are at is = by (slice_get defects k) refl
@@ -111,17 +111,17 @@ verdict_told chip defects verdicts k verdict told are at is = by (slice_get defe
         subst (λ o. IsSomeAnd o (λ row. row.verdict ≡ told)) (sym (row_at chip defects verdicts k defect verdict some at)) is
 
 -- the defect of a row is one of a library instance
-pub gate_at : (chip : Chip) (defects : List ChipDefect) (verdicts : List Verdict) (k : ℕ) (defect : ChipDefect)
+pub gate_at : (chip : LinkedChip) (defects : List ChipDefect) (verdicts : List Verdict) (k : ℕ) (defect : ChipDefect)
     → AreReported chip defects verdicts → slice_get defects k ≡ Some defect → IsGateDefect chip defect
 gate_at chip defects verdicts k defect are at = of_all (IsGateDefect chip) defects k defect are.defects_are at
 
 -- there are as many rows as defects
-pub row_count : (chip : Chip) (defects : List ChipDefect) (verdicts : List Verdict) → AreReported chip defects verdicts
+pub row_count : (chip : LinkedChip) (defects : List ChipDefect) (verdicts : List Verdict) → AreReported chip defects verdicts
     → length defects ≡ length (report_rows chip defects verdicts)
 row_count chip defects verdicts are = sym (length-zip2 (row_of chip) defects verdicts (sym are.one_each))
 
 -- each row credits an observed output, if it credits one
-pub rows_fit : (outputs : ℕ) (chip : Chip) (defects : List ChipDefect) (verdicts : List Verdict)
+pub rows_fit : (outputs : ℕ) (chip : LinkedChip) (defects : List ChipDefect) (verdicts : List Verdict)
     → All (IsVerdictWithin outputs) verdicts → All (IsRowOf outputs) (report_rows chip defects verdicts)
 rows_fit outputs chip [] verdicts all = All-nil (IsRowOf outputs)
 rows_fit outputs chip (defect ∷ defects) [] all = All-nil (IsRowOf outputs)

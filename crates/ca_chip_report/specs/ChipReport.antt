@@ -5,8 +5,8 @@ use Rattle.std.specs.Simd.Lanes.{zip2}
 use Rattle.ca_defect.specs.Name.{name_of}
 use Rattle.ca_flat.specs.declared.chip_defect.ChipDefect.{ChipDefect}
 use Rattle.ca_flat.specs.Chip.{cell_at, IsDefectIn}
-use Rattle.ca_wired.specs.declared.parts.Part.{Part}
-use Rattle.ca_wired.specs.Linked.{Chip, outputs_of, IsLibrary}
+use Rattle.ca_linked.specs.declared.parts.Part.{Part}
+use Rattle.ca_linked.specs.Linked.{LinkedChip, outputs_of, IsLibrary}
 use Rattle.ca_core.specs.Core.{core_of}
 use Rattle.ca_credit.specs.declared.verdict.Verdict.{Verdict}
 use Rattle.ca_credit.specs.declared.verdict.Verdict.TheVariants.{Credited, Unexposable, Untestable, Aborted}
@@ -32,7 +32,7 @@ cell_name None = []
 cell_name (Some part) = part.cell
 
 -- the row of a defect
-abbrev pub row_of : Chip → ChipDefect → Verdict → ReportRow
+abbrev pub row_of : LinkedChip → ChipDefect → Verdict → ReportRow
 row_of chip defect verdict = record {
   instance = instance_name (slice_get chip.parts defect.instance);
   cell = cell_name (slice_get chip.parts defect.instance);
@@ -41,11 +41,11 @@ row_of chip defect verdict = record {
 }
 
 -- the rows of defects, each with its verdict, in order
-abbrev pub report_rows : Chip → List ChipDefect → List Verdict → List ReportRow
+abbrev pub report_rows : LinkedChip → List ChipDefect → List Verdict → List ReportRow
 report_rows chip defects verdicts = zip2 (row_of chip) defects verdicts
 
 -- the defect is one of a library instance's cell
-pub record IsGateDefect (chip : Chip) (defect : ChipDefect) : Type 0 where
+pub record IsGateDefect (chip : LinkedChip) (defect : ChipDefect) : Type 0 where
   pub is_defect : IsDefectIn (core_of chip) defect
   pub is_gate : IsLibrary chip defect.instance
 
@@ -58,7 +58,7 @@ IsVerdictWithin outputs (Aborted code) = Unit {0}
 
 -- the defects are those of library instances of the chip, there is a verdict for each, and each output that
 -- is credited is an observed one
-pub record AreReported (chip : Chip) (defects : List ChipDefect) (verdicts : List Verdict) : Type 0 where
+pub record AreReported (chip : LinkedChip) (defects : List ChipDefect) (verdicts : List Verdict) : Type 0 where
   pub defects_are : All (IsGateDefect chip) defects
   pub one_each : length verdicts ≡ length defects
   pub outputs : All (IsVerdictWithin (length (outputs_of chip))) verdicts

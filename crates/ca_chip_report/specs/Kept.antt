@@ -7,9 +7,9 @@ use Rattle.ca_defect.specs.declared.defect.Defect.TheVariants.{OpenDrain, OpenSo
 use Rattle.ca_defect.specs.declared.defect.Defect.TheVariants.{Short}
 use Rattle.ca_defect.specs.Defect.{IsDefect}
 use Rattle.ca_flat.specs.declared.chip_defect.ChipDefect.{ChipDefect}
-use Rattle.ca_wired.specs.declared.parts.Body.{Body}
-use Rattle.ca_wired.specs.declared.parts.Body.TheVariants.{Gate, Scan}
-use Rattle.ca_wired.specs.Linked.{Chip, IsGate}
+use Rattle.ca_linked.specs.declared.parts.Body.{Body}
+use Rattle.ca_linked.specs.declared.parts.Body.TheVariants.{Gate, Scan}
+use Rattle.ca_linked.specs.Linked.{LinkedChip, IsGate}
 use Rattle.ca_credit.specs.declared.verdict.Verdict.{Verdict}
 use Rattle.ca_credit.specs.declared.verdict.Verdict.TheVariants.{Credited, Unexposable, Untestable, Aborted}
 use Rattle.ca_chip_report.specs.ChipReport.{IsVerdictWithin, AreReported}
@@ -33,6 +33,6 @@ IsVerdictWithin-prop outputs (Aborted code) = Prim.hlevel props
 
 pub ruleset reported_props = (IsDefect-prop, IsGate-prop, IsVerdictWithin-prop, props)
 
-pub AreReported-prop : (chip : Chip) (defects : List ChipDefect) (verdicts : List Verdict)
+pub AreReported-prop : (chip : LinkedChip) (defects : List ChipDefect) (verdicts : List Verdict)
     → IsProp (AreReported chip defects verdicts)
 AreReported-prop chip defects verdicts = Prim.hlevel reported_props

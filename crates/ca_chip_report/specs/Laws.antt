@@ -1,7 +1,7 @@
 -- Verdicts that keep their promise may be reported, and each verdict is counted once.
 use Rattle.std.specs.Prelude.{ℕ, ◌+◌, ◌≡◌, ◌<◌, Bool, List}
 use Rattle.std.specs.List.{All}
-use Rattle.ca_wired.specs.Linked.{Chip, IsLibrary}
+use Rattle.ca_linked.specs.Linked.{LinkedChip, IsLibrary}
 use Rattle.ca_core.specs.Core.{core_of, rank_of}
 use Rattle.ca_credit.specs.declared.verdict.Verdict.{Verdict}
 use Rattle.ca_credit.specs.Defects.{Task}
@@ -12,13 +12,13 @@ use Rattle.ca_chip_report.specs.Summary.{summary_of}
 -- what is promised of verdicts on defects of library instances is enough to report them
 abbrev pub GoodIsReported : Type 0
 GoodIsReported =
-    (chip : Chip) (task : Task) (pairs : List (List Bool)) (aims : List ℕ) (verdicts : List Verdict)
+    (chip : LinkedChip) (task : Task) (pairs : List (List Bool)) (aims : List ℕ) (verdicts : List Verdict)
     → task.chip ≡ core_of chip → All (IsGateDefect chip) task.defects → IsGood task pairs aims verdicts
     → AreReported chip task.defects verdicts
 
 -- an instance with a place in the order of evaluation is one of the library
 abbrev pub RankedIsLibrary : Type 0
-RankedIsLibrary = (chip : Chip) (u : ℕ) → 0 < rank_of chip u → IsLibrary chip u
+RankedIsLibrary = (chip : LinkedChip) (u : ℕ) → 0 < rank_of chip u → IsLibrary chip u
 
 -- each defect is counted under one verdict
 abbrev pub CountsAreAll : Type 0

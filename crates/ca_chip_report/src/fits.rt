@@ -6,7 +6,7 @@ ghost use Rattle.ca_chip_report.specs.ChipReport.{IsVerdictWithin, IsGateDefect,
 
 use ca_credit::{Verdict, Verdicts};
 use ca_flat::ChipDefect;
-use ca_wired::Chip;
+use ca_linked::Chip;
 
 // Whether the output that a verdict credits, if it does, is one of `outputs` outputs.
 fn is_within(verdict: &Verdict, outputs: usize) -> bool

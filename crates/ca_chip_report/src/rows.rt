@@ -13,7 +13,7 @@ use ca_credit::{Verdict, Verdicts};
 use ca_flat::ChipDefect;
 use ca_lex::Text;
 use ca_report::ReportRows;
-use ca_wired::{Chip, InstanceId};
+use ca_linked::{Chip, InstanceId};
 use std::alloc::Global;
 
 // The name of a defect's instance.

@@ -4,9 +4,9 @@ use Rattle.std.specs.Prelude.{Option, Some, None, IsSomeAnd, slice_get, take}
 use Rattle.std.specs.List.{flat_map}
 use Rattle.std.proofs.lemmas.List.{take_all, append-nil, map-append}
 use Rattle.std.proofs.lemmas.Grind.{flat_map-append}
-use Rattle.ca_wired.specs.declared.parts.PortBit.{PortBit}
-use Rattle.ca_wired.specs.Linked.{Chip}
-use Rattle.ca_wired.proofs.EndLemmas.{take_more}
+use Rattle.ca_linked.specs.declared.parts.PortBit.{PortBit}
+use Rattle.ca_linked.specs.Linked.{LinkedChip}
+use Rattle.ca_linked.proofs.EndLemmas.{take_more}
 use Rattle.ca_chip_stil.specs.Sites.{if_data_port}
 use Rattle.ca_chip_stil.specs.ChipStil.{names_of}
 
@@ -28,7 +28,7 @@ pub made_all : {X Y : Type 0} (make : X → Y) (xs : List X) (k : ℕ) (made : L
 made_all make xs k made past before = before ∙ ap (map make) (take_all k xs past)
 
 -- the names of one port bit more
-pub names_more : (chip : Chip) (input : Bool) (p : ℕ) (before after : List (List ℕ))
+pub names_more : (chip : LinkedChip) (input : Bool) (p : ℕ) (before after : List (List ℕ))
     → before ≡ names_of (flat_map (if_data_port chip input) (take p chip.ports))
     → IsSomeAnd (slice_get chip.ports p) (λ port. after ≡ before ++ names_of (if_data_port chip input port))
     → after ≡ names_of (flat_map (if_data_port chip input) (take (p + 1) chip.ports))

@@ -10,28 +10,28 @@ use Rattle.std.proofs.lemmas.List.Sums.{fails_before_first}
 use Rattle.std.proofs.Math.ListN.{set, length-set}
 use native.Mathlib.Decide.{ℕ_discrete}
 use Rattle.std.proofs.lemmas.Option.{slice_get_within, slice_get-get_or, get_or_from_slice_get}
-use Rattle.ca_wired.specs.declared.parts.Part.{Part}
-use Rattle.ca_wired.specs.Linked.{Chip}
-use Rattle.ca_wired.specs.Instances.{IsScan, scans_of}
-use Rattle.ca_wired.proofs.EndLemmas.{drop_at, take_more}
+use Rattle.ca_linked.specs.declared.parts.Part.{Part}
+use Rattle.ca_linked.specs.Linked.{LinkedChip}
+use Rattle.ca_linked.specs.Instances.{IsScan, scans_of}
+use Rattle.ca_linked.proofs.EndLemmas.{drop_at, take_more}
 use Rattle.ca_scan.specs.Chain.{IsScanAt}
 use Rattle.ca_scan.proofs.JointLemmas.{scan_at, scan_place}
 use Rattle.ca_chip_stil.specs.ChipStil.{place_of}
 use Rattle.ca_chip_stil.specs.Kept.{ArePlacesFrom, AreScans}
 
 -- a scan instance is one of the chip's
-pub at_within : (chip : Chip) (u : ℕ) → IsScanAt chip u → u < length chip.parts
+pub at_within : (chip : LinkedChip) (u : ℕ) → IsScanAt chip u → u < length chip.parts
 at_within chip u there = by (slice_get chip.parts u) refl there
   where
     by : (o : Option Part) → slice_get chip.parts u ≡ o → IsSomeAnd o (λ part. IsScan part.body) → u < length chip.parts
     by None at is = absurd is
     by (Some part) at is = slice_get_within chip.parts u part at
 
-pub scan_within : (chip : Chip) (k u : ℕ) → slice_get (scans_of chip) k ≡ Some u → u < length chip.parts
+pub scan_within : (chip : LinkedChip) (k u : ℕ) → slice_get (scans_of chip) k ≡ Some u → u < length chip.parts
 scan_within chip k u at = at_within chip u (scan_at chip k u at)
 
 -- no place is known yet
-pub places_none : (chip : Chip) (count : ℕ) (table : List ℕ) → count ≡ length (scans_of chip)
+pub places_none : (chip : LinkedChip) (count : ℕ) (table : List ℕ) → count ≡ length (scans_of chip)
     → table ≡ replicate (length chip.parts) count → ArePlacesFrom chip count table
 places_none chip count table counted is = record {
   room = ap length is ∙ length-replicate (length chip.parts) count;
@@ -42,7 +42,7 @@ places_none chip count table counted is = record {
 }
 
 -- the place of one scan instance more
-pub places_more : (chip : Chip) (k u : ℕ) (table : List ℕ) → slice_get (scans_of chip) k ≡ Some u → u < length chip.parts
+pub places_more : (chip : LinkedChip) (k u : ℕ) (table : List ℕ) → slice_get (scans_of chip) k ≡ Some u → u < length chip.parts
     → ArePlacesFrom chip (k + 1) table → ArePlacesFrom chip k (set table u k)
 places_more chip k u table at within are = record {
   room = length-set table u k ∙ are.room;
@@ -69,12 +69,12 @@ places_more chip k u table at within are = record {
         omega (arith, read, later)
 
 -- the place that the table has
-pub place_is : (chip : Chip) (u : ℕ) (table : List ℕ) → ArePlacesFrom chip 0 table → u < length chip.parts
+pub place_is : (chip : LinkedChip) (u : ℕ) (table : List ℕ) → ArePlacesFrom chip 0 table → u < length chip.parts
     → get_or table u 0 ≡ place_of chip u
 place_is chip u table are within = let is = are.each u within in omega (arith, is)
 
 -- it is a place among the scan instances
-pub place_within : (chip : Chip) (u : ℕ) → IsScanAt chip u → place_of chip u < length (scans_of chip)
+pub place_within : (chip : LinkedChip) (u : ℕ) → IsScanAt chip u → place_of chip u < length (scans_of chip)
 place_within chip u there =
     let place = scan_place chip u there in
     elim (cases_lt place.0 (place_of chip u)) [
@@ -89,7 +89,7 @@ place_within chip u there =
     ]
 
 -- the place of one scan instance more of a chain
-pub placed_more : (chip : Chip) (chain : List ℕ) (k u : ℕ) (table list new : List ℕ) → ArePlacesFrom chip 0 table
+pub placed_more : (chip : LinkedChip) (chain : List ℕ) (k u : ℕ) (table list new : List ℕ) → ArePlacesFrom chip 0 table
     → AreScans chip chain → k < length chain → u ≡ get_or chain k 0 → list ≡ map (place_of chip) (take k chain)
     → new ≡ list ++ get_or table u 0 ∷ [] → new ≡ map (place_of chip) (take (k + 1) chain)
 placed_more chip chain k u table list new are scans below is before pushed =

@@ -7,10 +7,10 @@ use Rattle.std.proofs.lemmas.Option.{slice_get_within}
 use Rattle.std.proofs.lemmas.Bool.{ne_eqb, eq-eqb}
 use native.Mathlib.Decide.{ℕ_discrete}
 use Rattle.std.proofs.lemmas.List.{drop_all, length-replicate, get_or-set_same, get_or-set_other}
-use Rattle.ca_wired.specs.declared.parts.PortBit.{PortBit}
-use Rattle.ca_wired.specs.Linked.{Chip, net_count}
-use Rattle.ca_wired.specs.Paths.{is_port_on}
-use Rattle.ca_wired.proofs.EndLemmas.{drop_at}
+use Rattle.ca_linked.specs.declared.parts.PortBit.{PortBit}
+use Rattle.ca_linked.specs.Linked.{LinkedChip, net_count}
+use Rattle.ca_linked.specs.Paths.{is_port_on}
+use Rattle.ca_linked.proofs.EndLemmas.{drop_at}
 use Rattle.ca_chip_stil.specs.Sites.{is_directed}
 use Rattle.ca_chip_stil.specs.ChipStil.{port_on}
 use Rattle.ca_chip_stil.specs.Kept.{port_at, entry_of, AreFirstPorts, SetsPort}
@@ -21,7 +21,7 @@ entry_none (suc count) zero = refl
 entry_none (suc count) (suc net) = entry_none count net
 
 -- no port bit is found yet
-pub ports_none : (chip : Chip) (input : Bool) (p : ℕ) → length chip.ports ≤ p → (table : List (Option ℕ))
+pub ports_none : (chip : LinkedChip) (input : Bool) (p : ℕ) → length chip.ports ≤ p → (table : List (Option ℕ))
     → table ≡ replicate (net_count chip) None → AreFirstPorts chip input p table
 unfolding port_on
 ports_none chip input p past table is = record {
@@ -34,7 +34,7 @@ ports_none chip input p past table is = record {
     none_at net = ap (λ (given : List (Option ℕ)). entry_of given net) is ∙ entry_none (net_count chip) net
 
 -- one port bit more
-pub ports_more : (chip : Chip) (input : Bool) (p : ℕ) (old new : List (Option ℕ)) → SetsPort chip input p old new
+pub ports_more : (chip : LinkedChip) (input : Bool) (p : ℕ) (old new : List (Option ℕ)) → SetsPort chip input p old new
     → AreFirstPorts chip input (p + 1) old → AreFirstPorts chip input p new
 unfolding port_on
 ports_more chip input p old new sets are = record {
@@ -60,7 +60,7 @@ ports_more chip input p old new sets are = record {
     one net false known = known
 
 -- a port bit of this direction is set on its net
-pub port_set : (chip : Chip) (input : Bool) (p net : ℕ) (answer : Bool) (old : List (Option ℕ))
+pub port_set : (chip : LinkedChip) (input : Bool) (p net : ℕ) (answer : Bool) (old : List (Option ℕ))
     → IsSomeAnd (slice_get chip.ports p) (λ port. port.net ≡ net)
     → IsSomeAnd (slice_get chip.ports p) (λ port. is_directed input port ≡ answer) → answer ≡ true → net < length old
     → SetsPort chip input p old (set old net (Some p))
@@ -87,7 +87,7 @@ port_set chip input p net answer old on directed is within = by (slice_get chip.
         tested n = here ∙ is
 
 -- a port bit of the other direction isn't
-pub port_kept : (chip : Chip) (input : Bool) (p : ℕ) (answer : Bool) (old : List (Option ℕ))
+pub port_kept : (chip : LinkedChip) (input : Bool) (p : ℕ) (answer : Bool) (old : List (Option ℕ))
     → IsSomeAnd (slice_get chip.ports p) (λ port. is_directed input port ≡ answer) → answer ≡ false
     → SetsPort chip input p old old
 port_kept chip input p answer old directed is = by (slice_get chip.ports p) refl directed

@@ -4,12 +4,12 @@ use Rattle.std.proofs.Common.{length, length-append, refl, sym, ap, ap₂, ◌�
 use Rattle.std.specs.Prelude.{Some, slice_get}
 use Rattle.std.specs.List.{flat_map}
 use Rattle.std.proofs.lemmas.List.{append_assoc, map-append, length-map}
-use Rattle.ca_wired.specs.declared.parts.Body.{Body}
-use Rattle.ca_wired.specs.declared.parts.Body.TheVariants.{Gate, Scan}
-use Rattle.ca_wired.specs.declared.parts.Part.{Part}
-use Rattle.ca_wired.specs.declared.parts.PortBit.{PortBit}
-use Rattle.ca_wired.specs.Linked.{Chip, is_scan_path, port_nets, q_nets, d_nets, inputs_of, outputs_of}
-use Rattle.ca_wired.specs.Instances.{if_scan, scans_from, scans_of}
+use Rattle.ca_linked.specs.declared.parts.Body.{Body}
+use Rattle.ca_linked.specs.declared.parts.Body.TheVariants.{Gate, Scan}
+use Rattle.ca_linked.specs.declared.parts.Part.{Part}
+use Rattle.ca_linked.specs.declared.parts.PortBit.{PortBit}
+use Rattle.ca_linked.specs.Linked.{LinkedChip, is_scan_path, port_nets, q_nets, d_nets, inputs_of, outputs_of}
+use Rattle.ca_linked.specs.Instances.{if_scan, scans_from, scans_of}
 use Rattle.ca_chip_stil.specs.Sites.{AtPort, InScan, if_data_port, data_ports, sites_of, body_net, part_net}
 use Rattle.ca_chip_stil.specs.Sites.{site_net}
 use Rattle.ca_chip_stil.specs.ChipStil.{names_of}
@@ -26,7 +26,7 @@ mapped_twice f g [] = refl
 mapped_twice f g (x ∷ xs) = ap (λ rest. f (g x) ∷ rest) (mapped_twice f g xs)
 
 -- the nets of the port bits
-port_sites : (chip : Chip) (input : Bool)
+port_sites : (chip : LinkedChip) (input : Bool)
     → map (site_net chip input) (map AtPort (data_ports chip input)) ≡ port_nets chip input
 port_sites chip input =
     mapped_twice (site_net chip input) AtPort (data_ports chip input)
@@ -78,7 +78,7 @@ each_same one other same (part ∷ parts) =
     ap₂ (λ first rest. first ++ rest) (same part.body) (each_same one other same parts)
 
 -- the nets of the sites, by direction
-sites_nets : (chip : Chip) (input : Bool) (nets : Body → List ℕ) → ((body : Body) → end_nets input body ≡ nets body)
+sites_nets : (chip : LinkedChip) (input : Bool) (nets : Body → List ℕ) → ((body : Body) → end_nets input body ≡ nets body)
     → map (site_net chip input) (sites_of chip input) ≡ port_nets chip input ++ flat_map (λ (part : Part). nets part.body) chip.parts
 sites_nets chip input nets same =
     map-append (site_net chip input) (map AtPort (data_ports chip input)) (map InScan (scans_of chip))
@@ -86,7 +86,7 @@ sites_nets chip input nets same =
     (mapped_twice (site_net chip input) InScan (scans_of chip)
     ∙ (scan_nets input [] chip.parts ∙ each_same (end_nets input) nets same chip.parts))
 
-pub set_are_inputs : (chip : Chip) → map (site_net chip true) (sites_of chip true) ≡ inputs_of chip
+pub set_are_inputs : (chip : LinkedChip) → map (site_net chip true) (sites_of chip true) ≡ inputs_of chip
 unfolding end_nets
 set_are_inputs chip = sites_nets chip true q_nets same
   where
@@ -94,7 +94,7 @@ set_are_inputs chip = sites_nets chip true q_nets same
     same (Gate cell inputs outputs) = refl
     same (Scan nets) = refl
 
-pub seen_are_outputs : (chip : Chip) → map (site_net chip false) (sites_of chip false) ≡ outputs_of chip
+pub seen_are_outputs : (chip : LinkedChip) → map (site_net chip false) (sites_of chip false) ≡ outputs_of chip
 unfolding end_nets
 seen_are_outputs chip = sites_nets chip false d_nets same
   where
@@ -103,7 +103,7 @@ seen_are_outputs chip = sites_nets chip false d_nets same
     same (Scan nets) = refl
 
 -- how many sites there are
-site_count : (chip : Chip) (input : Bool) (nets : List ℕ) → map (site_net chip input) (sites_of chip input) ≡ nets
+site_count : (chip : LinkedChip) (input : Bool) (nets : List ℕ) → map (site_net chip input) (sites_of chip input) ≡ nets
     → length (names_of (data_ports chip input)) + length (scans_of chip) ≡ length nets
 site_count chip input nets are =
     let both = length-append (map AtPort (data_ports chip input)) (map InScan (scans_of chip)) in
@@ -114,8 +114,8 @@ site_count chip input nets are =
     let counted = ap length are in
     omega (arith, both, ports, scans, named, all, counted)
 
-pub input_count : (chip : Chip) → length (names_of (data_ports chip true)) + length (scans_of chip) ≡ length (inputs_of chip)
+pub input_count : (chip : LinkedChip) → length (names_of (data_ports chip true)) + length (scans_of chip) ≡ length (inputs_of chip)
 input_count chip = site_count chip true (inputs_of chip) (set_are_inputs chip)
 
-pub output_count : (chip : Chip) → length (names_of (data_ports chip false)) + length (scans_of chip) ≡ length (outputs_of chip)
+pub output_count : (chip : LinkedChip) → length (names_of (data_ports chip false)) + length (scans_of chip) ≡ length (outputs_of chip)
 output_count chip = site_count chip false (outputs_of chip) (seen_are_outputs chip)

@@ -3,15 +3,15 @@ use Rattle.std.specs.Prelude.{ℕ, ◌+◌, ◌-◌, ◌≡◌, Bool, true, fals
 use Rattle.std.specs.Prelude.{Some, None, slice_get, slice_index, if◌then◌else◌}
 use Rattle.std.specs.List.{All, position_or_len}
 use Rattle.ca_net.specs.declared.trit.Trit.{Trit}
-use Rattle.ca_wired.specs.declared.pins.ScanPin.{ScanPin}
-use Rattle.ca_wired.specs.declared.pins.ScanPin.TheVariants.{Si, So, Se, Ck, Hold}
-use Rattle.ca_wired.specs.declared.parts.Body.{Body}
-use Rattle.ca_wired.specs.declared.parts.Body.TheVariants.{Gate, Scan}
-use Rattle.ca_wired.specs.declared.parts.Part.{Part}
-use Rattle.ca_wired.specs.declared.parts.PortBit.{PortBit}
-use Rattle.ca_wired.specs.Linked.{Chip, inputs_of, outputs_of}
-use Rattle.ca_wired.specs.Paths.{is_port_on}
-use Rattle.ca_wired.specs.Instances.{net_of_pin, scans_of}
+use Rattle.ca_linked.specs.declared.pins.ScanPin.{ScanPin}
+use Rattle.ca_linked.specs.declared.pins.ScanPin.TheVariants.{Si, So, Se, Ck, Hold}
+use Rattle.ca_linked.specs.declared.parts.Body.{Body}
+use Rattle.ca_linked.specs.declared.parts.Body.TheVariants.{Gate, Scan}
+use Rattle.ca_linked.specs.declared.parts.Part.{Part}
+use Rattle.ca_linked.specs.declared.parts.PortBit.{PortBit}
+use Rattle.ca_linked.specs.Linked.{LinkedChip, inputs_of, outputs_of}
+use Rattle.ca_linked.specs.Paths.{is_port_on}
+use Rattle.ca_linked.specs.Instances.{net_of_pin, scans_of}
 use Rattle.ca_scan.specs.ChainFault.{AreAllChains}
 use Rattle.ca_stil.specs.declared.chip.Signal.{Signal}
 use Rattle.ca_stil.specs.declared.chip.StilChain.{StilChain}
@@ -37,30 +37,30 @@ name_of None = []
 name_of (Some port) = port.name
 
 -- the name of the port of this direction at a pin of a scan instance
-abbrev pub name_at_body : Chip → Bool → ScanPin → Body → List ℕ
+abbrev pub name_at_body : LinkedChip → Bool → ScanPin → Body → List ℕ
 name_at_body chip input pin (Gate cell inputs outputs) = []
 name_at_body chip input pin (Scan nets) = name_of (port_on input (net_of_pin nets pin) chip.ports)
 
-abbrev pub name_at_part : Chip → Bool → ScanPin → Option Part → List ℕ
+abbrev pub name_at_part : LinkedChip → Bool → ScanPin → Option Part → List ℕ
 name_at_part chip input pin None = []
 name_at_part chip input pin (Some part) = name_at_body chip input pin part.body
 
-abbrev pub name_at : Chip → Bool → ScanPin → ℕ → List ℕ
+abbrev pub name_at : LinkedChip → Bool → ScanPin → ℕ → List ℕ
 name_at chip input pin u = name_at_part chip input pin (slice_get chip.parts u)
 
 -- the names of the ports of the scan enable, the clock and the hold, which all scan instances share: those
 -- of the first one
-abbrev pub controls_of : Chip → List ℕ → List (List ℕ)
+abbrev pub controls_of : LinkedChip → List ℕ → List (List ℕ)
 controls_of chip [] = []
 controls_of chip (u ∷ scans) = name_at chip true Se u ∷ name_at chip true Ck u ∷ name_at chip true Hold u ∷ []
 
 -- the place of a scan instance among the scan instances, in netlist order
-abbrev pub place_of : Chip → ℕ → ℕ
+abbrev pub place_of : LinkedChip → ℕ → ℕ
 place_of chip u = position_or_len (eqb u) (scans_of chip)
 
 -- a chain from its scan-in port, which is at its first scan instance, to its scan-out port, which is at its
 -- last one
-abbrev pub chain_of : Chip → List ℕ → StilChain
+abbrev pub chain_of : LinkedChip → List ℕ → StilChain
 chain_of chip chain = record {
   scan_in = name_at chip true Si (slice_index chain 0);
   scan_out = name_at chip false So (slice_index chain (length chain - 1));
@@ -69,7 +69,7 @@ chain_of chip chain = record {
 
 -- what the text needs of the chip: all port bits in header order; the names of those that are chip inputs,
 -- and of those that are observed; the control ports; the chains; and the number of scan instances
-abbrev pub stil_chip : Chip → List (List ℕ) → StilChip
+abbrev pub stil_chip : LinkedChip → List (List ℕ) → StilChip
 stil_chip chip chains = record {
   signals = map signal_of chip.ports;
   inputs = names_of (data_ports chip true);
@@ -81,7 +81,7 @@ stil_chip chip chains = record {
 
 -- the chains are the chip's; each pair has a bit for each chip input in both vectors; and there is a value
 -- for each observed output under each pair
-pub record AreOfChip (chip : Chip) (chains : List (List ℕ)) (pairs : List (List Bool))
+pub record AreOfChip (chip : LinkedChip) (chains : List (List ℕ)) (pairs : List (List Bool))
     (expected : List (List Trit)) : Type 0 where
   pub chains_are : AreAllChains chip chains
   pub bits : All (λ pair. length pair ≡ length (inputs_of chip) + length (inputs_of chip)) pairs

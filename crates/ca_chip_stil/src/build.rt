@@ -10,7 +10,7 @@ use crate::ports::Ports;
 use ca_base::NoMemory;
 use ca_scan::Chains;
 use ca_stil::StilChip;
-use ca_wired::Chip;
+use ca_linked::Chip;
 use std::alloc::Global;
 
 /// What a STIL text needs of a chip and its whole scan chains: its signals, its groups and its chains, by the

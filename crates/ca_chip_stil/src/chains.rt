@@ -11,7 +11,7 @@ use crate::ports::Ports;
 use ca_base::{List, NoMemory};
 use ca_scan::Chains;
 use ca_stil::StilChain;
-use ca_wired::{Chip, InstanceList, ScanPin};
+use ca_linked::{Chip, InstanceList, ScanPin};
 use std::alloc::Global;
 
 // For each scan instance its place among them, by its number among all instances.

@@ -1,7 +1,7 @@
 //! The names of ports.
 
 ghost use Rattle.std.specs.Prelude.{◌≡◌, ◌++◌, ◌<◌, Bool, length, map, slice_get, IsSomeAnd, IfOk, OnOk};
-ghost use Rattle.ca_wired.specs.Instances.{scans_of};
+ghost use Rattle.ca_linked.specs.Instances.{scans_of};
 ghost use Rattle.ca_scan.specs.Chain.{IsScanAt};
 ghost use Rattle.ca_chip_stil.specs.Sites.{is_data_port, if_data_port, data_ports};
 ghost use Rattle.ca_chip_stil.specs.ChipStil.{signal_of, names_of, name_at, controls_of};
@@ -11,7 +11,7 @@ use crate::ports::{Ports, is_directed};
 use ca_base::{List, NoMemory};
 use ca_lex::{Names, Text};
 use ca_stil::Signal;
-use ca_wired::{Chip, InstanceId, ScanPin};
+use ca_linked::{Chip, InstanceId, ScanPin};
 use std::alloc::Global;
 
 // A bit of a port, with its name and its direction.

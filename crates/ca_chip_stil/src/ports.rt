@@ -2,13 +2,13 @@
 
 ghost use Rattle.std.specs.Prelude.{◌≡◌, ◌<◌, Bool, None, length, replicate, slice_get, IsSomeAnd, IfSome};
 ghost use Rattle.std.specs.Prelude.{IfOk};
-ghost use Rattle.ca_wired.specs.Linked.{net_count};
+ghost use Rattle.ca_linked.specs.Linked.{net_count};
 ghost use Rattle.ca_chip_stil.specs.Sites.{is_directed};
 ghost use Rattle.ca_chip_stil.specs.ChipStil.{port_on};
 ghost use Rattle.ca_chip_stil.specs.Kept.{entry_of, port_at, AreFirstPorts, SetsPort, ArePorts};
 
 use ca_base::NoMemory;
-use ca_wired::{Chip, NetId};
+use ca_linked::{Chip, NetId};
 use std::alloc::Global;
 use std::marker::Model;
 

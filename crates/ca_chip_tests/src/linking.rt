@@ -6,7 +6,7 @@ ghost use Rattle.std.specs.Str.{bytes_eq};
 ghost use Rattle.ca_verilog.specs.IsNetlist.{IsNetlist};
 
 use ca_base::NoMemory;
-use ca_chip::{Chip, ChipFault, ScanRow, ScanTable};
+use ca_wiring::{Chip, ChipFault, ScanRow, ScanTable};
 use ca_lex::Text;
 use ca_link::link;
 use ca_spice::read_library;

@@ -8,7 +8,7 @@ use ca_cell::Cell;
 use ca_net::{Network, Trit, Wave};
 use ca_response::{pairs, respond};
 use ca_settle::Work;
-use ca_wired::{Chip, InstanceId};
+use ca_linked::{Chip, InstanceId};
 use std::alloc::Global;
 
 // Tables of a number of cells of which nothing is known.

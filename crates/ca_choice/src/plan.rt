@@ -5,7 +5,7 @@ use crate::cell_tables::cells_of;
 use crate::cube::Cube;
 use ca_base::NoMemory;
 use ca_view::View;
-use ca_wired::{Chip, InstanceId};
+use ca_linked::{Chip, InstanceId};
 use std::alloc::Global;
 
 /// What drives a net.

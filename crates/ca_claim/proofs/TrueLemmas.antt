@@ -11,7 +11,7 @@ use Rattle.ca_flat.specs.declared.chip_defect.ChipDefect.{ChipDefect}
 use Rattle.ca_flat.specs.declared.token.Token.{Token}
 use Rattle.ca_flat.specs.Chip.{Chip}
 use Rattle.ca_flat.specs.Pair.{bit_count}
-use Rattle.ca_flat.specs.Code.{IsWholeCode}
+use Rattle.ca_flat.specs.Codes.{IsWholeCode}
 use Rattle.ca_flat.specs.Waves.{IsFlatChip}
 use Rattle.ca_flat.proofs.Codes.{whole_is_ruled_out_lem}
 use Rattle.ca_flat.proofs.Filled.{detected_is_exposable_lem}

@@ -3,7 +3,7 @@ use Rattle.std.specs.Prelude.{ℕ, ◌≡◌, ◌<◌, Bool, List, length, slice
 use Rattle.ca_flat.specs.declared.chip_defect.ChipDefect.{ChipDefect}
 use Rattle.ca_flat.specs.declared.token.Token.{Token}
 use Rattle.ca_flat.specs.Chip.{Chip}
-use Rattle.ca_flat.specs.Code.{IsWholeBy, IsSpentBy}
+use Rattle.ca_flat.specs.Codes.{IsWholeBy, IsSpentBy}
 use Rattle.ca_claim.specs.declared.claim.Claim.{Claim}
 use Rattle.ca_claim.specs.declared.claim.Claim.TheVariants.{Credited, Unexposable, Untestable, Aborted}
 use Rattle.ca_claim.specs.declared.certificate.Answer.{Answer}

@@ -12,26 +12,26 @@ use Rattle.std.proofs.lemmas.Bool.{cases_lt, ne_eqb, eq-eqb}
 use Rattle.ca_net.specs.declared.scale.TheConstants.{OUTPUT_NET}
 use Rattle.ca_net.specs.declared.node.NodeKind.TheVariants as node
 use Rattle.ca_cell.specs.Raw.{is_input, is_output, role_count}
-use Rattle.ca_wired.specs.declared.parts.Body.{Body}
-use Rattle.ca_wired.specs.declared.parts.Part.{Part}
-use Rattle.ca_wired.specs.declared.parts.PortBit.{PortBit}
-use Rattle.ca_wired.specs.declared.parts.Source.TheVariants.{FromPin}
-use Rattle.ca_wired.specs.declared.parts.Body.TheVariants.{Gate, Scan}
-use Rattle.ca_wired.specs.Linked.{Chip, net_count, has, is_scan_path, gate_inputs, gate_outputs, data_nets}
-use Rattle.ca_wired.specs.Linked.{output_nets, outputs_of, Drives, IsBody, Feeds, IsGate, IsLibrary, IsWired}
-use Rattle.ca_wired.specs.Linked.{port_nets, d_nets}
+use Rattle.ca_linked.specs.declared.parts.Body.{Body}
+use Rattle.ca_linked.specs.declared.parts.Part.{Part}
+use Rattle.ca_linked.specs.declared.parts.PortBit.{PortBit}
+use Rattle.ca_linked.specs.declared.parts.Source.TheVariants.{FromPin}
+use Rattle.ca_linked.specs.declared.parts.Body.TheVariants.{Gate, Scan}
+use Rattle.ca_linked.specs.Linked.{LinkedChip, net_count, has, is_scan_path, gate_inputs, gate_outputs, data_nets}
+use Rattle.ca_linked.specs.Linked.{output_nets, outputs_of, Drives, IsBody, Feeds, IsGate, IsLibrary, IsWired}
+use Rattle.ca_linked.specs.Linked.{port_nets, d_nets}
 use Rattle.ca_flat.specs.Chip.{Instance, cell_at, inputs_at, outputs_at, net_of, output_net, count_of}
 use Rattle.ca_flat.specs.Chip.{net_kind, IsCell, IsChip}
 use Rattle.ca_flat.specs.Chip as flat
 use Rattle.ca_core.specs.Core.{core_net, core_kinds, stored_nets, kind_of, core_instance, core_of, body_rank}
 use Rattle.ca_core.specs.Core.{rank_in, rank_of}
-use Rattle.ca_wired.proofs.OrderLemmas.{place_of, contained_at}
+use Rattle.ca_linked.proofs.OrderLemmas.{place_of, contained_at}
 use Rattle.ca_core.proofs.CoreLemmas.{IsOutside, core_less, core_same, length-core_kinds, kind_at}
 use Rattle.ca_core.proofs.CoreLemmas.{net_of_number}
 use Rattle.ca_core.proofs.CorePartLemmas.{pins_in, body_is_cell, stored_count, stored_pin, read_count}
 use Rattle.ca_core.proofs.CorePartLemmas.{read_pin, stored_is_data, read_is_data, first_stored}
 use Rattle.ca_core.proofs.CorePartLemmas.{stored_is_driven, core_at, part_at}
-use Rattle.ca_wired.proofs.PartLemmas.{has_contains, contains_has, of_all, of_list}
+use Rattle.ca_linked.proofs.PartLemmas.{has_contains, contains_has, of_all, of_list}
 
 -- what the pieces of a list contain
 contains_piece : {X : Type 0} (f : X → List ℕ) (xs : List X) (n : ℕ) → Contains (flat_map f xs) n → (x : X) × Contains xs x × Contains (f x) n
@@ -49,7 +49,7 @@ d_is_data (Scan nets) net has =
     let first : has.0 ≡ 0 = let lt = has.1 in omega arith in
     (0, omega arith, ap (λ k. get_or (nets.d ∷ []) k net) (sym first) ∙ has.2)
 
-module _ (chip : Chip) (is : IsWired chip) where
+module _ (chip : LinkedChip) (is : IsWired chip) where
   pub body_of : (u : ℕ) (part : Part) → slice_get chip.parts u ≡ Some part → IsBody chip.cells part.body
   body_of u part at = of_all (λ (p : Part). IsBody chip.cells p.body) chip.parts u part is.bodies at
 

@@ -7,13 +7,13 @@ use Rattle.std.proofs.lemmas.Bool.{cases_lt}
 use native.Mathlib.Decide.{ℕ_discrete}
 use Rattle.ca_net.specs.declared.node.NodeKind.{NodeKind}
 use Rattle.ca_net.specs.declared.node.NodeKind.TheVariants as node
-use Rattle.ca_wired.specs.Linked.{Chip, is_scan_path}
+use Rattle.ca_linked.specs.Linked.{LinkedChip, is_scan_path}
 use Rattle.ca_core.specs.Core.{core_net, core_kinds, kind_of}
 
-abbrev pub IsOutside : Chip → ℕ → Type 0
+abbrev pub IsOutside : LinkedChip → ℕ → Type 0
 IsOutside chip net = is_scan_path chip net ≡ false
 
-module _ (chip : Chip) where
+module _ (chip : LinkedChip) where
   step : (net : ℕ) → core_net chip (suc net) ≡ core_net chip net + (if is_scan_path chip net then 0 else 1)
   unfolding core_net
   step net = refl

@@ -14,18 +14,18 @@ use Rattle.ca_cell.specs.declared.rule.CellRule.TheVariants.{TooManyInputs, NoOu
 use Rattle.ca_cell.specs.declared.rule.CellRule.TheVariants.{InputDrivesChannel}
 use Rattle.ca_cell.specs.Raw.{is_input, is_output, role_count}
 use Rattle.ca_cell.specs.Rules.{Breaks}
-use Rattle.ca_wired.specs.declared.parts.Body.{Body}
-use Rattle.ca_wired.specs.declared.parts.Part.{Part}
-use Rattle.ca_wired.specs.declared.parts.Body.TheVariants.{Gate, Scan}
-use Rattle.ca_wired.specs.Linked.{Chip, gate_inputs, data_nets, output_nets, IsBody}
+use Rattle.ca_linked.specs.declared.parts.Body.{Body}
+use Rattle.ca_linked.specs.declared.parts.Part.{Part}
+use Rattle.ca_linked.specs.declared.parts.Body.TheVariants.{Gate, Scan}
+use Rattle.ca_linked.specs.Linked.{LinkedChip, gate_inputs, data_nets, output_nets, IsBody}
 use Rattle.ca_flat.specs.Chip.{no_instance, instance_at, IsCell}
 use Rattle.ca_core.specs.Core.{core_net, stored_nets, empty_cell, core_instance, core_of}
 
 -- the numbers of input pins and of output pins of the core's instance
-abbrev pub pins_in : Chip → Body → ℕ
+abbrev pub pins_in : LinkedChip → Body → ℕ
 pins_in chip body = role_count is_input (core_instance chip body).cell.pins
 
-abbrev pub pins_out : Chip → Body → ℕ
+abbrev pub pins_out : LinkedChip → Body → ℕ
 pins_out chip body = role_count is_output (core_instance chip body).cell.pins
 
 -- a cell without devices breaks no rule but that on outputs
@@ -69,12 +69,12 @@ empty_is_cell (Some net) = record {
     keeps (TooManyOutputs count) other breaks = omega (arith, breaks.0, breaks.1)
     keeps (InputDrivesChannel pin device) other breaks = breaks.first.here
 
-pub body_is_cell : (chip : Chip) (body : Body) → IsBody chip.cells body → IsCell (core_instance chip body).cell
+pub body_is_cell : (chip : LinkedChip) (body : Body) → IsBody chip.cells body → IsCell (core_instance chip body).cell
 body_is_cell chip (Gate cell inputs outputs) is = record { is_raw = is.is_raw; keeps = λ rule other breaks. is.keeps rule breaks }
 body_is_cell chip (Scan nets) is = empty_is_cell nets.qn
 
 -- each stored net is on an output pin, in order
-pub stored_count : (chip : Chip) (body : Body) → IsBody chip.cells body → length (stored_nets body) ≡ pins_out chip body
+pub stored_count : (chip : LinkedChip) (body : Body) → IsBody chip.cells body → length (stored_nets body) ≡ pins_out chip body
 stored_count chip (Gate cell inputs outputs) is = is.net_per_output
 stored_count chip (Scan nets) is = by nets.qn
   where
@@ -86,7 +86,7 @@ no_input : (qn : Option ℕ) → role_count is_input (empty_cell qn).pins ≡ 0
 no_input None = refl
 no_input (Some net) = refl
 
-pub stored_pin : (chip : Chip) (body : Body) (output : ℕ) → IsBody chip.cells body → output < length (stored_nets body)
+pub stored_pin : (chip : LinkedChip) (body : Body) (output : ℕ) → IsBody chip.cells body → output < length (stored_nets body)
     → get_or (core_instance chip body).pins (pins_in chip body + output) 0 ≡ core_net chip (get_or (stored_nets body) output 0)
 stored_pin chip (Gate cell inputs outputs) output is lt =
     ap (λ k. get_or (map (core_net chip) (inputs ++ outputs)) (k + output) 0) (sym is.net_per_input)
@@ -97,11 +97,11 @@ stored_pin chip (Scan nets) output is lt =
     ∙ get_or-map (core_net chip) (option_to_list nets.qn) output 0 0 lt
 
 -- each input pin is on a net that the instance reads
-pub read_count : (chip : Chip) (body : Body) → IsBody chip.cells body → length (gate_inputs body) ≡ pins_in chip body
+pub read_count : (chip : LinkedChip) (body : Body) → IsBody chip.cells body → length (gate_inputs body) ≡ pins_in chip body
 read_count chip (Gate cell inputs outputs) is = is.net_per_input
 read_count chip (Scan nets) is = sym (no_input nets.qn)
 
-pub read_pin : (chip : Chip) (body : Body) (pin : ℕ) → IsBody chip.cells body → pin < pins_in chip body
+pub read_pin : (chip : LinkedChip) (body : Body) (pin : ℕ) → IsBody chip.cells body → pin < pins_in chip body
     → get_or (core_instance chip body).pins pin 0 ≡ core_net chip (get_or (gate_inputs body) pin 0)
 read_pin chip (Gate cell inputs outputs) pin is lt =
     get_or-map (core_net chip) (inputs ++ outputs) pin 0 0 (let e = is.net_per_input in let l = length-append inputs outputs in omega arith)
@@ -140,17 +140,17 @@ stored_is_driven (Scan nets) output lt = by nets.qn lt
         first = omega (arith, less)
 
 -- the instance at a place of the core
-pub core_at : (chip : Chip) (u : ℕ) (part : Part) → slice_get chip.parts u ≡ Some part → instance_at (core_of chip) u ≡ core_instance chip part.body
+pub core_at : (chip : LinkedChip) (u : ℕ) (part : Part) → slice_get chip.parts u ≡ Some part → instance_at (core_of chip) u ≡ core_instance chip part.body
 core_at chip u part at =
     get_or-map (λ (p : Part). core_instance chip p.body) chip.parts u part no_instance (slice_get_within chip.parts u part at)
     ∙ ap (λ (p : Part). core_instance chip p.body) (get_or_from_slice_get chip.parts u part part at)
 
 -- each instance of the core has its part
-pub record HasPart (chip : Chip) (u : ℕ) : Type 0 where
+pub record HasPart (chip : LinkedChip) (u : ℕ) : Type 0 where
   pub part : Part
   pub at : slice_get chip.parts u ≡ Some part
 
-pub part_at : (chip : Chip) (u : ℕ) → u < length (core_of chip).instances → HasPart chip u
+pub part_at : (chip : LinkedChip) (u : ℕ) → u < length (core_of chip).instances → HasPart chip u
 part_at chip u lt = elim (slice_get_cases chip.parts u).1 [
   | inl there ↦ record { part = there.0; at = there.2 }
   | inr past ↦ absurd (let l = length-map chip.parts (λ (p : Part). core_instance chip p.body) in let behind = past.0 in omega arith)

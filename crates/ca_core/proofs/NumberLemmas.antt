@@ -4,23 +4,23 @@ use Rattle.std.proofs.Common.{sym, ◌∙◌, ap, arith, get_or, length-append}
 use Rattle.std.specs.Prelude.{if◌then◌else◌}
 use Rattle.std.proofs.lemmas.List.{get_or_append_left, get_or-append-add}
 use Rattle.std.proofs.lemmas.Bool.{cases_lt}
-use Rattle.ca_wired.specs.Linked.{Chip, net_count, is_scan_path}
+use Rattle.ca_linked.specs.Linked.{LinkedChip, net_count, is_scan_path}
 use Rattle.ca_core.specs.Core.{core_net}
 use Rattle.ca_core.specs.Numbers.{AreCoreNumbers}
 use Rattle.ca_core.proofs.CoreLemmas.{length-core_kinds}
 
 -- the first nets have their numbers, and the next will have this one
-pub record AreFirstNumbers (chip : Chip) (net : ℕ) (numbers : List ℕ) (count : ℕ) : Type 0 where
+pub record AreFirstNumbers (chip : LinkedChip) (net : ℕ) (numbers : List ℕ) (count : ℕ) : Type 0 where
   pub room : length numbers ≡ net
   pub each : (n : ℕ) → n < net → get_or numbers n 0 ≡ core_net chip n
   pub next : count ≡ core_net chip net
   pub few : count ≤ net
 
-pub first_none : (chip : Chip) → AreFirstNumbers chip 0 [] 0
+pub first_none : (chip : LinkedChip) → AreFirstNumbers chip 0 [] 0
 unfolding core_net
 first_none chip = record { room = refl; each = λ n lt. absurd (omega arith); next = refl; few = omega arith }
 
-pub first_more : (chip : Chip) (net : ℕ) (numbers : List ℕ) (count next : ℕ) → AreFirstNumbers chip net numbers count
+pub first_more : (chip : LinkedChip) (net : ℕ) (numbers : List ℕ) (count next : ℕ) → AreFirstNumbers chip net numbers count
     → next ≡ count + (if is_scan_path chip net then 0 else 1) → next ≤ net + 1 → AreFirstNumbers chip (net + 1) (numbers ++ count ∷ []) next
 unfolding core_net
 first_more chip net numbers count next first is few = record {
@@ -38,7 +38,7 @@ first_more chip net numbers count next first is few = record {
 }
 
 -- all of them are the table
-pub all_numbered : (chip : Chip) (net : ℕ) (numbers : List ℕ) (count : ℕ) → AreFirstNumbers chip net numbers count → net ≡ net_count chip → net < 2 ^ 32
+pub all_numbered : (chip : LinkedChip) (net : ℕ) (numbers : List ℕ) (count : ℕ) → AreFirstNumbers chip net numbers count → net ≡ net_count chip → net < 2 ^ 32
     → AreCoreNumbers chip (record { numbers = numbers; count = count })
 all_numbered chip net numbers count first same few = record {
   room = first.room ∙ same;

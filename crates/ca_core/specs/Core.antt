@@ -16,13 +16,13 @@ use Rattle.ca_cell.specs.declared.raw.RawPin.{RawPin}
 use Rattle.ca_cell.specs.declared.raw.RawCell.{RawCell}
 use Rattle.ca_flat.specs.Chip.{Instance, Constant}
 use Rattle.ca_flat.specs.Chip as flat
-use Rattle.ca_wired.specs.declared.parts.Body.{Body}
-use Rattle.ca_wired.specs.declared.parts.Part.{Part}
-use Rattle.ca_wired.specs.declared.parts.Body.TheVariants.{Gate, Scan}
-use Rattle.ca_wired.specs.Linked.{cell_of, Chip, net_count, has, is_scan_path, inputs_of, outputs_of}
+use Rattle.ca_linked.specs.declared.parts.Body.{Body}
+use Rattle.ca_linked.specs.declared.parts.Part.{Part}
+use Rattle.ca_linked.specs.declared.parts.Body.TheVariants.{Gate, Scan}
+use Rattle.ca_linked.specs.Linked.{cell_of, LinkedChip, net_count, has, is_scan_path, inputs_of, outputs_of}
 
 -- how many of the nets before this one are off the scan path: its number among those
-unfoldable pub core_net : Chip → ℕ → ℕ
+unfoldable pub core_net : LinkedChip → ℕ → ℕ
 core_net chip zero = 0
 core_net chip (suc net) = core_net chip net + (if is_scan_path chip net then 0 else 1)
 
@@ -32,13 +32,13 @@ stored_nets (Gate cell inputs outputs) = outputs
 stored_nets (Scan nets) = option_to_list nets.qn
 
 -- a net that an instance drives is an output net; any other is an input
-abbrev pub kind_of : Chip → ℕ → NodeKind
+abbrev pub kind_of : LinkedChip → ℕ → NodeKind
 kind_of chip net =
     if list_any (λ part. has (stored_nets part.body) net) chip.parts then node.Storage OUTPUT_NET
     else node.Input
 
 -- the kinds of the first nets, without those on the scan path
-unfoldable pub core_kinds : Chip → ℕ → List NodeKind
+unfoldable pub core_kinds : LinkedChip → ℕ → List NodeKind
 core_kinds chip zero = []
 core_kinds chip (suc net) =
     core_kinds chip net ++ (if is_scan_path chip net then [] else kind_of chip net ∷ [])
@@ -57,7 +57,7 @@ empty_cell (Some net) = record {
 }
 
 -- the core's instance for one of the chip
-abbrev pub core_instance : Chip → Body → Instance
+abbrev pub core_instance : LinkedChip → Body → Instance
 core_instance chip (Gate cell inputs outputs) =
     record { cell = cell_of chip.cells cell; pins = map (core_net chip) (inputs ++ outputs) }
 core_instance chip (Scan nets) =
@@ -69,7 +69,7 @@ trit_of true = One
 trit_of false = Zero
 
 -- a constant that drives a net off the scan path
-abbrev pub constant_on : Chip → Bool → Option ℕ → List Constant
+abbrev pub constant_on : LinkedChip → Bool → Option ℕ → List Constant
 constant_on chip value None = []
 constant_on chip value (Some net) =
     if is_scan_path chip net then [] else record { net = core_net chip net; value = trit_of value } ∷ []
@@ -80,11 +80,11 @@ in_net_order (low ∷ []) (high ∷ []) = if nat_lt low.net high.net then low �
 in_net_order lows highs = lows ++ highs
 
 -- the constants in net order
-abbrev pub core_constants : Chip → List Constant
+abbrev pub core_constants : LinkedChip → List Constant
 core_constants chip = in_net_order (constant_on chip false chip.zero) (constant_on chip true chip.one)
 
 -- the core of a chip
-abbrev pub core_of : Chip → flat.Chip
+abbrev pub core_of : LinkedChip → flat.Chip
 core_of chip = record {
   nets = core_kinds chip (net_count chip);
   instances = map (λ part. core_instance chip part.body) chip.parts;
@@ -99,10 +99,10 @@ body_rank place (Gate cell inputs outputs) = suc place
 body_rank place (Scan nets) = 0
 
 -- the rank of a library instance is after those of scan instances, in order
-abbrev pub rank_in : Chip → ℕ → Option Part → ℕ
+abbrev pub rank_in : LinkedChip → ℕ → Option Part → ℕ
 rank_in chip u None = 0
 rank_in chip u (Some part) = body_rank (position_or_len (eqb u) chip.order) part.body
 
 -- the rank of an instance of the chip
-abbrev pub rank_of : Chip → ℕ → ℕ
+abbrev pub rank_of : LinkedChip → ℕ → ℕ
 rank_of chip u = rank_in chip u (slice_get chip.parts u)

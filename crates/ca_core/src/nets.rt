@@ -4,7 +4,7 @@ ghost use Rattle.std.specs.Prelude.{◌≡◌, ◌<◌, length, slice_index, IfO
 ghost use Rattle.ca_core.specs.Numbers.{AreCoreNumbers};
 
 use ca_base::NoMemory;
-use ca_wired::{Chip, NetId};
+use ca_linked::{Chip, NetId};
 use std::alloc::Global;
 use std::marker::Model;
 

@@ -2,7 +2,7 @@
 use Rattle.std.proofs.Common.{ℕ, ◌+◌, ◌^◌, ◌≤◌, List, sym, subst}
 use Rattle.ca_flat.specs.declared.chip_defect.ChipDefect.{ChipDefect}
 use Rattle.ca_flat.specs.declared.token.Token.{Token}
-use Rattle.ca_flat.specs.Code.{IsSpentCode}
+use Rattle.ca_flat.specs.Codes.{IsSpentCode}
 use Rattle.ca_flat.proofs.Codes.{no_code_is_spent_lem, pattern_bits_are_enough_lem}
 use Rattle.ca_flat.proofs.Filled.{detected_is_exposable_lem}
 use Rattle.ca_flat.proofs.PlainAbove.{suspect_is_allowed_lem}

@@ -6,7 +6,7 @@ use Rattle.ca_flat.specs.declared.chip_defect.ChipDefect.{ChipDefect}
 use Rattle.ca_flat.specs.declared.token.Token.{Token}
 use Rattle.ca_flat.specs.Chip.{Chip}
 use Rattle.ca_flat.specs.Pair.{IsShown}
-use Rattle.ca_flat.specs.Code.{branch_count, IsFront}
+use Rattle.ca_flat.specs.Codes.{branch_count, IsFront}
 use Rattle.ca_credit.specs.Defects.{Task, IsDefectAt}
 use Rattle.ca_search.specs.Filled.{filled}
 use Rattle.ca_credit.specs.Detection.{Detects}

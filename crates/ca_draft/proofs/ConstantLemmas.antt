@@ -12,11 +12,11 @@ use Rattle.ca_verilog.specs.declared.raw.RawBit.TheVariants.{Bit, Constant}
 use Rattle.ca_verilog.specs.declared.raw.RawSpan.{RawSpan}
 use Rattle.ca_verilog.specs.Joins.{bit_behind, pairs_of}
 use Rattle.ca_verilog.specs.IsNetlist.{IsBit, IsJoinOf}
-use Rattle.ca_chip.specs.declared.joined.Join.{Join}
-use Rattle.ca_chip.specs.Wiring.{wire_of, joins_of}
-use Rattle.ca_wired.proofs.DriverLemmas.{some_inj}
-use Rattle.ca_chip.proofs.SpanLemmas.{join_of, pair_at, from_joins, to_joins, from_all, to_all, from_span}
-use Rattle.ca_chip.proofs.SpanLemmas.{to_span}
+use Rattle.ca_wiring.specs.declared.joined.Join.{Join}
+use Rattle.ca_wiring.specs.Wiring.{wire_of, joins_of}
+use Rattle.ca_linked.proofs.DriverLemmas.{some_inj}
+use Rattle.ca_wiring.proofs.SpanLemmas.{join_of, pair_at, from_joins, to_joins, from_all, to_all, from_span}
+use Rattle.ca_wiring.proofs.SpanLemmas.{to_span}
 use Rattle.ca_draft.specs.OnWires.{is_constant, has_constant}
 
 -- what a list has that is made of the parts of others

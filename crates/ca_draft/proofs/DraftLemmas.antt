@@ -19,20 +19,20 @@ use Rattle.ca_verilog.specs.declared.raw.RawUse.{RawUse}
 use Rattle.ca_verilog.specs.declared.raw.RawInstance.{RawInstance}
 use Rattle.ca_verilog.specs.Joins.{pairs_of}
 use Rattle.ca_verilog.specs.IsNetlist.{bit_count, IsBit, IsOnBit, IsJoinOf, IsInstanceOf, IsNetlist}
-use Rattle.ca_wired.specs.declared.parts.Part.{Part}
-use Rattle.ca_wired.specs.declared.parts.PortBit.{PortBit}
-use Rattle.ca_chip.specs.declared.scan_row.ScanRow.{ScanRow}
-use Rattle.ca_chip.specs.Wiring.{meaning_of, input_names, output_names, bit_on, wire_of, input_wire}
-use Rattle.ca_chip.specs.Wiring.{input_wires, output_wires, open_count, WiredPart, HeaderBit, Wiring}
-use Rattle.ca_chip.specs.Wiring.{wired_parts, header_bits, joins_of, wiring_of}
-use Rattle.ca_chip.specs.Nets.{IsNamed}
-use Rattle.ca_chip.specs.declared.joined.Join.{Join}
-use Rattle.ca_chip.specs.Joined.{Same, AreEarliest}
-use Rattle.ca_chip.specs.Linking.{IsLinkOf}
-use Rattle.ca_chip.specs.Numbers.{NetNumbers, LeadsToEarliest}
-use Rattle.ca_chip.proofs.NetLemmas.{leads}
-use Rattle.ca_wired.specs.Linked.{Chip}
-use Rattle.ca_wired.specs.Drivers.{IsDrafted}
+use Rattle.ca_linked.specs.declared.parts.Part.{Part}
+use Rattle.ca_linked.specs.declared.parts.PortBit.{PortBit}
+use Rattle.ca_wiring.specs.declared.scan_row.ScanRow.{ScanRow}
+use Rattle.ca_wiring.specs.Wiring.{meaning_of, input_names, output_names, bit_on, wire_of, input_wire}
+use Rattle.ca_wiring.specs.Wiring.{input_wires, output_wires, open_count, WiredPart, HeaderBit, Wiring}
+use Rattle.ca_wiring.specs.Wiring.{wired_parts, header_bits, joins_of, wiring_of}
+use Rattle.ca_wiring.specs.Nets.{IsNamed}
+use Rattle.ca_wiring.specs.declared.joined.Join.{Join}
+use Rattle.ca_wiring.specs.Joined.{Same, AreEarliest}
+use Rattle.ca_wiring.specs.Linking.{IsLinkOf}
+use Rattle.ca_wiring.specs.Numbers.{NetNumbers, LeadsToEarliest}
+use Rattle.ca_wiring.proofs.NetLemmas.{leads}
+use Rattle.ca_linked.specs.Linked.{LinkedChip}
+use Rattle.ca_linked.specs.Drivers.{IsDrafted}
 use Rattle.ca_draft.specs.OnWires.{pins_of, output_wire, next_own, wired_of, header_of, open_counts}
 use Rattle.ca_draft.specs.OnWires.{AreOnWires, constant_wires, touched_of, wiring_on, AreMarks, IsNamedBy}
 use Rattle.ca_draft.specs.OnWires.{IsNumbering, IsNetlistOnWires, chip_on, cells_of, constant_number}
@@ -256,7 +256,7 @@ module _ (raw : RawNetlist) (library : List Named) (scan : List ScanRow) (made :
   within_so = subst (All (λ (w : ℕ). w < made.wires)) is.wires is.within
 
   -- the chip on nets
-  abbrev pub drafted_chip : Chip
+  abbrev pub drafted_chip : LinkedChip
   drafted_chip = chip_on library made.parts.items made.ports.items made.bits made.touched.zero made.touched.one table
 
   pub draft_link : IsLinkOf (wiring_of raw library scan) drafted_chip
@@ -296,7 +296,7 @@ module _ (raw : RawNetlist) (library : List Named) (scan : List ScanRow) (made :
       omega (arith, here, room)
 
 -- the chip that the draft is seen as
-pub chip_is : (library : List Named) (made : OnWires) (table : NetNumbers) (seen : Chip) (nets : ℕ) (zero_net one_net : Option ℕ) (parts : List Part) (ports : List PortBit)
+pub chip_is : (library : List Named) (made : OnWires) (table : NetNumbers) (seen : LinkedChip) (nets : ℕ) (zero_net one_net : Option ℕ) (parts : List Part) (ports : List PortBit)
     → seen ≡ record { cells = cells_of library; nets = nets; zero = zero_net; one = one_net; parts = parts; ports = ports; order = [] }
     → nets ≡ length table.nets
     → zero_net ≡ constant_number table.numbers made.touched.zero made.bits
@@ -306,8 +306,8 @@ pub chip_is : (library : List Named) (made : OnWires) (table : NetNumbers) (seen
     → seen ≡ chip_on library made.parts.items made.ports.items made.bits made.touched.zero made.touched.one table
 chip_is library made table seen nets zero_net one_net parts ports is count zero_is one_is parts_are ports_are =
     is
-    ∙ ap (λ (n : ℕ). let c : Chip = record { cells = cells_of library; nets = n; zero = zero_net; one = one_net; parts = parts; ports = ports; order = [] } in c) count
-    ∙ ap (λ (z : Option ℕ). let c : Chip = record { cells = cells_of library; nets = length table.nets; zero = z; one = one_net; parts = parts; ports = ports; order = [] } in c) zero_is
-    ∙ ap (λ (o : Option ℕ). let c : Chip = record { cells = cells_of library; nets = length table.nets; zero = constant_number table.numbers made.touched.zero made.bits; one = o; parts = parts; ports = ports; order = [] } in c) one_is
-    ∙ ap (λ (ps : List Part). let c : Chip = record { cells = cells_of library; nets = length table.nets; zero = constant_number table.numbers made.touched.zero made.bits; one = constant_number table.numbers made.touched.one (made.bits + 1); parts = ps; ports = ports; order = [] } in c) parts_are
-    ∙ ap (λ (qs : List PortBit). let c : Chip = record { cells = cells_of library; nets = length table.nets; zero = constant_number table.numbers made.touched.zero made.bits; one = constant_number table.numbers made.touched.one (made.bits + 1); parts = map (numbered_part table.numbers) made.parts.items; ports = qs; order = [] } in c) ports_are
+    ∙ ap (λ (n : ℕ). let c : LinkedChip = record { cells = cells_of library; nets = n; zero = zero_net; one = one_net; parts = parts; ports = ports; order = [] } in c) count
+    ∙ ap (λ (z : Option ℕ). let c : LinkedChip = record { cells = cells_of library; nets = length table.nets; zero = z; one = one_net; parts = parts; ports = ports; order = [] } in c) zero_is
+    ∙ ap (λ (o : Option ℕ). let c : LinkedChip = record { cells = cells_of library; nets = length table.nets; zero = constant_number table.numbers made.touched.zero made.bits; one = o; parts = parts; ports = ports; order = [] } in c) one_is
+    ∙ ap (λ (ps : List Part). let c : LinkedChip = record { cells = cells_of library; nets = length table.nets; zero = constant_number table.numbers made.touched.zero made.bits; one = constant_number table.numbers made.touched.one (made.bits + 1); parts = ps; ports = ports; order = [] } in c) parts_are
+    ∙ ap (λ (qs : List PortBit). let c : LinkedChip = record { cells = cells_of library; nets = length table.nets; zero = constant_number table.numbers made.touched.zero made.bits; one = constant_number table.numbers made.touched.one (made.bits + 1); parts = map (numbered_part table.numbers) made.parts.items; ports = qs; order = [] } in c) ports_are

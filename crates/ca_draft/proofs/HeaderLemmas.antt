@@ -11,11 +11,11 @@ use Rattle.std.proofs.lemmas.List.Elements.{All-append, All-nil, All-cons}
 use Rattle.std.proofs.lemmas.Option.{slice_get_within}
 use Rattle.ca_verilog.specs.declared.raw.RawBus.{RawBus}
 use Rattle.ca_verilog.specs.IsNetlist.{range_width, bit_count, IsPort}
-use Rattle.ca_wired.specs.declared.parts.PortBit.{PortBit}
-use Rattle.ca_chip.specs.Wiring.{bit_name, is_input_port, HeaderBit, header_bits_from, header_bits_of}
-use Rattle.ca_chip.specs.Wiring.{header_bits}
+use Rattle.ca_linked.specs.declared.parts.PortBit.{PortBit}
+use Rattle.ca_wiring.specs.Wiring.{bit_name, is_input_port, HeaderBit, header_bits_from, header_bits_of}
+use Rattle.ca_wiring.specs.Wiring.{header_bits}
 use Rattle.ca_draft.specs.OnWires.{header_of, AreFirsts}
-use Rattle.ca_wired.proofs.EndLemmas.{take_more}
+use Rattle.ca_linked.proofs.EndLemmas.{take_more}
 
 -- the bits of some names, and of others after them
 pub count_append : (buses more : List RawBus) → bit_count (buses ++ more) ≡ bit_count buses + bit_count more

@@ -15,19 +15,19 @@ use Rattle.ca_cell.specs.Raw.{is_input, is_output, role_count}
 use Rattle.ca_cell.specs.Rules.{IsRaw, KeepsRules}
 use Rattle.ca_verilog.specs.declared.raw.RawUse.{RawUse}
 use Rattle.ca_verilog.specs.declared.raw.RawInstance.{RawInstance}
-use Rattle.ca_wired.specs.declared.parts.Body.TheVariants.{Gate, Scan}
-use Rattle.ca_wired.specs.declared.parts.Part.{Part}
-use Rattle.ca_wired.specs.declared.parts.ScanNets.{ScanNets}
-use Rattle.ca_wired.specs.Linked.{IsGateOf, no_cell, input_nets, output_nets}
-use Rattle.ca_chip.specs.declared.scan_row.ScanRow.{ScanRow}
-use Rattle.ca_chip.specs.Linking.{HasMeaning, data_name}
-use Rattle.ca_chip.specs.Wiring as wiring
-use Rattle.ca_chip.specs.Wiring.{Meaning, ScanCell, bit_on, names_with, input_wire, input_wires, output_wires}
-use Rattle.ca_chip.specs.Wiring.{input_names, output_names, open_count, meaning_of, entry_meaning, WiredPart}
-use Rattle.ca_chip.specs.Wiring.{wired_part, wired_parts}
+use Rattle.ca_linked.specs.declared.parts.Body.TheVariants.{Gate, Scan}
+use Rattle.ca_linked.specs.declared.parts.Part.{Part}
+use Rattle.ca_linked.specs.declared.parts.ScanNets.{ScanNets}
+use Rattle.ca_linked.specs.Linked.{IsGateOf, no_cell, input_nets, output_nets}
+use Rattle.ca_wiring.specs.declared.scan_row.ScanRow.{ScanRow}
+use Rattle.ca_wiring.specs.Linking.{HasMeaning, data_name}
+use Rattle.ca_wiring.specs.Wiring as wiring
+use Rattle.ca_wiring.specs.Wiring.{Meaning, ScanCell, bit_on, names_with, input_wire, input_wires, output_wires}
+use Rattle.ca_wiring.specs.Wiring.{input_names, output_names, open_count, meaning_of, entry_meaning, WiredPart}
+use Rattle.ca_wiring.specs.Wiring.{wired_part, wired_parts}
 use Rattle.ca_draft.specs.OnWires.{cells_of, IsCellAt, IsOnWires, IsPartOnWires, wired_of, open_counts}
 use Rattle.ca_draft.specs.OnWires.{IsKept, AreOnWires, next_own}
-use Rattle.ca_wired.proofs.EndLemmas.{drop_at}
+use Rattle.ca_linked.proofs.EndLemmas.{drop_at}
 use Rattle.ca_draft.proofs.OutputLemmas.{outputs_cons}
 
 -- there is a wire for each pin

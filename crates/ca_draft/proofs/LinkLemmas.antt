@@ -11,28 +11,28 @@ use Rattle.std.proofs.lemmas.List.Elements.{Contains-append_right, Contains-appe
 use Rattle.std.proofs.lemmas.Option.{none-some, slice_get_within, slice_get-get_or, get_or_from_slice_get}
 use Rattle.ca_cell.specs.declared.raw.RawCell.{RawCell}
 use Rattle.ca_cell.specs.Library.{Named}
-use Rattle.ca_wired.specs.declared.parts.Body.{Body}
-use Rattle.ca_wired.specs.declared.parts.Body.TheVariants.{Gate, Scan}
-use Rattle.ca_wired.specs.declared.parts.Part.{Part}
-use Rattle.ca_wired.specs.declared.parts.PortBit.{PortBit}
-use Rattle.ca_wired.specs.Linked.{Chip, constant_net, input_nets, output_nets, IsBody}
-use Rattle.ca_wired.specs.Drivers.{IsDrafted}
-use Rattle.ca_chip.specs.declared.scan_row.ScanRow.{ScanRow}
-use Rattle.ca_chip.specs.declared.joined.Join.{Join}
-use Rattle.ca_chip.specs.Joined.{AreJoined, Same, IsEarliest}
-use Rattle.ca_chip.specs.Wiring.{Meaning, Unknown, Broken, Library, ScanCell, meaning_of, WiredPart}
-use Rattle.ca_chip.specs.Wiring.{HeaderBit, Wiring, out_bits}
-use Rattle.ca_chip.specs.Nets.{Driving, ConstantBit, OutputPin, DrivesWire, Drives, IsNamed, IsLoaded, IsNet}
-use Rattle.ca_chip.specs.Nets.{AreNets, IsNetOf, AreNetsOf, constant_wire}
-use Rattle.ca_chip.specs.Nets as nets
-use Rattle.ca_chip.specs.Linking.{HasMeaning, IsPartOf, IsPortOf, IsLinkOf}
-use Rattle.ca_chip.specs.Numbers.{WireMarks, NetNumbers, earliest_of, IsUsed, TellsUsed}
-use Rattle.ca_wired.proofs.OrderLemmas.{place_of, contained_at}
-use Rattle.ca_wired.proofs.DriverLemmas.{some_inj, to_some}
-use Rattle.ca_wired.proofs.FeedingLemmas.{item_of}
-use Rattle.ca_chip.proofs.ForestLemmas.{joined_trans, joined_sym}
-use Rattle.ca_chip.proofs.NetLemmas.{nets_are, net_is}
-use Rattle.ca_chip.proofs.SameLemmas.{joined_net, net_joined}
+use Rattle.ca_linked.specs.declared.parts.Body.{Body}
+use Rattle.ca_linked.specs.declared.parts.Body.TheVariants.{Gate, Scan}
+use Rattle.ca_linked.specs.declared.parts.Part.{Part}
+use Rattle.ca_linked.specs.declared.parts.PortBit.{PortBit}
+use Rattle.ca_linked.specs.Linked.{LinkedChip, constant_net, input_nets, output_nets, IsBody}
+use Rattle.ca_linked.specs.Drivers.{IsDrafted}
+use Rattle.ca_wiring.specs.declared.scan_row.ScanRow.{ScanRow}
+use Rattle.ca_wiring.specs.declared.joined.Join.{Join}
+use Rattle.ca_wiring.specs.Joined.{AreJoined, Same, IsEarliest}
+use Rattle.ca_wiring.specs.Wiring.{Meaning, Unknown, Broken, Library, ScanCell, meaning_of, WiredPart}
+use Rattle.ca_wiring.specs.Wiring.{HeaderBit, Wiring, out_bits}
+use Rattle.ca_wiring.specs.Nets.{Driving, ConstantBit, OutputPin, DrivesWire, Drives, IsNamed, IsLoaded, IsNet}
+use Rattle.ca_wiring.specs.Nets.{AreNets, IsNetOf, AreNetsOf, constant_wire}
+use Rattle.ca_wiring.specs.Nets as nets
+use Rattle.ca_wiring.specs.Linking.{HasMeaning, IsPartOf, IsPortOf, IsLinkOf}
+use Rattle.ca_wiring.specs.Numbers.{WireMarks, NetNumbers, earliest_of, IsUsed, TellsUsed}
+use Rattle.ca_linked.proofs.OrderLemmas.{place_of, contained_at}
+use Rattle.ca_linked.proofs.DriverLemmas.{some_inj, to_some}
+use Rattle.ca_linked.proofs.FeedingLemmas.{item_of}
+use Rattle.ca_wiring.proofs.ForestLemmas.{joined_trans, joined_sym}
+use Rattle.ca_wiring.proofs.NetLemmas.{nets_are, net_is}
+use Rattle.ca_wiring.proofs.SameLemmas.{joined_net, net_joined}
 use Rattle.ca_draft.specs.OnWires.{cells_of, pins_of, wired_of, header_of, IsKept, number_of, numbered}
 use Rattle.ca_draft.specs.OnWires.{numbered_option, numbered_part, numbered_port, constant_number}
 use Rattle.ca_draft.specs.OnWires.{constant_wires, touched_of, wiring_on, chip_on, IsNumbering}
@@ -276,7 +276,7 @@ module _ (library : List Named) (scan : List ScanRow) (parts : List Part) (ports
           (λ k d lt. within_nets (get_or ms k d) (are (get_or ms k d) (Contains-get_or ms k d lt)))
 
       -- the chip on nets
-      abbrev pub chip : Chip
+      abbrev pub chip : LinkedChip
       chip = chip_on library parts ports bits has_zero has_one table
 
       pin_touched : (u : ℕ) (part : Part) → slice_get parts u ≡ Some part → (m : ℕ) → Contains (pins_of part.body) m → Contains touched m

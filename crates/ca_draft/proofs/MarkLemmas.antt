@@ -10,7 +10,7 @@ use Rattle.std.proofs.lemmas.List.Elements.{Contains-append_left, Contains-push,
 use Rattle.std.proofs.lemmas.Option.{slice_get_within, slice_get-get_or, get_or_from_slice_get}
 use native.Mathlib.Decide.{ℕ_discrete}
 use Rattle.ca_draft.specs.OnWires.{AreMarks}
-use Rattle.ca_wired.proofs.EndLemmas.{take_more}
+use Rattle.ca_linked.proofs.EndLemmas.{take_more}
 
 module _ (earliest : List ℕ) where
   pub marks_none : AreMarks earliest [] (replicate (length earliest) false)

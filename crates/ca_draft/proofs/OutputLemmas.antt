@@ -8,9 +8,9 @@ use Rattle.ca_cell.specs.declared.raw.RawPin.{RawPin}
 use Rattle.ca_cell.specs.Raw.{is_output}
 use Rattle.ca_verilog.specs.declared.raw.RawBit.{RawBit}
 use Rattle.ca_verilog.specs.declared.raw.RawUse.{RawUse}
-use Rattle.ca_chip.specs.Wiring.{bit_on, names_with, open_count, output_wires}
+use Rattle.ca_wiring.specs.Wiring.{bit_on, names_with, open_count, output_wires}
 use Rattle.ca_draft.specs.OnWires.{output_wire, next_own}
-use Rattle.ca_wired.proofs.EndLemmas.{drop_at}
+use Rattle.ca_linked.proofs.EndLemmas.{drop_at}
 
 module _ (bits : ℕ) (uses : List RawUse) where
   -- the wires of a pin and of those after it

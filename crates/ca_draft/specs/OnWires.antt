@@ -15,21 +15,21 @@ use Rattle.ca_verilog.specs.declared.raw.RawUse.{RawUse}
 use Rattle.ca_verilog.specs.declared.raw.RawInstance.{RawInstance}
 use Rattle.ca_verilog.specs.declared.raw.RawNetlist.{RawNetlist}
 use Rattle.ca_verilog.specs.IsNetlist.{bit_count, IsJoinOf}
-use Rattle.ca_wired.specs.declared.parts.Body.{Body}
-use Rattle.ca_wired.specs.declared.parts.Body.TheVariants.{Gate, Scan}
-use Rattle.ca_wired.specs.declared.parts.Part.{Part}
-use Rattle.ca_wired.specs.declared.parts.PortBit.{PortBit}
-use Rattle.ca_wired.specs.Linked.{Chip, input_nets, output_nets, IsBody}
-use Rattle.ca_chip.specs.declared.scan_row.ScanRow.{ScanRow}
-use Rattle.ca_chip.specs.Wiring.{Meaning, meaning_of, input_names, output_names, wire_of, input_wires}
-use Rattle.ca_chip.specs.Wiring.{output_wires, open_count, WiredPart, HeaderBit, Wiring, wired_parts}
-use Rattle.ca_chip.specs.Wiring.{joins_of, wiring_of}
-use Rattle.ca_chip.specs.Nets.{IsNamed}
-use Rattle.ca_chip.specs.declared.joined.Join.{Join}
-use Rattle.ca_chip.specs.Joined.{AreEarliest}
-use Rattle.ca_chip.specs.Numbers.{WireMarks, NetNumbers, AreNumbered}
-use Rattle.ca_chip.specs.InstanceRules.{IsSound}
-use Rattle.ca_chip.specs.Linking.{HasMeaning, data_name}
+use Rattle.ca_linked.specs.declared.parts.Body.{Body}
+use Rattle.ca_linked.specs.declared.parts.Body.TheVariants.{Gate, Scan}
+use Rattle.ca_linked.specs.declared.parts.Part.{Part}
+use Rattle.ca_linked.specs.declared.parts.PortBit.{PortBit}
+use Rattle.ca_linked.specs.Linked.{LinkedChip, input_nets, output_nets, IsBody}
+use Rattle.ca_wiring.specs.declared.scan_row.ScanRow.{ScanRow}
+use Rattle.ca_wiring.specs.Wiring.{Meaning, meaning_of, input_names, output_names, wire_of, input_wires}
+use Rattle.ca_wiring.specs.Wiring.{output_wires, open_count, WiredPart, HeaderBit, Wiring, wired_parts}
+use Rattle.ca_wiring.specs.Wiring.{joins_of, wiring_of}
+use Rattle.ca_wiring.specs.Nets.{IsNamed}
+use Rattle.ca_wiring.specs.declared.joined.Join.{Join}
+use Rattle.ca_wiring.specs.Joined.{AreEarliest}
+use Rattle.ca_wiring.specs.Numbers.{WireMarks, NetNumbers, AreNumbered}
+use Rattle.ca_wiring.specs.InstanceRules.{IsSound}
+use Rattle.ca_wiring.specs.Linking.{HasMeaning, data_name}
 use Rattle.ca_draft.specs.declared.draft.OnWires.{OnWires}
 
 -- the cells of a library
@@ -234,7 +234,7 @@ pub record IsNetlistOnWires (raw : RawNetlist) (library : List Named) (scan : Li
   pub few_ports : length made.ports.items < 2 ^ 32
 
 -- the chip with the number of each wire in its place
-abbrev pub chip_on : List Named → List Part → List PortBit → ℕ → Bool → Bool → NetNumbers → Chip
+abbrev pub chip_on : List Named → List Part → List PortBit → ℕ → Bool → Bool → NetNumbers → LinkedChip
 chip_on library parts ports bits has_zero has_one table = record {
   cells = cells_of library;
   nets = length table.nets;

@@ -5,10 +5,10 @@ ghost use Rattle.std.specs.List.{All, IsDistinct};
 ghost use Rattle.std.specs.Str.{bytes_eq};
 ghost use Rattle.ca_cell.specs.Library.{raw_of};
 ghost use Rattle.ca_verilog.specs.IsNetlist.{IsJoinOf, IsNetlist};
-ghost use Rattle.ca_wired.specs.Drivers.{IsDrafted};
-ghost use Rattle.ca_chip.specs.Wiring.{joins_of, wiring_of};
-ghost use Rattle.ca_chip.specs.InstanceRules.{AreSound};
-ghost use Rattle.ca_chip.specs.Linking.{IsLinkOf};
+ghost use Rattle.ca_linked.specs.Drivers.{IsDrafted};
+ghost use Rattle.ca_wiring.specs.Wiring.{joins_of, wiring_of};
+ghost use Rattle.ca_wiring.specs.InstanceRules.{AreSound};
+ghost use Rattle.ca_wiring.specs.Linking.{IsLinkOf};
 ghost use Rattle.ca_draft.specs.OnWires.{IsNetlistOnWires, IsNumbering};
 
 use crate::header::{bits_of, ports_of};
@@ -18,9 +18,9 @@ use crate::renumber::{number_constant, number_parts, number_ports};
 use crate::touched::{Touched, touched_of};
 use ca_base::NoMemory;
 use ca_cell::Library;
-use ca_chip::{NetTable, ScanRow, ScanTable, earliest_wires, number_nets};
+use ca_wiring::{NetTable, ScanRow, ScanTable, earliest_wires, number_nets};
 use ca_verilog::{RawJoins, RawNetlist};
-use ca_wired::{Draft, Part, PortBit};
+use ca_linked::{Draft, Part, PortBit};
 use std::alloc::Global;
 
 /// A netlist on its wires: the numbers of declared bits and of wires, the instances and port bits, and what

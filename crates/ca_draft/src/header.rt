@@ -3,13 +3,13 @@
 ghost use Rattle.std.specs.Prelude.{◌≡◌, ◌<◌, ◌+◌, ◌++◌, ◌^◌, codes, decimal, length, map, Some, IfOk, OnOk};
 ghost use Rattle.std.specs.List.{All};
 ghost use Rattle.ca_verilog.specs.IsNetlist.{IsPort, bit_count, range_width};
-ghost use Rattle.ca_chip.specs.Wiring.{bit_name, header_bits, header_bits_from, index_at, is_input_port};
+ghost use Rattle.ca_wiring.specs.Wiring.{bit_name, header_bits, header_bits_from, index_at, is_input_port};
 ghost use Rattle.ca_draft.specs.OnWires.{AreFirsts, header_of};
 
 use ca_base::NoMemory;
 use ca_lex::Text;
 use ca_verilog::{Direction, RawBus};
-use ca_wired::PortBit;
+use ca_linked::PortBit;
 use itoa::Buffer;
 use std::alloc::Global;
 

@@ -6,19 +6,19 @@ ghost use Rattle.std.specs.Str.{bytes_eq};
 ghost use Rattle.ca_lex.specs.Words.{upper_case};
 ghost use Rattle.ca_cell.specs.Library.{entry_of};
 ghost use Rattle.ca_cell.specs.Rules.{IsRaw, KeepsRules};
-ghost use Rattle.ca_chip.specs.Wiring as wiring;
-ghost use Rattle.ca_chip.specs.Wiring.{ScanCell, entry_meaning, meaning_of};
-ghost use Rattle.ca_chip.specs.InstanceRules.{IsKnown};
+ghost use Rattle.ca_wiring.specs.Wiring as wiring;
+ghost use Rattle.ca_wiring.specs.Wiring.{ScanCell, entry_meaning, meaning_of};
+ghost use Rattle.ca_wiring.specs.InstanceRules.{IsKnown};
 ghost use Rattle.ca_draft.specs.OnWires.{AreOnWires, AreSoundAll, IsCellAt, IsOnWires, IsPartOnWires};
 
 use crate::pins::{library_outputs, scan_pins};
 use ca_base::NoMemory;
 use ca_cell::{Entry, Library, RawCell};
-use ca_chip::{ScanRow, cells_of, library_inputs, row_of};
+use ca_wiring::{ScanRow, cells_of, library_inputs, row_of};
 use ca_lex::Text;
 use ca_names::NameSet;
 use ca_verilog::{RawInstance, RawUse};
-use ca_wired::{Body, Part};
+use ca_linked::{Body, Part};
 use std::alloc::Global;
 
 // The body of an instance of the cell at a place of the library.

@@ -2,14 +2,14 @@
 
 ghost use Rattle.std.specs.Prelude.{◌≡◌, ◌<◌, length, map, option_to_list, IfOk, OnOk};
 ghost use Rattle.std.specs.List.{All};
-ghost use Rattle.ca_wired.specs.declared.parts.Body.TheVariants.{Scan};
-ghost use Rattle.ca_wired.specs.Linked.{input_nets, output_nets};
+ghost use Rattle.ca_linked.specs.declared.parts.Body.TheVariants.{Scan};
+ghost use Rattle.ca_linked.specs.Linked.{input_nets, output_nets};
 ghost use Rattle.ca_draft.specs.OnWires.{constant_number, number_of, numbered, numbered_option};
 ghost use Rattle.ca_draft.specs.OnWires.{numbered_part, numbered_port, pins_of};
 
 use ca_base::NoMemory;
-use ca_chip::NetTable;
-use ca_wired::{Body, NetList, Part, PortBit, ScanNets};
+use ca_wiring::NetTable;
+use ca_linked::{Body, NetList, Part, PortBit, ScanNets};
 use std::alloc::Global;
 
 // The nets of wires.

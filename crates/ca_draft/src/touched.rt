@@ -2,13 +2,13 @@
 
 ghost use Rattle.std.specs.Prelude.{◌≡◌, ◌<◌, ◌+◌, ◌^◌, ◌⊎◌, ◌↔◌, ◌++◌, true, false, IsTrue, map, IfOk, OnOk};
 ghost use Rattle.std.specs.List.{Contains, flat_map, list_any};
-ghost use Rattle.ca_wired.specs.Linked.{input_nets, output_nets};
+ghost use Rattle.ca_linked.specs.Linked.{input_nets, output_nets};
 ghost use Rattle.ca_draft.specs.OnWires.{IsNamedBy, constant_wires, has_constant, is_constant, pins_of};
 ghost use Rattle.ca_draft.specs.OnWires.{touched_of};
 
 use ca_base::NoMemory;
 use ca_verilog::{RawBit, RawSpan};
-use ca_wired::{Body, Part, PortBit};
+use ca_linked::{Body, Part, PortBit};
 use std::alloc::Global;
 
 // Appends the wires of an instance's input pins.

@@ -10,7 +10,7 @@ use Rattle.ca_flat.specs.declared.chip_defect.ChipDefect.{ChipDefect}
 use Rattle.ca_flat.specs.declared.token.Token.{Token}
 use Rattle.ca_flat.specs.Chip.{Chip, IsDefectIn, IsChipDefect}
 use Rattle.ca_flat.specs.Flat.{flat}
-use Rattle.ca_flat.specs.Code.{branch_count}
+use Rattle.ca_flat.specs.Codes.{branch_count}
 use Rattle.ca_flat.specs.Simulation.{IsFlattened}
 use Rattle.ca_table.specs.Gives.{wave_at}
 use Rattle.ca_defect.specs.Exposes.{opposite_of}

@@ -2,7 +2,7 @@
 use Rattle.std.proofs.Common.{◌≡◌, ℕ, List, Option, None, Some, sym, ◌∙◌, ap, subst, arith}
 use Rattle.ca_flat.specs.declared.chip_defect.ChipDefect.{ChipDefect}
 use Rattle.ca_flat.specs.Chip.{Chip}
-use Rattle.ca_wired.specs.Linked.{IsWired}
+use Rattle.ca_linked.specs.Linked.{IsWired}
 use Rattle.ca_core.specs.Core.{core_of}
 use Rattle.ca_flatten.specs.Few.{IsFew}
 use Rattle.ca_flatten.specs.Laws.{FlatIsWellFormed}

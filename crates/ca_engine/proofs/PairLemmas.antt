@@ -2,7 +2,7 @@
 use Rattle.std.proofs.Common.{◌≡◌, ℕ, zero, suc, List, [], ◌∷◌, length, Bool, Some, slice_get, ap}
 use Rattle.std.proofs.lemmas.List.{length-map}
 use Rattle.ca_net.specs.State.{value_at}
-use Rattle.ca_flat.specs.Code.{bit_trit}
+use Rattle.ca_flat.specs.Codes.{bit_trit}
 use Rattle.ca_search.specs.Filled.{trits_of}
 
 -- the value of a bit

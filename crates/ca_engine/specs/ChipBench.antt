@@ -7,7 +7,7 @@ use Rattle.ca_flat.specs.declared.chip_defect.ChipDefect.{ChipDefect}
 use Rattle.ca_flat.specs.declared.token.Token.{Token}
 use Rattle.ca_flat.specs.Chip.{Chip, IsChip, IsDefectIn, IsChipDefect}
 use Rattle.ca_flat.specs.Flat.{flat}
-use Rattle.ca_flat.specs.Code.{unset_pair}
+use Rattle.ca_flat.specs.Codes.{unset_pair}
 use Rattle.ca_view.specs.Linked.{IsPlacedDefect, place_in}
 use Rattle.ca_credit.specs.Defects.{Task}
 

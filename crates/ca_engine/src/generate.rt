@@ -11,7 +11,7 @@ use ca_generate::{GenerateFault, Generated, Watch, generate};
 use ca_guide::Choice;
 use ca_rows::{ChipRows, ExposableDefects};
 use ca_view::View;
-use ca_wired::Chip;
+use ca_linked::Chip;
 use std::alloc::Global;
 
 /// Searches for pairs that show the defects of a linked chip, with at most `budget` branches for each: the

@@ -15,7 +15,7 @@ use Rattle.ca_flat.specs.Flat.{flat}
 use Rattle.ca_flat.specs.Pair.{IsShown, IsSettledPair, IsOpenPair}
 use Rattle.ca_flat.specs.Waves.{IsFlatChip}
 use Rattle.ca_flat.specs.Rows.{ListsExposingRows}
-use Rattle.ca_flat.specs.Code.{MayBranch}
+use Rattle.ca_flat.specs.Codes.{MayBranch}
 use Rattle.ca_flat.specs.Chain.{IsSupportBit}
 use Rattle.ca_flat.proofs.Codes.{support_within}
 use Rattle.ca_flat.specs.RuleOut.{IsFull}

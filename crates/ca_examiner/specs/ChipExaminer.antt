@@ -8,7 +8,7 @@ use Rattle.ca_flat.specs.declared.chip_defect.ChipDefect.{ChipDefect}
 use Rattle.ca_flat.specs.Chip.{Chip, IsDefectIn}
 use Rattle.ca_flat.specs.Flat.{flat}
 use Rattle.ca_flat.specs.Chain.{IsSupportBit}
-use Rattle.ca_flat.specs.Code.{MayBranch}
+use Rattle.ca_flat.specs.Codes.{MayBranch}
 use Rattle.ca_view.specs.Linked.{IsPlacedDefect}
 use Rattle.ca_sim.specs.Seen.{Seen}
 use Rattle.ca_read_code.specs.Examined.{Examined}

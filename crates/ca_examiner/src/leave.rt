@@ -3,7 +3,7 @@
 ghost use Rattle.std.specs.Prelude.{◌≡◌, ◌<◌, ◌↔◌, length, IsTrue};
 ghost use Rattle.std.specs.List.{All};
 ghost use Rattle.ca_flat.specs.Chain.{IsSupportBit};
-ghost use Rattle.ca_flat.specs.Code.{MayBranch};
+ghost use Rattle.ca_flat.specs.Codes.{MayBranch};
 ghost use Rattle.ca_flat.specs.Pair.{IsOpenPair};
 ghost use Rattle.ca_flat.specs.Rows.{ListsExposingRows};
 ghost use Rattle.ca_view.specs.Linked.{IsPlaced, place_in};

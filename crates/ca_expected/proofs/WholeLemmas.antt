@@ -10,8 +10,8 @@ use Rattle.ca_net.specs.declared.trit.Trit.TheVariants.{X}
 use Rattle.ca_flat.specs.declared.token.Token.{Token}
 use Rattle.ca_flat.specs.declared.token.Token.TheVariants.{Branch, Leaf}
 use Rattle.ca_flat.specs.Pair.{bit_count}
-use Rattle.ca_flat.specs.Code.{Reading, At, Ended, Rules, Reads, behind, behind_tree, unset_pair, bit_trit}
-use Rattle.ca_flat.specs.Code.{with_bit, code_rules}
+use Rattle.ca_flat.specs.Codes.{Reading, At, Ended, Rules, Reads, behind, behind_tree, unset_pair, bit_trit}
+use Rattle.ca_flat.specs.Codes.{with_bit, code_rules}
 use Rattle.ca_search.specs.Filled.{filled_bit}
 use Rattle.ca_credit.specs.Defects.{Task}
 use Rattle.ca_credit.specs.Listed.{IsAim}

@@ -2,8 +2,8 @@
 use Rattle.std.specs.Prelude.{ℕ, List, codes}
 use Rattle.ca_cell.specs.declared.rule.CellRule.{CellRule}
 use Rattle.ca_cell.specs.declared.rule.CellRule.TheVariants as rule
-use Rattle.ca_chip.specs.declared.fault.ChipFault.{ChipFault}
-use Rattle.ca_chip.specs.declared.fault.ChipFault.TheVariants as chip
+use Rattle.ca_wiring.specs.declared.fault.ChipFault.{ChipFault}
+use Rattle.ca_wiring.specs.declared.fault.ChipFault.TheVariants as chip
 use Rattle.ca_spice.specs.declared.fault.SpiceKind.{SpiceKind}
 use Rattle.ca_spice.specs.declared.fault.SpiceKind.TheVariants as kind
 use Rattle.ca_verilog.specs.declared.fault.VerilogKind.{VerilogKind}

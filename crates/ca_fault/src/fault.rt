@@ -8,7 +8,7 @@ use crate::pieces::write_pieces;
 use crate::three::FaultText;
 use ca_base::{List, NoMemory};
 use ca_cell::CellRule;
-use ca_chip::ChipFault;
+use ca_wiring::ChipFault;
 use ca_lex::Text;
 use ca_pair::Pairs;
 use ca_spice::SpiceKind;

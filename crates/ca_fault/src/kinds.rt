@@ -5,7 +5,7 @@ ghost use Rattle.ca_fault.specs.KindText.{most_text};
 
 use crate::fault::LimitKind;
 use ca_cell::CellRule;
-use ca_chip::ChipFault;
+use ca_wiring::ChipFault;
 use ca_spice::SpiceKind;
 use ca_verilog::VerilogKind;
 

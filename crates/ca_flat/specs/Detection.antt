@@ -6,7 +6,7 @@ use Rattle.ca_defect.specs.Exposes.{IsExposable}
 use Rattle.ca_flat.specs.declared.chip_defect.ChipDefect.{ChipDefect}
 use Rattle.ca_flat.specs.Chip.{Chip, cell_at}
 use Rattle.ca_flat.specs.Pair.{bit_count, DetectsAt, IsShown}
-use Rattle.ca_flat.specs.Code.{bit_trit}
+use Rattle.ca_flat.specs.Codes.{bit_trit}
 
 -- the bits of a pair as values
 abbrev pub trits_of : List Bool → List Trit

@@ -3,7 +3,7 @@ use Rattle.std.proofs.Common.{◌≡◌, ℕ, ◌<◌, List, [], refl, inl, arit
 use Rattle.std.specs.List.{Contains}
 use Rattle.ca_net.specs.declared.trit.Trit.{Trit}
 use Rattle.ca_flat.specs.Pair.{IsSettledPair, IsRuledOut}
-use Rattle.ca_flat.specs.Code.{At, Ended}
+use Rattle.ca_flat.specs.Codes.{At, Ended}
 use Rattle.ca_flat_tests.specs.Inverter.{open_gate}
 use Rattle.ca_flat_tests.specs.Blind.{blind_chip, BlindIsRuledOut}
 

@@ -2,7 +2,7 @@
 use Rattle.std.proofs.Common.{◌≡◌, [], ◌∷◌, refl, arith, inl, inr}
 use Rattle.ca_net.specs.declared.trit.Trit.TheVariants.{Zero, One, X}
 use Rattle.ca_flat.specs.Chain.{Feeds, IsReachedFrom, Leads}
-use Rattle.ca_flat.specs.Code.{At, Ended}
+use Rattle.ca_flat.specs.Codes.{At, Ended}
 use Rattle.ca_flat_tests.specs.Tied.{tied_chip, TiedSupport, TiedReads}
 
 zero_known : Zero ≡ X → ⊥

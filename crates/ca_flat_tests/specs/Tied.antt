@@ -17,7 +17,7 @@ use Rattle.ca_flat.specs.declared.token.Token.{Token}
 use Rattle.ca_flat.specs.declared.token.Token.TheVariants.{Branch, Leaf}
 use Rattle.ca_flat.specs.Chip.{Chip}
 use Rattle.ca_flat.specs.Chain.{IsSupportBit}
-use Rattle.ca_flat.specs.Code.{Rules, branch_count, IsWholeBy, IsFrontBy, IsSpentBy}
+use Rattle.ca_flat.specs.Codes.{Rules, branch_count, IsWholeBy, IsFrontBy, IsSpentBy}
 
 -- a transistor with this drain, gate and source
 abbrev pub transistor : DeviceKind → ℕ → ℕ → ℕ → RawDevice

@@ -7,19 +7,19 @@ use Rattle.std.proofs.lemmas.List.Folds.{Any-from_list_any, list_any-from_Any}
 use Rattle.std.proofs.lemmas.Option.{slice_get_within, slice_get-get_or, get_or_from_slice_get, same_Some}
 use Rattle.ca_net.specs.declared.scale.TheConstants.{OUTPUT_NET}
 use Rattle.ca_net.specs.declared.node.NodeKind.TheVariants as node
-use Rattle.ca_wired.specs.declared.parts.Body.{Body}
-use Rattle.ca_wired.specs.declared.parts.Part.{Part}
-use Rattle.ca_wired.specs.declared.parts.Source.TheVariants.{FromPort, FromConstant, FromPin}
-use Rattle.ca_wired.specs.declared.parts.Body.TheVariants.{Gate, Scan}
-use Rattle.ca_wired.specs.Linked.{Chip, has, path_nets, output_nets, is_scan_path, Drives, IsGate, IsLibrary}
-use Rattle.ca_wired.specs.Linked.{IsWired}
-use Rattle.ca_wired.proofs.OrderLemmas.{contained_at}
-use Rattle.ca_wired.proofs.PartLemmas.{contains_has, has_contains}
+use Rattle.ca_linked.specs.declared.parts.Body.{Body}
+use Rattle.ca_linked.specs.declared.parts.Part.{Part}
+use Rattle.ca_linked.specs.declared.parts.Source.TheVariants.{FromPort, FromConstant, FromPin}
+use Rattle.ca_linked.specs.declared.parts.Body.TheVariants.{Gate, Scan}
+use Rattle.ca_linked.specs.Linked.{LinkedChip, has, path_nets, output_nets, is_scan_path, Drives, IsGate, IsLibrary}
+use Rattle.ca_linked.specs.Linked.{IsWired}
+use Rattle.ca_linked.proofs.OrderLemmas.{contained_at}
+use Rattle.ca_linked.proofs.PartLemmas.{contains_has, has_contains}
 use Rattle.ca_core.specs.Core.{stored_nets, kind_of}
 use Rattle.ca_core.proofs.CorePartLemmas.{first_stored, stored_is_driven}
 use Rattle.ca_flatten.proofs.GateLemmas.{some_at, at_some}
 
-module _ (chip : Chip) (is : IsWired chip) (net : ℕ) where
+module _ (chip : LinkedChip) (is : IsWired chip) (net : ℕ) where
   -- a net that an instance stores is a storage node
   stored_kind : (u : ℕ) (part : Part) → slice_get chip.parts u ≡ Some part → Contains (stored_nets part.body) net
       → kind_of chip net ≡ node.Storage OUTPUT_NET

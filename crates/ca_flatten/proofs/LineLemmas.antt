@@ -20,9 +20,9 @@ use Rattle.ca_defect.specs.Defect.{drain_on, source_on, gate_on, device_with, ch
 use Rattle.ca_flat.specs.declared.chip_defect.ChipDefect.{ChipDefect}
 use Rattle.ca_flat.specs.Chip.{Instance, cell_at, circuit_at, count_of}
 use Rattle.ca_flat.specs.Flat.{place, old_devices, defect_at, devices_of, devices_before, bridge_of, flat}
-use Rattle.ca_wired.specs.declared.parts.Body.{Body}
-use Rattle.ca_wired.specs.declared.parts.Body.TheVariants.{Gate, Scan}
-use Rattle.ca_wired.specs.Linked.{Chip, IsWired, IsBody}
+use Rattle.ca_linked.specs.declared.parts.Body.{Body}
+use Rattle.ca_linked.specs.declared.parts.Body.TheVariants.{Gate, Scan}
+use Rattle.ca_linked.specs.Linked.{LinkedChip, IsWired, IsBody}
 use Rattle.ca_core.specs.Core.{core_instance, core_of, empty_cell}
 use Rattle.ca_core.proofs.CorePartLemmas.{core_at, part_at}
 use Rattle.ca_core.proofs.CoreIsChip.{body_of}
@@ -69,7 +69,7 @@ empty_switches : (qn : Option ℕ) → HasSwitches (empty_cell qn)
 empty_switches None = All-nil (λ (device : RawDevice). IsTransistor device.kind device.strength)
 empty_switches (Some net) = All-nil (λ (device : RawDevice). IsTransistor device.kind device.strength)
 
-module _ (chip : Chip) (wired : IsWired chip) where
+module _ (chip : LinkedChip) (wired : IsWired chip) where
   body_switches : (body : Body) → IsBody chip.cells body → HasSwitches (core_instance chip body).cell
   body_switches (Gate cell inputs outputs) is = is.is_raw.transistors
   body_switches (Scan nets) is = empty_switches nets.qn

@@ -14,16 +14,16 @@ use Rattle.ca_flat.specs.declared.chip_defect.ChipDefect.{ChipDefect}
 use Rattle.ca_flat.specs.Chip as flat
 use Rattle.ca_flat.specs.Chip.{cell_at, circuit_at}
 use Rattle.ca_flat.specs.Flat.{place, old_devices, defect_at, devices_of, devices_before}
-use Rattle.ca_wired.specs.Linked.{Chip}
-use Rattle.ca_wired.proofs.EndLemmas.{take_more}
+use Rattle.ca_linked.specs.Linked.{LinkedChip}
+use Rattle.ca_linked.proofs.EndLemmas.{take_more}
 use Rattle.ca_core.specs.Core.{core_kinds}
 use Rattle.ca_flatten.specs.Kept.{core_kind, first_devices}
 
-pub no_kinds : (chip : Chip) (nodes : List NodeKind) → nodes ≡ nodes ++ core_kinds chip 0
+pub no_kinds : (chip : LinkedChip) (nodes : List NodeKind) → nodes ≡ nodes ++ core_kinds chip 0
 unfolding core_kinds
 no_kinds chip nodes = sym (append-nil nodes)
 
-pub more_kinds : (chip : Chip) (net : ℕ) (start nodes next : List NodeKind) → nodes ≡ start ++ core_kinds chip net → next ≡ nodes ++ core_kind chip net
+pub more_kinds : (chip : LinkedChip) (net : ℕ) (start nodes next : List NodeKind) → nodes ≡ start ++ core_kinds chip net → next ≡ nodes ++ core_kind chip net
     → next ≡ start ++ core_kinds chip (net + 1)
 unfolding core_kinds
 more_kinds chip net start nodes next is more =

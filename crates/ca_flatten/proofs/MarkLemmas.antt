@@ -11,12 +11,12 @@ use Rattle.std.proofs.lemmas.List.{length-replicate, get_or-replicate, get_or_pa
 use Rattle.std.proofs.lemmas.Bool.{cases_lt}
 use Rattle.std.proofs.lemmas.Option.{same_Some}
 use native.Mathlib.Decide.{ℕ_discrete}
-use Rattle.ca_wired.specs.declared.parts.Body.{Body}
-use Rattle.ca_wired.specs.declared.parts.Part.{Part}
-use Rattle.ca_wired.specs.declared.parts.Body.TheVariants.{Gate, Scan}
-use Rattle.ca_wired.specs.Linked.{Chip, IsGate, IsLibrary}
-use Rattle.ca_wired.specs.Instances.{if_gate, gates_from, gates_of}
-use Rattle.ca_wired.proofs.OrderLemmas.{place_of, contained_at}
+use Rattle.ca_linked.specs.declared.parts.Body.{Body}
+use Rattle.ca_linked.specs.declared.parts.Part.{Part}
+use Rattle.ca_linked.specs.declared.parts.Body.TheVariants.{Gate, Scan}
+use Rattle.ca_linked.specs.Linked.{LinkedChip, IsGate, IsLibrary}
+use Rattle.ca_linked.specs.Instances.{if_gate, gates_from, gates_of}
+use Rattle.ca_linked.proofs.OrderLemmas.{place_of, contained_at}
 use Rattle.ca_flatten.specs.Kept.{mark_at, AreGateMarks}
 
 -- a library instance among these, of which the first is the instance `from`
@@ -54,18 +54,18 @@ gate_is_listed from (part ∷ more) (suc k) gate =
     (Contains-append_right (if_gate from part.body) (gates_from (from + 1) more) (from + 1 + k) (gate_is_listed (from + 1) more k gate))
 
 -- each that is listed is of the library
-pub listed_is_library : (chip : Chip) (k u : ℕ) → slice_get (gates_of chip) k ≡ Some u → IsLibrary chip u
+pub listed_is_library : (chip : LinkedChip) (k u : ℕ) → slice_get (gates_of chip) k ≡ Some u → IsLibrary chip u
 listed_is_library chip k u at =
     let found = listed_is_gate 0 chip.parts u (contained_at (gates_of chip) k u at) in
     subst (λ n. IsSomeAnd (slice_get chip.parts n) (λ p. IsGate p.body)) (let e = found.at in let s : found.k ≡ u = omega arith in s) found.gate
 
 -- the first of those that are listed are marked
-pub record AreFirstMarks (chip : Chip) (k : ℕ) (marks : List Bool) : Type 0 where
+pub record AreFirstMarks (chip : LinkedChip) (k : ℕ) (marks : List Bool) : Type 0 where
   pub room : length marks ≡ length chip.parts
   pub library : (u : ℕ) → IsTrue (mark_at marks u) → IsLibrary chip u
   pub listed : (j u : ℕ) → j < k → slice_get (gates_of chip) j ≡ Some u → IsTrue (mark_at marks u)
 
-pub none_marked : (chip : Chip) (marks : List Bool) (count : ℕ) → marks ≡ replicate count false → count ≡ length chip.parts → AreFirstMarks chip 0 marks
+pub none_marked : (chip : LinkedChip) (marks : List Bool) (count : ℕ) → marks ≡ replicate count false → count ≡ length chip.parts → AreFirstMarks chip 0 marks
 none_marked chip marks count fresh room = record {
   room = ap length fresh ∙ length-replicate count false ∙ room;
   library = λ u marked. absurd (let none = unmarked u in cc);
@@ -78,7 +78,7 @@ none_marked chip marks count fresh room = record {
       | inr past ↦ get_or_past (replicate count false) u false (let l = length-replicate count false in omega arith)
     ]
 
-pub marked_more : (chip : Chip) (k u : ℕ) (marks : List Bool) → AreFirstMarks chip k marks → slice_get (gates_of chip) k ≡ Some u → u < length marks
+pub marked_more : (chip : LinkedChip) (k u : ℕ) (marks : List Bool) → AreFirstMarks chip k marks → slice_get (gates_of chip) k ≡ Some u → u < length marks
     → AreFirstMarks chip (k + 1) (set marks u true)
 marked_more chip k u marks first at within = record {
   room = length-set marks u true ∙ first.room;
@@ -98,7 +98,7 @@ marked_more chip k u marks first at within = record {
   ];
 }
 
-pub all_marked : (chip : Chip) (k : ℕ) (marks : List Bool) → AreFirstMarks chip k marks → length (gates_of chip) ≤ k → length chip.parts < 2 ^ 32
+pub all_marked : (chip : LinkedChip) (k : ℕ) (marks : List Bool) → AreFirstMarks chip k marks → length (gates_of chip) ≤ k → length chip.parts < 2 ^ 32
     → AreGateMarks chip marks
 all_marked chip k marks first all few = record {
   room = first.room;

@@ -14,7 +14,7 @@ use Rattle.ca_flat.specs.declared.chip_defect.ChipDefect.{ChipDefect}
 use Rattle.ca_flat.specs.Chip.{IsChipDefect}
 use Rattle.ca_flat.specs.Flat.{flat}
 use Rattle.ca_flat.proofs.Simulated.{flat_well_formed}
-use Rattle.ca_wired.specs.Linked.{Chip, IsWired}
+use Rattle.ca_linked.specs.Linked.{LinkedChip, IsWired}
 use Rattle.ca_core.specs.Core.{core_of, rank_of}
 use Rattle.ca_core.proofs.CoreIsChip.{core_is}
 use Rattle.ca_flatten.specs.Few.{IsFew}
@@ -38,10 +38,10 @@ gate_is_drain kind.D d line = line.1
 pub line_gate : (d : Device) → HasLine d → GateIsDrain d
 line_gate d line = gate_is_drain d.kind d line
 
-pub formed : (chip : Chip) (given : Option ChipDefect) → IsWired chip → IsChipDefect (core_of chip) given → IsFew (core_of chip) given → IsWellFormed (flat (core_of chip) given)
+pub formed : (chip : LinkedChip) (given : Option ChipDefect) → IsWired chip → IsChipDefect (core_of chip) given → IsFew (core_of chip) given → IsWellFormed (flat (core_of chip) given)
 formed chip given wired listed few = flat_well_formed (core_of chip) (rank_of chip) given (core_is chip wired) listed few.nodes few.devices
 
-module _ (chip : Chip) (given : Option ChipDefect) (devices : List Device) (same : devices ≡ (flat (core_of chip) given).devices) (wired : IsWired chip) where
+module _ (chip : LinkedChip) (given : Option ChipDefect) (devices : List Device) (same : devices ≡ (flat (core_of chip) given).devices) (wired : IsWired chip) where
   pub gates_are_drains : All GateIsDrain devices
   gates_are_drains = All-same GateIsDrain devices (flat (core_of chip) given).devices same
       (All-weaker HasLine GateIsDrain line_gate (flat (core_of chip) given).devices (flat_lines chip wired given))

@@ -5,12 +5,12 @@ use Rattle.std.specs.Prelude.{slice_get, cond, IsSomeAnd, IsSome, Option, Some, 
 use Rattle.std.specs.List.{Contains}
 use Rattle.std.proofs.lemmas.Option.{same_Some}
 use Rattle.ca_cell.specs.Raw.{is_input, is_output, role_count, circuit_of}
-use Rattle.ca_wired.specs.declared.parts.ScanNets.{ScanNets}
-use Rattle.ca_wired.specs.declared.parts.Body.{Body}
-use Rattle.ca_wired.specs.declared.parts.Part.{Part}
-use Rattle.ca_wired.specs.declared.parts.Body.TheVariants.{Gate, Scan}
-use Rattle.ca_wired.specs.Linked.{Chip, net_count, data_nets, IsGate, IsLibrary, IsWired}
-use Rattle.ca_wired.specs.Instances.{pin_nets}
+use Rattle.ca_linked.specs.declared.parts.ScanNets.{ScanNets}
+use Rattle.ca_linked.specs.declared.parts.Body.{Body}
+use Rattle.ca_linked.specs.declared.parts.Part.{Part}
+use Rattle.ca_linked.specs.declared.parts.Body.TheVariants.{Gate, Scan}
+use Rattle.ca_linked.specs.Linked.{LinkedChip, net_count, data_nets, IsGate, IsLibrary, IsWired}
+use Rattle.ca_linked.specs.Instances.{pin_nets}
 use Rattle.ca_defect.specs.declared.defect.Defect.{Defect}
 use Rattle.ca_defect.specs.declared.defect.Defect.TheVariants.{OpenDrain, OpenSource, OpenGate, OpenPin}
 use Rattle.ca_defect.specs.declared.defect.Defect.TheVariants.{Short}
@@ -29,25 +29,25 @@ use Rattle.ca_flatten.proofs.GateLemmas.{some_at, at_some}
 use Rattle.ca_flatten.proofs.SizeLemmas.{core_count}
 
 -- a scan instance, with its nets
-pub record ScanAt (chip : Chip) (u : ℕ) : Type 0 where
+pub record ScanAt (chip : LinkedChip) (u : ℕ) : Type 0 where
   pub part : Part
   pub nets : ScanNets
   pub at : slice_get chip.parts u ≡ Some part
   pub body : part.body ≡ Scan nets
 
-scan_of : (chip : Chip) (u : ℕ) (part : Part) → slice_get chip.parts u ≡ Some part → (IsGate part.body → ⊥) → ScanAt chip u
+scan_of : (chip : LinkedChip) (u : ℕ) (part : Part) → slice_get chip.parts u ≡ Some part → (IsGate part.body → ⊥) → ScanAt chip u
 scan_of chip u part at scan = by part.body refl scan
   where
     by : (body : Body) → part.body ≡ body → (IsGate body → ⊥) → ScanAt chip u
     by (Gate cell inputs outputs) is other = absurd (other tt)
     by (Scan nets) is other = record { part = part; nets = nets; at = at; body = is }
 
-pub scan_at : (chip : Chip) (u : ℕ) → u < length chip.parts → (IsLibrary chip u → ⊥) → ScanAt chip u
+pub scan_at : (chip : LinkedChip) (u : ℕ) → u < length chip.parts → (IsLibrary chip u → ⊥) → ScanAt chip u
 scan_at chip u known scan =
     let has = part_at chip u (let e = core_count chip in omega arith) in
     scan_of chip u has.part has.at (λ gate. scan (some_at (λ p. IsGate p.body) chip.parts u has.part has.at gate))
 
-pub core_scan : (chip : Chip) (u : ℕ) (s : ScanAt chip u) → instance_at (core_of chip) u ≡ core_instance chip (Scan s.nets)
+pub core_scan : (chip : LinkedChip) (u : ℕ) (s : ScanAt chip u) → instance_at (core_of chip) u ≡ core_instance chip (Scan s.nets)
 core_scan chip u s = core_at chip u s.part s.at ∙ ap (core_instance chip) s.body
 
 -- an open isn't among the defects of a cell without devices and input pins
@@ -63,7 +63,7 @@ no_open (Some net) (OpenGate d) is = absurd (omega (arith, is))
 no_open (Some net) (OpenPin p) is = absurd (omega (arith, is.0, is.1))
 no_open (Some net) (Short m n) is = refl
 
-module _ (chip : Chip) (u : ℕ) (s : ScanAt chip u) where
+module _ (chip : LinkedChip) (u : ℕ) (s : ScanAt chip u) where
   no_new : (given : Option ChipDefect) → IsChipDefect (core_of chip) given → length (new_nodes (defect_at given u)) ≡ 0
   no_new None fits = refl
   no_new (Some d) fits = by (eqb u d.instance) refl
@@ -99,7 +99,7 @@ module _ (chip : Chip) (u : ℕ) (s : ScanAt chip u) where
       (subst IsInverting (sym s.body) (inverting_of s.nets.qn n ge (let e = node_total given fits in omega arith)).0)
 
 -- a scan instance with an inverted output, and the net of this
-pub record InvertedAt (chip : Chip) (u : ℕ) : Type 0 where
+pub record InvertedAt (chip : LinkedChip) (u : ℕ) : Type 0 where
   pub part : Part
   pub nets : ScanNets
   pub net : ℕ
@@ -107,7 +107,7 @@ pub record InvertedAt (chip : Chip) (u : ℕ) : Type 0 where
   pub body : part.body ≡ Scan nets
   pub inverted : nets.qn ≡ Some net
 
-inverted_of : (chip : Chip) (u : ℕ) (part : Part) → slice_get chip.parts u ≡ Some part → IsInverting part.body → InvertedAt chip u
+inverted_of : (chip : LinkedChip) (u : ℕ) (part : Part) → slice_get chip.parts u ≡ Some part → IsInverting part.body → InvertedAt chip u
 inverted_of chip u part at inverting = by part.body refl inverting
   where
     by_net : (nets : ScanNets) → part.body ≡ Scan nets → (qn : Option ℕ) → nets.qn ≡ qn → IsSome qn → InvertedAt chip u
@@ -118,14 +118,14 @@ inverted_of chip u part at inverting = by part.body refl inverting
     by (Gate cell inputs outputs) is other = absurd other
     by (Scan nets) is some = by_net nets is nets.qn refl some
 
-pub inverted_at : (chip : Chip) (u : ℕ) → IsSomeAnd (slice_get chip.parts u) (λ part. IsInverting part.body) → InvertedAt chip u
+pub inverted_at : (chip : LinkedChip) (u : ℕ) → IsSomeAnd (slice_get chip.parts u) (λ part. IsInverting part.body) → InvertedAt chip u
 inverted_at chip u inverting = by (slice_get chip.parts u) refl inverting
   where
     by : (o : Option Part) → slice_get chip.parts u ≡ o → IsSomeAnd o (λ part. IsInverting part.body) → InvertedAt chip u
     by None at none = elim none [ ]
     by (Some part) at some = inverted_of chip u part at some
 
-module _ (chip : Chip) (u : ℕ) (v : InvertedAt chip u) where
+module _ (chip : LinkedChip) (u : ℕ) (v : InvertedAt chip u) where
   core_inverted : instance_at (core_of chip) u ≡ record { cell = empty_cell (Some v.net); pins = core_net chip v.net ∷ [] }
   core_inverted =
       core_at chip u v.part v.at ∙ ap (core_instance chip) v.body
@@ -160,7 +160,7 @@ none_there None = refl
 none_there (Some net) = refl
 
 -- a scan instance has no devices
-pub scan_devices : (chip : Chip) (u : ℕ) (s : ScanAt chip u) (given : Option ChipDefect) → devices_of (core_of chip) given u ≡ []
+pub scan_devices : (chip : LinkedChip) (u : ℕ) (s : ScanAt chip u) (given : Option ChipDefect) → devices_of (core_of chip) given u ≡ []
 scan_devices chip u s given =
     let core = core_of chip in
     let none : (circuit_at core u).devices ≡ [] = ap (λ (i : Instance). (circuit_of i.cell).devices) (core_scan chip u s) ∙ none_there s.nets.qn in

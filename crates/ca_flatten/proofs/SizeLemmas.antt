@@ -8,8 +8,8 @@ use Rattle.std.proofs.lemmas.List.Elements.{All-contains}
 use Rattle.std.proofs.lemmas.Option.{slice_get_within, get_or_from_slice_get}
 use Rattle.ca_net.specs.declared.device.Device.{Device}
 use Rattle.ca_net.specs.Circuit.{NamesWithin}
-use Rattle.ca_wired.specs.declared.parts.Part.{Part}
-use Rattle.ca_wired.specs.Linked.{Chip, IsWired}
+use Rattle.ca_linked.specs.declared.parts.Part.{Part}
+use Rattle.ca_linked.specs.Linked.{LinkedChip, IsWired}
 use Rattle.ca_flat.specs.declared.chip_defect.ChipDefect.{ChipDefect}
 use Rattle.ca_flat.specs.Chip as flat
 use Rattle.ca_flat.specs.Chip.{inputs_at, outputs_at, circuit_at, count_of, IsChipDefect}
@@ -31,11 +31,11 @@ use Rattle.ca_flatten.specs.Few.{IsFew}
 use Rattle.ca_flatten.specs.declared.sizes.Sizes.{Sizes}
 use Rattle.ca_flatten.specs.Kept.{device_total, AreSizes}
 
-pub core_count : (chip : Chip) → count_of (core_of chip) ≡ length chip.parts
+pub core_count : (chip : LinkedChip) → count_of (core_of chip) ≡ length chip.parts
 core_count chip = length-map chip.parts (λ (p : Part). core_instance chip p.body)
 
 -- the inner nodes of the instances before one and its own are few
-pub inner_fits : (chip : Chip) (given : Option ChipDefect) → IsFew (core_of chip) given → (u : ℕ) → u < length chip.parts
+pub inner_fits : (chip : LinkedChip) (given : Option ChipDefect) → IsFew (core_of chip) given → (u : ℕ) → u < length chip.parts
     → 2 + length (core_of chip).nets + (inner_before (core_of chip) u + inner_count (core_of chip) u) < 2 ^ 32
 inner_fits chip given few u lt =
     let count = core_count chip in
@@ -44,7 +44,7 @@ inner_fits chip given few u lt =
     let nodes = few.nodes in
     omega arith
 
-module _ (chip : Chip) (is : IsWired chip) (given : Option ChipDefect) (fits : IsChipDefect (core_of chip) given) (few : IsFew (core_of chip) given) where
+module _ (chip : LinkedChip) (is : IsWired chip) (given : Option ChipDefect) (fits : IsChipDefect (core_of chip) given) (few : IsFew (core_of chip) given) where
   -- the flat node of a node of an instance has a number of 32 bits
   pub place_fits : (u n : ℕ) → u < length chip.parts → n < length (circuit_in (core_of chip) given u).nodes → place (core_of chip) u n < 2 ^ 32
   place_fits u n lt within =
@@ -112,7 +112,7 @@ bridge_length core (Some given) = by given.defect
     by (Short low high) = omega arith
 
 -- what is counted of all instances shows that the flat network isn't too large
-few_counted : (chip : Chip) (given : Option ChipDefect) (u inner devices : ℕ) → AreCounted (core_of chip) u inner devices → u ≡ length chip.parts
+few_counted : (chip : LinkedChip) (given : Option ChipDefect) (u inner devices : ℕ) → AreCounted (core_of chip) u inner devices → u ≡ length chip.parts
     → 3 + length (core_of chip).nets + inner < 2 ^ 32 → devices + 1 < 2 ^ 32 → IsFew (core_of chip) given
 few_counted chip given u inner devices counted all few_nodes few_devices =
     let core = core_of chip in
@@ -131,7 +131,7 @@ few_counted chip given u inner devices counted all few_nodes few_devices =
     }
 
 -- what is counted of all instances are the sizes of the flat network
-pub all_sizes : (chip : Chip) (u inner devices : ℕ) → AreCounted (core_of chip) u inner devices → u ≡ length chip.parts
+pub all_sizes : (chip : LinkedChip) (u inner devices : ℕ) → AreCounted (core_of chip) u inner devices → u ≡ length chip.parts
     → 3 + length (core_of chip).nets + inner < 2 ^ 32 → devices + 1 < 2 ^ 32
     → AreSizes (core_of chip) (record { inner = inner; devices = devices })
 all_sizes chip u inner devices counted all few_nodes few_devices =

@@ -11,17 +11,17 @@ use Rattle.ca_core.specs.Core.{kind_of}
 use Rattle.ca_flatten.specs.declared.sizes.Sizes.{Sizes}
 use Rattle.ca_flatten.specs.declared.spots.Spot.{Spot}
 use Rattle.ca_flatten.specs.Few.{IsFew}
-use Rattle.ca_wired.specs.declared.parts.Body.{Body}
-use Rattle.ca_wired.specs.declared.parts.Body.TheVariants.{Gate, Scan}
-use Rattle.ca_wired.specs.Linked.{IsLibrary}
-use Rattle.ca_wired.specs.Linked as linked
+use Rattle.ca_linked.specs.declared.parts.Body.{Body}
+use Rattle.ca_linked.specs.declared.parts.Body.TheVariants.{Gate, Scan}
+use Rattle.ca_linked.specs.Linked.{IsLibrary}
+use Rattle.ca_linked.specs.Linked as linked
 
 -- the mark of an instance
 abbrev pub mark_at : List Bool → ℕ → Bool
 mark_at marks u = slice_index_or marks u false
 
 -- exactly the library instances are marked, and there are few instances
-pub record AreGateMarks (chip : linked.Chip) (marks : List Bool) : Type 0 where
+pub record AreGateMarks (chip : linked.LinkedChip) (marks : List Bool) : Type 0 where
   pub room : length marks ≡ length chip.parts
   pub each : (u : ℕ) → IsTrue (mark_at marks u) ↔ IsLibrary chip u
   pub few : length chip.parts < 2 ^ 32
@@ -37,7 +37,7 @@ IsInverting (Gate cell inputs outputs) = ⊥
 IsInverting (Scan nets) = IsSome nets.qn
 
 -- the kind of a net, if it is off the scan path
-abbrev pub core_kind : linked.Chip → ℕ → List NodeKind
+abbrev pub core_kind : linked.LinkedChip → ℕ → List NodeKind
 core_kind chip net = if linked.is_scan_path chip net then [] else kind_of chip net ∷ []
 
 -- the first devices of the instance u in the flat network, but for a bridge

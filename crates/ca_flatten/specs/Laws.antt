@@ -6,17 +6,17 @@ use Rattle.ca_flat_text.specs.FlatText.{HasLine}
 use Rattle.ca_flat.specs.declared.chip_defect.ChipDefect.{ChipDefect}
 use Rattle.ca_flat.specs.Chip.{IsChipDefect}
 use Rattle.ca_flat.specs.Flat.{flat}
-use Rattle.ca_wired.specs.Linked.{Chip, IsWired}
+use Rattle.ca_linked.specs.Linked.{LinkedChip, IsWired}
 use Rattle.ca_core.specs.Core.{core_of}
 use Rattle.ca_flatten.specs.Few.{IsFew}
 
 -- the flat network of a wired chip, good or with a defect, is one where it isn't too large
 abbrev pub FlatIsWellFormed : Type 0
 FlatIsWellFormed =
-    (chip : Chip) (given : Option ChipDefect) → IsWired chip → IsChipDefect (core_of chip) given
+    (chip : LinkedChip) (given : Option ChipDefect) → IsWired chip → IsChipDefect (core_of chip) given
     → IsFew (core_of chip) given → IsWellFormed (flat (core_of chip) given)
 
 -- each device of it has a line in the text of a network
 abbrev pub FlatHasLines : Type 0
 FlatHasLines =
-    (chip : Chip) (given : Option ChipDefect) → IsWired chip → All HasLine (flat (core_of chip) given).devices
+    (chip : LinkedChip) (given : Option ChipDefect) → IsWired chip → All HasLine (flat (core_of chip) given).devices

@@ -4,7 +4,7 @@ ghost use Rattle.std.specs.Prelude.{◌≡◌, ◌+◌, ◌++◌, ◌<◌, lengt
 ghost use Rattle.ca_cell.specs.Raw.{circuit_of};
 ghost use Rattle.ca_flat.specs.Chip.{count_of, IsChipDefect};
 ghost use Rattle.ca_flat.specs.Flat.{flat, old_devices, defect_at, devices_of, bridge_of, inner_before};
-ghost use Rattle.ca_wired.specs.Linked.{IsLibrary};
+ghost use Rattle.ca_linked.specs.Linked.{IsLibrary};
 ghost use Rattle.ca_core.specs.Core.{core_of};
 ghost use Rattle.ca_core.specs.Numbers.{AreCoreNumbers};
 ghost use Rattle.ca_flatten.specs.Few.{IsFew};
@@ -19,7 +19,7 @@ use ca_core::CoreNets;
 use ca_defect::{Defect, changed_device};
 use ca_flat::ChipDefect;
 use ca_net::{Device, DeviceId, DeviceList, Network, NodeId};
-use ca_wired::{Chip, InstanceId};
+use ca_linked::{Chip, InstanceId};
 use std::alloc::Global;
 
 // The defect of an instance.

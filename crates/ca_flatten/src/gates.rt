@@ -4,7 +4,7 @@ ghost use Rattle.std.specs.Prelude.{◌≡◌, ◌<◌, length, IfOk};
 ghost use Rattle.ca_flatten.specs.Kept.{mark_at, AreGateMarks};
 
 use ca_base::NoMemory;
-use ca_wired::{Chip, InstanceId};
+use ca_linked::{Chip, InstanceId};
 use std::alloc::Global;
 use std::marker::Model;
 

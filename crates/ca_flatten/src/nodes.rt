@@ -4,7 +4,7 @@ ghost use Rattle.std.specs.Prelude.{◌≡◌, ◌++◌, ◌<◌, length, replic
 ghost use Rattle.ca_net.specs.declared.scale.TheConstants.{INNER_NODE};
 ghost use Rattle.ca_net.specs.declared.node.NodeKind.TheVariants.{Storage};
 ghost use Rattle.ca_flat.specs.Flat.{flat, new_nodes, defect_of};
-ghost use Rattle.ca_wired.specs.Linked.{net_count, is_scan_path};
+ghost use Rattle.ca_linked.specs.Linked.{net_count, is_scan_path};
 ghost use Rattle.ca_core.specs.Core.{core_of, kind_of};
 ghost use Rattle.ca_core.specs.Numbers.{AreCoreNumbers};
 ghost use Rattle.ca_flatten.specs.Kept.{AreGateMarks, AreSizes, core_kind};
@@ -15,7 +15,7 @@ use ca_base::NoMemory;
 use ca_core::CoreNets;
 use ca_flat::ChipDefect;
 use ca_net::{INNER_NODE, NodeKind, NodeList, OUTPUT_NET};
-use ca_wired::{Chip, InstanceId, NetId, Source};
+use ca_linked::{Chip, InstanceId, NetId, Source};
 use std::alloc::Global;
 
 // The kind of a net: that of an output net where a library instance or an inverted output drives it.

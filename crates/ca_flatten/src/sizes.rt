@@ -10,7 +10,7 @@ use crate::gates::Gates;
 use crate::spots::{cell_at, inner_count};
 use ca_core::CoreNets;
 use ca_net::Network;
-use ca_wired::{Chip, InstanceId};
+use ca_linked::{Chip, InstanceId};
 
 // The most nodes, and the most devices, of a network.
 const MOST: usize = u32::MAX as usize;

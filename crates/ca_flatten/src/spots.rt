@@ -6,7 +6,7 @@ ghost use Rattle.ca_parts.specs.Part.{moved};
 ghost use Rattle.ca_flat.specs.Chip.{cell_at, circuit_at, inputs_at, outputs_at, net_of, count_of};
 ghost use Rattle.ca_flat.specs.Chip.{IsChipDefect};
 ghost use Rattle.ca_flat.specs.Flat.{circuit_in, inner_count, inner_before, place};
-ghost use Rattle.ca_wired.specs.Linked.{IsLibrary};
+ghost use Rattle.ca_linked.specs.Linked.{IsLibrary};
 ghost use Rattle.ca_core.specs.Core.{core_of};
 ghost use Rattle.ca_core.specs.Numbers.{AreCoreNumbers};
 ghost use Rattle.ca_flatten.specs.Few.{IsFew};
@@ -17,7 +17,7 @@ use ca_cell::Cell;
 use ca_core::CoreNets;
 use ca_flat::ChipDefect;
 use ca_net::{Device, Network, NodeId};
-use ca_wired::{Chip, InstanceId};
+use ca_linked::{Chip, InstanceId};
 
 /// An instance, and the flat nodes from which on its inner nodes and the new node of the defect are.
 #[derive(Clone, Copy)]

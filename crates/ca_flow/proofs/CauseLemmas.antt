@@ -18,7 +18,7 @@ use Rattle.ca_words.specs.Words.{netlist_word, stil_word, report_word, order_wor
 use Rattle.ca_words.specs.Words.{IsOtherFile, IsMatrix, IsFlatten, IsAtpg, HasOut}
 use Rattle.ca_on_cell.specs.Cells.{OfCell}
 use Rattle.ca_load.specs.Files.{OfFile}
-use Rattle.ca_wired.specs.Linked.{Chip}
+use Rattle.ca_linked.specs.Linked.{LinkedChip}
 use Rattle.ca_scan.specs.ChainFault.{AreAllChains}
 use Rattle.ca_load.specs.declared.loading.FileNames.{FileNames}
 use Rattle.ca_load.specs.Texts.{InputFiles, names_of}
@@ -183,7 +183,7 @@ pub matrix_asked : (words : List (List ℕ)) (request : MatrixWords) (files : Op
 matrix_asked words request files matrix spelled held = (spelled.is, rw (sym spelled.of.cells, sym spelled.of.cell) held)
 
 -- the chip that the words of `check` ask for
-pub check_asked : (words : List (List ℕ)) (names : FileNames) (files : Option Files) (chip : Chip) (chains : List (List ℕ))
+pub check_asked : (words : List (List ℕ)) (names : FileNames) (files : Option Files) (chip : LinkedChip) (chains : List (List ℕ))
     → IsSpelledCheck words names → AreAllChains chip chains
     → IsChipOfFiles files (names_of names) chip → IsAsked words files (Check chip chains)
 check_asked words names files chip chains spelled all held =
@@ -199,7 +199,7 @@ check_cause words names files before after fault spelled cause = inr (inr (inr (
 )))))
 
 -- the network that the words of `flatten` ask for
-pub flatten_asked : (words : List (List ℕ)) (request : FlattenWords) (files : Option Files) (chip : Chip) (net : Circuit)
+pub flatten_asked : (words : List (List ℕ)) (request : FlattenWords) (files : Option Files) (chip : LinkedChip) (net : Circuit)
     → IsSpelledFlatten words request → IsTracedChipOf files (names_of request.of.files) chip
     → IsFlatOf request.of.instance.now request.of.defect.now chip net → IsAsked words files (Flatten chip net)
 flatten_asked words request files chip net spelled held flat = (
@@ -230,7 +230,7 @@ flatten_cause words request files before after fault spelled cause = inr (inr (i
     by (inr own) = inr (inl (spelled.is, own))
 
 -- the values that the words of `simulate` ask for
-pub simulate_asked : (words : List (List ℕ)) (request : SimulateWords) (files : Option Files) (chip : Chip) (ends : OutputEnds)
+pub simulate_asked : (words : List (List ℕ)) (request : SimulateWords) (files : Option Files) (chip : LinkedChip) (ends : OutputEnds)
     → IsSpelledSimulate words request → IsTracedChipOf files (names_of request.of.files) chip
     → AreEndsOf request.of.instance.now request.of.defect.now request.first.now request.last.now chip
     ends.good.items ends.faulty.items → IsAsked words files (Simulate chip ends)
@@ -319,7 +319,7 @@ no_tests_sink names budget files before after fault cause same =
     by (inr (is, held)) = is
 
 -- the tests that the words of `atpg` ask for
-pub atpg_asked : (words : List (List ℕ)) (request : AtpgWords) (files : Option Files) (chip : Chip) (chains : List (List ℕ))
+pub atpg_asked : (words : List (List ℕ)) (request : AtpgWords) (files : Option Files) (chip : LinkedChip) (chains : List (List ℕ))
     (pairs : List (List Bool)) (aims : List ℕ) (verdicts : List Verdict) → IsSpelledAtpg words request → AreAllChains chip chains
     → IsChipOfFiles files (names_of request.files) chip → IsGood (task_of chip request.budget) pairs aims verdicts
     → IsAsked words files (Atpg chip chains pairs aims verdicts)
@@ -335,7 +335,7 @@ atpg_asked words request files chip chains pairs aims verdicts spelled all held 
 )
 
 -- the files that they name
-pub atpg_files : (words : List (List ℕ)) (request : AtpgWords) (chip : Chip) (chains : List (List ℕ))
+pub atpg_files : (words : List (List ℕ)) (request : AtpgWords) (chip : LinkedChip) (chains : List (List ℕ))
     (pairs : List (List Bool)) (aims : List ℕ) (verdicts : List Verdict) (stil : List ℕ) (first second : OutFile) → IsSpelledAtpg words request
     → IsStil chip chains pairs stil → IsOutFile request.stil.now stil first → IsOutFile request.report.now (report_of chip verdicts) second
     → HasFiles words (Atpg chip chains pairs aims verdicts) (Some first) (Some second)
@@ -380,7 +380,7 @@ no_run_sink names instance defect first last order files before after fault caus
     by (inr (inr (held, read))) = read
 
 -- the values that the words of `replay` ask for
-pub replay_asked : (words : List (List ℕ)) (request : ReplayWords) (files : Option Files) (chip : Chip) (ends : Vec Trit Global)
+pub replay_asked : (words : List (List ℕ)) (request : ReplayWords) (files : Option Files) (chip : LinkedChip) (ends : Vec Trit Global)
     → IsSpelledReplay words request → IsTracedChipOf files (names_of request.of.of.files) chip
     → OfFile files request.order.now MAX_ORDER (AreRunEndsOf request.of.of.instance.now request.of.of.defect.now
     request.of.first.now request.of.last.now chip ends.items) → IsAsked words files (Replay chip ends)
@@ -415,7 +415,7 @@ replay_cause words request files before after fault spelled cause = inr (inr (in
     by (inr own) = inr (inr (inr (inr (spelled.is, own))))
 
 -- the tests of the generated chip that the words of `make` ask for
-pub make_asked : (words : List (List ℕ)) (number : ℕ) (files : Option Files) (chip : Chip) (pairs : List (List Bool))
+pub make_asked : (words : List (List ℕ)) (number : ℕ) (files : Option Files) (chip : LinkedChip) (pairs : List (List Bool))
     (aims : List ℕ) (verdicts : List Verdict) → IsSpelledMake words number → IsMadeChip number chip
     → IsGood (task_of chip MAKE_BUDGET) pairs aims verdicts → IsAsked words files (Make chip pairs aims verdicts)
 make_asked words number files chip pairs aims verdicts spelled is good =

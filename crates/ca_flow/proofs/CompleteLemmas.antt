@@ -17,8 +17,8 @@ use Rattle.ca_load.specs.Files.{IsReadCause}
 use Rattle.ca_load.specs.Causes.{IsTextCause, IsCellsCause}
 use Rattle.ca_load.proofs.SameLemmas.{one_reading}
 use Rattle.ca_load.proofs.WholeLemmas.{IsOutsideFault, at_read as is_read, at_load}
-use Rattle.ca_wired.specs.Linked.{Chip}
-use Rattle.ca_asked.specs.Asked.{FitsInputs, IsDefectCause, IsVectorsCause}
+use Rattle.ca_linked.specs.Linked.{LinkedChip}
+use Rattle.ca_request.specs.Asked.{FitsInputs, IsDefectCause, IsVectorsCause}
 use Rattle.ca_fault.specs.declared.fault.LimitKind.TheVariants as limit
 use Rattle.ca_fault.specs.declared.fault.Fault.{Fault}
 use Rattle.ca_fault.specs.declared.fault.Fault.TheVariants.{BadWords, Cells, NoCell, Cell, BadVector}
@@ -213,12 +213,12 @@ asking_work words files before after fault asks (inr (inr (inr (inr (inr (make, 
 
 module _ (words : List (List ℕ)) (files : Option Files) (told : Files) (are : files ≡ Some told) (fits : FitsChip words told) where
   -- what is said of the chip of the files holds of one of the chips that the inputs give
-  at_inputs : (P : Chip → Type 0) → OfChip files (chip_files words) P → GiveChipWith P fits.inputs
+  at_inputs : (P : LinkedChip → Type 0) → OfChip files (chip_files words) P → GiveChipWith P fits.inputs
   at_inputs P held =
       let found = held told are in
       subst (GiveChipWith P) (one_reading (chip_files words) told found.0 fits.inputs found.1.0 fits.read) found.1.1
 
-  no_defect : (chip : Chip) (fault : Fault) → FitsDefect words chip
+  no_defect : (chip : LinkedChip) (fault : Fault) → FitsDefect words chip
       → IsDefectCause chip (instance_word words) (chip_defect_word words) fault → ⊥
   no_defect chip (NoInstance typed) (inl none) (same, (some, lacks)) = some none
   no_defect chip (NoInstance typed) (inr has) (same, (some, lacks)) = lacks has.u has.named
@@ -227,13 +227,13 @@ module _ (words : List (List ℕ)) (files : Option Files) (told : Files) (are : 
       true≢false (sym (has.called lacks.u lacks.named) ∙ lacks.lacks)
   no_defect chip fault own cause = cause
 
-  no_vectors : (chip : Chip) (first last : List ℕ) (fault : Fault) → FitsInputs chip first → FitsInputs chip last
+  no_vectors : (chip : LinkedChip) (first last : List ℕ) (fault : Fault) → FitsInputs chip first → FitsInputs chip last
       → IsVectorsCause chip first last fault → ⊥
   no_vectors chip first last (BadVector typed) first_fits last_fits (inl (same, unfit)) = unfit first_fits
   no_vectors chip first last (BadVector typed) first_fits last_fits (inr (same, (fit, unfit))) = unfit last_fits
   no_vectors chip first last fault first_fits last_fits cause = cause
 
-  no_simulation : (chip : Chip) (fault : Fault) → FitsSimulate words chip
+  no_simulation : (chip : LinkedChip) (fault : Fault) → FitsSimulate words chip
       → IsSimulationCause (instance_word words) (chip_defect_word words) (chip_first_word words) (chip_last_word words)
       fault chip → ⊥
   no_simulation chip fault own (inl cause) =
@@ -241,7 +241,7 @@ module _ (words : List (List ℕ)) (files : Option Files) (told : Files) (are : 
   no_simulation chip fault own (inr (first, (last, cause))) = no_defect chip fault own.defect cause
 
   -- the file of `replay` names events
-  no_line : (chip : Chip) (line : ℕ) → FitsReplay words told chip
+  no_line : (chip : LinkedChip) (line : ℕ) → FitsReplay words told chip
       → reading.OfFile files (order_word words) MAX_ORDER (HasFaultyLine (instance_word words) (chip_defect_word words) (chip_first_word words)
       (chip_last_word words) line chip) → ⊥
   no_line chip line own held = by (told (order_word words)) own.events (held told are)
@@ -254,7 +254,7 @@ module _ (words : List (List ℕ)) (files : Option Files) (told : Files) (are : 
           let named = fits faulty.run faulty.asked in read_or_faulty faulty.run bytes named.0 line named.1 faulty.faulty
 
   -- it is read
-  no_read : (chip : Chip) (before after : ℕ) (fault : Fault) → FitsReplay words told chip
+  no_read : (chip : LinkedChip) (before after : ℕ) (fault : Fault) → FitsReplay words told chip
       → IsReadCause (order_word words) files MAX_ORDER before after fault → IsOutsideFault fault before after
   no_read chip before after fault own cause = by (told (order_word words)) refl own.events
     where

@@ -7,11 +7,11 @@ use Rattle.ca_fault.specs.declared.fault.Fault.TheVariants.{NoMemory}
 use Rattle.ca_flow.specs.declared.finished.Finished.{Finished}
 use Rattle.ca_load.specs.Texts.{Inputs, ReadAs}
 use Rattle.ca_load.specs.Chips.{IsChipOf, GiveChip}
-use Rattle.ca_wired.specs.Linked.{Chip}
-use Rattle.ca_wired.specs.Instances.{IsNamedGate}
+use Rattle.ca_linked.specs.Linked.{LinkedChip}
+use Rattle.ca_linked.specs.Instances.{IsNamedGate}
 use Rattle.ca_flat.specs.Chip.{cell_at}
 use Rattle.ca_core.specs.Core.{core_of}
-use Rattle.ca_asked.specs.Asked.{FitsInputs, defect_called}
+use Rattle.ca_request.specs.Asked.{FitsInputs, defect_called}
 use Rattle.ca_words.specs.Words.{cells_word, cell_word, vector_word, first_word, last_word, defect_word, dash}
 use Rattle.ca_words.specs.Words.{chip_files, instance_word, chip_defect_word, chip_first_word, chip_last_word}
 use Rattle.ca_words.specs.Words.{order_word}
@@ -48,38 +48,38 @@ abbrev pub FitsFile : List (List ℕ) → Files → Type 0
 FitsFile words told = IsFileWith told (cells_word words) (HasCell (cell_word words) (FitsCell words))
 
 -- a library instance has the name, and each that has it is of a cell with the defect
-pub record HasDefect (chip : Chip) (instance defect : List ℕ) : Type 0 where
+pub record HasDefect (chip : LinkedChip) (instance defect : List ℕ) : Type 0 where
   pub u : ℕ
   pub named : IsNamedGate chip instance u
   pub called : (v : ℕ) → IsNamedGate chip instance v
       → IsSome (defect_called (cell_at (core_of chip) v) defect)
 
 -- the words name no defect, or one of the chip
-abbrev pub FitsDefect : List (List ℕ) → Chip → Type 0
+abbrev pub FitsDefect : List (List ℕ) → LinkedChip → Type 0
 FitsDefect words chip =
     (instance_word words ≡ dash) ⊎ HasDefect chip (instance_word words) (chip_defect_word words)
 
 -- the vectors of `simulate` have one letter for each chip input, and its words name no defect, or one of the
 -- chip
-pub record FitsSimulate (words : List (List ℕ)) (chip : Chip) : Type 0 where
+pub record FitsSimulate (words : List (List ℕ)) (chip : LinkedChip) : Type 0 where
   pub first : FitsInputs chip (chip_first_word words)
   pub last : FitsInputs chip (chip_last_word words)
   pub defect : FitsDefect words chip
 
 -- the text names events of each run of the chip that the words of `replay` name
-abbrev pub HasEvents : List (List ℕ) → Chip → List ℕ → Type 0
+abbrev pub HasEvents : List (List ℕ) → LinkedChip → List ℕ → Type 0
 HasEvents words chip text = (run : RunOf)
     → IsAskedRun (instance_word words) (chip_defect_word words) (chip_first_word words) (chip_last_word words)
     chip run → (events : List Event) × ReadsRun run text (Ok events)
 
 -- the words of `replay` fit the chip as those of `simulate` do, and its file is there, is no longer than it
 -- may be, and names events
-pub record FitsReplay (words : List (List ℕ)) (told : Files) (chip : Chip) : Type 0 where
+pub record FitsReplay (words : List (List ℕ)) (told : Files) (chip : LinkedChip) : Type 0 where
   pub pair : FitsSimulate words chip
   pub events : reading.IsFileWith told (order_word words) MAX_ORDER (HasEvents words chip)
 
 -- the own words of a command on a chip are of the chip
-pub record FitsOwn (words : List (List ℕ)) (told : Files) (chip : Chip) : Type 0 where
+pub record FitsOwn (words : List (List ℕ)) (told : Files) (chip : LinkedChip) : Type 0 where
   pub flatten : IsFlatten words → FitsDefect words chip
   pub simulate : IsSimulate words → FitsSimulate words chip
   pub replay : IsReplay words → FitsReplay words told chip
@@ -91,7 +91,7 @@ pub record FitsChip (words : List (List ℕ)) (told : Files) : Type 0 where
   pub inputs : Inputs
   pub read : ReadAs (chip_files words) inputs told
   pub gives : GiveChip inputs
-  pub own : (chip : Chip) → IsChipOf inputs chip → FitsOwn words told chip
+  pub own : (chip : LinkedChip) → IsChipOf inputs chip → FitsOwn words told chip
 
 -- the words ask for no file, or the files are known and the words fit those that they name
 abbrev pub IsAnswerable : List (List ℕ) → Option Files → Type 0

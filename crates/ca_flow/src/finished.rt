@@ -22,7 +22,7 @@ use ca_pair::Pairs;
 use ca_scan::Chains;
 use ca_simulate::OutputEnds;
 use ca_store::{Failed, Sink, Store, write_all};
-use ca_wired::Chip;
+use ca_linked::Chip;
 use std::alloc::Global;
 
 /// The exit status, the fault where the status isn't 0, and what was done where the work was whole.

@@ -8,12 +8,12 @@ use Rattle.ca_spice.specs.Called.{cell_called}
 use Rattle.ca_net.specs.declared.trit.Trit.{Trit}
 use Rattle.ca_flat.specs.declared.chip_defect.ChipDefect.{ChipDefect}
 use Rattle.ca_flat.specs.Chip.{cell_at}
-use Rattle.ca_wired.specs.Linked.{Chip}
+use Rattle.ca_linked.specs.Linked.{LinkedChip}
 use Rattle.ca_core.specs.Core.{core_of}
 use Rattle.ca_fault.specs.declared.fault.Fault.{Fault}
 use Rattle.ca_load.specs.declared.cells.TheConstants.{MAX_CELLS}
 use Rattle.ca_load.specs.Chips.{IsTraced}
-use Rattle.ca_asked.specs.Asked.{FitsInputs, defect_called, IsAskedDefect}
+use Rattle.ca_request.specs.Asked.{FitsInputs, defect_called, IsAskedDefect}
 use Rattle.ca_chip_replay.specs.ChipRun.{RunOf}
 use Rattle.ca_order.specs.declared.event.Event.{Event}
 use Rattle.ca_simulate.specs.OneRun.{ReadsRun}
@@ -60,7 +60,7 @@ check_or_replay : (words : List (List ℕ)) → IsCheck words → IsReplay words
 check_or_replay words one other = let four = one.four in let nine = other.nine in omega (arith, four, nine)
 
 -- what words name of a chip, they name of one that is one with it
-module _ (words : List (List ℕ)) (chip also : Chip) (are : AreOne chip also) (one : NamesOne also) where
+module _ (words : List (List ℕ)) (chip also : LinkedChip) (are : AreOne chip also) (one : NamesOne also) where
   pub fits_defect : (given : Option ChipDefect) → IsAskedDefect chip (instance_word words) (chip_defect_word words) given → FitsDefect words also
   fits_defect given asked = by given (asked_also chip also are (instance_word words) (chip_defect_word words) given asked)
     where
@@ -98,7 +98,7 @@ module _ (words : List (List ℕ)) (chip also : Chip) (are : AreOne chip also) (
       (events, subst (λ it. ReadsRun it text (Ok events)) same reads)
 
 -- what a command has to fit is of its own words alone
-module _ (words : List (List ℕ)) (told : Files) (chip : Chip) where
+module _ (words : List (List ℕ)) (told : Files) (chip : LinkedChip) where
   pub check_own : IsCheck words → FitsOwn words told chip
   check_own is = record {
     flatten = λ flatten. absurd (check_or_flatten words is flatten);
@@ -152,8 +152,8 @@ module _ (words : List (List ℕ)) (files : Option Files) (told : Files) (are : 
   of_file fits = inr (subst (λ it. IsSomeAnd it (λ told. FitsFile words told ⊎ FitsChip words told)) (sym are) (inl fits))
 
   -- a chip with chains whose own words fit
-  of_chip : IsOnChip words → (chip : Chip) → IsTraced chip → IsChipOfFiles files (chip_files words) chip
-      → ((also : Chip) → AreOne chip also → NamesOne also → FitsOwn words told also) → IsAnswerable words files
+  of_chip : IsOnChip words → (chip : LinkedChip) → IsTraced chip → IsChipOfFiles files (chip_files words) chip
+      → ((also : LinkedChip) → AreOne chip also → NamesOne also → FitsOwn words told also) → IsAnswerable words files
   of_chip is chip traced held own =
       let found = held told are in
       let fits : FitsChip words told = record {
@@ -169,7 +169,7 @@ module _ (words : List (List ℕ)) (files : Option Files) (told : Files) (are : 
       inr (subst (λ it. IsSomeAnd it (λ told. FitsFile words told ⊎ FitsChip words told)) (sym are) (inr fits))
 
   -- the file of events fits each of the chips
-  fits_replay : (chip also : Chip) → AreOne chip also → NamesOne also → (values : List Trit) → (file : Option (List ℕ))
+  fits_replay : (chip also : LinkedChip) → AreOne chip also → NamesOne also → (values : List Trit) → (file : Option (List ℕ))
       → told (order_word words) ≡ file
       → IsSomeAnd file (λ bytes. (length bytes ≤ MAX_ORDER) × AreRunEndsOf (instance_word words) (chip_defect_word words) (chip_first_word words)
       (chip_last_word words) chip values bytes)

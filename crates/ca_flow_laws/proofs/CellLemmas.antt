@@ -14,7 +14,7 @@ use Rattle.ca_spice.specs.Called.{called_among}
 use Rattle.ca_load.specs.declared.cells.TheConstants.{MAX_CELLS}
 use Rattle.ca_load.specs.Causes.{IsTextCause, IsCellsCause}
 use Rattle.ca_load.proofs.RuleLemmas.{one_broken}
-use Rattle.ca_place.specs.Place.{rule_text}
+use Rattle.ca_fault_place.specs.Place.{rule_text}
 use Rattle.ca_fault.specs.declared.fault.LimitKind.TheVariants as limit
 use Rattle.ca_fault.specs.declared.fault.Fault.{Fault}
 use Rattle.ca_fault.specs.declared.fault.Fault.TheVariants.{Cells, NoCell, Cell, BadVector, NoDefect, Limit}

@@ -5,9 +5,9 @@ use Rattle.std.specs.Prelude.{IsSomeAnd, slice_get, option_to_list}
 use Rattle.std.specs.List.{flat_map}
 use Rattle.std.proofs.Math.Decide.{dec_lt, dec_le}
 use Rattle.std.proofs.lemmas.Option.{slice_get_within}
-use Rattle.ca_wired.specs.declared.parts.Part.{Part}
-use Rattle.ca_wired.specs.Instances.{IsScan}
-use Rattle.ca_wired.specs.Linked.{Chip}
+use Rattle.ca_linked.specs.declared.parts.Part.{Part}
+use Rattle.ca_linked.specs.Instances.{IsScan}
+use Rattle.ca_linked.specs.Linked.{LinkedChip}
 use Rattle.ca_scan.specs.declared.whole.TheConstants.{MOST_CHAINS}
 use Rattle.ca_scan.specs.Chain.{IsChainFrom, IsChainAt, AreChains, IsScanAt, IsOnChain, AreOnChains, IsFirstOff}
 use Rattle.ca_fault.specs.declared.fault.LimitKind.TheVariants as limit
@@ -27,7 +27,7 @@ last_or (first ∷ list) x y (suc p) at = elim (last_or list x y p at) [
   | inr here ↦ inr (ap suc here.0, here.1)
 ]
 
-module _ (chip : Chip) where
+module _ (chip : LinkedChip) where
   -- the chains from the first ports
   pub record AreAtPorts (n : ℕ) : Type 0 where
     pub list : List (Option (List ℕ))

@@ -2,7 +2,7 @@
 use Rattle.std.proofs.Common.{ap, sym, ◌∙◌, ℕ, ◌≡◌, ◌≤◌, ◌⊎◌, inl, inr, refl, arith, List, length, Option, Some, None}
 use Rattle.std.specs.Prelude.{IsSomeAnd}
 use Rattle.ca_store.specs.Store.{Files}
-use Rattle.ca_wired.specs.Linked.{Chip}
+use Rattle.ca_linked.specs.Linked.{LinkedChip}
 use Rattle.ca_fault.specs.declared.fault.Fault.{Fault}
 use Rattle.ca_fault.specs.declared.fault.Fault.TheVariants.{Order, TooManyPairs}
 use Rattle.ca_load.specs.Texts.{Inputs}
@@ -43,7 +43,7 @@ pub atpg_or_replay : (words : List (List ℕ)) → IsAtpg words → IsReplay wor
 atpg_or_replay words one other = let seven = one.seven in let nine = other.nine in omega (arith, seven, nine)
 
 -- what is reported of the own words of a command, of a chip
-abbrev pub AtOwn : List (List ℕ) → Files → Chip → Fault → Type 0
+abbrev pub AtOwn : List (List ℕ) → Files → LinkedChip → Fault → Type 0
 AtOwn words given chip fault =
     (IsFlatten words × AtDefect (instance_word words) (chip_defect_word words) chip fault)
     ⊎ ((IsSimulate words
@@ -53,7 +53,7 @@ AtOwn words given chip fault =
 
 -- the inputs give a chip with chains, of which it is reported
 pub record IsOwn (words : List (List ℕ)) (given : Files) (fault : Fault) (inputs : Inputs) : Type 0 where
-  pub chip : Chip
+  pub chip : LinkedChip
   pub is : IsChipOf inputs chip
   pub traced : IsTraced chip
   pub at : AtOwn words given chip fault
@@ -62,7 +62,7 @@ abbrev pub AtChipWords : List (List ℕ) → Files → Fault → Type 0
 AtChipWords words given fault = AtLoad (chip_files words) given fault ⊎ AreReadAs (chip_files words) given (IsOwn words given fault)
 
 module _ (words : List (List ℕ)) (given : Files) where
-  own_also : (chip also : Chip) → AreOne chip also → (fault : Fault) → AtOwn words given chip fault → AtOwn words given also fault
+  own_also : (chip also : LinkedChip) → AreOne chip also → (fault : Fault) → AtOwn words given chip fault → AtOwn words given also fault
   own_also chip also are fault (inl (is, at)) = inl (is, defect_also chip also are (instance_word words) (chip_defect_word words) fault at)
   own_also chip also are fault (inr (inl (is, at))) = inr (inl (
     is,
@@ -75,7 +75,7 @@ module _ (words : List (List ℕ)) (given : Files) where
         (chip_first_word words) (chip_last_word words) (order_word words) given fault at,
   ))
 
-  one_of_chip : (chip : Chip) → NamesOne chip → (fault other : Fault) → AtOwn words given chip fault → AtOwn words given chip other → fault ≡ other
+  one_of_chip : (chip : LinkedChip) → NamesOne chip → (fault other : Fault) → AtOwn words given chip fault → AtOwn words given chip other → fault ≡ other
   one_of_chip chip one fault other (inl (is, here)) (inl (too, there)) =
       one_defect chip (instance_word words) (chip_defect_word words) fault other here there
   one_of_chip chip one fault other (inl (is, here)) (inr (inl (too, there))) = absurd (flatten_or_simulate words is too)
@@ -117,12 +117,12 @@ module _ (words : List (List ℕ)) (files : Option Files) (told : Files) (are : 
   of_names name is = agree name (inr (inl (chip, is)))
 
   -- what is said of the chip of the files is said of the given ones
-  of_chip : (Holds : Chip → Type 0) → OfChip files (chip_files words) Holds → AreReadAs (chip_files words) given (GiveChipWith Holds)
+  of_chip : (Holds : LinkedChip → Type 0) → OfChip files (chip_files words) Holds → AreReadAs (chip_files words) given (GiveChipWith Holds)
   of_chip Holds held =
       let found = held told are in
       (found.0, (read_given files told are (chip_files words) given of_names found.0 found.1.0, found.1.1))
 
-  own_of : (Holds : Chip → Type 0) (fault : Fault) → ((chip : Chip) → Holds chip → AtOwn words given chip fault) → OfChip files (chip_files words) Holds
+  own_of : (Holds : LinkedChip → Type 0) (fault : Fault) → ((chip : LinkedChip) → Holds chip → AtOwn words given chip fault) → OfChip files (chip_files words) Holds
       → AreReadAs (chip_files words) given (IsOwn words given fault)
   own_of Holds fault next held =
       let found = of_chip Holds held in
@@ -140,13 +140,13 @@ module _ (words : List (List ℕ)) (files : Option Files) (told : Files) (are : 
         same : told (order_word words) ≡ given (order_word words)
         same = agree (order_word words) (inr (inr (replay, refl)))
 
-        run_in : (chip : Chip) (file : Option (List ℕ)) → IsSomeAnd file (λ bytes. (length bytes ≤ MAX_ORDER)
+        run_in : (chip : LinkedChip) (file : Option (List ℕ)) → IsSomeAnd file (λ bytes. (length bytes ≤ MAX_ORDER)
             × HasFaultyLine (instance_word words) (chip_defect_word words) (chip_first_word words) (chip_last_word words) line chip bytes)
             → HasRun (instance_word words) (chip_defect_word words) (chip_first_word words) (chip_last_word words) chip
         run_in chip None there = absurd there
         run_in chip (Some bytes) there = (there.1.run, there.1.asked)
 
-        by : (chip : Chip) → OfFile files (order_word words) MAX_ORDER
+        by : (chip : LinkedChip) → OfFile files (order_word words) MAX_ORDER
             (HasFaultyLine (instance_word words) (chip_defect_word words) (chip_first_word words) (chip_last_word words) line chip)
             → AtOrder (instance_word words) (chip_defect_word words) (chip_first_word words) (chip_last_word words) (order_word words) given chip (Order line)
         by chip there =

@@ -6,13 +6,13 @@ use Rattle.std.specs.List.{list_any}
 use Rattle.ca_net.specs.declared.scale.TheConstants.{OUTPUT_NET}
 use Rattle.ca_net.specs.declared.node.NodeKind.{NodeKind}
 use Rattle.ca_net.specs.declared.node.NodeKind.TheVariants as node
-use Rattle.ca_wired.specs.declared.parts.Body.{Body}
-use Rattle.ca_wired.specs.declared.parts.Body.TheVariants.{Gate, Scan}
-use Rattle.ca_wired.specs.declared.parts.Part.{Part}
-use Rattle.ca_wired.specs.Linked.{Chip, IsWired, net_count, constant_net, cell_of, has, path_nets, is_scan_path}
-use Rattle.ca_wired.specs.Linked.{inputs_of, outputs_of}
-use Rattle.ca_chip.specs.Wiring.{Wiring}
-use Rattle.ca_chip.specs.Linking.{IsLinkOf}
+use Rattle.ca_linked.specs.declared.parts.Body.{Body}
+use Rattle.ca_linked.specs.declared.parts.Body.TheVariants.{Gate, Scan}
+use Rattle.ca_linked.specs.declared.parts.Part.{Part}
+use Rattle.ca_linked.specs.Linked.{LinkedChip, IsWired, net_count, constant_net, cell_of, has, path_nets, is_scan_path}
+use Rattle.ca_linked.specs.Linked.{inputs_of, outputs_of}
+use Rattle.ca_wiring.specs.Wiring.{Wiring}
+use Rattle.ca_wiring.specs.Linking.{IsLinkOf}
 use Rattle.ca_link.proofs.NetsLemmas.{same_nets, wire_of_net}
 use Rattle.ca_core.specs.Core.{core_net, stored_nets, kind_of, core_kinds, empty_cell, core_instance, trit_of}
 use Rattle.ca_core.specs.Core.{constant_on, in_net_order, core_of}
@@ -55,7 +55,7 @@ same_stored (Gate cell inputs outputs) (Scan nets) alike = absurd alike
 same_stored (Scan nets) (Gate cell inputs outputs) alike = absurd alike
 same_stored (Scan nets) (Scan others) alike = ap (λ pins. stored_nets (Scan pins)) alike
 
-module _ (chip also : Chip) (alike : AreAlike chip also) where
+module _ (chip also : LinkedChip) (alike : AreAlike chip also) where
   on_path : (net : ℕ) → is_scan_path chip net ≡ is_scan_path also net
   on_path net = any_same (λ part. has (path_nets part.body) net) (λ part. has (path_nets part.body) net) chip.parts also.parts alike.same_parts
       (λ u part other at at_other. ap (λ (nets : List ℕ). has nets net) (same_path part.body other.body (alike.parts u part other at at_other).body))
@@ -134,12 +134,12 @@ module _ (chip also : Chip) (alike : AreAlike chip also) where
           rw also_is at found
 
 -- the nets that constants drive are one
-one_constant : (wiring : Wiring) (chip also : Chip) → IsLinkOf wiring chip → IsLinkOf wiring also → IsWired chip → IsWired also
+one_constant : (wiring : Wiring) (chip also : LinkedChip) → IsLinkOf wiring chip → IsLinkOf wiring also → IsWired chip → IsWired also
     → (value : Bool) → constant_net chip value ≡ constant_net also value
 one_constant wiring chip also link too wired also_wired value =
     by (constant_net chip value) (constant_net also value) refl refl
   where
-    over : (one other : Chip) (link : IsLinkOf wiring one) (too : IsLinkOf wiring other) → IsWired one → (net : ℕ)
+    over : (one other : LinkedChip) (link : IsLinkOf wiring one) (too : IsLinkOf wiring other) → IsWired one → (net : ℕ)
         → constant_net one value ≡ Some net → constant_net other value ≡ Some net
     over one other link too wired net is =
         let found = wire_of_net wiring one link net (wired.constants_on_nets value net is) in
@@ -154,7 +154,7 @@ one_constant wiring chip also link too wired also_wired value =
         let both = sym is ∙ over also chip too link also_wired net also_is in cc)
     by (Some net) other is also_is = is ∙ sym (over chip also link too wired net is)
 
-pub one_core : (wiring : Wiring) (chip also : Chip) → IsLinkOf wiring chip → IsLinkOf wiring also → IsWired chip → IsWired also
+pub one_core : (wiring : Wiring) (chip also : LinkedChip) → IsLinkOf wiring chip → IsLinkOf wiring also → IsWired chip → IsWired also
     → chip.cells ≡ also.cells → core_of chip ≡ core_of also
 one_core wiring chip also link too wired also_wired cells =
     same_core chip also (links_alike wiring chip also link too) (one_cell wiring chip also link too cells)

@@ -8,11 +8,11 @@ use Rattle.std.proofs.Math.Decide.{dec_lt}
 use Rattle.std.proofs.lemmas.List.Elements.{recursion_from_All, All-from_recursion}
 use Rattle.ca_cell.specs.Library.{Named}
 use Rattle.ca_verilog.specs.declared.raw.RawNetlist.{RawNetlist}
-use Rattle.ca_wired.specs.Order.{IsChain, IsLoop, IsOnce}
-use Rattle.ca_chip.specs.declared.scan_row.ScanRow.{ScanRow}
-use Rattle.ca_chip.specs.declared.fault.ChipFault.{ChipFault}
-use Rattle.ca_chip.specs.declared.fault.ChipFault.TheVariants as rule
-use Rattle.ca_chip.specs.Rules.{IsEarlier, BreaksAt, IsFirstBroken, KeepsRules}
+use Rattle.ca_linked.specs.Order.{IsChain, IsLoop, IsOnce}
+use Rattle.ca_wiring.specs.declared.scan_row.ScanRow.{ScanRow}
+use Rattle.ca_wiring.specs.declared.fault.ChipFault.{ChipFault}
+use Rattle.ca_wiring.specs.declared.fault.ChipFault.TheVariants as rule
+use Rattle.ca_wiring.specs.Rules.{IsEarlier, BreaksAt, IsFirstBroken, KeepsRules}
 
 -- what is refuted where it holds and where it doesn't
 pub either : (A : Type 0) → ((A ⊎ ¬ A) → ⊥) → ⊥

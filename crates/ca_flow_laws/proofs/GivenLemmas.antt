@@ -14,11 +14,11 @@ use Rattle.ca_flat.specs.declared.chip_defect.ChipDefect.{ChipDefect}
 use Rattle.ca_flat.specs.Chip.{cell_at}
 use Rattle.ca_flat.specs.Flat.{flat}
 use Rattle.ca_flat.specs.Pair.{first_vector, last_vector}
-use Rattle.ca_wired.specs.Linked.{Chip, inputs_of}
-use Rattle.ca_wired.specs.Instances.{IsNamedGate}
+use Rattle.ca_linked.specs.Linked.{LinkedChip, inputs_of}
+use Rattle.ca_linked.specs.Instances.{IsNamedGate}
 use Rattle.ca_core.specs.Core.{core_of}
-use Rattle.ca_asked.specs.Vectors.{dash, letters_of}
-use Rattle.ca_asked.specs.Asked.{defect_called, AreBothOrNeither, IsAskedDefect, IsDefectCause}
+use Rattle.ca_request.specs.Vectors.{dash, letters_of}
+use Rattle.ca_request.specs.Asked.{defect_called, AreBothOrNeither, IsAskedDefect, IsDefectCause}
 use Rattle.ca_order.specs.declared.event.Event.{Event}
 use Rattle.ca_order.specs.declared.event.Place.{Place}
 use Rattle.ca_order.specs.declared.event.Place.TheVariants.{Free, Fixed}
@@ -37,7 +37,7 @@ use Rattle.ca_flow_laws.proofs.OneLemmas.{NamesOne}
 use Rattle.ca_flow_laws.proofs.SomeLemmas.{same_or_other}
 
 -- an instance and a defect, where words of which this is reported are refuted
-pub defect_or : (words : List (List ℕ)) (chip : Chip) → NamesOne chip
+pub defect_or : (words : List (List ℕ)) (chip : LinkedChip) → NamesOne chip
     → ((fault : Fault) → IsDefectCause chip (instance_word words) (chip_defect_word words) fault → ⊥)
     → (FitsDefect words chip → ⊥) → ⊥
 defect_or words chip one none refutes = either (instance_word words ≡ dash) (λ found. elim found [
@@ -63,7 +63,7 @@ defect_or words chip one none refutes = either (instance_word words ≡ dash) (�
     }))
 
 -- two vectors, an instance and a defect
-pub simulate_or : (words : List (List ℕ)) (chip : Chip) → NamesOne chip
+pub simulate_or : (words : List (List ℕ)) (chip : LinkedChip) → NamesOne chip
     → ((fault : Fault)
     → IsSimulationCause (instance_word words) (chip_defect_word words) (chip_first_word words) (chip_last_word words) fault chip → ⊥)
     → (FitsSimulate words chip → ⊥) → ⊥
@@ -77,7 +77,7 @@ simulate_or words chip one none refutes = elim (same_or_other (length (letters_o
 ]
 
 -- words that fit name a run
-module _ (words : List (List ℕ)) (chip : Chip) (both : AreBothOrNeither (instance_word words) (chip_defect_word words)) where
+module _ (words : List (List ℕ)) (chip : LinkedChip) (both : AreBothOrNeither (instance_word words) (chip_defect_word words)) where
   pub asked_given : FitsDefect words chip → (given : Option ChipDefect) × IsAskedDefect chip (instance_word words) (chip_defect_word words) given
   asked_given (inl same) = (None, (same, both.0 same))
   asked_given (inr has) = by_dash (bytes_eq (instance_word words) dash) refl

@@ -7,13 +7,13 @@ use Rattle.ca_cell.specs.declared.rule.CellRule.{CellRule}
 use Rattle.ca_cell.specs.Library.{Named}
 use Rattle.ca_verilog.specs.declared.raw.RawInstance.{RawInstance}
 use Rattle.ca_verilog.specs.declared.raw.RawNetlist.{RawNetlist}
-use Rattle.ca_wired.specs.declared.instances.InstanceId.{InstanceId}
-use Rattle.ca_wired.specs.declared.parts.Part.{Part}
-use Rattle.ca_wired.specs.Linked.{Chip}
-use Rattle.ca_chip.specs.declared.scan_row.ScanRow.{ScanRow}
-use Rattle.ca_chip.specs.declared.fault.ChipFault.{ChipFault}
-use Rattle.ca_chip.specs.declared.fault.ChipFault.TheVariants as rule
-use Rattle.ca_chip.specs.Wiring.{wiring_of}
+use Rattle.ca_linked.specs.declared.instances.InstanceId.{InstanceId}
+use Rattle.ca_linked.specs.declared.parts.Part.{Part}
+use Rattle.ca_linked.specs.Linked.{LinkedChip}
+use Rattle.ca_wiring.specs.declared.scan_row.ScanRow.{ScanRow}
+use Rattle.ca_wiring.specs.declared.fault.ChipFault.{ChipFault}
+use Rattle.ca_wiring.specs.declared.fault.ChipFault.TheVariants as rule
+use Rattle.ca_wiring.specs.Wiring.{wiring_of}
 use Rattle.ca_link_laws.specs.Alike.{AreAlike}
 use Rattle.ca_link_laws.specs.Laws as link
 use Rattle.ca_link_laws.proofs.AlikeLemmas.{item_at}
@@ -24,8 +24,8 @@ use Rattle.ca_scan.specs.declared.fault.ChainFault.{ChainFault}
 use Rattle.ca_scan.specs.declared.fault.ChainFault.TheVariants as chain
 use Rattle.ca_scan.specs.ChainFault.{IsChainCause}
 use Rattle.ca_scan.proofs.AnswerLemmas.{one_answer}
-use Rattle.ca_place.specs.Names.{wire_text}
-use Rattle.ca_place.specs.Place.{net_text, double_text, OfNet, TellsPlace}
+use Rattle.ca_fault_place.specs.Names.{wire_text}
+use Rattle.ca_fault_place.specs.Place.{net_text, double_text, OfNet, TellsPlace}
 use Rattle.ca_fault.specs.declared.fault.LimitKind.TheVariants as limit
 use Rattle.ca_fault.specs.declared.fault.Fault.{Fault}
 use Rattle.ca_fault.specs.declared.fault.Fault.TheVariants.{Cell, Chain, Limit}
@@ -185,30 +185,30 @@ module _ (inputs : Inputs) where
       ]
 
 -- the fault says why a chip has no chains
-abbrev pub IsTracedBy : Chip → ChainFault → Fault → Type 0
+abbrev pub IsTracedBy : LinkedChip → ChainFault → Fault → Type 0
 IsTracedBy chip (chain.ChainBroken u) fault =
     (name : List ℕ) × (IsSomeAnd (slice_get chip.parts u.0) (λ part. name ≡ part.name) × (fault ≡ Chain name))
 IsTracedBy chip (chain.TooManyChains count) fault = fault ≡ Limit limit.Chains count
 IsTracedBy chip chain.NoMemory fault = ⊥
 
 -- what is reported of a chip without chains
-pub record AtTrace (chip : Chip) (fault : Fault) : Type 0 where
+pub record AtTrace (chip : LinkedChip) (fault : Fault) : Type 0 where
   pub broken : ChainFault
   pub cause : IsChainCause chip broken
   pub told : IsTracedBy chip broken fault
 
-pub of_trace : (chip : Chip) (fault : Fault) → IsTracingCause fault chip → AtTrace chip fault
+pub of_trace : (chip : LinkedChip) (fault : Fault) → IsTracingCause fault chip → AtTrace chip fault
 of_trace chip (Chain name) (u, (off, named)) =
     record { broken = chain.ChainBroken (record { 0 = u }); cause = off; told = (name, (named, refl)) }
 of_trace chip (Limit limit.Chains count) many = record { broken = chain.TooManyChains count; cause = many; told = refl }
 of_trace chip fault cause = absurd cause
 
-some_memory : (chip : Chip) (broken : ChainFault) (fault : Fault) → IsTracedBy chip broken fault → broken ≢ chain.NoMemory
+some_memory : (chip : LinkedChip) (broken : ChainFault) (fault : Fault) → IsTracedBy chip broken fault → broken ≢ chain.NoMemory
 some_memory chip (chain.ChainBroken u) fault told same = cc
 some_memory chip (chain.TooManyChains count) fault told same = cc
 some_memory chip chain.NoMemory fault told same = told
 
-one_traced : (chip : Chip) (broken : ChainFault) (fault other : Fault) → IsTracedBy chip broken fault → IsTracedBy chip broken other → fault ≡ other
+one_traced : (chip : LinkedChip) (broken : ChainFault) (fault other : Fault) → IsTracedBy chip broken fault → IsTracedBy chip broken other → fault ≡ other
 one_traced chip (chain.ChainBroken u) fault other (name, (named, is)) (also, (named_also, is_also)) =
     is ∙ ap Chain (by (slice_get chip.parts u.0) named named_also) ∙ sym is_also
   where
@@ -219,7 +219,7 @@ one_traced chip (chain.TooManyChains count) fault other told also = told ∙ sym
 one_traced chip chain.NoMemory fault other told also = absurd told
 
 -- of a chip that is alike the same is reported
-traced_alike : (chip also : Chip) → AreAlike chip also → (broken : ChainFault) (fault : Fault) → IsTracedBy chip broken fault → IsTracedBy also broken fault
+traced_alike : (chip also : LinkedChip) → AreAlike chip also → (broken : ChainFault) (fault : Fault) → IsTracedBy chip broken fault → IsTracedBy also broken fault
 traced_alike chip also alike (chain.ChainBroken u) fault (name, (named, is)) = (name, (by (slice_get chip.parts u.0) refl named, is))
   where
     by : (found : Option Part) → slice_get chip.parts u.0 ≡ found → IsSomeAnd found (λ part. name ≡ part.name)
@@ -231,23 +231,23 @@ traced_alike chip also alike (chain.ChainBroken u) fault (name, (named, is)) = (
 traced_alike chip also alike (chain.TooManyChains count) fault told = told
 traced_alike chip also alike chain.NoMemory fault told = absurd told
 
-pub trace_alike : (chip also : Chip) → AreAlike chip also → (fault : Fault) → AtTrace chip fault → AtTrace also fault
+pub trace_alike : (chip also : LinkedChip) → AreAlike chip also → (fault : Fault) → AtTrace chip fault → AtTrace also fault
 trace_alike chip also alike fault at = record {
   broken = at.broken;
   cause = (one_trace chip also alike).cause at.broken at.cause;
   told = traced_alike chip also alike at.broken fault at.told;
 }
 
-pub one_at_trace : (chip : Chip) (fault other : Fault) → AtTrace chip fault → AtTrace chip other → fault ≡ other
+pub one_at_trace : (chip : LinkedChip) (fault other : Fault) → AtTrace chip fault → AtTrace chip other → fault ≡ other
 one_at_trace chip fault other here there =
     let same = (one_answer chip).one_cause here.broken there.broken here.cause there.cause
     (some_memory chip here.broken fault here.told) (some_memory chip there.broken other there.told) in
     one_traced chip there.broken fault other (subst (λ it. IsTracedBy chip it fault) same here.told) there.told
 
 -- a chip with chains has none
-pub none_of_traced : (chip : Chip) (fault : Fault) → AtTrace chip fault → IsTraced chip → ⊥
+pub none_of_traced : (chip : LinkedChip) (fault : Fault) → AtTrace chip fault → IsTraced chip → ⊥
 none_of_traced chip fault at (chains, all) =
     some_memory chip at.broken fault at.told ((one_answer chip).not_both chains at.broken all at.cause)
 
-pub traced_also : (chip also : Chip) → AreAlike chip also → IsTraced chip → IsTraced also
+pub traced_also : (chip also : LinkedChip) → AreAlike chip also → IsTraced chip → IsTraced also
 traced_also chip also alike (chains, all) = (chains, (one_trace chip also alike).chains chains all)

@@ -10,7 +10,7 @@ use Rattle.ca_spice.specs.Reading.{library_of}
 use Rattle.ca_verilog.specs.declared.fault.VerilogFault.{VerilogFault}
 use Rattle.ca_verilog.specs.declared.fault.VerilogFault.TheVariants as verilog
 use Rattle.ca_verilog.specs.Text.{netlist_of}
-use Rattle.ca_wired.specs.Linked.{Chip}
+use Rattle.ca_linked.specs.Linked.{LinkedChip}
 use Rattle.ca_scan.specs.Table.{table_of}
 use Rattle.ca_fault.specs.declared.fault.LimitKind.TheVariants as limit
 use Rattle.ca_fault.specs.declared.fault.Fault.{Fault}
@@ -126,7 +126,7 @@ AtInput names given fault = AtFile MAX_CELLS names.cells TellsCells (given names
 
 -- the chip of the inputs has no chains
 pub record LacksChains (inputs : Inputs) (fault : Fault) : Type 0 where
-  pub chip : Chip
+  pub chip : LinkedChip
   pub is : IsChipOf inputs chip
   pub at : AtTrace chip fault
 
@@ -210,7 +210,7 @@ module _ (names : InputFiles) (given : Files) where
       (λ fault other here there. no_input there.0 there.1.0 fault here)
 
   -- files that give a chip with chains have none
-  pub no_load : (inputs : Inputs) → ReadAs names inputs given → (chip : Chip) → IsChipOf inputs chip → IsTraced chip → (fault : Fault)
+  pub no_load : (inputs : Inputs) → ReadAs names inputs given → (chip : LinkedChip) → IsChipOf inputs chip → IsTraced chip → (fault : Fault)
       → AtLoad names given fault → ⊥
   no_load inputs read chip is traced fault (inl here) = no_input inputs read fault here
   no_load inputs read chip is traced fault (inr there) = by (one_read (λ inputs. AtChip inputs fault) inputs read there)

@@ -19,14 +19,14 @@ use Rattle.ca_verilog.specs.Reading.{Reading}
 use Rattle.ca_verilog.specs.Text.{reading_of, limited_of, netlist_of}
 use Rattle.ca_verilog.proofs.PlaceLemmas.{distinct_once}
 use Rattle.ca_verilog.proofs.SoundLemmas.{whole_reading}
-use Rattle.ca_wired.specs.declared.parts.Body.{Body}
-use Rattle.ca_wired.specs.declared.parts.Body.TheVariants.{Gate, Scan}
-use Rattle.ca_wired.specs.Linked.{Chip, IsGate}
-use Rattle.ca_wired.specs.Instances.{IsNamedGate}
-use Rattle.ca_wired.proofs.DriverLemmas.{some_inj}
-use Rattle.ca_chip.specs.declared.scan_row.ScanRow.{ScanRow}
-use Rattle.ca_chip.specs.Wiring.{WiredPart, meaning_of, output_names, open_count, wired_part, wired_parts, wiring_of}
-use Rattle.ca_chip.specs.Linking.{IsLinkOf}
+use Rattle.ca_linked.specs.declared.parts.Body.{Body}
+use Rattle.ca_linked.specs.declared.parts.Body.TheVariants.{Gate, Scan}
+use Rattle.ca_linked.specs.Linked.{LinkedChip, IsGate}
+use Rattle.ca_linked.specs.Instances.{IsNamedGate}
+use Rattle.ca_linked.proofs.DriverLemmas.{some_inj}
+use Rattle.ca_wiring.specs.declared.scan_row.ScanRow.{ScanRow}
+use Rattle.ca_wiring.specs.Wiring.{WiredPart, meaning_of, output_names, open_count, wired_part, wired_parts, wiring_of}
+use Rattle.ca_wiring.specs.Linking.{IsLinkOf}
 use Rattle.ca_link_laws.specs.Alike.{AreBodiesAlike, AreAlike}
 use Rattle.ca_link_laws.proofs.AlikeLemmas.{item_at}
 
@@ -69,7 +69,7 @@ module _ (raw : RawNetlist) (library : List Named) (scan : List ScanRow) where
   wired_name bits own (instance ∷ more) (suc u) wired at =
       wired_name bits (own + open_count instance.pins (output_names (meaning_of library scan instance.cell))) more u wired at
 
-  module _ (chip : Chip) (link : IsLinkOf (wiring_of raw library scan) chip) where
+  module _ (chip : LinkedChip) (link : IsLinkOf (wiring_of raw library scan) chip) where
     gate_name : (name : List ℕ) (u : ℕ) → IsNamedGate chip name u
         → slice_get (map (λ instance. instance.name) raw.instances) u ≡ Some name
     gate_name name u is =
@@ -88,7 +88,7 @@ gate_body (Gate cell inputs outputs) (Scan nets) alike is = absurd alike
 gate_body (Scan nets) also alike is = absurd is
 
 -- chips that are alike have the same names
-pub named_alike : (chip also : Chip) → AreAlike chip also → (name : List ℕ) (u : ℕ) → IsNamedGate chip name u → IsNamedGate also name u
+pub named_alike : (chip also : LinkedChip) → AreAlike chip also → (name : List ℕ) (u : ℕ) → IsNamedGate chip name u → IsNamedGate also name u
 named_alike chip also alike name u is =
     let other = item_at chip.parts also.parts u is.part alike.same_parts is.at in
     let same = alike.parts u is.part other.0 is.at other.1 in

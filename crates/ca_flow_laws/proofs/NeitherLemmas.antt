@@ -19,17 +19,17 @@ use Rattle.ca_verilog.specs.declared.fault.VerilogFault.TheVariants as verilog
 use Rattle.ca_verilog.specs.declared.raw.RawInstance.{RawInstance}
 use Rattle.ca_verilog.specs.declared.raw.RawNetlist.{RawNetlist}
 use Rattle.ca_verilog.specs.Text.{netlist_of}
-use Rattle.ca_wired.specs.declared.instances.InstanceId.{InstanceId}
-use Rattle.ca_wired.specs.Linked.{Chip}
-use Rattle.ca_chip.specs.declared.scan_row.ScanRow.{ScanRow}
-use Rattle.ca_chip.specs.declared.fault.ChipFault.{ChipFault}
-use Rattle.ca_chip.specs.declared.fault.ChipFault.TheVariants as rule
-use Rattle.ca_chip.specs.Wiring.{wiring_of}
-use Rattle.ca_chip.specs.Nets.{FeedsWire}
-use Rattle.ca_chip.specs.Rules.{KeepsRules}
+use Rattle.ca_linked.specs.declared.instances.InstanceId.{InstanceId}
+use Rattle.ca_linked.specs.Linked.{LinkedChip}
+use Rattle.ca_wiring.specs.declared.scan_row.ScanRow.{ScanRow}
+use Rattle.ca_wiring.specs.declared.fault.ChipFault.{ChipFault}
+use Rattle.ca_wiring.specs.declared.fault.ChipFault.TheVariants as rule
+use Rattle.ca_wiring.specs.Wiring.{wiring_of}
+use Rattle.ca_wiring.specs.Nets.{FeedsWire}
+use Rattle.ca_wiring.specs.Rules.{KeepsRules}
 use Rattle.ca_scan.specs.Table.{table_of}
-use Rattle.ca_place.specs.Names.{wire_text}
-use Rattle.ca_place.specs.Place.{cell_text, pin_text, refused_text, double_text, net_text, loop_text}
+use Rattle.ca_fault_place.specs.Names.{wire_text}
+use Rattle.ca_fault_place.specs.Place.{cell_text, pin_text, refused_text, double_text, net_text, loop_text}
 use Rattle.ca_fault.specs.declared.fault.LimitKind.TheVariants as limit
 use Rattle.ca_fault.specs.declared.fault.Fault.{Fault}
 use Rattle.ca_fault.specs.declared.fault.Fault.TheVariants.{Cells, Netlist, Scan, Chain, Cell, BadVector, NoInstance}
@@ -42,7 +42,7 @@ use Rattle.ca_load.specs.Files.{IsFileWith, OfFile, IsReadCause}
 use Rattle.ca_load.specs.Texts.{IsLibraryOf, IsNetlistOf, IsTableOf, IsTableAt, Inputs, ReadAs, OfInputs}
 use Rattle.ca_load.specs.Chips.{IsChipOf, BreakFirst, IsPlainRule, IsOfCell, IsPlaceOf, IsTracingCause, IsChipCause, IsTraced}
 use Rattle.ca_load.specs.Causes.{IsTextCause, IsModuleCause, IsRecordCause, HasLibrary, HasNetlist, IsScanCause, IsChipFault, IsLoadCause}
-use Rattle.ca_asked.specs.Asked.{IsDefectCause}
+use Rattle.ca_request.specs.Asked.{IsDefectCause}
 use Rattle.ca_chip_replay.specs.ChipRun.{RunOf}
 use Rattle.ca_words.specs.Words.{chip_files, instance_word, chip_defect_word, chip_first_word, chip_last_word, order_word}
 use Rattle.ca_words.specs.Words.{IsFlatten, IsSimulate, IsReplay, IsOnChip}
@@ -68,13 +68,13 @@ within_or_past : (n most : ℕ) → (n ≤ most) ⊎ (most < n)
 within_or_past n most = elim (dec_le n most) [ yes within ↦ inl within | no past ↦ inr (omega (arith, past)) ]
 
 -- what a fault reports that has a cause
-defect_told : (instance defect : List ℕ) (chip : Chip) (fault : Fault) → IsDefectCause chip instance defect fault
+defect_told : (instance defect : List ℕ) (chip : LinkedChip) (fault : Fault) → IsDefectCause chip instance defect fault
     → IsInputFault fault × IsDefectWord instance defect fault
 defect_told instance defect chip (NoInstance typed) (same, (some, lacks)) = (tt, (same, some))
 defect_told instance defect chip (NoDefect typed) (same, (some, lacks)) = (tt, (same, some))
 defect_told instance defect chip fault cause = absurd cause
 
-simulation_told : (instance defect first last : List ℕ) (chip : Chip) (fault : Fault) → IsSimulationCause instance defect first last fault chip
+simulation_told : (instance defect first last : List ℕ) (chip : LinkedChip) (fault : Fault) → IsSimulationCause instance defect first last fault chip
     → IsInputFault fault × (IsVectorWord first last fault ⊎ IsDefectWord instance defect fault)
 simulation_told instance defect first last chip (BadVector typed) (inl (inl cause)) = (tt, inl (inl cause.0))
 simulation_told instance defect first last chip (BadVector typed) (inl (inr cause)) = (tt, inl (inr cause.0))
@@ -82,7 +82,7 @@ simulation_told instance defect first last chip fault (inl cause) = absurd cause
 simulation_told instance defect first last chip fault (inr (fits, (too, cause))) =
     let told = defect_told instance defect chip fault cause in (told.0, inr told.1)
 
-tracing_told : (chip : Chip) (fault : Fault) → IsTracingCause fault chip → IsInputFault fault × IsChipFault fault
+tracing_told : (chip : LinkedChip) (fault : Fault) → IsTracingCause fault chip → IsInputFault fault × IsChipFault fault
 tracing_told chip (Chain name) cause = (tt, tt)
 tracing_told chip (Limit limit.Chains count) cause = (tt, tt)
 tracing_told chip fault cause = absurd cause
@@ -260,7 +260,7 @@ module _ (words : List (List ℕ)) (outside : Outside) (told : Files) (are : out
     kept : KeepsRules inputs.netlist inputs.library inputs.rows
     kept = none_broken inputs.netlist inputs.library inputs.rows no_first
 
-    answer : ((chip : Chip) → IsChipOf inputs chip → IsTraced chip) → ((chip : Chip) → IsChipOf inputs chip → FitsOwn words told chip) → ⊥
+    answer : ((chip : LinkedChip) → IsChipOf inputs chip → IsTraced chip) → ((chip : LinkedChip) → IsChipOf inputs chip → FitsOwn words told chip) → ⊥
     answer traced own =
         let fits : FitsChip words told = record {
           is = on;
@@ -271,14 +271,14 @@ module _ (words : List (List ℕ)) (outside : Outside) (told : Files) (are : out
         } in
         no_answer (inr (subst (λ it. IsSomeAnd it (λ told. FitsFile words told ⊎ FitsChip words told)) (sym are) (inr fits)))
 
-    module _ (chip : Chip) (is : IsChipOf inputs chip) (traced : IsTraced chip) where
+    module _ (chip : LinkedChip) (is : IsChipOf inputs chip) (traced : IsTraced chip) where
       one : NamesOne chip
       one = names_one (chip_files words) inputs told chip read is
 
-      of_chip : (Holds : Chip → Type 0) → Holds chip → OfChip outside.files (chip_files words) Holds
+      of_chip : (Holds : LinkedChip → Type 0) → Holds chip → OfChip outside.files (chip_files words) Holds
       of_chip Holds held = of_inputs (GiveChipWith Holds) (record { chip = chip; is = is; traced = traced; holds = held })
 
-      own_answer : ((also : Chip) → AreOne chip also → NamesOne also → FitsOwn words told also) → ⊥
+      own_answer : ((also : LinkedChip) → AreOne chip also → NamesOne also → FitsOwn words told also) → ⊥
       own_answer own = answer (λ also is_also. traced_also chip also (one_chip inputs chip also is is_also).alike traced)
           (λ also is_also. own also (one_chip inputs chip also is is_also) (names_one (chip_files words) inputs told also read is_also))
 
@@ -357,7 +357,7 @@ module _ (words : List (List ℕ)) (outside : Outside) (told : Files) (are : out
       at_chip (inr (inr (inr (inr replay)))) = at_replay replay
 
     at_inputs : ⊥
-    at_inputs = either ((chip : Chip) × IsChipOf inputs chip) (λ found. elim found [
+    at_inputs = either ((chip : LinkedChip) × IsChipOf inputs chip) (λ found. elim found [
       | inr none ↦ answer (λ chip is. absurd (none (chip, is))) (λ chip is. absurd (none (chip, is)))
       | inl it ↦ traced_or it.0 (λ fault cause.
           let tells = tracing_told it.0 fault cause in

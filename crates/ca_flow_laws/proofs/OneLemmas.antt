@@ -2,9 +2,9 @@
 use Rattle.std.proofs.Common.{◌≡◌, ◌≤◌, ℕ, ◌∙◌, sym, List, length}
 use Rattle.std.specs.Prelude.{IsSomeAnd, Option, Some, None}
 use Rattle.ca_store.specs.Store.{Files}
-use Rattle.ca_wired.specs.Linked.{Chip}
-use Rattle.ca_wired.specs.Instances.{IsNamedGate}
-use Rattle.ca_chip.specs.Wiring.{wiring_of}
+use Rattle.ca_linked.specs.Linked.{LinkedChip}
+use Rattle.ca_linked.specs.Instances.{IsNamedGate}
+use Rattle.ca_wiring.specs.Wiring.{wiring_of}
 use Rattle.ca_core.specs.Core.{core_of}
 use Rattle.ca_link_laws.specs.Alike.{AreAlike}
 use Rattle.ca_link_laws.proofs.AlikeLemmas.{links_alike}
@@ -16,11 +16,11 @@ use Rattle.ca_flow_laws.proofs.CoreLemmas.{one_core}
 use Rattle.ca_flow_laws.proofs.NamedLemmas.{HaveNames, distinct_names, one_named}
 
 -- both chips are alike, and have one core
-pub record AreOne (chip also : Chip) : Type 0 where
+pub record AreOne (chip also : LinkedChip) : Type 0 where
   pub alike : AreAlike chip also
   pub core : core_of chip ≡ core_of also
 
-pub one_chip : (inputs : Inputs) (chip also : Chip) → IsChipOf inputs chip → IsChipOf inputs also → AreOne chip also
+pub one_chip : (inputs : Inputs) (chip also : LinkedChip) → IsChipOf inputs chip → IsChipOf inputs also → AreOne chip also
 one_chip inputs chip also is too =
     let wiring = wiring_of inputs.netlist inputs.library inputs.rows in
     record {
@@ -28,14 +28,14 @@ one_chip inputs chip also is too =
       core = one_core wiring chip also is.link too.link is.wired too.wired (is.cells ∙ sym too.cells);
     }
 
-pub one_back : (chip also : Chip) → AreOne chip also → AreOne also chip
+pub one_back : (chip also : LinkedChip) → AreOne chip also → AreOne also chip
 one_back chip also are = record { alike = alike_back chip also are.alike; core = sym are.core }
 
 -- a name means one instance of the chip
-abbrev pub NamesOne : Chip → Type 0
+abbrev pub NamesOne : LinkedChip → Type 0
 NamesOne chip = (name : List ℕ) (u v : ℕ) → IsNamedGate chip name u → IsNamedGate chip name v → u ≡ v
 
-pub names_one : (names : InputFiles) (inputs : Inputs) (told : Files) (chip : Chip) → ReadAs names inputs told → IsChipOf inputs chip → NamesOne chip
+pub names_one : (names : InputFiles) (inputs : Inputs) (told : Files) (chip : LinkedChip) → ReadAs names inputs told → IsChipOf inputs chip → NamesOne chip
 names_one names inputs told chip read is =
     one_named inputs.netlist inputs.library inputs.rows chip is.link (by (told names.netlist) read.netlist)
   where

@@ -7,12 +7,12 @@ use Rattle.ca_store.specs.Store.{Files}
 use Rattle.ca_flat.specs.declared.chip_defect.ChipDefect.{ChipDefect}
 use Rattle.ca_flat.specs.Chip.{cell_at}
 use Rattle.ca_flat.specs.Chip as flat
-use Rattle.ca_wired.specs.Linked.{Chip}
-use Rattle.ca_wired.specs.Instances.{IsNamedGate}
+use Rattle.ca_linked.specs.Linked.{LinkedChip}
+use Rattle.ca_linked.specs.Instances.{IsNamedGate}
 use Rattle.ca_core.specs.Core.{core_of}
 use Rattle.ca_link_laws.proofs.TraceLemmas.{one_ports}
-use Rattle.ca_asked.specs.Vectors.{dash, letters_of}
-use Rattle.ca_asked.specs.Asked.{FitsInputs, defect_called, IsAskedDefect, LacksDefect, IsDefectCause, IsVectorsCause}
+use Rattle.ca_request.specs.Vectors.{dash, letters_of}
+use Rattle.ca_request.specs.Asked.{FitsInputs, defect_called, IsAskedDefect, LacksDefect, IsDefectCause, IsVectorsCause}
 use Rattle.ca_chip_replay.specs.ChipRun.{RunOf}
 use Rattle.ca_simulate.specs.Simulated.{pair_of}
 use Rattle.ca_simulate.specs.OneRun.{IsFaultyLine}
@@ -27,60 +27,60 @@ use Rattle.ca_flow_laws.proofs.OneLemmas.{AreOne, one_back, NamesOne}
 use Rattle.ca_flow_laws.proofs.OrderLemmas.{one_line}
 
 -- what is reported of two vectors
-abbrev pub AtVectors : List ℕ → List ℕ → Chip → Fault → Type 0
+abbrev pub AtVectors : List ℕ → List ℕ → LinkedChip → Fault → Type 0
 AtVectors first last chip fault =
     ((fault ≡ BadVector first) × ¬ (FitsInputs chip first))
     ⊎ ((fault ≡ BadVector last) × (FitsInputs chip first × ¬ (FitsInputs chip last)))
 
 -- no library instance has the name
-abbrev pub LacksGate : Chip → List ℕ → Type 0
+abbrev pub LacksGate : LinkedChip → List ℕ → Type 0
 LacksGate chip instance = (u : ℕ) → IsNamedGate chip instance u → ⊥
 
 -- what is reported of an instance and a defect
-abbrev pub AtDefect : List ℕ → List ℕ → Chip → Fault → Type 0
+abbrev pub AtDefect : List ℕ → List ℕ → LinkedChip → Fault → Type 0
 AtDefect instance defect chip fault = (instance ≢ dash)
     × (((fault ≡ NoInstance instance) × LacksGate chip instance) ⊎ ((fault ≡ NoDefect defect) × LacksDefect chip instance defect))
 
 -- what is reported of vectors, an instance and a defect, the vectors first
-abbrev pub AtPair : List ℕ → List ℕ → List ℕ → List ℕ → Chip → Fault → Type 0
+abbrev pub AtPair : List ℕ → List ℕ → List ℕ → List ℕ → LinkedChip → Fault → Type 0
 AtPair instance defect first last chip fault =
     AtVectors first last chip fault ⊎ ((FitsInputs chip first × FitsInputs chip last) × AtDefect instance defect chip fault)
 
 -- what is reported of a text of events
-abbrev pub TellsLine : List ℕ → List ℕ → List ℕ → List ℕ → Chip → Fault → List ℕ → Type 0
+abbrev pub TellsLine : List ℕ → List ℕ → List ℕ → List ℕ → LinkedChip → Fault → List ℕ → Type 0
 TellsLine instance defect first last chip fault bytes =
     (line : ℕ) × ((fault ≡ Order line) × HasFaultyLine instance defect first last line chip bytes)
 
 -- what is reported of the file of events, where the words name a run
-abbrev pub AtOrder : List ℕ → List ℕ → List ℕ → List ℕ → List ℕ → Files → Chip → Fault → Type 0
+abbrev pub AtOrder : List ℕ → List ℕ → List ℕ → List ℕ → List ℕ → Files → LinkedChip → Fault → Type 0
 AtOrder instance defect first last order given chip fault =
     HasRun instance defect first last chip
     × AtFile MAX_ORDER order (TellsLine instance defect first last chip) (given order) fault
 
 -- what is reported of all of these
-abbrev pub AtRun : List ℕ → List ℕ → List ℕ → List ℕ → List ℕ → Files → Chip → Fault → Type 0
+abbrev pub AtRun : List ℕ → List ℕ → List ℕ → List ℕ → List ℕ → Files → LinkedChip → Fault → Type 0
 AtRun instance defect first last order given chip fault =
     AtPair instance defect first last chip fault ⊎ AtOrder instance defect first last order given chip fault
 
 -- the causes
-pub of_defect : (instance defect : List ℕ) (chip : Chip) (fault : Fault) → IsDefectCause chip instance defect fault
+pub of_defect : (instance defect : List ℕ) (chip : LinkedChip) (fault : Fault) → IsDefectCause chip instance defect fault
     → AtDefect instance defect chip fault
 of_defect instance defect chip (NoInstance typed) (same, (some, lacks)) = (some, inl (ap NoInstance same, lacks))
 of_defect instance defect chip (NoDefect typed) (same, (some, lacks)) = (some, inr (ap NoDefect same, lacks))
 of_defect instance defect chip fault cause = absurd cause
 
-of_vectors : (first last : List ℕ) (chip : Chip) (fault : Fault) → IsVectorsCause chip first last fault → AtVectors first last chip fault
+of_vectors : (first last : List ℕ) (chip : LinkedChip) (fault : Fault) → IsVectorsCause chip first last fault → AtVectors first last chip fault
 of_vectors first last chip (BadVector typed) (inl (same, unfit)) = inl (ap BadVector same, unfit)
 of_vectors first last chip (BadVector typed) (inr (same, unfit)) = inr (ap BadVector same, unfit)
 of_vectors first last chip fault cause = absurd cause
 
-pub of_simulation : (instance defect first last : List ℕ) (chip : Chip) (fault : Fault) → IsSimulationCause instance defect first last fault chip
+pub of_simulation : (instance defect first last : List ℕ) (chip : LinkedChip) (fault : Fault) → IsSimulationCause instance defect first last fault chip
     → AtPair instance defect first last chip fault
 of_simulation instance defect first last chip fault (inl vectors) = inl (of_vectors first last chip fault vectors)
 of_simulation instance defect first last chip fault (inr (fits, (too, cause))) = inr ((fits, too), of_defect instance defect chip fault cause)
 
 -- a chip that is one with another has the same reported of it
-module _ (chip also : Chip) (are : AreOne chip also) where
+module _ (chip also : LinkedChip) (are : AreOne chip also) where
   pub fits_also : (word : List ℕ) → FitsInputs chip word → FitsInputs also word
   fits_also word fits = subst (λ (nets : List ℕ). length (letters_of word) ≡ length nets) (one_ports chip also are.alike).inputs fits
 
@@ -113,7 +113,7 @@ module _ (chip also : Chip) (are : AreOne chip also) where
     run_is = asked.run_is ∙ ap (λ (core : flat.Chip). record { chip = core; given = asked.given; pair = pair_of (letters_of first) (letters_of last) }) are.core;
   }
 
-module _ (chip also : Chip) (are : AreOne chip also) where
+module _ (chip also : LinkedChip) (are : AreOne chip also) where
   back : AreOne also chip
   back = one_back chip also are
 
@@ -162,7 +162,7 @@ module _ (chip also : Chip) (are : AreOne chip also) where
   at_run_also instance defect first last order given fault (inr at) = inr (order_also instance defect first last order given fault at)
 
 -- of one chip, in which a name means one instance, one fault is reported
-module _ (chip : Chip) where
+module _ (chip : LinkedChip) where
   one_vectors : (first last : List ℕ) (fault other : Fault) → AtVectors first last chip fault → AtVectors first last chip other → fault ≡ other
   one_vectors first last fault other (inl here) (inl there) = here.0 ∙ sym there.0
   one_vectors first last fault other (inl here) (inr there) = absurd (here.1 there.1.0)

@@ -2,7 +2,7 @@
 use Rattle.std.proofs.Common.{ℕ, ◌≡◌, ◌∙◌, ◌≤◌, Bool, true, List, length, Option, Some, None, refl, sym, ap, subst}
 use Rattle.std.specs.Prelude.{IfSome, IsSome, IsSomeAnd, Ok}
 use Rattle.ca_store.specs.Store.{Files}
-use Rattle.ca_wired.specs.Linked.{Chip}
+use Rattle.ca_linked.specs.Linked.{LinkedChip}
 use Rattle.ca_verilog.specs.Text.{netlist_of}
 use Rattle.ca_scan.specs.ChainFault.{AreAllChains}
 use Rattle.ca_credit.specs.declared.verdict.Verdict.{Verdict}
@@ -25,7 +25,7 @@ use Rattle.ca_flow.specs.Ends.{Ends, IsAsked}
 use Rattle.ca_flow_laws.specs.Patterns.{ReadsBack, AtpgTextIsRead}
 
 -- the netlist of the inputs is what some text reads as, so the ports of their chip have names of the form
-named : PortsAreNamed → (inputs : Inputs) (chip : Chip) → IsChipOf inputs chip → (there : Option (List ℕ)) (most : ℕ)
+named : PortsAreNamed → (inputs : Inputs) (chip : LinkedChip) → IsChipOf inputs chip → (there : Option (List ℕ)) (most : ℕ)
     → IsSomeAnd there (λ bytes. (length bytes ≤ most) × (netlist_of bytes ≡ Ok inputs.netlist))
     → IsNamedLink inputs.netlist inputs.library inputs.rows chip
 named ports inputs chip is None most held = absurd held
@@ -37,7 +37,7 @@ named ports inputs chip is (Some bytes) most held = record {
 }
 
 -- the inputs that a store's files read as
-with_inputs : (files : Option Files) (words : List (List ℕ)) (chip : Chip) → PortsAreNamed → IsSome files
+with_inputs : (files : Option Files) (words : List (List ℕ)) (chip : LinkedChip) → PortsAreNamed → IsSome files
     → IsChipOfFiles files (chip_files words) chip
     → (inputs : Inputs) × IsNamedLink inputs.netlist inputs.library inputs.rows chip
 with_inputs None words chip ports some held = absurd cc

@@ -18,7 +18,7 @@ use Rattle.ca_spice.specs.Called.{cell_called}
 use Rattle.ca_spice.proofs.AnswerLemmas.{reading_has_memory}
 use Rattle.ca_load.specs.declared.cells.TheConstants.{MAX_CELLS}
 use Rattle.ca_load.specs.Causes.{IsTextCause}
-use Rattle.ca_place.specs.Place.{rule_text}
+use Rattle.ca_fault_place.specs.Place.{rule_text}
 use Rattle.ca_fault.specs.declared.fault.LimitKind.TheVariants as limit
 use Rattle.ca_fault.specs.declared.fault.Fault.{Fault}
 use Rattle.ca_fault.specs.declared.fault.Fault.TheVariants.{Cells, NoCell, Cell, BadVector, NoDefect, TooLong}

@@ -1,7 +1,7 @@
 -- The patterns that `atpg` writes read back.
 use Rattle.std.specs.Prelude.{ℕ, ◌≡◌, Bool, List, Some, IsSome, Ok}
 use Rattle.ca_net.specs.declared.trit.Trit.{Trit}
-use Rattle.ca_wired.specs.Linked.{Chip}
+use Rattle.ca_linked.specs.Linked.{LinkedChip}
 use Rattle.ca_core.specs.Core.{core_of}
 use Rattle.ca_credit.specs.declared.verdict.Verdict.{Verdict}
 use Rattle.ca_expected.specs.Expected.{AreExpected}
@@ -18,7 +18,7 @@ use Rattle.ca_flow.specs.Ends.{Ends}
 
 -- the text reads, by the grammar of the form, as the chip's signals, groups and chains with these pairs and
 -- what the good chip ends with under each
-pub record ReadsBack (chip : Chip) (chains : List (List ℕ)) (pairs : List (List Bool)) (text : List ℕ)
+pub record ReadsBack (chip : LinkedChip) (chains : List (List ℕ)) (pairs : List (List Bool)) (text : List ℕ)
     : Type 0 where
   pub expected : List (List Trit)
   pub are_expected : AreExpected (core_of chip) pairs expected
@@ -28,7 +28,7 @@ pub record ReadsBack (chip : Chip) (chains : List (List ℕ)) (pairs : List (Lis
 -- text which STIL holds after status 0
 abbrev pub AtpgTextIsRead : Type 0
 AtpgTextIsRead =
-    (words : List (List ℕ)) (before after : Outside) (end : Finished) (chip : Chip) (chains : List (List ℕ))
+    (words : List (List ℕ)) (before after : Outside) (end : Finished) (chip : LinkedChip) (chains : List (List ℕ))
     (pairs : List (List Bool)) (aims : List ℕ) (verdicts : List Verdict) (text : List ℕ)
     → IsSome before.files → Ends words before after end
     → end.done ≡ Some (Atpg chip chains pairs aims verdicts) → IsStil chip chains pairs text

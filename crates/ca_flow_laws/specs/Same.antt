@@ -1,6 +1,6 @@
 -- The faults of what a command was given, and when two of them are one.
 use Rattle.std.specs.Prelude.{◌≡◌, ◌⊎◌, ⊤}
-use Rattle.ca_chip.specs.declared.fault.ChipFault.TheVariants as rule
+use Rattle.ca_wiring.specs.declared.fault.ChipFault.TheVariants as rule
 use Rattle.ca_fault.specs.declared.fault.Fault.{Fault}
 use Rattle.ca_fault.specs.declared.fault.Fault.TheVariants.{BadWords, Cells, Netlist, Scan, Chip, Chain}
 use Rattle.ca_fault.specs.declared.fault.Fault.TheVariants.{NoCell, Cell, BadVector, NoInstance, NoDefect}

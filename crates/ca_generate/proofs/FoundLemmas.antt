@@ -12,8 +12,8 @@ use Rattle.ca_flat.specs.declared.token.Token.{Token}
 use Rattle.ca_flat.specs.declared.token.Token.TheVariants.{Branch, Leaf}
 use Rattle.ca_flat.specs.Chip.{Chip}
 use Rattle.ca_flat.specs.Pair.{bit_count}
-use Rattle.ca_flat.specs.Code.{Reading, At, Ended, unset_pair, bit_trit, behind, Rules, Reads, IsFrontBy}
-use Rattle.ca_flat.specs.Code.{IsWholeCode}
+use Rattle.ca_flat.specs.Codes.{Reading, At, Ended, unset_pair, bit_trit, behind, Rules, Reads, IsFrontBy}
+use Rattle.ca_flat.specs.Codes.{IsWholeCode}
 use Rattle.ca_flat.proofs.Codes.{whole_is_ruled_out_lem}
 use Rattle.ca_credit.specs.Defects.{Task}
 use Rattle.ca_search.specs.Filled.{trits_of, filled_bit, filled}

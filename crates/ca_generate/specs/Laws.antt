@@ -5,7 +5,7 @@ use Rattle.std.specs.List.{Contains}
 use Rattle.ca_net.specs.declared.trit.Trit.{Trit}
 use Rattle.ca_flat.specs.declared.chip_defect.ChipDefect.{ChipDefect}
 use Rattle.ca_flat.specs.declared.token.Token.{Token}
-use Rattle.ca_flat.specs.Code.{branch_count}
+use Rattle.ca_flat.specs.Codes.{branch_count}
 use Rattle.ca_search.specs.declared.trail.Outcome.{Outcome}
 use Rattle.ca_search.specs.Judged.{Judged}
 use Rattle.ca_search.specs.Outcome.{IsOutcome}

@@ -4,7 +4,7 @@ use Rattle.ca_net.specs.declared.trit.Trit.{Trit}
 use Rattle.ca_flat.specs.declared.chip_defect.ChipDefect.{ChipDefect}
 use Rattle.ca_flat.specs.declared.token.Token.{Token}
 use Rattle.ca_flat.specs.Pair.{IsShown}
-use Rattle.ca_flat.specs.Code.{branch_count, IsFront, IsWholeCode, IsSpentCode}
+use Rattle.ca_flat.specs.Codes.{branch_count, IsFront, IsWholeCode, IsSpentCode}
 use Rattle.ca_credit.specs.Defects.{Task}
 use Rattle.ca_credit.specs.Good.{IsCheckedSpent}
 use Rattle.ca_search.specs.declared.trail.Outcome.{Outcome}

@@ -18,7 +18,7 @@ use ca_lex::Text;
 use ca_pair::{Pair, Pairs};
 use ca_rows::ChipRows;
 use ca_view::View;
-use ca_wired::Chip;
+use ca_linked::Chip;
 use std::alloc::Global;
 use std::process::Abort;
 

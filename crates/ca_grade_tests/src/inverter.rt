@@ -3,7 +3,7 @@
 ghost use Rattle.ca_scan.specs.ChainFault.{AreAllChains};
 
 use ca_base::NoMemory;
-use ca_chip::ScanTable;
+use ca_wiring::ScanTable;
 use ca_chip_grade::grade_chip;
 use ca_chip_pairs::read_chip_stil;
 use ca_generate::Unwatched;
@@ -14,7 +14,7 @@ use ca_scan::{Chains, trace};
 use ca_spice::read_library;
 use ca_stil_pairs::StilFault;
 use ca_verilog::read_netlist;
-use ca_wired::Chip;
+use ca_linked::Chip;
 use std::alloc::Global;
 
 const LIBRARY: &[u8] = b"

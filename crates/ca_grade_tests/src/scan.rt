@@ -3,7 +3,7 @@
 ghost use Rattle.ca_scan.specs.ChainFault.{AreAllChains};
 
 use ca_base::{List, NoMemory};
-use ca_chip::{ScanRow, ScanTable};
+use ca_wiring::{ScanRow, ScanTable};
 use ca_chip_pairs::read_chip_stil;
 use ca_chip_stil::{are_of_chip, write_chip_stil};
 use ca_lex::Text;
@@ -13,7 +13,7 @@ use ca_pair::Pair;
 use ca_scan::{Chains, trace};
 use ca_spice::read_library;
 use ca_verilog::read_netlist;
-use ca_wired::Chip;
+use ca_linked::Chip;
 use std::alloc::Global;
 
 // A full adder of which nothing is asked but its pins.

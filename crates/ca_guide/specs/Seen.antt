@@ -7,7 +7,7 @@ use Rattle.ca_net.specs.declared.wave.Wave.{Wave}
 use Rattle.ca_flat.specs.declared.chip_defect.ChipDefect.{ChipDefect}
 use Rattle.ca_flat.specs.Chip.{Chip}
 use Rattle.ca_flat.specs.Pair.{bit_count}
-use Rattle.ca_flat.specs.Code.{bit_trit}
+use Rattle.ca_flat.specs.Codes.{bit_trit}
 use Rattle.ca_flat.specs.Waves.{FlatWaves, wave_of, unknown_wave}
 use Rattle.ca_guide.specs.Flood.{Area}
 use Rattle.ca_view.specs.NetLists.{NetLists}

@@ -60,7 +60,7 @@ impl<'a, R: ExposingRows, P: Choice + Drop> Bench<'a, R, P> {
     ghost use Rattle.ca_flat.specs.Chip.{IsDefectIn};
     ghost use Rattle.ca_flat.specs.RuleOut.{RowsRuleOut};
     ghost use Rattle.ca_flat.specs.Waves.{FlatWaves};
-    ghost use Rattle.ca_flat.specs.Code.{unset_pair};
+    ghost use Rattle.ca_flat.specs.Codes.{unset_pair};
     ghost use Rattle.ca_flat.specs.Pair.{IsShown};
     ghost use Rattle.ca_view.specs.Linked.{IsAim, IsPlacedDefect, place_in};
     ghost use Rattle.ca_sim.specs.Seen.{IsExact, aimed_anew};

@@ -7,7 +7,7 @@ use Rattle.std.proofs.lemmas.Grind.{common_steps}
 use Rattle.std.proofs.lemmas.List.Elements.{All-head, All-tail}
 use Rattle.ca_flat.specs.Chip.{Chip}
 use Rattle.ca_flat.specs.Pair.{input_value, constant_value}
-use Rattle.ca_flat.specs.Code.{bit_trit}
+use Rattle.ca_flat.specs.Codes.{bit_trit}
 use Rattle.ca_lanes.specs.declared.values.Values.{Values}
 use Rattle.ca_lanes.specs.declared.constants.Constant.{Constant}
 use Rattle.ca_lanes.specs.Choice.{Choice, choice_over, choice_for, choice_at, unknown}

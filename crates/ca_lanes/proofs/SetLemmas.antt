@@ -8,7 +8,7 @@ use Rattle.std.proofs.Math.Seq.{drop-cons}
 use Rattle.std.proofs.lemmas.List.{map-set, get_or-set_same, get_or-set_other, length-map}
 use Rattle.ca_lanes.specs.declared.plane.Plane.{Plane}
 use Rattle.ca_lanes.specs.declared.values.Values.{Values}
-use Rattle.ca_flat.specs.Code.{bit_trit}
+use Rattle.ca_flat.specs.Codes.{bit_trit}
 use Rattle.ca_lanes.specs.Plane.{lane_of}
 use Rattle.ca_lanes.specs.Choice.{Choice, no_choice, choice_of, choice_over, choice_for, unknown, choices_of}
 use Rattle.ca_lanes.specs.Choice.{choice_at}

@@ -1,7 +1,7 @@
 -- What only proofs of code cite: the nets that are set before any instance is evaluated.
 use Rattle.std.specs.Prelude.{ℕ, zero, suc, ◌+◌, ◌==◌, if◌then◌else◌}
 use Rattle.std.specs.Prelude.{Bool, false, List, [], ◌∷◌, get_or}
-use Rattle.ca_flat.specs.Code.{bit_trit}
+use Rattle.ca_flat.specs.Codes.{bit_trit}
 use Rattle.ca_lanes.specs.declared.constants.Constant.{Constant}
 use Rattle.ca_lanes.specs.Choice.{Choice, no_choice, choice_for, choice_with, choice_over, unknown}
 

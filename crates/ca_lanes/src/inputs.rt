@@ -2,7 +2,7 @@
 
 ghost use Rattle.std.specs.Prelude.{◌≡◌, ◌+◌, ◌<◌, ◌≤◌, ℕ, length};
 ghost use Rattle.std.specs.List.{All};
-ghost use Rattle.ca_flat.specs.Code.{bit_trit};
+ghost use Rattle.ca_flat.specs.Codes.{bit_trit};
 ghost use Rattle.ca_lanes.specs.Plane.{lane_of, is_lane};
 ghost use Rattle.ca_lanes.specs.Choice.{choice_of};
 ghost use Rattle.ca_lanes.specs.Set.{bit_choice};

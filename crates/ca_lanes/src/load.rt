@@ -15,7 +15,7 @@ use ca_pair::Pair;
 impl Planes {
     ghost use Rattle.std.specs.Prelude.{List, Bool};
     ghost use Rattle.ca_flat.specs.Chip.{Chip, IsChip};
-    ghost use Rattle.ca_flat.specs.Code.{bit_trit};
+    ghost use Rattle.ca_flat.specs.Codes.{bit_trit};
     ghost use Rattle.ca_lanes.specs.Plane.{lane_of, is_lane};
     ghost use Rattle.ca_lanes.specs.Choice.{choice_at};
     ghost use Rattle.ca_lanes.specs.Set.{set_choice};

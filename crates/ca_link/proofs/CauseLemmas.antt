@@ -4,26 +4,26 @@ use Rattle.std.proofs.Common.{subst, arith}
 use Rattle.std.specs.Prelude.{Option, Some, None}
 use Rattle.ca_cell.specs.Library.{Named}
 use Rattle.ca_verilog.specs.declared.raw.RawNetlist.{RawNetlist}
-use Rattle.ca_chip.specs.declared.scan_row.ScanRow.{ScanRow}
-use Rattle.ca_chip.specs.declared.fault.ChipFault.{ChipFault}
-use Rattle.ca_chip.specs.declared.fault.ChipFault.TheVariants as fault
-use Rattle.ca_chip.specs.InstanceRules.{AreSound}
-use Rattle.ca_chip.specs.Wiring.{Wiring, wiring_of}
-use Rattle.ca_chip.specs.Nets.{FeedsWire}
-use Rattle.ca_chip.specs.Linking.{IsLinkOf}
-use Rattle.ca_chip.specs.Rules.{IsEarlier, KeepsRules, IsCause}
-use Rattle.ca_wired.specs.declared.controls.Misused.{Misused}
-use Rattle.ca_wired.specs.declared.drivers.Sources.{Sources}
-use Rattle.ca_wired.specs.declared.parts.Source.{Source}
-use Rattle.ca_wired.specs.declared.wiring.WireFault.{WireFault}
-use Rattle.ca_wired.specs.declared.wiring.WireFault.TheVariants as wire_fault
-use Rattle.ca_wired.specs.Order.{IsLoop}
-use Rattle.ca_wired.specs.Linked.{Chip, IsWired, Drives, inputs_of, outputs_of}
-use Rattle.ca_wired.specs.Instances.{gates_of}
-use Rattle.ca_wired.specs.Drivers.{AreFirst, IsSingle}
-use Rattle.ca_wired.specs.Controls.{misused_of}
-use Rattle.ca_wired.specs.Paths.{IsFirstObserved}
-use Rattle.ca_wired.specs.Wired.{IsFirstMisdriven, AreDriven, KeepsNetRules, IsWireCause}
+use Rattle.ca_wiring.specs.declared.scan_row.ScanRow.{ScanRow}
+use Rattle.ca_wiring.specs.declared.fault.ChipFault.{ChipFault}
+use Rattle.ca_wiring.specs.declared.fault.ChipFault.TheVariants as fault
+use Rattle.ca_wiring.specs.InstanceRules.{AreSound}
+use Rattle.ca_wiring.specs.Wiring.{Wiring, wiring_of}
+use Rattle.ca_wiring.specs.Nets.{FeedsWire}
+use Rattle.ca_wiring.specs.Linking.{IsLinkOf}
+use Rattle.ca_wiring.specs.Rules.{IsEarlier, KeepsRules, IsCause}
+use Rattle.ca_linked.specs.declared.controls.Misused.{Misused}
+use Rattle.ca_linked.specs.declared.drivers.Sources.{Sources}
+use Rattle.ca_linked.specs.declared.parts.Source.{Source}
+use Rattle.ca_linked.specs.declared.wiring.WireFault.{WireFault}
+use Rattle.ca_linked.specs.declared.wiring.WireFault.TheVariants as wire_fault
+use Rattle.ca_linked.specs.Order.{IsLoop}
+use Rattle.ca_linked.specs.Linked.{LinkedChip, IsWired, Drives, inputs_of, outputs_of}
+use Rattle.ca_linked.specs.Instances.{gates_of}
+use Rattle.ca_linked.specs.Drivers.{AreFirst, IsSingle}
+use Rattle.ca_linked.specs.Controls.{misused_of}
+use Rattle.ca_linked.specs.Paths.{IsFirstObserved}
+use Rattle.ca_linked.specs.Wired.{IsFirstMisdriven, AreDriven, KeepsNetRules, IsWireCause}
 use Rattle.ca_link.specs.Stages.{IsMisused, PassesLimit}
 use Rattle.ca_link.specs.Told.{TellsMisdriven, TellsMisused, TellsFault}
 use Rattle.ca_link.specs.Limits.{chip_defects, first_limit}
@@ -37,7 +37,7 @@ use Rattle.ca_link.proofs.PathLemmas.{observed_path, none_observed_before, unobs
 use Rattle.ca_link.proofs.StageLemmas.{KeepsAt, keeps_rules, first_broken, no_later, earlier_place}
 use Rattle.ca_link.proofs.StageLemmas.{earlier_pin, not_earlier_alone}
 
-module _ (raw : RawNetlist) (library : List Named) (scan : List ScanRow) (chip : Chip) (link : IsLinkOf (wiring_of raw library scan) chip) where
+module _ (raw : RawNetlist) (library : List Named) (scan : List ScanRow) (chip : LinkedChip) (link : IsLinkOf (wiring_of raw library scan) chip) where
   -- a control pin or an inverted output before this place breaks no rule
   none_misused_before : (misused : Misused) → misused_of chip ≡ Some misused → (u k : ℕ) → IsMisused (wiring_of raw library scan) u k
       → (u < misused.instance) ⊎ ((u ≡ misused.instance) × (k < misused.pin)) → ⊥
@@ -211,7 +211,7 @@ module _ (raw : RawNetlist) (library : List Named) (scan : List ScanRow) (chip :
           })
 
 -- a chip with an order is a link where it is one without
-pub link_ordered : (wiring : Wiring) (chip : Chip) (order : List ℕ) → IsLinkOf wiring chip → IsLinkOf wiring (record chip { order = order })
+pub link_ordered : (wiring : Wiring) (chip : LinkedChip) (order : List ℕ) → IsLinkOf wiring chip → IsLinkOf wiring (record chip { order = order })
 link_ordered wiring chip order link = record {
   nets = link.nets;
   are = link.are;
@@ -224,8 +224,8 @@ link_ordered wiring chip order link = record {
 }
 
 -- the chip that is made of a draft
-module _ (raw : RawNetlist) (library : List Named) (scan : List ScanRow) (draft : Chip) (link : IsLinkOf (wiring_of raw library scan) draft)
-    (sound : AreSound raw library scan) (kept : KeepsNetRules draft) (made : Chip) (is : made ≡ record draft { order = made.order }) where
+module _ (raw : RawNetlist) (library : List Named) (scan : List ScanRow) (draft : LinkedChip) (link : IsLinkOf (wiring_of raw library scan) draft)
+    (sound : AreSound raw library scan) (kept : KeepsNetRules draft) (made : LinkedChip) (is : made ≡ record draft { order = made.order }) where
   -- is a link as well
   pub made_link : IsLinkOf (wiring_of raw library scan) made
   made_link = subst (IsLinkOf (wiring_of raw library scan)) (sym is) (link_ordered (wiring_of raw library scan) draft made.order link)

@@ -5,24 +5,24 @@ use Rattle.std.proofs.Common.{subst, arith, true≢false}
 use Rattle.std.specs.Prelude.{Option, Some, None, IsSomeAnd, slice_get, eqb, not, ◌⊎◌, option_to_list}
 use Rattle.std.proofs.lemmas.Bool.{cases_lt, cases_Bool, or_cases, or_left, or_right, eqb-true, eq-eqb}
 use Rattle.ca_base.specs.First.{IsFirst}
-use Rattle.ca_wired.specs.declared.controls.Misused.{Misused}
-use Rattle.ca_wired.specs.declared.parts.ScanNets.{ScanNets}
-use Rattle.ca_wired.specs.declared.parts.Body.{Body}
-use Rattle.ca_wired.specs.declared.parts.Body.TheVariants.{Gate, Scan}
-use Rattle.ca_wired.specs.declared.parts.Part.{Part}
-use Rattle.ca_wired.specs.Linked.{Chip, input_nets, output_nets, IsGate}
-use Rattle.ca_wired.specs.Instances as instances
-use Rattle.ca_wired.specs.Paths.{is_on_port}
-use Rattle.ca_wired.specs.Controls.{is_used, pin_fault, first_scan, body_fault, misused_of}
-use Rattle.ca_chip.specs.declared.scan_row.ScanRow.{ScanRow}
+use Rattle.ca_linked.specs.declared.controls.Misused.{Misused}
+use Rattle.ca_linked.specs.declared.parts.ScanNets.{ScanNets}
+use Rattle.ca_linked.specs.declared.parts.Body.{Body}
+use Rattle.ca_linked.specs.declared.parts.Body.TheVariants.{Gate, Scan}
+use Rattle.ca_linked.specs.declared.parts.Part.{Part}
+use Rattle.ca_linked.specs.Linked.{LinkedChip, input_nets, output_nets, IsGate}
+use Rattle.ca_linked.specs.Instances as instances
+use Rattle.ca_linked.specs.Paths.{is_on_port}
+use Rattle.ca_linked.specs.Controls.{is_used, pin_fault, first_scan, body_fault, misused_of}
+use Rattle.ca_wiring.specs.declared.scan_row.ScanRow.{ScanRow}
 use Rattle.ca_cell.specs.Library.{Named}
 use Rattle.ca_verilog.specs.declared.raw.RawNetlist.{RawNetlist}
-use Rattle.ca_chip.specs.Wiring.{ScanCell, WiredPart, Wiring, row_of, wiring_of}
-use Rattle.ca_chip.specs.Nets.{IsNetOf, AreNetsOf}
-use Rattle.ca_chip.specs.Linking.{IsPartOf, IsLinkOf}
-use Rattle.ca_chip.specs.Rules.{control_names, IsScan, IsControl, BreaksControl, UsesInverted}
-use Rattle.ca_wired.proofs.DriverLemmas.{some_inj, to_some}
-use Rattle.ca_wired.proofs.FeedingLemmas.{item_of}
+use Rattle.ca_wiring.specs.Wiring.{ScanCell, WiredPart, Wiring, row_of, wiring_of}
+use Rattle.ca_wiring.specs.Nets.{IsNetOf, AreNetsOf}
+use Rattle.ca_wiring.specs.Linking.{IsPartOf, IsLinkOf}
+use Rattle.ca_wiring.specs.Rules.{control_names, IsScan, IsControl, BreaksControl, UsesInverted}
+use Rattle.ca_linked.proofs.DriverLemmas.{some_inj, to_some}
+use Rattle.ca_linked.proofs.FeedingLemmas.{item_of}
 use Rattle.ca_link.proofs.NetsLemmas.{wire_at, net_at, one_net_joined, joined_one_net, also_there}
 use Rattle.ca_link.proofs.LoadLemmas.{on_input, input_on, loaded_wire, wire_loaded}
 use Rattle.ca_link.proofs.RowLemmas.{row_means, means_row}
@@ -31,7 +31,7 @@ use Rattle.ca_link.proofs.ScanLemmas.{some_first, IsMisusedAt, misused_at, none_
 use Rattle.ca_link.proofs.ScanLemmas.{control_input, breaks_pin, IsFirstPin, first_pin, no_pin, breaks_cases}
 use Rattle.ca_link.proofs.ScanLemmas.{misplaced_breaks, shared_breaks}
 
-module _ (wiring : Wiring) (chip : Chip) (link : IsLinkOf wiring chip) where
+module _ (wiring : Wiring) (chip : LinkedChip) (link : IsLinkOf wiring chip) where
   -- the instance is of a scan cell, with these nets
   pub record IsScanAt (u : ℕ) (nets : ScanNets) : Type 0 where
     pub part : Part
@@ -255,7 +255,7 @@ module _ (wiring : Wiring) (chip : Chip) (link : IsLinkOf wiring chip) where
         by (Some qn) are = wire_loaded wiring chip link qn uses.qn are.1.0 uses.loaded
 
 -- the instance that is reported, and the pin
-module _ (chip : Chip) (misused : Misused) (told : misused_of chip ≡ Some misused) where
+module _ (chip : LinkedChip) (misused : Misused) (told : misused_of chip ≡ Some misused) where
   pub told_at : IsMisusedAt chip (first_scan chip.parts) chip.parts misused.instance misused.pin
   told_at =
       let found = misused_at chip (first_scan chip.parts) chip.parts 0 misused told in
@@ -264,7 +264,7 @@ module _ (chip : Chip) (misused : Misused) (told : misused_of chip ≡ Some misu
       (let there : found.0 ≡ misused.instance = omega (arith, same) in there) found.2
 
 -- the body of an instance with such a pin
-pub record HasPin (chip : Chip) (body : Body) (pin : ℕ) : Type 0 where
+pub record HasPin (chip : LinkedChip) (body : Body) (pin : ℕ) : Type 0 where
   pub nets : ScanNets
   pub is : body ≡ Scan nets
   pub first : ScanNets
@@ -272,7 +272,7 @@ pub record HasPin (chip : Chip) (body : Body) (pin : ℕ) : Type 0 where
   pub broken : IsFirstPin chip first nets pin
 
 -- an instance with such a pin is a scan instance, beside a first one
-pub has_pin : (chip : Chip) (body : Body) (pin : ℕ) → body_fault chip (first_scan chip.parts) body ≡ Some pin → HasPin chip body pin
+pub has_pin : (chip : LinkedChip) (body : Body) (pin : ℕ) → body_fault chip (first_scan chip.parts) body ≡ Some pin → HasPin chip body pin
 has_pin chip body pin e = by body (first_scan chip.parts) refl refl e
   where
     by : (other : Body) (first : Option ScanNets) → body ≡ other → first_scan chip.parts ≡ first → body_fault chip first other ≡ Some pin
@@ -283,13 +283,13 @@ has_pin chip body pin e = by body (first_scan chip.parts) refl refl e
         record { nets = nets; is = is; first = first; is_first = is_first; broken = first_pin chip first nets pin told }
 
 -- the pin is one of four
-pub misused_pin : (chip : Chip) (misused : Misused) → misused_of chip ≡ Some misused → misused.pin < 4
+pub misused_pin : (chip : LinkedChip) (misused : Misused) → misused_of chip ≡ Some misused → misused.pin < 4
 misused_pin chip misused told =
     let at = told_at chip misused told in
     (has_pin chip at.part.body misused.pin at.broken).broken.few
 
 -- of a scan instance
-pub misused_scan : (chip : Chip) (misused : Misused) → misused_of chip ≡ Some misused
+pub misused_scan : (chip : LinkedChip) (misused : Misused) → misused_of chip ≡ Some misused
     → IsSomeAnd (slice_get chip.parts misused.instance) (λ part. instances.IsScan part.body)
 misused_scan chip misused told =
     let at = told_at chip misused told in
@@ -297,7 +297,7 @@ misused_scan chip misused told =
     to_some (λ (part : Part). instances.IsScan part.body) (slice_get chip.parts misused.instance) at.part at.at
     (subst instances.IsScan (sym has.is) tt)
 
-module _ (wiring : Wiring) (chip : Chip) (link : IsLinkOf wiring chip) where
+module _ (wiring : Wiring) (chip : LinkedChip) (link : IsLinkOf wiring chip) where
   -- a scan instance of the chip, beside the first
   pub record IsJudged (u : ℕ) : Type 0 where
     pub nets : ScanNets
@@ -369,7 +369,7 @@ module _ (wiring : Wiring) (chip : Chip) (link : IsLinkOf wiring chip) where
       true≢false (sym broken ∙ no_pin chip here.first here.nets (sym here.fault ∙ fault) k)
 
 -- the control pin that is reported breaks its rule in the wiring
-pub control_broken : (wiring : Wiring) (chip : Chip) (link : IsLinkOf wiring chip) (misused : Misused) → misused_of chip ≡ Some misused
+pub control_broken : (wiring : Wiring) (chip : LinkedChip) (link : IsLinkOf wiring chip) (misused : Misused) → misused_of chip ≡ Some misused
     → misused.pin < 3 → (part : WiredPart) → slice_get wiring.parts misused.instance ≡ Some part
     → (pin : List ℕ) → slice_get (control_names part.meaning) misused.pin ≡ Some pin → BreaksControl wiring misused.instance misused.pin pin
 control_broken wiring chip link misused told few part at pin named =
@@ -381,7 +381,7 @@ control_broken wiring chip link misused told few part at pin named =
     (subst (λ (p : WiredPart). slice_get (control_names p.meaning) misused.pin ≡ Some pin) same named)
 
 -- and so does the inverted output that is reported
-pub inverted_used : (wiring : Wiring) (chip : Chip) (link : IsLinkOf wiring chip) (misused : Misused) → misused_of chip ≡ Some misused
+pub inverted_used : (wiring : Wiring) (chip : LinkedChip) (link : IsLinkOf wiring chip) (misused : Misused) → misused_of chip ≡ Some misused
     → misused.pin ≡ 3 → UsesInverted wiring misused.instance
 inverted_used wiring chip link misused told last =
     let found = told_here wiring chip link misused told in
@@ -391,35 +391,35 @@ inverted_used wiring chip link misused told last =
     (subst (λ pin. breaks_pin chip here.first here.nets pin ≡ true) last first.here)
 
 -- no control pin before what is reported breaks its rule in the wiring
-pub no_earlier_control : (wiring : Wiring) (chip : Chip) (link : IsLinkOf wiring chip) (misused : Misused) → misused_of chip ≡ Some misused
+pub no_earlier_control : (wiring : Wiring) (chip : LinkedChip) (link : IsLinkOf wiring chip) (misused : Misused) → misused_of chip ≡ Some misused
     → (u k : ℕ) (pin : List ℕ) → (u < misused.instance) ⊎ ((u ≡ misused.instance) × (k < misused.pin)) → BreaksControl wiring u k pin → ⊥
 no_earlier_control wiring chip link misused told u k pin before breaks =
     let found = control_breaks wiring chip link u k pin breaks in
     none_earlier wiring chip link misused told u k found.0 before found.1
 
 -- and no inverted output before it has a load
-pub no_earlier_inverted : (wiring : Wiring) (chip : Chip) (link : IsLinkOf wiring chip) (misused : Misused) → misused_of chip ≡ Some misused
+pub no_earlier_inverted : (wiring : Wiring) (chip : LinkedChip) (link : IsLinkOf wiring chip) (misused : Misused) → misused_of chip ≡ Some misused
     → (u : ℕ) → u < misused.instance → UsesInverted wiring u → ⊥
 no_earlier_inverted wiring chip link misused told u before uses =
     let found = inverted_breaks wiring chip link u uses in
     none_earlier wiring chip link misused told u 3 found.0 (inl before) found.1
 
 -- where none is reported, each control pin keeps its rule in the wiring
-pub controls_kept : (wiring : Wiring) (chip : Chip) (link : IsLinkOf wiring chip) → misused_of chip ≡ None
+pub controls_kept : (wiring : Wiring) (chip : LinkedChip) (link : IsLinkOf wiring chip) → misused_of chip ≡ None
     → (u k : ℕ) (pin : List ℕ) → BreaksControl wiring u k pin → ⊥
 controls_kept wiring chip link none u k pin breaks =
     let found = control_breaks wiring chip link u k pin breaks in
     none_at_all wiring chip link none u k found.0 found.1
 
 -- and no inverted output has a load
-pub inverted_kept : (wiring : Wiring) (chip : Chip) (link : IsLinkOf wiring chip) → misused_of chip ≡ None
+pub inverted_kept : (wiring : Wiring) (chip : LinkedChip) (link : IsLinkOf wiring chip) → misused_of chip ≡ None
     → (u : ℕ) → UsesInverted wiring u → ⊥
 inverted_kept wiring chip link none u uses =
     let found = inverted_breaks wiring chip link u uses in
     none_at_all wiring chip link none u 3 found.0 found.1
 
 -- The instance that is reported has a row in the scan table, and the control pin its name there.
-module _ (raw : RawNetlist) (library : List Named) (scan : List ScanRow) (chip : Chip) (link : IsLinkOf (wiring_of raw library scan) chip)
+module _ (raw : RawNetlist) (library : List Named) (scan : List ScanRow) (chip : LinkedChip) (link : IsLinkOf (wiring_of raw library scan) chip)
     (misused : Misused) (told : misused_of chip ≡ Some misused) (part : Part) (at : slice_get chip.parts misused.instance ≡ Some part) where
   told_scan : (nets : ScanNets) × IsScanAt (wiring_of raw library scan) chip link misused.instance nets
   told_scan =

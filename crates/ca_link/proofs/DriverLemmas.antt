@@ -2,21 +2,21 @@
 -- none.
 use Rattle.std.proofs.Common.{◌≡◌, ℕ, ◌<◌, ◌⊎◌, inl, inr, refl, sym, ◌∙◌, ap, subst, arith}
 use Rattle.std.specs.Prelude.{Some, slice_get}
-use Rattle.ca_chip.specs.declared.fault.Driver.{Driver}
-use Rattle.ca_chip.specs.Wiring.{Wiring}
-use Rattle.ca_chip.specs.Nets.{Driving, PortBit, ConstantBit, OutputPin, IsNet, IsLoaded}
-use Rattle.ca_chip.specs.Nets as nets
-use Rattle.ca_chip.specs.Linking.{IsLinkOf}
-use Rattle.ca_chip.specs.Same.{driving_of}
-use Rattle.ca_chip.specs.Rules.{IsDriver, IsDoubleDriven, IsUndriven}
-use Rattle.ca_chip.proofs.SameLemmas.{same_drivers, same_first_two}
-use Rattle.ca_wired.specs.declared.drivers.Sources.{Sources}
-use Rattle.ca_wired.specs.declared.parts.Source.{Source}
-use Rattle.ca_wired.specs.declared.parts.Source.TheVariants.{FromPort, FromConstant, FromPin}
-use Rattle.ca_wired.specs.Linked.{Chip, net_count, Drives}
-use Rattle.ca_wired.specs.Drivers.{AreFirst}
-use Rattle.ca_wired.specs.Wired.{HasOneDriver, IsFirstMisdriven, AreDriven}
-use Rattle.ca_wired.proofs.OrderLemmas.{contained_at}
+use Rattle.ca_wiring.specs.declared.fault.Driver.{Driver}
+use Rattle.ca_wiring.specs.Wiring.{Wiring}
+use Rattle.ca_wiring.specs.Nets.{Driving, PortBit, ConstantBit, OutputPin, IsNet, IsLoaded}
+use Rattle.ca_wiring.specs.Nets as nets
+use Rattle.ca_wiring.specs.Linking.{IsLinkOf}
+use Rattle.ca_wiring.specs.Same.{driving_of}
+use Rattle.ca_wiring.specs.Rules.{IsDriver, IsDoubleDriven, IsUndriven}
+use Rattle.ca_wiring.proofs.SameLemmas.{same_drivers, same_first_two}
+use Rattle.ca_linked.specs.declared.drivers.Sources.{Sources}
+use Rattle.ca_linked.specs.declared.parts.Source.{Source}
+use Rattle.ca_linked.specs.declared.parts.Source.TheVariants.{FromPort, FromConstant, FromPin}
+use Rattle.ca_linked.specs.Linked.{LinkedChip, net_count, Drives}
+use Rattle.ca_linked.specs.Drivers.{AreFirst}
+use Rattle.ca_linked.specs.Wired.{HasOneDriver, IsFirstMisdriven, AreDriven}
+use Rattle.ca_linked.proofs.OrderLemmas.{contained_at}
 use Rattle.ca_link.specs.Stages.{IsMisdriven}
 use Rattle.ca_link.proofs.NetsLemmas.{net_of_chip, net_of_wiring, net_within, wire_of_net}
 
@@ -33,7 +33,7 @@ not_before (ConstantBit value) before = omega (arith, before)
 not_before (OutputPin u pin) (inl less) = omega (arith, less)
 not_before (OutputPin u pin) (inr same) = let lt = same.1 in omega (arith, lt)
 
-module _ (wiring : Wiring) (chip : Chip) (link : IsLinkOf wiring chip) where
+module _ (wiring : Wiring) (chip : LinkedChip) (link : IsLinkOf wiring chip) where
   -- what drives the wires of a net drives it
   drives_net : (net wire : ℕ) → slice_get link.nets net ≡ Some wire → (driving : Driving) → nets.Drives wiring wire driving
       → (source : Source) × (driving_of source ≡ driving) × Drives chip net source

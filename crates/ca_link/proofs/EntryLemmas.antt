@@ -17,12 +17,12 @@ use Rattle.ca_cell.specs.Library.{Named, raw_of, IsEntry}
 use Rattle.ca_cell.specs.Nodes.{free_count, defect_count}
 use Rattle.ca_cell.specs.Raw.{is_input, is_output, role_count}
 use Rattle.ca_cell.specs.Rules.{KeepsRules, node_count}
-use Rattle.ca_chip.specs.Wiring.{names_with}
-use Rattle.ca_wired.specs.declared.parts.Body.{Body}
-use Rattle.ca_wired.specs.declared.parts.Body.TheVariants.{Gate}
-use Rattle.ca_wired.specs.declared.parts.Part.{Part}
-use Rattle.ca_wired.specs.Linked.{cell_of, no_cell, IsBody}
-use Rattle.ca_wired.proofs.FeedingLemmas.{item_of}
+use Rattle.ca_wiring.specs.Wiring.{names_with}
+use Rattle.ca_linked.specs.declared.parts.Body.{Body}
+use Rattle.ca_linked.specs.declared.parts.Body.TheVariants.{Gate}
+use Rattle.ca_linked.specs.declared.parts.Part.{Part}
+use Rattle.ca_linked.specs.Linked.{cell_of, no_cell, IsBody}
+use Rattle.ca_linked.proofs.FeedingLemmas.{item_of}
 use Rattle.ca_link.specs.Limits.{body_defects}
 
 -- a place past the last cell has no cell

@@ -7,15 +7,15 @@ use Rattle.std.proofs.lemmas.Bool.{or_cases, or_left, or_right, eqb-true, eq-eqb
 use Rattle.std.proofs.lemmas.List.Elements.{Contains-append_left, Contains-append_right}
 use Rattle.std.proofs.lemmas.List.Elements.{Contains-append_cases}
 use Rattle.std.proofs.lemmas.Option.{slice_get_within}
-use Rattle.ca_chip.specs.Wiring.{WiredPart, Wiring}
-use Rattle.ca_chip.specs.Nets.{IsNet, AreNets, IsNetOf, AreNetsOf}
-use Rattle.ca_chip.specs.Rules.{IsJoinedWithOne}
-use Rattle.ca_wired.specs.declared.parts.Body.{Body}
-use Rattle.ca_wired.specs.declared.parts.Part.{Part}
-use Rattle.ca_wired.specs.Linked.{has, Chip}
-use Rattle.ca_chip.specs.Linking.{IsPartOf, IsLinkOf}
-use Rattle.ca_wired.proofs.OrderLemmas.{contained_at, place_of}
-use Rattle.ca_wired.proofs.DriverLemmas.{some_inj}
+use Rattle.ca_wiring.specs.Wiring.{WiredPart, Wiring}
+use Rattle.ca_wiring.specs.Nets.{IsNet, AreNets, IsNetOf, AreNetsOf}
+use Rattle.ca_wiring.specs.Rules.{IsJoinedWithOne}
+use Rattle.ca_linked.specs.declared.parts.Body.{Body}
+use Rattle.ca_linked.specs.declared.parts.Part.{Part}
+use Rattle.ca_linked.specs.Linked.{has, LinkedChip}
+use Rattle.ca_wiring.specs.Linking.{IsPartOf, IsLinkOf}
+use Rattle.ca_linked.proofs.OrderLemmas.{contained_at, place_of}
+use Rattle.ca_linked.proofs.DriverLemmas.{some_inj}
 use Rattle.ca_link.proofs.NetsLemmas.{wire_at, net_at, one_net_joined, joined_one_net, also_there}
 
 -- one of a list passes a test, at a place
@@ -79,7 +79,7 @@ module _ (wiring : Wiring) (nets : List ℕ) where
       let found = net_at wiring nets wires list contains.0 other are (place_of wires other contains) in
       contained_at list contains.0 net (found.at ∙ ap Some (joined_one_net wiring nets of.ascending other wire found.net net found.is_net is joined))
 
-module _ (wiring : Wiring) (chip : Chip) (link : IsLinkOf wiring chip) where
+module _ (wiring : Wiring) (chip : LinkedChip) (link : IsLinkOf wiring chip) where
   -- an instance has the net among some of its nets where one of some of its wires is joined with it
   abbrev pub Matches : (Body → List ℕ) → (WiredPart → List ℕ) → Type 0
   Matches nets wires = (wired : WiredPart) (part : Part) → IsPartOf wiring link.nets chip.cells wired part

@@ -8,22 +8,22 @@ use Rattle.std.proofs.lemmas.Bool.{ltb-true, ltb-false}
 use Rattle.std.proofs.lemmas.List.Sums.{sum_by-cons}
 use Rattle.std.proofs.lemmas.Option.{get_or_from_slice_get}
 use Rattle.ca_cell.specs.declared.raw.RawCell.{RawCell}
-use Rattle.ca_chip.specs.declared.fault.ChipFault.{ChipFault}
-use Rattle.ca_chip.specs.declared.fault.ChipFault.TheVariants as fault
-use Rattle.ca_chip.specs.declared.fault.TheConstants.{MOST_INSTANCES, MOST_CHIP_INPUTS, MOST_CHIP_OUTPUTS}
-use Rattle.ca_chip.specs.declared.fault.TheConstants.{MOST_CHIP_DEFECTS}
-use Rattle.ca_chip.specs.Wiring.{Meaning, Unknown, Broken, Library, ScanCell, WiredPart, Wiring}
-use Rattle.ca_chip.specs.Nets.{IsNetOf, AreNetsOf}
-use Rattle.ca_chip.specs.Linking.{HasMeaning, IsLinkOf}
-use Rattle.ca_chip.specs.Rules.{count_library, library_count, defects_of}
-use Rattle.ca_wired.specs.declared.parts.Body.{Body}
-use Rattle.ca_wired.specs.declared.parts.Body.TheVariants.{Gate, Scan}
-use Rattle.ca_wired.specs.declared.parts.Part.{Part}
-use Rattle.ca_wired.specs.declared.parts.PortBit.{PortBit}
-use Rattle.ca_wired.specs.declared.parts.ScanNets.{ScanNets}
-use Rattle.ca_wired.specs.Linked.{Chip, has, input_nets, output_nets, path_nets, q_nets, d_nets, is_scan_path}
-use Rattle.ca_wired.specs.Linked.{port_nets, inputs_of, outputs_of, no_cell}
-use Rattle.ca_wired.specs.Instances.{if_gate, gates_from, gates_of}
+use Rattle.ca_wiring.specs.declared.fault.ChipFault.{ChipFault}
+use Rattle.ca_wiring.specs.declared.fault.ChipFault.TheVariants as fault
+use Rattle.ca_wiring.specs.declared.fault.TheConstants.{MOST_INSTANCES, MOST_CHIP_INPUTS, MOST_CHIP_OUTPUTS}
+use Rattle.ca_wiring.specs.declared.fault.TheConstants.{MOST_CHIP_DEFECTS}
+use Rattle.ca_wiring.specs.Wiring.{Meaning, Unknown, Broken, Library, ScanCell, WiredPart, Wiring}
+use Rattle.ca_wiring.specs.Nets.{IsNetOf, AreNetsOf}
+use Rattle.ca_wiring.specs.Linking.{HasMeaning, IsLinkOf}
+use Rattle.ca_wiring.specs.Rules.{count_library, library_count, defects_of}
+use Rattle.ca_linked.specs.declared.parts.Body.{Body}
+use Rattle.ca_linked.specs.declared.parts.Body.TheVariants.{Gate, Scan}
+use Rattle.ca_linked.specs.declared.parts.Part.{Part}
+use Rattle.ca_linked.specs.declared.parts.PortBit.{PortBit}
+use Rattle.ca_linked.specs.declared.parts.ScanNets.{ScanNets}
+use Rattle.ca_linked.specs.Linked.{LinkedChip, has, input_nets, output_nets, path_nets, q_nets, d_nets, is_scan_path}
+use Rattle.ca_linked.specs.Linked.{port_nets, inputs_of, outputs_of, no_cell}
+use Rattle.ca_linked.specs.Instances.{if_gate, gates_from, gates_of}
 use Rattle.ca_link.specs.Stages.{PassesLimit}
 use Rattle.ca_link.specs.Limits.{body_defects, chip_defects, first_limit}
 use Rattle.ca_link.proofs.NetsLemmas.{same_nets, nets_once, net_once, also_there}
@@ -71,7 +71,7 @@ module _ (cells : List RawCell) where
       (defects_all wireds parts (omega (arith, same)) (λ k w p at_w at_p. means (suc k) w p at_w at_p))
       ∙ sym (sum_by-cons (λ (p : Part). body_defects cells p.body) part parts)
 
-module _ (wiring : Wiring) (chip : Chip) (link : IsLinkOf wiring chip) where
+module _ (wiring : Wiring) (chip : LinkedChip) (link : IsLinkOf wiring chip) where
   -- the library instances and the defects of a link are those of the wiring
   pub instances_are : library_count wiring.parts ≡ length (gates_of chip)
   instances_are = counts_all chip.cells wiring.parts chip.parts 0 link.same_parts (λ u wired part at_w at_p. (link.parts u wired part at_w at_p).meaning)
@@ -135,7 +135,7 @@ bodies_alike cells others (ScanCell row) (Scan nets) (Gate cell inputs outputs) 
 bodies_alike cells others (ScanCell row) (Scan x) (Scan y) means_x means_y ins outs = scans_alike x y ins outs
 
 -- two links of one wiring
-module _ (wiring : Wiring) (one two : Chip) (link : IsLinkOf wiring one) (other : IsLinkOf wiring two) where
+module _ (wiring : Wiring) (one two : LinkedChip) (link : IsLinkOf wiring one) (other : IsLinkOf wiring two) where
   nets_same : link.nets ≡ other.nets
   nets_same = same_nets wiring link.nets other.nets link.are other.are
 
@@ -161,7 +161,7 @@ module _ (wiring : Wiring) (one two : Chip) (link : IsLinkOf wiring one) (other 
       ∙ sym (any_by (λ (part : Part). has (path_nets part.body) net) two.parts)
 
   -- the net of a port bit, if it is of this direction and off the scan path
-  abbrev end_of : Chip → Bool → PortBit → List ℕ
+  abbrev end_of : LinkedChip → Bool → PortBit → List ℕ
   end_of chip input port =
       if (if port.is_input then input else not input) && not (is_scan_path chip port.net) then port.net ∷ [] else []
 
@@ -198,7 +198,7 @@ module _ (wiring : Wiring) (one two : Chip) (link : IsLinkOf wiring one) (other 
   same_outputs = ap₂ (λ a b. a ++ b) (ports_same false) (nets_alike d_nets (λ x y alike. alike.d))
 
 -- no limit of the wiring before this place is passed
-module _ (wiring : Wiring) (chip : Chip) (link : IsLinkOf wiring chip) where
+module _ (wiring : Wiring) (chip : LinkedChip) (link : IsLinkOf wiring chip) where
   -- which limits the chip keeps, of those that the wiring may pass
   pub keeps_limits : (most : ℕ)
       → (0 < most → MOST_INSTANCES < length (gates_of chip) → ⊥)
@@ -216,7 +216,7 @@ module _ (wiring : Wiring) (chip : Chip) (link : IsLinkOf wiring chip) where
       defects (omega (arith, at, lt)) (subst (λ n. MOST_CHIP_DEFECTS < n) (defects_are wiring chip link) past)
 
 -- the first limit that is passed, by its place; or none is
-abbrev pub TellsLimit : Chip → ℕ → Option ChipFault → Type 0
+abbrev pub TellsLimit : LinkedChip → ℕ → Option ChipFault → Type 0
 TellsLimit chip defects told =
     ((told ≡ Some (fault.TooManyInstances (length (gates_of chip)))) × (MOST_INSTANCES < length (gates_of chip)))
     ⊎ (((told ≡ Some (fault.TooManyInputs (length (inputs_of chip)))) × (MOST_CHIP_INPUTS < length (inputs_of chip))
@@ -233,14 +233,14 @@ not_less : (a b : ℕ) → nat_lt a b ≡ false → a < b → ⊥
 not_less a b off lt = let ge = ltb-false a b off in omega (arith, ge, lt)
 
 -- what is reported, by which limits are passed
-abbrev limit_by : Chip → ℕ → Bool → Bool → Bool → Bool → Option ChipFault
+abbrev limit_by : LinkedChip → ℕ → Bool → Bool → Bool → Bool → Option ChipFault
 limit_by chip defects a b c d =
     if a then Some (fault.TooManyInstances (length (gates_of chip)))
     else (if b then Some (fault.TooManyInputs (length (inputs_of chip)))
     else (if c then Some (fault.TooManyOutputs (length (outputs_of chip)))
     else (if d then Some (fault.TooManyDefects defects) else None)))
 
-pub tells_limit : (chip : Chip) (defects : ℕ) → TellsLimit chip defects (first_limit chip defects)
+pub tells_limit : (chip : LinkedChip) (defects : ℕ) → TellsLimit chip defects (first_limit chip defects)
 tells_limit chip defects =
     by (nat_lt MOST_INSTANCES (length (gates_of chip))) refl (nat_lt MOST_CHIP_INPUTS (length (inputs_of chip))) refl
     (nat_lt MOST_CHIP_OUTPUTS (length (outputs_of chip))) refl (nat_lt MOST_CHIP_DEFECTS defects) refl

@@ -6,16 +6,16 @@ use Rattle.std.specs.List.{Contains, flat_map}
 use Rattle.std.proofs.lemmas.Bool.{or_cases, or_left, or_right, and_parts, and_from, eqb-true, eq-eqb}
 use Rattle.std.proofs.lemmas.List.Elements.{Contains-append_left, Contains-append_right}
 use Rattle.std.proofs.lemmas.List.Elements.{Contains-append_cases}
-use Rattle.ca_wired.specs.Linked.{Chip, input_nets}
-use Rattle.ca_wired.specs.Paths.{is_among, is_port_on, is_on_port}
-use Rattle.ca_wired.specs.Controls.{is_loaded}
-use Rattle.ca_chip.specs.Joined.{AreJoined}
-use Rattle.ca_chip.specs.Wiring.{HeaderBit, WiredPart, Wiring, out_bits}
-use Rattle.ca_chip.specs.Nets.{IsNetOf, IsLoaded}
-use Rattle.ca_chip.specs.Linking.{IsLinkOf}
-use Rattle.ca_chip.specs.Rules.{IsOnInputPort, IsJoinedWithOne}
-use Rattle.ca_wired.proofs.DriverLemmas.{to_some}
-use Rattle.ca_wired.proofs.FeedingLemmas.{item_of}
+use Rattle.ca_linked.specs.Linked.{LinkedChip, input_nets}
+use Rattle.ca_linked.specs.Paths.{is_among, is_port_on, is_on_port}
+use Rattle.ca_linked.specs.Controls.{is_loaded}
+use Rattle.ca_wiring.specs.Joined.{AreJoined}
+use Rattle.ca_wiring.specs.Wiring.{HeaderBit, WiredPart, Wiring, out_bits}
+use Rattle.ca_wiring.specs.Nets.{IsNetOf, IsLoaded}
+use Rattle.ca_wiring.specs.Linking.{IsLinkOf}
+use Rattle.ca_wiring.specs.Rules.{IsOnInputPort, IsJoinedWithOne}
+use Rattle.ca_linked.proofs.DriverLemmas.{to_some}
+use Rattle.ca_linked.proofs.FeedingLemmas.{item_of}
 use Rattle.ca_link.proofs.NetsLemmas.{one_net_joined, joined_one_net, also_there}
 use Rattle.ca_link.proofs.JoinedLemmas.{any_at, at_any, flat_at, at_flat, list_joined, joined_list, Matches}
 use Rattle.ca_link.proofs.JoinedLemmas.{one_joined, joined_one}
@@ -45,7 +45,7 @@ output_as : (b : Bool) (wire : ℕ) → (if b then false else not false) ≡ tru
 output_as true wire e = absurd (let clash : false ≡ true = e in cc)
 output_as false wire e = (0, omega arith, refl)
 
-module _ (wiring : Wiring) (chip : Chip) (link : IsLinkOf wiring chip) (net wire : ℕ) (is : IsNetOf wiring link.nets wire net) where
+module _ (wiring : Wiring) (chip : LinkedChip) (link : IsLinkOf wiring chip) (net wire : ℕ) (is : IsNetOf wiring link.nets wire net) where
   -- a bit of an input port is on the net
   pub on_input : is_on_port chip true net ≡ true → IsOnInputPort wiring wire
   on_input e =

@@ -3,15 +3,15 @@ use Rattle.std.proofs.Common.{◌≡◌, ℕ, List, [], ◌∷◌, refl, sym, su
 use Rattle.std.specs.Prelude.{Some, slice_get}
 use Rattle.std.specs.List.{Contains}
 use Rattle.ca_cell.specs.declared.raw.RawCell.{RawCell}
-use Rattle.ca_chip.specs.Wiring.{Meaning, Unknown, Broken, Library, ScanCell, Wiring}
-use Rattle.ca_chip.specs.Nets.{IsLibraryCell, FeedsWire}
-use Rattle.ca_chip.specs.Linking.{HasMeaning, IsLinkOf}
-use Rattle.ca_wired.specs.Order.{IsChain, IsLoop}
-use Rattle.ca_wired.specs.declared.parts.Body.{Body}
-use Rattle.ca_wired.specs.declared.parts.Body.TheVariants.{Gate, Scan}
-use Rattle.ca_wired.specs.Linked.{Chip, Feeds, IsWired, input_nets, output_nets, gate_inputs, gate_outputs}
-use Rattle.ca_wired.proofs.NoLoopLemmas.{no_feeding_loop}
-use Rattle.ca_wired.proofs.OrderLemmas.{contained_at, place_of}
+use Rattle.ca_wiring.specs.Wiring.{Meaning, Unknown, Broken, Library, ScanCell, Wiring}
+use Rattle.ca_wiring.specs.Nets.{IsLibraryCell, FeedsWire}
+use Rattle.ca_wiring.specs.Linking.{HasMeaning, IsLinkOf}
+use Rattle.ca_linked.specs.Order.{IsChain, IsLoop}
+use Rattle.ca_linked.specs.declared.parts.Body.{Body}
+use Rattle.ca_linked.specs.declared.parts.Body.TheVariants.{Gate, Scan}
+use Rattle.ca_linked.specs.Linked.{LinkedChip, Feeds, IsWired, input_nets, output_nets, gate_inputs, gate_outputs}
+use Rattle.ca_linked.proofs.NoLoopLemmas.{no_feeding_loop}
+use Rattle.ca_linked.proofs.OrderLemmas.{contained_at, place_of}
 use Rattle.ca_link.proofs.NetsLemmas.{wire_at, net_at, one_net_joined, joined_one_net, also_there}
 
 -- what has gate pins is of a library cell
@@ -48,7 +48,7 @@ library_inputs cells (Library raw) (Gate cell inputs outputs) means is = refl
 library_inputs cells (Library raw) (Scan pins) means is = absurd means
 library_inputs cells (ScanCell row) body means is = absurd is
 
-module _ (wiring : Wiring) (chip : Chip) (link : IsLinkOf wiring chip) where
+module _ (wiring : Wiring) (chip : LinkedChip) (link : IsLinkOf wiring chip) where
   pub feeds_wire : (w u : ℕ) → Feeds chip w u → FeedsWire wiring w u
   feeds_wire w u feeds =
       let driver = also_there wiring.parts chip.parts w feeds.driver link.same_parts feeds.is_driver in

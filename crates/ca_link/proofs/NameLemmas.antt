@@ -12,23 +12,23 @@ use Rattle.ca_verilog.specs.declared.raw.RawBit.{RawBit}
 use Rattle.ca_verilog.specs.declared.raw.RawUse.{RawUse}
 use Rattle.ca_verilog.specs.declared.raw.RawInstance.{RawInstance}
 use Rattle.ca_verilog.specs.declared.raw.RawNetlist.{RawNetlist}
-use Rattle.ca_chip.specs.declared.scan_row.ScanRow.{ScanRow}
-use Rattle.ca_chip.specs.declared.fault.Driver.{Driver}
-use Rattle.ca_chip.specs.Wiring.{ScanCell, WiredPart, meaning_with, meaning_of, row_of, names_with}
-use Rattle.ca_chip.specs.Wiring.{output_names, output_wires, open_count, bit_on, wire_of, wired_part}
-use Rattle.ca_chip.specs.Wiring.{wired_parts, wiring_of}
-use Rattle.ca_chip.specs.Linking.{HasMeaning, IsLinkOf}
-use Rattle.ca_chip.specs.Rules.{IsDriver, control_names}
-use Rattle.ca_chip.specs.Same.{driving_of}
+use Rattle.ca_wiring.specs.declared.scan_row.ScanRow.{ScanRow}
+use Rattle.ca_wiring.specs.declared.fault.Driver.{Driver}
+use Rattle.ca_wiring.specs.Wiring.{ScanCell, WiredPart, meaning_with, meaning_of, row_of, names_with}
+use Rattle.ca_wiring.specs.Wiring.{output_names, output_wires, open_count, bit_on, wire_of, wired_part}
+use Rattle.ca_wiring.specs.Wiring.{wired_parts, wiring_of}
+use Rattle.ca_wiring.specs.Linking.{HasMeaning, IsLinkOf}
+use Rattle.ca_wiring.specs.Rules.{IsDriver, control_names}
+use Rattle.ca_wiring.specs.Same.{driving_of}
 use Rattle.ca_verilog.specs.IsNetlist.{bit_count}
-use Rattle.ca_wired.specs.declared.parts.Body.{Body}
-use Rattle.ca_wired.specs.declared.parts.Body.TheVariants.{Gate, Scan}
-use Rattle.ca_wired.specs.declared.parts.Part.{Part}
-use Rattle.ca_wired.specs.declared.parts.Source.{Source}
-use Rattle.ca_wired.specs.declared.parts.Source.TheVariants.{FromPort, FromConstant, FromPin}
-use Rattle.ca_wired.specs.Linked.{Chip, output_nets, no_cell}
-use Rattle.ca_wired.specs.Instances.{IsScan}
-use Rattle.ca_wired.proofs.DriverLemmas.{some_inj, of_some}
+use Rattle.ca_linked.specs.declared.parts.Body.{Body}
+use Rattle.ca_linked.specs.declared.parts.Body.TheVariants.{Gate, Scan}
+use Rattle.ca_linked.specs.declared.parts.Part.{Part}
+use Rattle.ca_linked.specs.declared.parts.Source.{Source}
+use Rattle.ca_linked.specs.declared.parts.Source.TheVariants.{FromPort, FromConstant, FromPin}
+use Rattle.ca_linked.specs.Linked.{LinkedChip, output_nets, no_cell}
+use Rattle.ca_linked.specs.Instances.{IsScan}
+use Rattle.ca_linked.proofs.DriverLemmas.{some_inj, of_some}
 use Rattle.ca_link.specs.Names.{body_outputs, part_outputs, HaveNames, TellsSource}
 use Rattle.ca_link.specs.Told.{IsControlName}
 use Rattle.ca_link.proofs.NetsLemmas.{nets_length, also_there}
@@ -75,7 +75,7 @@ names_same cells None (Some (Sound raw)) (Gate cell inputs outputs) means =
     ap (λ (r : RawCell). names_with is_output r.pins) (sym (get_or_from_slice_get cells cell raw no_cell means))
 names_same cells None (Some (Sound raw)) (Scan nets) means = absurd means
 
-module _ (raw : RawNetlist) (library : List Named) (scan : List ScanRow) (chip : Chip) (link : IsLinkOf (wiring_of raw library scan) chip) where
+module _ (raw : RawNetlist) (library : List Named) (scan : List ScanRow) (chip : LinkedChip) (link : IsLinkOf (wiring_of raw library scan) chip) where
   -- what is wired at the place of an instance of the link
   pub record IsWiredAt (u : ℕ) (part : Part) : Type 0 where
     pub wired : WiredPart
@@ -131,7 +131,7 @@ module _ (raw : RawNetlist) (library : List Named) (scan : List ScanRow) (chip :
       }
 
 -- where each output pin has a name, the cell of a scan instance has a row
-pub no_row : (chip : Chip) (scan : List ScanRow) → HaveNames chip scan → (u : ℕ) (part : Part) → slice_get chip.parts u ≡ Some part
+pub no_row : (chip : LinkedChip) (scan : List ScanRow) → HaveNames chip scan → (u : ℕ) (part : Part) → slice_get chip.parts u ≡ Some part
     → IsSomeAnd (slice_get chip.parts u) (λ (p : Part). IsScan p.body) → row_of scan part.cell ≡ None → ⊥
 no_row chip scan have u part at is_scan none =
     by part.body (of_some (λ (p : Part). IsScan p.body) (slice_get chip.parts u) part at is_scan)

@@ -5,15 +5,15 @@ use Rattle.std.specs.Prelude.{Some, slice_get}
 use Rattle.std.specs.List.{AllPairs}
 use Rattle.std.proofs.lemmas.Bool.{cases_lt}
 use Rattle.std.proofs.lemmas.Option.{slice_get_within, get_or_from_slice_get, slice_get_cases}
-use Rattle.ca_chip.specs.Joined.{AreJoined, Same}
-use Rattle.ca_chip.specs.Wiring.{Wiring}
-use Rattle.ca_chip.specs.Nets.{IsNet, AreNets, IsNetOf, AreNetsOf}
-use Rattle.ca_chip.specs.Linking.{IsLinkOf}
-use Rattle.ca_chip.specs.Rules.{IsNetAt}
-use Rattle.ca_chip.proofs.ForestLemmas.{joined_trans, joined_sym}
-use Rattle.ca_wired.specs.Linked.{Chip, net_count}
-use Rattle.ca_wired.proofs.OrderLemmas.{contained_at, place_of}
-use Rattle.ca_wired.proofs.DriverLemmas.{some_inj}
+use Rattle.ca_wiring.specs.Joined.{AreJoined, Same}
+use Rattle.ca_wiring.specs.Wiring.{Wiring}
+use Rattle.ca_wiring.specs.Nets.{IsNet, AreNets, IsNetOf, AreNetsOf}
+use Rattle.ca_wiring.specs.Linking.{IsLinkOf}
+use Rattle.ca_wiring.specs.Rules.{IsNetAt}
+use Rattle.ca_wiring.proofs.ForestLemmas.{joined_trans, joined_sym}
+use Rattle.ca_linked.specs.Linked.{LinkedChip, net_count}
+use Rattle.ca_linked.proofs.OrderLemmas.{contained_at, place_of}
+use Rattle.ca_linked.proofs.DriverLemmas.{some_inj}
 
 -- each is less than the next
 abbrev pub Ascends : List ℕ → Type 0
@@ -94,19 +94,19 @@ same_nets wiring xs ys are_xs are_ys = same_members xs ys are_xs.ascending are_y
     (λ z at. let has = (are_xs.has z).1 ((are_ys.has z).0 (contained_at ys at.0 z at.1)) in (has.0, place_of xs z has))
 
 -- what a rule says of a net it says of the link's
-pub net_of_chip : (wiring : Wiring) (chip : Chip) (link : IsLinkOf wiring chip) (net wire : ℕ) → IsNetAt wiring net wire → slice_get link.nets net ≡ Some wire
+pub net_of_chip : (wiring : Wiring) (chip : LinkedChip) (link : IsLinkOf wiring chip) (net wire : ℕ) → IsNetAt wiring net wire → slice_get link.nets net ≡ Some wire
 net_of_chip wiring chip link net wire is = subst (λ (list : List ℕ). slice_get list net ≡ Some wire) (same_nets wiring is.nets link.nets is.are link.are) is.at
 
 -- and the other way round
-pub net_of_wiring : (wiring : Wiring) (chip : Chip) (link : IsLinkOf wiring chip) (net wire : ℕ) → slice_get link.nets net ≡ Some wire → IsNetAt wiring net wire
+pub net_of_wiring : (wiring : Wiring) (chip : LinkedChip) (link : IsLinkOf wiring chip) (net wire : ℕ) → slice_get link.nets net ≡ Some wire → IsNetAt wiring net wire
 net_of_wiring wiring chip link net wire at = record { nets = link.nets; are = link.are; at = at }
 
 -- it is one of the chip's nets
-pub net_within : (wiring : Wiring) (chip : Chip) (link : IsLinkOf wiring chip) (net wire : ℕ) → slice_get link.nets net ≡ Some wire → net < net_count chip
+pub net_within : (wiring : Wiring) (chip : LinkedChip) (link : IsLinkOf wiring chip) (net wire : ℕ) → slice_get link.nets net ≡ Some wire → net < net_count chip
 net_within wiring chip link net wire at = subst (λ n. net < n) (sym link.count) (slice_get_within link.nets net wire at)
 
 -- each of the chip's nets is one of the wiring
-pub wire_of_net : (wiring : Wiring) (chip : Chip) (link : IsLinkOf wiring chip) (net : ℕ) → net < net_count chip → (wire : ℕ) × (slice_get link.nets net ≡ Some wire)
+pub wire_of_net : (wiring : Wiring) (chip : LinkedChip) (link : IsLinkOf wiring chip) (net : ℕ) → net < net_count chip → (wire : ℕ) × (slice_get link.nets net ≡ Some wire)
 wire_of_net wiring chip link net lt = elim (slice_get_cases link.nets net).1 [
   | inl there ↦ (there.0, there.2)
   | inr past ↦ absurd (let le = past.0 in let count = link.count in omega (arith, lt, le, count))

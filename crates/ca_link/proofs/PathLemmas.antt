@@ -5,24 +5,24 @@ use Rattle.std.specs.Prelude.{Option, Some, None, slice_get, take, drop, ◌||�
 use Rattle.std.specs.List.{Contains}
 use Rattle.std.proofs.lemmas.Bool.{or_cases, or_left, or_right, and_parts, and_from}
 use Rattle.std.proofs.lemmas.List.Elements.{Contains-append_left, Contains-append_cases}
-use Rattle.ca_wired.specs.declared.parts.ScanNets.{ScanNets}
-use Rattle.ca_wired.specs.declared.parts.Body.{Body}
-use Rattle.ca_wired.specs.declared.parts.Body.TheVariants.{Gate, Scan}
-use Rattle.ca_wired.specs.declared.parts.Part.{Part}
-use Rattle.ca_wired.specs.declared.parts.Source.{Source}
-use Rattle.ca_wired.specs.declared.parts.Source.TheVariants.{FromPort, FromConstant, FromPin}
-use Rattle.ca_wired.specs.Linked.{Chip, net_count, path_nets, data_nets, input_nets, output_nets, has}
-use Rattle.ca_wired.specs.Linked.{is_scan_path, Drives}
-use Rattle.ca_wired.specs.Drivers.{instance_of}
-use Rattle.ca_wired.specs.Paths.{is_among, is_on_data, is_on_port, is_observed, IsFirstObserved}
-use Rattle.ca_wired.specs.Controls.{is_used, pin_fault, first_scan, body_fault, misused_of}
-use Rattle.ca_wired.specs.Wired.{AreDriven, AreUnobserved}
-use Rattle.ca_chip.specs.Wiring.{Meaning, Unknown, Broken, Library, ScanCell, Wiring}
-use Rattle.ca_chip.specs.Nets.{IsNetOf, AreNetsOf}
-use Rattle.ca_chip.specs.Linking.{HasMeaning, IsLinkOf}
-use Rattle.ca_chip.specs.Rules.{last_of, path_inputs, path_outputs, path_wires, data_wires_with, data_wires}
-use Rattle.ca_chip.specs.Rules.{IsJoinedWithOne, IsObservedPath}
-use Rattle.ca_wired.proofs.DriverLemmas.{some_inj, to_some}
+use Rattle.ca_linked.specs.declared.parts.ScanNets.{ScanNets}
+use Rattle.ca_linked.specs.declared.parts.Body.{Body}
+use Rattle.ca_linked.specs.declared.parts.Body.TheVariants.{Gate, Scan}
+use Rattle.ca_linked.specs.declared.parts.Part.{Part}
+use Rattle.ca_linked.specs.declared.parts.Source.{Source}
+use Rattle.ca_linked.specs.declared.parts.Source.TheVariants.{FromPort, FromConstant, FromPin}
+use Rattle.ca_linked.specs.Linked.{LinkedChip, net_count, path_nets, data_nets, input_nets, output_nets, has}
+use Rattle.ca_linked.specs.Linked.{is_scan_path, Drives}
+use Rattle.ca_linked.specs.Drivers.{instance_of}
+use Rattle.ca_linked.specs.Paths.{is_among, is_on_data, is_on_port, is_observed, IsFirstObserved}
+use Rattle.ca_linked.specs.Controls.{is_used, pin_fault, first_scan, body_fault, misused_of}
+use Rattle.ca_linked.specs.Wired.{AreDriven, AreUnobserved}
+use Rattle.ca_wiring.specs.Wiring.{Meaning, Unknown, Broken, Library, ScanCell, Wiring}
+use Rattle.ca_wiring.specs.Nets.{IsNetOf, AreNetsOf}
+use Rattle.ca_wiring.specs.Linking.{HasMeaning, IsLinkOf}
+use Rattle.ca_wiring.specs.Rules.{last_of, path_inputs, path_outputs, path_wires, data_wires_with, data_wires}
+use Rattle.ca_wiring.specs.Rules.{IsJoinedWithOne, IsObservedPath}
+use Rattle.ca_linked.proofs.DriverLemmas.{some_inj, to_some}
 use Rattle.ca_link.proofs.NetsLemmas.{net_of_chip, net_of_wiring, net_within, wire_of_net}
 use Rattle.ca_link.proofs.JoinedLemmas.{any_at, at_any, has_contains, contains_has, known_by, list_joined}
 use Rattle.ca_link.proofs.JoinedLemmas.{joined_list, Matches, one_joined, joined_one}
@@ -120,7 +120,7 @@ module _ (wiring : Wiring) (nets : List ℕ) where
   nets_last (a ∷ b ∷ c ∷ []) q so (Some qn) are = are.1.1
   nets_last (a ∷ b ∷ c ∷ d ∷ more) q so (Some qn) are = absurd are.1.1.1
 
-module _ (wiring : Wiring) (chip : Chip) (link : IsLinkOf wiring chip) where
+module _ (wiring : Wiring) (chip : LinkedChip) (link : IsLinkOf wiring chip) where
   abbrev IsOn : ℕ → ℕ → Type 0
   IsOn wire net = IsNetOf wiring link.nets wire net
 
@@ -197,7 +197,7 @@ pin_of (FromPort p) = 0
 pin_of (FromConstant value) = 0
 pin_of (FromPin u pin) = pin
 
-module _ (chip : Chip) (driven : AreDriven chip) (used : misused_of chip ≡ None) (net : ℕ) (within : net < net_count chip) where
+module _ (chip : LinkedChip) (driven : AreDriven chip) (used : misused_of chip ≡ None) (net : ℕ) (within : net < net_count chip) where
   module _ (u : ℕ) (part : Part) (at : slice_get chip.parts u ≡ Some part) (inverted : IsInverted part.body net) where
     -- an inverted output's net has no load
     no_input : is_among input_nets chip.parts net ≡ true → ⊥
@@ -252,7 +252,7 @@ module _ (chip : Chip) (driven : AreDriven chip) (used : misused_of chip ≡ Non
       ]
 
 -- the first net that is observed is observed in the wiring
-pub observed_path : (wiring : Wiring) (chip : Chip) (link : IsLinkOf wiring chip) (driven : AreDriven chip) (used : misused_of chip ≡ None)
+pub observed_path : (wiring : Wiring) (chip : LinkedChip) (link : IsLinkOf wiring chip) (driven : AreDriven chip) (used : misused_of chip ≡ None)
     (net : ℕ) → IsFirstObserved chip net → IsObservedPath wiring net
 observed_path wiring chip link driven used net first =
     let known = wire_of_net wiring chip link net first.within in
@@ -273,7 +273,7 @@ observed_path wiring chip link driven used net first =
     }
 
 -- a net that is observed in the wiring is in the chip
-path_observed : (wiring : Wiring) (chip : Chip) (link : IsLinkOf wiring chip) (net : ℕ) → IsObservedPath wiring net
+path_observed : (wiring : Wiring) (chip : LinkedChip) (link : IsLinkOf wiring chip) (net : ℕ) → IsObservedPath wiring net
     → (net < net_count chip) × (is_observed chip net ≡ true)
 path_observed wiring chip link net observed =
     let at = net_of_chip wiring chip link net observed.wire observed.is_net in
@@ -296,13 +296,13 @@ path_observed wiring chip link net observed =
     )
 
 -- and none before it is
-pub none_observed_before : (wiring : Wiring) (chip : Chip) (link : IsLinkOf wiring chip) (net : ℕ) → IsFirstObserved chip net
+pub none_observed_before : (wiring : Wiring) (chip : LinkedChip) (link : IsLinkOf wiring chip) (net : ℕ) → IsFirstObserved chip net
     → (before : ℕ) → before < net → IsObservedPath wiring before → ⊥
 none_observed_before wiring chip link net first before lt observed =
     true≢false (sym (path_observed wiring chip link before observed).1 ∙ first.none_before before lt)
 
 -- where none is observed, none is in the wiring
-pub unobserved : (wiring : Wiring) (chip : Chip) (link : IsLinkOf wiring chip) → AreUnobserved chip → (net : ℕ)
+pub unobserved : (wiring : Wiring) (chip : LinkedChip) (link : IsLinkOf wiring chip) → AreUnobserved chip → (net : ℕ)
     → IsObservedPath wiring net → ⊥
 unobserved wiring chip link none net observed =
     let here = path_observed wiring chip link net observed in

@@ -9,11 +9,11 @@ use Rattle.ca_cell.specs.Library.{Named, entry_of}
 use Rattle.ca_verilog.specs.declared.raw.RawInstance.{RawInstance}
 use Rattle.ca_verilog.specs.declared.raw.RawNetlist.{RawNetlist}
 use Rattle.ca_verilog.specs.IsNetlist.{bit_count}
-use Rattle.ca_chip.specs.declared.scan_row.ScanRow.{ScanRow}
-use Rattle.ca_chip.specs.Wiring.{Broken, Library, ScanCell, Unknown, row_of, entry_meaning, meaning_with}
-use Rattle.ca_chip.specs.Wiring.{meaning_of, output_names, open_count, WiredPart, wired_part, wired_parts}
-use Rattle.ca_chip.specs.Wiring.{wiring_of}
-use Rattle.ca_wired.proofs.DriverLemmas.{some_inj}
+use Rattle.ca_wiring.specs.declared.scan_row.ScanRow.{ScanRow}
+use Rattle.ca_wiring.specs.Wiring.{Broken, Library, ScanCell, Unknown, row_of, entry_meaning, meaning_with}
+use Rattle.ca_wiring.specs.Wiring.{meaning_of, output_names, open_count, WiredPart, wired_part, wired_parts}
+use Rattle.ca_wiring.specs.Wiring.{wiring_of}
+use Rattle.ca_linked.proofs.DriverLemmas.{some_inj}
 
 module _ (library : List Named) (scan : List ScanRow) (bits : ℕ) where
   -- an instance of a wiring means what the name of its cell does

@@ -7,19 +7,19 @@ use Rattle.std.proofs.lemmas.Bool.{or_cases, or_left, or_right}
 use Rattle.std.proofs.lemmas.List.Elements.{All-nil, All-cons, All-head, All-tail}
 use Rattle.std.proofs.lemmas.Option.{slice_get_within}
 use Rattle.ca_cell.specs.declared.raw.RawCell.{RawCell}
-use Rattle.ca_wired.specs.declared.controls.Misused.{Misused}
-use Rattle.ca_wired.specs.declared.parts.ScanNets.{ScanNets}
-use Rattle.ca_wired.specs.declared.parts.Body.{Body}
-use Rattle.ca_wired.specs.declared.parts.Body.TheVariants.{Gate, Scan}
-use Rattle.ca_wired.specs.declared.parts.Part.{Part}
-use Rattle.ca_wired.specs.Linked.{Chip, input_nets, IsGate}
-use Rattle.ca_wired.specs.Controls.{is_misplaced, is_used, pin_fault, scan_or, first_scan, body_fault}
-use Rattle.ca_wired.specs.Controls.{misused_or, misused_from}
-use Rattle.ca_chip.specs.declared.scan_row.ScanRow.{ScanRow}
-use Rattle.ca_chip.specs.Wiring.{Meaning, Unknown, Broken, Library, ScanCell}
-use Rattle.ca_chip.specs.Linking.{HasMeaning}
-use Rattle.ca_chip.specs.Rules.{IsScan}
-use Rattle.ca_wired.proofs.DriverLemmas.{some_inj}
+use Rattle.ca_linked.specs.declared.controls.Misused.{Misused}
+use Rattle.ca_linked.specs.declared.parts.ScanNets.{ScanNets}
+use Rattle.ca_linked.specs.declared.parts.Body.{Body}
+use Rattle.ca_linked.specs.declared.parts.Body.TheVariants.{Gate, Scan}
+use Rattle.ca_linked.specs.declared.parts.Part.{Part}
+use Rattle.ca_linked.specs.Linked.{LinkedChip, input_nets, IsGate}
+use Rattle.ca_linked.specs.Controls.{is_misplaced, is_used, pin_fault, scan_or, first_scan, body_fault}
+use Rattle.ca_linked.specs.Controls.{misused_or, misused_from}
+use Rattle.ca_wiring.specs.declared.scan_row.ScanRow.{ScanRow}
+use Rattle.ca_wiring.specs.Wiring.{Meaning, Unknown, Broken, Library, ScanCell}
+use Rattle.ca_wiring.specs.Linking.{HasMeaning}
+use Rattle.ca_wiring.specs.Rules.{IsScan}
+use Rattle.ca_linked.proofs.DriverLemmas.{some_inj}
 
 -- what holds of all before a place, and the list of those
 pub all_before : {X : Type 0} (P : X → Type 0) (xs : List X) (place : ℕ)
@@ -108,7 +108,7 @@ some_first (other ∷ more) (suc u) part nets at is = by (some_first more u part
     by rest (Gate cell inputs outputs) = rest
     by rest (Scan own) = (own, refl)
 
-module _ (chip : Chip) (first : Option ScanNets) where
+module _ (chip : LinkedChip) (first : Option ScanNets) where
   -- the instance at a place has this pin as the first that breaks its rule, and none before it has one
   pub record IsMisusedAt (parts : List Part) (place pin : ℕ) : Type 0 where
     pub part : Part
@@ -179,7 +179,7 @@ control_input nets (suc zero) lt = refl
 control_input nets (suc (suc zero)) lt = refl
 control_input nets (suc (suc (suc k))) lt = absurd (omega (arith, lt))
 
-module _ (chip : Chip) (first nets : ScanNets) where
+module _ (chip : LinkedChip) (first nets : ScanNets) where
   -- whether a pin breaks its rule
   abbrev pub breaks_pin : ℕ → Bool
   breaks_pin zero = is_misplaced chip first.se nets.se

@@ -2,17 +2,17 @@
 use Rattle.std.proofs.Common.{◌≡◌, ℕ, ◌<◌, ◌⊎◌, List, [], ◌∷◌, inl, inr, refl, sym, ◌∙◌, subst, arith}
 use Rattle.ca_cell.specs.Library.{Named}
 use Rattle.ca_verilog.specs.declared.raw.RawNetlist.{RawNetlist}
-use Rattle.ca_chip.specs.declared.scan_row.ScanRow.{ScanRow}
-use Rattle.ca_chip.specs.declared.fault.ChipFault.{ChipFault}
-use Rattle.ca_chip.specs.declared.fault.ChipFault.TheVariants as fault
-use Rattle.ca_chip.specs.declared.fault.TheConstants.{MOST_INSTANCES, MOST_CHIP_INPUTS, MOST_CHIP_OUTPUTS}
-use Rattle.ca_chip.specs.declared.fault.TheConstants.{MOST_CHIP_DEFECTS}
-use Rattle.ca_chip.specs.InstanceRules.{AreSound}
-use Rattle.ca_chip.specs.Wiring.{meaning_of, wiring_of}
-use Rattle.ca_chip.specs.Nets.{FeedsWire}
-use Rattle.ca_chip.specs.Rules.{IsEarlier, IsObservedPath, BreaksAt, IsFirstBroken, KeepsRules}
-use Rattle.ca_chip.proofs.JudgeLemmas.{IsBehind, stage_of, sound_keeps}
-use Rattle.ca_wired.specs.Order.{IsLoop}
+use Rattle.ca_wiring.specs.declared.scan_row.ScanRow.{ScanRow}
+use Rattle.ca_wiring.specs.declared.fault.ChipFault.{ChipFault}
+use Rattle.ca_wiring.specs.declared.fault.ChipFault.TheVariants as fault
+use Rattle.ca_wiring.specs.declared.fault.TheConstants.{MOST_INSTANCES, MOST_CHIP_INPUTS, MOST_CHIP_OUTPUTS}
+use Rattle.ca_wiring.specs.declared.fault.TheConstants.{MOST_CHIP_DEFECTS}
+use Rattle.ca_wiring.specs.InstanceRules.{AreSound}
+use Rattle.ca_wiring.specs.Wiring.{meaning_of, wiring_of}
+use Rattle.ca_wiring.specs.Nets.{FeedsWire}
+use Rattle.ca_wiring.specs.Rules.{IsEarlier, IsObservedPath, BreaksAt, IsFirstBroken, KeepsRules}
+use Rattle.ca_wiring.proofs.JudgeLemmas.{IsBehind, stage_of, sound_keeps}
+use Rattle.ca_linked.specs.Order.{IsLoop}
 use Rattle.ca_link.specs.Stages.{IsMisdriven, IsMisused, PassesLimit}
 
 module _ (raw : RawNetlist) (library : List Named) (scan : List ScanRow) where

@@ -3,14 +3,14 @@ use Rattle.std.specs.Prelude.{ℕ, List, length, Option, Some, None, nat_lt, if�
 use Rattle.std.specs.List.{sum_by}
 use Rattle.ca_cell.specs.declared.raw.RawCell.{RawCell}
 use Rattle.ca_cell.specs.Nodes.{defect_count}
-use Rattle.ca_chip.specs.declared.fault.ChipFault.{ChipFault}
-use Rattle.ca_chip.specs.declared.fault.ChipFault.TheVariants as fault
-use Rattle.ca_chip.specs.declared.fault.TheConstants.{MOST_INSTANCES, MOST_CHIP_INPUTS, MOST_CHIP_OUTPUTS}
-use Rattle.ca_chip.specs.declared.fault.TheConstants.{MOST_CHIP_DEFECTS}
-use Rattle.ca_wired.specs.declared.parts.Body.{Body}
-use Rattle.ca_wired.specs.declared.parts.Body.TheVariants.{Gate, Scan}
-use Rattle.ca_wired.specs.Linked.{Chip, cell_of, inputs_of, outputs_of}
-use Rattle.ca_wired.specs.Instances.{gates_of}
+use Rattle.ca_wiring.specs.declared.fault.ChipFault.{ChipFault}
+use Rattle.ca_wiring.specs.declared.fault.ChipFault.TheVariants as fault
+use Rattle.ca_wiring.specs.declared.fault.TheConstants.{MOST_INSTANCES, MOST_CHIP_INPUTS, MOST_CHIP_OUTPUTS}
+use Rattle.ca_wiring.specs.declared.fault.TheConstants.{MOST_CHIP_DEFECTS}
+use Rattle.ca_linked.specs.declared.parts.Body.{Body}
+use Rattle.ca_linked.specs.declared.parts.Body.TheVariants.{Gate, Scan}
+use Rattle.ca_linked.specs.Linked.{LinkedChip, cell_of, inputs_of, outputs_of}
+use Rattle.ca_linked.specs.Instances.{gates_of}
 
 -- the number of defects of an instance
 abbrev pub body_defects : List RawCell → Body → ℕ
@@ -18,12 +18,12 @@ body_defects cells (Gate cell inputs outputs) = defect_count (cell_of cells cell
 body_defects cells (Scan nets) = 0
 
 -- the number of defects of a chip: those of all its library instances
-abbrev pub chip_defects : Chip → ℕ
+abbrev pub chip_defects : LinkedChip → ℕ
 chip_defects chip = sum_by (λ part. body_defects chip.cells part.body) chip.parts
 
 -- the first limit that a chip passes, with the quantity that is counted: library instances, chip inputs,
 -- observed outputs, and this many defects
-abbrev pub first_limit : Chip → ℕ → Option ChipFault
+abbrev pub first_limit : LinkedChip → ℕ → Option ChipFault
 first_limit chip defects =
     if nat_lt MOST_INSTANCES (length (gates_of chip))
     then Some (fault.TooManyInstances (length (gates_of chip)))

@@ -1,14 +1,14 @@
 -- What breaks a rule of a stage at a place. Only the proofs of the code cite this.
 use Rattle.std.specs.Prelude.{ℕ, ◌≡◌, ◌<◌, ◌⊎◌, List, length}
 use Rattle.std.specs.List.{sum_by}
-use Rattle.ca_chip.specs.declared.fault.Driver.{Driver}
-use Rattle.ca_chip.specs.declared.fault.TheConstants.{MOST_INSTANCES, MOST_CHIP_INPUTS, MOST_CHIP_OUTPUTS}
-use Rattle.ca_chip.specs.declared.fault.TheConstants.{MOST_CHIP_DEFECTS}
-use Rattle.ca_chip.specs.Wiring.{Wiring}
-use Rattle.ca_chip.specs.Linking.{IsLinkOf}
-use Rattle.ca_chip.specs.Rules.{IsDoubleDriven, IsUndriven, BreaksControl, UsesInverted, library_count}
-use Rattle.ca_chip.specs.Rules.{defects_of}
-use Rattle.ca_wired.specs.Linked.{Chip, inputs_of, outputs_of}
+use Rattle.ca_wiring.specs.declared.fault.Driver.{Driver}
+use Rattle.ca_wiring.specs.declared.fault.TheConstants.{MOST_INSTANCES, MOST_CHIP_INPUTS, MOST_CHIP_OUTPUTS}
+use Rattle.ca_wiring.specs.declared.fault.TheConstants.{MOST_CHIP_DEFECTS}
+use Rattle.ca_wiring.specs.Wiring.{Wiring}
+use Rattle.ca_wiring.specs.Linking.{IsLinkOf}
+use Rattle.ca_wiring.specs.Rules.{IsDoubleDriven, IsUndriven, BreaksControl, UsesInverted, library_count}
+use Rattle.ca_wiring.specs.Rules.{defects_of}
+use Rattle.ca_linked.specs.Linked.{LinkedChip, inputs_of, outputs_of}
 
 -- two drive the net, or nothing does
 abbrev pub IsMisdriven : Wiring → ℕ → Type 0
@@ -20,8 +20,8 @@ abbrev pub IsMisused : Wiring → ℕ → ℕ → Type 0
 IsMisused wiring u k = ((pin : List ℕ) × BreaksControl wiring u k pin) ⊎ ((k ≡ 3) × UsesInverted wiring u)
 
 -- a link of the wiring has more chip inputs, or more observed outputs, than a chip may have
-abbrev pub HasTooMany : Wiring → (Chip → ℕ) → ℕ → Type 0
-HasTooMany wiring count most = (chip : Chip) × IsLinkOf wiring chip × (most < count chip)
+abbrev pub HasTooMany : Wiring → (LinkedChip → ℕ) → ℕ → Type 0
+HasTooMany wiring count most = (chip : LinkedChip) × IsLinkOf wiring chip × (most < count chip)
 
 -- the limit at this place is passed
 abbrev pub PassesLimit : Wiring → ℕ → Type 0

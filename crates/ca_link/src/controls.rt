@@ -1,11 +1,11 @@
 //! The names of control pins.
 
 ghost use Rattle.std.specs.Prelude.{◌≡◌, ◌<◌, IfOk, Some, slice_get};
-ghost use Rattle.ca_chip.specs.Wiring.{ScanCell};
-ghost use Rattle.ca_chip.specs.Rules.{control_names};
+ghost use Rattle.ca_wiring.specs.Wiring.{ScanCell};
+ghost use Rattle.ca_wiring.specs.Rules.{control_names};
 
 use ca_base::NoMemory;
-use ca_chip::ScanRow;
+use ca_wiring::ScanRow;
 use ca_lex::Text;
 use std::alloc::Global;
 

@@ -2,12 +2,12 @@
 
 ghost use Rattle.std.specs.Prelude.{◌≡◌, ◌<◌, ◌≤◌, ◌^◌, length};
 ghost use Rattle.std.specs.List.{All};
-ghost use Rattle.ca_wired.specs.Linked.{IsBody};
+ghost use Rattle.ca_linked.specs.Linked.{IsBody};
 ghost use Rattle.ca_link.specs.Limits as limits;
 
 use ca_cell::Entry;
-use ca_chip::{ChipFault, MOST_CHIP_DEFECTS, MOST_CHIP_INPUTS, MOST_CHIP_OUTPUTS, MOST_INSTANCES};
-use ca_wired::{Body, Chip, Draft};
+use ca_wiring::{ChipFault, MOST_CHIP_DEFECTS, MOST_CHIP_INPUTS, MOST_CHIP_OUTPUTS, MOST_INSTANCES};
+use ca_linked::{Body, Chip, Draft};
 
 // The number of defects of an instance.
 fn body_defects(draft: &Draft, body: &Body) -> usize

@@ -5,18 +5,18 @@ ghost use Rattle.std.specs.List.{IsDistinct};
 ghost use Rattle.std.specs.Str.{bytes_eq};
 ghost use Rattle.ca_cell.specs.Library.{raw_of};
 ghost use Rattle.ca_verilog.specs.IsNetlist.{IsNetlist};
-ghost use Rattle.ca_chip.specs.Wiring.{wiring_of};
-ghost use Rattle.ca_chip.specs.Linking.{IsLinkOf};
-ghost use Rattle.ca_chip.specs.InstanceRules.{AreSound};
-ghost use Rattle.ca_chip.specs.Rules.{KeepsRules, IsCause};
+ghost use Rattle.ca_wiring.specs.Wiring.{wiring_of};
+ghost use Rattle.ca_wiring.specs.Linking.{IsLinkOf};
+ghost use Rattle.ca_wiring.specs.InstanceRules.{AreSound};
+ghost use Rattle.ca_wiring.specs.Rules.{KeepsRules, IsCause};
 
 use crate::limits::{defects_of, first_limit};
 use crate::telling::tell;
 use ca_cell::Library;
-use ca_chip::{ChipFault, ScanTable, judge_instances};
+use ca_wiring::{ChipFault, ScanTable, judge_instances};
 use ca_draft::draft_of;
 use ca_verilog::RawNetlist;
-use ca_wired::{Chip, judge, wire};
+use ca_linked::{Chip, judge, wire};
 use std::alloc::Global;
 
 /// The chip of a netlist, which takes the library over; or the first rule that is broken, and then the

@@ -4,16 +4,16 @@ ghost use Rattle.std.specs.Prelude.{◌≡◌, ◌<◌, length, IfOk, Some, slic
 ghost use Rattle.std.specs.Option.{option_copied};
 ghost use Rattle.ca_cell.specs.Raw.{is_output};
 ghost use Rattle.ca_cell.specs.Library as library;
-ghost use Rattle.ca_chip.specs.Wiring as wiring;
-ghost use Rattle.ca_chip.specs.Wiring.{ScanCell, names_with, output_names};
-ghost use Rattle.ca_wired.specs.Linked.{cell_of};
+ghost use Rattle.ca_wiring.specs.Wiring as wiring;
+ghost use Rattle.ca_wiring.specs.Wiring.{ScanCell, names_with, output_names};
+ghost use Rattle.ca_linked.specs.Linked.{cell_of};
 ghost use Rattle.ca_link.specs.Names.{part_outputs, IsOutputName};
 
 use ca_base::NoMemory;
 use ca_cell::{Entry, RawCell, RawPin};
-use ca_chip::ScanRow;
+use ca_wiring::ScanRow;
 use ca_lex::Text;
-use ca_wired::{Body, Draft, Part};
+use ca_linked::{Body, Draft, Part};
 use std::alloc::Global;
 
 /// The row of the scan table for a cell.

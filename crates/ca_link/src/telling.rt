@@ -1,19 +1,19 @@
 //! What is reported about a fault of nets.
 
 ghost use Rattle.std.specs.Prelude.{◌≡◌, ◌<◌, Some, IfOk, slice_get, IsSomeAnd};
-ghost use Rattle.ca_wired.specs.Linked.{Drives};
-ghost use Rattle.ca_wired.specs.Drivers.{AreFirst};
-ghost use Rattle.ca_wired.specs.Instances.{IsScan};
-ghost use Rattle.ca_wired.specs.Wired.{IsWireCause};
+ghost use Rattle.ca_linked.specs.Linked.{Drives};
+ghost use Rattle.ca_linked.specs.Drivers.{AreFirst};
+ghost use Rattle.ca_linked.specs.Instances.{IsScan};
+ghost use Rattle.ca_linked.specs.Wired.{IsWireCause};
 ghost use Rattle.ca_link.specs.Names.{HaveNames, TellsSource};
 ghost use Rattle.ca_link.specs.Told.{TellsMisdriven, TellsMisused, TellsFault, IsControlName};
 
 use crate::controls::control_name;
 use crate::names::{output_name, row_of};
 use ca_base::NoMemory;
-use ca_chip::{ChipFault, Driver, InstanceId, NetId, ScanRow};
+use ca_wiring::{ChipFault, Driver, InstanceId, NetId, ScanRow};
 use ca_lex::Text;
-use ca_wired::{Draft, Misused, Source, Sources, WireFault};
+use ca_linked::{Draft, Misused, Source, Sources, WireFault};
 use std::alloc::Global;
 
 // How a fault names what drives a net.

@@ -4,16 +4,16 @@ use Rattle.std.proofs.Common.{sym, ap, subst, arith}
 use Rattle.std.specs.Prelude.{Option, Some, None, slice_get}
 use Rattle.std.proofs.lemmas.Option.{slice_get_within, slice_get_cases, get_or_from_slice_get}
 use Rattle.ca_cell.specs.declared.raw.RawCell.{RawCell}
-use Rattle.ca_wired.specs.declared.parts.Body.{Body}
-use Rattle.ca_wired.specs.declared.parts.Body.TheVariants.{Gate, Scan}
-use Rattle.ca_wired.specs.declared.parts.ScanNets.{ScanNets}
-use Rattle.ca_wired.specs.declared.parts.Part.{Part}
-use Rattle.ca_wired.specs.declared.parts.PortBit.{PortBit}
-use Rattle.ca_wired.specs.Linked.{no_cell, input_nets, output_nets}
-use Rattle.ca_wired.specs.Instances.{IsCellOf}
-use Rattle.ca_chip.specs.Wiring.{Meaning, Unknown, Broken, Library, ScanCell, WiredPart, HeaderBit, Wiring}
-use Rattle.ca_chip.specs.Nets.{AreNets, IsNetOf, AreNetsOf}
-use Rattle.ca_chip.specs.Linking.{HasMeaning, IsPartOf, IsPortOf}
+use Rattle.ca_linked.specs.declared.parts.Body.{Body}
+use Rattle.ca_linked.specs.declared.parts.Body.TheVariants.{Gate, Scan}
+use Rattle.ca_linked.specs.declared.parts.ScanNets.{ScanNets}
+use Rattle.ca_linked.specs.declared.parts.Part.{Part}
+use Rattle.ca_linked.specs.declared.parts.PortBit.{PortBit}
+use Rattle.ca_linked.specs.Linked.{no_cell, input_nets, output_nets}
+use Rattle.ca_linked.specs.Instances.{IsCellOf}
+use Rattle.ca_wiring.specs.Wiring.{Meaning, Unknown, Broken, Library, ScanCell, WiredPart, HeaderBit, Wiring}
+use Rattle.ca_wiring.specs.Nets.{AreNets, IsNetOf, AreNetsOf}
+use Rattle.ca_wiring.specs.Linking.{HasMeaning, IsPartOf, IsPortOf}
 use Rattle.ca_link.proofs.NetsLemmas.{ascending_once, same_nets}
 use Rattle.ca_link_laws.specs.Alike.{AreBodiesAlike, ArePartsAlike}
 use Rattle.ca_link_laws.specs.Laws.{LinksAreAlike, LinksHaveOneCell}

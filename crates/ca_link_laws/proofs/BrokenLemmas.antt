@@ -7,16 +7,16 @@ use Rattle.ca_cell.specs.Library.{Named}
 use Rattle.ca_verilog.specs.declared.raw.RawUse.{RawUse}
 use Rattle.ca_verilog.specs.declared.raw.RawInstance.{RawInstance}
 use Rattle.ca_verilog.specs.declared.raw.RawNetlist.{RawNetlist}
-use Rattle.ca_wired.specs.declared.instances.InstanceId.{InstanceId}
-use Rattle.ca_wired.specs.declared.parts.NetId.{NetId}
-use Rattle.ca_chip.specs.declared.scan_row.ScanRow.{ScanRow}
-use Rattle.ca_chip.specs.declared.fault.ChipFault.{ChipFault}
-use Rattle.ca_chip.specs.declared.fault.ChipFault.TheVariants.{UnknownCell, Cell, UnknownPin, MissingPin, DoubleDriven, Undriven, ControlPin}
-use Rattle.ca_chip.specs.declared.fault.ChipFault.TheVariants.{ControlObserved, QnUsed, Loop, TooManyInstances, TooManyInputs, TooManyOutputs}
-use Rattle.ca_chip.specs.declared.fault.ChipFault.TheVariants.{TooManyDefects, NoMemory}
-use Rattle.ca_chip.specs.Wiring.{Meaning, Unknown, Broken, WiredPart, meaning_of, wiring_of, input_names}
-use Rattle.ca_chip.specs.InstanceRules.{HasStrayPin, LacksPin}
-use Rattle.ca_chip.specs.Rules.{BreaksAt, BreaksControl, IsDoubleDriven, IsFirstBroken, OfInstance, control_names}
+use Rattle.ca_linked.specs.declared.instances.InstanceId.{InstanceId}
+use Rattle.ca_linked.specs.declared.parts.NetId.{NetId}
+use Rattle.ca_wiring.specs.declared.scan_row.ScanRow.{ScanRow}
+use Rattle.ca_wiring.specs.declared.fault.ChipFault.{ChipFault}
+use Rattle.ca_wiring.specs.declared.fault.ChipFault.TheVariants.{UnknownCell, Cell, UnknownPin, MissingPin, DoubleDriven, Undriven, ControlPin}
+use Rattle.ca_wiring.specs.declared.fault.ChipFault.TheVariants.{ControlObserved, QnUsed, Loop, TooManyInstances, TooManyInputs, TooManyOutputs}
+use Rattle.ca_wiring.specs.declared.fault.ChipFault.TheVariants.{TooManyDefects, NoMemory}
+use Rattle.ca_wiring.specs.Wiring.{Meaning, Unknown, Broken, WiredPart, meaning_of, wiring_of, input_names}
+use Rattle.ca_wiring.specs.InstanceRules.{HasStrayPin, LacksPin}
+use Rattle.ca_wiring.specs.Rules.{BreaksAt, BreaksControl, IsDoubleDriven, IsFirstBroken, OfInstance, control_names}
 use Rattle.ca_link_laws.specs.Laws.{AreLoops, FirstBrokenIsOne}
 use Rattle.ca_link_laws.proofs.AlikeLemmas.{links_alike}
 use Rattle.ca_link_laws.proofs.TraceLemmas.{one_ports}

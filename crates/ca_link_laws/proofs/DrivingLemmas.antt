@@ -3,11 +3,11 @@ use Rattle.std.proofs.Common.{◌≡◌, ℕ, ◌<◌, ◌⊎◌, ◌∙◌, tru
 use Rattle.std.proofs.Math.Decide.{dec_lt}
 use Rattle.std.specs.Prelude.{slice_get}
 use Rattle.std.proofs.lemmas.Option.{same_Some}
-use Rattle.ca_chip.specs.declared.fault.Driver.{Driver}
-use Rattle.ca_chip.specs.declared.fault.Driver.TheVariants as driver
-use Rattle.ca_chip.specs.Wiring.{WiredPart, Wiring, output_names}
-use Rattle.ca_chip.specs.Nets.{Driving, PortBit, ConstantBit, OutputPin, ComesBefore, Drives}
-use Rattle.ca_chip.specs.Rules.{IsNetAt, IsDriver, IsDoubleDriven, IsUndriven}
+use Rattle.ca_wiring.specs.declared.fault.Driver.{Driver}
+use Rattle.ca_wiring.specs.declared.fault.Driver.TheVariants as driver
+use Rattle.ca_wiring.specs.Wiring.{WiredPart, Wiring, output_names}
+use Rattle.ca_wiring.specs.Nets.{Driving, PortBit, ConstantBit, OutputPin, ComesBefore, Drives}
+use Rattle.ca_wiring.specs.Rules.{IsNetAt, IsDriver, IsDoubleDriven, IsUndriven}
 use Rattle.ca_link.proofs.NetsLemmas.{same_nets}
 
 -- a number is below another, is it, or is above it

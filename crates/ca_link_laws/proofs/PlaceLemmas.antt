@@ -1,7 +1,7 @@
 -- Places in the order of the rules: of two places one comes first, or they are the same.
 use Rattle.std.proofs.Common.{◌≡◌, ℕ, ◌⊎◌, List, [], ◌∷◌, inl, inr, refl, ap, ◌∙◌, arith}
 use Rattle.std.proofs.Math.Decide.{dec_lt}
-use Rattle.ca_chip.specs.Rules.{IsEarlier}
+use Rattle.ca_wiring.specs.Rules.{IsEarlier}
 
 pub in_order : (one other : List ℕ) → IsEarlier one other ⊎ ((one ≡ other) ⊎ IsEarlier other one)
 in_order [] [] = inr (inl refl)

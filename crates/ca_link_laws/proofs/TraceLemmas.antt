@@ -4,14 +4,14 @@ use Rattle.std.proofs.Common.{sym, ap, ap₂, subst, arith}
 use Rattle.std.specs.Prelude.{Option, Some, None, IsSomeAnd, slice_get, ◌&&◌, ◌||◌, not, if◌then◌else◌}
 use Rattle.std.specs.List.{flat_map, list_any}
 use Rattle.std.proofs.lemmas.Option.{same_Some}
-use Rattle.ca_wired.specs.declared.pins.ScanPin.{ScanPin}
-use Rattle.ca_wired.specs.declared.pins.ScanPin.TheVariants.{Si, So}
-use Rattle.ca_wired.specs.declared.parts.Body.{Body}
-use Rattle.ca_wired.specs.declared.parts.Body.TheVariants.{Gate, Scan}
-use Rattle.ca_wired.specs.declared.parts.Part.{Part}
-use Rattle.ca_wired.specs.declared.parts.PortBit.{PortBit}
-use Rattle.ca_wired.specs.Linked.{Chip, has, path_nets, is_scan_path, port_nets, q_nets, d_nets}
-use Rattle.ca_wired.specs.Instances.{HasOnPin, IsScan, pin_nets}
+use Rattle.ca_linked.specs.declared.pins.ScanPin.{ScanPin}
+use Rattle.ca_linked.specs.declared.pins.ScanPin.TheVariants.{Si, So}
+use Rattle.ca_linked.specs.declared.parts.Body.{Body}
+use Rattle.ca_linked.specs.declared.parts.Body.TheVariants.{Gate, Scan}
+use Rattle.ca_linked.specs.declared.parts.Part.{Part}
+use Rattle.ca_linked.specs.declared.parts.PortBit.{PortBit}
+use Rattle.ca_linked.specs.Linked.{LinkedChip, has, path_nets, is_scan_path, port_nets, q_nets, d_nets}
+use Rattle.ca_linked.specs.Instances.{HasOnPin, IsScan, pin_nets}
 use Rattle.ca_scan.specs.Chain.{count_of, ends_of, IsLink, IsOnPin, IsAtPort, RunsOut, IsChainFrom, IsChainAt, AreChainsOf, AreChains}
 use Rattle.ca_scan.specs.Chain.{IsScanAt, IsOnChain, AreOnChains, IsFirstOff}
 use Rattle.ca_scan.specs.declared.fault.ChainFault.{ChainFault}
@@ -29,7 +29,7 @@ bodies_back (Scan nets) (Gate cell inputs outputs) alike = absurd alike
 bodies_back (Scan nets) (Scan others) alike = sym alike
 
 -- and so are chips
-pub alike_back : (chip also : Chip) → AreAlike chip also → AreAlike also chip
+pub alike_back : (chip also : LinkedChip) → AreAlike chip also → AreAlike also chip
 alike_back chip also alike = record {
   nets = sym alike.nets;
   ports = sym alike.ports;
@@ -83,7 +83,7 @@ any_same p q (x ∷ xs) (y ∷ ys) same each =
     ap₂ (λ (a b : Bool). a || b) (each 0 x y refl refl) rest
 
 -- what holds of an instance holds of the same instance of the other chip
-module _ (chip also : Chip) (alike : AreAlike chip also) where
+module _ (chip also : LinkedChip) (alike : AreAlike chip also) where
   of_part : (P Q : Part → Type 0) (u : ℕ) → ((part other : Part) → ArePartsAlike part other → P part → Q other)
       → IsSomeAnd (slice_get chip.parts u) P → IsSomeAnd (slice_get also.parts u) Q
   of_part P Q u next held = by (slice_get chip.parts u) refl held
@@ -124,7 +124,7 @@ module _ (chip also : Chip) (alike : AreAlike chip also) where
   on_chain : (u : ℕ) → IsOnChain chip u → IsOnChain also u
   on_chain u is = record { port = is.port; chain = is.chain; whole = chain_from is.port is.chain is.whole; there = is.there }
 
-module _ (chip also : Chip) (alike : AreAlike chip also) where
+module _ (chip also : LinkedChip) (alike : AreAlike chip also) where
   chain_at : (p : ℕ) (found : Option (List ℕ)) → IsChainAt chip p found → IsChainAt also p found
   chain_at p (Some chain) is = chain_from chip also alike p chain is
   chain_at p None none = λ chain is. none chain (chain_from also chip (alike_back chip also alike) p chain is)
@@ -170,7 +170,7 @@ same_scan f none (Gate cell inputs outputs) (Scan nets) alike = absurd alike
 same_scan f none (Scan nets) (Gate cell inputs outputs) alike = absurd alike
 same_scan f none (Scan nets) (Scan others) alike = ap (λ pins. f (Scan pins)) alike
 
-module _ (chip also : Chip) (alike : AreAlike chip also) where
+module _ (chip also : LinkedChip) (alike : AreAlike chip also) where
   on_path : (net : ℕ) → is_scan_path chip net ≡ is_scan_path also net
   on_path net = any_same (λ part. has (path_nets part.body) net) (λ part. has (path_nets part.body) net) chip.parts also.parts alike.same_parts
       (λ u part other at at_other. ap (λ (nets : List ℕ). has nets net)

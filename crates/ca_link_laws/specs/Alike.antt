@@ -2,11 +2,11 @@
 -- of several places of the library with the same subcircuit an instance names.
 use Rattle.std.specs.Prelude.{ℕ, ◌≡◌, length, Some, slice_get}
 use Rattle.ca_cell.specs.declared.raw.RawCell.{RawCell}
-use Rattle.ca_wired.specs.declared.parts.Body.{Body}
-use Rattle.ca_wired.specs.declared.parts.Body.TheVariants.{Gate, Scan}
-use Rattle.ca_wired.specs.declared.parts.Part.{Part}
-use Rattle.ca_wired.specs.Linked.{Chip}
-use Rattle.ca_wired.specs.Instances.{IsCellOf}
+use Rattle.ca_linked.specs.declared.parts.Body.{Body}
+use Rattle.ca_linked.specs.declared.parts.Body.TheVariants.{Gate, Scan}
+use Rattle.ca_linked.specs.declared.parts.Part.{Part}
+use Rattle.ca_linked.specs.Linked.{LinkedChip}
+use Rattle.ca_linked.specs.Instances.{IsCellOf}
 
 -- both are of library cells, or both of scan cells, with the same nets at their pins
 abbrev pub AreBodiesAlike : Body → Body → Type 0
@@ -24,7 +24,7 @@ pub record ArePartsAlike (part also : Part) : Type 0 where
   pub body : AreBodiesAlike part.body also.body
 
 -- the chips have the same number of nets, the same ports, and such instances
-pub record AreAlike (chip also : Chip) : Type 0 where
+pub record AreAlike (chip also : LinkedChip) : Type 0 where
   pub nets : chip.nets ≡ also.nets
   pub ports : chip.ports ≡ also.ports
   pub same_parts : length chip.parts ≡ length also.parts
@@ -32,7 +32,7 @@ pub record AreAlike (chip also : Chip) : Type 0 where
       → slice_get also.parts u ≡ Some other → ArePartsAlike part other
 
 -- each library instance is of the same subcircuit in both chips
-abbrev pub HaveOneCell : Chip → Chip → Type 0
+abbrev pub HaveOneCell : LinkedChip → LinkedChip → Type 0
 HaveOneCell chip also = (u : ℕ) (part other : Part) (raw : RawCell) → slice_get chip.parts u ≡ Some part
     → slice_get also.parts u ≡ Some other → IsCellOf chip.cells part.body raw
     → IsCellOf also.cells other.body raw

@@ -3,7 +3,7 @@ use Rattle.std.proofs.Common.{ℕ, ◌≡◌, inl, inr, sym, subst, map, Option,
 use Rattle.std.proofs.Common.{IsErrAnd, IfErr, IfOk}
 use Rattle.ca_store.specs.Store.{Files}
 use Rattle.ca_cell.specs.Library.{raw_of}
-use Rattle.ca_wired.specs.Linked.{Chip}
+use Rattle.ca_linked.specs.Linked.{LinkedChip}
 use Rattle.ca_fault.specs.declared.fault.Fault.{Fault}
 use Rattle.ca_load.specs.declared.loading.Loaded.{Loaded}
 use Rattle.ca_load.specs.Texts.{InputFiles, Inputs, AreRead, OfInputs}
@@ -17,18 +17,18 @@ at_link inputs fault (inl memory) = inl memory
 at_link inputs fault (inr (is, cause)) = inr (is, inl cause)
 
 -- a chip without chains
-pub at_trace : (inputs : Inputs) (chip : Chip) (fault : Fault) → IsChipOf inputs chip → IsTraceStage chip fault
+pub at_trace : (inputs : Inputs) (chip : LinkedChip) (fault : Fault) → IsChipOf inputs chip → IsTraceStage chip fault
     → IsLinkedStage inputs fault
 at_trace inputs chip fault of (inl memory) = inl memory
 at_trace inputs chip fault of (inr (is, cause)) = inr (is, inr (record { chip = chip; is = of; cause = cause }))
 
 -- what is traced is the chip that was linked
-pub traced_ok : (inputs : Inputs) (chip : Chip) (result : Result Loaded Fault) → IsChipOf inputs chip
+pub traced_ok : (inputs : Inputs) (chip : LinkedChip) (result : Result Loaded Fault) → IsChipOf inputs chip
     → IfOk result (λ loaded. loaded.chip ≡ chip) → IfOk result (λ loaded. IsChipOf inputs loaded.chip)
 traced_ok inputs chip (Ok loaded) of same = subst (IsChipOf inputs) (sym same) of
 traced_ok inputs chip (Err fault) of same = tt
 
-pub traced_err : (inputs : Inputs) (chip : Chip) (result : Result Loaded Fault) → IsChipOf inputs chip
+pub traced_err : (inputs : Inputs) (chip : LinkedChip) (result : Result Loaded Fault) → IsChipOf inputs chip
     → IfErr result (IsTraceStage chip) → IfErr result (IsLinkedStage inputs)
 traced_err inputs chip (Ok loaded) of cause = tt
 traced_err inputs chip (Err fault) of cause = at_trace inputs chip fault of cause

@@ -6,7 +6,7 @@ use Rattle.std.specs.List.{IsDistinct}
 use Rattle.std.specs.Str.{bytes_eq}
 use Rattle.std.proofs.lemmas.List.{map-append}
 use Rattle.ca_lex.specs.FirstFault.{steps_from}
-use Rattle.ca_chip.specs.declared.scan_row.ScanRow.{ScanRow}
+use Rattle.ca_wiring.specs.declared.scan_row.ScanRow.{ScanRow}
 use Rattle.ca_verilog.proofs.DistinctLemmas.{distinct_grown}
 use Rattle.ca_scan.specs.Table.{cells_of, may_join, with_fields, row_with, Numbered, numbered, record_step}
 use Rattle.ca_scan.specs.Table.{is_header, rows_of, table_of}

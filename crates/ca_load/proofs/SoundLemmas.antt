@@ -4,13 +4,13 @@ use Rattle.std.specs.Prelude.{IsSomeAnd, slice_get}
 use Rattle.ca_cell.specs.Library.{Named}
 use Rattle.ca_verilog.specs.declared.raw.RawInstance.{RawInstance}
 use Rattle.ca_verilog.specs.declared.raw.RawNetlist.{RawNetlist}
-use Rattle.ca_chip.specs.declared.scan_row.ScanRow.{ScanRow}
-use Rattle.ca_chip.specs.declared.fault.ChipFault.{ChipFault}
-use Rattle.ca_chip.specs.declared.fault.ChipFault.TheVariants as rule
-use Rattle.ca_chip.specs.Wiring.{Broken, meaning_of}
-use Rattle.ca_chip.specs.InstanceRules.{AreSound, IsKnown}
-use Rattle.ca_chip.specs.Rules.{IsCause}
-use Rattle.ca_place.specs.Place.{IsOfNetlist}
+use Rattle.ca_wiring.specs.declared.scan_row.ScanRow.{ScanRow}
+use Rattle.ca_wiring.specs.declared.fault.ChipFault.{ChipFault}
+use Rattle.ca_wiring.specs.declared.fault.ChipFault.TheVariants as rule
+use Rattle.ca_wiring.specs.Wiring.{Broken, meaning_of}
+use Rattle.ca_wiring.specs.InstanceRules.{AreSound, IsKnown}
+use Rattle.ca_wiring.specs.Rules.{IsCause}
+use Rattle.ca_fault_place.specs.Place.{IsOfNetlist}
 
 pub of_netlist : (netlist : RawNetlist) (library : List Named) (scan : List ScanRow) (broken : ChipFault) → AreSound netlist library scan
     → IsCause netlist library scan broken → IsOfNetlist broken

@@ -8,9 +8,9 @@ use Rattle.ca_spice.specs.declared.fault.SpiceFault.TheVariants as spice
 use Rattle.ca_spice.specs.Reading.{library_of}
 use Rattle.ca_verilog.specs.declared.fault.VerilogFault.TheVariants as verilog
 use Rattle.ca_verilog.specs.Text.{netlist_of}
-use Rattle.ca_wired.specs.Linked.{Chip}
-use Rattle.ca_chip.specs.declared.fault.ChipFault.{ChipFault}
-use Rattle.ca_chip.specs.declared.fault.ChipFault.TheVariants as rule
+use Rattle.ca_linked.specs.Linked.{LinkedChip}
+use Rattle.ca_wiring.specs.declared.fault.ChipFault.{ChipFault}
+use Rattle.ca_wiring.specs.declared.fault.ChipFault.TheVariants as rule
 use Rattle.ca_scan.specs.declared.fault.ChainFault.TheVariants as chain
 use Rattle.ca_scan.specs.Table.{table_of}
 use Rattle.ca_scan.specs.ChainFault.{AreAllChains, IsChainCause}
@@ -133,7 +133,7 @@ module _ (files : Option Files) (told : Files) (are : files ≡ Some told) (befo
     many_is_memory : (count : ℕ) → chain.TooManyChains count ≡ chain.NoMemory → ⊥
     many_is_memory count same = cc
 
-    no_trace : (chip : Chip) → IsChipOf inputs chip → (fault : Fault) → IsTracingCause fault chip → ⊥
+    no_trace : (chip : LinkedChip) → IsChipOf inputs chip → (fault : Fault) → IsTracingCause fault chip → ⊥
     no_trace chip is (Chain name) (u, (off, named)) =
         let all = gives.chains chip is in
         broken_is_memory (record { 0 = u })

@@ -3,17 +3,17 @@ use Rattle.std.specs.Prelude.{◌≡◌, ◌⊎◌, ℕ, List, map, IsSomeAnd, s
 use Rattle.ca_lex.specs.Words.{upper_case}
 use Rattle.ca_cell.specs.Library.{raw_of}
 use Rattle.ca_verilog.specs.declared.raw.RawNetlist.{RawNetlist}
-use Rattle.ca_wired.specs.declared.instances.InstanceId.{InstanceId}
-use Rattle.ca_wired.specs.Linked.{Chip, IsWired}
-use Rattle.ca_wired.specs.Order.{IsOnce}
-use Rattle.ca_chip.specs.declared.fault.ChipFault.{ChipFault}
-use Rattle.ca_chip.specs.declared.fault.ChipFault.TheVariants as rule
-use Rattle.ca_chip.specs.Wiring.{wiring_of}
-use Rattle.ca_chip.specs.Linking.{IsLinkOf}
-use Rattle.ca_chip.specs.Rules.{IsFirstBroken, KeepsRules}
+use Rattle.ca_linked.specs.declared.instances.InstanceId.{InstanceId}
+use Rattle.ca_linked.specs.Linked.{LinkedChip, IsWired}
+use Rattle.ca_linked.specs.Order.{IsOnce}
+use Rattle.ca_wiring.specs.declared.fault.ChipFault.{ChipFault}
+use Rattle.ca_wiring.specs.declared.fault.ChipFault.TheVariants as rule
+use Rattle.ca_wiring.specs.Wiring.{wiring_of}
+use Rattle.ca_wiring.specs.Linking.{IsLinkOf}
+use Rattle.ca_wiring.specs.Rules.{IsFirstBroken, KeepsRules}
 use Rattle.ca_scan.specs.Chain.{IsFirstOff}
 use Rattle.ca_scan.specs.ChainFault.{AreAllChains, AreTooMany}
-use Rattle.ca_place.specs.Place.{TellsPlace}
+use Rattle.ca_fault_place.specs.Place.{TellsPlace}
 use Rattle.ca_fault.specs.declared.fault.LimitKind.TheVariants as limit
 use Rattle.ca_fault.specs.declared.fault.Fault.{Fault}
 use Rattle.ca_fault.specs.declared.fault.Fault.TheVariants.{Cell, Chain, Limit}
@@ -21,7 +21,7 @@ use Rattle.ca_fault.specs.declared.fault.Fault.TheVariants as fault
 use Rattle.ca_load.specs.Texts.{Inputs}
 
 -- the chip is wired and the link of the inputs, and they break no rule of linking and pass no limit
-pub record IsChipOf (inputs : Inputs) (chip : Chip) : Type 0 where
+pub record IsChipOf (inputs : Inputs) (chip : LinkedChip) : Type 0 where
   pub wired : IsWired chip
   pub kept : KeepsRules inputs.netlist inputs.library inputs.rows
   pub link : IsLinkOf (wiring_of inputs.netlist inputs.library inputs.rows) chip
@@ -74,7 +74,7 @@ IsLinkingCause inputs _ = ⊥
 
 -- why a chip has no chains: its first scan instance that is on no whole chain, by its name; or there are too
 -- many
-abbrev pub IsTracingCause : Fault → Chip → Type 0
+abbrev pub IsTracingCause : Fault → LinkedChip → Type 0
 IsTracingCause (Chain name) chip =
     (u : ℕ) × (IsFirstOff chip u × IsSomeAnd (slice_get chip.parts u) (λ part. name ≡ part.name))
 IsTracingCause (Limit limit.Chains count) chip = AreTooMany chip count
@@ -82,7 +82,7 @@ IsTracingCause _ chip = ⊥
 
 -- the chip of the inputs has no chains
 pub record LackChains (inputs : Inputs) (fault : Fault) : Type 0 where
-  pub chip : Chip
+  pub chip : LinkedChip
   pub is : IsChipOf inputs chip
   pub cause : IsTracingCause fault chip
 
@@ -91,10 +91,10 @@ abbrev pub IsChipCause : Fault → Inputs → Type 0
 IsChipCause fault inputs = IsLinkingCause inputs fault ⊎ LackChains inputs fault
 
 -- each scan instance of the chip is on a whole chain, and there are not too many of these
-abbrev pub IsTraced : Chip → Type 0
+abbrev pub IsTraced : LinkedChip → Type 0
 IsTraced chip = (chains : List (List ℕ)) × AreAllChains chip chains
 
 -- the inputs break no rule of linking, pass no limit, and the chip that they give has chains
 pub record GiveChip (inputs : Inputs) : Type 0 where
   pub kept : KeepsRules inputs.netlist inputs.library inputs.rows
-  pub chains : (chip : Chip) → IsChipOf inputs chip → IsTraced chip
+  pub chains : (chip : LinkedChip) → IsChipOf inputs chip → IsTraced chip

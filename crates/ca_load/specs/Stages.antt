@@ -1,6 +1,6 @@
 -- Why a stage fails, over what it was handed: a text, or what was read.
 use Rattle.std.specs.Prelude.{◌≡◌, ◌⊎◌, ℕ, List, [], unwrap_or, Option}
-use Rattle.ca_wired.specs.Linked.{Chip}
+use Rattle.ca_linked.specs.Linked.{LinkedChip}
 use Rattle.ca_fault.specs.declared.fault.Fault.{Fault}
 use Rattle.ca_fault.specs.declared.fault.Fault.TheVariants.{NoMemory}
 use Rattle.ca_load.specs.declared.reading.TypedNames.{TypedNames}
@@ -36,7 +36,7 @@ abbrev pub IsLinkStage : Inputs → Fault → Type 0
 IsLinkStage inputs fault = (fault ≡ NoMemory) ⊎ (IsChipFault fault × IsLinkingCause inputs fault)
 
 -- why a chip has no chains
-abbrev pub IsTraceStage : Chip → Fault → Type 0
+abbrev pub IsTraceStage : LinkedChip → Fault → Type 0
 IsTraceStage chip fault = (fault ≡ NoMemory) ⊎ (IsChipFault fault × IsTracingCause fault chip)
 
 -- why what was read gives no chip with chains

@@ -12,7 +12,7 @@ use crate::reading::read_all;
 use ca_fault::Fault;
 use ca_scan::Chains;
 use ca_store::Store;
-use ca_wired::Chip;
+use ca_linked::Chip;
 use std::alloc::Global;
 
 /// The names of the files of a command on a chip. One without scan cells may have no file for their table.

@@ -2,13 +2,13 @@
 use Rattle.std.proofs.Common.{◌≡◌, ℕ, zero, suc, ◌≤◌, List, [], ◌∷◌, length, flat_map, Some, None, Option}
 use Rattle.std.proofs.Common.{refl, ap, arith}
 use Rattle.std.specs.Prelude.{slice_get, IsSomeAnd, option_to_list}
-use Rattle.ca_wired.specs.declared.parts.Body.{Body}
-use Rattle.ca_wired.specs.declared.parts.Body.TheVariants as body
-use Rattle.ca_wired.specs.declared.parts.Part.{Part}
-use Rattle.ca_wired.specs.declared.pins.ScanPin.TheVariants.{Si}
-use Rattle.ca_wired.specs.Linked.{Chip}
-use Rattle.ca_wired.specs.Instances.{HasOnPin, IsScan}
-use Rattle.ca_chip.specs.Linking.{IsLinkOf}
+use Rattle.ca_linked.specs.declared.parts.Body.{Body}
+use Rattle.ca_linked.specs.declared.parts.Body.TheVariants as body
+use Rattle.ca_linked.specs.declared.parts.Part.{Part}
+use Rattle.ca_linked.specs.declared.pins.ScanPin.TheVariants.{Si}
+use Rattle.ca_linked.specs.Linked.{LinkedChip}
+use Rattle.ca_linked.specs.Instances.{HasOnPin, IsScan}
+use Rattle.ca_wiring.specs.Linking.{IsLinkOf}
 use Rattle.ca_scan.specs.Chain.{IsChainAt, IsChainFrom, IsScanAt, RunsOut}
 use Rattle.ca_scan.specs.ChainFault.{AreAllChains}
 use Rattle.ca_scan.proofs.AnswerLemmas.{one_answer}
@@ -37,7 +37,7 @@ nothing_there zero p chain at = absurd cc
 nothing_there (suc count) zero chain at = absurd cc
 nothing_there (suc count) (suc p) chain at = nothing_there count p chain at
 
-module _ (chip : Chip) (gates : (u : ℕ) (part : Part) → slice_get chip.parts u ≡ Some part → IsGateBody part.body) where
+module _ (chip : LinkedChip) (gates : (u : ℕ) (part : Part) → slice_get chip.parts u ≡ Some part → IsGateBody part.body) where
   -- what no library instance has, no instance has
   no_instance : (P : Body → Type 0) → ((it : Body) → IsGateBody it → P it → ⊥) → (u : ℕ)
       → IsSomeAnd (slice_get chip.parts u) (λ part. P part.body) → ⊥
@@ -89,6 +89,6 @@ module _ (chip : Chip) (gates : (u : ℕ) (part : Part) → slice_get chip.parts
     memory_alone = λ fault cause. (one_answer chip).not_both [] fault no_chains cause;
   }
 
-pub chip_has_no_chains : (n : ℕ) → n ≤ MOST_GATES → (chip : Chip) → IsLinkOf (chip_wiring n) chip → HasNoChains chip
+pub chip_has_no_chains : (n : ℕ) → n ≤ MOST_GATES → (chip : LinkedChip) → IsLinkOf (chip_wiring n) chip → HasNoChains chip
 unfolding gates_of
 chip_has_no_chains n le chip link = has_no_chains chip (bodies n (are_spelled n le) chip link)

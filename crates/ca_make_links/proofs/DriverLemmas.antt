@@ -7,12 +7,12 @@ use Rattle.std.specs.List.{Contains}
 use Rattle.std.proofs.lemmas.Bool.{ltb-true}
 use Rattle.std.proofs.lemmas.List.Elements.{Contains-append_cases}
 use Rattle.std.proofs.lemmas.Option.{slice_get_within, get_or_from_slice_get}
-use Rattle.ca_chip.specs.declared.joined.Join.{Join}
-use Rattle.ca_chip.specs.Wiring.{HeaderBit, WiredPart, Wiring, wiring_of}
-use Rattle.ca_chip.specs.Nets.{Driving, PortBit, ConstantBit, OutputPin, DrivesWire, ComesBefore, IsNamed}
-use Rattle.ca_chip.specs.Nets.{constant_wire}
-use Rattle.ca_chip.specs.Rules.{IsDoubleDriven}
-use Rattle.ca_chip.specs.declared.fault.Driver.{Driver}
+use Rattle.ca_wiring.specs.declared.joined.Join.{Join}
+use Rattle.ca_wiring.specs.Wiring.{HeaderBit, WiredPart, Wiring, wiring_of}
+use Rattle.ca_wiring.specs.Nets.{Driving, PortBit, ConstantBit, OutputPin, DrivesWire, ComesBefore, IsNamed}
+use Rattle.ca_wiring.specs.Nets.{constant_wire}
+use Rattle.ca_wiring.specs.Rules.{IsDoubleDriven}
+use Rattle.ca_wiring.specs.declared.fault.Driver.{Driver}
 use Rattle.ca_make.specs.declared.gate.TheConstants.{INPUTS}
 use Rattle.ca_make_laws.specs.Cells.{sound_library}
 use Rattle.ca_make_laws.specs.ChipNetlist.{candidate_bit, wire_bit, netlist_in_numbers}

@@ -11,7 +11,7 @@ use Rattle.ca_verilog.specs.declared.raw.RawBus.{RawBus}
 use Rattle.ca_verilog.specs.declared.table.Direction.{Direction}
 use Rattle.ca_verilog.specs.declared.table.Direction.TheVariants.{Input, Output, Inner}
 use Rattle.ca_verilog.specs.IsNetlist.{range_width, bit_count}
-use Rattle.ca_chip.specs.Wiring.{HeaderBit, header_bits_of, header_bits}
+use Rattle.ca_wiring.specs.Wiring.{HeaderBit, header_bits_of, header_bits}
 use Rattle.ca_make.specs.declared.gate.TheConstants.{INPUTS}
 use Rattle.ca_make.specs.NetlistText.{numbered}
 use Rattle.ca_make_laws.specs.ChipTree.{names_of}

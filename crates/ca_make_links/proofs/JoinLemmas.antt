@@ -9,9 +9,9 @@ use Rattle.std.proofs.lemmas.Option.{slice_get-get_or, get_or_from_slice_get, sl
 use Rattle.ca_verilog.specs.declared.raw.RawBus.{RawBus}
 use Rattle.ca_verilog.specs.declared.table.Direction.{Direction}
 use Rattle.ca_verilog.specs.IsNetlist.{bit_count}
-use Rattle.ca_chip.specs.declared.joined.Join.{Join}
-use Rattle.ca_chip.specs.Joined.{Links, AreJoined, Same, Across}
-use Rattle.ca_chip.specs.Wiring.{joins_of}
+use Rattle.ca_wiring.specs.declared.joined.Join.{Join}
+use Rattle.ca_wiring.specs.Joined.{Links, AreJoined, Same, Across}
+use Rattle.ca_wiring.specs.Wiring.{joins_of}
 use Rattle.ca_make.specs.declared.gate.TheConstants.{INPUTS}
 use Rattle.ca_make_laws.specs.ChipNetlist.{bus, candidate_bit, wire_bit, output_join, each_from}
 use Rattle.ca_make_links.proofs.PartLemmas.{given_at}

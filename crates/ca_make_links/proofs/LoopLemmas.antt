@@ -5,11 +5,11 @@ use Rattle.std.proofs.Common.{Some, ◌⊎◌, inl, inr, refl, sym, ap, ◌∙�
 use Rattle.std.specs.Prelude.{slice_get}
 use Rattle.std.specs.List.{Contains}
 use Rattle.std.proofs.lemmas.Bool.{ltb-true}
-use Rattle.ca_wired.specs.Order.{IsChain, HasNoLoop}
-use Rattle.ca_chip.specs.declared.joined.Join.{Join}
-use Rattle.ca_chip.specs.Joined.{AreJoined}
-use Rattle.ca_chip.specs.Wiring.{WiredPart, wiring_of}
-use Rattle.ca_chip.specs.Nets.{FeedsWire}
+use Rattle.ca_linked.specs.Order.{IsChain, HasNoLoop}
+use Rattle.ca_wiring.specs.declared.joined.Join.{Join}
+use Rattle.ca_wiring.specs.Joined.{AreJoined}
+use Rattle.ca_wiring.specs.Wiring.{WiredPart, wiring_of}
+use Rattle.ca_wiring.specs.Nets.{FeedsWire}
 use Rattle.ca_verilog.specs.IsNetlist.{bit_count}
 use Rattle.ca_make.specs.declared.gate.Gate.{Gate}
 use Rattle.ca_make.specs.declared.gate.Gate.TheVariants as gate

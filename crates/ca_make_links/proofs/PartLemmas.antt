@@ -6,8 +6,8 @@ use Rattle.std.specs.List.{AllByRecursion}
 use Rattle.ca_names.specs.Names.{has_name}
 use Rattle.ca_cell.specs.declared.raw.RawCell.{RawCell}
 use Rattle.ca_verilog.specs.declared.raw.RawUse.{RawUse}
-use Rattle.ca_chip.specs.Wiring.{Library, WiredPart, meaning_of, input_names, bit_on, wired_parts}
-use Rattle.ca_chip.specs.InstanceRules.{pin_names, IsSound}
+use Rattle.ca_wiring.specs.Wiring.{Library, WiredPart, meaning_of, input_names, bit_on, wired_parts}
+use Rattle.ca_wiring.specs.InstanceRules.{pin_names, IsSound}
 use Rattle.ca_make.specs.declared.gate.Gate.{Gate}
 use Rattle.ca_make.specs.declared.gate.Gate.TheVariants as gate
 use Rattle.ca_make.specs.NetlistText.{numbered, cell_of}

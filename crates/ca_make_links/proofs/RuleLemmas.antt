@@ -14,24 +14,24 @@ use Rattle.std.proofs.lemmas.Option.{slice_get_within, slice_get-get_or, get_or_
 use Rattle.ca_cell.specs.declared.raw.RawCell.{RawCell}
 use Rattle.ca_verilog.specs.declared.raw.RawUse.{RawUse}
 use Rattle.ca_verilog.specs.declared.raw.RawInstance.{RawInstance}
-use Rattle.ca_wired.specs.declared.parts.Body.{Body}
-use Rattle.ca_wired.specs.declared.parts.Body.TheVariants as body
-use Rattle.ca_wired.specs.declared.parts.Part.{Part}
-use Rattle.ca_wired.specs.declared.parts.PortBit.{PortBit}
-use Rattle.ca_wired.specs.Linked.{Chip, port_nets, q_nets, d_nets, inputs_of, outputs_of, is_scan_path}
-use Rattle.ca_chip.specs.declared.fault.ChipFault.{ChipFault}
-use Rattle.ca_chip.specs.declared.fault.ChipFault.TheVariants as fault
-use Rattle.ca_chip.specs.declared.joined.Join.{Join}
-use Rattle.ca_chip.specs.Joined.{AreJoined, Same, Across}
-use Rattle.ca_chip.proofs.ForestLemmas.{joined_trans}
-use Rattle.ca_chip.specs.Wiring as meanings
-use Rattle.ca_chip.specs.Wiring.{Meaning, HeaderBit, WiredPart, Wiring, meaning_of, out_bits}
-use Rattle.ca_chip.specs.Nets as nets
-use Rattle.ca_chip.specs.Nets.{Driving, Drives, DrivesWire, IsLoaded}
-use Rattle.ca_chip.specs.InstanceRules.{IsKnown, IsSound, HasStrayPin, LacksPin}
-use Rattle.ca_chip.specs.Linking.{IsLinkOf, HasMeaning}
-use Rattle.ca_chip.specs.Rules.{IsUndriven, IsScan, KeepsRules, IsCause, path_wires, library_count}
-use Rattle.ca_chip.specs.Rules.{defects_of}
+use Rattle.ca_linked.specs.declared.parts.Body.{Body}
+use Rattle.ca_linked.specs.declared.parts.Body.TheVariants as body
+use Rattle.ca_linked.specs.declared.parts.Part.{Part}
+use Rattle.ca_linked.specs.declared.parts.PortBit.{PortBit}
+use Rattle.ca_linked.specs.Linked.{LinkedChip, port_nets, q_nets, d_nets, inputs_of, outputs_of, is_scan_path}
+use Rattle.ca_wiring.specs.declared.fault.ChipFault.{ChipFault}
+use Rattle.ca_wiring.specs.declared.fault.ChipFault.TheVariants as fault
+use Rattle.ca_wiring.specs.declared.joined.Join.{Join}
+use Rattle.ca_wiring.specs.Joined.{AreJoined, Same, Across}
+use Rattle.ca_wiring.proofs.ForestLemmas.{joined_trans}
+use Rattle.ca_wiring.specs.Wiring as meanings
+use Rattle.ca_wiring.specs.Wiring.{Meaning, HeaderBit, WiredPart, Wiring, meaning_of, out_bits}
+use Rattle.ca_wiring.specs.Nets as nets
+use Rattle.ca_wiring.specs.Nets.{Driving, Drives, DrivesWire, IsLoaded}
+use Rattle.ca_wiring.specs.InstanceRules.{IsKnown, IsSound, HasStrayPin, LacksPin}
+use Rattle.ca_wiring.specs.Linking.{IsLinkOf, HasMeaning}
+use Rattle.ca_wiring.specs.Rules.{IsUndriven, IsScan, KeepsRules, IsCause, path_wires, library_count}
+use Rattle.ca_wiring.specs.Rules.{defects_of}
 use Rattle.ca_make.specs.declared.gate.Gate.{Gate}
 use Rattle.ca_make.specs.declared.gate.Gate.TheVariants as gate
 use Rattle.ca_make.specs.declared.gate.TheConstants.{INPUTS, MOST_GATES}
@@ -219,7 +219,7 @@ one_few true true net = omega arith
 one_few true false net = omega arith
 one_few false c net = omega arith
 
-inputs_few : (chip : Chip) (ports : List PortBit) (from : ℕ)
+inputs_few : (chip : LinkedChip) (ports : List PortBit) (from : ℕ)
     → ((p : ℕ) (port : PortBit) → slice_get ports p ≡ Some port → port.is_input ≡ nat_lt (from + p) INPUTS)
     → length (flat_map (λ (port : PortBit). if (if port.is_input then true else not true) && not (is_scan_path chip port.net)
     then port.net ∷ [] else []) ports) ≤ INPUTS - from
@@ -260,7 +260,7 @@ single_few : (b : Bool) (net : ℕ) → length (if b then net ∷ [] else []) �
 single_few true net = omega arith
 single_few false net = omega arith
 
-ports_few : (chip : Chip) (input : Bool) (ports : List PortBit)
+ports_few : (chip : LinkedChip) (input : Bool) (ports : List PortBit)
     → length (flat_map (λ (port : PortBit). if (if port.is_input then input else not input) && not (is_scan_path chip port.net)
     then port.net ∷ [] else []) ports) ≤ length ports
 ports_few chip input [] = omega arith
@@ -296,7 +296,7 @@ no_d : (it : Body) → IsGateBody it → d_nets it ≡ []
 no_d (body.Gate cell inputs outputs) is = refl
 no_d (body.Scan pins) is = absurd is
 
-module _ (n : ℕ) (are : AreSpelled (chip_gates n) (chip_outputs n)) (chip : Chip) (link : IsLinkOf (chip_wiring n) chip) where
+module _ (n : ℕ) (are : AreSpelled (chip_gates n) (chip_outputs n)) (chip : LinkedChip) (link : IsLinkOf (chip_wiring n) chip) where
   pub bodies : (u : ℕ) (part : Part) → slice_get chip.parts u ≡ Some part → IsGateBody part.body
   bodies u part at =
       let lt = slice_get_within chip.parts u part at in

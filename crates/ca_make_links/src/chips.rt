@@ -1,20 +1,20 @@
 //! Generated chips, linked.
 
 ghost use Rattle.std.specs.Prelude.{◌≡◌, ◌≤◌, [], map, IfOk, OnOk};
-ghost use Rattle.ca_chip.specs.declared.fault.ChipFault.TheVariants as fault;
+ghost use Rattle.ca_wiring.specs.declared.fault.ChipFault.TheVariants as fault;
 ghost use Rattle.std.specs.List.{All};
 ghost use Rattle.ca_cell.specs.Library.{raw_of, IsEntry};
-ghost use Rattle.ca_chip.specs.Wiring.{wiring_of};
-ghost use Rattle.ca_chip.specs.Linking.{IsLinkOf};
+ghost use Rattle.ca_wiring.specs.Wiring.{wiring_of};
+ghost use Rattle.ca_wiring.specs.Linking.{IsLinkOf};
 ghost use Rattle.ca_make.specs.declared.gate.TheConstants.{MOST_GATES};
 ghost use Rattle.ca_make_laws.specs.Cells.{sound_library};
 ghost use Rattle.ca_make_laws.specs.ChipNetlist.{chip_netlist};
 
 use ca_base::NoMemory;
-use ca_chip::{ChipFault, ScanTable};
+use ca_wiring::{ChipFault, ScanTable};
 use ca_link::link;
 use ca_make_laws::{made_library, made_netlist};
-use ca_wired::Chip;
+use ca_linked::Chip;
 use std::alloc::Global;
 
 // The only fault that linking meets here.

@@ -5,7 +5,7 @@ ghost use Rattle.ca_verilog.specs.IsNetlist.{IsNetlist};
 ghost use Rattle.ca_make.specs.declared.gate.TheConstants.{MOST_GATES};
 
 use ca_cell::Library;
-use ca_chip::ScanTable;
+use ca_wiring::ScanTable;
 use ca_link::link;
 use ca_make::{library, netlist};
 use ca_make_laws::{made_library, made_netlist};

@@ -17,7 +17,7 @@ use Rattle.ca_cell.specs.Rules.{IsRaw, PlacesWithin, node_count}
 use Rattle.ca_cell.proofs.CircuitLemmas.{length-nodes_of, node_of-within}
 use Rattle.ca_flat.specs.Chip.{cell_at}
 use Rattle.ca_flat.specs.Flat.{inner_count}
-use Rattle.ca_wired.specs.Linked.{Chip}
+use Rattle.ca_linked.specs.Linked.{LinkedChip}
 use Rattle.ca_core.specs.Core.{core_of}
 use Rattle.ca_merged.specs.Blocks.{block_start}
 use Rattle.ca_merged.specs.Cluster.{seat, seated, seated_devices}
@@ -56,7 +56,7 @@ node_within cell of place n is_raw same lt e =
     (subst (λ k. node_of cell.pins place < k) (sym (length-nodes_of cell)) (node_of-within cell place is_raw lt)))
 
 -- the device on its nodes of the cluster
-pub seated_is : (chip : Chip) (members : List ℕ) (u d : ℕ) (cell : RawCell) (x result : RawDevice) (device : Device) (drain gate source : ℕ)
+pub seated_is : (chip : LinkedChip) (members : List ℕ) (u d : ℕ) (cell : RawCell) (x result : RawDevice) (device : Device) (drain gate source : ℕ)
     → cell_at (core_of chip) u ≡ cell → d < length cell.devices → x ≡ get_or cell.devices d x → Terminals cell x device
     → drain ≡ seat (core_of chip) members u device.a.0 → gate ≡ seat (core_of chip) members u device.gate.0
     → source ≡ seat (core_of chip) members u device.b.0
@@ -92,14 +92,14 @@ seated_more f xs old now new d result lt is before grown =
     ∙ ap (λ y. old ++ (map f (take d xs) ++ y ∷ [])) one ∙ ap (λ ys. old ++ ys) (sym (map_more f xs d result lt))
 
 -- the inner nodes of a member's cell
-pub inner_same : (chip : Chip) (u : ℕ) (cell : RawCell) → cell_at (core_of chip) u ≡ cell → inner_count (core_of chip) u ≡ raw.inner_count cell
+pub inner_same : (chip : LinkedChip) (u : ℕ) (cell : RawCell) → cell_at (core_of chip) u ≡ cell → inner_count (core_of chip) u ≡ raw.inner_count cell
 inner_same chip u cell same =
     let l : length (circuit_of cell).nodes ≡ node_count cell = length-nodes_of cell in
     let c : inner_count (core_of chip) u ≡ length (circuit_of cell).nodes - (2 + role_count is_input cell.pins + role_count is_output cell.pins) =
     ap (λ (r : RawCell). length (circuit_of r).nodes - (2 + role_count is_input r.pins + role_count is_output r.pins)) same in
     omega arith
 
-module _ (chip : Chip) (members : List ℕ) (nets : ClusterNets) (seats : AreSeated chip members nets) (k u start : ℕ) (lt : k < length members)
+module _ (chip : LinkedChip) (members : List ℕ) (nets : ClusterNets) (seats : AreSeated chip members nets) (k u start : ℕ) (lt : k < length members)
     (here : u ≡ get_or members k 0) (before : start ≡ sum_by (inner_count (core_of chip)) (take k members)) where
   pub in_hand : IsInHand chip members nets u start
   in_hand = record {

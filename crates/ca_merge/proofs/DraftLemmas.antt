@@ -17,14 +17,14 @@ use Rattle.ca_net.specs.declared.scale.TheConstants.{OUTPUT_NET}
 use Rattle.ca_cell.specs.declared.rule.CellRule.TheVariants.{NoRail}
 use Rattle.ca_cell.specs.Raw.{is_input, is_output, role_count}
 use Rattle.ca_cell.specs.Rules.{Breaks}
-use Rattle.ca_wired.specs.declared.parts.Body.{Body}
-use Rattle.ca_wired.specs.declared.parts.Part.{Part}
-use Rattle.ca_wired.specs.declared.parts.PortBit.{PortBit}
-use Rattle.ca_wired.specs.declared.parts.Body.TheVariants.{Gate, Scan}
-use Rattle.ca_wired.specs.Linked.{Chip, net_count, has, path_nets, data_nets, is_scan_path, gate_inputs}
-use Rattle.ca_wired.specs.Linked.{gate_outputs, IsGate, IsBody, IsGateOf, IsWired, cell_of, no_cell, port_nets}
-use Rattle.ca_wired.specs.Linked.{q_nets, d_nets, inputs_of, outputs_of}
-use Rattle.ca_wired.proofs.PartLemmas.{has_contains, contains_has}
+use Rattle.ca_linked.specs.declared.parts.Body.{Body}
+use Rattle.ca_linked.specs.declared.parts.Part.{Part}
+use Rattle.ca_linked.specs.declared.parts.PortBit.{PortBit}
+use Rattle.ca_linked.specs.declared.parts.Body.TheVariants.{Gate, Scan}
+use Rattle.ca_linked.specs.Linked.{LinkedChip, net_count, has, path_nets, data_nets, is_scan_path, gate_inputs}
+use Rattle.ca_linked.specs.Linked.{gate_outputs, IsGate, IsBody, IsGateOf, IsWired, cell_of, no_cell, port_nets}
+use Rattle.ca_linked.specs.Linked.{q_nets, d_nets, inputs_of, outputs_of}
+use Rattle.ca_linked.proofs.PartLemmas.{has_contains, contains_has}
 use Rattle.ca_flat.specs.Chip.{Instance, Constant, instance_at, cell_at, inputs_at, outputs_at, net_of, output_net}
 use Rattle.ca_flat.specs.Chip.{count_of}
 use Rattle.ca_flat.specs.Chip as flat
@@ -53,8 +53,8 @@ pub same_chip : (a x : List NodeKind) (b y : List Instance) (c z : List ℕ) (d 
     let other : flat.Chip = record { nets = x; instances = y; inputs = z; constants = v; outputs = w } in one ≡ other)
 same_chip a x b y c z d v e w p q r s t = cc
 
-module _ (chip : Chip) (members : List ℕ) where
-  abbrev pub m : Chip
+module _ (chip : LinkedChip) (members : List ℕ) where
+  abbrev pub m : LinkedChip
   m = merged_draft chip members
 
   abbrev pub places : List ℕ

@@ -9,16 +9,16 @@ use Rattle.ca_cell.specs.declared.raw.RawCell.{RawCell}
 use Rattle.ca_cell.specs.declared.library.Entry.TheVariants.{Sound}
 use Rattle.ca_cell.specs.Library.{Named, raw_of, HasOneMore}
 use Rattle.ca_flat.specs.Chip.{Constant}
-use Rattle.ca_wired.specs.declared.parts.Body.{Body}
-use Rattle.ca_wired.specs.declared.parts.Part.{Part}
-use Rattle.ca_wired.specs.declared.parts.PortBit.{PortBit}
-use Rattle.ca_wired.specs.declared.parts.Body.TheVariants.{Gate, Scan}
-use Rattle.ca_wired.specs.Linked.{Chip, net_count, is_scan_path, IsWired, inputs_of, outputs_of}
+use Rattle.ca_linked.specs.declared.parts.Body.{Body}
+use Rattle.ca_linked.specs.declared.parts.Part.{Part}
+use Rattle.ca_linked.specs.declared.parts.PortBit.{PortBit}
+use Rattle.ca_linked.specs.declared.parts.Body.TheVariants.{Gate, Scan}
+use Rattle.ca_linked.specs.Linked.{LinkedChip, net_count, is_scan_path, IsWired, inputs_of, outputs_of}
 use Rattle.ca_core.specs.Core.{core_net, core_kinds, core_instance, core_of, constant_on, in_net_order, kind_of, trit_of}
 use Rattle.ca_merged.specs.Cluster.{is_member, cluster_cell}
 use Rattle.ca_merged.specs.Merged.{merged, cluster_place}
-use Rattle.ca_wired.specs.Linked.{has}
-use Rattle.ca_wired.specs.Paths.{mark_at, Marks}
+use Rattle.ca_linked.specs.Linked.{has}
+use Rattle.ca_linked.specs.Paths.{mark_at, Marks}
 use Rattle.ca_merge.specs.declared.pins.ClusterNets.{ClusterNets}
 use Rattle.ca_merge.specs.Pins.{AreClusterNets}
 use Rattle.ca_merge.specs.Draft.{part_of, no_part, AreGates, other_parts, cluster_part, merged_draft}
@@ -28,7 +28,7 @@ use Rattle.ca_merge.proofs.PinLemmas.{passing_more}
 use Rattle.ca_merge.proofs.DraftLemmas.{same_chip, places_are, parts_are, all_same, gate_at}
 
 -- the marks of members
-pub marks_fit : (chip : Chip) (members : List ℕ) (marks : List Bool) (n : ℕ) → IsWired chip → AreGates chip members → n ≡ length chip.parts
+pub marks_fit : (chip : LinkedChip) (members : List ℕ) (marks : List Bool) (n : ℕ) → IsWired chip → AreGates chip members → n ≡ length chip.parts
     → length marks ≡ n → All (λ u. u < length marks) members
 marks_fit chip members marks n is gates count room k d lt =
     let g = (gate_at chip members is gates (get_or members k d) (k, lt, get_or_default members k (get_or members k d) d lt)).0 in
@@ -42,7 +42,7 @@ marked_same marks new xs members n k none marked same lt =
     ∙ ap (λ ys. has ys k) same
 
 -- the instances that aren't members, with the next
-pub others_more : (chip : Chip) (members : List ℕ) (u : ℕ) (part : Part) (skipped : Bool) (now new : List Part) → slice_get chip.parts u ≡ Some part
+pub others_more : (chip : LinkedChip) (members : List ℕ) (u : ℕ) (part : Part) (skipped : Bool) (now new : List Part) → slice_get chip.parts u ≡ Some part
     → skipped ≡ is_member members u → now ≡ map (part_of chip) (filter (λ w. not (is_member members w)) (range_with_len 0 u))
     → new ≡ now ++ (if skipped then [] else part ∷ [])
     → new ≡ map (part_of chip) (filter (λ w. not (is_member members w)) (range_with_len 0 (u + 1)))
@@ -70,19 +70,19 @@ ports_more ports now new p port copied at same was grown =
     ∙ sym (take_more ports p port lt)
 
 -- the nets of the cluster's pins
-pub listed_inputs : (chip : Chip) (members : List ℕ) (nets : ClusterNets) → AreClusterNets chip members nets → nets.inputs.nets ≡ cluster_input_nets chip members
+pub listed_inputs : (chip : LinkedChip) (members : List ℕ) (nets : ClusterNets) → AreClusterNets chip members nets → nets.inputs.nets ≡ cluster_input_nets chip members
 unfolding cluster_input_nets
 listed_inputs chip members nets tables = tables.inputs.listed
 
-pub listed_outputs : (chip : Chip) (members : List ℕ) (nets : ClusterNets) → AreClusterNets chip members nets → nets.outputs.nets ≡ cluster_output_nets chip members
+pub listed_outputs : (chip : LinkedChip) (members : List ℕ) (nets : ClusterNets) → AreClusterNets chip members nets → nets.outputs.nets ≡ cluster_output_nets chip members
 unfolding cluster_output_nets
 listed_outputs chip members nets tables = tables.outputs.listed
 
 -- the draft by its parts
-pub draft_is : (chip : Chip) (members : List ℕ) (cells : List RawCell) (parts : List Part) (ports : List PortBit) (nets : ℕ) (low high : Option ℕ)
+pub draft_is : (chip : LinkedChip) (members : List ℕ) (cells : List RawCell) (parts : List Part) (ports : List PortBit) (nets : ℕ) (low high : Option ℕ)
     → cells ≡ chip.cells ++ (cluster_cell (core_of chip) members ∷ []) → nets ≡ chip.nets → low ≡ chip.zero → high ≡ chip.one
     → parts ≡ other_parts chip members ++ (cluster_part chip members ∷ []) → ports ≡ chip.ports
-    → (let made : Chip = record { cells = cells; nets = nets; zero = low; one = high; parts = parts; ports = ports; order = [] } in made ≡ merged_draft chip members)
+    → (let made : LinkedChip = record { cells = cells; nets = nets; zero = low; one = high; parts = parts; ports = ports; order = [] } in made ≡ merged_draft chip members)
 unfolding merged_draft
 draft_is chip members cells parts ports nets low high a b c d e f = cc
 
@@ -96,8 +96,8 @@ one_cell_more old new cells raw cell more same is =
     ∙ ap (λ xs. xs ++ raw ∷ []) same ∙ ap (λ x. cells ++ x ∷ []) is
 
 -- an order of the instances changes nothing in the core
-module _ (d : Chip) (order : List ℕ) where
-  abbrev o : Chip
+module _ (d : LinkedChip) (order : List ℕ) where
+  abbrev o : LinkedChip
   o = record d { order = order }
 
   number : (net : ℕ) → core_net o net ≡ core_net d net
@@ -127,12 +127,12 @@ module _ (d : Chip) (order : List ℕ) where
       (ap (λ xs. in_net_order xs (constant_on o true d.one)) (constant false d.zero) ∙ ap (in_net_order (constant_on d false d.zero)) (constant true d.one))
       (map_same (core_net o) (core_net d) number (outputs_of d))
 
-pub made_core : (chip : Chip) (members : List ℕ) (made : Chip) → IsWired chip → AreGates chip members
+pub made_core : (chip : LinkedChip) (members : List ℕ) (made : LinkedChip) → IsWired chip → AreGates chip members
     → made ≡ record (merged_draft chip members) { order = made.order } → core_of made ≡ merged (core_of chip) members
 made_core chip members made is gates same = ap core_of same ∙ core_ordered (merged_draft chip members) made.order ∙ all_same chip members is gates
 
 -- the cluster is the last instance
-pub parts_counted : (chip : Chip) (members : List ℕ) → IsWired chip → AreGates chip members
+pub parts_counted : (chip : LinkedChip) (members : List ℕ) → IsWired chip → AreGates chip members
     → length (merged_draft chip members).parts ≡ cluster_place (core_of chip) members + 1
 parts_counted chip members is gates =
     ap (λ xs. length xs) (parts_are chip members)

@@ -8,19 +8,19 @@ use Rattle.std.proofs.lemmas.List.{length-append, get_or_append_left, get_or-app
 use Rattle.std.proofs.lemmas.List.Elements.{filter-append}
 use Rattle.std.proofs.lemmas.List.Folds.{list_any-append}
 use Rattle.std.proofs.lemmas.Option.{get_or_from_slice_get}
-use Rattle.ca_wired.specs.declared.parts.Body.{Body}
-use Rattle.ca_wired.specs.declared.parts.Part.{Part}
-use Rattle.ca_wired.specs.declared.parts.Body.TheVariants.{Gate, Scan}
-use Rattle.ca_wired.specs.Linked.{Chip, net_count, has, data_nets, gate_inputs, gate_outputs, IsWired}
-use Rattle.ca_wired.specs.Paths.{mark_at, Marks, AreMarks}
-use Rattle.ca_wired.proofs.PartLemmas.{of_all}
+use Rattle.ca_linked.specs.declared.parts.Body.{Body}
+use Rattle.ca_linked.specs.declared.parts.Part.{Part}
+use Rattle.ca_linked.specs.declared.parts.Body.TheVariants.{Gate, Scan}
+use Rattle.ca_linked.specs.Linked.{LinkedChip, net_count, has, data_nets, gate_inputs, gate_outputs, IsWired}
+use Rattle.ca_linked.specs.Paths.{mark_at, Marks, AreMarks}
+use Rattle.ca_linked.proofs.PartLemmas.{of_all}
 use Rattle.ca_merged.proofs.Lists.{get_or_contains}
 use Rattle.ca_merge.specs.Draft.{part_of, no_part, AreGates, reads_net, drives_net, feeds_members}
 use Rattle.ca_merge.specs.Pins.{IsListed}
 use Rattle.ca_merge.proofs.DraftLemmas.{gate_at}
 
 -- a member at a place of the list is an instance
-pub member_within : (chip : Chip) (members : List ℕ) (k u : ℕ) → IsWired chip → AreGates chip members → k < length members
+pub member_within : (chip : LinkedChip) (members : List ℕ) (k u : ℕ) → IsWired chip → AreGates chip members → k < length members
     → u ≡ get_or members k 0 → u < length chip.parts
 member_within chip members k u is gates lt e =
     subst (λ x. x < length chip.parts) (sym e) (gate_at chip members is gates (get_or members k 0) (get_or_contains members k lt)).0
@@ -30,11 +30,11 @@ or_off true = refl
 or_off false = refl
 
 -- a member has the net on one of these pins
-abbrev pub on_pins : (Body → List ℕ) → Chip → List ℕ → ℕ → Bool
+abbrev pub on_pins : (Body → List ℕ) → LinkedChip → List ℕ → ℕ → Bool
 on_pins nets chip members net = list_any (λ u. has (nets (part_of chip u).body) net) members
 
 -- the nets of one more member are marked
-pub member_marked : (nets : Body → List ℕ) (chip : Chip) (members : List ℕ) (count k u : ℕ) (part : Part) (old new : List Bool)
+pub member_marked : (nets : Body → List ℕ) (chip : LinkedChip) (members : List ℕ) (count k u : ℕ) (part : Part) (old new : List Bool)
     → k < length members → u ≡ get_or members k 0 → slice_get chip.parts u ≡ Some part
     → AreMarks count (on_pins nets chip (take k members)) old → Marks (nets part.body) old new
     → AreMarks count (on_pins nets chip (take (k + 1) members)) new
@@ -50,7 +50,7 @@ member_marked nets chip members count k u part old new lt e at before marked = r
 }
 
 -- the data nets of an instance are nets
-pub inputs_within : (chip : Chip) (u count : ℕ) (part : Part) → IsWired chip → slice_get chip.parts u ≡ Some part → count ≡ net_count chip
+pub inputs_within : (chip : LinkedChip) (u count : ℕ) (part : Part) → IsWired chip → slice_get chip.parts u ≡ Some part → count ≡ net_count chip
     → All (λ net. net < count) (gate_inputs part.body)
 inputs_within chip u count part is at e = subst (λ n. All (λ net. net < n) (gate_inputs part.body)) (sym e)
     (by part.body (of_all (λ (p : Part). All (λ net. net < net_count chip) (data_nets p.body)) chip.parts u part is.on_nets at))
@@ -60,7 +60,7 @@ inputs_within chip u count part is at e = subst (λ n. All (λ net. net < n) (ga
         subst (λ n. n < net_count chip) (get_or_append_left inputs outputs d k lt) (all k d (let l = length-append inputs outputs in omega arith))
     by (Scan nets) all k d lt = absurd (omega arith)
 
-pub outputs_within : (chip : Chip) (u count : ℕ) (part : Part) → IsWired chip → slice_get chip.parts u ≡ Some part → count ≡ net_count chip
+pub outputs_within : (chip : LinkedChip) (u count : ℕ) (part : Part) → IsWired chip → slice_get chip.parts u ≡ Some part → count ≡ net_count chip
     → All (λ net. net < count) (gate_outputs part.body)
 outputs_within chip u count part is at e = subst (λ n. All (λ net. net < n) (gate_outputs part.body)) (sym e)
     (by part.body (of_all (λ (p : Part). All (λ net. net < net_count chip) (data_nets p.body)) chip.parts u part is.on_nets at))
@@ -95,7 +95,7 @@ passing_few p (suc n) =
     by false = omega arith
 
 -- the marks of the nets that are read and of those that are driven show which are fed
-pub fed_same : (chip : Chip) (members : List ℕ) (read driven : List Bool) (net : ℕ) → AreMarks (net_count chip) (reads_net chip members) read
+pub fed_same : (chip : LinkedChip) (members : List ℕ) (read driven : List Bool) (net : ℕ) → AreMarks (net_count chip) (reads_net chip members) read
     → AreMarks (net_count chip) (drives_net chip members) driven → net < net_count chip
     → (mark_at read net && not (mark_at driven net)) ≡ feeds_members chip members net
 fed_same chip members read driven net r d lt = let a = r.each net lt in let b = d.each net lt in cc

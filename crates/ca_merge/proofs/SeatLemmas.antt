@@ -11,12 +11,12 @@ use Rattle.ca_cell.specs.declared.raw.RawCell.{RawCell}
 use Rattle.ca_cell.specs.Raw.{is_input, is_output, role_count}
 use Rattle.ca_flat.specs.Chip.{Instance, cell_at, circuit_at, net_of}
 use Rattle.ca_flat.specs.Flat.{outer_count}
-use Rattle.ca_wired.specs.declared.parts.Body.{Body}
-use Rattle.ca_wired.specs.declared.parts.Part.{Part}
-use Rattle.ca_wired.specs.declared.parts.Body.TheVariants.{Gate, Scan}
-use Rattle.ca_wired.specs.Linked.{Chip, net_count, gate_inputs, gate_outputs, input_nets, output_nets, IsGate, IsWired}
-use Rattle.ca_wired.specs.Instances.{IsCellOf}
-use Rattle.ca_wired.proofs.OrderLemmas.{contained_at}
+use Rattle.ca_linked.specs.declared.parts.Body.{Body}
+use Rattle.ca_linked.specs.declared.parts.Part.{Part}
+use Rattle.ca_linked.specs.declared.parts.Body.TheVariants.{Gate, Scan}
+use Rattle.ca_linked.specs.Linked.{LinkedChip, net_count, gate_inputs, gate_outputs, input_nets, output_nets, IsGate, IsWired}
+use Rattle.ca_linked.specs.Instances.{IsCellOf}
+use Rattle.ca_linked.proofs.OrderLemmas.{contained_at}
 use Rattle.ca_core.specs.Core.{core_net, core_instance, core_of, rank_of}
 use Rattle.ca_core.proofs.CoreLemmas.{IsOutside}
 use Rattle.ca_core.proofs.CorePartLemmas.{core_at}
@@ -35,7 +35,7 @@ use Rattle.ca_merge.proofs.DraftLemmas.{gate_at, drives_at, reads_at, driven_dat
 use Rattle.ca_merge.proofs.DraftLemmas.{outputs_numbered, inputs_numbered}
 
 -- the cell of an instance
-pub cell_here : (chip : Chip) (u : ℕ) (raw : RawCell) → IsSomeAnd (slice_get chip.parts u) (λ part. IsCellOf chip.cells part.body raw)
+pub cell_here : (chip : LinkedChip) (u : ℕ) (raw : RawCell) → IsSomeAnd (slice_get chip.parts u) (λ part. IsCellOf chip.cells part.body raw)
     → cell_at (core_of chip) u ≡ raw
 cell_here chip u raw h = by (slice_get chip.parts u) refl h
   where
@@ -80,7 +80,7 @@ rank_in p (suc n) net lt h =
           )
     ]
 
-module _ (chip : Chip) (members : List ℕ) (is : IsWired chip) (gates : AreGates chip members) where
+module _ (chip : LinkedChip) (members : List ℕ) (is : IsWired chip) (gates : AreGates chip members) where
   -- the place of a listed net's number in the core
   listed_place : (p q : ℕ → Bool) (n m : ℕ) → map (core_net chip) (filter p (range_with_len 0 n)) ≡ filter q (range_with_len 0 m)
       → (net : ℕ) → net < n → p net ≡ true
@@ -139,7 +139,7 @@ module _ (chip : Chip) (members : List ℕ) (is : IsWired chip) (gates : AreGate
         else 2 + position_or_len (eqb (core_net chip net)) (cluster_inputs (core_of chip) members)) (sym (driven_same chip members is gates net outside) ∙ u))
   ]
 
-module _ (chip : Chip) (members : List ℕ) (nets : ClusterNets) (u start : ℕ) (is : IsWired chip) (hand : IsInHand chip members nets u start) where
+module _ (chip : LinkedChip) (members : List ℕ) (nets : ClusterNets) (u start : ℕ) (is : IsWired chip) (hand : IsInHand chip members nets u start) where
   abbrev gates : AreGates chip members
   gates = hand.seated.gates
 

@@ -20,7 +20,7 @@ use Rattle.ca_cell.proofs.CircuitLemmas.{few_nodes}
 use Rattle.ca_cell.proofs.NodeLemmas.{few_devices}
 use Rattle.ca_flat.specs.Chip.{cell_at}
 use Rattle.ca_flat.specs.Flat.{inner_count}
-use Rattle.ca_wired.specs.Linked.{Chip, net_count, IsWired}
+use Rattle.ca_linked.specs.Linked.{LinkedChip, net_count, IsWired}
 use Rattle.ca_core.specs.Core.{core_of}
 use Rattle.ca_core.specs.Core as core
 use Rattle.ca_core.proofs.CoreIsChip.{core_is}
@@ -48,7 +48,7 @@ rising_few (x ∷ xs) a n rising base low high =
     (λ u c. let r : x < u = rising_head x xs u rising c in omega arith) (λ u c. high u (cons_there x xs u c)) in
     omega arith
 
-pub members_few : (chip : Chip) (members : List ℕ) → IsWired chip → AreGates chip members → AreMembers (core_of chip) members → length members < 2 ^ 32
+pub members_few : (chip : LinkedChip) (members : List ℕ) → IsWired chip → AreGates chip members → AreMembers (core_of chip) members → length members < 2 ^ 32
 members_few chip members is gates are =
     let f = rising_few members 0 (length chip.parts) are.ascending (omega arith) (λ u c. omega arith) (λ u c. (gate_at chip members is gates u c).0) in
     let k = is.few_parts in
@@ -70,14 +70,14 @@ sum_step f members k u now more lt here was is =
     omega arith
 
 -- there are no more nets on pins than nets
-pub nets_few : (chip : Chip) (members : List ℕ) (nets : ClusterNets) → AreClusterNets chip members nets
+pub nets_few : (chip : LinkedChip) (members : List ℕ) (nets : ClusterNets) → AreClusterNets chip members nets
     → (length nets.inputs.nets ≤ net_count chip) × (length nets.outputs.nets ≤ net_count chip)
 nets_few chip members nets tables = (
   subst (λ xs. length xs ≤ net_count chip) (sym tables.inputs.listed) (passing_few (feeds_members chip members) (net_count chip)),
   subst (λ xs. length xs ≤ net_count chip) (sym tables.outputs.listed) (passing_few (drives_net chip members) (net_count chip)),
 )
 
-pub nodes_are : (chip : Chip) (members : List ℕ) (nets : ClusterNets) (inner : ℕ) → IsWired chip → AreGates chip members → AreClusterNets chip members nets
+pub nodes_are : (chip : LinkedChip) (members : List ℕ) (nets : ClusterNets) (inner : ℕ) → IsWired chip → AreGates chip members → AreClusterNets chip members nets
     → inner ≡ sum_by (inner_count (core_of chip)) members
     → 2 + length nets.inputs.nets + length nets.outputs.nets + inner ≡ node_count (cluster_cell (core_of chip) members)
 nodes_are chip members nets inner is gates tables e =
@@ -104,7 +104,7 @@ raw_is chip members pins nets devices i o n p ei eo q en d =
     raw_by chip members pins nets devices (p ∙ ap (λ k. pins_of k o) ei ∙ ap (pins_of (input_count chip members)) eo) (q ∙ ap (λ k. replicate k []) count) d
 
 -- a cluster that isn't too large is a subcircuit
-pub small_is_raw : (chip : Chip) (members : List ℕ) (nets : ClusterNets) (raw : RawCell) → IsWired chip → AreSeated chip members nets
+pub small_is_raw : (chip : LinkedChip) (members : List ℕ) (nets : ClusterNets) (raw : RawCell) → IsWired chip → AreSeated chip members nets
     → length (cluster_cell (core_of chip) members).devices ≤ MOST_DEVICES → raw ≡ cluster_cell (core_of chip) members → IsRaw raw
 small_is_raw chip members nets raw is seated few same =
     subst IsRaw (sym same)

@@ -15,19 +15,19 @@ use Rattle.ca_cell.specs.declared.rule.CellRule.TheVariants.{NoOutput, TooManyOu
 use Rattle.ca_cell.specs.declared.rule.TheConstants.{MOST_OUTPUTS}
 use Rattle.ca_cell.specs.Raw.{is_input, is_output, role_count}
 use Rattle.ca_cell.specs.Rules.{KeepsRules, KeepsAllBut}
-use Rattle.ca_wired.specs.declared.parts.Body.{Body}
-use Rattle.ca_wired.specs.declared.parts.Part.{Part}
-use Rattle.ca_wired.specs.declared.parts.PortBit.{PortBit}
-use Rattle.ca_wired.specs.declared.parts.Body.TheVariants.{Gate, Scan}
-use Rattle.ca_wired.specs.declared.parts.Source.{Source}
-use Rattle.ca_wired.specs.declared.parts.Source.TheVariants.{FromPort, FromConstant, FromPin}
-use Rattle.ca_wired.specs.Linked.{Chip, net_count, constant_net, data_nets, is_scan_path, gate_inputs, gate_outputs}
-use Rattle.ca_wired.specs.Linked.{input_nets, output_nets, Drives, Feeds, IsGate, IsLibrary, IsBody, IsGateOf}
-use Rattle.ca_wired.specs.Linked.{IsWired, cell_of, no_cell, has, inverted_nets, is_read}
-use Rattle.ca_wired.specs.Wired.{IsReady}
-use Rattle.ca_wired.specs.Order.{IsChain, HasNoLoop, IsOrder}
-use Rattle.ca_wired.proofs.OrderLemmas.{place_of, contained_at}
-use Rattle.ca_wired.proofs.PartLemmas.{of_all, has_contains, contains_has}
+use Rattle.ca_linked.specs.declared.parts.Body.{Body}
+use Rattle.ca_linked.specs.declared.parts.Part.{Part}
+use Rattle.ca_linked.specs.declared.parts.PortBit.{PortBit}
+use Rattle.ca_linked.specs.declared.parts.Body.TheVariants.{Gate, Scan}
+use Rattle.ca_linked.specs.declared.parts.Source.{Source}
+use Rattle.ca_linked.specs.declared.parts.Source.TheVariants.{FromPort, FromConstant, FromPin}
+use Rattle.ca_linked.specs.Linked.{LinkedChip, net_count, constant_net, data_nets, is_scan_path, gate_inputs, gate_outputs}
+use Rattle.ca_linked.specs.Linked.{input_nets, output_nets, Drives, Feeds, IsGate, IsLibrary, IsBody, IsGateOf}
+use Rattle.ca_linked.specs.Linked.{IsWired, cell_of, no_cell, has, inverted_nets, is_read}
+use Rattle.ca_linked.specs.Wired.{IsReady}
+use Rattle.ca_linked.specs.Order.{IsChain, HasNoLoop, IsOrder}
+use Rattle.ca_linked.proofs.OrderLemmas.{place_of, contained_at}
+use Rattle.ca_linked.proofs.PartLemmas.{of_all, has_contains, contains_has}
 use Rattle.ca_flat.specs.Chip.{Instance, IsChip, inputs_at, outputs_at, net_of, output_net}
 use Rattle.ca_core.specs.Core.{core_net, stored_nets, core_instance, core_of, rank_of}
 use Rattle.ca_core.proofs.CoreLemmas.{IsOutside}
@@ -52,7 +52,7 @@ all_from : {X : Type 0} (P : X → Type 0) (xs : List X) → ((x : X) → Contai
 all_from P xs h k d lt = h (get_or xs k d) (Contains-get_or xs k d lt)
 
 -- the pins of the core's instances, where each instance has a net for each pin
-module _ (c : Chip) (bodies : All (λ (part : Part). IsBody c.cells part.body) c.parts) where
+module _ (c : LinkedChip) (bodies : All (λ (part : Part). IsBody c.cells part.body) c.parts) where
   body_at : (u : ℕ) (part : Part) → slice_get c.parts u ≡ Some part → IsBody c.cells part.body
   body_at u part at = of_all (λ (p : Part). IsBody c.cells p.body) c.parts u part bodies at
 
@@ -95,14 +95,14 @@ module _ (c : Chip) (bodies : All (λ (part : Part). IsBody c.cells part.body) c
   no_loop : (rank : ℕ → ℕ) → IsChip (core_of c) rank → HasNoLoop (Feeds c)
   no_loop rank is u more h = let a = chain_rises rank is u more u h in omega arith
 
-module _ (chip : Chip) (members : List ℕ) (can : AreMergeable chip members) where
+module _ (chip : LinkedChip) (members : List ℕ) (can : AreMergeable chip members) where
   abbrev is : IsWired chip
   is = can.wired
 
   abbrev gates : AreGates chip members
   gates = can.gates
 
-  abbrev d : Chip
+  abbrev d : LinkedChip
   d = merged_draft chip members
 
   abbrev pl : List ℕ

@@ -9,7 +9,7 @@ ghost use Rattle.ca_merge.specs.Draft.{cluster_output_nets, other_parts, merged_
 use ca_base::NoMemory;
 use ca_cell::Cell;
 use ca_lex::Text;
-use ca_wired::{Body, Chip, Draft, InstanceId, InstanceList, NetList, NetMarks, Part, PortBit};
+use ca_linked::{Body, Chip, Draft, InstanceId, InstanceList, NetList, NetMarks, Part, PortBit};
 use std::alloc::Global;
 
 // Appends a copy of an instance, unless it is skipped.

@@ -10,7 +10,7 @@ use crate::cell::{MergeFault, cluster_cell};
 use crate::draft::merged_draft;
 use crate::pins::{cluster_nets, lists_of};
 use crate::seats::Cluster;
-use ca_wired::{Chip, InstanceId, InstanceList, wire_draft};
+use ca_linked::{Chip, InstanceId, InstanceList, wire_draft};
 use std::alloc::Global;
 
 /// The chip in which these library instances are one, with that instance, which is the last. The members are

@@ -3,13 +3,13 @@
 ghost use Rattle.std.specs.Prelude.{◌≡◌, ◌<◌, ◌++◌, ◌+◌, ◌^◌, [], ◌∷◌, not, ◌&&◌, length};
 ghost use Rattle.std.specs.Prelude.{if◌then◌else◌, IfOk, OnOk};
 ghost use Rattle.std.specs.List.{All};
-ghost use Rattle.ca_wired.specs.Linked.{net_count, gate_inputs, gate_outputs};
-ghost use Rattle.ca_wired.specs.Paths.{mark_at, Marks, AreMarks};
+ghost use Rattle.ca_linked.specs.Linked.{net_count, gate_inputs, gate_outputs};
+ghost use Rattle.ca_linked.specs.Paths.{mark_at, Marks, AreMarks};
 ghost use Rattle.ca_merge.specs.Draft.{AreGates, drives_net, reads_net, feeds_members};
 ghost use Rattle.ca_merge.specs.Pins.{IsListed, AreClusterNets};
 
 use ca_base::NoMemory;
-use ca_wired::{Body, Chip, InstanceList, NetList, NetMarks};
+use ca_linked::{Body, Chip, InstanceList, NetList, NetMarks};
 use std::alloc::Global;
 
 /// Nets in order, and for each net of the chip the cluster's node of it, if it is listed.

@@ -12,7 +12,7 @@ use ca_base::NoMemory;
 use ca_cell::{Cell, RawDevice, RawDevices};
 use ca_lex::Text;
 use ca_net::{DeviceId, Network, NodeId};
-use ca_wired::{Chip, InstanceId, InstanceList};
+use ca_linked::{Chip, InstanceId, InstanceList};
 use std::alloc::Global;
 
 /// The members of a cluster and the nets of its pins, in one hand.

@@ -6,8 +6,8 @@ use Rattle.std.specs.Str.{bytes_eq}
 use Rattle.std.proofs.lemmas.List.{length-map}
 use Rattle.std.proofs.lemmas.List.FromFn.{length-range_with_len, get_or-range_with_len}
 use Rattle.ca_flat.specs.Chip as flat
-use Rattle.ca_wired.specs.declared.parts.Part.{Part}
-use Rattle.ca_wired.specs.Linked.{Chip, IsLibrary}
+use Rattle.ca_linked.specs.declared.parts.Part.{Part}
+use Rattle.ca_linked.specs.Linked.{LinkedChip, IsLibrary}
 use Rattle.ca_core.specs.Core.{core_of, core_instance}
 use Rattle.ca_merged.specs.Merged.{IsInstanceChain}
 use Rattle.ca_merged.proofs.Lists.{cons_cases, none_in_nil}
@@ -44,7 +44,7 @@ of_range n x c =
     let e : 0 + c.0 ≡ x = sym (get_or-range_with_len 0 n c.0 x lt) ∙ c.2 in
     omega arith
 
-all_range : (chip : Chip) (n : ℕ) → n ≡ length chip.parts → ((w : ℕ) → w < n → IsLibrary chip w) → 0 < n → CanMerge chip (range_with_len 0 n)
+all_range : (chip : LinkedChip) (n : ℕ) → n ≡ length chip.parts → ((w : ℕ) → w < n → IsLibrary chip w) → 0 < n → CanMerge chip (range_with_len 0 n)
 all_range chip n count gates some =
     let known : flat.count_of (core_of chip) ≡ n = length-map chip.parts (λ (part : Part). core_instance chip part.body) ∙ sym count in
     record {
@@ -63,7 +63,7 @@ all_range chip n count gates some =
       };
     }
 
-pub all_can : (chip : Chip) (list : List ℕ) (n : ℕ) → list ≡ range_with_len 0 n → n ≡ length chip.parts → ((w : ℕ) → w < n → IsLibrary chip w)
+pub all_can : (chip : LinkedChip) (list : List ℕ) (n : ℕ) → list ≡ range_with_len 0 n → n ≡ length chip.parts → ((w : ℕ) → w < n → IsLibrary chip w)
     → 0 < length list → CanMerge chip list
 all_can chip list n same count gates some =
     subst (CanMerge chip) (sym same)

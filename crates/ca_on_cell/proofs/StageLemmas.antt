@@ -10,7 +10,7 @@ use Rattle.ca_fault.specs.declared.fault.Fault.{Fault}
 use Rattle.ca_fault.specs.declared.fault.Fault.TheVariants.{NoCell, Cell, BadVector, NoDefect, NoMemory}
 use Rattle.ca_load.specs.Texts.{IsLibraryOf}
 use Rattle.ca_load.specs.Causes.{IsLibraryCause}
-use Rattle.ca_asked.specs.Vectors.{dash}
+use Rattle.ca_request.specs.Vectors.{dash}
 use Rattle.ca_on_cell.specs.Cells.{OfFile}
 use Rattle.ca_on_cell.specs.Outputs.{asked_network}
 use Rattle.ca_on_cell.specs.Causes.{BreaksAt, IsCellCause, IsFirstUnfit, IsPairCause, IsVectorCause, IsValueCause}

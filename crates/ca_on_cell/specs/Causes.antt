@@ -6,11 +6,11 @@ use Rattle.ca_lex.specs.Words.{upper_case}
 use Rattle.ca_cell.specs.declared.raw.RawCell.{RawCell}
 use Rattle.ca_cell.specs.declared.rule.CellRule.{CellRule}
 use Rattle.ca_cell.specs.Rules.{KeepsRules, IsFirstBroken}
-use Rattle.ca_place.specs.Place.{rule_text}
+use Rattle.ca_fault_place.specs.Place.{rule_text}
 use Rattle.ca_fault.specs.declared.fault.Fault.{Fault}
 use Rattle.ca_fault.specs.declared.fault.Fault.TheVariants.{NoCell, Cell, BadVector, NoDefect}
 use Rattle.ca_load.specs.Causes.{IsLibraryCause}
-use Rattle.ca_asked.specs.Vectors.{dash}
+use Rattle.ca_request.specs.Vectors.{dash}
 use Rattle.ca_on_cell.specs.Cells.{OfFile, OfCell, LacksCell}
 use Rattle.ca_on_cell.specs.Outputs.{Fits, asked_network}
 

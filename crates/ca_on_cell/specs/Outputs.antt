@@ -11,8 +11,8 @@ use Rattle.ca_cell.specs.Rules.{KeepsRules}
 use Rattle.ca_defect.specs.List.{faulty_of}
 use Rattle.ca_defect.specs.Exposes.{CellEndsAt}
 use Rattle.ca_on_cell.specs.declared.pin_values.PinValue.{PinValue}
-pub use Rattle.ca_asked.specs.Vectors.{dash, letters_of, trit_of, trits_of}
-pub use Rattle.ca_asked.specs.Asked.{defect_called}
+pub use Rattle.ca_request.specs.Vectors.{dash, letters_of, trit_of, trits_of}
+pub use Rattle.ca_request.specs.Asked.{defect_called}
 
 -- the vector has one letter per input pin
 abbrev pub Fits : RawCell → List ℕ → Type 0

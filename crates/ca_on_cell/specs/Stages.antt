@@ -10,7 +10,7 @@ use Rattle.ca_on_cell.specs.declared.inputs.TypedWords.{TypedWords}
 use Rattle.ca_fault.specs.declared.fault.Fault.{Fault}
 use Rattle.ca_fault.specs.declared.fault.Fault.TheVariants.{NoCell, Cell, BadVector, NoMemory}
 use Rattle.ca_on_cell.specs.Outputs.{Fits}
-use Rattle.ca_place.specs.Place.{rule_text}
+use Rattle.ca_fault_place.specs.Place.{rule_text}
 use Rattle.ca_on_cell.specs.Causes.{IsPairCause}
 
 -- the words of a file and a cell as they were typed, and the cell's also in upper case

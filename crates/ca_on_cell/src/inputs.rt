@@ -10,7 +10,7 @@ use ca_base::NoMemory;
 use ca_cell::{Cell, Entry, Library};
 use ca_fault::Fault;
 use ca_lex::{Text, fold};
-use ca_place::rule_place;
+use ca_fault_place::rule_place;
 use ca_words::CellWords;
 use std::alloc::Global;
 

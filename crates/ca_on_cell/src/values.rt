@@ -11,7 +11,7 @@ ghost use Rattle.ca_load.specs.Files.{TellsStoreFault};
 use crate::inputs::{find_cell, typed_words};
 use crate::outputs::values_of;
 use crate::pin_values::PinValues;
-use ca_asked::letters_of;
+use ca_request::letters_of;
 use ca_cell::Cell;
 use ca_defect::{Overlay, parse};
 use ca_fault::Fault;

@@ -8,16 +8,16 @@ use Rattle.ca_flat_text.specs.FlatText.{HasLine}
 use Rattle.ca_flat.specs.declared.chip_defect.ChipDefect.{ChipDefect}
 use Rattle.ca_flat.specs.Chip.{IsChipDefect}
 use Rattle.ca_flat.specs.Flat.{flat}
-use Rattle.ca_wired.specs.Linked.{Chip, IsWired}
+use Rattle.ca_linked.specs.Linked.{LinkedChip, IsWired}
 use Rattle.ca_scan.specs.ChainFault.{AreAllChains}
 use Rattle.ca_core.specs.Core.{core_of}
 use Rattle.ca_flatten.specs.Laws.{FlatHasLines}
 use Rattle.ca_fault.specs.declared.fault.Fault.{Fault}
 use Rattle.ca_fault.specs.declared.fault.Fault.TheVariants.{BadVector, NoInstance, NoDefect, TooManyPairs}
 use Rattle.ca_load.specs.Texts.{InputFiles}
-use Rattle.ca_asked.specs.Vectors.{letters_of}
-use Rattle.ca_asked.specs.Asked.{FitsInputs, IsAskedDefect, IsLibraryDefect, IsDefectCause, IsVectorsCause}
-use Rattle.ca_asked.specs.Asked.{IsDefectStage, IsVectorsStage}
+use Rattle.ca_request.specs.Vectors.{letters_of}
+use Rattle.ca_request.specs.Asked.{FitsInputs, IsAskedDefect, IsLibraryDefect, IsDefectCause, IsVectorsCause}
+use Rattle.ca_request.specs.Asked.{IsDefectStage, IsVectorsStage}
 use Rattle.ca_simulate.specs.Simulated.{pair_of, AreSimulated}
 use Rattle.ca_on_chip.specs.OnChip.{IsChipOfFiles, IsTracedChipOf, OfChip, IsFlatOf, AreEndsOf, IsDefectWord}
 use Rattle.ca_on_chip.specs.OnChip.{IsVectorWord}
@@ -25,32 +25,32 @@ use Rattle.ca_on_chip.specs.OnChip.{IsSimulationCause, IsFlatCause, IsEndsCause,
 use Rattle.ca_on_chip.specs.OnChip.{IsPairsFault, IsPairsCause, IsTestsCause, IsTestsStage}
 
 -- what holds of the chip of the files
-pub of_chip : (files : Option Files) (names : InputFiles) (chip : Chip) (P : Chip → Type 0)
+pub of_chip : (files : Option Files) (names : InputFiles) (chip : LinkedChip) (P : LinkedChip → Type 0)
     → IsTracedChipOf files names chip → P chip → OfChip files names P
 of_chip files names chip P held holds = λ told is.
     let found = held.of_files told is in
     (found.0, (found.1.0, record { chip = chip; is = found.1.1; traced = held.traced; holds = holds }))
 
 -- the chip that was read is one with chains
-pub is_traced : (files : Option Files) (names : InputFiles) (chip : Chip) (chains : List (List ℕ))
+pub is_traced : (files : Option Files) (names : InputFiles) (chip : LinkedChip) (chains : List (List ℕ))
     → IsChipOfFiles files names chip → AreAllChains chip chains → IsTracedChipOf files names chip
 is_traced files names chip chains held all = record { of_files = held; traced = (chains, all) }
 
 -- the fault of a defect reports a word that was typed
-defect_word : (chip : Chip) (instance defect : List ℕ) (fault : Fault) → IsDefectCause chip instance defect fault
+defect_word : (chip : LinkedChip) (instance defect : List ℕ) (fault : Fault) → IsDefectCause chip instance defect fault
     → IsDefectWord instance defect fault
 defect_word chip instance defect (NoInstance typed) (same, (some, lacks)) = (same, some)
 defect_word chip instance defect (NoDefect typed) (same, (some, lacks)) = (same, some)
 defect_word chip instance defect fault cause = absurd cause
 
 -- so does that of two vectors
-vector_word : (chip : Chip) (first last : List ℕ) (fault : Fault) → IsVectorsCause chip first last fault
+vector_word : (chip : LinkedChip) (first last : List ℕ) (fault : Fault) → IsVectorsCause chip first last fault
     → IsVectorWord first last fault
 vector_word chip first last (BadVector typed) (inl unfit) = inl unfit.0
 vector_word chip first last (BadVector typed) (inr unfit) = inr unfit.0
 vector_word chip first last fault cause = absurd cause
 
-pub own_word : (instance defect first last : List ℕ) (fault : Fault) (chip : Chip)
+pub own_word : (instance defect first last : List ℕ) (fault : Fault) (chip : LinkedChip)
     → IsSimulationCause instance defect first last fault chip
     → IsVectorWord first last fault ⊎ IsDefectWord instance defect fault
 own_word instance defect first last fault chip (inl cause) = inl (vector_word chip first last fault cause)
@@ -58,7 +58,7 @@ own_word instance defect first last fault chip (inr (fits, (fit, cause))) =
     inr (defect_word chip instance defect fault cause)
 
 -- why a chip of the files has no such flat network
-pub at_flat : (files : Option Files) (names : InputFiles) (before after : ℕ) (chip : Chip)
+pub at_flat : (files : Option Files) (names : InputFiles) (before after : ℕ) (chip : LinkedChip)
     (instance defect : List ℕ) (fault : Fault) → IsTracedChipOf files names chip
     → IsDefectStage chip instance defect fault → IsFlatCause names instance defect files before after fault
 at_flat files names before after chip instance defect fault held (inl memory) = rw memory (inl (inl (inl (inl tt))))
@@ -68,7 +68,7 @@ at_flat files names before after chip instance defect fault held (inr cause) = i
 )
 
 -- why it has no such values
-pub at_ends : (files : Option Files) (names : InputFiles) (before after : ℕ) (chip : Chip)
+pub at_ends : (files : Option Files) (names : InputFiles) (before after : ℕ) (chip : LinkedChip)
     (instance defect first last : List ℕ) (fault : Fault) → IsTracedChipOf files names chip
     → IsSimulationStage instance defect first last chip fault
     → IsEndsCause names instance defect first last files before after fault
@@ -80,25 +80,25 @@ at_ends files names before after chip instance defect first last fault held (inr
 )
 
 -- one pair more than may be listed is reported
-pub pairs_fault : (budget : ℕ) (chip : Chip) (fault : Fault) → IsPairsCause budget fault chip → IsPairsFault fault
+pub pairs_fault : (budget : ℕ) (chip : LinkedChip) (fault : Fault) → IsPairsCause budget fault chip → IsPairsFault fault
 pairs_fault budget chip (TooManyPairs pairs aims) cause = tt
 pairs_fault budget chip fault cause = absurd cause
 
 -- why a chip of the files has no tests
-pub at_tests : (files : Option Files) (names : InputFiles) (before after : ℕ) (chip : Chip) (budget : ℕ) (fault : Fault)
+pub at_tests : (files : Option Files) (names : InputFiles) (before after : ℕ) (chip : LinkedChip) (budget : ℕ) (fault : Fault)
     → IsTracedChipOf files names chip → IsTestsStage budget chip fault → IsTestsCause names budget files before after fault
 at_tests files names before after chip budget fault held (inl memory) = rw memory (inl (inl (inl (inl tt))))
 at_tests files names before after chip budget fault held (inr cause) =
     inr (pairs_fault budget chip fault cause, of_chip files names chip (IsPairsCause budget fault) held cause)
 
 -- vectors that aren't of the chip
-pub at_vectors : (chip : Chip) (instance defect first last : List ℕ) (fault : Fault)
+pub at_vectors : (chip : LinkedChip) (instance defect first last : List ℕ) (fault : Fault)
     → IsVectorsStage chip first last fault → IsSimulationStage instance defect first last chip fault
 at_vectors chip instance defect first last fault (inl memory) = inl memory
 at_vectors chip instance defect first last fault (inr cause) = inr (inl cause)
 
 -- vectors that are, and a defect that isn't
-pub at_defect : (chip : Chip) (instance defect first last : List ℕ) (fault : Fault) → FitsInputs chip first
+pub at_defect : (chip : LinkedChip) (instance defect first last : List ℕ) (fault : Fault) → FitsInputs chip first
     → FitsInputs chip last → IsDefectStage chip instance defect fault
     → IsSimulationStage instance defect first last chip fault
 at_defect chip instance defect first last fault first_fits last_fits (inl memory) = inl memory
@@ -106,24 +106,24 @@ at_defect chip instance defect first last fault first_fits last_fits (inr cause)
     inr (inr (first_fits, (last_fits, cause)))
 
 -- a defect of a library instance is one of the chip
-pub is_chip_defect : (chip : Chip) (given : Option ChipDefect) → IsLibraryDefect chip given
+pub is_chip_defect : (chip : LinkedChip) (given : Option ChipDefect) → IsLibraryDefect chip given
     → IsChipDefect (core_of chip) given
 is_chip_defect chip None is = tt
 is_chip_defect chip (Some given) is = is.0
 
 -- the flat network that the words ask for
-pub is_flat : (chip : Chip) (instance defect : List ℕ) (given : Option ChipDefect) (net : Circuit)
+pub is_flat : (chip : LinkedChip) (instance defect : List ℕ) (given : Option ChipDefect) (net : Circuit)
     → IsAskedDefect chip instance defect given → net ≡ flat (core_of chip) given
     → IsFlatOf instance defect chip net
 is_flat chip instance defect given net asked is = record { given = given; asked = asked; is = is }
 
 -- its devices have lines
-pub has_lines : (chip : Chip) (given : Option ChipDefect) (net : Circuit) → FlatHasLines
+pub has_lines : (chip : LinkedChip) (given : Option ChipDefect) (net : Circuit) → FlatHasLines
     → IsWired chip → net ≡ flat (core_of chip) given → All HasLine net.devices
 has_lines chip given net law wired is = rw is (law chip given wired)
 
 -- the values that the words ask for
-pub are_ends : (chip : Chip) (instance defect first last : List ℕ) (given : Option ChipDefect)
+pub are_ends : (chip : LinkedChip) (instance defect first last : List ℕ) (given : Option ChipDefect)
     (first_letters last_letters : List ℕ) (good faulty : List Trit) → first_letters ≡ letters_of first
     → last_letters ≡ letters_of last → FitsInputs chip first → FitsInputs chip last
     → IsAskedDefect chip instance defect given

@@ -4,11 +4,11 @@ use Rattle.std.proofs.Common.{Option, Some, None}
 use Rattle.std.specs.Prelude.{IsSomeAnd, slice_get}
 use Rattle.ca_cell.specs.declared.raw.RawCell.{RawCell}
 use Rattle.ca_cell.specs.Nodes.{defect_count}
-use Rattle.ca_wired.specs.declared.parts.Body.{Body}
-use Rattle.ca_wired.specs.declared.parts.Body.TheVariants.{Gate, Scan}
-use Rattle.ca_wired.specs.declared.parts.Part.{Part}
-use Rattle.ca_wired.specs.Linked.{Chip, IsGate, IsLibrary}
-use Rattle.ca_wired.specs.Instances.{if_gate, gates_from, gates_of, IsCellOf}
+use Rattle.ca_linked.specs.declared.parts.Body.{Body}
+use Rattle.ca_linked.specs.declared.parts.Body.TheVariants.{Gate, Scan}
+use Rattle.ca_linked.specs.declared.parts.Part.{Part}
+use Rattle.ca_linked.specs.Linked.{LinkedChip, IsGate, IsLibrary}
+use Rattle.ca_linked.specs.Instances.{if_gate, gates_from, gates_of, IsCellOf}
 use Rattle.ca_on_chip.specs.Lines.{body_defects, part_defects}
 
 -- an instance among these, of which the first has this number, is one of the library
@@ -36,7 +36,7 @@ gates_are u (part ∷ more) k v at = by part.body refl (λ k at. gates_are (u + 
     by (Scan nets) is on k at = later (on k at)
 
 -- the k-th library instance is one
-pub gate_is_library : (chip : Chip) (k u : ℕ) → slice_get (gates_of chip) k ≡ Some u → IsLibrary chip u
+pub gate_is_library : (chip : LinkedChip) (k u : ℕ) → slice_get (gates_of chip) k ≡ Some u → IsLibrary chip u
 gate_is_library chip k u at =
     let found = gates_are 0 chip.parts k u at in
     let same : found.place ≡ u = (let is = found.is in omega (arith, is)) in

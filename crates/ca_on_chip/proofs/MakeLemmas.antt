@@ -2,9 +2,9 @@
 use Rattle.std.proofs.Common.{ℕ, ◌≡◌, ◌≤◌, ◌⊎◌, inl, inr, List, [], map}
 use Rattle.std.specs.List.{All}
 use Rattle.ca_cell.specs.Library.{IsEntry, raw_of}
-use Rattle.ca_chip.specs.Wiring.{wiring_of}
-use Rattle.ca_chip.specs.Linking.{IsLinkOf}
-use Rattle.ca_wired.specs.Linked.{Chip, IsWired}
+use Rattle.ca_wiring.specs.Wiring.{wiring_of}
+use Rattle.ca_wiring.specs.Linking.{IsLinkOf}
+use Rattle.ca_linked.specs.Linked.{LinkedChip, IsWired}
 use Rattle.ca_fault.specs.declared.fault.Fault.{Fault}
 use Rattle.ca_make.specs.declared.gate.TheConstants.{MOST_GATES}
 use Rattle.ca_make_laws.specs.Cells.{sound_library}
@@ -17,7 +17,7 @@ use Rattle.ca_on_chip.specs.Making.{IsMadeChip, IsMakeStage}
 use Rattle.ca_on_chip.proofs.AskedLemmas.{pairs_fault}
 
 -- a chip that links the netlist of a number over the library is the generated chip
-pub is_made : (number : ℕ) (chip : Chip) → LibraryIsRead → NetlistIsRead → ChipKeepsRules
+pub is_made : (number : ℕ) (chip : LinkedChip) → LibraryIsRead → NetlistIsRead → ChipKeepsRules
     → All (λ named. IsEntry named.entry) sound_library → number ≤ MOST_GATES
     → IsWired chip → IsLinkOf (wiring_of (chip_netlist number) sound_library []) chip
     → chip.cells ≡ map (λ named. raw_of named.entry) sound_library → IsMadeChip number chip
@@ -30,7 +30,7 @@ is_made number chip library_read netlist_read rules entries few wired link cells
 }
 
 -- a chip whose pairs are too many has none
-pub too_many : (number : ℕ) (chip : Chip) (fault : Fault) → IsMadeChip number chip → IsTestsStage MAKE_BUDGET chip fault
+pub too_many : (number : ℕ) (chip : LinkedChip) (fault : Fault) → IsMadeChip number chip → IsTestsStage MAKE_BUDGET chip fault
     → IsMakeStage number fault
 too_many number chip fault is (inl memory) = inl memory
 too_many number chip fault is (inr cause) = inr (record {

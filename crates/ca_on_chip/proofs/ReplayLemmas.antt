@@ -4,14 +4,14 @@ use Rattle.ca_store.specs.Store.{Files}
 use Rattle.ca_store.specs.ReadFault.{IsWhole}
 use Rattle.ca_net.specs.declared.trit.Trit.{Trit}
 use Rattle.ca_flat.specs.declared.chip_defect.ChipDefect.{ChipDefect}
-use Rattle.ca_wired.specs.Linked.{Chip}
+use Rattle.ca_linked.specs.Linked.{LinkedChip}
 use Rattle.ca_core.specs.Core.{core_of}
 use Rattle.ca_fault.specs.declared.fault.Fault.{Fault}
 use Rattle.ca_fault.specs.declared.fault.Fault.TheVariants.{Order}
 use Rattle.ca_load.specs.Texts.{InputFiles}
 use Rattle.ca_load.specs.Files.{OfFile, IsReadCause}
-use Rattle.ca_asked.specs.Vectors.{letters_of}
-use Rattle.ca_asked.specs.Asked.{FitsInputs, IsAskedDefect, IsDefectStage, IsVectorsStage}
+use Rattle.ca_request.specs.Vectors.{letters_of}
+use Rattle.ca_request.specs.Asked.{FitsInputs, IsAskedDefect, IsDefectStage, IsVectorsStage}
 use Rattle.ca_simulate.specs.Simulated.{pair_of}
 use Rattle.ca_simulate.specs.OneRun.{AreRunEnds, IsFaultyLine}
 use Rattle.ca_on_chip.specs.declared.replays.TheConstants.{MAX_ORDER}
@@ -22,13 +22,13 @@ use Rattle.ca_load.proofs.ReadLemmas.{of_whole}
 use Rattle.ca_on_chip.proofs.AskedLemmas.{of_chip, own_word}
 
 -- vectors that aren't of the chip
-pub at_vectors : (chip : Chip) (instance defect first last order : List ℕ) (files : Option Files) (before after : ℕ) (fault : Fault)
+pub at_vectors : (chip : LinkedChip) (instance defect first last order : List ℕ) (files : Option Files) (before after : ℕ) (fault : Fault)
     → IsVectorsStage chip first last fault → IsRunStage instance defect first last order chip files before after fault
 at_vectors chip instance defect first last order files before after fault (inl memory) = inl (inl memory)
 at_vectors chip instance defect first last order files before after fault (inr cause) = inl (inr (inl cause))
 
 -- vectors that are, and a defect that isn't
-pub at_defect : (chip : Chip) (instance defect first last order : List ℕ) (files : Option Files) (before after : ℕ) (fault : Fault)
+pub at_defect : (chip : LinkedChip) (instance defect first last order : List ℕ) (files : Option Files) (before after : ℕ) (fault : Fault)
     → FitsInputs chip first → FitsInputs chip last → IsDefectStage chip instance defect fault
     → IsRunStage instance defect first last order chip files before after fault
 at_defect chip instance defect first last order files before after fault first_fits last_fits (inl memory) = inl (inl memory)
@@ -36,7 +36,7 @@ at_defect chip instance defect first last order files before after fault first_f
     inl (inr (inr (first_fits, (last_fits, cause))))
 
 -- the run that the words name
-asked_run : (chip : Chip) (instance defect first last : List ℕ) (given : Option ChipDefect) → FitsInputs chip first
+asked_run : (chip : LinkedChip) (instance defect first last : List ℕ) (given : Option ChipDefect) → FitsInputs chip first
     → FitsInputs chip last → IsAskedDefect chip instance defect given
     → IsAskedRun instance defect first last chip (run_of chip given first last)
 asked_run chip instance defect first last given first_fits last_fits asked = record {
@@ -47,7 +47,7 @@ asked_run chip instance defect first last given first_fits last_fits asked = rec
   run_is = refl;
 }
 
-module _ (chip : Chip) (instance defect first last order : List ℕ) (files : Option Files) (given : Option ChipDefect)
+module _ (chip : LinkedChip) (instance defect first last order : List ℕ) (files : Option Files) (given : Option ChipDefect)
     (first_fits : FitsInputs chip first) (last_fits : FitsInputs chip last) (asked : IsAskedDefect chip instance defect given) where
   -- a file that could not be read
   pub at_file : (before after : ℕ) (fault : Fault) → IsReadCause order files MAX_ORDER before after fault
@@ -85,7 +85,7 @@ module _ (chip : Chip) (instance defect first last order : List ℕ) (files : Op
     }))
 
 -- why a chip of the files has no such run
-pub at_run : (names : InputFiles) (files mid : Option Files) (before between after : ℕ) (chip : Chip)
+pub at_run : (names : InputFiles) (files mid : Option Files) (before between after : ℕ) (chip : LinkedChip)
     (instance defect first last order : List ℕ) (fault : Fault) → mid ≡ files → between ≡ before → IsTracedChipOf files names chip
     → IsRunStage instance defect first last order chip mid between after fault
     → IsRunCause names instance defect first last order files before after fault

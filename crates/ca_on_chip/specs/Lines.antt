@@ -4,11 +4,11 @@ use Rattle.std.specs.Prelude.{slice_get, slice_index_or}
 use Rattle.std.specs.List.{sum_by}
 use Rattle.ca_cell.specs.declared.raw.RawCell.{RawCell}
 use Rattle.ca_cell.specs.Nodes.{defect_count}
-use Rattle.ca_wired.specs.declared.parts.Body.{Body}
-use Rattle.ca_wired.specs.declared.parts.Body.TheVariants.{Gate, Scan}
-use Rattle.ca_wired.specs.declared.parts.Part.{Part}
-use Rattle.ca_wired.specs.Linked.{Chip, cell_of, inputs_of, outputs_of}
-use Rattle.ca_wired.specs.Instances.{gates_of, scans_of}
+use Rattle.ca_linked.specs.declared.parts.Body.{Body}
+use Rattle.ca_linked.specs.declared.parts.Body.TheVariants.{Gate, Scan}
+use Rattle.ca_linked.specs.declared.parts.Part.{Part}
+use Rattle.ca_linked.specs.Linked.{LinkedChip, cell_of, inputs_of, outputs_of}
+use Rattle.ca_linked.specs.Instances.{gates_of, scans_of}
 use Rattle.ca_net.specs.declared.trit.Trit.{Trit}
 use Rattle.ca_net.specs.Trit.{letter_of}
 use Rattle.ca_net.specs.Circuit.{Circuit}
@@ -25,7 +25,7 @@ part_defects cells None = 0
 part_defects cells (Some part) = body_defects cells part.body
 
 -- the number of defects of a chip: those of the cells of its library instances, taken together
-abbrev pub chip_defects : Chip → ℕ
+abbrev pub chip_defects : LinkedChip → ℕ
 chip_defects chip = sum_by (λ u. part_defects chip.cells (slice_get chip.parts u)) (gates_of chip)
 
 -- the text with a label and a number after it
@@ -34,7 +34,7 @@ with_count text label count = (text ++ label) ++ decimal count
 
 -- the line that says how many library instances, scan instances, inputs, observed outputs, chains and
 -- defects a chip has
-abbrev pub check_text : Chip → List (List ℕ) → List ℕ
+abbrev pub check_text : LinkedChip → List (List ℕ) → List ℕ
 check_text chip chains =
     let instances = with_count [] (codes "instances ") (length (gates_of chip)) in
     let scan = with_count instances (codes ", scan ") (length (scans_of chip)) in
@@ -64,7 +64,7 @@ lines_by line zero = []
 lines_by line (suc o) = lines_by line o ++ line o
 
 -- one line for each observed output of a chip
-abbrev pub simulate_text : Chip → List Trit → List Trit → List ℕ
+abbrev pub simulate_text : LinkedChip → List Trit → List Trit → List ℕ
 simulate_text chip good faulty =
     let names = output_names chip in lines_by (output_line names good faulty) (length names)
 
@@ -77,5 +77,5 @@ abbrev pub end_line : List (List ℕ) → List Trit → ℕ → List ℕ
 end_line names values o = line_of_end (slice_index_or names o []) (value_at values o)
 
 -- one line for each observed output of a chip
-abbrev pub replay_text : Chip → List Trit → List ℕ
+abbrev pub replay_text : LinkedChip → List Trit → List ℕ
 replay_text chip values = let names = output_names chip in lines_by (end_line names values) (length names)

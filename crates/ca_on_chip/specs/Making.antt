@@ -2,7 +2,7 @@
 use Rattle.std.specs.Prelude.{◌≡◌, ◌⊎◌, ℕ, Bool, List, []}
 use Rattle.ca_cell.specs.Library.{Named}
 use Rattle.ca_verilog.specs.declared.raw.RawNetlist.{RawNetlist}
-use Rattle.ca_wired.specs.Linked.{Chip}
+use Rattle.ca_linked.specs.Linked.{LinkedChip}
 use Rattle.ca_credit.specs.declared.verdict.Verdict.{Verdict}
 use Rattle.ca_credit.specs.Good.{IsGood}
 use Rattle.ca_engine.specs.ChipTask.{task_of}
@@ -17,7 +17,7 @@ use Rattle.ca_on_chip.specs.declared.making.TheConstants.{MAKE_BUDGET}
 use Rattle.ca_on_chip.specs.OnChip.{IsPairsFault, IsPairsCause}
 
 -- the chip is the one that the two texts of the generated chip of this number read as, without scan cells
-pub record IsMadeChip (number : ℕ) (chip : Chip) : Type 0 where
+pub record IsMadeChip (number : ℕ) (chip : LinkedChip) : Type 0 where
   pub library : List Named
   pub netlist : RawNetlist
   pub cells_read : IsLibraryOf library library_text
@@ -26,7 +26,7 @@ pub record IsMadeChip (number : ℕ) (chip : Chip) : Type 0 where
 
 -- the pairs, their aims and the verdicts keep the promise for the generated chip of the number that a word
 -- says
-pub record AreMadeTests (number_word : List ℕ) (chip : Chip) (pairs : List (List Bool)) (aims : List ℕ)
+pub record AreMadeTests (number_word : List ℕ) (chip : LinkedChip) (pairs : List (List Bool)) (aims : List ℕ)
     (verdicts : List Verdict) : Type 0 where
   pub number : ℕ
   pub said : HasChipNumber number_word number
@@ -36,7 +36,7 @@ pub record AreMadeTests (number_word : List ℕ) (chip : Chip) (pairs : List (Li
 -- one pair more was found than may be listed
 pub record IsMadeTooMany (number : ℕ) (fault : Fault) : Type 0 where
   pub pairs : IsPairsFault fault
-  pub chip : Chip
+  pub chip : LinkedChip
   pub is : IsMadeChip number chip
   pub cause : IsPairsCause MAKE_BUDGET fault chip
 

@@ -5,18 +5,18 @@ ghost use Rattle.ca_flat_text.specs.FlatText.{HasLine};
 ghost use Rattle.ca_store.specs.Store.{Nothing};
 ghost use Rattle.ca_load.specs.Files.{TellsStoreFault};
 ghost use Rattle.ca_load.specs.Texts.{names_of};
-ghost use Rattle.ca_asked.specs.Asked.{AreBothOrNeither, IsDefectStage};
+ghost use Rattle.ca_request.specs.Asked.{AreBothOrNeither, IsDefectStage};
 ghost use Rattle.ca_on_chip.specs.OnChip.{IsTracedChipOf, IsFlatOf, AreEndsOf};
 ghost use Rattle.ca_on_chip.specs.OnChip.{IsFlatCause, IsEndsCause, IsSimulationStage};
 
-use ca_asked::{find_defect, find_vectors};
+use ca_request::{find_defect, find_vectors};
 use ca_fault::Fault;
 use ca_flatten::{flat_has_lines, flatten};
 use ca_load::{Loaded, load};
 use ca_net::FlatNet;
 use ca_simulate::{OutputEnds, simulate};
 use ca_store::Store;
-use ca_wired::Chip;
+use ca_linked::Chip;
 use ca_words::{ChipWords, SimulateWords};
 use std::alloc::Global;
 

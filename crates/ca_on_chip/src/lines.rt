@@ -1,6 +1,6 @@
 //! The lines that say what a chip and its network have, and what its observed outputs settle to.
 ghost use Rattle.std.specs.Prelude.{◌≡◌, ◌<◌, ◌++◌, length, slice_get, slice_index, IfOk, OnOk};
-ghost use Rattle.ca_wired.specs.Instances.{gates_of};
+ghost use Rattle.ca_linked.specs.Instances.{gates_of};
 ghost use Rattle.ca_net.specs.State.{value_at};
 ghost use Rattle.ca_on_chip.specs.Lines.{part_defects, chip_defects, with_count, check_text, flatten_text};
 ghost use Rattle.ca_on_chip.specs.Lines.{line_of_output, simulate_text, line_of_end, replay_text};
@@ -11,7 +11,7 @@ use ca_net::{FlatNet, Network, Trit, letter};
 use ca_outputs::output_names;
 use ca_scan::Chains;
 use ca_simulate::OutputEnds;
-use ca_wired::Chip;
+use ca_linked::Chip;
 use itoa::Buffer;
 use std::alloc::Global;
 

@@ -3,12 +3,12 @@ ghost use Rattle.std.specs.Prelude.{◌≡◌, Some, IfErr, IfOk, OnOk};
 ghost use Rattle.ca_store.specs.Store.{Nothing};
 ghost use Rattle.ca_load.specs.Files.{OfFile, TellsStoreFault};
 ghost use Rattle.ca_load.specs.Texts.{names_of};
-ghost use Rattle.ca_asked.specs.Asked.{AreBothOrNeither, IsAskedDefect, IsLibraryDefect, FitsInputs};
-ghost use Rattle.ca_asked.specs.Vectors.{letters_of};
+ghost use Rattle.ca_request.specs.Asked.{AreBothOrNeither, IsAskedDefect, IsLibraryDefect, FitsInputs};
+ghost use Rattle.ca_request.specs.Vectors.{letters_of};
 ghost use Rattle.ca_on_chip.specs.OnChip.{IsTracedChipOf};
 ghost use Rattle.ca_on_chip.specs.Replay.{AreRunEndsOf, IsRunStage, IsRunCause};
 
-use ca_asked::{find_defect, find_vectors};
+use ca_request::{find_defect, find_vectors};
 use ca_fault::Fault;
 use ca_lex::Text;
 use ca_load::{Loaded, load, read_input};
@@ -16,7 +16,7 @@ use ca_net::Trit;
 use ca_order::OrderFault;
 use ca_simulate::replay;
 use ca_store::Store;
-use ca_wired::Chip;
+use ca_linked::Chip;
 use ca_words::ReplayWords;
 use std::alloc::Global;
 

@@ -15,7 +15,7 @@ use ca_generate::{GenerateFault, Watch};
 use ca_load::{Loaded, load};
 use ca_scan::Chains;
 use ca_store::Store;
-use ca_wired::Chip;
+use ca_linked::Chip;
 use ca_words::AtpgWords;
 use std::alloc::Global;
 

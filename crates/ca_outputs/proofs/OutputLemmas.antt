@@ -5,11 +5,11 @@ use Rattle.std.specs.Prelude.{Option, Some, None, IsSomeAnd, slice_get, take}
 use Rattle.std.specs.List.{flat_map}
 use Rattle.std.proofs.lemmas.List.{take_all, append_assoc, append-nil, map-append, length-map}
 use Rattle.std.proofs.lemmas.Grind.{flat_map-append}
-use Rattle.ca_wired.specs.declared.parts.Body.{Body}
-use Rattle.ca_wired.specs.declared.parts.Body.TheVariants.{Gate, Scan}
-use Rattle.ca_wired.specs.declared.parts.PortBit.{PortBit}
-use Rattle.ca_wired.specs.Linked.{Chip, is_scan_path, d_nets, outputs_of}
-use Rattle.ca_wired.proofs.EndLemmas.{take_more}
+use Rattle.ca_linked.specs.declared.parts.Body.{Body}
+use Rattle.ca_linked.specs.declared.parts.Body.TheVariants.{Gate, Scan}
+use Rattle.ca_linked.specs.declared.parts.PortBit.{PortBit}
+use Rattle.ca_linked.specs.Linked.{LinkedChip, is_scan_path, d_nets, outputs_of}
+use Rattle.ca_linked.proofs.EndLemmas.{take_more}
 use Rattle.ca_outputs.specs.Outputs.{Output, port_outputs, pin_outputs, part_outputs, observed_ports}
 use Rattle.ca_outputs.specs.Outputs.{observed_pins, named_outputs, names_of, output_names}
 
@@ -26,7 +26,7 @@ mapped outputs_at pick picked_at each (x ∷ xs) =
     map-append pick (outputs_at x) (flat_map outputs_at xs)
     ∙ ap₂ (λ first rest. first ++ rest) (each x) (mapped outputs_at pick picked_at each xs)
 
-port_net : (chip : Chip) (port : PortBit) → nets_of (port_outputs chip port)
+port_net : (chip : LinkedChip) (port : PortBit) → nets_of (port_outputs chip port)
     ≡ (if (if port.is_input then false else not false) && not (is_scan_path chip port.net) then port.net ∷ [] else [])
 port_net chip port = by port.is_input (is_scan_path chip port.net)
   where
@@ -42,14 +42,14 @@ part_net name (Gate cell inputs outputs) = refl
 part_net name (Scan nets) = refl
 
 -- the nets of the named outputs are those of the observed outputs
-pub outputs_named : (chip : Chip) → nets_of (named_outputs chip) ≡ outputs_of chip
+pub outputs_named : (chip : LinkedChip) → nets_of (named_outputs chip) ≡ outputs_of chip
 outputs_named chip =
     map-append (λ (output : Output). output.net) (observed_ports chip) (observed_pins chip)
     ∙ ap₂ (λ first rest. first ++ rest)
     (mapped (port_outputs chip) (λ output. output.net) _ (port_net chip) chip.ports)
     (mapped part_outputs (λ output. output.net) _ (λ part. part_net (part.name ++ 47 ∷ part.data) part.body) chip.parts)
 
-pub as_many : (chip : Chip) → length (output_names chip) ≡ length (outputs_of chip)
+pub as_many : (chip : LinkedChip) → length (output_names chip) ≡ length (outputs_of chip)
 as_many chip =
     length-map (named_outputs chip) (λ (output : Output). output.name)
     ∙ sym (length-map (named_outputs chip) (λ (output : Output). output.net)) ∙ ap length (outputs_named chip)
@@ -80,14 +80,14 @@ names_more {X} outputs_at xs k others before after so_far grown = by (slice_get 
         ∙ ap (λ names. others ++ names) (sym (outputs_more outputs_at xs k x at))
 
 -- the names of all instances' outputs, after those of port bits
-pub all_names : (chip : Chip) (u : ℕ) (names : List (List ℕ))
+pub all_names : (chip : LinkedChip) (u : ℕ) (names : List (List ℕ))
     → names ≡ names_of (observed_ports chip) ++ names_of (flat_map part_outputs (take u chip.parts))
     → length chip.parts ≤ u → names ≡ output_names chip
 all_names chip u names so_far over =
     so_far ∙ ap (λ parts. names_of (observed_ports chip) ++ names_of (flat_map part_outputs parts)) (take_all u chip.parts over)
     ∙ sym (map-append (λ (output : Output). output.name) (observed_ports chip) (observed_pins chip))
 
-pub all_counted : (chip : Chip) (u : ℕ) (names : List (List ℕ))
+pub all_counted : (chip : LinkedChip) (u : ℕ) (names : List (List ℕ))
     → names ≡ names_of (observed_ports chip) ++ names_of (flat_map part_outputs (take u chip.parts))
     → length chip.parts ≤ u → length names ≡ length (outputs_of chip)
 all_counted chip u names so_far over = ap length (all_names chip u names so_far over) ∙ as_many chip

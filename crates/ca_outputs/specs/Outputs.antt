@@ -1,11 +1,11 @@
 -- The observed outputs of a linked chip, with their names.
 use Rattle.std.specs.Prelude.{ℕ, Bool, not, ◌&&◌, List, [], ◌∷◌, ◌++◌, map, if◌then◌else◌}
 use Rattle.std.specs.List.{flat_map}
-use Rattle.ca_wired.specs.declared.parts.Body.{Body}
-use Rattle.ca_wired.specs.declared.parts.Body.TheVariants.{Gate, Scan}
-use Rattle.ca_wired.specs.declared.parts.Part.{Part}
-use Rattle.ca_wired.specs.declared.parts.PortBit.{PortBit}
-use Rattle.ca_wired.specs.Linked.{Chip, is_scan_path}
+use Rattle.ca_linked.specs.declared.parts.Body.{Body}
+use Rattle.ca_linked.specs.declared.parts.Body.TheVariants.{Gate, Scan}
+use Rattle.ca_linked.specs.declared.parts.Part.{Part}
+use Rattle.ca_linked.specs.declared.parts.PortBit.{PortBit}
+use Rattle.ca_linked.specs.Linked.{LinkedChip, is_scan_path}
 
 -- an observed output: its name and its net
 pub record Output : Type 0 where
@@ -13,11 +13,11 @@ pub record Output : Type 0 where
   pub net : ℕ
 
 -- the port bit is of an output port, and off the scan path
-abbrev pub is_observed : Chip → PortBit → Bool
+abbrev pub is_observed : LinkedChip → PortBit → Bool
 is_observed chip port = not port.is_input && not (is_scan_path chip port.net)
 
 -- the output that a port bit is, if it is one
-abbrev pub port_outputs : Chip → PortBit → List Output
+abbrev pub port_outputs : LinkedChip → PortBit → List Output
 port_outputs chip port =
     if is_observed chip port then record { name = port.name; net = port.net } ∷ [] else []
 
@@ -35,15 +35,15 @@ abbrev pub part_outputs : Part → List Output
 part_outputs part = pin_outputs (pin_name part) part.body
 
 -- the bits of output ports that are off the scan path, in header order
-abbrev pub observed_ports : Chip → List Output
+abbrev pub observed_ports : LinkedChip → List Output
 observed_ports chip = flat_map (port_outputs chip) chip.ports
 
 -- the data pins of scan instances, in netlist order
-abbrev pub observed_pins : Chip → List Output
+abbrev pub observed_pins : LinkedChip → List Output
 observed_pins chip = flat_map part_outputs chip.parts
 
 -- the observed outputs, in their order
-abbrev pub named_outputs : Chip → List Output
+abbrev pub named_outputs : LinkedChip → List Output
 named_outputs chip = observed_ports chip ++ observed_pins chip
 
 -- the names of outputs
@@ -51,5 +51,5 @@ abbrev pub names_of : List Output → List (List ℕ)
 names_of outputs = map (λ output. output.name) outputs
 
 -- the names of the observed outputs, in their order
-abbrev pub output_names : Chip → List (List ℕ)
+abbrev pub output_names : LinkedChip → List (List ℕ)
 output_names chip = names_of (named_outputs chip)

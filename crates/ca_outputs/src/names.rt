@@ -1,13 +1,13 @@
 //! The names of the observed outputs.
 
 ghost use Rattle.std.specs.Prelude.{◌≡◌, ◌<◌, ◌++◌, length, slice_get, IsSomeAnd, IfOk, OnOk};
-ghost use Rattle.ca_wired.specs.Linked.{outputs_of};
+ghost use Rattle.ca_linked.specs.Linked.{outputs_of};
 ghost use Rattle.ca_outputs.specs.Outputs.{is_observed, observed_ports, names_of, pin_name, output_names};
 ghost use Rattle.ca_outputs.specs.Kept.{port_names, part_names};
 
 use ca_base::NoMemory;
 use ca_lex::{Names, Text};
-use ca_wired::{Chip, InstanceId};
+use ca_linked::{Chip, InstanceId};
 use std::alloc::Global;
 
 // Whether a port bit is an observed output: of an output port, and off the scan path.

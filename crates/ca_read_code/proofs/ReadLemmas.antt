@@ -6,8 +6,8 @@ use Rattle.std.specs.Prelude.{◌↔◌, slice_get}
 use Rattle.ca_net.specs.declared.trit.Trit.{Trit}
 use Rattle.ca_flat.specs.declared.token.Token.{Token}
 use Rattle.ca_flat.specs.declared.token.Token.TheVariants.{Branch, Leaf}
-use Rattle.ca_flat.specs.Code.{Reading, At, Ended, unset_pair, behind, Rules, Reads, branch_count}
-use Rattle.ca_flat.specs.Code.{IsWholeBy, IsFrontBy, IsSpentBy}
+use Rattle.ca_flat.specs.Codes.{Reading, At, Ended, unset_pair, behind, Rules, Reads, branch_count}
+use Rattle.ca_flat.specs.Codes.{IsWholeBy, IsFrontBy, IsSpentBy}
 use Rattle.ca_read_code.specs.declared.walk.Decision.{Decision}
 use Rattle.ca_read_code.specs.declared.walk.CodeEnd.{CodeEnd}
 use Rattle.ca_read_code.specs.declared.walk.CodeEnd.TheVariants.{Unlawful, Whole, Front}

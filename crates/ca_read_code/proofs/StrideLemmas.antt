@@ -8,7 +8,7 @@ use Rattle.ca_net.specs.State.{value_at}
 use Rattle.ca_flat.specs.declared.chip_defect.ChipDefect.{ChipDefect}
 use Rattle.ca_flat.specs.declared.token.Token.TheVariants.{Branch, Leaf}
 use Rattle.ca_flat.specs.Chip.{Chip}
-use Rattle.ca_flat.specs.Code.{At, unset_pair, with_bit, behind_tree, Reads}
+use Rattle.ca_flat.specs.Codes.{At, unset_pair, with_bit, behind_tree, Reads}
 use Rattle.ca_flat.proofs.Codes.{support_within}
 use Rattle.ca_flat.specs.Pair.{bit_count}
 use Rattle.ca_read_code.specs.declared.walk.Decision.{Decision}

@@ -5,7 +5,7 @@ use Rattle.std.specs.Prelude.{not, cond, slice_set}
 use Rattle.ca_net.specs.declared.trit.Trit.{Trit}
 use Rattle.ca_net.specs.declared.trit.Trit.TheVariants.{X}
 use Rattle.ca_flat.specs.Pair.{bit_count}
-use Rattle.ca_flat.specs.Code.{bit_trit, unset_pair, with_bit}
+use Rattle.ca_flat.specs.Codes.{bit_trit, unset_pair, with_bit}
 use Rattle.ca_read_code.specs.declared.walk.Decision.{Decision}
 use Rattle.ca_read_code.specs.Examined.{Examined, with_pair, IsSameAim}
 use Rattle.ca_read_code.specs.Walk.{pair_after, later_after, AreFresh, Follows, still_later, TurnsTo}

@@ -5,8 +5,8 @@ use Rattle.ca_flat.specs.declared.chip_defect.ChipDefect.{ChipDefect}
 use Rattle.ca_flat.specs.declared.token.Token.{Token}
 use Rattle.ca_flat.specs.Chip.{Chip}
 use Rattle.ca_flat.specs.Waves.{IsFlatChip}
-use Rattle.ca_flat.specs.Code.{Rules, MayBranch, IsWholeBy, IsFrontBy, IsSpentBy, IsWholeCode, IsFront}
-use Rattle.ca_flat.specs.Code.{IsSpentCode}
+use Rattle.ca_flat.specs.Codes.{Rules, MayBranch, IsWholeBy, IsFrontBy, IsSpentBy, IsWholeCode, IsFront}
+use Rattle.ca_flat.specs.Codes.{IsSpentCode}
 use Rattle.ca_flat.specs.CheckedCode.{MayLeave}
 
 -- the rules of a claimed code: a leaf stands where the pair is seen to be ruled out, and a branch at an open

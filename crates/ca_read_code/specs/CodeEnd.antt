@@ -1,7 +1,7 @@
 -- How the reading of a code ends.
 use Rattle.std.specs.Prelude.{Bool, true, false, List, []}
 use Rattle.ca_flat.specs.declared.token.Token.{Token}
-use Rattle.ca_flat.specs.Code.{Reading, At, unset_pair, Rules, Reads, IsWholeBy, IsFrontBy}
+use Rattle.ca_flat.specs.Codes.{Reading, At, unset_pair, Rules, Reads, IsWholeBy, IsFrontBy}
 use Rattle.ca_read_code.specs.declared.walk.CodeEnd.{CodeEnd}
 use Rattle.ca_read_code.specs.declared.walk.CodeEnd.TheVariants.{Unlawful, Whole, Front}
 use Rattle.ca_read_code.specs.Examined.{Examined, rules_for}

@@ -4,7 +4,7 @@ use Rattle.ca_net.specs.declared.trit.Trit.{Trit}
 use Rattle.ca_net.specs.declared.trit.Trit.TheVariants.{X}
 use Rattle.ca_flat.specs.declared.chip_defect.ChipDefect.{ChipDefect}
 use Rattle.ca_flat.specs.Chip.{Chip}
-use Rattle.ca_flat.specs.Code.{Rules, bit_trit, MayBranch}
+use Rattle.ca_flat.specs.Codes.{Rules, bit_trit, MayBranch}
 use Rattle.ca_flat.specs.CheckedCode.{MayLeave}
 
 -- a chip, with the places of its instances in the order of evaluation; the defect of it that is aimed at, if

@@ -4,7 +4,7 @@
 pub trait Examiner {
     ghost use Rattle.std.specs.Prelude.{◌≡◌, ◌<◌, ◌↔◌, slice_set, IsTrue};
     ghost use Rattle.ca_flat.specs.Pair.{bit_count};
-    ghost use Rattle.ca_flat.specs.Code.{unset_pair};
+    ghost use Rattle.ca_flat.specs.Codes.{unset_pair};
     ghost use Rattle.ca_read_code.specs.Examined.{Examined, with_pair, set_trit, MayLeaveHere, MayBranchHere};
     ghost use Rattle.ca_read_code.specs.Examined.{MayGoOn};
 

@@ -1,7 +1,7 @@
 //! Whole codes and spent codes.
 
 ghost use Rattle.std.specs.Prelude.{◌≡◌, ◌↔◌, IfOk, IsTrue};
-ghost use Rattle.ca_flat.specs.Code.{branch_count, IsWholeBy, IsSpentBy};
+ghost use Rattle.ca_flat.specs.Codes.{branch_count, IsWholeBy, IsSpentBy};
 ghost use Rattle.ca_read_code.specs.Examined.{IsSameAim};
 ghost use Rattle.ca_read_code.specs.CodeEnd.{rules_of, end_by, IsEnd};
 

@@ -22,11 +22,11 @@ use Rattle.ca_flat.specs.declared.chip_defect.ChipDefect.{ChipDefect}
 use Rattle.ca_flat.specs.Chip.{Instance, cell_at, IsDefectIn}
 use Rattle.ca_flat.specs.Rows.{ListsExposingRows}
 use Rattle.ca_flat.proofs.Undriven.{last_unknown}
-use Rattle.ca_wired.specs.declared.parts.Body.{Body}
-use Rattle.ca_wired.specs.declared.parts.Part.{Part}
-use Rattle.ca_wired.specs.declared.parts.ScanNets.{ScanNets}
-use Rattle.ca_wired.specs.declared.parts.Body.TheVariants.{Gate, Scan}
-use Rattle.ca_wired.specs.Linked.{Chip, IsGate, IsLibrary}
+use Rattle.ca_linked.specs.declared.parts.Body.{Body}
+use Rattle.ca_linked.specs.declared.parts.Part.{Part}
+use Rattle.ca_linked.specs.declared.parts.ScanNets.{ScanNets}
+use Rattle.ca_linked.specs.declared.parts.Body.TheVariants.{Gate, Scan}
+use Rattle.ca_linked.specs.Linked.{LinkedChip, IsGate, IsLibrary}
 use Rattle.ca_core.specs.Core.{empty_cell, core_instance, core_of}
 use Rattle.ca_core.proofs.CorePartLemmas.{core_at, part_at, body_is_cell}
 use Rattle.ca_flat.specs.Detection.{IsExposableIn}
@@ -52,25 +52,25 @@ empty_stores (Some net) n pin =
     subst (IsStorage (circuit_of (empty_cell (Some net)))) second
     (stored_is_no_input (kind_at (circuit_of (empty_cell (Some net))) 2) OUTPUT_NET refl)
 
-empty_exposes_none : (chip : Chip) (nets : ScanNets) (defect : Defect) (first last : List Trit) → Exposes (empty_cell nets.qn) defect first last → ⊥
+empty_exposes_none : (chip : LinkedChip) (nets : ScanNets) (defect : Defect) (first last : List Trit) → Exposes (empty_cell nets.qn) defect first last → ⊥
 empty_exposes_none chip nets defect first last exposes =
     let cell = body_is_cell chip (Scan nets) tt in
     never_ends (circuit_of (empty_cell nets.qn)) (empty_has_no_device nets.qn) (well_formed_all_but (empty_cell nets.qn) cell.is_raw cell.keeps) _ _
     exposes.output exposes.value (empty_stores nets.qn exposes.output exposes.is_output) exposes.good
 
 -- where the answer is that it isn't one of the library
-pub not_library : (kept chip : Chip) (u : ℕ) (answer : Bool) → kept ≡ chip → IsTrue answer ↔ IsLibrary kept u → answer ≡ false → IsLibrary chip u → ⊥
+pub not_library : (kept chip : LinkedChip) (u : ℕ) (answer : Bool) → kept ≡ chip → IsTrue answer ↔ IsLibrary kept u → answer ≡ false → IsLibrary chip u → ⊥
 not_library kept chip u answer same is denied library =
-    let yes : IsTrue answer = is.1 (subst (λ (c : Chip). IsLibrary c u) (sym same) library) in
+    let yes : IsTrue answer = is.1 (subst (λ (c : LinkedChip). IsLibrary c u) (sym same) library) in
     let clash : IsTrue false = subst IsTrue denied yes in
     let differ : false ≡ true = clash in cc
 
 -- a scan instance and its cell in the core
-record IsScanAt (chip : Chip) (u : ℕ) : Type 0 where
+record IsScanAt (chip : LinkedChip) (u : ℕ) : Type 0 where
   nets : ScanNets
   cell : cell_at (core_of chip) u ≡ empty_cell nets.qn
 
-scan_at : (chip : Chip) (u : ℕ) → u < length (core_of chip).instances → (IsLibrary chip u → ⊥) → IsScanAt chip u
+scan_at : (chip : LinkedChip) (u : ℕ) → u < length (core_of chip).instances → (IsLibrary chip u → ⊥) → IsScanAt chip u
 scan_at chip u known other =
     let found = part_at chip u known in by found.part found.at found.part.body refl
   where
@@ -82,7 +82,7 @@ scan_at chip u known other =
       cell = ap (λ (i : Instance). i.cell) (core_at chip u part at ∙ ap (core_instance chip) e);
     }
 
-module _ (chip : Chip) (defect : ChipDefect) (is : IsDefectIn (core_of chip) defect) (other : IsLibrary chip defect.instance → ⊥) where
+module _ (chip : LinkedChip) (defect : ChipDefect) (is : IsDefectIn (core_of chip) defect) (other : IsLibrary chip defect.instance → ⊥) where
   exposes_none : (first last : List Trit) → Exposes (cell_at (core_of chip) defect.instance) defect.defect first last → ⊥
   exposes_none first last exposes =
       let scan = scan_at chip defect.instance is.known other in

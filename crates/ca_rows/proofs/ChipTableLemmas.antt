@@ -13,19 +13,19 @@ use native.Mathlib.Decide.{ℕ_discrete}
 use Rattle.ca_cell.specs.declared.raw.RawCell.{RawCell}
 use Rattle.ca_defect.specs.declared.row.Row.{Row}
 use Rattle.ca_flat.specs.Chip.{Instance, cell_at}
-use Rattle.ca_wired.specs.declared.parts.Body.{Body}
-use Rattle.ca_wired.specs.declared.parts.Part.{Part}
-use Rattle.ca_wired.specs.declared.parts.Body.TheVariants.{Gate, Scan}
-use Rattle.ca_wired.specs.Linked.{Chip, cell_of, IsGate, IsLibrary}
-use Rattle.ca_wired.specs.Instances.{IsOfCell, IsCellOf, if_gate, gates_from, gates_of}
-use Rattle.ca_wired.proofs.OrderLemmas.{place_of}
+use Rattle.ca_linked.specs.declared.parts.Body.{Body}
+use Rattle.ca_linked.specs.declared.parts.Part.{Part}
+use Rattle.ca_linked.specs.declared.parts.Body.TheVariants.{Gate, Scan}
+use Rattle.ca_linked.specs.Linked.{LinkedChip, cell_of, IsGate, IsLibrary}
+use Rattle.ca_linked.specs.Instances.{IsOfCell, IsCellOf, if_gate, gates_from, gates_of}
+use Rattle.ca_linked.proofs.OrderLemmas.{place_of}
 use Rattle.ca_core.specs.Core.{core_of}
 use Rattle.ca_view.proofs.PartFacts.{gate_at, at_some, core_gate}
 use Rattle.ca_rows.specs.CellTable.{CellTable}
 use Rattle.ca_rows.specs.ChipTable.{IsOfCellAt, HasTable, AreFound, IsChipTable}
 
 -- what is of a library cell is a library instance
-of_cell_is_library : (chip : Chip) (u place : ℕ) → IsOfCellAt chip u place → IsLibrary chip u
+of_cell_is_library : (chip : LinkedChip) (u place : ℕ) → IsOfCellAt chip u place → IsLibrary chip u
 of_cell_is_library chip u place of = by (slice_get chip.parts u) of
   where
     by_body : (body : Body) → IsOfCell place body → IsGate body
@@ -37,14 +37,14 @@ of_cell_is_library chip u place of = by (slice_get chip.parts u) of
     by (Some part) is = by_body part.body is
 
 -- the cell at that place is the instance's
-pub cell_is : (chip : Chip) (u place : ℕ) → IsOfCellAt chip u place → cell_of chip.cells place ≡ cell_at (core_of chip) u
+pub cell_is : (chip : LinkedChip) (u place : ℕ) → IsOfCellAt chip u place → cell_of chip.cells place ≡ cell_at (core_of chip) u
 cell_is chip u place of =
     let g = gate_at chip u (of_cell_is_library chip u place of) in
     let same : g.cell ≡ place = subst (IsOfCell place) g.body (at_some (λ part. IsOfCell place part.body) chip.parts u g.part g.at of) in
     ap (cell_of chip.cells) (sym same) ∙ sym (ap (λ (i : Instance). i.cell) (core_gate chip u g))
 
 -- what is read as the cell of an instance of the cell at that place is that cell
-pub cell_read_at : (chip : Chip) (u place : ℕ) (raw : RawCell) → IsOfCellAt chip u place
+pub cell_read_at : (chip : LinkedChip) (u place : ℕ) (raw : RawCell) → IsOfCellAt chip u place
     → IsSomeAnd (slice_get chip.parts u) (λ part. IsCellOf chip.cells part.body raw) → raw ≡ cell_of chip.cells place
 cell_read_at chip u place raw of found =
     let g = gate_at chip u (of_cell_is_library chip u place of) in
@@ -54,7 +54,7 @@ cell_read_at chip u place raw of found =
     is ∙ ap (cell_of chip.cells) same
 
 -- an instance is of one cell
-one_cell : (chip : Chip) (u place other : ℕ) → IsOfCellAt chip u place → IsOfCellAt chip u other → place ≡ other
+one_cell : (chip : LinkedChip) (u place other : ℕ) → IsOfCellAt chip u place → IsOfCellAt chip u other → place ≡ other
 one_cell chip u place other one two =
     let g = gate_at chip u (of_cell_is_library chip u place one) in
     let first : g.cell ≡ place = subst (IsOfCell place) g.body (at_some (λ part. IsOfCell place part.body) chip.parts u g.part g.at one) in
@@ -62,7 +62,7 @@ one_cell chip u place other one two =
     sym first ∙ second
 
 -- at first no rows were found
-pub none_found : (chip : Chip) (count : ℕ) (tables : List (Option CellTable)) → count ≡ length chip.cells → tables ≡ replicate count None → AreFound chip 0 tables
+pub none_found : (chip : LinkedChip) (count : ℕ) (tables : List (Option CellTable)) → count ≡ length chip.cells → tables ≡ replicate count None → AreFound chip 0 tables
 none_found chip count tables e empty = record {
   are = record {
     room = ap (λ (l : List (Option CellTable)). length l) empty ∙ length-replicate count None ∙ e;
@@ -83,7 +83,7 @@ pub has_table : (tables : List (Option CellTable)) (place : ℕ) (entry : Option
 has_table tables place None lt here some = absurd cc
 has_table tables place (Some table) lt here some = record { table = table; at = slice_get-get_or tables place (Some table) lt ∙ ap Some (sym here) }
 
-module _ (chip : Chip) (k u place : ℕ) (tables : List (Option CellTable)) (first : AreFound chip k tables) (at : slice_get (gates_of chip) k ≡ Some u)
+module _ (chip : LinkedChip) (k u place : ℕ) (tables : List (Option CellTable)) (first : AreFound chip k tables) (at : slice_get (gates_of chip) k ≡ Some u)
     (of : IsOfCellAt chip u place) where
   -- the next instance is of a cell whose rows were found
   pub found_before : HasTable tables place → AreFound chip (k + 1) tables
@@ -161,7 +161,7 @@ gate_is_listed from (part ∷ more) (suc k) gate =
     (Contains-append_right (if_gate from part.body) (gates_from (from + 1) more) (from + 1 + k) (gate_is_listed (from + 1) more k gate))
 
 -- once all library instances were looked at, the rows of each one's cell were found
-pub all_found : (chip : Chip) (tables : List (Option CellTable)) (none : List Row) → AreFound chip (length (gates_of chip)) tables → none ≡ []
+pub all_found : (chip : LinkedChip) (tables : List (Option CellTable)) (none : List Row) → AreFound chip (length (gates_of chip)) tables → none ≡ []
     → IsChipTable (record { chip = chip; tables = tables; none = none })
 all_found chip tables none first empty = record {
   are = first.are;

@@ -1,12 +1,12 @@
 //! The rows of the library cells that instances are of.
 
 ghost use Rattle.std.specs.Prelude.{◌≡◌, length, replicate, None, IfOk};
-ghost use Rattle.ca_wired.specs.Instances.{gates_of};
+ghost use Rattle.ca_linked.specs.Instances.{gates_of};
 ghost use Rattle.ca_rows.specs.ChipTable.{AreFound};
 
 use crate::cell_rows::CellRows;
 use ca_base::NoMemory;
-use ca_wired::Chip;
+use ca_linked::Chip;
 use std::alloc::Global;
 
 /// For each cell of the library its rows, if they were found.

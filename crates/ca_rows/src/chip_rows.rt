@@ -2,7 +2,7 @@
 
 ghost use Rattle.std.specs.Prelude.{◌≡◌, IfOk};
 ghost use Rattle.ca_flat.specs.Chip.{cell_at};
-ghost use Rattle.ca_wired.specs.Linked.{IsLibrary};
+ghost use Rattle.ca_linked.specs.Linked.{IsLibrary};
 ghost use Rattle.ca_core.specs.Core.{core_of};
 
 use crate::cell_rows::CellRows;
@@ -10,7 +10,7 @@ use crate::cells::{Tables, tables_of};
 use ca_base::NoMemory;
 use ca_defect::Rows;
 use ca_flat::{ChipDefect, ExposableDefects, ExposingRows};
-use ca_wired::{Chip, InstanceId};
+use ca_linked::{Chip, InstanceId};
 use std::alloc::Global;
 use std::marker::Model;
 

@@ -5,13 +5,13 @@ use Rattle.std.specs.Prelude.{eqb, map, Option, Some, None, IsSomeAnd, slice_get
 use Rattle.std.specs.Prelude.{option_to_list}
 use Rattle.std.specs.List.{flat_map}
 use Rattle.std.proofs.lemmas.Bool.{eq-eqb}
-use Rattle.ca_wired.specs.declared.pins.ScanPin.TheVariants.{Si, So}
-use Rattle.ca_wired.specs.declared.parts.Body.{Body}
-use Rattle.ca_wired.specs.declared.parts.Body.TheVariants.{Gate, Scan}
-use Rattle.ca_wired.specs.declared.parts.Part.{Part}
-use Rattle.ca_wired.specs.declared.parts.PortBit.{PortBit}
-use Rattle.ca_wired.specs.Linked.{Chip}
-use Rattle.ca_wired.specs.Instances.{HasOnPin, pin_nets}
+use Rattle.ca_linked.specs.declared.pins.ScanPin.TheVariants.{Si, So}
+use Rattle.ca_linked.specs.declared.parts.Body.{Body}
+use Rattle.ca_linked.specs.declared.parts.Body.TheVariants.{Gate, Scan}
+use Rattle.ca_linked.specs.declared.parts.Part.{Part}
+use Rattle.ca_linked.specs.declared.parts.PortBit.{PortBit}
+use Rattle.ca_linked.specs.Linked.{LinkedChip}
+use Rattle.ca_linked.specs.Instances.{HasOnPin, pin_nets}
 use Rattle.ca_scan.specs.Chain.{count_of, ends_of, IsOnPin, IsAtPort, IsOut}
 use Rattle.ca_scan.specs.Kept.{so_nets, si_nets, in_nets, out_nets, drivers_of, takers_of, outs_of}
 
@@ -107,7 +107,7 @@ port_ends net (port ∷ ports) = by port.is_input (port_ends net ports)
     by true more = omega (arith, more)
     by false more = omega (arith, more)
 
-module _ (chip : Chip) (net : ℕ) where
+module _ (chip : LinkedChip) (net : ℕ) where
   pub enough : drivers_of chip net + takers_of chip net + outs_of chip net ≤ ends_of chip net
   enough = let parts = part_ends net chip.parts in let ports = port_ends net chip.ports in omega (arith, parts, ports)
 

@@ -5,13 +5,13 @@ use Rattle.std.proofs.lemmas.Bool.{eqb-true}
 use Rattle.std.proofs.lemmas.Option.{slice_get_within}
 use Rattle.std.specs.Prelude.{Bool, eqb, if◌then◌else◌, Option, Some, None, IsSomeAnd, slice_get}
 use Rattle.std.specs.List.{flat_map}
-use Rattle.ca_wired.specs.declared.pins.ScanPin.TheVariants.{Si, So}
-use Rattle.ca_wired.specs.declared.parts.Body.{Body}
-use Rattle.ca_wired.specs.declared.parts.Body.TheVariants.{Gate, Scan}
-use Rattle.ca_wired.specs.declared.parts.Part.{Part}
-use Rattle.ca_wired.specs.declared.parts.PortBit.{PortBit}
-use Rattle.ca_wired.specs.Linked.{Chip, IsWired, is_scan_path}
-use Rattle.ca_wired.specs.Instances.{HasOnPin, IsScan, scans_of}
+use Rattle.ca_linked.specs.declared.pins.ScanPin.TheVariants.{Si, So}
+use Rattle.ca_linked.specs.declared.parts.Body.{Body}
+use Rattle.ca_linked.specs.declared.parts.Body.TheVariants.{Gate, Scan}
+use Rattle.ca_linked.specs.declared.parts.Part.{Part}
+use Rattle.ca_linked.specs.declared.parts.PortBit.{PortBit}
+use Rattle.ca_linked.specs.Linked.{LinkedChip, IsWired, is_scan_path}
+use Rattle.ca_linked.specs.Instances.{HasOnPin, IsScan, scans_of}
 use Rattle.ca_scan.specs.declared.joints.Joints.{Joints}
 use Rattle.ca_scan.specs.Chain.{count_of, ends_of, IsLink, IsOnPin, IsAtPort, IsOut, IsScanAt, RunsOut}
 use Rattle.ca_scan.specs.Chain.{IsChainFrom}
@@ -24,7 +24,7 @@ use Rattle.ca_scan.proofs.TallyLemmas.{append_nil}
 use Rattle.ca_scan.proofs.JointLemmas.{path_ends, scan_place}
 
 -- each net of a run is a link
-link_of : (chip : Chip) (net : ℕ) (chain : List ℕ) → RunsOut chip net chain → IsLink chip net
+link_of : (chip : LinkedChip) (net : ℕ) (chain : List ℕ) → RunsOut chip net chain → IsLink chip net
 link_of chip net [] runs = runs.0
 link_of chip net (u ∷ chain) runs = runs.1
 
@@ -59,7 +59,7 @@ found_in nets net (x ∷ xs) some = by (count_of net (nets x)) refl (found_in ne
         record { place = suc found.place; item = found.item; at = found.at; here = found.here }
     by (suc count) is later = record { place = 0; item = x; at = refl; here = omega (arith, is) }
 
-module _ (chip : Chip) (joints : Joints) (are : AreJoints chip joints) (net : ℕ) where
+module _ (chip : LinkedChip) (joints : Joints) (are : AreJoints chip joints) (net : ℕ) where
   module _ (wired : IsWired chip) (on_path : is_scan_path chip net ≡ true) where
     ends_told : tally_at joints.ends net ≡ up_to_three (ends_of chip net)
     ends_told = are.ends net ∙ ap up_to_three (path_ends chip net wired on_path)
@@ -124,7 +124,7 @@ module _ (chip : Chip) (joints : Joints) (are : AreJoints chip joints) (net : �
   taken u told = subst (IsTakerAmong chip (length (scans_of chip)) net) told (are.takers net)
 
 -- nothing is followed yet
-pub begin_followed : (chip : Chip) (net : ℕ) → 1 ≤ drivers_of chip net → is_scan_path chip net ≡ true → IsFollowed chip net [] net
+pub begin_followed : (chip : LinkedChip) (net : ℕ) → 1 ≤ drivers_of chip net → is_scan_path chip net ≡ true → IsFollowed chip net [] net
 begin_followed chip net driven on_path = record {
   driven = driven;
   on_path = on_path;
@@ -132,7 +132,7 @@ begin_followed chip net driven on_path = record {
   back = λ chain runs. (chain, refl, runs);
 }
 
-module _ (chip : Chip) (start : ℕ) (done : List ℕ) (net : ℕ) (is : IsFollowed chip start done net) where
+module _ (chip : LinkedChip) (start : ℕ) (done : List ℕ) (net : ℕ) (is : IsFollowed chip start done net) where
   -- one scan instance more
   pub more_followed : (u next : ℕ) → IsLink chip net → IsOnPin chip Si u net → IsOnPin chip So u next → IsFollowed chip start (done ++ u ∷ []) next
   more_followed u next link takes leaves = record {
@@ -166,21 +166,21 @@ module _ (chip : Chip) (start : ℕ) (done : List ℕ) (net : ℕ) (is : IsFollo
       omega (arith, long, size, few)
 
 -- what begins at a port bit that is no input, or is off the scan path
-pub no_input : (chip : Chip) (p : ℕ) → IsSomeAnd (slice_get chip.ports p) (λ port. port.is_input ≡ false) → (chain : List ℕ) → IsChainFrom chip p chain → ⊥
+pub no_input : (chip : LinkedChip) (p : ℕ) → IsSomeAnd (slice_get chip.ports p) (λ port. port.is_input ≡ false) → (chain : List ℕ) → IsChainFrom chip p chain → ⊥
 no_input chip p output chain is = by (slice_get chip.ports p) output is.at
   where
     by : (o : Option PortBit) → IsSomeAnd o (λ port. port.is_input ≡ false) → IsSomeAnd o (λ port. (port.is_input ≡ true) × (port.net ≡ is.net)) → ⊥
     by None one two = one
     by (Some port) one two = let clash : false ≡ true = sym one ∙ two.0 in cc
 
-pub port_net_is : (chip : Chip) (p net : ℕ) (chain : List ℕ) → IsSomeAnd (slice_get chip.ports p) (λ port. port.net ≡ net) → (is : IsChainFrom chip p chain) → is.net ≡ net
+pub port_net_is : (chip : LinkedChip) (p net : ℕ) (chain : List ℕ) → IsSomeAnd (slice_get chip.ports p) (λ port. port.net ≡ net) → (is : IsChainFrom chip p chain) → is.net ≡ net
 port_net_is chip p net chain there is = by (slice_get chip.ports p) there is.at
   where
     by : (o : Option PortBit) → IsSomeAnd o (λ port. port.net ≡ net) → IsSomeAnd o (λ port. (port.is_input ≡ true) × (port.net ≡ is.net)) → is.net ≡ net
     by None one two = absurd one
     by (Some port) one two = sym two.1 ∙ one
 
-pub off_path_from : (chip : Chip) (p net : ℕ) → IsSomeAnd (slice_get chip.ports p) (λ port. port.net ≡ net) → is_scan_path chip net ≡ false
+pub off_path_from : (chip : LinkedChip) (p net : ℕ) → IsSomeAnd (slice_get chip.ports p) (λ port. port.net ≡ net) → is_scan_path chip net ≡ false
     → (chain : List ℕ) → IsChainFrom chip p chain → ⊥
 off_path_from chip p net there off [] is = let some = is.some in omega (arith, some)
 off_path_from chip p net there off (u ∷ chain) is =
@@ -188,13 +188,13 @@ off_path_from chip p net there off (u ∷ chain) is =
     cc
 
 -- what begins at a port bit whose net has no run, or the empty one
-pub no_run_from : (chip : Chip) (p net : ℕ) → IsSomeAnd (slice_get chip.ports p) (λ port. port.net ≡ net) → ((chain : List ℕ) → RunsOut chip net chain → ⊥)
+pub no_run_from : (chip : LinkedChip) (p net : ℕ) → IsSomeAnd (slice_get chip.ports p) (λ port. port.net ≡ net) → ((chain : List ℕ) → RunsOut chip net chain → ⊥)
     → (chain : List ℕ) → IsChainFrom chip p chain → ⊥
 no_run_from chip p net there none chain is =
     none chain (subst (λ n. RunsOut chip n chain) (port_net_is chip p net chain there is) is.runs)
 
 -- a port bit with its direction and its net
-pub at_port : (chip : Chip) (p net : ℕ) → IsSomeAnd (slice_get chip.ports p) (λ port. port.net ≡ net) → IsSomeAnd (slice_get chip.ports p) (λ port. port.is_input ≡ true)
+pub at_port : (chip : LinkedChip) (p net : ℕ) → IsSomeAnd (slice_get chip.ports p) (λ port. port.net ≡ net) → IsSomeAnd (slice_get chip.ports p) (λ port. port.is_input ≡ true)
     → IsAtPort chip true p net
 at_port chip p net there input = by (slice_get chip.ports p) there input
   where
@@ -204,12 +204,12 @@ at_port chip p net there input = by (slice_get chip.ports p) there input
     by (Some port) one two = (two, one)
 
 -- the port bit drives its net
-pub port_net_drives : (chip : Chip) (p net : ℕ) (input : Bool) → input ≡ true → IsSomeAnd (slice_get chip.ports p) (λ port. port.net ≡ net)
+pub port_net_drives : (chip : LinkedChip) (p net : ℕ) (input : Bool) → input ≡ true → IsSomeAnd (slice_get chip.ports p) (λ port. port.net ≡ net)
     → IsSomeAnd (slice_get chip.ports p) (λ port. port.is_input ≡ input) → 1 ≤ drivers_of chip net
 port_net_drives chip p net input is there of_input =
     port_drives chip net p (at_port chip p net there (subst (λ b. IsSomeAnd (slice_get chip.ports p) (λ (port : PortBit). port.is_input ≡ b)) is of_input))
 
-pub empty_run_from : (chip : Chip) (p net : ℕ) (run : List ℕ) → IsSomeAnd (slice_get chip.ports p) (λ port. port.net ≡ net) → length run ≡ 0
+pub empty_run_from : (chip : LinkedChip) (p net : ℕ) (run : List ℕ) → IsSomeAnd (slice_get chip.ports p) (λ port. port.net ≡ net) → length run ≡ 0
     → RunsOut chip net run → (chain : List ℕ) → IsChainFrom chip p chain → ⊥
 empty_run_from chip p net run there none runs chain is =
     let also = subst (λ n. RunsOut chip n chain) (port_net_is chip p net chain there is) is.runs in

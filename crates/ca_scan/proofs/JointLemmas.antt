@@ -10,13 +10,13 @@ use Rattle.std.proofs.lemmas.List.Elements.{All-head, All-tail}
 use Rattle.std.proofs.lemmas.Option.{slice_get_within, slice_get-get_or, get_or_from_slice_get}
 use Rattle.std.proofs.lemmas.Grind.{flat_map-append}
 use Rattle.std.proofs.lemmas.List.{map-append}
-use Rattle.ca_wired.specs.declared.pins.ScanPin.TheVariants.{Si, So, Se, Ck, Hold}
-use Rattle.ca_wired.specs.declared.parts.Body.{Body}
-use Rattle.ca_wired.specs.declared.parts.Body.TheVariants.{Gate, Scan}
-use Rattle.ca_wired.specs.declared.parts.Part.{Part}
-use Rattle.ca_wired.specs.declared.parts.PortBit.{PortBit}
-use Rattle.ca_wired.specs.Linked.{Chip, IsWired, is_scan_path, data_nets, path_nets}
-use Rattle.ca_wired.specs.Instances.{HasOnPin, IsScan, if_scan, pin_nets, scans_from, scans_of}
+use Rattle.ca_linked.specs.declared.pins.ScanPin.TheVariants.{Si, So, Se, Ck, Hold}
+use Rattle.ca_linked.specs.declared.parts.Body.{Body}
+use Rattle.ca_linked.specs.declared.parts.Body.TheVariants.{Gate, Scan}
+use Rattle.ca_linked.specs.declared.parts.Part.{Part}
+use Rattle.ca_linked.specs.declared.parts.PortBit.{PortBit}
+use Rattle.ca_linked.specs.Linked.{LinkedChip, IsWired, is_scan_path, data_nets, path_nets}
+use Rattle.ca_linked.specs.Instances.{HasOnPin, IsScan, if_scan, pin_nets, scans_from, scans_of}
 use Rattle.ca_scan.specs.Chain.{count_of, ends_of, IsOnPin, IsScanAt}
 use Rattle.ca_scan.specs.Kept.{nets_at, nets_of, out_nets, Counts, Adds, IsTakerAmong, AreTakersAmong}
 use Rattle.ca_scan.specs.Kept.{taker_at, SetsTaker}
@@ -66,7 +66,7 @@ outs_more ports p old new there counts =
     counts_more out_nets ports p found.item found.at old new counts found.has
 
 -- one scan instance more
-pub pins_more : (chip : Chip) (k : ℕ) (old new : List ℕ) → k < length (scans_of chip)
+pub pins_more : (chip : LinkedChip) (k : ℕ) (old new : List ℕ) → k < length (scans_of chip)
     → Counts old (nets_of chip (take k (scans_of chip))) → Adds (nets_at (slice_get chip.parts (slice_index (scans_of chip) k))) old new
     → Counts new (nets_of chip (take (k + 1) (scans_of chip)))
 pins_more chip k old new below counts adds =
@@ -74,7 +74,7 @@ pins_more chip k old new below counts adds =
     (slice_get-get_or (scans_of chip) k 0 below) old new counts adds
 
 -- the five pins of a scan instance have the nets that it puts on the scan path
-pub five_nets : (chip : Chip) (u se ck hold si so : ℕ) → IsOnPin chip Se u se → IsOnPin chip Ck u ck → IsOnPin chip Hold u hold → IsOnPin chip Si u si → IsOnPin chip So u so
+pub five_nets : (chip : LinkedChip) (u se ck hold si so : ℕ) → IsOnPin chip Se u se → IsOnPin chip Ck u ck → IsOnPin chip Hold u hold → IsOnPin chip Si u si → IsOnPin chip So u so
     → se ∷ ck ∷ hold ∷ si ∷ so ∷ [] ≡ nets_at (slice_get chip.parts u)
 five_nets chip u se ck hold si so is_se is_ck is_hold is_si is_so = by (slice_get chip.parts u) is_se is_ck is_hold is_si is_so
   where
@@ -111,7 +111,7 @@ scans_path before (part ∷ more) = by part.body refl
     by (Gate cell inputs outputs) is later = later ∙ (λ j. path_nets (sym is j) ++ flat_map (λ (p : Part). path_nets p.body) more)
     by (Scan nets) is later = (λ j. ap nets_at (at_end before part more) j ++ later j)
 
-pub path_of_scans : (chip : Chip) → nets_of chip (scans_of chip) ≡ flat_map (λ part. path_nets part.body) chip.parts
+pub path_of_scans : (chip : LinkedChip) → nets_of chip (scans_of chip) ≡ flat_map (λ part. path_nets part.body) chip.parts
 path_of_scans chip = scans_path [] chip.parts
 
 -- a net that passes the test is none of these
@@ -146,7 +146,7 @@ parts_path test net (part ∷ parts) all is =
     omega (arith, none, split, more, pins, path)
 
 -- the ends of a net of the scan path
-pub path_ends : (chip : Chip) (net : ℕ) → IsWired chip → is_scan_path chip net ≡ true
+pub path_ends : (chip : LinkedChip) (net : ℕ) → IsWired chip → is_scan_path chip net ≡ true
     → count_of net (nets_of chip (scans_of chip) ++ map (λ (port : PortBit). port.net) chip.ports) ≡ ends_of chip net
 path_ends chip net wired on_path =
     let split = count-append net (nets_of chip (scans_of chip)) (map (λ (port : PortBit). port.net) chip.ports) in
@@ -171,7 +171,7 @@ from_scans u (part ∷ more) k v at = by part.body refl k at (λ j there.
         (0, omega (arith, same), subst IsScan (sym is) tt)
     by (Scan nets) is (suc j) there later = later j there
 
-pub scan_at : (chip : Chip) (k u : ℕ) → slice_get (scans_of chip) k ≡ Some u → IsScanAt chip u
+pub scan_at : (chip : LinkedChip) (k u : ℕ) → slice_get (scans_of chip) k ≡ Some u → IsScanAt chip u
 scan_at chip k u at =
     let found = from_scans 0 chip.parts k u at in
     let same : found.0 ≡ u = omega (arith, found.1) in
@@ -195,7 +195,7 @@ to_scans u (part ∷ more) (suc place) there =
     by (Gate cell inputs outputs) found = found
     by (Scan nets) found = (suc found.0, found.1)
 
-pub scan_place : (chip : Chip) (u : ℕ) → IsScanAt chip u → (k : ℕ) × (slice_get (scans_of chip) k ≡ Some u)
+pub scan_place : (chip : LinkedChip) (u : ℕ) → IsScanAt chip u → (k : ℕ) × (slice_get (scans_of chip) k ≡ Some u)
 scan_place chip u there =
     let found = to_scans 0 chip.parts u there in
     (found.0, found.1 ∙ ap Some (let same : 0 + u ≡ u = omega arith in same))
@@ -219,11 +219,11 @@ rising u (part ∷ more) j k v w at_v at_w less = by part.body j k at_v at_w (λ
         absurd (omega (arith, two, found.1, less))
     by (Scan nets) (suc j) (suc k) at_v at_w later = let more_less = later j k at_v at_w less in omega (arith, more_less)
 
-pub scans_rise : (chip : Chip) (j k v w : ℕ) → slice_get (scans_of chip) j ≡ Some v → slice_get (scans_of chip) k ≡ Some w → v < w → j < k
+pub scans_rise : (chip : LinkedChip) (j k v w : ℕ) → slice_get (scans_of chip) j ≡ Some v → slice_get (scans_of chip) k ≡ Some w → v < w → j < k
 scans_rise chip j k v w at_v at_w less = rising 0 chip.parts j k v w at_v at_w less
 
 -- one taker more
-pub taker_more : (chip : Chip) (k u net : ℕ) (old new : List (Option ℕ)) → slice_get (scans_of chip) k ≡ Some u → IsOnPin chip Si u net
+pub taker_more : (chip : LinkedChip) (k u net : ℕ) (old new : List (Option ℕ)) → slice_get (scans_of chip) k ≡ Some u → IsOnPin chip Si u net
     → AreTakersAmong chip k old → SetsTaker net u old new → AreTakersAmong chip (k + 1) new
 taker_more chip k u net old new at there before set n = by (eqb n net) refl (taker_at old n) refl (before n)
   where
@@ -246,10 +246,10 @@ taker_more chip k u net old new at there before set n = by (eqb n net) refl (tak
           | no other ↦ taker j v (omega (arith, less, other)) at_v takes
         ]
 
-pub takers_none : (chip : Chip) → AreTakersAmong chip 0 []
+pub takers_none : (chip : LinkedChip) → AreTakersAmong chip 0 []
 takers_none chip net = λ k u below at takes. omega (arith, below)
 
-pub takers_all : (chip : Chip) (count : ℕ) (takers : List (Option ℕ)) → length (scans_of chip) ≤ count → AreTakersAmong chip count takers
+pub takers_all : (chip : LinkedChip) (count : ℕ) (takers : List (Option ℕ)) → length (scans_of chip) ≤ count → AreTakersAmong chip count takers
     → AreTakersAmong chip (length (scans_of chip)) takers
 takers_all chip count takers all are net = by (taker_at takers net) (are net)
   where

@@ -6,9 +6,9 @@ use Rattle.std.specs.List.{flat_map}
 use Rattle.std.proofs.lemmas.Bool.{eqb-true, eq-eqb}
 use Rattle.std.proofs.lemmas.Option.{slice_get_within, slice_get-get_or}
 use Rattle.std.proofs.lemmas.Grind.{flat_map-append}
-use Rattle.ca_wired.specs.declared.parts.PortBit.{PortBit}
-use Rattle.ca_wired.specs.Linked.{Chip, has}
-use Rattle.ca_wired.specs.Instances.{scans_of}
+use Rattle.ca_linked.specs.declared.parts.PortBit.{PortBit}
+use Rattle.ca_linked.specs.Linked.{LinkedChip, has}
+use Rattle.ca_linked.specs.Instances.{scans_of}
 use Rattle.ca_scan.specs.Chain.{count_of, IsChainAt, AreChainsOf, AreChains, IsOnChain, AreOnChains}
 use Rattle.ca_scan.specs.Chain.{IsFirstOff}
 use Rattle.ca_scan.specs.Kept.{up_to_three, tally_at, Counts, Adds, all_of, AreOnChainsBefore}
@@ -18,7 +18,7 @@ use Rattle.ca_scan.proofs.JointLemmas.{counts_more, scan_at, scan_place, scans_r
 use Rattle.ca_scan.proofs.FollowLemmas.{IsFound, found_in}
 
 -- no chain is listed yet
-pub chains_none : (chip : Chip) → AreChainsOf chip 0 []
+pub chains_none : (chip : LinkedChip) → AreChainsOf chip 0 []
 chains_none chip = record { at_port = []; room = refl; each = λ p found at. absurd (let clash : None ≡ Some found = at in cc); all = refl }
 
 -- what is in a list with one more at its end
@@ -30,7 +30,7 @@ in_longer (y ∷ xs) last P each here zero x at = each 0 x at
 in_longer (y ∷ xs) last P each here (suc k) x at = in_longer xs last (λ j z. P (suc j) z) (λ j z at_j. each (suc j) z at_j) here k x at
 
 -- the chain of one port bit more
-pub chains_more : (chip : Chip) (p : ℕ) (chains : List (List ℕ)) (found : Option (List ℕ)) (new : List (List ℕ)) → AreChainsOf chip p chains → IsChainAt chip p found
+pub chains_more : (chip : LinkedChip) (p : ℕ) (chains : List (List ℕ)) (found : Option (List ℕ)) (new : List (List ℕ)) → AreChainsOf chip p chains → IsChainAt chip p found
     → new ≡ chains ++ option_to_list found → AreChainsOf chip (p + 1) new
 chains_more chip p chains found new are is made = record {
   at_port = are.at_port ++ found ∷ [];
@@ -44,7 +44,7 @@ chains_more chip p chains found new are is made = record {
     append_nil_of [] = refl
     append_nil_of (x ∷ xs) = ap (λ ys. x ∷ ys) (append_nil_of xs)
 
-pub chains_all : (chip : Chip) (count : ℕ) (chains : List (List ℕ)) → count ≡ length chip.ports → AreChainsOf chip count chains → AreChains chip chains
+pub chains_all : (chip : LinkedChip) (count : ℕ) (chains : List (List ℕ)) → count ≡ length chip.ports → AreChainsOf chip count chains → AreChains chip chains
 chains_all chip count chains all are = subst (λ n. AreChainsOf chip n chains) all are
 
 -- the instances of a chain, if there is one
@@ -84,7 +84,7 @@ counted_has u (v ∷ chain) there = by (eqb u v) there (counted_has u chain)
     by true one later = omega arith
     by false one later = let more = later one in omega (arith, more)
 
-module _ (chip : Chip) (chains : List (List ℕ)) (are : AreChains chip chains) (marks : List ℕ) (counts : Counts marks (all_of chains)) (u : ℕ) where
+module _ (chip : LinkedChip) (chains : List (List ℕ)) (are : AreChains chip chains) (marks : List ℕ) (counts : Counts marks (all_of chains)) (u : ℕ) where
   told : tally_at marks u ≡ up_to_three (count_of u (flat_map members are.at_port))
   told = counts u ∙ ap (λ list. up_to_three (count_of u list)) (ap all_of are.all ∙ all_members are.at_port)
 
@@ -126,7 +126,7 @@ module _ (chip : Chip) (chains : List (List ℕ)) (are : AreChains chip chains) 
       none_counted (suc (suc (suc n))) is = absurd cc
 
 -- one scan instance more is on a whole chain
-pub on_more : (chip : Chip) (k u : ℕ) → slice_get (scans_of chip) k ≡ Some u → AreOnChainsBefore chip k → IsOnChain chip u → AreOnChainsBefore chip (k + 1)
+pub on_more : (chip : LinkedChip) (k u : ℕ) → slice_get (scans_of chip) k ≡ Some u → AreOnChainsBefore chip k → IsOnChain chip u → AreOnChainsBefore chip (k + 1)
 on_more chip k u at before on j v less at_v = by (eqb j k) refl
   where
     by : (test : Bool) → eqb j k ≡ test → IsOnChain chip v
@@ -142,13 +142,13 @@ on_more chip k u at before on j v less at_v = by (eqb j k) refl
             apart : (a ≡ b → ⊥) → a < b
             apart differs = omega (arith, less, differs)
 
-pub all_on : (chip : Chip) (count : ℕ) → length (scans_of chip) ≤ count → AreOnChainsBefore chip count → AreOnChains chip
+pub all_on : (chip : LinkedChip) (count : ℕ) → length (scans_of chip) ≤ count → AreOnChainsBefore chip count → AreOnChains chip
 all_on chip count all before u scan =
     let place = scan_place chip u scan in
     let below = slice_get_within (scans_of chip) place.0 u place.1 in
     before place.0 u (omega (arith, all, below)) place.1
 
-pub first_off_at : (chip : Chip) (k u : ℕ) → slice_get (scans_of chip) k ≡ Some u → AreOnChainsBefore chip k → (IsOnChain chip u → ⊥) → IsFirstOff chip u
+pub first_off_at : (chip : LinkedChip) (k u : ℕ) → slice_get (scans_of chip) k ≡ Some u → AreOnChainsBefore chip k → (IsOnChain chip u → ⊥) → IsFirstOff chip u
 first_off_at chip k u at before off = record {
   scan = scan_at chip k u at;
   off = off;

@@ -1,6 +1,6 @@
 -- What is read into a table that grows.
 use Rattle.std.specs.Prelude.{ℕ, ◌≡◌, List, Result, Ok, Err, ⊤}
-use Rattle.ca_chip.specs.declared.scan_row.ScanRow.{ScanRow}
+use Rattle.ca_wiring.specs.declared.scan_row.ScanRow.{ScanRow}
 use Rattle.ca_scan.specs.declared.fault.ScanFault.{ScanFault}
 use Rattle.ca_scan.specs.declared.fault.ScanFault.TheVariants as fault
 

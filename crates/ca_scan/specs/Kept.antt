@@ -2,14 +2,14 @@
 use Rattle.std.specs.Prelude.{ℕ, zero, suc, ◌≡◌, ◌<◌, ◌≤◌, ◌+◌, true, eqb, if◌then◌else◌, List, [], ◌∷◌, ◌++◌}
 use Rattle.std.specs.Prelude.{map, length, Option, Some, None, slice_get, slice_index, get_or}
 use Rattle.std.specs.List.{flat_map}
-use Rattle.ca_wired.specs.declared.instances.InstanceId.{InstanceId}
-use Rattle.ca_wired.specs.declared.pins.ScanPin.TheVariants.{Si}
-use Rattle.ca_wired.specs.declared.parts.Body.{Body}
-use Rattle.ca_wired.specs.declared.parts.Body.TheVariants.{Gate, Scan}
-use Rattle.ca_wired.specs.declared.parts.Part.{Part}
-use Rattle.ca_wired.specs.declared.parts.PortBit.{PortBit}
-use Rattle.ca_wired.specs.Linked.{Chip, is_scan_path, path_nets}
-use Rattle.ca_wired.specs.Instances.{scans_of}
+use Rattle.ca_linked.specs.declared.instances.InstanceId.{InstanceId}
+use Rattle.ca_linked.specs.declared.pins.ScanPin.TheVariants.{Si}
+use Rattle.ca_linked.specs.declared.parts.Body.{Body}
+use Rattle.ca_linked.specs.declared.parts.Body.TheVariants.{Gate, Scan}
+use Rattle.ca_linked.specs.declared.parts.Part.{Part}
+use Rattle.ca_linked.specs.declared.parts.PortBit.{PortBit}
+use Rattle.ca_linked.specs.Linked.{LinkedChip, is_scan_path, path_nets}
+use Rattle.ca_linked.specs.Instances.{scans_of}
 use Rattle.ca_scan.specs.declared.joints.Joints.{Joints}
 use Rattle.ca_scan.specs.declared.follow.Step.{Step}
 use Rattle.ca_scan.specs.declared.follow.Step.TheVariants.{Broken, Out, Taken}
@@ -34,17 +34,17 @@ abbrev pub out_nets : PortBit → List ℕ
 out_nets port = if port.is_input then [] else port.net ∷ []
 
 -- how many input ports and scan-outs are on the net
-abbrev pub drivers_of : Chip → ℕ → ℕ
+abbrev pub drivers_of : LinkedChip → ℕ → ℕ
 drivers_of chip net =
     count_of net (flat_map in_nets chip.ports)
     + count_of net (flat_map (λ part. so_nets part.body) chip.parts)
 
 -- how many scan-ins are on the net
-abbrev pub takers_of : Chip → ℕ → ℕ
+abbrev pub takers_of : LinkedChip → ℕ → ℕ
 takers_of chip net = count_of net (flat_map (λ part. si_nets part.body) chip.parts)
 
 -- how many output ports are on the net
-abbrev pub outs_of : Chip → ℕ → ℕ
+abbrev pub outs_of : LinkedChip → ℕ → ℕ
 outs_of chip net = count_of net (flat_map out_nets chip.ports)
 
 -- the nets that an instance puts on the scan path
@@ -53,7 +53,7 @@ nets_at None = []
 nets_at (Some part) = path_nets part.body
 
 -- the nets that these instances put on the scan path
-abbrev pub nets_of : Chip → List ℕ → List ℕ
+abbrev pub nets_of : LinkedChip → List ℕ → List ℕ
 nets_of chip instances = flat_map (λ u. nets_at (slice_get chip.parts u)) instances
 
 -- a number up to three, and three for each greater one
@@ -84,35 +84,35 @@ abbrev pub SetsTaker : ℕ → ℕ → List (Option ℕ) → List (Option ℕ) �
 SetsTaker net u old new = (n : ℕ) → taker_at new n ≡ (if eqb n net then Some u else taker_at old n)
 
 -- this instance has its scan-in on the net; or none of the first scan instances has
-abbrev pub IsTakerAmong : Chip → ℕ → ℕ → Option ℕ → Type 0
+abbrev pub IsTakerAmong : LinkedChip → ℕ → ℕ → Option ℕ → Type 0
 IsTakerAmong chip count net (Some u) = IsOnPin chip Si u net
 IsTakerAmong chip count net None =
     (k u : ℕ) → k < count → slice_get (scans_of chip) k ≡ Some u → IsOnPin chip Si u net → ⊥
 
 -- each net has its taker
-abbrev pub AreTakersAmong : Chip → ℕ → List (Option ℕ) → Type 0
+abbrev pub AreTakersAmong : LinkedChip → ℕ → List (Option ℕ) → Type 0
 AreTakersAmong chip count takers = (net : ℕ) → IsTakerAmong chip count net (taker_at takers net)
 
 -- what is kept of the nets: how many ends are on each net of the scan path, how many output ports on each
 -- net, and for each net a scan instance that has its scan-in there
-pub record AreJoints (chip : Chip) (joints : Joints) : Type 0 where
+pub record AreJoints (chip : LinkedChip) (joints : Joints) : Type 0 where
   pub ends : Counts joints.ends (nets_of chip (scans_of chip) ++ map (λ port. port.net) chip.ports)
   pub outs : Counts joints.outs (flat_map out_nets chip.ports)
   pub takers : AreTakersAmong chip (length (scans_of chip)) joints.takers
 
 -- where a net of the scan path leads: nowhere, to an output port, or to the scan-in of an instance
-abbrev pub IsStep : Chip → ℕ → Step → Type 0
+abbrev pub IsStep : LinkedChip → ℕ → Step → Type 0
 IsStep chip net Broken = (chain : List ℕ) → RunsOut chip net chain → ⊥
 IsStep chip net Out = RunsOut chip net []
 IsStep chip net (Taken u) = IsLink chip net × IsOnPin chip Si u.0 net
 
 -- the run from a net, or there is none
-abbrev pub IsRun : Chip → ℕ → Option (List ℕ) → Type 0
+abbrev pub IsRun : LinkedChip → ℕ → Option (List ℕ) → Type 0
 IsRun chip net (Some chain) = RunsOut chip net chain
 IsRun chip net None = (chain : List ℕ) → RunsOut chip net chain → ⊥
 
 -- these scan instances lead from the first net to the other one, where each run from the first one goes on
-pub record IsFollowed (chip : Chip) (start : ℕ) (done : List ℕ) (net : ℕ) : Type 0 where
+pub record IsFollowed (chip : LinkedChip) (start : ℕ) (done : List ℕ) (net : ℕ) : Type 0 where
   pub driven : 1 ≤ drivers_of chip net
   pub on_path : is_scan_path chip net ≡ true
   pub on : (rest : List ℕ) → RunsOut chip net rest → RunsOut chip start (done ++ rest)
@@ -124,10 +124,10 @@ abbrev pub all_of : List (List ℕ) → List ℕ
 all_of chains = flat_map (λ chain. chain) chains
 
 -- the first scan instance that is on no whole chain; or each is on one
-abbrev pub IsFirstOffIn : Chip → Option InstanceId → Type 0
+abbrev pub IsFirstOffIn : LinkedChip → Option InstanceId → Type 0
 IsFirstOffIn chip None = AreOnChains chip
 IsFirstOffIn chip (Some u) = IsFirstOff chip u.0
 
 -- each of the first scan instances is on a whole chain
-abbrev pub AreOnChainsBefore : Chip → ℕ → Type 0
+abbrev pub AreOnChainsBefore : LinkedChip → ℕ → Type 0
 AreOnChainsBefore chip count = (k u : ℕ) → k < count → slice_get (scans_of chip) k ≡ Some u → IsOnChain chip u

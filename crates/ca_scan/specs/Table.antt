@@ -6,7 +6,7 @@ use Rattle.std.specs.Str.{bytes_eq}
 use Rattle.ca_csv.specs.Records.{text_records}
 use Rattle.ca_lex.specs.Words.{upper_case}
 use Rattle.ca_names.specs.Names.{has_name}
-use Rattle.ca_chip.specs.declared.scan_row.ScanRow.{ScanRow}
+use Rattle.ca_wiring.specs.declared.scan_row.ScanRow.{ScanRow}
 use Rattle.ca_scan.specs.declared.fault.ScanFault.{ScanFault}
 use Rattle.ca_scan.specs.declared.fault.ScanFault.TheVariants as fault
 use Rattle.ca_lex.specs.FirstFault.{steps_from}

@@ -5,7 +5,7 @@ ghost use Rattle.ca_scan.specs.declared.fault.ScanFault.TheVariants as scan_faul
 ghost use Rattle.ca_scan.specs.declared.fault.ChainFault.TheVariants as chain_fault;
 
 use ca_base::NoMemory;
-use ca_wired::InstanceId;
+use ca_linked::InstanceId;
 
 /// Why a text is no scan table.
 #[derive(Clone, Copy, Debug, PartialEq, Eq)]

@@ -1,13 +1,13 @@
 //! Following a chain from a net to the next.
 
 ghost use Rattle.std.specs.Prelude.{◌≡◌, ◌≤◌, ◌<◌, true, length, IfOk};
-ghost use Rattle.ca_wired.specs.Linked.{is_scan_path};
+ghost use Rattle.ca_linked.specs.Linked.{is_scan_path};
 ghost use Rattle.ca_scan.specs.Chain.{IsAtPort, IsChainAt};
 ghost use Rattle.ca_scan.specs.Kept.{drivers_of, AreJoints, IsStep, IsRun};
 
 use crate::joints::Joints;
 use ca_base::NoMemory;
-use ca_wired::{Chip, InstanceId, InstanceList, NetId, ScanPin};
+use ca_linked::{Chip, InstanceId, InstanceList, NetId, ScanPin};
 use std::alloc::Global;
 
 /// Where a net of the scan path leads.

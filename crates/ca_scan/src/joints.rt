@@ -2,14 +2,14 @@
 
 ghost use Rattle.std.specs.Prelude.{◌<◌, ◌++◌, map, length, IfOk, OnOk, IsSomeAnd, slice_get};
 ghost use Rattle.std.specs.List.{flat_map};
-ghost use Rattle.ca_wired.specs.Instances.{scans_of};
+ghost use Rattle.ca_linked.specs.Instances.{scans_of};
 ghost use Rattle.ca_scan.specs.Kept.{nets_of, out_nets, Counts, Adds, AreJoints};
 
 use crate::pins::add_scan;
 use crate::takers::{Takers, takers_of};
 use crate::tally::Tally;
 use ca_base::NoMemory;
-use ca_wired::Chip;
+use ca_linked::Chip;
 use std::alloc::Global;
 
 /// How many pins and ports are on each net of the scan path, how many output ports on each net, and for each

@@ -12,7 +12,7 @@ mod takers;
 mod tally;
 mod whole;
 
-pub use ca_chip::{ScanRow, ScanTable};
+pub use ca_wiring::{ScanRow, ScanTable};
 pub use fault::{ChainFault, ScanFault};
 pub use laws::{chains_are_one, chips_have_one_answer, runs_are_short};
 pub use table::read_table;

@@ -1,13 +1,13 @@
 //! The pins of scan instances.
 
 ghost use Rattle.std.specs.Prelude.{◌<◌, length, slice_get, slice_index, OnOk};
-ghost use Rattle.ca_wired.specs.Instances.{scans_of};
+ghost use Rattle.ca_linked.specs.Instances.{scans_of};
 ghost use Rattle.ca_scan.specs.Chain.{IsScanAt, IsOnPin};
 ghost use Rattle.ca_scan.specs.Kept.{nets_at, Adds};
 
 use crate::tally::Tally;
 use ca_base::NoMemory;
-use ca_wired::{Chip, ScanPin};
+use ca_linked::{Chip, ScanPin};
 
 /// The net of a pin of a scan instance, by its place among the scan instances.
 pub(crate) fn scan_net(chip: &Chip, k: usize, pin: ScanPin) -> u32

@@ -1,12 +1,12 @@
 //! Which scan instance has its scan-in on a net.
 
 ghost use Rattle.std.specs.Prelude.{◌≡◌, ◌<◌, ℕ, [], length, OnOk, IfOk};
-ghost use Rattle.ca_wired.specs.Instances.{scans_of};
+ghost use Rattle.ca_linked.specs.Instances.{scans_of};
 ghost use Rattle.ca_scan.specs.Kept.{taker_at, SetsTaker, AreTakersAmong};
 
 use crate::pins::scan_net;
 use ca_base::NoMemory;
-use ca_wired::{Chip, ScanPin};
+use ca_linked::{Chip, ScanPin};
 use std::alloc::Global;
 use std::marker::Model;
 

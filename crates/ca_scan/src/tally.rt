@@ -4,7 +4,7 @@ ghost use Rattle.std.specs.Prelude.{◌≡◌, ◌<◌, ℕ, [], ◌∷◌, leng
 ghost use Rattle.ca_scan.specs.Kept.{tally_at, Counts, Adds};
 
 use ca_base::NoMemory;
-use ca_wired::InstanceList;
+use ca_linked::InstanceList;
 use std::alloc::Global;
 use std::marker::Model;
 

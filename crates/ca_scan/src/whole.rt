@@ -11,7 +11,7 @@ use crate::follow::chain_at;
 use crate::joints::{Joints, joints_of};
 use crate::tally::Tally;
 use ca_base::{List, NoMemory};
-use ca_wired::{Chip, InstanceId, InstanceList};
+use ca_linked::{Chip, InstanceId, InstanceList};
 use std::alloc::Global;
 
 /// The whole chains of a chip, each from its scan-in port to its scan-out port.

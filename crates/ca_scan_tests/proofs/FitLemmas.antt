@@ -6,11 +6,11 @@ use Rattle.std.specs.List.{All}
 use Rattle.std.proofs.lemmas.Bool.{eqb-true, eq-eqb}
 use Rattle.std.proofs.lemmas.Option.{get_or_from_slice_get}
 use Rattle.ca_cell.specs.declared.raw.RawCell.{RawCell}
-use Rattle.ca_wired.specs.declared.parts.Body.{Body}
-use Rattle.ca_wired.specs.declared.parts.Body.TheVariants.{Gate, Scan}
-use Rattle.ca_wired.specs.declared.parts.Part.{Part}
-use Rattle.ca_wired.specs.Linked.{Chip, IsBody}
-use Rattle.ca_wired.specs.Drivers.{IsDrafted}
+use Rattle.ca_linked.specs.declared.parts.Body.{Body}
+use Rattle.ca_linked.specs.declared.parts.Body.TheVariants.{Gate, Scan}
+use Rattle.ca_linked.specs.declared.parts.Part.{Part}
+use Rattle.ca_linked.specs.Linked.{LinkedChip, IsBody}
+use Rattle.ca_linked.specs.Drivers.{IsDrafted}
 use Rattle.ca_scan_tests.specs.Fits.{AllBefore, IsFit, IsScan}
 
 pub one_more : {X : Type 0} (P : X → Type 0) (k : ℕ) (xs : List X) (x : X) → AllBefore P k xs → slice_get xs k ≡ Some x → P x → AllBefore P (k + 1) xs

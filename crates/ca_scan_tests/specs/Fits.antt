@@ -1,9 +1,9 @@
 -- When a netlist whose nets are numbered by hand may be wired.
 use Rattle.std.specs.Prelude.{ℕ, ◌<◌, ◌^◌, List, length, get_or}
 use Rattle.std.specs.List.{All}
-use Rattle.ca_wired.specs.declared.parts.Body.{Body}
-use Rattle.ca_wired.specs.declared.parts.Body.TheVariants.{Gate, Scan}
-use Rattle.ca_wired.specs.Linked.{input_nets, output_nets}
+use Rattle.ca_linked.specs.declared.parts.Body.{Body}
+use Rattle.ca_linked.specs.declared.parts.Body.TheVariants.{Gate, Scan}
+use Rattle.ca_linked.specs.Linked.{input_nets, output_nets}
 
 -- each entry before this place has the property
 abbrev pub AllBefore : {X : Type 0} → (X → Type 0) → ℕ → List X → Type 0

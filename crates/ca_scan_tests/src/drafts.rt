@@ -2,11 +2,11 @@
 
 ghost use Rattle.std.specs.Prelude.{◌≡◌, ◌<◌, true, IsTrue};
 ghost use Rattle.std.specs.List.{All};
-ghost use Rattle.ca_wired.specs.Linked.{net_count, input_nets, output_nets};
-ghost use Rattle.ca_wired.specs.Drivers.{IsDrafted};
+ghost use Rattle.ca_linked.specs.Linked.{net_count, input_nets, output_nets};
+ghost use Rattle.ca_linked.specs.Drivers.{IsDrafted};
 ghost use Rattle.ca_scan_tests.specs.Fits.{IsFit};
 
-use ca_wired::{Body, Draft};
+use ca_linked::{Body, Draft};
 
 // Whether the input pins are on the first nets.
 #[tactic(auto, using(crate::proofs::FitLemmas::one_more, crate::proofs::FitLemmas::before_all))]

@@ -5,7 +5,7 @@ use Rattle.ca_net.specs.declared.trit.Trit.{Trit}
 use Rattle.ca_net.specs.declared.trit.Trit.TheVariants.{Zero, One, X}
 use Rattle.ca_net.specs.Trit.{IsBelow}
 use Rattle.ca_net.specs.State.{value_at}
-use Rattle.ca_flat.specs.Code.{bit_trit}
+use Rattle.ca_flat.specs.Codes.{bit_trit}
 use Rattle.ca_flat.proofs.Completions.{shown_is_kept_lem}
 use Rattle.ca_search.specs.Filled.{filled_bit, filled, trits_of, FilledIsShown}
 

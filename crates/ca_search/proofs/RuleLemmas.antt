@@ -7,7 +7,7 @@ use Rattle.ca_flat.specs.declared.token.Token.TheVariants.{Branch, Leaf}
 use Rattle.ca_flat.specs.Chip.{Chip}
 use Rattle.ca_flat.specs.Pair.{IsRuledOut}
 use Rattle.ca_flat.specs.Waves.{IsFlatChip}
-use Rattle.ca_flat.specs.Code.{Reading, At, Ended, behind, behind_tree, Rules, Reads, MayBranch}
+use Rattle.ca_flat.specs.Codes.{Reading, At, Ended, behind, behind_tree, Rules, Reads, MayBranch}
 use Rattle.ca_flat.specs.CheckedCode.{IsPlain, IsCheckedLeaf, IsCheckedBranch}
 use Rattle.ca_flat.proofs.Detected.{some_good, some_faulty}
 use Rattle.ca_flat.proofs.Completions.{settled_is_ruled_out_lem}

@@ -11,8 +11,8 @@ use Rattle.ca_flat.specs.declared.token.Token.{Token}
 use Rattle.ca_flat.specs.declared.token.Token.TheVariants.{Branch, Leaf}
 use Rattle.ca_flat.specs.Chip.{Chip}
 use Rattle.ca_flat.specs.Pair.{bit_count}
-use Rattle.ca_flat.specs.Code.{At, Ended, bit_trit, unset_pair, with_bit, behind_tree, branch_count}
-use Rattle.ca_flat.specs.Code.{IsWholeBy}
+use Rattle.ca_flat.specs.Codes.{At, Ended, bit_trit, unset_pair, with_bit, behind_tree, branch_count}
+use Rattle.ca_flat.specs.Codes.{IsWholeBy}
 use Rattle.ca_flat.proofs.Codes.{support_within}
 use Rattle.ca_search.specs.declared.trail.Decision.{Decision}
 use Rattle.ca_search.specs.SearchRules.{rules_for, MayLeaveFor, MayDecideFor}

@@ -6,7 +6,7 @@ use Rattle.std.proofs.lemmas.List.{length-append}
 use Rattle.ca_net.specs.declared.trit.Trit.TheVariants.{X}
 use Rattle.ca_flat.specs.declared.token.Token.TheVariants.{Branch, Leaf}
 use Rattle.ca_flat.specs.Pair.{bit_count}
-use Rattle.ca_flat.specs.Code.{unset_pair, with_bit, branch_count, IsFrontBy, IsSpentBy}
+use Rattle.ca_flat.specs.Codes.{unset_pair, with_bit, branch_count, IsFrontBy, IsSpentBy}
 use Rattle.ca_search.specs.declared.trail.Decision.{Decision}
 use Rattle.ca_search.specs.Judged.{Judged, with_pair, IsSameAim, MayLeaveHere, MayDecideHere}
 use Rattle.ca_search.specs.Tokens.{token_of, tokens_of}

@@ -11,8 +11,8 @@ use Rattle.ca_flat.specs.declared.token.Token.{Token}
 use Rattle.ca_flat.specs.declared.token.Token.TheVariants.{Branch, Leaf}
 use Rattle.ca_flat.specs.Chip.{Chip}
 use Rattle.ca_flat.specs.Pair.{bit_count}
-use Rattle.ca_flat.specs.Code.{Reading, At, Ended, unset_pair, with_bit, behind_tree, behind, Rules, Reads}
-use Rattle.ca_flat.specs.Code.{branch_count}
+use Rattle.ca_flat.specs.Codes.{Reading, At, Ended, unset_pair, with_bit, behind_tree, behind, Rules, Reads}
+use Rattle.ca_flat.specs.Codes.{branch_count}
 use Rattle.ca_flat.proofs.Codes.{bit_itself, bit_other, length-with_bit}
 use Rattle.ca_search.specs.declared.trail.Decision.{Decision}
 use Rattle.ca_search.specs.Steps.{pair_after, later_after, AreFresh}

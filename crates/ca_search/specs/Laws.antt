@@ -5,7 +5,7 @@ use Rattle.ca_flat.specs.declared.chip_defect.ChipDefect.{ChipDefect}
 use Rattle.ca_flat.specs.declared.token.Token.{Token}
 use Rattle.ca_flat.specs.Chip.{Chip}
 use Rattle.ca_flat.specs.Waves.{IsFlatChip}
-use Rattle.ca_flat.specs.Code.{IsWholeBy, IsFrontBy, IsSpentBy, IsWholeCode, IsFront, IsSpentCode}
+use Rattle.ca_flat.specs.Codes.{IsWholeBy, IsFrontBy, IsSpentBy, IsWholeCode, IsFront, IsSpentCode}
 use Rattle.ca_flat.specs.CheckedCode.{checked_rules}
 use Rattle.ca_search.specs.SearchRules.{search_rules}
 

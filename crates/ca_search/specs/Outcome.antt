@@ -1,7 +1,7 @@
 -- What a search answers.
 use Rattle.std.specs.Prelude.{ℕ, List}
 use Rattle.ca_flat.specs.declared.token.Token.{Token}
-use Rattle.ca_flat.specs.Code.{IsWholeBy, IsFrontBy, IsSpentBy}
+use Rattle.ca_flat.specs.Codes.{IsWholeBy, IsFrontBy, IsSpentBy}
 use Rattle.ca_search.specs.declared.trail.Outcome.{Outcome}
 use Rattle.ca_search.specs.declared.trail.Outcome.TheVariants.{Found, Exhausted, Spent}
 use Rattle.ca_search.specs.SearchRules.{rules_for}

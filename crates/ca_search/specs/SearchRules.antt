@@ -5,7 +5,7 @@ use Rattle.std.specs.Prelude.{ℕ, List, Option, None, Some}
 use Rattle.ca_net.specs.declared.trit.Trit.{Trit}
 use Rattle.ca_flat.specs.declared.chip_defect.ChipDefect.{ChipDefect}
 use Rattle.ca_flat.specs.Chip.{Chip}
-use Rattle.ca_flat.specs.Code.{Rules, MayBranch}
+use Rattle.ca_flat.specs.Codes.{Rules, MayBranch}
 pub use Rattle.ca_flat.specs.CheckedCode.{IsPlainPair, MayLeave}
 
 -- a branch is allowed at an open pair that isn't plainly ruled out, on an unset bit of the support

@@ -5,7 +5,7 @@ use Rattle.ca_net.specs.declared.trit.Trit.TheVariants.{X}
 use Rattle.ca_net.specs.State.{value_at}
 use Rattle.ca_flat.specs.declared.token.Token.{Token}
 use Rattle.ca_flat.specs.Pair.{bit_count}
-use Rattle.ca_flat.specs.Code.{At, unset_pair, with_bit, Reads, branch_count, IsWholeBy}
+use Rattle.ca_flat.specs.Codes.{At, unset_pair, with_bit, Reads, branch_count, IsWholeBy}
 use Rattle.ca_search.specs.declared.trail.Decision.{Decision}
 use Rattle.ca_search.specs.declared.walk.Move.{Move}
 use Rattle.ca_search.specs.declared.walk.Move.TheVariants.{Stop, Leave, Branch}

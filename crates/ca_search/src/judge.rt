@@ -14,7 +14,7 @@ pub enum Standing {
 pub trait Judge {
     ghost use Rattle.std.specs.Prelude.{◌≡◌, ◌<◌, ◌≤◌, slice_set, IsSome};
     ghost use Rattle.ca_flat.specs.Pair.{bit_count};
-    ghost use Rattle.ca_flat.specs.Code.{unset_pair};
+    ghost use Rattle.ca_flat.specs.Codes.{unset_pair};
     ghost use Rattle.ca_guide.specs.Seen.{set_trit};
     ghost use Rattle.ca_code.specs.declared.token.TheConstants.{MOST_PATTERN_BITS};
     ghost use Rattle.ca_search.specs.Judged.{Judged, with_pair, IsOpenFor, IsStanding, IsStep};

@@ -1,7 +1,7 @@
 //! The search, and what is kept of it.
 
 ghost use Rattle.std.specs.Prelude.{◌≡◌, ◌≤◌, IfOk, IsSome};
-ghost use Rattle.ca_flat.specs.Code.{branch_count};
+ghost use Rattle.ca_flat.specs.Codes.{branch_count};
 ghost use Rattle.ca_search.specs.Judged.{IsSameAim};
 ghost use Rattle.ca_search.specs.Outcome.{IsOutcome};
 

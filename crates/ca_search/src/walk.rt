@@ -1,7 +1,7 @@
 //! The steps of a search, and the code that is written meanwhile.
 
 ghost use Rattle.std.specs.Prelude.{◌≡◌, ◌+◌, ◌*◌, ◌<◌, ◌≤◌, length, IfOk, IsSome};
-ghost use Rattle.ca_flat.specs.Code.{branch_count};
+ghost use Rattle.ca_flat.specs.Codes.{branch_count};
 ghost use Rattle.ca_search.specs.Judged.{IsSameAim, MayLeaveHere, MayDecideHere};
 ghost use Rattle.ca_search.specs.Tokens.{tokens_of};
 ghost use Rattle.ca_search.specs.Outcome.{IsOutcome};

@@ -22,7 +22,7 @@ use Rattle.ca_table.specs.Gives.{unknown_wave, wave_at}
 use Rattle.ca_flat.specs.Chip.{Chip, Constant, cell_at, inputs_at, outputs_at, output_net, count_of, net_kind}
 use Rattle.ca_flat.specs.Flat.{circuit_in}
 use Rattle.ca_flat.specs.Pair.{bit_count, input_value, constant_value, net_value}
-use Rattle.ca_flat.specs.Code.{unset_pair}
+use Rattle.ca_flat.specs.Codes.{unset_pair}
 use Rattle.ca_flat.proofs.Clashes.{wave_ext}
 use Rattle.ca_flat.proofs.Spots.{body}
 use Rattle.ca_flat.proofs.Undriven.{first_unknown, middle_unknown, last_unknown, not_input}

@@ -5,7 +5,7 @@ use Rattle.ca_net.specs.declared.trit.Trit.{Trit}
 use Rattle.ca_net.specs.State.{value_at}
 use Rattle.ca_flat.specs.Chip.{Chip}
 use Rattle.ca_flat.specs.Chain.{IsBitOf}
-use Rattle.ca_flat.specs.Code.{unset_pair}
+use Rattle.ca_flat.specs.Codes.{unset_pair}
 use Rattle.ca_view.specs.Linked.{Reads}
 use Rattle.ca_sim.specs.Seen.{Seen}
 

@@ -6,7 +6,7 @@ ghost use Rattle.std.specs.Option.{ForSome};
 ghost use Rattle.ca_net.specs.Wave.{pair_of};
 ghost use Rattle.ca_flat.specs.Chip.{count_of, outputs_at, IsChipDefect};
 ghost use Rattle.ca_flat.specs.Pair.{bit_count};
-ghost use Rattle.ca_flat.specs.Code.{unset_pair};
+ghost use Rattle.ca_flat.specs.Codes.{unset_pair};
 ghost use Rattle.ca_view.specs.Linked.{Reads, IsPlaced, IsAim, place_in};
 ghost use Rattle.ca_view.specs.Places.{cell_number};
 

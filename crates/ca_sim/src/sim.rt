@@ -53,7 +53,7 @@ impl<'a> Model for Sim<'a> {
 }
 
 impl<'a> Sim<'a> {
-    ghost use Rattle.ca_flat.specs.Code.{unset_pair};
+    ghost use Rattle.ca_flat.specs.Codes.{unset_pair};
     ghost use Rattle.std.specs.Prelude.{IsTrue};
     ghost use Rattle.ca_view.specs.Linked.{IsAim, IsPlacedDefect, place_in};
     ghost use Rattle.ca_view.specs.Places.{cell_number};

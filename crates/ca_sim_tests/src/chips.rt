@@ -3,12 +3,12 @@
 ghost use Rattle.ca_verilog.specs.IsNetlist.{IsNetlist};
 
 use ca_base::NoMemory;
-use ca_chip::ScanTable;
+use ca_wiring::ScanTable;
 use ca_lex::Text;
 use ca_link::link;
 use ca_spice::read_library;
 use ca_verilog::{RawNetlist, read_netlist};
-use ca_wired::Chip;
+use ca_linked::Chip;
 use itoa::Buffer;
 use std::alloc::Global;
 use std::process::Abort;

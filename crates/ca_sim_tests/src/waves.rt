@@ -8,7 +8,7 @@ use ca_flat::ChipDefect;
 use ca_net::{State, Trit, Wave};
 use ca_sim::{NetWaves, Sim};
 use ca_view::View;
-use ca_wired::Chip;
+use ca_linked::Chip;
 use std::alloc::Global;
 use std::process::Abort;
 

@@ -14,8 +14,8 @@ use Rattle.ca_table.specs.Gives.{wave_at}
 use Rattle.ca_flat.specs.declared.chip_defect.ChipDefect.{ChipDefect}
 use Rattle.ca_flat.specs.Chip as flat
 use Rattle.ca_flat.specs.Simulation.{IsFlattened}
-use Rattle.ca_wired.specs.Linked.{Chip, IsWired}
-use Rattle.ca_wired.proofs.OrderLemmas.{contained_at}
+use Rattle.ca_linked.specs.Linked.{LinkedChip, IsWired}
+use Rattle.ca_linked.proofs.OrderLemmas.{contained_at}
 use Rattle.ca_core.specs.Core.{core_of, rank_of}
 use Rattle.ca_core.proofs.CoreIsChip.{core_is}
 use Rattle.ca_flatten.specs.Few.{IsFew}
@@ -28,7 +28,7 @@ use Rattle.ca_sim.proofs.Exact.{definite_last_is_end_lem}
 use Rattle.ca_view.specs.Places.{AreRanks}
 use Rattle.ca_view.proofs.PartFacts.{library_known}
 use Rattle.ca_view.proofs.RankLemmas.{library_place}
-use Rattle.ca_asked.specs.Asked.{IsLibraryDefect}
+use Rattle.ca_request.specs.Asked.{IsLibraryDefect}
 use Rattle.ca_simulate.specs.Simulated.{AreOutputEnds, AreSimulated}
 use Rattle.ca_simulate.specs.Lasts.{HaveLasts, AreLasts}
 use Rattle.ca_simulate.proofs.RunLemmas.{is_chip_defect}
@@ -53,7 +53,7 @@ lasts_more outputs waves k old new value before is push = record {
   ];
 }
 
-module _ (chip : Chip) (wired : IsWired chip) where
+module _ (chip : LinkedChip) (wired : IsWired chip) where
   -- its instance has a place in the order
   pub aimed_at : (ranks : List ℕ) → AreRanks chip ranks → (given : Option ChipDefect) → IsLibraryDefect chip given
       → IsAim (core_of chip) (place_in ranks) given

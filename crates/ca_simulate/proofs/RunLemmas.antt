@@ -6,7 +6,7 @@ use Rattle.ca_net.specs.declared.trit.Trit.{Trit}
 use Rattle.ca_net.specs.Circuit.{Circuit}
 use Rattle.ca_flat.specs.declared.chip_defect.ChipDefect.{ChipDefect}
 use Rattle.ca_flat.specs.Chip.{IsChipDefect}
-use Rattle.ca_wired.specs.Linked.{Chip}
+use Rattle.ca_linked.specs.Linked.{LinkedChip}
 use Rattle.ca_core.specs.Core.{core_of}
 use Rattle.ca_order.specs.declared.event.Event.{Event}
 use Rattle.ca_order.specs.declared.event.Place.{Place}
@@ -14,11 +14,11 @@ use Rattle.ca_order.specs.declared.event.Place.TheVariants.{Free, Fixed}
 use Rattle.ca_order.specs.Order.{order_of}
 use Rattle.ca_order.specs.Allowed.{ArePlaces}
 use Rattle.ca_chip_replay.specs.ChipRun.{RunOf}
-use Rattle.ca_asked.specs.Asked.{IsLibraryDefect}
+use Rattle.ca_request.specs.Asked.{IsLibraryDefect}
 use Rattle.ca_simulate.specs.OneRun.{ReadsRun, IsFaultyLine}
 
 -- a defect of a library instance is one of the chip
-pub is_chip_defect : (chip : Chip) (given : Option ChipDefect) → IsLibraryDefect chip given
+pub is_chip_defect : (chip : LinkedChip) (given : Option ChipDefect) → IsLibraryDefect chip given
     → IsChipDefect (core_of chip) given
 is_chip_defect chip None is = tt
 is_chip_defect chip (Some given) is = is.0

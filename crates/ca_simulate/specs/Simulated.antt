@@ -6,7 +6,7 @@ use Rattle.ca_net.specs.State.{value_at}
 use Rattle.ca_flat.specs.declared.chip_defect.ChipDefect.{ChipDefect}
 use Rattle.ca_flat.specs.Chip.{Chip}
 use Rattle.ca_flat.specs.Pair.{NetEndsAt}
-use Rattle.ca_asked.specs.Vectors.{trit_of}
+use Rattle.ca_request.specs.Vectors.{trit_of}
 
 -- the partial pair whose first and last vectors have these letters
 abbrev pub pair_of : List ℕ → List ℕ → List Trit

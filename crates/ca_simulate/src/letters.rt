@@ -2,7 +2,7 @@
 
 ghost use Rattle.std.specs.Prelude.{◌+◌, ◌<◌, length};
 
-use ca_asked::{Vectors, trit};
+use ca_request::{Vectors, trit};
 use ca_net::Trit;
 use ca_sim::Bits;
 

@@ -1,20 +1,20 @@
 //! One run between two vectors, as a text names it.
 
 ghost use Rattle.std.specs.Prelude.{◌≡◌, length, IfErr, IfOk};
-ghost use Rattle.ca_wired.specs.Linked.{inputs_of};
+ghost use Rattle.ca_linked.specs.Linked.{inputs_of};
 ghost use Rattle.ca_core.specs.Core.{core_of};
-ghost use Rattle.ca_asked.specs.Asked.{IsLibraryDefect};
+ghost use Rattle.ca_request.specs.Asked.{IsLibraryDefect};
 ghost use Rattle.ca_simulate.specs.Simulated.{pair_of};
 ghost use Rattle.ca_simulate.specs.OneRun.{AreRunEnds, IsRunFault};
 
 use crate::letters::Letters;
-use ca_asked::Vectors;
+use ca_request::Vectors;
 use ca_chip_replay::ChipRun;
 use ca_flat::ChipDefect;
 use ca_net::Trit;
 use ca_order::OrderFault;
 use ca_view::View;
-use ca_wired::Chip;
+use ca_linked::Chip;
 use std::alloc::Global;
 
 /// The values of the observed outputs, in their order, at the end of the run that a text names, good or with

@@ -1,22 +1,22 @@
 //! The values of observed outputs under a pair.
 
 ghost use Rattle.std.specs.Prelude.{◌≡◌, ◌<◌, length, None, IfOk, OnOk};
-ghost use Rattle.ca_wired.specs.Linked.{inputs_of};
+ghost use Rattle.ca_linked.specs.Linked.{inputs_of};
 ghost use Rattle.ca_core.specs.Core.{core_of};
 ghost use Rattle.ca_sim.specs.Seen.{IsExact};
-ghost use Rattle.ca_asked.specs.Asked.{IsLibraryDefect};
+ghost use Rattle.ca_request.specs.Asked.{IsLibraryDefect};
 ghost use Rattle.ca_simulate.specs.Simulated.{pair_of, AreOutputEnds, AreSimulated};
 ghost use Rattle.ca_simulate.specs.Lasts.{AreLasts, AreReady};
 
 use crate::letters::Letters;
-use ca_asked::Vectors;
+use ca_request::Vectors;
 use ca_base::NoMemory;
 use ca_flat::ChipDefect;
 use ca_flatten::judge_size;
 use ca_net::Trit;
 use ca_sim::{NetWaves, Sim};
 use ca_view::View;
-use ca_wired::Chip;
+use ca_linked::Chip;
 use std::alloc::Global;
 
 /// What the observed outputs settle to, in their order, without a defect and with one: X where runs differ or

@@ -11,26 +11,26 @@ use Rattle.std.proofs.lemmas.List.Sums.{fails_before_first}
 use Rattle.std.proofs.lemmas.Option.{slice_get_within, get_or_from_slice_get}
 use Rattle.ca_cell.specs.Library.{Named}
 use Rattle.ca_verilog.specs.declared.raw.RawNetlist.{RawNetlist}
-use Rattle.ca_wired.specs.declared.pins.ScanPin.{ScanPin}
-use Rattle.ca_wired.specs.declared.pins.ScanPin.TheVariants.{Si, So, Se, Ck, Hold}
-use Rattle.ca_wired.specs.declared.parts.ScanNets.{ScanNets}
-use Rattle.ca_wired.specs.declared.parts.Body.{Body}
-use Rattle.ca_wired.specs.declared.parts.Body.TheVariants.{Gate, Scan}
-use Rattle.ca_wired.specs.declared.parts.Part.{Part}
-use Rattle.ca_wired.specs.declared.parts.PortBit.{PortBit}
-use Rattle.ca_wired.specs.declared.parts.Source.TheVariants.{FromPort}
-use Rattle.ca_wired.specs.Linked.{Chip, input_nets, Drives}
-use Rattle.ca_wired.specs.Instances.{HasOnPin, IsScan, net_of_pin, scans_of}
-use Rattle.ca_chip.specs.declared.fault.ChipFault.TheVariants as fault
-use Rattle.ca_chip.specs.declared.scan_row.ScanRow.{ScanRow}
-use Rattle.ca_chip.proofs.ForestLemmas.{joined_trans}
-use Rattle.ca_chip.proofs.SameLemmas.{same_drivers}
-use Rattle.ca_chip.specs.Nets as nets
-use Rattle.ca_chip.specs.Nets.{IsNetOf, AreNetsOf}
-use Rattle.ca_chip.specs.Wiring as meanings
-use Rattle.ca_chip.specs.Wiring.{Meaning, WiredPart, Wiring, wiring_of}
-use Rattle.ca_chip.specs.Linking.{HasMeaning, IsPartOf, IsLinkOf}
-use Rattle.ca_chip.specs.Rules.{KeepsRules, IsOnInputPort, control_names, IsScan as IsScanMeaning}
+use Rattle.ca_linked.specs.declared.pins.ScanPin.{ScanPin}
+use Rattle.ca_linked.specs.declared.pins.ScanPin.TheVariants.{Si, So, Se, Ck, Hold}
+use Rattle.ca_linked.specs.declared.parts.ScanNets.{ScanNets}
+use Rattle.ca_linked.specs.declared.parts.Body.{Body}
+use Rattle.ca_linked.specs.declared.parts.Body.TheVariants.{Gate, Scan}
+use Rattle.ca_linked.specs.declared.parts.Part.{Part}
+use Rattle.ca_linked.specs.declared.parts.PortBit.{PortBit}
+use Rattle.ca_linked.specs.declared.parts.Source.TheVariants.{FromPort}
+use Rattle.ca_linked.specs.Linked.{LinkedChip, input_nets, Drives}
+use Rattle.ca_linked.specs.Instances.{HasOnPin, IsScan, net_of_pin, scans_of}
+use Rattle.ca_wiring.specs.declared.fault.ChipFault.TheVariants as fault
+use Rattle.ca_wiring.specs.declared.scan_row.ScanRow.{ScanRow}
+use Rattle.ca_wiring.proofs.ForestLemmas.{joined_trans}
+use Rattle.ca_wiring.proofs.SameLemmas.{same_drivers}
+use Rattle.ca_wiring.specs.Nets as nets
+use Rattle.ca_wiring.specs.Nets.{IsNetOf, AreNetsOf}
+use Rattle.ca_wiring.specs.Wiring as meanings
+use Rattle.ca_wiring.specs.Wiring.{Meaning, WiredPart, Wiring, wiring_of}
+use Rattle.ca_wiring.specs.Linking.{HasMeaning, IsPartOf, IsLinkOf}
+use Rattle.ca_wiring.specs.Rules.{KeepsRules, IsOnInputPort, control_names, IsScan as IsScanMeaning}
 use Rattle.ca_scan.specs.Chain.{IsOnPin, IsOut, RunsOut, IsChainFrom, IsScanAt}
 use Rattle.ca_scan.specs.Chain.{count_of, ends_of}
 use Rattle.ca_scan.specs.ChainFault.{AreAllChains}
@@ -56,7 +56,7 @@ of_there : {X : Type 0} (P : X → Type 0) (xs : List X) (k : ℕ) (x : X) → s
 of_there P xs k x at has = subst (λ found. IsSomeAnd found P) at has
 
 -- the name at a pin is that of the first port bit on its net
-pin_name : (chip : Chip) (input : Bool) (pin : ScanPin) (u net : ℕ) → IsOnPin chip pin u net
+pin_name : (chip : LinkedChip) (input : Bool) (pin : ScanPin) (u net : ℕ) → IsOnPin chip pin u net
     → name_at chip input pin u ≡ name_of (port_on input net chip.ports)
 pin_name chip input pin u net on = by (slice_get chip.parts u) refl on
   where
@@ -75,7 +75,7 @@ in_counted net port input is =
     subst (λ list. 1 ≤ count_of net list) (sym (λ j. if input j then port.net ∷ [] else [])) (count_here net port.net is)
 
 -- the scan-in port of a chain is the bit at which it begins
-chain_in : (chip : Chip) (p : ℕ) (port : PortBit) (chain : List ℕ) → slice_get chip.ports p ≡ Some port → IsChainFrom chip p chain
+chain_in : (chip : LinkedChip) (p : ℕ) (port : PortBit) (chain : List ℕ) → slice_get chip.ports p ≡ Some port → IsChainFrom chip p chain
     → (port.is_input ≡ true) × ((chain_of chip chain).scan_in ≡ port.name)
 chain_in chip p port chain at whole = by chain whole.some whole.runs
   where
@@ -101,17 +101,17 @@ chain_in chip p port chain at whole = by chain whole.some whole.runs
         (here.0, pin_name chip true Si u net runs.2 ∙ ap name_of found.is ∙ ap (λ (q : PortBit). q.name) same)
 
 -- the last scan instance of a run is on an output port
-record HasEnd (chip : Chip) (u : ℕ) : Type 0 where
+record HasEnd (chip : LinkedChip) (u : ℕ) : Type 0 where
   pub net : ℕ
   pub on : IsOnPin chip So u net
   pub out : IsOut chip net
 
-run_end : (chip : Chip) (u : ℕ) (chain : List ℕ) (next : ℕ) → IsOnPin chip So u next → RunsOut chip next chain
+run_end : (chip : LinkedChip) (u : ℕ) (chain : List ℕ) (next : ℕ) → IsOnPin chip So u next → RunsOut chip next chain
     → HasEnd chip (get_or (u ∷ chain) (length chain) 0)
 run_end chip u [] next on runs = record { net = next; on = on; out = runs.1 }
 run_end chip u (v ∷ chain) next on runs = run_end chip v chain runs.0 runs.3 runs.4
 
-chain_end : (chip : Chip) (net : ℕ) (chain : List ℕ) → 1 ≤ length chain → RunsOut chip net chain
+chain_end : (chip : LinkedChip) (net : ℕ) (chain : List ℕ) → 1 ≤ length chain → RunsOut chip net chain
     → HasEnd chip (slice_index chain (length chain - 1))
 chain_end chip net [] some runs = absurd (omega (arith, some))
 chain_end chip net (u ∷ chain) some runs =
@@ -119,7 +119,7 @@ chain_end chip net (u ∷ chain) some runs =
     subst (λ k. HasEnd chip (slice_index (u ∷ chain) k)) count (run_end chip u chain runs.0 runs.3 runs.4)
 
 -- so its scan-out port is an output
-chain_out : (chip : Chip) (p : ℕ) (chain : List ℕ) → IsChainFrom chip p chain
+chain_out : (chip : LinkedChip) (p : ℕ) (chain : List ℕ) → IsChainFrom chip p chain
     → list_any (bytes_eq (chain_of chip chain).scan_out) (pool false chip.ports) ≡ true
 chain_out chip p chain whole =
     let last = chain_end chip whole.net chain whole.some whole.runs in
@@ -137,14 +137,14 @@ listed P [] each = tt
 listed P (None ∷ found) each = listed P found (λ p. each (suc p))
 listed P (Some chain ∷ found) each = (each 0 chain refl, listed P found (λ p. each (suc p)))
 
-each_chain : (P : List ℕ → Type 0) (chip : Chip) (chains : List (List ℕ)) → AreAllChains chip chains
+each_chain : (P : List ℕ → Type 0) (chip : LinkedChip) (chains : List (List ℕ)) → AreAllChains chip chains
     → ((p : ℕ) (chain : List ℕ) → IsChainFrom chip p chain → P chain) → AllByRecursion P chains
 each_chain P chip chains all holds =
     subst (AllByRecursion P) (sym all.are.all)
     (listed P all.are.at_port (λ p chain at. holds p chain (all.are.each p (Some chain) at)))
 
 -- scan instances of a chain
-scan_on_pin : (chip : Chip) (u net : ℕ) → IsOnPin chip Si u net → IsScanAt chip u
+scan_on_pin : (chip : LinkedChip) (u net : ℕ) → IsOnPin chip Si u net → IsScanAt chip u
 scan_on_pin chip u net there = by (slice_get chip.parts u) there
   where
     of_body : (body : Body) → HasOnPin Si net body → IsScan body
@@ -155,7 +155,7 @@ scan_on_pin chip u net there = by (slice_get chip.parts u) there
     by None is = is
     by (Some part) is = of_body part.body is
 
-place_within : (chip : Chip) (u : ℕ) → IsScanAt chip u → place_of chip u < length (scans_of chip)
+place_within : (chip : LinkedChip) (u : ℕ) → IsScanAt chip u → place_of chip u < length (scans_of chip)
 place_within chip u there =
     let place = scan_place chip u there in
     elim (cases_lt place.0 (place_of chip u)) [
@@ -169,19 +169,19 @@ place_within chip u there =
           omega (arith, not_before, lt)
     ]
 
-run_places : (chip : Chip) (net : ℕ) (chain : List ℕ) → RunsOut chip net chain
+run_places : (chip : LinkedChip) (net : ℕ) (chain : List ℕ) → RunsOut chip net chain
     → AllByRecursion (λ place. place < length (scans_of chip)) (map (place_of chip) chain)
 run_places chip net [] runs = tt
 run_places chip net (u ∷ chain) runs =
     (place_within chip u (scan_on_pin chip u net runs.2), run_places chip runs.0 chain runs.4)
 
 -- the chains in the words of the text
-chains_seen : (P : List ℕ → Type 0) (Q : StilChain → Type 0) (chip : Chip) → ((chain : List ℕ) → P chain → Q (chain_of chip chain))
+chains_seen : (P : List ℕ → Type 0) (Q : StilChain → Type 0) (chip : LinkedChip) → ((chain : List ℕ) → P chain → Q (chain_of chip chain))
     → (chains : List (List ℕ)) → AllByRecursion P chains → AllByRecursion Q (map (chain_of chip) chains)
 chains_seen P Q chip gives [] all = tt
 chains_seen P Q chip gives (chain ∷ chains) all = (gives chain all.0, chains_seen P Q chip gives chains all.1)
 
-pub chains_within : (chip : Chip) (chains : List (List ℕ)) → AreAllChains chip chains
+pub chains_within : (chip : LinkedChip) (chains : List (List ℕ)) → AreAllChains chip chains
     → All (IsWithin (length (scans_of chip))) (map (chain_of chip) chains)
 chains_within chip chains all =
     from_recursion (IsWithin (length (scans_of chip))) (map (chain_of chip) chains)
@@ -199,7 +199,7 @@ longest_up_to most (chain ∷ chains) all =
     let later = longest_up_to most chains all.1 in
     omega (arith, here, later)
 
-pub chains_short : (chip : Chip) (chains : List (List ℕ)) → AreAllChains chip chains → longest (map (chain_of chip) chains) ≤ length chip.parts
+pub chains_short : (chip : LinkedChip) (chains : List (List ℕ)) → AreAllChains chip chains → longest (map (chain_of chip) chains) ≤ length chip.parts
 chains_short chip chains all =
     longest_up_to (length chip.parts) (map (chain_of chip) chains)
     (chains_seen (λ chain. length chain ≤ length chip.parts) (λ (chain : StilChain). length chain.places ≤ length chip.parts) chip
@@ -207,7 +207,7 @@ chains_short chip chains all =
     (each_chain (λ chain. length chain ≤ length chip.parts) chip chains all
     (λ p chain whole. run_length chip whole.net chain whole.runs)))
 
-cells_some : (chip : Chip) (chains : List (List ℕ)) → AreAllChains chip chains
+cells_some : (chip : LinkedChip) (chains : List (List ℕ)) → AreAllChains chip chains
     → All (λ (chain : StilChain). 1 ≤ length chain.places) (map (chain_of chip) chains)
 cells_some chip chains all =
     from_recursion (λ (chain : StilChain). 1 ≤ length chain.places) (map (chain_of chip) chains)
@@ -216,12 +216,12 @@ cells_some chip chains all =
     (each_chain (λ chain. 1 ≤ length chain) chip chains all (λ p chain whole. whole.some)))
 
 -- the scan-in ports are in the order of the header
-ins_seen : (chip : Chip) (chains : List (List ℕ)) → map (λ (chain : StilChain). chain.scan_in) (map (chain_of chip) chains)
+ins_seen : (chip : LinkedChip) (chains : List (List ℕ)) → map (λ (chain : StilChain). chain.scan_in) (map (chain_of chip) chains)
     ≡ map (λ chain. (chain_of chip chain).scan_in) chains
 ins_seen chip [] = refl
 ins_seen chip (chain ∷ chains) = ap (λ more. (chain_of chip chain).scan_in ∷ more) (ins_seen chip chains)
 
-ins_among : (chip : Chip) (chains : List (List ℕ)) → AreAllChains chip chains
+ins_among : (chip : LinkedChip) (chains : List (List ℕ)) → AreAllChains chip chains
     → is_among (map (λ (chain : StilChain). chain.scan_in) (map (chain_of chip) chains)) (pool true chip.ports) ≡ true
 ins_among chip chains all =
     ap (λ names. is_among names (pool true chip.ports))
@@ -230,7 +230,7 @@ ins_among chip chains all =
     (λ p port chain at there. chain_in chip p port chain at (all.are.each p (Some chain) there))
 
 -- the scan-out ports are outputs
-outs_all : (chip : Chip) (chains : List (List ℕ))
+outs_all : (chip : LinkedChip) (chains : List (List ℕ))
     → AllByRecursion (λ chain. list_any (bytes_eq (chain_of chip chain).scan_out) (pool false chip.ports) ≡ true) chains
     → all_in (pool false chip.ports) (map (λ (chain : StilChain). chain.scan_out) (map (chain_of chip) chains)) ≡ true
 outs_all chip [] all = refl
@@ -239,7 +239,7 @@ outs_all chip (chain ∷ chains) all =
     let later = outs_all chip chains all.1 in
     λ j. here j && later j
 
-outs_in : (chip : Chip) (chains : List (List ℕ)) → AreAllChains chip chains
+outs_in : (chip : LinkedChip) (chains : List (List ℕ)) → AreAllChains chip chains
     → all_in (pool false chip.ports) (map (λ (chain : StilChain). chain.scan_out) (map (chain_of chip) chains)) ≡ true
 outs_in chip chains all =
     outs_all chip chains (each_chain (λ chain. list_any (bytes_eq (chain_of chip chain).scan_out) (pool false chip.ports) ≡ true) chip chains all
@@ -262,7 +262,7 @@ wire_at wiring list (wire ∷ wires) (first ∷ given) (suc k) net are at =
     let found = wire_at wiring list wires given k net are.1 at in
     record { wire = found.wire; at = found.at; is_net = found.is_net }
 
-module _ (netlist : RawNetlist) (library : List Named) (scan : List ScanRow) (chip : Chip)
+module _ (netlist : RawNetlist) (library : List Named) (scan : List ScanRow) (chip : LinkedChip)
     (kept : KeepsRules netlist library scan) (link : IsLinkOf (wiring_of netlist library scan) chip) where
   abbrev wiring : Wiring
   wiring = wiring_of netlist library scan

@@ -22,12 +22,12 @@ use Rattle.ca_syntax.specs.Symbols.{item_symbols, module_symbols}
 use Rattle.ca_syntax.specs.Names.{names_in}
 use Rattle.ca_syntax.specs.TreeNetlist.{bus_in, buses_of, tree_netlist}
 use Rattle.ca_syntax.specs.Laws.{IsTreeOf, ReadTextHasTree}
-use Rattle.ca_wired.specs.declared.parts.PortBit.{PortBit}
-use Rattle.ca_wired.specs.Linked.{Chip}
-use Rattle.ca_chip.specs.declared.scan_row.ScanRow.{ScanRow}
-use Rattle.ca_chip.specs.Wiring.{HeaderBit, index_at, bit_name, is_input_port, header_bits_from, header_bits_of}
-use Rattle.ca_chip.specs.Wiring.{header_bits, wiring_of}
-use Rattle.ca_chip.specs.Linking.{IsLinkOf}
+use Rattle.ca_linked.specs.declared.parts.PortBit.{PortBit}
+use Rattle.ca_linked.specs.Linked.{LinkedChip}
+use Rattle.ca_wiring.specs.declared.scan_row.ScanRow.{ScanRow}
+use Rattle.ca_wiring.specs.Wiring.{HeaderBit, index_at, bit_name, is_input_port, header_bits_from, header_bits_of}
+use Rattle.ca_wiring.specs.Wiring.{header_bits, wiring_of}
+use Rattle.ca_wiring.specs.Linking.{IsLinkOf}
 use Rattle.ca_stil_form.specs.Frame.{is_name_byte, is_name}
 use Rattle.ca_stil_laws.proofs.ListLemmas.{all_at, also_there}
 use Rattle.ca_stil_laws.proofs.SymbolLemmas.{IsNamedSymbol, symbols_named}
@@ -197,7 +197,7 @@ header_named buses (place ∷ ports) named =
     by (Some bus) at = bits_named bus _ 0 (range_width bus.range) (all_at IsNamedBus buses place bus named at)
 
 -- the port bits
-pub ports_named : NamesArePlain → ReadTextHasTree → (text : List ℕ) (netlist : RawNetlist) (library : List Named) (scan : List ScanRow) (chip : Chip)
+pub ports_named : NamesArePlain → ReadTextHasTree → (text : List ℕ) (netlist : RawNetlist) (library : List Named) (scan : List ScanRow) (chip : LinkedChip)
     → netlist_of text ≡ Ok netlist → IsLinkOf (wiring_of netlist library scan) chip → All (λ (port : PortBit). IsName port.name) chip.ports
 ports_named plain has_tree text netlist library scan chip read link k d below =
     let header = header_named netlist.buses netlist.ports (netlist_named plain has_tree text netlist read) in

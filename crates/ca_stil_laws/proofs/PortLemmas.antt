@@ -7,9 +7,9 @@ use Rattle.std.specs.Str.{bytes_eq}
 use Rattle.std.proofs.lemmas.Bool.{or_right, eqb-true, eq-eqb}
 use Rattle.std.proofs.lemmas.Slice.Eq.{bytes_eq-Decides}
 use Rattle.ca_stil.specs.declared.chip.Signal as code
-use Rattle.ca_wired.specs.declared.parts.PortBit.{PortBit}
-use Rattle.ca_wired.specs.Linked.{Chip, is_scan_path}
-use Rattle.ca_wired.specs.Paths.{is_port_on}
+use Rattle.ca_linked.specs.declared.parts.PortBit.{PortBit}
+use Rattle.ca_linked.specs.Linked.{LinkedChip, is_scan_path}
+use Rattle.ca_linked.specs.Paths.{is_port_on}
 use Rattle.ca_stil_form.specs.Frame.{Names, goes, names_of, is_among}
 use Rattle.ca_stil_form.specs.Allowed.{signal_names}
 use Rattle.ca_chip_stil.specs.Sites.{if_data_port}
@@ -201,7 +201,7 @@ unfolding is_among
 among_none others = refl
 
 -- the bits of data ports are in order
-pub data_among : (chip : Chip) (input : Bool) (ports : List PortBit)
+pub data_among : (chip : LinkedChip) (input : Bool) (ports : List PortBit)
     → is_among (chips.names_of (flat_map (if_data_port chip input) ports)) (pool input ports) ≡ true
 data_among chip input [] = among_none (pool input [])
 data_among chip input (first ∷ ports) =

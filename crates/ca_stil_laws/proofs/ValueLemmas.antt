@@ -7,10 +7,10 @@ use Rattle.std.proofs.lemmas.List.Elements.{All-map}
 use Rattle.ca_net.specs.declared.trit.Trit.{Trit}
 use Rattle.ca_cell.specs.Library.{Named}
 use Rattle.ca_verilog.specs.declared.raw.RawNetlist.{RawNetlist}
-use Rattle.ca_wired.specs.declared.parts.PortBit.{PortBit}
-use Rattle.ca_wired.specs.Linked.{Chip, inputs_of, outputs_of}
-use Rattle.ca_wired.specs.Instances.{scans_of}
-use Rattle.ca_chip.specs.declared.scan_row.ScanRow.{ScanRow}
+use Rattle.ca_linked.specs.declared.parts.PortBit.{PortBit}
+use Rattle.ca_linked.specs.Linked.{LinkedChip, inputs_of, outputs_of}
+use Rattle.ca_linked.specs.Instances.{scans_of}
+use Rattle.ca_wiring.specs.declared.scan_row.ScanRow.{ScanRow}
 use Rattle.ca_scan.specs.ChainFault.{AreAllChains}
 use Rattle.ca_stil.specs.declared.chip.Signal as code
 use Rattle.ca_stil.specs.declared.chip.StilChip.{StilChip}
@@ -31,7 +31,7 @@ use Rattle.ca_stil_laws.proofs.PortLemmas.{data_among}
 use Rattle.ca_stil_laws.proofs.ChipLemmas.{chains_within, chains_short, scan_groups}
 
 -- how many ends there are of each direction
-pub site_count : (chip : Chip) (input : Bool) (list : List ℕ) → map (site_net chip input) (sites_of chip input) ≡ list
+pub site_count : (chip : LinkedChip) (input : Bool) (list : List ℕ) → map (site_net chip input) (sites_of chip input) ≡ list
     → length (chips.names_of (data_ports chip input)) + length (scans_of chip) ≡ length list
 site_count chip input list are =
     let both = length-append (map AtPort (data_ports chip input)) (map InScan (scans_of chip)) in
@@ -43,7 +43,7 @@ site_count chip input list are =
     omega (arith, both, ports, scans, named, all, counted)
 
 -- pairs and expected values of the chip are of its text
-pub of_text : SetSitesAreInputs → SeenSitesAreOutputs → (chip : Chip) (chains : List (List ℕ)) (pairs : List (List Bool)) (expected : List (List Trit))
+pub of_text : SetSitesAreInputs → SeenSitesAreOutputs → (chip : LinkedChip) (chains : List (List ℕ)) (pairs : List (List Bool)) (expected : List (List Trit))
     → AreOfChip chip chains pairs expected → AreOf (stil_chip chip chains) pairs expected
 of_text set seen chip chains pairs expected of = record {
   chains = chains_within chip chains of.chains_are;
@@ -58,7 +58,7 @@ of_text set seen chip chains pairs expected of = record {
   counted = of.counted;
 }
 
-short : (netlist : RawNetlist) (library : List Named) (scan : List ScanRow) (chip : Chip) (chains : List (List ℕ))
+short : (netlist : RawNetlist) (library : List Named) (scan : List ScanRow) (chip : LinkedChip) (chains : List (List ℕ))
     → IsNamedLink netlist library scan chip → AreAllChains chip chains → longest (map (chain_of chip) chains) < 2 ^ 64
 short netlist library scan chip chains from all =
     let up_to = chains_short chip chains all in
@@ -66,7 +66,7 @@ short netlist library scan chip chains from all =
     omega (arith, up_to, few)
 
 -- the chip has the names and the groups of the form
-named_chip : (netlist : RawNetlist) (library : List Named) (scan : List ScanRow) (chip : Chip) (chains : List (List ℕ))
+named_chip : (netlist : RawNetlist) (library : List Named) (scan : List ScanRow) (chip : LinkedChip) (chains : List (List ℕ))
     → IsNamedLink netlist library scan chip → AreAllChains chip chains → IsNamedChip (stil_chip chip chains)
 named_chip netlist library scan chip chains from all = record {
   named = All-map (λ (signal : code.Signal). is_name signal.name ≡ true) signal_of chip.ports from.named;

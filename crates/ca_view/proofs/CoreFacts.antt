@@ -3,15 +3,15 @@ use Rattle.std.proofs.Common.{◌≡◌, ℕ, ◌<◌, length, sym, ◌∙◌, a
 use Rattle.std.specs.Prelude.{slice_get, Some, Option, None, refl}
 use Rattle.std.proofs.lemmas.List.{length-map}
 use Rattle.ca_cell.specs.Raw.{is_input, role_count}
-use Rattle.ca_wired.specs.declared.parts.Part.{Part}
-use Rattle.ca_wired.specs.Linked.{Chip, gate_inputs, IsWired}
+use Rattle.ca_linked.specs.declared.parts.Part.{Part}
+use Rattle.ca_linked.specs.Linked.{LinkedChip, gate_inputs, IsWired}
 use Rattle.ca_flat.specs.Chip.{Instance, inputs_at, net_of, count_of}
 use Rattle.ca_core.specs.Core.{core_net, core_instance, core_of, empty_cell}
 use Rattle.ca_core.proofs.CoreIsChip.{body_of}
 use Rattle.ca_core.proofs.CorePartLemmas.{core_at, read_pin, read_count}
 
 -- the core has an instance for each of the chip
-pub core_count : (chip : Chip) → count_of (core_of chip) ≡ length chip.parts
+pub core_count : (chip : LinkedChip) → count_of (core_of chip) ≡ length chip.parts
 core_count chip = length-map chip.parts (λ (p : Part). core_instance chip p.body)
 
 -- a cell without devices has no input pin
@@ -19,7 +19,7 @@ pub no_pin : (qn : Option ℕ) → role_count is_input (empty_cell qn).pins ≡ 
 no_pin None = refl
 no_pin (Some net) = refl
 
-module _ (chip : Chip) (is : IsWired chip) where
+module _ (chip : LinkedChip) (is : IsWired chip) where
   -- the input pins of the core's instance are those that its body reads
   pub inputs_are : (u : ℕ) (part : Part) → slice_get chip.parts u ≡ Some part → inputs_at (core_of chip) u ≡ length (gate_inputs part.body)
   inputs_are u part at =

@@ -10,13 +10,13 @@ use Rattle.std.proofs.lemmas.List.Elements.{Contains-append_cases, Contains-appe
 use Rattle.std.proofs.lemmas.List.Elements.{Contains-push_cases}
 use Rattle.std.proofs.lemmas.Option.{slice_get_within, slice_get-get_or, get_or_from_slice_get}
 use Rattle.std.proofs.lemmas.Bool.{cases_lt, eqb-true, eqb-false}
-use Rattle.ca_wired.specs.declared.parts.Body.{Body}
-use Rattle.ca_wired.specs.declared.parts.Part.{Part}
-use Rattle.ca_wired.specs.declared.parts.PortBit.{PortBit}
-use Rattle.ca_wired.specs.declared.parts.Body.TheVariants.{Gate, Scan}
-use Rattle.ca_wired.specs.Linked.{Chip, net_count, is_scan_path, data_nets, port_nets, q_nets, inputs_of}
-use Rattle.ca_wired.specs.Linked.{outputs_of, IsWired}
-use Rattle.ca_wired.proofs.OrderLemmas.{contained_at}
+use Rattle.ca_linked.specs.declared.parts.Body.{Body}
+use Rattle.ca_linked.specs.declared.parts.Part.{Part}
+use Rattle.ca_linked.specs.declared.parts.PortBit.{PortBit}
+use Rattle.ca_linked.specs.declared.parts.Body.TheVariants.{Gate, Scan}
+use Rattle.ca_linked.specs.Linked.{LinkedChip, net_count, is_scan_path, data_nets, port_nets, q_nets, inputs_of}
+use Rattle.ca_linked.specs.Linked.{outputs_of, IsWired}
+use Rattle.ca_linked.proofs.OrderLemmas.{contained_at}
 use Rattle.ca_core.specs.Core.{core_net, core_of}
 use Rattle.ca_core.specs.Numbers.{Numbers, AreCoreNumbers}
 use Rattle.ca_core.proofs.CoreLemmas.{IsOutside}
@@ -39,7 +39,7 @@ q_is_data (Scan nets) net has =
     let first : has.0 ≡ 0 = let lt = has.1 in omega arith in
     (1, omega arith, ap (λ k. get_or (nets.q ∷ []) k net) (sym first) ∙ has.2)
 
-module _ (chip : Chip) (is : IsWired chip) where
+module _ (chip : LinkedChip) (is : IsWired chip) where
   -- the nets of chip inputs are off the scan path
   pub inputs_outside : (net : ℕ) → Contains (inputs_of chip) net → (net < net_count chip) × IsOutside chip net
   inputs_outside net has = elim (Contains-append_cases (port_nets chip true) (flat_map (λ (p : Part). q_nets p.body) chip.parts) net has) [
@@ -103,11 +103,11 @@ module _ (chip : Chip) (is : IsWired chip) where
       subst (λ n. n < length (core_of chip).nets) (sym (get_or-map (core_net chip) (inputs_of chip) i 0 d within)) (number_within chip is net off.0 off.1)
 
 -- nor is an observed output on another
-pub core_outputs_within : (chip : Chip) → IsWired chip → All (λ net. net < length (core_of chip).nets) (core_of chip).outputs
+pub core_outputs_within : (chip : LinkedChip) → IsWired chip → All (λ net. net < length (core_of chip).nets) (core_of chip).outputs
 core_outputs_within chip is o d lt = (core_is chip is).observed (get_or (core_of chip).outputs o d) (o, lt, get_or_default (core_of chip).outputs o (get_or (core_of chip).outputs o d) d lt)
 
 -- so each is below the number of nets of the core
-pub numbers_cover : (chip : Chip) → IsWired chip → (numbers : Numbers) (count : ℕ) (outputs : List ℕ) → AreCoreNumbers chip numbers
+pub numbers_cover : (chip : LinkedChip) → IsWired chip → (numbers : Numbers) (count : ℕ) (outputs : List ℕ) → AreCoreNumbers chip numbers
     → count ≡ numbers.count → outputs ≡ (core_of chip).outputs → All (λ net. net < count) outputs
 numbers_cover chip is numbers count outputs are counted same =
     subst (λ n. All (λ net. net < n) outputs) (sym (counted ∙ are.total))
@@ -161,5 +161,5 @@ next_marked count xs marks o are within below =
     subst (λ (l : List ℕ). AreMarked count l (set marks (get_or xs o 0) true)) (sym (take_more xs o 0 within))
     (marked_more count (get_or xs o 0) (take o xs) marks are below)
 
-pub core_length : (chip : Chip) (xs : List ℕ) (i net : ℕ) → slice_get xs i ≡ Some net → i < length (map (core_net chip) xs)
+pub core_length : (chip : LinkedChip) (xs : List ℕ) (i net : ℕ) → slice_get xs i ≡ Some net → i < length (map (core_net chip) xs)
 core_length chip xs i net at = let l = length-map xs (core_net chip) in let within = slice_get_within xs i net at in omega arith

@@ -14,16 +14,16 @@ use Rattle.std.proofs.lemmas.Bool.{cases_lt, ne_eqb}
 use Rattle.ca_net.specs.declared.scale.TheConstants.{OUTPUT_NET}
 use Rattle.ca_net.specs.declared.trit.Trit.{Trit}
 use Rattle.ca_net.specs.declared.node.NodeKind.TheVariants as node
-use Rattle.ca_wired.specs.declared.parts.Body.{Body}
-use Rattle.ca_wired.specs.declared.parts.Part.{Part}
-use Rattle.ca_wired.specs.declared.parts.PortBit.{PortBit}
-use Rattle.ca_wired.specs.declared.parts.Source.{Source}
-use Rattle.ca_wired.specs.declared.parts.Source.TheVariants.{FromPort, FromConstant, FromPin}
-use Rattle.ca_wired.specs.declared.parts.Body.TheVariants.{Gate, Scan}
-use Rattle.ca_wired.specs.Linked.{Chip, net_count, constant_net, has, is_scan_path, data_nets, output_nets}
-use Rattle.ca_wired.specs.Linked.{port_nets, q_nets, inputs_of, Drives, IsWired}
-use Rattle.ca_wired.specs.Instances.{IsScan}
-use Rattle.ca_wired.proofs.PartLemmas.{has_contains}
+use Rattle.ca_linked.specs.declared.parts.Body.{Body}
+use Rattle.ca_linked.specs.declared.parts.Part.{Part}
+use Rattle.ca_linked.specs.declared.parts.PortBit.{PortBit}
+use Rattle.ca_linked.specs.declared.parts.Source.{Source}
+use Rattle.ca_linked.specs.declared.parts.Source.TheVariants.{FromPort, FromConstant, FromPin}
+use Rattle.ca_linked.specs.declared.parts.Body.TheVariants.{Gate, Scan}
+use Rattle.ca_linked.specs.Linked.{LinkedChip, net_count, constant_net, has, is_scan_path, data_nets, output_nets}
+use Rattle.ca_linked.specs.Linked.{port_nets, q_nets, inputs_of, Drives, IsWired}
+use Rattle.ca_linked.specs.Instances.{IsScan}
+use Rattle.ca_linked.proofs.PartLemmas.{has_contains}
 use Rattle.ca_flat.specs.Chip.{Constant, net_kind}
 use Rattle.ca_flat.specs.Pair.{constant_value}
 use Rattle.ca_core.specs.Core.{core_net, stored_nets, trit_of, constant_on, in_net_order, core_constants}
@@ -78,13 +78,13 @@ from_piece {X} f small (x ∷ xs) i n at = by (λ j there. from_piece f small xs
         }
     by later (m ∷ k ∷ rest) e few j there = absurd (omega arith)
 
-abbrev port_piece : Chip → PortBit → List ℕ
+abbrev port_piece : LinkedChip → PortBit → List ℕ
 port_piece chip port = if (if port.is_input then true else not true) && not (is_scan_path chip port.net) then port.net ∷ [] else []
 
 abbrev q_piece : Part → List ℕ
 q_piece part = q_nets part.body
 
-few_port : (chip : Chip) (port : PortBit) → length (port_piece chip port) ≤ 1
+few_port : (chip : LinkedChip) (port : PortBit) → length (port_piece chip port) ≤ 1
 few_port chip port = by port.is_input (is_scan_path chip port.net)
   where
     by : (input path : Bool) → length (if (if input then true else not true) && not path then port.net ∷ [] else []) ≤ 1
@@ -101,12 +101,12 @@ few_q part = by part.body
     by (Scan nets) = omega arith
 
 -- an input port bit off the scan path
-record IsPortInput (chip : Chip) (port : PortBit) (net : ℕ) : Type 0 where
+record IsPortInput (chip : LinkedChip) (port : PortBit) (net : ℕ) : Type 0 where
   is_input : IsTrue port.is_input
   on : port.net ≡ net
   outside : IsOutside chip net
 
-port_gives : (chip : Chip) (port : PortBit) (net : ℕ) → port_piece chip port ≡ net ∷ [] → IsPortInput chip port net
+port_gives : (chip : LinkedChip) (port : PortBit) (net : ℕ) → port_piece chip port ≡ net ∷ [] → IsPortInput chip port net
 port_gives chip port net gives = by port.is_input (is_scan_path chip port.net) refl refl gives
   where
     by : (input path : Bool) → port.is_input ≡ input → is_scan_path chip port.net ≡ path
@@ -119,19 +119,19 @@ port_gives chip port net gives = by port.is_input (is_scan_path chip port.net) r
     by false false e f there = absurd cc
 
 -- the number of chip inputs before that of a port or of a scan instance
-abbrev inputs_before : Chip → Source → ℕ
+abbrev inputs_before : LinkedChip → Source → ℕ
 inputs_before chip (FromPort p) = length (flat_map (port_piece chip) (take p chip.ports))
 inputs_before chip (FromConstant value) = 0
 inputs_before chip (FromPin u pin) = length (port_nets chip true) + length (flat_map q_piece (take u chip.parts))
 
 -- what drives a net of a chip input or a constant isn't an output pin that the core has
-abbrev IsNoStored : Chip → Source → Type 0
+abbrev IsNoStored : LinkedChip → Source → Type 0
 IsNoStored chip source =
     (u : ℕ) (part : Part) (output : ℕ) → slice_get chip.parts u ≡ Some part → output < length (stored_nets part.body)
     → source ≡ FromPin u (first_stored part.body + output) → ⊥
 
 -- the net of a chip input, and what drives it
-pub record IsInputAt (chip : Chip) (i net : ℕ) : Type 0 where
+pub record IsInputAt (chip : LinkedChip) (i net : ℕ) : Type 0 where
   pub source : Source
   pub drives : Drives chip net source
   pub before : i ≡ inputs_before chip source
@@ -147,7 +147,7 @@ q_gives (Scan nets) net gives =
     (tt, (1, omega arith, same), ap Some same)
 
 -- no more nets are off the scan path than there are
-few_core : (chip : Chip) (count : ℕ) → core_net chip count ≤ count
+few_core : (chip : LinkedChip) (count : ℕ) → core_net chip count ≤ count
 unfolding core_net
 few_core chip zero = omega arith
 few_core chip (suc n) = by (is_scan_path chip n) (few_core chip n)
@@ -156,7 +156,7 @@ few_core chip (suc n) = by (is_scan_path chip n) (few_core chip n)
     by true le = omega arith
     by false le = omega arith
 
-module _ (chip : Chip) (is : IsWired chip) where
+module _ (chip : LinkedChip) (is : IsWired chip) where
   of_port : (i net : ℕ) → slice_get (port_nets chip true) i ≡ Some net → IsInputAt chip i net
   of_port i net at =
       let found = from_piece (port_piece chip) (few_port chip) chip.ports i net at in

@@ -3,12 +3,12 @@ use Rattle.std.proofs.Common.{◌≡◌, ℕ, ◌-◌, ◌^◌, ◌<◌, ◌≤�
 use Rattle.std.specs.Prelude.{slice_get, IsSomeAnd, Option, Some, None}
 use Rattle.std.proofs.lemmas.Option.{same_Some}
 use Rattle.ca_cell.specs.Raw.{circuit_of}
-use Rattle.ca_wired.specs.declared.parts.Body.{Body}
-use Rattle.ca_wired.specs.declared.parts.Part.{Part}
-use Rattle.ca_wired.specs.declared.parts.Body.TheVariants.{Gate, Scan}
-use Rattle.ca_wired.specs.Linked.{Chip, cell_of, gate_inputs, IsGate, IsLibrary, IsWired}
-use Rattle.ca_wired.specs.Instances.{IsOfCell}
-use Rattle.ca_wired.proofs.CellLemmas.{gate_within}
+use Rattle.ca_linked.specs.declared.parts.Body.{Body}
+use Rattle.ca_linked.specs.declared.parts.Part.{Part}
+use Rattle.ca_linked.specs.declared.parts.Body.TheVariants.{Gate, Scan}
+use Rattle.ca_linked.specs.Linked.{LinkedChip, cell_of, gate_inputs, IsGate, IsLibrary, IsWired}
+use Rattle.ca_linked.specs.Instances.{IsOfCell}
+use Rattle.ca_linked.proofs.CellLemmas.{gate_within}
 use Rattle.ca_flat.specs.Chip.{Instance, cell_at, count_of, IsChip}
 use Rattle.ca_core.specs.Core.{core_of, core_instance, empty_cell}
 use Rattle.ca_core.proofs.CoreIsChip.{core_is}
@@ -24,18 +24,18 @@ no_devices None = refl
 no_devices (Some net) = refl
 
 -- the number of a library instance's cell is the cell's place
-pub number_is : (chip : Chip) (u : ℕ) (g : GateAt chip u) → cell_number chip u ≡ g.cell
+pub number_is : (chip : LinkedChip) (u : ℕ) (g : GateAt chip u) → cell_number chip u ≡ g.cell
 unfolding cell_number
 number_is chip u g = ap part_number g.at ∙ ap body_number g.body
 
-pub number_read : (chip : Chip) (u number : ℕ) → IsLibrary chip u → IsSomeAnd (slice_get chip.parts u) (λ part. IsOfCell number part.body) → number ≡ cell_number chip u
+pub number_read : (chip : LinkedChip) (u number : ℕ) → IsLibrary chip u → IsSomeAnd (slice_get chip.parts u) (λ part. IsOfCell number part.body) → number ≡ cell_number chip u
 number_read chip u number library found =
     let g = gate_at chip u library in
     let is : IsOfCell number (Gate g.cell g.inputs g.outputs) =
     subst (IsOfCell number) g.body (at_some (λ part. IsOfCell number part.body) chip.parts u g.part g.at found) in
     sym is ∙ sym (number_is chip u g)
 
-module _ (chip : Chip) (is : IsWired chip) (ranks : List ℕ) (are : AreRanks chip ranks) where
+module _ (chip : LinkedChip) (is : IsWired chip) (ranks : List ℕ) (are : AreRanks chip ranks) where
   known : (u : ℕ) → u < count_of (core_of chip) → u < length chip.parts
   known u lt = let e = core_count chip in omega arith
 

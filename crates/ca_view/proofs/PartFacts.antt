@@ -7,21 +7,21 @@ use Rattle.std.proofs.lemmas.List.{get_or-map}
 use Rattle.std.proofs.lemmas.Option.{slice_get_within, get_or_from_slice_get, slice_get_cases}
 use Rattle.ca_cell.specs.declared.raw.RawCell.{RawCell}
 use Rattle.ca_cell.specs.Raw.{is_input, is_output, role_count}
-use Rattle.ca_wired.specs.declared.parts.Body.{Body}
-use Rattle.ca_wired.specs.declared.parts.Part.{Part}
-use Rattle.ca_wired.specs.declared.parts.ScanNets.{ScanNets}
-use Rattle.ca_wired.specs.declared.parts.Body.TheVariants.{Gate, Scan}
-use Rattle.ca_wired.specs.Linked.{Chip, cell_of, net_count, data_nets, IsBody, IsGateOf, IsGate, IsLibrary}
-use Rattle.ca_wired.specs.Linked.{IsWired}
-use Rattle.ca_wired.specs.Instances.{pin_nets, IsCellOf, IsScan}
-use Rattle.ca_wired.proofs.OrderLemmas.{contained_at}
-use Rattle.ca_wired.proofs.PartLemmas.{of_all, of_list}
+use Rattle.ca_linked.specs.declared.parts.Body.{Body}
+use Rattle.ca_linked.specs.declared.parts.Part.{Part}
+use Rattle.ca_linked.specs.declared.parts.ScanNets.{ScanNets}
+use Rattle.ca_linked.specs.declared.parts.Body.TheVariants.{Gate, Scan}
+use Rattle.ca_linked.specs.Linked.{LinkedChip, cell_of, net_count, data_nets, IsBody, IsGateOf, IsGate, IsLibrary}
+use Rattle.ca_linked.specs.Linked.{IsWired}
+use Rattle.ca_linked.specs.Instances.{pin_nets, IsCellOf, IsScan}
+use Rattle.ca_linked.proofs.OrderLemmas.{contained_at}
+use Rattle.ca_linked.proofs.PartLemmas.{of_all, of_list}
 use Rattle.ca_flat.specs.Chip.{Instance, instance_at, cell_at, inputs_at, outputs_at, net_of}
 use Rattle.ca_core.specs.Core.{core_net, core_instance, core_of}
 use Rattle.ca_core.proofs.CorePartLemmas.{core_at}
 
 -- a library instance, with its cell and its nets
-pub record GateAt (chip : Chip) (u : ℕ) : Type 0 where
+pub record GateAt (chip : LinkedChip) (u : ℕ) : Type 0 where
   pub part : Part
   pub cell : ℕ
   pub inputs : List ℕ
@@ -29,7 +29,7 @@ pub record GateAt (chip : Chip) (u : ℕ) : Type 0 where
   pub at : slice_get chip.parts u ≡ Some part
   pub body : part.body ≡ Gate cell inputs outputs
 
-pub gate_at : (chip : Chip) (u : ℕ) → IsLibrary chip u → GateAt chip u
+pub gate_at : (chip : LinkedChip) (u : ℕ) → IsLibrary chip u → GateAt chip u
 gate_at chip u library = by (slice_get chip.parts u) refl library
   where
     by_body : (part : Part) → slice_get chip.parts u ≡ Some part → (body : Body) → part.body ≡ body → IsGate body → GateAt chip u
@@ -47,14 +47,14 @@ some_at P parts u part at is = subst (λ (o : Option Part). IsSomeAnd o P) (sym 
 pub at_some : (P : Part → Type 0) (parts : List Part) (u : ℕ) (part : Part) → slice_get parts u ≡ Some part → IsSomeAnd (slice_get parts u) P → P part
 at_some P parts u part at is = subst (λ (o : Option Part). IsSomeAnd o P) at is
 
-pub library_known : (chip : Chip) (u : ℕ) → IsLibrary chip u → u < length chip.parts
+pub library_known : (chip : LinkedChip) (u : ℕ) → IsLibrary chip u → u < length chip.parts
 library_known chip u library = let g = gate_at chip u library in slice_get_within chip.parts u g.part g.at
 
-pub core_gate : (chip : Chip) (u : ℕ) (g : GateAt chip u) → instance_at (core_of chip) u ≡ core_instance chip (Gate g.cell g.inputs g.outputs)
+pub core_gate : (chip : LinkedChip) (u : ℕ) (g : GateAt chip u) → instance_at (core_of chip) u ≡ core_instance chip (Gate g.cell g.inputs g.outputs)
 core_gate chip u g = core_at chip u g.part g.at ∙ ap (core_instance chip) g.body
 
 -- what is read as the cell of a library instance is that of the core's
-pub cell_read : (chip : Chip) (u : ℕ) (raw : RawCell) → IsLibrary chip u
+pub cell_read : (chip : LinkedChip) (u : ℕ) (raw : RawCell) → IsLibrary chip u
     → IsSomeAnd (slice_get chip.parts u) (λ part. IsCellOf chip.cells part.body raw) → raw ≡ cell_at (core_of chip) u
 cell_read chip u raw library found =
     let g = gate_at chip u library in
@@ -62,7 +62,7 @@ cell_read chip u raw library found =
     subst (λ (b : Body). IsCellOf chip.cells b raw) g.body (at_some (λ part. IsCellOf chip.cells part.body raw) chip.parts u g.part g.at found) in
     is ∙ sym (ap (λ (i : Instance). i.cell) (core_gate chip u g))
 
-module _ (chip : Chip) (is : IsWired chip) (u : ℕ) (library : IsLibrary chip u) where
+module _ (chip : LinkedChip) (is : IsWired chip) (u : ℕ) (library : IsLibrary chip u) where
   g : GateAt chip u
   g = gate_at chip u library
 
@@ -105,13 +105,13 @@ module _ (chip : Chip) (is : IsWired chip) (u : ℕ) (library : IsLibrary chip u
       ∙ ap (core_net chip) (get_or_from_slice_get (g.inputs ++ g.outputs) pin net 0 at))
 
 -- a scan instance, with its nets
-pub record ScanAt (chip : Chip) (u : ℕ) : Type 0 where
+pub record ScanAt (chip : LinkedChip) (u : ℕ) : Type 0 where
   pub part : Part
   pub nets : ScanNets
   pub at : slice_get chip.parts u ≡ Some part
   pub body : part.body ≡ Scan nets
 
-pub scan_at : (chip : Chip) (u : ℕ) → IsSomeAnd (slice_get chip.parts u) (λ part. IsScan part.body) → ScanAt chip u
+pub scan_at : (chip : LinkedChip) (u : ℕ) → IsSomeAnd (slice_get chip.parts u) (λ part. IsScan part.body) → ScanAt chip u
 scan_at chip u scan = by (slice_get chip.parts u) refl scan
   where
     by_body : (part : Part) → slice_get chip.parts u ≡ Some part → (body : Body) → part.body ≡ body → IsScan body → ScanAt chip u
@@ -123,7 +123,7 @@ scan_at chip u scan = by (slice_get chip.parts u) refl scan
     by (Some part) at scan = by_body part at part.body refl scan
 
 -- an instance that isn't one of the library is a scan instance
-pub scan_of_other : (chip : Chip) (u : ℕ) → u < length chip.parts → (IsLibrary chip u → ⊥) → IsSomeAnd (slice_get chip.parts u) (λ part. IsScan part.body)
+pub scan_of_other : (chip : LinkedChip) (u : ℕ) → u < length chip.parts → (IsLibrary chip u → ⊥) → IsSomeAnd (slice_get chip.parts u) (λ part. IsScan part.body)
 scan_of_other chip u known other = elim (slice_get_cases chip.parts u).1 [
   | inl there ↦ by there.0 there.2 there.0.body refl
   | inr past ↦ absurd (let behind = past.0 in omega arith)

@@ -11,15 +11,15 @@ use Rattle.std.proofs.lemmas.List.Folds.{list_any-from_Any}
 use Rattle.std.proofs.lemmas.Option.{slice_get_within, get_or_from_slice_get, same_Some}
 use Rattle.std.proofs.lemmas.Bool.{cases_lt}
 use Rattle.ca_cell.specs.Raw.{is_input, is_output, role_count}
-use Rattle.ca_wired.specs.declared.parts.Body.{Body}
-use Rattle.ca_wired.specs.declared.parts.Part.{Part}
-use Rattle.ca_wired.specs.declared.parts.ScanNets.{ScanNets}
-use Rattle.ca_wired.specs.declared.parts.Body.TheVariants.{Scan}
-use Rattle.ca_wired.specs.Linked.{Chip, net_count, has, is_scan_path, path_nets, input_nets, output_nets}
-use Rattle.ca_wired.specs.Linked.{gate_inputs, data_nets, IsWired}
-use Rattle.ca_wired.specs.Instances.{pin_nets, IsScan}
-use Rattle.ca_wired.proofs.OrderLemmas.{contained_at}
-use Rattle.ca_wired.proofs.PartLemmas.{contains_has, of_all, of_list}
+use Rattle.ca_linked.specs.declared.parts.Body.{Body}
+use Rattle.ca_linked.specs.declared.parts.Part.{Part}
+use Rattle.ca_linked.specs.declared.parts.ScanNets.{ScanNets}
+use Rattle.ca_linked.specs.declared.parts.Body.TheVariants.{Scan}
+use Rattle.ca_linked.specs.Linked.{LinkedChip, net_count, has, is_scan_path, path_nets, input_nets, output_nets}
+use Rattle.ca_linked.specs.Linked.{gate_inputs, data_nets, IsWired}
+use Rattle.ca_linked.specs.Instances.{pin_nets, IsScan}
+use Rattle.ca_linked.proofs.OrderLemmas.{contained_at}
+use Rattle.ca_linked.proofs.PartLemmas.{contains_has, of_all, of_list}
 use Rattle.ca_flat.specs.Chip.{Instance, instance_at, inputs_at, outputs_at, net_of, count_of}
 use Rattle.ca_flat.specs.Chip as flat
 use Rattle.ca_core.specs.Core.{core_net, stored_nets, core_instance, core_of}
@@ -87,13 +87,13 @@ seventh_is nets net at = by nets.qn refl at
     by None e there = inl (e, sym (same_Some nets.so net there))
     by (Some other) e there = inr (e ∙ ap Some (same_Some other net there))
 
-pub scan_pin : (chip : Chip) (u : ℕ) → IsSomeAnd (slice_get chip.parts u) (λ part. IsScan part.body)
+pub scan_pin : (chip : LinkedChip) (u : ℕ) → IsSomeAnd (slice_get chip.parts u) (λ part. IsScan part.body)
     → IsSomeAnd (slice_get chip.parts u) (λ part. 6 < length (pin_nets part.body))
 scan_pin chip u scan =
     let s = scan_at chip u scan in
     some_at (λ part. 6 < length (pin_nets part.body)) chip.parts u s.part s.at (subst (λ (b : Body). 6 < length (pin_nets b)) (sym s.body) (seventh s.nets))
 
-module _ (chip : Chip) (is : IsWired chip) where
+module _ (chip : LinkedChip) (is : IsWired chip) where
   -- the nets of the output pins of an instance
   pub stored_are : (u : ℕ) (part : Part) → slice_get chip.parts u ≡ Some part
       → ArePinNets (core_of chip) u (inputs_at (core_of chip) u) (outputs_at (core_of chip) u) (map (core_net chip) (stored_nets part.body))
@@ -208,7 +208,7 @@ rows_below chip before pins count rows have within u d lt pin e pin_lt =
     (sym (ap (λ (row : List ℕ). get_or row pin e) same ∙ get_or_default (get_or rows u []) pin e 0 there ∙ are.each pin pin_known))
     (within u pin known pin_known)
 
-module _ (chip : Chip) (is : IsWired chip) where
+module _ (chip : LinkedChip) (is : IsWired chip) where
   core_count : count_of (core_of chip) ≡ length chip.parts
   core_count = length-map chip.parts (λ (p : Part). core_instance chip p.body)
 

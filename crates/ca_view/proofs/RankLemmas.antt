@@ -14,14 +14,14 @@ use Rattle.std.proofs.lemmas.Option.{slice_get_within, slice_get-get_or, get_or_
 use Rattle.std.proofs.lemmas.Map.Keys.{IsDistinct-from_apart}
 use Rattle.std.proofs.lemmas.Map.Steps.{length-le_from_distinct_below}
 use native.Mathlib.Decide.{ℕ_discrete}
-use Rattle.ca_wired.specs.declared.parts.Body.{Body}
-use Rattle.ca_wired.specs.declared.parts.Part.{Part}
-use Rattle.ca_wired.specs.declared.parts.Body.TheVariants.{Gate, Scan}
-use Rattle.ca_wired.specs.Linked.{Chip, IsGate, IsLibrary, IsWired}
-use Rattle.ca_wired.specs.Instances.{if_gate, gates_from, gates_of}
-use Rattle.ca_wired.proofs.OrderLemmas.{place_of, contained_at}
-use Rattle.ca_wired.proofs.PartLemmas.{has_contains}
-use Rattle.ca_wired.proofs.CellLemmas.{library_within}
+use Rattle.ca_linked.specs.declared.parts.Body.{Body}
+use Rattle.ca_linked.specs.declared.parts.Part.{Part}
+use Rattle.ca_linked.specs.declared.parts.Body.TheVariants.{Gate, Scan}
+use Rattle.ca_linked.specs.Linked.{LinkedChip, IsGate, IsLibrary, IsWired}
+use Rattle.ca_linked.specs.Instances.{if_gate, gates_from, gates_of}
+use Rattle.ca_linked.proofs.OrderLemmas.{place_of, contained_at}
+use Rattle.ca_linked.proofs.PartLemmas.{has_contains}
+use Rattle.ca_linked.proofs.CellLemmas.{library_within}
 use Rattle.ca_core.specs.Core.{body_rank, rank_in, rank_of}
 use Rattle.ca_core.proofs.CorePartLemmas.{part_at}
 use Rattle.ca_view.specs.Places.{AreRanks}
@@ -63,13 +63,13 @@ gate_is_listed from (part ∷ more) (suc k) gate =
     (Contains-append_right (if_gate from part.body) (gates_from (from + 1) more) (from + 1 + k) (gate_is_listed (from + 1) more k gate))
 
 -- each that is listed is of the library
-pub listed_is_library : (chip : Chip) (k u : ℕ) → slice_get (gates_of chip) k ≡ Some u → IsLibrary chip u
+pub listed_is_library : (chip : LinkedChip) (k u : ℕ) → slice_get (gates_of chip) k ≡ Some u → IsLibrary chip u
 listed_is_library chip k u at =
     let found = listed_is_gate 0 chip.parts u (contained_at (gates_of chip) k u at) in
     subst (λ n. IsSomeAnd (slice_get chip.parts n) (λ p. IsGate p.body)) (let e = found.at in let s : found.k ≡ u = omega arith in s) found.gate
 
 -- an instance that isn't of the library has the rank 0
-pub rank_of_other : (chip : Chip) (u : ℕ) (part : Part) → slice_get chip.parts u ≡ Some part → (IsGate part.body → ⊥) → rank_of chip u ≡ 0
+pub rank_of_other : (chip : LinkedChip) (u : ℕ) (part : Part) → slice_get chip.parts u ≡ Some part → (IsGate part.body → ⊥) → rank_of chip u ≡ 0
 rank_of_other chip u part at other = ap (rank_in chip u) at ∙ by part.body other
   where
     by : (body : Body) → (IsGate body → ⊥) → body_rank (position_or_len (eqb u) chip.order) body ≡ 0
@@ -82,19 +82,19 @@ unranked (suc count) zero = refl
 unranked (suc count) (suc u) = unranked count u
 
 -- the place of a library instance in the order
-pub record HasPlace (chip : Chip) (u : ℕ) : Type 0 where
+pub record HasPlace (chip : LinkedChip) (u : ℕ) : Type 0 where
   pub place : ℕ
   pub at : slice_get chip.order place ≡ Some u
   pub rank : rank_of chip u ≡ suc place
   pub within : place < length chip.parts
 
 -- the first library instances have their ranks, and others have 0
-pub record AreFirstRanks (chip : Chip) (count : ℕ) (ranks : List ℕ) : Type 0 where
+pub record AreFirstRanks (chip : LinkedChip) (count : ℕ) (ranks : List ℕ) : Type 0 where
   pub room : length ranks ≡ length chip.parts
   pub listed : (j u : ℕ) → j < count → slice_get (gates_of chip) j ≡ Some u → get_or ranks u 0 ≡ rank_of chip u
   pub other : (u : ℕ) → (IsLibrary chip u → ⊥) → get_or ranks u 0 ≡ 0
 
-module _ (chip : Chip) (is : IsWired chip) where
+module _ (chip : LinkedChip) (is : IsWired chip) where
   -- no number stands twice in the order, so that it is no longer than the list of instances
   pub few_ordered : length chip.order ≤ length chip.parts
   few_ordered = length-le_from_distinct_below chip.order (length chip.parts) (IsDistinct-from_apart eqb chip.order apart) below

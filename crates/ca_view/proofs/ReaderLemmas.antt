@@ -6,10 +6,10 @@ use Rattle.std.specs.List.{Contains}
 use Rattle.std.proofs.lemmas.List.{get_or_append_left, get_or_push, get_or_default}
 use Rattle.std.proofs.lemmas.Option.{slice_get_within}
 use native.Mathlib.Decide.{ℕ_discrete}
-use Rattle.ca_wired.specs.declared.parts.Part.{Part}
-use Rattle.ca_wired.specs.Linked.{Chip, net_count, gate_inputs, is_scan_path, IsWired}
-use Rattle.ca_wired.specs.Reading.{AreReadersOf}
-use Rattle.ca_wired.specs.Reading as wired
+use Rattle.ca_linked.specs.declared.parts.Part.{Part}
+use Rattle.ca_linked.specs.Linked.{LinkedChip, net_count, gate_inputs, is_scan_path, IsWired}
+use Rattle.ca_linked.specs.Reading.{AreReadersOf}
+use Rattle.ca_linked.specs.Reading as wired
 use Rattle.ca_core.specs.Core.{core_net, core_of}
 use Rattle.ca_core.proofs.CoreLemmas.{IsOutside, core_less, core_same, length-core_kinds, net_of_number}
 use Rattle.ca_core.proofs.CorePartLemmas.{part_at, read_is_data}
@@ -19,16 +19,16 @@ use Rattle.ca_core.proofs.CoreIsChip.{data_outside}
 use Rattle.ca_view.proofs.CoreFacts.{core_count, inputs_are, input_net_is}
 use Rattle.ca_view.proofs.PartFacts.{some_at}
 
-step : (chip : Chip) (net : ℕ) → core_net chip (net + 1) ≡ core_net chip net + (if is_scan_path chip net then 0 else 1)
+step : (chip : LinkedChip) (net : ℕ) → core_net chip (net + 1) ≡ core_net chip net + (if is_scan_path chip net then 0 else 1)
 unfolding core_net
 step chip net = ap (core_net chip) (let e : net + 1 ≡ suc net = omega arith in e)
 
-pub no_rows : (chip : Chip) → AreFirstRows chip 0 []
+pub no_rows : (chip : LinkedChip) → AreFirstRows chip 0 []
 unfolding core_net
 no_rows chip = record { room = refl; each = λ net lt. absurd (omega arith) }
 
 -- a net on the scan path has no row
-pub row_skipped : (chip : Chip) (net : ℕ) (rows : List (List ℕ)) → AreFirstRows chip net rows → is_scan_path chip net ≡ true → AreFirstRows chip (net + 1) rows
+pub row_skipped : (chip : LinkedChip) (net : ℕ) (rows : List (List ℕ)) → AreFirstRows chip net rows → is_scan_path chip net ≡ true → AreFirstRows chip (net + 1) rows
 row_skipped chip net rows first path = record {
   room = first.room ∙ (let s = step chip net ∙ ap (λ b. core_net chip net + (if b then 0 else 1)) path in let e : core_net chip net ≡ core_net chip (net + 1) = omega arith in e);
   each = λ m lt outside. elim (ℕ_discrete m net) [
@@ -38,7 +38,7 @@ row_skipped chip net rows first path = record {
 }
 
 -- any other has the next
-pub row_added : (chip : Chip) (net : ℕ) (rows new : List (List ℕ)) (row : List ℕ) → AreFirstRows chip net rows → is_scan_path chip net ≡ false
+pub row_added : (chip : LinkedChip) (net : ℕ) (rows new : List (List ℕ)) (row : List ℕ) → AreFirstRows chip net rows → is_scan_path chip net ≡ false
     → AreReadersOf chip net row → new ≡ rows ++ row ∷ [] → AreFirstRows chip (net + 1) new
 row_added chip net rows new row first off read is = record {
   room = ap length is ∙ length-append rows (row ∷ [])
@@ -66,7 +66,7 @@ copied_more xs new k x lt at is =
     taken (y ∷ ys) (suc j) less =
         ap (λ n. take n (y ∷ ys)) (let e : suc j + 1 ≡ suc (j + 1) = omega arith in e) ∙ ap (λ (zs : List ℕ). y ∷ zs) (taken ys j (omega arith))
 
-module _ (chip : Chip) (is : IsWired chip) where
+module _ (chip : LinkedChip) (is : IsWired chip) where
   -- a pin of the core's instance is on the net exactly where the instance reads the net of the chip
   pub read_in_chip : (net u : ℕ) → IsOutside chip net → Reads (core_of chip) u (core_net chip net) → wired.Reads chip u net
   read_in_chip net u outside reads =
@@ -102,5 +102,5 @@ module _ (chip : Chip) (is : IsWired chip) where
       })
 
 -- the core has a row for each net
-pub row_count : (chip : Chip) (rows : List (List ℕ)) → AreRows chip rows → length rows ≡ length (core_of chip).nets
+pub row_count : (chip : LinkedChip) (rows : List (List ℕ)) → AreRows chip rows → length rows ≡ length (core_of chip).nets
 row_count chip rows are = are.room ∙ sym (length-core_kinds chip (net_count chip))

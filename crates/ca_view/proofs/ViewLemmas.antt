@@ -7,8 +7,8 @@ use Rattle.ca_cell.specs.declared.raw.RawCell.{RawCell}
 use Rattle.ca_cell.specs.declared.rule.CellRule.TheVariants.{TooManyInputs}
 use Rattle.ca_cell.specs.declared.rule.TheConstants.{MOST_INPUTS}
 use Rattle.ca_cell.specs.Raw.{is_input, role_count}
-use Rattle.ca_wired.specs.Linked as linked
-use Rattle.ca_wired.specs.Linked.{inputs_of, IsWired}
+use Rattle.ca_linked.specs.Linked as linked
+use Rattle.ca_linked.specs.Linked.{inputs_of, IsWired}
 use Rattle.ca_flat.specs.Chip.{Chip, IsCell}
 use Rattle.ca_core.specs.Core.{core_net, core_of, core_constants}
 use Rattle.ca_core.specs.Numbers.{Numbers, AreCoreNumbers}
@@ -46,7 +46,7 @@ lists_of pins onward back observed inputs = record {
   inputs = inputs;
 }
 
-module _ (chip : linked.Chip) (is : IsWired chip) where
+module _ (chip : linked.LinkedChip) (is : IsWired chip) where
   lists_are : (pins : Pins) (onward back : List (List ℕ)) (observed : List Bool) (inputs : List ℕ) → AreCorePins (core_of chip) pins
       → LinksPins pins onward → LinksPins (turned pins) back → AreMarked (length (core_of chip).nets) (core_of chip).outputs observed
       → inputs ≡ (core_of chip).inputs → AreNetsOf (core_of chip) (lists_of pins onward back observed inputs)

@@ -3,7 +3,7 @@ use Rattle.std.specs.Prelude.{ℕ, ◌≡◌, ◌<◌, List, [], length, map, Ve
 use Rattle.std.specs.Prelude.{Option, option_to_list}
 use Rattle.std.specs.Global.{Global}
 use Rattle.std.specs.List.{All}
-use Rattle.ca_wired.specs.Linked as linked
+use Rattle.ca_linked.specs.Linked as linked
 use Rattle.ca_flat.specs.Chip.{Chip, inputs_at, outputs_at, count_of}
 use Rattle.ca_core.specs.Core.{stored_nets}
 use Rattle.ca_view.specs.NetLists.{ArePinNets}
@@ -59,6 +59,6 @@ abbrev pub AreOutputNets : Chip → ℕ → List (List ℕ) → Type 0
 AreOutputNets chip count rows = HaveNets chip (inputs_at chip) (outputs_at chip) count rows
 
 -- the inverted output of the instance is on this net, if it is on one
-abbrev pub IsInverted : linked.Chip → ℕ → Option ℕ → Type 0
+abbrev pub IsInverted : linked.LinkedChip → ℕ → Option ℕ → Type 0
 IsInverted chip u net =
     IsSomeAnd (slice_get chip.parts u) (λ part. stored_nets part.body ≡ option_to_list net)

@@ -1,7 +1,7 @@
 -- A linked chip and its core as tables: the picture that the code has of a chip.
 use Rattle.std.specs.Prelude.{ℕ, ◌^◌, ◌≡◌, ◌<◌, List, Bool, length}
 use Rattle.std.specs.List.{All}
-use Rattle.ca_wired.specs.Linked as linked
+use Rattle.ca_linked.specs.Linked as linked
 use Rattle.ca_flat.specs.Chip.{Chip}
 use Rattle.ca_flat.specs.Pair.{bit_count}
 use Rattle.ca_core.specs.Core.{core_of, core_constants}
@@ -15,7 +15,7 @@ use Rattle.ca_view.specs.Pins.{Pins, ArePinsOf}
 -- The linked chip and its core, the rank of each instance, and in the numbers of the core the readers of each
 -- net, the constants, the lists of nets, and the net of each observed output.
 pub record Viewed : Type 0 where
-  pub chip : linked.Chip
+  pub chip : linked.LinkedChip
   pub core : Chip
   pub ranks : List ℕ
   pub readers : List (List ℕ)
@@ -24,7 +24,7 @@ pub record Viewed : Type 0 where
   pub outputs : List ℕ
 
 -- the tables are those of this chip, whose core has few bits
-pub record IsViewOf (chip : linked.Chip) (view : Viewed) : Type 0 where
+pub record IsViewOf (chip : linked.LinkedChip) (view : Viewed) : Type 0 where
   pub chip_is : view.chip ≡ chip
   pub core_is : view.core ≡ core_of chip
   pub ranked : AreRanks chip view.ranks
@@ -45,7 +45,7 @@ pub record IsKept (pins : Pins) (view : Viewed) : Type 0 where
   pub inputs_within : All (λ net. net < length (core_of view.chip).nets) view.lists.inputs
 
 -- a chip and its tables as one record
-abbrev pub viewed_as : linked.Chip → List ℕ → List (List ℕ) → List FixedNet → Pins → List (List ℕ)
+abbrev pub viewed_as : linked.LinkedChip → List ℕ → List (List ℕ) → List FixedNet → Pins → List (List ℕ)
     → List (List ℕ) → List Bool → List ℕ → List ℕ → Viewed
 viewed_as chip ranks readers constants pins onward back observed inputs outputs = record {
   chip = chip;

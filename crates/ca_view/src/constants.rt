@@ -1,7 +1,7 @@
 //! The constants of the core.
 
 ghost use Rattle.std.specs.Prelude.{◌≡◌, ◌<◌, ◌++◌, ◌↔◌, if◌then◌else◌, IsTrue, Some, IfOk, OnOk};
-ghost use Rattle.ca_wired.specs.Linked.{net_count, constant_net};
+ghost use Rattle.ca_linked.specs.Linked.{net_count, constant_net};
 ghost use Rattle.ca_core.specs.Core.{trit_of, constant_on, in_net_order, core_constants};
 ghost use Rattle.ca_core.specs.Numbers.{AreCoreNumbers};
 ghost use Rattle.ca_view.specs.Constants.{fixed_of, constants_of};
@@ -9,7 +9,7 @@ ghost use Rattle.ca_view.specs.Constants.{fixed_of, constants_of};
 use ca_base::NoMemory;
 use ca_core::CoreNets;
 use ca_net::Trit;
-use ca_wired::{Chip, NetId};
+use ca_linked::{Chip, NetId};
 use std::alloc::Global;
 
 /// An input net whose value is fixed.

@@ -8,7 +8,7 @@ ghost use Rattle.ca_view.specs.Ends.{AreMarked};
 
 use ca_base::NoMemory;
 use ca_core::CoreNets;
-use ca_wired::Chip;
+use ca_linked::Chip;
 use std::alloc::Global;
 
 /// The net of each chip input.

@@ -4,8 +4,8 @@ ghost use Rattle.std.specs.Prelude.{◌≡◌, ◌<◌, ◌≤◌, ◌+◌, leng
 ghost use Rattle.std.specs.List.{All};
 ghost use Rattle.ca_cell.specs.declared.rule.TheConstants.{MOST_INPUTS, MOST_OUTPUTS};
 ghost use Rattle.ca_flat.specs.Chip.{inputs_at, outputs_at};
-ghost use Rattle.ca_wired.specs.Linked.{IsLibrary};
-ghost use Rattle.ca_wired.specs.Instances.{IsScan};
+ghost use Rattle.ca_linked.specs.Linked.{IsLibrary};
+ghost use Rattle.ca_linked.specs.Instances.{IsScan};
 ghost use Rattle.ca_core.specs.Core.{core_of};
 ghost use Rattle.ca_core.specs.Numbers.{AreCoreNumbers};
 ghost use Rattle.ca_view.specs.NetLists.{ArePinNets};
@@ -14,7 +14,7 @@ ghost use Rattle.ca_view.specs.Pins.{AreCorePins, AreInputNets, AreOutputNets, I
 
 use ca_base::NoMemory;
 use ca_core::CoreNets;
-use ca_wired::{Chip, InstanceId, NetId};
+use ca_linked::{Chip, InstanceId, NetId};
 use std::alloc::Global;
 use std::marker::Model;
 

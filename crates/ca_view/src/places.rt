@@ -4,7 +4,7 @@ ghost use Rattle.std.specs.Prelude.{IfOk};
 ghost use Rattle.ca_view.specs.Places.{AreRanks};
 
 use ca_base::NoMemory;
-use ca_wired::Chip;
+use ca_linked::Chip;
 use std::alloc::Global;
 
 /// The rank of each instance: that of a library instance is one more than its place in the order.

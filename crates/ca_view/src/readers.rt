@@ -1,12 +1,12 @@
 //! The readers of the nets of the core.
 
 ghost use Rattle.std.specs.Prelude.{◌+◌, ◌^◌, ◌<◌, IfOk, OnOk};
-ghost use Rattle.ca_wired.specs.Linked.{net_count};
-ghost use Rattle.ca_wired.specs.Reading.{AreReadersOf};
+ghost use Rattle.ca_linked.specs.Linked.{net_count};
+ghost use Rattle.ca_linked.specs.Reading.{AreReadersOf};
 ghost use Rattle.ca_view.specs.Readers.{AreFirstRows, AreRows};
 
 use ca_base::NoMemory;
-use ca_wired::{Chip, InstanceList, NetId};
+use ca_linked::{Chip, InstanceList, NetId};
 use std::alloc::Global;
 
 // The instances that read a net.

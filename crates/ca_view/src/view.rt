@@ -3,7 +3,7 @@
 ghost use Rattle.std.specs.Prelude.{ℕ, ◌+◌, ◌≡◌, ◌<◌, length, slice_index, slice_index_or, slice_get};
 ghost use Rattle.std.specs.Prelude.{false, Some, IfOk};
 ghost use Rattle.std.specs.List.{All};
-ghost use Rattle.ca_wired.specs.Linked.{IsWired};
+ghost use Rattle.ca_linked.specs.Linked.{IsWired};
 ghost use Rattle.ca_flat.specs.Chip.{cell_at, inputs_at, outputs_at, net_of, count_of};
 ghost use Rattle.ca_view.specs.Linked.{IsLinked, IsPinned, AreReaders, IsPlaced, IsPlace, place_in};
 ghost use Rattle.ca_view.specs.NetLists.{AreNetsOf, linked_from, AreWithin, input_nets, output_nets};
@@ -21,7 +21,7 @@ use crate::readers::rows_of;
 use ca_base::NoMemory;
 use ca_cell::Cell;
 use ca_core::core_nets;
-use ca_wired::{Chip, InstanceId, InstanceList};
+use ca_linked::{Chip, InstanceId, InstanceList};
 use std::alloc::Global;
 use std::marker::Model;
 

@@ -3,7 +3,7 @@ use Rattle.std.specs.Prelude.{◌≡◌, ◌≤◌, ℕ, List, ⊤}
 use Rattle.ca_make.specs.declared.gate.TheConstants.{MOST_GATES}
 use Rattle.ca_load.specs.declared.loading.FileNames.{FileNames}
 use Rattle.ca_load.specs.Texts.{names_of}
-use Rattle.ca_asked.specs.Asked.{AreBothOrNeither}
+use Rattle.ca_request.specs.Asked.{AreBothOrNeither}
 use Rattle.ca_words.specs.Budget.{HasBudget, HasChipNumber}
 use Rattle.ca_words.specs.declared.words.CellWords.{CellWords}
 use Rattle.ca_words.specs.declared.words.PairWords.{PairWords}

@@ -4,9 +4,9 @@ use Rattle.std.specs.Prelude.{if◌then◌else◌}
 use Rattle.std.specs.List.{All}
 use Rattle.std.specs.Str.{bytes_eq}
 use Rattle.ca_load.specs.Texts.{InputFiles}
-use Rattle.ca_asked.specs.Asked.{AreBothOrNeither}
+use Rattle.ca_request.specs.Asked.{AreBothOrNeither}
 use Rattle.ca_words.specs.Budget.{IsBudget, IsChipNumber}
-pub use Rattle.ca_asked.specs.Vectors.{dash}
+pub use Rattle.ca_request.specs.Vectors.{dash}
 
 -- the word at a place, counted from 0
 abbrev pub word_at : List (List ℕ) → ℕ → List ℕ

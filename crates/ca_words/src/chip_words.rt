@@ -3,7 +3,7 @@ ghost use Rattle.std.specs.Prelude.{◌≡◌, ◌≢◌, ℕ, List, map, IfSome
 ghost use Rattle.std.specs.Option.{option_copied};
 ghost use Rattle.std.specs.String.{string_bytes};
 ghost use Rattle.ca_load.specs.Texts.{names_of};
-ghost use Rattle.ca_asked.specs.Asked.{AreBothOrNeither};
+ghost use Rattle.ca_request.specs.Asked.{AreBothOrNeither};
 ghost use Rattle.ca_words.specs.Words.{file_called, AreChipFiles, IsOtherFile};
 ghost use Rattle.ca_words.specs.Words.{IsCheck, IsFlatten, IsSimulate, IsAtpg, IsReplay};
 ghost use Rattle.ca_words.specs.Command.{IsSpelledCheck, IsSpelledFlatten, IsSpelledSimulate};

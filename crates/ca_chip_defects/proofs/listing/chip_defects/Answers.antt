@@ -3,7 +3,7 @@ use Rattle.std.specs.List.{All}
 use Rattle.std.proofs.lemmas.List.Elements.{All-nil}
 use Rattle.ca_flat.specs.declared.chip_defect.ChipDefect.{ChipDefect}
 use Rattle.ca_view.specs.Linked.{IsPlacedDefect, place_in}
-use Rattle.ca_wired.specs.Instances.{gates_of}
+use Rattle.ca_linked.specs.Instances.{gates_of}
 use Rattle.ca_flat.specs.Chip.{Chip, count_of}
 use Rattle.ca_chip_defects.specs.ChipDefects.{chip_defects, placed_before, placed_instances}
 use Rattle.ca_chip_defects.proofs.PlacedLemmas.{placed_are_gates}

@@ -1,5 +1,5 @@
 use Rattle.std.proofs.Common.{◌≤◌, length}
-use Rattle.ca_wired.specs.Instances.{scans_of}
+use Rattle.ca_linked.specs.Instances.{scans_of}
 use Rattle.ca_chip_stil.specs.Kept.{ArePlacesFrom}
 use Rattle.ca_chip_stil.proofs.chains.places_of.Given as goal
 

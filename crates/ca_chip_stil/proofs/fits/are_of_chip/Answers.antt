@@ -1,5 +1,5 @@
 use Rattle.std.proofs.Common.{rules, ◌≡◌, ◌+◌, ◌∙◌, IsTrue, true, false, length, arith, sym}
-use Rattle.ca_wired.specs.Linked.{inputs_of}
+use Rattle.ca_linked.specs.Linked.{inputs_of}
 use Rattle.ca_chip_stil.proofs.FitLemmas.{makes_of_chip, of_bits, of_values}
 use Rattle.ca_chip_stil.proofs.fits.are_of_chip.Goals as goal
 

@@ -2,7 +2,7 @@ use Rattle.std.proofs.Common.{◌∙◌, ap}
 use Rattle.ca_cell.specs.declared.raw.RawPin.{RawPin}
 use Rattle.std.specs.Prelude.{List, ◌+◌}
 use Rattle.ca_cell.specs.Raw.{is_input, is_output}
-use Rattle.ca_chip.specs.Wiring.{names_with, input_wires, output_wires, open_count}
+use Rattle.ca_wiring.specs.Wiring.{names_with, input_wires, output_wires, open_count}
 use Rattle.ca_draft.proofs.InstanceLemmas.{gate_is}
 use Rattle.ca_draft.proofs.instances.gate.Goals as goal
 

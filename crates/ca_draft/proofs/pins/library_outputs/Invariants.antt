@@ -1,6 +1,6 @@
 use Rattle.std.proofs.Common.{◌≡◌, ◌+◌, ◌++◌}
 use Rattle.ca_cell.specs.Raw.{is_output}
-use Rattle.ca_chip.specs.Wiring.{names_with, open_count, output_wires}
+use Rattle.ca_wiring.specs.Wiring.{names_with, open_count, output_wires}
 use Rattle.ca_draft.proofs.OutputLemmas.{from, open_from}
 use Rattle.ca_draft.proofs.pins.library_outputs.Given as goal
 

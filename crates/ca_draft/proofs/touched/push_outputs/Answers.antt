@@ -1,8 +1,8 @@
 use Rattle.std.proofs.Common.{◌∙◌, ap, sym, ◌++◌, [], ◌∷◌}
 use Rattle.std.specs.Prelude.{take}
 use Rattle.std.proofs.lemmas.List.{append_assoc}
-use Rattle.ca_wired.specs.Linked.{output_nets}
-use Rattle.ca_wired.proofs.EndLemmas.{take_more}
+use Rattle.ca_linked.specs.Linked.{output_nets}
+use Rattle.ca_linked.proofs.EndLemmas.{take_more}
 use Rattle.ca_draft.proofs.touched.push_outputs.Goals as goal
 
 pub loop-pin-preserved : goal.loop-pin-preserved

@@ -1,6 +1,6 @@
 use Rattle.std.proofs.Common.{◌≡◌, ◌++◌}
 use Rattle.std.specs.Prelude.{take}
-use Rattle.ca_wired.specs.Linked.{output_nets}
+use Rattle.ca_linked.specs.Linked.{output_nets}
 use Rattle.ca_draft.proofs.touched.push_outputs.Given as goal
 
 abbrev pub invariant-loop-pin : goal.invariant-loop-pin

@@ -1,7 +1,7 @@
 use Rattle.std.proofs.Common.{◌≡◌, ◌∙◌, inl, inr, sym, ap, subst}
-use Rattle.ca_wired.specs.declared.parts.Source.{Source}
-use Rattle.ca_wired.specs.declared.parts.Source.TheVariants.{FromPin}
-use Rattle.ca_wired.specs.Linked.{Drives}
+use Rattle.ca_linked.specs.declared.parts.Source.{Source}
+use Rattle.ca_linked.specs.declared.parts.Source.TheVariants.{FromPin}
+use Rattle.ca_linked.specs.Linked.{Drives}
 use Rattle.ca_flatten.proofs.KindLemmas.{port_kind, constant_kind, q_kind, stored_output}
 use Rattle.ca_flatten.proofs.nodes.kind_of.Goals as goal
 use Rattle.ca_flatten.proofs.nodes.kind_of.Goals.{else-pin-eq0-via-then-pin-eq0+else-not-has}

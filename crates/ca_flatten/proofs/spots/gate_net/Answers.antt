@@ -1,5 +1,5 @@
 use Rattle.std.proofs.Common.{◌∙◌, ◌<◌, arith}
-use Rattle.ca_wired.specs.Linked.{net_count}
+use Rattle.ca_linked.specs.Linked.{net_count}
 use Rattle.ca_flatten.proofs.GateLemmas.{pin_on_net, pin_read, pin_within}
 use Rattle.ca_flatten.proofs.spots.gate_net.Goals as goal
 

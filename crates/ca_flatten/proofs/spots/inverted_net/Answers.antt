@@ -1,6 +1,6 @@
 use Rattle.std.proofs.Common.{◌≡◌, ◌∙◌, ◌<◌, sym, ap, arith}
 use Rattle.std.specs.Prelude.{slice_index}
-use Rattle.ca_wired.specs.Linked.{net_count}
+use Rattle.ca_linked.specs.Linked.{net_count}
 use Rattle.ca_flatten.proofs.ScanLemmas.{inverted_at, inverted_get, inverted_on_net, inverted_core_net}
 use Rattle.ca_flatten.proofs.spots.inverted_net.Goals as goal
 

@@ -1,7 +1,7 @@
 use Rattle.std.proofs.Common.{List, map, sym, subst}
 use Rattle.std.specs.List.{IsDistinct}
 use Rattle.std.specs.Str.{bytes_eq}
-use Rattle.ca_chip.specs.declared.scan_row.ScanRow.{ScanRow}
+use Rattle.ca_wiring.specs.declared.scan_row.ScanRow.{ScanRow}
 use Rattle.ca_grade_tests.proofs.inverter.chip_of.Goals as goal
 
 pub link-requires-clause-rows : goal.link-requires-clause-rows

@@ -1,5 +1,5 @@
 use Rattle.std.proofs.Common.{◌∙◌, sym, subst}
-use Rattle.ca_chip.specs.declared.scan_row.ScanRow.{ScanRow}
+use Rattle.ca_wiring.specs.declared.scan_row.ScanRow.{ScanRow}
 use Rattle.std.specs.Prelude.{List}
 use Rattle.ca_link.specs.Names.{HaveNames}
 use Rattle.ca_link.specs.Told.{TellsFault}

@@ -1,7 +1,7 @@
 use Rattle.std.proofs.Common.{◌≡◌, ◌<◌, length, slice_get}
 use Rattle.std.specs.Prelude.{drop}
 use Rattle.ca_cell.specs.Raw.{is_output}
-use Rattle.ca_chip.specs.Wiring.{names_with}
+use Rattle.ca_wiring.specs.Wiring.{names_with}
 use Rattle.ca_link.proofs.names.library_output.Given as goal
 
 abbrev pub invariant-loop-k : goal.invariant-loop-k

@@ -1,5 +1,5 @@
 use Rattle.std.proofs.Common.{subst}
-use Rattle.ca_wired.specs.Wired.{IsWireCause}
+use Rattle.ca_linked.specs.Wired.{IsWireCause}
 use Rattle.ca_link.proofs.ControlLemmas.{misused_pin, misused_scan}
 use Rattle.ca_link.proofs.telling.tell.Goals as goal
 

@@ -3,8 +3,8 @@ use Rattle.std.specs.List.{IsDistinct}
 use Rattle.std.specs.Str.{bytes_eq}
 use Rattle.ca_cell.specs.Library.{Named}
 use Rattle.ca_verilog.specs.declared.raw.RawNetlist.{RawNetlist}
-use Rattle.ca_chip.specs.declared.scan_row.ScanRow.{ScanRow}
-use Rattle.ca_chip.specs.Rules.{IsCause}
+use Rattle.ca_wiring.specs.declared.scan_row.ScanRow.{ScanRow}
+use Rattle.ca_wiring.specs.Rules.{IsCause}
 use Rattle.ca_make_laws.specs.Cells.{sound_library}
 use Rattle.ca_make_laws.specs.ChipNetlist.{chip_netlist}
 use Rattle.ca_make_links.proofs.RuleLemmas.{memory_alone}

@@ -1,6 +1,6 @@
 use Rattle.std.proofs.Common.{◌≡◌, ◌+◌, ◌∙◌, length, ap, sym, subst, arith}
-use Rattle.ca_wired.specs.Linked.{Chip}
-use Rattle.ca_wired.specs.Wired.{IsReady}
+use Rattle.ca_linked.specs.Linked.{LinkedChip}
+use Rattle.ca_linked.specs.Wired.{IsReady}
 use Rattle.ca_core.specs.Core.{core_of}
 use Rattle.ca_merged.specs.Merged.{cluster_place}
 use Rattle.ca_merge.specs.Laws.{AreMergeable}
@@ -20,7 +20,7 @@ merged_draft-requires-clause-outputs c =
 pub overflow_sub-last : goal.overflow_sub-last
 overflow_sub-last c =
     let count : c.parts-last.result ≡ cluster_place (core_of c.args.chip.now) c.args.members.now + 1 =
-    c.parts-last.ensures ∙ ap (λ (d : Chip). length d.parts) (c.in_ok-draft.ensures {u = tt})
+    c.parts-last.ensures ∙ ap (λ (d : LinkedChip). length d.parts) (c.in_ok-draft.ensures {u = tt})
     ∙ parts_counted c.args.chip.now c.args.members.now c.wired.ensures c.requires.gates in
     omega arith
 
@@ -39,11 +39,11 @@ wire_draft-requires c =
 pub returns-clause-ok : goal.returns-clause-ok
 returns-clause-ok c =
     let count : c.parts-last.result ≡ cluster_place (core_of c.args.chip.now) c.args.members.now + 1 =
-    c.parts-last.ensures ∙ ap (λ (d : Chip). length d.parts) (c.in_ok-draft.ensures {u = tt})
+    c.parts-last.ensures ∙ ap (λ (d : LinkedChip). length d.parts) (c.in_ok-draft.ensures {u = tt})
     ∙ parts_counted c.args.chip.now c.args.members.now c.wired.ensures c.requires.gates in
     let same = c.in_ok-draft.ensures {u = tt} in
     let is : c.in_ok-made.made ≡ record (merged_draft c.args.chip.now c.args.members.now) { order = c.in_ok-made.made.order } =
-    (c.in_ok-made.ensures {u = tt}).ok ∙ ap (λ (d : Chip). record d { order = c.in_ok-made.made.order }) same in
+    (c.in_ok-made.ensures {u = tt}).ok ∙ ap (λ (d : LinkedChip). record d { order = c.in_ok-made.made.order }) same in
     record {
       is = is;
       wired = (c.in_ok-made.ensures {u = tt}).wired;

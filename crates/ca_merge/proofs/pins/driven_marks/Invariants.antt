@@ -1,6 +1,6 @@
 use Rattle.std.specs.Prelude.{take}
-use Rattle.ca_wired.specs.Linked.{net_count, gate_outputs}
-use Rattle.ca_wired.specs.Paths.{AreMarks}
+use Rattle.ca_linked.specs.Linked.{net_count, gate_outputs}
+use Rattle.ca_linked.specs.Paths.{AreMarks}
 use Rattle.ca_merge.proofs.PinLemmas.{on_pins}
 use Rattle.ca_merge.proofs.pins.driven_marks.Given as goal
 

@@ -1,5 +1,5 @@
 use Rattle.std.proofs.Common.{◌<◌, ◌≤◌, ◌∙◌, length, subst, sym, arith}
-use Rattle.ca_wired.specs.Linked.{net_count}
+use Rattle.ca_linked.specs.Linked.{net_count}
 use Rattle.ca_merge.specs.Draft.{drives_net}
 use Rattle.ca_merge.proofs.PinLemmas.{passing_few, listed_more}
 use Rattle.ca_merge.proofs.pins.driven_nets.Goals as goal

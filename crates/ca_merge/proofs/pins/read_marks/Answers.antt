@@ -1,5 +1,5 @@
 use Rattle.std.proofs.Common.{◌<◌, length, subst}
-use Rattle.ca_wired.specs.Linked.{gate_inputs}
+use Rattle.ca_linked.specs.Linked.{gate_inputs}
 use Rattle.ca_merge.proofs.PinLemmas.{member_within, member_marked, inputs_within}
 use Rattle.ca_merge.proofs.pins.read_marks.Goals as goal
 

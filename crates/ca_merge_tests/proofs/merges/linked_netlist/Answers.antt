@@ -1,4 +1,4 @@
-use Rattle.ca_chip.specs.declared.scan_row.ScanRow.{ScanRow}
+use Rattle.ca_wiring.specs.declared.scan_row.ScanRow.{ScanRow}
 use Rattle.ca_merge_tests.proofs.MemberLemmas.{none_double}
 use Rattle.ca_merge_tests.proofs.merges.linked_netlist.Goals as goal
 

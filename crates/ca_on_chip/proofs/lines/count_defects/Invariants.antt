@@ -1,7 +1,7 @@
 use Rattle.std.proofs.Common.{◌≡◌, take}
 use Rattle.std.specs.Prelude.{slice_get}
 use Rattle.std.specs.List.{sum_by}
-use Rattle.ca_wired.specs.Instances.{gates_of}
+use Rattle.ca_linked.specs.Instances.{gates_of}
 use Rattle.ca_on_chip.specs.Lines.{part_defects}
 use Rattle.ca_on_chip.proofs.lines.count_defects.Given as goal
 

@@ -1,5 +1,5 @@
 use Rattle.std.proofs.Common.{◌≡◌, ◌+◌, drop, Some, sym, ◌∙◌, ap, subst, arith}
-use Rattle.ca_flat.specs.Code.{branch_count}
+use Rattle.ca_flat.specs.Codes.{branch_count}
 use Rattle.ca_read_code.proofs.ReadLemmas.{counted_branch, counted_leaf, counted_all}
 use Rattle.ca_read_code.proofs.read.branch_count.Goals.{in-Branch, in-Leaf}
 use Rattle.ca_read_code.proofs.read.branch_count.Goals as goal

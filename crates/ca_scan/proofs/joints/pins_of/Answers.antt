@@ -1,5 +1,5 @@
 use Rattle.std.proofs.Common.{◌<◌, length, arith}
-use Rattle.ca_wired.specs.Instances.{scans_of}
+use Rattle.ca_linked.specs.Instances.{scans_of}
 use Rattle.ca_scan.proofs.JointLemmas.{pins_more}
 use Rattle.ca_scan.proofs.joints.pins_of.Goals as goal
 

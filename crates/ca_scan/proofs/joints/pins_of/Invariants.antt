@@ -1,5 +1,5 @@
 use Rattle.std.proofs.Common.{take}
-use Rattle.ca_wired.specs.Instances.{scans_of}
+use Rattle.ca_linked.specs.Instances.{scans_of}
 use Rattle.ca_scan.specs.Kept.{Counts, nets_of}
 use Rattle.ca_scan.proofs.joints.pins_of.Given as goal
 

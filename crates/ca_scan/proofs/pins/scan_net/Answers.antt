@@ -1,7 +1,7 @@
 use Rattle.std.proofs.Common.{◌≡◌, sym, subst}
 use Rattle.std.specs.Prelude.{slice_index}
 use Rattle.std.proofs.lemmas.Option.{get_or_from_slice_get}
-use Rattle.ca_wired.specs.Instances.{scans_of}
+use Rattle.ca_linked.specs.Instances.{scans_of}
 use Rattle.ca_scan.specs.Chain.{IsOnPin}
 use Rattle.ca_scan.proofs.JointLemmas.{scan_at}
 use Rattle.ca_scan.proofs.pins.scan_net.Goals as goal

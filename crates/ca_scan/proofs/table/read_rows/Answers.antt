@@ -2,7 +2,7 @@ use Rattle.std.proofs.Common.{◌≡◌, ◌∙◌, ℕ, List, true, false, ap, 
 use Rattle.csv.specs.Records.{fields_of}
 use Rattle.ca_csv.proofs.CsvLemmas.{found_none, found_some}
 use Rattle.ca_lex.specs.FirstFault.{steps_from}
-use Rattle.ca_chip.specs.declared.scan_row.ScanRow.{ScanRow}
+use Rattle.ca_wiring.specs.declared.scan_row.ScanRow.{ScanRow}
 use Rattle.ca_scan.specs.Table.{cells_of, is_header, rows_of, record_step, numbered, with_fields}
 use Rattle.ca_scan.proofs.TableLemmas.{behind_header, no_header, joined_on, not_joined, all_read, joins}
 use Rattle.ca_scan.proofs.TableLemmas.{joins_not}

@@ -1,5 +1,5 @@
 use Rattle.std.proofs.Common.{◌<◌}
-use Rattle.ca_wired.specs.Linked.{input_nets}
+use Rattle.ca_linked.specs.Linked.{input_nets}
 use Rattle.ca_scan_tests.proofs.FitLemmas.{one_more}
 use Rattle.ca_scan_tests.proofs.drafts.inputs_fit.Goals as goal
 

@@ -1,5 +1,5 @@
 use Rattle.std.proofs.Common.{◌<◌}
-use Rattle.ca_wired.specs.Linked.{output_nets}
+use Rattle.ca_linked.specs.Linked.{output_nets}
 use Rattle.ca_scan_tests.proofs.FitLemmas.{one_more}
 use Rattle.ca_scan_tests.proofs.drafts.outputs_fit.Goals as goal
 

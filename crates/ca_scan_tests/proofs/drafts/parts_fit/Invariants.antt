@@ -1,5 +1,5 @@
-use Rattle.ca_wired.specs.declared.parts.Part.{Part}
-use Rattle.ca_wired.specs.Linked.{net_count}
+use Rattle.ca_linked.specs.declared.parts.Part.{Part}
+use Rattle.ca_linked.specs.Linked.{net_count}
 use Rattle.ca_scan_tests.specs.Fits.{AllBefore, IsFit}
 use Rattle.ca_scan_tests.proofs.drafts.parts_fit.Given as goal
 

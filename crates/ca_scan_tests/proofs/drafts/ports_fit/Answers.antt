@@ -1,6 +1,6 @@
 use Rattle.std.proofs.Common.{◌<◌, subst}
-use Rattle.ca_wired.specs.declared.parts.PortBit.{PortBit}
-use Rattle.ca_wired.specs.Linked.{net_count}
+use Rattle.ca_linked.specs.declared.parts.PortBit.{PortBit}
+use Rattle.ca_linked.specs.Linked.{net_count}
 use Rattle.ca_scan_tests.proofs.FitLemmas.{one_more}
 use Rattle.ca_scan_tests.proofs.drafts.ports_fit.Goals as goal
 

@@ -1,6 +1,6 @@
 use Rattle.std.proofs.Common.{◌<◌}
-use Rattle.ca_wired.specs.declared.parts.PortBit.{PortBit}
-use Rattle.ca_wired.specs.Linked.{net_count}
+use Rattle.ca_linked.specs.declared.parts.PortBit.{PortBit}
+use Rattle.ca_linked.specs.Linked.{net_count}
 use Rattle.ca_scan_tests.specs.Fits.{AllBefore}
 use Rattle.ca_scan_tests.proofs.drafts.ports_fit.Given as goal
 

@@ -1,5 +1,5 @@
 use Rattle.std.specs.Prelude.{ℕ, ◌≡◌, ◌<◌, Some}
-use Rattle.ca_wired.specs.Linked.{constant_net}
+use Rattle.ca_linked.specs.Linked.{constant_net}
 use Rattle.ca_view.proofs.constants.constant_net.Given as goal
 
 abbrev pub invariant-loop-net : goal.invariant-loop-net

@@ -1,5 +1,5 @@
 use Rattle.std.proofs.Common.{◌≡◌, Some, subst}
-use Rattle.ca_wired.specs.Linked.{constant_net}
+use Rattle.ca_linked.specs.Linked.{constant_net}
 use Rattle.ca_view.proofs.ConstantLemmas.{driven_true, driven_false}
 use Rattle.ca_view.proofs.constants.is_driven_by.Goals as goal
 

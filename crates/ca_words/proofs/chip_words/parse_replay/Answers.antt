@@ -1,7 +1,7 @@
 use Rattle.std.proofs.Common.{rules, arith, ◌≡◌, length, sym, ◌∙◌, subst}
 use Rattle.std.proofs.lemmas.List.{length-map}
 use Rattle.std.specs.String.{string_bytes}
-use Rattle.ca_asked.specs.Asked.{AreBothOrNeither}
+use Rattle.ca_request.specs.Asked.{AreBothOrNeither}
 use Rattle.ca_words.specs.Words.{AreChipFiles, IsOtherFile, IsVector}
 use Rattle.ca_words.proofs.WordLemmas.{word_of}
 use Rattle.ca_words.proofs.chip_words.parse_replay.Goals as goal

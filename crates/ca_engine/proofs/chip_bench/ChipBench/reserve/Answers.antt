@@ -1,7 +1,7 @@
 use Rattle.std.proofs.Common.{refl, ◌∙◌, ap, subst, arith}
 use Rattle.std.specs.Prelude.{Option}
-use Rattle.ca_wired.specs.Linked as linked
-use Rattle.ca_wired.specs.Instances.{gates_of}
+use Rattle.ca_linked.specs.Linked as linked
+use Rattle.ca_linked.specs.Instances.{gates_of}
 use Rattle.ca_flat.specs.declared.chip_defect.ChipDefect.{ChipDefect}
 use Rattle.ca_flat.specs.Chip.{Chip}
 use Rattle.ca_core.specs.Core.{core_of}
@@ -16,7 +16,7 @@ use Rattle.ca_engine.proofs.chip_bench.ChipBench.reserve.Goals as goal
 pub reserve-requires-2-clause-judged : goal.reserve-requires-2-clause-judged
 reserve-requires-2-clause-judged g c =
     core_can_be_judged c.args.view.now c.viewed.ensures.wired c.flat_is_well_formed.ensures
-    (subst (λ (chip : linked.Chip). (given : Option ChipDefect) → IsFew (core_of chip) given) c.chip.ensures (c.in_ok-judge_size.ensures {u = tt}))
+    (subst (λ (chip : linked.LinkedChip). (given : Option ChipDefect) → IsFew (core_of chip) given) c.chip.ensures (c.in_ok-judge_size.ensures {u = tt}))
     c.viewed.ensures.is_view
 
 pub invariant_of-result : goal.invariant_of-result
@@ -25,7 +25,7 @@ invariant_of-result g c =
     bench_begins view.core view.ranks (cell_number view.chip) c.in_ok-judge.judge _ c.in_ok-defects.defects view.core.outputs
     (c.in_ok-judge.ensures {u = tt}) c.linked.ensures.linked
     (core_can_be_judged view c.viewed.ensures.wired c.flat_is_well_formed.ensures
-    (subst (λ (chip : linked.Chip). (given : Option ChipDefect) → IsFew (core_of chip) given) c.chip.ensures (c.in_ok-judge_size.ensures {u = tt}))
+    (subst (λ (chip : linked.LinkedChip). (given : Option ChipDefect) → IsFew (core_of chip) given) c.chip.ensures (c.in_ok-judge_size.ensures {u = tt}))
     c.viewed.ensures.is_view)
     c.requires c.in_ok-defects.ensures.placed refl (let count = c.output_count.ensures in let few = c.if-output_count.false in omega arith)
 

@@ -1,6 +1,6 @@
 use Rattle.std.proofs.Common.{◌≡◌, ◌≤◌, Some, subst}
 use Rattle.ca_flat.specs.declared.chip_defect.ChipDefect.{ChipDefect}
-use Rattle.ca_flat.specs.Code.{branch_count}
+use Rattle.ca_flat.specs.Codes.{branch_count}
 use Rattle.ca_search.specs.Outcome.{IsOutcome}
 use Rattle.ca_judge.specs.Bench.{judged_of}
 use Rattle.ca_generate.specs.Outcome.{IsSearch}

@@ -1,7 +1,7 @@
 use Rattle.std.proofs.Common.{◌≡◌, ◌<◌, ◌∙◌, true, length, map, ap, sym, subst}
 use Rattle.std.proofs.lemmas.Option.{slice_get_within}
 use Rattle.std.proofs.lemmas.Bool.{lt-ltb}
-use Rattle.ca_flat.specs.Code.{bit_trit}
+use Rattle.ca_flat.specs.Codes.{bit_trit}
 use Rattle.ca_lanes.specs.Plane.{lane_of}
 use Rattle.ca_lanes.specs.Netlist.{IsOrder, AreInstancesOf, HasBits}
 use Rattle.ca_lanes.specs.Planes.{firsts_in, lasts_in}

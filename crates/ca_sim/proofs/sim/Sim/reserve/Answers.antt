@@ -3,7 +3,7 @@ use Rattle.std.specs.Prelude.{None}
 use Rattle.std.proofs.lemmas.List.{length-replicate}
 use Rattle.ca_net.specs.declared.trit.Trit.TheVariants.{X}
 use Rattle.ca_flat.specs.Pair.{bit_count}
-use Rattle.ca_flat.specs.Code.{unset_pair}
+use Rattle.ca_flat.specs.Codes.{unset_pair}
 use Rattle.ca_view.specs.Linked.{place_in}
 use Rattle.ca_sim.specs.Network.{IsAtRest}
 use Rattle.ca_sim.specs.Cells.{AreCellRooms}

@@ -1,5 +1,0 @@
-use Rattle.ca_chip.specs.Forest.{UnitesFirst}
-use Rattle.ca_chip.proofs.joined.Links.unite_all.Given as goal
-
-abbrev pub invariant-loop-k : goal.invariant-loop-k
-invariant-loop-k l = UnitesFirst l.spans l.k l.fn.self l.self

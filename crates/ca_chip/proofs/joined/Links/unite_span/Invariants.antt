@@ -1,5 +1,0 @@
-use Rattle.ca_chip.specs.Forest.{UnitesSpan}
-use Rattle.ca_chip.proofs.joined.Links.unite_span.Given as goal
-
-abbrev pub invariant-loop-step : goal.invariant-loop-step
-invariant-loop-step l = UnitesSpan l.span l.step l.fn.self l.self

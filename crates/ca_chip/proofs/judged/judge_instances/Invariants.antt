@@ -1,5 +1,0 @@
-use Rattle.ca_chip.specs.Pins.{AreSoundFirst}
-use Rattle.ca_chip.proofs.judged.judge_instances.Given as goal
-
-abbrev pub invariant-loop-u : goal.invariant-loop-u
-invariant-loop-u l = AreSoundFirst l.u l.raw l.library l.scan

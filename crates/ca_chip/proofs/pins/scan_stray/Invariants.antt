@@ -1,9 +1,0 @@
-use Rattle.std.proofs.Common.{◌≡◌}
-use Rattle.std.specs.Prelude.{drop}
-use Rattle.ca_chip.specs.Wiring.{ScanCell}
-use Rattle.ca_chip.specs.InstanceRules.{pin_names}
-use Rattle.ca_chip.specs.Pins.{first_stray}
-use Rattle.ca_chip.proofs.pins.scan_stray.Given as goal
-
-abbrev pub invariant-loop-k : goal.invariant-loop-k
-invariant-loop-k l = first_stray (pin_names (ScanCell l.row)) l.uses ≡ first_stray (pin_names (ScanCell l.row)) (drop l.k l.uses)

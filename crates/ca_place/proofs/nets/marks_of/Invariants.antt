@@ -1,6 +1,0 @@
-use Rattle.std.specs.Prelude.{take}
-use Rattle.ca_draft.specs.OnWires.{AreMarks}
-use Rattle.ca_place.proofs.nets.marks_of.Given as goal
-
-abbrev pub invariant-loop-k : goal.invariant-loop-k
-invariant-loop-k l = AreMarks l.earliest (take l.k l.wires) l.used.items

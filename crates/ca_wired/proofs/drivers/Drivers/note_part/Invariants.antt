@@ -1,6 +1,0 @@
-use Rattle.ca_wired.specs.Linked.{FromPin}
-use Rattle.ca_wired.specs.Drivers.{AreNoted, IsSeen}
-use Rattle.ca_wired.proofs.drivers.Drivers.note_part.Given as goal
-
-abbrev pub invariant-loop-pin : goal.invariant-loop-pin
-invariant-loop-pin l = AreNoted l.draft (IsSeen (FromPin l.u l.pin)) l.self

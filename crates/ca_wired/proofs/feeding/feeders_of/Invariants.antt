@@ -1,5 +1,0 @@
-use Rattle.ca_wired.specs.Feeding.{HaveFeeders}
-use Rattle.ca_wired.proofs.feeding.feeders_of.Given as goal
-
-abbrev pub invariant-loop-u : goal.invariant-loop-u
-invariant-loop-u l = HaveFeeders l.draft l.u l.feeders

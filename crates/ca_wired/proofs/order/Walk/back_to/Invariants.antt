@@ -1,6 +1,0 @@
-use Rattle.std.proofs.Common.{◌≡◌, ◌-◌}
-use Rattle.ca_wired.specs.Walk.{back_from}
-use Rattle.ca_wired.proofs.order.Walk.back_to.Given as goal
-
-abbrev pub invariant-loop-k : goal.invariant-loop-k
-invariant-loop-k l = l.back.items ≡ back_from l.self.trail (l.count - l.k) l.k

@@ -1,5 +1,0 @@
-use Rattle.ca_wired.specs.Kept.{ArePlaces}
-use Rattle.ca_wired.proofs.wiring.places_of.Given as goal
-
-abbrev pub invariant-loop-k : goal.invariant-loop-k
-invariant-loop-k l = ArePlaces l.order l.k l.instances l.places.items
