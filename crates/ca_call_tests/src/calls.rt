@@ -94,7 +94,7 @@ fn linked(alloc: Global, netlist: &[u8]) -> Option<Chip> {
 }
 
 // What is reported about the chip of a netlist, if it links.
-fn told(alloc: Global, netlist: &[u8]) -> Option<Text> {
+fn reported(alloc: Global, netlist: &[u8]) -> Option<Text> {
     let chip = linked(alloc, netlist)?;
     let text = described(alloc, &chip).ok();
     drop(chip);
@@ -104,7 +104,7 @@ fn told(alloc: Global, netlist: &[u8]) -> Option<Text> {
 #[test]
 fn calls_of_chips(rt: HostRuntime) {
     for (netlist, wanted) in CHIPS {
-        match told(rt.alloc(), netlist) {
+        match reported(rt.alloc(), netlist) {
             Some(text) => assert!(rt; text.is(wanted), "{:?}", text.as_bytes()),
             None => assert!(rt; false, "{netlist:?}"),
         }

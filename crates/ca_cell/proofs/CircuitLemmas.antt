@@ -56,7 +56,7 @@ node_of-within raw place is_raw within = elim (slice_get_cases raw.pins place).1
       (pin_node-within raw place there.0 there.0.role there.2 refl)
   | inr past ↦
       let pins = is_raw.pins in
-      let behind : length raw.pins ≤ place = past.0 in
+      let following : length raw.pins ≤ place = past.0 in
       subst (λ (pin : Option RawPin). node_at raw.pins place pin < node_count raw) (sym past.1) (omega arith)
 ]
 

@@ -195,7 +195,7 @@ has_net raw pins keeps (suc (suc m)) within =
           let count : role_count is_input (take found.place raw.pins) ≡ m = found.count in
           let node = input_pin_node raw.pins found.place found.pin.role found.has in
           net_of_pin raw (suc (suc m)) found.place found.pin pins found.there (node ∙ omega arith)
-      | no behind ↦ elim (dec_le (m + 1) (role_count is_input raw.pins + role_count is_output raw.pins)) [
+      | no following ↦ elim (dec_le (m + 1) (role_count is_input raw.pins + role_count is_output raw.pins)) [
         | yes output ↦
             let found = has_pin is_output raw.pins (m - role_count is_input raw.pins) (omega arith) in
             let count : role_count is_output (take found.place raw.pins) ≡ m - role_count is_input raw.pins = found.count in

@@ -17,17 +17,17 @@ output_count pins = is_count_by (λ (list : List RawPin). length (output_names l
 abbrev own_name : RawPin → List (List ℕ)
 own_name pin = cond (is_output pin.role) (pin.name ∷ []) []
 
-behind_first : (is : Bool) (name : List ℕ) (names more all : List (List ℕ)) → all ≡ names ++ more
+after_first : (is : Bool) (name : List ℕ) (names more all : List (List ℕ)) → all ≡ names ++ more
     → cond is (name ∷ all) all ≡ cond is (name ∷ names) names ++ more
-behind_first true name names more all held = ap (λ rest. name ∷ rest) held
-behind_first false name names more all held = held
+after_first true name names more all held = ap (λ rest. name ∷ rest) held
+after_first false name names more all held = held
 
 names_next : (pins : List RawPin) (place : ℕ) (pin : RawPin) → place < length pins → pin ≡ slice_index_or pins place pin
     → output_names (take (suc place) pins) ≡ output_names (take place pins) ++ own_name pin
 names_next [] place pin below is = absurd (omega arith)
 names_next (first ∷ pins) zero pin below is = ap own_name (sym is)
 names_next (first ∷ pins) (suc place) pin below is =
-    behind_first (is_output first.role) first.name (output_names (take place pins)) (own_name pin) (output_names (take (suc place) pins))
+    after_first (is_output first.role) first.name (output_names (take place pins)) (own_name pin) (output_names (take (suc place) pins))
     (names_next pins place pin (omega (arith, below)) is)
 
 -- the name of an output pin comes last

@@ -117,8 +117,8 @@ counted (verdict ∷ verdicts) =
 pub counted_more : (of : Kind) (verdicts : List Verdict) (k count one : ℕ) (verdict : Verdict) (passed : Bool)
     → slice_get verdicts k ≡ Some verdict → passed ≡ is_kind of verdict → one ≡ cond passed 1 0
     → count ≡ count_of of (take k verdicts) → count + one ≡ count_of of (take (k + 1) verdicts)
-counted_more of verdicts k count one verdict passed at is tells before =
+counted_more of verdicts k count one verdict passed at is reports before =
     let last = length-filter_more (is_kind of) verdicts k verdict (slice_get_within verdicts k verdict at) in
     let read = ap (λ (given : Verdict). cond {A = ℕ} (is_kind of given) 1 0) (get_or_from_slice_get verdicts k verdict verdict at) in
-    let here = tells ∙ ap (λ (test : Bool). cond {A = ℕ} test 1 0) is in
+    let here = reports ∙ ap (λ (test : Bool). cond {A = ℕ} test 1 0) is in
     omega (arith, last, read, here, before)

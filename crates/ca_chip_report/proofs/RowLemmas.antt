@@ -22,7 +22,7 @@ use Rattle.ca_linked.proofs.PartLemmas.{of_all}
 use Rattle.ca_report.specs.declared.rows.ReportRow.{ReportRow}
 use Rattle.ca_report.specs.declared.verdict.Verdict as report
 use Rattle.ca_report.specs.Report.{IsRowOf}
-use Rattle.ca_chip_report.specs.ChipReport.{told_of, instance_name, cell_name, row_of, report_rows}
+use Rattle.ca_chip_report.specs.ChipReport.{reported_of, instance_name, cell_name, row_of, report_rows}
 use Rattle.ca_chip_report.specs.ChipReport.{IsGateDefect, IsVerdictWithin, AreReported}
 
 -- a library instance is one of the chip's
@@ -34,13 +34,13 @@ gate_within chip defect is = by (slice_get chip.parts defect.instance) refl is.i
     by None at gate = absurd gate
     by (Some part) at gate = slice_get_within chip.parts defect.instance part at
 
-pub name_told : (at : Option Part) (name : List ℕ) → IsSomeAnd at (λ part. part.name ≡ name) → instance_name at ≡ name
-name_told None name there = absurd there
-name_told (Some part) name there = there
+pub name_reported : (at : Option Part) (name : List ℕ) → IsSomeAnd at (λ part. part.name ≡ name) → instance_name at ≡ name
+name_reported None name there = absurd there
+name_reported (Some part) name there = there
 
-pub cell_told : (at : Option Part) (name : List ℕ) → IsSomeAnd at (λ part. part.cell ≡ name) → cell_name at ≡ name
-cell_told None name there = absurd there
-cell_told (Some part) name there = there
+pub cell_reported : (at : Option Part) (name : List ℕ) → IsSomeAnd at (λ part. part.cell ≡ name) → cell_name at ≡ name
+cell_reported None name there = absurd there
+cell_reported (Some part) name there = there
 
 -- the cell of a library instance is that of the core
 pub core_cell : (chip : LinkedChip) (u : ℕ) (raw : RawCell)
@@ -81,11 +81,11 @@ row_at chip (first ∷ defects) (one ∷ verdicts) (suc k) defect verdict at als
     row_at chip defects verdicts k defect verdict at also
 
 -- what holds of the row of a defect, whatever its verdict
-pub row_told : (P : ReportRow → Type 0) (chip : LinkedChip) (defects : List ChipDefect) (verdicts : List Verdict) (k : ℕ)
+pub row_reported : (P : ReportRow → Type 0) (chip : LinkedChip) (defects : List ChipDefect) (verdicts : List Verdict) (k : ℕ)
     (defect : ChipDefect) → AreReported chip defects verdicts → slice_get defects k ≡ Some defect
     → ((verdict : Verdict) → P (row_of chip defect verdict))
     → IsSomeAnd (slice_get (report_rows chip defects verdicts) k) P
-row_told P chip defects verdicts k defect are at holds = by (slice_get verdicts k) refl
+row_reported P chip defects verdicts k defect are at holds = by (slice_get verdicts k) refl
   where
     by : (o : Option Verdict) → slice_get verdicts k ≡ o → IsSomeAnd (slice_get (report_rows chip defects verdicts) k) P
     by None none =
@@ -96,19 +96,19 @@ row_told P chip defects verdicts k defect are at holds = by (slice_get verdicts 
         subst (λ o. IsSomeAnd o P) (sym (row_at chip defects verdicts k defect verdict at some)) (holds verdict)
 
 -- what a row says about a verdict
-pub verdict_told : (chip : LinkedChip) (defects : List ChipDefect) (verdicts : List Verdict) (k : ℕ) (verdict : Verdict)
-    (told : report.Verdict) → AreReported chip defects verdicts → slice_get verdicts k ≡ Some verdict
-    → told_of verdict ≡ told → IsSomeAnd (slice_get (report_rows chip defects verdicts) k) (λ row. row.verdict ≡ told)
-verdict_told chip defects verdicts k verdict told are at is = by (slice_get defects k) refl
+pub verdict_reported : (chip : LinkedChip) (defects : List ChipDefect) (verdicts : List Verdict) (k : ℕ) (verdict : Verdict)
+    (reported : report.Verdict) → AreReported chip defects verdicts → slice_get verdicts k ≡ Some verdict
+    → reported_of verdict ≡ reported → IsSomeAnd (slice_get (report_rows chip defects verdicts) k) (λ row. row.verdict ≡ reported)
+verdict_reported chip defects verdicts k verdict reported are at is = by (slice_get defects k) refl
   where
     by : (o : Option ChipDefect) → slice_get defects k ≡ o
-        → IsSomeAnd (slice_get (report_rows chip defects verdicts) k) (λ row. row.verdict ≡ told)
+        → IsSomeAnd (slice_get (report_rows chip defects verdicts) k) (λ row. row.verdict ≡ reported)
     by None none =
         let past = none_past defects k none in
         let below = slice_get_within verdicts k verdict at in
         absurd (omega (arith, past, are.one_each, below))
     by (Some defect) some =
-        subst (λ o. IsSomeAnd o (λ row. row.verdict ≡ told)) (sym (row_at chip defects verdicts k defect verdict some at)) is
+        subst (λ o. IsSomeAnd o (λ row. row.verdict ≡ reported)) (sym (row_at chip defects verdicts k defect verdict some at)) is
 
 -- the defect of a row is one of a library instance
 pub gate_at : (chip : LinkedChip) (defects : List ChipDefect) (verdicts : List Verdict) (k : ℕ) (defect : ChipDefect)

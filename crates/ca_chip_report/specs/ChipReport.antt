@@ -12,14 +12,14 @@ use Rattle.ca_credit.specs.declared.verdict.Verdict.{Verdict}
 use Rattle.ca_credit.specs.declared.verdict.Verdict.TheVariants.{Credited, Unexposable, Untestable, Aborted}
 use Rattle.ca_report.specs.declared.rows.ReportRow.{ReportRow}
 use Rattle.ca_report.specs.declared.verdict.Verdict as report
-use Rattle.ca_report.specs.declared.verdict.Verdict.TheVariants as told
+use Rattle.ca_report.specs.declared.verdict.Verdict.TheVariants as reported
 
 -- the verdict in a report: without the code of a search that was aborted
-abbrev pub told_of : Verdict → report.Verdict
-told_of (Credited pair output) = told.Credited pair output
-told_of Unexposable = told.Unexposable
-told_of Untestable = told.Untestable
-told_of (Aborted code) = told.Aborted
+abbrev pub reported_of : Verdict → report.Verdict
+reported_of (Credited pair output) = reported.Credited pair output
+reported_of Unexposable = reported.Unexposable
+reported_of Untestable = reported.Untestable
+reported_of (Aborted code) = reported.Aborted
 
 -- the name of an instance, as the netlist spells it
 abbrev pub instance_name : Option Part → List ℕ
@@ -37,7 +37,7 @@ row_of chip defect verdict = record {
   instance = instance_name (slice_get chip.parts defect.instance);
   cell = cell_name (slice_get chip.parts defect.instance);
   defect = name_of (cell_at (core_of chip) defect.instance) defect.defect;
-  verdict = told_of verdict;
+  verdict = reported_of verdict;
 }
 
 -- the rows of defects, each with its verdict, in order

@@ -4,7 +4,7 @@ ghost use Rattle.std.specs.Prelude.{◌≡◌, ◌<◌, length, slice_get, Some,
 ghost use Rattle.ca_defect.specs.Name.{name_of};
 ghost use Rattle.ca_flat.specs.Chip.{cell_at};
 ghost use Rattle.ca_core.specs.Core.{core_of};
-ghost use Rattle.ca_chip_report.specs.ChipReport.{told_of, instance_name, cell_name, IsGateDefect};
+ghost use Rattle.ca_chip_report.specs.ChipReport.{reported_of, instance_name, cell_name, IsGateDefect};
 ghost use Rattle.ca_chip_report.specs.ChipReport.{AreReported};
 ghost use Rattle.ca_chip_report.specs.Kept.{AreReported-prop};
 
@@ -17,7 +17,7 @@ use ca_linked::{Chip, InstanceId};
 use std::alloc::Global;
 
 // The name of a defect's instance.
-#[tactic(auto, using(crate::proofs::RowLemmas::gate_within, crate::proofs::RowLemmas::name_told))]
+#[tactic(auto, using(crate::proofs::RowLemmas::gate_within, crate::proofs::RowLemmas::name_reported))]
 fn instance_of(chip: &Chip, defect: ChipDefect) -> &[u8]
     requires { IsGateDefect chip.now defect }
     ensures { instance_name (slice_get chip.now.parts defect.instance) ≡ result.now }
@@ -26,7 +26,7 @@ fn instance_of(chip: &Chip, defect: ChipDefect) -> &[u8]
 }
 
 // The name of its cell.
-#[tactic(auto, using(crate::proofs::RowLemmas::gate_within, crate::proofs::RowLemmas::cell_told))]
+#[tactic(auto, using(crate::proofs::RowLemmas::gate_within, crate::proofs::RowLemmas::cell_reported))]
 fn cell_of(chip: &Chip, defect: ChipDefect) -> &[u8]
     requires { IsGateDefect chip.now defect }
     ensures { cell_name (slice_get chip.now.parts defect.instance) ≡ result.now }
@@ -45,8 +45,8 @@ fn name_of(alloc: Global, chip: &Chip, defect: ChipDefect) -> Result<Text, NoMem
 }
 
 // The verdict in a report.
-fn told_of(verdict: &Verdict) -> ca_report::Verdict
-    ensures { told_of verdict.now ≡ result }
+fn reported_of(verdict: &Verdict) -> ca_report::Verdict
+    ensures { reported_of verdict.now ≡ result }
 {
     match verdict {
         Verdict::Credited { pair, output } => ca_report::Verdict::Credited {
@@ -99,6 +99,6 @@ impl ReportRows for ChipRows<'_> {
     }
 
     fn verdict(&self, k: usize) -> ca_report::Verdict {
-        told_of(self.verdicts.get(k))
+        reported_of(self.verdicts.get(k))
     }
 }

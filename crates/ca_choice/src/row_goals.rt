@@ -131,7 +131,7 @@ fn next_row(rows: &RowCubes, before: Option<Offer>) -> Option<Offer> {
     for place in 0..rows.len() {
         let price = rows.price(place);
         let offer = Offer { price, place };
-        if price < NEVER && is_behind(offer, before) && is_cheaper(offer, best) {
+        if price < NEVER && is_after(offer, before) && is_cheaper(offer, best) {
             best = Some(offer);
         }
     }
@@ -139,7 +139,7 @@ fn next_row(rows: &RowCubes, before: Option<Offer>) -> Option<Offer> {
 }
 
 // Whether an offer comes after another one, if there is one.
-fn is_behind(offer: Offer, before: Option<Offer>) -> bool {
+fn is_after(offer: Offer, before: Option<Offer>) -> bool {
     match before {
         Some(before) => {
             before.price < offer.price

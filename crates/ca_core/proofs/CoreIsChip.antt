@@ -106,7 +106,7 @@ module _ (chip : LinkedChip) (is : IsWired chip) where
             let has = read_is_data found.part.body pin (let e = read_count chip found.part.body (body_of u found.part found.at) in omega arith) in
             subst (λ n. n < length (core_of chip).nets) (sym (input_net_is u found.part pin found.at input))
             (number_within (get_or (gate_inputs found.part.body) pin 0) (data_within u found.part _ found.at has) (data_outside u found.part _ found.at has))
-        | inr behind ↦
+        | inr following ↦
             let output = pin - pins_in chip found.part.body in
             let out_lt : output < length (stored_nets found.part.body) = omega arith in
             let has = stored_is_data found.part.body output out_lt in

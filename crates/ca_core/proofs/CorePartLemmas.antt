@@ -153,5 +153,5 @@ pub record HasPart (chip : LinkedChip) (u : ℕ) : Type 0 where
 pub part_at : (chip : LinkedChip) (u : ℕ) → u < length (core_of chip).instances → HasPart chip u
 part_at chip u lt = elim (slice_get_cases chip.parts u).1 [
   | inl there ↦ record { part = there.0; at = there.2 }
-  | inr past ↦ absurd (let l = length-map chip.parts (λ (p : Part). core_instance chip p.body) in let behind = past.0 in omega arith)
+  | inr past ↦ absurd (let l = length-map chip.parts (λ (p : Part). core_instance chip p.body) in let following = past.0 in omega arith)
 ]

@@ -157,17 +157,17 @@ module _ (task : Task) (pair : List Bool) (number place : ℕ) (given : Bool) (o
   tries_here = tried_here
 
 -- the defect at a place was tried, and then others
-pub tries_lead : (task same : Task) (pair : List Bool) (number place behind total : ℕ) (here given : Bool) (old mid new : Round)
+pub tries_lead : (task same : Task) (pair : List Bool) (number place following total : ℕ) (here given : Bool) (old mid new : Round)
     → place < length old.tried.items → mid.tried.items ≡ slice_set old.tried.items place true
     → is_tried old.tried.items place ≡ false
     → CreditsOne task pair number place here old.verdicts.items mid.verdicts.items → here ≡ given
-    → same ≡ task → TriesMore same pair number behind mid new → total ≡ one_if given + behind
+    → same ≡ task → TriesMore same pair number following mid new → total ≡ one_if given + following
     → TriesMore task pair number total old new
-tries_lead task same pair number place behind total here given old mid new within marked untried one is same_is more sum =
-    subst (λ n. TriesMore task pair number n old new) (ap (λ b. one_if b + behind) is ∙ sym sum)
-    (tries_then task pair number (one_if here) behind old mid new
+tries_lead task same pair number place following total here given old mid new within marked untried one is same_is more sum =
+    subst (λ n. TriesMore task pair number n old new) (ap (λ b. one_if b + following) is ∙ sym sum)
+    (tries_then task pair number (one_if here) following old mid new
     (tries_one task pair number place here old mid within marked untried one)
-    (tries_same task same pair number behind mid new same_is more))
+    (tries_same task same pair number following mid new same_is more))
 
 -- the answer for the defect that was aimed at is that for the one at its place
 pub answer_here : (task same : Task) (pair : List Bool) (bits : List Trit) (aimed : Option ChipDefect) (place : ℕ)

@@ -142,7 +142,7 @@ impl Round {
 
     // Tries the pair on the defects from a place on that are of the instance of the defect that is aimed at
     // and let it give the same.
-    fn try_behind<S: Simulator>(
+    fn try_after<S: Simulator>(
         &mut self,
         sim: &mut S,
         pair: &Pair,
@@ -199,8 +199,8 @@ impl Round {
         sim.aim(place);
         let answer = detecting_output(sim);
         let here = self.give(number, place, answer);
-        let behind = self.try_behind(sim, pair, number, place + 1, answer);
-        if here { behind + 1 } else { behind }
+        let following = self.try_after(sim, pair, number, place + 1, answer);
+        if here { following + 1 } else { following }
     }
 
     // Tries the pair on the defect at a place that wasn't tried, by the rows and by last values alone.

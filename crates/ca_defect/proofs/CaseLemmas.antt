@@ -70,16 +70,16 @@ front_is text piece rest same =
     )
 
 -- what follows the first piece of a name are the others
-pub others_behind : (text first mark second behind name : List ℕ) → first ++ (mark ++ second) ≡ name → text ≡ first ++ behind → name ≡ text
-    → behind ≡ mark ++ second
-others_behind text first mark second behind name whole front same = append_cancel_left first behind (mark ++ second) (sym front ∙ sym same ∙ sym whole)
+pub others_after : (text first mark second following name : List ℕ) → first ++ (mark ++ second) ≡ name → text ≡ first ++ following → name ≡ text
+    → following ≡ mark ++ second
+others_after text first mark second following name whole front same = append_cancel_left first following (mark ++ second) (sym front ∙ sym same ∙ sym whole)
 
 -- a text that begins with two pieces is, with a third after them, a name exactly where the third is what
 -- follows the two
-pub three_pieces : (text first mark second behind_first behind_mark name : List ℕ) → first ++ (mark ++ second) ≡ name → text ≡ first ++ behind_first
-    → behind_first ≡ mark ++ behind_mark → (behind_mark ≡ second → name ≡ text) × (name ≡ text → behind_mark ≡ second)
-three_pieces text first mark second behind_first behind_mark name whole front middle = (
+pub three_pieces : (text first mark second after_first after_mark name : List ℕ) → first ++ (mark ++ second) ≡ name → text ≡ first ++ after_first
+    → after_first ≡ mark ++ after_mark → (after_mark ≡ second → name ≡ text) × (name ≡ text → after_mark ≡ second)
+three_pieces text first mark second after_first after_mark name whole front middle = (
   λ same. sym whole ∙ ap (λ rest. first ++ rest) (ap (λ rest. mark ++ rest) (sym same) ∙ sym middle) ∙ sym front,
-  λ same. append_cancel_left mark behind_mark second
-      (sym middle ∙ others_behind text first mark second behind_first name whole front same),
+  λ same. append_cancel_left mark after_mark second
+      (sym middle ∙ others_after text first mark second after_first name whole front same),
 )

@@ -57,9 +57,9 @@ slice_get_kept devices new defect place device there =
 -- a new device is after all others
 pub slice_get-new : (devices : List Device) (new : ℕ) (defect : Defect) (place : ℕ) (device : Device) → new_device defect ≡ Some device
     → place ≡ length devices → slice_get (devices_with devices new defect) place ≡ Some device
-slice_get-new devices new defect place device is behind =
+slice_get-new devices new defect place device is following =
     ap (λ o. slice_get (changed_devices devices new defect ++ option_to_list o) place) is
-    ∙ slice_get-append_end (changed_devices devices new defect) device place (behind ∙ sym (length-changed_from defect new 0 devices))
+    ∙ slice_get-append_end (changed_devices devices new defect) device place (following ∙ sym (length-changed_from defect new 0 devices))
 
 -- a fact of both is one of the chosen
 either_holds : (P : Device → Type 0) (b : Bool) (x y : Device) → P x → P y → P (cond b x y)
@@ -184,7 +184,7 @@ no_more_devices devices new defect is =
 -- the one that the defect adds follows the devices that were there
 pub adds_device : (devices : List Device) (new : ℕ) (defect : Defect) (place : ℕ) → place < length (devices_with devices new defect) → length devices ≤ place
     → IsSome (new_device defect)
-adds_device devices new defect place within behind = by (new_device defect) refl
+adds_device devices new defect place within following = by (new_device defect) refl
   where
     by : (added : Option Device) → new_device defect ≡ added → IsSome added
     by None is = let none = no_more_devices devices new defect is in absurd (omega arith)
@@ -192,5 +192,5 @@ adds_device devices new defect place within behind = by (new_device defect) refl
 
 pub device_added : (devices : List Device) (new : ℕ) (defect : Defect) (place : ℕ) (device : Device) → new_device defect ≡ Some device
     → place < length (devices_with devices new defect) → length devices ≤ place → slice_get (devices_with devices new defect) place ≡ Some device
-device_added devices new defect place device is within behind =
+device_added devices new defect place device is within following =
     let longer = one_more_device devices new defect device is in slice_get-new devices new defect place device is (omega arith)

@@ -27,15 +27,15 @@ length-each_from give size place (suc count) each =
     omega arith
 
 -- the places below a limit give none, and those from it on one each
-length-behind : (give : ℕ → List Defect) (limit place count : ℕ) → ((k : ℕ) → k < limit → length (give k) ≡ 0)
+length-following : (give : ℕ → List Defect) (limit place count : ℕ) → ((k : ℕ) → k < limit → length (give k) ≡ 0)
     → ((k : ℕ) → limit ≤ k → length (give k) ≡ 1) → (limit ≤ place → length (each_from give place count) ≡ count)
     × (place ≤ limit → length (each_from give place count) ≡ place + count - limit)
-length-behind give limit place zero none one = (λ behind. refl, λ before. omega arith)
-length-behind give limit place (suc count) none one =
-    let rest = length-behind give limit (place + 1) count none one in
+length-following give limit place zero none one = (λ following. refl, λ before. omega arith)
+length-following give limit place (suc count) none one =
+    let rest = length-following give limit (place + 1) count none one in
     let both = length-append (give place) (each_from give (place + 1) count) in (
-      λ behind.
-          let first = one place behind in
+      λ following.
+          let first = one place following in
           let more = rest.0 (omega arith) in
           omega arith,
       λ before.
@@ -53,7 +53,7 @@ length-behind give limit place (suc count) none one =
 
 -- a rail has shorts with the nodes after the input pins
 short_of_rail : (inputs low high : ℕ) → low < 2 → 2 + inputs ≤ high → is_short inputs low high ≡ true
-short_of_rail inputs low high rail behind = grind (arith, nat_tests)
+short_of_rail inputs low high rail following = grind (arith, nat_tests)
 
 no_short_of_rail : (inputs low high : ℕ) → low < 2 → high < 2 + inputs → is_short inputs low high ≡ false
 no_short_of_rail inputs low high rail before = grind (arith, nat_tests)
@@ -85,8 +85,8 @@ no_short inputs low high is =
 -- how many shorts a node has with higher ones
 length-shorts_of_rail : (inputs nodes low : ℕ) → low < 2 → length (shorts_of nodes inputs low) ≡ nodes - (2 + inputs)
 length-shorts_of_rail inputs nodes low rail =
-    let counts = length-behind (short_of inputs low) (2 + inputs) 0 nodes (λ k before. no_short inputs low k (no_short_of_rail inputs low k rail before))
-    (λ k behind. one_short inputs low k (short_of_rail inputs low k rail behind)) in
+    let counts = length-following (short_of inputs low) (2 + inputs) 0 nodes (λ k before. no_short inputs low k (no_short_of_rail inputs low k rail before))
+    (λ k following. one_short inputs low k (short_of_rail inputs low k rail following)) in
     let count = counts.1 (omega arith) in
     omega arith
 
@@ -97,8 +97,8 @@ length-shorts_of_pin inputs nodes low from to =
 
 length-shorts_of_free : (inputs nodes low : ℕ) → 2 + inputs ≤ low → length (shorts_of nodes inputs low) ≡ nodes - (low + 1)
 length-shorts_of_free inputs nodes low free =
-    let counts = length-behind (short_of inputs low) (low + 1) 0 nodes (λ k before. no_short inputs low k (no_short_of_free inputs low k free (omega arith)))
-    (λ k behind. one_short inputs low k (short_of_free inputs low k free (omega arith))) in
+    let counts = length-following (short_of inputs low) (low + 1) 0 nodes (λ k before. no_short inputs low k (no_short_of_free inputs low k free (omega arith)))
+    (λ k following. one_short inputs low k (short_of_free inputs low k free (omega arith))) in
     let count = counts.1 (omega arith) in
     omega arith
 

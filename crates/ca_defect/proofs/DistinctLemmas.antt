@@ -26,17 +26,17 @@ abbrev AreDistinct : List Defect → Type 0
 AreDistinct xs = (one other : ℕ) (x : Defect) → slice_get xs one ≡ Some x → slice_get xs other ≡ Some x → one ≡ other
 
 -- where an entry of two lists is
-record IsBehind (xs ys : List Defect) (at : ℕ) (x : Defect) : Type 0 where
+record IsAfter (xs ys : List Defect) (at : ℕ) (x : Defect) : Type 0 where
   place : ℕ
   there : slice_get ys place ≡ Some x
-  behind : at ≡ length xs + place
+  following : at ≡ length xs + place
 
-in_either : (xs ys : List Defect) (at : ℕ) (x : Defect) → slice_get (xs ++ ys) at ≡ Some x → (slice_get xs at ≡ Some x) ⊎ IsBehind xs ys at x
-in_either [] ys at x there = inr (record { place = at; there = there; behind = omega arith })
+in_either : (xs ys : List Defect) (at : ℕ) (x : Defect) → slice_get (xs ++ ys) at ≡ Some x → (slice_get xs at ≡ Some x) ⊎ IsAfter xs ys at x
+in_either [] ys at x there = inr (record { place = at; there = there; following = omega arith })
 in_either (first ∷ xs) ys zero x there = inl there
 in_either (first ∷ xs) ys (suc at) x there = elim (in_either xs ys at x there) [
   | inl here ↦ inl here
-  | inr later ↦ inr (record { place = later.place; there = later.there; behind = let behind = later.behind in omega (arith, behind) })
+  | inr later ↦ inr (record { place = later.place; there = later.there; following = let following = later.following in omega (arith, following) })
 ]
 
 -- two such lists with no entry in common
@@ -44,45 +44,45 @@ distinct-append : (xs ys : List Defect) → AreDistinct xs → AreDistinct ys
     → ((one other : ℕ) (x : Defect) → slice_get xs one ≡ Some x → slice_get ys other ≡ Some x → ⊥) → AreDistinct (xs ++ ys)
 distinct-append xs ys here there apart one other x is is_too = by (in_either xs ys one x is) (in_either xs ys other x is_too)
   where
-    by : (slice_get xs one ≡ Some x) ⊎ IsBehind xs ys one x → (slice_get xs other ≡ Some x) ⊎ IsBehind xs ys other x → one ≡ other
+    by : (slice_get xs one ≡ Some x) ⊎ IsAfter xs ys one x → (slice_get xs other ≡ Some x) ⊎ IsAfter xs ys other x → one ≡ other
     by (inl first) (inl second) = here one other x first second
     by (inl first) (inr second) = absurd (apart one second.place x first second.there)
     by (inr first) (inl second) = absurd (apart other first.place x second first.there)
     by (inr first) (inr second) =
         let same = there first.place second.place x first.there second.there in
-        first.behind ∙ ap (λ k. length xs + k) same ∙ sym second.behind
+        first.following ∙ ap (λ k. length xs + k) same ∙ sym second.following
 
 -- the place whose list gives an entry
 record IsGiven (give : ℕ → List Defect) (from at : ℕ) (x : Defect) : Type 0 where
   of : ℕ
   place : ℕ
   there : slice_get (give of) place ≡ Some x
-  behind : from ≤ of
+  following : from ≤ of
 
 given : (give : ℕ → List Defect) (from count at : ℕ) (x : Defect) → slice_get (each_from give from count) at ≡ Some x → IsGiven give from at x
 given give from zero at x there = absurd cc
 given give from (suc count) at x there =
-    by (in_either (give from) (each_from give (from + 1) count) at x there) (λ place behind. given give (from + 1) count place x behind)
+    by (in_either (give from) (each_from give (from + 1) count) at x there) (λ place following. given give (from + 1) count place x following)
   where
-    by : (slice_get (give from) at ≡ Some x) ⊎ IsBehind (give from) (each_from give (from + 1) count) at x
+    by : (slice_get (give from) at ≡ Some x) ⊎ IsAfter (give from) (each_from give (from + 1) count) at x
         → ((place : ℕ) → slice_get (each_from give (from + 1) count) place ≡ Some x → IsGiven give (from + 1) place x) → IsGiven give from at x
-    by (inl here) next = record { of = from; place = at; there = here; behind = omega arith }
+    by (inl here) next = record { of = from; place = at; there = here; following = omega arith }
     by (inr later) next =
         let rest = next later.place later.there in
-        record { of = rest.of; place = rest.place; there = rest.there; behind = let behind = rest.behind in omega (arith, behind) }
+        record { of = rest.of; place = rest.place; there = rest.there; following = let following = rest.following in omega (arith, following) }
 
 -- lists that places give, where an entry determines its place
 distinct-each : (give : ℕ → List Defect) (key : Defect → ℕ) → ((k place : ℕ) (x : Defect) → slice_get (give k) place ≡ Some x → key x ≡ k)
     → ((k : ℕ) → AreDistinct (give k)) → (from count : ℕ) → AreDistinct (each_from give from count)
-distinct-each give key tells each from zero = λ one other x is is_too. absurd cc
-distinct-each give key tells each from (suc count) =
-    distinct-append (give from) (each_from give (from + 1) count) (each from) (distinct-each give key tells each (from + 1) count)
+distinct-each give key reports each from zero = λ one other x is is_too. absurd cc
+distinct-each give key reports each from (suc count) =
+    distinct-append (give from) (each_from give (from + 1) count) (each from) (distinct-each give key reports each (from + 1) count)
     (λ one other x here there.
     let rest = given give (from + 1) count other x there in
-    let place = tells from one x here in
-    let further = tells rest.of rest.place x rest.there in
-    let behind = rest.behind in
-    omega (arith, place, further, behind))
+    let place = reports from one x here in
+    let further = reports rest.of rest.place x rest.there in
+    let following = rest.following in
+    omega (arith, place, further, following))
 
 -- the first place that an entry names, and the kind of its change
 abbrev key_of : Defect → ℕ

@@ -39,9 +39,9 @@ each_from-front : (give : ℕ → List Defect) (place end : ℕ) → place < end
 each_from-front give place end within = let same : end - place ≡ suc (end - (place + 1)) = omega arith in ap (each_from give place) same
 
 -- a place that has none is passed over
-pub find_behind : (test : Defect → Bool) (give : ℕ → List Defect) (place end : ℕ) → place < end → find test (give place) ≡ None
+pub find_after : (test : Defect → Bool) (give : ℕ → List Defect) (place end : ℕ) → place < end → find test (give place) ≡ None
     → find test (each_from give place (end - place)) ≡ find test (each_from give (place + 1) (end - (place + 1)))
-find_behind test give place end within none =
+find_after test give place end within none =
     ap (find test) (each_from-front give place end within) ∙ find-append test (give place) (each_from give (place + 1) (end - (place + 1)))
     ∙ ap (λ o. option_or o (find test (each_from give (place + 1) (end - (place + 1))))) none
 
@@ -72,5 +72,5 @@ found_at_place test give place end all within same before found is some =
 pub place_passed : (test : Defect → Bool) (give : ℕ → List Defect) (place end : ℕ) → place < end
     → find test (each_from give 0 end) ≡ find test (each_from give place (end - place)) → (found : Option Defect) → found ≡ find test (give place)
     → is_some found ≡ false → find test (each_from give 0 end) ≡ find test (each_from give (place + 1) (end - (place + 1)))
-place_passed test give place end within before None is none = before ∙ find_behind test give place end within (sym is)
+place_passed test give place end within before None is none = before ∙ find_after test give place end within (sym is)
 place_passed test give place end within before (Some defect) is none = absurd (true≢false none)

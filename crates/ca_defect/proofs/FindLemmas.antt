@@ -63,10 +63,10 @@ no_name raw text None is =
 no_name raw text (Some defect) is = tt
 
 -- a test answers whether a text is a name where it holds exactly then
-pub tells_name : (raw : RawCell) (text : List ℕ) (defect : Defect) (answer : Bool) → (IsTrue answer → name_of raw defect ≡ upper_case text)
+pub reports_name : (raw : RawCell) (text : List ℕ) (defect : Defect) (answer : Bool) → (IsTrue answer → name_of raw defect ≡ upper_case text)
     → (name_of raw defect ≡ upper_case text → IsTrue answer) → answer ≡ is_called raw text defect
-tells_name raw text defect true only always = sym ((bytes_eq-Decides (name_of raw defect) (upper_case text)).1 (only refl))
-tells_name raw text defect false only always = by (bytes_eq (name_of raw defect) (upper_case text)) refl
+reports_name raw text defect true only always = sym ((bytes_eq-Decides (name_of raw defect) (upper_case text)).1 (only refl))
+reports_name raw text defect false only always = by (bytes_eq (name_of raw defect) (upper_case text)) refl
   where
     by : (b : Bool) → bytes_eq (name_of raw defect) (upper_case text) ≡ b → false ≡ b
     by true is = (always ((bytes_eq-Decides (name_of raw defect) (upper_case text)).0 is))

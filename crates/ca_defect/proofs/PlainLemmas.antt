@@ -42,8 +42,8 @@ up_to_sign [] (byte ∷ other) rest more all both same = absurd (both.0 cc)
 up_to_sign (byte ∷ one) [] rest more all both same = absurd (all.0 cc)
 up_to_sign (byte ∷ one) (next ∷ other) rest more all both same =
     let first : byte ≡ next = cc in
-    let behind : one ++ 61 ∷ rest ≡ other ++ 61 ∷ more = cc in
-    let later = up_to_sign one other rest more all.1 both.1 behind in
+    let following : one ++ 61 ∷ rest ≡ other ++ 61 ∷ more = cc in
+    let later = up_to_sign one other rest more all.1 both.1 following in
     (λ j. first j ∷ later.0 j, later.1)
 
 -- a text without an equals sign isn't one with it
@@ -59,16 +59,16 @@ pub one_short : (low high other more : List ℕ) → IsPlainText low → IsPlain
 one_short low high other more sign sign same = (refl, cc)
 one_short low high other more sign (plain byte rest is all) same = absurd (is cc)
 one_short low high other more (plain byte rest is all) sign same = absurd (is cc)
-one_short low high other more (plain byte rest is all) (plain next behind is_too all_too) same =
-    up_to_sign (byte ∷ rest) (next ∷ behind) high more (is, all) (is_too, all_too) same
+one_short low high other more (plain byte rest is all) (plain next following is_too all_too) same =
+    up_to_sign (byte ∷ rest) (next ∷ following) high more (is, all) (is_too, all_too) same
 
 -- a mark: a letter in parentheses
 abbrev pub marked : List ℕ → ℕ → List ℕ
 marked name letter = name ++ 40 ∷ letter ∷ 41 ∷ []
 
 all_append : (text more : List ℕ) → HasNoSign text → HasNoSign more → HasNoSign (text ++ more)
-all_append [] more all behind = behind
-all_append (byte ∷ text) more all behind = (all.0, all_append text more all.1 behind)
+all_append [] more all following = following
+all_append (byte ∷ text) more all following = (all.0, all_append text more all.1 following)
 
 -- a plain name with a mark isn't two names with an equals sign between
 pub open_or_short : (name low high : List ℕ) (letter : ℕ) → letter ≢ 61 → IsPlainText name → IsPlainText low → marked name letter ≡ low ++ 61 ∷ high
@@ -87,6 +87,6 @@ one_open [] (byte ∷ other) letter mark same = absurd (omega (arith, simp lengt
 one_open (byte ∷ name) [] letter mark same = absurd (omega (arith, simp length-append at (ap length same)))
 one_open (byte ∷ name) (next ∷ other) letter mark same =
     let first : byte ≡ next = cc in
-    let behind : marked name letter ≡ marked other mark = cc in
-    let later = one_open name other letter mark behind in
+    let following : marked name letter ≡ marked other mark = cc in
+    let later = one_open name other letter mark following in
     (λ j. first j ∷ later.0 j, later.1)

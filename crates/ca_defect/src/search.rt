@@ -152,17 +152,17 @@ fn is_called(cell: &Cell, text: &[u8], defect: Defect) -> bool
     ensures { result ≡ is_called cell.now text.now defect }
 {
     let parts = parts_of(cell, defect);
-    let Some(behind_first) = behind(text, parts.first) else {
+    let Some(after_first) = following(text, parts.first) else {
         return false;
     };
-    let Some(behind_mark) = behind(behind_first, parts.mark) else {
+    let Some(after_mark) = following(after_first, parts.mark) else {
         return false;
     };
-    is_alike(behind_mark, parts.second)
+    is_alike(after_mark, parts.second)
 }
 
 // What follows a piece that the text begins with in upper or lower case.
-fn behind<'a>(text: &'a [u8], piece: &[u8]) -> Option<&'a [u8]>
+fn following<'a>(text: &'a [u8], piece: &[u8]) -> Option<&'a [u8]>
     ensures some { IfSome result (λ rest. upper_case text.now ≡ upper_case piece.now ++ upper_case rest.now) }
     ensures none { IfNone result ((rest : List ℕ) → upper_case text.now ≢ upper_case piece.now ++ rest) }
 {

@@ -10,7 +10,7 @@ use Rattle.std.proofs.lemmas.Option.{slice_get_within, slice_get-map, slice_get-
 use Rattle.ca_verilog.specs.declared.raw.RawBit.{RawBit}
 use Rattle.ca_verilog.specs.declared.raw.RawBit.TheVariants.{Bit, Constant}
 use Rattle.ca_verilog.specs.declared.raw.RawSpan.{RawSpan}
-use Rattle.ca_verilog.specs.Joins.{bit_behind, pairs_of}
+use Rattle.ca_verilog.specs.Joins.{bit_after, pairs_of}
 use Rattle.ca_verilog.specs.IsNetlist.{IsBit, IsJoinOf}
 use Rattle.ca_wiring.specs.declared.joined.Join.{Join}
 use Rattle.ca_wiring.specs.Wiring.{wire_of, joins_of}
@@ -75,8 +75,8 @@ any_passed p [] is = absurd (true≢false (sym is))
 any_passed p (first ∷ xs) is = by (λ e. any_passed p xs e) (p first) refl is
   where
     by : (list_any p xs ≡ true → IsPassed p xs) → (b : Bool) → p first ≡ b → (b || list_any p xs) ≡ true → IsPassed p (first ∷ xs)
-    by rest true e told = record { place = 0; item = first; at = refl; passed = e }
-    by rest false e told = let found = rest told in record { place = suc found.place; item = found.item; at = found.at; passed = found.passed }
+    by rest true e reported = record { place = 0; item = first; at = refl; passed = e }
+    by rest false e reported = let found = rest reported in record { place = suc found.place; item = found.item; at = found.at; passed = found.passed }
 
 -- the sides of a join
 abbrev pub sides_of : Join → List ℕ
@@ -89,7 +89,7 @@ constant_at bits true = bits + 1
 
 module _ (bits : ℕ) (value : Bool) where
   -- a bit on a constant's wire is the constant
-  on_constant : (bit : RawBit) (step : ℕ) → IsBit bits (bit_behind step bit) → wire_of bits (bit_behind step bit) ≡ constant_at bits value
+  on_constant : (bit : RawBit) (step : ℕ) → IsBit bits (bit_after step bit) → wire_of bits (bit_after step bit) ≡ constant_at bits value
       → is_constant value bit ≡ true
   on_constant (Bit number) step is at = by value at
     where
@@ -104,7 +104,7 @@ module _ (bits : ℕ) (value : Bool) where
       by false true e = absurd (omega (arith, e))
       by false false e = refl
 
-  constant_on : (bit : RawBit) (step : ℕ) → is_constant value bit ≡ true → wire_of bits (bit_behind step bit) ≡ constant_at bits value
+  constant_on : (bit : RawBit) (step : ℕ) → is_constant value bit ≡ true → wire_of bits (bit_after step bit) ≡ constant_at bits value
   constant_on (Bit number) step is = absurd (true≢false (sym is))
   constant_on (Constant other) step is = by value other is
     where
@@ -137,12 +137,12 @@ module _ (bits : ℕ) (value : Bool) where
         by : (k : ℕ) (span : RawSpan) → slice_get spans k ≡ Some span → (some left right : Bool) → nat_lt 0 span.count ≡ some
             → is_constant value span.left ≡ left → is_constant value span.right ≡ right → (some && (left || right)) ≡ true
             → Contains (flat_map sides_of joins) (constant_at bits value)
-        by k span at true true right lt on_left on_right told =
+        by k span at true true right lt on_left on_right reported =
             of_pair k span at (ltb-true 0 span.count lt) (0, omega arith, constant_on span.left 0 on_left)
-        by k span at true false true lt on_left on_right told =
+        by k span at true false true lt on_left on_right reported =
             of_pair k span at (ltb-true 0 span.count lt) (1, omega arith, constant_on span.right 0 on_right)
-        by k span at true false false lt on_left on_right told = absurd (true≢false (sym told))
-        by k span at false left right lt on_left on_right told = absurd (true≢false (sym told))
+        by k span at true false false lt on_left on_right reported = absurd (true≢false (sym reported))
+        by k span at false left right lt on_left on_right reported = absurd (true≢false (sym reported))
 
     pub named_joined : All (IsJoinOf bits) (flat_map pairs_of spans) → Contains (flat_map sides_of joins) (constant_at bits value)
         → list_any (has_constant value) spans ≡ true
@@ -159,11 +159,11 @@ module _ (bits : ℕ) (value : Bool) where
         passed_any (has_constant value) spans span.0 span.1 span.2 (by span.1 step.0 step.1 is side)
       where
         both : (some left right : Bool) → some ≡ true → (left ≡ true) ⊎ (right ≡ true) → (some && (left || right)) ≡ true
-        both true true right e told = refl
-        both true false true e told = refl
+        both true true right e reported = refl
+        both true false true e reported = refl
         both true false false e (inl bad) = absurd (true≢false (sym bad))
         both true false false e (inr bad) = absurd (true≢false (sym bad))
-        both false left right e told = absurd (true≢false (sym e))
+        both false left right e reported = absurd (true≢false (sym e))
 
         by : (span : RawSpan) (step : ℕ) → step < span.count → IsJoinOf bits (pair_at bits span step)
             → Contains (sides_of (join_of bits (pair_at bits span step))) (constant_at bits value) → has_constant value span ≡ true

@@ -48,8 +48,8 @@ use Rattle.ca_draft.proofs.LinkLemmas.{named_pins, link, drafted}
 pub front_all : {X : Type 0} (P : X → Type 0) (xs ys : List X) → All P (xs ++ ys) → All P xs
 front_all P xs ys all k d lt = subst P (get_or_append_left xs ys d k lt) (all k d (let l = length-append xs ys in omega (arith, l, lt)))
 
-pub behind_all : {X : Type 0} (P : X → Type 0) (xs ys : List X) → All P (xs ++ ys) → All P ys
-behind_all P xs ys all k d lt = subst P (get_or-append-add xs ys k d) (all (length xs + k) d (let l = length-append xs ys in omega (arith, l, lt)))
+pub after_all : {X : Type 0} (P : X → Type 0) (xs ys : List X) → All P (xs ++ ys) → All P ys
+after_all P xs ys all k d lt = subst P (get_or-append-add xs ys k d) (all (length xs + k) d (let l = length-append xs ys in omega (arith, l, lt)))
 
 -- what holds of all values of a list, holds of each
 pub map_all : {X Y : Type 0} (f : X → Y) (P : Y → Type 0) (xs : List X) → All P (map f xs) → All (λ x. P (f x)) xs
@@ -191,7 +191,7 @@ module _ (library : List Named) (scan : List ScanRow) (parts : List Part) (ports
       → (IsTrue is_named ↔ IsNamedBy parts spans (constant_at bits value) value)
       → IsTrue is_named ↔ IsNamed on (constant_at bits value)
   named_is is_named joined both = (
-    λ told. to_named (both.0 told),
+    λ reported. to_named (both.0 reported),
     λ named. both.1 (from_named joined named.named),
   )
 
@@ -287,7 +287,7 @@ module _ (raw : RawNetlist) (library : List Named) (scan : List ScanRow) (made :
 
   pub ports_within : All (λ (port : PortBit). port.net < length table.numbers) made.ports.items
   ports_within k d lt =
-      let rest = behind_all (λ (w : ℕ). w < made.wires) (flat_map (λ (p : Part). pins_of p.body) made.parts.items) (map (λ (port : PortBit). port.net) made.ports.items
+      let rest = after_all (λ (w : ℕ). w < made.wires) (flat_map (λ (p : Part). pins_of p.body) made.parts.items) (map (λ (port : PortBit). port.net) made.ports.items
       ++ (constant_wires made.bits made.touched.zero ++ constant_wires (made.bits + 1) made.touched.one)) within_so in
       let ports = front_all (λ (w : ℕ). w < made.wires) (map (λ (port : PortBit). port.net) made.ports.items) (constant_wires made.bits made.touched.zero
       ++ constant_wires (made.bits + 1) made.touched.one) rest in

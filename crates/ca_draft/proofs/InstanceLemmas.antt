@@ -64,12 +64,12 @@ role_count_le is_role (pin ∷ pins) =
 
 module _ (library : List Named) (bits : ℕ) (uses : List RawUse) where
   -- the body of an instance of a library cell
-  pub gate_is : (place : ℕ) (raw : RawCell) (own behind : ℕ) (inputs outputs : List ℕ) → IsCellAt library place raw → IsRaw raw → KeepsRules raw
+  pub gate_is : (place : ℕ) (raw : RawCell) (own following : ℕ) (inputs outputs : List ℕ) → IsCellAt library place raw → IsRaw raw → KeepsRules raw
       → inputs ≡ input_wires bits uses (names_with is_input raw.pins)
       → outputs ≡ output_wires bits uses own (names_with is_output raw.pins)
-      → behind ≡ own + open_count uses (names_with is_output raw.pins)
-      → IsOnWires library bits (wiring.Library raw) uses own behind (Gate place inputs outputs)
-  gate_is place raw own behind inputs outputs at is_raw keeps are_inputs are_outputs counted =
+      → following ≡ own + open_count uses (names_with is_output raw.pins)
+      → IsOnWires library bits (wiring.Library raw) uses own following (Gate place inputs outputs)
+  gate_is place raw own following inputs outputs at is_raw keeps are_inputs are_outputs counted =
       let count : length outputs ≡ role_count is_output raw.pins =
       ap length are_outputs ∙ length-output_wires bits uses own (names_with is_output raw.pins) ∙ length-names_with is_output raw.pins in
       record {
@@ -91,13 +91,13 @@ module _ (library : List Named) (bits : ℕ) (uses : List RawUse) where
       }
 
   -- that of an instance of a scan cell
-  pub scan_is : (row : ScanRow) (own behind : ℕ) (pins : ScanNets)
+  pub scan_is : (row : ScanRow) (own following : ℕ) (pins : ScanNets)
       → input_nets (Scan pins) ≡ input_wires bits uses (input_names (ScanCell row))
       → output_nets (Scan pins) ≡ output_wires bits uses own (output_names (ScanCell row))
-      → behind ≡ own + open_count uses (output_names (ScanCell row))
+      → following ≡ own + open_count uses (output_names (ScanCell row))
       → (IsNone pins.qn ↔ (row.qn ≡ []))
-      → IsOnWires library bits (ScanCell row) uses own behind (Scan pins)
-  scan_is row own behind pins are_inputs are_outputs counted named = record {
+      → IsOnWires library bits (ScanCell row) uses own following (Scan pins)
+  scan_is row own following pins are_inputs are_outputs counted named = record {
     inputs = are_inputs;
     outputs = are_outputs;
     counted = counted;
@@ -116,18 +116,18 @@ module _ (library : List Named) (scan : List ScanRow) (bits : ℕ) (instances : 
   on_wires_none = record { wired = refl; counted = refl; count = refl; kept = All-nil (IsKept library scan) }
 
   -- the next instance
-  pub on_wires_more : (u own behind : ℕ) (instance : RawInstance) (part : Part) (old new : List Part) → slice_get instances u ≡ Some instance
-      → AreOnWires library scan bits instances u own old → IsPartOnWires library bits (meaning_of library scan instance.cell) instance own behind part
-      → new ≡ old ++ part ∷ [] → AreOnWires library scan bits instances (u + 1) behind new
-  on_wires_more u own behind instance part old new at before is push =
-      subst (AreOnWires library scan bits instances (u + 1) behind) (sym push) (record {
+  pub on_wires_more : (u own following : ℕ) (instance : RawInstance) (part : Part) (old new : List Part) → slice_get instances u ≡ Some instance
+      → AreOnWires library scan bits instances u own old → IsPartOnWires library bits (meaning_of library scan instance.cell) instance own following part
+      → new ≡ old ++ part ∷ [] → AreOnWires library scan bits instances (u + 1) following new
+  on_wires_more u own following instance part old new at before is push =
+      subst (AreOnWires library scan bits instances (u + 1) following) (sym push) (record {
         wired =
             before.wired
             ∙ ap (λ (rest : List RawInstance). map (wired_of library scan) old ++ wired_parts library scan bits own rest) (drop_at instances u instance at)
             ∙ ap₂ (λ (w : WiredPart) (n : ℕ). map (wired_of library scan) old ++ (w ∷ wired_parts library scan bits n (drop (u + 1) instances)))
             (sym same) (sym is.body.counted)
-            ∙ sym (append_assoc (map (wired_of library scan) old) (wired_of library scan part ∷ []) (wired_parts library scan bits behind (drop (u + 1) instances)))
-            ∙ ap (λ l. l ++ wired_parts library scan bits behind (drop (u + 1) instances)) (sym (map-append (wired_of library scan) old (part ∷ [])));
+            ∙ sym (append_assoc (map (wired_of library scan) old) (wired_of library scan part ∷ []) (wired_parts library scan bits following (drop (u + 1) instances)))
+            ∙ ap (λ l. l ++ wired_parts library scan bits following (drop (u + 1) instances)) (sym (map-append (wired_of library scan) old (part ∷ [])));
         counted =
             let all = before.counted in
             let rest = ap (open_counts library scan) (drop_at instances u instance at) in

@@ -26,7 +26,7 @@ use Rattle.ca_wiring.specs.Nets.{Driving, ConstantBit, OutputPin, DrivesWire, Dr
 use Rattle.ca_wiring.specs.Nets.{AreNets, IsNetOf, AreNetsOf, constant_wire}
 use Rattle.ca_wiring.specs.Nets as nets
 use Rattle.ca_wiring.specs.Linking.{HasMeaning, IsPartOf, IsPortOf, IsLinkOf}
-use Rattle.ca_wiring.specs.Numbers.{WireMarks, NetNumbers, earliest_of, IsUsed, TellsUsed}
+use Rattle.ca_wiring.specs.Numbers.{WireMarks, NetNumbers, earliest_of, IsUsed, ReportsUsed}
 use Rattle.ca_linked.proofs.OrderLemmas.{place_of, contained_at}
 use Rattle.ca_linked.proofs.DriverLemmas.{some_inj, to_some}
 use Rattle.ca_linked.proofs.FeedingLemmas.{item_of}
@@ -224,8 +224,8 @@ module _ (library : List Named) (scan : List ScanRow) (parts : List Part) (ports
           let lt = first_within m (wire_within m has) in
           (is.used.each (earliest_of marks m) (let c = is.are.count in omega (arith, lt, c))).1 (m, has, refl)
 
-      tells : TellsUsed wiring wires marks
-      tells = record {
+      reports : ReportsUsed wiring wires marks
+      reports = record {
         used = λ w lt own. (
           λ used.
               let found = (is.used.each w (let c = is.are.count in omega (arith, lt, c))).0 used in
@@ -258,10 +258,10 @@ module _ (library : List Named) (scan : List ScanRow) (parts : List Part) (ports
           from_use w first (inr load) = below load.at w first (load_touched load.at load.load) load.joined
 
       are_nets : AreNets wiring table.nets
-      are_nets = nets_are wiring wires marks table is.are tells is.numbered
+      are_nets = nets_are wiring wires marks table is.are reports is.numbered
 
       net_at : (m : ℕ) → Contains touched m → IsNetOf wiring table.nets m (number_of table.numbers m)
-      net_at m has = net_is wiring wires marks table is.are tells is.numbered m (wire_within m has) (used_when m has)
+      net_at m has = net_is wiring wires marks table is.are reports is.numbered m (wire_within m has) (used_when m has)
 
       nets_at : (ms : List ℕ) → ((m : ℕ) → Contains ms m → Contains touched m) → AreNetsOf wiring table.nets ms (map (number_of table.numbers) ms)
       nets_at [] are = tt

@@ -55,23 +55,23 @@ next_own own None = own + 1
 next_own own (Some bit) = own
 
 -- the body is that of an instance with this meaning, on its wires, where its wires of its own have the
--- numbers from `own` to `behind`
+-- numbers from `own` to `following`
 pub record IsOnWires (library : List Named) (bits : ℕ) (meaning : Meaning) (uses : List RawUse)
-    (own behind : ℕ) (body : Body) : Type 0 where
+    (own following : ℕ) (body : Body) : Type 0 where
   pub inputs : input_nets body ≡ input_wires bits uses (input_names meaning)
   pub outputs : output_nets body ≡ output_wires bits uses own (output_names meaning)
-  pub counted : behind ≡ own + open_count uses (output_names meaning)
+  pub counted : following ≡ own + open_count uses (output_names meaning)
   pub meant : HasMeaning (cells_of library) meaning body
   pub is_body : IsBody (cells_of library) body
   pub few : length (output_nets body) < 2 ^ 32
 
 -- and the instance has its names
 pub record IsPartOnWires (library : List Named) (bits : ℕ) (meaning : Meaning) (instance : RawInstance)
-    (own behind : ℕ) (part : Part) : Type 0 where
+    (own following : ℕ) (part : Part) : Type 0 where
   pub name : part.name ≡ instance.name
   pub cell : part.cell ≡ instance.cell
   pub data_pin : part.«data» ≡ data_name meaning
-  pub body : IsOnWires library bits meaning instance.pins own behind part.body
+  pub body : IsOnWires library bits meaning instance.pins own following part.body
 
 -- the instance of a wiring that this one is
 abbrev pub wired_of : List Named → List ScanRow → Part → WiredPart

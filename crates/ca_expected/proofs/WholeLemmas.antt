@@ -10,7 +10,7 @@ use Rattle.ca_net.specs.declared.trit.Trit.TheVariants.{X}
 use Rattle.ca_flat.specs.declared.token.Token.{Token}
 use Rattle.ca_flat.specs.declared.token.Token.TheVariants.{Branch, Leaf}
 use Rattle.ca_flat.specs.Pair.{bit_count}
-use Rattle.ca_flat.specs.Codes.{Reading, At, Ended, Rules, Reads, behind, behind_tree, unset_pair, bit_trit}
+use Rattle.ca_flat.specs.Codes.{Reading, At, Ended, Rules, Reads, following, after_tree, unset_pair, bit_trit}
 use Rattle.ca_flat.specs.Codes.{with_bit, code_rules}
 use Rattle.ca_search.specs.Filled.{filled_bit}
 use Rattle.ca_credit.specs.Defects.{Task}
@@ -26,7 +26,7 @@ IsWideReading : ℕ → Reading → Type 0
 IsWideReading count Ended = Unit {0}
 IsWideReading count (At pair later) = (length pair ≡ count) × AreWide count later
 
-wide_tree : (count : ℕ) (later : List (List Trit)) → AreWide count later → IsWideReading count (behind_tree later)
+wide_tree : (count : ℕ) (later : List (List Trit)) → AreWide count later → IsWideReading count (after_tree later)
 unfolding AreWide IsWideReading
 wide_tree count [] wide = tt
 wide_tree count (pair ∷ later) wide = wide
@@ -34,18 +34,18 @@ wide_tree count (pair ∷ later) wide = wide
 wide_bit : (count : ℕ) (pair : List Trit) (bit : ℕ) (value : Bool) → length pair ≡ count → length (with_bit pair bit value) ≡ count
 wide_bit count pair bit value wide = length-set pair bit (bit_trit value) ∙ wide
 
-wide_behind : (count : ℕ) (token : Token) (pair : List Trit) (later : List (List Trit)) → length pair ≡ count → AreWide count later
-    → IsWideReading count (behind token pair later)
+wide_after : (count : ℕ) (token : Token) (pair : List Trit) (later : List (List Trit)) → length pair ≡ count → AreWide count later
+    → IsWideReading count (following token pair later)
 unfolding AreWide IsWideReading
-wide_behind count (Branch bit first) pair later here wide = (wide_bit count pair bit first here, (wide_bit count pair bit (not first) here, wide))
-wide_behind count Leaf pair later here wide = wide_tree count later wide
+wide_after count (Branch bit first) pair later here wide = (wide_bit count pair bit first here, (wide_bit count pair bit (not first) here, wide))
+wide_after count Leaf pair later here wide = wide_tree count later wide
 
 wide_reads : (rules : Rules) (count : ℕ) (tokens : List Token) (from to : Reading) → Reads rules tokens from to → IsWideReading count from → IsWideReading count to
 unfolding IsWideReading
 wide_reads rules count [] from to reads wide = subst (IsWideReading count) reads wide
 wide_reads rules count (token ∷ tokens) Ended to reads wide = absurd reads
 wide_reads rules count (token ∷ tokens) (At pair later) to reads wide =
-    wide_reads rules count tokens (behind token pair later) to reads.1 (wide_behind count token pair later wide.0 wide.1)
+    wide_reads rules count tokens (following token pair later) to reads.1 (wide_after count token pair later wide.0 wide.1)
 
 pair_whole : (task : Task) (pairs : List (List Bool)) (number aim : ℕ) (pair : List Bool) → IsAim task pairs number aim → slice_get pairs number ≡ Some pair
     → length pair ≡ bit_count task.chip

@@ -35,7 +35,7 @@ use Rattle.ca_fault_place.proofs.UseLemmas.{use_at, input_from, output_from}
 pub record IsWiredAt (library : List Named) (scan : List ScanRow) (bits least : ℕ) (parts : List WiredPart) (u : ℕ)
     (instance : RawInstance) : Type 0 where
   pub own : ℕ
-  pub behind : least ≤ own
+  pub following : least ≤ own
   pub at : slice_get parts u ≡ Some (wired_part bits own (meaning_of library scan instance.cell) instance)
 
 module _ (library : List Named) (scan : List ScanRow) (bits : ℕ) where
@@ -44,13 +44,13 @@ module _ (library : List Named) (scan : List ScanRow) (bits : ℕ) where
   wired_at own [] u instance at = absurd (let lt = slice_get_within [] u instance at in omega (arith, lt))
   wired_at own (first ∷ more) zero instance at = record {
     own = own;
-    behind = omega arith;
+    following = omega arith;
     at = ap (λ (i : RawInstance). Some (wired_part bits own (meaning_of library scan i.cell) i)) (some_inj first instance at);
   }
   wired_at own (first ∷ more) (suc u) instance at =
       let rest = wired_at (own + open_count first.pins (output_names (meaning_of library scan first.cell))) more u instance at in
-      let le = rest.behind in
-      record { own = rest.own; behind = omega (arith, le); at = rest.at }
+      let le = rest.following in
+      record { own = rest.own; following = omega (arith, le); at = rest.at }
 
   pub instance_at : (own : ℕ) (instances : List RawInstance) (u : ℕ) (part : WiredPart)
       → slice_get (wired_parts library scan bits own instances) u ≡ Some part → (instance : RawInstance) × (slice_get instances u ≡ Some instance)
@@ -198,7 +198,7 @@ module _ (raw : RawNetlist) (library : List Named) (scan : List ScanRow) (is : I
       elim (output_from bits instance.0.pins wired.own (output_names meaning) pin m
       (subst (λ (p : WiredPart). slice_get p.outputs pin ≡ Some m) same there)) [
         | inl has ↦ in_uses m (in_all (instance_wires bits) raw.instances u instance.0 m instance.1 has)
-        | inr le ↦ absurd (let least = wired.behind in omega (arith, le, lt, least))
+        | inr le ↦ absurd (let least = wired.following in omega (arith, le, lt, least))
       ]
 
   of_pin : (m : ℕ) → m < bits + 2 → Contains (flat_map (λ (part : WiredPart). part.inputs ++ part.outputs) wiring.parts) m → Contains touched m

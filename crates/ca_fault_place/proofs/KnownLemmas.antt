@@ -191,7 +191,7 @@ module _ (raw : RawNetlist) (library : List Named) (scan : List ScanRow) (is : I
 
     pub nth_net : (net w : ℕ) → w < bits + 2 → IsNth marks net w → slice_get nets net ≡ Some w
     nth_net net w lt nth =
-        subst (λ n. slice_get nets n ≡ Some w) nth.behind (next_at w (split w (omega (arith, lt))) (known_net w lt nth.known))
+        subst (λ n. slice_get nets n ≡ Some w) nth.following (next_at w (split w (omega (arith, lt))) (known_net w lt nth.known))
 
     -- the nets that are known come first
     pub past_known : (net w : ℕ) → known_count marks (bits + 2) ≤ net → slice_get nets net ≡ Some w → bits + 2 ≤ w

@@ -17,7 +17,7 @@ use Rattle.ca_wiring.specs.Rules.{BreaksAt, IsCause, IsEarlier, IsFirstBroken, I
 use Rattle.ca_linked.proofs.DriverLemmas.{to_some}
 use Rattle.ca_verilog.specs.IsNetlist.{bit_count}
 use Rattle.ca_fault_place.specs.Names.{wire_name, wire_text}
-use Rattle.ca_fault_place.specs.Place.{OfNet, TellsPlace, double_text, net_text}
+use Rattle.ca_fault_place.specs.Place.{OfNet, ReportsPlace, double_text, net_text}
 use Rattle.ca_fault_place.specs.Touched.{IsFoundFor, IsTextOfNet}
 
 module _ (raw : RawNetlist) (library : List Named) (scan : List ScanRow) where
@@ -54,42 +54,42 @@ module _ (raw : RawNetlist) (library : List Named) (scan : List ScanRow) where
   -- a net that makes the text, and that is there
   text_at : (net : ℕ) (text_of : List ℕ → List ℕ) (text : List ℕ) → AreSound raw library scan → IsTextOfNet raw net text_of text
       → (wire : ℕ) → IsNetAt (wiring_of raw library scan) net wire → OfNet raw library scan net text_of text
-  text_at net text_of text sound tells wire at = (wire, at, tells library scan sound at.nets wire at.are at.at)
+  text_at net text_of text sound reports wire at = (wire, at, reports library scan sound at.nets wire at.are at.at)
 
   pub of_undriven : (net : NetId) (text : List ℕ) → IsTextOfNet raw net.0 net_text text
-      → IsCause raw library scan (fault.Undriven net) → TellsPlace raw library scan (fault.Undriven net) text
-  of_undriven net text tells cause =
+      → IsCause raw library scan (fault.Undriven net) → ReportsPlace raw library scan (fault.Undriven net) text
+  of_undriven net text reports cause =
       let sound = sound_before 2 (net.0 ∷ []) (fault.Undriven net) cause cause.breaks.0 (omega arith) in
-      text_at net.0 net_text text sound tells cause.breaks.1.wire cause.breaks.1.is_net
+      text_at net.0 net_text text sound reports cause.breaks.1.wire cause.breaks.1.is_net
 
   pub of_double : (net : NetId) (first second : Driver) (text : List ℕ)
       → IsTextOfNet raw net.0 (λ name. double_text raw.instances name first second) text
       → IsCause raw library scan (fault.DoubleDriven net first second)
-      → TellsPlace raw library scan (fault.DoubleDriven net first second) text
-  of_double net first second text tells cause =
+      → ReportsPlace raw library scan (fault.DoubleDriven net first second) text
+  of_double net first second text reports cause =
       let sound = sound_before 2 (net.0 ∷ []) (fault.DoubleDriven net first second) cause cause.breaks.0 (omega arith) in
-      text_at net.0 (λ name. double_text raw.instances name first second) text sound tells cause.breaks.1.wire cause.breaks.1.is_net
+      text_at net.0 (λ name. double_text raw.instances name first second) text sound reports cause.breaks.1.wire cause.breaks.1.is_net
 
   pub of_observed : (net : NetId) (text : List ℕ) → IsTextOfNet raw net.0 net_text text
-      → IsCause raw library scan (fault.ControlObserved net) → TellsPlace raw library scan (fault.ControlObserved net) text
-  of_observed net text tells cause =
+      → IsCause raw library scan (fault.ControlObserved net) → ReportsPlace raw library scan (fault.ControlObserved net) text
+  of_observed net text reports cause =
       let sound = sound_before _ _ (fault.ControlObserved net) cause cause.breaks.0 (omega arith) in
-      text_at net.0 net_text text sound tells cause.breaks.1.wire cause.breaks.1.is_net
+      text_at net.0 net_text text sound reports cause.breaks.1.wire cause.breaks.1.is_net
 
 module _ (raw : RawNetlist) (broken : ChipFault) (net : NetId) (text : List ℕ) where
-  pub told_double : (first second : Driver) → broken ≡ fault.DoubleDriven net first second
+  pub reported_double : (first second : Driver) → broken ≡ fault.DoubleDriven net first second
       → IsTextOfNet raw net.0 (λ name. double_text raw.instances name first second) text → (library : List Named)
-      (scan : List ScanRow) → IsCause raw library scan broken → TellsPlace raw library scan broken text
-  told_double first second is tells library scan =
-      subst (λ b. IsCause raw library scan b → TellsPlace raw library scan b text) (sym is)
-      (of_double raw library scan net first second text tells)
+      (scan : List ScanRow) → IsCause raw library scan broken → ReportsPlace raw library scan broken text
+  reported_double first second is reports library scan =
+      subst (λ b. IsCause raw library scan b → ReportsPlace raw library scan b text) (sym is)
+      (of_double raw library scan net first second text reports)
 
-  pub told_net : (broken ≡ fault.Undriven net) ⊎ (broken ≡ fault.ControlObserved net) → IsTextOfNet raw net.0 net_text text
-      → (library : List Named) (scan : List ScanRow) → IsCause raw library scan broken → TellsPlace raw library scan broken text
-  told_net (inl is) tells library scan =
-      subst (λ b. IsCause raw library scan b → TellsPlace raw library scan b text) (sym is) (of_undriven raw library scan net text tells)
-  told_net (inr is) tells library scan =
-      subst (λ b. IsCause raw library scan b → TellsPlace raw library scan b text) (sym is) (of_observed raw library scan net text tells)
+  pub reported_net : (broken ≡ fault.Undriven net) ⊎ (broken ≡ fault.ControlObserved net) → IsTextOfNet raw net.0 net_text text
+      → (library : List Named) (scan : List ScanRow) → IsCause raw library scan broken → ReportsPlace raw library scan broken text
+  reported_net (inl is) reports library scan =
+      subst (λ b. IsCause raw library scan b → ReportsPlace raw library scan b text) (sym is) (of_undriven raw library scan net text reports)
+  reported_net (inr is) reports library scan =
+      subst (λ b. IsCause raw library scan b → ReportsPlace raw library scan b text) (sym is) (of_observed raw library scan net text reports)
 
 -- the text of a net, from the wire that was found for it
 module _ (raw : RawNetlist) (net : ℕ) (text_of : List ℕ → List ℕ) (text : List ℕ) where

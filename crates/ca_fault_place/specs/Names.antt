@@ -51,13 +51,13 @@ constant_name false = codes "1'b0"
 constant_name true = codes "1'b1"
 
 -- the constant whose wire is the first after those of declared bits, and the one after it
-abbrev pub constant_behind : ℕ → List ℕ
-constant_behind zero = constant_name false
-constant_behind (suc more) = constant_name true
+abbrev pub constant_after : ℕ → List ℕ
+constant_after zero = constant_name false
+constant_after (suc more) = constant_name true
 
 -- the name of a wire: that of a declared bit, as `z` or `a[3]`, or a constant
 abbrev pub wire_name : List RawBus → ℕ → List ℕ
-wire_name [] wire = constant_behind wire
+wire_name [] wire = constant_after wire
 wire_name (bus ∷ more) wire =
     if nat_lt wire (range_width bus.range) then bit_name bus bus.range wire
     else wire_name more (wire - range_width bus.range)

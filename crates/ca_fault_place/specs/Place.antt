@@ -49,9 +49,9 @@ abbrev pub pin_text : List RawInstance → ℕ → List ℕ → List ℕ
 pin_text instances u pin = instance_text instances u ++ (codes ", pin " ++ pin)
 
 -- more after a comma, if there is more
-abbrev pub behind_comma : List ℕ → List ℕ
-behind_comma [] = []
-behind_comma (letter ∷ letters) = codes ", " ++ (letter ∷ letters)
+abbrev pub after_comma : List ℕ → List ℕ
+after_comma [] = []
+after_comma (letter ∷ letters) = codes ", " ++ (letter ∷ letters)
 
 -- the subcircuit of an entry breaks the rule
 abbrev pub rule_in : Option Entry → CellRule → List ℕ
@@ -62,7 +62,7 @@ rule_in (Some entry) broken = rule_text (raw_of entry) broken
 abbrev pub refused_text : RawNetlist → List Named → ℕ → CellRule → List ℕ
 refused_text raw library u broken =
     cell_text raw.instances u
-    ++ behind_comma (rule_in (entry_of library (upper_case (cell_name raw.instances u))) broken)
+    ++ after_comma (rule_in (entry_of library (upper_case (cell_name raw.instances u))) broken)
 
 -- what drives a net
 abbrev pub driver_text : List RawInstance → Driver → List ℕ
@@ -122,20 +122,20 @@ IsOfNetlist (fault.TooManyDefects count) = ⊤
 IsOfNetlist fault.NoMemory = ⊤
 
 -- the text names what the fault carries, and is empty where the fault carries nothing
-abbrev pub TellsPlace : RawNetlist → List Named → List ScanRow → ChipFault → List ℕ → Type 0
-TellsPlace raw library scan (fault.UnknownCell u) text = text ≡ cell_text raw.instances u.0
-TellsPlace raw library scan (fault.Cell u broken) text = text ≡ refused_text raw library u.0 broken
-TellsPlace raw library scan (fault.UnknownPin u pin) text = text ≡ pin_text raw.instances u.0 pin
-TellsPlace raw library scan (fault.MissingPin u pin) text = text ≡ pin_text raw.instances u.0 pin
-TellsPlace raw library scan (fault.DoubleDriven net first second) text =
+abbrev pub ReportsPlace : RawNetlist → List Named → List ScanRow → ChipFault → List ℕ → Type 0
+ReportsPlace raw library scan (fault.UnknownCell u) text = text ≡ cell_text raw.instances u.0
+ReportsPlace raw library scan (fault.Cell u broken) text = text ≡ refused_text raw library u.0 broken
+ReportsPlace raw library scan (fault.UnknownPin u pin) text = text ≡ pin_text raw.instances u.0 pin
+ReportsPlace raw library scan (fault.MissingPin u pin) text = text ≡ pin_text raw.instances u.0 pin
+ReportsPlace raw library scan (fault.DoubleDriven net first second) text =
     OfNet raw library scan net.0 (λ name. double_text raw.instances name first second) text
-TellsPlace raw library scan (fault.Undriven net) text = OfNet raw library scan net.0 net_text text
-TellsPlace raw library scan (fault.ControlPin u pin) text = text ≡ pin_text raw.instances u.0 pin
-TellsPlace raw library scan (fault.ControlObserved net) text = OfNet raw library scan net.0 net_text text
-TellsPlace raw library scan (fault.QnUsed u) text = text ≡ cell_text raw.instances u.0
-TellsPlace raw library scan (fault.Loop instances) text = text ≡ loop_text raw.instances instances
-TellsPlace raw library scan (fault.TooManyInstances count) text = text ≡ []
-TellsPlace raw library scan (fault.TooManyInputs count) text = text ≡ []
-TellsPlace raw library scan (fault.TooManyOutputs count) text = text ≡ []
-TellsPlace raw library scan (fault.TooManyDefects count) text = text ≡ []
-TellsPlace raw library scan fault.NoMemory text = text ≡ []
+ReportsPlace raw library scan (fault.Undriven net) text = OfNet raw library scan net.0 net_text text
+ReportsPlace raw library scan (fault.ControlPin u pin) text = text ≡ pin_text raw.instances u.0 pin
+ReportsPlace raw library scan (fault.ControlObserved net) text = OfNet raw library scan net.0 net_text text
+ReportsPlace raw library scan (fault.QnUsed u) text = text ≡ cell_text raw.instances u.0
+ReportsPlace raw library scan (fault.Loop instances) text = text ≡ loop_text raw.instances instances
+ReportsPlace raw library scan (fault.TooManyInstances count) text = text ≡ []
+ReportsPlace raw library scan (fault.TooManyInputs count) text = text ≡ []
+ReportsPlace raw library scan (fault.TooManyOutputs count) text = text ≡ []
+ReportsPlace raw library scan (fault.TooManyDefects count) text = text ≡ []
+ReportsPlace raw library scan fault.NoMemory text = text ≡ []

@@ -57,7 +57,7 @@ known_count marks (suc w) = if is_known marks w then known_count marks w + 1 els
 -- the net of this number is known by the wire
 pub record IsNth (marks : WireMarks) (net w : ℕ) : Type 0 where
   pub known : is_known marks w ≡ true
-  pub behind : known_count marks w ≡ net
+  pub following : known_count marks w ≡ net
 
 -- the list has the wires that nets stand on, with some spans of the netlist's joins
 pub record IsTouched (raw : RawNetlist) (bits : ℕ) (wires : List ℕ) : Type 0 where

@@ -2,7 +2,7 @@
 
 ghost use Rattle.std.specs.Prelude.{◌≡◌, ◌<◌, ◌^◌, IfOk};
 ghost use Rattle.ca_verilog.specs.IsNetlist.{bit_count};
-ghost use Rattle.ca_fault_place.specs.Names.{constant_behind, wire_name};
+ghost use Rattle.ca_fault_place.specs.Names.{constant_after, wire_name};
 
 use ca_base::NoMemory;
 use ca_draft::{bit_name, range_width};
@@ -11,8 +11,8 @@ use ca_verilog::RawBus;
 use std::alloc::Global;
 
 // The constant whose wire is the first after those of declared bits, and the one after it.
-fn constant_behind(more: u32) -> &'static [u8]
-    ensures { result.now ≡ constant_behind more }
+fn constant_after(more: u32) -> &'static [u8]
+    ensures { result.now ≡ constant_after more }
 {
     if more == 0 { b"1'b0" } else { b"1'b1" }
 }
@@ -30,5 +30,5 @@ pub(crate) fn wire_name(alloc: Global, buses: &[RawBus], wire: u32) -> Result<Te
         }
         left -= width;
     }
-    Text::from_bytes(alloc, constant_behind(left))
+    Text::from_bytes(alloc, constant_after(left))
 }

@@ -7,7 +7,7 @@ ghost use Rattle.ca_verilog.specs.IsNetlist.{IsNetlist};
 ghost use Rattle.ca_wiring.specs.Rules.{IsCause};
 ghost use Rattle.ca_wiring.specs.declared.scan_row.ScanRow.{ScanRow};
 ghost use Rattle.ca_fault_place.specs.Names.{wire_name};
-ghost use Rattle.ca_fault_place.specs.Place.{IsOfNetlist, TellsPlace, behind_comma, double_text, net_text};
+ghost use Rattle.ca_fault_place.specs.Place.{IsOfNetlist, ReportsPlace, after_comma, double_text, net_text};
 ghost use Rattle.ca_fault_place.specs.Place.{refused_text, rule_in};
 ghost use Rattle.ca_fault_place.specs.Touched.{IsTextOfNet};
 
@@ -29,7 +29,7 @@ pub fn place_of(alloc: Global, netlist: &RawNetlist, fault: &ChipFault) -> Resul
     requires netlist { IsNetlist netlist.now }
     requires of_netlist { IsOfNetlist fault.now }
     ensures { IfOk result (λ text. (library : List Named) (scan : List ScanRow)
-        → IsCause netlist.now library scan fault.now → TellsPlace netlist.now library scan fault.now text) }
+        → IsCause netlist.now library scan fault.now → ReportsPlace netlist.now library scan fault.now text) }
 {
     let instances = netlist.instances.as_slice();
     match fault {
@@ -128,14 +128,14 @@ pub fn refused_place(
 {
     let instances = netlist.instances.as_slice();
     let mut text = cell_text(alloc, instances, instance.0)?;
-    let behind = rule_in(alloc, library, cell_name(instances, instance.0), rule)?;
-    add_behind(&mut text, &behind)?;
+    let following = rule_in(alloc, library, cell_name(instances, instance.0), rule)?;
+    add_after(&mut text, &following)?;
     Ok(text)
 }
 
 // Appends more after a comma, if there is more.
-fn add_behind(text: &mut Text, more: &Text) -> Result<(), NoMemory>
-    ensures { OnOk result (text.new ≡ text.old ++ behind_comma more.now) }
+fn add_after(text: &mut Text, more: &Text) -> Result<(), NoMemory>
+    ensures { OnOk result (text.new ≡ text.old ++ after_comma more.now) }
 {
     if more.is_empty() {
         return Ok(());

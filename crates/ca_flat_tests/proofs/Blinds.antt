@@ -33,7 +33,7 @@ blind_is_ruled_out_lem = record {
   checked_whole = (inl (settled _), refl);
   front = record { later = []; reads = refl };
   checked_front = record { later = []; reads = refl };
-  nothing_behind = λ pair front. ended pair front.later front.reads.1;
+  nothing_after = λ pair front. ended pair front.later front.reads.1;
   two_leaves = λ whole. whole.1;
   no_branch = λ pair front. nothing_in front.reads.0.supports.output front.reads.0.supports.observed;
   never_spent = λ budget code spent. nothing_in spent.goes_on.supports.output spent.goes_on.supports.observed;

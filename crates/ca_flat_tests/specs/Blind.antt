@@ -32,7 +32,7 @@ pub record BlindIsRuledOut : Type 0 where
   pub checked_whole : IsWholeBy (checked_rules blind_chip open_gate) blind_chip (Leaf ∷ [])
   pub front : IsFront blind_chip open_gate [] (unset_pair blind_chip)
   pub checked_front : IsFrontBy (checked_rules blind_chip open_gate) blind_chip [] (unset_pair blind_chip)
-  pub nothing_behind : (pair : List Trit) → IsFront blind_chip open_gate (Leaf ∷ []) pair → ⊥
+  pub nothing_after : (pair : List Trit) → IsFront blind_chip open_gate (Leaf ∷ []) pair → ⊥
   pub two_leaves : IsWholeCode blind_chip open_gate (Leaf ∷ Leaf ∷ []) → ⊥
   pub no_branch : (pair : List Trit) → IsFront blind_chip open_gate (Branch 0 false ∷ []) pair → ⊥
   pub never_spent : (budget : ℕ) (code : List Token) → IsSpentCode blind_chip open_gate budget code → ⊥

@@ -13,7 +13,7 @@ use Rattle.ca_flat.proofs.Clashes.{opposite_definite, opposite_differs}
 use Rattle.ca_flat.proofs.InstanceWaves.{ends_last, last_ends}
 use Rattle.ca_flat.proofs.Detected.{good_flat, faulty_flat, some_faulty, detected_clashes}
 use Rattle.ca_flips.specs.Static.{EndsByLast}
-use Rattle.ca_flips.specs.Flips.{IsBehind, AreStaticBehind, AreDefiniteBehind, AreFlipped, IsOpposite, lasts_of}
+use Rattle.ca_flips.specs.Flips.{IsAfter, AreStaticAfter, AreDefiniteAfter, AreFlipped, IsOpposite, lasts_of}
 use Rattle.ca_flips.specs.Flips.{vector_at, known_or, filled_in}
 use Rattle.ca_flips.specs.Flips.{IsForced, ArePinWaves, AreFaultyLasts, AreFaultyLastsTo}
 use Rattle.ca_flips.specs.Laws.{FlippedAreFaulty}
@@ -134,22 +134,22 @@ below_unless_opposite X Zero definite none = absurd (definite refl)
 below_unless_opposite X One definite none = absurd (definite refl)
 
 module _ (chip : Chip) (rank : ℕ → ℕ) (defect : ChipDefect) (is : IsFlatChip chip rank defect) (pair : List Trit) (good : FlatWaves chip None pair)
-    (static : AreStaticBehind chip defect.instance) (definite : AreDefiniteBehind chip defect.instance (lasts_of good)) where
+    (static : AreStaticAfter chip defect.instance) (definite : AreDefiniteAfter chip defect.instance (lasts_of good)) where
   -- the good lasts are those that flip nothing
-  good_ends : (w output : ℕ) → IsBehind chip defect.instance w → output < outputs_at chip w
+  good_ends : (w output : ℕ) → IsAfter chip defect.instance w → output < outputs_at chip w
       → EndsByLast (cell_at chip w) (vector_at chip w (lasts_of good)) output (lasts_of good (output_net chip w output))
-  good_ends w output behind within =
-      let end = static w behind (vector_at chip w (lasts_of good)) (vector_definite chip w (lasts_of good) (λ pin k. definite.read w pin behind k)) output within in
+  good_ends w output following within =
+      let end = static w following (vector_at chip w (lasts_of good)) (vector_definite chip w (lasts_of good) (λ pin k. definite.read w pin following k)) output within in
       subst (EndsByLast (cell_at chip w) (vector_at chip w (lasts_of good)) output)
-      (sym (output_is chip rank None (good_flat chip rank defect is) w behind.known pair good refl (lasts_of good) output end.value within end.ends (λ pin k. inr refl)))
+      (sym (output_is chip rank None (good_flat chip rank defect is) w following.known pair good refl (lasts_of good) output end.value within end.ends (λ pin k. inr refl)))
       end.ends
 
   pub good_is_flipped : AreFlipped chip defect.instance (lasts_of good) (λ output. lasts_of good (output_net chip defect.instance output)) (lasts_of good)
-  good_is_flipped = record { apart = λ net within off. refl; given = λ output within. refl; behind = good_ends }
+  good_is_flipped = record { apart = λ net within off. refl; given = λ output within. refl; following = good_ends }
 
 pub unflipped_is_undetected_by_waves : (chip : Chip) (rank : ℕ → ℕ) (defect : ChipDefect) (pair : List Trit) (good : FlatWaves chip None pair) (pins : List Wave) (known : ℕ → Trit) (net : ℕ)
     → IsFlatChip chip rank defect → ArePinWaves chip (wave_of good) defect.instance pins
-    → AreStaticBehind chip defect.instance → AreDefiniteBehind chip defect.instance (lasts_of good) → AreFaultyLasts chip defect pins known
+    → AreStaticAfter chip defect.instance → AreDefiniteAfter chip defect.instance (lasts_of good) → AreFaultyLasts chip defect pins known
     → ((output : ℕ) → output < outputs_at chip defect.instance → IsOpposite (lasts_of good (output_net chip defect.instance output)) (known output) → ⊥)
     → net < length chip.nets → DetectsAt chip defect pair net → ⊥
 unflipped_is_undetected_by_waves chip rank defect pair good pins known net is pin_waves static definite given none within detects =

@@ -13,7 +13,7 @@ use Rattle.ca_flat.proofs.Detected.{same_instance, other_circuit, faulty_flat}
 use Rattle.ca_flips.specs.Flips.{AreFlipped, AreKnownFlipped, lasts_of}
 use Rattle.ca_flips.specs.Laws.{FlippedAreAbove}
 use Rattle.ca_flips.proofs.CellLemmas.{below_stable, below_if}
-use Rattle.ca_flips.proofs.ReachLemmas.{reached_no_input, reached_is_behind, unreached_same, leads_on, feeds_of, leads_self}
+use Rattle.ca_flips.proofs.ReachLemmas.{reached_no_input, reached_is_after, unreached_same, leads_on, feeds_of, leads_self}
 use Rattle.ca_flips.proofs.PinLemmas.{output_is, output_below}
 
 -- what holds in both cases holds
@@ -46,7 +46,7 @@ module _ (chip : Chip) (rank : ℕ → ℕ) (defect : ChipDefect) (is : IsFlatCh
           | inl e ↦ own_below w output e within
           | inr other ↦ below_by_cases (IsReachedFrom chip defect.instance (output_net chip w output)) _ _
               (λ reached. output_below chip rank (Some defect) (faulty_flat chip rank defect is) w lt pair faulty (other_circuit chip defect w other) values output _ within
-              (flipped.behind w output (reached_is_behind chip rank is.chip_is defect.instance is.defect_is.known w output lt within other reached) within) pins)
+              (flipped.following w output (reached_is_after chip rank is.chip_is defect.instance is.defect_is.known w output lt within other reached) within) pins)
               (λ off. inr (unreached (output_net chip w output) (is.chip_is.on_nets w (inputs_at chip w + output) lt (omega arith)) off))
         ])
 
@@ -67,7 +67,7 @@ module _ (chip : Chip) (rank : ℕ → ℕ) (defect : ChipDefect) (is : IsFlatCh
         | inl e ↦ own_exact w output e within
         | inr other ↦ λ given. same_by_cases (IsReachedFrom chip defect.instance (output_net chip w output)) _ _
             (λ reached. output_is chip rank (Some defect) (faulty_flat chip rank defect is) w lt pair faulty (other_circuit chip defect w other) values output _ within
-            (flipped.behind w output (reached_is_behind chip rank is.chip_is defect.instance is.defect_is.known w output lt within other reached) within)
+            (flipped.following w output (reached_is_after chip rank is.chip_is defect.instance is.defect_is.known w output lt within other reached) within)
             (λ pin k. inr (sym (pins pin k (λ from j leads. given from j (leads_on chip _ _ _ leads (feeds_of chip w pin output lt k within)))))))
             (λ off. unreached (output_net chip w output) (is.chip_is.on_nets w (inputs_at chip w + output) lt (omega arith)) off)
       ])
@@ -97,7 +97,7 @@ module _ (chip : Chip) (rank : ℕ → ℕ) (defect : ChipDefect) (is : IsFlatCh
         | inr other ↦ below_by_cases (IsReachedFrom chip defect.instance (output_net chip w output)) _ _
             (λ reached. below_if _ _ (λ definite.
             output_is chip rank (Some defect) (faulty_flat chip rank defect is) w lt pair faulty (other_circuit chip defect w other) values output _ within
-            (flipped.behind w output (reached_is_behind chip rank is.chip_is defect.instance is.defect_is.known w output lt within other reached) within definite) pins))
+            (flipped.following w output (reached_is_after chip rank is.chip_is defect.instance is.defect_is.known w output lt within other reached) within definite) pins))
             (λ off. known_apart (output_net chip w output) (is.chip_is.on_nets w (inputs_at chip w + output) lt (omega arith)) off)
       ])
 

@@ -12,7 +12,7 @@ use Rattle.ca_flat.specs.Waves.{FlatWaves, IsFlatChip}
 use Rattle.ca_flat.proofs.InstanceWaves.{ends_last}
 use Rattle.ca_flat.proofs.CheckedCodes.{waves_are_unique_lem}
 use Rattle.ca_flat.proofs.Detected.{good_flat, some_good, some_faulty}
-use Rattle.ca_flips.specs.Flips.{AreDefiniteBehind, AreFlipped, IsOpposite, known_or, filled_in, lasts_of, AreGoodLasts}
+use Rattle.ca_flips.specs.Flips.{AreDefiniteAfter, AreFlipped, IsOpposite, known_or, filled_in, lasts_of, AreGoodLasts}
 use Rattle.ca_flips.specs.Laws.{GoodLastsAreOfWaves, DetectedIsFlipped, FlippedAreEnds, DetectedIsFilledIn, DetectedIsForced}
 use Rattle.ca_flips.specs.Laws.{UnflippedIsUndetected, KnownFlippedIsDetected}
 use Rattle.ca_flips.proofs.DetectLemmas.{opposite_above, clash_detects, ends_stable, detected_is_flipped_by_waves, flipped_are_ends_by_waves}
@@ -35,14 +35,14 @@ flipped_over : (chip : Chip) (u : ℕ) (goods others outputs over values : ℕ �
 flipped_over chip u goods others outputs over values same same_outputs flipped = record {
   apart = λ net within off. flipped.apart net within off ∙ same net within;
   given = λ output within. flipped.given output within ∙ same_outputs output within;
-  behind = flipped.behind;
+  following = flipped.following;
 }
 
 definite_over : (chip : Chip) (rank : ℕ → ℕ) → IsChip chip rank → (u : ℕ) → u < count_of chip → (goods others : ℕ → Trit)
-    → ((net : ℕ) → net < length chip.nets → goods net ≡ others net) → AreDefiniteBehind chip u goods → AreDefiniteBehind chip u others
+    → ((net : ℕ) → net < length chip.nets → goods net ≡ others net) → AreDefiniteAfter chip u goods → AreDefiniteAfter chip u others
 definite_over chip rank is u known goods others same definite = record {
   outputs = λ output within. subst (λ x. x ≢ X) (same (output_net chip u output) (is.on_nets u (inputs_at chip u + output) known (omega arith))) (definite.outputs output within);
-  read = λ w pin behind within. subst (λ x. x ≢ X) (same (net_of chip w pin) (is.on_nets w pin behind.known (omega arith))) (definite.read w pin behind within);
+  read = λ w pin following within. subst (λ x. x ≢ X) (same (net_of chip w pin) (is.on_nets w pin following.known (omega arith))) (definite.read w pin following within);
 }
 
 -- values are opposite where this can't fail

@@ -10,7 +10,7 @@ use Rattle.ca_flat.specs.Waves.{FlatWaves, wave_of, IsFlatChip}
 use Rattle.ca_flat.specs.Chain.{Feeds, IsChain, Leads, IsReachedFrom}
 use Rattle.ca_flat.proofs.NetInduction.{net_induction}
 use Rattle.ca_flat.proofs.Detected.{same_instance, input_same, other_same}
-use Rattle.ca_flips.specs.Flips.{IsBehind}
+use Rattle.ca_flips.specs.Flips.{IsAfter}
 
 chain_then : (chip : Chip) (from : ℕ) (path : List ℕ) (net to : ℕ) → IsChain chip from path net → Feeds chip net to → IsChain chip from (path ++ (to ∷ [])) to
 chain_then chip from [] net to chain feeds = (subst (λ x. Feeds chip x to) (sym chain) feeds, refl)
@@ -73,10 +73,10 @@ module _ (chip : Chip) (rank : ℕ → ℕ) (is : IsChip chip rank) (u : ℕ) (k
       let e : Storage OUTPUT_NET ≡ Input = sym (is.drives net (reached_late net reached).drives) ∙ kind in cc
 
   -- an instance behind u isn't u
-  pub behind_other : (w : ℕ) → IsBehind chip u w → w ≡ u → ⊥
-  behind_other w behind e =
-      let late = reached_late (net_of chip w behind.pin) behind.reached in
-      let less : rank late.drives.instance < rank w = is.ranked w behind.pin behind.known behind.within late.drives in
+  pub after_other : (w : ℕ) → IsAfter chip u w → w ≡ u → ⊥
+  after_other w following e =
+      let late = reached_late (net_of chip w following.pin) following.reached in
+      let less : rank late.drives.instance < rank w = is.ranked w following.pin following.known following.within late.drives in
       let least = late.late in
       let same : rank w ≡ rank u = ap rank e in omega arith
 
@@ -85,19 +85,19 @@ module _ (chip : Chip) (rank : ℕ → ℕ) (is : IsChip chip rank) (u : ℕ) (k
     abbrev own : Drives chip (output_net chip w output)
     own = record { instance = w; output = output; known = lt; within = within; on = refl }
 
-    behind_by : (from net : ℕ) → IsReachedFrom chip u from → Feeds chip from net → net ≡ output_net chip w output → IsBehind chip u w
-    behind_by from net reached f e =
+    after_by : (from net : ℕ) → IsReachedFrom chip u from → Feeds chip from net → net ≡ output_net chip w output → IsAfter chip u w
+    after_by from net reached f e =
         let same : f.instance ≡ w = (is.one_driver (output_net chip w output) (record { instance = f.instance; output = f.output; known = f.known; within = f.output_within; on = f.drives ∙ e }) own).0 in
-        subst (IsBehind chip u) same (record { known = f.known; pin = f.pin; within = f.pin_within; reached = subst (IsReachedFrom chip u) (sym f.reads) reached })
+        subst (IsAfter chip u) same (record { known = f.known; pin = f.pin; within = f.pin_within; reached = subst (IsReachedFrom chip u) (sym f.reads) reached })
 
     last_step : (from : ℕ) (path : List ℕ) → IsReachedFrom chip u from → IsChain chip from path (output_net chip w output)
-        → (from ≡ output_net chip w output → IsBehind chip u w) → IsBehind chip u w
+        → (from ≡ output_net chip w output → IsAfter chip u w) → IsAfter chip u w
     last_step from [] reached chain here = here chain
     last_step from (next ∷ more) reached chain here =
-        last_step next more (reached_on chip u from next reached chain.0) chain.1 (λ e. behind_by from next reached chain.0 e)
+        last_step next more (reached_on chip u from next reached chain.0) chain.1 (λ e. after_by from next reached chain.0 e)
 
-    pub reached_is_behind : (w ≡ u → ⊥) → IsReachedFrom chip u (output_net chip w output) → IsBehind chip u w
-    reached_is_behind other reached =
+    pub reached_is_after : (w ≡ u → ⊥) → IsReachedFrom chip u (output_net chip w output) → IsAfter chip u w
+    reached_is_after other reached =
         let o = reached.is_output in
         last_step reached.from reached.leads.path
         (record { from = reached.from; is_output = o; leads = leads_self chip reached.from }) reached.leads.is_chain
@@ -115,6 +115,6 @@ unreached_same chip rank defect is pair good faulty = net_induction chip rank is
     ])
 
 -- the output nets of an instance behind u are reached
-pub behind_reached : (chip : Chip) (u w output : ℕ) → IsBehind chip u w → output < outputs_at chip w → IsReachedFrom chip u (output_net chip w output)
-behind_reached chip u w output behind within =
-    reached_on chip u (net_of chip w behind.pin) (output_net chip w output) behind.reached (feeds_of chip w behind.pin output behind.known behind.within within)
+pub after_reached : (chip : Chip) (u w output : ℕ) → IsAfter chip u w → output < outputs_at chip w → IsReachedFrom chip u (output_net chip w output)
+after_reached chip u w output following within =
+    reached_on chip u (net_of chip w following.pin) (output_net chip w output) following.reached (feeds_of chip w following.pin output following.known following.within within)

@@ -13,11 +13,11 @@ use Rattle.ca_flat.proofs.PairLemmas.{middle_under_first, middle_under_last}
 use Rattle.ca_flat.proofs.NetInduction.{net_induction}
 use Rattle.ca_flat.proofs.Detected.{same_instance}
 use Rattle.ca_flips.specs.Static.{EndsByLast}
-use Rattle.ca_flips.specs.Flips.{IsBehind, AreStaticBehind, AreDefiniteBehind, vector_at, AreLastsOf, KeepsGood}
+use Rattle.ca_flips.specs.Flips.{IsAfter, AreStaticAfter, AreDefiniteAfter, vector_at, AreLastsOf, KeepsGood}
 use Rattle.ca_flips.specs.Flips.{IsEvaluated, AreSwept}
 use Rattle.ca_flips.specs.Laws.{SweptAreFlipped}
 use Rattle.ca_flips.proofs.PinLemmas.{output_is}
-use Rattle.ca_flips.proofs.ReachLemmas.{reached_own, reached_on, feeds_of, behind_other}
+use Rattle.ca_flips.proofs.ReachLemmas.{reached_own, reached_on, feeds_of, after_other}
 use Rattle.ca_flips.proofs.VectorLemmas.{vector_definite, vector_same}
 
 module _ (chip : Chip) (rank : ℕ → ℕ) (pair : List Trit) (is : IsChip chip rank) (formed : IsWellFormed (flat chip None)) (goods : ℕ → Trit)
@@ -53,14 +53,14 @@ module _ (chip : Chip) (rank : ℕ → ℕ) (pair : List Trit) (is : IsChip chip
               (λ pin k. pins pin k (λ reached. off (reached_on chip u _ _ reached (feeds_of chip w pin output lt k within)))) output within
         ])
 
-    module _ (static : AreStaticBehind chip u) (definite : AreDefiniteBehind chip u goods) where
-      ends_of : (w output : ℕ) → IsBehind chip u w → output < outputs_at chip w → KeepsGood chip w goods values ⊎ IsEvaluated chip w values
+    module _ (static : AreStaticAfter chip u) (definite : AreDefiniteAfter chip u goods) where
+      ends_of : (w output : ℕ) → IsAfter chip u w → output < outputs_at chip w → KeepsGood chip w goods values ⊎ IsEvaluated chip w values
           → EndsByLast (cell_at chip w) (vector_at chip w values) output (values (output_net chip w output))
-      ends_of w output behind within (inr evaluated) = evaluated output within
-      ends_of w output behind within (inl kept) =
-          let end = static w behind (vector_at chip w goods) (vector_definite chip w goods (λ pin k. definite.read w pin behind k)) output within in
+      ends_of w output following within (inr evaluated) = evaluated output within
+      ends_of w output following within (inl kept) =
+          let end = static w following (vector_at chip w goods) (vector_definite chip w goods (λ pin k. definite.read w pin following k)) output within in
           let value : end.value ≡ values (output_net chip w output) =
-          good_output w behind.known goods (λ pin k. refl) output within end.value end.ends ∙ sym (kept.outputs output within) in
+          good_output w following.known goods (λ pin k. refl) output within end.value end.ends ∙ sym (kept.outputs output within) in
           subst (EndsByLast (cell_at chip w) (vector_at chip w values) output) value
           (subst (λ x. EndsByLast (cell_at chip w) x output end.value) (sym (vector_same chip w values goods kept.pins)) end.ends)
 
@@ -68,6 +68,6 @@ pub swept_are_flipped_lem : SweptAreFlipped
 swept_are_flipped_lem chip rank pair u goods outputs values is formed known lasts static definite swept = record {
   apart = apart_good chip rank pair is formed goods lasts u known outputs values swept;
   given = swept.given;
-  behind = λ w output behind within. ends_of chip rank pair is formed goods lasts u known outputs values swept static definite w output behind within
-      (swept.others w behind.known (behind_other chip rank is u known w behind));
+  following = λ w output following within. ends_of chip rank pair is formed goods lasts u known outputs values swept static definite w output following within
+      (swept.others w following.known (after_other chip rank is u known w following));
 }

@@ -8,10 +8,10 @@ use Rattle.ca_flat.specs.Chain.{IsReachedFrom}
 use Rattle.ca_flat.proofs.NetInduction.{net_induction}
 use Rattle.ca_flat.proofs.Detected.{same_instance}
 use Rattle.ca_flips.specs.Static.{EndsByLast}
-use Rattle.ca_flips.specs.Flips.{IsBehind, AreStaticBehind, AreDefiniteBehind, AreFlipped, vector_at}
+use Rattle.ca_flips.specs.Flips.{IsAfter, AreStaticAfter, AreDefiniteAfter, AreFlipped, vector_at}
 use Rattle.ca_flips.specs.Laws.{FlippedAreUnique, FlippedAreThere, FlippedAreDefinite}
 use Rattle.ca_flips.proofs.CellLemmas.{last_end_is_one_lem}
-use Rattle.ca_flips.proofs.ReachLemmas.{reached_late, reached_no_input, reached_is_behind, reached_own, behind_other, behind_reached}
+use Rattle.ca_flips.proofs.ReachLemmas.{reached_late, reached_no_input, reached_is_after, reached_own, after_other, after_reached}
 use Rattle.ca_flips.proofs.FlipLemmas.{same_by_cases}
 use Rattle.ca_flips.proofs.VectorLemmas.{vector_same, values_same, values_definite}
 
@@ -27,12 +27,12 @@ module _ (chip : Chip) (rank : ℕ → ℕ) (is : IsChip chip rank) (u : ℕ) (k
   own_same w output e within = subst (λ x. Same (output_net chip x output)) (sym e)
       (let k = subst (λ x. output < outputs_at chip x) e within in one.given output k ∙ sym (two.given output k))
 
-  behind_same : (w output : ℕ) → w < count_of chip → output < outputs_at chip w → IsBehind chip u w
+  after_same : (w output : ℕ) → w < count_of chip → output < outputs_at chip w → IsAfter chip u w
       → ((pin : ℕ) → pin < inputs_at chip w → Same (net_of chip w pin)) → Same (output_net chip w output)
-  behind_same w output lt within behind pins =
+  after_same w output lt within following pins =
       last_end_is_one_lem (cell_at chip w) (vector_at chip w others) output _ _ (is.cells w lt) within
-      (subst (λ x. EndsByLast (cell_at chip w) x output (values (output_net chip w output))) (vector_same chip w values others pins) (one.behind w output behind within))
-      (two.behind w output behind within)
+      (subst (λ x. EndsByLast (cell_at chip w) x output (values (output_net chip w output))) (vector_same chip w values others pins) (one.following w output following within))
+      (two.following w output following within)
 
   pub all_same : (net : ℕ) → net < length chip.nets → Same net
   all_same = net_induction chip rank is Same
@@ -40,7 +40,7 @@ module _ (chip : Chip) (rank : ℕ → ℕ) (is : IsChip chip rank) (u : ℕ) (k
       (λ w lt pins output within. elim (same_instance w u) [
         | inl e ↦ own_same w output e within
         | inr other ↦ same_by_cases (IsReachedFrom chip u (output_net chip w output)) _ _
-            (λ reached. behind_same w output lt within (reached_is_behind chip rank is u known w output lt within other reached) pins)
+            (λ reached. after_same w output lt within (reached_is_after chip rank is u known w output lt within other reached) pins)
             (λ off. apart_same (output_net chip w output) (is.on_nets w (inputs_at chip w + output) lt (omega arith)) off)
       ])
 
@@ -76,7 +76,7 @@ module _ (chip : Chip) (rank : ℕ → ℕ) (is : IsChip chip rank) (u : ℕ) (k
   pub record IsOf (at : ℕ → Trit → Type 0) (net : ℕ) (v : Trit) : Type 0 where
     pub instance : ℕ
     pub output : ℕ
-    pub behind : IsBehind chip u instance
+    pub following : IsAfter chip u instance
     pub within : output < outputs_at chip instance
     pub on : output_net chip instance output ≡ net
     pub pins : ℕ → Trit
@@ -92,16 +92,16 @@ module _ (chip : Chip) (rank : ℕ → ℕ) (is : IsChip chip rank) (u : ℕ) (k
   own_reached net v own = subst (IsReachedFrom chip u) own.on (reached_own chip u own.output own.within)
 
   of_reached : (at : ℕ → Trit → Type 0) (net : ℕ) (v : Trit) → IsOf at net v → IsReachedFrom chip u net
-  of_reached at net v of = subst (IsReachedFrom chip u) of.on (behind_reached chip u of.instance of.output of.behind of.within)
+  of_reached at net v of = subst (IsReachedFrom chip u) of.on (after_reached chip u of.instance of.output of.following of.within)
 
   abbrev own_drives : (net : ℕ) (v : Trit) → IsOwn net v → Drives chip net
   own_drives net v own = record { instance = u; output = own.output; known = known; within = own.within; on = own.on }
 
   abbrev of_drives : (at : ℕ → Trit → Type 0) (net : ℕ) (v : Trit) → IsOf at net v → Drives chip net
-  of_drives at net v of = record { instance = of.instance; output = of.output; known = of.behind.known; within = of.within; on = of.on }
+  of_drives at net v of = record { instance = of.instance; output = of.output; known = of.following.known; within = of.within; on = of.on }
 
   own_apart : (at : ℕ → Trit → Type 0) (net : ℕ) (v w : Trit) → IsOwn net v → IsOf at net w → ⊥
-  own_apart at net v w own of = behind_other chip rank is u known of.instance of.behind (is.one_driver net (of_drives at net w of) (own_drives net v own)).0
+  own_apart at net v w own of = after_other chip rank is u known of.instance of.following (is.one_driver net (of_drives at net w of) (own_drives net v own)).0
 
   -- two ways by an instance behind u are one
   of_same : (at bt : ℕ → Trit → Type 0) → ((net : ℕ) (v w : Trit) → at net v → bt net w → v ≡ w) → (net : ℕ) (v w : Trit) → IsOf at net v → IsOf bt net w → v ≡ w
@@ -113,7 +113,7 @@ module _ (chip : Chip) (rank : ℕ → ℕ) (is : IsChip chip rank) (u : ℕ) (k
       let each : (pin : ℕ) → pin < inputs_at chip one.instance → bt (net_of chip one.instance pin) (two.pins pin) =
       subst (λ x. (pin : ℕ) → pin < inputs_at chip x → bt (net_of chip x pin) (two.pins pin)) e.0 two.each in
       last_end_is_one_lem (cell_at chip one.instance) (values_from two.pins 0 (inputs_at chip one.instance)) one.output v w
-      (is.cells one.instance one.behind.known) one.within
+      (is.cells one.instance one.following.known) one.within
       (subst (λ x. EndsByLast (cell_at chip one.instance) x one.output v)
       (values_same one.pins two.pins (inputs_at chip one.instance) (λ n lt. same (net_of chip one.instance n) _ _ (one.each n lt) (each n lt)))
       one.ends) ends
@@ -138,15 +138,15 @@ module _ (chip : Chip) (rank : ℕ → ℕ) (is : IsChip chip rank) (u : ℕ) (k
 
   -- found values are flipped ones
   module _ (values : ℕ → Trit) (found : (net : ℕ) → net < length chip.nets → Found net (values net)) where
-    of_flipped : (k w output : ℕ) → IsBehind chip u w → output < outputs_at chip w → (v : Trit) → IsAt k (output_net chip w output) v
+    of_flipped : (k w output : ℕ) → IsAfter chip u w → output < outputs_at chip w → (v : Trit) → IsAt k (output_net chip w output) v
         → EndsByLast (cell_at chip w) (vector_at chip w values) output v
-    of_flipped zero w output behind within v p = absurd p
-    of_flipped (suc k) w output behind within v (inl p) = absurd (p.0 (behind_reached chip u w output behind within))
-    of_flipped (suc k) w output behind within v (inr (inl p)) =
-        absurd (behind_other chip rank is u known w behind (is.one_driver (output_net chip w output)
-        (record { instance = w; output = output; known = behind.known; within = within; on = refl }) (own_drives _ v p)).0)
-    of_flipped (suc k) w output behind within v (inr (inr p)) =
-        let e = is.one_driver (output_net chip w output) (of_drives (IsAt k) _ v p) (record { instance = w; output = output; known = behind.known; within = within; on = refl }) in
+    of_flipped zero w output following within v p = absurd p
+    of_flipped (suc k) w output following within v (inl p) = absurd (p.0 (after_reached chip u w output following within))
+    of_flipped (suc k) w output following within v (inr (inl p)) =
+        absurd (after_other chip rank is u known w following (is.one_driver (output_net chip w output)
+        (record { instance = w; output = output; known = following.known; within = within; on = refl }) (own_drives _ v p)).0)
+    of_flipped (suc k) w output following within v (inr (inr p)) =
+        let e = is.one_driver (output_net chip w output) (of_drives (IsAt k) _ v p) (record { instance = w; output = output; known = following.known; within = within; on = refl }) in
         let ends : EndsByLast (cell_at chip w) (values_from p.pins 0 (inputs_at chip w)) output v =
         subst (λ x. EndsByLast (cell_at chip w) (values_from p.pins 0 (inputs_at chip w)) x v) e.1
         (subst (λ x. EndsByLast (cell_at chip x) (values_from p.pins 0 (inputs_at chip x)) p.output v) e.0 p.ends) in
@@ -154,7 +154,7 @@ module _ (chip : Chip) (rank : ℕ → ℕ) (is : IsChip chip rank) (u : ℕ) (k
         subst (λ x. (pin : ℕ) → pin < inputs_at chip x → IsAt k (net_of chip x pin) (p.pins pin)) e.0 p.each in
         subst (λ x. EndsByLast (cell_at chip w) x output v)
         (values_same p.pins (λ pin. values (net_of chip w pin)) (inputs_at chip w) (λ n lt.
-        let f = found (net_of chip w n) (is.on_nets w n behind.known (omega arith)) in
+        let f = found (net_of chip w n) (is.on_nets w n following.known (omega arith)) in
         unique k f.0 (net_of chip w n) _ _ (each n lt) f.1)) ends
 
     found_flipped : AreFlipped chip u goods outputs values
@@ -162,11 +162,11 @@ module _ (chip : Chip) (rank : ℕ → ℕ) (is : IsChip chip rank) (u : ℕ) (k
       apart = λ net within off. let f = found net within in unique f.0 1 net (values net) (goods net) f.1 (inl (off, refl));
       given = λ output within. let f = found (output_net chip u output) (is.on_nets u (inputs_at chip u + output) known (omega arith)) in
           unique f.0 1 (output_net chip u output) _ (outputs output) f.1 (inr (inl (record { output = output; within = within; on = refl; gives = refl })));
-      behind = λ w output behind within. let f = found (output_net chip w output) (is.on_nets w (inputs_at chip w + output) behind.known (omega arith)) in
-          of_flipped f.0 w output behind within (values (output_net chip w output)) f.1;
+      following = λ w output following within. let f = found (output_net chip w output) (is.on_nets w (inputs_at chip w + output) following.known (omega arith)) in
+          of_flipped f.0 w output following within (values (output_net chip w output)) f.1;
     }
 
-  module _ (static : AreStaticBehind chip u) (definite : AreDefiniteBehind chip u goods) (chosen : (output : ℕ) → output < outputs_at chip u → outputs output ≢ X) where
+  module _ (static : AreStaticAfter chip u) (definite : AreDefiniteAfter chip u goods) (chosen : (output : ℕ) → output < outputs_at chip u → outputs output ≢ X) where
     at_definite : (k net : ℕ) (v : Trit) → goods net ≢ X → IsAt k net v → v ≢ X
     at_definite zero net v good p = absurd p
     at_definite (suc k) net v good (inl p) = λ e. good (sym p.1 ∙ e)
@@ -181,16 +181,16 @@ module _ (chip : Chip) (rank : ℕ → ℕ) (is : IsChip chip rank) (u : ℕ) (k
     own_some w output e within = subst (λ x. IsOwn (output_net chip x output) (outputs output)) (sym e)
         (record { output = output; within = subst (λ x. output < outputs_at chip x) e within; on = refl; gives = refl })
 
-    of_some : (w output : ℕ) → IsBehind chip u w → output < outputs_at chip w → ((pin : ℕ) → pin < inputs_at chip w → Some (net_of chip w pin))
+    of_some : (w output : ℕ) → IsAfter chip u w → output < outputs_at chip w → ((pin : ℕ) → pin < inputs_at chip w → Some (net_of chip w pin))
         → (k : ℕ) → rank w < k → ((v : Trit) → IsAt (suc k) (output_net chip w output) v → ⊥) → ⊥
-    of_some w output behind within pins zero bound out = absurd (omega arith)
-    of_some w output behind within pins (suc k) bound out =
+    of_some w output following within pins zero bound out = absurd (omega arith)
+    of_some w output following within pins (suc k) bound out =
         together (λ pin v. IsAt (suc k) (net_of chip w pin) v) (inputs_at chip w)
-        (λ pin lt. pins pin lt k (λ q. let less : rank q.instance < rank w = is.ranked w pin behind.known lt q in omega arith))
+        (λ pin lt. pins pin lt k (λ q. let less : rank q.instance < rank w = is.ranked w pin following.known lt q in omega arith))
         (λ values each.
-        let end = static w behind (values_from values 0 (inputs_at chip w)) (values_definite chip w values
-        (λ n lt. at_definite (suc k) (net_of chip w n) (values n) (definite.read w n behind lt) (each n lt))) output within in
-        out end.value (inr (inr (record { instance = w; output = output; behind = behind; within = within; on = refl; pins = values; each = each; ends = end.ends }))))
+        let end = static w following (values_from values 0 (inputs_at chip w)) (values_definite chip w values
+        (λ n lt. at_definite (suc k) (net_of chip w n) (values n) (definite.read w n following lt) (each n lt))) output within in
+        out end.value (inr (inr (record { instance = w; output = output; following = following; within = within; on = refl; pins = values; each = each; ends = end.ends }))))
 
     some : (net : ℕ) → net < length chip.nets → Some net
     some = net_induction chip rank is Some
@@ -204,7 +204,7 @@ module _ (chip : Chip) (rank : ℕ → ℕ) (is : IsChip chip rank) (u : ℕ) (k
             → (k : ℕ) → rank w < k → ((v : Trit) → IsAt (suc k) (output_net chip w output) v → ⊥) → (w ≡ u → ⊥) → ⊥
         at_other w lt pins output within k bound out other =
             let not_off : (IsReachedFrom chip u (output_net chip w output) → ⊥) → ⊥ = λ off. out (goods (output_net chip w output)) (inl (off, refl)) in
-            not_off (λ reached. of_some w output (reached_is_behind chip rank is u known w output lt within other reached) within pins k bound out)
+            not_off (λ reached. of_some w output (reached_is_after chip rank is u known w output lt within other reached) within pins k bound out)
 
     some_found : (net : ℕ) → net < length chip.nets → ((v : Trit) → Found net v → ⊥) → ⊥
     some_found = net_induction chip rank is (λ net. ((v : Trit) → Found net v → ⊥) → ⊥)
@@ -224,8 +224,8 @@ flipped_are_definite_lem chip rank u goods outputs values net is known chosen fl
     let drives = (reached_late chip rank is u known net reached).drives in
     subst (λ x. values x ≢ X) drives.on (elim (same_instance drives.instance u) [
       | inl e ↦ own drives.instance drives.output e drives.within
-      | inr other ↦ (flipped.behind drives.instance drives.output
-          (reached_is_behind chip rank is u known drives.instance drives.output drives.known drives.within other (subst (IsReachedFrom chip u) (sym drives.on) reached)) drives.within).definite
+      | inr other ↦ (flipped.following drives.instance drives.output
+          (reached_is_after chip rank is u known drives.instance drives.output drives.known drives.within other (subst (IsReachedFrom chip u) (sym drives.on) reached)) drives.within).definite
     ])
   where
     own : (w output : ℕ) → w ≡ u → output < outputs_at chip w → values (output_net chip w output) ≢ X

@@ -20,20 +20,20 @@ use Rattle.ca_flat.specs.Chain.{Leads, IsReachedFrom}
 use Rattle.ca_flips.specs.Static.{EndsByLast, IsStatic}
 
 -- some input pin of the instance w is on a net that the instance u reaches
-pub record IsBehind (chip : Chip) (u w : ℕ) : Type 0 where
+pub record IsAfter (chip : Chip) (u w : ℕ) : Type 0 where
   pub known : w < count_of chip
   pub pin : ℕ
   pub within : pin < inputs_at chip w
   pub reached : IsReachedFrom chip u (net_of chip w pin)
 
 -- the cell of each instance behind u is static
-abbrev pub AreStaticBehind : Chip → ℕ → Type 0
-AreStaticBehind chip u = (w : ℕ) → IsBehind chip u w → IsStatic (cell_at chip w)
+abbrev pub AreStaticAfter : Chip → ℕ → Type 0
+AreStaticAfter chip u = (w : ℕ) → IsAfter chip u w → IsStatic (cell_at chip w)
 
 -- the values of nets are definite at the output nets of u, and at each net that an instance behind u reads
-pub record AreDefiniteBehind (chip : Chip) (u : ℕ) (values : ℕ → Trit) : Type 0 where
+pub record AreDefiniteAfter (chip : Chip) (u : ℕ) (values : ℕ → Trit) : Type 0 where
   pub outputs : (output : ℕ) → output < outputs_at chip u → values (output_net chip u output) ≢ X
-  pub read : (w pin : ℕ) → IsBehind chip u w → pin < inputs_at chip w → values (net_of chip w pin) ≢ X
+  pub read : (w pin : ℕ) → IsAfter chip u w → pin < inputs_at chip w → values (net_of chip w pin) ≢ X
 
 -- the values of the input nets of the instance w, in pin order
 abbrev pub vector_at : Chip → ℕ → (ℕ → Trit) → List Trit
@@ -46,7 +46,7 @@ pub record AreFlipped (chip : Chip) (u : ℕ) (goods outputs values : ℕ → Tr
   pub apart : (net : ℕ) → net < length chip.nets → ¬ (IsReachedFrom chip u net) → values net ≡ goods net
   pub given : (output : ℕ) → output < outputs_at chip u
       → values (output_net chip u output) ≡ outputs output
-  pub behind : (w output : ℕ) → IsBehind chip u w → output < outputs_at chip w
+  pub following : (w output : ℕ) → IsAfter chip u w → output < outputs_at chip w
       → EndsByLast (cell_at chip w) (vector_at chip w values) output (values (output_net chip w output))
 
 -- the instance w has good values at all its pins
@@ -78,7 +78,7 @@ pub record AreKnownFlipped (chip : Chip) (u : ℕ) (goods outputs values : ℕ �
       → IsBelow (values net) (goods net)
   pub given : (output : ℕ) → output < outputs_at chip u
       → IsBelow (values (output_net chip u output)) (outputs output)
-  pub behind : (w output : ℕ) → IsBehind chip u w → output < outputs_at chip w
+  pub following : (w output : ℕ) → IsAfter chip u w → output < outputs_at chip w
       → values (output_net chip w output) ≢ X
       → EndsByLast (cell_at chip w) (vector_at chip w values) output (values (output_net chip w output))
 

@@ -17,7 +17,7 @@ use Rattle.ca_flat.specs.Pair.{NetEndsAt, DetectsAt}
 use Rattle.ca_flat.specs.Waves.{FlatWaves, wave_of, IsFlatChip}
 use Rattle.ca_flat.specs.Chain.{Leads, IsReachedFrom}
 use Rattle.ca_flips.specs.Static.{node_of_output, EndsByLast}
-use Rattle.ca_flips.specs.Flips.{AreStaticBehind, AreDefiniteBehind, AreFlipped, AreKnownFlipped}
+use Rattle.ca_flips.specs.Flips.{AreStaticAfter, AreDefiniteAfter, AreFlipped, AreKnownFlipped}
 use Rattle.ca_flips.specs.Flips.{IsOpposite, IsForced}
 use Rattle.ca_flips.specs.Flips.{filled_in, lasts_of, ArePinWaves, IsFaultyLast, AreFaultyLasts}
 use Rattle.ca_flips.specs.Flips.{AreFaultyLastsTo, AreLastsOf, AreGoodLasts, AreSwept}
@@ -161,7 +161,7 @@ UnflippedIsUndetected =
     (chip : Chip) (rank : ℕ → ℕ) (defect : ChipDefect) (pair : List Trit) (pins : List Wave)
     (goods known : ℕ → Trit) (net : ℕ)
     → IsFlatChip chip rank defect → AreGoodLasts chip pair defect.instance pins goods
-    → AreStaticBehind chip defect.instance → AreDefiniteBehind chip defect.instance goods
+    → AreStaticAfter chip defect.instance → AreDefiniteAfter chip defect.instance goods
     → AreFaultyLasts chip defect pins known
     → ((output : ℕ) → output < outputs_at chip defect.instance
     → ¬ (IsOpposite (goods (output_net chip defect.instance output)) (known output)))
@@ -173,7 +173,7 @@ abbrev pub SweptAreFlipped : Type 0
 SweptAreFlipped =
     (chip : Chip) (rank : ℕ → ℕ) (pair : List Trit) (u : ℕ) (goods outputs values : ℕ → Trit)
     → IsChip chip rank → IsWellFormed (flat chip None) → u < count_of chip → AreLastsOf chip pair goods
-    → AreStaticBehind chip u → AreDefiniteBehind chip u goods → AreSwept chip u goods outputs values
+    → AreStaticAfter chip u → AreDefiniteAfter chip u goods → AreSwept chip u goods outputs values
     → AreFlipped chip u goods outputs values
 
 -- flipped values are one
@@ -189,7 +189,7 @@ FlippedAreUnique =
 abbrev pub FlippedAreThere : Type 0
 FlippedAreThere =
     (chip : Chip) (rank : ℕ → ℕ) (u : ℕ) (goods outputs : ℕ → Trit)
-    → IsChip chip rank → u < count_of chip → AreStaticBehind chip u → AreDefiniteBehind chip u goods
+    → IsChip chip rank → u < count_of chip → AreStaticAfter chip u → AreDefiniteAfter chip u goods
     → ((output : ℕ) → output < outputs_at chip u → outputs output ≢ X)
     → ((values : ℕ → Trit) → AreFlipped chip u goods outputs values → ⊥) → ⊥
 
@@ -209,7 +209,7 @@ DetectedWhereForced =
     (chip : Chip) (rank : ℕ → ℕ) (defect : ChipDefect) (pair : List Trit) (pins : List Wave)
     (goods known : ℕ → Trit) (net : ℕ)
     → IsFlatChip chip rank defect → AreGoodLasts chip pair defect.instance pins goods
-    → AreStaticBehind chip defect.instance → AreDefiniteBehind chip defect.instance goods
+    → AreStaticAfter chip defect.instance → AreDefiniteAfter chip defect.instance goods
     → AreFaultyLasts chip defect pins known
     → ((output : ℕ) → output < outputs_at chip defect.instance
     → Leads chip (output_net chip defect.instance output) net → known output ≢ X)

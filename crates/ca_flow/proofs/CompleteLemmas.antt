@@ -26,7 +26,7 @@ use Rattle.ca_fault.specs.declared.fault.Fault.TheVariants.{NoInstance, NoDefect
 use Rattle.ca_fault.specs.declared.fault.Fault.TheVariants.{SinkFailed, NoMemory}
 use Rattle.ca_fault.specs.declared.fault.Fault.TheVariants.{Order}
 use Rattle.ca_flow.specs.declared.finished.Finished.{Finished}
-use Rattle.ca_flow.specs.Finished.{IsAnswer, status_told}
+use Rattle.ca_flow.specs.Finished.{IsAnswer, status_reported}
 use Rattle.ca_words.specs.Words.{cells_word, cell_word, vector_word, first_word, last_word, defect_word, dash}
 use Rattle.ca_words.specs.Words.{chip_files, instance_word, chip_defect_word, chip_first_word, chip_last_word}
 use Rattle.ca_words.specs.Words.{order_word, IsReplay, AsksNoFile, GeneratesTests, IsCommand}
@@ -49,24 +49,24 @@ use Rattle.ca_on_cell.specs.Causes.{IsValueCause}
 
 -- the file and the cell that the words name
 record HasSeen (words : List (List ℕ)) (files : Option Files) : Type 0 where
-  pub told : Files
-  pub told_are : files ≡ Some told
+  pub reported : Files
+  pub reported_are : files ≡ Some reported
   pub bytes : List ℕ
-  pub there : told (cells_word words) ≡ Some bytes
+  pub there : reported (cells_word words) ≡ Some bytes
   pub within : length bytes ≤ MAX_CELLS
   pub raw : RawCell
   pub called : cell_called bytes (cell_word words) ≡ Some raw
   pub fits : FitsCell words raw
 
-seen_of : (words : List (List ℕ)) (told : Files) → FitsFile words told → HasSeen words (Some told)
-seen_of words told held = at_file (told (cells_word words)) refl held
+seen_of : (words : List (List ℕ)) (reported : Files) → FitsFile words reported → HasSeen words (Some reported)
+seen_of words reported held = at_file (reported (cells_word words)) refl held
   where
-    at_cell : (bytes : List ℕ) → told (cells_word words) ≡ Some bytes → length bytes ≤ MAX_CELLS → (cell : Option RawCell)
-        → cell_called bytes (cell_word words) ≡ cell → IsSomeAnd cell (FitsCell words) → HasSeen words (Some told)
+    at_cell : (bytes : List ℕ) → reported (cells_word words) ≡ Some bytes → length bytes ≤ MAX_CELLS → (cell : Option RawCell)
+        → cell_called bytes (cell_word words) ≡ cell → IsSomeAnd cell (FitsCell words) → HasSeen words (Some reported)
     at_cell bytes there within None called fits = absurd fits
     at_cell bytes there within (Some raw) called fits = record {
-      told = told;
-      told_are = refl;
+      reported = reported;
+      reported_are = refl;
       bytes = bytes;
       there = there;
       within = within;
@@ -75,8 +75,8 @@ seen_of words told held = at_file (told (cells_word words)) refl held
       fits = fits;
     }
 
-    at_file : (file : Option (List ℕ)) → told (cells_word words) ≡ file
-        → IsSomeAnd file (λ bytes. (length bytes ≤ MAX_CELLS) × HasCell (cell_word words) (FitsCell words) bytes) → HasSeen words (Some told)
+    at_file : (file : Option (List ℕ)) → reported (cells_word words) ≡ file
+        → IsSomeAnd file (λ bytes. (length bytes ≤ MAX_CELLS) × HasCell (cell_word words) (FitsCell words) bytes) → HasSeen words (Some reported)
     at_file None there held = absurd held
     at_file (Some bytes) there (within, has) = at_cell bytes there within (cell_called bytes (cell_word words)) refl has
 
@@ -84,7 +84,7 @@ module _ (words : List (List ℕ)) (files : Option Files) (seen : HasSeen words 
   -- what is said of the file holds of its bytes
   at_bytes : (P : List ℕ → Type 0) → OfFile files (cells_word words) P → P seen.bytes
   at_bytes P held =
-      let here : IsSomeAnd (Some seen.bytes) (λ bytes. (length bytes ≤ MAX_CELLS) × P bytes) = rw seen.there at (held seen.told seen.told_are) in
+      let here : IsSomeAnd (Some seen.bytes) (λ bytes. (length bytes ≤ MAX_CELLS) × P bytes) = rw seen.there at (held seen.reported seen.reported_are) in
       here.1
 
   -- what is said of the cell holds of its subcircuit
@@ -94,12 +94,12 @@ module _ (words : List (List ℕ)) (files : Option Files) (seen : HasSeen words 
       here
 
   is_there : MayHave files (cells_word words)
-  is_there = λ told are. rw (sym (same_Some seen.told told (sym seen.told_are ∙ are)), seen.there) refl
+  is_there = λ reported are. rw (sym (same_Some seen.reported reported (sym seen.reported_are ∙ are)), seen.there) refl
 
   module _ (before after : ℕ) (quiet : ¬ (Rose before after)) where
     at_read : (fault : Fault) → IsReadCause (cells_word words) files MAX_CELLS before after fault → fault ≡ NoMemory
     at_read (TooLong typed taken) (same, long) =
-        let past : IsSomeAnd (Some seen.bytes) (λ bytes. MAX_CELLS < length bytes) = rw seen.there at (long.past seen.told seen.told_are) in
+        let past : IsSomeAnd (Some seen.bytes) (λ bytes. MAX_CELLS < length bytes) = rw seen.there at (long.past seen.reported seen.reported_are) in
         absurd (omega (arith, past, seen.within))
     at_read (StoreFailed typed) (same, rose) = absurd (quiet (rose is_there))
     at_read NoMemory cause = refl
@@ -211,12 +211,12 @@ asking_work words files before after fault asks (inr (inr (inr (inr (inr (make, 
     by (inl memory) = inl memory
     by (inr many) = inr (inr make, many.pairs)
 
-module _ (words : List (List ℕ)) (files : Option Files) (told : Files) (are : files ≡ Some told) (fits : FitsChip words told) where
+module _ (words : List (List ℕ)) (files : Option Files) (reported : Files) (are : files ≡ Some reported) (fits : FitsChip words reported) where
   -- what is said of the chip of the files holds of one of the chips that the inputs give
   at_inputs : (P : LinkedChip → Type 0) → OfChip files (chip_files words) P → GiveChipWith P fits.inputs
   at_inputs P held =
-      let found = held told are in
-      subst (GiveChipWith P) (one_reading (chip_files words) told found.0 fits.inputs found.1.0 fits.read) found.1.1
+      let found = held reported are in
+      subst (GiveChipWith P) (one_reading (chip_files words) reported found.0 fits.inputs found.1.0 fits.read) found.1.1
 
   no_defect : (chip : LinkedChip) (fault : Fault) → FitsDefect words chip
       → IsDefectCause chip (instance_word words) (chip_defect_word words) fault → ⊥
@@ -241,10 +241,10 @@ module _ (words : List (List ℕ)) (files : Option Files) (told : Files) (are : 
   no_simulation chip fault own (inr (first, (last, cause))) = no_defect chip fault own.defect cause
 
   -- the file of `replay` names events
-  no_line : (chip : LinkedChip) (line : ℕ) → FitsReplay words told chip
+  no_line : (chip : LinkedChip) (line : ℕ) → FitsReplay words reported chip
       → reading.OfFile files (order_word words) MAX_ORDER (HasFaultyLine (instance_word words) (chip_defect_word words) (chip_first_word words)
       (chip_last_word words) line chip) → ⊥
-  no_line chip line own held = by (told (order_word words)) own.events (held told are)
+  no_line chip line own held = by (reported (order_word words)) own.events (held reported are)
     where
       by : (there : Option (List ℕ)) → IsSomeAnd there (λ bytes. (length bytes ≤ MAX_ORDER) × HasEvents words chip bytes)
           → IsSomeAnd there (λ bytes. (length bytes ≤ MAX_ORDER)
@@ -254,14 +254,14 @@ module _ (words : List (List ℕ)) (files : Option Files) (told : Files) (are : 
           let named = fits faulty.run faulty.asked in read_or_faulty faulty.run bytes named.0 line named.1 faulty.faulty
 
   -- it is read
-  no_read : (chip : LinkedChip) (before after : ℕ) (fault : Fault) → FitsReplay words told chip
+  no_read : (chip : LinkedChip) (before after : ℕ) (fault : Fault) → FitsReplay words reported chip
       → IsReadCause (order_word words) files MAX_ORDER before after fault → IsOutsideFault fault before after
-  no_read chip before after fault own cause = by (told (order_word words)) refl own.events
+  no_read chip before after fault own cause = by (reported (order_word words)) refl own.events
     where
-      by : (there : Option (List ℕ)) → told (order_word words) ≡ there
+      by : (there : Option (List ℕ)) → reported (order_word words) ≡ there
           → IsSomeAnd there (λ bytes. (length bytes ≤ MAX_ORDER) × HasEvents words chip bytes) → IsOutsideFault fault before after
       by None is fits = absurd fits
-      by (Some bytes) is (within, fits) = is_read files told are before after (order_word words) bytes MAX_ORDER is within fault cause
+      by (Some bytes) is (within, fits) = is_read files reported are before after (order_word words) bytes MAX_ORDER is within fault cause
 
   no_order : IsReplay words → (before after : ℕ) (fault : Fault)
       → IsOrderCause (chip_files words) (instance_word words) (chip_defect_word words) (chip_first_word words) (chip_last_word words)
@@ -309,7 +309,7 @@ module _ (words : List (List ℕ)) (files : Option Files) (told : Files) (are : 
       absurd (no_chip words (inr (inr (inr is))) fits.is)
   at_chip before after fault (inr (inr (inr (inr (inr (make, cause)))))) = absurd (no_asking_chip words (inr (inr make)) fits.is)
   at_chip before after fault (inr (inr (inr (inr (inl (is, inl load)))))) =
-      inl (at_load files told are before after (chip_files words) fits.inputs fits.read fits.gives fault load)
+      inl (at_load files reported are before after (chip_files words) fits.inputs fits.read fits.gives fault load)
   at_chip before after fault (inr (inr (inr (inr (inl (is, inr own)))))) = no_own before after fault own
 
 only_outside : (words : List (List ℕ)) (fault : Fault) (before after : ℕ) → ¬ (Rose before after)
@@ -330,16 +330,16 @@ answerable_memory words before after (inl asks) quiet_store quiet_sink fault cau
 answerable_memory words before after (inr fits) quiet_store quiet_sink fault cause = by before.files refl fits
   where
     by : (files : Option Files) → before.files ≡ files
-        → IsSomeAnd files (λ told. FitsFile words told ⊎ FitsChip words told) → IsLeft words fault
+        → IsSomeAnd files (λ reported. FitsFile words reported ⊎ FitsChip words reported) → IsLeft words fault
     by None are held = absurd held
-    by (Some told) are (inl file) =
-        let seen : HasSeen words before.files = subst (HasSeen words) (sym are) (seen_of words told file) in
+    by (Some reported) are (inl file) =
+        let seen : HasSeen words before.files = subst (HasSeen words) (sym are) (seen_of words reported file) in
         only_memory words before after (inl seen.fits.is) quiet_store quiet_sink fault
         (λ work. inl (at_work words before.files seen before after quiet_store quiet_sink fault work)) cause
-    by (Some told) are (inr chip) =
+    by (Some reported) are (inr chip) =
         only_memory words before after (inr (inl chip.is)) quiet_store quiet_sink fault
         (λ work. only_outside words fault before.store_faults after.store_faults quiet_store
-        (at_chip words before.files told are chip before.store_faults after.store_faults fault work)) cause
+        (at_chip words before.files reported are chip before.store_faults after.store_faults fault work)) cause
 
 -- a command that was answered or refused for a cause completes
 pub completes : (words : List (List ℕ)) (before after : Outside) (end : Finished) → IsAnswer words end
@@ -350,7 +350,7 @@ completes words before after end answer cause = λ answerable quiet_store quiet_
   where
     by_fault : IsAnswerable words before.files → ¬ (Rose before.store_faults after.store_faults)
         → ¬ (Rose before.sink_faults after.sink_faults)
-        → (told : Option Fault) → end.status ≡ status_told told → end.fault ≡ told → IfSome told (IsCause words before after)
+        → (reported : Option Fault) → end.status ≡ status_reported reported → end.fault ≡ reported → IfSome reported (IsCause words before after)
         → (end.status ≡ 0) ⊎ ((end.fault ≡ Some NoMemory) ⊎ HasTooManyPairs words end)
     by_fault answerable quiet_store quiet_sink None status is cause = inl status
     by_fault answerable quiet_store quiet_sink (Some fault) status is cause =

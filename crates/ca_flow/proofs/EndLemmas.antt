@@ -20,10 +20,10 @@ use Rattle.ca_flow.specs.declared.finished.Finished.{Finished}
 use Rattle.ca_flow.specs.declared.work.OutFile.{OutFile}
 use Rattle.ca_fault.specs.FaultLine.{status_of}
 use Rattle.ca_words.specs.Words.{out_word, flat_out_word, stil_word, report_word, IsAtpg, HasOut}
-use Rattle.ca_flow.specs.Finished.{status_told, IsTold, IsOutFault, IsAnswer, Prints, LeavesText, LeavesBoth}
-use Rattle.ca_flow.specs.Finished.{LeavesFiles, Writes, TellsSinkFault}
+use Rattle.ca_flow.specs.Finished.{status_reported, IsReported, IsOutFault, IsAnswer, Prints, LeavesText, LeavesBoth}
+use Rattle.ca_flow.specs.Finished.{LeavesFiles, Writes, ReportsSinkFault}
 use Rattle.ca_flow.specs.Fault.{Outside, IsWorkCause, IsWriteCause, IsPrintCause, IsCause}
-use Rattle.ca_load.specs.Files.{TellsStoreFault}
+use Rattle.ca_load.specs.Files.{ReportsStoreFault}
 use Rattle.ca_flow.specs.Ends.{IsAsked}
 use Rattle.ca_atpg.specs.Atpg.{IsStil, report_of}
 use Rattle.ca_flow.specs.Work.{IsOutFile, IsFileWith, HasFiles, HasWritten, FailsToWrite, HaveBeenWritten}
@@ -31,25 +31,25 @@ use Rattle.ca_flow.specs.Work.{FailToWrite, HasPrinted, FailsToPrint, EndsWork}
 use Rattle.ca_flow.proofs.CauseLemmas.{out_is_unread}
 
 -- no fault has the status of work that is whole
-status_is_told : (fault : Fault) → status_of fault ≡ 0 → ⊥
-status_is_told BadWords zero = cc
-status_is_told (Cells line kind) zero = cc
-status_is_told (Netlist line kind) zero = cc
-status_is_told (Scan row) zero = cc
-status_is_told (Chip rule place) zero = cc
-status_is_told (Chain name) zero = cc
-status_is_told (NoCell typed) zero = cc
-status_is_told (Cell cell rule place) zero = cc
-status_is_told (BadVector typed) zero = cc
-status_is_told (NoInstance typed) zero = cc
-status_is_told (NoDefect typed) zero = cc
-status_is_told (Order line) zero = cc
-status_is_told (TooLong typed taken) zero = cc
-status_is_told (TooManyPairs pairs aims) zero = cc
-status_is_told (Limit kind count) zero = cc
-status_is_told (StoreFailed typed) zero = cc
-status_is_told SinkFailed zero = cc
-status_is_told NoMemory zero = cc
+status_is_reported : (fault : Fault) → status_of fault ≡ 0 → ⊥
+status_is_reported BadWords zero = cc
+status_is_reported (Cells line kind) zero = cc
+status_is_reported (Netlist line kind) zero = cc
+status_is_reported (Scan row) zero = cc
+status_is_reported (Chip rule place) zero = cc
+status_is_reported (Chain name) zero = cc
+status_is_reported (NoCell typed) zero = cc
+status_is_reported (Cell cell rule place) zero = cc
+status_is_reported (BadVector typed) zero = cc
+status_is_reported (NoInstance typed) zero = cc
+status_is_reported (NoDefect typed) zero = cc
+status_is_reported (Order line) zero = cc
+status_is_reported (TooLong typed taken) zero = cc
+status_is_reported (TooManyPairs pairs aims) zero = cc
+status_is_reported (Limit kind count) zero = cc
+status_is_reported (StoreFailed typed) zero = cc
+status_is_reported SinkFailed zero = cc
+status_is_reported NoMemory zero = cc
 
 none_is_some : {A : Type 0} {it : A} → None ≡ Some it → ⊥
 none_is_some same = cc
@@ -57,12 +57,12 @@ none_is_some same = cc
 sink_is_no_store : {name : List ℕ} → SinkFailed ≡ StoreFailed name → ⊥
 sink_is_no_store same = cc
 
-none_told : {A : Type 0} (told : Option A) (P : A → Type 0) → IsNone told → IfSome told P
-none_told None P none = tt
-none_told (Some it) P none = absurd (true≢false none)
+none_reported : {A : Type 0} (reported : Option A) (P : A → Type 0) → IsNone reported → IfSome reported P
+none_reported None P none = tt
+none_reported (Some it) P none = absurd (true≢false none)
 
-none_for : {A : Type 0} (told : Option A) (P : A → Type 0) → IsNone told → ForSome told P
-none_for told P none = λ it is. absurd (true≢false (sym (ap is_some is) ∙ none))
+none_for : {A : Type 0} (reported : Option A) (P : A → Type 0) → IsNone reported → ForSome reported P
+none_for reported P none = λ it is. absurd (true≢false (sym (ap is_some is) ∙ none))
 
 -- a command that is refused before its work is whole has its fault's status, reports no work, prints nothing
 -- and writes nothing
@@ -74,7 +74,7 @@ module _ (words : List (List ℕ)) (end : Finished) (fault : Fault) (is : end.fa
     done = (
       λ some. absurd (true≢false (sym some ∙ none)),
       λ said. elim said [
-        | inl zero ↦ absurd (status_is_told fault (sym status ∙ zero))
+        | inl zero ↦ absurd (status_is_reported fault (sym status ∙ zero))
         | inr (inl same) ↦ absurd (other (same_Some fault SinkFailed (sym is ∙ same)))
         | inr (inr out) ↦ absurd (own (subst (IsOutFault words) is out))
       ],
@@ -89,10 +89,10 @@ module _ (words : List (List ℕ)) (end : Finished) (fault : Fault) (is : end.fa
   }
 
   pub refused_asked : (files : Option Files) → IfSome end.done (IsAsked words files)
-  refused_asked files = none_told end.done (IsAsked words files) none
+  refused_asked files = none_reported end.done (IsAsked words files) none
 
   pub refused_writes : (files : Option Files) → Writes words end files files
-  refused_writes files = record { done = none_told end.done (LeavesFiles words end.fault files files) none; nothing = λ told. refl }
+  refused_writes files = record { done = none_reported end.done (LeavesFiles words end.fault files files) none; nothing = λ reported. refl }
 
 -- a file that could not be read is not the one that is written
 pub read_is_not_written : (words : List (List ℕ)) (files : Option Files) (before after : ℕ) (fault : Fault)
@@ -182,7 +182,7 @@ failed_text words before after old new fault name text file out fits failed =
       out = out;
       fault_is = named;
       rose = failed.rose;
-      leaves = (λ told. part, λ other. absurd (other (name, (out, ap Some named))));
+      leaves = (λ reported. part, λ other. absurd (other (name, (out, ap Some named))));
     }
 
 -- where there is no file no writing failed
@@ -190,15 +190,15 @@ no_failure : (file second : Option OutFile) (old new : Option Files) (before aft
     → FailToWrite old new before after fault file second → ⊥
 no_failure None second old new before after fault none no_second (inl failed) = failed
 no_failure (Some it) second old new before after fault none no_second (inl failed) = true≢false none
-no_failure file None old new before after fault none no_second (inr behind) = behind.second_is
-no_failure file (Some it) old new before after fault none no_second (inr behind) = true≢false no_second
+no_failure file None old new before after fault none no_second (inr following) = following.second_is
+no_failure file (Some it) old new before after fault none no_second (inr following) = true≢false no_second
 
 -- where there is one it is the one whose writing failed
 one_failure : (file second : Option OutFile) (old new : Option Files) (before after : ℕ) (fault : Fault) → IsNone second
     → FailToWrite old new before after fault file second → IsSomeAnd file (FailsToWrite old new before after fault)
 one_failure file second old new before after fault none (inl failed) = failed
-one_failure file None old new before after fault none (inr behind) = absurd behind.second_is
-one_failure file (Some it) old new before after fault none (inr behind) = absurd (true≢false none)
+one_failure file None old new before after fault none (inr following) = absurd following.second_is
+one_failure file (Some it) old new before after fault none (inr following) = absurd (true≢false none)
 
 text_failed : (words : List (List ℕ)) (before after : ℕ) (old new : Option Files) (fault : Fault) (name text : List ℕ) (file : Option OutFile)
     → HasOut words name → IsSomeAnd file (IsOutFile name text) → IsSomeAnd file (FailsToWrite old new before after fault)
@@ -232,8 +232,8 @@ both_failed words before after old new fault IsFirst text (Some file) (Some it) 
         both = λ none. absurd (none (stil_word words, (out, ap Some named)));
       };
     }
-both_failed words before after old new fault IsFirst text (Some file) (Some it) atpg fits fit (inr behind) =
-    let failed = behind.second_is in
+both_failed words before after old new fault IsFirst text (Some file) (Some it) atpg fits fit (inr following) =
+    let failed = following.second_is in
     let named : fault ≡ StoreFailed (report_word words) = failed.fault_is ∙ ap StoreFailed fit.typed_is in
     let out : HasOut words (report_word words) = inr (inr (atpg, inr refl)) in
     record {
@@ -246,8 +246,8 @@ both_failed words before after old new fault IsFirst text (Some file) (Some it) 
         is_stil = fits.holds;
         first_failed = λ same. absurd (other_names words atpg (sym (same_Some fault (StoreFailed (stil_word words)) same) ∙ named));
         second_failed = λ same. record {
-          between = behind.between;
-          first_is = subst (λ (name : List ℕ). ChangesOnly old behind.between name (Some file.bytes)) fits.name_is behind.first_is;
+          between = following.between;
+          first_is = subst (λ (name : List ℕ). ChangesOnly old following.between name (Some file.bytes)) fits.name_is following.first_is;
           second_is = rw (fit.name_is, fit.bytes_are) at failed.part;
         };
         both = λ none. absurd (none (report_word words, (out, ap Some named)));
@@ -285,35 +285,35 @@ failed_writing words before after old new fault (Atpg chip chains pairs aims ver
     both_failed words before after old new fault (IsStil chip chains pairs) (report_of chip verdicts) file second asked.0 fits.first_is fits.second_is failed
 
 module _ (words : List (List ℕ)) (before after : Outside) (done : Done) (file second : Option OutFile) (end : Finished)
-    (fits : HasFiles words done file second) (asked : IsAsked words before.files done) (told : end.done ≡ Some done)
-    (status : end.status ≡ status_told end.fault) where
+    (fits : HasFiles words done file second) (asked : IsAsked words before.files done) (reported : end.done ≡ Some done)
+    (status : end.status ≡ status_reported end.fault) where
   only_done : (it : Done) → end.done ≡ Some it → it ≡ done
-  only_done it is = same_Some it done (sym is ∙ told)
+  only_done it is = same_Some it done (sym is ∙ reported)
 
   some_done : IsSome end.done
-  some_done = ap is_some told
+  some_done = ap is_some reported
 
-  module _ (text : List ℕ) (tells : IsTold done text) (written : HaveBeenWritten file second before.files after.files)
-      (quiet : after.store_faults ≡ before.store_faults) (of_sink : TellsSinkFault end.fault before.sink_faults after.sink_faults) where
-    quiet_store : TellsStoreFault end.fault before.store_faults after.store_faults
-    quiet_store = record { told = λ more. absurd (omega (arith, more, quiet)); later = omega (arith, quiet) }
+  module _ (text : List ℕ) (reports : IsReported done text) (written : HaveBeenWritten file second before.files after.files)
+      (quiet : after.store_faults ≡ before.store_faults) (of_sink : ReportsSinkFault end.fault before.sink_faults after.sink_faults) where
+    quiet_store : ReportsStoreFault end.fault before.store_faults after.store_faults
+    quiet_store = record { reported = λ more. absurd (omega (arith, more, quiet)); later = omega (arith, quiet) }
 
     was_written : ¬ (IsOutFault words end.fault) → Writes words end before.files after.files
     was_written other = record {
-      done = rw told (leaves_written words end.fault before.files after.files done file second asked other fits written);
+      done = rw reported (leaves_written words end.fault before.files after.files done file second asked other fits written);
       nothing = λ none. absurd (true≢false (sym some_done ∙ none));
     }
 
     pub printed_ends : HasPrinted text before.bytes after.bytes end
         ⊎ FailsToPrint text before.bytes after.bytes before.sink_faults after.sink_faults end → EndsWork words before after done end
     printed_ends (inl printed) =
-        let zero : end.status ≡ 0 = status ∙ ap status_told printed.fault_is in
+        let zero : end.status ≡ 0 = status ∙ ap status_reported printed.fault_is in
         let other : ¬ (IsOutFault words end.fault) = λ out. none_is_some (sym printed.fault_is ∙ out.1.1) in
         record {
           answer = record { status = status; done = (λ some. inl zero, λ said. some_done) };
           same = only_done;
           prints = record {
-            all = λ it is whole. (text, (rw (only_done it is) tells, printed.all));
+            all = λ it is whole. (text, (rw (only_done it is) reports, printed.all));
             part = λ it is failed. absurd (none_is_some (sym printed.fault_is ∙ failed));
             nothing = λ failed fault. absurd (failed zero);
           };
@@ -323,14 +323,14 @@ module _ (words : List (List ℕ)) (before after : Outside) (done : Done) (file 
           of_sink = of_sink;
         }
     printed_ends (inr failed) =
-        let four : end.status ≡ 4 = status ∙ ap status_told failed.fault_is in
+        let four : end.status ≡ 4 = status ∙ ap status_reported failed.fault_is in
         let other : ¬ (IsOutFault words end.fault) = λ out. sink_is_no_store (same_Some _ _ (sym failed.fault_is ∙ out.1.1)) in
         record {
           answer = record { status = status; done = (λ some. inr (inl failed.fault_is), λ said. some_done) };
           same = only_done;
           prints = record {
             all = λ it is zero. absurd (omega (arith, zero, four));
-            part = λ it is fault. (text, (rw (only_done it is) tells, failed.part));
+            part = λ it is fault. (text, (rw (only_done it is) reports, failed.part));
             nothing = λ nonzero fault. absurd (fault failed.fault_is);
           };
           writes = was_written other;
@@ -346,7 +346,7 @@ module _ (words : List (List ℕ)) (before after : Outside) (done : Done) (file 
   unwritten_ends fault is failed later quiet kept =
       let facts = failed_writing words before.store_faults after.store_faults before.files after.files fault done file second fits asked failed in
       let fault_is : end.fault ≡ Some (StoreFailed facts.name) = is ∙ ap Some facts.fault_is in
-      let four : end.status ≡ 4 = status ∙ ap status_told fault_is in
+      let four : end.status ≡ 4 = status ∙ ap status_reported fault_is in
       record {
         answer = record { status = status; done = (λ some. inr (inr (facts.name, (facts.out, fault_is))), λ said. some_done) };
         same = only_done;
@@ -356,39 +356,39 @@ module _ (words : List (List ℕ)) (before after : Outside) (done : Done) (file 
           nothing = λ nonzero other. kept;
         };
         writes = record {
-          done = rw told (subst (λ shown. LeavesFiles words shown before.files after.files done) (sym is) facts.leaves);
+          done = rw reported (subst (λ shown. LeavesFiles words shown before.files after.files done) (sym is) facts.leaves);
           nothing = λ none. absurd (true≢false (sym some_done ∙ none));
         };
         cause = rw fault_is (inl (facts.out, facts.rose));
-        of_store = record { told = λ more. rw fault_is tt; later = later };
-        of_sink = record { told = λ more. absurd (omega (arith, more, quiet)); later = omega (arith, quiet) };
+        of_store = record { reported = λ more. rw fault_is tt; later = later };
+        of_sink = record { reported = λ more. absurd (omega (arith, more, quiet)); later = omega (arith, quiet) };
       }
 
 -- work that was asked for was reported
-pub work_asked : (words : List (List ℕ)) (files : Option Files) (done : Done) (told : Option Done) → ForSome told (λ it. it ≡ done)
-    → IsAsked words files done → IfSome told (IsAsked words files)
+pub work_asked : (words : List (List ℕ)) (files : Option Files) (done : Done) (reported : Option Done) → ForSome reported (λ it. it ≡ done)
+    → IsAsked words files done → IfSome reported (IsAsked words files)
 work_asked words files done None same asked = tt
 work_asked words files done (Some it) same asked = rw (same it refl) asked
 
 -- work that is whole is refused for a cause of writing or printing
-pub work_cause : (words : List (List ℕ)) (before after : Outside) (told : Option Fault)
-    → IfSome told (λ fault. IsWriteCause words before.store_faults after.store_faults fault ⊎ IsPrintCause before.sink_faults after.sink_faults fault)
-    → IfSome told (IsCause words before after)
+pub work_cause : (words : List (List ℕ)) (before after : Outside) (reported : Option Fault)
+    → IfSome reported (λ fault. IsWriteCause words before.store_faults after.store_faults fault ⊎ IsPrintCause before.sink_faults after.sink_faults fault)
+    → IfSome reported (IsCause words before after)
 work_cause words before after None cause = tt
 work_cause words before after (Some fault) (inl write) = inr (inr (inl write))
 work_cause words before after (Some fault) (inr print) = inr (inr (inr print))
 
 -- words are not refused after the work
-pub work_has_words : (words : List (List ℕ)) (before after : Outside) (told : Option Fault)
-    → IfSome told (λ fault. IsWriteCause words before.store_faults after.store_faults fault ⊎ IsPrintCause before.sink_faults after.sink_faults fault)
-    → told ≡ Some BadWords → ⊥
+pub work_has_words : (words : List (List ℕ)) (before after : Outside) (reported : Option Fault)
+    → IfSome reported (λ fault. IsWriteCause words before.store_faults after.store_faults fault ⊎ IsPrintCause before.sink_faults after.sink_faults fault)
+    → reported ≡ Some BadWords → ⊥
 work_has_words words before after None cause same = none_is_some same
 work_has_words words before after (Some fault) cause same = at fault cause (same_Some fault BadWords same)
   where
     at : (fault : Fault) → IsWriteCause words before.store_faults after.store_faults fault ⊎ IsPrintCause before.sink_faults after.sink_faults fault
         → fault ≡ BadWords → ⊥
     at fault cause same =
-        elim (subst (λ told. IsWriteCause words before.store_faults after.store_faults told ⊎ IsPrintCause before.sink_faults after.sink_faults told) same cause) [
+        elim (subst (λ reported. IsWriteCause words before.store_faults after.store_faults reported ⊎ IsPrintCause before.sink_faults after.sink_faults reported) same cause) [
           | inl write ↦ write
           | inr print ↦ print
         ]
@@ -408,6 +408,6 @@ refused_ends words before done end is status none = record {
   prints = refused_prints words end NoMemory is status none before.bytes;
   writes = refused_writes words end NoMemory is status none before.files;
   cause = rw is (inr tt);
-  of_store = record { told = λ more. absurd (omega (arith, more)); later = omega arith };
-  of_sink = record { told = λ more. absurd (omega (arith, more)); later = omega arith };
+  of_store = record { reported = λ more. absurd (omega (arith, more)); later = omega arith };
+  of_sink = record { reported = λ more. absurd (omega (arith, more)); later = omega arith };
 }

@@ -14,14 +14,14 @@ pub record Errors : Type 0 where
 
 -- the error output got the lines of the fault: its line and, where it carries names, the line with them; or
 -- it failed and got a first part of the lines
-abbrev pub TellsLines : Fault → Errors → Errors → Type 0
-TellsLines fault old new = (new.bytes ≡ appended (lines_of fault) old.bytes)
+abbrev pub ReportsLines : Fault → Errors → Errors → Type 0
+ReportsLines fault old new = (new.bytes ≡ appended (lines_of fault) old.bytes)
     ⊎ (AppendsPart (lines_of fault) old.bytes new.bytes × Rose old.faults new.faults)
 
 -- the error output reports the fault, and nothing where there is none
-abbrev pub Tells : Option Fault → Errors → Errors → Type 0
-Tells None old new = new ≡ old
-Tells (Some fault) old new = TellsLines fault old new
+abbrev pub Reports : Option Fault → Errors → Errors → Type 0
+Reports None old new = new ≡ old
+Reports (Some fault) old new = ReportsLines fault old new
 
 -- The command of these words ended, the answer is the exit status of its end, and the error output reports
 -- its fault.
@@ -30,4 +30,4 @@ pub record Answers (words : List (List ℕ)) (before after : Outside) (old new :
   pub end : Finished
   pub ends : Ends words before after end
   pub status_is : status ≡ end.status
-  pub tells : Tells end.fault old new
+  pub reports : Reports end.fault old new

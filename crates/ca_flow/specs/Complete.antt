@@ -45,7 +45,7 @@ pub record FitsCell (words : List (List ℕ)) (raw : RawCell) : Type 0 where
 -- the file that the words name is there, is no longer than it may be and has a reading, in which they name a
 -- subcircuit that they fit
 abbrev pub FitsFile : List (List ℕ) → Files → Type 0
-FitsFile words told = IsFileWith told (cells_word words) (HasCell (cell_word words) (FitsCell words))
+FitsFile words reported = IsFileWith reported (cells_word words) (HasCell (cell_word words) (FitsCell words))
 
 -- a library instance has the name, and each that has it is of a cell with the defect
 pub record HasDefect (chip : LinkedChip) (instance defect : List ℕ) : Type 0 where
@@ -74,29 +74,29 @@ HasEvents words chip text = (run : RunOf)
 
 -- the words of `replay` fit the chip as those of `simulate` do, and its file is there, is no longer than it
 -- may be, and names events
-pub record FitsReplay (words : List (List ℕ)) (told : Files) (chip : LinkedChip) : Type 0 where
+pub record FitsReplay (words : List (List ℕ)) (reported : Files) (chip : LinkedChip) : Type 0 where
   pub pair : FitsSimulate words chip
-  pub events : reading.IsFileWith told (order_word words) MAX_ORDER (HasEvents words chip)
+  pub events : reading.IsFileWith reported (order_word words) MAX_ORDER (HasEvents words chip)
 
 -- the own words of a command on a chip are of the chip
-pub record FitsOwn (words : List (List ℕ)) (told : Files) (chip : LinkedChip) : Type 0 where
+pub record FitsOwn (words : List (List ℕ)) (reported : Files) (chip : LinkedChip) : Type 0 where
   pub flatten : IsFlatten words → FitsDefect words chip
   pub simulate : IsSimulate words → FitsSimulate words chip
-  pub replay : IsReplay words → FitsReplay words told chip
+  pub replay : IsReplay words → FitsReplay words reported chip
 
 -- the words are those of a command on a chip, the files that they name are there, are no longer than they
 -- may be, and read as what gives a chip with chains, and the command's own words are of the chip
-pub record FitsChip (words : List (List ℕ)) (told : Files) : Type 0 where
+pub record FitsChip (words : List (List ℕ)) (reported : Files) : Type 0 where
   pub is : IsOnChip words
   pub inputs : Inputs
-  pub read : ReadAs (chip_files words) inputs told
+  pub read : ReadAs (chip_files words) inputs reported
   pub gives : GiveChip inputs
-  pub own : (chip : LinkedChip) → IsChipOf inputs chip → FitsOwn words told chip
+  pub own : (chip : LinkedChip) → IsChipOf inputs chip → FitsOwn words reported chip
 
 -- the words ask for no file, or the files are known and the words fit those that they name
 abbrev pub IsAnswerable : List (List ℕ) → Option Files → Type 0
 IsAnswerable words files =
-    AsksNoFile words ⊎ IsSomeAnd files (λ told. FitsFile words told ⊎ FitsChip words told)
+    AsksNoFile words ⊎ IsSomeAnd files (λ reported. FitsFile words reported ⊎ FitsChip words reported)
 
 -- `atpg` or `make` found one pair more than may be listed
 abbrev pub HasTooManyPairs : List (List ℕ) → Finished → Type 0

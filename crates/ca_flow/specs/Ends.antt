@@ -2,7 +2,7 @@
 use Rattle.std.specs.Prelude.{ℕ, List, Option, IfSome}
 use Rattle.ca_store.specs.Store.{Files}
 use Rattle.ca_scan.specs.ChainFault.{AreAllChains}
-use Rattle.ca_load.specs.Files.{OfFile, TellsStoreFault}
+use Rattle.ca_load.specs.Files.{OfFile, ReportsStoreFault}
 use Rattle.ca_flow.specs.declared.finished.Done.{Done}
 use Rattle.ca_flow.specs.declared.finished.Done.TheVariants.{Respond, Pair, Defects, Matrix, Check, Flatten}
 use Rattle.ca_flow.specs.declared.finished.Done.TheVariants.{Simulate, Atpg, Replay, Make, Help, Version}
@@ -14,7 +14,7 @@ use Rattle.ca_words.specs.Words.{IsRespond, IsPair, IsDefects, IsMatrix, IsCheck
 use Rattle.ca_words.specs.Words.{IsAtpg, IsReplay, IsMake}
 use Rattle.ca_words.specs.Words.{IsHelp, IsVersion}
 use Rattle.ca_on_cell.specs.Outputs.{AreValues}
-use Rattle.ca_flow.specs.Finished.{IsAnswer, Prints, Writes, TellsSinkFault}
+use Rattle.ca_flow.specs.Finished.{IsAnswer, Prints, Writes, ReportsSinkFault}
 use Rattle.ca_on_cell.specs.Cells.{OfCell}
 use Rattle.ca_on_cell.specs.Defects.{AreDefectNames, IsSoundMatrix}
 use Rattle.ca_on_chip.specs.OnChip.{IsChipOfFiles, IsTracedChipOf, IsFlatOf, AreEndsOf, AreTestsOf}
@@ -66,5 +66,5 @@ pub record Ends (words : List (List ℕ)) (before after : Outside) (end : Finish
   pub writes : Writes words end before.files after.files
   pub cause : IfSome end.fault (IsCause words before after)
   pub complete : Completes words before after end
-  pub of_store : TellsStoreFault end.fault before.store_faults after.store_faults
-  pub of_sink : TellsSinkFault end.fault before.sink_faults after.sink_faults
+  pub of_store : ReportsStoreFault end.fault before.store_faults after.store_faults
+  pub of_sink : ReportsSinkFault end.fault before.sink_faults after.sink_faults

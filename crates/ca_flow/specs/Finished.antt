@@ -21,24 +21,24 @@ use Rattle.ca_flow.specs.Usage.{usage_text, version_text}
 use Rattle.ca_words.specs.Words.{out_word, flat_out_word, stil_word, report_word, HasOut}
 
 -- the text reports a command's work
-abbrev pub IsTold : Done → List ℕ → Type 0
-IsTold (Respond values) text = text ≡ flat_map line_of_pin values
-IsTold (Pair values) text = text ≡ flat_map line_of_pin values
-IsTold (Defects names) text = text ≡ flat_map line_of_name names
-IsTold (Matrix matrix) text = IsSummary matrix text
-IsTold (Check chip chains) text = text ≡ check_text chip chains
-IsTold (Flatten chip net) text = text ≡ flatten_text net
-IsTold (Simulate chip ends) text = text ≡ simulate_text chip ends.good.items ends.faulty.items
-IsTold (Atpg chip chains pairs aims verdicts) text = text ≡ summary_text verdicts (length pairs)
-IsTold (Replay chip ends) text = text ≡ replay_text chip ends.items
-IsTold (Make chip pairs aims verdicts) text = text ≡ summary_text verdicts (length pairs)
-IsTold Help text = text ≡ usage_text
-IsTold Version text = text ≡ version_text
+abbrev pub IsReported : Done → List ℕ → Type 0
+IsReported (Respond values) text = text ≡ flat_map line_of_pin values
+IsReported (Pair values) text = text ≡ flat_map line_of_pin values
+IsReported (Defects names) text = text ≡ flat_map line_of_name names
+IsReported (Matrix matrix) text = IsSummary matrix text
+IsReported (Check chip chains) text = text ≡ check_text chip chains
+IsReported (Flatten chip net) text = text ≡ flatten_text net
+IsReported (Simulate chip ends) text = text ≡ simulate_text chip ends.good.items ends.faulty.items
+IsReported (Atpg chip chains pairs aims verdicts) text = text ≡ summary_text verdicts (length pairs)
+IsReported (Replay chip ends) text = text ≡ replay_text chip ends.items
+IsReported (Make chip pairs aims verdicts) text = text ≡ summary_text verdicts (length pairs)
+IsReported Help text = text ≡ usage_text
+IsReported Version text = text ≡ version_text
 
 -- the exit status of a fault, and 0 where there is none
-abbrev pub status_told : Option Fault → ℕ
-status_told None = 0
-status_told (Some fault) = status_of fault
+abbrev pub status_reported : Option Fault → ℕ
+status_reported None = 0
+status_reported (Some fault) = status_of fault
 
 -- the file that the command writes could not be written
 abbrev pub IsOutFault : List (List ℕ) → Option Fault → Type 0
@@ -47,13 +47,13 @@ IsOutFault words fault = (name : List ℕ) × (HasOut words name × (fault ≡ S
 -- the status is that of the fault, and the work is reported exactly where it is 0, or the output or the
 -- writing of a file failed
 pub record IsAnswer (words : List (List ℕ)) (end : Finished) : Type 0 where
-  pub status : end.status ≡ status_told end.fault
+  pub status : end.status ≡ status_reported end.fault
   pub done : IsSome end.done
       ↔ ((end.status ≡ 0) ⊎ ((end.fault ≡ Some SinkFailed) ⊎ IsOutFault words end.fault))
 
 -- this holds of a text that reports the work
 abbrev pub HasText : Done → (List ℕ → Type 0) → Type 0
-HasText done Holds = (text : List ℕ) × (IsTold done text × Holds text)
+HasText done Holds = (text : List ℕ) × (IsReported done text × Holds text)
 
 -- what was printed: the lines of the work, a part of them where the output failed, and else nothing
 pub record Prints (end : Finished) (old new : Option (List ℕ)) : Type 0 where
@@ -108,6 +108,6 @@ pub record Writes (words : List (List ℕ)) (end : Finished) (old new : Option F
   pub nothing : IsNone end.done → new ≡ old
 
 -- where the sink's count of faults rose, the answer says that the output failed, and the count never falls
-pub record TellsSinkFault (fault : Option Fault) (before after : ℕ) : Type 0 where
-  pub told : before < after → fault ≡ Some SinkFailed
+pub record ReportsSinkFault (fault : Option Fault) (before after : ℕ) : Type 0 where
+  pub reported : before < after → fault ≡ Some SinkFailed
   pub later : before ≤ after

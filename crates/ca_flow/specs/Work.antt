@@ -13,9 +13,9 @@ use Rattle.ca_flow.specs.declared.finished.Done.TheVariants.{Matrix, Flatten, At
 use Rattle.ca_flow.specs.declared.finished.Finished.{Finished}
 use Rattle.ca_flow.specs.declared.work.OutFile.{OutFile}
 use Rattle.ca_words.specs.Words.{out_word, flat_out_word, stil_word, report_word}
-use Rattle.ca_flow.specs.Finished.{IsAnswer, Prints, Writes, TellsSinkFault}
+use Rattle.ca_flow.specs.Finished.{IsAnswer, Prints, Writes, ReportsSinkFault}
 use Rattle.ca_flow.specs.Fault.{Outside, IsWriteCause, IsPrintCause}
-use Rattle.ca_load.specs.Files.{TellsStoreFault}
+use Rattle.ca_load.specs.Files.{ReportsStoreFault}
 
 -- the file is to have this name and these bytes
 pub record IsOutFile (name bytes : List ℕ) (file : OutFile) : Type 0 where
@@ -67,7 +67,7 @@ pub record HaveBeenWritten (file second : Option OutFile) (old new : Option File
   pub second_is : HasWritten second between new
 
 -- the second file could not be written, after the first
-pub record FailsBehind (old new : Option Files) (before after : ℕ) (fault : Fault)
+pub record FailsAfter (old new : Option Files) (before after : ℕ) (fault : Fault)
     (file second : Option OutFile) : Type 0 where
   pub between : Option Files
   pub first_is : HasWritten file old between
@@ -78,7 +78,7 @@ abbrev pub FailToWrite : Option Files → Option Files → ℕ → ℕ → Fault
     → Type 0
 FailToWrite old new before after fault file second =
     IsSomeAnd file (FailsToWrite old new before after fault)
-    ⊎ FailsBehind old new before after fault file second
+    ⊎ FailsAfter old new before after fault file second
 
 -- the text was printed
 pub record HasPrinted (text : List ℕ) (old new : Option (List ℕ)) (end : Finished) : Type 0 where
@@ -101,5 +101,5 @@ pub record EndsWork (words : List (List ℕ)) (before after : Outside) (done : D
   pub writes : Writes words end before.files after.files
   pub cause : IfSome end.fault (λ fault. IsWriteCause words before.store_faults after.store_faults fault
       ⊎ IsPrintCause before.sink_faults after.sink_faults fault)
-  pub of_store : TellsStoreFault end.fault before.store_faults after.store_faults
-  pub of_sink : TellsSinkFault end.fault before.sink_faults after.sink_faults
+  pub of_store : ReportsStoreFault end.fault before.store_faults after.store_faults
+  pub of_sink : ReportsSinkFault end.fault before.sink_faults after.sink_faults

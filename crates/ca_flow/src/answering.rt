@@ -3,7 +3,7 @@ ghost use Rattle.std.specs.Prelude.{◌≡◌, map, OnOk, OnErr};
 ghost use Rattle.std.specs.String.{string_bytes};
 ghost use Rattle.ca_store.specs.Store.{Nothing, Rose, appended, AppendsPart};
 ghost use Rattle.ca_fault.specs.FaultLine.{status_of, lines_of};
-ghost use Rattle.ca_flow.specs.Answer.{TellsLines, Tells, Answers};
+ghost use Rattle.ca_flow.specs.Answer.{ReportsLines, Reports, Answers};
 
 use crate::top::run;
 use ca_fault::Fault;
@@ -50,7 +50,7 @@ pub fn answer<S: Store, W: Sink, E: Sink, T: Watch>(
 
 // Prints the line of a fault, if there is one.
 fn tell_end<E: Sink>(fault: &Option<Fault>, err: &mut E)
-    ensures { Tells fault.now
+    ensures { Reports fault.now
         (record { bytes = E.bytes err.old; faults = E.faults err.old })
         (record { bytes = E.bytes err.new; faults = E.faults err.new }) }
 {
@@ -65,7 +65,7 @@ fn tell_end<E: Sink>(fault: &Option<Fault>, err: &mut E)
 /// fault.
 pub fn tell<E: Sink>(fault: &Fault, err: &mut E) -> u8
     ensures status { result ≡ status_of fault.now }
-    ensures tells { TellsLines fault.now
+    ensures reports { ReportsLines fault.now
         (record { bytes = E.bytes err.old; faults = E.faults err.old })
         (record { bytes = E.bytes err.new; faults = E.faults err.new }) }
 {

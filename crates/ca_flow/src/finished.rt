@@ -2,7 +2,7 @@
 ghost use Rattle.std.specs.Prelude.{◌≡◌, ◌⊎◌, ℕ, List, Some, IsNone, IfOk};
 ghost use Rattle.ca_store.specs.Store.{Nothing};
 ghost use Rattle.ca_fault.specs.FaultLine.{status_of};
-ghost use Rattle.ca_flow.specs.Finished.{status_told, IsTold, TellsSinkFault};
+ghost use Rattle.ca_flow.specs.Finished.{status_reported, IsReported, ReportsSinkFault};
 ghost use Rattle.ca_flow.specs.Ends.{IsAsked};
 ghost use Rattle.ca_flow.specs.Work.{HasFiles, HasPrinted, FailsToPrint, EndsWork};
 
@@ -99,7 +99,7 @@ pub enum Done {
 impl Done {
     // The lines that report the work.
     fn lines(&self, alloc: Global) -> Result<Text, NoMemory>
-        ensures { IfOk result (IsTold self.now) }
+        ensures { IfOk result (IsReported self.now) }
     {
         match self {
             Done::Respond { values } | Done::Pair { values } => lines_of_values(alloc, values),
@@ -242,12 +242,12 @@ pub(crate) fn finish<S: Store, W: Sink>(
 
 // Prints the text of work that is whole.
 fn print_done<W: Sink>(done: Done, text: &Text, out: &mut W) -> Finished
-    ensures status { result.status ≡ status_told result.fault }
+    ensures status { result.status ≡ status_reported result.fault }
     ensures done { result.done ≡ Some done }
     ensures ends { HasPrinted text.now (W.bytes out.old) (W.bytes out.new) result
         ⊎ FailsToPrint text.now (W.bytes out.old) (W.bytes out.new)
         (W.faults out.old) (W.faults out.new) result }
-    ensures count { TellsSinkFault result.fault (W.faults out.old) (W.faults out.new) }
+    ensures count { ReportsSinkFault result.fault (W.faults out.old) (W.faults out.new) }
 {
     match write_all(out, text.as_bytes()) {
         Ok(()) => Finished {

@@ -8,7 +8,7 @@ ghost use Rattle.ca_words.specs.Command.{IsSpelled, IsSpelledAtpg, IsSpelledRepl
 ghost use Rattle.ca_words.specs.Command.{IsSpelledFlatten, IsSpelledMatrix};
 ghost use Rattle.ca_words.specs.Command.{IsWhole};
 ghost use Rattle.ca_flow.specs.Fault.{IsWorkCause};
-ghost use Rattle.ca_load.specs.Files.{TellsStoreFault};
+ghost use Rattle.ca_load.specs.Files.{ReportsStoreFault};
 ghost use Rattle.ca_flow.specs.Ends.{IsAsked, Ends};
 ghost use Rattle.ca_flow.specs.Work.{HasFiles, IsOutFile};
 
@@ -89,8 +89,8 @@ fn work_of<'a, S: Store, T: Watch>(
         → IsWorkCause words (S.files store.old) (S.faults store.old) (S.faults store.new) fault) }
     ensures no_sink { IfErr result (λ fault. fault ≢ Fault.SinkFailed) }
     ensures quiet { OnOk result (S.faults store.new ≡ S.faults store.old) }
-    ensures told { IfErr result (λ fault.
-        TellsStoreFault (Some fault) (S.faults store.old) (S.faults store.new)) }
+    ensures reported { IfErr result (λ fault.
+        ReportsStoreFault (Some fault) (S.faults store.old) (S.faults store.new)) }
     ensures closed { S.opened store.new ≡ Nothing }
     ensures kept { S.files store.new ≡ S.files store.old }
 {
@@ -138,8 +138,8 @@ fn matrix_work<'a, S: Store>(
         → IsWorkCause words (S.files store.old) (S.faults store.old) (S.faults store.new) fault) }
     ensures no_sink { IfErr result (λ fault. fault ≢ Fault.SinkFailed) }
     ensures quiet { OnOk result (S.faults store.new ≡ S.faults store.old) }
-    ensures told { IfErr result (λ fault.
-        TellsStoreFault (Some fault) (S.faults store.old) (S.faults store.new)) }
+    ensures reported { IfErr result (λ fault.
+        ReportsStoreFault (Some fault) (S.faults store.old) (S.faults store.new)) }
     ensures closed { S.opened store.new ≡ Nothing }
     ensures kept { S.files store.new ≡ S.files store.old }
 {
@@ -169,8 +169,8 @@ fn flat_work<'a, S: Store>(
         → IsWorkCause words (S.files store.old) (S.faults store.old) (S.faults store.new) fault) }
     ensures no_sink { IfErr result (λ fault. fault ≢ Fault.SinkFailed) }
     ensures quiet { OnOk result (S.faults store.new ≡ S.faults store.old) }
-    ensures told { IfErr result (λ fault.
-        TellsStoreFault (Some fault) (S.faults store.old) (S.faults store.new)) }
+    ensures reported { IfErr result (λ fault.
+        ReportsStoreFault (Some fault) (S.faults store.old) (S.faults store.new)) }
     ensures closed { S.opened store.new ≡ Nothing }
     ensures kept { S.files store.new ≡ S.files store.old }
 {
@@ -201,8 +201,8 @@ fn tests_work<'a, S: Store, T: Watch>(
         → IsWorkCause words (S.files store.old) (S.faults store.old) (S.faults store.new) fault) }
     ensures no_sink { IfErr result (λ fault. fault ≢ Fault.SinkFailed) }
     ensures quiet { OnOk result (S.faults store.new ≡ S.faults store.old) }
-    ensures told { IfErr result (λ fault.
-        TellsStoreFault (Some fault) (S.faults store.old) (S.faults store.new)) }
+    ensures reported { IfErr result (λ fault.
+        ReportsStoreFault (Some fault) (S.faults store.old) (S.faults store.new)) }
     ensures closed { S.opened store.new ≡ Nothing }
     ensures kept { S.files store.new ≡ S.files store.old }
 {
@@ -274,8 +274,8 @@ fn replay_work<'a, S: Store>(
         → IsWorkCause words (S.files store.old) (S.faults store.old) (S.faults store.new) fault) }
     ensures no_sink { IfErr result (λ fault. fault ≢ Fault.SinkFailed) }
     ensures quiet { OnOk result (S.faults store.new ≡ S.faults store.old) }
-    ensures told { IfErr result (λ fault.
-        TellsStoreFault (Some fault) (S.faults store.old) (S.faults store.new)) }
+    ensures reported { IfErr result (λ fault.
+        ReportsStoreFault (Some fault) (S.faults store.old) (S.faults store.new)) }
     ensures closed { S.opened store.new ≡ Nothing }
     ensures kept { S.files store.new ≡ S.files store.old }
 {

@@ -30,12 +30,12 @@ use Rattle.ca_flow.specs.declared.finished.Done.{Done}
 use Rattle.ca_flow.specs.declared.finished.Done.TheVariants.{Respond, Pair, Defects, Matrix, Check, Flatten}
 use Rattle.ca_flow.specs.declared.finished.Done.TheVariants.{Simulate, Atpg, Replay, Make, Help, Version}
 use Rattle.ca_flow.specs.declared.finished.Finished.{Finished}
-use Rattle.ca_flow.specs.Finished.{status_told}
+use Rattle.ca_flow.specs.Finished.{status_reported}
 use Rattle.ca_flow.specs.Fault.{Outside, IsCause}
 use Rattle.ca_flow.specs.Complete.{FitsCell, FitsFile, FitsDefect, FitsSimulate, HasEvents, FitsReplay, FitsOwn, FitsChip, IsAnswerable}
 use Rattle.ca_flow.specs.Ends.{IsAsked, Ends}
 use Rattle.ca_flow_laws.specs.Same.{IsInputFault, IsCallFault, IsSame}
-use Rattle.ca_flow_laws.specs.Told.{IsInputFile, TellsFiles}
+use Rattle.ca_flow_laws.specs.Reported.{IsInputFile, ReportsFiles}
 use Rattle.ca_flow_laws.proofs.LinkLemmas.{traced_also}
 use Rattle.ca_flow_laws.proofs.OneLemmas.{AreOne, one_chip, NamesOne, names_one}
 use Rattle.ca_flow_laws.proofs.OwnLemmas.{fits_also, asked_also, run_also, one_run}
@@ -45,7 +45,7 @@ use Rattle.ca_flow_laws.proofs.ExactLemmas.{one_cause}
 use Rattle.ca_flow_laws.proofs.PairsLemmas.{kind_of_fault, no_pairs}
 use Rattle.ca_flow_laws.proofs.FitsLemmas.{respond_or_defects, pair_or_defects, pair_or_matrix, respond_or_matrix, no_cause}
 
-some_of : {A : Type 0} (P : A → Type 0) (told : Option A) → IsSomeAnd told P → IsSome told
+some_of : {A : Type 0} (P : A → Type 0) (reported : Option A) → IsSomeAnd reported P → IsSome reported
 some_of P None held = absurd held
 some_of P (Some it) held = refl
 
@@ -98,46 +98,46 @@ module _ (words : List (List ℕ)) (chip also : LinkedChip) (are : AreOne chip a
       (events, subst (λ it. ReadsRun it text (Ok events)) same reads)
 
 -- what a command has to fit is of its own words alone
-module _ (words : List (List ℕ)) (told : Files) (chip : LinkedChip) where
-  pub check_own : IsCheck words → FitsOwn words told chip
+module _ (words : List (List ℕ)) (reported : Files) (chip : LinkedChip) where
+  pub check_own : IsCheck words → FitsOwn words reported chip
   check_own is = record {
     flatten = λ flatten. absurd (check_or_flatten words is flatten);
     simulate = λ simulate. absurd (check_or_simulate words is simulate);
     replay = λ replay. absurd (check_or_replay words is replay);
   }
 
-  pub flatten_own : IsFlatten words → FitsDefect words chip → FitsOwn words told chip
+  pub flatten_own : IsFlatten words → FitsDefect words chip → FitsOwn words reported chip
   flatten_own is fits = record {
     flatten = λ _. fits;
     simulate = λ simulate. absurd (flatten_or_simulate words is simulate);
     replay = λ replay. absurd (flatten_or_replay words is replay);
   }
 
-  pub simulate_own : IsSimulate words → FitsSimulate words chip → FitsOwn words told chip
+  pub simulate_own : IsSimulate words → FitsSimulate words chip → FitsOwn words reported chip
   simulate_own is fits = record {
     flatten = λ flatten. absurd (flatten_or_simulate words flatten is);
     simulate = λ _. fits;
     replay = λ replay. absurd (simulate_or_replay words is replay);
   }
 
-  pub atpg_own : IsAtpg words → FitsOwn words told chip
+  pub atpg_own : IsAtpg words → FitsOwn words reported chip
   atpg_own is = record {
     flatten = λ flatten. absurd (atpg_or_flatten words is flatten);
     simulate = λ simulate. absurd (atpg_or_simulate words is simulate);
     replay = λ replay. absurd (atpg_or_replay words is replay);
   }
 
-  pub replay_own : IsReplay words → FitsReplay words told chip → FitsOwn words told chip
+  pub replay_own : IsReplay words → FitsReplay words reported chip → FitsOwn words reported chip
   replay_own is fits = record {
     flatten = λ flatten. absurd (flatten_or_replay words flatten is);
     simulate = λ simulate. absurd (simulate_or_replay words simulate is);
     replay = λ _. fits;
   }
 
-module _ (words : List (List ℕ)) (files : Option Files) (told : Files) (are : files ≡ Some told) where
+module _ (words : List (List ℕ)) (files : Option Files) (reported : Files) (are : files ≡ Some reported) where
   -- what holds of the subcircuit, in another's place
-  weaker : (P : RawCell → Type 0) → ((raw : RawCell) → P raw → FitsCell words raw) → OfCell files (cells_word words) (cell_word words) P → FitsFile words told
-  weaker P next held = by (told (cells_word words)) (held told are)
+  weaker : (P : RawCell → Type 0) → ((raw : RawCell) → P raw → FitsCell words raw) → OfCell files (cells_word words) (cell_word words) P → FitsFile words reported
+  weaker P next held = by (reported (cells_word words)) (held reported are)
     where
       by_cell : (called : Option RawCell) → IsSomeAnd called P → IsSomeAnd called (FitsCell words)
       by_cell None held = held
@@ -148,15 +148,15 @@ module _ (words : List (List ℕ)) (files : Option Files) (told : Files) (are : 
       by None held = held
       by (Some bytes) held = (held.0, by_cell (cell_called bytes (cell_word words)) held.1)
 
-  of_file : FitsFile words told → IsAnswerable words files
-  of_file fits = inr (subst (λ it. IsSomeAnd it (λ told. FitsFile words told ⊎ FitsChip words told)) (sym are) (inl fits))
+  of_file : FitsFile words reported → IsAnswerable words files
+  of_file fits = inr (subst (λ it. IsSomeAnd it (λ reported. FitsFile words reported ⊎ FitsChip words reported)) (sym are) (inl fits))
 
   -- a chip with chains whose own words fit
   of_chip : IsOnChip words → (chip : LinkedChip) → IsTraced chip → IsChipOfFiles files (chip_files words) chip
-      → ((also : LinkedChip) → AreOne chip also → NamesOne also → FitsOwn words told also) → IsAnswerable words files
+      → ((also : LinkedChip) → AreOne chip also → NamesOne also → FitsOwn words reported also) → IsAnswerable words files
   of_chip is chip traced held own =
-      let found = held told are in
-      let fits : FitsChip words told = record {
+      let found = held reported are in
+      let fits : FitsChip words reported = record {
         is = is;
         inputs = found.0;
         read = found.1.0;
@@ -164,16 +164,16 @@ module _ (words : List (List ℕ)) (files : Option Files) (told : Files) (are : 
           kept = found.1.1.kept;
           chains = λ also is_also. traced_also chip also (one_chip found.0 chip also found.1.1 is_also).alike traced;
         };
-        own = λ also is_also. own also (one_chip found.0 chip also found.1.1 is_also) (names_one (chip_files words) found.0 told also found.1.0 is_also);
+        own = λ also is_also. own also (one_chip found.0 chip also found.1.1 is_also) (names_one (chip_files words) found.0 reported also found.1.0 is_also);
       } in
-      inr (subst (λ it. IsSomeAnd it (λ told. FitsFile words told ⊎ FitsChip words told)) (sym are) (inr fits))
+      inr (subst (λ it. IsSomeAnd it (λ reported. FitsFile words reported ⊎ FitsChip words reported)) (sym are) (inr fits))
 
   -- the file of events fits each of the chips
   fits_replay : (chip also : LinkedChip) → AreOne chip also → NamesOne also → (values : List Trit) → (file : Option (List ℕ))
-      → told (order_word words) ≡ file
+      → reported (order_word words) ≡ file
       → IsSomeAnd file (λ bytes. (length bytes ≤ MAX_ORDER) × AreRunEndsOf (instance_word words) (chip_defect_word words) (chip_first_word words)
       (chip_last_word words) chip values bytes)
-      → FitsReplay words told also
+      → FitsReplay words reported also
   fits_replay chip also same one values None is held = absurd held
   fits_replay chip also same one values (Some bytes) is (within, ends) = record {
     pair = fits_run words chip also same one ends.run ends.asked;
@@ -210,43 +210,43 @@ module _ (words : List (List ℕ)) (files : Option Files) (told : Files) (are : 
     respond = λ respond. absurd (respond_or_matrix words respond is);
     pair = λ pair. absurd (pair_or_matrix words pair is);
   }) asked)
-  answered (Check chip chains) (is, (all, held)) = of_chip (inl is) chip (chains, all) held (λ also same one. check_own words told also is)
+  answered (Check chip chains) (is, (all, held)) = of_chip (inl is) chip (chains, all) held (λ also same one. check_own words reported also is)
   answered (Flatten chip net) (is, (traced, held)) = of_chip (inr (inl is)) chip traced.traced traced.of_files (λ also same one.
-      flatten_own words told also is (fits_defect words chip also same one held.given held.asked))
+      flatten_own words reported also is (fits_defect words chip also same one held.given held.asked))
   answered (Simulate chip ends) (is, (traced, held)) = of_chip (inr (inr (inl is))) chip traced.traced traced.of_files (λ also same one.
-      simulate_own words told also is (fits_simulate words chip also same one held.first_fits held.last_fits held.given held.asked))
+      simulate_own words reported also is (fits_simulate words chip also same one held.first_fits held.last_fits held.given held.asked))
   answered (Atpg chip chains pairs aims verdicts) (is, (all, (held, tests))) =
-      of_chip (inr (inr (inr (inl is)))) chip (chains, all) held (λ also same one. atpg_own words told also is)
+      of_chip (inr (inr (inr (inl is)))) chip (chains, all) held (λ also same one. atpg_own words reported also is)
   answered (Replay chip ends) (is, (traced, held)) = of_chip (inr (inr (inr (inr is)))) chip traced.traced traced.of_files (λ also same one.
-      replay_own words told also is (fits_replay chip also same one ends.items (told (order_word words)) refl (held told are)))
+      replay_own words reported also is (fits_replay chip also same one ends.items (reported (order_word words)) refl (held reported are)))
   answered (Make chip pairs aims verdicts) (is, asked) = inl (inr (inr is))
   answered Help is = inl (inl is)
   answered Version is = inl (inr (inl is))
 
 -- a cause is reported
-pub told_cause : (words : List (List ℕ)) (files : Files) (before after : Outside) (end : Finished) (fault : Fault)
-    → TellsFiles words files before → Ends words before after end → IsInputFault fault → IsCause words before after fault
-    → IsSomeAnd end.fault (λ told. IsCallFault told ⊎ IsSame told fault)
-told_cause words files before after end fault tells ends is cause = by end.fault refl ends.cause
+pub reported_cause : (words : List (List ℕ)) (files : Files) (before after : Outside) (end : Finished) (fault : Fault)
+    → ReportsFiles words files before → Ends words before after end → IsInputFault fault → IsCause words before after fault
+    → IsSomeAnd end.fault (λ reported. IsCallFault reported ⊎ IsSame reported fault)
+reported_cause words files before after end fault reports ends is cause = by end.fault refl ends.cause
   where
-    is_told : (outside : Option Files) → before.files ≡ outside → IsSomeAnd outside (λ told. (name : List ℕ) → IsInputFile words name → told name ≡ files name)
-        → (told : Files) × (before.files ≡ Some told)
-    is_told None are tells = absurd tells
-    is_told (Some told) are tells = (told, are)
+    is_reported : (outside : Option Files) → before.files ≡ outside → IsSomeAnd outside (λ reported. (name : List ℕ) → IsInputFile words name → reported name ≡ files name)
+        → (reported : Files) × (before.files ≡ Some reported)
+    is_reported None are reports = absurd reports
+    is_reported (Some reported) are reports = (reported, are)
 
     by_done : (done : Option Done) → IsSome done → IfSome done (IsAsked words before.files) → ⊥
     by_done None some asked = true≢false (sym some)
     by_done (Some done) some asked =
-        let found = is_told before.files refl tells in
+        let found = is_reported before.files refl reports in
         no_cause words before after fault (answered words before.files found.0 found.1 done asked) is cause
 
-    by : (told : Option Fault) → end.fault ≡ told → IfSome told (IsCause words before after)
-        → IsSomeAnd told (λ told. IsCallFault told ⊎ IsSame told fault)
-    by None none told =
-        let zero : end.status ≡ 0 = ends.answer.status ∙ ap status_told none in
+    by : (reported : Option Fault) → end.fault ≡ reported → IfSome reported (IsCause words before after)
+        → IsSomeAnd reported (λ reported. IsCallFault reported ⊎ IsSame reported fault)
+    by None none reported =
+        let zero : end.status ≡ 0 = ends.answer.status ∙ ap status_reported none in
         absurd (by_done end.done (ends.answer.done.1 (inl zero)) ends.asked)
-    by (Some other) some told = elim (kind_of_fault other) [
+    by (Some other) some reported = elim (kind_of_fault other) [
       | inl call ↦ inl call
-      | inr (inl input) ↦ inr (one_cause words files before after before after other fault tells tells input is told cause)
-      | inr (inr many) ↦ absurd (no_pairs words files before after before after other fault tells tells many is told cause)
+      | inr (inl input) ↦ inr (one_cause words files before after before after other fault reports reports input is reported cause)
+      | inr (inr many) ↦ absurd (no_pairs words files before after before after other fault reports reports many is reported cause)
     ]

@@ -163,15 +163,15 @@ one_at_library words bytes fault other here there =
     one_at_reading words (library_of bytes) (λ cells. called_among cells (upper_case (cell_word words))) fault other here there
 
 -- what is reported of the file of a command on a cell
-abbrev pub TellsCell : List (List ℕ) → Fault → List ℕ → Type 0
-TellsCell words fault bytes = AtLibrary words bytes fault
+abbrev pub ReportsCell : List (List ℕ) → Fault → List ℕ → Type 0
+ReportsCell words fault bytes = AtLibrary words bytes fault
 
 abbrev pub AtCellFile : List (List ℕ) → Option (List ℕ) → Fault → Type 0
-AtCellFile words file fault = AtFile MAX_CELLS (cells_word words) (TellsCell words) file fault
+AtCellFile words file fault = AtFile MAX_CELLS (cells_word words) (ReportsCell words) file fault
 
 pub one_at_cell_file : (words : List (List ℕ)) (file : Option (List ℕ)) (fault other : Fault) → AtCellFile words file fault → AtCellFile words file other
     → fault ≡ other
-one_at_cell_file words = one_at_file MAX_CELLS (cells_word words) (TellsCell words) (one_at_library words)
+one_at_cell_file words = one_at_file MAX_CELLS (cells_word words) (ReportsCell words) (one_at_library words)
 
 -- the causes of each stage
 module _ (words : List (List ℕ)) where
@@ -206,13 +206,13 @@ module _ (words : List (List ℕ)) where
   at_missing bytes lacks =
       none_in_reading (library_of bytes) (λ cells. called_among cells (upper_case (cell_word words))) lacks.0 lacks.1
 
-  module _ (files : Option Files) (told : Files) (are : files ≡ Some told) (file : Option (List ℕ)) (same : told (cells_word words) ≡ file)
+  module _ (files : Option Files) (reported : Files) (are : files ≡ Some reported) (file : Option (List ℕ)) (same : reported (cells_word words) ≡ file)
       (before after : ℕ) where
     -- what holds of the bytes of the file
     at_bytes : (P : List ℕ → Type 0) (fault : Fault) → ((bytes : List ℕ) → P bytes → AtLibrary words bytes fault)
         → OfFile files (cells_word words) P → AtCellFile words file fault
-    at_bytes P fault next held = of_bytes MAX_CELLS (cells_word words) (TellsCell words) file P fault next
-        (of_file files told are (cells_word words) file same MAX_CELLS P held)
+    at_bytes P fault next held = of_bytes MAX_CELLS (cells_word words) (ReportsCell words) file P fault next
+        (of_file files reported are (cells_word words) file same MAX_CELLS P held)
 
     of_text : (fault : Fault) → IsCellsCause (cells_word words) files fault → AtCellFile words file fault
     of_text (Cells line kind) cause = at_bytes (IsTextCause (Cells line kind)) (Cells line kind) (λ bytes reads. rw reads refl) cause
@@ -265,7 +265,7 @@ module _ (words : List (List ℕ)) where
 
     module _ (fault : Fault) (is : IsInputFault fault) where
       pub of_cell : IsCellCause (cells_word words) (cell_word words) files before after fault → AtCellFile words file fault
-      of_cell (inl (inl read)) = of_read files told are (cells_word words) file same MAX_CELLS (TellsCell words) before after fault is read
+      of_cell (inl (inl read)) = of_read files reported are (cells_word words) file same MAX_CELLS (ReportsCell words) before after fault is read
       of_cell (inl (inr text)) = of_text fault text
       of_cell (inr name) = of_name fault name
 

@@ -16,11 +16,11 @@ use Rattle.ca_on_chip.specs.OnChip.{GiveChipWith, OfChip, IsSimulationCause, IsP
 use Rattle.ca_on_chip.specs.Replay.{HasFaultyLine, HasRun, IsOrderCause}
 use Rattle.ca_flow.specs.Fault.{IsOwnCause}
 use Rattle.ca_flow_laws.specs.Same.{IsInputFault, IsSame}
-use Rattle.ca_flow_laws.specs.Told.{IsChipFile, IsInputFile}
+use Rattle.ca_flow_laws.specs.Reported.{IsChipFile, IsInputFile}
 use Rattle.ca_flow_laws.proofs.FileLemmas.{one_of, of_bytes, of_file, of_read}
 use Rattle.ca_flow_laws.proofs.OneLemmas.{AreOne, one_chip, NamesOne, names_one}
 use Rattle.ca_flow_laws.proofs.LoadLemmas.{AreReadAs, AtLoad, one_read, one_load, no_load, read_given, of_load}
-use Rattle.ca_flow_laws.proofs.OwnLemmas.{AtDefect, AtPair, TellsLine, AtOrder, AtRun, of_defect, of_simulation, defect_also, pair_also}
+use Rattle.ca_flow_laws.proofs.OwnLemmas.{AtDefect, AtPair, ReportsLine, AtOrder, AtRun, of_defect, of_simulation, defect_also, pair_also}
 use Rattle.ca_flow_laws.proofs.OwnLemmas.{at_run_also, one_defect, one_pair, one_at_run}
 
 -- words of two commands
@@ -111,16 +111,16 @@ pairs_input (TooManyPairs pairs aims) is many = is
 pairs_input fault is many = many
 
 -- what is known of the store, where it has the given files
-module _ (words : List (List ℕ)) (files : Option Files) (told : Files) (are : files ≡ Some told) (given : Files)
-    (agree : (name : List ℕ) → IsInputFile words name → told name ≡ given name) (chip : IsOnChip words) where
-  of_names : (name : List ℕ) → IsChipFile (chip_files words) name → told name ≡ given name
+module _ (words : List (List ℕ)) (files : Option Files) (reported : Files) (are : files ≡ Some reported) (given : Files)
+    (agree : (name : List ℕ) → IsInputFile words name → reported name ≡ given name) (chip : IsOnChip words) where
+  of_names : (name : List ℕ) → IsChipFile (chip_files words) name → reported name ≡ given name
   of_names name is = agree name (inr (inl (chip, is)))
 
   -- what is said of the chip of the files is said of the given ones
   of_chip : (Holds : LinkedChip → Type 0) → OfChip files (chip_files words) Holds → AreReadAs (chip_files words) given (GiveChipWith Holds)
   of_chip Holds held =
-      let found = held told are in
-      (found.0, (read_given files told are (chip_files words) given of_names found.0 found.1.0, found.1.1))
+      let found = held reported are in
+      (found.0, (read_given files reported are (chip_files words) given of_names found.0 found.1.0, found.1.1))
 
   own_of : (Holds : LinkedChip → Type 0) (fault : Fault) → ((chip : LinkedChip) → Holds chip → AtOwn words given chip fault) → OfChip files (chip_files words) Holds
       → AreReadAs (chip_files words) given (IsOwn words given fault)
@@ -137,7 +137,7 @@ module _ (words : List (List ℕ)) (files : Option Files) (told : Files) (are : 
     of_order replay (Order line) is held =
         own_of _ (Order line) (λ chip there. inr (inr (replay, inr (by chip there)))) held
       where
-        same : told (order_word words) ≡ given (order_word words)
+        same : reported (order_word words) ≡ given (order_word words)
         same = agree (order_word words) (inr (inr (replay, refl)))
 
         run_in : (chip : LinkedChip) (file : Option (List ℕ)) → IsSomeAnd file (λ bytes. (length bytes ≤ MAX_ORDER)
@@ -152,10 +152,10 @@ module _ (words : List (List ℕ)) (files : Option Files) (told : Files) (are : 
         by chip there =
             let P : List ℕ → Type 0 =
             HasFaultyLine (instance_word words) (chip_defect_word words) (chip_first_word words) (chip_last_word words) line chip in
-            let file = of_file files told are (order_word words) (given (order_word words)) same MAX_ORDER P there in (
+            let file = of_file files reported are (order_word words) (given (order_word words)) same MAX_ORDER P there in (
               run_in chip (given (order_word words)) file,
               of_bytes MAX_ORDER (order_word words)
-                  (TellsLine (instance_word words) (chip_defect_word words) (chip_first_word words) (chip_last_word words) chip)
+                  (ReportsLine (instance_word words) (chip_defect_word words) (chip_first_word words) (chip_last_word words) chip)
                   (given (order_word words)) P (Order line) (λ bytes faulty. (line, (refl, faulty))) file,
             )
     of_order replay fault is (held, read) = own_of (HasRun (instance_word words) (chip_defect_word words) (chip_first_word words) (chip_last_word words))
@@ -163,9 +163,9 @@ module _ (words : List (List ℕ)) (files : Option Files) (told : Files) (are : 
           replay,
           inr (
             run,
-            of_read files told are (order_word words) (given (order_word words))
+            of_read files reported are (order_word words) (given (order_word words))
                 (agree (order_word words) (inr (inr (replay, refl)))) MAX_ORDER
-                (TellsLine (instance_word words) (chip_defect_word words) (chip_first_word words) (chip_last_word words) chip) before after fault is read,
+                (ReportsLine (instance_word words) (chip_defect_word words) (chip_first_word words) (chip_last_word words) chip) before after fault is read,
           ),
         ))) held
 
@@ -193,5 +193,5 @@ module _ (words : List (List ℕ)) (files : Option Files) (told : Files) (are : 
     -- what the store has is reported of the given files
     pub of_work : (fault : Fault) → IsInputFault fault
         → IsLoadCause (chip_files words) files before after fault ⊎ IsOwnCause words files before after fault → AtChipWords words given fault
-    of_work fault is (inl load) = inl (of_load files told are (chip_files words) given of_names before after fault is load)
+    of_work fault is (inl load) = inl (of_load files reported are (chip_files words) given of_names before after fault is load)
     of_work fault is (inr own) = inr (of_own fault is own)

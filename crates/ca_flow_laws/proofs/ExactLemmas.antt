@@ -10,7 +10,7 @@ use Rattle.ca_words.proofs.WordLemmas.{no_chip}
 use Rattle.ca_on_chip.specs.Making.{IsMakeStage}
 use Rattle.ca_flow.specs.Fault.{Outside, IsWordsCause, IsWriteCause, IsPrintCause, IsWorkCause, IsCause}
 use Rattle.ca_flow_laws.specs.Same.{IsInputFault, IsSame}
-use Rattle.ca_flow_laws.specs.Told.{IsInputFile, TellsFiles}
+use Rattle.ca_flow_laws.specs.Reported.{IsInputFile, ReportsFiles}
 use Rattle.ca_flow_laws.proofs.CellLemmas.{AtCellFile, one_at_cell_file, of_cell, of_respond, of_pair}
 use Rattle.ca_flow_laws.proofs.ChipLemmas.{AtChipWords, one_at_chip, pairs_input, of_work}
 
@@ -54,51 +54,51 @@ module _ (words : List (List ℕ)) where
   no_print before after NoMemory is cause = is
   no_print before after fault is cause = cause
 
-  module _ (files : Option Files) (told : Files) (are : files ≡ Some told) (given : Files)
-      (agree : (name : List ℕ) → IsInputFile words name → told name ≡ given name) (before after : ℕ) (fault : Fault) (is : IsInputFault fault) where
-    of_cells : IsOnCell words → told (cells_word words) ≡ given (cells_word words)
+  module _ (files : Option Files) (reported : Files) (are : files ≡ Some reported) (given : Files)
+      (agree : (name : List ℕ) → IsInputFile words name → reported name ≡ given name) (before after : ℕ) (fault : Fault) (is : IsInputFault fault) where
+    of_cells : IsOnCell words → reported (cells_word words) ≡ given (cells_word words)
     of_cells on = agree (cells_word words) (inl (on, refl))
 
     of_work_cause : IsWorkCause words files before after fault → AtWords words given fault
     of_work_cause (inl (respond, cause)) = inr (inl (
       inl respond,
-      of_respond words files told are (given (cells_word words)) (of_cells (inl respond)) before after fault is respond cause,
+      of_respond words files reported are (given (cells_word words)) (of_cells (inl respond)) before after fault is respond cause,
     ))
     of_work_cause (inr (inl (pair, cause))) = inr (inl (
       inr (inl pair),
-      of_pair words files told are (given (cells_word words)) (of_cells (inr (inl pair))) before after fault is pair cause,
+      of_pair words files reported are (given (cells_word words)) (of_cells (inr (inl pair))) before after fault is pair cause,
     ))
     of_work_cause (inr (inr (inl (defects, cause)))) = inr (inl (
       inr (inr (inl defects)),
-      of_cell words files told are (given (cells_word words)) (of_cells (inr (inr (inl defects)))) before after fault is cause,
+      of_cell words files reported are (given (cells_word words)) (of_cells (inr (inr (inl defects)))) before after fault is cause,
     ))
     of_work_cause (inr (inr (inr (inl (matrix, cause))))) = inr (inl (
       inr (inr (inr matrix)),
-      of_cell words files told are (given (cells_word words)) (of_cells (inr (inr (inr matrix)))) before after fault is cause,
+      of_cell words files reported are (given (cells_word words)) (of_cells (inr (inr (inr matrix)))) before after fault is cause,
     ))
     of_work_cause (inr (inr (inr (inr (inl (chip, cause)))))) =
-        inr (inr (chip, of_work words files told are given agree chip before after fault is cause))
+        inr (inr (chip, of_work words files reported are given agree chip before after fault is cause))
     of_work_cause (inr (inr (inr (inr (inr (make, cause)))))) = absurd (no_made_input cause.number fault is cause.stage)
 
   -- the cause of a fault of input is in the words or in their files
-  pub of_cause : (given : Files) (before after : Outside) (fault : Fault) → TellsFiles words given before → IsInputFault fault
+  pub of_cause : (given : Files) (before after : Outside) (fault : Fault) → ReportsFiles words given before → IsInputFault fault
       → IsCause words before after fault → AtWords words given fault
-  of_cause given before after fault tells is (inl cause) = of_words given fault cause
-  of_cause given before after fault tells is (inr (inl cause)) = by before.files refl tells
+  of_cause given before after fault reports is (inl cause) = of_words given fault cause
+  of_cause given before after fault reports is (inr (inl cause)) = by before.files refl reports
     where
       by : (files : Option Files) → before.files ≡ files
-          → IsSomeAnd files (λ told. (name : List ℕ) → IsInputFile words name → told name ≡ given name) → AtWords words given fault
-      by None are tells = absurd tells
-      by (Some told) are tells = of_work_cause before.files told are given tells before.store_faults after.store_faults fault is cause
-  of_cause given before after fault tells is (inr (inr (inl cause))) =
+          → IsSomeAnd files (λ reported. (name : List ℕ) → IsInputFile words name → reported name ≡ given name) → AtWords words given fault
+      by None are reports = absurd reports
+      by (Some reported) are reports = of_work_cause before.files reported are given reports before.store_faults after.store_faults fault is cause
+  of_cause given before after fault reports is (inr (inr (inl cause))) =
       absurd (no_write before.store_faults after.store_faults fault is cause)
-  of_cause given before after fault tells is (inr (inr (inr cause))) =
+  of_cause given before after fault reports is (inr (inr (inr cause))) =
       absurd (no_print before.sink_faults after.sink_faults fault is cause)
 
 -- no two faults of input have a cause
 pub one_cause : (words : List (List ℕ)) (files : Files) (before after again later : Outside) (fault other : Fault)
-    → TellsFiles words files before → TellsFiles words files again → IsInputFault fault → IsInputFault other
+    → ReportsFiles words files before → ReportsFiles words files again → IsInputFault fault → IsInputFault other
     → IsCause words before after fault → IsCause words again later other → IsSame fault other
-one_cause words files before after again later fault other tells tells_too is is_too cause cause_too =
-    one_at_words words files fault other (of_cause words files before after fault tells is cause)
-    (of_cause words files again later other tells_too is_too cause_too)
+one_cause words files before after again later fault other reports reports_too is is_too cause cause_too =
+    one_at_words words files fault other (of_cause words files before after fault reports is cause)
+    (of_cause words files again later other reports_too is_too cause_too)

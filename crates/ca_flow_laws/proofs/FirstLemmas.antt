@@ -39,10 +39,10 @@ least (suc most) P short first (a ∷ rest) here = from (least most) (suc a) a (
     from : ((Q : List ℕ → Type 0) → ((at : List ℕ) → Q at → length at ≤ most)
         → ((at : List ℕ) → Q at → ((before : List ℕ) → IsEarlier before at → Q before → ⊥) → ⊥) → (at : List ℕ) → Q at → ⊥)
         → (below a : ℕ) → a < below → (rest : List ℕ) → P (a ∷ rest) → ⊥
-    from behind zero a less rest here = omega (arith, less)
-    from behind (suc below) a less rest here = behind (λ rest. P (a ∷ rest))
+    from following zero a less rest here = omega (arith, less)
+    from following (suc below) a less rest here = following (λ rest. P (a ∷ rest))
         (λ rest held. let is = short (a ∷ rest) held in omega (arith, is))
-        (λ rest held none_before. first (a ∷ rest) held (before rest none_before (from behind below)))
+        (λ rest held none_before. first (a ∷ rest) held (before rest none_before (from following below)))
         rest here
       where
         before : (rest : List ℕ) → ((before : List ℕ) → IsEarlier before rest → P (a ∷ before) → ⊥)
@@ -160,7 +160,7 @@ module _ (Feeds : ℕ → ℕ → Type 0) (none : (loop : List ℕ) → IsLoop F
   no_loop_within (suc most) loop within is = none loop is (λ j k u at at_too. elim (dec_lt j k) [
     | yes before ↦ absurd (shorter most (no_loop_within most) loop within is j k u at at_too before)
     | no not ↦ elim (dec_lt k j) [
-      | yes behind ↦ absurd (shorter most (no_loop_within most) loop within is k j u at_too at behind)
+      | yes following ↦ absurd (shorter most (no_loop_within most) loop within is k j u at_too at following)
       | no neither ↦ omega (arith, not, neither)
     ]
   ])

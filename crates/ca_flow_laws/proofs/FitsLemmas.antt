@@ -24,7 +24,7 @@ use Rattle.ca_flow.specs.Fault.{Outside, IsCause}
 use Rattle.ca_flow.specs.Complete.{FitsCell, FitsFile, FitsChip, IsAnswerable}
 use Rattle.ca_flow.proofs.CompleteLemmas.{at_words, asking_work, at_chip}
 use Rattle.ca_flow_laws.specs.Same.{IsInputFault}
-use Rattle.ca_flow_laws.specs.Told.{IsInputFile}
+use Rattle.ca_flow_laws.specs.Reported.{IsInputFile}
 use Rattle.ca_flow_laws.proofs.CellLemmas.{AreAsked, AtCell, AtCalled, AtReading, AtCellFile}
 use Rattle.ca_flow_laws.proofs.ChipLemmas.{pairs_input}
 use Rattle.ca_flow_laws.proofs.ExactLemmas.{no_write, no_print, of_cause}
@@ -33,8 +33,8 @@ use Rattle.ca_flow_laws.proofs.ExactLemmas.{no_write, no_print, of_cause}
 abbrev FitsBytes : List (List ℕ) → Option (List ℕ) → Type 0
 FitsBytes words file = IsSomeAnd file (λ bytes. (length bytes ≤ MAX_CELLS) × HasCell (cell_word words) (FitsCell words) bytes)
 
-some_or_none : {A : Type 0} (told : Option A) → IsSome told → IsNone told → ⊥
-some_or_none told some none = true≢false (sym some ∙ none)
+some_or_none : {A : Type 0} (reported : Option A) → IsSome reported → IsNone reported → ⊥
+some_or_none reported some none = true≢false (sym some ∙ none)
 
 module _ (words : List (List ℕ)) (fault : Fault) where
   fits_vectors : (raw : RawCell) → FitsCell words raw → (first last defect typed : List ℕ) → AreAsked words first last defect
@@ -63,21 +63,21 @@ module _ (words : List (List ℕ)) (fault : Fault) where
   fits_cell raw fits (inr (inr lack)) = fits_defect raw fits lack.first lack.last lack.defect lack.asked lack.lacks
 
   fits_called : (called : Option RawCell) → IsSomeAnd called (FitsCell words) → AtCalled words called fault → ⊥
-  fits_called None held told = held
-  fits_called (Some raw) fits told = fits_cell raw fits told
+  fits_called None held reported = held
+  fits_called (Some raw) fits reported = fits_cell raw fits reported
 
   fits_reading : {S : Type 0} (read : Result S SpiceFault) (called : S → Option RawCell)
       → IsSomeAnd (elim read as (λ _. Option RawCell) [ Ok cells ↦ called cells | Err broken ↦ None ]) (FitsCell words)
       → AtReading words read called fault → ⊥
-  fits_reading (Ok cells) called fits told = fits_called (called cells) fits told
-  fits_reading (Err broken) called fits told = fits
+  fits_reading (Ok cells) called fits reported = fits_called (called cells) fits reported
+  fits_reading (Err broken) called fits reported = fits
 
   fits_file : (file : Option (List ℕ)) → FitsBytes words file → AtCellFile words file fault → ⊥
-  fits_file None fits told = fits
+  fits_file None fits reported = fits
   fits_file (Some bytes) fits (inl past) =
       let long = past.0 in let within = fits.0 in omega (arith, long, within)
-  fits_file (Some bytes) fits (inr told) =
-      fits_reading (library_of bytes) (λ cells. called_among cells (upper_case (cell_word words))) fits.1 told.1
+  fits_file (Some bytes) fits (inr reported) =
+      fits_reading (library_of bytes) (λ cells. called_among cells (upper_case (cell_word words))) fits.1 reported.1
 
 -- words that ask for no file have no cause of a fault of input
 asking_cause : (words : List (List ℕ)) (before after : Outside) (fault : Fault) → AsksNoFile words → IsInputFault fault
@@ -113,15 +113,15 @@ left_input words fault before after is (inl outside) = outside_input fault befor
 left_input words fault before after is (inr many) = pairs_input fault is many.1
 
 -- words that fit the chip of their files have no cause of a fault of input
-chip_cause : (words : List (List ℕ)) (before after : Outside) (fault : Fault) (told : Files) → before.files ≡ Some told
-    → FitsChip words told → IsInputFault fault → IsCause words before after fault → ⊥
-chip_cause words before after fault told are fits is (inl cause) = at_words words (inr (inl fits.is)) fault cause
-chip_cause words before after fault told are fits is (inr (inl cause)) =
+chip_cause : (words : List (List ℕ)) (before after : Outside) (fault : Fault) (reported : Files) → before.files ≡ Some reported
+    → FitsChip words reported → IsInputFault fault → IsCause words before after fault → ⊥
+chip_cause words before after fault reported are fits is (inl cause) = at_words words (inr (inl fits.is)) fault cause
+chip_cause words before after fault reported are fits is (inr (inl cause)) =
     left_input words fault before.store_faults after.store_faults is
-    (at_chip words before.files told are fits before.store_faults after.store_faults fault cause)
-chip_cause words before after fault told are fits is (inr (inr (inl cause))) =
+    (at_chip words before.files reported are fits before.store_faults after.store_faults fault cause)
+chip_cause words before after fault reported are fits is (inr (inr (inl cause))) =
     no_write words before.store_faults after.store_faults fault is cause
-chip_cause words before after fault told are fits is (inr (inr (inr cause))) =
+chip_cause words before after fault reported are fits is (inr (inr (inr cause))) =
     no_print words before.sink_faults after.sink_faults fault is cause
 
 -- where a command can be answered no fault of input has a cause
@@ -130,17 +130,17 @@ pub no_cause : (words : List (List ℕ)) (before after : Outside) (fault : Fault
 no_cause words before after fault (inl asks) is cause = asking_cause words before after fault asks is cause
 no_cause words before after fault (inr answerable) is cause = by before.files answerable refl
   where
-    by : (files : Option Files) → IsSomeAnd files (λ told. FitsFile words told ⊎ FitsChip words told) → before.files ≡ files → ⊥
+    by : (files : Option Files) → IsSomeAnd files (λ reported. FitsFile words reported ⊎ FitsChip words reported) → before.files ≡ files → ⊥
     by None held same = held
-    by (Some told) (inl fits) same =
-        let tells : IsSomeAnd before.files (λ it. (name : List ℕ) → IsInputFile words name → it name ≡ told name) = rw same (λ name is. refl) in
-        let on = file_command words (told (cells_word words)) fits in
-        elim (of_cause words told before after fault tells is cause) [
+    by (Some reported) (inl fits) same =
+        let reports : IsSomeAnd before.files (λ it. (name : List ℕ) → IsInputFile words name → it name ≡ reported name) = rw same (λ name is. refl) in
+        let on = file_command words (reported (cells_word words)) fits in
+        elim (of_cause words reported before after fault reports is cause) [
           | inl bad ↦ bad.0 (inl on)
-          | inr (inl cell) ↦ fits_file words fault (told (cells_word words)) fits cell.1
+          | inr (inl cell) ↦ fits_file words fault (reported (cells_word words)) fits cell.1
           | inr (inr chip) ↦ no_chip words on chip.0
         ]
-    by (Some told) (inr chip) same = chip_cause words before after fault told same chip is cause
+    by (Some reported) (inr chip) same = chip_cause words before after fault reported same chip is cause
 
 -- words of two commands
 pub respond_or_defects : (words : List (List ℕ)) → IsRespond words → IsDefects words → ⊥

@@ -84,8 +84,8 @@ module _ (words : List (List ℕ)) (chip : LinkedChip) (both : AreBothOrNeither 
     where
       by : instance_word words ≢ dash → (found : Option Defect) → defect_called (cell_at (core_of chip) has.u) (chip_defect_word words) ≡ found
           → IsSome found → (given : Option ChipDefect) × IsAskedDefect chip (instance_word words) (chip_defect_word words) given
-      by some None is told = absurd (true≢false (sym told))
-      by some (Some defect) is told = (Some (record { instance = has.u; defect = defect }), record { some = some; named = has.named; called = is })
+      by some None is reported = absurd (true≢false (sym reported))
+      by some (Some defect) is reported = (Some (record { instance = has.u; defect = defect }), record { some = some; named = has.named; called = is })
 
       by_dash : (is_dash : Bool) → bytes_eq (instance_word words) dash ≡ is_dash
           → (given : Option ChipDefect) × IsAskedDefect chip (instance_word words) (chip_defect_word words) given
@@ -126,13 +126,13 @@ module _ (net : Circuit) (first last : List Trit) where
     free = λ k less. elim (dec_lt k n) [
       | yes before ↦
           let same = at_left are.places place k (let count = are.count in omega (arith, before, count)) in
-          (λ told. (are.free k before).0 (sym same ∙ told), λ may. same ∙ (are.free k before).1 may)
+          (λ reported. (are.free k before).0 (sym same ∙ reported), λ may. same ∙ (are.free k before).1 may)
       | no not ↦
           let k_is : k ≡ length are.places = let count = are.count in omega (arith, less, not, count) in
           let n_is : k ≡ n = omega (arith, less, not) in
           let same : slice_get (are.places ++ place ∷ []) k ≡ Some place =
           subst (λ j. slice_get (are.places ++ place ∷ []) j ≡ Some place) (sym k_is) (at_end are.places place) in (
-            λ told. subst (MaySet net first last) (sym n_is) (is.0 (sym same ∙ told)),
+            λ reported. subst (MaySet net first last) (sym n_is) (is.0 (sym same ∙ reported)),
             λ may. same ∙ is.1 (subst (MaySet net first last) n_is may),
           )
     ];
@@ -152,7 +152,7 @@ module _ (net : Circuit) (first last : List Trit) where
   places_or refutes = places_to (length net.nodes) (λ are. refutes are.places (record {
     each = are.count;
     free = λ n. (
-      λ told. (are.free n (let within = slice_get_within are.places n Free told in let count = are.count in omega (arith, within, count))).0 told,
+      λ reported. (are.free n (let within = slice_get_within are.places n Free reported in let count = are.count in omega (arith, within, count))).0 reported,
       λ may. (are.free n may.0.0).1 may,
     );
   }))

@@ -21,9 +21,9 @@ unfolding words_of
 words_within [] = omega arith
 words_within (byte ∷ more) = by (words_within more) (is_blank byte) (byte == 61)
   where
-    behind : (text : List ℕ) → length (words_with byte text (words_of more)) ≤ 1 + length (words_of more)
-    behind [] = omega arith
-    behind (next ∷ rest) = at (ends_word next)
+    following : (text : List ℕ) → length (words_with byte text (words_of more)) ≤ 1 + length (words_of more)
+    following [] = omega arith
+    following (next ∷ rest) = at (ends_word next)
       where
         at : (ends : Bool) → length (cond ends ((byte ∷ []) ∷ words_of more) (with_byte byte (words_of more))) ≤ 1 + length (words_of more)
         at true = omega arith
@@ -33,7 +33,7 @@ words_within (byte ∷ more) = by (words_within more) (is_blank byte) (byte == 6
         → length (cond blank (words_of more) (cond sign ((byte ∷ []) ∷ words_of more) (words_with byte more (words_of more)))) ≤ suc (length more)
     by is true sign = omega (arith, is)
     by is false true = omega (arith, is)
-    by is false false = let one = behind more in omega (arith, is, one)
+    by is false false = let one = following more in omega (arith, is, one)
 
 -- how many bytes texts have
 abbrev pub bytes_of : List (List ℕ) → ℕ

@@ -25,7 +25,7 @@ use Rattle.ca_scan.specs.declared.fault.ChainFault.TheVariants as chain
 use Rattle.ca_scan.specs.ChainFault.{IsChainCause}
 use Rattle.ca_scan.proofs.AnswerLemmas.{one_answer}
 use Rattle.ca_fault_place.specs.Names.{wire_text}
-use Rattle.ca_fault_place.specs.Place.{net_text, double_text, OfNet, TellsPlace}
+use Rattle.ca_fault_place.specs.Place.{net_text, double_text, OfNet, ReportsPlace}
 use Rattle.ca_fault.specs.declared.fault.LimitKind.TheVariants as limit
 use Rattle.ca_fault.specs.declared.fault.Fault.{Fault}
 use Rattle.ca_fault.specs.declared.fault.Fault.TheVariants.{Cell, Chain, Limit}
@@ -40,7 +40,7 @@ module _ (raw : RawNetlist) (library : List Named) (scan : List ScanRow) (text o
   one_net net text_of (wire, at, is) (also, at_also, is_also) =
       is ∙ ap (λ it. wire_text raw.buses it text_of) (one_wire (wiring_of raw library scan) net wire also at at_also) ∙ sym is_also
 
-  one_place : (broken : ChipFault) → TellsPlace raw library scan broken text → TellsPlace raw library scan broken other → text ≡ other
+  one_place : (broken : ChipFault) → ReportsPlace raw library scan broken text → ReportsPlace raw library scan broken other → text ≡ other
   one_place (rule.UnknownCell u) is also = is ∙ sym also
   one_place (rule.Cell u broken) is also = is ∙ sym also
   one_place (rule.UnknownPin u pin) is also = is ∙ sym also
@@ -72,67 +72,67 @@ pub record IsOfRefused (inputs : Inputs) (u : InstanceId) (broken : CellRule) (f
   pub is : fault ≡ Cell name broken place
 
 -- the fault reports the broken rule
-abbrev pub IsToldBy : Inputs → ChipFault → Fault → Type 0
-IsToldBy inputs (rule.UnknownCell u) fault = IsPlain inputs (rule.UnknownCell u) fault
-IsToldBy inputs (rule.Cell u broken) fault = IsOfRefused inputs u broken fault
-IsToldBy inputs (rule.UnknownPin u pin) fault = IsPlain inputs (rule.UnknownPin u pin) fault
-IsToldBy inputs (rule.MissingPin u pin) fault = IsPlain inputs (rule.MissingPin u pin) fault
-IsToldBy inputs (rule.DoubleDriven net first second) fault = IsPlain inputs (rule.DoubleDriven net first second) fault
-IsToldBy inputs (rule.Undriven net) fault = IsPlain inputs (rule.Undriven net) fault
-IsToldBy inputs (rule.ControlPin u pin) fault = IsPlain inputs (rule.ControlPin u pin) fault
-IsToldBy inputs (rule.ControlObserved net) fault = IsPlain inputs (rule.ControlObserved net) fault
-IsToldBy inputs (rule.QnUsed u) fault = IsPlain inputs (rule.QnUsed u) fault
-IsToldBy inputs (rule.Loop instances) fault = IsPlain inputs (rule.Loop instances) fault
-IsToldBy inputs (rule.TooManyInstances count) fault = fault ≡ Limit limit.Instances count
-IsToldBy inputs (rule.TooManyInputs count) fault = fault ≡ Limit limit.Inputs count
-IsToldBy inputs (rule.TooManyOutputs count) fault = fault ≡ Limit limit.Outputs count
-IsToldBy inputs (rule.TooManyDefects count) fault = fault ≡ Limit limit.Defects count
-IsToldBy inputs rule.NoMemory fault = ⊥
+abbrev pub IsReportedBy : Inputs → ChipFault → Fault → Type 0
+IsReportedBy inputs (rule.UnknownCell u) fault = IsPlain inputs (rule.UnknownCell u) fault
+IsReportedBy inputs (rule.Cell u broken) fault = IsOfRefused inputs u broken fault
+IsReportedBy inputs (rule.UnknownPin u pin) fault = IsPlain inputs (rule.UnknownPin u pin) fault
+IsReportedBy inputs (rule.MissingPin u pin) fault = IsPlain inputs (rule.MissingPin u pin) fault
+IsReportedBy inputs (rule.DoubleDriven net first second) fault = IsPlain inputs (rule.DoubleDriven net first second) fault
+IsReportedBy inputs (rule.Undriven net) fault = IsPlain inputs (rule.Undriven net) fault
+IsReportedBy inputs (rule.ControlPin u pin) fault = IsPlain inputs (rule.ControlPin u pin) fault
+IsReportedBy inputs (rule.ControlObserved net) fault = IsPlain inputs (rule.ControlObserved net) fault
+IsReportedBy inputs (rule.QnUsed u) fault = IsPlain inputs (rule.QnUsed u) fault
+IsReportedBy inputs (rule.Loop instances) fault = IsPlain inputs (rule.Loop instances) fault
+IsReportedBy inputs (rule.TooManyInstances count) fault = fault ≡ Limit limit.Instances count
+IsReportedBy inputs (rule.TooManyInputs count) fault = fault ≡ Limit limit.Inputs count
+IsReportedBy inputs (rule.TooManyOutputs count) fault = fault ≡ Limit limit.Outputs count
+IsReportedBy inputs (rule.TooManyDefects count) fault = fault ≡ Limit limit.Defects count
+IsReportedBy inputs rule.NoMemory fault = ⊥
 
 -- what is reported of inputs that don't link
 pub record AtLink (inputs : Inputs) (fault : Fault) : Type 0 where
   pub broken : ChipFault
   pub first : BreakFirst inputs broken
-  pub told : IsToldBy inputs broken fault
+  pub reported : IsReportedBy inputs broken fault
 
 module _ (inputs : Inputs) where
-  plain_told : (broken : ChipFault) (fault : Fault) → IsPlainRule broken → IsPlain inputs broken fault → IsToldBy inputs broken fault
-  plain_told (rule.UnknownCell u) fault is told = told
-  plain_told (rule.Cell u broken) fault is told = absurd is
-  plain_told (rule.UnknownPin u pin) fault is told = told
-  plain_told (rule.MissingPin u pin) fault is told = told
-  plain_told (rule.DoubleDriven net first second) fault is told = told
-  plain_told (rule.Undriven net) fault is told = told
-  plain_told (rule.ControlPin u pin) fault is told = told
-  plain_told (rule.ControlObserved net) fault is told = told
-  plain_told (rule.QnUsed u) fault is told = told
-  plain_told (rule.Loop instances) fault is told = told
-  plain_told (rule.TooManyInstances count) fault is told = absurd is
-  plain_told (rule.TooManyInputs count) fault is told = absurd is
-  plain_told (rule.TooManyOutputs count) fault is told = absurd is
-  plain_told (rule.TooManyDefects count) fault is told = absurd is
-  plain_told rule.NoMemory fault is told = absurd is
+  plain_reported : (broken : ChipFault) (fault : Fault) → IsPlainRule broken → IsPlain inputs broken fault → IsReportedBy inputs broken fault
+  plain_reported (rule.UnknownCell u) fault is reported = reported
+  plain_reported (rule.Cell u broken) fault is reported = absurd is
+  plain_reported (rule.UnknownPin u pin) fault is reported = reported
+  plain_reported (rule.MissingPin u pin) fault is reported = reported
+  plain_reported (rule.DoubleDriven net first second) fault is reported = reported
+  plain_reported (rule.Undriven net) fault is reported = reported
+  plain_reported (rule.ControlPin u pin) fault is reported = reported
+  plain_reported (rule.ControlObserved net) fault is reported = reported
+  plain_reported (rule.QnUsed u) fault is reported = reported
+  plain_reported (rule.Loop instances) fault is reported = reported
+  plain_reported (rule.TooManyInstances count) fault is reported = absurd is
+  plain_reported (rule.TooManyInputs count) fault is reported = absurd is
+  plain_reported (rule.TooManyOutputs count) fault is reported = absurd is
+  plain_reported (rule.TooManyDefects count) fault is reported = absurd is
+  plain_reported rule.NoMemory fault is reported = absurd is
 
   pub of_link : (fault : Fault) → IsLinkingCause inputs fault → AtLink inputs fault
   of_link (Cell name broken place) (u, (of, (first, placed))) = record {
     broken = rule.Cell u broken;
     first = first;
-    told = record { name = name; place = place; named = of; placed = placed; is = refl };
+    reported = record { name = name; place = place; named = of; placed = placed; is = refl };
   }
   of_link (fault_.Chip broken place) (plain, (first, placed)) = record {
     broken = broken;
     first = first;
-    told = plain_told broken (fault_.Chip broken place) plain (record { place = place; placed = placed; is = refl });
+    reported = plain_reported broken (fault_.Chip broken place) plain (record { place = place; placed = placed; is = refl });
   }
-  of_link (Limit limit.Instances count) first = record { broken = rule.TooManyInstances count; first = first; told = refl }
-  of_link (Limit limit.Inputs count) first = record { broken = rule.TooManyInputs count; first = first; told = refl }
-  of_link (Limit limit.Outputs count) first = record { broken = rule.TooManyOutputs count; first = first; told = refl }
-  of_link (Limit limit.Defects count) first = record { broken = rule.TooManyDefects count; first = first; told = refl }
+  of_link (Limit limit.Instances count) first = record { broken = rule.TooManyInstances count; first = first; reported = refl }
+  of_link (Limit limit.Inputs count) first = record { broken = rule.TooManyInputs count; first = first; reported = refl }
+  of_link (Limit limit.Outputs count) first = record { broken = rule.TooManyOutputs count; first = first; reported = refl }
+  of_link (Limit limit.Defects count) first = record { broken = rule.TooManyDefects count; first = first; reported = refl }
   of_link fault cause = absurd cause
 
   one_plain : (broken : ChipFault) (fault other : Fault) → IsPlain inputs broken fault → IsPlain inputs broken other → fault ≡ other
-  one_plain broken fault other told also =
-      told.is ∙ ap (fault_.Chip broken) (one_place inputs.netlist inputs.library inputs.rows told.place also.place broken told.placed also.placed)
+  one_plain broken fault other reported also =
+      reported.is ∙ ap (fault_.Chip broken) (one_place inputs.netlist inputs.library inputs.rows reported.place also.place broken reported.placed also.placed)
       ∙ sym also.is
 
   -- an instance is of one cell
@@ -146,42 +146,42 @@ module _ (inputs : Inputs) where
 
   one_refused : (u : InstanceId) (broken : CellRule) (fault other : Fault) → IsOfRefused inputs u broken fault → IsOfRefused inputs u broken other
       → fault ≡ other
-  one_refused u broken fault other told also =
-      let name = one_cell_name u told.name also.name told.named also.named in
-      let place = one_place inputs.netlist inputs.library inputs.rows told.place also.place (rule.Cell u broken) told.placed also.placed in
-      told.is ∙ (λ j. Cell (name j) broken (place j)) ∙ sym also.is
+  one_refused u broken fault other reported also =
+      let name = one_cell_name u reported.name also.name reported.named also.named in
+      let place = one_place inputs.netlist inputs.library inputs.rows reported.place also.place (rule.Cell u broken) reported.placed also.placed in
+      reported.is ∙ (λ j. Cell (name j) broken (place j)) ∙ sym also.is
 
   -- a broken rule is reported by one fault
-  one_told : (broken : ChipFault) (fault other : Fault) → IsToldBy inputs broken fault → IsToldBy inputs broken other → fault ≡ other
-  one_told (rule.UnknownCell u) fault other told also = one_plain (rule.UnknownCell u) fault other told also
-  one_told (rule.Cell u broken) fault other told also = one_refused u broken fault other told also
-  one_told (rule.UnknownPin u pin) fault other told also = one_plain (rule.UnknownPin u pin) fault other told also
-  one_told (rule.MissingPin u pin) fault other told also = one_plain (rule.MissingPin u pin) fault other told also
-  one_told (rule.DoubleDriven net first second) fault other told also = one_plain (rule.DoubleDriven net first second) fault other told also
-  one_told (rule.Undriven net) fault other told also = one_plain (rule.Undriven net) fault other told also
-  one_told (rule.ControlPin u pin) fault other told also = one_plain (rule.ControlPin u pin) fault other told also
-  one_told (rule.ControlObserved net) fault other told also = one_plain (rule.ControlObserved net) fault other told also
-  one_told (rule.QnUsed u) fault other told also = one_plain (rule.QnUsed u) fault other told also
-  one_told (rule.Loop instances) fault other told also = one_plain (rule.Loop instances) fault other told also
-  one_told (rule.TooManyInstances count) fault other told also = told ∙ sym also
-  one_told (rule.TooManyInputs count) fault other told also = told ∙ sym also
-  one_told (rule.TooManyOutputs count) fault other told also = told ∙ sym also
-  one_told (rule.TooManyDefects count) fault other told also = told ∙ sym also
-  one_told rule.NoMemory fault other told also = absurd told
+  one_reported : (broken : ChipFault) (fault other : Fault) → IsReportedBy inputs broken fault → IsReportedBy inputs broken other → fault ≡ other
+  one_reported (rule.UnknownCell u) fault other reported also = one_plain (rule.UnknownCell u) fault other reported also
+  one_reported (rule.Cell u broken) fault other reported also = one_refused u broken fault other reported also
+  one_reported (rule.UnknownPin u pin) fault other reported also = one_plain (rule.UnknownPin u pin) fault other reported also
+  one_reported (rule.MissingPin u pin) fault other reported also = one_plain (rule.MissingPin u pin) fault other reported also
+  one_reported (rule.DoubleDriven net first second) fault other reported also = one_plain (rule.DoubleDriven net first second) fault other reported also
+  one_reported (rule.Undriven net) fault other reported also = one_plain (rule.Undriven net) fault other reported also
+  one_reported (rule.ControlPin u pin) fault other reported also = one_plain (rule.ControlPin u pin) fault other reported also
+  one_reported (rule.ControlObserved net) fault other reported also = one_plain (rule.ControlObserved net) fault other reported also
+  one_reported (rule.QnUsed u) fault other reported also = one_plain (rule.QnUsed u) fault other reported also
+  one_reported (rule.Loop instances) fault other reported also = one_plain (rule.Loop instances) fault other reported also
+  one_reported (rule.TooManyInstances count) fault other reported also = reported ∙ sym also
+  one_reported (rule.TooManyInputs count) fault other reported also = reported ∙ sym also
+  one_reported (rule.TooManyOutputs count) fault other reported also = reported ∙ sym also
+  one_reported (rule.TooManyDefects count) fault other reported also = reported ∙ sym also
+  one_reported rule.NoMemory fault other reported also = absurd reported
 
   -- two loops are reported as loops
-  both_loops : (broken also : ChipFault) (fault other : Fault) → link.AreLoops broken also → IsToldBy inputs broken fault → IsToldBy inputs also other
+  both_loops : (broken also : ChipFault) (fault other : Fault) → link.AreLoops broken also → IsReportedBy inputs broken fault → IsReportedBy inputs also other
       → AreLoops fault other
-  both_loops (rule.Loop instances) (rule.Loop others) fault other loops told also =
-      let both : AreLoops (fault_.Chip (rule.Loop instances) told.place) (fault_.Chip (rule.Loop others) also.place) = tt in
-      subst (λ it. AreLoops it other) (sym told.is) (subst (AreLoops (fault_.Chip (rule.Loop instances) told.place)) (sym also.is) both)
-  both_loops broken also fault other loops told told_also = absurd loops
+  both_loops (rule.Loop instances) (rule.Loop others) fault other loops reported also =
+      let both : AreLoops (fault_.Chip (rule.Loop instances) reported.place) (fault_.Chip (rule.Loop others) also.place) = tt in
+      subst (λ it. AreLoops it other) (sym reported.is) (subst (AreLoops (fault_.Chip (rule.Loop instances) reported.place)) (sym also.is) both)
+  both_loops broken also fault other loops reported reported_also = absurd loops
 
   pub one_link : (fault other : Fault) → AtLink inputs fault → AtLink inputs other → IsSame fault other
   one_link fault other here there =
       elim (first_broken inputs.netlist inputs.library inputs.rows here.broken there.broken here.first there.first) [
-        | inl same ↦ inl (one_told there.broken fault other (subst (λ it. IsToldBy inputs it fault) same here.told) there.told)
-        | inr loops ↦ inr (both_loops here.broken there.broken fault other loops here.told there.told)
+        | inl same ↦ inl (one_reported there.broken fault other (subst (λ it. IsReportedBy inputs it fault) same here.reported) there.reported)
+        | inr loops ↦ inr (both_loops here.broken there.broken fault other loops here.reported there.reported)
       ]
 
 -- the fault says why a chip has no chains
@@ -195,18 +195,18 @@ IsTracedBy chip chain.NoMemory fault = ⊥
 pub record AtTrace (chip : LinkedChip) (fault : Fault) : Type 0 where
   pub broken : ChainFault
   pub cause : IsChainCause chip broken
-  pub told : IsTracedBy chip broken fault
+  pub reported : IsTracedBy chip broken fault
 
 pub of_trace : (chip : LinkedChip) (fault : Fault) → IsTracingCause fault chip → AtTrace chip fault
 of_trace chip (Chain name) (u, (off, named)) =
-    record { broken = chain.ChainBroken (record { 0 = u }); cause = off; told = (name, (named, refl)) }
-of_trace chip (Limit limit.Chains count) many = record { broken = chain.TooManyChains count; cause = many; told = refl }
+    record { broken = chain.ChainBroken (record { 0 = u }); cause = off; reported = (name, (named, refl)) }
+of_trace chip (Limit limit.Chains count) many = record { broken = chain.TooManyChains count; cause = many; reported = refl }
 of_trace chip fault cause = absurd cause
 
 some_memory : (chip : LinkedChip) (broken : ChainFault) (fault : Fault) → IsTracedBy chip broken fault → broken ≢ chain.NoMemory
-some_memory chip (chain.ChainBroken u) fault told same = cc
-some_memory chip (chain.TooManyChains count) fault told same = cc
-some_memory chip chain.NoMemory fault told same = told
+some_memory chip (chain.ChainBroken u) fault reported same = cc
+some_memory chip (chain.TooManyChains count) fault reported same = cc
+some_memory chip chain.NoMemory fault reported same = reported
 
 one_traced : (chip : LinkedChip) (broken : ChainFault) (fault other : Fault) → IsTracedBy chip broken fault → IsTracedBy chip broken other → fault ≡ other
 one_traced chip (chain.ChainBroken u) fault other (name, (named, is)) (also, (named_also, is_also)) =
@@ -215,8 +215,8 @@ one_traced chip (chain.ChainBroken u) fault other (name, (named, is)) (also, (na
     by : (found : Option Part) → IsSomeAnd found (λ part. name ≡ part.name) → IsSomeAnd found (λ part. also ≡ part.name) → name ≡ also
     by None one other = absurd one
     by (Some part) one other = one ∙ sym other
-one_traced chip (chain.TooManyChains count) fault other told also = told ∙ sym also
-one_traced chip chain.NoMemory fault other told also = absurd told
+one_traced chip (chain.TooManyChains count) fault other reported also = reported ∙ sym also
+one_traced chip chain.NoMemory fault other reported also = absurd reported
 
 -- of a chip that is alike the same is reported
 traced_alike : (chip also : LinkedChip) → AreAlike chip also → (broken : ChainFault) (fault : Fault) → IsTracedBy chip broken fault → IsTracedBy also broken fault
@@ -228,26 +228,26 @@ traced_alike chip also alike (chain.ChainBroken u) fault (name, (named, is)) = (
     by (Some part) at held =
         let other = item_at chip.parts also.parts u.0 part alike.same_parts at in
         rw other.1 (held ∙ (alike.parts u.0 part other.0 at other.1).name)
-traced_alike chip also alike (chain.TooManyChains count) fault told = told
-traced_alike chip also alike chain.NoMemory fault told = absurd told
+traced_alike chip also alike (chain.TooManyChains count) fault reported = reported
+traced_alike chip also alike chain.NoMemory fault reported = absurd reported
 
 pub trace_alike : (chip also : LinkedChip) → AreAlike chip also → (fault : Fault) → AtTrace chip fault → AtTrace also fault
 trace_alike chip also alike fault at = record {
   broken = at.broken;
   cause = (one_trace chip also alike).cause at.broken at.cause;
-  told = traced_alike chip also alike at.broken fault at.told;
+  reported = traced_alike chip also alike at.broken fault at.reported;
 }
 
 pub one_at_trace : (chip : LinkedChip) (fault other : Fault) → AtTrace chip fault → AtTrace chip other → fault ≡ other
 one_at_trace chip fault other here there =
     let same = (one_answer chip).one_cause here.broken there.broken here.cause there.cause
-    (some_memory chip here.broken fault here.told) (some_memory chip there.broken other there.told) in
-    one_traced chip there.broken fault other (subst (λ it. IsTracedBy chip it fault) same here.told) there.told
+    (some_memory chip here.broken fault here.reported) (some_memory chip there.broken other there.reported) in
+    one_traced chip there.broken fault other (subst (λ it. IsTracedBy chip it fault) same here.reported) there.reported
 
 -- a chip with chains has none
 pub none_of_traced : (chip : LinkedChip) (fault : Fault) → AtTrace chip fault → IsTraced chip → ⊥
 none_of_traced chip fault at (chains, all) =
-    some_memory chip at.broken fault at.told ((one_answer chip).not_both chains at.broken all at.cause)
+    some_memory chip at.broken fault at.reported ((one_answer chip).not_both chains at.broken all at.cause)
 
 pub traced_also : (chip also : LinkedChip) → AreAlike chip also → IsTraced chip → IsTraced also
 traced_also chip also alike (chains, all) = (chains, (one_trace chip also alike).chains chains all)

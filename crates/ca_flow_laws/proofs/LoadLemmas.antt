@@ -25,7 +25,7 @@ use Rattle.ca_load.specs.Causes.{IsTextCause, IsCellsCause, IsLibraryCause, IsMo
 use Rattle.ca_load.specs.Causes.{IsRowsCause, IsScanCause, IsInputCause, IsLoadCause}
 use Rattle.ca_load.proofs.SameLemmas.{one_reading}
 use Rattle.ca_flow_laws.specs.Same.{IsInputFault, IsSame}
-use Rattle.ca_flow_laws.specs.Told.{IsChipFile}
+use Rattle.ca_flow_laws.specs.Reported.{IsChipFile}
 use Rattle.ca_flow_laws.proofs.FileLemmas.{one_of, AtFile, one_at_file, none_of_read, of_bytes, of_file, of_read}
 use Rattle.ca_flow_laws.proofs.LinkLemmas.{AtLink, of_link, one_link, AtTrace, of_trace, trace_alike, one_at_trace, none_of_traced}
 use Rattle.ca_flow_laws.proofs.LinkLemmas.{traced_also}
@@ -94,19 +94,19 @@ of_record : (fault : Fault) (bytes : List ℕ) → IsRecordCause fault bytes →
 of_record (Scan row) bytes is = rw is refl
 of_record fault bytes is = absurd is
 
-abbrev pub TellsCells : Fault → List ℕ → Type 0
-TellsCells fault bytes = AtCells (library_of bytes) fault
+abbrev pub ReportsCells : Fault → List ℕ → Type 0
+ReportsCells fault bytes = AtCells (library_of bytes) fault
 
-abbrev pub TellsTokens : Fault → List ℕ → Type 0
-TellsTokens fault bytes = AtTokens (netlist_of bytes) fault
+abbrev pub ReportsTokens : Fault → List ℕ → Type 0
+ReportsTokens fault bytes = AtTokens (netlist_of bytes) fault
 
-abbrev pub TellsRows : Fault → List ℕ → Type 0
-TellsRows fault bytes = AtRows (table_of bytes) fault
+abbrev pub ReportsRows : Fault → List ℕ → Type 0
+ReportsRows fault bytes = AtRows (table_of bytes) fault
 
 -- what is reported of the table of scan cells, where a chip has one
 abbrev pub AtTable : Option (List ℕ) → Files → Fault → Type 0
 AtTable None given fault = ⊥
-AtTable (Some name) given fault = AtFile MAX_SCAN name TellsRows (given name) fault
+AtTable (Some name) given fault = AtFile MAX_SCAN name ReportsRows (given name) fault
 
 -- the first two files have a reading
 abbrev pub HasCells : InputFiles → Files → Type 0
@@ -118,11 +118,11 @@ HasTokens names given = IsFileWith given names.netlist MAX_NETLIST (λ bytes. Is
 -- what is reported of the second file, and of the third
 abbrev pub AtLater : InputFiles → Files → Fault → Type 0
 AtLater names given fault =
-    AtFile MAX_NETLIST names.netlist TellsTokens (given names.netlist) fault ⊎ (HasTokens names given × AtTable names.scan given fault)
+    AtFile MAX_NETLIST names.netlist ReportsTokens (given names.netlist) fault ⊎ (HasTokens names given × AtTable names.scan given fault)
 
 -- what is reported of the files, one after another
 abbrev pub AtInput : InputFiles → Files → Fault → Type 0
-AtInput names given fault = AtFile MAX_CELLS names.cells TellsCells (given names.cells) fault ⊎ (HasCells names given × AtLater names given fault)
+AtInput names given fault = AtFile MAX_CELLS names.cells ReportsCells (given names.cells) fault ⊎ (HasCells names given × AtLater names given fault)
 
 -- the chip of the inputs has no chains
 pub record LacksChains (inputs : Inputs) (fault : Fault) : Type 0 where
@@ -146,20 +146,20 @@ module _ (names : InputFiles) (given : Files) where
   one_table : (scan : Option (List ℕ)) (fault other : Fault) → AtTable scan given fault → AtTable scan given other → fault ≡ other
   one_table None fault other here there = absurd here
   one_table (Some name) fault other here there =
-      one_at_file MAX_SCAN name TellsRows (λ bytes. one_rows (table_of bytes)) (given name) fault other here there
+      one_at_file MAX_SCAN name ReportsRows (λ bytes. one_rows (table_of bytes)) (given name) fault other here there
 
   one_later : (fault other : Fault) → AtLater names given fault → AtLater names given other → fault ≡ other
-  one_later = one_of ◌≡◌ (AtFile MAX_NETLIST names.netlist TellsTokens (given names.netlist)) (λ fault. HasTokens names given × AtTable names.scan given fault)
-      (one_at_file MAX_NETLIST names.netlist TellsTokens (λ bytes. one_tokens (netlist_of bytes)) (given names.netlist))
+  one_later = one_of ◌≡◌ (AtFile MAX_NETLIST names.netlist ReportsTokens (given names.netlist)) (λ fault. HasTokens names given × AtTable names.scan given fault)
+      (one_at_file MAX_NETLIST names.netlist ReportsTokens (λ bytes. one_tokens (netlist_of bytes)) (given names.netlist))
       (λ fault other here there. one_table names.scan fault other here.1 there.1)
-      (λ fault other here there. none_of_read MAX_NETLIST names.netlist TellsTokens (λ bytes. IsOk (netlist_of bytes)) (given names.netlist) fault
+      (λ fault other here there. none_of_read MAX_NETLIST names.netlist ReportsTokens (λ bytes. IsOk (netlist_of bytes)) (given names.netlist) fault
       (λ bytes. read_tokens (netlist_of bytes) fault) here there.0)
 
   one_input : (fault other : Fault) → AtInput names given fault → AtInput names given other → fault ≡ other
-  one_input = one_of ◌≡◌ (AtFile MAX_CELLS names.cells TellsCells (given names.cells)) (λ fault. HasCells names given × AtLater names given fault)
-      (one_at_file MAX_CELLS names.cells TellsCells (λ bytes. one_cells (library_of bytes)) (given names.cells))
+  one_input = one_of ◌≡◌ (AtFile MAX_CELLS names.cells ReportsCells (given names.cells)) (λ fault. HasCells names given × AtLater names given fault)
+      (one_at_file MAX_CELLS names.cells ReportsCells (λ bytes. one_cells (library_of bytes)) (given names.cells))
       (λ fault other here there. one_later fault other here.1 there.1)
-      (λ fault other here there. none_of_read MAX_CELLS names.cells TellsCells (λ bytes. IsOk (library_of bytes)) (given names.cells) fault
+      (λ fault other here there. none_of_read MAX_CELLS names.cells ReportsCells (λ bytes. IsOk (library_of bytes)) (given names.cells) fault
       (λ bytes. read_cells (library_of bytes) fault) here there.0)
 
   -- files with a reading have no fault
@@ -167,20 +167,20 @@ module _ (names : InputFiles) (given : Files) where
     no_table : (scan : Option (List ℕ)) → IsTableAt (Some given) scan inputs.rows → (fault : Fault) → AtTable scan given fault → ⊥
     no_table None reads fault here = here
     no_table (Some name) reads fault here =
-        none_of_read MAX_SCAN name TellsRows (IsTableOf inputs.rows) (given name) fault
+        none_of_read MAX_SCAN name ReportsRows (IsTableOf inputs.rows) (given name) fault
         (λ bytes. read_rows (table_of bytes) inputs.rows fault) here (reads given refl)
 
-    no_library : (fault : Fault) (bytes : List ℕ) → TellsCells fault bytes → IsLibraryOf inputs.library bytes → ⊥
+    no_library : (fault : Fault) (bytes : List ℕ) → ReportsCells fault bytes → IsLibraryOf inputs.library bytes → ⊥
     no_library fault bytes here reads = read_cells (library_of bytes) fault here (rw reads.reads refl)
 
-    no_netlist : (fault : Fault) (bytes : List ℕ) → TellsTokens fault bytes → IsNetlistOf inputs.netlist bytes → ⊥
+    no_netlist : (fault : Fault) (bytes : List ℕ) → ReportsTokens fault bytes → IsNetlistOf inputs.netlist bytes → ⊥
     no_netlist fault bytes here reads = read_tokens (netlist_of bytes) fault here (rw reads refl)
 
     pub no_input : (fault : Fault) → AtInput names given fault → ⊥
     no_input fault (inl here) =
-        none_of_read MAX_CELLS names.cells TellsCells (IsLibraryOf inputs.library) (given names.cells) fault (no_library fault) here read.library
+        none_of_read MAX_CELLS names.cells ReportsCells (IsLibraryOf inputs.library) (given names.cells) fault (no_library fault) here read.library
     no_input fault (inr (has, inl here)) =
-        none_of_read MAX_NETLIST names.netlist TellsTokens (IsNetlistOf inputs.netlist) (given names.netlist) fault (no_netlist fault) here read.netlist
+        none_of_read MAX_NETLIST names.netlist ReportsTokens (IsNetlistOf inputs.netlist) (given names.netlist) fault (no_netlist fault) here read.netlist
     no_input fault (inr (has, inr (too, here))) = no_table names.scan read.rows fault here
 
   -- what is reported of the inputs is one fault
@@ -222,75 +222,75 @@ module _ (names : InputFiles) (given : Files) where
           none_of_traced lacks.chip fault lacks.at (traced_also chip lacks.chip one.alike traced)
 
 -- what is known of the store, where it has the given files
-module _ (files : Option Files) (told : Files) (are : files ≡ Some told) (names : InputFiles) (given : Files)
-    (agree : (name : List ℕ) → IsChipFile names name → told name ≡ given name) where
-  agree_cells : told names.cells ≡ given names.cells
+module _ (files : Option Files) (reported : Files) (are : files ≡ Some reported) (names : InputFiles) (given : Files)
+    (agree : (name : List ℕ) → IsChipFile names name → reported name ≡ given name) where
+  agree_cells : reported names.cells ≡ given names.cells
   agree_cells = agree names.cells (inl refl)
 
-  agree_netlist : told names.netlist ≡ given names.netlist
+  agree_netlist : reported names.netlist ≡ given names.netlist
   agree_netlist = agree names.netlist (inr (inl refl))
 
   -- the files read as what the given ones do
-  pub read_given : (inputs : Inputs) → ReadAs names inputs told → ReadAs names inputs given
+  pub read_given : (inputs : Inputs) → ReadAs names inputs reported → ReadAs names inputs given
   read_given inputs read = record {
     library = subst (λ there. IsSomeAnd there (λ bytes. (length bytes ≤ MAX_CELLS) × IsLibraryOf inputs.library bytes)) agree_cells read.library;
     netlist = subst (λ there. IsSomeAnd there (λ bytes. (length bytes ≤ MAX_NETLIST) × IsNetlistOf inputs.netlist bytes)) agree_netlist read.netlist;
     rows = by names.scan (λ name is. agree name (inr (inr is))) read.rows;
   }
     where
-      by : (scan : Option (List ℕ)) → ((name : List ℕ) → scan ≡ Some name → told name ≡ given name) → IsTableAt (Some told) scan inputs.rows
+      by : (scan : Option (List ℕ)) → ((name : List ℕ) → scan ≡ Some name → reported name ≡ given name) → IsTableAt (Some reported) scan inputs.rows
           → IsTableAt (Some given) scan inputs.rows
       by None same reads = reads
       by (Some name) same reads = λ other is.
           let one : given ≡ other = same_Some given other is in
           subst (λ (it : Files). IsFileWith it name MAX_SCAN (IsTableOf inputs.rows)) one
-          (subst (λ there. IsSomeAnd there (λ bytes. (length bytes ≤ MAX_SCAN) × IsTableOf inputs.rows bytes)) (same name refl) (reads told refl))
+          (subst (λ there. IsSomeAnd there (λ bytes. (length bytes ≤ MAX_SCAN) × IsTableOf inputs.rows bytes)) (same name refl) (reads reported refl))
 
   module _ (before after : ℕ) (fault : Fault) (input : IsInputFault fault) where
     of_cells : (fault : Fault) → IsCellsCause names.cells files fault
         → IsSomeAnd (given names.cells) (λ bytes. (length bytes ≤ MAX_CELLS) × IsTextCause fault bytes)
-    of_cells (Cells line kind) cause = of_file files told are names.cells (given names.cells) agree_cells MAX_CELLS (IsTextCause (Cells line kind)) cause
+    of_cells (Cells line kind) cause = of_file files reported are names.cells (given names.cells) agree_cells MAX_CELLS (IsTextCause (Cells line kind)) cause
     of_cells (Limit limit.Cells count) cause =
-        of_file files told are names.cells (given names.cells) agree_cells MAX_CELLS (IsTextCause (Limit limit.Cells count)) cause
+        of_file files reported are names.cells (given names.cells) agree_cells MAX_CELLS (IsTextCause (Limit limit.Cells count)) cause
     of_cells fault cause = absurd cause
 
-    of_library : IsLibraryCause names.cells files before after fault → AtFile MAX_CELLS names.cells TellsCells (given names.cells) fault
-    of_library (inl read) = of_read files told are names.cells (given names.cells) agree_cells MAX_CELLS TellsCells before after fault input read
-    of_library (inr text) = of_bytes MAX_CELLS names.cells TellsCells (given names.cells) (IsTextCause fault) fault (of_text fault) (of_cells fault text)
+    of_library : IsLibraryCause names.cells files before after fault → AtFile MAX_CELLS names.cells ReportsCells (given names.cells) fault
+    of_library (inl read) = of_read files reported are names.cells (given names.cells) agree_cells MAX_CELLS ReportsCells before after fault input read
+    of_library (inr text) = of_bytes MAX_CELLS names.cells ReportsCells (given names.cells) (IsTextCause fault) fault (of_text fault) (of_cells fault text)
 
     of_tokens : (fault : Fault) → IsTokensCause names.netlist files fault
         → IsSomeAnd (given names.netlist) (λ bytes. (length bytes ≤ MAX_NETLIST) × IsModuleCause fault bytes)
     of_tokens (Netlist line kind) cause =
-        of_file files told are names.netlist (given names.netlist) agree_netlist MAX_NETLIST (IsModuleCause (Netlist line kind)) cause
+        of_file files reported are names.netlist (given names.netlist) agree_netlist MAX_NETLIST (IsModuleCause (Netlist line kind)) cause
     of_tokens (Limit limit.Nets count) cause =
-        of_file files told are names.netlist (given names.netlist) agree_netlist MAX_NETLIST (IsModuleCause (Limit limit.Nets count)) cause
+        of_file files reported are names.netlist (given names.netlist) agree_netlist MAX_NETLIST (IsModuleCause (Limit limit.Nets count)) cause
     of_tokens fault cause = absurd cause
 
-    of_netlist : IsNetlistCause names.netlist files before after fault → AtFile MAX_NETLIST names.netlist TellsTokens (given names.netlist) fault
-    of_netlist (inl read) = of_read files told are names.netlist (given names.netlist) agree_netlist MAX_NETLIST TellsTokens before after fault input read
+    of_netlist : IsNetlistCause names.netlist files before after fault → AtFile MAX_NETLIST names.netlist ReportsTokens (given names.netlist) fault
+    of_netlist (inl read) = of_read files reported are names.netlist (given names.netlist) agree_netlist MAX_NETLIST ReportsTokens before after fault input read
     of_netlist (inr text) =
-        of_bytes MAX_NETLIST names.netlist TellsTokens (given names.netlist) (IsModuleCause fault) fault (of_module fault) (of_tokens fault text)
+        of_bytes MAX_NETLIST names.netlist ReportsTokens (given names.netlist) (IsModuleCause fault) fault (of_module fault) (of_tokens fault text)
 
-    of_rows : (name : List ℕ) → told name ≡ given name → (fault : Fault) → IsRowsCause name files fault
+    of_rows : (name : List ℕ) → reported name ≡ given name → (fault : Fault) → IsRowsCause name files fault
         → IsSomeAnd (given name) (λ bytes. (length bytes ≤ MAX_SCAN) × IsRecordCause fault bytes)
-    of_rows name same (Scan row) cause = of_file files told are name (given name) same MAX_SCAN (IsRecordCause (Scan row)) cause
+    of_rows name same (Scan row) cause = of_file files reported are name (given name) same MAX_SCAN (IsRecordCause (Scan row)) cause
     of_rows name same fault cause = absurd cause
 
-    of_table : (scan : Option (List ℕ)) → ((name : List ℕ) → scan ≡ Some name → told name ≡ given name) → IsScanCause scan files before after fault
+    of_table : (scan : Option (List ℕ)) → ((name : List ℕ) → scan ≡ Some name → reported name ≡ given name) → IsScanCause scan files before after fault
         → AtTable scan given fault
     of_table None same cause = absurd cause
-    of_table (Some name) same (inl read) = of_read files told are name (given name) (same name refl) MAX_SCAN TellsRows before after fault input read
+    of_table (Some name) same (inl read) = of_read files reported are name (given name) (same name refl) MAX_SCAN ReportsRows before after fault input read
     of_table (Some name) same (inr text) =
-        of_bytes MAX_SCAN name TellsRows (given name) (IsRecordCause fault) fault (of_record fault) (of_rows name (same name refl) fault text)
+        of_bytes MAX_SCAN name ReportsRows (given name) (IsRecordCause fault) fault (of_record fault) (of_rows name (same name refl) fault text)
 
     of_input : IsInputCause names files before after fault → AtInput names given fault
     of_input (inl library) = inl (of_library library)
     of_input (inr (inl (has, netlist))) =
-        inr (of_file files told are names.cells (given names.cells) agree_cells MAX_CELLS (λ bytes. IsOk (library_of bytes)) has, inl (of_netlist netlist))
+        inr (of_file files reported are names.cells (given names.cells) agree_cells MAX_CELLS (λ bytes. IsOk (library_of bytes)) has, inl (of_netlist netlist))
     of_input (inr (inr (has, (too, scan)))) = inr (
-      of_file files told are names.cells (given names.cells) agree_cells MAX_CELLS (λ bytes. IsOk (library_of bytes)) has,
+      of_file files reported are names.cells (given names.cells) agree_cells MAX_CELLS (λ bytes. IsOk (library_of bytes)) has,
       inr (
-        of_file files told are names.netlist (given names.netlist) agree_netlist MAX_NETLIST (λ bytes. IsOk (netlist_of bytes)) too,
+        of_file files reported are names.netlist (given names.netlist) agree_netlist MAX_NETLIST (λ bytes. IsOk (netlist_of bytes)) too,
         of_table names.scan (λ name is. agree name (inr (inr is))) scan,
       ),
     )
@@ -303,5 +303,5 @@ module _ (files : Option Files) (told : Files) (are : files ≡ Some told) (name
     pub of_load : IsLoadCause names files before after fault → AtLoad names given fault
     of_load (inl cause) = inl (of_input cause)
     of_load (inr (is, held)) =
-        let found = held told are in
+        let found = held reported are in
         inr (found.0, (read_given found.0 found.1.0, of_chip found.0 found.1.1))

@@ -63,33 +63,33 @@ library_made reading raw =
 -- a located fault isn't that of memory
 located_memory : (text : List ℕ) (here : Token) (given : Step)
     → elim given as (λ _. Result Reading VerilogFault) [ Ok next ↦ Ok next | Err kind ↦ Err (at_token text here kind) ] ≡ Err NoMemory → ⊥
-located_memory text here (Ok next) told = cc
-located_memory text here (Err kind) told = cc
+located_memory text here (Ok next) reported = cc
+located_memory text here (Err kind) reported = cc
 
 tokens_memory : (text : List ℕ) (tokens : List Token) → tokens_from text nothing tokens ≡ Err NoMemory → ⊥
-tokens_memory text tokens told =
-    let first = found (located (at_token text) (token_step text)) nothing tokens NoMemory told in
+tokens_memory text tokens reported =
+    let first = found (located (at_token text) (token_step text)) nothing tokens NoMemory reported in
     located_memory text first.here (token_step text first.here first.so_far) first.broken
 
 -- the definition of a reading never says that memory was wanting
 pub netlist_has_memory : (text : List ℕ) → netlist_of text ≡ Err NoMemory → ⊥
 unfolding limited
-netlist_has_memory text told = by (tokens_from text nothing (scan_of text).tokens) refl told
+netlist_has_memory text reported = by (tokens_from text nothing (scan_of text).tokens) refl reported
   where
     by_limit : (it : Reading) → (many : Bool)
         → cond many (Err (TooManyNets (bits_with 0 it.buses))) (Ok (netlist_with (first_bits 0 it.buses) it)) ≡ Err NoMemory → ⊥
-    by_limit it true told = cc
-    by_limit it false told = cc
+    by_limit it true reported = cc
+    by_limit it false reported = cc
 
     by_end : (it : Reading) (over : Bool)
         → limited_of (elim over as (λ _. Result Reading VerilogFault) [ true ↦ Ok it | false ↦ Err (At (line_at (length text - 1) text) Syntax) ])
         ≡ Err NoMemory → ⊥
-    by_end it true told = by_limit it (nat_lt MOST_BITS (bits_with 0 it.buses)) told
-    by_end it false told = cc
+    by_end it true reported = by_limit it (nat_lt MOST_BITS (bits_with 0 it.buses)) reported
+    by_end it false reported = cc
 
     by_flaw : (it : Reading) (flaw : Option Flaw) → limited_of (ended text (then_flaw text flaw (Ok it))) ≡ Err NoMemory → ⊥
-    by_flaw it None told = by_end it (is_end it.place) told
-    by_flaw it (Some flaw) told = cc
+    by_flaw it None reported = by_end it (is_end it.place) reported
+    by_flaw it (Some flaw) reported = cc
 
     fault_kept : (flaw : Option Flaw) (fault : VerilogFault) → limited_of (ended text (then_flaw text flaw (Err fault))) ≡ Err fault
     fault_kept None fault = refl
@@ -97,8 +97,8 @@ netlist_has_memory text told = by (tokens_from text nothing (scan_of text).token
 
     by : (given : Result Reading VerilogFault) → tokens_from text nothing (scan_of text).tokens ≡ given
         → limited_of (ended text (then_flaw text (scan_of text).flaw given)) ≡ Err NoMemory → ⊥
-    by (Ok it) read told = by_flaw it (scan_of text).flaw told
-    by (Err fault) read told =
-        let both = sym (fault_kept (scan_of text).flaw fault) ∙ told in
+    by (Ok it) read reported = by_flaw it (scan_of text).flaw reported
+    by (Err fault) read reported =
+        let both = sym (fault_kept (scan_of text).flaw fault) ∙ reported in
         let same : fault ≡ NoMemory = cc in
         tokens_memory text (scan_of text).tokens (read ∙ ap (λ (it : VerilogFault). Err it) same)

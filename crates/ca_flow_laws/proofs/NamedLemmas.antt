@@ -42,7 +42,7 @@ HaveNames raw = IsDistinct bytes_eq (map (λ instance. instance.name) raw.instan
 -- those of one that was read do
 pub distinct_names : (text : List ℕ) (raw : RawNetlist) → netlist_of text ≡ Ok raw → HaveNames raw
 unfolding limited
-distinct_names text raw told = by (reading_of text) refl told
+distinct_names text raw reported = by (reading_of text) refl reported
   where
     of_netlist : (it : Reading) → IsDistinct bytes_eq (map (λ instance. instance.name) it.instances)
         → (many : Bool) → cond many (Err (TooManyNets (bits_with 0 it.buses))) (Ok (netlist_with (first_bits 0 it.buses) it)) ≡ Ok raw

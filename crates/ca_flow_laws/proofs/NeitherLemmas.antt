@@ -52,7 +52,7 @@ use Rattle.ca_on_chip.specs.Replay.{IsAskedRun, HasFaultyLine, HasRun}
 use Rattle.ca_flow.specs.Fault.{Outside, IsOwnCause, IsCause}
 use Rattle.ca_flow.specs.Complete.{FitsFile, HasEvents, FitsOwn, FitsChip, IsAnswerable}
 use Rattle.ca_flow_laws.specs.Same.{IsInputFault}
-use Rattle.ca_flow_laws.specs.Told.{IsInputFile, TellsAllFiles}
+use Rattle.ca_flow_laws.specs.Reported.{IsInputFile, ReportsAllFiles}
 use Rattle.ca_flow_laws.specs.Laws.{HasInputCause}
 use Rattle.ca_flow_laws.proofs.LinkLemmas.{traced_also}
 use Rattle.ca_flow_laws.proofs.OneLemmas.{AreOne, one_chip, NamesOne, names_one}
@@ -68,27 +68,27 @@ within_or_past : (n most : ℕ) → (n ≤ most) ⊎ (most < n)
 within_or_past n most = elim (dec_le n most) [ yes within ↦ inl within | no past ↦ inr (omega (arith, past)) ]
 
 -- what a fault reports that has a cause
-defect_told : (instance defect : List ℕ) (chip : LinkedChip) (fault : Fault) → IsDefectCause chip instance defect fault
+defect_reported : (instance defect : List ℕ) (chip : LinkedChip) (fault : Fault) → IsDefectCause chip instance defect fault
     → IsInputFault fault × IsDefectWord instance defect fault
-defect_told instance defect chip (NoInstance typed) (same, (some, lacks)) = (tt, (same, some))
-defect_told instance defect chip (NoDefect typed) (same, (some, lacks)) = (tt, (same, some))
-defect_told instance defect chip fault cause = absurd cause
+defect_reported instance defect chip (NoInstance typed) (same, (some, lacks)) = (tt, (same, some))
+defect_reported instance defect chip (NoDefect typed) (same, (some, lacks)) = (tt, (same, some))
+defect_reported instance defect chip fault cause = absurd cause
 
-simulation_told : (instance defect first last : List ℕ) (chip : LinkedChip) (fault : Fault) → IsSimulationCause instance defect first last fault chip
+simulation_reported : (instance defect first last : List ℕ) (chip : LinkedChip) (fault : Fault) → IsSimulationCause instance defect first last fault chip
     → IsInputFault fault × (IsVectorWord first last fault ⊎ IsDefectWord instance defect fault)
-simulation_told instance defect first last chip (BadVector typed) (inl (inl cause)) = (tt, inl (inl cause.0))
-simulation_told instance defect first last chip (BadVector typed) (inl (inr cause)) = (tt, inl (inr cause.0))
-simulation_told instance defect first last chip fault (inl cause) = absurd cause
-simulation_told instance defect first last chip fault (inr (fits, (too, cause))) =
-    let told = defect_told instance defect chip fault cause in (told.0, inr told.1)
+simulation_reported instance defect first last chip (BadVector typed) (inl (inl cause)) = (tt, inl (inl cause.0))
+simulation_reported instance defect first last chip (BadVector typed) (inl (inr cause)) = (tt, inl (inr cause.0))
+simulation_reported instance defect first last chip fault (inl cause) = absurd cause
+simulation_reported instance defect first last chip fault (inr (fits, (too, cause))) =
+    let reported = defect_reported instance defect chip fault cause in (reported.0, inr reported.1)
 
-tracing_told : (chip : LinkedChip) (fault : Fault) → IsTracingCause fault chip → IsInputFault fault × IsChipFault fault
-tracing_told chip (Chain name) cause = (tt, tt)
-tracing_told chip (Limit limit.Chains count) cause = (tt, tt)
-tracing_told chip fault cause = absurd cause
+tracing_reported : (chip : LinkedChip) (fault : Fault) → IsTracingCause fault chip → IsInputFault fault × IsChipFault fault
+tracing_reported chip (Chain name) cause = (tt, tt)
+tracing_reported chip (Limit limit.Chains count) cause = (tt, tt)
+tracing_reported chip fault cause = absurd cause
 
-module _ (words : List (List ℕ)) (outside : Outside) (told : Files) (are : outside.files ≡ Some told) (on : IsOnChip words)
-    (there : (name : List ℕ) → IsInputFile words name → IsSome (told name)) (no_answer : IsAnswerable words outside.files → ⊥)
+module _ (words : List (List ℕ)) (outside : Outside) (reported : Files) (are : outside.files ≡ Some reported) (on : IsOnChip words)
+    (there : (name : List ℕ) → IsInputFile words name → IsSome (reported name)) (no_answer : IsAnswerable words outside.files → ⊥)
     (no_cause : (fault : Fault) → IsInputFault fault → IsCause words outside outside fault → ⊥) where
   no_load : (fault : Fault) → IsInputFault fault
       → IsLoadCause (chip_files words) outside.files outside.store_faults outside.store_faults fault → ⊥
@@ -97,20 +97,20 @@ module _ (words : List (List ℕ)) (outside : Outside) (told : Files) (are : out
   no_own : (fault : Fault) → IsInputFault fault → IsOwnCause words outside.files outside.store_faults outside.store_faults fault → ⊥
   no_own fault is cause = no_cause fault is (inr (inl (inr (inr (inr (inr (inl (on, inr cause))))))))
 
-  bytes_of : (name : List ℕ) → IsInputFile words name → (bytes : List ℕ) × (told name ≡ Some bytes)
-  bytes_of name is = by (told name) (there name is)
+  bytes_of : (name : List ℕ) → IsInputFile words name → (bytes : List ℕ) × (reported name ≡ Some bytes)
+  bytes_of name is = by (reported name) (there name is)
     where
       by : (file : Option (List ℕ)) → IsSome file → (bytes : List ℕ) × (file ≡ Some bytes)
       by None some = absurd (true≢false (sym some))
       by (Some bytes) some = (bytes, refl)
 
-  module _ (name bytes : List ℕ) (most : ℕ) (is : told name ≡ Some bytes) where
+  module _ (name bytes : List ℕ) (most : ℕ) (is : reported name ≡ Some bytes) where
     too_long : most < length bytes → IsReadCause name outside.files most outside.store_faults outside.store_faults (TooLong name (most + 1))
     too_long past = (
       refl,
       record {
         past = λ other same.
-            let one : other ≡ told = same_Some other told (sym same ∙ are) in
+            let one : other ≡ reported = same_Some other reported (sym same ∙ are) in
             subst (λ (it : Files). IsSomeAnd (it name) (λ bytes. most < length bytes)) (sym one)
             (subst (λ file. IsSomeAnd file (λ bytes. most < length bytes)) (sym is) past);
         one_more = refl;
@@ -118,23 +118,23 @@ module _ (words : List (List ℕ)) (outside : Outside) (told : Files) (are : out
       },
     )
 
-    file_with : (P : List ℕ → Type 0) → length bytes ≤ most → P bytes → IsFileWith told name most P
+    file_with : (P : List ℕ → Type 0) → length bytes ≤ most → P bytes → IsFileWith reported name most P
     file_with P within held = subst (λ file. IsSomeAnd file (λ bytes. (length bytes ≤ most) × P bytes)) (sym is) (within, held)
 
     in_file : (P : List ℕ → Type 0) → length bytes ≤ most → P bytes → OfFile outside.files name most P
     in_file P within held = λ other same.
-        let one : other ≡ told = same_Some other told (sym same ∙ are) in
+        let one : other ≡ reported = same_Some other reported (sym same ∙ are) in
         subst (λ (it : Files). IsFileWith it name most P) (sym one) (file_with P within held)
 
   -- the first file
-  cells_or : ((library : List Named) → IsFileWith told (chip_files words).cells MAX_CELLS (IsLibraryOf library)
+  cells_or : ((library : List Named) → IsFileWith reported (chip_files words).cells MAX_CELLS (IsLibraryOf library)
       → HasLibrary outside.files (chip_files words).cells → ⊥) → ⊥
   cells_or refutes = by (within_or_past (length found.0) MAX_CELLS)
     where
       name : List ℕ
       name = (chip_files words).cells
 
-      found : (bytes : List ℕ) × (told (chip_files words).cells ≡ Some bytes)
+      found : (bytes : List ℕ) × (reported (chip_files words).cells ≡ Some bytes)
       found = bytes_of (chip_files words).cells (inr (inl (on, inl refl)))
 
       read : length found.0 ≤ MAX_CELLS → (given : Result _ SpiceFault) → library_of found.0 ≡ given → ⊥
@@ -158,14 +158,14 @@ module _ (words : List (List ℕ)) (outside : Outside) (told : Files) (are : out
 
   -- the second
   netlist_or : HasLibrary outside.files (chip_files words).cells → ((netlist : RawNetlist)
-      → IsFileWith told (chip_files words).netlist MAX_NETLIST (IsNetlistOf netlist)
+      → IsFileWith reported (chip_files words).netlist MAX_NETLIST (IsNetlistOf netlist)
       → HasNetlist outside.files (chip_files words).netlist → ⊥) → ⊥
   netlist_or has refutes = by (within_or_past (length found.0) MAX_NETLIST)
     where
       name : List ℕ
       name = (chip_files words).netlist
 
-      found : (bytes : List ℕ) × (told (chip_files words).netlist ≡ Some bytes)
+      found : (bytes : List ℕ) × (reported (chip_files words).netlist ≡ Some bytes)
       found = bytes_of (chip_files words).netlist (inr (inl (on, inr (inl refl))))
 
       read : length found.0 ≤ MAX_NETLIST → (given : Result RawNetlist VerilogFault) → netlist_of found.0 ≡ given → ⊥
@@ -185,16 +185,16 @@ module _ (words : List (List ℕ)) (outside : Outside) (told : Files) (are : out
   -- the third, where the words name one
   table_or : (scan : Option (List ℕ)) → ((name : List ℕ) → scan ≡ Some name → IsInputFile words name)
       → ((fault : Fault) → IsInputFault fault → IsScanCause scan outside.files outside.store_faults outside.store_faults fault → ⊥)
-      → ((rows : List ScanRow) → IsTableAt (Some told) scan rows → ⊥) → ⊥
+      → ((rows : List ScanRow) → IsTableAt (Some reported) scan rows → ⊥) → ⊥
   table_or None input none refutes = refutes [] refl
   table_or (Some name) input none refutes = by (within_or_past (length found.0) MAX_SCAN)
     where
-      found : (bytes : List ℕ) × (told name ≡ Some bytes)
+      found : (bytes : List ℕ) × (reported name ≡ Some bytes)
       found = bytes_of name (input name refl)
 
       read : length found.0 ≤ MAX_SCAN → (given : Result (List ScanRow) ℕ) → table_of found.0 ≡ given → ⊥
       read within (Ok rows) is = refutes rows (λ other same.
-          let one : told ≡ other = same_Some told other same in
+          let one : reported ≡ other = same_Some reported other same in
           subst (λ (it : Files). IsFileWith it name MAX_SCAN (IsTableOf rows)) one (file_with name found.0 MAX_SCAN found.1 (IsTableOf rows) within is))
       read within (Err row) is = none (Scan row) tt (inr (in_file name found.0 MAX_SCAN found.1 (IsRecordCause (Scan row)) within is))
 
@@ -202,17 +202,17 @@ module _ (words : List (List ℕ)) (outside : Outside) (told : Files) (are : out
       by (inl within) = read within (table_of found.0) refl
       by (inr past) = none (TooLong name (MAX_SCAN + 1)) tt (inl (too_long name found.0 MAX_SCAN found.1 past))
 
-  inputs_or : ((inputs : Inputs) → ReadAs (chip_files words) inputs told → ⊥) → ⊥
+  inputs_or : ((inputs : Inputs) → ReadAs (chip_files words) inputs reported → ⊥) → ⊥
   inputs_or refutes = cells_or (λ library cells has. netlist_or has (λ netlist tokens too.
       table_or (chip_files words).scan (λ name is. inr (inl (on, inr (inr is))))
       (λ fault is cause. no_load fault is (inl (inr (inr (has, (too, cause))))))
       (λ rows table. refutes (record { library = library; netlist = netlist; rows = rows })
       (record { library = cells; netlist = tokens; rows = table }))))
 
-  module _ (inputs : Inputs) (read : ReadAs (chip_files words) inputs told) where
+  module _ (inputs : Inputs) (read : ReadAs (chip_files words) inputs reported) where
     of_inputs : (Holds : Inputs → Type 0) → Holds inputs → OfInputs outside.files (chip_files words) Holds
     of_inputs Holds held = λ other same.
-        let one : other ≡ told = same_Some other told (sym same ∙ are) in
+        let one : other ≡ reported = same_Some other reported (sym same ∙ are) in
         subst (λ (it : Files). (inputs : Inputs) × (ReadAs (chip_files words) inputs it × Holds inputs)) (sym one) (inputs, (read, held))
 
     no_chip_cause : (fault : Fault) → IsInputFault fault → IsChipFault fault → IsChipCause fault inputs → ⊥
@@ -260,43 +260,43 @@ module _ (words : List (List ℕ)) (outside : Outside) (told : Files) (are : out
     kept : KeepsRules inputs.netlist inputs.library inputs.rows
     kept = none_broken inputs.netlist inputs.library inputs.rows no_first
 
-    answer : ((chip : LinkedChip) → IsChipOf inputs chip → IsTraced chip) → ((chip : LinkedChip) → IsChipOf inputs chip → FitsOwn words told chip) → ⊥
+    answer : ((chip : LinkedChip) → IsChipOf inputs chip → IsTraced chip) → ((chip : LinkedChip) → IsChipOf inputs chip → FitsOwn words reported chip) → ⊥
     answer traced own =
-        let fits : FitsChip words told = record {
+        let fits : FitsChip words reported = record {
           is = on;
           inputs = inputs;
           read = read;
           gives = record { kept = kept; chains = traced };
           own = own;
         } in
-        no_answer (inr (subst (λ it. IsSomeAnd it (λ told. FitsFile words told ⊎ FitsChip words told)) (sym are) (inr fits)))
+        no_answer (inr (subst (λ it. IsSomeAnd it (λ reported. FitsFile words reported ⊎ FitsChip words reported)) (sym are) (inr fits)))
 
     module _ (chip : LinkedChip) (is : IsChipOf inputs chip) (traced : IsTraced chip) where
       one : NamesOne chip
-      one = names_one (chip_files words) inputs told chip read is
+      one = names_one (chip_files words) inputs reported chip read is
 
       of_chip : (Holds : LinkedChip → Type 0) → Holds chip → OfChip outside.files (chip_files words) Holds
       of_chip Holds held = of_inputs (GiveChipWith Holds) (record { chip = chip; is = is; traced = traced; holds = held })
 
-      own_answer : ((also : LinkedChip) → AreOne chip also → NamesOne also → FitsOwn words told also) → ⊥
+      own_answer : ((also : LinkedChip) → AreOne chip also → NamesOne also → FitsOwn words reported also) → ⊥
       own_answer own = answer (λ also is_also. traced_also chip also (one_chip inputs chip also is is_also).alike traced)
-          (λ also is_also. own also (one_chip inputs chip also is is_also) (names_one (chip_files words) inputs told also read is_also))
+          (λ also is_also. own also (one_chip inputs chip also is is_also) (names_one (chip_files words) inputs reported also read is_also))
 
       at_flatten : IsFlatten words → ⊥
       at_flatten flatten = defect_or words chip one (λ fault cause.
-          let tells = defect_told (instance_word words) (chip_defect_word words) chip fault cause in
-          no_own fault tells.0 (inl (flatten, (tells.1, of_chip (λ chip. IsDefectCause chip (instance_word words) (chip_defect_word words) fault) cause))))
+          let reports = defect_reported (instance_word words) (chip_defect_word words) chip fault cause in
+          no_own fault reports.0 (inl (flatten, (reports.1, of_chip (λ chip. IsDefectCause chip (instance_word words) (chip_defect_word words) fault) cause))))
           (λ fits.
           let given = asked_given words chip flatten.defect fits in
-          own_answer (λ also same names. flatten_own words told also flatten (fits_defect words chip also same names given.0 given.1)))
+          own_answer (λ also same names. flatten_own words reported also flatten (fits_defect words chip also same names given.0 given.1)))
 
       at_simulate : IsSimulate words → ⊥
       at_simulate simulate = simulate_or words chip one (λ fault cause.
-          let tells = simulation_told (instance_word words) (chip_defect_word words) (chip_first_word words) (chip_last_word words) chip fault cause in
-          no_own fault tells.0 (inr (inl (
+          let reports = simulation_reported (instance_word words) (chip_defect_word words) (chip_first_word words) (chip_last_word words) chip fault cause in
+          no_own fault reports.0 (inr (inl (
             simulate,
             (
-              tells.1,
+              reports.1,
               of_chip (IsSimulationCause (instance_word words) (chip_defect_word words)
                   (chip_first_word words) (chip_last_word words) fault) cause,
             ),
@@ -304,18 +304,18 @@ module _ (words : List (List ℕ)) (outside : Outside) (told : Files) (are : out
           (λ fits.
           let given = asked_given words chip simulate.defect fits.defect in
           own_answer (λ also same names.
-          simulate_own words told also simulate (fits_simulate words chip also same names fits.first fits.last given.0 given.1)))
+          simulate_own words reported also simulate (fits_simulate words chip also same names fits.first fits.last given.0 given.1)))
 
       at_events : IsReplay words → (run : RunOf)
           → IsAskedRun (instance_word words) (chip_defect_word words) (chip_first_word words) (chip_last_word words) chip run → ⊥
       at_events replay run asked = by (within_or_past (length found.0) MAX_ORDER)
         where
-          found : (bytes : List ℕ) × (told (order_word words) ≡ Some bytes)
+          found : (bytes : List ℕ) × (reported (order_word words) ≡ Some bytes)
           found = bytes_of (order_word words) (inr (inr (replay, refl)))
 
           by : (length found.0 ≤ MAX_ORDER) ⊎ (MAX_ORDER < length found.0) → ⊥
           by (inl within) = events_or run found.0
-              (λ events reads. own_answer (λ also same names. replay_own words told also replay (record {
+              (λ events reads. own_answer (λ also same names. replay_own words reported also replay (record {
                 pair = fits_run words chip also same names run asked;
                 events = file_with (order_word words) found.0 MAX_ORDER found.1 (HasEvents words also) within
                     (has_events words chip also same names found.0 run asked events reads);
@@ -338,11 +338,11 @@ module _ (words : List (List ℕ)) (outside : Outside) (told : Files) (are : out
 
       at_replay : IsReplay words → ⊥
       at_replay replay = simulate_or words chip one (λ fault cause.
-          let tells = simulation_told (instance_word words) (chip_defect_word words) (chip_first_word words) (chip_last_word words) chip fault cause in
-          no_own fault tells.0 (inr (inr (inr (
+          let reports = simulation_reported (instance_word words) (chip_defect_word words) (chip_first_word words) (chip_last_word words) chip fault cause in
+          no_own fault reports.0 (inr (inr (inr (
             replay,
             inl (
-              tells.1,
+              reports.1,
               of_chip (IsSimulationCause (instance_word words) (chip_defect_word words)
                   (chip_first_word words) (chip_last_word words) fault) cause,
             ),
@@ -350,18 +350,18 @@ module _ (words : List (List ℕ)) (outside : Outside) (told : Files) (are : out
           (λ fits. let run = has_run words chip replay.defect fits in at_events replay run.0 run.1)
 
       at_chip : IsOnChip words → ⊥
-      at_chip (inl check) = own_answer (λ also same names. check_own words told also check)
+      at_chip (inl check) = own_answer (λ also same names. check_own words reported also check)
       at_chip (inr (inl flatten)) = at_flatten flatten
       at_chip (inr (inr (inl simulate))) = at_simulate simulate
-      at_chip (inr (inr (inr (inl atpg)))) = own_answer (λ also same names. atpg_own words told also atpg)
+      at_chip (inr (inr (inr (inl atpg)))) = own_answer (λ also same names. atpg_own words reported also atpg)
       at_chip (inr (inr (inr (inr replay)))) = at_replay replay
 
     at_inputs : ⊥
     at_inputs = either ((chip : LinkedChip) × IsChipOf inputs chip) (λ found. elim found [
       | inr none ↦ answer (λ chip is. absurd (none (chip, is))) (λ chip is. absurd (none (chip, is)))
       | inl it ↦ traced_or it.0 (λ fault cause.
-          let tells = tracing_told it.0 fault cause in
-          no_chip_cause fault tells.0 tells.1 (inr (record { chip = it.0; is = it.1; cause = cause })))
+          let reports = tracing_reported it.0 fault cause in
+          no_chip_cause fault reports.0 reports.1 (inr (record { chip = it.0; is = it.1; cause = cause })))
           (λ traced. at_chip it.0 it.1 traced on)
     ])
 
@@ -369,12 +369,12 @@ module _ (words : List (List ℕ)) (outside : Outside) (told : Files) (are : out
   neither = inputs_or at_inputs
 
 -- not neither
-pub never_neither : (words : List (List ℕ)) (outside : Outside) → TellsAllFiles words outside → IsOnChip words
+pub never_neither : (words : List (List ℕ)) (outside : Outside) → ReportsAllFiles words outside → IsOnChip words
     → ¬ (¬ (IsAnswerable words outside.files ⊎ HasInputCause words outside))
-never_neither words outside tells on refutes = by outside.files refl tells
+never_neither words outside reports on refutes = by outside.files refl reports
   where
     by : (files : Option Files) → outside.files ≡ files
-        → IsSomeAnd files (λ told. (name : List ℕ) → IsInputFile words name → IsSome (told name)) → ⊥
-    by None are tells = tells
-    by (Some told) are tells =
-        neither words outside told are on tells (λ answer. refutes (inl answer)) (λ fault is cause. refutes (inr (fault, (is, cause))))
+        → IsSomeAnd files (λ reported. (name : List ℕ) → IsInputFile words name → IsSome (reported name)) → ⊥
+    by None are reports = reports
+    by (Some reported) are reports =
+        neither words outside reported are on reports (λ answer. refutes (inl answer)) (λ fault is cause. refutes (inr (fault, (is, cause))))

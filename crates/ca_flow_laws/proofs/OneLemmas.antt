@@ -35,9 +35,9 @@ one_back chip also are = record { alike = alike_back chip also are.alike; core =
 abbrev pub NamesOne : LinkedChip → Type 0
 NamesOne chip = (name : List ℕ) (u v : ℕ) → IsNamedGate chip name u → IsNamedGate chip name v → u ≡ v
 
-pub names_one : (names : InputFiles) (inputs : Inputs) (told : Files) (chip : LinkedChip) → ReadAs names inputs told → IsChipOf inputs chip → NamesOne chip
-names_one names inputs told chip read is =
-    one_named inputs.netlist inputs.library inputs.rows chip is.link (by (told names.netlist) read.netlist)
+pub names_one : (names : InputFiles) (inputs : Inputs) (reported : Files) (chip : LinkedChip) → ReadAs names inputs reported → IsChipOf inputs chip → NamesOne chip
+names_one names inputs reported chip read is =
+    one_named inputs.netlist inputs.library inputs.rows chip is.link (by (reported names.netlist) read.netlist)
   where
     by : (there : Option (List ℕ)) → IsSomeAnd there (λ bytes. (length bytes ≤ MAX_NETLIST) × IsNetlistOf inputs.netlist bytes)
         → HaveNames inputs.netlist

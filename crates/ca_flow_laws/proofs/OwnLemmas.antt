@@ -47,15 +47,15 @@ AtPair instance defect first last chip fault =
     AtVectors first last chip fault ⊎ ((FitsInputs chip first × FitsInputs chip last) × AtDefect instance defect chip fault)
 
 -- what is reported of a text of events
-abbrev pub TellsLine : List ℕ → List ℕ → List ℕ → List ℕ → LinkedChip → Fault → List ℕ → Type 0
-TellsLine instance defect first last chip fault bytes =
+abbrev pub ReportsLine : List ℕ → List ℕ → List ℕ → List ℕ → LinkedChip → Fault → List ℕ → Type 0
+ReportsLine instance defect first last chip fault bytes =
     (line : ℕ) × ((fault ≡ Order line) × HasFaultyLine instance defect first last line chip bytes)
 
 -- what is reported of the file of events, where the words name a run
 abbrev pub AtOrder : List ℕ → List ℕ → List ℕ → List ℕ → List ℕ → Files → LinkedChip → Fault → Type 0
 AtOrder instance defect first last order given chip fault =
     HasRun instance defect first last chip
-    × AtFile MAX_ORDER order (TellsLine instance defect first last chip) (given order) fault
+    × AtFile MAX_ORDER order (ReportsLine instance defect first last chip) (given order) fault
 
 -- what is reported of all of these
 abbrev pub AtRun : List ℕ → List ℕ → List ℕ → List ℕ → List ℕ → Files → LinkedChip → Fault → Type 0
@@ -137,8 +137,8 @@ module _ (chip also : LinkedChip) (are : AreOne chip also) where
   order_also instance defect first last order given fault ((run, asked), at) =
       ((run, run_also chip also are instance defect first last run asked), by (given order) at)
     where
-      by : (file : Option (List ℕ)) → AtFile MAX_ORDER order (TellsLine instance defect first last chip) file fault
-          → AtFile MAX_ORDER order (TellsLine instance defect first last also) file fault
+      by : (file : Option (List ℕ)) → AtFile MAX_ORDER order (ReportsLine instance defect first last chip) file fault
+          → AtFile MAX_ORDER order (ReportsLine instance defect first last also) file fault
       by None at = absurd at
       by (Some bytes) (inl long) = inl long
       by (Some bytes) (inr (within, (line, (is, faulty)))) = inr (
@@ -221,9 +221,9 @@ module _ (chip : LinkedChip) where
       no_pair run fault asked (inl vectors) = no_vectors first last fault asked.first_fits asked.last_fits vectors
       no_pair run fault asked (inr (fits, at)) = no_defect asked.given fault asked.asked at
 
-      one_tells : (bytes : List ℕ) (fault other : Fault) → TellsLine instance defect first last chip fault bytes
-          → TellsLine instance defect first last chip other bytes → fault ≡ other
-      one_tells bytes fault other (line, (is, faulty)) (also, (is_also, faulty_also)) =
+      one_reports : (bytes : List ℕ) (fault other : Fault) → ReportsLine instance defect first last chip fault bytes
+          → ReportsLine instance defect first last chip other bytes → fault ≡ other
+      one_reports bytes fault other (line, (is, faulty)) (also, (is_also, faulty_also)) =
           let run : faulty.run ≡ faulty_also.run = one_run faulty.run faulty_also.run faulty.asked faulty_also.asked in
           let there : IsFaultyLine faulty_also.run line bytes =
           subst (λ it. IsFaultyLine it line bytes) run faulty.faulty in
@@ -234,5 +234,5 @@ module _ (chip : LinkedChip) where
       one_at_run order given = one_of ◌≡◌ (AtPair instance defect first last chip) (AtOrder instance defect first last order given chip)
           (one_pair instance defect first last)
           (λ fault other here there.
-          one_at_file MAX_ORDER order (TellsLine instance defect first last chip) one_tells (given order) fault other here.1 there.1)
+          one_at_file MAX_ORDER order (ReportsLine instance defect first last chip) one_reports (given order) fault other here.1 there.1)
           (λ fault other here there. no_pair there.0.0 fault there.0.1 here)

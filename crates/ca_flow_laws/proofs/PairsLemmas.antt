@@ -14,7 +14,7 @@ use Rattle.ca_on_cell.specs.Causes.{IsCellCause, IsValueCause}
 use Rattle.ca_on_chip.specs.OnChip.{OfChip, IsPairsFault, IsPairsCause}
 use Rattle.ca_flow.specs.Fault.{Outside, IsOwnCause, IsWorkCause, IsCause}
 use Rattle.ca_flow_laws.specs.Same.{IsInputFault, IsCallFault}
-use Rattle.ca_flow_laws.specs.Told.{IsInputFile, TellsFiles}
+use Rattle.ca_flow_laws.specs.Reported.{IsInputFile, ReportsFiles}
 use Rattle.ca_flow_laws.proofs.LoadLemmas.{read_given, no_load}
 use Rattle.ca_flow_laws.proofs.ChipLemmas.{atpg_or_flatten, atpg_or_simulate, atpg_or_replay, AtOwn}
 use Rattle.ca_flow_laws.proofs.ExactLemmas.{AtWords, of_cause}
@@ -105,28 +105,28 @@ no_own_words words given chip fault is (inr (inr (replay, at))) = atpg_or_replay
 
 module _ (words : List (List ℕ)) (given : Files) (other : Fault) where
   -- a chip that has too many pairs is one of which nothing is reported
-  no_words : (files : Option Files) (told : Files) → files ≡ Some told → ((name : List ℕ) → IsInputFile words name → told name ≡ given name)
+  no_words : (files : Option Files) (reported : Files) → files ≡ Some reported → ((name : List ℕ) → IsInputFile words name → reported name ≡ given name)
       → (fault : Fault) → IsGenerating words files fault → AtWords words given other → ⊥
-  no_words files told are agree fault (inl (is, found)) (inl bad) = bad.0 (inr (inl (inr (inr (inr (inl is))))))
-  no_words files told are agree fault (inl (is, found)) (inr (inl cell)) = no_chip words cell.0 (inr (inr (inr (inl is))))
-  no_words files told are agree fault (inl (is, found)) (inr (inr (on, inl load))) =
-      let it = found.1 told are in
+  no_words files reported are agree fault (inl (is, found)) (inl bad) = bad.0 (inr (inl (inr (inr (inr (inl is))))))
+  no_words files reported are agree fault (inl (is, found)) (inr (inl cell)) = no_chip words cell.0 (inr (inr (inr (inl is))))
+  no_words files reported are agree fault (inl (is, found)) (inr (inr (on, inl load))) =
+      let it = found.1 reported are in
       no_load (chip_files words) given it.0
-      (read_given files told are (chip_files words) given (λ name same. agree name (inr (inl (on, same)))) it.0 it.1.0)
+      (read_given files reported are (chip_files words) given (λ name same. agree name (inr (inl (on, same)))) it.0 it.1.0)
       it.1.1.chip it.1.1.is it.1.1.traced other load
-  no_words files told are agree fault (inl (is, found)) (inr (inr (on, inr own))) =
+  no_words files reported are agree fault (inl (is, found)) (inr (inr (on, inr own))) =
       no_own_words words given own.1.1.chip other is own.1.1.at
-  no_words files told are agree fault (inr make) (inl bad) = bad.0 (inr (inr (inr (inr make))))
-  no_words files told are agree fault (inr make) (inr (inl cell)) = no_asking_cell words (inr (inr make)) cell.0
-  no_words files told are agree fault (inr make) (inr (inr chip)) = no_asking_chip words (inr (inr make)) chip.0
+  no_words files reported are agree fault (inr make) (inl bad) = bad.0 (inr (inr (inr (inr make))))
+  no_words files reported are agree fault (inr make) (inr (inl cell)) = no_asking_cell words (inr (inr make)) cell.0
+  no_words files reported are agree fault (inr make) (inr (inr chip)) = no_asking_chip words (inr (inr make)) chip.0
 
 -- where a fault of input has a cause none with pairs has one
-pub no_pairs : (words : List (List ℕ)) (given : Files) (before after again later : Outside) (fault other : Fault) → TellsFiles words given before
-    → TellsFiles words given again → IsPairsFault fault → IsInputFault other → IsCause words before after fault → IsCause words again later other → ⊥
-no_pairs words given before after again later fault other tells tells_too many is cause cause_too = by before.files refl tells
+pub no_pairs : (words : List (List ℕ)) (given : Files) (before after again later : Outside) (fault other : Fault) → ReportsFiles words given before
+    → ReportsFiles words given again → IsPairsFault fault → IsInputFault other → IsCause words before after fault → IsCause words again later other → ⊥
+no_pairs words given before after again later fault other reports reports_too many is cause cause_too = by before.files refl reports
   where
     by : (files : Option Files) → before.files ≡ files
-        → IsSomeAnd files (λ told. (name : List ℕ) → IsInputFile words name → told name ≡ given name) → ⊥
-    by None are tells = tells
-    by (Some told) are tells = no_words words given other before.files told are tells fault (generates words before after fault many cause)
-        (of_cause words given again later other tells_too is cause_too)
+        → IsSomeAnd files (λ reported. (name : List ℕ) → IsInputFile words name → reported name ≡ given name) → ⊥
+    by None are reports = reports
+    by (Some reported) are reports = no_words words given other before.files reported are reports fault (generates words before after fault many cause)
+        (of_cause words given again later other reports_too is cause_too)

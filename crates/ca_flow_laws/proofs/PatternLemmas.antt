@@ -41,9 +41,9 @@ with_inputs : (files : Option Files) (words : List (List ℕ)) (chip : LinkedChi
     → IsChipOfFiles files (chip_files words) chip
     → (inputs : Inputs) × IsNamedLink inputs.netlist inputs.library inputs.rows chip
 with_inputs None words chip ports some held = absurd cc
-with_inputs (Some told) words chip ports some held =
-    let found = held told refl in
-    (found.0, named ports found.0 chip found.1.1 (told (chip_files words).netlist) _ found.1.0.netlist)
+with_inputs (Some reported) words chip ports some held =
+    let found = held reported refl in
+    (found.0, named ports found.0 chip found.1.1 (reported (chip_files words).netlist) _ found.1.0.netlist)
 
 -- what is done is what was asked
 asked_of : (words : List (List ℕ)) (files : Option Files) (done : Option Done) (it : Done) → done ≡ Some it

@@ -29,7 +29,7 @@ use Rattle.ca_spice.specs.Names.{is_text, is_name}
 use Rattle.ca_spice.specs.PinInfo as info
 use Rattle.ca_spice.specs.Mos.{Wiring, has_gate, kind_of, wiring_with, wiring_of, are_sound}
 use Rattle.ca_spice.specs.OpenCell.{OpenCell, pin_of, new_cell, with_pins, has_roles, pin_info, with_drain, with_gate, with_source, device_of}
-use Rattle.ca_spice.specs.OpenCell.{mos, pins_behind, is_ended_by, subcircuit_with, ended}
+use Rattle.ca_spice.specs.OpenCell.{mos, pins_after, is_ended_by, subcircuit_with, ended}
 use Rattle.ca_spice.specs.Reading.{Reading, Step, nothing, is_outside, has_cell, with_open, is_header, named, subckt, goes_on, in_cell, with_cell}
 use Rattle.ca_spice.specs.Reading.{ends, card_step, is_stray, is_comment, judged, words_step, line_step, at_line, lines_from, library_from}
 use Rattle.ca_spice.specs.Reading.{library_of}
@@ -209,9 +209,9 @@ module _ (most more : ℕ) (up : most + 3 ≤ more) (few : more < 2 ^ 32) where
   ended_held : (words : List (List ℕ)) (cell : OpenCell) (made : _) → ended words cell ≡ Ok made → IsHeld most cell → IsPlacedCell made.raw
   unfolding ended
   ended_held words cell made is held =
-      by (pins_behind [] cell.pins) refl (kept_rule (not (is_ended_by words cell.name)) BadCard (subcircuit_with cell (pins_behind [] cell.pins)) made is).1
+      by (pins_after [] cell.pins) refl (kept_rule (not (is_ended_by words cell.name)) BadCard (subcircuit_with cell (pins_after [] cell.pins)) made is).1
     where
-      by : (given : Option (List RawPin)) → pins_behind [] cell.pins ≡ given → subcircuit_with cell given ≡ Ok made → IsPlacedCell made.raw
+      by : (given : Option (List RawPin)) → pins_after [] cell.pins ≡ given → subcircuit_with cell given ≡ Ok made → IsPlacedCell made.raw
       by None found is = absurd cc
       by (Some pins) found is =
           let same : record { name = cell.name; raw = record { pins = pins; nets = cell.nets; devices = cell.devices } } ≡ made = cc in
@@ -317,24 +317,24 @@ AreRaw reading = AllByRecursion (λ cell. IsRaw cell.raw) reading.cells
 -- the subcircuits of a text that is no longer than it may be are
 pub raw_cells : (bytes : List ℕ) (read : Reading) → length bytes ≤ MAX_CELLS → library_of bytes ≡ Ok read.cells → AreRaw read
 unfolding library_from
-raw_cells bytes read within told = by (lines_from nothing (spice_lines bytes)) refl told
+raw_cells bytes read within reported = by (lines_from nothing (spice_lines bytes)) refl reported
   where
     by_limit : (reading : Reading) → ArePlaced reading → (many : Bool)
         → cond many (Err (TooManyCells (length reading.cells))) (Ok reading.cells) ≡ Ok read.cells → AreRaw read
-    by_limit reading held true told = absurd cc
-    by_limit reading held false told =
+    by_limit reading held true reported = absurd cc
+    by_limit reading held false reported =
         let same : reading.cells ≡ read.cells = cc in
         let placed : ArePlaced read = subst (AllByRecursion (λ cell. IsPlacedCell cell.raw)) same held in
         all_weaker (λ cell. IsPlacedCell cell.raw) (λ cell. IsRaw cell.raw) (λ cell. IsPlaced-IsRaw cell.raw) read.cells placed
 
     by_current : (reading : Reading) → ArePlaced reading → (current : Option OpenCell)
         → library_from (Ok (record { cells = reading.cells; current = current })) ≡ Ok read.cells → AreRaw read
-    by_current reading held None told = by_limit reading held (nat_lt MOST_CELLS (length reading.cells)) told
-    by_current reading held (Some cell) told = absurd cc
+    by_current reading held None reported = by_limit reading held (nat_lt MOST_CELLS (length reading.cells)) reported
+    by_current reading held (Some cell) reported = absurd cc
 
     by : (given : Result Reading SpiceFault) → lines_from nothing (spice_lines bytes) ≡ given → library_from given ≡ Ok read.cells → AreRaw read
-    by (Err fault) is told = absurd cc
-    by (Ok reading) is told =
+    by (Err fault) is reported = absurd cc
+    by (Ok reading) is reported =
         let weight = text_weight bytes in
         let few : 0 + weights_of (spice_lines bytes) < 2 ^ 32 = omega (arith, weight, within) in
-        by_current reading (lines_held (spice_lines bytes) 0 nothing reading few is (record { cells = tt; current = tt })).cells reading.current told
+        by_current reading (lines_held (spice_lines bytes) 0 nothing reading few is (record { cells = tt; current = tt })).cells reading.current reported

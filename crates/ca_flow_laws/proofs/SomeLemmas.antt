@@ -32,7 +32,7 @@ use Rattle.ca_on_cell.specs.Causes.{BreaksAt}
 use Rattle.ca_on_cell.specs.Causes.{IsPairCause, IsVectorCause, IsCellCause}
 use Rattle.ca_flow.specs.Complete.{FitsCell, IsAnswerable}
 use Rattle.ca_flow_laws.specs.Same.{IsInputFault}
-use Rattle.ca_flow_laws.specs.Told.{IsInputFile, TellsAllFiles}
+use Rattle.ca_flow_laws.specs.Reported.{IsInputFile, ReportsAllFiles}
 use Rattle.ca_flow_laws.specs.Laws.{HasInputCause}
 use Rattle.ca_flow_laws.proofs.CellLemmas.{respond_or_pair}
 use Rattle.ca_flow_laws.proofs.FitsLemmas.{respond_or_defects, pair_or_defects, pair_or_matrix, respond_or_matrix}
@@ -51,7 +51,7 @@ same_or_other a b = elim (dec_le a b) [
   ]
 ]
 
-some_or_none : {A : Type 0} (told : Option A) → IsSome told ⊎ IsNone told
+some_or_none : {A : Type 0} (reported : Option A) → IsSome reported ⊎ IsNone reported
 some_or_none None = inr refl
 some_or_none (Some it) = inl refl
 
@@ -59,8 +59,8 @@ some_or_none (Some it) = inl refl
 abbrev Stands : List (List ℕ) → Outside → Type 0
 Stands words outside = IsAnswerable words outside.files ⊎ HasInputCause words outside
 
-module _ (words : List (List ℕ)) (bytes : List ℕ) (outside : Outside) (told : Files) (are : outside.files ≡ Some told)
-    (there : told (cells_word words) ≡ Some bytes) (command : IsOnCell words) where
+module _ (words : List (List ℕ)) (bytes : List ℕ) (outside : Outside) (reported : Files) (are : outside.files ≡ Some reported)
+    (there : reported (cells_word words) ≡ Some bytes) (command : IsOnCell words) where
   -- a cause of finding the cell is one of each command
   cell_cause : (fault : Fault) → IsInputFault fault
       → IsCellCause (cells_word words) (cell_word words) outside.files outside.store_faults outside.store_faults fault → Stands words outside
@@ -77,7 +77,7 @@ module _ (words : List (List ℕ)) (bytes : List ℕ) (outside : Outside) (told 
     refl,
     record {
       past = λ other is.
-          let same : other ≡ told = same_Some other told (sym is ∙ are) in
+          let same : other ≡ reported = same_Some other reported (sym is ∙ are) in
           rw (same, there) past;
       one_more = refl;
       quiet = refl;
@@ -88,7 +88,7 @@ module _ (words : List (List ℕ)) (bytes : List ℕ) (outside : Outside) (told 
     -- what holds of the bytes holds of the file
     of_bytes : (P : List ℕ → Type 0) → P bytes → OfFile outside.files (cells_word words) P
     of_bytes P holds = λ other is.
-        let same : other ≡ told = same_Some other told (sym is ∙ are) in
+        let same : other ≡ reported = same_Some other reported (sym is ∙ are) in
         rw (same, there) (within, holds)
 
     at_fault : (fault : SpiceFault) → library_of bytes ≡ Err fault → Stands words outside
@@ -199,20 +199,20 @@ of_command words not_chip (inr (inl chip)) = absurd (not_chip chip)
 of_command words not_chip (inr (inr asks)) = inr asks
 
 -- a command on a cell whose file is there can be answered, or a fault of input has a cause
-pub some_cause : (words : List (List ℕ)) (outside : Outside) → TellsAllFiles words outside → ¬ (IsOnChip words) → IsCommand words
+pub some_cause : (words : List (List ℕ)) (outside : Outside) → ReportsAllFiles words outside → ¬ (IsOnChip words) → IsCommand words
     → IsAnswerable words outside.files ⊎ HasInputCause words outside
-some_cause words outside tells not_chip command = by_command (of_command words not_chip command)
+some_cause words outside reports not_chip command = by_command (of_command words not_chip command)
   where
-    by_bytes : IsOnCell words → (told : Files) → outside.files ≡ Some told → (file : Option (List ℕ)) → told (cells_word words) ≡ file → IsSome file
+    by_bytes : IsOnCell words → (reported : Files) → outside.files ≡ Some reported → (file : Option (List ℕ)) → reported (cells_word words) ≡ file → IsSome file
         → Stands words outside
-    by_bytes on told are None there some = absurd (true≢false (sym some))
-    by_bytes on told are (Some bytes) there some = stands words bytes outside told are there on
+    by_bytes on reported are None there some = absurd (true≢false (sym some))
+    by_bytes on reported are (Some bytes) there some = stands words bytes outside reported are there on
 
     by : IsOnCell words → (files : Option Files) → outside.files ≡ files
-        → IsSomeAnd files (λ told. (name : List ℕ) → IsInputFile words name → IsSome (told name)) → Stands words outside
-    by on None are tells = absurd tells
-    by on (Some told) are tells = by_bytes on told are (told (cells_word words)) refl (tells (cells_word words) (inl (on, refl)))
+        → IsSomeAnd files (λ reported. (name : List ℕ) → IsInputFile words name → IsSome (reported name)) → Stands words outside
+    by on None are reports = absurd reports
+    by on (Some reported) are reports = by_bytes on reported are (reported (cells_word words)) refl (reports (cells_word words) (inl (on, refl)))
 
     by_command : IsOnCell words ⊎ AsksNoFile words → Stands words outside
-    by_command (inl on) = by on outside.files refl tells
+    by_command (inl on) = by on outside.files refl reports
     by_command (inr asks) = inl (inl asks)

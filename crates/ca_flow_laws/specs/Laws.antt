@@ -12,14 +12,14 @@ use Rattle.ca_flow.specs.Fault.{Outside, IsCause}
 use Rattle.ca_flow.specs.Complete.{IsAnswerable}
 use Rattle.ca_flow.specs.Ends.{Ends}
 use Rattle.ca_flow_laws.specs.Same.{IsInputFault, IsCallFault, IsSame}
-use Rattle.ca_flow_laws.specs.Told.{TellsFiles, TellsAllFiles}
+use Rattle.ca_flow_laws.specs.Reported.{ReportsFiles, ReportsAllFiles}
 
 -- of one list of words and one set of files at most one fault of input has a cause, but that of several loops
 -- each has, whatever else the store holds and however often calls failed
 abbrev pub HasOneCause : List (List ℕ) → Files → Type 0
 HasOneCause words files =
     (before after again later : Outside) (fault other : Fault)
-    → TellsFiles words files before → TellsFiles words files again → IsInputFault fault → IsInputFault other
+    → ReportsFiles words files before → ReportsFiles words files again → IsInputFault fault → IsInputFault other
     → IsCause words before after fault → IsCause words again later other
     → IsSame fault other
 
@@ -36,23 +36,23 @@ HasInputCause words outside = (fault : Fault) × (IsInputFault fault × IsCause 
 -- a command, but one on a chip, whose file is there can be answered, or a fault of input has a cause
 abbrev pub SomeCauseOrAnswer : Type 0
 SomeCauseOrAnswer =
-    (words : List (List ℕ)) (outside : Outside) → TellsAllFiles words outside
+    (words : List (List ℕ)) (outside : Outside) → ReportsAllFiles words outside
     → ¬ (IsOnChip words) → IsCommand words → IsAnswerable words outside.files ⊎ HasInputCause words outside
 
 -- of a command on a chip whose files are there it can't be that neither holds; which of them does isn't
 -- decided among the definitions
 abbrev pub NeverNeitherOnChip : Type 0
 NeverNeitherOnChip =
-    (words : List (List ℕ)) (outside : Outside) → TellsAllFiles words outside → IsOnChip words
+    (words : List (List ℕ)) (outside : Outside) → ReportsAllFiles words outside → IsOnChip words
     → ¬ (¬ (IsAnswerable words outside.files ⊎ HasInputCause words outside))
 
 -- a command of whose words and files a fault of input has a cause ends with this fault, or with another loop
 -- where it reports one, or with a fault of the store, the output or memory
-abbrev pub CauseIsTold : Type 0
-CauseIsTold =
+abbrev pub CauseIsReported : Type 0
+CauseIsReported =
     (words : List (List ℕ)) (files : Files) (before after : Outside) (end : Finished) (fault : Fault)
-    → TellsFiles words files before → Ends words before after end → IsInputFault fault
-    → IsCause words before after fault → IsSomeAnd end.fault (λ told. IsCallFault told ⊎ IsSame told fault)
+    → ReportsFiles words files before → Ends words before after end → IsInputFault fault
+    → IsCause words before after fault → IsSomeAnd end.fault (λ reported. IsCallFault reported ⊎ IsSame reported fault)
 
 -- of each cell that a word names in a text, and that keeps the rules, the defects have names that differ
 abbrev pub NamesMeanOneDefect : Type 0

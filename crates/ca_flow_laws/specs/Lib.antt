@@ -1,5 +1,5 @@
 -- What the contracts of this crate say, in reading order.
 pub mod Same
-pub mod Told
+pub mod Reported
 pub mod Laws
 pub mod Patterns

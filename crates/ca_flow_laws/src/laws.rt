@@ -3,7 +3,7 @@
 ghost use Rattle.std.specs.Prelude.{ℕ, List};
 ghost use Rattle.ca_store.specs.Store.{Files};
 ghost use Rattle.ca_flow_laws.specs.Laws.{HasOneCause, AnswerableHasNoCause, SomeCauseOrAnswer};
-ghost use Rattle.ca_flow_laws.specs.Laws.{CauseIsTold, NamesMeanOneDefect, NeverNeitherOnChip};
+ghost use Rattle.ca_flow_laws.specs.Laws.{CauseIsReported, NamesMeanOneDefect, NeverNeitherOnChip};
 
 /// Of one list of words and one set of files at most one fault of the words or of the contents has a cause;
 /// of several loops each has.
@@ -29,8 +29,8 @@ pub fn never_neither_on_chip()
 
 /// Where a fault of the words or of the contents has a cause, a command doesn't end well, and reports no
 /// other such fault; of several loops it may report any.
-pub fn cause_is_told()
-    ensures { CauseIsTold }
+pub fn cause_is_reported()
+    ensures { CauseIsReported }
 {}
 
 /// A name means one defect of a cell that was read, on the command line and in the header of a matrix's file.

@@ -142,8 +142,8 @@ fn what_an_output_does_not_take_is_still_done(rt: HostRuntime) -> Result<(), Fai
 
 #[test]
 fn out_of_memory_has_its_line(rt: HostRuntime) -> Result<(), Fail> {
-    let mut told = MemSink::new(rt.alloc(), 100, FailList::new(rt.alloc()))?;
-    assert_eq!(rt; tell(&Fault::NoMemory, &mut told), 5);
-    assert_eq!(rt; told.bytes(), b"cellaware: out of memory\n".as_slice());
+    let mut reported = MemSink::new(rt.alloc(), 100, FailList::new(rt.alloc()))?;
+    assert_eq!(rt; tell(&Fault::NoMemory, &mut reported), 5);
+    assert_eq!(rt; reported.bytes(), b"cellaware: out of memory\n".as_slice());
     Ok(())
 }

@@ -12,7 +12,7 @@ use Rattle.ca_flat.specs.declared.token.Token.{Token}
 use Rattle.ca_flat.specs.declared.token.Token.TheVariants.{Branch, Leaf}
 use Rattle.ca_flat.specs.Chip.{Chip}
 use Rattle.ca_flat.specs.Pair.{bit_count}
-use Rattle.ca_flat.specs.Codes.{Reading, At, Ended, unset_pair, bit_trit, behind, Rules, Reads, IsFrontBy}
+use Rattle.ca_flat.specs.Codes.{Reading, At, Ended, unset_pair, bit_trit, following, Rules, Reads, IsFrontBy}
 use Rattle.ca_flat.specs.Codes.{IsWholeCode}
 use Rattle.ca_flat.proofs.Codes.{whole_is_ruled_out_lem}
 use Rattle.ca_credit.specs.Defects.{Task}
@@ -33,18 +33,18 @@ abbrev ReadsOf : ℕ → Reading → Type 0
 ReadsOf count (At pair later) = (length pair ≡ count) × AllOf count later
 ReadsOf count Ended = Unit {0}
 
-behind_of : (count : ℕ) (token : Token) (pair : List Trit) (later : List (List Trit)) → length pair ≡ count → AllOf count later
-    → ReadsOf count (behind token pair later)
-behind_of count (Branch bit first) pair later sized all =
+after_of : (count : ℕ) (token : Token) (pair : List Trit) (later : List (List Trit)) → length pair ≡ count → AllOf count later
+    → ReadsOf count (following token pair later)
+after_of count (Branch bit first) pair later sized all =
     (length-set pair bit (bit_trit first) ∙ sized, (length-set pair bit (bit_trit (not first)) ∙ sized, all))
-behind_of count Leaf pair [] sized all = tt
-behind_of count Leaf pair (next ∷ later) sized all = all
+after_of count Leaf pair [] sized all = tt
+after_of count Leaf pair (next ∷ later) sized all = all
 
 reads_of : (rules : Rules) (count : ℕ) (tokens : List Token) (from to : Reading) → ReadsOf count from → Reads rules tokens from to
     → ReadsOf count to
 reads_of rules count [] from to sized reads = subst (ReadsOf count) reads sized
 reads_of rules count (token ∷ tokens) (At pair later) to sized reads =
-    reads_of rules count tokens (behind token pair later) to (behind_of count token pair later sized.0 sized.1) reads.1
+    reads_of rules count tokens (following token pair later) to (after_of count token pair later sized.0 sized.1) reads.1
 reads_of rules count (token ∷ tokens) Ended to sized reads = absurd reads
 
 -- the next partial pair of a front has a value for each bit

@@ -37,7 +37,7 @@ pub fn generate<B: Bench, T: Watch>(
     let count = bench.defect_count();
     for place in 0..count {
         work = work.take_turn(alloc, bench, place)?;
-        watch.told(place + 1, count);
+        watch.reported(place + 1, count);
     }
     Ok(Generated {
         pairs: work.pairs,

@@ -3,7 +3,7 @@
 /// Hears how far test generation is.
 pub trait Watch {
     /// `done` of `of` defects have had their turn.
-    fn told(&mut self, done: usize, of: usize);
+    fn reported(&mut self, done: usize, of: usize);
 }
 
 /// Hears it and does nothing.
@@ -11,5 +11,5 @@ pub trait Watch {
 pub struct Unwatched;
 
 impl Watch for Unwatched {
-    fn told(&mut self, _done: usize, _of: usize) {}
+    fn reported(&mut self, _done: usize, _of: usize) {}
 }

@@ -6,7 +6,7 @@ ghost use Rattle.std.specs.List.{All};
 ghost use Rattle.ca_flat.specs.Pair.{bit_count};
 
 use crate::chips::{C17, INV, ONE_BRANCH};
-use crate::told::{summary, verdict};
+use crate::reported::{summary, verdict};
 use crate::worked::linked;
 use ca_base::NoMemory;
 use ca_choice::CheapestWay;
@@ -148,7 +148,7 @@ fn answer<B: Bench>(alloc: Global, bench: &mut B, pairs: &[Pair], asked: Asked) 
 
 // What is reported about a bench: its answer, how often one aimed, and how often an instance was evaluated.
 #[derive(Drop)]
-struct Told {
+struct Reported {
     text: Option<Text>,
     aims: u64,
     evaluations: u64,
@@ -165,7 +165,7 @@ fn tell_over<P: Choice + Drop>(
     pairs: &[Pair],
     bits: usize,
     asked: Asked,
-) -> Result<Told, NoMemory>
+) -> Result<Reported, NoMemory>
     requires rows { rows.now.chip ≡ view.now.chip }
     requires bits { All (λ pair. length pair ≡ bits) pairs.now }
     requires numbers { length pairs.now < 2 ^ 32 }
@@ -176,13 +176,13 @@ fn tell_over<P: Choice + Drop>(
     }
     let mut bench = ChipBench::reserve(alloc, view, rows, choice, budget)?;
     let text = answer(alloc, &mut bench, pairs, asked);
-    let told = Told {
+    let reported = Reported {
         text,
         aims: bench.aim_count(),
         evaluations: bench.evaluation_count(),
     };
     drop(bench);
-    Ok(told)
+    Ok(reported)
 }
 
 // The same with the choice that is asked for.
@@ -194,7 +194,7 @@ fn tell_by_choice(
     pairs: &[Pair],
     bits: usize,
     asked: Asked,
-) -> Result<Told, NoMemory>
+) -> Result<Reported, NoMemory>
     requires rows { rows.now.chip ≡ view.now.chip }
     requires bits { All (λ pair. length pair ≡ bits) pairs.now }
     requires numbers { length pairs.now < 2 ^ 32 }
@@ -214,14 +214,14 @@ fn tell_by_rows(
     pairs: &[Pair],
     bits: usize,
     asked: Asked,
-) -> Result<Told, NoMemory>
+) -> Result<Reported, NoMemory>
     requires bits { All (λ pair. length pair ≡ bits) pairs.now }
     requires numbers { length pairs.now < 2 ^ 32 }
 {
     let rows = ChipRows::new(alloc, view.chip())?;
-    let told = tell_by_choice(alloc, view, &rows, budget, pairs, bits, asked);
+    let reported = tell_by_choice(alloc, view, &rows, budget, pairs, bits, asked);
     drop(rows);
-    told
+    reported
 }
 
 // The same.
@@ -232,18 +232,18 @@ fn tell(
     pairs: &[Pair],
     bits: usize,
     asked: Asked,
-) -> Result<Told, NoMemory>
+) -> Result<Reported, NoMemory>
     requires bits { All (λ pair. length pair ≡ bits) pairs.now }
     requires numbers { length pairs.now < 2 ^ 32 }
 {
     let view = View::new(alloc, chip)?;
-    let told = tell_by_rows(alloc, &view, budget, pairs, bits, asked);
+    let reported = tell_by_rows(alloc, &view, budget, pairs, bits, asked);
     drop(view);
-    told
+    reported
 }
 
 // What is reported about a bench of the chip of a netlist.
-fn told_of(
+fn reported_of(
     rt: &impl Abort,
     alloc: Global,
     netlist: &[u8],
@@ -256,9 +256,9 @@ fn told_of(
     requires numbers { length pairs.now < 2 ^ 32 }
 {
     let chip = linked(alloc, netlist).expect(rt, "a chip");
-    let told = tell(alloc, &chip, budget, pairs, bits, asked).expect(rt, "memory");
-    let text = told.text.expect(rt, "memory");
-    (text, told.aims, told.evaluations)
+    let reported = tell(alloc, &chip, budget, pairs, bits, asked).expect(rt, "memory");
+    let text = reported.text.expect(rt, "memory");
+    (text, reported.aims, reported.evaluations)
 }
 
 // Three of the nine defects of an inverter are detected where its input falls, and four are suspect. Last values
@@ -267,7 +267,7 @@ fn told_of(
 fn a_falling_input_of_an_inverter(rt: HostRuntime) {
     let alloc = rt.alloc();
     let pairs = drawn_pairs(alloc, 1, 1, 1, 2).expect(&rt, "memory");
-    let (text, aims, _) = told_of(&rt, alloc, INV, 0, pairs.as_slice(), 2, Asked::Singles);
+    let (text, aims, _) = reported_of(&rt, alloc, INV, 0, pairs.as_slice(), 2, Asked::Singles);
     assert!(rt; text.as_bytes().starts_with(b"3 "), "{:?}", text.as_bytes());
     assert!(rt; aims <= 6, "{aims}");
 }
@@ -278,8 +278,8 @@ fn a_falling_input_of_an_inverter(rt: HostRuntime) {
 fn two_blocks_of_pairs(rt: HostRuntime) {
     let alloc = rt.alloc();
     let pairs = drawn_pairs(alloc, 0, 257, 37, 10).expect(&rt, "memory");
-    let (blocks, _, _) = told_of(&rt, alloc, C17, 0, pairs.as_slice(), 10, Asked::Blocks);
-    let (singles, _, _) = told_of(&rt, alloc, C17, 0, pairs.as_slice(), 10, Asked::Singles);
+    let (blocks, _, _) = reported_of(&rt, alloc, C17, 0, pairs.as_slice(), 10, Asked::Blocks);
+    let (singles, _, _) = reported_of(&rt, alloc, C17, 0, pairs.as_slice(), 10, Asked::Singles);
     assert!(rt;
         blocks == singles,
         "{:?} {:?}",
@@ -297,7 +297,7 @@ fn two_blocks_of_pairs(rt: HostRuntime) {
 #[test]
 fn a_search_of_one_branch(rt: HostRuntime) {
     let (netlist, budget, place, wanted) = ONE_BRANCH;
-    let (text, _, _) = told_of(
+    let (text, _, _) = reported_of(
         &rt,
         rt.alloc(),
         netlist,
@@ -329,7 +329,7 @@ fn inverters(alloc: Global, count: usize) -> Option<String> {
 fn a_hundred_inverters(rt: HostRuntime) {
     let alloc = rt.alloc();
     let netlist = inverters(alloc, 100).expect(&rt, "memory");
-    let (text, aims, evaluations) = told_of(
+    let (text, aims, evaluations) = reported_of(
         &rt,
         alloc,
         netlist.as_bytes(),

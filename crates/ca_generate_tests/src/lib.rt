@@ -6,6 +6,6 @@ mod chips;
 #[cfg(test)]
 mod credits;
 #[cfg(test)]
-mod told;
+mod reported;
 #[cfg(test)]
 mod worked;

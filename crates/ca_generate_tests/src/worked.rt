@@ -3,7 +3,7 @@
 ghost use Rattle.ca_verilog.specs.IsNetlist.{IsNetlist};
 
 use crate::chips::{COUNTED, HAZARD, KEPT_CHARGE, LIBRARY, SPELT};
-use crate::told::{all, fault, summary, verdict};
+use crate::reported::{all, fault, summary, verdict};
 use ca_wiring::ScanTable;
 use ca_engine::generate_chip;
 use ca_generate::{Generated, Unwatched};
@@ -40,7 +40,7 @@ enum Asked {
 }
 
 // What is generated, as it is asked for.
-fn told_made(alloc: Global, made: &Generated, asked: Asked) -> Option<Text> {
+fn reported_made(alloc: Global, made: &Generated, asked: Asked) -> Option<Text> {
     match asked {
         Asked::Counts => summary(alloc, made).ok(),
         Asked::All => all(alloc, made).ok(),
@@ -49,17 +49,17 @@ fn told_made(alloc: Global, made: &Generated, asked: Asked) -> Option<Text> {
 }
 
 // What is generated for a chip.
-fn told_for(alloc: Global, chip: &Chip, budget: u32, asked: Asked) -> Option<Text> {
+fn reported_for(alloc: Global, chip: &Chip, budget: u32, asked: Asked) -> Option<Text> {
     match generate_chip(alloc, chip, budget, &mut Unwatched) {
-        Ok(made) => told_made(alloc, &made, asked),
+        Ok(made) => reported_made(alloc, &made, asked),
         Err(why) => Text::from_bytes(alloc, fault(&why)).ok(),
     }
 }
 
 // What is generated for the chip of a netlist.
-fn told(alloc: Global, netlist: &[u8], budget: u32, asked: Asked) -> Option<Text> {
+fn reported(alloc: Global, netlist: &[u8], budget: u32, asked: Asked) -> Option<Text> {
     let chip = linked(alloc, netlist)?;
-    let text = told_for(alloc, &chip, budget, asked);
+    let text = reported_for(alloc, &chip, budget, asked);
     drop(chip);
     text
 }
@@ -67,7 +67,7 @@ fn told(alloc: Global, netlist: &[u8], budget: u32, asked: Asked) -> Option<Text
 #[test]
 fn counts_of_chips(rt: HostRuntime) {
     for (netlist, budget, wanted) in COUNTED {
-        match told(rt.alloc(), netlist, budget, Asked::Counts) {
+        match reported(rt.alloc(), netlist, budget, Asked::Counts) {
             Some(text) => assert!(rt; text.is(wanted), "{:?}", text.as_bytes()),
             None => assert!(rt; false, "{netlist:?}"),
         }
@@ -77,7 +77,7 @@ fn counts_of_chips(rt: HostRuntime) {
 #[test]
 fn pairs_and_verdicts_of_chips(rt: HostRuntime) {
     for (netlist, budget, wanted) in SPELT {
-        match told(rt.alloc(), netlist, budget, Asked::All) {
+        match reported(rt.alloc(), netlist, budget, Asked::All) {
             Some(text) => assert!(rt; text.is(wanted), "{:?}", text.as_bytes()),
             None => assert!(rt; false, "{netlist:?}"),
         }
@@ -87,7 +87,7 @@ fn pairs_and_verdicts_of_chips(rt: HostRuntime) {
 #[test]
 fn verdicts_on_single_defects(rt: HostRuntime) {
     for (netlist, budget, place, wanted) in [HAZARD, KEPT_CHARGE] {
-        match told(rt.alloc(), netlist, budget, Asked::Verdict(place)) {
+        match reported(rt.alloc(), netlist, budget, Asked::Verdict(place)) {
             Some(text) => assert!(rt; text.is(wanted), "{:?}", text.as_bytes()),
             None => assert!(rt; false, "{netlist:?}"),
         }

@@ -54,7 +54,7 @@ fn credit_all<B: Bench, T: Watch>(
     'credited: while from < pairs.len() {
         credits.credit_block(bench, pairs, from);
         from += BLOCK.min(pairs.len() - from);
-        watch.told(from, pairs.len());
+        watch.reported(from, pairs.len());
     }
 }
 

@@ -6,7 +6,7 @@ use Rattle.std.specs.List.{Contains}
 use Rattle.std.proofs.lemmas.List.{take_more}
 use Rattle.std.proofs.lemmas.List.Elements.{Contains-push, Contains-push_cases, Contains-append_left}
 use Rattle.ca_guide.specs.NumberSet.{Numbers, IsInsert, AddsIf}
-use Rattle.ca_guide.specs.Support.{AreObserved, AreSupportBits, IsLeadingBit, IsBitBehind, AddsBits}
+use Rattle.ca_guide.specs.Support.{AreObserved, AreSupportBits, IsLeadingBit, IsBitAfter, AddsBits}
 use Rattle.std.proofs.lemmas.Option.{slice_get_within, slice_get-get_or, get_or_from_slice_get}
 use Rattle.std.proofs.lemmas.Bool.{eqb-false}
 
@@ -73,7 +73,7 @@ bits_none inputs leading from old bit = (
   (λ there. inl there),
   (λ which. elim which [
     | inl there ↦ there
-    | inr behind ↦ absurd (let none : behind.place < 0 = behind.before in omega arith)
+    | inr following ↦ absurd (let none : following.place < 0 = following.before in omega arith)
   ]),
 )
 
@@ -82,36 +82,36 @@ pub bits_more : (inputs leading : List ℕ) (from place net bit : ℕ) (start : 
     → AddsBits inputs leading from (place + 1) start new.members
 bits_more inputs leading from place net bit start old new e at are added other = (to, back)
   where
-    to : Contains new.members other → Contains start other ⊎ IsBitBehind inputs leading from (place + 1) other
+    to : Contains new.members other → Contains start other ⊎ IsBitAfter inputs leading from (place + 1) other
     to there = elim ((added.members other).0 there) [
       | inl was ↦ elim ((are other).0 was) [
         | inl first ↦ inl first
-        | inr behind ↦ inr (record { place = behind.place; before = (let before = behind.before in omega arith); is_bit = behind.is_bit; leads = behind.leads })
+        | inr following ↦ inr (record { place = following.place; before = (let before = following.before in omega arith); is_bit = following.is_bit; leads = following.leads })
       ]
       | inr both ↦ inr (record { place = place; before = omega arith; is_bit = sym both.0 ∙ at; leads = subst (Contains leading) e both.1 })
     ]
 
-    back : Contains start other ⊎ IsBitBehind inputs leading from (place + 1) other → Contains new.members other
+    back : Contains start other ⊎ IsBitAfter inputs leading from (place + 1) other → Contains new.members other
     back which = elim which [
       | inl first ↦ (added.members other).1 (inl ((are other).1 (inl first)))
-      | inr behind ↦ here behind (eqb behind.place place) refl
+      | inr following ↦ here following (eqb following.place place) refl
     ]
       where
-        here : (behind : IsBitBehind inputs leading from (place + 1) other) → (b : Bool) → eqb behind.place place ≡ b → Contains new.members other
-        here behind true test =
-            let same = eqb-true behind.place place test in
+        here : (following : IsBitAfter inputs leading from (place + 1) other) → (b : Bool) → eqb following.place place ≡ b → Contains new.members other
+        here following true test =
+            let same = eqb-true following.place place test in
             (added.members other).1 (inr (
-              at ∙ ap (λ n. from + n) (sym same) ∙ sym behind.is_bit,
-              subst (Contains leading) (ap (λ n. get_or inputs n 0) same ∙ sym e) behind.leads,
+              at ∙ ap (λ n. from + n) (sym same) ∙ sym following.is_bit,
+              subst (Contains leading) (ap (λ n. get_or inputs n 0) same ∙ sym e) following.leads,
             ))
-        here behind false test =
-            let differ = eqb-false behind.place place test in
-            let before : behind.place < place + 1 = behind.before in
+        here following false test =
+            let differ = eqb-false following.place place test in
+            let before : following.place < place + 1 = following.before in
             (added.members other).1 (inl ((are other).1 (inr (record {
-              place = behind.place;
-              before = below behind.place place before differ;
-              is_bit = behind.is_bit;
-              leads = behind.leads;
+              place = following.place;
+              before = below following.place place before differ;
+              is_bit = following.is_bit;
+              leads = following.leads;
             }))))
           where
             below : (a b : ℕ) → a < b + 1 → (a ≡ b → ⊥) → a < b
@@ -126,20 +126,20 @@ both_halves inputs leading mid bits firsts lasts bit = (to, from)
     to there = elim ((lasts bit).0 there) [
       | inl was ↦ elim ((firsts bit).0 was) [
         | inl none ↦ absurd (let no : none.0 < 0 = none.1 in omega arith)
-        | inr behind ↦ record {
-          place = behind.place;
-          net = get_or inputs behind.place 0;
-          is_input = slice_get-get_or inputs behind.place 0 behind.before;
-          is_bit = inl (behind.is_bit ∙ (omega arith));
-          leads = behind.leads;
+        | inr following ↦ record {
+          place = following.place;
+          net = get_or inputs following.place 0;
+          is_input = slice_get-get_or inputs following.place 0 following.before;
+          is_bit = inl (following.is_bit ∙ (omega arith));
+          leads = following.leads;
         }
       ]
-      | inr behind ↦ record {
-        place = behind.place;
-        net = get_or inputs behind.place 0;
-        is_input = slice_get-get_or inputs behind.place 0 behind.before;
-        is_bit = inr behind.is_bit;
-        leads = behind.leads;
+      | inr following ↦ record {
+        place = following.place;
+        net = get_or inputs following.place 0;
+        is_input = slice_get-get_or inputs following.place 0 following.before;
+        is_bit = inr following.is_bit;
+        leads = following.leads;
       }
     ]
 

@@ -21,7 +21,7 @@ abbrev pub AreSupportBits : List ℕ → List ℕ → List ℕ → Type 0
 AreSupportBits inputs leading bits = (bit : ℕ) → Contains bits bit ↔ IsLeadingBit inputs leading bit
 
 -- the bit is `from` after one of the first places, the net of whose input leads to an output
-pub record IsBitBehind (inputs leading : List ℕ) (from places bit : ℕ) : Type 0 where
+pub record IsBitAfter (inputs leading : List ℕ) (from places bit : ℕ) : Type 0 where
   pub place : ℕ
   pub before : place < places
   pub is_bit : bit ≡ from + place
@@ -30,4 +30,4 @@ pub record IsBitBehind (inputs leading : List ℕ) (from places bit : ℕ) : Typ
 -- these bits have come to the old ones
 abbrev pub AddsBits : List ℕ → List ℕ → ℕ → ℕ → List ℕ → List ℕ → Type 0
 AddsBits inputs leading from places old new =
-    (bit : ℕ) → Contains new bit ↔ (Contains old bit ⊎ IsBitBehind inputs leading from places bit)
+    (bit : ℕ) → Contains new bit ↔ (Contains old bit ⊎ IsBitAfter inputs leading from places bit)

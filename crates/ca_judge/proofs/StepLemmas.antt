@@ -27,14 +27,14 @@ has_or_not (y ∷ xs) x = elim (ℕ_discrete y x) [
   | yes same ↦ inl (0, omega arith, same)
   | no other ↦ elim (has_or_not xs x) [
     | inl at ↦ inl (suc at.0, (let lt = at.1 in omega arith), at.2)
-    | inr none ↦ inr (λ at. behind y xs x other none at.0 at.1 at.2)
+    | inr none ↦ inr (λ at. following y xs x other none at.0 at.1 at.2)
   ]
 ]
   where
-    behind : (y : ℕ) (xs : List ℕ) (x : ℕ) → (y ≡ x → ⊥) → (Contains xs x → ⊥) → (k : ℕ) → k < length (y ∷ xs)
+    following : (y : ℕ) (xs : List ℕ) (x : ℕ) → (y ≡ x → ⊥) → (Contains xs x → ⊥) → (k : ℕ) → k < length (y ∷ xs)
         → slice_index_or (y ∷ xs) k x ≡ x → ⊥
-    behind y xs x other none zero lt is = other is
-    behind y xs x other none (suc k) lt is = none (k, omega arith, is)
+    following y xs x other none zero lt is = other is
+    following y xs x other none (suc k) lt is = none (k, omega arith, is)
 
 -- what can't be missing is there
 stable_in : (xs : List ℕ) (x : ℕ) → ((Contains xs x → ⊥) → ⊥) → Contains xs x

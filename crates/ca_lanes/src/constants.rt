@@ -24,8 +24,8 @@ pub(crate) fn set_constants(nets: &mut [Values], constants: &[Constant], loaded:
         ≡ constant_choice constants.now (lane_of loaded lane) net (choice_at (choices_of nets.old lane) net) }
     ensures count { length nets.new ≡ length nets.old }
 {
-    for behind in 0..constants.len() {
-        let constant = constants[constants.len() - 1 - behind];
+    for following in 0..constants.len() {
+        let constant = constants[constants.len() - 1 - following];
         nets[constant.net as usize] = Values::none().with(loaded, constant.value);
     }
 }

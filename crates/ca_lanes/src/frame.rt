@@ -38,8 +38,8 @@ fn set_inputs(nets: &mut [Values], inputs: &[u32], pairs: &[Pair], bit: usize)
         ≡ input_choice inputs.now pairs.now bit lane net (choice_at (choices_of nets.old lane) net) }
     ensures count { length nets.new ≡ length nets.old }
 {
-    for behind in 0..inputs.len() {
-        let place = inputs.len() - 1 - behind;
+    for following in 0..inputs.len() {
+        let place = inputs.len() - 1 - following;
         let values = bit_values(pairs, bit + place);
         nets[inputs[place] as usize] = values;
     }

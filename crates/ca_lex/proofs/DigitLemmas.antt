@@ -38,16 +38,16 @@ pow_le number more within =
     rw is at (pow_up number (more - number))
 
 -- one more digit after a number
-pub digit_behind : (value number places byte : ℕ) → value < (number + 1) * 10 ^ places → byte ≤ 9 → value * 10 + byte < (number + 1) * 10 ^ (places + 1)
-digit_behind value number places byte below digit =
+pub digit_after : (value number places byte : ℕ) → value < (number + 1) * 10 ^ places → byte ≤ 9 → value * 10 + byte < (number + 1) * 10 ^ (places + 1)
+digit_after value number places byte below digit =
     let is : (number + 1) * 10 ^ (places + 1) ≡ (number + 1) * 10 ^ places * 10 = ap (λ count. (number + 1) * count) (pow_more 10 places) ∙ sym (mul_assoc (number + 1) (10 ^ places) 10) in
     omega (arith, is)
 
 pub room_so_far : (number places len : ℕ) → places ≤ len → (number + 1) * 10 ^ len ≤ 10 ^ 32 → (number + 1) * 10 ^ places ≤ 10 ^ 32
 room_so_far number places len within room = omega (arith, room, mul-le-mul_left (number + 1) (pow_le places len within))
 
-pub room_behind : (number whole fraction : ℕ) → number < 1 * 10 ^ whole → whole + fraction ≤ 32 → (number + 1) * 10 ^ fraction ≤ 10 ^ 32
-room_behind number whole fraction below short =
+pub room_after : (number whole fraction : ℕ) → number < 1 * 10 ^ whole → whole + fraction ≤ 32 → (number + 1) * 10 ^ fraction ≤ 10 ^ 32
+room_after number whole fraction below short =
     let scale : (number + 1) * 10 ^ fraction ≤ 10 ^ whole * 10 ^ fraction = mul-le-mul_right (10 ^ fraction) (omega arith) in
     omega (arith, scale, pow-add 10 whole fraction, pow_le (whole + fraction) 32 short)
 

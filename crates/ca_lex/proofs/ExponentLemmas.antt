@@ -30,7 +30,7 @@ places_found text places is = by_count (eqb (digits_len text) 1 || eqb (digits_l
   where
     by_count : (few : Bool) → (eqb (digits_len text) 1 || eqb (digits_len text) 2) ≡ few → HasPlaces text places
     by_count true few =
-        let told : Some (number_of (take (digits_len text) text), drop (digits_len text) text) ≡ Some places =
+        let reported : Some (number_of (take (digits_len text) text), drop (digits_len text) text) ≡ Some places =
         sym (ap (λ (is : Bool). cond is (Some (number_of (take (digits_len text) text), drop (digits_len text) text)) None) few) ∙ is in
         let same : (number_of (take (digits_len text) text), drop (digits_len text) text) ≡ places = cc in
         let len = length-prefix_len is_digit text in
@@ -42,7 +42,7 @@ places_found text places is = by_count (eqb (digits_len text) 1 || eqb (digits_l
           is = ap (λ (found : ℕ × List ℕ). found.0) same;
         }
     by_count false few =
-        let told : None ≡ Some places =
+        let reported : None ≡ Some places =
         sym (ap (λ (is : Bool). cond is (Some (number_of (take (digits_len text) text), drop (digits_len text) text)) None) few) ∙ is in
         absurd cc
 
@@ -53,7 +53,7 @@ places_only digits rest form begins =
     ap (λ (is : Bool). cond is (Some (number_of (take (digits_len (digits ++ rest)) (digits ++ rest)), drop (digits_len (digits ++ rest)) (digits ++ rest))) None)
     (ap (λ (count : ℕ). eqb count 1 || eqb count 2) len ∙ is_one_or_two (length digits) form.some form.few)
     ∙ ap (λ (front : List ℕ). Some (number_of front, drop (digits_len (digits ++ rest)) (digits ++ rest))) (digits_taken digits rest form.digits begins)
-    ∙ ap (λ (behind : List ℕ). Some (number_of digits, behind)) (digits_dropped digits rest form.digits begins)
+    ∙ ap (λ (following : List ℕ). Some (number_of digits, following)) (digits_dropped digits rest form.digits begins)
 
 -- the parts of an exponent's text
 pub record HasExponent (text : List ℕ) (shift : Shift) : Type 0 where
@@ -86,7 +86,7 @@ unsigned_found letter text shift e is =
     let found = places_found text step.0 step.1 in
     subst (λ (shift : Shift). HasExponent (letter ∷ text) shift) step.2 (record {
       exponent = letter ∷ found.digits;
-      joined = ap (λ (behind : List ℕ). letter ∷ behind) found.joined;
+      joined = ap (λ (following : List ℕ). letter ∷ following) found.joined;
       form = subst (λ (right : ℕ). IsExponent (letter ∷ found.digits) right 0) found.is (Unsigned letter found.digits e found.form);
     })
 
@@ -96,7 +96,7 @@ plus_found letter text shift e is =
     let found = places_found text step.0 step.1 in
     subst (λ (shift : Shift). HasExponent (letter ∷ 43 ∷ text) shift) step.2 (record {
       exponent = letter ∷ 43 ∷ found.digits;
-      joined = ap (λ (behind : List ℕ). letter ∷ 43 ∷ behind) found.joined;
+      joined = ap (λ (following : List ℕ). letter ∷ 43 ∷ following) found.joined;
       form = subst (λ (right : ℕ). IsExponent (letter ∷ 43 ∷ found.digits) right 0) found.is (Plus letter found.digits e found.form);
     })
 
@@ -106,7 +106,7 @@ minus_found letter text shift e is =
     let found = places_found text step.0 step.1 in
     subst (λ (shift : Shift). HasExponent (letter ∷ 45 ∷ text) shift) step.2 (record {
       exponent = letter ∷ 45 ∷ found.digits;
-      joined = ap (λ (behind : List ℕ). letter ∷ 45 ∷ behind) found.joined;
+      joined = ap (λ (following : List ℕ). letter ∷ 45 ∷ following) found.joined;
       form = subst (λ (left : ℕ). IsExponent (letter ∷ 45 ∷ found.digits) 0 left) found.is (Minus letter found.digits e found.form);
     })
 
@@ -141,5 +141,5 @@ exponent_found (byte ∷ more) shift is = by_letter (is_e byte) refl
     by_letter : (e : Bool) → is_e byte ≡ e → HasExponent (byte ∷ more) shift
     by_letter true e = signed_found byte more shift e (sym (ap (λ (x : Bool). cond x (signed_at more) (Some (moved 0 0 (byte ∷ more)))) e) ∙ is)
     by_letter false e =
-        let told : Some (moved 0 0 (byte ∷ more)) ≡ Some shift = sym (ap (λ (x : Bool). cond x (signed_at more) (Some (moved 0 0 (byte ∷ more)))) e) ∙ is in
+        let reported : Some (moved 0 0 (byte ∷ more)) ≡ Some shift = sym (ap (λ (x : Bool). cond x (signed_at more) (Some (moved 0 0 (byte ∷ more)))) e) ∙ is in
         no_exponent (byte ∷ more) shift cc

@@ -41,9 +41,9 @@ stops {State} {Item} {Fault} step start items place item fault total within here
     ∙ ap (λ (given : Result State Fault). after_step step given (drop (place + 1) items)) stepped
 
 -- a fault that an item's step reports, or out of memory, is what the reading reports
-pub refused : {State Item Fault : Type 0} (step : Item → State → Result State Fault) (start : State) (items : List Item) (place : ℕ) (item : Item) (told : Option Fault) (total : Result State Fault)
-    → place < length items → item ≡ get_or items place item → IsFault told (step item start)
-    → steps_from step start (drop place items) ≡ total → IsFault told total
+pub refused : {State Item Fault : Type 0} (step : Item → State → Result State Fault) (start : State) (items : List Item) (place : ℕ) (item : Item) (reported : Option Fault) (total : Result State Fault)
+    → place < length items → item ≡ get_or items place item → IsFault reported (step item start)
+    → steps_from step start (drop place items) ≡ total → IsFault reported total
 refused step start items place item None total within here stepped so_far = tt
 refused step start items place item (Some fault) total within here stepped so_far = stops step start items place item fault total within here stepped so_far
 
@@ -60,19 +60,19 @@ located_value {State} {Item} {Kind} {Fault} at step item state next is =
     ap (λ (given : Result State Kind). elim given as (λ _. Result State Fault) [ Ok next ↦ Ok next | Err kind ↦ Err (at item kind) ]) is
 
 -- a fault that a step reports is reported with the item that has it
-pub located_fault : {State Item Kind Fault : Type 0} (at : Item → Kind → Fault) (step : Item → State → Result State Kind) (item : Item) (state : State) (told : Option Kind)
-    → IsFault told (step item state) → IsFault (option_map (at item) told) (located at step item state)
+pub located_fault : {State Item Kind Fault : Type 0} (at : Item → Kind → Fault) (step : Item → State → Result State Kind) (item : Item) (state : State) (reported : Option Kind)
+    → IsFault reported (step item state) → IsFault (option_map (at item) reported) (located at step item state)
 located_fault at step item state None is = tt
 located_fault {State} {Item} {Kind} {Fault} at step item state (Some kind) is =
     ap (λ (given : Result State Kind). elim given as (λ _. Result State Fault) [ Ok next ↦ Ok next | Err other ↦ Err (at item other) ]) is
 
-found_behind : {State Item Fault : Type 0} (step : Item → State → Result State Fault) (start : State) (here : Item) (items : List Item) (fault : Fault) (given : Result State Fault)
+found_after : {State Item Fault : Type 0} (step : Item → State → Result State Fault) (start : State) (here : Item) (items : List Item) (fault : Fault) (given : Result State Fault)
     → step here start ≡ given
     → ((next : State) → steps_from step next items ≡ Err fault → IsFirstFault step next items fault)
     → after_step step given items ≡ Err fault → IsFirstFault step start (here ∷ items) fault
 unfolding steps_from
-found_behind {State} {Item} {Fault} step start here items fault (Ok next) is later told =
-    let first = later next told in
+found_after {State} {Item} {Fault} step start here items fault (Ok next) is later reported =
+    let first = later next reported in
     record {
       before = here ∷ first.before;
       here = first.here;
@@ -82,22 +82,22 @@ found_behind {State} {Item} {Fault} step start here items fault (Ok next) is lat
       read = steps_from-cons step start here first.before ∙ ap (λ (given : Result State Fault). after_step step given first.before) is ∙ first.read;
       broken = first.broken;
     }
-found_behind step start here items fault (Err other) is later told =
-    record { before = []; here = here; after = items; so_far = start; whole = refl; read = refl; broken = is ∙ told }
+found_after step start here items fault (Err other) is later reported =
+    record { before = []; here = here; after = items; so_far = start; whole = refl; read = refl; broken = is ∙ reported }
 
 -- a reading with a fault has a first item with it
 pub found : {State Item Fault : Type 0} (step : Item → State → Result State Fault) (start : State) (items : List Item) (fault : Fault)
     → steps_from step start items ≡ Err fault → IsFirstFault step start items fault
 unfolding steps_from
-found step start [] fault told = absurd cc
-found step start (here ∷ items) fault told =
-    found_behind step start here items fault (step here start) refl (λ next. found step next items fault) (sym (steps_from-cons step start here items) ∙ told)
+found step start [] fault reported = absurd cc
+found step start (here ∷ items) fault reported =
+    found_after step start here items fault (step here start) refl (λ next. found step next items fault) (sym (steps_from-cons step start here items) ∙ reported)
 
-only_behind : {State Item Fault : Type 0} (step : Item → State → Result State Fault) (before after : List Item) (so_far : State) (total : Result State Fault) (given : Result State Fault)
+only_after : {State Item Fault : Type 0} (step : Item → State → Result State Fault) (before after : List Item) (so_far : State) (total : Result State Fault) (given : Result State Fault)
     → ((next : State) → steps_from step next before ≡ Ok so_far → steps_from step next (before ++ after) ≡ total)
     → after_step step given before ≡ Ok so_far → after_step step given (before ++ after) ≡ total
-only_behind step before after so_far total (Ok next) later read = later next read
-only_behind step before after so_far total (Err other) later read = absurd cc
+only_after step before after so_far total (Ok next) later read = later next read
+only_after step before after so_far total (Err other) later read = absurd cc
 
 -- items that are read are read before others
 pub over : {State Item Fault : Type 0} (step : Item → State → Result State Fault) (start so_far : State) (before after : List Item) (total : Result State Fault)
@@ -108,7 +108,7 @@ over {State} {Item} {Fault} step start so_far [] after total rest read =
     ap (λ (state : State). steps_from step state after) same ∙ rest
 over {State} {Item} {Fault} step start so_far (here ∷ before) after total rest read =
     steps_from-cons step start here (before ++ after)
-    ∙ only_behind step before after so_far total (step here start) (λ next. over step next so_far before after total rest) (sym (steps_from-cons step start here before) ∙ read)
+    ∙ only_after step before after so_far total (step here start) (λ next. over step next so_far before after total rest) (sym (steps_from-cons step start here before) ∙ read)
 
 -- a first item with a fault gives the reading that fault
 pub only : {State Item Fault : Type 0} (step : Item → State → Result State Fault) (start : State) (items : List Item) (fault : Fault)

@@ -64,13 +64,13 @@ in_range_found number value is = by_test (nat_le 1 number && nat_le number (10 ^
   where
     by_test : (within : Bool) → (nat_le 1 number && nat_le number (10 ^ 24)) ≡ within → (value ≡ number) × (1 ≤ value) × (value ≤ 10 ^ 24)
     by_test true within =
-        let told : Some number ≡ Some value = sym (ap (λ (x : Bool). cond x (Some number) None) within) ∙ is in
+        let reported : Some number ≡ Some value = sym (ap (λ (x : Bool). cond x (Some number) None) within) ∙ is in
         let same : value ≡ number = cc in
         let least : 1 ≤ number = grind (arith, nat_tests) in
         let most : number ≤ 10 ^ 24 = grind (arith, nat_tests) in
         (same, omega arith, omega arith)
     by_test false within =
-        let told : None ≡ Some value = sym (ap (λ (x : Bool). cond x (Some number) None) within) ∙ is in
+        let reported : None ≡ Some value = sym (ap (λ (x : Bool). cond x (Some number) None) within) ∙ is in
         absurd cc
 
 pub in_range_only : (number : ℕ) → 1 ≤ number → number ≤ 10 ^ 24 → in_range number ≡ Some number
@@ -108,7 +108,7 @@ mantissa_step mantissa value is = by_count (has_digits mantissa.digits) refl
         → (has_digits mantissa.digits ≡ true) × (with_exponent mantissa (exponent_at mantissa.rest) ≡ Some value)
     by_count true has = (has, sym (ap (λ (x : Bool). cond x (with_exponent mantissa (exponent_at mantissa.rest)) None) has) ∙ is)
     by_count false has =
-        let told : None ≡ Some value = sym (ap (λ (x : Bool). cond x (with_exponent mantissa (exponent_at mantissa.rest)) None) has) ∙ is in
+        let reported : None ≡ Some value = sym (ap (λ (x : Bool). cond x (with_exponent mantissa (exponent_at mantissa.rest)) None) has) ∙ is in
         absurd cc
 
 pub exponent_step : (mantissa : Mantissa) (given : Option Shift) (value : ℕ) → with_exponent mantissa given ≡ Some value

@@ -13,12 +13,12 @@ use Rattle.ca_lex.specs.Lines.{continued, logical_from, spice_lines}
 use Rattle.ca_lex.specs.Joining.{joined, with_last}
 
 -- what follows the line feed
-abbrev pub behind : List ℕ → List ℕ
-behind [] = []
-behind (byte ∷ more) = more
+abbrev pub following : List ℕ → List ℕ
+following [] = []
+following (byte ∷ more) = more
 
 abbrev first_cut : List ℕ → ℕ → List (List ℕ)
-first_cut text len = take len text ∷ lines_of (behind (drop len text))
+first_cut text len = take len text ∷ lines_of (following (drop len text))
 
 one_more_byte : (byte second : ℕ) (more : List ℕ) (feed : Bool) → lines_of (second ∷ more) ≡ first_cut (second ∷ more) (line_len (second ∷ more))
     → cond feed ([] ∷ lines_of (second ∷ more)) (with_byte byte (lines_of (second ∷ more))) ≡ first_cut (byte ∷ second ∷ more) (cond (not feed) (1 + line_len (second ∷ more)) 0)
@@ -36,7 +36,7 @@ first_of_lines byte [] = last_byte byte (eqb byte 10)
 first_of_lines byte (second ∷ more) = one_more_byte byte second more (eqb byte 10) (first_of_lines second more)
 
 -- the first line of a text, and what follows its line feed
-pub cut_at : (text line rest : List ℕ) → 0 < length text → line ≡ take (line_len text) text → rest ≡ behind (drop (line_len text) text) → lines_of text ≡ line ∷ lines_of rest
+pub cut_at : (text line rest : List ℕ) → 0 < length text → line ≡ take (line_len text) text → rest ≡ following (drop (line_len text) text) → lines_of text ≡ line ∷ lines_of rest
 cut_at [] line rest some is rest_is = absurd (omega arith)
 cut_at (byte ∷ more) line rest some is rest_is = rw (is, rest_is) (first_of_lines byte more)
 
@@ -61,11 +61,11 @@ closed_then : (lines : List Line) (last : Option Line) (number : ℕ) (next : Ph
     → continued (next ∷ more) ≡ [] → logical_from number false (next ∷ more) ≡ here → logical_from number true (next ∷ more) ≡ here
     → joined lines last number (next ∷ more) ≡ with_last lines last ++ here
 unfolding joined
-closed_then lines None number next more here nothing after_none after_card = ap (λ (behind : List Line). lines ++ behind) after_none
+closed_then lines None number next more here nothing after_none after_card = ap (λ (following : List Line). lines ++ following) after_none
 closed_then lines (Some card) number next more here nothing after_none after_card =
     ap (λ (text : List ℕ). lines ++ record { line = card.line; text = card.text ++ text } ∷ logical_from number true (next ∷ more)) nothing
     ∙ ap (λ (text : List ℕ). lines ++ record { line = card.line; text = text } ∷ logical_from number true (next ∷ more)) (append-nil card.text)
-    ∙ ap (λ (behind : List Line). lines ++ card ∷ behind) after_card ∙ sym (append_assoc lines (card ∷ []) here)
+    ∙ ap (λ (following : List Line). lines ++ card ∷ following) after_card ∙ sym (append_assoc lines (card ∷ []) here)
 
 pub info_adds : (lines new : List Line) (last kept : Option Line) (number : ℕ) (text : List ℕ) (more : List Physical)
     → new ≡ with_last lines last ++ record { line = number; text = text } ∷ [] → kept ≡ None
@@ -84,13 +84,13 @@ unfolding joined logical_from continued
 all_joined lines None number = append-nil lines
 all_joined lines (Some card) number = ap (λ (text : List ℕ). lines ++ record { line = card.line; text = text } ∷ []) (append-nil card.text)
 
-pub behind_nothing : (rest : List ℕ) → length rest < 1 → rest ≡ behind rest
-behind_nothing [] short = refl
-behind_nothing (byte ∷ rest) short = absurd (omega arith)
+pub after_nothing : (rest : List ℕ) → length rest < 1 → rest ≡ following rest
+after_nothing [] short = refl
+after_nothing (byte ∷ rest) short = absurd (omega arith)
 
-pub behind_feed : (rest : List ℕ) → take (length rest - 1) (drop 1 rest) ≡ behind rest
-behind_feed [] = refl
-behind_feed (byte ∷ rest) = rw sub-one (take-length rest)
+pub after_feed : (rest : List ℕ) → take (length rest - 1) (drop 1 rest) ≡ following rest
+after_feed [] = refl
+after_feed (byte ∷ rest) = rw sub-one (take-length rest)
 
 -- nothing is left
 pub is_joined : (lines : List Line) (last : Option Line) (number : ℕ) (rest : List ℕ) (total : List Line) → length rest ≡ 0

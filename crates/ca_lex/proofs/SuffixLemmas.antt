@@ -7,7 +7,7 @@ use Rattle.ca_lex.specs.Length.{is_digit, is_e, is_m, places_of, suffix_of}
 use Rattle.ca_lex.specs.LengthGrammar.{IsExponent, NoExponent, Unsigned, Plus, Minus, IsSuffix, NoSuffix}
 use Rattle.ca_lex.specs.LengthGrammar.{OneLetter, WithM}
 use Rattle.ca_lex.proofs.RunLemmas.{BeginsNoDigit}
-use Rattle.ca_lex.proofs.PointLemmas.{BeginsBehind}
+use Rattle.ca_lex.proofs.PointLemmas.{BeginsAfter}
 
 pub suffix_found : (text : List ℕ) (places : ℕ) → suffix_of text ≡ Some places → IsSuffix text places
 unfolding suffix_of
@@ -20,7 +20,7 @@ suffix_found (letter ∷ second ∷ []) places is = by_m (is_m second) refl
     by_m : (m : Bool) → is_m second ≡ m → IsSuffix (letter ∷ second ∷ []) places
     by_m true m = WithM letter second places (sym (ap (λ (x : Bool). cond x (places_of letter) None) m) ∙ is) m
     by_m false m =
-        let told : None ≡ Some places = sym (ap (λ (x : Bool). cond x (places_of letter) None) m) ∙ is in
+        let reported : None ≡ Some places = sym (ap (λ (x : Bool). cond x (places_of letter) None) m) ∙ is in
         absurd cc
 suffix_found (letter ∷ second ∷ third ∷ more) places is = absurd cc
 
@@ -73,12 +73,12 @@ pub suffix_no_digit : (text : List ℕ) → BeginsSuffix text → BeginsNoDigit 
 suffix_no_digit [] begins = tt
 suffix_no_digit (byte ∷ more) begins = begins.0
 
-pub suffix_behind : (text : List ℕ) → BeginsSuffix text → BeginsBehind text
-suffix_behind [] begins = tt
-suffix_behind (byte ∷ more) begins = (begins.0, begins.1)
+pub suffix_after : (text : List ℕ) → BeginsSuffix text → BeginsAfter text
+suffix_after [] begins = tt
+suffix_after (byte ∷ more) begins = (begins.0, begins.1)
 
-pub exponent_begins : (suffix : List ℕ) → BeginsSuffix suffix → {exponent : List ℕ} {right left : ℕ} → IsExponent exponent right left → BeginsBehind (exponent ++ suffix)
-exponent_begins suffix begins NoExponent = suffix_behind suffix begins
+pub exponent_begins : (suffix : List ℕ) → BeginsSuffix suffix → {exponent : List ℕ} {right left : ℕ} → IsExponent exponent right left → BeginsAfter (exponent ++ suffix)
+exponent_begins suffix begins NoExponent = suffix_after suffix begins
 exponent_begins suffix begins (Unsigned letter digits e form) = (e_no_digit letter e, e_no_point letter e)
 exponent_begins suffix begins (Plus letter digits e form) = (e_no_digit letter e, e_no_point letter e)
 exponent_begins suffix begins (Minus letter digits e form) = (e_no_digit letter e, e_no_point letter e)

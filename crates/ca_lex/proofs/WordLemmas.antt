@@ -8,13 +8,13 @@ use Rattle.std.proofs.lemmas.Bool.{eqb-true}
 use Rattle.ca_lex.specs.Words.{is_blank, ends_word, with_byte, word_len, words_of, words_with, BeginsWord}
 use Rattle.ca_lex.specs.Words.{first_word_len}
 
-abbrev cut_behind : ℕ → List ℕ → ℕ → List (List ℕ)
-cut_behind byte more len = (byte ∷ take len more) ∷ words_of (drop len more)
+abbrev cut_after : ℕ → List ℕ → ℕ → List (List ℕ)
+cut_after byte more len = (byte ∷ take len more) ∷ words_of (drop len more)
 
 abbrev cut_at : List ℕ → ℕ → List (List ℕ)
 cut_at text len = take len text ∷ words_of (drop len text)
 
-more_at : (byte : ℕ) (more : List ℕ) (len : ℕ) → cut_behind byte more len ≡ cut_at (byte ∷ more) (1 + len)
+more_at : (byte : ℕ) (more : List ℕ) (len : ℕ) → cut_after byte more len ≡ cut_at (byte ∷ more) (1 + len)
 more_at byte more len = rw one-add refl
 
 -- neither test holds, so the last value is chosen
@@ -40,18 +40,18 @@ pub blank_skipped : (byte : ℕ) (more : List ℕ) → is_blank byte ≡ true �
 unfolding words_of
 blank_skipped byte more blank = subst (λ (x : Bool). words_of more ≡ cond x (words_of more) (cond (eqb byte 61) ((byte ∷ []) ∷ words_of more) (words_with byte more (words_of more)))) (sym blank) refl
 
-words_with_at : (byte next : ℕ) (more : List ℕ) (ends : Bool) → ends_word next ≡ ends → (ends ≡ false → words_of (next ∷ more) ≡ cut_behind next more (word_len more))
-    → words_with byte (next ∷ more) (words_of (next ∷ more)) ≡ cut_behind byte (next ∷ more) (word_len (next ∷ more))
+words_with_at : (byte next : ℕ) (more : List ℕ) (ends : Bool) → ends_word next ≡ ends → (ends ≡ false → words_of (next ∷ more) ≡ cut_after next more (word_len more))
+    → words_with byte (next ∷ more) (words_of (next ∷ more)) ≡ cut_after byte (next ∷ more) (word_len (next ∷ more))
 words_with_at byte next more ends is rest =
-    let F : Bool → Type 0 = λ x. cond x ((byte ∷ []) ∷ words_of (next ∷ more)) (with_byte byte (words_of (next ∷ more))) ≡ cut_behind byte (next ∷ more) (cond (not x) (1 + word_len more) 0) in
+    let F : Bool → Type 0 = λ x. cond x ((byte ∷ []) ∷ words_of (next ∷ more)) (with_byte byte (words_of (next ∷ more))) ≡ cut_after byte (next ∷ more) (cond (not x) (1 + word_len more) 0) in
     subst F (sym is) (by_cases ends rest)
   where
-    by_cases : (x : Bool) → (x ≡ false → words_of (next ∷ more) ≡ cut_behind next more (word_len more))
-        → cond x ((byte ∷ []) ∷ words_of (next ∷ more)) (with_byte byte (words_of (next ∷ more))) ≡ cut_behind byte (next ∷ more) (cond (not x) (1 + word_len more) 0)
+    by_cases : (x : Bool) → (x ≡ false → words_of (next ∷ more) ≡ cut_after next more (word_len more))
+        → cond x ((byte ∷ []) ∷ words_of (next ∷ more)) (with_byte byte (words_of (next ∷ more))) ≡ cut_after byte (next ∷ more) (cond (not x) (1 + word_len more) 0)
     by_cases true rest = refl
     by_cases false rest = ap (with_byte byte) (rest refl ∙ more_at next more (word_len more))
 
-pub first_of_words : (byte : ℕ) (more : List ℕ) → is_blank byte ≡ false → eqb byte 61 ≡ false → words_of (byte ∷ more) ≡ cut_behind byte more (word_len more)
+pub first_of_words : (byte : ℕ) (more : List ℕ) → is_blank byte ≡ false → eqb byte 61 ≡ false → words_of (byte ∷ more) ≡ cut_after byte more (word_len more)
 unfolding words_of
 first_of_words byte [] blank sign = chosen _ (is_blank byte) (eqb byte 61) _ _ _ blank sign
 first_of_words byte (next ∷ more) blank sign =

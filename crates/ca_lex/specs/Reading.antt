@@ -10,16 +10,16 @@ abbrev pub IsFault : {Reading Fault : Type 0} → Option Fault → Result Readin
 IsFault None wanted = Unit {0}
 IsFault (Some fault) wanted = wanted ≡ Err fault
 
--- a call gave the view of what was wanted, or its fault; `told` is the fault that an error is, and None when
+-- a call gave the view of what was wanted, or its fault; `reported` is the fault that an error is, and None when
 -- out of memory
 abbrev pub Gives : {Value Reading Error Fault : Type 0} → (Error → Option Fault) → (Value → Reading)
     → Result Value Error → Result Reading Fault → Type 0
-Gives told view (Ok value) wanted = wanted ≡ Ok (view value)
-Gives told view (Err error) wanted = IsFault (told error) wanted
+Gives reported view (Ok value) wanted = wanted ≡ Ok (view value)
+Gives reported view (Err error) wanted = IsFault (reported error) wanted
 
 -- a step left `after` where that was wanted, or reported the wanted fault; what it leaves with a fault is not
 -- said
 abbrev pub Steps : {Reading Error Fault : Type 0} → (Error → Option Fault) → Reading
     → Result ⊤ Error → Result Reading Fault → Type 0
-Steps told after (Ok done) wanted = wanted ≡ Ok after
-Steps told after (Err error) wanted = IsFault (told error) wanted
+Steps reported after (Ok done) wanted = wanted ≡ Ok after
+Steps reported after (Err error) wanted = IsFault (reported error) wanted

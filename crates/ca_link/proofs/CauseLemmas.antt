@@ -25,14 +25,14 @@ use Rattle.ca_linked.specs.Controls.{misused_of}
 use Rattle.ca_linked.specs.Paths.{IsFirstObserved}
 use Rattle.ca_linked.specs.Wired.{IsFirstMisdriven, AreDriven, KeepsNetRules, IsWireCause}
 use Rattle.ca_link.specs.Stages.{IsMisused, PassesLimit}
-use Rattle.ca_link.specs.Told.{TellsMisdriven, TellsMisused, TellsFault}
+use Rattle.ca_link.specs.Reported.{ReportsMisdriven, ReportsMisused, ReportsFault}
 use Rattle.ca_link.specs.Limits.{chip_defects, first_limit}
 use Rattle.ca_link.proofs.ControlLemmas.{control_broken, inverted_used, misused_pin, no_earlier_control}
 use Rattle.ca_link.proofs.ControlLemmas.{no_earlier_inverted, controls_kept, inverted_kept}
 use Rattle.ca_link.proofs.DriverLemmas.{driven_keeps, none_misdriven_before, is_undriven, is_double_driven}
-use Rattle.ca_link.proofs.LimitLemmas.{instances_are, defects_are, keeps_limits, TellsLimit, tells_limit}
+use Rattle.ca_link.proofs.LimitLemmas.{instances_are, defects_are, keeps_limits, ReportsLimit, reports_limit}
 use Rattle.ca_link.proofs.LoopLemmas.{loop_is, no_loop}
-use Rattle.ca_link.proofs.NameLemmas.{told_driver, told_control}
+use Rattle.ca_link.proofs.NameLemmas.{reported_driver, reported_control}
 use Rattle.ca_link.proofs.PathLemmas.{observed_path, none_observed_before, unobserved}
 use Rattle.ca_link.proofs.StageLemmas.{KeepsAt, keeps_rules, first_broken, no_later, earlier_place}
 use Rattle.ca_link.proofs.StageLemmas.{earlier_pin, not_earlier_alone}
@@ -41,17 +41,17 @@ module _ (raw : RawNetlist) (library : List Named) (scan : List ScanRow) (chip :
   -- a control pin or an inverted output before this place breaks no rule
   none_misused_before : (misused : Misused) → misused_of chip ≡ Some misused → (u k : ℕ) → IsMisused (wiring_of raw library scan) u k
       → (u < misused.instance) ⊎ ((u ≡ misused.instance) × (k < misused.pin)) → ⊥
-  none_misused_before misused told u k (inl (pin, breaks)) before =
-      no_earlier_control (wiring_of raw library scan) chip link misused told u k pin before breaks
-  none_misused_before misused told u k (inr (last, uses)) (inl less) =
-      no_earlier_inverted (wiring_of raw library scan) chip link misused told u less uses
-  none_misused_before misused told u k (inr (last, uses)) (inr (same, less)) =
-      let few = misused_pin chip misused told in omega (arith, few, less, last)
+  none_misused_before misused reported u k (inl (pin, breaks)) before =
+      no_earlier_control (wiring_of raw library scan) chip link misused reported u k pin before breaks
+  none_misused_before misused reported u k (inr (last, uses)) (inl less) =
+      no_earlier_inverted (wiring_of raw library scan) chip link misused reported u less uses
+  none_misused_before misused reported u k (inr (last, uses)) (inr (same, less)) =
+      let few = misused_pin chip misused reported in omega (arith, few, less, last)
 
   -- and none does where nothing is reported
   none_misused : misused_of chip ≡ None → (u k : ℕ) → IsMisused (wiring_of raw library scan) u k → ⊥
-  none_misused told u k (inl (pin, breaks)) = controls_kept (wiring_of raw library scan) chip link told u k pin breaks
-  none_misused told u k (inr (last, uses)) = inverted_kept (wiring_of raw library scan) chip link told u uses
+  none_misused reported u k (inl (pin, breaks)) = controls_kept (wiring_of raw library scan) chip link reported u k pin breaks
+  none_misused reported u k (inr (last, uses)) = inverted_kept (wiring_of raw library scan) chip link reported u uses
 
   module _ (sound : AreSound raw library scan) where
     -- the rules before that on the drivers of a net are kept
@@ -68,10 +68,10 @@ module _ (raw : RawNetlist) (library : List Named) (scan : List ScanRow) (chip :
 
     before_pin : AreDriven chip → (misused : Misused) → misused_of chip ≡ Some misused
         → KeepsAt raw library scan (λ at. IsEarlier at (3 ∷ misused.instance ∷ misused.pin ∷ []))
-    before_pin driven misused told = record {
+    before_pin driven misused reported = record {
       sound = sound;
       nets = λ n broken earlier. driven_keeps (wiring_of raw library scan) chip link driven n broken;
-      scans = λ u k broken earlier. none_misused_before misused told u k broken (earlier_pin 3 u k misused.instance misused.pin earlier);
+      scans = λ u k broken earlier. none_misused_before misused reported u k broken (earlier_pin 3 u k misused.instance misused.pin earlier);
       paths = λ n broken earlier. no_later 4 3 (n ∷ []) (misused.instance ∷ misused.pin ∷ []) (omega arith) earlier;
       loops = λ loop broken earlier. no_later 5 3 [] (misused.instance ∷ misused.pin ∷ []) (omega arith) earlier;
       limits = λ k broken earlier. no_later 6 3 (k ∷ []) (misused.instance ∷ misused.pin ∷ []) (omega arith) earlier;
@@ -99,54 +99,54 @@ module _ (raw : RawNetlist) (library : List Named) (scan : List ScanRow) (chip :
       limits = λ k broken earlier. no_later 6 5 (k ∷ []) [] (omega arith) earlier;
     }
 
-    misdriven_cause : (net : ℕ) (sources : Sources) (first : IsFirstMisdriven chip net sources) (told : ChipFault) (one two : Option Source)
-        → AreFirst (Drives chip net) one two → (IsSingle (record { first = one; second = two }) → ⊥) → TellsMisdriven chip scan net one two told
-        → IsCause raw library scan told
-    misdriven_cause net sources first told None None none flawed tells =
-        subst (IsCause raw library scan) (sym tells)
+    misdriven_cause : (net : ℕ) (sources : Sources) (first : IsFirstMisdriven chip net sources) (reported : ChipFault) (one two : Option Source)
+        → AreFirst (Drives chip net) one two → (IsSingle (record { first = one; second = two }) → ⊥) → ReportsMisdriven chip scan net one two reported
+        → IsCause raw library scan reported
+    misdriven_cause net sources first reported None None none flawed reports =
+        subst (IsCause raw library scan) (sym reports)
         (first_broken raw library scan (2 ∷ net ∷ []) (fault.Undriven (record { 0 = net }))
         (refl, is_undriven (wiring_of raw library scan) chip link net first.within none) (before_net net sources first))
-    misdriven_cause net sources first told None (Some two) none flawed tells = absurd none
-    misdriven_cause net sources first told (Some one) None single flawed tells =
+    misdriven_cause net sources first reported None (Some two) none flawed reports = absurd none
+    misdriven_cause net sources first reported (Some one) None single flawed reports =
         absurd (flawed (record { some = refl; no_second = refl }))
-    misdriven_cause net sources first told (Some one) (Some two) are flawed (left, right, tells_left, tells_right, tells) =
-        subst (IsCause raw library scan) (sym tells)
+    misdriven_cause net sources first reported (Some one) (Some two) are flawed (left, right, reports_left, reports_right, reports) =
+        subst (IsCause raw library scan) (sym reports)
         (first_broken raw library scan (2 ∷ net ∷ []) (fault.DoubleDriven (record { 0 = net }) left right) (
           refl,
           is_double_driven (wiring_of raw library scan) chip link net first.within one two are left right
-              (told_driver raw library scan chip link net one left tells_left) (told_driver raw library scan chip link net two right tells_right),
+              (reported_driver raw library scan chip link net one left reports_left) (reported_driver raw library scan chip link net two right reports_right),
         )
         (before_net net sources first))
 
-    misused_cause : AreDriven chip → (misused : Misused) → misused_of chip ≡ Some misused → (told : ChipFault) → TellsMisused chip scan misused told
-        → IsCause raw library scan told
-    misused_cause driven misused is told (inl (last, tells)) =
-        subst (IsCause raw library scan) (sym tells)
+    misused_cause : AreDriven chip → (misused : Misused) → misused_of chip ≡ Some misused → (reported : ChipFault) → ReportsMisused chip scan misused reported
+        → IsCause raw library scan reported
+    misused_cause driven misused is reported (inl (last, reports)) =
+        subst (IsCause raw library scan) (sym reports)
         (first_broken raw library scan (3 ∷ misused.instance ∷ misused.pin ∷ []) (fault.QnUsed (record { 0 = misused.instance }))
         (ap (λ k. 3 ∷ misused.instance ∷ k ∷ []) last, inverted_used (wiring_of raw library scan) chip link misused is last)
         (before_pin driven misused is))
-    misused_cause driven misused is told (inr (few, (name, is_name, tells))) =
-        let control = told_control raw library scan chip link misused.instance misused.pin name is_name in
-        subst (IsCause raw library scan) (sym tells)
+    misused_cause driven misused is reported (inr (few, (name, is_name, reports))) =
+        let control = reported_control raw library scan chip link misused.instance misused.pin name is_name in
+        subst (IsCause raw library scan) (sym reports)
         (first_broken raw library scan (3 ∷ misused.instance ∷ misused.pin ∷ []) (fault.ControlPin (record { 0 = misused.instance }) name)
         (misused.pin, refl, control_broken (wiring_of raw library scan) chip link misused is few control.wired control.at name control.named)
         (before_pin driven misused is))
 
     -- what is reported about a fault of nets is why the netlist isn't linked
-    pub wire_cause : (broken : WireFault) → IsWireCause chip broken → (told : ChipFault) → TellsFault chip scan broken told → IsCause raw library scan told
-    wire_cause (wire_fault.Misdriven net sources) first told tells =
-        misdriven_cause net sources first told sources.first sources.second first.first first.flawed tells
-    wire_cause (wire_fault.Misused misused) (driven, is) told tells = misused_cause driven misused is told tells
-    wire_cause (wire_fault.Observed net) (driven, used, first) told tells =
-        subst (IsCause raw library scan) (sym tells)
+    pub wire_cause : (broken : WireFault) → IsWireCause chip broken → (reported : ChipFault) → ReportsFault chip scan broken reported → IsCause raw library scan reported
+    wire_cause (wire_fault.Misdriven net sources) first reported reports =
+        misdriven_cause net sources first reported sources.first sources.second first.first first.flawed reports
+    wire_cause (wire_fault.Misused misused) (driven, is) reported reports = misused_cause driven misused is reported reports
+    wire_cause (wire_fault.Observed net) (driven, used, first) reported reports =
+        subst (IsCause raw library scan) (sym reports)
         (first_broken raw library scan (4 ∷ net ∷ []) (fault.ControlObserved (record { 0 = net }))
         (refl, observed_path (wiring_of raw library scan) chip link driven used net first) (before_path driven used net first))
-    wire_cause (wire_fault.Loop loop) (kept, (is, once)) told tells =
-        subst (IsCause raw library scan) (sym tells) (
+    wire_cause (wire_fault.Loop loop) (kept, (is, once)) reported reports =
+        subst (IsCause raw library scan) (sym reports) (
           first_broken raw library scan (5 ∷ []) (fault.Loop loop) (refl, loop_is (wiring_of raw library scan) chip link loop is) (before_loop kept),
           once,
         )
-    wire_cause wire_fault.NoMemory cause told tells = subst (IsCause raw library scan) (sym tells) tt
+    wire_cause wire_fault.NoMemory cause reported reports = subst (IsCause raw library scan) (sym reports) tt
 
     module _ (kept : KeepsNetRules chip) (loops : (loop : List ℕ) → IsLoop (FeedsWire (wiring_of raw library scan)) loop → ⊥) where
       -- the rules before a limit are kept
@@ -162,44 +162,44 @@ module _ (raw : RawNetlist) (library : List Named) (scan : List ScanRow) (chip :
       }
 
       -- the first limit that is passed is why the netlist isn't linked
-      pub limit_cause : (told : Option ChipFault) → TellsLimit chip (chip_defects chip) told → (broken : ChipFault) → told ≡ Some broken
+      pub limit_cause : (reported : Option ChipFault) → ReportsLimit chip (chip_defects chip) reported → (broken : ChipFault) → reported ≡ Some broken
           → IsCause raw library scan broken
-      limit_cause told (inl (is, past)) broken e =
+      limit_cause reported (inl (is, past)) broken e =
           let same : broken ≡ fault.TooManyInstances (length (gates_of chip)) = cc in
           subst (IsCause raw library scan) (sym same)
           (first_broken raw library scan (6 ∷ 0 ∷ []) (fault.TooManyInstances (length (gates_of chip)))
           (refl, sym (instances_are (wiring_of raw library scan) chip link), past)
           (before_limit 0 (λ k passes lt. omega (arith, lt))))
-      limit_cause told (inr (inl (is, past, instances))) broken e =
+      limit_cause reported (inr (inl (is, past, instances))) broken e =
           let same : broken ≡ fault.TooManyInputs (length (inputs_of chip)) = cc in
           subst (IsCause raw library scan) (sym same)
           (first_broken raw library scan (6 ∷ 1 ∷ []) (fault.TooManyInputs (length (inputs_of chip)))
           (refl, (chip, link, refl, past))
           (before_limit 1 (keeps_limits (wiring_of raw library scan) chip link 1 (λ lt. instances) (λ lt p. omega (arith, lt)) (λ lt p. omega (arith, lt))
           (λ lt p. omega (arith, lt)))))
-      limit_cause told (inr (inr (inl (is, past, instances, inputs)))) broken e =
+      limit_cause reported (inr (inr (inl (is, past, instances, inputs)))) broken e =
           let same : broken ≡ fault.TooManyOutputs (length (outputs_of chip)) = cc in
           subst (IsCause raw library scan) (sym same)
           (first_broken raw library scan (6 ∷ 2 ∷ []) (fault.TooManyOutputs (length (outputs_of chip)))
           (refl, (chip, link, refl, past))
           (before_limit 2 (keeps_limits (wiring_of raw library scan) chip link 2 (λ lt. instances) (λ lt. inputs) (λ lt p. omega (arith, lt))
           (λ lt p. omega (arith, lt)))))
-      limit_cause told (inr (inr (inr (inl (is, past, instances, inputs, outputs))))) broken e =
+      limit_cause reported (inr (inr (inr (inl (is, past, instances, inputs, outputs))))) broken e =
           let same : broken ≡ fault.TooManyDefects (chip_defects chip) = cc in
           subst (IsCause raw library scan) (sym same)
           (first_broken raw library scan (6 ∷ 3 ∷ []) (fault.TooManyDefects (chip_defects chip))
           (refl, sym (defects_are (wiring_of raw library scan) chip link), past)
           (before_limit 3 (keeps_limits (wiring_of raw library scan) chip link 3 (λ lt. instances) (λ lt. inputs) (λ lt. outputs)
           (λ lt p. omega (arith, lt)))))
-      limit_cause told (inr (inr (inr (inr (is, instances, inputs, outputs, defects))))) broken e = absurd (let clash : Some broken ≡ None = sym e ∙ is in cc)
+      limit_cause reported (inr (inr (inr (inr (is, instances, inputs, outputs, defects))))) broken e = absurd (let clash : Some broken ≡ None = sym e ∙ is in cc)
 
       -- and where none is passed, no rule is broken
-      pub limits_kept : (told : Option ChipFault) → TellsLimit chip (chip_defects chip) told → told ≡ None → KeepsRules raw library scan
-      limits_kept told (inl (is, past)) e = absurd (let clash : Some _ ≡ None = sym is ∙ e in cc)
-      limits_kept told (inr (inl (is, past, instances))) e = absurd (let clash : Some _ ≡ None = sym is ∙ e in cc)
-      limits_kept told (inr (inr (inl (is, past, instances, inputs)))) e = absurd (let clash : Some _ ≡ None = sym is ∙ e in cc)
-      limits_kept told (inr (inr (inr (inl (is, past, instances, inputs, outputs))))) e = absurd (let clash : Some _ ≡ None = sym is ∙ e in cc)
-      limits_kept told (inr (inr (inr (inr (is, instances, inputs, outputs, defects))))) e =
+      pub limits_kept : (reported : Option ChipFault) → ReportsLimit chip (chip_defects chip) reported → reported ≡ None → KeepsRules raw library scan
+      limits_kept reported (inl (is, past)) e = absurd (let clash : Some _ ≡ None = sym is ∙ e in cc)
+      limits_kept reported (inr (inl (is, past, instances))) e = absurd (let clash : Some _ ≡ None = sym is ∙ e in cc)
+      limits_kept reported (inr (inr (inl (is, past, instances, inputs)))) e = absurd (let clash : Some _ ≡ None = sym is ∙ e in cc)
+      limits_kept reported (inr (inr (inr (inl (is, past, instances, inputs, outputs))))) e = absurd (let clash : Some _ ≡ None = sym is ∙ e in cc)
+      limits_kept reported (inr (inr (inr (inr (is, instances, inputs, outputs, defects))))) e =
           keeps_rules raw library scan (record {
             sound = sound;
             nets = λ n broken here. driven_keeps (wiring_of raw library scan) chip link kept.driven n broken;
@@ -239,12 +239,12 @@ module _ (raw : RawNetlist) (library : List Named) (scan : List ScanRow) (draft 
 
     -- the limit that it passes first is why the netlist isn't linked
     pub made_cause : (broken : ChipFault) → first_limit made defects ≡ Some broken → IsCause raw library scan broken
-    made_cause broken told =
+    made_cause broken reported =
         limit_cause raw library scan draft link sound kept made_loops (first_limit draft (chip_defects draft))
-        (tells_limit draft (chip_defects draft)) broken (sym same_limit ∙ told)
+        (reports_limit draft (chip_defects draft)) broken (sym same_limit ∙ reported)
 
     -- where it passes none, no rule is broken
     pub made_kept : first_limit made defects ≡ None → KeepsRules raw library scan
-    made_kept told =
+    made_kept reported =
         limits_kept raw library scan draft link sound kept made_loops (first_limit draft (chip_defects draft))
-        (tells_limit draft (chip_defects draft)) (sym same_limit ∙ told)
+        (reports_limit draft (chip_defects draft)) (sym same_limit ∙ reported)

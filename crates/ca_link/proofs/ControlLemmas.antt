@@ -96,7 +96,7 @@ module _ (wiring : Wiring) (chip : LinkedChip) (link : IsLinkOf wiring chip) whe
 
   -- the first scan instance is the same in both
   pub record IsFirstAt (place : ℕ) (first : ScanNets) : Type 0 where
-    pub told : first_scan chip.parts ≡ Some first
+    pub reported : first_scan chip.parts ≡ Some first
     pub scan : IsScanAt place first
     pub is_first : IsFirst (λ (part : WiredPart). IsScan part.meaning) wiring.parts place
 
@@ -117,7 +117,7 @@ module _ (wiring : Wiring) (chip : LinkedChip) (link : IsLinkOf wiring chip) whe
         place,
         some.0,
         record {
-          told = some.1;
+          reported = some.1;
           scan = here;
           is_first = record {
             here = to_some (λ (part : WiredPart). IsScan part.meaning) (slice_get wiring.parts place) here.wired here.is_wired
@@ -148,9 +148,9 @@ module _ (wiring : Wiring) (chip : LinkedChip) (link : IsLinkOf wiring chip) whe
 
   module _ (u : ℕ) (nets : ScanNets) (scan : IsScanAt u nets) (place : ℕ) (first : ScanNets) (is_first : IsFirstAt place first) where
     -- a pin that breaks its rule in the chip breaks it in the wiring
-    pub control_told : (k : ℕ) → k < 3 → breaks_pin chip first nets k ≡ true → (pin : List ℕ)
+    pub control_reported : (k : ℕ) → k < 3 → breaks_pin chip first nets k ≡ true → (pin : List ℕ)
         → slice_get (control_names scan.wired.meaning) k ≡ Some pin → BreaksControl wiring u k pin
-    control_told k few broken pin named =
+    control_reported k few broken pin named =
         let own = control_of u nets scan k few in
         record {
           wire = own.wire;
@@ -185,8 +185,8 @@ module _ (wiring : Wiring) (chip : LinkedChip) (link : IsLinkOf wiring chip) whe
         }
 
     -- and the other way round
-    pub told_control : (k : ℕ) (pin : List ℕ) → BreaksControl wiring u k pin → breaks_pin chip first nets k ≡ true
-    told_control k pin breaks =
+    pub reported_control : (k : ℕ) (pin : List ℕ) → BreaksControl wiring u k pin → breaks_pin chip first nets k ≡ true
+    reported_control k pin breaks =
         let few = breaks.control.few in
         let own = net_of_control u nets scan k breaks.wire breaks.control in
         elim breaks.broken [
@@ -222,8 +222,8 @@ module _ (wiring : Wiring) (chip : LinkedChip) (link : IsLinkOf wiring chip) whe
     three_wires (a ∷ b ∷ c ∷ []) q qn so are = (a, b, c, refl, are.1.0)
     three_wires (a ∷ b ∷ c ∷ d ∷ more) q qn so are = absurd are.1.1.1
 
-    pub inverted_told : is_used chip nets.qn ≡ true → UsesInverted wiring u
-    inverted_told used = by nets.qn used (subst (λ body. AreNetsOf wiring link.nets scan.wired.outputs (output_nets body)) scan.body scan.of.outputs)
+    pub inverted_reported : is_used chip nets.qn ≡ true → UsesInverted wiring u
+    inverted_reported used = by nets.qn used (subst (λ body. AreNetsOf wiring link.nets scan.wired.outputs (output_nets body)) scan.body scan.of.outputs)
       where
         by : (qn : Option ℕ) → is_used chip qn ≡ true
             → AreNetsOf wiring link.nets scan.wired.outputs (nets.q ∷ (option_to_list qn ++ nets.so ∷ [])) → UsesInverted wiring u
@@ -241,8 +241,8 @@ module _ (wiring : Wiring) (chip : LinkedChip) (link : IsLinkOf wiring chip) whe
               loaded = loaded_wire wiring chip link qn three.1 three.4 used;
             }
 
-    pub told_inverted : UsesInverted wiring u → is_used chip nets.qn ≡ true
-    told_inverted uses =
+    pub reported_inverted : UsesInverted wiring u → is_used chip nets.qn ≡ true
+    reported_inverted uses =
         let same : uses.part ≡ scan.wired = some_inj uses.part scan.wired (sym uses.is_part ∙ scan.is_wired) in
         by nets.qn
         (subst (λ wires. AreNetsOf wiring link.nets wires (nets.q ∷ (option_to_list nets.qn ++ nets.so ∷ [])))
@@ -255,10 +255,10 @@ module _ (wiring : Wiring) (chip : LinkedChip) (link : IsLinkOf wiring chip) whe
         by (Some qn) are = wire_loaded wiring chip link qn uses.qn are.1.0 uses.loaded
 
 -- the instance that is reported, and the pin
-module _ (chip : LinkedChip) (misused : Misused) (told : misused_of chip ≡ Some misused) where
-  pub told_at : IsMisusedAt chip (first_scan chip.parts) chip.parts misused.instance misused.pin
-  told_at =
-      let found = misused_at chip (first_scan chip.parts) chip.parts 0 misused told in
+module _ (chip : LinkedChip) (misused : Misused) (reported : misused_of chip ≡ Some misused) where
+  pub reported_at : IsMisusedAt chip (first_scan chip.parts) chip.parts misused.instance misused.pin
+  reported_at =
+      let found = misused_at chip (first_scan chip.parts) chip.parts 0 misused reported in
       let same = found.1 in
       subst (λ u. IsMisusedAt chip (first_scan chip.parts) chip.parts u misused.pin)
       (let there : found.0 ≡ misused.instance = omega (arith, same) in there) found.2
@@ -277,22 +277,22 @@ has_pin chip body pin e = by body (first_scan chip.parts) refl refl e
   where
     by : (other : Body) (first : Option ScanNets) → body ≡ other → first_scan chip.parts ≡ first → body_fault chip first other ≡ Some pin
         → HasPin chip body pin
-    by (Gate cell inputs outputs) first is is_first told = absurd (let clash : None ≡ Some pin = told in cc)
-    by (Scan nets) None is is_first told = absurd (let clash : None ≡ Some pin = told in cc)
-    by (Scan nets) (Some first) is is_first told =
-        record { nets = nets; is = is; first = first; is_first = is_first; broken = first_pin chip first nets pin told }
+    by (Gate cell inputs outputs) first is is_first reported = absurd (let clash : None ≡ Some pin = reported in cc)
+    by (Scan nets) None is is_first reported = absurd (let clash : None ≡ Some pin = reported in cc)
+    by (Scan nets) (Some first) is is_first reported =
+        record { nets = nets; is = is; first = first; is_first = is_first; broken = first_pin chip first nets pin reported }
 
 -- the pin is one of four
 pub misused_pin : (chip : LinkedChip) (misused : Misused) → misused_of chip ≡ Some misused → misused.pin < 4
-misused_pin chip misused told =
-    let at = told_at chip misused told in
+misused_pin chip misused reported =
+    let at = reported_at chip misused reported in
     (has_pin chip at.part.body misused.pin at.broken).broken.few
 
 -- of a scan instance
 pub misused_scan : (chip : LinkedChip) (misused : Misused) → misused_of chip ≡ Some misused
     → IsSomeAnd (slice_get chip.parts misused.instance) (λ part. instances.IsScan part.body)
-misused_scan chip misused told =
-    let at = told_at chip misused told in
+misused_scan chip misused reported =
+    let at = reported_at chip misused reported in
     let has = has_pin chip at.part.body misused.pin at.broken in
     to_some (λ (part : Part). instances.IsScan part.body) (slice_get chip.parts misused.instance) at.part at.at
     (subst instances.IsScan (sym has.is) tt)
@@ -318,7 +318,7 @@ module _ (wiring : Wiring) (chip : LinkedChip) (link : IsLinkOf wiring chip) whe
         place = found.0;
         first = found.1;
         is_first = is_first;
-        fault = ap (λ first. body_fault chip first scan.part.body) is_first.told ∙ ap (body_fault chip (Some found.1)) scan.body;
+        fault = ap (λ first. body_fault chip first scan.part.body) is_first.reported ∙ ap (body_fault chip (Some found.1)) scan.body;
       }
 
   judged_wired : (u : ℕ) (wired : WiredPart) → slice_get wiring.parts u ≡ Some wired → IsScan wired.meaning → IsJudged u
@@ -328,39 +328,39 @@ module _ (wiring : Wiring) (chip : LinkedChip) (link : IsLinkOf wiring chip) whe
   control_breaks : (u k : ℕ) (pin : List ℕ) → BreaksControl wiring u k pin → (here : IsJudged u) × (breaks_pin chip here.first here.nets k ≡ true)
   control_breaks u k pin breaks =
       let here = judged_wired u breaks.control.part breaks.control.is_part breaks.control.scan in
-      (here, told_control wiring chip link u here.nets here.scan here.place here.first here.is_first k pin breaks)
+      (here, reported_control wiring chip link u here.nets here.scan here.place here.first here.is_first k pin breaks)
 
   -- and so does an inverted output with a load
   inverted_breaks : (u : ℕ) → UsesInverted wiring u → (here : IsJudged u) × (breaks_pin chip here.first here.nets 3 ≡ true)
   inverted_breaks u uses =
       let here = judged_wired u uses.part uses.is_part uses.scan in
-      (here, told_inverted wiring chip link u here.nets here.scan here.place here.first here.is_first uses)
+      (here, reported_inverted wiring chip link u here.nets here.scan here.place here.first here.is_first uses)
 
-  module _ (misused : Misused) (told : misused_of chip ≡ Some misused) where
+  module _ (misused : Misused) (reported : misused_of chip ≡ Some misused) where
     -- the pin that is reported is the first of its instance that breaks its rule
-    first_told : (u : ℕ) (here : IsJudged u) → u ≡ misused.instance → IsFirstPin chip here.first here.nets misused.pin
-    first_told u here same =
-        let at = told_at chip misused told in
+    first_reported : (u : ℕ) (here : IsJudged u) → u ≡ misused.instance → IsFirstPin chip here.first here.nets misused.pin
+    first_reported u here same =
+        let at = reported_at chip misused reported in
         let one : here.scan.part ≡ at.part = some_inj here.scan.part at.part
         (sym here.scan.is_part ∙ ap (slice_get chip.parts) same ∙ at.at) in
         first_pin chip here.first here.nets misused.pin
         (sym here.fault ∙ ap (λ (p : Part). body_fault chip (first_scan chip.parts) p.body) one ∙ at.broken)
 
     -- the instance that is reported
-    told_here : (here : IsJudged misused.instance) × IsFirstPin chip here.first here.nets misused.pin
-    told_here =
-        let at = told_at chip misused told in
+    reported_here : (here : IsJudged misused.instance) × IsFirstPin chip here.first here.nets misused.pin
+    reported_here =
+        let at = reported_at chip misused reported in
         let has = has_pin chip at.part.body misused.pin at.broken in
         let here = judged misused.instance has.nets (scan_of_part wiring chip link misused.instance at.part has.nets at.at has.is) in
-        (here, first_told misused.instance here refl)
+        (here, first_reported misused.instance here refl)
 
     -- no pin of an earlier instance breaks its rule, and no earlier one of this instance
     none_earlier : (u k : ℕ) (here : IsJudged u) → (u < misused.instance) ⊎ ((u ≡ misused.instance) × (k < misused.pin))
         → breaks_pin chip here.first here.nets k ≡ true → ⊥
     none_earlier u k here (inl before) broken =
-        let none = (told_at chip misused told).none_before u here.scan.part before here.scan.is_part in
+        let none = (reported_at chip misused reported).none_before u here.scan.part before here.scan.is_part in
         true≢false (sym broken ∙ no_pin chip here.first here.nets (sym here.fault ∙ none) k)
-    none_earlier u k here (inr (same, before)) broken = true≢false (sym broken ∙ (first_told u here same).none_before k before)
+    none_earlier u k here (inr (same, before)) broken = true≢false (sym broken ∙ (first_reported u here same).none_before k before)
 
   -- where none is reported, none breaks its rule
   none_at_all : misused_of chip ≡ None → (u k : ℕ) (here : IsJudged u) → breaks_pin chip here.first here.nets k ≡ true → ⊥
@@ -372,37 +372,37 @@ module _ (wiring : Wiring) (chip : LinkedChip) (link : IsLinkOf wiring chip) whe
 pub control_broken : (wiring : Wiring) (chip : LinkedChip) (link : IsLinkOf wiring chip) (misused : Misused) → misused_of chip ≡ Some misused
     → misused.pin < 3 → (part : WiredPart) → slice_get wiring.parts misused.instance ≡ Some part
     → (pin : List ℕ) → slice_get (control_names part.meaning) misused.pin ≡ Some pin → BreaksControl wiring misused.instance misused.pin pin
-control_broken wiring chip link misused told few part at pin named =
-    let found = told_here wiring chip link misused told in
+control_broken wiring chip link misused reported few part at pin named =
+    let found = reported_here wiring chip link misused reported in
     let here = found.0 in
     let first = found.1 in
     let same : part ≡ here.scan.wired = some_inj part here.scan.wired (sym at ∙ here.scan.is_wired) in
-    control_told wiring chip link misused.instance here.nets here.scan here.place here.first here.is_first misused.pin few first.here pin
+    control_reported wiring chip link misused.instance here.nets here.scan here.place here.first here.is_first misused.pin few first.here pin
     (subst (λ (p : WiredPart). slice_get (control_names p.meaning) misused.pin ≡ Some pin) same named)
 
 -- and so does the inverted output that is reported
 pub inverted_used : (wiring : Wiring) (chip : LinkedChip) (link : IsLinkOf wiring chip) (misused : Misused) → misused_of chip ≡ Some misused
     → misused.pin ≡ 3 → UsesInverted wiring misused.instance
-inverted_used wiring chip link misused told last =
-    let found = told_here wiring chip link misused told in
+inverted_used wiring chip link misused reported last =
+    let found = reported_here wiring chip link misused reported in
     let here = found.0 in
     let first = found.1 in
-    inverted_told wiring chip link misused.instance here.nets here.scan here.place here.first here.is_first
+    inverted_reported wiring chip link misused.instance here.nets here.scan here.place here.first here.is_first
     (subst (λ pin. breaks_pin chip here.first here.nets pin ≡ true) last first.here)
 
 -- no control pin before what is reported breaks its rule in the wiring
 pub no_earlier_control : (wiring : Wiring) (chip : LinkedChip) (link : IsLinkOf wiring chip) (misused : Misused) → misused_of chip ≡ Some misused
     → (u k : ℕ) (pin : List ℕ) → (u < misused.instance) ⊎ ((u ≡ misused.instance) × (k < misused.pin)) → BreaksControl wiring u k pin → ⊥
-no_earlier_control wiring chip link misused told u k pin before breaks =
+no_earlier_control wiring chip link misused reported u k pin before breaks =
     let found = control_breaks wiring chip link u k pin breaks in
-    none_earlier wiring chip link misused told u k found.0 before found.1
+    none_earlier wiring chip link misused reported u k found.0 before found.1
 
 -- and no inverted output before it has a load
 pub no_earlier_inverted : (wiring : Wiring) (chip : LinkedChip) (link : IsLinkOf wiring chip) (misused : Misused) → misused_of chip ≡ Some misused
     → (u : ℕ) → u < misused.instance → UsesInverted wiring u → ⊥
-no_earlier_inverted wiring chip link misused told u before uses =
+no_earlier_inverted wiring chip link misused reported u before uses =
     let found = inverted_breaks wiring chip link u uses in
-    none_earlier wiring chip link misused told u 3 found.0 (inl before) found.1
+    none_earlier wiring chip link misused reported u 3 found.0 (inl before) found.1
 
 -- where none is reported, each control pin keeps its rule in the wiring
 pub controls_kept : (wiring : Wiring) (chip : LinkedChip) (link : IsLinkOf wiring chip) → misused_of chip ≡ None
@@ -420,29 +420,29 @@ inverted_kept wiring chip link none u uses =
 
 -- The instance that is reported has a row in the scan table, and the control pin its name there.
 module _ (raw : RawNetlist) (library : List Named) (scan : List ScanRow) (chip : LinkedChip) (link : IsLinkOf (wiring_of raw library scan) chip)
-    (misused : Misused) (told : misused_of chip ≡ Some misused) (part : Part) (at : slice_get chip.parts misused.instance ≡ Some part) where
-  told_scan : (nets : ScanNets) × IsScanAt (wiring_of raw library scan) chip link misused.instance nets
-  told_scan =
-      let here = (told_here (wiring_of raw library scan) chip link misused told).0 in
+    (misused : Misused) (reported : misused_of chip ≡ Some misused) (part : Part) (at : slice_get chip.parts misused.instance ≡ Some part) where
+  reported_scan : (nets : ScanNets) × IsScanAt (wiring_of raw library scan) chip link misused.instance nets
+  reported_scan =
+      let here = (reported_here (wiring_of raw library scan) chip link misused reported).0 in
       (here.nets, here.scan)
 
   pub control_row : (row : ScanRow) × (row_of scan part.cell ≡ Some row)
   control_row =
-      let here = told_scan.1 in
+      let here = reported_scan.1 in
       let same : here.part ≡ part = some_inj here.part part (sym here.is_part ∙ at) in (
         here.row,
         ap (λ (p : Part). row_of scan p.cell) (sym same) ∙ ap (row_of scan) here.of.cell
             ∙ means_row raw library scan misused.instance here.wired here.is_wired here.row here.meaning,
       )
 
-  pub control_told_by : (row : ScanRow) → row_of scan part.cell ≡ Some row → misused.pin < 3
+  pub control_reported_by : (row : ScanRow) → row_of scan part.cell ≡ Some row → misused.pin < 3
       → (pin : List ℕ) → slice_get (control_names (ScanCell row)) misused.pin ≡ Some pin
       → BreaksControl (wiring_of raw library scan) misused.instance misused.pin pin
-  control_told_by row is few pin named =
-      let here = told_scan.1 in
+  control_reported_by row is few pin named =
+      let here = reported_scan.1 in
       let same : here.part ≡ part = some_inj here.part part (sym here.is_part ∙ at) in
       let there : row_of scan here.wired.cell ≡ Some row =
       ap (row_of scan) (sym here.of.cell) ∙ ap (λ (p : Part). row_of scan p.cell) same ∙ is in
-      control_broken (wiring_of raw library scan) chip link misused told few here.wired here.is_wired pin
+      control_broken (wiring_of raw library scan) chip link misused reported few here.wired here.is_wired pin
       (ap (λ meaning. slice_get (control_names meaning) misused.pin)
       (row_means raw library scan misused.instance here.wired here.is_wired row there) ∙ named)

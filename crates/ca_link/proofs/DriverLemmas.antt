@@ -94,7 +94,7 @@ module _ (wiring : Wiring) (chip : LinkedChip) (link : IsLinkOf wiring chip) whe
   pub is_double_driven : (net : ℕ) → net < net_count chip → (one two : Source) → AreFirst (Drives chip net) (Some one) (Some two)
       → (first second : Driver) → IsDriver wiring net (driving_of one) first → IsDriver wiring net (driving_of two) second
       → IsDoubleDriven wiring net first second
-  is_double_driven net lt one two are first second told_one told_two =
+  is_double_driven net lt one two are first second reported_one reported_two =
       let wire = wire_of_net wiring chip link net lt in
       let same = same_first_two wiring chip link net wire.0 wire.1 one two are in
       record {
@@ -106,6 +106,6 @@ module _ (wiring : Wiring) (chip : LinkedChip) (link : IsLinkOf wiring chip) whe
         drives_two = same.drives_two;
         in_order = same.in_order;
         none_before = same.none_before;
-        told_one = told_one;
-        told_two = told_two;
+        reported_one = reported_one;
+        reported_two = reported_two;
       }

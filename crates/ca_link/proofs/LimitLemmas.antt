@@ -216,17 +216,17 @@ module _ (wiring : Wiring) (chip : LinkedChip) (link : IsLinkOf wiring chip) whe
       defects (omega (arith, at, lt)) (subst (λ n. MOST_CHIP_DEFECTS < n) (defects_are wiring chip link) past)
 
 -- the first limit that is passed, by its place; or none is
-abbrev pub TellsLimit : LinkedChip → ℕ → Option ChipFault → Type 0
-TellsLimit chip defects told =
-    ((told ≡ Some (fault.TooManyInstances (length (gates_of chip)))) × (MOST_INSTANCES < length (gates_of chip)))
-    ⊎ (((told ≡ Some (fault.TooManyInputs (length (inputs_of chip)))) × (MOST_CHIP_INPUTS < length (inputs_of chip))
+abbrev pub ReportsLimit : LinkedChip → ℕ → Option ChipFault → Type 0
+ReportsLimit chip defects reported =
+    ((reported ≡ Some (fault.TooManyInstances (length (gates_of chip)))) × (MOST_INSTANCES < length (gates_of chip)))
+    ⊎ (((reported ≡ Some (fault.TooManyInputs (length (inputs_of chip)))) × (MOST_CHIP_INPUTS < length (inputs_of chip))
     × (MOST_INSTANCES < length (gates_of chip) → ⊥))
-    ⊎ (((told ≡ Some (fault.TooManyOutputs (length (outputs_of chip)))) × (MOST_CHIP_OUTPUTS < length (outputs_of chip))
+    ⊎ (((reported ≡ Some (fault.TooManyOutputs (length (outputs_of chip)))) × (MOST_CHIP_OUTPUTS < length (outputs_of chip))
     × (MOST_INSTANCES < length (gates_of chip) → ⊥) × (MOST_CHIP_INPUTS < length (inputs_of chip) → ⊥))
-    ⊎ (((told ≡ Some (fault.TooManyDefects defects)) × (MOST_CHIP_DEFECTS < defects)
+    ⊎ (((reported ≡ Some (fault.TooManyDefects defects)) × (MOST_CHIP_DEFECTS < defects)
     × (MOST_INSTANCES < length (gates_of chip) → ⊥) × (MOST_CHIP_INPUTS < length (inputs_of chip) → ⊥)
     × (MOST_CHIP_OUTPUTS < length (outputs_of chip) → ⊥))
-    ⊎ ((told ≡ None) × (MOST_INSTANCES < length (gates_of chip) → ⊥) × (MOST_CHIP_INPUTS < length (inputs_of chip) → ⊥)
+    ⊎ ((reported ≡ None) × (MOST_INSTANCES < length (gates_of chip) → ⊥) × (MOST_CHIP_INPUTS < length (inputs_of chip) → ⊥)
     × (MOST_CHIP_OUTPUTS < length (outputs_of chip) → ⊥) × (MOST_CHIP_DEFECTS < defects → ⊥)))))
 
 not_less : (a b : ℕ) → nat_lt a b ≡ false → a < b → ⊥
@@ -240,14 +240,14 @@ limit_by chip defects a b c d =
     else (if c then Some (fault.TooManyOutputs (length (outputs_of chip)))
     else (if d then Some (fault.TooManyDefects defects) else None)))
 
-pub tells_limit : (chip : LinkedChip) (defects : ℕ) → TellsLimit chip defects (first_limit chip defects)
-tells_limit chip defects =
+pub reports_limit : (chip : LinkedChip) (defects : ℕ) → ReportsLimit chip defects (first_limit chip defects)
+reports_limit chip defects =
     by (nat_lt MOST_INSTANCES (length (gates_of chip))) refl (nat_lt MOST_CHIP_INPUTS (length (inputs_of chip))) refl
     (nat_lt MOST_CHIP_OUTPUTS (length (outputs_of chip))) refl (nat_lt MOST_CHIP_DEFECTS defects) refl
   where
     by : (a : Bool) → nat_lt MOST_INSTANCES (length (gates_of chip)) ≡ a → (b : Bool) → nat_lt MOST_CHIP_INPUTS (length (inputs_of chip)) ≡ b
         → (c : Bool) → nat_lt MOST_CHIP_OUTPUTS (length (outputs_of chip)) ≡ c → (d : Bool) → nat_lt MOST_CHIP_DEFECTS defects ≡ d
-        → TellsLimit chip defects (limit_by chip defects a b c d)
+        → ReportsLimit chip defects (limit_by chip defects a b c d)
     by true e_a b e_b c e_c d e_d = inl (refl, ltb-true MOST_INSTANCES (length (gates_of chip)) e_a)
     by false e_a true e_b c e_c d e_d =
         inr (inl (refl, ltb-true MOST_CHIP_INPUTS (length (inputs_of chip)) e_b, not_less MOST_INSTANCES (length (gates_of chip)) e_a))

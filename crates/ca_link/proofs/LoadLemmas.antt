@@ -98,14 +98,14 @@ module _ (wiring : Wiring) (chip : LinkedChip) (link : IsLinkOf wiring chip) (ne
       let found = flat_at (λ (b : HeaderBit). if b.is_input then [] else b.wire ∷ []) wiring.header other contains in
       let p = found.0 in
       let bit = found.1 in
-      let told = as_output bit.is_input bit.wire other found.3 in
+      let reported = as_output bit.is_input bit.wire other found.3 in
       let port = also_there chip.ports wiring.header p bit (sym link.same_ports) found.2 in
       let of = link.ports p bit port.0 found.2 port.1 in
       let same : port.0.net ≡ net = joined_one_net wiring link.nets link.are.ascending bit.wire wire port.0.net net of.net is
-      (subst (λ w. AreJoined wiring.joins w wire) (sym told.1) joined) in
+      (subst (λ w. AreJoined wiring.joins w wire) (sym reported.1) joined) in
       at_any (is_port_on false net) chip.ports p port.0 port.1
       (and_from (if port.0.is_input then false else not false) (eqb net port.0.net)
-      (ap (λ b. if b then false else not false) of.is_input ∙ told.0) (eq-eqb net port.0.net (sym same)))
+      (ap (λ b. if b then false else not false) of.is_input ∙ reported.0) (eq-eqb net port.0.net (sym same)))
 
   inputs_match : Matches wiring chip link input_nets (λ part. part.inputs)
   inputs_match wired part of n w is_n = (

@@ -29,8 +29,8 @@ use Rattle.ca_linked.specs.declared.parts.Source.TheVariants.{FromPort, FromCons
 use Rattle.ca_linked.specs.Linked.{LinkedChip, output_nets, no_cell}
 use Rattle.ca_linked.specs.Instances.{IsScan}
 use Rattle.ca_linked.proofs.DriverLemmas.{some_inj, of_some}
-use Rattle.ca_link.specs.Names.{body_outputs, part_outputs, HaveNames, TellsSource}
-use Rattle.ca_link.specs.Told.{IsControlName}
+use Rattle.ca_link.specs.Names.{body_outputs, part_outputs, HaveNames, ReportsSource}
+use Rattle.ca_link.specs.Reported.{IsControlName}
 use Rattle.ca_link.proofs.NetsLemmas.{nets_length, also_there}
 
 -- a wire for each output pin
@@ -105,13 +105,13 @@ module _ (raw : RawNetlist) (library : List Named) (scan : List ScanRow) (chip :
   have_names u part at = let is = wired_at u part at in ap (λ (names : List (List ℕ)). length names) (sym is.names) ∙ is.outputs
 
   -- what is reported about a source is reported about what drives in the wiring
-  pub told_driver : (net : ℕ) (source : Source) (told : Driver) → TellsSource chip scan net source told
-      → IsDriver (wiring_of raw library scan) net (driving_of source) told
-  told_driver net (FromPort p) told tells = tells
-  told_driver net (FromConstant value) told tells = tells
-  told_driver net (FromPin u pin) told (name, is_name, tells) =
+  pub reported_driver : (net : ℕ) (source : Source) (reported : Driver) → ReportsSource chip scan net source reported
+      → IsDriver (wiring_of raw library scan) net (driving_of source) reported
+  reported_driver net (FromPort p) reported reports = reports
+  reported_driver net (FromConstant value) reported reports = reports
+  reported_driver net (FromPin u pin) reported (name, is_name, reports) =
       let is = wired_at u is_name.part is_name.at in
-      (is.wired, name, is.at, subst (λ (names : List (List ℕ)). slice_get names pin ≡ Some name) (sym is.names) is_name.named, tells)
+      (is.wired, name, is.at, subst (λ (names : List (List ℕ)). slice_get names pin ≡ Some name) (sym is.names) is_name.named, reports)
 
   -- the name of a control pin is that in the wiring
   pub record IsControlOf (u k : ℕ) (name : List ℕ) : Type 0 where
@@ -119,8 +119,8 @@ module _ (raw : RawNetlist) (library : List Named) (scan : List ScanRow) (chip :
     pub at : slice_get (wiring_of raw library scan).parts u ≡ Some wired
     pub named : slice_get (control_names wired.meaning) k ≡ Some name
 
-  pub told_control : (u k : ℕ) (name : List ℕ) → IsControlName chip scan u k name → IsControlOf u k name
-  told_control u k name is_name =
+  pub reported_control : (u k : ℕ) (name : List ℕ) → IsControlName chip scan u k name → IsControlOf u k name
+  reported_control u k name is_name =
       let is = wired_at u is_name.part is_name.at in
       let meaning : is.wired.meaning ≡ ScanCell is_name.row =
       is.meaning ∙ ap (λ row. meaning_with row (entry_of library (upper_case is_name.part.cell))) is_name.is_row in

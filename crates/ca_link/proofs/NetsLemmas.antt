@@ -37,8 +37,8 @@ ascending_once xs j k x ascending at_j at_k = elim (cases_lt j k) [
   ]
 ]
 
-ascends_behind : (x : ℕ) (xs : List ℕ) → Ascends (x ∷ xs) → Ascends xs
-ascends_behind x xs ascending j k d less within = ascending (suc j) (suc k) d (omega (arith, less)) (omega (arith, within))
+ascends_after : (x : ℕ) (xs : List ℕ) → Ascends (x ∷ xs) → Ascends xs
+ascends_after x xs ascending j k d less within = ascending (suc j) (suc k) d (omega (arith, less)) (omega (arith, within))
 
 -- the number is in the list
 abbrev IsAt : List ℕ → ℕ → Type 0
@@ -58,7 +58,7 @@ same_members (x ∷ xs) [] up_xs up_ys to back =
     absurd (let none = to x (0, refl) in let lt = slice_get_within [] none.0 x none.1 in omega (arith, lt))
 same_members (x ∷ xs) (y ∷ ys) up_xs up_ys to back =
     ap (λ n. n ∷ xs) first ∙ ap (λ list. y ∷ list)
-    (same_members xs ys (ascends_behind x xs up_xs) (ascends_behind y ys up_ys) to_rest back_rest)
+    (same_members xs ys (ascends_after x xs up_xs) (ascends_after y ys up_ys) to_rest back_rest)
   where
     first : x ≡ y
     first = elim (no_less y ys x up_ys (to x (0, refl))) [
@@ -189,15 +189,15 @@ module _ (wiring : Wiring) (nets : List ℕ) where
   net_joined from net wire is at = subst (AreJoined wiring.joins from) (some_inj is.earliest wire (sym is.at ∙ at)) is.is_earliest.joined
 
   -- and a wire that is joined with it is on the net
-  pub joined_net : (are : AreNets wiring nets) (from told net wire : ℕ) → IsNetOf wiring nets from told → AreJoined wiring.joins from wire → slice_get nets net ≡ Some wire
-      → told ≡ net
-  joined_net are from told net wire is joined at =
+  pub joined_net : (are : AreNets wiring nets) (from reported net wire : ℕ) → IsNetOf wiring nets from reported → AreJoined wiring.joins from wire → slice_get nets net ≡ Some wire
+      → reported ≡ net
+  joined_net are from reported net wire is joined at =
       let known : IsNet wiring wire = (are.has wire).0 (contained_at nets net wire at) in
-      joined_one_net are.ascending from wire told net is (record { earliest = wire; is_earliest = known.earliest; at = at }) joined
+      joined_one_net are.ascending from wire reported net is (record { earliest = wire; is_earliest = known.earliest; at = at }) joined
 
 -- a list as long as another has something where that has
 pub also_there : {X Y : Type 0} (xs : List X) (ys : List Y) (k : ℕ) (y : Y) → length ys ≡ length xs → slice_get ys k ≡ Some y → (x : X) × (slice_get xs k ≡ Some x)
 also_there xs ys k y same at = elim (slice_get_cases xs k).1 [
   | inl there ↦ (there.0, there.2)
-  | inr past ↦ absurd (let lt = slice_get_within ys k y at in let behind = past.0 in omega (arith, lt, behind, same))
+  | inr past ↦ absurd (let lt = slice_get_within ys k y at in let following = past.0 in omega (arith, lt, following, same))
 ]

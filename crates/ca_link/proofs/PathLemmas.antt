@@ -100,9 +100,9 @@ module _ (wiring : Wiring) (nets : List ℕ) where
   nets_append (wire ∷ wires) others (net ∷ list) more are rest = (are.0, nets_append wires others list more are.1 rest)
 
   -- the nets after the first, and the first
-  nets_behind : (wires list : List ℕ) (net : ℕ) → AreNetsOf wiring nets wires (net ∷ list) → AreNetsOf wiring nets (drop 1 wires) list
-  nets_behind [] list net are = absurd are
-  nets_behind (wire ∷ wires) list net are = are.1
+  nets_after : (wires list : List ℕ) (net : ℕ) → AreNetsOf wiring nets wires (net ∷ list) → AreNetsOf wiring nets (drop 1 wires) list
+  nets_after [] list net are = absurd are
+  nets_after (wire ∷ wires) list net are = are.1
 
   nets_first : (wires list : List ℕ) (net : ℕ) → AreNetsOf wiring nets wires (net ∷ list) → AreNetsOf wiring nets (take 1 wires) (net ∷ [])
   nets_first [] list net are = absurd are
@@ -139,7 +139,7 @@ module _ (wiring : Wiring) (chip : LinkedChip) (link : IsLinkOf wiring chip) whe
   path_with (ScanCell row) (Gate cell ins_of outs_of) inputs outputs has ins outs net wire is = absurd has
   path_with (ScanCell row) (Scan nets) inputs outputs has ins outs net wire is =
       let of = nets_append wiring link.nets (drop 1 inputs) (last_of outputs) (nets.si ∷ nets.se ∷ nets.ck ∷ nets.hold ∷ []) (nets.so ∷ [])
-      (nets_behind wiring link.nets inputs (nets.si ∷ nets.se ∷ nets.ck ∷ nets.hold ∷ []) nets.d ins)
+      (nets_after wiring link.nets inputs (nets.si ∷ nets.se ∷ nets.ck ∷ nets.hold ∷ []) nets.d ins)
       (nets_last wiring link.nets outputs nets.q nets.so nets.qn outs) in
       let all = nets.si ∷ nets.se ∷ nets.ck ∷ nets.hold ∷ nets.so ∷ [] in (
         λ contains. list_joined wiring link.nets (drop 1 inputs ++ last_of outputs) all net wire of is

@@ -71,13 +71,13 @@ pub record IsFirstScan (parts : List Part) (place : ℕ) (nets : ScanNets) : Typ
 -- the first that is reported is there
 pub first_scan_at : (parts : List Part) (nets : ScanNets) → first_scan parts ≡ Some nets → (place : ℕ) × IsFirstScan parts place nets
 first_scan_at [] nets e = absurd (let clash : None ≡ Some nets = e in cc)
-first_scan_at (part ∷ more) nets e = by (λ told. first_scan_at more nets told) part.body refl e
+first_scan_at (part ∷ more) nets e = by (λ reported. first_scan_at more nets reported) part.body refl e
   where
     by : (first_scan more ≡ Some nets → (place : ℕ) × IsFirstScan more place nets) → (body : Body) → part.body ≡ body
         → scan_or body (first_scan more) ≡ Some nets
         → (place : ℕ) × IsFirstScan (part ∷ more) place nets
-    by rest (Gate cell inputs outputs) is told =
-        let found = rest told in
+    by rest (Gate cell inputs outputs) is reported =
+        let found = rest reported in
         let later = found.1 in
         (suc found.0, record { part = later.part; at = later.at; body = later.body; none_before = none later.none_before })
       where
@@ -85,12 +85,12 @@ first_scan_at (part ∷ more) nets e = by (λ told. first_scan_at more nets told
             → (before : ℕ) (other : Part) → before < suc place → slice_get (part ∷ more) before ≡ Some other → IsGate other.body
         none each zero other lt at = subst (λ (p : Part). IsGate p.body) (some_inj part other at) (subst IsGate (sym is) tt)
         none each (suc before) other lt at = each before other (omega (arith, lt)) at
-    by rest (Scan first) is told = (
+    by rest (Scan first) is reported = (
       0,
       record {
         part = part;
         at = refl;
-        body = is ∙ ap Scan (some_inj first nets told);
+        body = is ∙ ap Scan (some_inj first nets reported);
         none_before = λ before other lt at. absurd (omega (arith, lt));
       },
     )
@@ -121,14 +121,14 @@ module _ (chip : LinkedChip) (first : Option ScanNets) where
   pub misused_at : (parts : List Part) (u : ℕ) (misused : Misused) → misused_from chip first u parts ≡ Some misused
       → (place : ℕ) × (misused.instance ≡ u + place) × IsMisusedAt parts place misused.pin
   misused_at [] u misused e = absurd (let clash : None ≡ Some misused = e in cc)
-  misused_at (part ∷ more) u misused e = by (λ told. misused_at more (u + 1) misused told) (body_fault chip first part.body) refl e
+  misused_at (part ∷ more) u misused e = by (λ reported. misused_at more (u + 1) misused reported) (body_fault chip first part.body) refl e
     where
       by : (misused_from chip first (u + 1) more ≡ Some misused
           → (place : ℕ) × (misused.instance ≡ u + 1 + place) × IsMisusedAt more place misused.pin)
-          → (told : Option ℕ) → body_fault chip first part.body ≡ told → misused_or u told (misused_from chip first (u + 1) more) ≡ Some misused
+          → (reported : Option ℕ) → body_fault chip first part.body ≡ reported → misused_or u reported (misused_from chip first (u + 1) more) ≡ Some misused
           → (place : ℕ) × (misused.instance ≡ u + place) × IsMisusedAt (part ∷ more) place misused.pin
-      by rest None is told =
-          let found = rest told in
+      by rest None is reported =
+          let found = rest reported in
           let later = found.2 in
           let same = found.1 in
           (suc found.0, omega (arith, same), record { part = later.part; at = later.at; broken = later.broken; none_before = none later.none_before })
@@ -139,8 +139,8 @@ module _ (chip : LinkedChip) (first : Option ScanNets) where
               → body_fault chip first other.body ≡ None
           none each zero other lt at = ap (λ (p : Part). body_fault chip first p.body) (sym (some_inj part other at)) ∙ is
           none each (suc before) other lt at = each before other (omega (arith, lt)) at
-      by rest (Some pin) is told =
-          let same : (record { instance = u; pin = pin }) ≡ misused = some_inj (record { instance = u; pin = pin }) misused told in
+      by rest (Some pin) is reported =
+          let same : (record { instance = u; pin = pin }) ≡ misused = some_inj (record { instance = u; pin = pin }) misused reported in
           let there : u ≡ misused.instance = ap (λ (m : Misused). m.instance) same in (
             0,
             omega (arith, there),
@@ -160,7 +160,7 @@ module _ (chip : LinkedChip) (first : Option ScanNets) where
       by (λ k none there. none_misused more (u + 1) k part none there) (body_fault chip first other.body) refl e place at
     where
       by : ((k : ℕ) → misused_from chip first (u + 1) more ≡ None → slice_get more k ≡ Some part → body_fault chip first part.body ≡ None)
-          → (told : Option ℕ) → body_fault chip first other.body ≡ told → misused_or u told (misused_from chip first (u + 1) more) ≡ None
+          → (reported : Option ℕ) → body_fault chip first other.body ≡ reported → misused_or u reported (misused_from chip first (u + 1) more) ≡ None
           → (k : ℕ) → slice_get (other ∷ more) k ≡ Some part → body_fault chip first part.body ≡ None
       by rest None is none zero here = ap (λ (p : Part). body_fault chip first p.body) (sym (some_inj other part here)) ∙ is
       by rest None is none (suc k) there = rest k none there
@@ -193,31 +193,31 @@ module _ (chip : LinkedChip) (first nets : ScanNets) where
     pub here : breaks_pin pin ≡ true
     pub none_before : (before : ℕ) → before < pin → breaks_pin before ≡ false
 
-  abbrev told_by : Bool → Bool → Bool → Bool → Option ℕ
-  told_by a b c d = if a then Some 0 else (if b then Some 1 else (if c then Some 2 else (if d then Some 3 else None)))
+  abbrev reported_by : Bool → Bool → Bool → Bool → Option ℕ
+  reported_by a b c d = if a then Some 0 else (if b then Some 1 else (if c then Some 2 else (if d then Some 3 else None)))
 
   -- the pin that is reported is the first
   pub first_pin : (pin : ℕ) → pin_fault chip first nets ≡ Some pin → IsFirstPin pin
   first_pin pin e = by (breaks_pin 0) (breaks_pin 1) (breaks_pin 2) (breaks_pin 3) refl refl refl refl e
     where
-      by : (a b c d : Bool) → breaks_pin 0 ≡ a → breaks_pin 1 ≡ b → breaks_pin 2 ≡ c → breaks_pin 3 ≡ d → told_by a b c d ≡ Some pin
+      by : (a b c d : Bool) → breaks_pin 0 ≡ a → breaks_pin 1 ≡ b → breaks_pin 2 ≡ c → breaks_pin 3 ≡ d → reported_by a b c d ≡ Some pin
           → IsFirstPin pin
-      by true b c d is_a is_b is_c is_d told = subst IsFirstPin (some_inj 0 pin told)
+      by true b c d is_a is_b is_c is_d reported = subst IsFirstPin (some_inj 0 pin reported)
           (record { few = omega arith; here = is_a; none_before = λ before lt. absurd (omega (arith, lt)) })
-      by false true c d is_a is_b is_c is_d told = subst IsFirstPin (some_inj 1 pin told)
+      by false true c d is_a is_b is_c is_d reported = subst IsFirstPin (some_inj 1 pin reported)
           (record { few = omega arith; here = is_b; none_before = none })
         where
           none : (before : ℕ) → before < 1 → breaks_pin before ≡ false
           none zero lt = is_a
           none (suc before) lt = absurd (omega (arith, lt))
-      by false false true d is_a is_b is_c is_d told = subst IsFirstPin (some_inj 2 pin told)
+      by false false true d is_a is_b is_c is_d reported = subst IsFirstPin (some_inj 2 pin reported)
           (record { few = omega arith; here = is_c; none_before = none })
         where
           none : (before : ℕ) → before < 2 → breaks_pin before ≡ false
           none zero lt = is_a
           none (suc zero) lt = is_b
           none (suc (suc before)) lt = absurd (omega (arith, lt))
-      by false false false true is_a is_b is_c is_d told = subst IsFirstPin (some_inj 3 pin told)
+      by false false false true is_a is_b is_c is_d reported = subst IsFirstPin (some_inj 3 pin reported)
           (record { few = omega arith; here = is_d; none_before = none })
         where
           none : (before : ℕ) → before < 3 → breaks_pin before ≡ false
@@ -225,22 +225,22 @@ module _ (chip : LinkedChip) (first nets : ScanNets) where
           none (suc zero) lt = is_b
           none (suc (suc zero)) lt = is_c
           none (suc (suc (suc before))) lt = absurd (omega (arith, lt))
-      by false false false false is_a is_b is_c is_d told = absurd (let clash : None ≡ Some pin = told in cc)
+      by false false false false is_a is_b is_c is_d reported = absurd (let clash : None ≡ Some pin = reported in cc)
 
   -- where none is reported, none breaks its rule
   pub no_pin : pin_fault chip first nets ≡ None → (pin : ℕ) → breaks_pin pin ≡ false
   no_pin e = by (breaks_pin 0) (breaks_pin 1) (breaks_pin 2) (breaks_pin 3) refl refl refl refl e
     where
-      by : (a b c d : Bool) → breaks_pin 0 ≡ a → breaks_pin 1 ≡ b → breaks_pin 2 ≡ c → breaks_pin 3 ≡ d → told_by a b c d ≡ None
+      by : (a b c d : Bool) → breaks_pin 0 ≡ a → breaks_pin 1 ≡ b → breaks_pin 2 ≡ c → breaks_pin 3 ≡ d → reported_by a b c d ≡ None
           → (pin : ℕ) → breaks_pin pin ≡ false
-      by true b c d is_a is_b is_c is_d told pin = absurd (let clash : Some 0 ≡ None = told in cc)
-      by false true c d is_a is_b is_c is_d told pin = absurd (let clash : Some 1 ≡ None = told in cc)
-      by false false true d is_a is_b is_c is_d told pin = absurd (let clash : Some 2 ≡ None = told in cc)
-      by false false false true is_a is_b is_c is_d told pin = absurd (let clash : Some 3 ≡ None = told in cc)
-      by false false false false is_a is_b is_c is_d told zero = is_a
-      by false false false false is_a is_b is_c is_d told (suc zero) = is_b
-      by false false false false is_a is_b is_c is_d told (suc (suc zero)) = is_c
-      by false false false false is_a is_b is_c is_d told (suc (suc (suc pin))) = is_d
+      by true b c d is_a is_b is_c is_d reported pin = absurd (let clash : Some 0 ≡ None = reported in cc)
+      by false true c d is_a is_b is_c is_d reported pin = absurd (let clash : Some 1 ≡ None = reported in cc)
+      by false false true d is_a is_b is_c is_d reported pin = absurd (let clash : Some 2 ≡ None = reported in cc)
+      by false false false true is_a is_b is_c is_d reported pin = absurd (let clash : Some 3 ≡ None = reported in cc)
+      by false false false false is_a is_b is_c is_d reported zero = is_a
+      by false false false false is_a is_b is_c is_d reported (suc zero) = is_b
+      by false false false false is_a is_b is_c is_d reported (suc (suc zero)) = is_c
+      by false false false false is_a is_b is_c is_d reported (suc (suc (suc pin))) = is_d
 
   -- a control pin breaks its rule by where it is, or by an earlier one on its net
   pub breaks_cases : (k : ℕ) → k < 3 → breaks_pin k ≡ true

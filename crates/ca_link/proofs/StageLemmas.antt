@@ -11,7 +11,7 @@ use Rattle.ca_wiring.specs.InstanceRules.{AreSound}
 use Rattle.ca_wiring.specs.Wiring.{meaning_of, wiring_of}
 use Rattle.ca_wiring.specs.Nets.{FeedsWire}
 use Rattle.ca_wiring.specs.Rules.{IsEarlier, IsObservedPath, BreaksAt, IsFirstBroken, KeepsRules}
-use Rattle.ca_wiring.proofs.JudgeLemmas.{IsBehind, stage_of, sound_keeps}
+use Rattle.ca_wiring.proofs.JudgeLemmas.{IsAfter, stage_of, sound_keeps}
 use Rattle.ca_linked.specs.Order.{IsLoop}
 use Rattle.ca_link.specs.Stages.{IsMisdriven, IsMisused, PassesLimit}
 
@@ -26,11 +26,11 @@ module _ (raw : RawNetlist) (library : List Named) (scan : List ScanRow) where
     pub limits : (k : ℕ) → PassesLimit (wiring_of raw library scan) k → P (6 ∷ k ∷ []) → ⊥
 
   -- a rule on instances isn't after them
-  not_behind : (at tail : List ℕ) → at ≡ 1 ∷ tail → IsBehind raw library scan at → ⊥
-  not_behind at tail place behind =
-      let same : 1 ∷ tail ≡ behind.stage ∷ behind.tail = sym place ∙ behind.place in
-      let stage : 1 ≡ behind.stage = cc in
-      let later = behind.later in
+  not_after : (at tail : List ℕ) → at ≡ 1 ∷ tail → IsAfter raw library scan at → ⊥
+  not_after at tail place following =
+      let same : 1 ∷ tail ≡ following.stage ∷ following.tail = sym place ∙ following.place in
+      let stage : 1 ≡ following.stage = cc in
+      let later = following.later in
       omega (arith, stage, later)
 
   -- sound instances break no rule on instances
@@ -39,7 +39,7 @@ module _ (raw : RawNetlist) (library : List Named) (scan : List ScanRow) where
     | inl part ↦
         sound_keeps raw library scan (meaning_of library scan part.instance.cell) part.instance.pins part.tail
         (sound part.u part.instance part.is) part.breaks
-    | inr behind ↦ not_behind at tail place behind
+    | inr following ↦ not_after at tail place following
   ]
 
   module _ (P : List ℕ → Type 0) (keeps : KeepsAt P) where
@@ -61,11 +61,11 @@ module _ (raw : RawNetlist) (library : List Named) (scan : List ScanRow) where
     none_broken at (fault.TooManyInstances count) here breaks =
         keeps.limits 0 (inl (refl, subst (λ n. MOST_INSTANCES < n) breaks.1 breaks.2)) (subst P breaks.0 here)
     none_broken at (fault.TooManyInputs count) here breaks =
-        let told = breaks.1 in
-        keeps.limits 1 (inr (inl (refl, (told.0, told.1, subst (λ n. MOST_CHIP_INPUTS < n) told.2 told.3)))) (subst P breaks.0 here)
+        let reported = breaks.1 in
+        keeps.limits 1 (inr (inl (refl, (reported.0, reported.1, subst (λ n. MOST_CHIP_INPUTS < n) reported.2 reported.3)))) (subst P breaks.0 here)
     none_broken at (fault.TooManyOutputs count) here breaks =
-        let told = breaks.1 in
-        keeps.limits 2 (inr (inr (inl (refl, (told.0, told.1, subst (λ n. MOST_CHIP_OUTPUTS < n) told.2 told.3))))) (subst P breaks.0 here)
+        let reported = breaks.1 in
+        keeps.limits 2 (inr (inr (inl (refl, (reported.0, reported.1, subst (λ n. MOST_CHIP_OUTPUTS < n) reported.2 reported.3))))) (subst P breaks.0 here)
     none_broken at (fault.TooManyDefects count) here breaks =
         keeps.limits 3 (inr (inr (inr (refl, subst (λ n. MOST_CHIP_DEFECTS < n) breaks.1 breaks.2)))) (subst P breaks.0 here)
     none_broken at fault.NoMemory here breaks = breaks

@@ -1,4 +1,4 @@
 pub mod Stages
 pub mod Names
-pub mod Told
+pub mod Reported
 pub mod Limits

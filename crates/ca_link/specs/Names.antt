@@ -36,8 +36,8 @@ pub record IsOutputName (chip : LinkedChip) (scan : List ScanRow) (u pin : ℕ) 
   pub named : slice_get (part_outputs chip scan part) pin ≡ Some name
 
 -- how a fault names the source that drives a net: a port by the net, a pin by its name
-abbrev pub TellsSource : LinkedChip → List ScanRow → ℕ → Source → Driver → Type 0
-TellsSource chip scan net (FromPort p) told = told ≡ driver.Port (record { 0 = net })
-TellsSource chip scan net (FromConstant value) told = told ≡ driver.Constant value
-TellsSource chip scan net (FromPin u pin) told =
-    (name : List ℕ) × IsOutputName chip scan u pin name × (told ≡ driver.Pin (record { 0 = u }) name)
+abbrev pub ReportsSource : LinkedChip → List ScanRow → ℕ → Source → Driver → Type 0
+ReportsSource chip scan net (FromPort p) reported = reported ≡ driver.Port (record { 0 = net })
+ReportsSource chip scan net (FromConstant value) reported = reported ≡ driver.Constant value
+ReportsSource chip scan net (FromPin u pin) reported =
+    (name : List ℕ) × IsOutputName chip scan u pin name × (reported ≡ driver.Pin (record { 0 = u }) name)

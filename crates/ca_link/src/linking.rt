@@ -62,9 +62,9 @@ pub fn link_instances(
     let draft = draft_of(alloc, library, netlist, scan)?;
     match judge(alloc, &draft) {
         Err(fault) => {
-            let told = tell(alloc, &draft, scan.as_slice(), fault);
+            let reported = tell(alloc, &draft, scan.as_slice(), fault);
             drop(draft);
-            Err(told?)
+            Err(reported?)
         }
         Ok(judged) => {
             let defects = defects_of(&draft);

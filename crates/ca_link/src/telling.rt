@@ -5,8 +5,8 @@ ghost use Rattle.ca_linked.specs.Linked.{Drives};
 ghost use Rattle.ca_linked.specs.Drivers.{AreFirst};
 ghost use Rattle.ca_linked.specs.Instances.{IsScan};
 ghost use Rattle.ca_linked.specs.Wired.{IsWireCause};
-ghost use Rattle.ca_link.specs.Names.{HaveNames, TellsSource};
-ghost use Rattle.ca_link.specs.Told.{TellsMisdriven, TellsMisused, TellsFault, IsControlName};
+ghost use Rattle.ca_link.specs.Names.{HaveNames, ReportsSource};
+ghost use Rattle.ca_link.specs.Reported.{ReportsMisdriven, ReportsMisused, ReportsFault, IsControlName};
 
 use crate::controls::control_name;
 use crate::names::{output_name, row_of};
@@ -26,7 +26,7 @@ fn driver_of(
 ) -> Result<Driver, NoMemory>
     requires names { HaveNames draft.now scan.now }
     requires drives { Drives draft.now net source }
-    ensures { IfOk result (TellsSource draft.now scan.now net source) }
+    ensures { IfOk result (ReportsSource draft.now scan.now net source) }
 {
     match source {
         Source::FromPort(_) => Ok(Driver::Port(NetId(net))),
@@ -51,7 +51,7 @@ fn tell_misdriven(
 ) -> Result<ChipFault, NoMemory>
     requires names { HaveNames draft.now scan.now }
     requires first { AreFirst (Drives draft.now net) sources.first sources.second }
-    ensures { IfOk result (TellsMisdriven draft.now scan.now net sources.first sources.second) }
+    ensures { IfOk result (ReportsMisdriven draft.now scan.now net sources.first sources.second) }
 {
     match (sources.first, sources.second) {
         (Some(one), Some(two)) => {
@@ -97,7 +97,7 @@ fn tell_misused(
     requires names { HaveNames draft.now scan.now }
     requires scan { IsSomeAnd (slice_get draft.now.parts misused.instance) (λ part. IsScan part.body) }
     requires few { misused.pin < 4 }
-    ensures { IfOk result (TellsMisused draft.now scan.now misused) }
+    ensures { IfOk result (ReportsMisused draft.now scan.now misused) }
 {
     let instance = InstanceId(misused.instance);
     if misused.pin == 3 {
@@ -117,7 +117,7 @@ pub(crate) fn tell(
 ) -> Result<ChipFault, NoMemory>
     requires names { HaveNames draft.now scan.now }
     requires cause { IsWireCause draft.now fault }
-    ensures { IfOk result (TellsFault draft.now scan.now fault) }
+    ensures { IfOk result (ReportsFault draft.now scan.now fault) }
 {
     match fault {
         WireFault::Misdriven(net, sources) => tell_misdriven(alloc, draft, scan, net, sources),

@@ -196,7 +196,7 @@ module _ (raw : RawNetlist) (library : List Named) (scan : List ScanRow) where
     | inr (inl same) ↦
         let also : BreaksAt raw library scan here.at other = subst (λ at. BreaksAt raw library scan at other) (sym same) there.breaks in
         at_place here.at broken other here.breaks also (sym (placed here.at broken here.breaks) ∙ placed here.at other also)
-    | inr (inr behind) ↦ absurd (here.none_before there.at other behind there.breaks)
+    | inr (inr following) ↦ absurd (here.none_before there.at other following there.breaks)
   ]
 
 pub first_broken : FirstBrokenIsOne

@@ -113,9 +113,9 @@ module _ (wiring : Wiring) (net : ℕ) (first second third fourth : Driver) (is 
         let other = also.none_before is.one (there is.one is.drives_one) (before_then is.one is.two also.two is.in_order before) in
         before_self is.two (subst (λ driving. ComesBefore driving is.two) (other ∙ sym one) is.in_order))
     | inr (inl same) ↦ same
-    | inr (inr behind) ↦ absurd (
-        let one = is.none_before also.two (here also.two also.drives_two) behind in
-        let other = is.none_before also.one (here also.one also.drives_one) (before_then also.one also.two is.two also.in_order behind) in
+    | inr (inr following) ↦ absurd (
+        let one = is.none_before also.two (here also.two also.drives_two) following in
+        let other = is.none_before also.one (here also.one also.drives_one) (before_then also.one also.two is.two also.in_order following) in
         before_self also.two (subst (λ driving. ComesBefore driving also.two) (other ∙ sym one) also.in_order))
   ]
 
@@ -125,8 +125,8 @@ module _ (wiring : Wiring) (net : ℕ) (first second third fourth : Driver) (is 
   -- the first two that drive a net are reported as one pair
   pub one_pair : (first ≡ third) × (second ≡ fourth)
   one_pair = (
-    one_driver wiring net also.one first third (subst (λ driving. IsDriver wiring net driving first) firsts is.told_one) also.told_one,
-    one_driver wiring net also.two second fourth (subst (λ driving. IsDriver wiring net driving second) seconds is.told_two) also.told_two,
+    one_driver wiring net also.one first third (subst (λ driving. IsDriver wiring net driving first) firsts is.reported_one) also.reported_one,
+    one_driver wiring net also.two second fourth (subst (λ driving. IsDriver wiring net driving second) seconds is.reported_two) also.reported_two,
   )
 
 -- a net that is driven twice isn't undriven

@@ -17,7 +17,7 @@ in_order (a ∷ rest) (b ∷ later) = elim (dec_lt a b) [
         elim (in_order rest later) [
           | inl before ↦ inl (inr (same, before))
           | inr (inl equal) ↦ inr (inl (ap (λ n. n ∷ rest) same ∙ ap (λ list. b ∷ list) equal))
-          | inr (inr behind) ↦ inr (inr (inr (back, behind)))
+          | inr (inr following) ↦ inr (inr (inr (back, following)))
         ]
   ]
 ]

@@ -66,28 +66,28 @@ module _ (chip : LinkedChip) (net : ℕ) where
         is_gate = pin.0;
       }
 
-  instance_told : (s : Source) (w pin : ℕ) → FromPin w pin ≡ s → instance_of s ≡ Some w
-  instance_told s w pin e = sym (ap instance_of e)
+  instance_reported : (s : Source) (w pin : ℕ) → FromPin w pin ≡ s → instance_of s ≡ Some w
+  instance_reported s w pin e = sym (ap instance_of e)
 
-  source_told : (s : Source) (w : ℕ) → instance_of s ≡ Some w → (pin : ℕ) × (s ≡ FromPin w pin)
-  source_told (FromPort p) w e = absurd (let clash : None ≡ Some w = e in cc)
-  source_told (FromConstant value) w e = absurd (let clash : None ≡ Some w = e in cc)
-  source_told (FromPin u pin) w e = (pin, ap (λ x. FromPin x pin) (some_inj u w e))
+  source_reported : (s : Source) (w : ℕ) → instance_of s ≡ Some w → (pin : ℕ) × (s ≡ FromPin w pin)
+  source_reported (FromPort p) w e = absurd (let clash : None ≡ Some w = e in cc)
+  source_reported (FromConstant value) w e = absurd (let clash : None ≡ Some w = e in cc)
+  source_reported (FromPin u pin) w e = (pin, ap (λ x. FromPin x pin) (some_inj u w e))
 
   module _ (table : List Sources) (is : IsDrivenBy chip table net) where
     -- a library instance that drives the net is the one that the table gives
-    told_is : (w : ℕ) → DrivesFromGate chip w net → first_instance (sources_at table net).first ≡ Some w
-    told_is w has =
+    reported_is : (w : ℕ) → DrivesFromGate chip w net → first_instance (sources_at table net).first ≡ Some w
+    reported_is w has =
         let from = from_pin w has in
-        ap first_instance is.told ∙ instance_told is.source w from.pin (is.only.none_other (FromPin w from.pin) from.drives)
+        ap first_instance is.reported ∙ instance_reported is.source w from.pin (is.only.none_other (FromPin w from.pin) from.drives)
 
     -- the instance that the table gives is of a library cell, or it isn't, or the table gives none
     pub gate_there : (w : ℕ) (part : Part) → first_instance (sources_at table net).first ≡ Some w → slice_get chip.parts w ≡ Some part → IsGate part.body
         → IsGateOn chip net (Some w)
-    gate_there w part told at is_gate v = (
-      λ has. sym told ∙ told_is v has,
+    gate_there w part reported at is_gate v = (
+      λ has. sym reported ∙ reported_is v has,
       λ e.
-          let source = source_told is.source w (sym (ap first_instance is.told) ∙ told) in
+          let source = source_reported is.source w (sym (ap first_instance is.reported) ∙ reported) in
           let drives : Drives chip net (FromPin w source.0) = subst (Drives chip net) source.1 is.only.has in
           let pin = of_some (λ (p : Part). slice_get (output_nets p.body) source.0 ≡ Some net) (slice_get chip.parts w) part at drives in
           subst (λ x. DrivesFromGate chip x net) (some_inj w v e)
@@ -96,9 +96,9 @@ module _ (chip : LinkedChip) (net : ℕ) where
 
     pub scan_there : (w : ℕ) (part : Part) → first_instance (sources_at table net).first ≡ Some w → slice_get chip.parts w ≡ Some part → (IsGate part.body → ⊥)
         → IsGateOn chip net None
-    scan_there w part told at is_scan v = (
+    scan_there w part reported at is_scan v = (
       λ has.
-          let same : v ≡ w = some_inj v w (sym (told_is v has) ∙ told) in
+          let same : v ≡ w = some_inj v w (sym (reported_is v has) ∙ reported) in
           let from = from_pin v has in
           let part_is : from.part ≡ part = some_inj from.part part (sym from.at ∙ ap (slice_get chip.parts) same ∙ at) in
           absurd (is_scan (subst (λ (p : Part). IsGate p.body) part_is from.is_gate)),
@@ -106,15 +106,15 @@ module _ (chip : LinkedChip) (net : ℕ) where
     )
 
     pub none_there : first_instance (sources_at table net).first ≡ None → IsGateOn chip net None
-    none_there told v = (
-      λ has. sym told ∙ told_is v has,
+    none_there reported v = (
+      λ has. sym reported ∙ reported_is v has,
       λ e. absurd (let clash : None ≡ Some v = e in cc),
     )
 
     -- the instance that the table gives is one of the chip's
     pub instance_within : (w : ℕ) → first_instance (sources_at table net).first ≡ Some w → w < length chip.parts
-    instance_within w told =
-        let source = source_told is.source w (sym (ap first_instance is.told) ∙ told) in
+    instance_within w reported =
+        let source = source_reported is.source w (sym (ap first_instance is.reported) ∙ reported) in
         some_within (λ (p : Part). slice_get (output_nets p.body) source.0 ≡ Some net) chip.parts w (subst (Drives chip net) source.1 is.only.has)
 
 module _ (chip : LinkedChip) (body : Body) (row : List ℕ) (pin net : ℕ) (at : slice_get (input_nets body) pin ≡ Some net)

@@ -18,7 +18,7 @@ single_by : (chip : LinkedChip) (net : ℕ) (table : List Sources) (one two : Op
     → AreFirst (Drives chip net) one two → HasOneDriver chip net → IsDrivenBy chip table net
 single_by chip net table None None e first is = absurd (first is.source is.only.has)
 single_by chip net table None (Some two) e first is = absurd first
-single_by chip net table (Some one) None e first is = record { source = one; told = e; only = first }
+single_by chip net table (Some one) None e first is = record { source = one; reported = e; only = first }
 single_by chip net table (Some one) (Some two) e first is =
     let same : one ≡ two = is.only.none_other one first.one_has ∙ sym (is.only.none_other two first.two_has) in
     absurd (not_before two (subst (λ (s : Source). ComesBefore s two) same first.in_order))

@@ -35,7 +35,7 @@ module _ (chip : LinkedChip) (table : List Sources) (drivers : AreDrivers chip t
       by : (one two : Option Source) → (sources_at table net).first ≡ one → AreFirst (Drives chip net) one two → IsSome one → IsNone two
           → IsDrivenBy chip table net
       by None two e first some none = absurd (let clash : false ≡ true = some in cc)
-      by (Some one) None e first some none = record { source = one; told = e; only = first }
+      by (Some one) None e first some none = record { source = one; reported = e; only = first }
       by (Some one) (Some two) e first some none = absurd (let clash : true ≡ false = none in cc)
 
   pub all_single : AreAllSingle table → AreSingle chip table
@@ -92,8 +92,8 @@ is_first_scan (part ∷ more) k d nets lt is = by part.body refl k lt is (λ j l
         (found.0, ap (λ body. scan_or body (first_scan more)) e ∙ found.1)
 
 -- which of four rules is broken first
-abbrev told : Bool → Bool → Bool → Bool → Option ℕ
-told a b c e = cond a (Some 0) (cond b (Some 1) (cond c (Some 2) (cond e (Some 3) None)))
+abbrev reported : Bool → Bool → Bool → Bool → Option ℕ
+reported a b c e = cond a (Some 0) (cond b (Some 1) (cond c (Some 2) (cond e (Some 3) None)))
 
 -- a scan instance whose pins keep their rules has no load on its inverted output
 unused : (chip : LinkedChip) (first nets : ScanNets) → pin_fault chip first nets ≡ None → is_used chip nets.qn ≡ false
@@ -102,7 +102,7 @@ unused chip first nets none =
     (is_misplaced chip first.hold nets.hold || (eqb nets.hold nets.se || eqb nets.hold nets.ck)) (is_used chip nets.qn) refl none
   where
     by : (a b c e : Bool) → is_used chip nets.qn ≡ e
-        → told a b c e ≡ None → is_used chip nets.qn ≡ false
+        → reported a b c e ≡ None → is_used chip nets.qn ≡ false
     by true b c e is h = cc
     by false true c e is h = cc
     by false false true e is h = cc
@@ -228,7 +228,7 @@ single_too chip table single order = record {
   count = single.count;
   each = λ net lt. let is = single.each net lt in record {
     source = is.source;
-    told = is.told;
+    reported = is.reported;
     only = record { has = is.only.has; none_other = is.only.none_other };
   };
 }

@@ -13,7 +13,7 @@ use Rattle.ca_linked.specs.Walk.{IsFeeder}
 -- the table has this one as the first that drives the net, and it is the only one
 pub record IsDrivenBy (chip : LinkedChip) (table : List Sources) (net : ℕ) : Type 0 where
   pub source : Source
-  pub told : (sources_at table net).first ≡ Some source
+  pub reported : (sources_at table net).first ≡ Some source
   pub only : IsOnly (Drives chip net) source
 
 -- each net has one driver, which the table gives
@@ -27,7 +27,7 @@ DrivesFromGate chip w net = IsSomeAnd (slice_get chip.parts w) (λ part. Contain
 
 -- the library instance that drives the net, if one does
 abbrev pub IsGateOn : LinkedChip → ℕ → Option ℕ → Type 0
-IsGateOn chip net told = (w : ℕ) → DrivesFromGate chip w net ↔ (told ≡ Some w)
+IsGateOn chip net reported = (w : ℕ) → DrivesFromGate chip w net ↔ (reported ≡ Some w)
 
 -- w drives the net of one of the first input pins
 pub record FeedsPin (chip : LinkedChip) (body : Body) (count w : ℕ) : Type 0 where

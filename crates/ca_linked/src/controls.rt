@@ -144,7 +144,7 @@ fn marks_of(alloc: Global, draft: &Draft) -> Result<LoadMarks, NoMemory>
 /// The first scan instance with a pin that breaks its rule, and the first such pin.
 pub(crate) fn first_misused(alloc: Global, draft: &Draft) -> Result<Option<Misused>, NoMemory>
     requires { IsDrafted draft.now }
-    ensures { IfOk result (λ told. told ≡ misused_of draft.now) }
+    ensures { IfOk result (λ reported. reported ≡ misused_of draft.now) }
 {
     let marks = marks_of(alloc, draft)?;
     let first = first_scan(draft);

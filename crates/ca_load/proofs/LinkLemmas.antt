@@ -36,7 +36,7 @@ traced_err inputs chip (Err fault) of cause = at_trace inputs chip fault of caus
 -- what holds of the inputs that were read holds of what the files read as
 pub of_read : (files : Option Files) (names : InputFiles) (inputs : Inputs) (Holds : Inputs → Type 0)
     → AreRead files names inputs → Holds inputs → OfInputs files names Holds
-of_read files names inputs Holds read holds = λ told is. (inputs, (read told is, holds))
+of_read files names inputs Holds read holds = λ reported is. (inputs, (read reported is, holds))
 
 -- inputs that give no chip with chains
 pub at_inputs : (names : InputFiles) (files : Option Files) (before after : ℕ) (inputs : Inputs) (fault : Fault)

@@ -11,7 +11,7 @@ use Rattle.ca_wiring.specs.declared.scan_row.ScanRow.{ScanRow}
 use Rattle.ca_fault.specs.declared.fault.Fault.{Fault}
 use Rattle.ca_load.specs.declared.cells.TheConstants.{MAX_CELLS}
 use Rattle.ca_load.specs.declared.netlists.TheConstants.{MAX_NETLIST}
-use Rattle.ca_load.specs.Files.{OfFile, TellsStoreFault}
+use Rattle.ca_load.specs.Files.{OfFile, ReportsStoreFault}
 use Rattle.ca_load.specs.Texts.{IsLibraryOf, IsNetlistOf, IsTableAt, InputFiles, Inputs, AreRead}
 use Rattle.ca_load.specs.Causes.{HasLibrary, HasNetlist, IsLibraryCause, IsNetlistCause, IsScanCause}
 use Rattle.ca_load.specs.Causes.{IsInputCause}
@@ -19,12 +19,12 @@ use Rattle.ca_load.specs.Causes.{IsInputCause}
 -- what holds of the bytes that were read holds of the file
 pub of_whole : (files : Option Files) (name bytes : List ℕ) (limit : ℕ) (Holds : List ℕ → Type 0)
     → IsWhole files name limit bytes → Holds bytes → OfFile files name limit Holds
-of_whole files name bytes limit Holds whole holds = λ told is. rw (whole.all told is) (whole.within, holds)
+of_whole files name bytes limit Holds whole holds = λ reported is. rw (whole.all reported is) (whole.within, holds)
 
 -- what follows from the bytes' property holds of the file too
 pub of_file_then : (files : Option Files) (name : List ℕ) (limit : ℕ) (P Q : List ℕ → Type 0)
     → ((bytes : List ℕ) → P bytes → Q bytes) → OfFile files name limit P → OfFile files name limit Q
-of_file_then files name limit P Q next held = λ told is. at (told name) (held told is)
+of_file_then files name limit P Q next held = λ reported is. at (reported name) (held reported is)
   where
     at : (there : Option (List ℕ)) → IsSomeAnd there (λ bytes. (length bytes ≤ limit) × P bytes)
         → IsSomeAnd there (λ bytes. (length bytes ≤ limit) × Q bytes)
@@ -42,9 +42,9 @@ has_netlist files name netlist read =
     of_file_then files name MAX_NETLIST (IsNetlistOf netlist) _ (λ bytes is. rw is refl) read
 
 -- the counts of a store may be compared with an earlier one that is the same
-pub told_since : (fault : Option Fault) (before mid after : ℕ) → mid ≡ before → TellsStoreFault fault mid after
-    → TellsStoreFault fault before after
-told_since fault before mid after quiet told = subst (λ count. TellsStoreFault fault count after) quiet told
+pub reported_since : (fault : Option Fault) (before mid after : ℕ) → mid ≡ before → ReportsStoreFault fault mid after
+    → ReportsStoreFault fault before after
+reported_since fault before mid after quiet reported = subst (λ count. ReportsStoreFault fault count after) quiet reported
 
 module _ (names : InputFiles) (files mid : Option Files) (before between after : ℕ) (kept : mid ≡ files)
     (quiet : between ≡ before) (library : List Named)
@@ -68,8 +68,8 @@ pub are_read : (names : InputFiles) (files : Option Files) (library : List Named
     (rows : List ScanRow) → OfFile files names.cells MAX_CELLS (IsLibraryOf library)
     → OfFile files names.netlist MAX_NETLIST (IsNetlistOf netlist) → IsTableAt files names.scan rows
     → AreRead files names (record { library = library; netlist = netlist; rows = rows })
-are_read names files library netlist rows cells module_ table = λ told is. record {
-  library = cells told is;
-  netlist = module_ told is;
+are_read names files library netlist rows cells module_ table = λ reported is. record {
+  library = cells reported is;
+  netlist = module_ reported is;
   rows = subst (λ (some : Option Files). IsTableAt some names.scan rows) is table;
 }

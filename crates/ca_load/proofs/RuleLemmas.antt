@@ -28,7 +28,7 @@ one_first : {T : Type 0} (P : T → Type 0) (xs : List T) (one other : ℕ) → 
 one_first P xs one other here there = elim (dec_lt one other) [
   | yes before ↦ absurd (not_before P xs one other here.here there.none_before before)
   | no not ↦ elim (dec_lt other one) [
-    | yes behind ↦ absurd (not_before P xs other one there.here here.none_before behind)
+    | yes following ↦ absurd (not_before P xs other one there.here here.none_before following)
     | no neither ↦ omega (arith, not, neither)
   ]
 ]
@@ -59,7 +59,7 @@ pub one_broken : (raw : RawCell) (rule other : CellRule) → IsFirstBroken raw r
 one_broken raw rule other here there = elim (dec_lt (rank_of rule) (rank_of other)) [
   | yes before ↦ absurd (there.none_before rule before here.broken)
   | no not ↦ elim (dec_lt (rank_of other) (rank_of rule)) [
-    | yes behind ↦ absurd (here.none_before other behind there.broken)
+    | yes following ↦ absurd (here.none_before other following there.broken)
     | no neither ↦ same_rank raw rule other here.broken there.broken (omega (arith, not, neither))
   ]
 ]

@@ -74,29 +74,29 @@ one_table : (bytes : List ℕ) (a b : List ScanRow) → IsTableOf a bytes → Is
 one_table bytes a b one other = let both : Ok a ≡ Ok b = sym one ∙ other in cc
 
 -- what holds of the bytes of a file, both of them
-module _ {A : Type 0} (told : Files) (name : List ℕ) (limit : ℕ) (Reads : A → List ℕ → Type 0)
+module _ {A : Type 0} (reported : Files) (name : List ℕ) (limit : ℕ) (Reads : A → List ℕ → Type 0)
     (one_of : (bytes : List ℕ) (a b : A) → Reads a bytes → Reads b bytes → a ≡ b) (a b : A) where
-  one_in_file : IsFileWith told name limit (Reads a) → IsFileWith told name limit (Reads b) → a ≡ b
-  one_in_file one other = by (told name) one other
+  one_in_file : IsFileWith reported name limit (Reads a) → IsFileWith reported name limit (Reads b) → a ≡ b
+  one_in_file one other = by (reported name) one other
     where
       by : (there : Option (List ℕ)) → IsSomeAnd there (λ bytes. (length bytes ≤ limit) × Reads a bytes)
           → IsSomeAnd there (λ bytes. (length bytes ≤ limit) × Reads b bytes) → a ≡ b
       by None one other = absurd one
       by (Some bytes) one other = one_of bytes a b one.1 other.1
 
-one_at_table : (told : Files) (scan : Option (List ℕ)) (a b : List ScanRow) → IsTableAt (Some told) scan a
-    → IsTableAt (Some told) scan b → a ≡ b
-one_at_table told None a b one other = one ∙ sym other
-one_at_table told (Some name) a b one other =
-    one_in_file told name _ IsTableOf one_table a b (one told refl) (other told refl)
+one_at_table : (reported : Files) (scan : Option (List ℕ)) (a b : List ScanRow) → IsTableAt (Some reported) scan a
+    → IsTableAt (Some reported) scan b → a ≡ b
+one_at_table reported None a b one other = one ∙ sym other
+one_at_table reported (Some name) a b one other =
+    one_in_file reported name _ IsTableOf one_table a b (one reported refl) (other reported refl)
 
 -- files read as one
-pub one_reading : (names : InputFiles) (told : Files) (a b : Inputs) → ReadAs names a told → ReadAs names b told
+pub one_reading : (names : InputFiles) (reported : Files) (a b : Inputs) → ReadAs names a reported → ReadAs names b reported
     → a ≡ b
-one_reading names told a b one other =
+one_reading names reported a b one other =
     let library : a.library ≡ b.library =
-    one_in_file told names.cells _ IsLibraryOf one_library a.library b.library one.library other.library in
+    one_in_file reported names.cells _ IsLibraryOf one_library a.library b.library one.library other.library in
     let netlist : a.netlist ≡ b.netlist =
-    one_in_file told names.netlist _ IsNetlistOf one_netlist a.netlist b.netlist one.netlist other.netlist in
-    let rows : a.rows ≡ b.rows = one_at_table told names.scan a.rows b.rows one.rows other.rows in
+    one_in_file reported names.netlist _ IsNetlistOf one_netlist a.netlist b.netlist one.netlist other.netlist in
+    let rows : a.rows ≡ b.rows = one_at_table reported names.scan a.rows b.rows one.rows other.rows in
     λ j. record { library = library j; netlist = netlist j; rows = rows j }

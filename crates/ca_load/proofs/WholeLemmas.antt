@@ -36,27 +36,27 @@ use Rattle.ca_load.proofs.SameLemmas.{one_reading}
 abbrev pub IsOutsideFault : Fault → ℕ → ℕ → Type 0
 IsOutsideFault fault before after = (fault ≡ NoMemory) ⊎ ((name : List ℕ) × ((fault ≡ StoreFailed name) × Rose before after))
 
-module _ (files : Option Files) (told : Files) (are : files ≡ Some told) (before after : ℕ) where
+module _ (files : Option Files) (reported : Files) (are : files ≡ Some reported) (before after : ℕ) where
   -- what is said of a file holds of the bytes that it has
-  pub at_bytes : (name bytes : List ℕ) (most : ℕ) (P : List ℕ → Type 0) → told name ≡ Some bytes
+  pub at_bytes : (name bytes : List ℕ) (most : ℕ) (P : List ℕ → Type 0) → reported name ≡ Some bytes
       → OfFile files name most P → P bytes
   at_bytes name bytes most P there held =
-      let here : IsSomeAnd (Some bytes) (λ bytes. (length bytes ≤ most) × P bytes) = rw there at (held told are) in
+      let here : IsSomeAnd (Some bytes) (λ bytes. (length bytes ≤ most) × P bytes) = rw there at (held reported are) in
       here.1
 
   -- a file that is there, and is not too long, is read
-  pub at_read : (name bytes : List ℕ) (most : ℕ) → told name ≡ Some bytes → length bytes ≤ most → (fault : Fault)
+  pub at_read : (name bytes : List ℕ) (most : ℕ) → reported name ≡ Some bytes → length bytes ≤ most → (fault : Fault)
       → IsReadCause name files most before after fault → IsOutsideFault fault before after
   at_read name bytes most there within (TooLong typed taken) (same, long) =
-      let past : IsSomeAnd (Some bytes) (λ bytes. most < length bytes) = rw there at (long.past told are) in
+      let past : IsSomeAnd (Some bytes) (λ bytes. most < length bytes) = rw there at (long.past reported are) in
       absurd (omega (arith, past, within))
   at_read name bytes most there within (StoreFailed typed) (same, rose) =
-      let is_there : MayHave files name = λ other is. rw (sym (same_Some told other (sym are ∙ is)), there) refl in
+      let is_there : MayHave files name = λ other is. rw (sym (same_Some reported other (sym are ∙ is)), there) refl in
       inr (typed, (refl, rose is_there))
   at_read name bytes most there within NoMemory cause = inl refl
   at_read name bytes most there within fault cause = absurd cause
 
-  at_cells : (name bytes : List ℕ) → told name ≡ Some bytes → (a : List _) → IsLibraryOf a bytes → (fault : Fault)
+  at_cells : (name bytes : List ℕ) → reported name ≡ Some bytes → (a : List _) → IsLibraryOf a bytes → (fault : Fault)
       → IsCellsCause name files fault → ⊥
   at_cells name bytes there a reads (Cells line kind) cause =
       let broken = at_bytes name bytes MAX_CELLS (IsTextCause (Cells line kind)) there cause in
@@ -66,7 +66,7 @@ module _ (files : Option Files) (told : Files) (are : files ≡ Some told) (befo
       let both = sym reads.reads ∙ broken in cc
   at_cells name bytes there a reads fault cause = cause
 
-  at_tokens : (name bytes : List ℕ) → told name ≡ Some bytes → (a : _) → IsNetlistOf a bytes → (fault : Fault)
+  at_tokens : (name bytes : List ℕ) → reported name ≡ Some bytes → (a : _) → IsNetlistOf a bytes → (fault : Fault)
       → IsTokensCause name files fault → ⊥
   at_tokens name bytes there a reads (Netlist line kind) cause =
       let broken = at_bytes name bytes MAX_NETLIST (IsModuleCause (Netlist line kind)) there cause in
@@ -76,7 +76,7 @@ module _ (files : Option Files) (told : Files) (are : files ≡ Some told) (befo
       let both = sym reads ∙ broken in cc
   at_tokens name bytes there a reads fault cause = cause
 
-  at_rows : (name bytes : List ℕ) → told name ≡ Some bytes → (a : _) → IsTableOf a bytes → (fault : Fault)
+  at_rows : (name bytes : List ℕ) → reported name ≡ Some bytes → (a : _) → IsTableOf a bytes → (fault : Fault)
       → IsRowsCause name files fault → ⊥
   at_rows name bytes there a reads (Scan row) cause =
       let broken = at_bytes name bytes MAX_SCAN (IsRecordCause (Scan row)) there cause in
@@ -84,12 +84,12 @@ module _ (files : Option Files) (told : Files) (are : files ≡ Some told) (befo
   at_rows name bytes there a reads fault cause = cause
 
   -- a file with a reading, in either stage
-  at_file : (name : List ℕ) (most : ℕ) (P : List ℕ → Type 0) → IsFileWith told name most P → (fault : Fault)
-      → (own : Type 0) → ((bytes : List ℕ) → told name ≡ Some bytes → P bytes → own → ⊥)
+  at_file : (name : List ℕ) (most : ℕ) (P : List ℕ → Type 0) → IsFileWith reported name most P → (fault : Fault)
+      → (own : Type 0) → ((bytes : List ℕ) → reported name ≡ Some bytes → P bytes → own → ⊥)
       → IsReadCause name files most before after fault ⊎ own → IsOutsideFault fault before after
-  at_file name most P reads fault own none cause = by (told name) refl reads
+  at_file name most P reads fault own none cause = by (reported name) refl reads
     where
-      by : (there : Option (List ℕ)) → told name ≡ there
+      by : (there : Option (List ℕ)) → reported name ≡ there
           → IsSomeAnd there (λ bytes. (length bytes ≤ most) × P bytes) → IsOutsideFault fault before after
       by None is held = absurd held
       by (Some bytes) is held = elim cause [
@@ -97,14 +97,14 @@ module _ (files : Option Files) (told : Files) (are : files ≡ Some told) (befo
         | inr text ↦ absurd (none bytes is held.1 text)
       ]
 
-  at_scan : (scan : Option (List ℕ)) (rows : _) → IsTableAt (Some told) scan rows → (fault : Fault)
+  at_scan : (scan : Option (List ℕ)) (rows : _) → IsTableAt (Some reported) scan rows → (fault : Fault)
       → IsScanCause scan files before after fault → IsOutsideFault fault before after
   at_scan None rows reads fault cause = absurd cause
   at_scan (Some name) rows reads fault cause =
-      at_file name MAX_SCAN (IsTableOf rows) (reads told refl) fault (IsRowsCause name files fault)
+      at_file name MAX_SCAN (IsTableOf rows) (reads reported refl) fault (IsRowsCause name files fault)
       (λ bytes is held. at_rows name bytes is rows held fault) cause
 
-  module _ (names : InputFiles) (inputs : Inputs) (read : ReadAs names inputs told) (gives : GiveChip inputs) where
+  module _ (names : InputFiles) (inputs : Inputs) (read : ReadAs names inputs reported) (gives : GiveChip inputs) where
     at_input : (fault : Fault) → IsInputCause names files before after fault → IsOutsideFault fault before after
     at_input fault (inl cause) =
         at_file names.cells MAX_CELLS (IsLibraryOf inputs.library) read.library fault (IsCellsCause names.cells files fault)
@@ -149,8 +149,8 @@ module _ (files : Option Files) (told : Files) (are : files ≡ Some told) (befo
 
     no_linked : (fault : Fault) → IsLinkedCause names files fault → ⊥
     no_linked fault (is, held) =
-        let found = held told are in
-        no_chip fault (subst (IsChipCause fault) (one_reading names told found.0 inputs found.1.0 read) found.1.1)
+        let found = held reported are in
+        no_chip fault (subst (IsChipCause fault) (one_reading names reported found.0 inputs found.1.0 read) found.1.1)
 
     -- files that give a chip
     pub at_load : (fault : Fault) → IsLoadCause names files before after fault → IsOutsideFault fault before after

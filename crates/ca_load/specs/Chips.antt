@@ -13,7 +13,7 @@ use Rattle.ca_wiring.specs.Linking.{IsLinkOf}
 use Rattle.ca_wiring.specs.Rules.{IsFirstBroken, KeepsRules}
 use Rattle.ca_scan.specs.Chain.{IsFirstOff}
 use Rattle.ca_scan.specs.ChainFault.{AreAllChains, AreTooMany}
-use Rattle.ca_fault_place.specs.Place.{TellsPlace}
+use Rattle.ca_fault_place.specs.Place.{ReportsPlace}
 use Rattle.ca_fault.specs.declared.fault.LimitKind.TheVariants as limit
 use Rattle.ca_fault.specs.declared.fault.Fault.{Fault}
 use Rattle.ca_fault.specs.declared.fault.Fault.TheVariants.{Cell, Chain, Limit}
@@ -57,7 +57,7 @@ IsOfCell netlist u name =
 
 -- the place names what the broken rule carries
 abbrev pub IsPlaceOf : Inputs → ChipFault → List ℕ → Type 0
-IsPlaceOf inputs broken place = TellsPlace inputs.netlist inputs.library inputs.rows broken place
+IsPlaceOf inputs broken place = ReportsPlace inputs.netlist inputs.library inputs.rows broken place
 
 -- why the inputs don't link: the first rule that they break, or the first limit that they pass
 abbrev pub IsLinkingCause : Inputs → Fault → Type 0

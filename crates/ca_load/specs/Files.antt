@@ -8,11 +8,11 @@ use Rattle.ca_fault.specs.declared.fault.Fault.TheVariants.{TooLong, StoreFailed
 
 -- the file of this name is there with at most this many bytes, and this holds of them
 abbrev pub IsFileWith : Files → List ℕ → ℕ → (List ℕ → Type 0) → Type 0
-IsFileWith told name limit Holds = IsSomeAnd (told name) (λ bytes. (length bytes ≤ limit) × Holds bytes)
+IsFileWith reported name limit Holds = IsSomeAnd (reported name) (λ bytes. (length bytes ≤ limit) × Holds bytes)
 
 -- the same, where the files are known
 abbrev pub OfFile : Option Files → List ℕ → ℕ → (List ℕ → Type 0) → Type 0
-OfFile files name limit Holds = ForSome files (λ told. IsFileWith told name limit Holds)
+OfFile files name limit Holds = ForSome files (λ reported. IsFileWith reported name limit Holds)
 
 -- why the file of this name could not be read up to a limit, with the store's count of faults before and
 -- after
@@ -30,6 +30,6 @@ IsStoreFault (StoreFailed name) = ⊤
 IsStoreFault _ = ⊥
 
 -- where the store's count of faults rose, the answer says so, and the count never falls
-pub record TellsStoreFault (fault : Option Fault) (before after : ℕ) : Type 0 where
-  pub told : before < after → IsSomeAnd fault IsStoreFault
+pub record ReportsStoreFault (fault : Option Fault) (before after : ℕ) : Type 0 where
+  pub reported : before < after → IsSomeAnd fault IsStoreFault
   pub later : before ≤ after

@@ -57,10 +57,10 @@ pub record Inputs : Type 0 where
   pub rows : List ScanRow
 
 -- the files are there, none longer than it may be, and read as these
-pub record ReadAs (names : InputFiles) (inputs : Inputs) (told : Files) : Type 0 where
-  pub library : IsFileWith told names.cells MAX_CELLS (IsLibraryOf inputs.library)
-  pub netlist : IsFileWith told names.netlist MAX_NETLIST (IsNetlistOf inputs.netlist)
-  pub rows : IsTableAt (Some told) names.scan inputs.rows
+pub record ReadAs (names : InputFiles) (inputs : Inputs) (reported : Files) : Type 0 where
+  pub library : IsFileWith reported names.cells MAX_CELLS (IsLibraryOf inputs.library)
+  pub netlist : IsFileWith reported names.netlist MAX_NETLIST (IsNetlistOf inputs.netlist)
+  pub rows : IsTableAt (Some reported) names.scan inputs.rows
 
 -- the same, where the files are known
 abbrev pub AreRead : Option Files → InputFiles → Inputs → Type 0
@@ -69,4 +69,4 @@ AreRead files names inputs = ForSome files (ReadAs names inputs)
 -- where the files are known, this holds of what they read as
 abbrev pub OfInputs : Option Files → InputFiles → (Inputs → Type 0) → Type 0
 OfInputs files names Holds =
-    ForSome files (λ told. (inputs : Inputs) × (ReadAs names inputs told × Holds inputs))
+    ForSome files (λ reported. (inputs : Inputs) × (ReadAs names inputs reported × Holds inputs))

@@ -5,7 +5,7 @@ ghost use Rattle.std.specs.Str.{bytes_eq};
 ghost use Rattle.ca_store.specs.Store.{Nothing};
 ghost use Rattle.ca_cell.specs.Library.{raw_of};
 ghost use Rattle.ca_verilog.specs.IsNetlist.{IsNetlist};
-ghost use Rattle.ca_load.specs.Files.{TellsStoreFault};
+ghost use Rattle.ca_load.specs.Files.{ReportsStoreFault};
 ghost use Rattle.ca_load.specs.Texts.{names_of, AreRead};
 ghost use Rattle.ca_load.specs.Causes.{IsInputCause};
 ghost use Rattle.ca_load.specs.Stages.{inputs_of, AreTyped};
@@ -56,7 +56,7 @@ fn typed_names(alloc: Global, names: &FileNames<'_>) -> Result<TypedNames, NoMem
 }
 
 /// The cell netlist, read and judged whole; then the gate netlist; and then the table of scan cells.
-#[tactic(auto, using(crate::proofs::ReadLemmas::at_netlist, crate::proofs::ReadLemmas::at_scan, crate::proofs::ReadLemmas::are_read, crate::proofs::ReadLemmas::told_since))]
+#[tactic(auto, using(crate::proofs::ReadLemmas::at_netlist, crate::proofs::ReadLemmas::at_scan, crate::proofs::ReadLemmas::are_read, crate::proofs::ReadLemmas::reported_since))]
 pub(crate) fn read_all<S: Store>(
     alloc: Global,
     names: &FileNames<'_>,
@@ -70,8 +70,8 @@ pub(crate) fn read_all<S: Store>(
     ensures cause { IfErr result (IsInputCause (names_of names.now) (S.files store.old)
         (S.faults store.old) (S.faults store.new)) }
     ensures quiet { OnOk result (S.faults store.new ≡ S.faults store.old) }
-    ensures told { IfErr result (λ fault.
-        TellsStoreFault (Some fault) (S.faults store.old) (S.faults store.new)) }
+    ensures reported { IfErr result (λ fault.
+        ReportsStoreFault (Some fault) (S.faults store.old) (S.faults store.new)) }
     ensures closed { S.opened store.new ≡ Nothing }
     ensures kept { S.files store.new ≡ S.files store.old }
 {

@@ -4,7 +4,7 @@ ghost use Rattle.std.specs.List.{IsDistinct};
 ghost use Rattle.std.specs.Option.{option_copied};
 ghost use Rattle.std.specs.Str.{bytes_eq};
 ghost use Rattle.ca_store.specs.Store.{Nothing};
-ghost use Rattle.ca_load.specs.Files.{OfFile, TellsStoreFault};
+ghost use Rattle.ca_load.specs.Files.{OfFile, ReportsStoreFault};
 ghost use Rattle.ca_load.specs.Texts.{IsTableOf, IsTableAt};
 ghost use Rattle.ca_load.specs.Causes.{IsTableCause, IsScanCause};
 ghost use Rattle.ca_load.specs.Stages.{IsTableStage};
@@ -36,8 +36,8 @@ pub(crate) fn open_table<S: Store>(
     ensures cause { IfErr result (IsScanCause (option_copied name.entry) (S.files store.old)
         (S.faults store.old) (S.faults store.new)) }
     ensures quiet { OnOk result (S.faults store.new ≡ S.faults store.old) }
-    ensures told { IfErr result (λ fault.
-        TellsStoreFault (Some fault) (S.faults store.old) (S.faults store.new)) }
+    ensures reported { IfErr result (λ fault.
+        ReportsStoreFault (Some fault) (S.faults store.old) (S.faults store.new)) }
     ensures closed { S.opened store.new ≡ Nothing }
     ensures kept { S.files store.new ≡ S.files store.old }
 {
@@ -62,8 +62,8 @@ fn read_rows<S: Store>(
     ensures cause { IfErr result (IsTableCause name.now (S.files store.old)
         (S.faults store.old) (S.faults store.new)) }
     ensures quiet { OnOk result (S.faults store.new ≡ S.faults store.old) }
-    ensures told { IfErr result (λ fault.
-        TellsStoreFault (Some fault) (S.faults store.old) (S.faults store.new)) }
+    ensures reported { IfErr result (λ fault.
+        ReportsStoreFault (Some fault) (S.faults store.old) (S.faults store.new)) }
     ensures closed { S.opened store.new ≡ Nothing }
     ensures kept { S.files store.new ≡ S.files store.old }
 {

@@ -7,7 +7,7 @@ use Rattle.std.proofs.lemmas.List.Elements.{All-push}
 use Rattle.ca_make.specs.declared.gate.TheConstants.{INPUTS}
 use Rattle.ca_make.specs.declared.gate.Gate.{Gate}
 use Rattle.ca_make.specs.declared.gate.Gate.TheVariants as gate
-use Rattle.ca_make.specs.Draw.{gate_from, state_behind, gates_from}
+use Rattle.ca_make.specs.Draw.{gate_from, state_after, gates_from}
 use Rattle.ca_make.specs.Chip.{IsWithin}
 
 -- a gate among some candidates is among more
@@ -20,30 +20,30 @@ within_more few many (gate.Nor2 a b) le within =
 
 -- gates that are all those of a list with those that are still drawn are so with the next as well
 gates_more : (state next candidates left : ℕ) (gates : List Gate) (it : Gate) (all : List Gate)
-    → 0 < left → it ≡ gate_from state candidates → next ≡ state_behind it state
+    → 0 < left → it ≡ gate_from state candidates → next ≡ state_after it state
     → gates ++ gates_from state candidates left ≡ all
     → (gates ++ it ∷ []) ++ gates_from next (candidates + 1) (left - 1) ≡ all
-gates_more state next candidates zero gates it all lt is behind so_far = absurd (omega (arith, lt))
-gates_more state next candidates (suc left) gates it all lt is behind so_far =
+gates_more state next candidates zero gates it all lt is following so_far = absurd (omega (arith, lt))
+gates_more state next candidates (suc left) gates it all lt is following so_far =
     append_assoc gates (it ∷ []) (gates_from next (candidates + 1) (suc left - 1))
-    ∙ ap (λ s. gates ++ (it ∷ gates_from s (candidates + 1) (suc left - 1))) behind
-    ∙ ap (λ g. gates ++ (g ∷ gates_from (state_behind g state) (candidates + 1) (suc left - 1))) is
-    ∙ ap (λ n. gates ++ (gate_from state candidates ∷ gates_from (state_behind (gate_from state candidates) state) (candidates + 1) n))
+    ∙ ap (λ s. gates ++ (it ∷ gates_from s (candidates + 1) (suc left - 1))) following
+    ∙ ap (λ g. gates ++ (g ∷ gates_from (state_after g state) (candidates + 1) (suc left - 1))) is
+    ∙ ap (λ n. gates ++ (gate_from state candidates ∷ gates_from (state_after (gate_from state candidates) state) (candidates + 1) n))
     (let e : suc left - 1 ≡ left = omega arith in e)
     ∙ so_far
 
 -- the same along the numbers of the gates
 pub gates_next : (k n state next : ℕ) (gates after : List Gate) (it : Gate) (all : List Gate)
-    → k < n → after ≡ gates ++ it ∷ [] → it ≡ gate_from state (INPUTS + k) → next ≡ state_behind it state
+    → k < n → after ≡ gates ++ it ∷ [] → it ≡ gate_from state (INPUTS + k) → next ≡ state_after it state
     → gates ++ gates_from state (INPUTS + k) (n - k) ≡ all
     → after ++ gates_from next (INPUTS + (k + 1)) (n - (k + 1)) ≡ all
-gates_next k n state next gates after it all lt more is behind so_far =
+gates_next k n state next gates after it all lt more is following so_far =
     ap (λ list. list ++ gates_from next (INPUTS + (k + 1)) (n - (k + 1))) more
     ∙ ap (λ c. (gates ++ it ∷ []) ++ gates_from next c (n - (k + 1)))
     (let e : INPUTS + (k + 1) ≡ INPUTS + k + 1 = omega arith in e)
     ∙ ap (λ left. (gates ++ it ∷ []) ++ gates_from next (INPUTS + k + 1) left)
     (let e : n - (k + 1) ≡ n - k - 1 = omega arith in e)
-    ∙ gates_more state next (INPUTS + k) (n - k) gates it all (omega (arith, lt)) is behind so_far
+    ∙ gates_more state next (INPUTS + k) (n - k) gates it all (omega (arith, lt)) is following so_far
 
 -- with none left they are all
 pub gates_end : (k n state candidates : ℕ) (gates all : List Gate) → n ≤ k

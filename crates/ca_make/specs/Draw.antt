@@ -30,14 +30,14 @@ unfoldable pub gate_from : ℕ → ℕ → Gate
 gate_from state candidates = gate_of_kind (drawn (next_state state) % 3) (next_state state) candidates
 
 -- the state after the draws of a gate: one for its kind, and one for each input
-abbrev pub state_behind : Gate → ℕ → ℕ
-state_behind (gate.Inv a) state = next_state (next_state state)
-state_behind (gate.Nand2 a b) state = next_state (next_state (next_state state))
-state_behind (gate.Nor2 a b) state = next_state (next_state (next_state state))
+abbrev pub state_after : Gate → ℕ → ℕ
+state_after (gate.Inv a) state = next_state (next_state state)
+state_after (gate.Nand2 a b) state = next_state (next_state (next_state state))
+state_after (gate.Nor2 a b) state = next_state (next_state (next_state state))
 
 -- this many gates, drawn one after another; the output of each is a candidate for those after it
 abbrev pub gates_from : ℕ → ℕ → ℕ → List Gate
 gates_from state candidates zero = []
 gates_from state candidates (suc more) =
     gate_from state candidates
-    ∷ gates_from (state_behind (gate_from state candidates) state) (candidates + 1) more
+    ∷ gates_from (state_after (gate_from state candidates) state) (candidates + 1) more

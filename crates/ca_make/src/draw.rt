@@ -3,7 +3,7 @@
 ghost use Rattle.std.specs.Prelude.{◌≡◌, ◌+◌, ◌<◌, ◌≤◌, length, IfOk};
 ghost use Rattle.std.specs.List.{All};
 ghost use Rattle.ca_make.specs.declared.gate.TheConstants.{INPUTS, MOST_GATES};
-ghost use Rattle.ca_make.specs.Draw.{next_state, drawn, place_from, gate_from, state_behind};
+ghost use Rattle.ca_make.specs.Draw.{next_state, drawn, place_from, gate_from, state_after};
 ghost use Rattle.ca_make.specs.Chip.{gates_of, IsWithin};
 
 use crate::gate::{Gate, INPUTS};
@@ -44,7 +44,7 @@ impl Draws {
     fn gate(&mut self, candidates: u32) -> Gate
         requires { 0 < candidates }
         ensures gate { result ≡ gate_from self.old.state candidates }
-        ensures state { self.new.state ≡ state_behind result self.old.state }
+        ensures state { self.new.state ≡ state_after result self.old.state }
         ensures within { IsWithin candidates result }
     {
         let kind = self.draw() % 3;

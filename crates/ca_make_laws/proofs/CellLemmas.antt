@@ -21,6 +21,6 @@ unfolding library_text lines_of is_pin_info card_of physical_at continued logica
     info.last_colon info.is_pin_word info.role_of info.role_step info.pin_info
     cards.card_by_letter cards.is_ignored cards.card_of
     are_params count_of value_of kind_of wiring_of sizes_of
-    open_cell.pin_info open_cell.mos open_cell.pins_behind open_cell.ended
+    open_cell.pin_info open_cell.mos open_cell.pins_after open_cell.ended
     named subckt ends card_step words_step line_step library_from
 library_read = refl

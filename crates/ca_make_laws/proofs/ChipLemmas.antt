@@ -8,7 +8,7 @@ use Rattle.std.proofs.lemmas.List.FromFn.{length-range_with_len}
 use Rattle.ca_make.specs.declared.gate.Gate.{Gate}
 use Rattle.ca_make.specs.declared.gate.Gate.TheVariants as gate
 use Rattle.ca_make.specs.declared.gate.TheConstants.{INPUTS, MOST_GATES}
-use Rattle.ca_make.specs.Draw.{next_state, drawn, place_from, gate_of_kind, gate_from, state_behind}
+use Rattle.ca_make.specs.Draw.{next_state, drawn, place_from, gate_of_kind, gate_from, state_after}
 use Rattle.ca_make.specs.Draw.{gates_from}
 use Rattle.ca_make.specs.Chip.{IsWithin, is_loaded, gates_of, unloaded}
 use Rattle.ca_make_laws.proofs.SpelledLemmas.{AreSpelled}
@@ -17,7 +17,7 @@ use Rattle.ca_make_laws.proofs.SpelledLemmas.{AreSpelled}
 pub length_gates : (state candidates count : ℕ) → length (gates_from state candidates count) ≡ count
 length_gates state candidates zero = let e : 0 ≡ 0 = omega arith in e
 length_gates state candidates (suc count) =
-    let e = length_gates (state_behind (gate_from state candidates) state) (candidates + 1) count in omega (arith, e)
+    let e = length_gates (state_after (gate_from state candidates) state) (candidates + 1) count in omega (arith, e)
 
 -- a place is among the candidates
 place_within : (state candidates : ℕ) → 0 < candidates → place_from state candidates < candidates
@@ -51,7 +51,7 @@ gates_within state candidates zero most some le = All-nil (IsWithin most)
 gates_within state candidates (suc count) most some le =
     All-cons (IsWithin most) (gate_from state candidates) _
     (within_more candidates most (gate_from state candidates) (omega (arith, le)) (gate_within state candidates some))
-    (gates_within (state_behind (gate_from state candidates) state) (candidates + 1) count most (omega arith) (omega (arith, le)))
+    (gates_within (state_after (gate_from state candidates) state) (candidates + 1) count most (omega arith) (omega (arith, le)))
 
 range_below : (from count most : ℕ) → from + count ≤ most → All (λ k. k < most) (range_with_len from count)
 range_below from zero most le = All-nil (λ k. k < most)

@@ -13,7 +13,7 @@ use native.Mathlib.Decide.{ℕ_discrete}
 use Rattle.std.specs.Bool.{Decides}
 use Rattle.ca_names.specs.Names.{has_name, repeats}
 use Rattle.ca_verilog.proofs.DistinctLemmas.{same_name}
-use Rattle.ca_syntax.proofs.BehindLemmas.{OneByOne}
+use Rattle.ca_syntax.proofs.AfterLemmas.{OneByOne}
 use Rattle.ca_make.specs.NetlistText.{numbered}
 
 -- two texts that aren't the same

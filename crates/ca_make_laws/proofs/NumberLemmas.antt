@@ -31,7 +31,7 @@ use Rattle.ca_syntax.specs.Tree.{instance_by, instances, ports_of}
 use Rattle.ca_syntax.specs.Names.{names_in, directs, direction_of, range_of}
 use Rattle.ca_syntax.specs.TreeNetlist.{bus_in, buses_of, bits_before, joins_of, use_of, instance_of, port_of}
 use Rattle.ca_syntax.specs.TreeNetlist.{tree_netlist}
-use Rattle.ca_syntax.proofs.BehindLemmas.{OneByOne}
+use Rattle.ca_syntax.proofs.AfterLemmas.{OneByOne}
 use Rattle.ca_make.specs.declared.gate.Gate.{Gate}
 use Rattle.ca_make.specs.declared.gate.Gate.TheVariants as gate
 use Rattle.ca_make.specs.declared.gate.TheConstants.{INPUTS}
@@ -85,13 +85,13 @@ place_in letter from (suc count) k rest above below few = elim (ℕ_discrete k f
     later : List (List ℕ)
     later = map (numbered (letter ∷ [])) (range_with_len (from + 1) count) ++ rest
 
-place_behind : (name : List ℕ) (names rest : List (List ℕ)) → has_name name names ≡ false
+place_after : (name : List ℕ) (names rest : List (List ℕ)) → has_name name names ≡ false
     → place name (names ++ rest) ≡ length names + place name rest
-place_behind name [] rest new = let e : place name rest ≡ 0 + place name rest = omega arith in e
-place_behind name (first ∷ names) rest new =
+place_after name [] rest new = let e : place name rest ≡ 0 + place name rest = omega arith in e
+place_after name (first ∷ names) rest new =
     let parts = or_false (bytes_eq name first) (has_name name names) new in
     ap (λ (b : Bool). cond (not b) (1 + place name (names ++ rest)) 0) parts.0
-    ∙ ap (λ n. 1 + n) (place_behind name names rest parts.1)
+    ∙ ap (λ n. 1 + n) (place_after name names rest parts.1)
     ∙ (let e : 1 + (length names + place name rest) ≡ length (first ∷ names) + place name rest = omega arith in e)
 
 not_there : (letter other count k most : ℕ) → (letter == other) ≡ false → k < most
@@ -114,15 +114,15 @@ module _ (outputs gates : ℕ) (few_outputs : outputs ≤ 8192) (few : gates ≤
 
   place_o : (k : ℕ) → k < outputs → place (111 ∷ decimal k) (all_names outputs gates) ≡ INPUTS + k
   place_o k lt =
-      place_behind (111 ∷ decimal k) i_names (o_names outputs ++ w_names gates) (not_there 111 105 INPUTS k outputs refl lt)
+      place_after (111 ∷ decimal k) i_names (o_names outputs ++ w_names gates) (not_there 111 105 INPUTS k outputs refl lt)
       ∙ ap (λ n. length i_names + n) (place_in 111 0 outputs k (w_names gates) (omega arith) (omega (arith, lt)) (omega (arith, few_outputs)))
       ∙ (let e = length_names 105 INPUTS in let f : length i_names + (k - 0) ≡ INPUTS + k = omega (arith, e) in f)
 
   place_w : (k : ℕ) → k < gates → place (119 ∷ decimal k) (all_names outputs gates) ≡ wire_bit outputs k
   place_w k lt =
-      place_behind (119 ∷ decimal k) i_names (o_names outputs ++ w_names gates) (not_there 119 105 INPUTS k gates refl lt)
+      place_after (119 ∷ decimal k) i_names (o_names outputs ++ w_names gates) (not_there 119 105 INPUTS k gates refl lt)
       ∙ ap (λ n. length i_names + n)
-      (place_behind (119 ∷ decimal k) (o_names outputs) (w_names gates) (not_there 119 111 outputs k gates refl lt)
+      (place_after (119 ∷ decimal k) (o_names outputs) (w_names gates) (not_there 119 111 outputs k gates refl lt)
       ∙ ap (λ n. length (o_names outputs) + n)
       (ap (place (119 ∷ decimal k)) (sym (append-nil (w_names gates)))
       ∙ place_in 119 0 gates k [] (omega arith) (omega (arith, lt)) (omega (arith, few))))
@@ -194,13 +194,13 @@ mapped_same f g (name ∷ names) same =
     λ i. same 0 name (omega arith) i ∷ mapped_same f g names (λ k d lt. same (suc k) d (omega (arith, lt))) i
 
 -- directions
-direction_behind : (name : List ℕ) (one other : List Declared) → list_any (directs name) one ≡ false
+direction_after : (name : List ℕ) (one other : List Declared) → list_any (directs name) one ≡ false
     → direction_of name (one ++ other) ≡ direction_of name other
-direction_behind name [] other none = refl
-direction_behind name (it ∷ one) other none =
+direction_after name [] other none = refl
+direction_after name (it ∷ one) other none =
     let parts = or_false (directs name it) (list_any (directs name) one) none in
     ap (λ (b : Bool). if b then it.direction else direction_of name (one ++ other)) parts.0
-    ∙ direction_behind name one other parts.1
+    ∙ direction_after name one other parts.1
 
 direction_found : (name : List ℕ) (direction : Direction) (names : List (List ℕ)) (rest : List Declared) → is_inner direction ≡ false
     → has_name name names ≡ true → direction_of name (as_declared direction names ++ rest) ≡ direction
@@ -243,19 +243,19 @@ module _ (outputs gates : ℕ) (few_outputs : outputs ≤ 8192) (few : gates ≤
 
   direction_o : (k : ℕ) → k < outputs → direction_of (111 ∷ decimal k) whole ≡ Output
   direction_o k lt =
-      direction_behind (111 ∷ decimal k) (as_declared Input i_names) (as_declared Output (o_names outputs) ++ as_declared Inner (w_names gates))
+      direction_after (111 ∷ decimal k) (as_declared Input i_names) (as_declared Output (o_names outputs) ++ as_declared Inner (w_names gates))
       (directs_named (111 ∷ decimal k) Input i_names refl ∙ not_there 111 105 INPUTS k outputs refl lt)
       ∙ direction_found (111 ∷ decimal k) Output (o_names outputs) (as_declared Inner (w_names gates)) refl
       (has_numbered 111 0 outputs k (omega arith) (omega (arith, lt)))
 
   direction_w : (k : ℕ) → k < gates → direction_of (119 ∷ decimal k) whole ≡ Inner
   direction_w k lt =
-      direction_behind (119 ∷ decimal k) (as_declared Input i_names) (as_declared Output (o_names outputs) ++ as_declared Inner (w_names gates))
+      direction_after (119 ∷ decimal k) (as_declared Input i_names) (as_declared Output (o_names outputs) ++ as_declared Inner (w_names gates))
       (directs_named (119 ∷ decimal k) Input i_names refl ∙ not_there 119 105 INPUTS k gates refl lt)
-      ∙ direction_behind (119 ∷ decimal k) (as_declared Output (o_names outputs)) (as_declared Inner (w_names gates))
+      ∙ direction_after (119 ∷ decimal k) (as_declared Output (o_names outputs)) (as_declared Inner (w_names gates))
       (directs_named (119 ∷ decimal k) Output (o_names outputs) refl ∙ not_there 119 111 outputs k gates refl lt)
       ∙ ap (direction_of (119 ∷ decimal k)) (sym (append-nil (as_declared Inner (w_names gates))))
-      ∙ direction_behind (119 ∷ decimal k) (as_declared Inner (w_names gates)) [] (inner_none (119 ∷ decimal k) (w_names gates))
+      ∙ direction_after (119 ∷ decimal k) (as_declared Inner (w_names gates)) [] (inner_none (119 ∷ decimal k) (w_names gates))
 
   buses_are : buses_of whole ≡ map (bus Input) i_names ++ (map (bus Output) (o_names outputs) ++ map (bus Inner) (w_names gates))
   buses_are =

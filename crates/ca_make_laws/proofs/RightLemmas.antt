@@ -22,12 +22,12 @@ use Rattle.ca_verilog.specs.Netlist.{raw_range}
 use Rattle.ca_syntax.specs.Tree.{Item, Connection, Instance, Declared, declared_as, declared_by, declarations}
 use Rattle.ca_syntax.specs.Tree.{instance_by, instances}
 use Rattle.ca_syntax.specs.Names.{names_in, is_declared, directs, is_directed, is_wire, range_of}
-use Rattle.ca_syntax.specs.Rules.{EachBehind, is_again, IsRightDeclared, IsRightItem, IsRightValue, IsRight}
+use Rattle.ca_syntax.specs.Rules.{EachAfter, is_again, IsRightDeclared, IsRightItem, IsRightValue, IsRight}
 use Rattle.ca_verilog.specs.Reading.{width_in}
 use Rattle.ca_syntax.specs.TreeNetlist.{bus_in, buses_of}
 use Rattle.ca_syntax.specs.Laws.{tree_bits}
 use Rattle.ca_syntax.proofs.NameLemmas.{not_directed, not_wire}
-use Rattle.ca_syntax.proofs.BehindLemmas.{OneByOne, each_behind}
+use Rattle.ca_syntax.proofs.AfterLemmas.{OneByOne, each_after}
 use Rattle.ca_make.specs.declared.gate.Gate.{Gate}
 use Rattle.ca_make.specs.declared.gate.Gate.TheVariants as gate
 use Rattle.ca_make.specs.declared.gate.TheConstants.{INPUTS}
@@ -495,13 +495,13 @@ module _ (gates : List Gate) (outputs : List ℕ) (are : AreSpelled gates output
         ports = no_double [] ports (ports_new (length outputs) (omega (arith, few, fewer)));
         directed = subst (λ (d : List Declared). All (λ name. is_directed name d ≡ true) ports) (sym is)
             (directed_all (length outputs) (length gates));
-        declared = subst (λ (d : List Declared). EachBehind (IsRightDeclared ports) d) (sym is)
-            (each_behind (IsRightDeclared ports) all
+        declared = subst (λ (d : List Declared). EachAfter (IsRightDeclared ports) d) (sym is)
+            (each_after (IsRightDeclared ports) all
             (new_right ports [] all
             (subst (OneByOne IsNew []) (sym (names_are (length outputs) (length gates)))
             (all_new (length outputs) (length gates) (omega (arith, few, fewer)) (omega (arith, few))))
             (ports_all (length outputs) (length gates))));
-        items = each_behind IsRightItem (tree_of gates outputs).items (tree_items gates outputs are);
+        items = each_after IsRightItem (tree_of gates outputs).items (tree_items gates outputs are);
         instances = ap has_double (instances_named gates outputs)
             ∙ no_double [] (map (numbered (codes "u")) (range_with_len 0 (length gates)))
             (names_new 117 0 (length gates) (length gates) [] (omega arith) (omega (arith, few)) (All-nil _));

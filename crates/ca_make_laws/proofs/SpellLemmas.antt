@@ -115,13 +115,13 @@ gives_nothing = record {
 -- one part and another
 pub gives_both : (one other : List ℕ) (first second : List Symbol) → Gives one first → Gives other second
     → Gives (one ++ other) (first ++ second)
-gives_both one other first second gives behind = record {
+gives_both one other first second gives following = record {
   over = λ before text after rest.
       moved before (one ++ (other ++ text)) ((one ++ other) ++ text) ((first ++ second) ++ after)
       (sym (append_assoc one other text))
       (subst (Spells before (one ++ (other ++ text))) (sym (append_assoc first second after))
       (gives.over before (other ++ text) (second ++ after)
-      (behind.over (before ++ one) text after
+      (following.over (before ++ one) text after
       (subst (λ (b : List ℕ). Spells b text after) (sym (append_assoc before one other)) rest))));
 }
 
@@ -172,7 +172,7 @@ pub gives_word : (word : List ℕ) (next : ℕ) (tail : List ℕ) (symbol : Symb
 unfolding lexeme_of
 gives_word word next tail symbol symbols it same ends gives = record {
   over = λ before text after rest.
-      let behind : Spells (before ++ word) (next ∷ (tail ++ text)) (symbols ++ after) =
+      let following : Spells (before ++ word) (next ∷ (tail ++ text)) (symbols ++ after) =
       gives.over (before ++ word) text after
       (subst (λ (b : List ℕ). Spells b text after) (sym (append_assoc before word (next ∷ tail))) rest) in
       let len : name_len (it.first ∷ (it.more ++ next ∷ (tail ++ text))) ≡ length (it.first ∷ it.more) =
@@ -187,7 +187,7 @@ gives_word word next tail symbol symbols it same ends gives = record {
       (subst (λ (w : List ℕ). Spells before (w ++ next ∷ (tail ++ text)) (symbol_of (word_of w) w ∷ (symbols ++ after)))
       (sym it.is)
       (token_spelled before it.first it.more (next ∷ (tail ++ text)) Name (symbols ++ after) token
-      (subst (λ (w : List ℕ). Spells (before ++ w) (next ∷ (tail ++ text)) (symbols ++ after)) it.is behind))));
+      (subst (λ (w : List ℕ). Spells (before ++ w) (next ∷ (tail ++ text)) (symbols ++ after)) it.is following))));
 }
 
 -- `(` before a text that doesn't begin with `*`

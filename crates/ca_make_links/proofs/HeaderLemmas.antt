@@ -36,10 +36,10 @@ mapped_only f from (suc count) (suc k) x at =
     let later = mapped_only f (from + 1) count k x at in
     ((let lt = later.0 in omega (arith, lt)), later.1 ∙ ap f (let e : from + 1 + k ≡ from + suc k = omega arith in e))
 
-get_behind : {T : Type 0} (xs ys : List T) (k : ℕ) → slice_get (xs ++ ys) (length xs + k) ≡ slice_get ys k
-get_behind [] ys k = ap (slice_get ys) (let e : 0 + k ≡ k = omega arith in e)
-get_behind (x ∷ xs) ys k =
-    ap (slice_get (x ∷ (xs ++ ys))) (let e : length (x ∷ xs) + k ≡ suc (length xs + k) = omega arith in e) ∙ get_behind xs ys k
+get_after : {T : Type 0} (xs ys : List T) (k : ℕ) → slice_get (xs ++ ys) (length xs + k) ≡ slice_get ys k
+get_after [] ys k = ap (slice_get ys) (let e : 0 + k ≡ k = omega arith in e)
+get_after (x ∷ xs) ys k =
+    ap (slice_get (x ∷ (xs ++ ys))) (let e : length (x ∷ xs) + k ≡ suc (length xs + k) = omega arith in e) ∙ get_after xs ys k
 
 get_before : {T : Type 0} (xs ys : List T) (k : ℕ) (x : T) → slice_get xs k ≡ Some x → slice_get (xs ++ ys) k ≡ Some x
 get_before [] ys k x at = absurd cc
@@ -121,7 +121,7 @@ module _ (outputs gates : ℕ) where
   output_bus : (j : ℕ) → j < outputs → slice_get buses (INPUTS + j) ≡ Some (bus Output (numbered (codes "o") j))
   output_bus j lt =
       ap (slice_get buses) (let e = buses_named Input (codes "i") INPUTS in let f : INPUTS + j ≡ length i_buses + j = omega (arith, e) in f)
-      ∙ get_behind i_buses (o_buses ++ w_buses) j
+      ∙ get_after i_buses (o_buses ++ w_buses) j
       ∙ get_before o_buses w_buses j (bus Output (numbered (codes "o") j))
       (mapped_twice (bus Output) (numbered (codes "o")) 0 outputs j lt
       ∙ ap (λ n. Some (bus Output (numbered (codes "o") n))) (let e : 0 + j ≡ j = omega arith in e))

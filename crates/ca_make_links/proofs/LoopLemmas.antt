@@ -14,7 +14,7 @@ use Rattle.ca_verilog.specs.IsNetlist.{bit_count}
 use Rattle.ca_make.specs.declared.gate.Gate.{Gate}
 use Rattle.ca_make.specs.declared.gate.Gate.TheVariants as gate
 use Rattle.ca_make.specs.declared.gate.TheConstants.{INPUTS}
-use Rattle.ca_make.specs.Draw.{gate_from, state_behind, gates_from}
+use Rattle.ca_make.specs.Draw.{gate_from, state_after, gates_from}
 use Rattle.ca_make.specs.Chip.{IsWithin, gates_of, unloaded}
 use Rattle.ca_make_laws.specs.Cells.{sound_library}
 use Rattle.ca_make_laws.specs.ChipNetlist.{candidate_bit, wire_bit, netlist_in_numbers}
@@ -32,7 +32,7 @@ drawn_within state candidates (suc count) zero it some at =
     (subst (IsWithin candidates) same (gate_within state candidates some))
 drawn_within state candidates (suc count) (suc u) it some at =
     subst (λ n. IsWithin n it) (let e : candidates + 1 + u ≡ candidates + suc u = omega arith in e)
-    (drawn_within (state_behind (gate_from state candidates) state) (candidates + 1) count u it (omega arith) at)
+    (drawn_within (state_after (gate_from state candidates) state) (candidates + 1) count u it (omega arith) at)
 
 pub gate_at : (n u : ℕ) (it : Gate) → slice_get (gates_of n) u ≡ Some it → IsWithin (INPUTS + u) it
 unfolding gates_of

@@ -387,7 +387,7 @@ chip_rules_kept n le =
     rules_kept n (are_spelled n le) (omega (arith, long, le))
 
 -- so linking is refused only when out of memory
-pub memory_alone : (n : ℕ) → n ≤ MOST_GATES → (told : ChipFault) → IsCause (chip_netlist n) sound_library [] told → told ≡ fault.NoMemory
+pub memory_alone : (n : ℕ) → n ≤ MOST_GATES → (reported : ChipFault) → IsCause (chip_netlist n) sound_library [] reported → reported ≡ fault.NoMemory
 memory_alone n le (fault.UnknownCell u) it = absurd (chip_rules_kept n le it.at (fault.UnknownCell u) it.breaks)
 memory_alone n le (fault.Cell u rule) it = absurd (chip_rules_kept n le it.at (fault.Cell u rule) it.breaks)
 memory_alone n le (fault.UnknownPin u pin) it = absurd (chip_rules_kept n le it.at (fault.UnknownPin u pin) it.breaks)

@@ -18,10 +18,10 @@ use ca_linked::Chip;
 use std::alloc::Global;
 
 // The only fault that linking meets here.
-fn want_of_memory(told: ChipFault) -> NoMemory
-    requires { told ≡ fault.NoMemory }
+fn want_of_memory(reported: ChipFault) -> NoMemory
+    requires { reported ≡ fault.NoMemory }
 {
-    let _ = told;
+    let _ = reported;
     NoMemory
 }
 

@@ -133,12 +133,12 @@ module _ (raw : RawCell) (defect : Defect) where
   -- with the next row, if it exposes the defect
   pub found_more : (count : ℕ) (old new : List Row) (row : Row) (passed : Bool) → AreFound raw defect count old → row_number raw row ≡ count → row.last < vectors
       → IsTrue passed ↔ IsExposingRow raw defect row → new ≡ old ++ (if passed then row ∷ [] else []) → AreFound raw defect (count + 1) new
-  found_more count old new row true are is within tells grown = record {
+  found_more count old new row true are is within reports grown = record {
     contained = λ other has. elim (Contains-append_cases old (row ∷ []) other (subst (λ list. Contains list other) grown has)) [
       | inl before ↦ let shown = are.contained other before in let less = shown.1 in (shown.0, omega arith)
       | inr here ↦
           let same = only_one row other here in
-          (subst (IsExposingRow raw defect) same (tells.0 refl), (let n = ap (row_number raw) same in omega arith))
+          (subst (IsExposingRow raw defect) same (reports.0 refl), (let n = ap (row_number raw) same in omega arith))
     ];
     contains = λ other exposes less. subst (λ list. Contains list other) (sym grown)
         (elim (eq-or-lt_of_le (let e : row_number raw other ≤ count = omega arith in e)) [
@@ -146,14 +146,14 @@ module _ (raw : RawCell) (defect : Defect) where
           | inr lower ↦ Contains-append_left old (row ∷ []) other (are.contains other exposes lower)
         ]);
   }
-  found_more count old new row false are is within tells grown = record {
+  found_more count old new row false are is within reports grown = record {
     contained = λ other has.
         let shown = are.contained other (subst (λ list. Contains list other) (grown ∙ append-nil old) has) in
         let less = shown.1 in
         (shown.0, omega arith);
     contains = λ other exposes less. subst (λ list. Contains list other) (sym (grown ∙ append-nil old))
         (elim (eq-or-lt_of_le (let e : row_number raw other ≤ count = omega arith in e)) [
-          | inl same ↦ absurd (false≢true (tells.1 (subst (IsExposingRow raw defect) (same_row other row exposes.last_within within (same ∙ sym is)) exposes)))
+          | inl same ↦ absurd (false≢true (reports.1 (subst (IsExposingRow raw defect) (same_row other row exposes.last_within within (same ∙ sym is)) exposes)))
           | inr lower ↦ are.contains other exposes lower
         ]);
   }

@@ -317,7 +317,7 @@ fn both_responses_agree(rt: HostRuntime) {
 }
 
 #[test]
-fn the_first_bad_device_is_told(rt: HostRuntime) {
+fn the_first_bad_device_is_reported(rt: HostRuntime) {
     let alloc = rt.alloc();
     for (parts, expected) in [([N(0, 1, 0), N(0, 2, 0)], 1), ([N(0, 1, 3), N(9, 1, 0)], 0)] {
         let made = network(alloc, &[Pin, Output], &parts);

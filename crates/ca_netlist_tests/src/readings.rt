@@ -112,12 +112,12 @@ fn add_bus(shown: &mut Vec<u8>, alloc: Global, bus: &RawBus) -> Result<(), NoMem
 }
 
 fn add_buses(shown: &mut Vec<u8>, alloc: Global, buses: &[RawBus]) -> Result<(), NoMemory> {
-    let mut behind = false;
+    let mut following = false;
     for bus in buses {
-        if behind {
+        if following {
             shown.extend_from_slice(b", ")?;
         }
-        behind = true;
+        following = true;
         add_bus(shown, alloc, bus)?;
     }
     Ok(())

@@ -9,11 +9,11 @@ use Rattle.ca_load.specs.Files as files
 
 -- the file of this name is there and no longer than a cell netlist may be, and this holds of its bytes
 abbrev pub IsFileWith : Files → List ℕ → (List ℕ → Type 0) → Type 0
-IsFileWith told name Holds = files.IsFileWith told name MAX_CELLS Holds
+IsFileWith reported name Holds = files.IsFileWith reported name MAX_CELLS Holds
 
 -- the same, where the files are known
 abbrev pub OfFile : Option Files → List ℕ → (List ℕ → Type 0) → Type 0
-OfFile told name Holds = files.OfFile told name MAX_CELLS Holds
+OfFile reported name Holds = files.OfFile reported name MAX_CELLS Holds
 
 -- the text has a reading, in which the word names a subcircuit of which this holds
 abbrev pub HasCell : List ℕ → (RawCell → Type 0) → List ℕ → Type 0

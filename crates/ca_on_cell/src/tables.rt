@@ -3,7 +3,7 @@ ghost use Rattle.std.specs.Prelude.{◌≡◌, Some, IfErr, IfOk, OnOk};
 ghost use Rattle.ca_store.specs.Store.{Nothing};
 ghost use Rattle.ca_on_cell.specs.Cells.{OfCell};
 ghost use Rattle.ca_on_cell.specs.Causes.{IsCellCause};
-ghost use Rattle.ca_load.specs.Files.{TellsStoreFault};
+ghost use Rattle.ca_load.specs.Files.{ReportsStoreFault};
 ghost use Rattle.ca_on_cell.specs.Defects.{IsSoundMatrix};
 
 use crate::inputs::{find_cell, typed_words};
@@ -28,8 +28,8 @@ pub fn find_matrix<S: Store>(
     ensures cause { IfErr result (IsCellCause request.now.cells.now request.now.cell.now
         (S.files store.old) (S.faults store.old) (S.faults store.new)) }
     ensures quiet { OnOk result (S.faults store.new ≡ S.faults store.old) }
-    ensures told { IfErr result (λ fault.
-        TellsStoreFault (Some fault) (S.faults store.old) (S.faults store.new)) }
+    ensures reported { IfErr result (λ fault.
+        ReportsStoreFault (Some fault) (S.faults store.old) (S.faults store.new)) }
     ensures closed { S.opened store.new ≡ Nothing }
     ensures kept { S.files store.new ≡ S.files store.old }
 {

@@ -6,7 +6,7 @@ ghost use Rattle.ca_on_cell.specs.Cells.{OfCell};
 ghost use Rattle.ca_on_cell.specs.Outputs.{letters_of, Fits, AreValues};
 ghost use Rattle.ca_on_cell.specs.Causes.{IsValueCause};
 ghost use Rattle.ca_on_cell.specs.Stages.{IsEvaluationCause, IsUnfit};
-ghost use Rattle.ca_load.specs.Files.{TellsStoreFault};
+ghost use Rattle.ca_load.specs.Files.{ReportsStoreFault};
 
 use crate::inputs::{find_cell, typed_words};
 use crate::outputs::values_of;
@@ -37,8 +37,8 @@ pub fn find_values<S: Store>(
         request.now.first.now request.now.last.now request.now.defect.now
         (S.files store.old) (S.faults store.old) (S.faults store.new)) }
     ensures quiet { OnOk result (S.faults store.new ≡ S.faults store.old) }
-    ensures told { IfErr result (λ fault.
-        TellsStoreFault (Some fault) (S.faults store.old) (S.faults store.new)) }
+    ensures reported { IfErr result (λ fault.
+        ReportsStoreFault (Some fault) (S.faults store.old) (S.faults store.new)) }
     ensures closed { S.opened store.new ≡ Nothing }
     ensures kept { S.files store.new ≡ S.files store.old }
 {

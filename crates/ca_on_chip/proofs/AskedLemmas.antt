@@ -27,8 +27,8 @@ use Rattle.ca_on_chip.specs.OnChip.{IsPairsFault, IsPairsCause, IsTestsCause, Is
 -- what holds of the chip of the files
 pub of_chip : (files : Option Files) (names : InputFiles) (chip : LinkedChip) (P : LinkedChip → Type 0)
     → IsTracedChipOf files names chip → P chip → OfChip files names P
-of_chip files names chip P held holds = λ told is.
-    let found = held.of_files told is in
+of_chip files names chip P held holds = λ reported is.
+    let found = held.of_files reported is in
     (found.0, (found.1.0, record { chip = chip; is = found.1.1; traced = held.traced; holds = holds }))
 
 -- the chip that was read is one with chains

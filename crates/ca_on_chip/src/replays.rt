@@ -1,7 +1,7 @@
 //! What `replay` asks for.
 ghost use Rattle.std.specs.Prelude.{◌≡◌, Some, IfErr, IfOk, OnOk};
 ghost use Rattle.ca_store.specs.Store.{Nothing};
-ghost use Rattle.ca_load.specs.Files.{OfFile, TellsStoreFault};
+ghost use Rattle.ca_load.specs.Files.{OfFile, ReportsStoreFault};
 ghost use Rattle.ca_load.specs.Texts.{names_of};
 ghost use Rattle.ca_request.specs.Asked.{AreBothOrNeither, IsAskedDefect, IsLibraryDefect, FitsInputs};
 ghost use Rattle.ca_request.specs.Vectors.{letters_of};
@@ -51,8 +51,8 @@ pub fn find_replay<S: Store>(
         request.now.of.first.now request.now.of.last.now request.now.order.now
         (S.files store.old) (S.faults store.old) (S.faults store.new)) }
     ensures quiet { OnOk result (S.faults store.new ≡ S.faults store.old) }
-    ensures told { IfErr result (λ fault.
-        TellsStoreFault (Some fault) (S.faults store.old) (S.faults store.new)) }
+    ensures reported { IfErr result (λ fault.
+        ReportsStoreFault (Some fault) (S.faults store.old) (S.faults store.new)) }
     ensures closed { S.opened store.new ≡ Nothing }
     ensures kept { S.files store.new ≡ S.files store.old }
 {
@@ -83,8 +83,8 @@ fn run_ends<S: Store>(
         request.now.of.first.now request.now.of.last.now request.now.order.now chip.now
         (S.files store.old) (S.faults store.old) (S.faults store.new)) }
     ensures quiet { OnOk result (S.faults store.new ≡ S.faults store.old) }
-    ensures told { IfErr result (λ fault.
-        TellsStoreFault (Some fault) (S.faults store.old) (S.faults store.new)) }
+    ensures reported { IfErr result (λ fault.
+        ReportsStoreFault (Some fault) (S.faults store.old) (S.faults store.new)) }
     ensures closed { S.opened store.new ≡ Nothing }
     ensures kept { S.files store.new ≡ S.files store.old }
 {

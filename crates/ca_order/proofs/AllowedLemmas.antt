@@ -60,12 +60,12 @@ nodes_within places (word ∷ words) nodes is =
     by : ((more : List NodeId) → nodes_of places words ≡ Some more → All (IsWithin (length places)) more)
         → (first : Option NodeId) → node_of places word ≡ first → (others : Option (List NodeId)) → nodes_of places words ≡ others
         → with_node first others ≡ Some nodes → All (IsWithin (length places)) nodes
-    by later None told others rest is = cc
-    by later (Some node) told None rest is = cc
-    by later (Some node) told (Some more) rest is =
+    by later None reported others rest is = cc
+    by later (Some node) reported None rest is = cc
+    by later (Some node) reported (Some more) rest is =
         let same : ◌≡◌ {A = List NodeId} nodes (node ∷ more) = cc in
         All-same (IsWithin (length places)) nodes (node ∷ more) same
-        (All-cons (IsWithin (length places)) node more (node_within places word node told) (later more rest))
+        (All-cons (IsWithin (length places)) node more (node_within places word node reported) (later more rest))
 
 some_within : (places : List Place) (words : List (List ℕ)) (nodes : List NodeId) → some_nodes places words ≡ Some nodes
     → All (IsWithin (length places)) nodes
@@ -89,10 +89,10 @@ module _ (net : Circuit) (v1 v2 : List Trit) (places : List Place) (are : ArePla
             | None ↦ None
             | Some kind ↦ elim kind as (λ _. Option Event) [ place.Free ↦ Some (event.Set node value) | place.Fixed ↦ None ]
           ] ≡ Some made → IsAllowed net v1 v2 made
-      by None told is = cc
-      by (Some place.Fixed) told is = cc
-      by (Some place.Free) told is =
-          let may = (are.free node.0).0 told in
+      by None reported is = cc
+      by (Some place.Fixed) reported is = cc
+      by (Some place.Free) reported is =
+          let may = (are.free node.0).0 reported in
           let same : ◌≡◌ {A = Event} (event.Set node value) made = cc in
           subst (IsAllowed net v1 v2) same (record { is_event = may.0; may_come = may.1 })
 
@@ -151,8 +151,8 @@ module _ (net : Circuit) (v1 v2 : List Trit) (places : List Place) (are : ArePla
     where
       by : ((so_far : List Event) → All (IsAllowed net v1 v2) so_far → steps_from (line_step places) so_far lines ≡ Ok events
           → All (IsAllowed net v1 v2) events)
-          → (told : Option Event) → event_at places here.line here.text ≡ told
-          → elim (elim told as (λ _. Result (List Event) ℕ) [ None ↦ Err here.line | Some made ↦ Ok (so_far ++ made ∷ []) ])
+          → (reported : Option Event) → event_at places here.line here.text ≡ reported
+          → elim (elim reported as (λ _. Result (List Event) ℕ) [ None ↦ Err here.line | Some made ↦ Ok (so_far ++ made ∷ []) ])
           as (λ _. Result (List Event) ℕ) [
             | Ok next ↦ steps_from (line_step places) next lines
             | Err fault ↦ Err fault
@@ -182,5 +182,5 @@ memory_is_free net v1 v2 text (Err given) is =
     record {
       places = found.0;
       are_places = found.1;
-      reads = subst (λ (told : OrderFault). Reads (Err told) (order_of found.0 text)) (sym is) tt;
+      reads = subst (λ (reported : OrderFault). Reads (Err reported) (order_of found.0 text)) (sym is) tt;
     }

@@ -18,24 +18,24 @@ unfolding steps_from numbered lines_of
 all_read places line events [] none = refl
 all_read places line events (byte ∷ bytes) none = absurd (omega (arith, none))
 
-pub one_event : (places : List Place) (line : ℕ) (events : List Event) (rest text behind : List ℕ) (event : Event)
-    → lines_of rest ≡ text ∷ lines_of behind → event_at places line text ≡ Some event
+pub one_event : (places : List Place) (line : ℕ) (events : List Event) (rest text following : List ℕ) (event : Event)
+    → lines_of rest ≡ text ∷ lines_of following → event_at places line text ≡ Some event
     → steps_from (line_step places) events (numbered line (lines_of rest))
-    ≡ steps_from (line_step places) (events ++ event ∷ []) (numbered (line + 1) (lines_of behind))
+    ≡ steps_from (line_step places) (events ++ event ∷ []) (numbered (line + 1) (lines_of following))
 unfolding steps_from numbered
-one_event places line events rest text behind event cut is =
+one_event places line events rest text following event cut is =
     ap (λ (lines : List (List ℕ)). steps_from (line_step places) events (numbered line lines)) cut
     ∙ (λ j. elim (elim (is j) as (λ _. Result (List Event) ℕ) [ None ↦ Err line | Some event ↦ Ok (events ++ event ∷ []) ]) as (λ _. Result (List Event) ℕ) [
-      | Ok next ↦ steps_from (line_step places) next (numbered (line + 1) (lines_of behind))
+      | Ok next ↦ steps_from (line_step places) next (numbered (line + 1) (lines_of following))
       | Err fault ↦ Err fault
     ])
 
-pub no_line : (places : List Place) (line : ℕ) (events : List Event) (rest text behind : List ℕ) → lines_of rest ≡ text ∷ lines_of behind
+pub no_line : (places : List Place) (line : ℕ) (events : List Event) (rest text following : List ℕ) → lines_of rest ≡ text ∷ lines_of following
     → event_at places line text ≡ None → steps_from (line_step places) events (numbered line (lines_of rest)) ≡ Err line
 unfolding steps_from numbered
-no_line places line events rest text behind cut is =
+no_line places line events rest text following cut is =
     ap (λ (lines : List (List ℕ)). steps_from (line_step places) events (numbered line lines)) cut
     ∙ (λ j. elim (elim (is j) as (λ _. Result (List Event) ℕ) [ None ↦ Err line | Some event ↦ Ok (events ++ event ∷ []) ]) as (λ _. Result (List Event) ℕ) [
-      | Ok next ↦ steps_from (line_step places) next (numbered (line + 1) (lines_of behind))
+      | Ok next ↦ steps_from (line_step places) next (numbered (line + 1) (lines_of following))
       | Err fault ↦ Err fault
     ])

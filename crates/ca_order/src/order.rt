@@ -26,12 +26,12 @@ pub fn read_order(alloc: Global, places: &[Place], bytes: &[u8]) -> Result<List<
         if rest.is_empty() {
             return Ok(events);
         }
-        let (text, behind) = first_line(rest);
+        let (text, following) = first_line(rest);
         let Some(event) = event_at(alloc, places, line, text)? else {
             return Err(OrderFault::At { line });
         };
         events.push(event)?;
-        rest = behind;
+        rest = following;
     }
     // No text has that many lines.
     Err(OrderFault::NoMemory)

@@ -19,12 +19,12 @@ fn nodes_of(alloc: Global, places: &[Place], text: &[u8]) -> Result<Option<List<
     let mut nodes = List::new(alloc);
     let mut rest = text;
     'words: loop {
-        let (word, behind) = cut_word(rest);
+        let (word, following) = cut_word(rest);
         let Some(node) = node_of(places, word) else {
             return Ok(None);
         };
         nodes.push(node)?;
-        let Some(more) = behind else {
+        let Some(more) = following else {
             return Ok(Some(nodes));
         };
         rest = more;
@@ -54,8 +54,8 @@ fn set_with(places: &[Place], text: &[u8]) -> Option<Event>
     requires few { length places.now ≤ 2 ^ 32 }
     ensures { result ≡ set_with places.now (words_of text.now) }
 {
-    let (node, behind) = cut_word(text);
-    let Some(rest) = behind else {
+    let (node, following) = cut_word(text);
+    let Some(rest) = following else {
         return None;
     };
     let (value, more) = cut_word(rest);
@@ -91,8 +91,8 @@ fn event_of(alloc: Global, places: &[Place], text: &[u8]) -> Result<Option<Event
     requires few { length places.now ≤ 2 ^ 32 }
     ensures { IfOk result (λ event. event ≡ event_of places.now (words_of text.now)) }
 {
-    let (word, behind) = cut_word(text);
-    let Some(rest) = behind else {
+    let (word, following) = cut_word(text);
+    let Some(rest) = following else {
         return Ok(None);
     };
     if word == b"settle".as_slice() {

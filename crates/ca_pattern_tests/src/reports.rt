@@ -116,14 +116,14 @@ fn reports_are_the_texts(rt: HostRuntime) {
 #[test]
 fn a_verdict_at_an_output_that_is_none(rt: HostRuntime) {
     let lines: [Line; 1] = [(b"u1", b"INV", b"MP1(D)", SECOND)];
-    let Ok(told) = told_of(rt.alloc(), &lines) else {
+    let Ok(reported) = reported_of(rt.alloc(), &lines) else {
         panic!(rt; "no memory");
     };
-    assert!(rt; !told);
+    assert!(rt; !reported);
 }
 
 // Whether these verdicts are of a chip without outputs.
-fn told_of(alloc: Global, lines: &[Line]) -> Result<bool, NoMemory> {
+fn reported_of(alloc: Global, lines: &[Line]) -> Result<bool, NoMemory> {
     let outputs = Names::new(alloc);
     let rows = rows_of(alloc, lines)?;
     Ok(are_of(&outputs, &rows))

@@ -420,11 +420,11 @@ fn patterns_are_the_texts(rt: HostRuntime) {
 }
 
 #[test]
-fn patterns_of_another_chip_are_told(rt: HostRuntime) {
+fn patterns_of_another_chip_are_reported(rt: HostRuntime) {
     for row in &STRANGE {
-        let Ok(told) = text_of(rt.alloc(), &row.0, row.1) else {
+        let Ok(reported) = text_of(rt.alloc(), &row.0, row.1) else {
             panic!(rt; "no memory");
         };
-        assert!(rt; told.is_none(), "{:?}", row.1);
+        assert!(rt; reported.is_none(), "{:?}", row.1);
     }
 }

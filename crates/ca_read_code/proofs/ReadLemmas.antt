@@ -6,7 +6,7 @@ use Rattle.std.specs.Prelude.{◌↔◌, slice_get}
 use Rattle.ca_net.specs.declared.trit.Trit.{Trit}
 use Rattle.ca_flat.specs.declared.token.Token.{Token}
 use Rattle.ca_flat.specs.declared.token.Token.TheVariants.{Branch, Leaf}
-use Rattle.ca_flat.specs.Codes.{Reading, At, Ended, unset_pair, behind, Rules, Reads, branch_count}
+use Rattle.ca_flat.specs.Codes.{Reading, At, Ended, unset_pair, following, Rules, Reads, branch_count}
 use Rattle.ca_flat.specs.Codes.{IsWholeBy, IsFrontBy, IsSpentBy}
 use Rattle.ca_read_code.specs.declared.walk.Decision.{Decision}
 use Rattle.ca_read_code.specs.declared.walk.CodeEnd.{CodeEnd}
@@ -116,7 +116,7 @@ reads_once : (rules : Rules) (code : List Token) (from one other : Reading) → 
     → Reads rules code from other → one ≡ other
 reads_once rules [] from one other here there = sym here ∙ there
 reads_once rules (token ∷ code) (At pair later) one other here there =
-    reads_once rules code (behind token pair later) one other here.1 there.1
+    reads_once rules code (following token pair later) one other here.1 there.1
 reads_once rules (token ∷ code) Ended one other here there = absurd here
 
 front_not_whole : (now : Examined) (code : List Token) (pair : List Trit) → IsFrontBy (rules_of now) now.chip code pair

@@ -8,7 +8,7 @@ use Rattle.ca_net.specs.State.{value_at}
 use Rattle.ca_flat.specs.declared.chip_defect.ChipDefect.{ChipDefect}
 use Rattle.ca_flat.specs.declared.token.Token.TheVariants.{Branch, Leaf}
 use Rattle.ca_flat.specs.Chip.{Chip}
-use Rattle.ca_flat.specs.Codes.{At, unset_pair, with_bit, behind_tree, Reads}
+use Rattle.ca_flat.specs.Codes.{At, unset_pair, with_bit, after_tree, Reads}
 use Rattle.ca_flat.proofs.Codes.{support_within}
 use Rattle.ca_flat.specs.Pair.{bit_count}
 use Rattle.ca_read_code.specs.declared.walk.Decision.{Decision}
@@ -96,8 +96,8 @@ pub leaf_goes : (old new : Examined) (ds after : List Decision) → MayLeaveHere
 leaf_goes old new ds after may turn = (
   turn.follows,
   λ rest to. (
-    λ reads. subst (λ here. Reads (rules_of old) rest here to) (ap behind_tree turn.next) reads.1,
-    λ reads. (may, subst (λ here. Reads (rules_of old) rest here to) (sym (ap behind_tree turn.next)) reads),
+    λ reads. subst (λ here. Reads (rules_of old) rest here to) (ap after_tree turn.next) reads.1,
+    λ reads. (may, subst (λ here. Reads (rules_of old) rest here to) (sym (ap after_tree turn.next)) reads),
   ),
 )
 
@@ -105,6 +105,6 @@ leaf_goes old new ds after may turn = (
 pub leaf_ends : (old new : Examined) (ds after : List Decision) → MayLeaveHere old → still_later old ds ≡ []
     → IsStride Leaf old new ds after Ends
 leaf_ends old new ds after may none rest to = (
-  λ reads. subst (λ here. Reads (rules_of old) rest here to) (ap behind_tree none) reads.1,
-  λ reads. (may, subst (λ here. Reads (rules_of old) rest here to) (sym (ap behind_tree none)) reads),
+  λ reads. subst (λ here. Reads (rules_of old) rest here to) (ap after_tree none) reads.1,
+  λ reads. (may, subst (λ here. Reads (rules_of old) rest here to) (sym (ap after_tree none)) reads),
 )

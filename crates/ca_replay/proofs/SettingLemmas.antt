@@ -58,9 +58,9 @@ module _ (net : Circuit) (v : List Trit) where
           → Run net s (if test then settings v inputs s
           else Set input.0 (value_at v input.0) ∷ settings v inputs (slice_set s input.0 (value_at v input.0)))
           (with_values v inputs (slice_set s input.0 (value_at v input.0)))
-      by true told is stays sets =
-          subst (λ next. Run net s (settings v inputs s) (with_values v inputs next)) (sym (set_same s input (value_at v input.0) (told refl))) stays
-      by false told is stays sets = (is, (slice_set s input.0 (value_at v input.0), refl, sets))
+      by true reported is stays sets =
+          subst (λ next. Run net s (settings v inputs s) (with_values v inputs next)) (sym (set_same s input (value_at v input.0) (reported refl))) stays
+      by false reported is stays sets = (is, (slice_set s input.0 (value_at v input.0), refl, sets))
 
   -- and it ends nowhere else
   pub settings_end : (inputs : List NodeId) (s t : List Trit) → Run net s (settings v inputs s) t → t ≡ with_values v inputs s
@@ -77,7 +77,7 @@ module _ (net : Circuit) (v : List Trit) where
           → Run net s (if test then settings v inputs s
           else Set input.0 (value_at v input.0) ∷ settings v inputs (slice_set s input.0 (value_at v input.0))) t
           → t ≡ with_values v inputs (slice_set s input.0 (value_at v input.0))
-      by true told stays sets run =
-          stays run ∙ ap (λ next. with_values v inputs next) (sym (set_same s input (value_at v input.0) (told refl)))
-      by false told stays sets run =
+      by true reported stays sets run =
+          stays run ∙ ap (λ next. with_values v inputs next) (sym (set_same s input (value_at v input.0) (reported refl)))
+      by false reported stays sets run =
           sets (subst (λ mid. Run net mid (settings v inputs (slice_set s input.0 (value_at v input.0))) t) run.1.1 run.1.2)

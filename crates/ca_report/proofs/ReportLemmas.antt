@@ -7,7 +7,7 @@ use Rattle.std.proofs.lemmas.Option.{get_or_from_slice_get, slice_get_within}
 use Rattle.csv.specs.Writing.{default_writer, row_text}
 use Rattle.ca_csv.specs.Records.{written}
 use Rattle.ca_report.specs.declared.rows.ReportRow.{ReportRow}
-use Rattle.ca_report.proofs.RowLemmas.{told}
+use Rattle.ca_report.proofs.RowLemmas.{reported}
 use Rattle.ca_report.specs.Report.{header, record_of, report_text}
 
 -- one record more was written
@@ -16,7 +16,7 @@ pub one_more : (outputs : List (List ℕ)) (k : ℕ) (rows : List ReportRow) (te
     → text ++ written (map (record_of outputs) (drop k rows)) ≡ all
     → (text ++ row_text default_writer fields) ++ written (map (record_of outputs) (drop (k + 1) rows)) ≡ all
 one_more outputs k rows text all fields filled before =
-    let row = told (slice_get rows k) (λ row. fields ≡ record_of outputs row) filled in
+    let row = reported (slice_get rows k) (λ row. fields ≡ record_of outputs row) filled in
     let below = slice_get_within rows k row.0 row.1 in
     let is : get_or rows k row.0 ≡ row.0 = get_or_from_slice_get rows k row.0 row.0 row.1 in
     let next : suc k ≡ k + 1 = omega arith in

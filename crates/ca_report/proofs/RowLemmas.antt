@@ -8,15 +8,15 @@ use Rattle.std.proofs.lemmas.List.Elements.{All-get_or, All-push}
 use Rattle.std.proofs.lemmas.Option.{get_or_from_slice_get, slice_get_within, slice_get-get_or}
 
 -- what is said about the entry at a place, as an equation
-pub told : {T : Type 0} (at : Option T) (P : T → Type 0) → IsSomeAnd at P → (x : T) × (at ≡ Some x) × P x
-told None P there = absurd there
-told (Some x) P there = (x, refl, there)
+pub reported : {T : Type 0} (at : Option T) (P : T → Type 0) → IsSomeAnd at P → (x : T) × (at ≡ Some x) × P x
+reported None P there = absurd there
+reported (Some x) P there = (x, refl, there)
 
 -- one more keeps it
 pub all_more : {T : Type 0} (P : T → Type 0) (xs : List T) (k : ℕ) → IsSomeAnd (slice_get xs k) P → All P (take k xs)
     → All P (take (k + 1) xs)
 all_more {T} P xs k there before =
-    let here = told (slice_get xs k) P there in
+    let here = reported (slice_get xs k) P there in
     let is : get_or xs k here.0 ≡ here.0 = get_or_from_slice_get xs k here.0 here.0 here.1 in
     subst (All P) (sym (take_more xs k here.0 (slice_get_within xs k here.0 here.1)))
     (All-push P (take k xs) (get_or xs k here.0) before (subst P (sym is) here.2))

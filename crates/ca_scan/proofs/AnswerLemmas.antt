@@ -16,15 +16,15 @@ one_first chip u v is also = omega (arith, not_after u v is also, not_after v u 
     not_after a b first later less = first.off (later.none_before a less first.scan)
 
 causes : (chip : LinkedChip) (fault other : ChainFault) → IsChainCause chip fault → IsChainCause chip other → fault ≢ NoMemory → other ≢ NoMemory → fault ≡ other
-causes chip NoMemory other is also known told = absurd (known refl)
-causes chip fault NoMemory is also known told = absurd (told refl)
-causes chip (ChainBroken u) (ChainBroken v) is also known told = ap ChainBroken (same_instance u v (one_first chip u.0 v.0 is also))
+causes chip NoMemory other is also known reported = absurd (known refl)
+causes chip fault NoMemory is also known reported = absurd (reported refl)
+causes chip (ChainBroken u) (ChainBroken v) is also known reported = ap ChainBroken (same_instance u v (one_first chip u.0 v.0 is also))
   where
     same_instance : (a b : InstanceId) → a.0 ≡ b.0 → a ≡ b
     same_instance a b same = (λ j. record { 0 = same j })
-causes chip (ChainBroken u) (TooManyChains count) is also known told = absurd (is.off (also.on_chains u.0 is.scan))
-causes chip (TooManyChains count) (ChainBroken v) is also known told = absurd (also.off (is.on_chains v.0 also.scan))
-causes chip (TooManyChains count) (TooManyChains number) is also known told =
+causes chip (ChainBroken u) (TooManyChains count) is also known reported = absurd (is.off (also.on_chains u.0 is.scan))
+causes chip (TooManyChains count) (ChainBroken v) is also known reported = absurd (also.off (is.on_chains v.0 also.scan))
+causes chip (TooManyChains count) (TooManyChains number) is also known reported =
     ap TooManyChains (is.counted ∙ ap length (one_list chip is.chains also.chains is.are also.are) ∙ sym also.counted)
 
 both : (chip : LinkedChip) (chains : List (List ℕ)) (fault : ChainFault) → AreAllChains chip chains → IsChainCause chip fault → fault ≡ NoMemory

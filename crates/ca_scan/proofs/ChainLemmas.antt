@@ -96,22 +96,22 @@ one_run chip net (u ∷ chain) (v ∷ other) driven runs also =
     let same : u ≡ v = same_taker chip net u v driven runs.1 runs.2 also.2 in
     let next : runs.0 ≡ also.0 = one_net chip So u runs.0 also.0 runs.3 (subst (λ w. IsOnPin chip So w also.0) (sym same) also.3) in
     let rest : RunsOut chip runs.0 other = subst (λ n. RunsOut chip n other) (sym next) also.4 in
-    let behind = one_run chip runs.0 chain other (so_drives chip runs.0 u runs.3) runs.4 rest in
-    ap (λ w. w ∷ chain) same ∙ ap (λ c. v ∷ c) behind
+    let following = one_run chip runs.0 chain other (so_drives chip runs.0 u runs.3) runs.4 rest in
+    ap (λ w. w ∷ chain) same ∙ ap (λ c. v ∷ c) following
 
 -- what runs after a scan instance of a run
-record RunsBehind (chip : LinkedChip) (u : ℕ) (chain : List ℕ) : Type 0 where
+record RunsAfter (chip : LinkedChip) (u : ℕ) (chain : List ℕ) : Type 0 where
   pub next : ℕ
   pub there : IsOnPin chip So u next
   pub rest : List ℕ
   pub runs : RunsOut chip next rest
   pub shorter : length rest < length chain
 
-behind : (chip : LinkedChip) (net : ℕ) (chain : List ℕ) (u : ℕ) → RunsOut chip net chain → has chain u ≡ true → RunsBehind chip u chain
-behind chip net [] u runs there = absurd cc
-behind chip net (first ∷ chain) u runs there = by (eqb u first) refl there (behind chip runs.0 chain u runs.4)
+following : (chip : LinkedChip) (net : ℕ) (chain : List ℕ) (u : ℕ) → RunsOut chip net chain → has chain u ≡ true → RunsAfter chip u chain
+following chip net [] u runs there = absurd cc
+following chip net (first ∷ chain) u runs there = by (eqb u first) refl there (following chip runs.0 chain u runs.4)
   where
-    by : (test : Bool) → eqb u first ≡ test → (test || has chain u) ≡ true → (has chain u ≡ true → RunsBehind chip u chain) → RunsBehind chip u (first ∷ chain)
+    by : (test : Bool) → eqb u first ≡ test → (test || has chain u) ≡ true → (has chain u ≡ true → RunsAfter chip u chain) → RunsAfter chip u (first ∷ chain)
     by true is there later = record {
       next = runs.0;
       there = subst (λ w. IsOnPin chip So w runs.0) (sym (eqb-true u first is)) runs.3;
@@ -126,7 +126,7 @@ behind chip net (first ∷ chain) u runs there = by (eqb u first) refl there (be
 -- the first scan instance of a run doesn't come after itself
 not_again : (chip : LinkedChip) (net u : ℕ) (chain : List ℕ) → RunsOut chip net (u ∷ chain) → has chain u ≡ true → ⊥
 not_again chip net u chain runs again =
-    let found = behind chip runs.0 chain u runs.4 again in
+    let found = following chip runs.0 chain u runs.4 again in
     let same = one_net chip So u runs.0 found.next runs.3 found.there in
     let also : RunsOut chip runs.0 found.rest = subst (λ n. RunsOut chip n found.rest) (sym same) found.runs in
     let one = one_run chip runs.0 chain found.rest (so_drives chip runs.0 u runs.3) runs.4 also in
@@ -153,7 +153,7 @@ pub run_length : (chip : LinkedChip) (net : ℕ) (chain : List ℕ) → RunsOut 
 run_length chip net chain runs =
     length-le_from_distinct_below chain (length chip.parts) (distinct chip net chain runs)
     (λ u there.
-    let found = behind chip net chain u runs there in
+    let found = following chip net chain u runs there in
     let at = item_of chip.parts u (λ (part : Part). HasOnPin So found.next part.body) found.there in
     slice_get_within chip.parts u at.item at.at)
 

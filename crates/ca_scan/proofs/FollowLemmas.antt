@@ -61,14 +61,14 @@ found_in nets net (x ∷ xs) some = by (count_of net (nets x)) refl (found_in ne
 
 module _ (chip : LinkedChip) (joints : Joints) (are : AreJoints chip joints) (net : ℕ) where
   module _ (wired : IsWired chip) (on_path : is_scan_path chip net ≡ true) where
-    ends_told : tally_at joints.ends net ≡ up_to_three (ends_of chip net)
-    ends_told = are.ends net ∙ ap up_to_three (path_ends chip net wired on_path)
+    ends_reported : tally_at joints.ends net ≡ up_to_three (ends_of chip net)
+    ends_reported = are.ends net ∙ ap up_to_three (path_ends chip net wired on_path)
 
     pub not_two : (tally_at joints.ends net ≡ 2 → ⊥) → (chain : List ℕ) → RunsOut chip net chain → ⊥
-    not_two other chain runs = other (ends_told ∙ ap up_to_three (link_of chip net chain runs))
+    not_two other chain runs = other (ends_reported ∙ ap up_to_three (link_of chip net chain runs))
 
     pub is_two : tally_at joints.ends net ≡ 2 → IsLink chip net
-    is_two two = two_of (ends_of chip net) (sym ends_told ∙ two)
+    is_two two = two_of (ends_of chip net) (sym ends_reported ∙ two)
 
   pub is_out : (tally_at joints.outs net ≡ 0 → ⊥) → IsOut chip net
   unfolding count_of
@@ -121,7 +121,7 @@ module _ (chip : LinkedChip) (joints : Joints) (are : AreJoints chip joints) (ne
           by (Some part) is = of_body part.body is
 
   pub taken : (u : ℕ) → taker_at joints.takers net ≡ Some u → IsOnPin chip Si u net
-  taken u told = subst (IsTakerAmong chip (length (scans_of chip)) net) told (are.takers net)
+  taken u reported = subst (IsTakerAmong chip (length (scans_of chip)) net) reported (are.takers net)
 
 -- nothing is followed yet
 pub begin_followed : (chip : LinkedChip) (net : ℕ) → 1 ≤ drivers_of chip net → is_scan_path chip net ≡ true → IsFollowed chip net [] net

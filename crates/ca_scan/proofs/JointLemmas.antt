@@ -228,12 +228,12 @@ pub taker_more : (chip : LinkedChip) (k u net : ℕ) (old new : List (Option ℕ
 taker_more chip k u net old new at there before set n = by (eqb n net) refl (taker_at old n) refl (before n)
   where
     by : (test : Bool) → eqb n net ≡ test → (was : Option ℕ) → taker_at old n ≡ was → IsTakerAmong chip k n was → IsTakerAmong chip (k + 1) n (taker_at new n)
-    by true is was told taker =
+    by true is was reported taker =
         subst (IsTakerAmong chip (k + 1) n) (sym (set n ∙ (λ j. if is j then Some u else taker_at old n))) (subst (IsOnPin chip Si u) (sym (eqb-true n net is)) there)
-    by false is (Some v) told taker =
-        subst (IsTakerAmong chip (k + 1) n) (sym (set n ∙ (λ j. if is j then Some u else taker_at old n) ∙ told)) taker
-    by false is None told taker =
-        subst (IsTakerAmong chip (k + 1) n) (sym (set n ∙ (λ j. if is j then Some u else taker_at old n) ∙ told)) none
+    by false is (Some v) reported taker =
+        subst (IsTakerAmong chip (k + 1) n) (sym (set n ∙ (λ j. if is j then Some u else taker_at old n) ∙ reported)) taker
+    by false is None reported taker =
+        subst (IsTakerAmong chip (k + 1) n) (sym (set n ∙ (λ j. if is j then Some u else taker_at old n) ∙ reported)) none
       where
         none : (j v : ℕ) → j < k + 1 → slice_get (scans_of chip) j ≡ Some v → IsOnPin chip Si v n → ⊥
         none j v less at_v takes = elim (ℕ_discrete j k) [

@@ -85,8 +85,8 @@ counted_has u (v ∷ chain) there = by (eqb u v) there (counted_has u chain)
     by false one later = let more = later one in omega (arith, more)
 
 module _ (chip : LinkedChip) (chains : List (List ℕ)) (are : AreChains chip chains) (marks : List ℕ) (counts : Counts marks (all_of chains)) (u : ℕ) where
-  told : tally_at marks u ≡ up_to_three (count_of u (flat_map members are.at_port))
-  told = counts u ∙ ap (λ list. up_to_three (count_of u list)) (ap all_of are.all ∙ all_members are.at_port)
+  reported : tally_at marks u ≡ up_to_three (count_of u (flat_map members are.at_port))
+  reported = counts u ∙ ap (λ list. up_to_three (count_of u list)) (ap all_of are.all ∙ all_members are.at_port)
 
   pub on_marked : (tally_at marks u ≡ 0 → ⊥) → IsOnChain chip u
   unfolding members count_of
@@ -96,7 +96,7 @@ module _ (chip : LinkedChip) (chains : List (List ℕ)) (are : AreChains chip ch
       counted_there = by (count_of u (flat_map members are.at_port)) refl
         where
           by : (count : ℕ) → count_of u (flat_map members are.at_port) ≡ count → 1 ≤ count
-          by zero is = absurd (some (told ∙ ap up_to_three is))
+          by zero is = absurd (some (reported ∙ ap up_to_three is))
           by (suc count) is = omega arith
 
       of_item : (p : ℕ) (found : Option (List ℕ)) → slice_get are.at_port p ≡ Some found → 1 ≤ count_of u (members found) → IsOnChain chip u
@@ -116,7 +116,7 @@ module _ (chip : LinkedChip) (chains : List (List ℕ)) (are : AreChains chip ch
       let same = one_found chip on.port _ (Some on.chain) (are.each on.port _ there) on.whole in
       let here : slice_get are.at_port on.port ≡ Some (Some on.chain) = there ∙ ap Some same in
       let some = counted members u are.at_port on.port (Some on.chain) here (counted_has u on.chain on.there) in
-      let zero_count = none_counted (count_of u (flat_map members are.at_port)) (sym told ∙ none) in
+      let zero_count = none_counted (count_of u (flat_map members are.at_port)) (sym reported ∙ none) in
       omega (arith, some, zero_count)
     where
       none_counted : (n : ℕ) → up_to_three n ≡ 0 → n ≡ 0

@@ -39,9 +39,9 @@ take_fields [] n all = rw all refl
 take_fields (x ∷ xs) n all = rw all (ap (λ ys. x ∷ ys) (take_fields xs (length xs) refl))
 
 -- after a header come the rows
-pub behind_header : (fields : List (List ℕ)) (records : List (List (List ℕ))) → is_header fields ≡ true
+pub after_header : (fields : List (List ℕ)) (records : List (List (List ℕ))) → is_header fields ≡ true
     → rows_of (fields ∷ records) ≡ steps_from record_step [] (numbered 2 records)
-behind_header fields records is = by (is_header fields) is
+after_header fields records is = by (is_header fields) is
   where
     by : (test : Bool) → test ≡ true → (if test then steps_from record_step [] (numbered 2 records) else Err 1) ≡ steps_from record_step [] (numbered 2 records)
     by true is = refl

@@ -102,7 +102,7 @@ fn read_rows(
 
 // The scan table of the records after those that were read. Each large value is dropped in one place here and
 // below: more places are slow to prove.
-fn table_behind(
+fn table_after(
     alloc: Global,
     reader: &mut Reader<&[u8]>,
     record: &mut ByteRecord,
@@ -124,7 +124,7 @@ pub fn read_table(alloc: Global, bytes: &[u8]) -> Result<ScanTable, ScanFault>
 {
     let mut reader = reader_of(alloc, bytes);
     let mut record = ByteRecord::new(alloc);
-    let table = table_behind(alloc, &mut reader, &mut record);
+    let table = table_after(alloc, &mut reader, &mut record);
     drop(record);
     drop(reader);
     table

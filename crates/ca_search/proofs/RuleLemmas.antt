@@ -7,7 +7,7 @@ use Rattle.ca_flat.specs.declared.token.Token.TheVariants.{Branch, Leaf}
 use Rattle.ca_flat.specs.Chip.{Chip}
 use Rattle.ca_flat.specs.Pair.{IsRuledOut}
 use Rattle.ca_flat.specs.Waves.{IsFlatChip}
-use Rattle.ca_flat.specs.Codes.{Reading, At, Ended, behind, behind_tree, Rules, Reads, MayBranch}
+use Rattle.ca_flat.specs.Codes.{Reading, At, Ended, following, after_tree, Rules, Reads, MayBranch}
 use Rattle.ca_flat.specs.CheckedCode.{IsPlain, IsCheckedLeaf, IsCheckedBranch}
 use Rattle.ca_flat.proofs.Detected.{some_good, some_faulty}
 use Rattle.ca_flat.proofs.Completions.{settled_is_ruled_out_lem}
@@ -23,10 +23,10 @@ reads_wider : (strict wide : Rules) → ((pair : List Trit) → strict.leaf pair
 reads_wider strict wide leaf branch [] from to reads = reads
 reads_wider strict wide leaf branch (token ∷ code) Ended to reads = absurd reads
 reads_wider strict wide leaf branch (Leaf ∷ code) (At pair later) to reads =
-    (leaf pair reads.0, reads_wider strict wide leaf branch code (behind_tree later) to reads.1)
+    (leaf pair reads.0, reads_wider strict wide leaf branch code (after_tree later) to reads.1)
 reads_wider strict wide leaf branch (Branch bit first ∷ code) (At pair later) to reads = (
   branch pair bit reads.0,
-  reads_wider strict wide leaf branch code (behind (Branch bit first) pair later) to reads.1,
+  reads_wider strict wide leaf branch code (following (Branch bit first) pair later) to reads.1,
 )
 
 -- the same where it can't be that a leaf is not allowed
@@ -37,10 +37,10 @@ reads_stable : (strict wide : Rules)
 reads_stable strict wide leaf branch [] from to reads none = none reads
 reads_stable strict wide leaf branch (token ∷ code) Ended to reads none = absurd reads
 reads_stable strict wide leaf branch (Leaf ∷ code) (At pair later) to reads none =
-    leaf pair reads.0 (λ here. reads_stable strict wide leaf branch code (behind_tree later) to reads.1
+    leaf pair reads.0 (λ here. reads_stable strict wide leaf branch code (after_tree later) to reads.1
     (λ rest. none (here, rest)))
 reads_stable strict wide leaf branch (Branch bit first ∷ code) (At pair later) to reads none =
-    reads_stable strict wide leaf branch code (behind (Branch bit first) pair later) to reads.1
+    reads_stable strict wide leaf branch code (following (Branch bit first) pair later) to reads.1
     (λ rest. none (branch pair bit reads.0, rest))
 
 module _ (chip : Chip) (rank : ℕ → ℕ) (defect : ChipDefect) (is : IsFlatChip chip rank defect) where

@@ -11,7 +11,7 @@ use Rattle.ca_flat.specs.declared.token.Token.{Token}
 use Rattle.ca_flat.specs.declared.token.Token.TheVariants.{Branch, Leaf}
 use Rattle.ca_flat.specs.Chip.{Chip}
 use Rattle.ca_flat.specs.Pair.{bit_count}
-use Rattle.ca_flat.specs.Codes.{At, Ended, bit_trit, unset_pair, with_bit, behind_tree, branch_count}
+use Rattle.ca_flat.specs.Codes.{At, Ended, bit_trit, unset_pair, with_bit, after_tree, branch_count}
 use Rattle.ca_flat.specs.Codes.{IsWholeBy}
 use Rattle.ca_flat.proofs.Codes.{support_within}
 use Rattle.ca_search.specs.declared.trail.Decision.{Decision}
@@ -164,14 +164,14 @@ left_at : (b : Bool) (old : Judged) (pair : List Trit) (code : List Token) (ds a
 left_at true old pair code ds after branches budget stands leaf turn fewer = record {
   follows = turn.follows;
   reads = reads_append (rules_for old.chip old.aim) code (Leaf ∷ []) (At (unset_pair old.chip) [])
-      (At old.pair (still_later old ds)) _ stands.reads (leaf, ap behind_tree turn.next);
+      (At old.pair (still_later old ds)) _ stands.reads (leaf, ap after_tree turn.next);
   counted = let a = branch_count-append code (Leaf ∷ []) in let b = stands.counted in omega arith;
   within = stands.within;
   few = let b = stands.few in omega arith;
 }
 left_at false old pair code ds after branches budget stands leaf turn fewer =
     reads_append (rules_for old.chip old.aim) code (Leaf ∷ []) (At (unset_pair old.chip) [])
-    (At old.pair (still_later old ds)) Ended stands.reads (leaf, ap behind_tree turn)
+    (At old.pair (still_later old ds)) Ended stands.reads (leaf, ap after_tree turn)
 
 pub left : (b : Bool) (old new : Judged) (code : List Token) (ds after : List Decision) (branches budget : ℕ)
     → IsSameAim old new → Stands old code ds branches budget → MayLeaveHere old → IsTurn b old new ds after

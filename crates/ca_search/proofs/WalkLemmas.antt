@@ -11,7 +11,7 @@ use Rattle.ca_flat.specs.declared.token.Token.{Token}
 use Rattle.ca_flat.specs.declared.token.Token.TheVariants.{Branch, Leaf}
 use Rattle.ca_flat.specs.Chip.{Chip}
 use Rattle.ca_flat.specs.Pair.{bit_count}
-use Rattle.ca_flat.specs.Codes.{Reading, At, Ended, unset_pair, with_bit, behind_tree, behind, Rules, Reads}
+use Rattle.ca_flat.specs.Codes.{Reading, At, Ended, unset_pair, with_bit, after_tree, following, Rules, Reads}
 use Rattle.ca_flat.specs.Codes.{branch_count}
 use Rattle.ca_flat.proofs.Codes.{bit_itself, bit_other, length-with_bit}
 use Rattle.ca_search.specs.declared.trail.Decision.{Decision}
@@ -93,7 +93,7 @@ pub reads_append : (rules : Rules) (a b : List Token) (from mid to : Reading) �
 reads_append rules [] b from mid to one two = subst (λ r. Reads rules b r to) (sym one) two
 reads_append rules (token ∷ a) b Ended mid to one two = absurd one
 reads_append rules (token ∷ a) b (At pair later) mid to one two =
-    (one.0, reads_append rules a b (behind token pair later) mid to one.1 two)
+    (one.0, reads_append rules a b (following token pair later) mid to one.1 two)
 
 pub branch_count-append : (a b : List Token) → branch_count (a ++ b) ≡ branch_count a + branch_count b
 branch_count-append [] b = omega arith
@@ -105,9 +105,9 @@ abbrev pairs_left : Reading → ℕ
 pairs_left (At pair later) = 1 + length later
 pairs_left Ended = 0
 
-pairs_behind : (later : List (List Trit)) → pairs_left (behind_tree later) ≡ length later
-pairs_behind [] = refl
-pairs_behind (pair ∷ later) = omega arith
+pairs_after : (later : List (List Trit)) → pairs_left (after_tree later) ≡ length later
+pairs_after [] = refl
+pairs_after (pair ∷ later) = omega arith
 
 -- each branch adds a pair, and each leaf takes one away
 reading_counted : (rules : Rules) (code : List Token) (from to : Reading) → Reads rules code from to
@@ -115,10 +115,10 @@ reading_counted : (rules : Rules) (code : List Token) (from to : Reading) → Re
 reading_counted rules [] from to reads = let e : pairs_left from ≡ pairs_left to = ap pairs_left reads in omega arith
 reading_counted rules (token ∷ code) Ended to reads = absurd reads
 reading_counted rules (Leaf ∷ code) (At pair later) to reads =
-    let h = reading_counted rules code (behind_tree later) to reads.1 in let p = pairs_behind later in omega arith
+    let h = reading_counted rules code (after_tree later) to reads.1 in let p = pairs_after later in omega arith
 reading_counted rules (Branch bit first ∷ code) (At pair later) to reads =
-    let behind = At (with_bit pair bit first) (with_bit pair bit (not first) ∷ later) in
-    let h = reading_counted rules code behind to reads.1 in omega arith
+    let following = At (with_bit pair bit first) (with_bit pair bit (not first) ∷ later) in
+    let h = reading_counted rules code following to reads.1 in omega arith
 
 -- a front has at most two tokens for each branch
 pub front_is_short : (rules : Rules) (code : List Token) (start pair : List Trit) (later : List (List Trit))

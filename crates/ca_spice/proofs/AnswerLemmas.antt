@@ -19,25 +19,25 @@ not_limited : (cells : List Subcircuit) → limited cells ≡ Err NoMemory → �
 not_limited cells = by (nat_lt MOST_CELLS (length cells))
   where
     by : (many : Bool) → cond many (Err (TooManyCells (length cells))) (Ok cells) ≡ Err NoMemory → ⊥
-    by true told = cc
-    by false told = cc
+    by true reported = cc
+    by false reported = cc
 
 not_line : (here : Line) (step : Step)
-    → elim step as (λ _. Result Reading SpiceFault) [ Ok next ↦ Ok next | Err told ↦ Err (at_line here told) ] ≡ Err NoMemory → ⊥
-not_line here (Ok next) told = cc
-not_line here (Err kind) told = cc
+    → elim step as (λ _. Result Reading SpiceFault) [ Ok next ↦ Ok next | Err reported ↦ Err (at_line here reported) ] ≡ Err NoMemory → ⊥
+not_line here (Ok next) reported = cc
+not_line here (Err kind) reported = cc
 
 not_given : (text : List ℕ) (given : Result Reading SpiceFault) → lines_from nothing (spice_lines text) ≡ given
     → library_from given ≡ Err NoMemory → ⊥
 unfolding library_from
-not_given text (Ok reading) read told = by reading.current told
+not_given text (Ok reading) read reported = by reading.current reported
   where
     by : (current : Option OpenCell)
         → elim current as (λ _. Result (List Subcircuit) SpiceFault) [ None ↦ limited reading.cells | Some cell ↦ Err (At cell.line Unended) ] ≡ Err NoMemory
         → ⊥
-    by None told = not_limited reading.cells told
-    by (Some cell) told = cc
-not_given text (Err fault) read told =
+    by None reported = not_limited reading.cells reported
+    by (Some cell) reported = cc
+not_given text (Err fault) read reported =
     let same : fault ≡ NoMemory = cc in
     let it : IsFirstFault (located at_line line_step) nothing (spice_lines text) NoMemory =
     first.found (located at_line line_step) nothing (spice_lines text) NoMemory (read ∙ ap (λ (f : SpiceFault). Err f) same) in
@@ -45,4 +45,4 @@ not_given text (Err fault) read told =
 
 -- the definition of a reading never says that memory ran out
 pub reading_has_memory : (text : List ℕ) → library_of text ≡ Err NoMemory → ⊥
-reading_has_memory text told = not_given text (lines_from nothing (spice_lines text)) refl told
+reading_has_memory text reported = not_given text (lines_from nothing (spice_lines text)) refl reported

@@ -270,14 +270,14 @@ wiring_found name (drain ∷ gate ∷ source ∷ bulk ∷ model ∷ params) wiri
     by_kind None found is names = absurd cc
     by_kind (Some k) found is names =
         let same : wiring ≡ record { drain = drain; gate = gate; source = source; kind = k; params = params } = cc in
-        let behind_name = right_true (is_name name) _ names in
-        let behind_drain = right_true (is_name drain) _ behind_name in
-        let behind_gate = right_true (is_name gate) _ behind_drain in
+        let after_name = right_true (is_name name) _ names in
+        let after_drain = right_true (is_name drain) _ after_name in
+        let after_gate = right_true (is_name gate) _ after_drain in
         subst (IsWired name) (sym same) (record {
           name_is = left_true (is_name name) _ names;
-          drain = record { spelled = all.0; name = left_true (is_name drain) _ behind_name };
-          gate = record { spelled = all.1.0; name = left_true (is_name gate) _ behind_drain };
-          source = record { spelled = all.1.1.0; name = left_true (is_name source) _ behind_gate };
+          drain = record { spelled = all.0; name = left_true (is_name drain) _ after_name };
+          gate = record { spelled = all.1.0; name = left_true (is_name gate) _ after_drain };
+          source = record { spelled = all.1.1.0; name = left_true (is_name source) _ after_gate };
           kind = kind_found model k found;
         })
 

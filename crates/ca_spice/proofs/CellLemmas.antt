@@ -20,7 +20,7 @@ use Rattle.ca_spice.specs.declared.pin.Pin.{Pin}
 use Rattle.ca_spice.specs.declared.subcircuit.Subcircuit.{Subcircuit}
 use Rattle.ca_names.specs.Names.{has_name, with_name}
 use Rattle.ca_spice.specs.Mos.{has_gate, strength_of}
-use Rattle.ca_spice.specs.OpenCell.{has_device, pins_behind}
+use Rattle.ca_spice.specs.OpenCell.{has_device, pins_after}
 use Rattle.ca_spice.specs.Reading.{has_cell}
 use Rattle.ca_spice.specs.Kept.{HasOwnStrength, IsPlaced, IsPlacedCell}
 
@@ -60,14 +60,14 @@ has_name-cells name [] = refl
 has_name-cells name (cell ∷ cells) = ap (λ more. bytes_eq name cell.name || more) (has_name-cells name cells)
 
 -- there are as many pins with roles as pins
-pub pins_behind-length : (done : List RawPin) (pins : List Pin) (raw : List RawPin) → pins_behind done pins ≡ Some raw → length raw ≡ length done + length pins
-unfolding pins_behind
-pins_behind-length done [] raw all = omega (arith, ap length (same_Some done raw all))
-pins_behind-length done (pin ∷ pins) raw all = by pin.role (λ grown. pins_behind-length grown pins raw) all
+pub pins_after-length : (done : List RawPin) (pins : List Pin) (raw : List RawPin) → pins_after done pins ≡ Some raw → length raw ≡ length done + length pins
+unfolding pins_after
+pins_after-length done [] raw all = omega (arith, ap length (same_Some done raw all))
+pins_after-length done (pin ∷ pins) raw all = by pin.role (λ grown. pins_after-length grown pins raw) all
   where
     by : (given : Option Role)
-        → ((grown : List RawPin) → pins_behind grown pins ≡ Some raw → length raw ≡ length grown + length pins)
-        → elim given as (λ _. Option (List RawPin)) [ None ↦ None | Some role ↦ pins_behind (done ++ record { name = pin.name; role = role } ∷ []) pins ] ≡ Some raw
+        → ((grown : List RawPin) → pins_after grown pins ≡ Some raw → length raw ≡ length grown + length pins)
+        → elim given as (λ _. Option (List RawPin)) [ None ↦ None | Some role ↦ pins_after (done ++ record { name = pin.name; role = role } ∷ []) pins ] ≡ Some raw
         → length raw ≡ length done + length (pin ∷ pins)
     by None later is = absurd cc
     by (Some role) later is =

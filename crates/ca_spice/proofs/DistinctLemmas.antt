@@ -81,16 +81,16 @@ spelled_with name names is all = by (has_name name names)
     by false = all_append IsSpelled names (name ∷ []) all (is, tt)
 
 -- words of which none occurs twice
-distinct_behind : (seen words : List (List ℕ)) → repeats seen words ≡ false → AreDistinct seen → AreDistinct (seen ++ words)
+distinct_after : (seen words : List (List ℕ)) → repeats seen words ≡ false → AreDistinct seen → AreDistinct (seen ++ words)
 unfolding repeats
-distinct_behind seen [] none distinct = subst AreDistinct (sym (append-nil seen)) distinct
-distinct_behind seen (word ∷ words) none distinct =
+distinct_after seen [] none distinct = subst AreDistinct (sym (append-nil seen)) distinct
+distinct_after seen (word ∷ words) none distinct =
     subst AreDistinct (append_assoc seen (word ∷ []) words)
-    (distinct_behind (seen ++ word ∷ []) words (right_false (has_name word seen) (repeats (seen ++ word ∷ []) words) none)
+    (distinct_after (seen ++ word ∷ []) words (right_false (has_name word seen) (repeats (seen ++ word ∷ []) words) none)
     (distinct_pushed seen word distinct (left_false (has_name word seen) (repeats (seen ++ word ∷ []) words) none)))
 
 distinct_pins : (pins : List (List ℕ)) → has_double pins ≡ false → AreDistinct pins
-distinct_pins pins none = distinct_behind [] pins none (λ one other name there. absurd cc)
+distinct_pins pins none = distinct_after [] pins none (λ one other name there. absurd cc)
 
 -- the names of a subcircuit without devices
 pub names_begun : (pins : List (List ℕ)) → AllByRecursion IsSpelled pins → has_double pins ≡ false → AreNames pins pins []

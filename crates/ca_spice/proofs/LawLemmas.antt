@@ -19,32 +19,32 @@ use Rattle.ca_spice.specs.Laws.{IsFirstFaulty}
 
 -- a located step that has a fault has it at its line
 broken_at : (here : Line) (line : ℕ) (kind : SpiceKind) (step : Step)
-    → elim step as (λ _. Result Reading SpiceFault) [ Ok next ↦ Ok next | Err told ↦ Err (at_line here told) ] ≡ Err (At line kind)
+    → elim step as (λ _. Result Reading SpiceFault) [ Ok next ↦ Ok next | Err reported ↦ Err (at_line here reported) ] ≡ Err (At line kind)
     → (step ≡ Err kind) × (here.line ≡ line)
-broken_at here line kind (Ok next) told = absurd cc
-broken_at here line kind (Err other) told = (cc, cc)
+broken_at here line kind (Ok next) reported = absurd cc
+broken_at here line kind (Err other) reported = (cc, cc)
 
 -- too many subcircuits are no fault of a line
 not_limited : (cells : List Subcircuit) (line : ℕ) (kind : SpiceKind) → limited cells ≡ Err (At line kind) → ⊥
 not_limited cells line kind = by (nat_lt MOST_CELLS (length cells))
   where
     by : (many : Bool) → cond many (Err (TooManyCells (length cells))) (Ok cells) ≡ Err (At line kind) → ⊥
-    by true told = cc
-    by false told = cc
+    by true reported = cc
+    by false reported = cc
 
 found_open : (text : List ℕ) (line : ℕ) (kind : SpiceKind) (reading : Reading) → lines_from nothing (spice_lines text) ≡ Ok reading
     → (current : Option OpenCell) → reading.current ≡ current
     → elim current as (λ _. Result (List Subcircuit) SpiceFault) [ None ↦ limited reading.cells | Some cell ↦ Err (At cell.line Unended) ] ≡ Err (At line kind)
     → IsFirstFaulty text line kind
-found_open text line kind reading read None is told = absurd (not_limited reading.cells line kind told)
-found_open text line kind reading read (Some cell) is told =
+found_open text line kind reading read None is reported = absurd (not_limited reading.cells line kind reported)
+found_open text line kind reading read (Some cell) is reported =
     inr (record { so_far = reading; cell = cell; read = read; is_open = is; number = cc; unended = cc })
 
 found_in : (text : List ℕ) (line : ℕ) (kind : SpiceKind) (given : Result Reading SpiceFault) → lines_from nothing (spice_lines text) ≡ given
     → library_from given ≡ Err (At line kind) → IsFirstFaulty text line kind
 unfolding library_from
-found_in text line kind (Ok reading) read told = found_open text line kind reading read reading.current refl told
-found_in text line kind (Err fault) read told =
+found_in text line kind (Ok reading) read reported = found_open text line kind reading read reading.current refl reported
+found_in text line kind (Err fault) read reported =
     let same : fault ≡ At line kind = cc in
     let it : IsFirstFault (located at_line line_step) nothing (spice_lines text) (At line kind) =
     first.found (located at_line line_step) nothing (spice_lines text) (At line kind) (read ∙ ap (λ (f : SpiceFault). Err f) same) in
@@ -63,14 +63,14 @@ found_in text line kind (Err fault) read told =
 
 -- a fault at a line is that of the first faulty line
 pub found : (text : List ℕ) (line : ℕ) (kind : SpiceKind) → library_of text ≡ Err (At line kind) → IsFirstFaulty text line kind
-found text line kind told = found_in text line kind (lines_from nothing (spice_lines text)) refl told
+found text line kind reported = found_in text line kind (lines_from nothing (spice_lines text)) refl reported
 
 -- the first faulty line gives its fault
 pub only : (text : List ℕ) (line : ℕ) (kind : SpiceKind) → IsFirstFaulty text line kind → library_of text ≡ Err (At line kind)
 unfolding library_from
 only text line kind (inl it) =
     let at : located at_line line_step it.here it.so_far ≡ Err (At line kind) =
-    ap (λ (step : Step). elim step as (λ _. Result Reading SpiceFault) [ Ok next ↦ Ok next | Err told ↦ Err (at_line it.here told) ]) it.broken
+    ap (λ (step : Step). elim step as (λ _. Result Reading SpiceFault) [ Ok next ↦ Ok next | Err reported ↦ Err (at_line it.here reported) ]) it.broken
     ∙ ap (λ (n : ℕ). Err (At n kind)) it.number in
     let read : lines_from nothing (spice_lines text) ≡ Err (At line kind) =
     first.only (located at_line line_step) nothing (spice_lines text) (At line kind)

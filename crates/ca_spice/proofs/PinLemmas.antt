@@ -55,8 +55,8 @@ goes_on nets word words pins next total taken so_far =
     sym (steps_from-cons (role_step nets) pins word words ∙ ap (λ given. after_step (role_step nets) given words) taken) ∙ so_far
 
 -- a word that has a fault ends the words with it
-pub stops : (nets : List (List ℕ)) (word : List ℕ) (words : List (List ℕ)) (pins : List Pin) (told : Option SpiceKind) (total : Result (List Pin) SpiceKind)
-    → IsFault told (role_step nets word pins) → steps_from (role_step nets) pins (word ∷ words) ≡ total → IsFault told total
+pub stops : (nets : List (List ℕ)) (word : List ℕ) (words : List (List ℕ)) (pins : List Pin) (reported : Option SpiceKind) (total : Result (List Pin) SpiceKind)
+    → IsFault reported (role_step nets word pins) → steps_from (role_step nets) pins (word ∷ words) ≡ total → IsFault reported total
 stops nets word words pins None total fault so_far = tt
 stops nets word words pins (Some kind) total fault so_far =
     sym so_far ∙ steps_from-cons (role_step nets) pins word words ∙ ap (λ given. after_step (role_step nets) given words) fault
@@ -72,11 +72,11 @@ unfolding steps_from
 ends nets pins total so_far = sym so_far
 
 -- the words after the first
-abbrev pub behind : List (Bor (List ℕ)) → List (Bor (List ℕ))
-behind rest = take (length rest - 1) (drop 1 rest)
+abbrev pub following : List (Bor (List ℕ)) → List (Bor (List ℕ))
+following rest = take (length rest - 1) (drop 1 rest)
 
-pub behind-cons : (word : Bor (List ℕ)) (words : List (Bor (List ℕ))) → behind (word ∷ words) ≡ words
-behind-cons word words = take_rest (word ∷ words) 1
+pub following-cons : (word : Bor (List ℕ)) (words : List (Bor (List ℕ))) → following (word ∷ words) ≡ words
+following-cons word words = take_rest (word ∷ words) 1
 
 -- the first word that is left is of the form
 pub first_within : (rest : List (Bor (List ℕ))) (none : Bor (List ℕ)) → 1 ≤ length rest → list_all is_pin_word (texts rest) ≡ true
@@ -85,22 +85,22 @@ first_within [] none some all = absurd (omega arith)
 first_within (word ∷ words) none some all = colon_within word.now (first_is word.now (texts words) all)
 
 -- so are those after it
-pub behind_are : (rest : List (Bor (List ℕ))) → 1 ≤ length rest → list_all is_pin_word (texts rest) ≡ true → list_all is_pin_word (texts (behind rest)) ≡ true
-behind_are [] some all = absurd (omega arith)
-behind_are (word ∷ words) some all = ap (λ left. list_all is_pin_word (texts left)) (behind-cons word words) ∙ others_are word.now (texts words) all
+pub after_are : (rest : List (Bor (List ℕ))) → 1 ≤ length rest → list_all is_pin_word (texts rest) ≡ true → list_all is_pin_word (texts (following rest)) ≡ true
+after_are [] some all = absurd (omega arith)
+after_are (word ∷ words) some all = ap (λ left. list_all is_pin_word (texts left)) (following-cons word words) ∙ others_are word.now (texts words) all
 
-pub behind_goes_on : (nets : List (List ℕ)) (rest : List (Bor (List ℕ))) (none : Bor (List ℕ)) (pins next : List Pin) (total : Result (List Pin) SpiceKind)
+pub after_goes_on : (nets : List (List ℕ)) (rest : List (Bor (List ℕ))) (none : Bor (List ℕ)) (pins next : List Pin) (total : Result (List Pin) SpiceKind)
     → 1 ≤ length rest → role_step nets (get_or rest 0 none).now pins ≡ Ok next → steps_from (role_step nets) pins (texts rest) ≡ total
-    → steps_from (role_step nets) next (texts (behind rest)) ≡ total
-behind_goes_on nets [] none pins next total some taken so_far = absurd (omega arith)
-behind_goes_on nets (word ∷ words) none pins next total some taken so_far =
-    ap (λ left. steps_from (role_step nets) next (texts left)) (behind-cons word words)
+    → steps_from (role_step nets) next (texts (following rest)) ≡ total
+after_goes_on nets [] none pins next total some taken so_far = absurd (omega arith)
+after_goes_on nets (word ∷ words) none pins next total some taken so_far =
+    ap (λ left. steps_from (role_step nets) next (texts left)) (following-cons word words)
     ∙ goes_on nets word.now (texts words) pins next total taken so_far
 
-pub behind_stops : (nets : List (List ℕ)) (rest : List (Bor (List ℕ))) (none : Bor (List ℕ)) (pins : List Pin) (told : Option SpiceKind) (total : Result (List Pin) SpiceKind)
-    → 1 ≤ length rest → IsFault told (role_step nets (get_or rest 0 none).now pins) → steps_from (role_step nets) pins (texts rest) ≡ total → IsFault told total
-behind_stops nets [] none pins told total some fault so_far = absurd (omega arith)
-behind_stops nets (word ∷ words) none pins told total some fault so_far = stops nets word.now (texts words) pins told total fault so_far
+pub after_stops : (nets : List (List ℕ)) (rest : List (Bor (List ℕ))) (none : Bor (List ℕ)) (pins : List Pin) (reported : Option SpiceKind) (total : Result (List Pin) SpiceKind)
+    → 1 ≤ length rest → IsFault reported (role_step nets (get_or rest 0 none).now pins) → steps_from (role_step nets) pins (texts rest) ≡ total → IsFault reported total
+after_stops nets [] none pins reported total some fault so_far = absurd (omega arith)
+after_stops nets (word ∷ words) none pins reported total some fault so_far = stops nets word.now (texts words) pins reported total fault so_far
 
 -- after the last word the pins are those that were made
 pub rest_ends : (nets : List (List ℕ)) (rest : List (Bor (List ℕ))) (pins : List Pin) (total : Result (List Pin) SpiceKind)

@@ -25,7 +25,7 @@ use Rattle.ca_spice.specs.Names.{is_text}
 use Rattle.ca_spice.specs.Card.{card_of}
 use Rattle.ca_spice.specs.PinInfo as info
 use Rattle.ca_spice.specs.OpenCell.{OpenCell, pin_of, new_cell, with_pins, has_roles, pin_info, mos}
-use Rattle.ca_spice.specs.OpenCell.{pins_behind, is_ended_by, subcircuit_with, ended}
+use Rattle.ca_spice.specs.OpenCell.{pins_after, is_ended_by, subcircuit_with, ended}
 use Rattle.ca_spice.specs.Reading.{Reading, Step, nothing, is_outside, has_cell, with_open, is_header, named}
 use Rattle.ca_spice.specs.Reading.{subckt, goes_on, in_cell, with_cell, ends, card_step, is_stray, is_comment}
 use Rattle.ca_spice.specs.Reading.{judged, words_step, line_step, at_line, lines_from, limited, library_from}
@@ -35,7 +35,7 @@ use Rattle.ca_spice.proofs.ShownLemmas.{IsShownText, words_spelled, lines_shown}
 use Rattle.ca_spice.proofs.CardLemmas.{kept_rule, kept_value, mos_found, wiring_found}
 use Rattle.ca_spice.proofs.DistinctLemmas.{names_begun}
 use Rattle.ca_spice.proofs.WritableLemmas.{IsWritable, first_step, writable_grown, names_shown}
-use Rattle.ca_spice.proofs.WritableLemmas.{pin_info_names, behind_names}
+use Rattle.ca_spice.proofs.WritableLemmas.{pin_info_names, after_names}
 
 -- a subcircuit that was read can be written
 abbrev pub IsWritableCell : Subcircuit → Type 0
@@ -138,14 +138,14 @@ roles_step words cell after is before = by (info.pin_info cell.nets words cell.p
 ended_step : (words : List (List ℕ)) (cell : OpenCell) (made : Subcircuit) → ended words cell ≡ Ok made → IsWritableOpen (Some cell) → IsWritableCell made
 unfolding ended
 ended_step words cell made is before =
-    by (pins_behind [] cell.pins) refl (kept_rule (not (is_ended_by words cell.name)) BadCard (subcircuit_with cell (pins_behind [] cell.pins)) made is).1
+    by (pins_after [] cell.pins) refl (kept_rule (not (is_ended_by words cell.name)) BadCard (subcircuit_with cell (pins_after [] cell.pins)) made is).1
   where
-    by : (given : Option (List RawPin)) → pins_behind [] cell.pins ≡ given → subcircuit_with cell given ≡ Ok made → IsWritableCell made
+    by : (given : Option (List RawPin)) → pins_after [] cell.pins ≡ given → subcircuit_with cell given ≡ Ok made → IsWritableCell made
     by None found is = absurd cc
     by (Some pins) found is =
         let same : made ≡ record { name = cell.name; raw = record { pins = pins; nets = cell.nets; devices = cell.devices } } = cc in
         subst IsWritableCell (sym same)
-        (subst (λ (names : List (List ℕ)). IsWritable cell.name names cell.nets cell.devices) (sym (behind_names [] cell.pins pins found)) before)
+        (subst (λ (names : List (List ℕ)). IsWritable cell.name names cell.nets cell.devices) (sym (after_names [] cell.pins pins found)) before)
 
 ends_step : (words : List (List ℕ)) (reading next : Reading) → ends words reading ≡ Ok next → IsWritableReading reading → IsWritableReading next
 unfolding ends

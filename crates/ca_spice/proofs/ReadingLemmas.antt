@@ -20,14 +20,14 @@ use Rattle.ca_spice.specs.declared.subcircuit.Subcircuit.{Subcircuit}
 use Rattle.ca_names.specs.Names.{has_name, with_name, has_double}
 use Rattle.ca_spice.specs.Names.{texts}
 use Rattle.ca_spice.specs.Mos.{Wiring, Sizes, wiring_of, sizes_of}
-use Rattle.ca_spice.specs.OpenCell.{OpenCell, new_cell, has_device, with_device, wired, mos, pins_behind}
-use Rattle.ca_spice.specs.SpiceFault.{kind_told}
+use Rattle.ca_spice.specs.OpenCell.{OpenCell, new_cell, has_device, with_device, wired, mos, pins_after}
+use Rattle.ca_spice.specs.SpiceFault.{kind_reported}
 use Rattle.ca_spice.specs.Reading.{Reading, is_outside, has_cell, with_open, named}
 use Rattle.ca_spice.specs.Kept.{IsPlaced, IsUpper, names_of}
 use Rattle.ca_spice.specs.Named.{open_names}
 use Rattle.ca_spice.specs.Views.{cell_seen}
-use Rattle.ca_spice.proofs.CellLemmas.{has_name-cells, pins_behind-length}
-use Rattle.ca_spice.proofs.PinLemmas.{behind, behind-cons}
+use Rattle.ca_spice.proofs.CellLemmas.{has_name-cells, pins_after-length}
+use Rattle.ca_spice.proofs.PinLemmas.{following, following-cons}
 
 -- an M card whose words say its wiring and its sizes
 pub mos-is : (name : List ℕ) (words : List (List ℕ)) (cell : OpenCell) (wiring : Wiring) (sizes : Sizes) → wiring_of name words ≡ Some wiring
@@ -87,9 +87,9 @@ named-new line name pins names reading cell are made = named-by line name pins n
         let same : new_cell line name pins ≡ cell = cc in
         ap (λ (c : OpenCell). Ok (with_open reading c)) same
 
-pub named-fault : (line : ℕ) (name : List ℕ) (pins names : List (List ℕ)) (reading : Reading) (told : Option SpiceKind) → names ≡ names_of reading.cells
-    → IsFault told (unless (has_name name names || has_double pins) DoubleName (Ok (new_cell line name pins)))
-    → IsFault told (named line name pins reading)
+pub named-fault : (line : ℕ) (name : List ℕ) (pins names : List (List ℕ)) (reading : Reading) (reported : Option SpiceKind) → names ≡ names_of reading.cells
+    → IsFault reported (unless (has_name name names || has_double pins) DoubleName (Ok (new_cell line name pins)))
+    → IsFault reported (named line name pins reading)
 named-fault line name pins names reading None are fault = tt
 named-fault line name pins names reading (Some kind) are fault =
     named-by line name pins names reading are ∙ by (has_name name names || has_double pins) fault
@@ -109,16 +109,16 @@ first_upper [] none all some = absurd (omega arith)
 first_upper (word ∷ words) none all some = All-head IsUpper word.now (texts words) all
 
 -- the words after the first are in upper case, if all are
-pub behind_upper : (words : List (Bor (List ℕ))) → All IsUpper (texts words) → 1 ≤ length words → All IsUpper (texts (behind words))
-behind_upper [] all some = absurd (omega arith)
-behind_upper (word ∷ words) all some =
-    subst (λ (left : List (Bor (List ℕ))). All IsUpper (texts left)) (sym (behind-cons word words)) (All-tail IsUpper word.now (texts words) all)
+pub after_upper : (words : List (Bor (List ℕ))) → All IsUpper (texts words) → 1 ≤ length words → All IsUpper (texts (following words))
+after_upper [] all some = absurd (omega arith)
+after_upper (word ∷ words) all some =
+    subst (λ (left : List (Bor (List ℕ))). All IsUpper (texts left)) (sym (following-cons word words)) (All-tail IsUpper word.now (texts words) all)
 
 -- a refusal that is handed on reports what it reported
 pub handed_on : {X Y : Type 0} (view : X → Y) (result : Result X Refusal) (refusal : Refusal) (wanted : Result Y SpiceKind)
-    → IsErrAnd result (λ other. other ≡ refusal) → IsFault (kind_told refusal) wanted → Gives kind_told view result wanted
+    → IsErrAnd result (λ other. other ≡ refusal) → IsFault (kind_reported refusal) wanted → Gives kind_reported view result wanted
 handed_on view (Ok value) refusal wanted is fault = absurd is
-handed_on {X} {Y} view (Err other) refusal wanted is fault = subst (λ (told : Refusal). IsFault {Reading = Y} (kind_told told) wanted) (sym is) fault
+handed_on {X} {Y} view (Err other) refusal wanted is fault = subst (λ (reported : Refusal). IsFault {Reading = Y} (kind_reported reported) wanted) (sym is) fault
 
 -- names with the one of a subcircuit that ends
 pub names_ended : (names : List (List ℕ)) (cells grown : List Subcircuit) (cell : Subcircuit) (open_cell : code.OpenCell) (current : Option code.OpenCell)
@@ -131,7 +131,7 @@ names_ended names cells grown cell open_cell current named is_open same is =
 
 -- a subcircuit whose pins have roles stays placed
 pub placed_ended : (pins : List Pin) (raw : List RawPin) (nets list : List (List ℕ)) (devices : List RawDevice) → IsPlaced (length pins) nets devices
-    → pins_behind [] pins ≡ Some raw → list ≡ nets → IsPlaced (length raw) list devices
+    → pins_after [] pins ≡ Some raw → list ≡ nets → IsPlaced (length raw) list devices
 placed_ended pins raw nets list devices placed all same =
-    let count : length raw ≡ length pins = pins_behind-length [] pins raw all ∙ zero-add (length pins) in
+    let count : length raw ≡ length pins = pins_after-length [] pins raw all ∙ zero-add (length pins) in
     subst (λ (names : List (List ℕ)). IsPlaced (length raw) names devices) (sym same) (subst (λ (n : ℕ). IsPlaced n nets devices) (sym count) placed)

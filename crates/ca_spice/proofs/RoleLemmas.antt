@@ -26,7 +26,7 @@ use Rattle.ca_spice.specs.Names.{is_text_byte, is_text, is_name}
 use Rattle.ca_spice.specs.Mos.{is_sign}
 use Rattle.ca_spice.specs.PinInfo.{last_colon, colon_place, pin_part, role_part, is_pin_word, are_pin_words}
 use Rattle.ca_spice.specs.PinInfo.{role_of, with_role, role_step, pin_info}
-use Rattle.ca_spice.specs.OpenCell.{pin_of, pins_behind}
+use Rattle.ca_spice.specs.OpenCell.{pin_of, pins_after}
 use Rattle.ca_spice.specs.Reading.{is_header_word}
 use Rattle.ca_spice.specs.Writing.{pin_names, role_letter, pin_word}
 use Rattle.ca_spice.proofs.PinLemmas.{left_true, right_true, pin_info-steps}
@@ -64,11 +64,11 @@ colon_after pin =
     last_colon-append 0 (length (pin_word pin)) pin.name (58 ∷ role_letter pin.role ∷ [])
     ∙ last_two (0 + length pin.name) (last_colon 0 (length (pin_word pin)) pin.name) pin.role ∙ omega arith
 
-drop_behind : (text : List ℕ) (byte : ℕ) (rest : List ℕ) → drop (length text + 1) (text ++ byte ∷ rest) ≡ rest
-drop_behind [] byte rest = refl
-drop_behind (first ∷ text) byte rest =
+drop_after : (text : List ℕ) (byte : ℕ) (rest : List ℕ) → drop (length text + 1) (text ++ byte ∷ rest) ≡ rest
+drop_after [] byte rest = refl
+drop_after (first ∷ text) byte rest =
     let more : length (first ∷ text) + 1 ≡ suc (length text + 1) = omega arith in
-    ap (λ (n : ℕ). drop n (first ∷ text ++ byte ∷ rest)) more ∙ drop_behind text byte rest
+    ap (λ (n : ℕ). drop n (first ∷ text ++ byte ∷ rest)) more ∙ drop_after text byte rest
 
 pin_part-written : (pin : RawPin) → pin_part (pin_word pin) ≡ pin.name
 pin_part-written pin = ap (λ (place : ℕ). take place (pin_word pin)) (colon_after pin) ∙ take-append_seam pin.name (58 ∷ role_letter pin.role ∷ [])
@@ -83,7 +83,7 @@ role_letter-read role.Ground = refl
 role_part-written : (pin : RawPin) → role_of (role_part (pin_word pin)) ≡ Some pin.role
 role_part-written pin =
     ap (λ (place : ℕ). role_of (drop (place + 1) (pin_word pin))) (colon_after pin)
-    ∙ ap role_of (drop_behind pin.name 58 (role_letter pin.role ∷ [])) ∙ role_letter-read pin.role
+    ∙ ap role_of (drop_after pin.name 58 (role_letter pin.role ∷ [])) ∙ role_letter-read pin.role
 
 some_bytes : (word : List ℕ) → IsOneWord word → 1 ≤ length word
 some_bytes [] one = absurd one
@@ -117,39 +117,39 @@ all_pin_words [] all = refl
 all_pin_words (pin ∷ pins) all = λ j. is_pin_word-written pin all.0 j && all_pin_words pins all.1 j
 
 -- a name that isn't among those before it follows them
-place_behind : (name : List ℕ) (before behind : List (List ℕ)) → has_name name before ≡ false → place_with name (before ++ name ∷ behind) ≡ length before
-place_behind name [] behind new =
-    ap (λ (same : Bool). cond (not same) (1 + place_with name behind) 0) ((bytes_eq-Decides name name).1 refl)
-place_behind name (first ∷ before) behind new = by (bytes_eq name first) (place_behind name before behind) new
+place_after : (name : List ℕ) (before following : List (List ℕ)) → has_name name before ≡ false → place_with name (before ++ name ∷ following) ≡ length before
+place_after name [] following new =
+    ap (λ (same : Bool). cond (not same) (1 + place_with name following) 0) ((bytes_eq-Decides name name).1 refl)
+place_after name (first ∷ before) following new = by (bytes_eq name first) (place_after name before following) new
   where
-    by : (same : Bool) → (has_name name before ≡ false → place_with name (before ++ name ∷ behind) ≡ length before) → (same || has_name name before) ≡ false
-        → cond (not same) (1 + place_with name (before ++ name ∷ behind)) 0 ≡ length (first ∷ before)
+    by : (same : Bool) → (has_name name before ≡ false → place_with name (before ++ name ∷ following) ≡ length before) → (same || has_name name before) ≡ false
+        → cond (not same) (1 + place_with name (before ++ name ∷ following)) 0 ≡ length (first ∷ before)
     by true rest new = absurd cc
     by false rest new = ap (λ (place : ℕ). 1 + place) (rest new) ∙ one-add (length before)
 
-place_found : (name : List ℕ) (before behind : List (List ℕ)) → has_name name before ≡ false → place_of name (before ++ name ∷ behind) ≡ Some (length before)
-place_found name before behind new =
-    let within : nat_lt (length before) (length (before ++ name ∷ behind)) ≡ true = inside (length before) (length (before ++ name ∷ behind)) (omega (arith, length-append before (name ∷ behind))) in
-    ap (λ (place : ℕ). cond (nat_lt place (length (before ++ name ∷ behind))) (Some place) None) (place_behind name before behind new)
+place_found : (name : List ℕ) (before following : List (List ℕ)) → has_name name before ≡ false → place_of name (before ++ name ∷ following) ≡ Some (length before)
+place_found name before following new =
+    let within : nat_lt (length before) (length (before ++ name ∷ following)) ≡ true = inside (length before) (length (before ++ name ∷ following)) (omega (arith, length-append before (name ∷ following))) in
+    ap (λ (place : ℕ). cond (nat_lt place (length (before ++ name ∷ following))) (Some place) None) (place_after name before following new)
     ∙ ap (λ (is : Bool). cond is (Some (length before)) None) within
   where
     inside : (place len : ℕ) → place < len → nat_lt place len ≡ true
     inside place len below = grind (arith, nat_tests)
 
-get_behind : (before behind : List Pin) (pin : Pin) → slice_get (before ++ pin ∷ behind) (length before) ≡ Some pin
-get_behind [] behind pin = refl
-get_behind (first ∷ before) behind pin = get_behind before behind pin
+get_after : (before following : List Pin) (pin : Pin) → slice_get (before ++ pin ∷ following) (length before) ≡ Some pin
+get_after [] following pin = refl
+get_after (first ∷ before) following pin = get_after before following pin
 
-set_behind : (before behind : List Pin) (pin other : Pin) → slice_set (before ++ pin ∷ behind) (length before) other ≡ before ++ other ∷ behind
-set_behind [] behind pin other = refl
-set_behind (first ∷ before) behind pin other = ap (λ (pins : List Pin). first ∷ pins) (set_behind before behind pin other)
+set_after : (before following : List Pin) (pin other : Pin) → slice_set (before ++ pin ∷ following) (length before) other ≡ before ++ other ∷ following
+set_after [] following pin other = refl
+set_after (first ∷ before) following pin other = ap (λ (pins : List Pin). first ∷ pins) (set_after before following pin other)
 
 -- a word of a role gives the role to its pin
-role_taken : (nets before : List (List ℕ)) (made behind : List Pin) (pin : RawPin) (more : List (List ℕ)) → nets ≡ before ++ pin.name ∷ more → has_name pin.name before ≡ false
-    → length made ≡ length before → role_step nets (pin_word pin) (made ++ pin_of pin.name ∷ behind) ≡ Ok (made ++ with_its_role pin ∷ behind)
+role_taken : (nets before : List (List ℕ)) (made following : List Pin) (pin : RawPin) (more : List (List ℕ)) → nets ≡ before ++ pin.name ∷ more → has_name pin.name before ≡ false
+    → length made ≡ length before → role_step nets (pin_word pin) (made ++ pin_of pin.name ∷ following) ≡ Ok (made ++ with_its_role pin ∷ following)
 unfolding role_step
-role_taken nets before made behind pin more nets_are new count =
-    let pins : List Pin = made ++ pin_of pin.name ∷ behind in
+role_taken nets before made following pin more nets_are new count =
+    let pins : List Pin = made ++ pin_of pin.name ∷ following in
     let place : place_of (pin_part (pin_word pin)) nets ≡ Some (length made) =
     ap (λ (name : List ℕ). place_of name nets) (pin_part-written pin) ∙ ap (place_of pin.name) nets_are
     ∙ place_found pin.name before more new ∙ ap (λ (n : ℕ). Some n) (sym count) in
@@ -164,8 +164,8 @@ role_taken nets before made behind pin more nets_are new count =
       | None ↦ Err BadRole
       | Some at ↦ with_role pin.role pins at (slice_get pins at)
     ]) place
-    ∙ ap (with_role pin.role pins (length made)) (get_behind made behind (pin_of pin.name))
-    ∙ ap (λ (all : List Pin). Ok all) (set_behind made behind (pin_of pin.name) (with_its_role pin))
+    ∙ ap (with_role pin.role pins (length made)) (get_after made following (pin_of pin.name))
+    ∙ ap (λ (all : List Pin). Ok all) (set_after made following (pin_of pin.name) (with_its_role pin))
 
 -- the roles of pins, one after another
 roles_taken : (nets seen : List (List ℕ)) (made : List Pin) (pins : List RawPin) → nets ≡ seen ++ pin_names pins → repeats seen (pin_names pins) ≡ false → length made ≡ length seen
@@ -198,8 +198,8 @@ roles_read_again pins some all distinct =
     ∙ roles_taken (pin_names pins) [] [] pins refl distinct refl
 
 -- and so the pins are those that were written
-pub pins_again : (done pins : List RawPin) → pins_behind done (map with_its_role pins) ≡ Some (done ++ pins)
-unfolding pins_behind
+pub pins_again : (done pins : List RawPin) → pins_after done (map with_its_role pins) ≡ Some (done ++ pins)
+unfolding pins_after
 pins_again done [] = ap (λ (all : List RawPin). Some all) (sym (append-nil done))
 pins_again done (pin ∷ pins) = pins_again (done ++ pin ∷ []) pins ∙ ap (λ (all : List RawPin). Some all) (append_assoc done (pin ∷ []) pins)
 

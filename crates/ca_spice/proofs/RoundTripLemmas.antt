@@ -206,10 +206,10 @@ devices_anew : (p_bulk n_bulk : List ℕ) (nets : List (List ℕ)) (devices : Li
     → BeginsAnew rest → BeginsAnew (flat_map (device_line p_bulk n_bulk nets) devices ++ rest)
 devices_anew p_bulk n_bulk nets [] rest all p_is n_is anew = anew
 devices_anew p_bulk n_bulk nets (device ∷ devices) rest all p_is n_is anew =
-    let behind : List ℕ = flat_map (device_line p_bulk n_bulk nets) devices ++ rest in
+    let following : List ℕ = flat_map (device_line p_bulk n_bulk nets) devices ++ rest in
     subst BeginsAnew (sym (append_assoc (device_line p_bulk n_bulk nets device) (flat_map (device_line p_bulk n_bulk nets) devices) rest))
-    (anew_at_card (device_line p_bulk n_bulk nets device ++ behind) (body device.name (device_words nets (bulk_of p_bulk n_bulk device.kind) device)) (lines_of behind)
-    (device_first p_bulk n_bulk nets device behind all.0 p_is n_is) (device_physical p_bulk n_bulk nets device all.0 p_is n_is))
+    (anew_at_card (device_line p_bulk n_bulk nets device ++ following) (body device.name (device_words nets (bulk_of p_bulk n_bulk device.kind) device)) (lines_of following)
+    (device_first p_bulk n_bulk nets device following all.0 p_is n_is) (device_physical p_bulk n_bulk nets device all.0 p_is n_is))
 
 -- the lines of devices make what their steps make
 devices_read : (p_bulk n_bulk : List ℕ) (nets : List (List ℕ)) (devices : List RawDevice) (rest : List ℕ) (reading : Reading) (last : OpenCell) (total : Result Reading SpiceFault)
@@ -224,13 +224,13 @@ devices_read p_bulk n_bulk nets (device ∷ devices) rest reading last total p_i
     let first = first_step (device_step p_bulk n_bulk nets) cell last device devices read in
     let bulk = bulk_named p_bulk n_bulk device.kind all.0.kind p_is n_is in
     let chosen : List ℕ = bulk_of p_bulk n_bulk device.kind in
-    let behind : List ℕ = flat_map (device_line p_bulk n_bulk nets) devices ++ rest in
+    let following : List ℕ = flat_map (device_line p_bulk n_bulk nets) devices ++ rest in
     let made : words_step number (words_of (upper_case (body device.name (device_words nets chosen device)))) (with_open reading cell) ≡ Ok (with_open reading first.next) =
     ap (λ (words : List (List ℕ)). words_step number words (with_open reading cell)) (device_read nets chosen device all.0 bulk)
     ∙ mos_made number device.name (card_words nets chosen device) reading cell first.next all.0.mos (device_texts nets chosen device all.0 bulk) first.stepped in
     ap (read_on (with_open reading cell) number follows) (append_assoc (device_line p_bulk n_bulk nets device) (flat_map (device_line p_bulk n_bulk nets) devices) rest)
-    ∙ card_read (with_open reading cell) (with_open reading first.next) number follows (device_line p_bulk n_bulk nets device ++ behind)
-    (body device.name (device_words nets chosen device)) behind (device_first p_bulk n_bulk nets device behind all.0 p_is n_is) (device_physical p_bulk n_bulk nets device all.0 p_is n_is)
+    ∙ card_read (with_open reading cell) (with_open reading first.next) number follows (device_line p_bulk n_bulk nets device ++ following)
+    (body device.name (device_words nets chosen device)) following (device_first p_bulk n_bulk nets device following all.0 p_is n_is) (device_physical p_bulk n_bulk nets device all.0 p_is n_is)
     (devices_anew p_bulk n_bulk nets devices rest all.1 p_is n_is anew) made
     ∙ devices_read p_bulk n_bulk nets devices rest reading last total p_is n_is anew ends_so first.next first.rest all.1 (number + 1) true
 

@@ -91,11 +91,11 @@ words_shown begins (byte ∷ text) shown = by (ends_word byte) refl (words_shown
     by : (ends : Bool) → ends_word byte ≡ ends
         → AllByRecursion IsShown (words_of (drop (word_len text) text)) × (ends_word byte ≡ true → AllByRecursion IsShown (words_of text))
         → AllByRecursion IsShown (words_of (drop (cond (not ends) (1 + word_len text) 0) (byte ∷ text))) × (begins ≡ true → AllByRecursion IsShown (words_of (byte ∷ text)))
-    by true is behind =
-        let all : AllByRecursion IsShown (words_of (byte ∷ text)) = ender_shown byte text is (behind.1 is) in
+    by true is following =
+        let all : AllByRecursion IsShown (words_of (byte ∷ text)) = ender_shown byte text is (following.1 is) in
         (all, λ _. all)
-    by false is behind =
-        let rest : AllByRecursion IsShown (words_of (drop (word_len text) text)) = behind.0 in (
+    by false is following =
+        let rest : AllByRecursion IsShown (words_of (drop (word_len text) text)) = following.0 in (
           rw one-add rest,
           λ (first : begins ≡ true).
               let front : (true && eqb byte 36) ≡ false = subst (λ (b : Bool). (b && eqb byte 36) ≡ false) first shown.0 in

@@ -36,8 +36,8 @@ pub record IsSpelled (word : List ℕ) : Type 0 where
 
 -- what holds of each of two lists holds of both together
 pub all_append : {X : Type 0} (P : X → Type 0) (first second : List X) → AllByRecursion P first → AllByRecursion P second → AllByRecursion P (first ++ second)
-all_append P [] second all behind = behind
-all_append P (x ∷ first) second all behind = (all.0, all_append P first second all.1 behind)
+all_append P [] second all following = following
+all_append P (x ∷ first) second all following = (all.0, all_append P first second all.1 following)
 
 pub not_blank : (byte : ℕ) → ends_word byte ≡ false → is_blank byte ≡ false
 not_blank byte is = by (is_blank byte) (eqb byte 61) is
@@ -59,10 +59,10 @@ unfolding words_of
 words_of-spaced [] more = refl
 words_of-spaced (byte ∷ text) more = by (is_blank byte) (eqb byte 61) (words_of-spaced text more)
   where
-    behind : (rest : List ℕ) → words_of (rest ++ 32 ∷ more) ≡ words_of rest ++ words_of more
+    following : (rest : List ℕ) → words_of (rest ++ 32 ∷ more) ≡ words_of rest ++ words_of more
         → words_with byte (rest ++ 32 ∷ more) (words_of (rest ++ 32 ∷ more)) ≡ words_with byte rest (words_of rest) ++ words_of more
-    behind [] is = refl
-    behind (next ∷ rest) is = by_next (ends_word next) refl
+    following [] is = refl
+    following (next ∷ rest) is = by_next (ends_word next) refl
       where
         by_next : (ends : Bool) → ends_word next ≡ ends
             → cond ends ((byte ∷ []) ∷ words_of (next ∷ rest ++ 32 ∷ more)) (with_byte byte (words_of (next ∷ rest ++ 32 ∷ more)))
@@ -79,7 +79,7 @@ words_of-spaced (byte ∷ text) more = by (is_blank byte) (eqb byte 61) (words_o
         ≡ cond blank (words_of text) (cond sign ((byte ∷ []) ∷ words_of text) (words_with byte text (words_of text))) ++ words_of more
     by true sign is = is
     by false true is = ap (λ (words : List (List ℕ)). (byte ∷ []) ∷ words) is
-    by false false is = behind text is
+    by false false is = following text is
 
 -- bytes of which none ends a word are one word
 pub words_of-run : (byte : ℕ) (word : List ℕ) → AllByRecursion IsInside (byte ∷ word) → words_of (byte ∷ word) ≡ (byte ∷ word) ∷ []
@@ -116,9 +116,9 @@ upper-chunks first (chunk ∷ chunks) =
 
 -- nor in two texts with a space between
 pub shown_spaced : (begins : Bool) (text more : List ℕ) → HasNoComment begins text → HasNoComment true more → HasNoComment begins (text ++ 32 ∷ more)
-shown_spaced true [] more shown behind = (refl, behind)
-shown_spaced false [] more shown behind = (refl, behind)
-shown_spaced begins (byte ∷ text) more shown behind = (shown.0, shown_spaced (ends_word byte) text more shown.1 behind)
+shown_spaced true [] more shown following = (refl, following)
+shown_spaced false [] more shown following = (refl, following)
+shown_spaced begins (byte ∷ text) more shown following = (shown.0, shown_spaced (ends_word byte) text more shown.1 following)
 
 pub shown_chunks : (first : List ℕ) (chunks : List (List ℕ)) → HasNoComment true first → AllByRecursion (HasNoComment true) chunks → HasNoComment true (first ++ flat_map spaced chunks)
 shown_chunks first [] shown all = subst (HasNoComment true) (sym (append-nil first)) shown

@@ -20,7 +20,7 @@ use Rattle.ca_spice.specs.Card.{card_of}
 use Rattle.ca_spice.specs.Mos.{Wiring, Sizes, sizes_of}
 use Rattle.ca_spice.specs.PinInfo as info
 use Rattle.ca_spice.specs.OpenCell.{OpenCell, with_drain, with_gate, with_source, device_of, with_device}
-use Rattle.ca_spice.specs.OpenCell.{has_device, mos, pins_behind}
+use Rattle.ca_spice.specs.OpenCell.{has_device, mos, pins_after}
 use Rattle.ca_spice.specs.Reading.{is_header, named}
 use Rattle.ca_spice.specs.Writing.{pin_names, bulk_of}
 use Rattle.ca_spice.proofs.SpelledLemmas.{IsSpelled, all_append}
@@ -63,12 +63,12 @@ steps_push {State} {Item} {Fault} step start middle last [] item read next =
     steps_from-cons step start item [] ∙ ap (λ (given : Result State Fault). after_step step given []) (ap (step item) same ∙ next)
 steps_push {State} {Item} {Fault} step start middle last (first ∷ items) item read next =
     steps_from-cons step start first (items ++ item ∷ [])
-    ∙ by (step first start) (λ (behind : State). steps_push step behind middle last items item) (sym (steps_from-cons step start first items) ∙ read)
+    ∙ by (step first start) (λ (following : State). steps_push step following middle last items item) (sym (steps_from-cons step start first items) ∙ read)
   where
     by : (given : Result State Fault)
-        → ((behind : State) → steps_from step behind items ≡ Ok middle → step item middle ≡ Ok last → steps_from step behind (items ++ item ∷ []) ≡ Ok last)
+        → ((following : State) → steps_from step following items ≡ Ok middle → step item middle ≡ Ok last → steps_from step following (items ++ item ∷ []) ≡ Ok last)
         → after_step step given items ≡ Ok middle → after_step step given (items ++ item ∷ []) ≡ Ok last
-    by (Ok behind) later is = later behind is next
+    by (Ok following) later is = later following is next
     by (Err fault) later is = absurd cc
 
 -- the first step of some
@@ -211,16 +211,16 @@ pin_info_names nets words pins next is =
     roles_names nets words pins next (kept_rule (not (info.are_pin_words words)) BadCard (steps_from (info.role_step nets) pins words) next is).1
 
 -- and so do pins with their roles
-pub behind_names : (done : List RawPin) (pins : List Pin) (raw : List RawPin) → pins_behind done pins ≡ Some raw → pin_names raw ≡ pin_names done ++ names_shown pins
-unfolding pins_behind
-behind_names done [] raw is =
+pub after_names : (done : List RawPin) (pins : List Pin) (raw : List RawPin) → pins_after done pins ≡ Some raw → pin_names raw ≡ pin_names done ++ names_shown pins
+unfolding pins_after
+after_names done [] raw is =
     let same : raw ≡ done = cc in
     ap pin_names same ∙ sym (append-nil (pin_names done))
-behind_names done (pin ∷ pins) raw is = by pin.role (λ grown. behind_names grown pins raw) is
+after_names done (pin ∷ pins) raw is = by pin.role (λ grown. after_names grown pins raw) is
   where
     by : (given : Option Role)
-        → ((grown : List RawPin) → pins_behind grown pins ≡ Some raw → pin_names raw ≡ pin_names grown ++ names_shown pins)
-        → elim given as (λ _. Option (List RawPin)) [ None ↦ None | Some role ↦ pins_behind (done ++ record { name = pin.name; role = role } ∷ []) pins ] ≡ Some raw
+        → ((grown : List RawPin) → pins_after grown pins ≡ Some raw → pin_names raw ≡ pin_names grown ++ names_shown pins)
+        → elim given as (λ _. Option (List RawPin)) [ None ↦ None | Some role ↦ pins_after (done ++ record { name = pin.name; role = role } ∷ []) pins ] ≡ Some raw
         → pin_names raw ≡ pin_names done ++ names_shown (pin ∷ pins)
     by None later is = absurd cc
     by (Some role) later is =

@@ -50,12 +50,12 @@ abbrev in_front : List ℕ → List (List ℕ) → List (List ℕ)
 in_front [] lines = lines
 in_front (byte ∷ text) lines = with_byte byte (in_front text lines)
 
-lines_behind : (text more : List ℕ) → is_text text ≡ true → lines_of (text ++ more) ≡ in_front text (lines_of more)
+lines_after : (text more : List ℕ) → is_text text ≡ true → lines_of (text ++ more) ≡ in_front text (lines_of more)
 unfolding lines_of
-lines_behind [] more are = refl
-lines_behind (byte ∷ text) more are =
+lines_after [] more are = refl
+lines_after (byte ∷ text) more are =
     ap (λ (x : Bool). cond x ([] ∷ lines_of (text ++ more)) (with_byte byte (lines_of (text ++ more)))) (no_feed byte (left_true (is_text_byte byte) (is_text text) are))
-    ∙ ap (with_byte byte) (lines_behind text more (right_true (is_text_byte byte) (is_text text) are))
+    ∙ ap (with_byte byte) (lines_after text more (right_true (is_text_byte byte) (is_text text) are))
 
 in_front-first : (text line : List ℕ) (lines : List (List ℕ)) → in_front text (line ∷ lines) ≡ (text ++ line) ∷ lines
 in_front-first [] line lines = refl
@@ -74,7 +74,7 @@ chunks_line [] more all = feed more
 chunks_line (chunk ∷ chunks) more all =
     ap (λ (text : List ℕ). lines_of (32 ∷ text)) (append_assoc chunk (flat_map spaced chunks) (10 ∷ more))
     ∙ space (chunk ++ (flat_map spaced chunks ++ 10 ∷ more)) (chunk ++ flat_map spaced chunks) (lines_of more)
-    (lines_behind chunk (flat_map spaced chunks ++ 10 ∷ more) all.0.text
+    (lines_after chunk (flat_map spaced chunks ++ 10 ∷ more) all.0.text
     ∙ ap (in_front chunk) (chunks_line chunks more all.1) ∙ in_front-first chunk (flat_map spaced chunks) (lines_of more))
 
 -- the first line of a text that begins with a line of chunks
@@ -83,7 +83,7 @@ pub first_line : (first : List ℕ) (chunks : List (List ℕ)) (more : List ℕ)
 first_line first chunks more is all =
     ap lines_of (append_assoc first (flat_map spaced chunks ++ codes "\n") more
     ∙ ap (λ (text : List ℕ). first ++ text) (append_assoc (flat_map spaced chunks) (codes "\n") more))
-    ∙ lines_behind first (flat_map spaced chunks ++ 10 ∷ more) is.text
+    ∙ lines_after first (flat_map spaced chunks ++ 10 ∷ more) is.text
     ∙ ap (in_front first) (chunks_line chunks more all) ∙ in_front-first first (flat_map spaced chunks) (lines_of more)
 
 -- the words of a line, chunk by chunk

@@ -97,11 +97,11 @@ mos name words cell = elim (wiring_of name words) [
 ]
 
 -- these pins and then those with their roles; None where a pin has no role
-unfoldable pub pins_behind : List RawPin → List Pin → Option (List RawPin)
-pins_behind done [] = Some done
-pins_behind done (pin ∷ pins) = elim pin.role [
+unfoldable pub pins_after : List RawPin → List Pin → Option (List RawPin)
+pins_after done [] = Some done
+pins_after done (pin ∷ pins) = elim pin.role [
   | None ↦ None
-  | Some role ↦ pins_behind (done ++ record { name = pin.name; role = role } ∷ []) pins
+  | Some role ↦ pins_after (done ++ record { name = pin.name; role = role } ∷ []) pins
 ]
 
 -- the words after .ENDS: none, or the cell's name
@@ -119,4 +119,4 @@ subcircuit_with cell (Some pins) =
 -- .ENDS makes the cell a subcircuit
 unfoldable pub ended : List (List ℕ) → OpenCell → Result Subcircuit SpiceKind
 ended words cell = unless (not (is_ended_by words cell.name)) BadCard
-    (subcircuit_with cell (pins_behind [] cell.pins))
+    (subcircuit_with cell (pins_after [] cell.pins))

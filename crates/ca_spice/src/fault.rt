@@ -48,11 +48,11 @@ pub(crate) enum Refusal {
 
 impl Refusal {
     ghost use Rattle.ca_spice.specs.declared.fault.SpiceFault.TheVariants.{At};
-    ghost use Rattle.ca_spice.specs.SpiceFault.{fault_told, kind_told};
+    ghost use Rattle.ca_spice.specs.SpiceFault.{fault_reported, kind_reported};
 
     /// The fault of the line that was not taken.
     pub(crate) fn at(self, line: usize) -> SpiceFault
-        ensures { fault_told result ≡ option_map (At line) (kind_told self) }
+        ensures { fault_reported result ≡ option_map (At line) (kind_reported self) }
     {
         match self {
             Refusal::Kind(kind) => SpiceFault::At { line, kind },

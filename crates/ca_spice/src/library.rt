@@ -4,7 +4,7 @@ ghost use Rattle.std.specs.List.{All, IsDistinct};
 ghost use Rattle.std.specs.Str.{bytes_eq};
 ghost use Rattle.ca_lex.specs.Reading.{Gives};
 ghost use Rattle.ca_cell.specs.Library.{IsEntry};
-ghost use Rattle.ca_spice.specs.SpiceFault.{fault_told};
+ghost use Rattle.ca_spice.specs.SpiceFault.{fault_reported};
 ghost use Rattle.ca_spice.specs.Kept.{IsPlacedCell, IsUpper, names_of};
 ghost use Rattle.ca_spice.specs.Reading.{nothing, lines_from, library_from, library_of};
 ghost use Rattle.ca_spice.specs.Views.{reading_seen, subcircuit_seen};
@@ -19,7 +19,7 @@ use std::alloc::Global;
 
 // What these logical lines read as.
 fn lines_of(alloc: Global, lines: &[Line]) -> Result<Reading, SpiceFault>
-    ensures { Gives fault_told reading_seen result (lines_from nothing lines.now) }
+    ensures { Gives fault_reported reading_seen result (lines_from nothing lines.now) }
 {
     let mut reading = Reading::new(alloc);
     'lines: for line in lines {
@@ -58,7 +58,7 @@ fn entries_of(alloc: Global, cells: Vec<Subcircuit>) -> Result<Library, NoMemory
 // Whether a text may end with this reading.
 #[tactic(auto, unfolding(crate::specs::Reading::library_from))]
 fn judge_end(reading: &Reading) -> Result<(), SpiceFault>
-    ensures judged { Gives fault_told (λ done. reading.now.cells.items) result
+    ensures judged { Gives fault_reported (λ done. reading.now.cells.items) result
         (library_from (Ok (reading_seen reading.now))) }
     ensures few { IfOk result (λ done. length reading.now.cells.items ≤ MOST_CELLS) }
     ensures named { IfOk result (λ done. reading.now.names ≡ names_of reading.now.cells.items) }
@@ -80,7 +80,7 @@ fn judge_end(reading: &Reading) -> Result<(), SpiceFault>
 // The library of a whole text's reading. Each large value is dropped in one place here and below: more places
 // are slow to prove.
 fn library_from(alloc: Global, reading: Reading) -> Result<Library, SpiceFault>
-    ensures exact { Gives fault_told (map subcircuit_seen) result (library_from (Ok (reading_seen reading))) }
+    ensures exact { Gives fault_reported (map subcircuit_seen) result (library_from (Ok (reading_seen reading))) }
     ensures entries { IfOk result (λ library. All (λ named. IsEntry named.entry) library) }
 {
     let judged = judge_end(&reading);
@@ -98,7 +98,7 @@ fn library_from(alloc: Global, reading: Reading) -> Result<Library, SpiceFault>
 /// The library that a cell netlist reads as.
 #[tactic(auto, unfolding(crate::specs::Reading::library_from))]
 pub fn read_library(alloc: Global, bytes: &[u8]) -> Result<Library, SpiceFault>
-    ensures exact { Gives fault_told (map subcircuit_seen) result (library_of bytes.now) }
+    ensures exact { Gives fault_reported (map subcircuit_seen) result (library_of bytes.now) }
     ensures entries { IfOk result (λ library. All (λ named. IsEntry named.entry) library) }
 {
     let lines = spice_lines(alloc, bytes)?;

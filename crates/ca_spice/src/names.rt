@@ -4,7 +4,7 @@ ghost use Rattle.std.specs.List.{list_all};
 ghost use Rattle.ca_lex.specs.Reading.{Gives, unless};
 ghost use Rattle.ca_names.specs.Names.{has_double};
 ghost use Rattle.ca_spice.specs.declared.fault.SpiceKind.TheVariants.{DoubleName};
-ghost use Rattle.ca_spice.specs.SpiceFault.{kind_told};
+ghost use Rattle.ca_spice.specs.SpiceFault.{kind_reported};
 ghost use Rattle.ca_spice.specs.Names.{texts, is_text_byte, is_text, is_name_byte, is_name};
 
 use crate::fault::{Refusal, SpiceKind};
@@ -64,7 +64,7 @@ pub(crate) fn all_names(words: &[&[u8]]) -> bool
 /// The set of these words, if none occurs twice.
 #[tactic(auto, unfolding(ca_names::specs::Names::repeats))]
 pub(crate) fn set_of(alloc: Global, words: &[&[u8]]) -> Result<NameSet, Refusal>
-    ensures read { Gives kind_told (λ names. names) result
+    ensures read { Gives kind_reported (λ names. names) result
         (unless (has_double (texts words.now)) DoubleName (Ok (texts words.now))) }
     ensures few { IfOk result (λ names. length names < 2 ^ 32) }
 {

@@ -36,7 +36,7 @@ impl OpenCell {
     ghost use Rattle.std.specs.Prelude.{false, IfOk, Ok};
     ghost use Rattle.ca_lex.specs.Reading.{Gives, unless};
     ghost use Rattle.ca_spice.specs.declared.fault.SpiceKind.TheVariants.{DoubleName};
-    ghost use Rattle.ca_spice.specs.SpiceFault.{kind_told};
+    ghost use Rattle.ca_spice.specs.SpiceFault.{kind_reported};
     ghost use Rattle.ca_names.specs.Names.{has_double};
     ghost use Rattle.ca_spice.specs.Names.{texts};
     ghost use Rattle.ca_spice.specs.OpenCell.{new_cell, pin_info, has_device, with_device, wired, mos, ended};
@@ -50,7 +50,7 @@ impl OpenCell {
         name: &[u8],
         pins: &[&[u8]],
     ) -> Result<Self, Refusal>
-        ensures read { Gives kind_told cell_seen result
+        ensures read { Gives kind_reported cell_seen result
             (unless (has_double (texts pins.now)) DoubleName (Ok (new_cell line name.now (texts pins.now)))) }
         ensures same_name { IfOk result (λ cell. cell.name ≡ name.now) }
     {
@@ -68,7 +68,7 @@ impl OpenCell {
     /// The subcircuit after a `*.PININFO` with these words.
     #[tactic(auto, unfolding(crate::specs::OpenCell::pin_info))]
     pub(crate) fn pin_info(self, words: &[&[u8]]) -> Result<Self, Refusal>
-        ensures read { Gives kind_told cell_seen result (pin_info (texts words.now) (cell_seen self)) }
+        ensures read { Gives kind_reported cell_seen result (pin_info (texts words.now) (cell_seen self)) }
         ensures same_name { IfOk result (λ cell. cell.name ≡ self.name) }
     {
         let OpenCell {
@@ -134,7 +134,7 @@ impl OpenCell {
     /// The subcircuit after an M card with these words.
     #[tactic(auto, unfolding(crate::specs::OpenCell::mos))]
     pub(crate) fn mos(self, alloc: Global, name: &[u8], words: &[&[u8]]) -> Result<Self, Refusal>
-        ensures read { Gives kind_told cell_seen result (mos name.now (texts words.now) (cell_seen self)) }
+        ensures read { Gives kind_reported cell_seen result (mos name.now (texts words.now) (cell_seen self)) }
         ensures same_name { IfOk result (λ cell. cell.name ≡ self.name) }
     {
         let Some(wiring) = wiring_of(name, words) else {
@@ -152,7 +152,7 @@ impl OpenCell {
     /// The subcircuit that a `.ENDS` with these words ends.
     #[tactic(auto, unfolding(crate::specs::OpenCell::ended))]
     pub(crate) fn ended(self, alloc: Global, words: &[&[u8]]) -> Result<Subcircuit, Refusal>
-        ensures read { Gives kind_told (λ cell. cell) result (ended (texts words.now) (cell_seen self)) }
+        ensures read { Gives kind_reported (λ cell. cell) result (ended (texts words.now) (cell_seen self)) }
         ensures placed { IfOk result (λ cell. IsPlacedCell cell.raw) }
         ensures same_name { IfOk result (λ cell. cell.name ≡ self.name) }
     {

@@ -5,7 +5,7 @@ ghost use Rattle.ca_names.specs.Names.{has_name, has_double};
 ghost use Rattle.ca_spice.specs.declared.fault.SpiceKind.TheVariants.{DoubleName};
 ghost use Rattle.ca_spice.specs.Names.{texts};
 ghost use Rattle.ca_spice.specs.OpenCell.{new_cell};
-ghost use Rattle.ca_spice.specs.SpiceFault.{kind_told};
+ghost use Rattle.ca_spice.specs.SpiceFault.{kind_reported};
 ghost use Rattle.ca_spice.specs.Views.{cell_seen};
 
 use crate::fault::{Refusal, SpiceKind};
@@ -22,7 +22,7 @@ pub(crate) fn opened(
     name: &[u8],
     pins: &[&[u8]],
 ) -> Result<OpenCell, Refusal>
-    ensures read { Gives kind_told cell_seen result
+    ensures read { Gives kind_reported cell_seen result
         (unless (has_name name.now names.old || has_double (texts pins.now)) DoubleName
         (Ok (new_cell line name.now (texts pins.now)))) }
     ensures names { OnOk result (names.new ≡ names.old ++ name.now ∷ []) }

@@ -1,7 +1,7 @@
 //! The pins of a subcircuit that is being read.
 ghost use Rattle.std.specs.Prelude.{◌≡◌, ◌∷◌, ◌++◌, [], map, IfOk};
 ghost use Rattle.ca_spice.specs.Names.{texts};
-ghost use Rattle.ca_spice.specs.OpenCell.{pin_of, pins_behind};
+ghost use Rattle.ca_spice.specs.OpenCell.{pin_of, pins_after};
 
 use ca_base::NoMemory;
 use ca_cell::{RawPin, RawPins, Role};
@@ -30,9 +30,9 @@ pub(crate) fn pins_of(alloc: Global, names: &[&[u8]]) -> Result<Vec<Pin>, NoMemo
 }
 
 /// The pins with their roles, if each has one.
-#[tactic(auto, unfolding(crate::specs::OpenCell::pins_behind))]
+#[tactic(auto, unfolding(crate::specs::OpenCell::pins_after))]
 pub(crate) fn raw_pins(alloc: Global, pins: &[Pin]) -> Result<Option<RawPins>, NoMemory>
-    ensures { IfOk result (λ raw. raw ≡ pins_behind [] pins.now) }
+    ensures { IfOk result (λ raw. raw ≡ pins_after [] pins.now) }
 {
     let mut raw = RawPins::new(alloc);
     let mut rest = pins;

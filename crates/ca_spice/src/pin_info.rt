@@ -2,7 +2,7 @@
 ghost use Rattle.std.specs.Prelude.{◌≡◌, ◌≤◌, ◌<◌, length, slice_get, IfOk};
 ghost use Rattle.std.specs.List.{list_all};
 ghost use Rattle.ca_lex.specs.Reading.{Gives, Steps};
-ghost use Rattle.ca_spice.specs.SpiceFault.{kind_told};
+ghost use Rattle.ca_spice.specs.SpiceFault.{kind_reported};
 ghost use Rattle.ca_spice.specs.Names.{texts};
 ghost use Rattle.ca_spice.specs.PinInfo.{colon_place, is_pin_word, are_pin_words, role_of, with_role};
 ghost use Rattle.ca_spice.specs.PinInfo.{role_step, pin_info};
@@ -78,7 +78,7 @@ fn role_of(text: &[u8]) -> Option<Role>
 
 // The pin at the place takes the role, which it doesn't have yet.
 fn give_role(pins: &mut Vec<Pin>, place: usize, role: Role) -> Result<(), Refusal>
-    ensures read { Steps kind_told pins.new.items result
+    ensures read { Steps kind_reported pins.new.items result
         (with_role role pins.old.items place (slice_get pins.old.items place)) }
     ensures count { length pins.new.items ≡ length pins.old.items }
 {
@@ -97,7 +97,7 @@ fn give_role(pins: &mut Vec<Pin>, place: usize, role: Role) -> Result<(), Refusa
 #[tactic(auto, unfolding(crate::specs::PinInfo::role_step))]
 fn take_role(pins: &mut Vec<Pin>, nets: &NameSet, word: &[u8]) -> Result<(), Refusal>
     requires { colon_place word.now < length word.now }
-    ensures read { Steps kind_told pins.new.items result (role_step nets.now word.now pins.old.items) }
+    ensures read { Steps kind_reported pins.new.items result (role_step nets.now word.now pins.old.items) }
     ensures count { length pins.new.items ≡ length pins.old.items }
 {
     let place = colon_place(word);
@@ -117,7 +117,7 @@ pub(crate) fn pin_info(
     nets: &NameSet,
     words: &[&[u8]],
 ) -> Result<Vec<Pin>, Refusal>
-    ensures read { Gives kind_told (λ pins. pins.items) result
+    ensures read { Gives kind_reported (λ pins. pins.items) result
         (pin_info nets.now (texts words.now) pins.items) }
     ensures count { IfOk result (λ given. length given.items ≡ length pins.items) }
 {

@@ -31,7 +31,7 @@ pub(crate) struct Reading {
 impl Reading {
     ghost use Rattle.std.specs.Prelude.{IsTrue};
     ghost use Rattle.ca_lex.specs.Reading.{Gives};
-    ghost use Rattle.ca_spice.specs.SpiceFault.{kind_told};
+    ghost use Rattle.ca_spice.specs.SpiceFault.{kind_reported};
     ghost use Rattle.ca_spice.specs.OpenCell.{pin_info, mos};
     ghost use Rattle.ca_spice.specs.Reading.{nothing, is_outside, named, subckt, ends, in_cell, card_step};
     ghost use Rattle.ca_spice.specs.Reading.{is_comment, words_step, line_step};
@@ -59,7 +59,7 @@ impl Reading {
     fn named(self, alloc: Global, line: usize, name: &[u8], pins: &[&[u8]]) -> Result<Self, Refusal>
         requires outside { IsTrue (is_outside (reading_seen self)) }
         requires upper { IsUpper name.now }
-        ensures { Gives kind_told reading_seen result
+        ensures { Gives kind_reported reading_seen result
             (named line name.now (texts pins.now) (reading_seen self)) }
     {
         let Reading {
@@ -79,7 +79,7 @@ impl Reading {
     #[tactic(auto, unfolding(crate::specs::Reading::subckt))]
     fn subckt(self, alloc: Global, line: usize, words: &[&[u8]]) -> Result<Self, Refusal>
         requires { All IsUpper (texts words.now) }
-        ensures { Gives kind_told reading_seen result (subckt line (texts words.now) (reading_seen self)) }
+        ensures { Gives kind_reported reading_seen result (subckt line (texts words.now) (reading_seen self)) }
     {
         match words {
             [name, pins @ ..] if self.is_outside() && is_header(words) => {
@@ -94,7 +94,7 @@ impl Reading {
 
     #[tactic(auto, unfolding(crate::specs::Reading::ends))]
     fn ends(self, alloc: Global, words: &[&[u8]]) -> Result<Self, Refusal>
-        ensures { Gives kind_told reading_seen result (ends (texts words.now) (reading_seen self)) }
+        ensures { Gives kind_reported reading_seen result (ends (texts words.now) (reading_seen self)) }
     {
         let Reading {
             names,
@@ -114,7 +114,7 @@ impl Reading {
     }
 
     fn pin_info(self, words: &[&[u8]]) -> Result<Self, Refusal>
-        ensures { Gives kind_told reading_seen result
+        ensures { Gives kind_reported reading_seen result
             (in_cell (pin_info (texts words.now)) (reading_seen self)) }
     {
         let Reading {
@@ -134,7 +134,7 @@ impl Reading {
     }
 
     fn mos(self, alloc: Global, name: &[u8], words: &[&[u8]]) -> Result<Self, Refusal>
-        ensures { Gives kind_told reading_seen result
+        ensures { Gives kind_reported reading_seen result
             (in_cell (mos name.now (texts words.now)) (reading_seen self)) }
     {
         let Reading {
@@ -163,7 +163,7 @@ impl Reading {
         words: &[&[u8]],
     ) -> Result<Self, Refusal>
         requires { All IsUpper (texts words.now) }
-        ensures { Gives kind_told reading_seen result
+        ensures { Gives kind_reported reading_seen result
             (card_step card line word.now (texts words.now) (reading_seen self)) }
     {
         match card {
@@ -196,7 +196,7 @@ impl Reading {
     #[tactic(auto, unfolding(crate::specs::Reading::words_step))]
     fn words(self, alloc: Global, line: usize, words: &[&[u8]]) -> Result<Self, Refusal>
         requires { All IsUpper (texts words.now) }
-        ensures { Gives kind_told reading_seen result
+        ensures { Gives kind_reported reading_seen result
             (words_step line (texts words.now) (reading_seen self)) }
     {
         let [word, more @ ..] = words else {
@@ -222,7 +222,7 @@ impl Reading {
     /// What the next logical line makes of what was read.
     #[tactic(auto, unfolding(crate::specs::Reading::line_step))]
     pub(crate) fn line(self, alloc: Global, line: &Line) -> Result<Self, Refusal>
-        ensures { Gives kind_told reading_seen result (line_step line.now (reading_seen self)) }
+        ensures { Gives kind_reported reading_seen result (line_step line.now (reading_seen self)) }
     {
         let Ok(text) = fold(alloc, line.text.as_bytes()) else {
             drop(self);

@@ -6,7 +6,7 @@ use Rattle.std.specs.Str.{bytes_eq}
 use Rattle.std.specs.Prelude.{⊤}
 use Rattle.std.proofs.lemmas.Slice.Eq.{bytes_eq-Decides}
 use Rattle.ca_stil_form.specs.Form.{Token, Outcome, Got, Stuck, IsStuck, IsExact, read_one, read_fixed}
-use Rattle.ca_stil_form.specs.Form.{with_first, read_behind, read_then, mapped, read_each, written_each}
+use Rattle.ca_stil_form.specs.Form.{with_first, read_after, read_then, mapped, read_each, written_each}
 use Rattle.ca_stil_form.specs.Form.{all_each}
 
 pub left_true : (left right : Bool) → (left && right) ≡ true → left ≡ true
@@ -97,17 +97,17 @@ then_exact {First} {Second} allowed_first written_first read_first allowed_secon
         let first_allowed = left_true (allowed_first both.0) (allowed_second both.0 both.1) is in
         let second_allowed = right_true (allowed_first both.0) (allowed_second both.0 both.1) is in
         ap (λ (given : List Token). read_then read_first read_second given) (append_assoc (written_first both.0) (written_second both.0 both.1) rest)
-        ∙ ap (λ (given : Outcome First). read_behind given read_second) (first.back both.0 (written_second both.0 both.1 ++ rest) first_allowed)
+        ∙ ap (λ (given : Outcome First). read_after given read_second) (first.back both.0 (written_second both.0 both.1 ++ rest) first_allowed)
         ∙ ap (with_first both.0) ((second both.0 first_allowed).back both.1 rest second_allowed)
 
-    found_second : (tokens : List Token) (both : First × Second) (rest : List Token) (one : First) (behind : List Token) (given : Outcome Second)
-        → read_first tokens ≡ Got one behind → read_second one behind ≡ given → with_first one given ≡ Got both rest
+    found_second : (tokens : List Token) (both : First × Second) (rest : List Token) (one : First) (following : List Token) (given : Outcome Second)
+        → read_first tokens ≡ Got one following → read_second one following ≡ given → with_first one given ≡ Got both rest
         → ((allowed_first both.0 && allowed_second both.0 both.1) ≡ true) × (tokens ≡ (written_first both.0 ++ written_second both.0 both.1) ++ rest)
-    found_second tokens both rest one behind (Got two after) is is_second got =
+    found_second tokens both rest one following (Got two after) is is_second got =
         let same_both : (one, two) ≡ both = cc in
         let same_rest : after ≡ rest = cc in
-        let facts = first.found tokens one behind is in
-        let more = (second one facts.0).found behind two after is_second in
+        let facts = first.found tokens one following is in
+        let more = (second one facts.0).found following two after is_second in
         let both_facts : ((allowed_first one && allowed_second one two) ≡ true) × (tokens ≡ (written_first one ++ written_second one two) ++ after) = (
           (λ j. facts.0 j && more.0 j),
           facts.1 ∙ ap (λ (given : List Token). written_first one ++ given) more.1 ∙ sym (append_assoc (written_first one) (written_second one two) after),
@@ -116,23 +116,23 @@ then_exact {First} {Second} allowed_first written_first read_first allowed_secon
           both_facts.1 ∙ ap (λ (pair : First × Second). (written_first pair.0 ++ written_second pair.0 pair.1) ++ after) same_both
               ∙ ap (λ (given : List Token). (written_first both.0 ++ written_second both.0 both.1) ++ given) same_rest,
         )
-    found_second tokens both rest one behind (Stuck after) is is_second got = absurd cc
+    found_second tokens both rest one following (Stuck after) is is_second got = absurd cc
 
     found_both : (tokens : List Token) (both : First × Second) (rest : List Token) (given : Outcome First) → read_first tokens ≡ given
-        → read_behind given read_second ≡ Got both rest
+        → read_after given read_second ≡ Got both rest
         → ((allowed_first both.0 && allowed_second both.0 both.1) ≡ true) × (tokens ≡ (written_first both.0 ++ written_second both.0 both.1) ++ rest)
-    found_both tokens both rest (Got one behind) is got = found_second tokens both rest one behind (read_second one behind) is refl got
-    found_both tokens both rest (Stuck behind) is got = absurd cc
+    found_both tokens both rest (Got one following) is got = found_second tokens both rest one following (read_second one following) is refl got
+    found_both tokens both rest (Stuck following) is got = absurd cc
 
-    stuck_second : (tokens rest : List Token) (one : First) (behind : List Token) (given : Outcome Second)
-        → read_first tokens ≡ Got one behind → read_second one behind ≡ given → with_first one given ≡ Stuck rest
+    stuck_second : (tokens rest : List Token) (one : First) (following : List Token) (given : Outcome Second)
+        → read_first tokens ≡ Got one following → read_second one following ≡ given → with_first one given ≡ Stuck rest
         → IsStuck (λ (both : First × Second). allowed_first both.0 && allowed_second both.0 both.1)
         (λ (both : First × Second). written_first both.0 ++ written_second both.0 both.1) (read_then read_first read_second) tokens rest
-    stuck_second tokens rest one behind (Got two after) is is_second stuck = absurd cc
-    stuck_second tokens rest one behind (Stuck after) is is_second stuck =
+    stuck_second tokens rest one following (Got two after) is is_second stuck = absurd cc
+    stuck_second tokens rest one following (Stuck after) is is_second stuck =
         let same : after ≡ rest = cc in
-        let facts = first.found tokens one behind is in
-        let place = (second one facts.0).stuck behind rest (is_second ∙ ap Stuck same) in
+        let facts = first.found tokens one following is in
+        let place = (second one facts.0).stuck following rest (is_second ∙ ap Stuck same) in
         record {
           seen = written_first one ++ place.seen;
           whole = facts.1 ∙ ap (λ (given : List Token). written_first one ++ given) place.whole ∙ sym (append_assoc (written_first one) place.seen rest);
@@ -142,16 +142,16 @@ then_exact {First} {Second} allowed_first written_first read_first allowed_secon
           alive = ap (λ (given : List Token). written_first one ++ given) place.alive ∙ sym (append_assoc (written_first one) place.seen place.more);
           fixed = λ next after other begins.
               ap (λ (given : List Token). read_then read_first read_second given) (append_assoc (written_first one) place.seen (next ∷ other))
-              ∙ ap (λ (given : Outcome First). read_behind given read_second) (first.back one (place.seen ++ next ∷ other) facts.0)
+              ∙ ap (λ (given : Outcome First). read_after given read_second) (first.back one (place.seen ++ next ∷ other) facts.0)
               ∙ ap (with_first one) (place.fixed next after other begins);
         }
 
-    stuck_both : (tokens rest : List Token) (given : Outcome First) → read_first tokens ≡ given → read_behind given read_second ≡ Stuck rest
+    stuck_both : (tokens rest : List Token) (given : Outcome First) → read_first tokens ≡ given → read_after given read_second ≡ Stuck rest
         → IsStuck (λ (both : First × Second). allowed_first both.0 && allowed_second both.0 both.1)
         (λ (both : First × Second). written_first both.0 ++ written_second both.0 both.1) (read_then read_first read_second) tokens rest
-    stuck_both tokens rest (Got one behind) is stuck = stuck_second tokens rest one behind (read_second one behind) is refl stuck
-    stuck_both tokens rest (Stuck behind) is stuck =
-        let same : behind ≡ rest = cc in
+    stuck_both tokens rest (Got one following) is stuck = stuck_second tokens rest one following (read_second one following) is refl stuck
+    stuck_both tokens rest (Stuck following) is stuck =
+        let same : following ≡ rest = cc in
         let place = first.stuck tokens rest (is ∙ ap Stuck same) in
         let other = second place.value place.is_allowed in
         record {
@@ -162,7 +162,7 @@ then_exact {First} {Second} allowed_first written_first read_first allowed_secon
           is_allowed = λ j. place.is_allowed j && other.some_allowed j;
           alive = ap (λ (given : List Token). given ++ written_second place.value other.some) place.alive
               ∙ append_assoc place.seen place.more (written_second place.value other.some);
-          fixed = λ next after other begins. ap (λ (given : Outcome First). read_behind given read_second) (place.fixed next after other begins);
+          fixed = λ next after other begins. ap (λ (given : Outcome First). read_after given read_second) (place.fixed next after other begins);
         }
 
 -- the same values, seen in another way
@@ -185,31 +185,31 @@ mapped_exact {Value} {Seen} allowed written read view allowed_seen written_seen 
   where
     found_seen : (tokens : List Token) (seen : Seen) (rest : List Token) (given : Outcome Value) → read tokens ≡ given → mapped view given ≡ Got seen rest
         → (allowed_seen seen ≡ true) × (tokens ≡ written_seen seen ++ rest)
-    found_seen tokens seen rest (Got value behind) is got =
+    found_seen tokens seen rest (Got value following) is got =
         let same_seen : view value ≡ seen = cc in
-        let same_rest : behind ≡ rest = cc in
-        let facts = exact.found tokens value behind is in
-        let told = same value facts.0 in (
-          ap allowed_seen (sym same_seen) ∙ told.0,
-          facts.1 ∙ ap (λ (given : List Token). given ++ behind) (sym told.1 ∙ ap written_seen same_seen)
+        let same_rest : following ≡ rest = cc in
+        let facts = exact.found tokens value following is in
+        let reported = same value facts.0 in (
+          ap allowed_seen (sym same_seen) ∙ reported.0,
+          facts.1 ∙ ap (λ (given : List Token). given ++ following) (sym reported.1 ∙ ap written_seen same_seen)
               ∙ ap (λ (given : List Token). written_seen seen ++ given) same_rest,
         )
-    found_seen tokens seen rest (Stuck behind) is got = absurd cc
+    found_seen tokens seen rest (Stuck following) is got = absurd cc
 
     stuck_seen : (tokens rest : List Token) (given : Outcome Value) → read tokens ≡ given → mapped view given ≡ Stuck rest
         → IsStuck allowed_seen written_seen (λ (tokens : List Token). mapped view (read tokens)) tokens rest
-    stuck_seen tokens rest (Got value behind) is stuck = absurd cc
-    stuck_seen tokens rest (Stuck behind) is stuck =
-        let alike : behind ≡ rest = cc in
+    stuck_seen tokens rest (Got value following) is stuck = absurd cc
+    stuck_seen tokens rest (Stuck following) is stuck =
+        let alike : following ≡ rest = cc in
         let place = exact.stuck tokens rest (is ∙ ap Stuck alike) in
-        let told = same place.value place.is_allowed in
+        let reported = same place.value place.is_allowed in
         record {
           seen = place.seen;
           whole = place.whole;
           value = view place.value;
           more = place.more;
-          is_allowed = told.0;
-          alive = told.1 ∙ place.alive;
+          is_allowed = reported.0;
+          alive = reported.1 ∙ place.alive;
           fixed = λ next after other begins. ap (mapped view) (place.fixed next after other begins);
         }
 
@@ -271,7 +271,7 @@ fixed_step due more (token ∷ tokens) = by_token (bytes_eq due token)
     done (Stuck rest) = refl
 
     by_token : (same : Bool)
-        → mapped (λ (both : ⊤ × ⊤). tt) (read_behind (elim (elim same as (λ _. Option ⊤) [ true ↦ Some tt | false ↦ None ]) as (λ _. Outcome ⊤) [ None ↦ Stuck (token ∷ tokens) | Some value ↦ Got value tokens ]) (λ (one : ⊤). read_fixed more))
+        → mapped (λ (both : ⊤ × ⊤). tt) (read_after (elim (elim same as (λ _. Option ⊤) [ true ↦ Some tt | false ↦ None ]) as (λ _. Outcome ⊤) [ None ↦ Stuck (token ∷ tokens) | Some value ↦ Got value tokens ]) (λ (one : ⊤). read_fixed more))
         ≡ elim same as (λ _. Outcome ⊤) [ true ↦ read_fixed more tokens | false ↦ Stuck (token ∷ tokens) ]
     by_token true = done (read_fixed more tokens)
     by_token false = refl

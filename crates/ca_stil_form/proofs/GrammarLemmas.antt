@@ -5,7 +5,7 @@ use Rattle.std.specs.Prelude.{⊤, if◌then◌else◌}
 use Rattle.std.specs.Str.{bytes_eq}
 use Rattle.std.proofs.lemmas.Slice.Eq.{bytes_eq-Decides}
 use Rattle.ca_stil_form.specs.Form.{Token, read_fixed, read_then, Begins, BeginsOther}
-use Rattle.ca_stil_form.specs.Grammar.{Piece, Form, IsExactForm, spelled_value, word, and_then, behind}
+use Rattle.ca_stil_form.specs.Grammar.{Piece, Form, IsExactForm, spelled_value, word, and_then, following}
 use Rattle.ca_stil_form.specs.Grammar.{before, items_until, for_each, maybe}
 use Rattle.ca_stil_form.proofs.FormLemmas.{left_true, right_true, one_exact, then_exact, mapped_exact}
 use Rattle.ca_stil_form.proofs.FormLemmas.{fixed_exact, each_exact}
@@ -40,8 +40,8 @@ and_then_exact first second one two = record {
       one.exact (λ value is. (two value is).exact);
 }
 
-pub behind_exact : {Value : Type 0} (piece : Piece) (form : Form Value) → IsExactForm form → IsExactForm (behind piece form)
-behind_exact {Value} piece form exact = record {
+pub after_exact : {Value : Type 0} (piece : Piece) (form : Form Value) → IsExactForm form → IsExactForm (following piece form)
+after_exact {Value} piece form exact = record {
   exact =
       mapped_exact (λ (both : ⊤ × Value). true && form.allowed both.1) (λ (both : ⊤ × Value). piece.tokens ++ form.written both.1)
       (read_then (read_fixed piece.tokens) (λ (done : ⊤). form.read)) (λ both. both.1) form.allowed (λ value. piece.tokens ++ form.written value)

@@ -3,7 +3,7 @@ use Rattle.std.proofs.Common.{◌≡◌, ℕ, zero, suc, ◌+◌, ◌<◌, ◌�
 use Rattle.std.proofs.Common.{length, refl, sym, ap, ◌∙◌, arith, append_assoc, length-append, subst}
 use Rattle.std.specs.Str.{bytes_eq}
 use Rattle.std.proofs.lemmas.Slice.Eq.{bytes_eq-Decides}
-use Rattle.ca_stil_form.specs.Form.{Token, Outcome, Got, Stuck, IsExact, with_first, read_behind, mapped}
+use Rattle.ca_stil_form.specs.Form.{Token, Outcome, Got, Stuck, IsExact, with_first, read_after, mapped}
 use Rattle.ca_stil_form.specs.Form.{read_until, written_until, all_allowed, read_items, BeginsOther}
 use Rattle.ca_stil_form.proofs.FormLemmas.{left_true, right_true}
 
@@ -31,7 +31,7 @@ shorter one more clock some below = omega (arith, length-append one more)
 -- what a step of the items makes of the tokens where the next one doesn't close them
 abbrev pub next_items : {Item : Type 0} → Token → (ℕ → List Token → Outcome Item) → ℕ → ℕ → List Token → Outcome (List Item)
 next_items close read_item clock number tokens =
-    mapped (λ both. both.0 ∷ both.1) (read_behind (read_item number tokens) (λ item. read_until close read_item clock (number + 1)))
+    mapped (λ both. both.0 ∷ both.1) (read_after (read_item number tokens) (λ item. read_until close read_item clock (number + 1)))
 
 pub until_step : {Item : Type 0} (close : Token) (read_item : ℕ → List Token → Outcome Item) (clock number : ℕ) (tokens : List Token)
     → BeginsOther close tokens → read_until close read_item (suc clock) number tokens ≡ next_items close read_item clock number tokens
@@ -94,20 +94,20 @@ items_exact {Item} close allowed written read_item exact opens number = record {
         let fits : length (written number item ++ (others ++ rest)) < suc clock = subst (λ (given : List Token). length given < suc clock) joined below in
         ap (read_until close read_item (suc clock) number) joined
         ∙ until_step close read_item clock number (written number item ++ (others ++ rest)) (begins_other_more close (written number item) (others ++ rest) begins)
-        ∙ ap (λ (given : Outcome Item). mapped (λ both. both.0 ∷ both.1) (read_behind given (λ item. read_until close read_item clock (number + 1))))
+        ∙ ap (λ (given : Outcome Item). mapped (λ both. both.0 ∷ both.1) (read_after given (λ item. read_until close read_item clock (number + 1))))
         ((exact number).back item (others ++ rest) item_allowed)
         ∙ ap (λ (given : Outcome (List Item)). mapped (λ (both : Item × List Item). both.0 ∷ both.1) (with_first item given))
         (until_back items clock (number + 1) rest (shorter (written number item) (others ++ rest) clock (some_tokens close (written number item) begins) fits) others_allowed)
 
-    found_behind : (clock number : ℕ) (tokens : List Token) (items : List Item) (rest : List Token) (item : Item) (behind : List Token) (given : Outcome (List Item))
-        → read_item number tokens ≡ Got item behind
-        → ((others : List Item) (after : List Token) → given ≡ Got others after → (all_allowed allowed (number + 1) others ≡ true) × (behind ≡ written_until close written (number + 1) others ++ after))
+    found_after : (clock number : ℕ) (tokens : List Token) (items : List Item) (rest : List Token) (item : Item) (following : List Token) (given : Outcome (List Item))
+        → read_item number tokens ≡ Got item following
+        → ((others : List Item) (after : List Token) → given ≡ Got others after → (all_allowed allowed (number + 1) others ≡ true) × (following ≡ written_until close written (number + 1) others ++ after))
         → mapped (λ (both : Item × List Item). both.0 ∷ both.1) (with_first item given) ≡ Got items rest
         → (all_allowed allowed number items ≡ true) × (tokens ≡ written_until close written number items ++ rest)
-    found_behind clock number tokens items rest item behind (Got others after) is later got =
+    found_after clock number tokens items rest item following (Got others after) is later got =
         let same_items : item ∷ others ≡ items = cc in
         let same_rest : after ≡ rest = cc in
-        let facts = (exact number).found tokens item behind is in
+        let facts = (exact number).found tokens item following is in
         let more = later others after refl in (
           ap (all_allowed allowed number) (sym same_items) ∙ (λ j. facts.0 j && more.0 j),
           facts.1 ∙ ap (λ (given : List Token). written number item ++ given) more.1
@@ -115,22 +115,22 @@ items_exact {Item} close allowed written read_item exact opens number = record {
               ∙ ap (λ (given : List Item). written_until close written number given ++ after) same_items
               ∙ ap (λ (given : List Token). written_until close written number items ++ given) same_rest,
         )
-    found_behind clock number tokens items rest item behind (Stuck after) is later got = absurd cc
+    found_after clock number tokens items rest item following (Stuck after) is later got = absurd cc
 
     found_item : (clock number : ℕ) (tokens : List Token) (items : List Item) (rest : List Token) (given : Outcome Item)
         → read_item number tokens ≡ given
-        → ((behind : List Token) (others : List Item) (after : List Token) → read_until close read_item clock (number + 1) behind ≡ Got others after
-        → (all_allowed allowed (number + 1) others ≡ true) × (behind ≡ written_until close written (number + 1) others ++ after))
-        → mapped (λ (both : Item × List Item). both.0 ∷ both.1) (read_behind given (λ item. read_until close read_item clock (number + 1))) ≡ Got items rest
+        → ((following : List Token) (others : List Item) (after : List Token) → read_until close read_item clock (number + 1) following ≡ Got others after
+        → (all_allowed allowed (number + 1) others ≡ true) × (following ≡ written_until close written (number + 1) others ++ after))
+        → mapped (λ (both : Item × List Item). both.0 ∷ both.1) (read_after given (λ item. read_until close read_item clock (number + 1))) ≡ Got items rest
         → (all_allowed allowed number items ≡ true) × (tokens ≡ written_until close written number items ++ rest)
-    found_item clock number tokens items rest (Got item behind) is later got =
-        found_behind clock number tokens items rest item behind (read_until close read_item clock (number + 1) behind) is (later behind) got
-    found_item clock number tokens items rest (Stuck behind) is later got = absurd cc
+    found_item clock number tokens items rest (Got item following) is later got =
+        found_after clock number tokens items rest item following (read_until close read_item clock (number + 1) following) is (later following) got
+    found_item clock number tokens items rest (Stuck following) is later got = absurd cc
 
     found_token : (clock number : ℕ) (token : Token) (tokens : List Token) (items : List Item) (rest : List Token) (same : Bool)
         → bytes_eq close token ≡ same
-        → ((behind : List Token) (others : List Item) (after : List Token) → read_until close read_item clock (number + 1) behind ≡ Got others after
-        → (all_allowed allowed (number + 1) others ≡ true) × (behind ≡ written_until close written (number + 1) others ++ after))
+        → ((following : List Token) (others : List Item) (after : List Token) → read_until close read_item clock (number + 1) following ≡ Got others after
+        → (all_allowed allowed (number + 1) others ≡ true) × (following ≡ written_until close written (number + 1) others ++ after))
         → elim same as (λ _. Outcome (List Item)) [ true ↦ Got [] tokens | false ↦ next_items close read_item clock number (token ∷ tokens) ] ≡ Got items rest
         → (all_allowed allowed number items ≡ true) × (token ∷ tokens ≡ written_until close written number items ++ rest)
     found_token clock number token tokens items rest true is later got =
@@ -149,17 +149,17 @@ items_exact {Item} close allowed written read_item exact opens number = record {
     until_found zero number tokens items rest got = absurd cc
     until_found (suc clock) number [] items rest got = absurd cc
     until_found (suc clock) number (token ∷ tokens) items rest got =
-        found_token clock number token tokens items rest (bytes_eq close token) refl (λ behind others after. until_found clock (number + 1) behind others after) got
+        found_token clock number token tokens items rest (bytes_eq close token) refl (λ following others after. until_found clock (number + 1) following others after) got
 
-    stuck_behind : (clock number : ℕ) (token : Token) (tokens rest : List Token) (item : Item) (behind : List Token) (given : Outcome (List Item))
-        → bytes_eq close token ≡ false → read_item number (token ∷ tokens) ≡ Got item behind
-        → ((after : List Token) → given ≡ Stuck after → IsStuckUntil close allowed written read_item (number + 1) behind after)
+    stuck_after : (clock number : ℕ) (token : Token) (tokens rest : List Token) (item : Item) (following : List Token) (given : Outcome (List Item))
+        → bytes_eq close token ≡ false → read_item number (token ∷ tokens) ≡ Got item following
+        → ((after : List Token) → given ≡ Stuck after → IsStuckUntil close allowed written read_item (number + 1) following after)
         → mapped (λ (both : Item × List Item). both.0 ∷ both.1) (with_first item given) ≡ Stuck rest
         → IsStuckUntil close allowed written read_item number (token ∷ tokens) rest
-    stuck_behind clock number token tokens rest item behind (Got others after) other_token is later stuck = absurd cc
-    stuck_behind clock number token tokens rest item behind (Stuck after) other_token is later stuck =
+    stuck_after clock number token tokens rest item following (Got others after) other_token is later stuck = absurd cc
+    stuck_after clock number token tokens rest item following (Stuck after) other_token is later stuck =
         let same : after ≡ rest = cc in
-        let facts = (exact number).found (token ∷ tokens) item behind is in
+        let facts = (exact number).found (token ∷ tokens) item following is in
         let place = later rest (ap Stuck same) in
         let begins = opens number item facts.0 in
         record {
@@ -171,35 +171,35 @@ items_exact {Item} close allowed written read_item exact opens number = record {
           alive = ap (λ (given : List Token). written number item ++ given) place.alive ∙ sym (append_assoc (written number item) place.seen place.more);
           fixed = λ next past other clock goes below.
               ap (read_until close read_item clock number) (append_assoc (written number item) place.seen (next ∷ other))
-              ∙ fixed_behind number item facts.0 (place.seen ++ next ∷ other) (next ∷ other) clock
+              ∙ fixed_after number item facts.0 (place.seen ++ next ∷ other) (next ∷ other) clock
               (subst (λ (given : List Token). length given < clock) (append_assoc (written number item) place.seen (next ∷ other)) below)
               (λ clock. place.fixed next past other clock goes);
         }
       where
-        fixed_behind : (number : ℕ) (item : Item) → allowed number item ≡ true → (after rest : List Token) (clock : ℕ) → length (written number item ++ after) < clock
+        fixed_after : (number : ℕ) (item : Item) → allowed number item ≡ true → (after rest : List Token) (clock : ℕ) → length (written number item ++ after) < clock
             → ((clock : ℕ) → length after < clock → read_until close read_item clock (number + 1) after ≡ Stuck rest)
             → read_until close read_item clock number (written number item ++ after) ≡ Stuck rest
-        fixed_behind number item is after rest zero below later = absurd (omega (arith, below))
-        fixed_behind number item is after rest (suc clock) below later =
+        fixed_after number item is after rest zero below later = absurd (omega (arith, below))
+        fixed_after number item is after rest (suc clock) below later =
             let begins = opens number item is in
             until_step close read_item clock number (written number item ++ after) (begins_other_more close (written number item) after begins)
-            ∙ ap (λ (given : Outcome Item). mapped (λ both. both.0 ∷ both.1) (read_behind given (λ item. read_until close read_item clock (number + 1)))) ((exact number).back item after is)
+            ∙ ap (λ (given : Outcome Item). mapped (λ both. both.0 ∷ both.1) (read_after given (λ item. read_until close read_item clock (number + 1)))) ((exact number).back item after is)
             ∙ ap (λ (given : Outcome (List Item)). mapped (λ (both : Item × List Item). both.0 ∷ both.1) (with_first item given))
             (later clock (shorter (written number item) after clock (some_tokens close (written number item) begins) below))
 
     stuck_item : (clock number : ℕ) (token : Token) (tokens rest : List Token) (given : Outcome Item)
         → length (token ∷ tokens) < suc clock → bytes_eq close token ≡ false → read_item number (token ∷ tokens) ≡ given
-        → ((behind after : List Token) → length behind < clock → read_until close read_item clock (number + 1) behind ≡ Stuck after
-        → IsStuckUntil close allowed written read_item (number + 1) behind after)
-        → mapped (λ (both : Item × List Item). both.0 ∷ both.1) (read_behind given (λ item. read_until close read_item clock (number + 1))) ≡ Stuck rest
+        → ((following after : List Token) → length following < clock → read_until close read_item clock (number + 1) following ≡ Stuck after
+        → IsStuckUntil close allowed written read_item (number + 1) following after)
+        → mapped (λ (both : Item × List Item). both.0 ∷ both.1) (read_after given (λ item. read_until close read_item clock (number + 1))) ≡ Stuck rest
         → IsStuckUntil close allowed written read_item number (token ∷ tokens) rest
-    stuck_item clock number token tokens rest (Got item behind) below other_token is later stuck =
-        let facts = (exact number).found (token ∷ tokens) item behind is in
-        let fits : length (written number item ++ behind) < suc clock = subst (λ (given : List Token). length given < suc clock) facts.1 below in
-        stuck_behind clock number token tokens rest item behind (read_until close read_item clock (number + 1) behind) other_token is
-        (λ after. later behind after (shorter (written number item) behind clock (some_tokens close (written number item) (opens number item facts.0)) fits)) stuck
-    stuck_item clock number token tokens rest (Stuck behind) below other_token is later stuck =
-        let same : behind ≡ rest = cc in
+    stuck_item clock number token tokens rest (Got item following) below other_token is later stuck =
+        let facts = (exact number).found (token ∷ tokens) item following is in
+        let fits : length (written number item ++ following) < suc clock = subst (λ (given : List Token). length given < suc clock) facts.1 below in
+        stuck_after clock number token tokens rest item following (read_until close read_item clock (number + 1) following) other_token is
+        (λ after. later following after (shorter (written number item) following clock (some_tokens close (written number item) (opens number item facts.0)) fits)) stuck
+    stuck_item clock number token tokens rest (Stuck following) below other_token is later stuck =
+        let same : following ≡ rest = cc in
         let place = (exact number).stuck (token ∷ tokens) rest (is ∙ ap Stuck same) in
         record {
           seen = place.seen;
@@ -218,12 +218,12 @@ items_exact {Item} close allowed written read_item exact opens number = record {
         fixed_item number tokens rest zero below begins is = absurd (omega (arith, below))
         fixed_item number tokens rest (suc clock) below begins is =
             until_step close read_item clock number tokens begins
-            ∙ ap (λ (given : Outcome Item). mapped (λ both. both.0 ∷ both.1) (read_behind given (λ item. read_until close read_item clock (number + 1)))) is
+            ∙ ap (λ (given : Outcome Item). mapped (λ both. both.0 ∷ both.1) (read_after given (λ item. read_until close read_item clock (number + 1)))) is
 
     stuck_token : (clock number : ℕ) (token : Token) (tokens rest : List Token) (same : Bool)
         → length (token ∷ tokens) < suc clock → bytes_eq close token ≡ same
-        → ((behind after : List Token) → length behind < clock → read_until close read_item clock (number + 1) behind ≡ Stuck after
-        → IsStuckUntil close allowed written read_item (number + 1) behind after)
+        → ((following after : List Token) → length following < clock → read_until close read_item clock (number + 1) following ≡ Stuck after
+        → IsStuckUntil close allowed written read_item (number + 1) following after)
         → elim same as (λ _. Outcome (List Item)) [ true ↦ Got [] tokens | false ↦ next_items close read_item clock number (token ∷ tokens) ] ≡ Stuck rest
         → IsStuckUntil close allowed written read_item number (token ∷ tokens) rest
     stuck_token clock number token tokens rest true below is later stuck = absurd cc
@@ -243,4 +243,4 @@ items_exact {Item} close allowed written read_item exact opens number = record {
       fixed = λ next after other clock begins. absurd cc;
     }
     until_stuck (suc clock) number (token ∷ tokens) rest below stuck =
-        stuck_token clock number token tokens rest (bytes_eq close token) below refl (λ behind after. until_stuck clock (number + 1) behind after) stuck
+        stuck_token clock number token tokens rest (bytes_eq close token) below refl (λ following after. until_stuck clock (number + 1) following after) stuck

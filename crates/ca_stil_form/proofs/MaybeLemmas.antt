@@ -2,7 +2,7 @@
 use Rattle.std.proofs.Common.{◌≡◌, Bool, true, false, ◌&&◌, List, [], ◌∷◌, ◌++◌, Option, Some, None, refl}
 use Rattle.std.proofs.Common.{sym, ap, ◌∙◌, append_assoc}
 use Rattle.std.specs.Str.{bytes_eq}
-use Rattle.ca_stil_form.specs.Form.{Token, Outcome, Got, Stuck, IsStuck, IsExact, with_first, read_behind}
+use Rattle.ca_stil_form.specs.Form.{Token, Outcome, Got, Stuck, IsStuck, IsExact, with_first, read_after}
 use Rattle.ca_stil_form.specs.Form.{mapped, as_some, read_maybe, written_maybe, allowed_maybe, Begins}
 use Rattle.ca_stil_form.specs.Form.{BeginsOther}
 use Rattle.ca_stil_form.proofs.FormLemmas.{left_true, right_true}
@@ -10,7 +10,7 @@ use Rattle.ca_stil_form.proofs.ItemsLemmas.{begins_other_more}
 
 -- some form that begins with the key, or none, and the other one
 abbrev some_read : {First Second : Type 0} → (List Token → Outcome First) → (Option First → List Token → Outcome Second) → List Token → Outcome (Option First × Second)
-some_read read_first read_second tokens = mapped as_some (read_behind (read_first tokens) (λ first. read_second (Some first)))
+some_read read_first read_second tokens = mapped as_some (read_after (read_first tokens) (λ first. read_second (Some first)))
 
 begins_more : (key : Token) (tokens more : List Token) → Begins key tokens → Begins key (tokens ++ more)
 begins_more key [] more begins = absurd begins
@@ -84,7 +84,7 @@ maybe_exact {First} {Second} possible key allowed_first written_first read_first
         ap (read_maybe possible key read_first read_second) (append_assoc (written_first one) (written_second (Some one) two) rest)
         ∙ maybe_there possible key read_first read_second (written_first one ++ (written_second (Some one) two ++ rest)) can
         (begins_more key (written_first one) (written_second (Some one) two ++ rest) (opens one one_allowed))
-        ∙ ap (λ (given : Outcome First). mapped as_some (read_behind given (λ (value : First). read_second (Some value))))
+        ∙ ap (λ (given : Outcome First). mapped as_some (read_after given (λ (value : First). read_second (Some value))))
         ((first can).back one (written_second (Some one) two ++ rest) one_allowed)
         ∙ ap (λ (given : Outcome Second). mapped as_some (with_first one given)) ((present one can one_allowed).back two rest two_allowed)
 
@@ -101,27 +101,27 @@ maybe_exact {First} {Second} possible key allowed_first written_first read_first
         )
     found_absent tokens both rest (Stuck after) is got = absurd cc
 
-    found_second : (tokens : List Token) (both : Option First × Second) (rest : List Token) (one : First) (behind : List Token) (given : Outcome Second)
-        → possible ≡ true → read_first tokens ≡ Got one behind → read_second (Some one) behind ≡ given
+    found_second : (tokens : List Token) (both : Option First × Second) (rest : List Token) (one : First) (following : List Token) (given : Outcome Second)
+        → possible ≡ true → read_first tokens ≡ Got one following → read_second (Some one) following ≡ given
         → mapped as_some (with_first one given) ≡ Got both rest
         → (allowed_maybe possible allowed_first allowed_second both.0 both.1 ≡ true) × (tokens ≡ written_maybe written_first written_second both.0 both.1 ++ rest)
-    found_second tokens both rest one behind (Got two after) can is is_second got =
+    found_second tokens both rest one following (Got two after) can is is_second got =
         let same_both : (Some one, two) ≡ both = cc in
         let same_rest : after ≡ rest = cc in
-        let facts = (first can).found tokens one behind is in
-        let more = (present one can facts.0).found behind two after is_second in (
+        let facts = (first can).found tokens one following is in
+        let more = (present one can facts.0).found following two after is_second in (
           ap (λ (pair : Option First × Second). allowed_maybe possible allowed_first allowed_second pair.0 pair.1) (sym same_both) ∙ (λ j. can j && (facts.0 j && more.0 j)),
           facts.1 ∙ ap (λ (given : List Token). written_first one ++ given) more.1 ∙ sym (append_assoc (written_first one) (written_second (Some one) two) after)
               ∙ ap (λ (pair : Option First × Second). written_maybe written_first written_second pair.0 pair.1 ++ after) same_both
               ∙ ap (λ (given : List Token). written_maybe written_first written_second both.0 both.1 ++ given) same_rest,
         )
-    found_second tokens both rest one behind (Stuck after) can is is_second got = absurd cc
+    found_second tokens both rest one following (Stuck after) can is is_second got = absurd cc
 
     found_first : (tokens : List Token) (both : Option First × Second) (rest : List Token) (given : Outcome First) → possible ≡ true → read_first tokens ≡ given
-        → mapped as_some (read_behind given (λ (value : First). read_second (Some value))) ≡ Got both rest
+        → mapped as_some (read_after given (λ (value : First). read_second (Some value))) ≡ Got both rest
         → (allowed_maybe possible allowed_first allowed_second both.0 both.1 ≡ true) × (tokens ≡ written_maybe written_first written_second both.0 both.1 ++ rest)
-    found_first tokens both rest (Got one behind) can is got = found_second tokens both rest one behind (read_second (Some one) behind) can is refl got
-    found_first tokens both rest (Stuck behind) can is got = absurd cc
+    found_first tokens both rest (Got one following) can is got = found_second tokens both rest one following (read_second (Some one) following) can is refl got
+    found_first tokens both rest (Stuck following) can is got = absurd cc
 
     found_token : (token : Token) (tokens : List Token) (both : Option First × Second) (rest : List Token) (there : Bool) → (possible && bytes_eq key token) ≡ there
         → elim there as (λ _. Outcome (Option First × Second)) [
@@ -160,16 +160,16 @@ maybe_exact {First} {Second} possible key allowed_first written_first read_first
               ∙ ap (with_first None) (place.fixed next past other begins);
         }
 
-    stuck_second : (token : Token) (tokens rest : List Token) (one : First) (behind : List Token) (given : Outcome Second)
-        → possible ≡ true → read_first (token ∷ tokens) ≡ Got one behind → read_second (Some one) behind ≡ given
+    stuck_second : (token : Token) (tokens rest : List Token) (one : First) (following : List Token) (given : Outcome Second)
+        → possible ≡ true → read_first (token ∷ tokens) ≡ Got one following → read_second (Some one) following ≡ given
         → mapped as_some (with_first one given) ≡ Stuck rest
         → IsStuck (λ (both : Option First × Second). allowed_maybe possible allowed_first allowed_second both.0 both.1)
         (λ (both : Option First × Second). written_maybe written_first written_second both.0 both.1) (read_maybe possible key read_first read_second) (token ∷ tokens) rest
-    stuck_second token tokens rest one behind (Got two after) can is is_second stuck = absurd cc
-    stuck_second token tokens rest one behind (Stuck after) can is is_second stuck =
+    stuck_second token tokens rest one following (Got two after) can is is_second stuck = absurd cc
+    stuck_second token tokens rest one following (Stuck after) can is is_second stuck =
         let same : after ≡ rest = cc in
-        let facts = (first can).found (token ∷ tokens) one behind is in
-        let place = (present one can facts.0).stuck behind rest (is_second ∙ ap Stuck same) in
+        let facts = (first can).found (token ∷ tokens) one following is in
+        let place = (present one can facts.0).stuck following rest (is_second ∙ ap Stuck same) in
         record {
           seen = written_first one ++ place.seen;
           whole = facts.1 ∙ ap (λ (given : List Token). written_first one ++ given) place.whole ∙ sym (append_assoc (written_first one) place.seen rest);
@@ -181,20 +181,20 @@ maybe_exact {First} {Second} possible key allowed_first written_first read_first
               ap (read_maybe possible key read_first read_second) (append_assoc (written_first one) place.seen (next ∷ other))
               ∙ maybe_there possible key read_first read_second (written_first one ++ (place.seen ++ next ∷ other)) can
               (begins_more key (written_first one) (place.seen ++ next ∷ other) (opens one facts.0))
-              ∙ ap (λ (given : Outcome First). mapped as_some (read_behind given (λ (value : First). read_second (Some value))))
+              ∙ ap (λ (given : Outcome First). mapped as_some (read_after given (λ (value : First). read_second (Some value))))
               ((first can).back one (place.seen ++ next ∷ other) facts.0)
               ∙ ap (λ (given : Outcome Second). mapped as_some (with_first one given)) (place.fixed next past other begins);
         }
 
     stuck_first : (token : Token) (tokens rest : List Token) (given : Outcome First) → (possible && bytes_eq key token) ≡ true
         → read_first (token ∷ tokens) ≡ given
-        → mapped as_some (read_behind given (λ (value : First). read_second (Some value))) ≡ Stuck rest
+        → mapped as_some (read_after given (λ (value : First). read_second (Some value))) ≡ Stuck rest
         → IsStuck (λ (both : Option First × Second). allowed_maybe possible allowed_first allowed_second both.0 both.1)
         (λ (both : Option First × Second). written_maybe written_first written_second both.0 both.1) (read_maybe possible key read_first read_second) (token ∷ tokens) rest
-    stuck_first token tokens rest (Got one behind) there is stuck =
-        stuck_second token tokens rest one behind (read_second (Some one) behind) (left_true possible (bytes_eq key token) there) is refl stuck
-    stuck_first token tokens rest (Stuck behind) there is stuck =
-        let same : behind ≡ rest = cc in
+    stuck_first token tokens rest (Got one following) there is stuck =
+        stuck_second token tokens rest one following (read_second (Some one) following) (left_true possible (bytes_eq key token) there) is refl stuck
+    stuck_first token tokens rest (Stuck following) there is stuck =
+        let same : following ≡ rest = cc in
         let can = left_true possible (bytes_eq key token) there in
         let place = (first can).stuck (token ∷ tokens) rest (is ∙ ap Stuck same) in
         let other = present place.value can place.is_allowed in
@@ -209,7 +209,7 @@ maybe_exact {First} {Second} possible key allowed_first written_first read_first
           fixed = λ next past other begins.
               maybe_there possible key read_first read_second (place.seen ++ next ∷ other) can
               (begins_seen key token tokens place.seen next past other (place.whole ∙ ap (λ (given : List Token). place.seen ++ given) begins) (right_true possible (bytes_eq key token) there))
-              ∙ ap (λ (given : Outcome First). mapped as_some (read_behind given (λ (value : First). read_second (Some value)))) (place.fixed next past other begins);
+              ∙ ap (λ (given : Outcome First). mapped as_some (read_after given (λ (value : First). read_second (Some value)))) (place.fixed next past other begins);
         }
 
     -- what was seen before another token is not the key either

@@ -22,11 +22,11 @@ no_quote byte is = by (byte == 34) (right_true (nat_le 33 byte && nat_le byte 12
 quoted_inside : (text name rest : List ℕ) → list_all is_name_byte name ≡ true
     → quoted_from (Some text) (name ++ 34 ∷ rest) ≡ (text ++ name) ∷ quoted_from None rest
 unfolding quoted_from
-quoted_inside text [] rest is = ap (λ (given : List ℕ). given ∷ quoted_from None rest) (sym (nothing_behind text))
+quoted_inside text [] rest is = ap (λ (given : List ℕ). given ∷ quoted_from None rest) (sym (nothing_after text))
   where
-    nothing_behind : (xs : List ℕ) → xs ++ [] ≡ xs
-    nothing_behind [] = refl
-    nothing_behind (x ∷ xs) = ap (λ (rest : List ℕ). x ∷ rest) (nothing_behind xs)
+    nothing_after : (xs : List ℕ) → xs ++ [] ≡ xs
+    nothing_after [] = refl
+    nothing_after (x ∷ xs) = ap (λ (rest : List ℕ). x ∷ rest) (nothing_after xs)
 quoted_inside text (byte ∷ name) rest is =
     (λ j. (if no_quote byte (left_true (is_name_byte byte) (list_all is_name_byte name) is) j then text ∷ [] else [])
     ++ quoted_from (if no_quote byte (left_true (is_name_byte byte) (list_all is_name_byte name) is) j then None else Some (text ++ byte ∷ [])) (name ++ 34 ∷ rest))

@@ -34,11 +34,11 @@ pub fault_found : {Value : Type 0} (form : Form Value) → IsExactForm form → 
 fault_found {Value} form exact tokens left is = by (form.read tokens) refl is
   where
     not_read : (value : Value) → whole form tokens ≡ Err left → IsWritten form value tokens → ⊥
-    not_read value told written = let read = written_read form exact tokens value written in absurd cc
+    not_read value reported written = let read = written_read form exact tokens value written in absurd cc
 
     by : (given : Outcome Value) → form.read tokens ≡ given → at_end given ≡ Err left → IsFirstFaulty form tokens left
     by (Got value []) read is = absurd cc
-    by (Got value (token ∷ rest)) read told =
+    by (Got value (token ∷ rest)) read reported =
         let facts = exact.exact.found tokens value (token ∷ rest) read in
         record {
           seen = form.written value;
@@ -55,11 +55,11 @@ fault_found {Value} form exact tokens left is = by (form.read tokens) refl is
               absurd cc;
           no_end = λ other written. not_read other is written;
         }
-    by (Stuck behind) read told =
-        let place = exact.exact.stuck tokens behind read in
+    by (Stuck following) read reported =
+        let place = exact.exact.stuck tokens following read in
         record {
           seen = place.seen;
-          rest = behind;
+          rest = following;
           parted = place.whole;
           counted = cc;
           goes_on = record { value = place.value; more = place.more; written = record { allowed = place.is_allowed; same = sym place.alive } };
@@ -74,15 +74,15 @@ fault_found {Value} form exact tokens left is = by (form.read tokens) refl is
         }
 
 -- of two lists that make the same whole with others, one begins as the other does, and goes on
-parted : (one other : List Token) (behind beyond : List Token) → one ++ behind ≡ other ++ beyond → length one < length other
-    → (next : Token) × (more : List Token) × (after : List Token) × (behind ≡ next ∷ after) × (other ≡ one ++ next ∷ more)
-parted [] [] behind beyond same below = absurd (omega (arith, below))
-parted [] (token ∷ other) behind beyond same below = (token, other, other ++ beyond, same, refl)
-parted (token ∷ one) [] behind beyond same below = absurd (omega (arith, below))
-parted (token ∷ one) (first ∷ other) behind beyond same below =
+parted : (one other : List Token) (following beyond : List Token) → one ++ following ≡ other ++ beyond → length one < length other
+    → (next : Token) × (more : List Token) × (after : List Token) × (following ≡ next ∷ after) × (other ≡ one ++ next ∷ more)
+parted [] [] following beyond same below = absurd (omega (arith, below))
+parted [] (token ∷ other) following beyond same below = (token, other, other ++ beyond, same, refl)
+parted (token ∷ one) [] following beyond same below = absurd (omega (arith, below))
+parted (token ∷ one) (first ∷ other) following beyond same below =
     let heads : token ≡ first = cc in
-    let tails : one ++ behind ≡ other ++ beyond = cc in
-    let found = parted one other behind beyond tails (omega (arith, below)) in
+    let tails : one ++ following ≡ other ++ beyond = cc in
+    let found = parted one other following beyond tails (omega (arith, below)) in
     (found.0, found.1, found.2, found.3, ap (λ (given : List Token). first ∷ given) found.4 ∙ ap (λ (given : Token). given ∷ one ++ found.0 ∷ found.1) (sym heads))
 
 -- where a first faulty token comes earlier, the later one isn't the first
@@ -110,9 +110,9 @@ equal : (total one other : ℕ) → (total + one < total + other → ⊥) → (t
 equal total one other not_less not_more = grind arith
 
 -- and a first faulty token is reported
-pub fault_told : {Value : Type 0} (form : Form Value) → IsExactForm form → (tokens : List Token) (left : ℕ)
+pub fault_reported : {Value : Type 0} (form : Form Value) → IsExactForm form → (tokens : List Token) (left : ℕ)
     → IsFirstFaulty form tokens left → whole form tokens ≡ Err left
-fault_told {Value} form exact tokens left first = by (whole form tokens) refl
+fault_reported {Value} form exact tokens left first = by (whole form tokens) refl
   where
     by : (given : Result Value ℕ) → whole form tokens ≡ given → whole form tokens ≡ Err left
     by (Ok value) is = absurd (first.no_end value (read_written form exact tokens value is))

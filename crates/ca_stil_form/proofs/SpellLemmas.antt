@@ -25,27 +25,27 @@ pub spells_nothing : Spells [] []
 spells_nothing rest = refl
 
 -- where a reading is after a text, and the tokens that end in it
-abbrev pub place_behind : Place → List ℕ → Place
-place_behind place [] = place
-place_behind place (byte ∷ bytes) = place_behind (next_place place byte) bytes
+abbrev pub place_after : Place → List ℕ → Place
+place_after place [] = place
+place_after place (byte ∷ bytes) = place_after (next_place place byte) bytes
 
 abbrev pub ended_in : Place → List ℕ → List Token
 ended_in place [] = []
 ended_in place (byte ∷ bytes) = ended place byte ++ ended_in (next_place place byte) bytes
 
-read_on : (place : Place) (text rest : List ℕ) → tokens_from place (text ++ rest) ≡ ended_in place text ++ tokens_from (place_behind place text) rest
+read_on : (place : Place) (text rest : List ℕ) → tokens_from place (text ++ rest) ≡ ended_in place text ++ tokens_from (place_after place text) rest
 unfolding tokens_from
 read_on place [] rest = refl
 read_on place (byte ∷ bytes) rest =
     ap (λ (given : List Token). ended place byte ++ given) (read_on (next_place place byte) bytes rest)
-    ∙ sym (append_assoc (ended place byte) (ended_in (next_place place byte) bytes) (tokens_from (place_behind (next_place place byte) bytes) rest))
+    ∙ sym (append_assoc (ended place byte) (ended_in (next_place place byte) bytes) (tokens_from (place_after (next_place place byte) bytes) rest))
 
 -- a text that ends between tokens spells those that end in it
-pub whole_spells : (text : List ℕ) (tokens : List Token) → place_behind Between text ≡ Between → ended_in Between text ≡ tokens → Spells text tokens
+pub whole_spells : (text : List ℕ) (tokens : List Token) → place_after Between text ≡ Between → ended_in Between text ≡ tokens → Spells text tokens
 whole_spells text tokens is same rest =
     read_on Between text rest ∙ (λ j. same j ++ tokens_from (is j) rest)
 
-pub fixed_spells : (text : List ℕ) → place_behind Between text ≡ Between → Spells (fixed text).text (fixed text).tokens
+pub fixed_spells : (text : List ℕ) → place_after Between text ≡ Between → Spells (fixed text).text (fixed text).tokens
 unfolding tokens_from
 fixed_spells text is = whole_spells text (tokens_of text) is
     (sym (append-nil (ended_in Between text)) ∙ (λ j. ended_in Between text ++ tokens_from (sym is j) []) ∙ sym (read_on Between text []) ∙ ap tokens_of (append-nil text))

@@ -5,10 +5,10 @@ use Rattle.ca_stil_form.specs.Form.{Token, written_until, all_allowed, written_m
 use Rattle.ca_stil_form.specs.Form.{written_each, all_each}
 use Rattle.ca_stil_form.specs.Tokens.{Between}
 use Rattle.ca_stil_form.specs.Grammar.{Piece, fixed, blank, token, no_piece, ◌<>◌, pieces, Form, word}
-use Rattle.ca_stil_form.specs.Grammar.{and_then, behind, before, items_until, for_each, maybe, text_until}
+use Rattle.ca_stil_form.specs.Grammar.{and_then, following, before, items_until, for_each, maybe, text_until}
 use Rattle.ca_stil_form.specs.Grammar.{text_each, text_maybe}
 use Rattle.ca_stil_form.proofs.FormLemmas.{left_true, right_true}
-use Rattle.ca_stil_form.proofs.SpellLemmas.{Spells, spells_both, spells_nothing, place_behind, ended_in}
+use Rattle.ca_stil_form.proofs.SpellLemmas.{Spells, spells_both, spells_nothing, place_after, ended_in}
 use Rattle.ca_stil_form.proofs.SpellLemmas.{whole_spells, fixed_spells, IsWord, Stops, word_spells}
 
 -- the piece's text spells its tokens
@@ -19,10 +19,10 @@ pub record IsPiece (piece : Piece) : Type 0 where
 pub record IsSpelled {Value : Type 0} (form : Form Value) : Type 0 where
   pub spells : (value : Value) → form.allowed value ≡ true → Spells (form.text value) (form.written value)
 
-pub fixed_piece : (text : List ℕ) → place_behind Between text ≡ Between → IsPiece (fixed text)
+pub fixed_piece : (text : List ℕ) → place_after Between text ≡ Between → IsPiece (fixed text)
 fixed_piece text is = record { spells = fixed_spells text is }
 
-pub blank_piece : (text : List ℕ) → place_behind Between text ≡ Between → ended_in Between text ≡ [] → IsPiece (blank text)
+pub blank_piece : (text : List ℕ) → place_after Between text ≡ Between → ended_in Between text ≡ [] → IsPiece (blank text)
 blank_piece text is none = record { spells = whole_spells text [] is none }
 
 pub token_piece : (text : Token) → Spells text (text ∷ []) → IsPiece (token text)
@@ -50,8 +50,8 @@ and_then_spelled first second one two = record {
       (one.spells both.0 one_allowed) ((two both.0 one_allowed).spells both.1 two_allowed);
 }
 
-pub behind_spelled : {Value : Type 0} (piece : Piece) (form : Form Value) → IsPiece piece → IsSpelled form → IsSpelled (behind piece form)
-behind_spelled piece form first second = record {
+pub after_spelled : {Value : Type 0} (piece : Piece) (form : Form Value) → IsPiece piece → IsSpelled form → IsSpelled (following piece form)
+after_spelled piece form first second = record {
   spells = λ value is. spells_both piece.text (form.text value) piece.tokens (form.written value) first.spells (second.spells value is);
 }
 

@@ -11,7 +11,7 @@ use Rattle.std.proofs.Math.Seq.{drop-append_seam, take-append_seam}
 use Rattle.ca_net.specs.declared.trit.Trit.{Trit}
 use Rattle.ca_net.specs.declared.trit.Trit.TheVariants.{Zero, One, X}
 use Rattle.ca_stil_form.specs.Form.{Token, all_allowed, written_maybe, BeginsOther}
-use Rattle.ca_stil_form.specs.Grammar.{fixed, blank, token, ◌<>◌, IsExactForm, word, behind, before}
+use Rattle.ca_stil_form.specs.Grammar.{fixed, blank, token, ◌<>◌, IsExactForm, word, following, before}
 use Rattle.ca_stil_form.specs.Frame.{Signal, Names, Scan, Frame, Member, is_name, quoted, group_word}
 use Rattle.ca_stil_form.specs.Frame.{quoted_from, names_of, is_group, is_among, fits_in_order, fits_in_number}
 use Rattle.ca_stil_form.specs.Frame.{all_in, has_some, group_member, load_members, unload_members, key_inputs}
@@ -24,7 +24,7 @@ use Rattle.ca_stil_form.specs.Whole.{group_form, scan_form, Ports, ports_of, is_
 use Rattle.ca_stil_form.specs.Whole.{chain_ends, chain_form, frame_of, timing, pattern_begins, Rest}
 use Rattle.ca_stil_form.specs.Whole.{rest_form, scan_part, outputs_part, inputs_part, stil_form}
 use Rattle.ca_stil_form.proofs.FormLemmas.{left_true, right_true}
-use Rattle.ca_stil_form.proofs.GrammarLemmas.{word_exact, and_then_exact, behind_exact, before_exact}
+use Rattle.ca_stil_form.proofs.GrammarLemmas.{word_exact, and_then_exact, after_exact, before_exact}
 use Rattle.ca_stil_form.proofs.GrammarLemmas.{items_until_exact, for_each_exact, form_maybe_exact}
 use Rattle.ca_stil_form.proofs.NameLemmas.{group_found, group_named, first_fits, each_fits, names_named}
 use Rattle.ca_stil_form.proofs.NameLemmas.{one_for_each}
@@ -56,25 +56,25 @@ levels_found member levels is =
     ∙ levels_back levels
 
 pub bits_exact : (member : Member) → IsExactForm (bits_form member)
-bits_exact member = behind_exact (member_begins member) _
+bits_exact member = after_exact (member_begins member) _
     (before_exact _ (fixed (codes ";"))
     (word_exact (λ bits. length bits == member.used) (bits_word member) (bits_in member) (replicate member.used false)
     (eq-eqb (length (replicate member.used false)) member.used (length-replicate member.used false)) (λ bits is. bits_found member bits)))
 
 pub levels_exact : (member : Member) → IsExactForm (levels_form member)
-levels_exact member = behind_exact (member_begins member) _
+levels_exact member = after_exact (member_begins member) _
     (before_exact _ (fixed (codes ";"))
     (word_exact (λ levels. length levels == member.used) (levels_word member) (levels_in member) (replicate member.used X)
     (eq-eqb (length (replicate member.used X)) member.used (length-replicate member.used X)) (λ levels is. levels_found member levels is)))
 
 pub pair_exact : (frame : Frame) (number : ℕ) → IsExactForm (pair_form frame number)
 pair_exact frame number =
-    behind_exact (pair_begins frame number) _ (and_then_exact _ _ (for_each_exact bits_form bits_exact (load_members frame.chains)) (λ first_state is.
-    behind_exact (load_ends frame.chains) _ (and_then_exact _ _ (for_each_exact bits_form bits_exact (group_member key_inputs frame.inputs)) (λ first is.
-    behind_exact (first_ends frame) _ (and_then_exact _ _ (for_each_exact bits_form bits_exact (load_members frame.chains)) (λ last_state is.
-    behind_exact (load_ends frame.chains) _ (and_then_exact _ _ (for_each_exact bits_form bits_exact (group_member key_inputs frame.inputs)) (λ last is.
+    after_exact (pair_begins frame number) _ (and_then_exact _ _ (for_each_exact bits_form bits_exact (load_members frame.chains)) (λ first_state is.
+    after_exact (load_ends frame.chains) _ (and_then_exact _ _ (for_each_exact bits_form bits_exact (group_member key_inputs frame.inputs)) (λ first is.
+    after_exact (first_ends frame) _ (and_then_exact _ _ (for_each_exact bits_form bits_exact (load_members frame.chains)) (λ last_state is.
+    after_exact (load_ends frame.chains) _ (and_then_exact _ _ (for_each_exact bits_form bits_exact (group_member key_inputs frame.inputs)) (λ last is.
     and_then_exact _ _ (for_each_exact levels_form levels_exact (group_member key_outputs frame.outputs)) (λ expected is.
-    behind_exact (last_ends frame) _ (before_exact _ (unload_ends frame.chains) (for_each_exact levels_form levels_exact (unload_members frame.chains))))))))))))
+    after_exact (last_ends frame) _ (before_exact _ (unload_ends frame.chains) (for_each_exact levels_form levels_exact (unload_members frame.chains))))))))))))
 
 -- names, directions and groups
 inner_name : (name : List ℕ) → name_in (quoted name) ≡ name
@@ -93,12 +93,12 @@ direction_exact = word_exact (λ input. true) direction_word (bytes_eq (codes "I
     by false = refl
 
 pub signal_exact : IsExactForm signal_form
-signal_exact = behind_exact (blank (codes "  ")) _ (and_then_exact name_form (λ name. behind (blank (codes " ")) (before direction_form (fixed (codes ";\n")))) name_exact
-    (λ name is. behind_exact (blank (codes " ")) _ (before_exact direction_form (fixed (codes ";\n")) direction_exact)))
+signal_exact = after_exact (blank (codes "  ")) _ (and_then_exact name_form (λ name. following (blank (codes " ")) (before direction_form (fixed (codes ";\n")))) name_exact
+    (λ name is. after_exact (blank (codes " ")) _ (before_exact direction_form (fixed (codes ";\n")) direction_exact)))
 
 group_exact : (key : Token) (fits : Names → Bool) (some : Names) → fits some ≡ true → ((names : Names) → fits names ≡ true → is_group names ≡ true)
     → IsExactForm (group_form key fits)
-group_exact key fits some is named = behind_exact (blank (codes "  ") <> token key <> fixed (codes "=")) _
+group_exact key fits some is named = after_exact (blank (codes "  ") <> token key <> fixed (codes "=")) _
     (before_exact _ (fixed (codes ";\n"))
     (word_exact fits group_word (quoted_from None) some is (λ names given. group_found names (group_named names (named names given)))))
 
@@ -135,12 +135,12 @@ count_exact : IsExactForm (word is_count (λ digits. digits) (λ token. token))
 count_exact = word_exact is_count (λ digits. digits) (λ token. token) (codes "1") refl (λ digits is. refl)
 
 chain_exact : (ports : Ports) → IsExactForm (chain_form ports)
-chain_exact ports = behind_exact (chain_begins ports) _ (before_exact _ (chain_ends ports) count_exact)
+chain_exact ports = after_exact (chain_begins ports) _ (before_exact _ (chain_ends ports) count_exact)
 
 rest_exact : (inputs outputs : Option Names) (scan : Option Scan) → IsExactForm (rest_form inputs outputs scan)
 rest_exact inputs outputs scan =
-    behind_exact (timing inputs outputs scan) _ (and_then_exact _ _ (for_each_exact chain_form chain_exact (ports_of scan)) (λ cells is.
-    behind_exact (pattern_begins scan) _ (items_until_exact (codes "}") (codes "}\n") (pair_form (frame_of inputs outputs scan cells))
+    after_exact (timing inputs outputs scan) _ (and_then_exact _ _ (for_each_exact chain_form chain_exact (ports_of scan)) (λ cells is.
+    after_exact (pattern_begins scan) _ (items_until_exact (codes "}") (codes "}\n") (pair_form (frame_of inputs outputs scan cells))
     (pair_exact (frame_of inputs outputs scan cells)) (λ number value given. refl) 0)))
 
 -- signals that a text has are named
@@ -191,6 +191,6 @@ inputs_part_exact signals named =
 
 pub stil_exact : IsExactForm stil_form
 stil_exact =
-    behind_exact (fixed (codes "STIL 1.0;\nSignals {\n")) _ (and_then_exact _ _
+    after_exact (fixed (codes "STIL 1.0;\nSignals {\n")) _ (and_then_exact _ _
     (items_until_exact (codes "}") (codes "}\n") (λ number. signal_form) (λ number. signal_exact) (λ number signal is. refl) 0) (λ signals is.
-    behind_exact (fixed (codes "SignalGroups {\n")) _ (inputs_part_exact signals (signals_named 0 signals is))))
+    after_exact (fixed (codes "SignalGroups {\n")) _ (inputs_part_exact signals (signals_named 0 signals is))))

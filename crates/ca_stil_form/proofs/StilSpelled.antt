@@ -15,7 +15,7 @@ use Rattle.ca_net.specs.declared.trit.Trit.TheVariants.{Zero, One, X}
 use Rattle.ca_lex.specs.Length.{is_digit, number_of, with_digit}
 use Rattle.ca_stil_form.specs.Form.{Token, all_each}
 use Rattle.ca_stil_form.specs.Tokens.{is_inside}
-use Rattle.ca_stil_form.specs.Grammar.{fixed, blank, token, ◌<>◌, pieces, behind, before}
+use Rattle.ca_stil_form.specs.Grammar.{fixed, blank, token, ◌<>◌, pieces, following, before}
 use Rattle.ca_stil_form.specs.Frame.{Signal, Names, Scan, Chain, Frame, Member, is_name, quoted, group_word}
 use Rattle.ca_stil_form.specs.Frame.{quoted_from, names_of, is_group, is_among, fits_in_order, fits_in_number}
 use Rattle.ca_stil_form.specs.Frame.{all_in, has_some, group_member, load_members, unload_members}
@@ -37,7 +37,7 @@ use Rattle.ca_stil_form.proofs.SpellLemmas.{Spells, whole_spells, is_no_quote, q
 use Rattle.ca_stil_form.proofs.SpellLemmas.{group_spells, IsWord, word_spells}
 use Rattle.ca_stil_form.proofs.SpelledLemmas.{IsPiece, IsSpelled, fixed_piece, blank_piece, token_piece}
 use Rattle.ca_stil_form.proofs.SpelledLemmas.{nothing_piece, both_pieces, each_piece, and_then_spelled}
-use Rattle.ca_stil_form.proofs.SpelledLemmas.{behind_spelled, before_spelled, word_spelled, token_spelled}
+use Rattle.ca_stil_form.proofs.SpelledLemmas.{after_spelled, before_spelled, word_spelled, token_spelled}
 use Rattle.ca_stil_form.proofs.SpelledLemmas.{items_spelled, each_spelled, maybe_spelled}
 
 -- words of letters that may be in words
@@ -69,7 +69,7 @@ member_piece member is = both_pieces (blank (codes " ")) (token member.key <> fi
     (both_pieces (token member.key) (fixed (codes "=")) (token_piece member.key is.key) (fixed_piece (codes "=") refl))
 
 bits_spelled : (member : Member) → IsMember member → IsSpelled (bits_form member)
-bits_spelled member is = behind_spelled (member_begins member) _ (member_piece member is)
+bits_spelled member is = after_spelled (member_begins member) _ (member_piece member is)
     (word_spelled (λ bits. length bits == member.used) (bits_word member) (bits_in member) (fixed (codes ";")) (λ bits counted.
     let count : length bits ≡ member.used = eqb-true (length bits) member.used counted in
     record {
@@ -78,7 +78,7 @@ bits_spelled member is = behind_spelled (member_begins member) _ (member_piece m
     }) refl (fixed_piece (codes ";") refl))
 
 levels_spelled : (member : Member) → IsMember member → IsSpelled (levels_form member)
-levels_spelled member is = behind_spelled (member_begins member) _ (member_piece member is)
+levels_spelled member is = after_spelled (member_begins member) _ (member_piece member is)
     (word_spelled (λ levels. length levels == member.used) (levels_word member) (levels_in member) (fixed (codes ";")) (λ levels counted.
     let count : length levels ≡ member.used = eqb-true (length levels) member.used counted in
     record {
@@ -200,12 +200,12 @@ pub pair_spelled : (frame : Frame) → AllByRecursion IsChain frame.chains → (
 pair_spelled frame all number =
     let load = each_spelled bits_form IsMember bits_spelled (load_members frame.chains) (loads (longest frame.chains) frame.chains all) in
     let inputs = each_spelled bits_form IsMember bits_spelled (group_member key_inputs frame.inputs) (group_members key_inputs inputs_spell frame.inputs) in
-    behind_spelled (pair_begins frame number) _ (pair_piece frame number) (and_then_spelled _ _ load (λ first_state is.
-    behind_spelled (load_ends frame.chains) _ (load_piece frame.chains all) (and_then_spelled _ _ inputs (λ first is.
-    behind_spelled (first_ends frame) _ (first_ends_piece frame) (and_then_spelled _ _ load (λ last_state is.
-    behind_spelled (load_ends frame.chains) _ (load_piece frame.chains all) (and_then_spelled _ _ inputs (λ last is.
+    after_spelled (pair_begins frame number) _ (pair_piece frame number) (and_then_spelled _ _ load (λ first_state is.
+    after_spelled (load_ends frame.chains) _ (load_piece frame.chains all) (and_then_spelled _ _ inputs (λ first is.
+    after_spelled (first_ends frame) _ (first_ends_piece frame) (and_then_spelled _ _ load (λ last_state is.
+    after_spelled (load_ends frame.chains) _ (load_piece frame.chains all) (and_then_spelled _ _ inputs (λ last is.
     and_then_spelled _ _ (each_spelled levels_form IsMember levels_spelled (group_member key_outputs frame.outputs) (group_members key_outputs outputs_spell frame.outputs)) (λ expected is.
-    behind_spelled (last_ends frame) _
+    after_spelled (last_ends frame) _
     (both_pieces (fixed (codes " }\n")) (capture (group_member key_outputs frame.outputs) frame.chains) (fixed_piece (codes " }\n") refl)
     (capture_piece (group_member key_outputs frame.outputs) (group_members key_outputs outputs_spell frame.outputs) frame.chains all))
     (before_spelled _ (unload_ends frame.chains)
@@ -274,7 +274,7 @@ count_word (digit ∷ digits) is = record {
 
 chain_spelled : (ports : Ports) → IsPorts ports → IsSpelled (chain_form ports)
 chain_spelled ports is =
-    behind_spelled (chain_begins ports) _
+    after_spelled (chain_begins ports) _
     (both_pieces (fixed (codes "  ScanChain ")) (token (quoted (codes "chain" ++ decimal ports.number)) <> fixed (codes " {\n    ScanLength ")) (fixed_piece (codes "  ScanChain ") refl)
     (both_pieces (token (quoted (codes "chain" ++ decimal ports.number))) (fixed (codes " {\n    ScanLength ")) (token_piece _ (label_spells (codes "chain") refl ports.number))
     (fixed_piece (codes " {\n    ScanLength ") refl)))
@@ -357,9 +357,9 @@ closing_spells = whole_spells (codes "}\n") (codes "}" ∷ []) refl refl
 
 rest_spelled : (inputs outputs : Option Names) (scan : Option Scan) → IsNamed scan → IsSpelled (rest_form inputs outputs scan)
 rest_spelled inputs outputs scan named =
-    behind_spelled (timing inputs outputs scan) _ (timing_piece inputs outputs scan)
+    after_spelled (timing inputs outputs scan) _ (timing_piece inputs outputs scan)
     (and_then_spelled _ _ (each_spelled chain_form IsPorts chain_spelled (ports_of scan) (all_ports scan named)) (λ cells is.
-    behind_spelled (pattern_begins scan) _ (pattern_piece scan named)
+    after_spelled (pattern_begins scan) _ (pattern_piece scan named)
     (items_spelled (codes "}") (codes "}\n") (pair_form (frame_of inputs outputs scan cells)) closing_spells
     (pair_spelled (frame_of inputs outputs scan cells) (chains_sound (ports_of scan) cells (all_ports scan named) is)) 0)))
 
@@ -367,7 +367,7 @@ rest_spelled inputs outputs scan named =
 group_spelled : (key : Token) → Spells key (key ∷ []) → (fits : Names → Bool) → ((names : Names) → fits names ≡ true → is_group names ≡ true)
     → IsSpelled (group_form key fits)
 group_spelled key spells fits named =
-    behind_spelled (blank (codes "  ") <> token key <> fixed (codes "=")) _
+    after_spelled (blank (codes "  ") <> token key <> fixed (codes "=")) _
     (both_pieces (blank (codes "  ")) (token key <> fixed (codes "=")) (blank_piece (codes "  ") refl refl)
     (both_pieces (token key) (fixed (codes "=")) (token_piece key spells) (fixed_piece (codes "=") refl)))
     (before_spelled _ (fixed (codes ";\n")) (token_spelled fits group_word (quoted_from None) (λ names is. group_spells names (group_named names (named names is)))) (fixed_piece (codes ";\n") refl))
@@ -396,10 +396,10 @@ scan_named signals scan is =
 
 signal_spelled : IsSpelled signal_form
 signal_spelled =
-    behind_spelled (blank (codes "  ")) _ (blank_piece (codes "  ") refl refl)
-    (and_then_spelled name_form (λ name. behind (blank (codes " ")) (before direction_form (fixed (codes ";\n"))))
+    after_spelled (blank (codes "  ")) _ (blank_piece (codes "  ") refl refl)
+    (and_then_spelled name_form (λ name. following (blank (codes " ")) (before direction_form (fixed (codes ";\n"))))
     (token_spelled is_name quoted name_in name_spells) (λ name is.
-    behind_spelled (blank (codes " ")) _ (blank_piece (codes " ") refl refl)
+    after_spelled (blank (codes " ")) _ (blank_piece (codes " ") refl refl)
     (word_spelled (λ input. true) direction_word (bytes_eq (codes "In")) (fixed (codes ";\n")) (λ input is. by input) refl (fixed_piece (codes ";\n") refl))))
   where
     by : (input : Bool) → IsWord (direction_word input)
@@ -423,6 +423,6 @@ inputs_part_spelled signals =
 
 pub stil_spelled : IsSpelled stil_form
 stil_spelled =
-    behind_spelled (fixed (codes "STIL 1.0;\nSignals {\n")) _ (fixed_piece (codes "STIL 1.0;\nSignals {\n") refl) (and_then_spelled _ _
+    after_spelled (fixed (codes "STIL 1.0;\nSignals {\n")) _ (fixed_piece (codes "STIL 1.0;\nSignals {\n") refl) (and_then_spelled _ _
     (items_spelled (codes "}") (codes "}\n") (λ number. signal_form) closing_spells (λ number. signal_spelled) 0) (λ signals is.
-    behind_spelled (fixed (codes "SignalGroups {\n")) _ (fixed_piece (codes "SignalGroups {\n") refl) (inputs_part_spelled signals)))
+    after_spelled (fixed (codes "SignalGroups {\n")) _ (fixed_piece (codes "SignalGroups {\n") refl) (inputs_part_spelled signals)))

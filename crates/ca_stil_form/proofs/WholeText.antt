@@ -97,7 +97,7 @@ whole_same chip pairs expected below is small pairs_of values_of =
     let pattern_begins_text : List ℕ = codes "Pattern \"_pattern_\" {\n  W \"_wft_\";\n" in
     let before : List ℕ = (chains_begin (scan_of chip.controls chip.chains)).text in
     let each : List ℕ = text_each (λ ports. (chain_form ports).text) (ports_of (scan_of chip.controls chip.chains)) (map count_of chip.chains) in
-    let behind : List ℕ = (chains_end (scan_of chip.controls chip.chains)).text in
+    let following : List ℕ = (chains_end (scan_of chip.controls chip.chains)).text in
     let signals = signals_same 0 chip.signals in
     let groups = groups_same chip (map count_of chip.chains, all_values chip pairs expected) in
     let inputs = input_waves_same chip.inputs in
@@ -111,14 +111,14 @@ whole_same chip pairs expected below is small pairs_of values_of =
     ∙ ((λ j. codes "STIL 1.0;\n" ++ (codes "Signals {\n" ++ ((flat_map signal_text chip.signals ++ close) ++ (codes "SignalGroups {\n"
     ++ (group_if_any (codes "_pi_") chip.inputs ++ (group_if_any (codes "_po_") chip.outputs
     ++ (scan_groups_if_any chip.controls chip.chains ++ ((close ++ (timing_begins ++ (inputs j ++ (outputs j ++ (scan j ++ (timing_ends ++ before))))))
-    ++ (each ++ ((behind ++ (frame.burst_text ++ (shifts j ++ pattern_begins_text)))
+    ++ (each ++ ((following ++ (frame.burst_text ++ (shifts j ++ pattern_begins_text)))
     ++ text_until (codes "}\n") (λ number. (pair_form (seen j) number).text) 0 (all_values chip pairs expected)))))))))))
     ∙ ((λ j. codes "STIL 1.0;\n" ++ (codes "Signals {\n" ++ ((flat_map signal_text chip.signals ++ close) ++ (codes "SignalGroups {\n"
     ++ (group_if_any (codes "_pi_") chip.inputs ++ (group_if_any (codes "_po_") chip.outputs
     ++ (scan_groups_if_any chip.controls chip.chains
     ++ ((close ++ (timing_begins ++ (frame.input_waves chip.inputs ++ (frame.output_waves chip.outputs ++ (frame.scan_waves chip.chains ++ (timing_ends ++ before))))))
-    ++ (each ++ ((behind ++ (frame.burst_text ++ (frame.macro_text chip.chains ++ pattern_begins_text))) ++ written j))))))))))
-    ∙ (flat_all (codes "STIL 1.0;\n") (codes "Signals {\n") (flat_map signal_text chip.signals) close (codes "SignalGroups {\n") (group_if_any (codes "_pi_") chip.inputs) (group_if_any (codes "_po_") chip.outputs) (scan_groups_if_any chip.controls chip.chains) timing_begins (frame.input_waves chip.inputs) (frame.output_waves chip.outputs) (frame.scan_waves chip.chains) timing_ends before each behind frame.burst_text (frame.macro_text chip.chains) pattern_begins_text (pairs_text chip most 0 pairs expected)
+    ++ (each ++ ((following ++ (frame.burst_text ++ (frame.macro_text chip.chains ++ pattern_begins_text))) ++ written j))))))))))
+    ∙ (flat_all (codes "STIL 1.0;\n") (codes "Signals {\n") (flat_map signal_text chip.signals) close (codes "SignalGroups {\n") (group_if_any (codes "_pi_") chip.inputs) (group_if_any (codes "_po_") chip.outputs) (scan_groups_if_any chip.controls chip.chains) timing_begins (frame.input_waves chip.inputs) (frame.output_waves chip.outputs) (frame.scan_waves chip.chains) timing_ends before each following frame.burst_text (frame.macro_text chip.chains) pattern_begins_text (pairs_text chip most 0 pairs expected)
     ∙ ((λ j. (codes "STIL 1.0;\n" ++ ((codes "Signals {\n" ++ ((flat_map signal_text chip.signals) ++ close)) ++ ((codes "SignalGroups {\n" ++ (group_if_any (codes "_pi_") chip.inputs ++ (group_if_any (codes "_po_") chip.outputs ++ (scan_groups_if_any chip.controls chip.chains ++ close)))) ++ ((timing_begins ++ (frame.input_waves chip.inputs ++ (frame.output_waves chip.outputs ++ (frame.scan_waves chip.chains ++ timing_ends)))) ++ (structures j ++ (frame.burst_text ++ frame.macro_text chip.chains)))))) ++ (pattern_begins_text ++ (pairs_text chip most 0 pairs expected ++ close)))
     ∙ (λ j. (codes "STIL 1.0;\n" ++ ((codes "Signals {\n" ++ ((flat_map signal_text chip.signals) ++ close)) ++ ((codes "SignalGroups {\n" ++ (group_if_any (codes "_pi_") chip.inputs ++ (group_if_any (codes "_po_") chip.outputs ++ (scan_groups_if_any chip.controls chip.chains ++ close)))) ++ ((timing_begins ++ (frame.input_waves chip.inputs ++ (frame.output_waves chip.outputs ++ (frame.scan_waves chip.chains ++ timing_ends)))) ++ (frame.structures_text chip.chains ++ (frame.burst_text ++ frame.macro_text chip.chains)))))) ++ (pattern_begins_text ++ (pairs_text chip (is j) 0 pairs expected ++ close)))))))
 

@@ -74,8 +74,8 @@ and_then {First} {Second} first second = record {
 }
 
 -- a form after a piece
-abbrev pub behind : {Value : Type 0} → Piece → Form Value → Form Value
-behind piece form = record {
+abbrev pub following : {Value : Type 0} → Piece → Form Value → Form Value
+following piece form = record {
   allowed = form.allowed;
   text = λ value. piece.text ++ form.text value;
   written = λ value. piece.tokens ++ form.written value;

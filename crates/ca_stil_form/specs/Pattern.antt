@@ -6,7 +6,7 @@ use Rattle.ca_net.specs.declared.trit.Trit.TheVariants.{Zero, One, X}
 pub use Rattle.ca_stil.specs.Words.{digit_of, level_of}
 use Rattle.ca_stil_form.specs.Form.{Token}
 use Rattle.ca_stil_form.specs.Grammar.{Piece, fixed, blank, token, no_piece, ◌<>◌, pieces, Form, word}
-use Rattle.ca_stil_form.specs.Grammar.{and_then, behind, before, for_each}
+use Rattle.ca_stil_form.specs.Grammar.{and_then, following, before, for_each}
 use Rattle.ca_stil_form.specs.Frame.{Frame, Chain, Member, key_inputs, key_outputs, group_member}
 use Rattle.ca_stil_form.specs.Frame.{load_members, unload_members, quoted}
 
@@ -34,12 +34,12 @@ member_begins member = blank (codes " ") <> token member.key <> fixed (codes "="
 
 -- ` KEY=WORD;`
 abbrev pub bits_form : Member → Form (List Bool)
-bits_form member = behind (member_begins member)
+bits_form member = following (member_begins member)
     (before (word (λ bits. length bits == member.used) (bits_word member) (bits_in member))
     (fixed (codes ";")))
 
 abbrev pub levels_form : Member → Form (List Trit)
-levels_form member = behind (member_begins member)
+levels_form member = following (member_begins member)
     (before (word (λ levels. length levels == member.used) (levels_word member) (levels_in member))
     (fixed (codes ";")))
 
@@ -101,13 +101,13 @@ PairValues =
 -- the statements of a pair
 abbrev pub pair_form : Frame → ℕ → Form PairValues
 pair_form frame number =
-    behind (pair_begins frame number)
+    following (pair_begins frame number)
     (and_then (for_each bits_form (load_members frame.chains)) (λ first_state.
-    behind (load_ends frame.chains)
+    following (load_ends frame.chains)
     (and_then (for_each bits_form (group_member key_inputs frame.inputs)) (λ first.
-    behind (first_ends frame) (and_then (for_each bits_form (load_members frame.chains)) (λ last_state.
-    behind (load_ends frame.chains)
+    following (first_ends frame) (and_then (for_each bits_form (load_members frame.chains)) (λ last_state.
+    following (load_ends frame.chains)
     (and_then (for_each bits_form (group_member key_inputs frame.inputs)) (λ last.
     and_then (for_each levels_form (group_member key_outputs frame.outputs)) (λ expected.
-    behind (last_ends frame)
+    following (last_ends frame)
     (before (for_each levels_form (unload_members frame.chains)) (unload_ends frame.chains)))))))))))

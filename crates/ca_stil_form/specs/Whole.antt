@@ -7,7 +7,7 @@ use Rattle.ca_lex.specs.Length.{is_digit, number_of}
 pub use Rattle.ca_stil.specs.Groups.{direction_word}
 use Rattle.ca_stil_form.specs.Form.{Token}
 use Rattle.ca_stil_form.specs.Grammar.{Piece, fixed, blank, token, no_piece, ◌<>◌, pieces, Form, word}
-use Rattle.ca_stil_form.specs.Grammar.{and_then, behind, before, items_until, for_each, maybe}
+use Rattle.ca_stil_form.specs.Grammar.{and_then, following, before, items_until, for_each, maybe}
 use Rattle.ca_stil_form.specs.Frame.{Signal, Names, Scan, Chain, Frame, is_name, quoted, group_word}
 use Rattle.ca_stil_form.specs.Frame.{quoted_from, names_of, fits_in_order, fits_in_number, has_some}
 use Rattle.ca_stil_form.specs.Frame.{key_inputs, key_outputs, key_controls}
@@ -27,13 +27,13 @@ direction_form = word (λ input. true) direction_word (bytes_eq (codes "In"))
 -- `"a" In;`
 abbrev pub signal_form : Form Signal
 signal_form =
-    behind (blank (codes "  "))
-    (and_then name_form (λ name. behind (blank (codes " ")) (before direction_form (fixed (codes ";\n")))))
+    following (blank (codes "  "))
+    (and_then name_form (λ name. following (blank (codes " ")) (before direction_form (fixed (codes ";\n")))))
 
 -- `KEY = 'NAMES' ;`
 abbrev pub group_form : Token → (Names → Bool) → Form Names
 group_form key fits =
-    behind (blank (codes "  ") <> token key <> fixed (codes "="))
+    following (blank (codes "  ") <> token key <> fixed (codes "="))
     (before (word fits group_word (quoted_from None)) (fixed (codes ";\n")))
 
 -- the control ports, the scan-in ports, and as many scan-out ports
@@ -79,7 +79,7 @@ chain_ends ports =
 
 abbrev pub chain_form : Ports → Form (List ℕ)
 chain_form ports =
-    behind (chain_begins ports)
+    following (chain_begins ports)
     (before (word is_count (λ digits. digits) (λ token. token)) (chain_ends ports))
 
 -- the chains of these ports with these numbers of cells
@@ -154,8 +154,8 @@ Rest = List (List ℕ) × List PairValues
 
 abbrev pub rest_form : Option Names → Option Names → Option Scan → Form Rest
 rest_form inputs outputs scan =
-    behind (timing inputs outputs scan) (and_then (for_each chain_form (ports_of scan)) (λ cells.
-    behind (pattern_begins scan)
+    following (timing inputs outputs scan) (and_then (for_each chain_form (ports_of scan)) (λ cells.
+    following (pattern_begins scan)
     (items_until (codes "}") (codes "}\n") (pair_form (frame_of inputs outputs scan cells)) 0)))
 
 abbrev pub Stil : Type 0
@@ -180,6 +180,6 @@ inputs_part signals =
 -- a whole text: the signals, the groups, and the rest
 abbrev pub stil_form : Form Stil
 stil_form =
-    behind (fixed (codes "STIL 1.0;\nSignals {\n"))
+    following (fixed (codes "STIL 1.0;\nSignals {\n"))
     (and_then (items_until (codes "}") (codes "}\n") (λ number. signal_form) 0) (λ signals.
-    behind (fixed (codes "SignalGroups {\n")) (inputs_part signals)))
+    following (fixed (codes "SignalGroups {\n")) (inputs_part signals)))

@@ -22,7 +22,7 @@ pub fn stil_reading()
         → IsWritten stil_form value tokens }
     ensures found { (tokens : List Token) (left : ℕ) → whole stil_form tokens ≡ Err left
         → IsFirstFaulty stil_form tokens left }
-    ensures told { (tokens : List Token) (left : ℕ) → IsFirstFaulty stil_form tokens left
+    ensures reported { (tokens : List Token) (left : ℕ) → IsFirstFaulty stil_form tokens left
         → whole stil_form tokens ≡ Err left }
 {}
 

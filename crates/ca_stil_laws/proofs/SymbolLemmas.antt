@@ -10,7 +10,7 @@ use Rattle.ca_token.specs.Scan.{scan_of, text_of}
 use Rattle.ca_token.specs.Names.{HasPlainName, NamesArePlain}
 use Rattle.ca_verilog.specs.declared.lexeme.Lexeme.{Lexeme}
 use Rattle.ca_verilog.specs.declared.lexeme.Lexeme.TheVariants as lexeme
-use Rattle.ca_verilog.specs.Lexeme.{number_from, constant_of, sign_at, sign_of, word_of, lexeme_of, behind_first}
+use Rattle.ca_verilog.specs.Lexeme.{number_from, constant_of, sign_at, sign_of, word_of, lexeme_of, after_first}
 use Rattle.ca_verilog.specs.Lexeme.{name_of}
 use Rattle.ca_syntax.specs.Symbols.{Symbol, symbol_of, symbol_at}
 use Rattle.ca_stil_form.specs.Frame.{is_name}
@@ -26,9 +26,9 @@ ways : {T : Type 0} (P : T → Type 0) (test : Bool) (one other : T) → (test �
 ways P true one other first second = first refl
 ways P false one other first second = second refl
 
-behind_is : (text : List ℕ) → behind_first text ≡ drop 1 text
-behind_is [] = refl
-behind_is (byte ∷ more) = refl
+after_is : (text : List ℕ) → after_first text ≡ drop 1 text
+after_is [] = refl
+after_is (byte ∷ more) = refl
 
 -- the token's name is plain
 abbrev HasNameIn : List ℕ → Token → Type 0
@@ -73,7 +73,7 @@ sign_other (byte ∷ more) =
 symbol_named : (found : TokenKind) (text : List ℕ) → HasPlainName found text → IsNamedSymbol (symbol_of (lexeme_of found text) (name_of found text))
 unfolding lexeme_of
 symbol_named kind.Name text named = any_symbol (word_of text) text named
-symbol_named kind.Escaped text named = ap is_name (behind_is text) ∙ named
+symbol_named kind.Escaped text named = ap is_name (after_is text) ∙ named
 symbol_named kind.Number text named = other_symbol (number_from 0 text) text (number_other 0 text)
 symbol_named kind.Constant text named = tt
 symbol_named kind.Sign text named = other_symbol (sign_of text) text (sign_other text)

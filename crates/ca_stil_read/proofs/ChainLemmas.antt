@@ -6,7 +6,7 @@ use Rattle.std.proofs.lemmas.List.{append-nil}
 use Rattle.std.proofs.lemmas.Bool.Decides.{nat_tests}
 use Rattle.std.specs.Prelude.{min, nat_le, Bool, true, false}
 use Rattle.std.proofs.Math.Seq.{drop-cons}
-use Rattle.ca_stil_form.specs.Form.{Token, Outcome, Got, Stuck, mapped, with_first, read_behind, read_each}
+use Rattle.ca_stil_form.specs.Form.{Token, Outcome, Got, Stuck, mapped, with_first, read_after, read_each}
 use Rattle.ca_stil_form.specs.Frame.{Names}
 use Rattle.ca_stil_form.specs.Whole.{Ports, numbered}
 use Rattle.ca_stil_read.specs.declared.stop.Stop.{Stop}
@@ -58,7 +58,7 @@ unfolding read_each
 cells_step read start cells k ins outs scan_in scan_out digits tokens rest so_far in_below out_below in_is out_is reads =
     so_far
     ∙ (λ j. mapped (λ more. cells ++ more) (read_each read (numbered_at k ins outs scan_in scan_out in_below out_below in_is out_is j) tokens))
-    ∙ ap (λ (given : Outcome (List ℕ)). mapped (λ more. cells ++ more) (mapped (λ both. both.0 ∷ both.1) (read_behind given (λ item. read_each read others)))) reads
+    ∙ ap (λ (given : Outcome (List ℕ)). mapped (λ more. cells ++ more) (mapped (λ both. both.0 ∷ both.1) (read_after given (λ item. read_each read others)))) reads
     ∙ by (read_each read others rest)
   where
     others : List Ports
@@ -78,7 +78,7 @@ unfolding read_each
 cells_stop read (stop.Stuck rest) start cells k ins outs scan_in scan_out tokens so_far in_below out_below in_is out_is stopped =
     so_far
     ∙ (λ j. mapped (λ more. cells ++ more) (read_each read (numbered_at k ins outs scan_in scan_out in_below out_below in_is out_is j) tokens))
-    ∙ ap (λ (given : Outcome (List ℕ)). mapped (λ more. cells ++ more) (mapped (λ both. both.0 ∷ both.1) (read_behind given
+    ∙ ap (λ (given : Outcome (List ℕ)). mapped (λ more. cells ++ more) (mapped (λ both. both.0 ∷ both.1) (read_after given
     (λ item. read_each read (numbered (k + 1) (drop (k + 1) ins) (drop (k + 1) outs)))))) stopped
 cells_stop read stop.NoMemory start cells k ins outs scan_in scan_out tokens so_far in_below out_below in_is out_is stopped = tt
 

@@ -14,20 +14,20 @@ pub read_early : (due : List Token) (want : Token) (more tokens : List Token) �
 unfolding read_fixed
 read_early due want more tokens due_is none = (λ j. read_fixed (due_is j) (none j)) ∙ ap (λ (given : List Token). Stuck given) (sym none)
 
-pub read_other : (due : List Token) (want : Token) (more tokens : List Token) (token : Token) (behind : List Token)
-    → due ≡ want ∷ more → tokens ≡ token ∷ behind → bytes_eq want token ≡ false → read_fixed due tokens ≡ Stuck tokens
+pub read_other : (due : List Token) (want : Token) (more tokens : List Token) (token : Token) (following : List Token)
+    → due ≡ want ∷ more → tokens ≡ token ∷ following → bytes_eq want token ≡ false → read_fixed due tokens ≡ Stuck tokens
 unfolding read_fixed
-read_other due want more tokens token behind due_is is other =
+read_other due want more tokens token following due_is is other =
     (λ j. read_fixed (due_is j) (is j))
-    ∙ (λ j. elim (other j) as (λ _. Outcome ⊤) [ true ↦ read_fixed more behind | false ↦ Stuck (token ∷ behind) ])
+    ∙ (λ j. elim (other j) as (λ _. Outcome ⊤) [ true ↦ read_fixed more following | false ↦ Stuck (token ∷ following) ])
     ∙ ap (λ (given : List Token). Stuck given) (sym is)
 
-pub read_same : (due : List Token) (want : Token) (more tokens : List Token) (token : Token) (behind : List Token)
-    → due ≡ want ∷ more → tokens ≡ token ∷ behind → bytes_eq want token ≡ true → read_fixed due tokens ≡ read_fixed more behind
+pub read_same : (due : List Token) (want : Token) (more tokens : List Token) (token : Token) (following : List Token)
+    → due ≡ want ∷ more → tokens ≡ token ∷ following → bytes_eq want token ≡ true → read_fixed due tokens ≡ read_fixed more following
 unfolding read_fixed
-read_same due want more tokens token behind due_is is same =
+read_same due want more tokens token following due_is is same =
     (λ j. read_fixed (due_is j) (is j))
-    ∙ (λ j. elim (same j) as (λ _. Outcome ⊤) [ true ↦ read_fixed more behind | false ↦ Stuck (token ∷ behind) ])
+    ∙ (λ j. elim (same j) as (λ _. Outcome ⊤) [ true ↦ read_fixed more following | false ↦ Stuck (token ∷ following) ])
 
 -- a test for unequal tokens
 pub unequal : (result test : Bool) → result ≡ true → result ≡ not test → test ≡ false

@@ -2,7 +2,7 @@
 use Rattle.std.proofs.Common.{◌≡◌, ℕ, zero, suc, ◌+◌, ◌<◌, Bool, true, false, List, [], ◌∷◌, ◌++◌, length}
 use Rattle.std.proofs.Common.{refl, ap, ◌∙◌, arith, length-append}
 use Rattle.std.specs.Str.{bytes_eq}
-use Rattle.ca_stil_form.specs.Form.{Token, Outcome, Got, Stuck, with_first, read_behind, mapped, read_until}
+use Rattle.ca_stil_form.specs.Form.{Token, Outcome, Got, Stuck, with_first, read_after, mapped, read_until}
 use Rattle.ca_stil_form.specs.Form.{read_items, BeginsOther}
 use Rattle.ca_stil_form.specs.Grammar.{Form, IsExactForm}
 use Rattle.ca_stil_form.proofs.ItemsLemmas.{some_tokens, next_items, until_step, until_close}
@@ -31,8 +31,8 @@ until_same {Item} close item exact opens (suc clock) (suc other) number (token �
     by_item : (given : Outcome Item) → (item number).read (token ∷ tokens) ≡ given
         → ((rest : List Token) → length rest < clock → length rest < other
         → read_until close (λ number. (item number).read) clock (number + 1) rest ≡ read_until close (λ number. (item number).read) other (number + 1) rest)
-        → mapped (λ (both : Item × List Item). both.0 ∷ both.1) (read_behind given (λ one. read_until close (λ number. (item number).read) clock (number + 1)))
-        ≡ mapped (λ (both : Item × List Item). both.0 ∷ both.1) (read_behind given (λ one. read_until close (λ number. (item number).read) other (number + 1)))
+        → mapped (λ (both : Item × List Item). both.0 ∷ both.1) (read_after given (λ one. read_until close (λ number. (item number).read) clock (number + 1)))
+        ≡ mapped (λ (both : Item × List Item). both.0 ∷ both.1) (read_after given (λ one. read_until close (λ number. (item number).read) other (number + 1)))
     by_item (Got one rest) is later =
         let less = item_shorter close (item number) (exact number) (opens number) (token ∷ tokens) rest one is in
         ap (λ (given : Outcome (List Item)). mapped (λ (both : Item × List Item). both.0 ∷ both.1) (with_first one given)) (later rest (omega (arith, less, below)) (omega (arith, less, also)))
@@ -55,7 +55,7 @@ pub items_step : {Item : Type 0} (close : Token) (item : ℕ → Form Item) → 
 items_step {Item} close item exact opens number tokens rest one begins is =
     let less = item_shorter close (item number) (exact number) (opens number) tokens rest one is in
     until_step close (λ number. (item number).read) (length tokens) number tokens begins
-    ∙ ap (λ (given : Outcome Item). mapped (λ (both : Item × List Item). both.0 ∷ both.1) (read_behind given (λ one. read_until close (λ number. (item number).read) (length tokens) (number + 1)))) is
+    ∙ ap (λ (given : Outcome Item). mapped (λ (both : Item × List Item). both.0 ∷ both.1) (read_after given (λ one. read_until close (λ number. (item number).read) (length tokens) (number + 1)))) is
     ∙ ap (λ (given : Outcome (List Item)). mapped (λ (both : Item × List Item). both.0 ∷ both.1) (with_first one given))
     (until_same close item exact opens (length tokens) (suc (length rest)) (number + 1) rest less (omega arith))
 
@@ -64,7 +64,7 @@ pub items_stop : {Item : Type 0} (close : Token) (item : ℕ → Form Item) (num
     → read_items close (λ number. (item number).read) number tokens ≡ Stuck rest
 items_stop {Item} close item number tokens rest begins is =
     until_step close (λ number. (item number).read) (length tokens) number tokens begins
-    ∙ ap (λ (given : Outcome Item). mapped (λ (both : Item × List Item). both.0 ∷ both.1) (read_behind given (λ one. read_until close (λ number. (item number).read) (length tokens) (number + 1)))) is
+    ∙ ap (λ (given : Outcome Item). mapped (λ (both : Item × List Item). both.0 ∷ both.1) (read_after given (λ one. read_until close (λ number. (item number).read) (length tokens) (number + 1)))) is
 
 -- the closing token ends the items
 pub items_close : {Item : Type 0} (close : Token) (item : ℕ → Form Item) (number : ℕ) (tokens : List Token) (token : Token) (rest : List Token)

@@ -3,9 +3,9 @@ use Rattle.std.proofs.Common.{◌≡◌, Bool, true, false, ◌&&◌, List, [], 
 use Rattle.std.proofs.Common.{sym, ap, ◌∙◌}
 use Rattle.std.specs.Prelude.{⊤, if◌then◌else◌}
 use Rattle.std.specs.Str.{bytes_eq}
-use Rattle.ca_stil_form.specs.Form.{Token, Outcome, Got, Stuck, mapped, with_first, read_behind, read_fixed}
+use Rattle.ca_stil_form.specs.Form.{Token, Outcome, Got, Stuck, mapped, with_first, read_after, read_fixed}
 use Rattle.ca_stil_form.specs.Form.{as_some}
-use Rattle.ca_stil_form.specs.Grammar.{Piece, Form, and_then, behind, before, maybe}
+use Rattle.ca_stil_form.specs.Grammar.{Piece, Form, and_then, following, before, maybe}
 use Rattle.ca_stil_read.specs.Onward.{onward, read_optional}
 
 -- values seen in two ways, one after the other
@@ -31,15 +31,15 @@ mapped_onward view (Got value rest) next = refl
 mapped_onward view (Stuck rest) next = refl
 
 -- the forms that are put together
-pub behind_onward : {Value Seen : Type 0} (view : Value → Seen) (piece : Piece) (form : Form Value) (tokens : List Token)
-    → mapped view ((behind piece form).read tokens) ≡ onward (read_fixed piece.tokens tokens) (λ passed rest. mapped view (form.read rest))
-behind_onward {Value} {Seen} view piece form tokens = by (read_fixed piece.tokens tokens)
+pub after_onward : {Value Seen : Type 0} (view : Value → Seen) (piece : Piece) (form : Form Value) (tokens : List Token)
+    → mapped view ((following piece form).read tokens) ≡ onward (read_fixed piece.tokens tokens) (λ passed rest. mapped view (form.read rest))
+after_onward {Value} {Seen} view piece form tokens = by (read_fixed piece.tokens tokens)
   where
     alone : (read : Outcome Value) → mapped view (mapped (λ (both : ⊤ × Value). both.1) (with_first tt read)) ≡ mapped view read
     alone (Got value rest) = refl
     alone (Stuck rest) = refl
 
-    by : (given : Outcome ⊤) → mapped view (mapped (λ (both : ⊤ × Value). both.1) (read_behind given (λ (done : ⊤). form.read)))
+    by : (given : Outcome ⊤) → mapped view (mapped (λ (both : ⊤ × Value). both.1) (read_after given (λ (done : ⊤). form.read)))
         ≡ onward given (λ passed rest. mapped view (form.read rest))
     by (Got passed rest) = alone (form.read rest)
     by (Stuck rest) = refl
@@ -53,7 +53,7 @@ and_then_onward {First} {Second} {Seen} view first second tokens = by (first.rea
     alone one (Got value rest) = refl
     alone one (Stuck rest) = refl
 
-    by : (given : Outcome First) → mapped view (read_behind given (λ (one : First). (second one).read))
+    by : (given : Outcome First) → mapped view (read_after given (λ (one : First). (second one).read))
         ≡ onward given (λ one rest. mapped (λ two. view (one, two)) ((second one).read rest))
     by (Got one rest) = alone one ((second one).read rest)
     by (Stuck rest) = refl
@@ -68,7 +68,7 @@ before_onward {Value} {Seen} view form piece tokens = by (form.read tokens)
     alone value (Got passed rest) = refl
     alone value (Stuck rest) = refl
 
-    by : (given : Outcome Value) → mapped view (mapped (λ (both : Value × ⊤). both.0) (read_behind given (λ (value : Value). read_fixed piece.tokens)))
+    by : (given : Outcome Value) → mapped view (mapped (λ (both : Value × ⊤). both.0) (read_after given (λ (value : Value). read_fixed piece.tokens)))
         ≡ onward given (λ value rest. mapped (λ passed. view value) (read_fixed piece.tokens rest))
     by (Got value rest) = alone value (read_fixed piece.tokens rest)
     by (Stuck rest) = refl
@@ -88,13 +88,13 @@ maybe_onward {First} {Second} {Seen} view possible key first second tokens = by 
     present_one one (Got two rest) = refl
     present_one one (Stuck rest) = refl
 
-    present : (given : Outcome First) → mapped view (mapped as_some (read_behind given (λ one. (second (Some one)).read)))
+    present : (given : Outcome First) → mapped view (mapped as_some (read_after given (λ one. (second (Some one)).read)))
         ≡ onward (mapped (λ value. Some value) given) (λ one rest. mapped (λ two. view (one, two)) ((second one).read rest))
     present (Got one rest) = present_one one ((second (Some one)).read rest)
     present (Stuck rest) = refl
 
     tested : (test : Bool) (given : List Token) → mapped view (elim test as (λ _. Outcome (Option First × Second)) [
-      | true ↦ mapped as_some (read_behind (first.read given) (λ one. (second (Some one)).read))
+      | true ↦ mapped as_some (read_after (first.read given) (λ one. (second (Some one)).read))
       | false ↦ with_first None ((second None).read given)
     ])
         ≡ onward (if test then mapped (λ value. Some value) (first.read given) else Got None given)

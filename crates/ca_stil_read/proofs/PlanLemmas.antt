@@ -4,9 +4,9 @@ use Rattle.std.proofs.Common.{ap, ◌∙◌, append_assoc}
 use Rattle.std.specs.Prelude.{⊤}
 use Rattle.std.proofs.lemmas.List.{append-nil}
 use Rattle.ca_net.specs.declared.trit.Trit.{Trit}
-use Rattle.ca_stil_form.specs.Form.{Token, Outcome, Got, Stuck, mapped, with_first, read_behind, read_one}
+use Rattle.ca_stil_form.specs.Form.{Token, Outcome, Got, Stuck, mapped, with_first, read_after, read_one}
 use Rattle.ca_stil_form.specs.Form.{read_fixed, read_each}
-use Rattle.ca_stil_form.specs.Grammar.{Piece, Form, and_then, behind, before, for_each, spelled_value, word}
+use Rattle.ca_stil_form.specs.Grammar.{Piece, Form, and_then, following, before, for_each, spelled_value, word}
 use Rattle.ca_stil_form.specs.Grammar.{fixed}
 use Rattle.ca_stil_form.specs.Tokens.{tokens_of}
 use Rattle.ca_stil_form.specs.Frame.{Member, Frame, load_members, unload_members, group_member, key_inputs}
@@ -22,7 +22,7 @@ use Rattle.ca_stil_read.specs.Plan.{flat_last_state, flat_first, flat_pair}
 use Rattle.ca_stil_read.specs.Plan.{read_step, read_steps, member_steps, bits_step, levels_step, pair_steps}
 use Rattle.ca_stil_read.specs.Plan.{read_pair, bits_of, levels_of}
 use Rattle.ca_stil_read.specs.Plan.{unload_steps, last_steps, first_steps}
-use Rattle.ca_stil_read.proofs.OnwardLemmas.{behind_onward, before_onward}
+use Rattle.ca_stil_read.proofs.OnwardLemmas.{after_onward, before_onward}
 
 pub joined_none : (read : Outcome Flat) → mapped (joined ([], [])) read ≡ read
 joined_none (Got value rest) = refl
@@ -41,9 +41,9 @@ due_step due steps tokens = by (read_fixed due tokens)
 
 pub due_level : {Value : Type 0} (piece : Piece) (form : Form Value) (view : Value → Flat) (steps : List Step)
     → ((tokens : List Token) → mapped view (form.read tokens) ≡ read_steps steps tokens)
-    → (tokens : List Token) → mapped view ((behind piece form).read tokens) ≡ read_steps (step.Due piece.tokens ∷ steps) tokens
+    → (tokens : List Token) → mapped view ((following piece form).read tokens) ≡ read_steps (step.Due piece.tokens ∷ steps) tokens
 due_level piece form view steps same tokens =
-    behind_onward view piece form tokens
+    after_onward view piece form tokens
     ∙ (λ j. onward (read_fixed piece.tokens tokens) (λ passed rest. same rest j))
     ∙ sym (due_step piece.tokens steps tokens)
 
@@ -57,8 +57,8 @@ pub record IsKind {Value : Type 0} (value_of : Member → Token → Option (List
 abbrev pub read_member : {Value : Type 0} → (Member → Token → Option (List Value)) → Member → List Token → Outcome (List Value)
 read_member value_of member tokens =
     onward (read_fixed (member_begins member).tokens tokens) (λ passed begun.
-    onward (read_one (value_of member) begun) (λ values behind.
-    mapped (λ passed. values) (read_fixed (tokens_of (codes ";")) behind)))
+    onward (read_one (value_of member) begun) (λ values following.
+    mapped (λ passed. values) (read_fixed (tokens_of (codes ";")) following)))
 
 -- the steps of a member read its values
 member_step : {Value : Type 0} (value_of : Member → Token → Option (List Value)) (kind : Member → Step) (put : List Value → Flat)
@@ -81,7 +81,7 @@ member_step {Value} value_of kind put is member steps tokens =
 
     by_word : (given : Outcome (List Value))
         → onward (mapped put given) (λ one rest. mapped (joined one) (read_steps (step.Due semicolon ∷ steps) rest))
-        ≡ onward (onward given (λ values behind. mapped (λ passed. values) (read_fixed semicolon behind)))
+        ≡ onward (onward given (λ values following. mapped (λ passed. values) (read_fixed semicolon following)))
         (λ values rest. mapped (joined (put values)) (read_steps steps rest))
     by_word (Got values rest) =
         ap (mapped (joined (put values))) (due_step semicolon steps rest) ∙ by_end values (read_fixed semicolon rest)
@@ -89,8 +89,8 @@ member_step {Value} value_of kind put is member steps tokens =
 
     by_begin : (given : Outcome ⊤)
         → onward given (λ passed. read_steps (kind member ∷ step.Due semicolon ∷ steps))
-        ≡ onward (onward given (λ passed begun. onward (read_one (value_of member) begun) (λ values behind.
-        mapped (λ passed. values) (read_fixed semicolon behind))))
+        ≡ onward (onward given (λ passed begun. onward (read_one (value_of member) begun) (λ values following.
+        mapped (λ passed. values) (read_fixed semicolon following))))
         (λ values rest. mapped (joined (put values)) (read_steps steps rest))
     by_begin (Got passed rest) =
         ap (λ (given : Outcome Flat). onward given (λ one rest. mapped (joined one) (read_steps (step.Due semicolon ∷ steps) rest))) (is.reads member rest)
@@ -99,11 +99,11 @@ member_step {Value} value_of kind put is member steps tokens =
 
 -- a member's form reads its values
 member_reads : {Value : Type 0} (allowed : List Value → Bool) (spelled : List Value → Token) (look : Token → List Value) (member : Member) (tokens : List Token)
-    → (behind (member_begins member) (before (word allowed spelled look) (fixed (codes ";")))).read tokens
+    → (following (member_begins member) (before (word allowed spelled look) (fixed (codes ";")))).read tokens
     ≡ read_member (λ member. spelled_value allowed spelled look) member tokens
 member_reads {Value} allowed spelled look member tokens =
-    sym (seen ((behind (member_begins member) (before (word allowed spelled look) (fixed (codes ";")))).read tokens))
-    ∙ behind_onward (λ values. values) (member_begins member) (before (word allowed spelled look) (fixed (codes ";"))) tokens
+    sym (seen ((following (member_begins member) (before (word allowed spelled look) (fixed (codes ";")))).read tokens))
+    ∙ after_onward (λ values. values) (member_begins member) (before (word allowed spelled look) (fixed (codes ";"))) tokens
     ∙ (λ j. onward (read_fixed (member_begins member).tokens tokens) (λ passed begun.
     before_onward (λ values. values) (word allowed spelled look) (fixed (codes ";")) begun j))
   where
@@ -134,7 +134,7 @@ each_level {Value} {Next} form value_of kind put is reads (member ∷ members) n
   where
     whole : Outcome (List Value) → Outcome Flat
     whole given = mapped (λ both. joined (put (flat both.0)) (view both.1))
-        (read_behind (mapped (λ both. both.0 ∷ both.1) (read_behind given (λ item. read_each (λ member. (form member).read) members))) (λ lists. (next lists).read))
+        (read_after (mapped (λ both. both.0 ∷ both.1) (read_after given (λ item. read_each (λ member. (form member).read) members))) (λ lists. (next lists).read))
 
     by_next : (values : List Value) (lists : List (List Value)) (given : Outcome Next)
         → mapped (λ both. joined (put (flat both.0)) (view both.1)) (with_first (values ∷ lists) given)
@@ -144,8 +144,8 @@ each_level {Value} {Next} form value_of kind put is reads (member ∷ members) n
 
     by_each : (values : List Value) (given : Outcome (List (List Value)))
         → mapped (λ both. joined (put (flat both.0)) (view both.1))
-        (read_behind (mapped (λ both. both.0 ∷ both.1) (with_first values given)) (λ lists. (next lists).read))
-        ≡ mapped (joined (put values)) (mapped (λ both. joined (put (flat both.0)) (view both.1)) (read_behind given (λ lists. (next (values ∷ lists)).read)))
+        (read_after (mapped (λ both. both.0 ∷ both.1) (with_first values given)) (λ lists. (next lists).read))
+        ≡ mapped (joined (put values)) (mapped (λ both. joined (put (flat both.0)) (view both.1)) (read_after given (λ lists. (next (values ∷ lists)).read)))
     by_each values (Got lists rest) = by_next values lists ((next (values ∷ lists)).read rest)
     by_each values (Stuck rest) = refl
 
@@ -203,18 +203,18 @@ captured_level : (members : List Member) (piece : Piece) (tokens : List Token)
 unfolding read_steps nothing
 captured_level members piece tokens =
     by (read_each (λ member. (levels_form member).read) members tokens)
-    ∙ levels_level members (λ lists. behind piece nothing) (λ done. ([], [])) (step.Due piece.tokens ∷ [])
+    ∙ levels_level members (λ lists. following piece nothing) (λ done. ([], [])) (step.Due piece.tokens ∷ [])
     (λ lists rest. due_level piece nothing (λ done. ([], [])) [] (λ after. refl) rest) tokens
   where
     by_end : (lists : List (List Trit)) (given : Outcome ⊤)
         → mapped flat_captured (mapped (λ (both : List (List Trit) × ⊤). both.0) (with_first lists given))
-        ≡ mapped (λ both. joined ([], flat both.0) ([], [])) (with_first lists (mapped (λ (both : ⊤ × ⊤). both.1) (read_behind given (λ done tokens. Got tt tokens))))
+        ≡ mapped (λ both. joined ([], flat both.0) ([], [])) (with_first lists (mapped (λ (both : ⊤ × ⊤). both.1) (read_after given (λ done tokens. Got tt tokens))))
     by_end lists (Got passed rest) = ap (λ (given : List Trit). Got ([], given) rest) (sym (append-nil (flat lists)))
     by_end lists (Stuck rest) = refl
 
     by : (given : Outcome (List (List Trit)))
-        → mapped flat_captured (mapped (λ (both : List (List Trit) × ⊤). both.0) (read_behind given (λ lists. read_fixed piece.tokens)))
-        ≡ mapped (λ both. joined ([], flat both.0) ([], [])) (read_behind given (λ lists. (behind piece nothing).read))
+        → mapped flat_captured (mapped (λ (both : List (List Trit) × ⊤). both.0) (read_after given (λ lists. read_fixed piece.tokens)))
+        ≡ mapped (λ both. joined ([], flat both.0) ([], [])) (read_after given (λ lists. (following piece nothing).read))
     by (Got lists rest) = by_end lists (read_fixed piece.tokens rest)
     by (Stuck rest) = refl
 
@@ -224,28 +224,28 @@ unload_part frame = before (for_each levels_form (unload_members frame.chains)) 
 
 abbrev expected_part : Frame → Form (List (List Trit) × List (List Trit))
 expected_part frame =
-    and_then (for_each levels_form (group_member key_outputs frame.outputs)) (λ expected. behind (last_ends frame) (unload_part frame))
+    and_then (for_each levels_form (group_member key_outputs frame.outputs)) (λ expected. following (last_ends frame) (unload_part frame))
 
 abbrev last_part : Frame → Form (List (List Bool) × (List (List Trit) × List (List Trit)))
 last_part frame = and_then (for_each bits_form (group_member key_inputs frame.inputs)) (λ last. expected_part frame)
 
 abbrev last_state_part : Frame → Form (List (List Bool) × (List (List Bool) × (List (List Trit) × List (List Trit))))
 last_state_part frame =
-    and_then (for_each bits_form (load_members frame.chains)) (λ state. behind (load_ends frame.chains) (last_part frame))
+    and_then (for_each bits_form (load_members frame.chains)) (λ state. following (load_ends frame.chains) (last_part frame))
 
 abbrev first_part : Frame → Form (List (List Bool) × (List (List Bool) × (List (List Bool) × (List (List Trit) × List (List Trit)))))
 first_part frame =
-    and_then (for_each bits_form (group_member key_inputs frame.inputs)) (λ first. behind (first_ends frame) (last_state_part frame))
+    and_then (for_each bits_form (group_member key_inputs frame.inputs)) (λ first. following (first_ends frame) (last_state_part frame))
 
 abbrev first_state_part : Frame → Form PairValues
 first_state_part frame =
-    and_then (for_each bits_form (load_members frame.chains)) (λ state. behind (load_ends frame.chains) (first_part frame))
+    and_then (for_each bits_form (load_members frame.chains)) (λ state. following (load_ends frame.chains) (first_part frame))
 
 expected_flat : (frame : Frame) (tokens : List Token)
     → mapped flat_expected ((expected_part frame).read tokens)
     ≡ read_steps (member_steps levels_step (group_member key_outputs frame.outputs) ++ unload_steps frame) tokens
 expected_flat frame tokens =
-    levels_level (group_member key_outputs frame.outputs) (λ expected. behind (last_ends frame) (unload_part frame)) flat_captured (unload_steps frame)
+    levels_level (group_member key_outputs frame.outputs) (λ expected. following (last_ends frame) (unload_part frame)) flat_captured (unload_steps frame)
     (λ expected rest. due_level (last_ends frame) (unload_part frame) flat_captured
     (member_steps levels_step (unload_members frame.chains) ++ step.Due (unload_ends frame.chains).tokens ∷ [])
     (captured_level (unload_members frame.chains) (unload_ends frame.chains)) rest) tokens
@@ -262,7 +262,7 @@ last_state_flat : (frame : Frame) (tokens : List Token)
     → mapped flat_last_state ((last_state_part frame).read tokens)
     ≡ read_steps (member_steps bits_step (load_members frame.chains) ++ last_steps frame) tokens
 last_state_flat frame tokens =
-    bits_level (load_members frame.chains) (λ state. behind (load_ends frame.chains) (last_part frame)) flat_last (last_steps frame)
+    bits_level (load_members frame.chains) (λ state. following (load_ends frame.chains) (last_part frame)) flat_last (last_steps frame)
     (λ state rest. due_level (load_ends frame.chains) (last_part frame) flat_last
     (member_steps bits_step (group_member key_inputs frame.inputs)
     ++ (member_steps levels_step (group_member key_outputs frame.outputs) ++ unload_steps frame)) (last_flat frame) rest) tokens
@@ -272,7 +272,7 @@ first_flat : (frame : Frame) (tokens : List Token)
     ≡ read_steps (member_steps bits_step (group_member key_inputs frame.inputs)
     ++ step.Due (first_ends frame).tokens ∷ (member_steps bits_step (load_members frame.chains) ++ last_steps frame)) tokens
 first_flat frame tokens =
-    bits_level (group_member key_inputs frame.inputs) (λ first. behind (first_ends frame) (last_state_part frame)) flat_last_state
+    bits_level (group_member key_inputs frame.inputs) (λ first. following (first_ends frame) (last_state_part frame)) flat_last_state
     (step.Due (first_ends frame).tokens ∷ (member_steps bits_step (load_members frame.chains) ++ last_steps frame))
     (λ first rest. due_level (first_ends frame) (last_state_part frame) flat_last_state
     (member_steps bits_step (load_members frame.chains) ++ last_steps frame) (last_state_flat frame) rest) tokens
@@ -280,7 +280,7 @@ first_flat frame tokens =
 first_state_flat : (frame : Frame) (tokens : List Token)
     → mapped flat_pair ((first_state_part frame).read tokens) ≡ read_steps (pair_steps frame) tokens
 first_state_flat frame tokens =
-    bits_level (load_members frame.chains) (λ state. behind (load_ends frame.chains) (first_part frame)) flat_first (first_steps frame)
+    bits_level (load_members frame.chains) (λ state. following (load_ends frame.chains) (first_part frame)) flat_first (first_steps frame)
     (λ state rest. due_level (load_ends frame.chains) (first_part frame) flat_first
     (member_steps bits_step (group_member key_inputs frame.inputs)
     ++ step.Due (first_ends frame).tokens ∷ (member_steps bits_step (load_members frame.chains) ++ last_steps frame)) (first_flat frame) rest) tokens

@@ -2,7 +2,7 @@
 use Rattle.std.proofs.Common.{◌≡◌, ℕ, ◌==◌, true, false, not, subst, ◌&&◌, List, [], ◌∷◌, map, length, codes}
 use Rattle.std.proofs.Common.{Option, Ok, Err, refl, sym, ap, ◌∙◌}
 use Rattle.ca_stil_form.specs.Form.{Token, Outcome, Got, Stuck, mapped, read_fixed, read_items}
-use Rattle.ca_stil_form.specs.Grammar.{Form, fixed, items_until, for_each, behind, and_then}
+use Rattle.ca_stil_form.specs.Grammar.{Form, fixed, items_until, for_each, following, and_then}
 use Rattle.ca_stil_form.specs.Reading.{at_end, whole}
 use Rattle.ca_stil_form.specs.Tokens.{tokens_of}
 use Rattle.ca_stil_form.specs.Frame.{Signal, Names, Scan, names_of, fits_in_order, has_some, key_inputs}
@@ -16,7 +16,7 @@ use Rattle.ca_stil_read.specs.Plan.{flat_pair}
 use Rattle.ca_stil_read.specs.Whole.{FlatRest, FlatStil, flat_stil, read_signals, read_inputs, read_outputs}
 use Rattle.ca_stil_read.specs.Whole.{read_scan, read_groups}
 use Rattle.ca_stil_read.specs.Whole.{read_cells, read_pairs, read_rest, read_all, nothing_after}
-use Rattle.ca_stil_read.proofs.OnwardLemmas.{behind_onward, and_then_onward, maybe_onward, mapped_twice}
+use Rattle.ca_stil_read.proofs.OnwardLemmas.{after_onward, and_then_onward, maybe_onward, mapped_twice}
 use Rattle.ca_stil_read.proofs.OnwardLemmas.{onward_twice, onward_mapped, onward_got}
 
 abbrev flat_rest : Rest → FlatRest
@@ -28,13 +28,13 @@ pairs_part inputs outputs scan cells = items_until (codes "}") (codes "}\n") (pa
 
 abbrev chains_part : Option Names → Option Names → Option Scan → Form Rest
 chains_part inputs outputs scan =
-    and_then (for_each chain_form (ports_of scan)) (λ cells. behind (pattern_begins scan) (pairs_part inputs outputs scan cells))
+    and_then (for_each chain_form (ports_of scan)) (λ cells. following (pattern_begins scan) (pairs_part inputs outputs scan cells))
 
 rest_flat : (inputs outputs : Option Names) (scan : Option Scan) (tokens : List Token)
     → mapped flat_rest ((rest_form inputs outputs scan).read tokens) ≡ read_rest inputs outputs scan tokens
 unfolding read_rest read_cells read_pairs
 rest_flat inputs outputs scan tokens =
-    behind_onward flat_rest (timing inputs outputs scan) (chains_part inputs outputs scan) tokens
+    after_onward flat_rest (timing inputs outputs scan) (chains_part inputs outputs scan) tokens
     ∙ (λ j. onward (read_fixed (timing inputs outputs scan).tokens tokens) (λ passed begun. chains begun j))
   where
     pairs : (cells : List (List ℕ)) (given : List Token)
@@ -44,22 +44,22 @@ rest_flat inputs outputs scan tokens =
         sym (mapped_twice (map flat_pair) (λ pairs. (cells, pairs)) (read_items (codes "}") (λ number. (pair_form (frame_of inputs outputs scan cells) number).read) 0 given))
 
     patterns : (cells : List (List ℕ)) (given : List Token)
-        → mapped (λ pairs. flat_rest (cells, pairs)) ((behind (pattern_begins scan) (items_until (codes "}") (codes "}\n") (pair_form (frame_of inputs outputs scan cells)) 0)).read given)
+        → mapped (λ pairs. flat_rest (cells, pairs)) ((following (pattern_begins scan) (items_until (codes "}") (codes "}\n") (pair_form (frame_of inputs outputs scan cells)) 0)).read given)
         ≡ onward (read_fixed (pattern_begins scan).tokens given) (λ passed beyond.
         mapped (λ pairs. (cells, pairs)) (read_pairs (frame_of inputs outputs scan cells) 0 beyond))
     patterns cells given =
-        behind_onward (λ pairs. flat_rest (cells, pairs)) (pattern_begins scan) (pairs_part inputs outputs scan cells) given
+        after_onward (λ pairs. flat_rest (cells, pairs)) (pattern_begins scan) (pairs_part inputs outputs scan cells) given
         ∙ (λ j. onward (read_fixed (pattern_begins scan).tokens given) (λ passed beyond. pairs cells beyond j))
 
     chains : (given : List Token)
-        → mapped flat_rest ((and_then (for_each chain_form (ports_of scan)) (λ cells. behind (pattern_begins scan)
+        → mapped flat_rest ((and_then (for_each chain_form (ports_of scan)) (λ cells. following (pattern_begins scan)
         (items_until (codes "}") (codes "}\n") (pair_form (frame_of inputs outputs scan cells)) 0))).read given)
-        ≡ onward (read_cells scan given) (λ cells behind.
-        onward (read_fixed (pattern_begins scan).tokens behind) (λ passed beyond.
+        ≡ onward (read_cells scan given) (λ cells following.
+        onward (read_fixed (pattern_begins scan).tokens following) (λ passed beyond.
         mapped (λ pairs. (cells, pairs)) (read_pairs (frame_of inputs outputs scan cells) 0 beyond)))
     chains given =
-        and_then_onward flat_rest (for_each chain_form (ports_of scan)) (λ cells. behind (pattern_begins scan) (pairs_part inputs outputs scan cells)) given
-        ∙ (λ j. onward (read_cells scan given) (λ cells behind. patterns cells behind j))
+        and_then_onward flat_rest (for_each chain_form (ports_of scan)) (λ cells. following (pattern_begins scan) (pairs_part inputs outputs scan cells)) given
+        ∙ (λ j. onward (read_cells scan given) (λ cells following. patterns cells following j))
 
 -- the groups, one after another
 scan_flat : {Seen : Type 0} (view : Option Scan → FlatRest → Seen) (signals : List Signal) (inputs outputs : Option Names) (tokens : List Token)
@@ -74,17 +74,17 @@ scan_flat view signals inputs outputs tokens =
 
 outputs_flat : {Seen : Type 0} (view : Option Names → Option Scan → FlatRest → Seen) (signals : List Signal) (inputs : Option Names) (tokens : List Token)
     → mapped (λ both. view both.0 both.1.0 (flat_rest both.1.1)) ((outputs_part signals inputs).read tokens)
-    ≡ onward (read_outputs signals tokens) (λ outputs behind. onward (read_scan signals behind) (λ scan rest.
+    ≡ onward (read_outputs signals tokens) (λ outputs following. onward (read_scan signals following) (λ scan rest.
     mapped (view outputs scan) (read_rest inputs outputs scan rest)))
 outputs_flat view signals inputs tokens =
     maybe_onward (λ both. view both.0 both.1.0 (flat_rest both.1.1)) (has_some false signals) key_outputs
     (group_form key_outputs (fits_in_order (names_of false signals))) (scan_part signals inputs) tokens
-    ∙ (λ j. onward (read_outputs signals tokens) (λ outputs behind. scan_flat (view outputs) signals inputs outputs behind j))
+    ∙ (λ j. onward (read_outputs signals tokens) (λ outputs following. scan_flat (view outputs) signals inputs outputs following j))
 
 inputs_flat : {Seen : Type 0} (view : Option Names → Option Names → Option Scan → FlatRest → Seen) (signals : List Signal) (tokens : List Token)
     → mapped (λ both. view both.0 both.1.0 both.1.1.0 (flat_rest both.1.1.1)) ((inputs_part signals).read tokens)
-    ≡ onward (read_inputs signals tokens) (λ inputs begun. onward (read_outputs signals begun) (λ outputs behind.
-    onward (read_scan signals behind) (λ scan rest. mapped (view inputs outputs scan) (read_rest inputs outputs scan rest))))
+    ≡ onward (read_inputs signals tokens) (λ inputs begun. onward (read_outputs signals begun) (λ outputs following.
+    onward (read_scan signals following) (λ scan rest. mapped (view inputs outputs scan) (read_rest inputs outputs scan rest))))
 inputs_flat view signals tokens =
     maybe_onward (λ both. view both.0 both.1.0 both.1.1.0 (flat_rest both.1.1.1)) (has_some true signals) key_inputs
     (group_form key_inputs (fits_in_order (names_of true signals))) (outputs_part signals) tokens
@@ -93,64 +93,64 @@ inputs_flat view signals tokens =
 groups_onward : {Seen : Type 0} (signals : List Signal) (tokens : List Token)
     (next : Option Names × (Option Names × Option Scan) → List Token → Outcome Seen)
     → onward (read_groups signals tokens) next
-    ≡ onward (read_inputs signals tokens) (λ inputs begun. onward (read_outputs signals begun) (λ outputs behind.
-    onward (read_scan signals behind) (λ scan. next (inputs, (outputs, scan)))))
+    ≡ onward (read_inputs signals tokens) (λ inputs begun. onward (read_outputs signals begun) (λ outputs following.
+    onward (read_scan signals following) (λ scan. next (inputs, (outputs, scan)))))
 unfolding read_groups
 groups_onward signals tokens next =
     onward_twice (read_inputs signals tokens) _ next
     ∙ (λ j. onward (read_inputs signals tokens) (λ inputs begun.
     (onward_twice (read_outputs signals begun) _ next
-    ∙ (λ k. onward (read_outputs signals begun) (λ outputs behind.
-    onward_mapped (λ scan. (inputs, (outputs, scan))) (read_scan signals behind) next k))) j))
+    ∙ (λ k. onward (read_outputs signals begun) (λ outputs following.
+    onward_mapped (λ scan. (inputs, (outputs, scan))) (read_scan signals following) next k))) j))
 
 signals_onward : {Seen : Type 0} (tokens : List Token) (next : List Signal → List Token → Outcome Seen)
     → onward (read_signals tokens) next
     ≡ onward (read_fixed (tokens_of (codes "STIL 1.0;\nSignals {\n")) tokens) (λ passed begun.
-    onward (read_items (codes "}") (λ number. signal_form.read) 0 begun) (λ signals behind.
-    onward (read_fixed (tokens_of (codes "SignalGroups {\n")) behind) (λ passed. next signals)))
+    onward (read_items (codes "}") (λ number. signal_form.read) 0 begun) (λ signals following.
+    onward (read_fixed (tokens_of (codes "SignalGroups {\n")) following) (λ passed. next signals)))
 unfolding read_signals
 signals_onward tokens next =
     onward_twice (read_fixed (tokens_of (codes "STIL 1.0;\nSignals {\n")) tokens) _ next
     ∙ (λ j. onward (read_fixed (tokens_of (codes "STIL 1.0;\nSignals {\n")) tokens) (λ passed begun.
     (onward_twice (read_items (codes "}") (λ number. signal_form.read) 0 begun) _ next
-    ∙ (λ k. onward (read_items (codes "}") (λ number. signal_form.read) 0 begun) (λ signals behind.
-    onward_mapped (λ passed. signals) (read_fixed (tokens_of (codes "SignalGroups {\n")) behind) next k))) j))
+    ∙ (λ k. onward (read_items (codes "}") (λ number. signal_form.read) 0 begun) (λ signals following.
+    onward_mapped (λ passed. signals) (read_fixed (tokens_of (codes "SignalGroups {\n")) following) next k))) j))
 
 -- the whole text
 pub all_flat : (tokens : List Token) → mapped flat_stil (stil_form.read tokens) ≡ read_all tokens
 unfolding read_all
 all_flat tokens =
-    behind_onward flat_stil (fixed (codes "STIL 1.0;\nSignals {\n")) (and_then (items_until (codes "}") (codes "}\n") (λ number. signal_form) 0) (λ signals.
-    behind (fixed (codes "SignalGroups {\n")) (inputs_part signals))) tokens
+    after_onward flat_stil (fixed (codes "STIL 1.0;\nSignals {\n")) (and_then (items_until (codes "}") (codes "}\n") (λ number. signal_form) 0) (λ signals.
+    following (fixed (codes "SignalGroups {\n")) (inputs_part signals))) tokens
     ∙ (λ j. onward (read_fixed (tokens_of (codes "STIL 1.0;\nSignals {\n")) tokens) (λ passed begun. signals begun j))
-    ∙ sym (signals_onward tokens (λ signals behind. onward (read_groups signals behind) (λ groups beyond.
+    ∙ sym (signals_onward tokens (λ signals following. onward (read_groups signals following) (λ groups beyond.
     mapped (view signals groups.0 groups.1.0 groups.1.1) (read_rest groups.0 groups.1.0 groups.1.1 beyond))))
   where
     view : List Signal → Option Names → Option Names → Option Scan → FlatRest → FlatStil
     view signals inputs outputs scan rest = (signals, (inputs, (outputs, (scan, rest))))
 
     groups : (signals : List Signal) (given : List Token)
-        → mapped (λ both. flat_stil (signals, both)) ((behind (fixed (codes "SignalGroups {\n")) (inputs_part signals)).read given)
-        ≡ onward (read_fixed (tokens_of (codes "SignalGroups {\n")) given) (λ passed behind.
-        onward (read_groups signals behind) (λ groups beyond.
+        → mapped (λ both. flat_stil (signals, both)) ((following (fixed (codes "SignalGroups {\n")) (inputs_part signals)).read given)
+        ≡ onward (read_fixed (tokens_of (codes "SignalGroups {\n")) given) (λ passed following.
+        onward (read_groups signals following) (λ groups beyond.
         mapped (view signals groups.0 groups.1.0 groups.1.1) (read_rest groups.0 groups.1.0 groups.1.1 beyond)))
     groups signals given =
-        behind_onward (λ both. flat_stil (signals, both)) (fixed (codes "SignalGroups {\n")) (inputs_part signals) given
-        ∙ (λ j. onward (read_fixed (tokens_of (codes "SignalGroups {\n")) given) (λ passed behind.
-        (inputs_flat (view signals) signals behind ∙ sym (groups_onward signals behind (λ groups beyond.
+        after_onward (λ both. flat_stil (signals, both)) (fixed (codes "SignalGroups {\n")) (inputs_part signals) given
+        ∙ (λ j. onward (read_fixed (tokens_of (codes "SignalGroups {\n")) given) (λ passed following.
+        (inputs_flat (view signals) signals following ∙ sym (groups_onward signals following (λ groups beyond.
         mapped (view signals groups.0 groups.1.0 groups.1.1) (read_rest groups.0 groups.1.0 groups.1.1 beyond)))) j))
 
     signals : (given : List Token)
         → mapped flat_stil ((and_then (items_until (codes "}") (codes "}\n") (λ number. signal_form) 0) (λ signals.
-        behind (fixed (codes "SignalGroups {\n")) (inputs_part signals))).read given)
-        ≡ onward (read_items (codes "}") (λ number. signal_form.read) 0 given) (λ signals behind.
-        onward (read_fixed (tokens_of (codes "SignalGroups {\n")) behind) (λ passed beyond.
+        following (fixed (codes "SignalGroups {\n")) (inputs_part signals))).read given)
+        ≡ onward (read_items (codes "}") (λ number. signal_form.read) 0 given) (λ signals following.
+        onward (read_fixed (tokens_of (codes "SignalGroups {\n")) following) (λ passed beyond.
         onward (read_groups signals beyond) (λ groups rest.
         mapped (view signals groups.0 groups.1.0 groups.1.1) (read_rest groups.0 groups.1.0 groups.1.1 rest))))
     signals given =
         and_then_onward flat_stil (items_until (codes "}") (codes "}\n") (λ number. signal_form) 0) (λ signals.
-        behind (fixed (codes "SignalGroups {\n")) (inputs_part signals)) given
-        ∙ (λ j. onward (read_items (codes "}") (λ number. signal_form.read) 0 given) (λ signals behind. groups signals behind j))
+        following (fixed (codes "SignalGroups {\n")) (inputs_part signals)) given
+        ∙ (λ j. onward (read_items (codes "}") (λ number. signal_form.read) 0 given) (λ signals following. groups signals following j))
 
 -- a text that is read to its end, or isn't
 pub record IsWholeRead (tokens : List Token) (seen : FlatStil) : Type 0 where
@@ -180,15 +180,15 @@ whole_stuck tokens rest is = by (stil_form.read tokens) refl (ap nothing_after (
         ap at_end read ∙ ap (λ (given : List Token). Err (length given)) same
 
 -- the signals are read
-pub signals_read : (tokens begun behind after : List Token) (signals : List Signal)
+pub signals_read : (tokens begun following after : List Token) (signals : List Signal)
     → read_fixed (tokens_of (codes "STIL 1.0;\nSignals {\n")) tokens ≡ Got tt begun
-    → read_items (codes "}") (λ number. signal_form.read) 0 begun ≡ Got signals behind
-    → read_fixed (tokens_of (codes "SignalGroups {\n")) behind ≡ Got tt after
+    → read_items (codes "}") (λ number. signal_form.read) 0 begun ≡ Got signals following
+    → read_fixed (tokens_of (codes "SignalGroups {\n")) following ≡ Got tt after
     → read_signals tokens ≡ Got signals after
 unfolding read_signals
-signals_read tokens begun behind after signals first items last =
+signals_read tokens begun following after signals first items last =
     onward_got (read_fixed (tokens_of (codes "STIL 1.0;\nSignals {\n")) tokens) _ tt begun first
-    ∙ onward_got (read_items (codes "}") (λ number. signal_form.read) 0 begun) _ signals behind items
+    ∙ onward_got (read_items (codes "}") (λ number. signal_form.read) 0 begun) _ signals following items
     ∙ ap (mapped (λ passed. signals)) last
 
 -- the groups are read
@@ -204,11 +204,11 @@ pub outputs_read : (signals : List Signal) (pool : Names) → pool ≡ names_of 
 outputs_read signals pool is tokens rest names read =
     subst (λ (given : Names). read_optional (not (length given == 0)) key_outputs (group_form key_outputs (fits_in_order given)).read tokens ≡ Got names rest) is read
 
-pub groups_read : (signals : List Signal) (tokens begun behind after : List Token) (inputs outputs : Option Names) (scan : Option Scan)
-    → read_inputs signals tokens ≡ Got inputs begun → read_outputs signals begun ≡ Got outputs behind → read_scan signals behind ≡ Got scan after
+pub groups_read : (signals : List Signal) (tokens begun following after : List Token) (inputs outputs : Option Names) (scan : Option Scan)
+    → read_inputs signals tokens ≡ Got inputs begun → read_outputs signals begun ≡ Got outputs following → read_scan signals following ≡ Got scan after
     → read_groups signals tokens ≡ Got (inputs, (outputs, scan)) after
 unfolding read_groups
-groups_read signals tokens begun behind after inputs outputs scan first second third =
+groups_read signals tokens begun following after inputs outputs scan first second third =
     onward_got (read_inputs signals tokens) _ inputs begun first
-    ∙ onward_got (read_outputs signals begun) _ outputs behind second
+    ∙ onward_got (read_outputs signals begun) _ outputs following second
     ∙ ap (mapped (λ scan. (inputs, (outputs, scan)))) third

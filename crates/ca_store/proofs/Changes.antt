@@ -10,10 +10,10 @@ use Rattle.ca_store.specs.Writing.{SetsOne, ChangesOnly, WritesOn, MayWrite}
 sets_again : (before mid : Files) (mid_files new : Option Files) (name : List ℕ) (one two : Option (List ℕ))
     → SetsOne before mid_files name one → mid_files ≡ Some mid → SetsOne mid new name two → SetsOne before new name two
 sets_again before mid mid_files new name one two first is_mid second =
-    let same : first.after ≡ mid = same_files first.after mid (sym first.told ∙ is_mid) in
+    let same : first.after ≡ mid = same_files first.after mid (sym first.reported ∙ is_mid) in
     record {
       after = second.after;
-      told = second.told;
+      reported = second.reported;
       set = second.set;
       others = λ other not_name. second.others other not_name ∙ ap (λ (t : Files). t other) (sym same)
           ∙ first.others other not_name;
@@ -26,24 +26,24 @@ sets_again before mid mid_files new name one two first is_mid second =
 pub writes_more : (old mid new : Option Files) (was now : Opened) (name bytes piece : List ℕ) (done n : ℕ)
     → piece ≡ drop done bytes
     → ChangesOnly old mid name (Some (take done bytes))
-    → ((told : Files) → old ≡ Some told → was ≡ Writing name)
+    → ((reported : Files) → old ≡ Some reported → was ≡ Writing name)
     → WritesOn n piece mid new was now
-    → ((told : Files) → old ≡ Some told → now ≡ Writing name) × ChangesOnly old new name (Some (take (done + n) bytes))
+    → ((reported : Files) → old ≡ Some reported → now ≡ Writing name) × ChangesOnly old new name (Some (take (done + n) bytes))
 writes_more old mid new was now name bytes piece done n rest so_far named wrote = (
-  λ told is_told.
-      let at = so_far.told told is_told in
-      (wrote.appends name (named told is_told) at.after at.told).still,
+  λ reported is_reported.
+      let at = so_far.reported reported is_reported in
+      (wrote.appends name (named reported is_reported) at.after at.reported).still,
   record {
-    told = λ before is_told.
-        let at = so_far.told before is_told in
-        let step = (wrote.appends name (named before is_told) at.after at.told).appends in
-        sets_again before at.after mid new name _ _ at at.told (record {
+    reported = λ before is_reported.
+        let at = so_far.reported before is_reported in
+        let step = (wrote.appends name (named before is_reported) at.after at.reported).appends in
+        sets_again before at.after mid new name _ _ at at.reported (record {
           after = step.after;
-          told = step.told;
+          reported = step.reported;
           set = step.set ∙ ap (appended (take n piece)) at.set ∙ ap Some grown;
           others = step.others;
         });
-    untold = λ none. wrote.untold (so_far.untold none);
+    unreported = λ none. wrote.unreported (so_far.unreported none);
   },
 )
   where
@@ -58,9 +58,9 @@ wrote_part old mid new name bytes done so_far same = inr (record {
   rest = drop done bytes;
   whole = take-append-drop done bytes;
   written = record {
-    told = λ before is_told.
-        let at = so_far.told before is_told in
-        record { after = at.after; told = same ∙ at.told; set = at.set; others = at.others };
-    untold = λ none. same ∙ so_far.untold none;
+    reported = λ before is_reported.
+        let at = so_far.reported before is_reported in
+        record { after = at.after; reported = same ∙ at.reported; set = at.set; others = at.others };
+    unreported = λ none. same ∙ so_far.unreported none;
   };
 })

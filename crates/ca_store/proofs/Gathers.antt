@@ -44,10 +44,10 @@ grown_by text grown into n m is_grown room =
 -- what was read of a file that was opened, where it is known
 pub read_of : (files mid_files : Option Files) (name text : List ℕ) (limit : ℕ) (opened : Opened) (is_whole : Bool)
     → OpensFile files name opened → mid_files ≡ files → IsReadUpTo is_whole limit text mid_files opened
-    → (told : Files) → files ≡ Some told → (bytes : List ℕ) × (told name ≡ Some bytes) × IsEnd is_whole limit text bytes
-read_of files mid_files name text limit opened is_whole opens same read told is_told =
-    let held = some_of (told name) (opens.there told is_told) in
-    (held.0, held.1, read name (opens.start told is_told) told (same ∙ is_told) held.0 held.1)
+    → (reported : Files) → files ≡ Some reported → (bytes : List ℕ) × (reported name ≡ Some bytes) × IsEnd is_whole limit text bytes
+read_of files mid_files name text limit opened is_whole opens same read reported is_reported =
+    let held = some_of (reported name) (opens.there reported is_reported) in
+    (held.0, held.1, read name (opens.start reported is_reported) reported (same ∙ is_reported) held.0 held.1)
   where
     some_of : (o : Option (List ℕ)) → IsSome o → (bytes : List ℕ) × (o ≡ Some bytes)
     some_of None there = cc

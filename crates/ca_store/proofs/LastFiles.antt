@@ -54,15 +54,15 @@ none_past files name place past =
     drop_all (x ∷ xs) = drop_all xs
 
 -- a file at the end is what its name stands for
-new_told : (files : List File) (file : File) → files_of (files ++ file ∷ []) file.name ≡ Some file.bytes
-new_told [] file = rw (equal file.name) refl
-new_told (f ∷ files) file = rw (new_told files file) refl
+new_reported : (files : List File) (file : File) → files_of (files ++ file ∷ []) file.name ≡ Some file.bytes
+new_reported [] file = rw (equal file.name) refl
+new_reported (f ∷ files) file = rw (new_reported files file) refl
 
 -- and other names stand for what they stood for
-others_told : (files : List File) (file : File) (other : List ℕ) → file.name ≢ other
+others_reported : (files : List File) (file : File) (other : List ℕ) → file.name ≢ other
     → files_of (files ++ file ∷ []) other ≡ files_of files other
-others_told [] file other unlike = rw (unequal file.name other unlike) refl
-others_told (f ∷ files) file other unlike = rw (others_told files file other unlike) refl
+others_reported [] file other unlike = rw (unequal file.name other unlike) refl
+others_reported (f ∷ files) file other unlike = rw (others_reported files file other unlike) refl
 
 -- the name of a file at the end
 last_of_new : (files : List File) (file : File) → last_name (files ++ file ∷ []) ≡ file.name
@@ -90,19 +90,19 @@ last_bytes (f ∷ []) = f.bytes
 last_bytes (f ∷ g ∷ files) = last_bytes (g ∷ files)
 
 -- the last file is what its name stands for
-last_told : (files : List File) → 0 < length files → files_of files (last_name files) ≡ Some (last_bytes files)
+last_reported : (files : List File) → 0 < length files → files_of files (last_name files) ≡ Some (last_bytes files)
 unfolding last_bytes
-last_told [] some = absurd (omega arith)
-last_told (f ∷ []) some = rw (equal f.name) refl
-last_told (f ∷ g ∷ files) some = rw (last_told (g ∷ files) (omega arith)) refl
+last_reported [] some = absurd (omega arith)
+last_reported (f ∷ []) some = rw (equal f.name) refl
+last_reported (f ∷ g ∷ files) some = rw (last_reported (g ∷ files) (omega arith)) refl
 
 -- what the last file's name stands for after it grew
-more_told : (files : List File) (more : List ℕ) → 0 < length files
+more_reported : (files : List File) (more : List ℕ) → 0 < length files
     → files_of (with_more files more) (last_name files) ≡ appended more (files_of files (last_name files))
-more_told [] more some = absurd (omega arith)
-more_told (f ∷ []) more some = rw (equal f.name) refl
-more_told (f ∷ g ∷ files) more some =
-    rw (more_told (g ∷ files) more (omega arith), last_told (g ∷ files) (omega arith)) refl
+more_reported [] more some = absurd (omega arith)
+more_reported (f ∷ []) more some = rw (equal f.name) refl
+more_reported (f ∷ g ∷ files) more some =
+    rw (more_reported (g ∷ files) more (omega arith), last_reported (g ∷ files) (omega arith)) refl
 
 -- other names stand for what they stood for
 others_kept : (files : List File) (more other : List ℕ) → other ≢ last_name files
@@ -122,17 +122,17 @@ creates_file files new name is_new =
     let file : File = record { name = name; bytes = [] } in
     record {
       in_writing = tt;
-      named = λ told is_told. ap (λ (f : List File). Writing (last_name f)) is_new ∙ ap Writing (last_of_new files file);
+      named = λ reported is_reported. ap (λ (f : List File). Writing (last_name f)) is_new ∙ ap Writing (last_of_new files file);
       emptied = record {
-        told = λ before is_told. record {
+        reported = λ before is_reported. record {
           after = files_of new;
-          told = refl;
-          set = ap (λ (f : List File). files_of f name) is_new ∙ new_told files file;
+          reported = refl;
+          set = ap (λ (f : List File). files_of f name) is_new ∙ new_reported files file;
           others = λ other not_name. ap (λ (f : List File). files_of f other) is_new
-              ∙ others_told files file other (λ same. not_name (sym same))
-              ∙ ap (λ (told : Files). told other) (same_Some (files_of files) before is_told);
+              ∙ others_reported files file other (λ same. not_name (sym same))
+              ∙ ap (λ (reported : Files). reported other) (same_Some (files_of files) before is_reported);
         };
-        untold = λ none. cc;
+        unreported = λ none. cc;
       };
     }
 
@@ -158,25 +158,25 @@ writes_on files new from n there is_new fits some = record {
   fits = fits;
   some = some;
   in_writing = tt;
-  appends = λ name was before is_told.
+  appends = λ name was before is_reported.
       let same : last_name files ≡ name = same_name (last_name files) name was in
-      let told : files_of files ≡ before = same_Some (files_of files) before is_told in
+      let reported : files_of files ≡ before = same_Some (files_of files) before is_reported in
       record {
         still = ap (λ (f : List File). Writing (last_name f)) is_new
             ∙ ap Writing (last_of_more files (take n from) ∙ same);
         appends = record {
           after = files_of new;
-          told = refl;
+          reported = refl;
           set = ap (files_of new) (sym same) ∙ ap (λ (f : List File). files_of f (last_name files)) is_new
-              ∙ more_told files (take n from) there
-              ∙ ap (λ (t : Files). appended (take n from) (t (last_name files))) told
+              ∙ more_reported files (take n from) there
+              ∙ ap (λ (t : Files). appended (take n from) (t (last_name files))) reported
               ∙ ap (λ (m : List ℕ). appended (take n from) (before m)) same;
           others = λ other not_name. ap (λ (f : List File). files_of f other) is_new
               ∙ others_kept files (take n from) other (λ like. not_name (like ∙ same))
-              ∙ ap (λ (t : Files). t other) told;
+              ∙ ap (λ (t : Files). t other) reported;
         };
       };
-  untold = λ none. cc;
+  unreported = λ none. cc;
 }
   where
     same_name : (a b : List ℕ) → Writing a ≡ Writing b → a ≡ b

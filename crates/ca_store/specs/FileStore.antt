@@ -5,7 +5,7 @@ use Rattle.ca_store.specs.declared.file_store.OpenFile.{OpenFile}
 use Rattle.ca_store.specs.declared.file_store.OpenFile.TheVariants.{Closed, InReading, InWriting}
 
 -- what is open, where no name and no place is known
-abbrev pub untold : {F : Type 0} → OpenFile F → Opened
-untold Closed = Nothing
-untold (InReading file) = Reading [] 0
-untold (InWriting file) = Writing []
+abbrev pub unreported : {F : Type 0} → OpenFile F → Opened
+unreported Closed = Nothing
+unreported (InReading file) = Reading [] 0
+unreported (InWriting file) = Writing []

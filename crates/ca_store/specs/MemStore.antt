@@ -46,8 +46,8 @@ calls_of store = record {
 }
 
 -- what the names stand for
-abbrev pub told_by : MemStore → Files
-told_by store = files_of store.shelf.files
+abbrev pub reported_by : MemStore → Files
+reported_by store = files_of store.shelf.files
 
 -- what is open
 abbrev pub opened_by : MemStore → Opened
@@ -61,7 +61,7 @@ faults_of store = store.faults
 pub record OpensExactly {T E : Type 0} (name : List ℕ) (result : Result T E)
     (old new : MemStore) : Type 0 where
   pub fails : IsErr result ↔
-      (Contains (settings_of old).fail (Open, (calls_of new).opens) ⊎ IsNone (told_by old name))
+      (Contains (settings_of old).fail (Open, (calls_of new).opens) ⊎ IsNone (reported_by old name))
   pub counted : calls_of new ≡ record (calls_of old) { opens = next_number (calls_of old).opens }
   pub settings : settings_of new ≡ settings_of old
   pub room : room_of new ≡ room_of old
@@ -70,7 +70,7 @@ pub record OpensExactly {T E : Type 0} (name : List ℕ) (result : Result T E)
 pub record ReadsExactly {E : Type 0} (into : List ℕ) (result : Result ℕ E) (old new : MemStore) : Type 0 where
   pub fails : IsErr result ↔ Contains (settings_of old).fail (Read, (calls_of new).reads)
   pub gives : IfOk result (λ n. (name : List ℕ) (place : ℕ) → opened_by old ≡ Reading name place
-      → ForSome (told_by old name) (λ bytes.
+      → ForSome (reported_by old name) (λ bytes.
       n ≡ min (min (length bytes - place) (length into)) (settings_of old).piece))
   pub counted : calls_of new ≡ record (calls_of old) { reads = next_number (calls_of old).reads }
   pub settings : settings_of new ≡ settings_of old
@@ -89,7 +89,7 @@ pub record CreatesExactly {T E : Type 0} (name : List ℕ) (result : Result T E)
   pub takes : OnOk result (room_of new ≡
       record { bytes = (room_of old).bytes - length name; creates = (room_of old).creates - 1 })
   pub stays : OnErr result (room_of new ≡ room_of old)
-  pub kept : OnErr result (told_by new ≡ told_by old)
+  pub kept : OnErr result (reported_by new ≡ reported_by old)
   pub counted : calls_of new ≡ record (calls_of old) { creates = next_number (calls_of old).creates }
   pub settings : settings_of new ≡ settings_of old
 

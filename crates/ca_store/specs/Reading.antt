@@ -13,7 +13,7 @@ pub record IsSoFar (name bytes : List ℕ) (opened : Opened) (text : List ℕ) :
 -- the same of a store whose files may be known, where this was open before and this is after
 abbrev pub IsReadSoFar : Option Files → Opened → Opened → List ℕ → Type 0
 IsReadSoFar files old new text = (name : List ℕ) → old ≡ Reading name 0
-    → ForSome files (λ told. ForSome (told name) (λ bytes. IsSoFar name bytes new text))
+    → ForSome files (λ reported. ForSome (reported name) (λ bytes. IsSoFar name bytes new text))
 
 -- a text that was read is the whole file, or the file is longer than the limit
 abbrev pub IsEnd : Bool → ℕ → List ℕ → List ℕ → Type 0
@@ -23,7 +23,7 @@ IsEnd false limit text bytes = limit < length bytes
 -- the same of a store whose files may be known, where this was open
 abbrev pub IsReadUpTo : Bool → ℕ → List ℕ → Option Files → Opened → Type 0
 IsReadUpTo is_whole limit text files old = (name : List ℕ) → old ≡ Reading name 0
-    → ForSome files (λ told. ForSome (told name) (IsEnd is_whole limit text))
+    → ForSome files (λ reported. ForSome (reported name) (IsEnd is_whole limit text))
 
 -- how a reading of the open file stops with a fault: what is open then, and the count of faults before and
 -- after it

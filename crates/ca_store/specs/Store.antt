@@ -43,11 +43,11 @@ pub record KeepsCount {T E : Type 0} (result : Result T E) (before after : ℕ) 
 
 -- where the files are known, one has this name
 abbrev pub MayHave : Option Files → List ℕ → Type 0
-MayHave files name = ForSome files (λ told. IsSome (told name))
+MayHave files name = ForSome files (λ reported. IsSome (reported name))
 
 -- the files are known, and none has this name
 abbrev pub Lacks : Option Files → List ℕ → Type 0
-Lacks files name = IsSomeAnd files (λ told. IsNone (told name))
+Lacks files name = IsSomeAnd files (λ reported. IsNone (reported name))
 
 -- an open fails and counts no fault at a name that the known files lack, and else it fails only where the
 -- count rises
@@ -77,7 +77,7 @@ pub record ReadsOn (n : ℕ) (into : List ℕ) (files : Option Files) (old new :
   pub fits : n ≤ length into
   pub in_reading : IsReading new
   pub next : (name : List ℕ) (place : ℕ) → old ≡ Reading name place
-      → ForSome files (λ told. ForSome (told name) (λ bytes. GivesNext n into name place bytes new))
+      → ForSome files (λ reported. ForSome (reported name) (λ bytes. GivesNext n into name place bytes new))
 
 -- bytes that are known, or not, after more were appended
 abbrev pub appended : List ℕ → Option (List ℕ) → Option (List ℕ)

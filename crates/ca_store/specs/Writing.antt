@@ -7,15 +7,15 @@ use Rattle.ca_store.specs.Store.{Files, Opened, Writing, IsWriting, appended}
 pub record SetsOne (before : Files) (new : Option Files) (name : List ℕ)
     (content : Option (List ℕ)) : Type 0 where
   pub after : Files
-  pub told : new ≡ Some after
+  pub reported : new ≡ Some after
   pub set : after name ≡ content
   pub others : (other : List ℕ) → other ≢ name → after other ≡ before other
 
 -- where the files are known, this name now stands for this and nothing else changed; files that aren't known
 -- stay so
 pub record ChangesOnly (old new : Option Files) (name : List ℕ) (content : Option (List ℕ)) : Type 0 where
-  pub told : ForSome old (λ before. SetsOne before new name content)
-  pub untold : old ≡ None → new ≡ None
+  pub reported : ForSome old (λ before. SetsOne before new name content)
+  pub unreported : old ≡ None → new ≡ None
 
 -- after the file of this name was created: it is empty, and open for writing
 pub record CreatesFile (old new : Option Files) (name : List ℕ) (opened : Opened) : Type 0 where
@@ -41,7 +41,7 @@ pub record WritesOn (n : ℕ) (from : List ℕ) (old new : Option Files) (was no
   pub in_writing : IsWriting now
   pub appends : (name : List ℕ) → was ≡ Writing name
       → ForSome old (λ before. AppendsTo before new name (take n from) now)
-  pub untold : old ≡ None → new ≡ None
+  pub unreported : old ≡ None → new ≡ None
 
 -- the file of this name holds some of the first bytes now, and nothing else changed
 pub record HoldsPart (old new : Option Files) (name bytes : List ℕ) : Type 0 where

@@ -1,7 +1,7 @@
 //! The files of the system. Nothing is said about what they hold.
 ghost use Rattle.std.specs.Prelude.{◌≡◌, ◌<◌, ◌^◌, None};
 ghost use Rattle.ca_store.specs.Store.{Nothing};
-ghost use Rattle.ca_store.specs.FileStore.{untold};
+ghost use Rattle.ca_store.specs.FileStore.{unreported};
 
 use crate::read_files::{FileIdentity, ReadFiles};
 use crate::store::{Failed, Store, next};
@@ -94,7 +94,7 @@ fn identity_of(file: &Metadata) -> Option<FileIdentity> {
 impl<R: Files> Store for FileStore<R> {
     ghost files = { λ _. None };
 
-    ghost opened = { λ store. untold store.file };
+    ghost opened = { λ store. unreported store.file };
 
     ghost faults = { λ store. store.faults };
 

@@ -51,7 +51,7 @@ impl MemStore {
     ghost use Rattle.std.specs.Prelude.{◌≡◌, ◌<◌, None, Some, IfOk, MatchOption};
     ghost use Rattle.ca_store.specs.Store.{Nothing};
     ghost use Rattle.ca_store.specs.Memory.{files_of};
-    ghost use Rattle.ca_store.specs.MemStore.{settings_of, room_of, calls_of, told_by, opened_by, faults_of};
+    ghost use Rattle.ca_store.specs.MemStore.{settings_of, room_of, calls_of, reported_by, opened_by, faults_of};
 
     /// A store of these files, with nothing open, and with all the memory that it ever takes. A call gives or
     /// takes up to `piece` bytes. `room` is the number of bytes that created names and written bytes may fill
@@ -66,7 +66,7 @@ impl MemStore {
     ) -> Result<Self, NoMemory>
         requires { 0 < piece }
 
-        ensures files { IfOk result (λ store. told_by store ≡ files_of files) }
+        ensures files { IfOk result (λ store. reported_by store ≡ files_of files) }
         ensures closed { IfOk result (λ store. opened_by store ≡ Nothing) }
         ensures faults { IfOk result (λ store. faults_of store ≡ 0) }
         ensures settings { IfOk result (λ store.
@@ -92,8 +92,8 @@ impl MemStore {
 
     /// What the file of this name holds, if there is one.
     pub fn bytes(&self, name: &str) -> Option<&[u8]>
-        ensures { MatchOption result (told_by self.now name.now ≡ None)
-            (λ bytes. told_by self.now name.now ≡ Some bytes.now) }
+        ensures { MatchOption result (reported_by self.now name.now ≡ None)
+            (λ bytes. reported_by self.now name.now ≡ Some bytes.now) }
     {
         match self.shelf.find(name.as_bytes()) {
             Some(file) => Some(self.shelf.bytes(file)),
@@ -114,11 +114,11 @@ impl Store for MemStore {
     ghost use Rattle.ca_store.specs.Store.{Nothing, IsReading, IsWriting, IsOpen, Rose, KeepsCount};
     ghost use Rattle.ca_store.specs.Store.{FailsAtMissing, OpensFile, ReadsOn};
     ghost use Rattle.ca_store.specs.Writing.{CreatesFile, MayEmpty, WritesOn};
-    ghost use Rattle.ca_store.specs.MemStore.{told_by, opened_by, faults_of};
+    ghost use Rattle.ca_store.specs.MemStore.{reported_by, opened_by, faults_of};
     ghost use Rattle.ca_store.specs.MemStore.{OpensExactly, ReadsExactly, CreatesExactly, WritesExactly};
     ghost use Rattle.ca_store.specs.MemStore.{ClosesExactly};
 
-    ghost files = { λ store. Some (told_by store) };
+    ghost files = { λ store. Some (reported_by store) };
 
     ghost opened = { λ store. opened_by store };
 
@@ -130,10 +130,10 @@ impl Store for MemStore {
         requires { opened_by self.old ≡ Nothing }
 
         ensures ok { OnOk result
-            (OpensFile (Some (told_by self.old)) name.now (opened_by self.new)) }
+            (OpensFile (Some (reported_by self.old)) name.now (opened_by self.new)) }
         ensures err { OnErr result (opened_by self.new ≡ Nothing) }
-        ensures kept { told_by self.new ≡ told_by self.old }
-        ensures cause { FailsAtMissing result (Some (told_by self.old)) name.now
+        ensures kept { reported_by self.new ≡ reported_by self.old }
+        ensures cause { FailsAtMissing result (Some (reported_by self.old)) name.now
             (faults_of self.old) (faults_of self.new) }
         ensures count { KeepsCount result (faults_of self.old) (faults_of self.new) }
         ensures exact { OpensExactly name.now result self.old self.new }
@@ -155,9 +155,9 @@ impl Store for MemStore {
         requires { IsReading (opened_by self.old) }
 
         ensures ok { IfOk result (λ n.
-            ReadsOn n into.new (Some (told_by self.old)) (opened_by self.old) (opened_by self.new)) }
+            ReadsOn n into.new (Some (reported_by self.old)) (opened_by self.old) (opened_by self.new)) }
         ensures err { OnErr result (opened_by self.new ≡ Nothing) }
-        ensures kept { told_by self.new ≡ told_by self.old }
+        ensures kept { reported_by self.new ≡ reported_by self.old }
         ensures cause { OnErr result (Rose (faults_of self.old) (faults_of self.new)) }
         ensures count { KeepsCount result (faults_of self.old) (faults_of self.new) }
         ensures exact { ReadsExactly into.old result self.old self.new }
@@ -185,11 +185,11 @@ impl Store for MemStore {
     fn create(&mut self, name: &str) -> Result<(), Failed>
         requires { opened_by self.old ≡ Nothing }
 
-        ensures ok { OnOk result (CreatesFile (Some (told_by self.old)) (Some (told_by self.new))
+        ensures ok { OnOk result (CreatesFile (Some (reported_by self.old)) (Some (reported_by self.new))
             name.now (opened_by self.new)) }
         ensures err { OnErr result (opened_by self.new ≡ Nothing) }
         ensures kept { OnErr result
-            (MayEmpty (Some (told_by self.old)) (Some (told_by self.new)) name.now) }
+            (MayEmpty (Some (reported_by self.old)) (Some (reported_by self.new)) name.now) }
         ensures cause { OnErr result (Rose (faults_of self.old) (faults_of self.new)) }
         ensures count { KeepsCount result (faults_of self.old) (faults_of self.new) }
         ensures exact { CreatesExactly name.now result self.old self.new }
@@ -211,10 +211,10 @@ impl Store for MemStore {
     fn write(&mut self, from: &[u8]) -> Result<usize, Failed>
         requires { IsWriting (opened_by self.old) }
 
-        ensures ok { IfOk result (λ n. WritesOn n from.now (Some (told_by self.old))
-            (Some (told_by self.new)) (opened_by self.old) (opened_by self.new)) }
+        ensures ok { IfOk result (λ n. WritesOn n from.now (Some (reported_by self.old))
+            (Some (reported_by self.new)) (opened_by self.old) (opened_by self.new)) }
         ensures err { OnErr result (opened_by self.new ≡ Nothing) }
-        ensures kept { OnErr result (told_by self.new ≡ told_by self.old) }
+        ensures kept { OnErr result (reported_by self.new ≡ reported_by self.old) }
         ensures cause { OnErr result (Rose (faults_of self.old) (faults_of self.new)) }
         ensures count { KeepsCount result (faults_of self.old) (faults_of self.new) }
         ensures exact { WritesExactly from.now result self.old self.new }
@@ -235,7 +235,7 @@ impl Store for MemStore {
         requires { IsOpen (opened_by self.old) }
 
         ensures closed { opened_by self.new ≡ Nothing }
-        ensures kept { told_by self.new ≡ told_by self.old }
+        ensures kept { reported_by self.new ≡ reported_by self.old }
         ensures cause { OnErr result (Rose (faults_of self.old) (faults_of self.new)) }
         ensures count { KeepsCount result (faults_of self.old) (faults_of self.new) }
         ensures exact { ClosesExactly result self.old self.new }

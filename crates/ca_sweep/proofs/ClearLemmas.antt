@@ -6,7 +6,7 @@ use Rattle.ca_net.specs.declared.trit.Trit.{Trit}
 use Rattle.ca_flat.specs.Chip.{Chip, cell_at, inputs_at, outputs_at, net_of, count_of}
 use Rattle.ca_flat.specs.Chain.{IsChain}
 use Rattle.ca_flips.specs.Static.{IsStatic}
-use Rattle.ca_flips.specs.Flips.{IsBehind}
+use Rattle.ca_flips.specs.Flips.{IsAfter}
 use Rattle.ca_view.specs.Linked.{Reads}
 use Rattle.ca_sweep.specs.Seen.{IsClear}
 use Rattle.ca_sweep.specs.Kept.{IsPassing, AreDefinitePins, AreOutputsClear, AreMarks, is_marked}
@@ -22,7 +22,7 @@ module _ (chip : Chip) (goods : ℕ → Trit) where
     passes_on from (next ∷ more) passing chain =
         let feeds = chain.0 in
         let first = passing feeds.instance (record { known = feeds.known; pin = feeds.pin; within = feeds.pin_within; on = feeds.reads }) in
-        let behind : IsBehind chip feeds.instance w = record {
+        let following : IsAfter chip feeds.instance w = record {
           known = known;
           pin = pin;
           within = within;
@@ -32,23 +32,23 @@ module _ (chip : Chip) (goods : ℕ → Trit) where
             leads = record { path = more; is_chain = chain.1 };
           };
         } in
-        (first.clear.all_static w behind, λ p p_within. first.clear.definite.read w p behind p_within)
+        (first.clear.all_static w following, λ p p_within. first.clear.definite.read w p following p_within)
 
   pub clear_of : (marks : List Bool) (u : ℕ) → AreMarks chip (IsPassing chip goods) marks → AreOutputsClear chip goods marks u (outputs_at chip u) → IsClear chip goods u
   clear_of marks u are clear = record {
-    all_static = λ w behind. (passed w behind).0;
+    all_static = λ w following. (passed w following).0;
     definite = record {
       outputs = λ output within. (clear output within).0;
-      read = λ w pin behind within. (passed w behind).1 pin within;
+      read = λ w pin following within. (passed w following).1 pin within;
     };
   }
     where
-      passed : (w : ℕ) → IsBehind chip u w → IsStatic (cell_at chip w) × AreDefinitePins chip goods w
-      passed w behind =
-          let out = behind.reached.is_output in
-          passes_on w behind.pin behind.known behind.within behind.reached.from behind.reached.leads.path
+      passed : (w : ℕ) → IsAfter chip u w → IsStatic (cell_at chip w) × AreDefinitePins chip goods w
+      passed w following =
+          let out = following.reached.is_output in
+          passes_on w following.pin following.known following.within following.reached.from following.reached.leads.path
           (λ reader reads. are.each reader ((clear out.output out.within).1 reader (subst (Reads chip reader) (sym out.on) reads)))
-          behind.reached.leads.is_chain
+          following.reached.leads.is_chain
 
 -- one instance more is marked, or not
 pub marks_put : (chip : Chip) (P : ℕ → Type 0) (old new : List Bool) (u : ℕ) (mark : Bool) → AreMarks chip P old → u < count_of chip → new ≡ set old u mark

@@ -62,19 +62,19 @@ pub memo_put : (chip : Chip) (goods : ℕ → Trit) (old new : Memo) (flips : Fl
     → new.instance ≡ old.instance → new.answers.items ≡ set old.answers.items code (Some seen) → IsSeen chip goods old.instance flips seen → IsMemo chip goods new
 memo_put chip goods old new flips seen code is code_is same new_is seen_is = record {
   room = ap length new_is ∙ length-set old.answers.items code (Some seen) ∙ is.room;
-  each = λ other told at. subst (λ u. IsSeen chip goods u other told) (sym same) (elim (cases_eq (code_of other.first other.second) code) [
+  each = λ other reported at. subst (λ u. IsSeen chip goods u other reported) (sym same) (elim (cases_eq (code_of other.first other.second) code) [
     | inl e ↦
         let flips_are = same_code other.first other.second flips.first flips.second (e ∙ code_is) in
         let small = code_small flips.first flips.second in
         let here : get_or new.answers.items (code_of other.first other.second) None ≡ Some seen =
         ap (λ list. get_or list (code_of other.first other.second) None) new_is ∙ ap (λ k. get_or (set old.answers.items code (Some seen)) k None) e
         ∙ get_or-set_same old.answers.items code (Some seen) None (let r = is.room in omega (arith, code_is)) in
-        let found : Some seen ≡ Some told = sym here ∙ at in
-        let is_told : seen ≡ told = cc in
-        subst (λ a. IsSeen chip goods old.instance (record { first = a; second = other.second }) told) (sym flips_are.0)
-        (subst (λ b. IsSeen chip goods old.instance (record { first = flips.first; second = b }) told) (sym flips_are.1)
-        (subst (IsSeen chip goods old.instance flips) is_told seen_is))
-    | inr apart ↦ is.each other told (sym (ap (λ list. get_or list (code_of other.first other.second) None) new_is
+        let found : Some seen ≡ Some reported = sym here ∙ at in
+        let is_reported : seen ≡ reported = cc in
+        subst (λ a. IsSeen chip goods old.instance (record { first = a; second = other.second }) reported) (sym flips_are.0)
+        (subst (λ b. IsSeen chip goods old.instance (record { first = flips.first; second = b }) reported) (sym flips_are.1)
+        (subst (IsSeen chip goods old.instance flips) is_reported seen_is))
+    | inr apart ↦ is.each other reported (sym (ap (λ list. get_or list (code_of other.first other.second) None) new_is
         ∙ get_or-set_other old.answers.items code (code_of other.first other.second) (Some seen) None apart) ∙ at)
   ]);
 }

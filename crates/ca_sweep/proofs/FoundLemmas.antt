@@ -18,7 +18,7 @@ use Rattle.ca_sweep.specs.declared.seen.Flips.{Flips}
 use Rattle.ca_sweep.specs.declared.seen.Seen.{Seen}
 use Rattle.ca_sweep.specs.declared.seen.Seen.TheVariants.{Undecided, Nowhere, At}
 use Rattle.ca_sweep.specs.Seen.{flipped_if, is_flipped, flipped_outputs, IsOppositeAt, IsSeenFrom, IsSeen}
-use Rattle.ca_sweep.specs.Found.{told, IsFound}
+use Rattle.ca_sweep.specs.Found.{reported, IsFound}
 use Rattle.ca_sweep.specs.Faulty.{AreWavesAt, AreFlipsOf}
 
 -- the good value, flipped where the known one is opposite, is the known one or the good one
@@ -63,7 +63,7 @@ module _ (swept_law : SweptAreFlipped) (filled_law : DetectedIsFilledIn) (flippe
       apart = flipped.apart;
       given = λ output within. flipped.given output within
           ∙ same_value (is_flipped flips output) (goods (output_net chip defect.instance output)) (wave_at outputs output).last (seen.clear.definite.outputs output within) (flips_are output within);
-      behind = flipped.behind;
+      following = flipped.following;
     }
 
     pub not_detected : (output : ℕ) → output < length chip.outputs → (IsOppositeAt goods seen.values chip.outputs output → ⊥) → DetectsAt chip defect pair (slice_index chip.outputs output) → ⊥
@@ -77,7 +77,7 @@ module _ (swept_law : SweptAreFlipped) (filled_law : DetectedIsFilledIn) (flippe
       exact = record {
         apart = filled.apart;
         given = λ output within. filled.given output within ∙ known_is (wave_at outputs output).last (goods (output_net chip defect.instance output)) (definite output within);
-        behind = filled.behind;
+        following = filled.following;
       }
 
       pub detected : (output : ℕ) → output < length chip.outputs → IsOppositeAt goods seen.values chip.outputs output → DetectsAt chip defect pair (slice_index chip.outputs output)
@@ -85,7 +85,7 @@ module _ (swept_law : SweptAreFlipped) (filled_law : DetectedIsFilledIn) (flippe
           is lasts (λ o o_within leads. faulty o o_within) exact (observed output within)).1 opposite
 
   pub found_by : (known : Bool) (seen : Seen) → (known ≡ true → (output : ℕ) → output < outputs_at chip defect.instance → (wave_at outputs output).last ≢ X)
-      → IsSeen chip goods defect.instance flips seen → IsFound chip defect pair (told known seen)
+      → IsSeen chip goods defect.instance flips seen → IsFound chip defect pair (reported known seen)
   found_by known Undecided definite seen = tt
   found_by known Nowhere definite seen = λ output within. not_detected None seen output within (seen.first output within)
   found_by false (At output) definite seen = tt

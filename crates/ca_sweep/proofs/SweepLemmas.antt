@@ -8,8 +8,8 @@ use Rattle.ca_net.specs.State.{value_at}
 use Rattle.ca_flat.specs.Chip.{Chip, cell_at, inputs_at, outputs_at, net_of, output_net, count_of, net_kind, Drives}
 use Rattle.ca_flat.specs.Chain.{IsReachedFrom}
 use Rattle.ca_flips.specs.Static.{EndsByLast}
-use Rattle.ca_flips.specs.Flips.{IsBehind, vector_at, KeepsGood, IsEvaluated, AreSwept}
-use Rattle.ca_flips.proofs.ReachLemmas.{reached_own, behind_reached, behind_other}
+use Rattle.ca_flips.specs.Flips.{IsAfter, vector_at, KeepsGood, IsEvaluated, AreSwept}
+use Rattle.ca_flips.proofs.ReachLemmas.{reached_own, after_reached, after_other}
 use Rattle.ca_flips.proofs.VectorLemmas.{vector_same}
 use Rattle.ca_view.specs.Linked.{IsLinked, IsPlaced}
 use Rattle.ca_sweep.specs.declared.seen.Flips.{Flips}
@@ -106,11 +106,11 @@ module _ (chip : Chip) (place_of number_of : ℕ → ℕ) (linked : IsLinked chi
       same_as : (v : ℕ) → v < count_of chip → place_of v ≡ place → v ≡ w
       same_as v v_known v_at = linked.apart v w (record { known = v_known; placed = (let p = placed.placed in omega (arith, at, v_at)) }) placed (v_at ∙ sym at)
 
-      behind : IsBehind chip u w
-      behind = let found = so_far.due place is_due in subst (IsBehind chip u) (same_as found.0 found.1.known found.2) found.1
+      following : IsAfter chip u w
+      following = let found = so_far.due place is_due in subst (IsAfter chip u) (same_as found.0 found.1.known found.2) found.1
 
       other : w ≡ u → ⊥
-      other = behind_other chip place_of linked.is_chip u known w behind
+      other = after_other chip place_of linked.is_chip u known w following
 
       others : (net : ℕ) → (IsOutputBelow chip w (outputs_at chip w) net → ⊥) → value_at new.values net ≡ value_at old.values net
       others = evaluated.written.changes.others
@@ -173,7 +173,7 @@ module _ (chip : Chip) (place_of number_of : ℕ → ℕ) (linked : IsLinked chi
                 known = reads.known;
                 pin = reads.pin;
                 within = reads.within;
-                reached = subst (λ n. IsReachedFrom chip u n) (out.on ∙ sym reads.on) (behind_reached chip u w out.output behind out.within);
+                reached = subst (λ n. IsReachedFrom chip u n) (out.on ∙ sym reads.on) (after_reached chip u w out.output following out.within);
               }, more.4)
         ];
       }

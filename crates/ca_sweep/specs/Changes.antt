@@ -7,7 +7,7 @@ use Rattle.ca_net.specs.State.{value_at}
 use Rattle.ca_defect.specs.Row.{vector_of}
 use Rattle.ca_flat.specs.Chip.{Chip, cell_at, inputs_at, outputs_at, net_of, output_net, count_of, net_kind}
 use Rattle.ca_flips.specs.Static.{EndsByLast}
-use Rattle.ca_flips.specs.Flips.{IsBehind, vector_at, KeepsGood, IsEvaluated}
+use Rattle.ca_flips.specs.Flips.{IsAfter, vector_at, KeepsGood, IsEvaluated}
 use Rattle.ca_view.specs.Linked.{Reads, IsPlaced}
 use Rattle.ca_sweep.specs.declared.values.Values.{Values}
 
@@ -105,4 +105,4 @@ pub record IsSweptTo (chip : Chip) (place_of : ℕ → ℕ) (u : ℕ) (goods out
   pub waiting : (w pin : ℕ) → w < count_of chip → (w ≡ u → ⊥) → place ≤ place_of w → pin < inputs_at chip w
       → (value_at values.values (net_of chip w pin) ≡ goods (net_of chip w pin))
       ⊎ IsDue values.due.items (place_of w)
-  pub due : (at : ℕ) → IsDue values.due.items at → (w : ℕ) × IsBehind chip u w × (place_of w ≡ at)
+  pub due : (at : ℕ) → IsDue values.due.items at → (w : ℕ) × IsAfter chip u w × (place_of w ≡ at)

@@ -9,11 +9,11 @@ use Rattle.ca_sweep.specs.declared.seen.Seen.TheVariants.{Undecided, Nowhere, At
 
 -- what is told where flips are seen so: that a detection was found only where all last values of the outputs
 -- of the defect's instance are known
-abbrev pub told : Bool → Seen → Seen
-told known Undecided = Undecided
-told known Nowhere = Nowhere
-told true (At output) = At output
-told false (At output) = Undecided
+abbrev pub reported : Bool → Seen → Seen
+reported known Undecided = Undecided
+reported known Nowhere = Nowhere
+reported true (At output) = At output
+reported false (At output) = Undecided
 
 -- the pair detects the defect at this observed output, counted from 0
 abbrev pub IsDetectedAt : Chip → ChipDefect → List Trit → ℕ → Type 0

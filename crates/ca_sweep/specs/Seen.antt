@@ -5,7 +5,7 @@ use Rattle.ca_net.specs.declared.trit.Trit.{Trit}
 use Rattle.ca_net.specs.declared.wave.Wave.{Wave}
 use Rattle.ca_defect.specs.Exposes.{opposite_of}
 use Rattle.ca_flat.specs.Chip.{Chip, output_net}
-use Rattle.ca_flips.specs.Flips.{AreStaticBehind, AreDefiniteBehind, AreSwept, IsOpposite}
+use Rattle.ca_flips.specs.Flips.{AreStaticAfter, AreDefiniteAfter, AreSwept, IsOpposite}
 use Rattle.ca_sweep.specs.declared.seen.Flips.{Flips}
 use Rattle.ca_sweep.specs.declared.seen.Seen.{Seen}
 use Rattle.ca_sweep.specs.declared.seen.Seen.TheVariants.{Undecided, Nowhere, At}
@@ -42,8 +42,8 @@ flipped_outputs chip u goods flips output =
 
 -- the instances behind u are static, and the good values are definite there
 pub record IsClear (chip : Chip) (goods : ℕ → Trit) (u : ℕ) : Type 0 where
-  pub all_static : AreStaticBehind chip u
-  pub definite : AreDefiniteBehind chip u goods
+  pub all_static : AreStaticAfter chip u
+  pub definite : AreDefiniteAfter chip u goods
 
 -- the values are opposite to the good ones at the net at a place of the list
 abbrev pub IsOppositeAt : (ℕ → Trit) → (ℕ → Trit) → List ℕ → ℕ → Type 0

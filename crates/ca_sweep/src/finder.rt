@@ -156,16 +156,16 @@ impl<'a> Finder<'a> {
         let outputs = self.faulty.respond(self.chip, defect, pins);
         let flips = self.flips_of(u, outputs.as_slice());
         let seen = self.see(u, flips);
-        told(seen, are_definite(outputs.as_slice()))
+        reported(seen, are_definite(outputs.as_slice()))
     }
 }
 
 ghost use Rattle.ca_sweep.specs.Faulty.{IsFlippedAt};
-ghost use Rattle.ca_sweep.specs.Found.{told};
+ghost use Rattle.ca_sweep.specs.Found.{reported};
 
 // What is told where flips are seen so, and all last values of the instance's outputs are known or not.
-fn told(seen: Seen, is_known: bool) -> Seen
-    ensures { result ≡ told is_known seen }
+fn reported(seen: Seen, is_known: bool) -> Seen
+    ensures { result ≡ reported is_known seen }
 {
     match (seen, is_known) {
         (Seen::At(_), false) => Seen::Undecided,

@@ -18,7 +18,7 @@ use Rattle.ca_verilog.specs.declared.table.Range.{Range}
 use Rattle.ca_verilog.specs.Bus.{is_inner, same_range, bus_of, is_twice, new_bus, declared_again, again_at}
 use Rattle.ca_verilog.specs.Bus.{declare}
 use Rattle.ca_verilog.proofs.DistinctLemmas.{or_false, same_name, differ}
-use Rattle.ca_verilog.proofs.PlaceLemmas.{got_map, place_told, found_at}
+use Rattle.ca_verilog.proofs.PlaceLemmas.{got_map, place_reported, found_at}
 use Rattle.ca_syntax.specs.Tree.{Declared, declared_as}
 use Rattle.ca_syntax.specs.Names.{names_in, is_declared, directs, is_directed, is_wire, direction_of}
 use Rattle.ca_syntax.specs.Names.{range_of}
@@ -113,7 +113,7 @@ pub place_seen : (name : List ℕ) (declared : List Declared) → is_declared na
     → (at : ℕ) × (slice_get (names_in declared) at ≡ Some name) × (place_of name (names_in declared) ≡ Some at)
 place_seen name declared is =
     let found : (at : ℕ) × (slice_get (names_in declared) at ≡ Some name) = found_at name (names_in declared) (names.has_declared name declared ∙ is) in
-    (found.0, found.1, place_told (names_in declared) (names.names_distinct declared) found.0 name found.1)
+    (found.0, found.1, place_reported (names_in declared) (names.names_distinct declared) found.0 name found.1)
 
 pub unbroken : {Value : Type 0} (broken : Bool) (kind : VerilogKind) (next total : Result Value VerilogKind) → broken ≡ false
     → next ≡ total → unless broken kind next ≡ total

@@ -17,7 +17,7 @@ use Rattle.ca_syntax.specs.Rules.{IsRight, IsRightDeclared, IsRightItem, IsRight
 use Rattle.ca_syntax.specs.TreeNetlist.{tree_netlist}
 use Rattle.ca_syntax.specs.Laws.{tree_bits, IsTreeOf}
 use Rattle.ca_syntax.specs.Example.{example_text, example_tree, example_netlist}
-use Rattle.ca_syntax.proofs.BehindLemmas.{OneByOne, each_behind}
+use Rattle.ca_syntax.proofs.AfterLemmas.{OneByOne, each_after}
 use Rattle.ca_syntax.proofs.NetlistLemmas.{right_read}
 
 text_whole : (scan_of example_text).flaw ≡ None
@@ -70,8 +70,8 @@ unfolding repeats
 tree_right = record {
   ports = refl;
   directed = All-cons IsDirected (codes "a") (codes "z" ∷ []) refl (All-cons IsDirected (codes "z") [] refl (All-nil IsDirected));
-  declared = each_behind (IsRightDeclared (ports_of example_tree)) (declarations example_tree.items) declared_right;
-  items = each_behind IsRightItem example_tree.items items_right;
+  declared = each_after (IsRightDeclared (ports_of example_tree)) (declarations example_tree.items) declared_right;
+  items = each_after IsRightItem example_tree.items items_right;
   instances = refl;
 }
 

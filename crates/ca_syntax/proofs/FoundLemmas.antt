@@ -49,21 +49,21 @@ read_as text last is = by_flaw (scan_of text).flaw (tokens_from text nothing (sc
     by_end : (it : Reading) (over : Bool) → is_end it.place ≡ over
         → elim over as (λ _. Result Reading VerilogFault) [ true ↦ Ok it | false ↦ Err (At (line_at (length text - 1) text) Syntax) ] ≡ Ok last
         → (it ≡ last) × (is_end it.place ≡ true)
-    by_end it true told is = (value_same it last is, told)
-    by_end it false told is = absurd cc
+    by_end it true reported is = (value_same it last is, reported)
+    by_end it false reported is = absurd cc
 
     by_flaw : (flaw : Option Flaw) (given : Result Reading VerilogFault) → (scan_of text).flaw ≡ flaw
         → tokens_from text nothing (scan_of text).tokens ≡ given → ended text (then_flaw text flaw given) ≡ Ok last → IsReadAs text last
-    by_flaw None (Ok it) whole told is =
+    by_flaw None (Ok it) whole reported is =
         let both = by_end it (is_end it.place) refl is in
         record {
           whole = whole;
-          read = told ∙ ap (λ (one : Reading). Ok one) both.0;
+          read = reported ∙ ap (λ (one : Reading). Ok one) both.0;
           over = ap (λ (one : Reading). is_end one.place) (sym both.0) ∙ both.1;
         }
-    by_flaw (Some flaw) (Ok it) whole told is = absurd cc
-    by_flaw None (Err fault) whole told is = absurd cc
-    by_flaw (Some flaw) (Err fault) whole told is = absurd cc
+    by_flaw (Some flaw) (Ok it) whole reported is = absurd cc
+    by_flaw None (Err fault) whole reported is = absurd cc
+    by_flaw (Some flaw) (Err fault) whole reported is = absurd cc
 
 end_place : (at : Place) → is_end at ≡ true → at ≡ place.End
 end_place place.End is = refl
@@ -88,8 +88,8 @@ netlist_read : (text : List ℕ) (raw : RawNetlist) → netlist_of text ≡ Ok r
 netlist_read text raw is = by (reading_of text) refl is
   where
     by : (given : Result Reading VerilogFault) → reading_of text ≡ given → limited_of given ≡ Ok raw → (last : Reading) × IsReadAs text last
-    by (Ok last) told read = (last, read_as text last told)
-    by (Err fault) told read = absurd cc
+    by (Ok last) reported read = (last, read_as text last reported)
+    by (Err fault) reported read = absurd cc
 
 -- a tree whose text is read is right
 pub tree_right : (text : List ℕ) (tree : Module) (raw : RawNetlist) → IsTextOf text tree → netlist_of text ≡ Ok raw → IsRight tree
@@ -102,16 +102,16 @@ netlist_of_tree : (text : List ℕ) (tree : Module) (raw : RawNetlist) → IsTex
 netlist_of_tree text tree raw of_tree right is = by (nat_lt MOST_BITS (tree_bits tree)) refl
   where
     same_netlist : (one other : RawNetlist) → ◌≡◌ {A = Result RawNetlist VerilogFault} (Ok one) (Ok other) → one ≡ other
-    same_netlist one other told = cc
+    same_netlist one other reported = cc
 
     never : (fault : VerilogFault) → ◌≡◌ {A = Result RawNetlist VerilogFault} (Err fault) (Ok raw) → ⊥
-    never fault told = cc
+    never fault reported = cc
 
     by : (many : Bool) → nat_lt MOST_BITS (tree_bits tree) ≡ many → IsTreeOf text raw tree
-    by true told =
-        absurd (never (TooManyNets (tree_bits tree)) (sym (large_refused text tree of_tree right (ltb-true MOST_BITS (tree_bits tree) told)) ∙ is))
-    by false told =
-        let few : tree_bits tree ≤ MOST_BITS = ltb-false MOST_BITS (tree_bits tree) told in
+    by true reported =
+        absurd (never (TooManyNets (tree_bits tree)) (sym (large_refused text tree of_tree right (ltb-true MOST_BITS (tree_bits tree) reported)) ∙ is))
+    by false reported =
+        let few : tree_bits tree ≤ MOST_BITS = ltb-false MOST_BITS (tree_bits tree) reported in
         record {
           spelled = of_tree;
           right = right;
@@ -138,8 +138,8 @@ no_count text (token ∷ tokens) it count is =
         → after_step (located (at_token text) (token_step text))
         (elim given as (λ _. Result Reading VerilogFault) [ Ok next ↦ Ok next | Err kind ↦ Err (at_token text token kind) ]) tokens ≡ Err (TooManyNets count)
         → ⊥
-    by (Ok next) later told = later next told
-    by (Err kind) later told = absurd cc
+    by (Ok next) later reported = later next reported
+    by (Err kind) later reported = absurd cc
 
 reading_counts : (text : List ℕ) (count : ℕ) → reading_of text ≡ Err (TooManyNets count) → ⊥
 reading_counts text count is = by_flaw (scan_of text).flaw (tokens_from text nothing (scan_of text).tokens) refl is
@@ -155,12 +155,12 @@ reading_counts text count is = by_flaw (scan_of text).flaw (tokens_from text not
 
     by_flaw : (flaw : Option Flaw) (given : Result Reading VerilogFault) → tokens_from text nothing (scan_of text).tokens ≡ given
         → ended text (then_flaw text flaw given) ≡ Err (TooManyNets count) → ⊥
-    by_flaw None (Ok it) told is = by_end it (is_end it.place) is
-    by_flaw (Some flaw) (Ok it) told is = absurd cc
-    by_flaw None (Err fault) told is =
-        no_count text (scan_of text).tokens nothing count (told ∙ ap (λ (one : VerilogFault). Err one) (inside fault is))
-    by_flaw (Some flaw) (Err fault) told is =
-        no_count text (scan_of text).tokens nothing count (told ∙ ap (λ (one : VerilogFault). Err one) (inside fault is))
+    by_flaw None (Ok it) reported is = by_end it (is_end it.place) is
+    by_flaw (Some flaw) (Ok it) reported is = absurd cc
+    by_flaw None (Err fault) reported is =
+        no_count text (scan_of text).tokens nothing count (reported ∙ ap (λ (one : VerilogFault). Err one) (inside fault is))
+    by_flaw (Some flaw) (Err fault) reported is =
+        no_count text (scan_of text).tokens nothing count (reported ∙ ap (λ (one : VerilogFault). Err one) (inside fault is))
 
 count_read : (text : List ℕ) (count : ℕ) → netlist_of text ≡ Err (TooManyNets count) → (last : Reading) × IsReadAs text last
 count_read text count is = by (reading_of text) refl is
@@ -169,8 +169,8 @@ count_read text count is = by (reading_of text) refl is
     inside fault is = cc
 
     by : (given : Result Reading VerilogFault) → reading_of text ≡ given → limited_of given ≡ Err (TooManyNets count) → (last : Reading) × IsReadAs text last
-    by (Ok last) told read = (last, read_as text last told)
-    by (Err fault) told read = absurd (reading_counts text count (told ∙ ap (λ (one : VerilogFault). Err one) (inside fault read)))
+    by (Ok last) reported read = (last, read_as text last reported)
+    by (Err fault) reported read = absurd (reading_counts text count (reported ∙ ap (λ (one : VerilogFault). Err one) (inside fault read)))
 
 -- a tree whose text is refused for the number of its bits is right
 pub large_right : (text : List ℕ) (tree : Module) (count : ℕ) → IsTextOf text tree → netlist_of text ≡ Err (TooManyNets count) → IsRight tree
@@ -183,23 +183,23 @@ large_tree : (text : List ℕ) (tree : Module) (count : ℕ) → IsTextOf text t
 large_tree text tree count of_tree right is = by (nat_lt MOST_BITS (tree_bits tree)) refl
   where
     same_count : (one other : ℕ) → ◌≡◌ {A = Result RawNetlist VerilogFault} (Err (TooManyNets one)) (Err (TooManyNets other)) → one ≡ other
-    same_count one other told = cc
+    same_count one other reported = cc
 
     never : (raw : RawNetlist) → ◌≡◌ {A = Result RawNetlist VerilogFault} (Ok raw) (Err (TooManyNets count)) → ⊥
-    never raw told = cc
+    never raw reported = cc
 
     by : (many : Bool) → nat_lt MOST_BITS (tree_bits tree) ≡ many → IsLargeTreeOf text count tree
-    by true told =
-        let large : MOST_BITS < tree_bits tree = ltb-true MOST_BITS (tree_bits tree) told in
+    by true reported =
+        let large : MOST_BITS < tree_bits tree = ltb-true MOST_BITS (tree_bits tree) reported in
         record {
           spelled = of_tree;
           right = right;
           many_bits = large;
           same = same_count (tree_bits tree) count (sym (large_refused text tree of_tree right large) ∙ is);
         }
-    by false told =
+    by false reported =
         absurd (never (tree_netlist tree)
-        (sym (right_read text tree of_tree right (ltb-false MOST_BITS (tree_bits tree) told)) ∙ is))
+        (sym (right_read text tree of_tree right (ltb-false MOST_BITS (tree_bits tree) reported)) ∙ is))
 
 -- a text that is refused for the number of its bits is the text of a right tree
 pub large_has_tree : (text : List ℕ) (count : ℕ) → netlist_of text ≡ Err (TooManyNets count) → (tree : Module) × IsLargeTreeOf text count tree

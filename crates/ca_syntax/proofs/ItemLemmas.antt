@@ -26,12 +26,12 @@ use Rattle.ca_verilog.specs.Table.{row_of}
 use Rattle.ca_syntax.specs.Tree.{Operand, Connection, Declaration, Assign, Instance, Declared, declared_as}
 use Rattle.ca_syntax.specs.Symbols.{Symbol, listed, name_symbols, keyword_of, range_symbols, operand_symbols}
 use Rattle.ca_syntax.specs.Symbols.{connection_symbols}
-use Rattle.ca_syntax.specs.Rules.{EachBehind, IsRightDeclared}
+use Rattle.ca_syntax.specs.Rules.{EachAfter, IsRightDeclared}
 use Rattle.ca_syntax.proofs.ReadLemmas.{symbol_step, Reads, nothing_read, then_more, joined}
 use Rattle.ca_syntax.proofs.DeclareLemmas.{unbroken, seen_buses, declare_right}
 use Rattle.ca_syntax.proofs.SeenLemmas.{seen_operand, seen_join, seen_instance, IsSeen}
-use Rattle.ca_syntax.proofs.OperandLemmas.{behind_operand, operand_read, one_symbol, IsSeenValue, hands_after}
-use Rattle.ca_syntax.proofs.OperandLemmas.{pins_of, behind_connections}
+use Rattle.ca_syntax.proofs.OperandLemmas.{after_operand, operand_read, one_symbol, IsSeenValue, hands_after}
+use Rattle.ca_syntax.proofs.OperandLemmas.{pins_of, after_connections}
 use Rattle.ca_syntax.proofs.OperandLemmas.{connections_read, HasInHand, in_hand}
 
 -- names that are declared further on
@@ -49,12 +49,12 @@ keyword_step direction.Output it = refl
 keyword_step direction.Inner it = refl
 
 -- where the first name of a declaration is
-abbrev pub behind_range : Direction → Option Range → Place
-behind_range way None = place.Declaration way
-behind_range way (Some range) = place.Declared way (Some range)
+abbrev pub after_range : Direction → Option Range → Place
+after_range way None = place.Declaration way
+after_range way (Some range) = place.Declared way (Some range)
 
 pub range_read : (way : Direction) (range : Option Range) (it : Reading)
-    → Reads (at_place (place.Declaration way) it) (range_symbols range) (at_place (behind_range way range) it)
+    → Reads (at_place (place.Declaration way) it) (range_symbols range) (at_place (after_range way range) it)
 unfolding steps_from lexeme_step row_of act
 range_read way None it = refl
 range_read way (Some range) it = refl
@@ -77,13 +77,13 @@ name_step way range name it buses is = ap (given_buses (at_place (place.Declared
 
 pub first_step : (way : Direction) (range : Option Range) (name : List ℕ) (it : Reading) (buses : List Bus)
     → declare way range name it.ports it.buses ≡ Ok buses
-    → symbol_step (Symbol.identifier name) (at_place (behind_range way range) it) ≡ Ok (at_place (place.DeclaredEnd way range) (with_buses buses it))
+    → symbol_step (Symbol.identifier name) (at_place (after_range way range) it) ≡ Ok (at_place (place.DeclaredEnd way range) (with_buses buses it))
 unfolding lexeme_step row_of act
 first_step way None name it buses is = ap (given_buses (at_place (place.DeclaredEnd way None) it)) is
 first_step way (Some range) name it buses is = ap (given_buses (at_place (place.DeclaredEnd way (Some range)) it)) is
 
 more_names : (whole : List Declared) (way : Direction) (range : Option Range) (names : List (List ℕ)) (before later : List Declared) (it : Reading)
-    → EachBehind (IsRightDeclared it.ports) whole → whole ≡ before ++ (map (declared_as way range) names ++ later)
+    → EachAfter (IsRightDeclared it.ports) whole → whole ≡ before ++ (map (declared_as way range) names ++ later)
     → Reads (at_place (place.DeclaredEnd way range) (with_declared before it)) (commas (map name_symbols names))
     (at_place (place.DeclaredEnd way range) (with_declared (before ++ map (declared_as way range) names) it))
 more_names whole way range [] before later it right is =
@@ -101,7 +101,7 @@ more_names whole way range (name ∷ names) before later it right is =
 
 -- a declaration is read
 pub declaration_read : (whole : List Declared) (here : Declaration) (before later : List Declared) (it : Reading)
-    → EachBehind (IsRightDeclared it.ports) whole
+    → EachAfter (IsRightDeclared it.ports) whole
     → whole ≡ before ++ (map (declared_as here.direction here.range) (here.first ∷ here.more) ++ later)
     → Reads (at_place place.Item (with_declared before it))
     (Symbol.other (keyword_of here.direction) ∷ range_symbols here.range ++ listed (map name_symbols (here.first ∷ here.more)) ++ Symbol.other lexeme.Semicolon ∷ [])
@@ -113,7 +113,7 @@ declaration_read whole here before later it right is =
     (Symbol.other lexeme.Semicolon ∷ []) _
     (at_place (place.DeclaredEnd here.direction here.range) (with_declared (before ++ map (declared_as here.direction here.range) (here.first ∷ here.more)) it)) _
     (joined (Symbol.other (keyword_of here.direction) ∷ range_symbols here.range) (listed (map name_symbols (here.first ∷ here.more))) _
-    (at_place (behind_range here.direction here.range) (with_declared before it)) _
+    (at_place (after_range here.direction here.range) (with_declared before it)) _
     (then_more _ _ _ _ _ (keyword_step here.direction (with_declared before it)) (range_read here.direction here.range (with_declared before it)))
     (then_more _ _ _ _ _ (first_step here.direction here.range here.first (with_declared before it) _
     (declare_right it.ports before here.direction here.range here.first (right before one (rest ++ later) is)))
@@ -128,7 +128,7 @@ unfolding lexeme_step row_of act
 assign_step it = refl
 
 pub equals_step : (left : Operand) (it : Reading)
-    → symbol_step (Symbol.other lexeme.Equals) (at_place (behind_operand side.Left left) it) ≡ Ok (at_place (place.Operand side.Right) (keep_left it))
+    → symbol_step (Symbol.other lexeme.Equals) (at_place (after_operand side.Left left) it) ≡ Ok (at_place (place.Operand side.Right) (keep_left it))
 unfolding lexeme_step row_of act
 equals_step (Operand.whole name) it = refl
 equals_step (Operand.bit name index) it = refl
@@ -145,7 +145,7 @@ with_sides whole here it =
 
 pub join_closes : (right : Operand) (it : Reading)
     → not (reader_width it.buses it.hand.left == reader_width it.buses it.hand.operand) ≡ false
-    → symbol_step (Symbol.other lexeme.Semicolon) (at_place (behind_operand side.Right right) it)
+    → symbol_step (Symbol.other lexeme.Semicolon) (at_place (after_operand side.Right right) it)
     ≡ Ok (at_place place.Item (record it { joins = it.joins ++ record { left = it.hand.left; right = it.hand.operand } ∷ [] }))
 unfolding lexeme_step row_of act
 join_closes (Operand.whole name) it equal = unbroken _ BadRange _ _ equal refl
@@ -154,7 +154,7 @@ join_closes (Operand.constant value) it equal = unbroken _ BadRange _ _ equal re
 
 join_step : (whole : List Declared) (here : Assign) (it : Reading)
     → reader_width it.buses (seen_operand whole here.left) ≡ reader_width it.buses (seen_operand whole here.right)
-    → symbol_step (Symbol.other lexeme.Semicolon) (at_place (behind_operand side.Right here.right) (with_sides whole here it))
+    → symbol_step (Symbol.other lexeme.Semicolon) (at_place (after_operand side.Right here.right) (with_sides whole here it))
     ≡ Ok (at_place place.Item (with_join whole here (with_sides whole here it)))
 join_step whole here it same = join_closes here.right (with_sides whole here it) (ap not (eq-eqb _ _ same))
 
@@ -166,9 +166,9 @@ pub assign_read : (whole : List Declared) (here : Assign) (it : Reading) → IsS
     (at_place place.Item (with_join whole here (with_sides whole here it)))
 assign_read whole here it left right same =
     joined (Symbol.other lexeme.Assign ∷ operand_symbols here.left ++ Symbol.other lexeme.Equals ∷ operand_symbols here.right) (Symbol.other lexeme.Semicolon ∷ []) _
-    (at_place (behind_operand side.Right here.right) (with_sides whole here it)) _
+    (at_place (after_operand side.Right here.right) (with_sides whole here it)) _
     (joined (Symbol.other lexeme.Assign ∷ operand_symbols here.left) (Symbol.other lexeme.Equals ∷ operand_symbols here.right) _
-    (at_place (behind_operand side.Left here.left) (with_operand (seen_operand whole here.left) it)) _
+    (at_place (after_operand side.Left here.left) (with_operand (seen_operand whole here.left) it)) _
     (then_more _ _ _ _ _ (assign_step it) (operand_read whole side.Left here.left it left))
     (then_more _ _ _ _ _ (equals_step here.left (with_operand (seen_operand whole here.left) it))
     (operand_read whole side.Right here.right (keep_left (with_operand (seen_operand whole here.left) it)) right)))
@@ -189,7 +189,7 @@ unfolding lexeme_step row_of act
 pins_step it = refl
 
 pins_over : (connections : List Connection) (it : Reading)
-    → symbol_step (Symbol.other lexeme.Close) (at_place (behind_connections connections) it) ≡ Ok (at_place place.InstanceEnd it)
+    → symbol_step (Symbol.other lexeme.Close) (at_place (after_connections connections) it) ≡ Ok (at_place place.InstanceEnd it)
 unfolding lexeme_step row_of act
 pins_over [] it = refl
 pins_over (on ∷ more) it = refl
@@ -228,7 +228,7 @@ instance_read whole here it new different seen =
     let hand : Hand = hands_after whole (hand_of here it.hand) here.connections in
     joined (Symbol.identifier here.cell ∷ Symbol.identifier here.name ∷ Symbol.other lexeme.Open ∷ listed (map connection_symbols here.connections))
     (Symbol.other lexeme.Close ∷ Symbol.other lexeme.Semicolon ∷ []) _
-    (at_place (behind_connections here.connections) (with_hand hand it)) _
+    (at_place (after_connections here.connections) (with_hand hand it)) _
     (then_more _ _ _ _ _ (cell_step here.cell it)
     (then_more _ _ _ _ _ (instance_step here.name (with_hand (record it.hand { cell = upper_case here.cell }) it) new)
     (then_more _ _ _ _ _ (pins_step (with_hand (hand_of here it.hand) it))

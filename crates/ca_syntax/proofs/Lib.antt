@@ -6,7 +6,7 @@ pub mod OperandLemmas
 pub mod ItemLemmas
 pub mod TreeLemmas
 pub mod NetlistLemmas
-pub mod BehindLemmas
+pub mod AfterLemmas
 pub mod ParseLemmas
 pub mod OnlyLemmas
 pub mod TreeOnlyLemmas

@@ -19,8 +19,8 @@ use Rattle.ca_syntax.specs.Names.{names_in, is_declared, directs, is_directed, i
 use Rattle.ca_syntax.specs.Names.{range_of}
 
 -- names, each once, after those seen
-abbrev pub once_behind : List (List ℕ) → List (List ℕ) → List (List ℕ)
-once_behind seen names = fold (λ seen name. with_name name seen) seen names
+abbrev pub once_after : List (List ℕ) → List (List ℕ) → List (List ℕ)
+once_after seen names = fold (λ seen name. with_name name seen) seen names
 
 -- the names that are declared
 abbrev pub all_names : List Declared → List (List ℕ)
@@ -28,12 +28,12 @@ all_names declared = map (λ (it : Declared). it.name) declared
 
 pub names_grow : (declared : List Declared) (it : Declared) → names_in (declared ++ it ∷ []) ≡ with_name it.name (names_in declared)
 names_grow declared it =
-    ap (once_behind []) (map-append (λ (it : Declared). it.name) declared (it ∷ []))
+    ap (once_after []) (map-append (λ (it : Declared). it.name) declared (it ∷ []))
     ∙ fold-append (λ seen name. with_name name seen) [] (all_names declared) (it.name ∷ [])
 
-pub names_more : (declared later : List Declared) → names_in (declared ++ later) ≡ once_behind (names_in declared) (all_names later)
+pub names_more : (declared later : List Declared) → names_in (declared ++ later) ≡ once_after (names_in declared) (all_names later)
 names_more declared later =
-    ap (once_behind []) (map-append (λ (it : Declared). it.name) declared later)
+    ap (once_after []) (map-append (λ (it : Declared). it.name) declared later)
     ∙ fold-append (λ seen name. with_name name seen) [] (all_names declared) (all_names later)
 
 with_distinct : (seen : List (List ℕ)) (name : List ℕ) → IsDistinct bytes_eq seen → IsDistinct bytes_eq (with_name name seen)
@@ -43,7 +43,7 @@ with_distinct seen name distinct = by (has_name name seen) refl
     by true is = distinct
     by false is = distinct_grown seen name distinct is
 
-once_distinct : (seen names : List (List ℕ)) → IsDistinct bytes_eq seen → IsDistinct bytes_eq (once_behind seen names)
+once_distinct : (seen names : List (List ℕ)) → IsDistinct bytes_eq seen → IsDistinct bytes_eq (once_after seen names)
 once_distinct seen [] distinct = distinct
 once_distinct seen (name ∷ names) distinct = once_distinct (with_name name seen) names (with_distinct seen name distinct)
 
@@ -59,7 +59,7 @@ regrouped true b c = refl
 regrouped false true c = refl
 regrouped false false c = refl
 
-has_once : (name : List ℕ) (seen names : List (List ℕ)) → has_name name (once_behind seen names) ≡ (has_name name seen || has_name name names)
+has_once : (name : List ℕ) (seen names : List (List ℕ)) → has_name name (once_after seen names) ≡ (has_name name seen || has_name name names)
 has_once name seen [] = by (has_name name seen)
   where
     by : (found : Bool) → found ≡ (found || false)
@@ -171,7 +171,7 @@ got_with names name other at is = by (has_name other names)
     by false = got_before names name other at is
 
 pub got_once : (seen names : List (List ℕ)) (name : List ℕ) (at : ℕ) → slice_get seen at ≡ Some name
-    → slice_get (once_behind seen names) at ≡ Some name
+    → slice_get (once_after seen names) at ≡ Some name
 got_once seen [] name at is = is
 got_once seen (other ∷ names) name at is = got_once (with_name other seen) names name at (got_with seen name other at is)
 

@@ -51,9 +51,9 @@ raw_each : (declared : List Declared) (listed : List (List ℕ)) → map raw_bus
 raw_each declared [] = refl
 raw_each declared (name ∷ listed) = ap (λ more. bus_in declared name ∷ more) (raw_each declared listed)
 
-width_told : (range : Option Range) → range_width (option_map raw_range range) ≡ width_in range
-width_told None = refl
-width_told (Some range) = refl
+width_reported : (range : Option Range) → range_width (option_map raw_range range) ≡ width_in range
+width_reported None = refl
+width_reported (Some range) = refl
 
 differs : (first name : List ℕ) (listed : List (List ℕ)) (at : ℕ) → AllByRecursion (λ other. bytes_eq first other ≡ false) listed
     → slice_get listed at ≡ Some name → bytes_eq first name ≡ false
@@ -83,7 +83,7 @@ first_seen declared (first ∷ listed) bits (suc at) name distinct is =
     omega (
       arith,
       some,
-      width_told (range_of first declared),
+      width_reported (range_of first declared),
       first_seen declared listed (bits + width_in (range_of first declared)) at name distinct.1 is,
     )
 

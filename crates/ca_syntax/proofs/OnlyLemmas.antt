@@ -40,13 +40,13 @@ use Rattle.ca_syntax.specs.Rules.{IsIndexOf}
 use Rattle.ca_syntax.specs.TreeNetlist.{port_of}
 use Rattle.ca_syntax.proofs.NameLemmas as names
 use Rattle.ca_syntax.proofs.ReadLemmas.{symbol_step, Reads}
-use Rattle.ca_syntax.proofs.BehindLemmas.{OneByOne}
+use Rattle.ca_syntax.proofs.AfterLemmas.{OneByOne}
 use Rattle.ca_syntax.proofs.DeclareLemmas.{seen_bus, seen_buses, bus_found, place_seen, declare_right}
 use Rattle.ca_syntax.proofs.SeenLemmas.{seen_operand, seen_use, IsFoundIn, found_in, operand_seen, IsSeen}
 use Rattle.ca_syntax.proofs.OperandLemmas as operands
-use Rattle.ca_syntax.proofs.OperandLemmas.{hand_after, pins_of, used_pins, behind_operand}
+use Rattle.ca_syntax.proofs.OperandLemmas.{hand_after, pins_of, used_pins, after_operand}
 use Rattle.ca_syntax.proofs.ItemLemmas as items
-use Rattle.ca_syntax.proofs.ItemLemmas.{commas, with_declared, behind_range}
+use Rattle.ca_syntax.proofs.ItemLemmas.{commas, with_declared, after_range}
 
 -- what follows symbols that are read is read
 pub rest_read : (before after : List Symbol) (it middle last : Reading) → Reads it before middle → Reads it (before ++ after) last
@@ -67,8 +67,8 @@ first_taken symbol more it last whole = by (symbol_step symbol it) refl (sym (st
   where
     by : (given : Step) → symbol_step symbol it ≡ given → after_step symbol_step given more ≡ Ok last
         → (next : Reading) × (symbol_step symbol it ≡ Ok next)
-    by (Ok next) is behind = (next, is)
-    by (Err kind) is behind = absurd cc
+    by (Ok next) is following = (next, is)
+    by (Err kind) is following = absurd cc
 
 -- what is let through breaks no rule
 pub passed : {Value : Type 0} (broken : Bool) (kind : VerilogKind) (next : Result Value VerilogKind) (value : Value)
@@ -97,10 +97,10 @@ declared_only : (name : List ℕ) (declared : List Declared) (found : ℕ) → b
 declared_only name declared found is = by (is_declared name declared) refl
   where
     by : (has : Bool) → is_declared name declared ≡ has → has ≡ true
-    by true told = refl
-    by false told =
+    by true reported = refl
+    by false reported =
         let none : ◌≡◌ {A = Option ℕ} None (Some found) =
-        sym (bus_found name declared ∙ names.no_place name (names_in declared) (names.has_declared name declared ∙ told)) ∙ is in
+        sym (bus_found name declared ∙ names.no_place name (names_in declared) (names.has_declared name declared ∙ reported)) ∙ is in
         absurd cc
 
 referred : (at : Side) (name : List ℕ) (it next : Reading) → symbol_step (Symbol.identifier name) (at_place (place.Operand at) it) ≡ Ok next
@@ -111,8 +111,8 @@ referred at name it next is = by (bus_of name it.buses) refl is
     by : (given : Option ℕ) → bus_of name it.buses ≡ given
         → elim given as (λ _. Step) [ None ↦ Err Undeclared | Some found ↦ Ok (at_place (place.NameEnd at) (with_operand (operand.Whole found) it)) ] ≡ Ok next
         → (found : ℕ) × (bus_of name it.buses ≡ Some found)
-    by None told taken = absurd cc
-    by (Some found) told taken = (found, told)
+    by None reported taken = absurd cc
+    by (Some found) reported taken = (found, reported)
 
 opened : (at : Side) (it next : Reading) (found : ℕ)
     → symbol_step (Symbol.other lexeme.OpenBracket) (at_place (place.NameEnd at) (with_operand (operand.Whole found) it)) ≡ Ok next
@@ -132,8 +132,8 @@ indexed at it next found index range ranged is =
     by : (inside : Bool) → has_index index range ≡ inside
         → given_operand (at_place (place.IndexEnd at) (with_operand (operand.Whole found) it)) (unless (not inside) BadRange (Ok (operand.Bit found index))) ≡ Ok next
         → inside ≡ true
-    by true told taken = refl
-    by false told taken = absurd cc
+    by true reported taken = refl
+    by false reported taken = absurd cc
 
 -- an operand that is read is right
 pub operand_only : (declared : List Declared) (on : Operand) (at : Side) (it last : Reading) (rest : List Symbol) → it.buses ≡ seen_buses declared
@@ -146,10 +146,10 @@ operand_only declared (Operand.bit name index) at it last rest is whole =
     let taken = first_taken _ _ _ _ whole in
     let found = referred at name it taken.0 taken.1 in
     let has : is_declared name declared ≡ true = declared_only name declared found.0 (ap (bus_of name) (sym is) ∙ found.1) in
-    let behind = next_read _ _ _ _ last (operands.name_step at name it found.0 found.1) whole in
-    let open_taken = first_taken _ _ _ _ behind in
+    let following = next_read _ _ _ _ last (operands.name_step at name it found.0 found.1) whole in
+    let open_taken = first_taken _ _ _ _ following in
     let range = opened at it open_taken.0 found.0 open_taken.1 in
-    let inside = next_read _ _ _ _ last (operands.open_step at it found.0 range.0 range.1) behind in
+    let inside = next_read _ _ _ _ last (operands.open_step at it found.0 range.0 range.1) following in
     let index_taken = first_taken _ _ _ _ inside in
     let right : has_index index range.0 ≡ true = indexed at it index_taken.0 found.0 index range.0 range.1 index_taken.1 in
     let known : IsFoundIn declared declared name = found_in declared declared [] name (sym (append-nil declared)) has in
@@ -167,7 +167,7 @@ value_begins (Operand.whole name) it rest = refl
 value_begins (Operand.bit name index) it rest = refl
 value_begins (Operand.constant value) it rest = refl
 
-connected : (on : Operand) (it next : Reading) → symbol_step (Symbol.other lexeme.Close) (at_place (behind_operand side.Pin on) it) ≡ Ok next
+connected : (on : Operand) (it next : Reading) → symbol_step (Symbol.other lexeme.Close) (at_place (after_operand side.Pin on) it) ≡ Ok next
     → is_vector it.buses it.hand.operand ≡ false
 unfolding lexeme_step row_of act
 connected (Operand.whole name) it next is = (passed (is_vector it.buses it.hand.operand) BadRange _ next is).0
@@ -189,8 +189,8 @@ value_only declared (Some on) it last rest is whole =
     let right : IsRightOperand declared on = operand_only declared on side.Pin it last (Symbol.other lexeme.Close ∷ rest) is begun in
     let seen = subst (λ (buses : List Bus). IsSeen declared buses on) (sym is)
     (operand_seen declared declared [] on (sym (append-nil declared)) right) in
-    let behind = rest_read (operand_symbols on) (Symbol.other lexeme.Close ∷ rest) _ _ last (operands.operand_read declared side.Pin on it seen) begun in
-    let taken = first_taken _ _ _ _ behind in
+    let following = rest_read (operand_symbols on) (Symbol.other lexeme.Close ∷ rest) _ _ last (operands.operand_read declared side.Pin on it seen) begun in
+    let taken = first_taken _ _ _ _ following in
     let scalar = connected on (with_operand (seen_operand declared on) it) taken.0 taken.1 in
     (right, scalar_only declared on right (ap (λ (buses : List Bus). is_vector buses (seen_operand declared on)) (sym is) ∙ scalar))
 
@@ -262,9 +262,9 @@ more_only declared (on ∷ more) hand it last rest is whole =
     let here = next_read _ _ _ _ last (operands.comma_step (with_hand hand it)) spread in
     let right = connection_only declared on (with_hand hand it) last (commas (map connection_symbols more) ++ rest) is here in
     let seen = subst (λ (buses : List Bus). operands.IsSeenValue declared buses on.value) (sym is) (value_right declared on.value right.1) in
-    let behind = rest_read (connection_symbols on) (commas (map connection_symbols more) ++ rest) _ _ last
+    let following = rest_read (connection_symbols on) (commas (map connection_symbols more) ++ rest) _ _ last
     (operands.connection_read declared on (with_hand hand it) right.0 seen) here in
-    one_more declared hand on more right (more_only declared more (hand_after declared hand on) it last rest is behind)
+    one_more declared hand on more right (more_only declared more (hand_after declared hand on) it last rest is following)
 
 begins_with : (on : Connection) (it : Reading) (rest : List Symbol)
     → steps_from symbol_step (at_place place.FirstPin it) (connection_symbols on ++ rest) ≡ steps_from symbol_step (at_place place.NextPin it) (connection_symbols on ++ rest)
@@ -281,9 +281,9 @@ connections_only declared (on ∷ more) hand it last rest is whole =
     let here = sym (begins_with on (with_hand hand it) (commas (map connection_symbols more) ++ rest)) ∙ spread in
     let right = connection_only declared on (with_hand hand it) last (commas (map connection_symbols more) ++ rest) is here in
     let seen = subst (λ (buses : List Bus). operands.IsSeenValue declared buses on.value) (sym is) (value_right declared on.value right.1) in
-    let behind = rest_read (connection_symbols on) (commas (map connection_symbols more) ++ rest) _ _ last
+    let following = rest_read (connection_symbols on) (commas (map connection_symbols more) ++ rest) _ _ last
     (operands.connection_read declared on (with_hand hand it) right.0 seen) here in
-    one_more declared hand on more right (more_only declared more (hand_after declared hand on) it last rest is behind)
+    one_more declared hand on more right (more_only declared more (hand_after declared hand on) it last rest is following)
 
 -- the range is the same
 range_only : (one other : Option Range) → same_range one other ≡ true → one ≡ other
@@ -306,8 +306,8 @@ undirected_only : (before : List Declared) (name : List ℕ) → not (is_inner (
 undirected_only before name is = by (is_directed name before) refl
   where
     by : (has : Bool) → is_directed name before ≡ has → has ≡ false
-    by false told = refl
-    by true told = absurd (true≢false (ap not (sym (names.directed_outer name before told)) ∙ is))
+    by false reported = refl
+    by true reported = absurd (true≢false (ap not (sym (names.directed_outer name before reported)) ∙ is))
 
 -- a first declaration of a name is none again
 fresh : (before : List Declared) (way : Direction) (range : Option Range) (name : List ℕ) → is_declared name before ≡ false
@@ -335,19 +335,19 @@ declare_only ports before way range name buses taken =
           | None ↦ Ok (seen_buses before ++ new_bus way range name ∷ [])
           | Some place ↦ again_at way range (seen_buses before) place (slice_get (seen_buses before) place)
         ] ≡ Ok buses → IsRightDeclared ports before (declared_as way range name)
-    by false is known behind = record {
+    by false is known following = record {
       of_header = known;
       once = fresh before way range name is;
       same_range = λ other. absurd (true≢false (sym other ∙ is));
     }
-    by true is known behind =
+    by true is known following =
         let found = place_seen name before is in
         let again : again_at way range (seen_buses before) found.0 (Some (seen_bus before name)) ≡ Ok buses =
         sym (ap (λ (place : Option ℕ). elim place as (λ _. Result (List Bus) VerilogKind) [
           | None ↦ Ok (seen_buses before ++ new_bus way range name ∷ [])
           | Some place ↦ again_at way range (seen_buses before) place (slice_get (seen_buses before) place)
         ]) (bus_found name before ∙ found.2)
-        ∙ ap (again_at way range (seen_buses before) found.0) (got_map (seen_bus before) (names_in before) found.0 name found.1)) ∙ behind in
+        ∙ ap (again_at way range (seen_buses before) found.0) (got_map (seen_bus before) (names_in before) found.0 name found.1)) ∙ following in
         let second = passed (is_twice way (seen_bus before name)) DoubleName _ buses again in
         let third = passed (not (same_range range (range_of name before))) BadRange _ buses second.1 in
         record {
@@ -367,7 +367,7 @@ unfolding lexeme_step row_of act
 named way range name it next is = given (at_place (place.DeclaredEnd way range) it) next (declare way range name it.ports it.buses) is
 
 first_named : (way : Direction) (range : Option Range) (name : List ℕ) (it next : Reading)
-    → symbol_step (Symbol.identifier name) (at_place (behind_range way range) it) ≡ Ok next
+    → symbol_step (Symbol.identifier name) (at_place (after_range way range) it) ≡ Ok next
     → (buses : List Bus) × (declare way range name it.ports it.buses ≡ Ok buses)
 unfolding lexeme_step row_of act
 first_named way None name it next is = given (at_place (place.DeclaredEnd way None) it) next (declare way None name it.ports it.buses) is
@@ -383,8 +383,8 @@ names_only way range (name ∷ listed) before it last rest whole =
     let taken = first_taken _ _ _ _ here in
     let buses = named way range name (with_declared before it) taken.0 taken.1 in
     let right = declare_only it.ports before way range name buses.0 buses.1 in
-    let behind = next_read _ _ _ _ last (items.name_step way range name (with_declared before it) _ (declare_right it.ports before way range name right)) here in
-    (right, names_only way range listed (before ++ declared_as way range name ∷ []) it last rest behind)
+    let following = next_read _ _ _ _ last (items.name_step way range name (with_declared before it) _ (declare_right it.ports before way range name right)) here in
+    (right, names_only way range listed (before ++ declared_as way range name ∷ []) it last rest following)
 
 -- a declaration that is read is right
 pub declaration_only : (here : Declaration) (before : List Declared) (it last : Reading) (rest : List Symbol)
@@ -402,5 +402,5 @@ declaration_only here before it last rest whole =
     let taken = first_taken _ _ _ _ named in
     let buses = first_named way range here.first (with_declared before it) taken.0 taken.1 in
     let right = declare_only it.ports before way range here.first buses.0 buses.1 in
-    let behind = next_read _ _ _ _ last (items.first_step way range here.first (with_declared before it) _ (declare_right it.ports before way range here.first right)) named in
-    (right, names_only way range here.more (before ++ declared_as way range here.first ∷ []) it last (Symbol.other lexeme.Semicolon ∷ rest) behind)
+    let following = next_read _ _ _ _ last (items.first_step way range here.first (with_declared before it) _ (declare_right it.ports before way range here.first right)) named in
+    (right, names_only way range here.more (before ++ declared_as way range here.first ∷ []) it last (Symbol.other lexeme.Semicolon ∷ rest) following)

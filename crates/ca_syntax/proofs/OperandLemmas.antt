@@ -35,10 +35,10 @@ use Rattle.ca_syntax.proofs.DeclareLemmas.{unbroken}
 use Rattle.ca_syntax.proofs.SeenLemmas.{seen_operand, seen_use, IsSeen}
 
 -- the place after an operand
-abbrev pub behind_operand : Side → Operand → Place
-behind_operand at (Operand.whole name) = place.NameEnd at
-behind_operand at (Operand.bit name index) = place.OperandEnd at
-behind_operand at (Operand.constant value) = place.OperandEnd at
+abbrev pub after_operand : Side → Operand → Place
+after_operand at (Operand.whole name) = place.NameEnd at
+after_operand at (Operand.bit name index) = place.OperandEnd at
+after_operand at (Operand.constant value) = place.OperandEnd at
 
 -- a declared name is taken
 pub name_step : (at : Side) (name : List ℕ) (it : Reading) (found : ℕ) → bus_of name it.buses ≡ Some found
@@ -81,7 +81,7 @@ one_symbol symbol it next is = then_more symbol [] it next next is (nothing_read
 
 -- an operand is read
 pub operand_read : (whole : List Declared) (at : Side) (on : Operand) (it : Reading) → IsSeen whole it.buses on
-    → Reads (at_place (place.Operand at) it) (operand_symbols on) (at_place (behind_operand at on) (with_operand (seen_operand whole on) it))
+    → Reads (at_place (place.Operand at) it) (operand_symbols on) (at_place (after_operand at on) (with_operand (seen_operand whole on) it))
 operand_read whole at (Operand.whole name) it seen = one_symbol _ _ _ (name_step at name it (port_of whole name) seen)
 operand_read whole at (Operand.bit name index) it (here, (range, ranged, inside)) =
     then_more _ _ _ _ _ (name_step at name it (port_of whole name) here)
@@ -138,7 +138,7 @@ pin_read pin it new =
 
 -- the `)` after an operand
 pub connect_step : (on : Operand) (it : Reading) → is_vector it.buses it.hand.operand ≡ false
-    → symbol_step (Symbol.other lexeme.Close) (at_place (behind_operand side.Pin on) it) ≡ Ok (at_place place.PinEnd (with_use (Some it.hand.operand) it))
+    → symbol_step (Symbol.other lexeme.Close) (at_place (after_operand side.Pin on) it) ≡ Ok (at_place place.PinEnd (with_use (Some it.hand.operand) it))
 unfolding lexeme_step row_of act
 connect_step (Operand.whole name) it scalar = unbroken (is_vector it.buses it.hand.operand) BadRange _ _ scalar refl
 connect_step (Operand.bit name index) it scalar = unbroken (is_vector it.buses it.hand.operand) BadRange _ _ scalar refl
@@ -155,7 +155,7 @@ value_read : (whole : List Declared) (value : Option Operand) (pin : List ℕ) (
 value_read whole None pin it seen = one_symbol _ _ _ (leave_step (with_hand (record it.hand { pin = upper_case pin }) it))
 value_read whole (Some on) pin it (seen, scalar) =
     joined (operand_symbols on) (Symbol.other lexeme.Close ∷ []) _
-    (at_place (behind_operand side.Pin on) (with_operand (seen_operand whole on) (with_hand (record it.hand { pin = upper_case pin }) it))) _
+    (at_place (after_operand side.Pin on) (with_operand (seen_operand whole on) (with_hand (record it.hand { pin = upper_case pin }) it))) _
     (value_begins on (with_hand (record it.hand { pin = upper_case pin }) it)
     ∙ operand_read whole side.Pin on (with_hand (record it.hand { pin = upper_case pin }) it) seen)
     (one_symbol _ _ _ (connect_step on (with_operand (seen_operand whole on) (with_hand (record it.hand { pin = upper_case pin }) it)) scalar))
@@ -219,16 +219,16 @@ unfolding steps_from lexeme_step row_of act
 first_begins on it = refl
 
 -- the place after the connections of an instance
-abbrev pub behind_connections : List Connection → Place
-behind_connections [] = place.FirstPin
-behind_connections (on ∷ more) = place.PinEnd
+abbrev pub after_connections : List Connection → Place
+after_connections [] = place.FirstPin
+after_connections (on ∷ more) = place.PinEnd
 
 -- the connections of an instance are read
 pub connections_read : (whole : List Declared) (connections : List Connection) (hand : Hand) (it : Reading)
     → repeats (used_pins hand.uses) (pins_of connections) ≡ false
     → All (λ (on : Connection). IsSeenValue whole it.buses on.value) connections
     → Reads (at_place place.FirstPin (with_hand hand it)) (listed (map connection_symbols connections))
-    (at_place (behind_connections connections) (with_hand (hands_after whole hand connections) it))
+    (at_place (after_connections connections) (with_hand (hands_after whole hand connections) it))
 connections_read whole [] hand it new seen = nothing_read _
 connections_read whole (on ∷ more) hand it new seen =
     let fresh = first_new (used_pins hand.uses) (upper_case on.pin) (pins_of more) new in

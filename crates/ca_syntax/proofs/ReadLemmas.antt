@@ -143,14 +143,14 @@ tokens_read text (token ∷ tokens) it last read =
     by : (given : Step) → symbol_step (symbol_at text token) it ≡ given
         → ((next : Reading) → Reads next (map (symbol_at text) tokens) last → tokens_from text next tokens ≡ Ok last)
         → after_step symbol_step given (map (symbol_at text) tokens) ≡ Ok last → tokens_from text it (token ∷ tokens) ≡ Ok last
-    by (Err kind) is later behind = absurd cc
-    by (Ok next) is later behind =
+    by (Err kind) is later following = absurd cc
+    by (Ok next) is later following =
         let taken : token_step text token it ≡ Ok next =
         sym (symbol_does (lexeme_at text token) (name_of token.kind (text_of token text)) it) ∙ is in
         steps_from-cons (located (at_token text) (token_step text)) it token tokens
         ∙ ap (λ (step : Result Reading VerilogFault). after_step (located (at_token text) (token_step text)) step tokens)
         (located_value (at_token text) (token_step text) token it next taken)
-        ∙ later next behind
+        ∙ later next following
 
 -- symbols are read as their tokens are
 pub symbols_read : (text : List ℕ) (tokens : List Token) (it last : Reading) → tokens_from text it tokens ≡ Ok last
@@ -171,7 +171,7 @@ symbols_read text (token ∷ tokens) it last read =
         → after_step (located (at_token text) (token_step text))
         (elim given as (λ _. Result Reading VerilogFault) [ Ok next ↦ Ok next | Err kind ↦ Err (at_token text token kind) ]) tokens ≡ Ok last
         → Reads it (symbol_at text token ∷ map (symbol_at text) tokens) last
-    by (Err kind) is later behind = absurd cc
-    by (Ok next) is later behind =
+    by (Err kind) is later following = absurd cc
+    by (Ok next) is later following =
         then_more (symbol_at text token) (map (symbol_at text) tokens) it next last
-        (symbol_does (lexeme_at text token) (name_of token.kind (text_of token text)) it ∙ is) (later next behind)
+        (symbol_does (lexeme_at text token) (name_of token.kind (text_of token text)) it ∙ is) (later next following)

@@ -12,7 +12,7 @@ use Rattle.ca_verilog.specs.declared.table.Place.{Place}
 use Rattle.ca_verilog.specs.declared.table.Range.{Range}
 use Rattle.ca_verilog.specs.Bus.{bus_of, range_at, range_of as bus_range}
 use Rattle.ca_verilog.specs.Reading.{Hand, Reading, has_index, width_in, width_of as reader_width}
-use Rattle.ca_verilog.proofs.PlaceLemmas.{got_map, place_told}
+use Rattle.ca_verilog.proofs.PlaceLemmas.{got_map, place_reported}
 use Rattle.ca_syntax.specs.Tree.{Operand, Connection, Assign, Instance, Declared}
 use Rattle.ca_syntax.specs.Names.{names_in, is_declared, range_of}
 use Rattle.ca_syntax.specs.Rules.{IsRightOperand, IsIndexOf, width_of}
@@ -65,7 +65,7 @@ found_in whole declared later name is has =
     ∙ ap (λ (listed : List (List ℕ)). slice_get listed found.0) (names.names_more declared later)
     ∙ names.got_once (names_in declared) (names.all_names later) name found.0 found.1 in
     let same : port_of whole name ≡ found.0 =
-    ap (λ (at : Option ℕ). unwrap_or at 0) (place_told (names_in whole) (names.names_distinct whole) found.0 name there) in
+    ap (λ (at : Option ℕ). unwrap_or at 0) (place_reported (names_in whole) (names.names_distinct whole) found.0 name there) in
     record {
       here = bus_found name declared ∙ found.2 ∙ ap (λ (at : ℕ). Some at) (sym same);
       there = ap (λ (at : ℕ). slice_get (names_in whole) at) same ∙ there;

@@ -23,7 +23,7 @@ use Rattle.ca_syntax.specs.Tree.{declared_by, declarations, assigned_by, assigns
 use Rattle.ca_syntax.specs.Symbols.{Symbol, listed, name_symbols, header_symbols, item_symbols}
 use Rattle.ca_syntax.specs.Symbols.{module_symbols}
 use Rattle.ca_syntax.specs.Names.{names_in, is_directed}
-use Rattle.ca_syntax.specs.Rules.{EachBehind, IsRightDeclared, IsRight, IsRightAssign, IsRightInstance}
+use Rattle.ca_syntax.specs.Rules.{EachAfter, IsRightDeclared, IsRight, IsRightAssign, IsRightInstance}
 use Rattle.ca_syntax.specs.Rules.{IsRightValue}
 use Rattle.ca_syntax.proofs.NameLemmas as names
 use Rattle.ca_syntax.proofs.ReadLemmas.{symbol_step, Reads, nothing_read, then_more, joined}
@@ -66,9 +66,9 @@ more_ports (name ∷ listed) seen it new =
     ∙ ap (λ (ports : List (List ℕ)). Ok (at_place place.PortEnd (with_ports ports it))) (append_assoc seen (name ∷ []) listed))
 
 -- the place after the header
-abbrev pub behind_header : Option (List (List ℕ)) → Place
-behind_header None = place.Header
-behind_header (Some names) = place.HeaderEnd
+abbrev pub after_header : Option (List (List ℕ)) → Place
+after_header None = place.Header
+after_header (Some names) = place.HeaderEnd
 
 pub header_opens : (it : Reading) → symbol_step (Symbol.other lexeme.Open) (at_place place.Header it) ≡ Ok (at_place place.FirstPort it)
 unfolding lexeme_step row_of act
@@ -83,13 +83,13 @@ unfolding lexeme_step row_of act
 header_closes it = refl
 
 pub header_over : (header : Option (List (List ℕ))) (it : Reading)
-    → symbol_step (Symbol.other lexeme.Semicolon) (at_place (behind_header header) it) ≡ Ok (at_place place.Item it)
+    → symbol_step (Symbol.other lexeme.Semicolon) (at_place (after_header header) it) ≡ Ok (at_place place.Item it)
 unfolding lexeme_step row_of act
 header_over None it = refl
 header_over (Some names) it = refl
 
 pub header_read : (header : Option (List (List ℕ))) → has_double (header_names header) ≡ false
-    → Reads (at_place place.Header nothing) (header_symbols header) (at_place (behind_header header) (with_ports (header_names header) nothing))
+    → Reads (at_place place.Header nothing) (header_symbols header) (at_place (after_header header) (with_ports (header_names header) nothing))
 header_read None new = nothing_read _
 header_read (Some []) new = then_more _ _ _ _ _ (header_opens nothing) (one_symbol _ _ _ (bare_closes nothing))
 header_read (Some (name ∷ listed)) new =
@@ -100,8 +100,8 @@ header_read (Some (name ∷ listed)) new =
     (one_symbol _ _ _ (header_closes (with_ports (name ∷ listed) nothing)))
 
 -- the reading after these items
-abbrev pub behind : Module → List Item → Hand → Reading
-behind tree before hand = state (declarations tree.items) (ports_of tree) (declarations before) (assigns before) (instances before) place.Item hand
+abbrev pub following : Module → List Item → Hand → Reading
+following tree before hand = state (declarations tree.items) (ports_of tree) (declarations before) (assigns before) (instances before) place.Item hand
 
 pub grown : {Part : Type 0} (give : Item → List Part) (before : List Item) (here : Item)
     → flat_map give before ++ give here ≡ flat_map give (before ++ here ∷ [])
@@ -111,7 +111,7 @@ grown give before here =
 moved : (tree : Module) (before : List Item) (here : Item) (hand : Hand) (declared : List Declared) (assigned : List Assign) (listed : List Instance)
     → declared ≡ declarations before ++ declared_by here → assigned ≡ assigns before ++ assigned_by here
     → listed ≡ instances before ++ instance_by here
-    → state (declarations tree.items) (ports_of tree) declared assigned listed place.Item hand ≡ behind tree (before ++ here ∷ []) hand
+    → state (declarations tree.items) (ports_of tree) declared assigned listed place.Item hand ≡ following tree (before ++ here ∷ []) hand
 moved tree before here hand declared assigned listed first second third = λ j.
     state (declarations tree.items) (ports_of tree) ((first ∙ grown declared_by before here) j) ((second ∙ grown assigned_by before here) j)
     ((third ∙ grown instance_by before here) j) place.Item hand
@@ -131,12 +131,12 @@ value_seen whole declared later (Some (Operand.bit name index)) is (right, scala
 value_seen whole declared later (Some (Operand.constant value)) is (right, scalar) = (tt, refl)
 
 -- a name that comes after others differs from them
-new_behind : (seen before after : List (List ℕ)) (here : List ℕ) → repeats seen (before ++ here ∷ after) ≡ false
+new_after : (seen before after : List (List ℕ)) (here : List ℕ) → repeats seen (before ++ here ∷ after) ≡ false
     → has_name here (seen ++ before) ≡ false
-new_behind seen [] after here new = ap (has_name here) (append-nil seen) ∙ (first_new seen here after new).0
-new_behind seen (first ∷ before) after here new =
+new_after seen [] after here new = ap (has_name here) (append-nil seen) ∙ (first_new seen here after new).0
+new_after seen (first ∷ before) after here new =
     ap (has_name here) (sym (append_assoc seen (first ∷ []) before))
-    ∙ new_behind (seen ++ first ∷ []) before after here (first_new seen first (before ++ here ∷ after) new).1
+    ∙ new_after (seen ++ first ∷ []) before after here (first_new seen first (before ++ here ∷ after) new).1
 
 pub placed_names : (whole : List Declared) (listed : List Instance)
     → map (λ (it : placed.Instance). it.name) (map (seen_instance whole) listed) ≡ map (λ (it : Instance). it.name) listed
@@ -146,17 +146,17 @@ placed_names whole (it ∷ listed) = ap (λ more. it.name ∷ more) (placed_name
 -- an item that is right given those before it, said for itself
 abbrev pub IsNextItem : Module → List Item → Item → Type 0
 IsNextItem tree before (Item.declaration here) =
-    EachBehind (IsRightDeclared (ports_of tree)) (declarations before ++ declared_by (Item.declaration here))
+    EachAfter (IsRightDeclared (ports_of tree)) (declarations before ++ declared_by (Item.declaration here))
 IsNextItem tree before (Item.assign here) = IsRightAssign (declarations before) here
 IsNextItem tree before (Item.instance here) = IsRightInstance (declarations before) here
     × (has_name here.name (map (λ (it : Instance). it.name) (instances before)) ≡ false)
 
 -- an item is read
 pub item_read : (tree : Module) (before after : List Item) (here : Item) (hand : Hand) → IsNextItem tree before here → tree.items ≡ before ++ here ∷ after
-    → (next : Hand) × Reads (behind tree before hand) (item_symbols here) (behind tree (before ++ here ∷ []) next)
+    → (next : Hand) × Reads (following tree before hand) (item_symbols here) (following tree (before ++ here ∷ []) next)
 item_read tree before after (Item.declaration here) hand rule is = (
   hand,
-  declaration_read (declarations before ++ declared_by (Item.declaration here)) here (declarations before) [] (behind tree before hand) rule
+  declaration_read (declarations before ++ declared_by (Item.declaration here)) here (declarations before) [] (following tree before hand) rule
       (ap (λ more. declarations before ++ more) (sym (append-nil (declared_by (Item.declaration here)))))
       ∙ ap (λ (next : Reading). Ok next) (moved tree before (Item.declaration here) hand _ _ _ refl (sym (append-nil (assigns before))) (sym (append-nil (instances before)))),
 )
@@ -164,14 +164,14 @@ item_read tree before after (Item.assign here) hand rule is =
     let whole : List Declared = declarations tree.items in
     let later : List Declared = declarations after in
     let parts : whole ≡ declarations before ++ later = parted declared_by tree.items before after (Item.assign here) is in (
-      (with_sides whole here (behind tree before hand)).hand,
-      assign_read whole here (behind tree before hand)
+      (with_sides whole here (following tree before hand)).hand,
+      assign_read whole here (following tree before hand)
           (operand_seen whole (declarations before) later here.left parts rule.left_side)
           (operand_seen whole (declarations before) later here.right parts rule.right_side)
           (width_seen whole (declarations before) later here.left parts rule.left_side ∙ rule.same_width
           ∙ sym (width_seen whole (declarations before) later here.right parts rule.right_side))
           ∙ ap (λ (next : Reading). Ok next)
-          ((λ j. record (behind tree before (with_sides whole here (behind tree before hand)).hand) {
+          ((λ j. record (following tree before (with_sides whole here (following tree before hand)).hand) {
             joins = sym (map-append (seen_join whole) (assigns before) (here ∷ [])) j;
           })
           ∙ moved tree before (Item.assign here) _ _ _ _ (sym (append-nil (declarations before))) refl (sym (append-nil (instances before)))),
@@ -182,33 +182,33 @@ item_read tree before after (Item.instance here) hand rule is =
     let parts : whole ≡ declarations before ++ later = parted declared_by tree.items before after (Item.instance here) is in
     let last : Hand = emptied (hands_after whole (hand_of here hand) here.connections) in (
       last,
-      instance_read whole here (behind tree before hand)
+      instance_read whole here (following tree before hand)
           (ap (has_name here.name) (placed_names whole (instances before)) ∙ rule.1) rule.0.different
           (All-weaker (λ (on : Connection). IsRightValue (declarations before) on.value) (λ (on : Connection). IsSeenValue whole (seen_buses (declarations before)) on.value)
           (λ on. value_seen whole (declarations before) later on.value parts) here.connections rule.0.values)
           ∙ ap (λ (next : Reading). Ok next)
-          ((λ j. record (behind tree before last) {
+          ((λ j. record (following tree before last) {
             instances = sym (map-append (seen_instance whole) (instances before) (here ∷ [])) j;
           })
           ∙ moved tree before (Item.instance here) last _ _ _ (sym (append-nil (declarations before))) (sym (append-nil (assigns before))) refl),
     )
 
 -- those at the front are right given each other too
-front_behind : {T : Type 0} (P : List T → T → Type 0) (list front more : List T) → list ≡ front ++ more → EachBehind P list → EachBehind P front
-front_behind P list front more is right = λ before here after parts.
+front_after : {T : Type 0} (P : List T → T → Type 0) (list front more : List T) → list ≡ front ++ more → EachAfter P list → EachAfter P front
+front_after P list front more is right = λ before here after parts.
     right before here (after ++ more) (is ∙ ap (λ one. one ++ more) parts ∙ append_assoc before (here ∷ after) more)
 
 -- the items of a right tree
 next_item : (tree : Module) (before after : List Item) (here : Item) → IsRight tree → tree.items ≡ before ++ here ∷ after
     → IsNextItem tree before here
 next_item tree before after (Item.declaration here) right is =
-    front_behind (IsRightDeclared (ports_of tree)) (declarations tree.items) (declarations before ++ declared_by (Item.declaration here)) (declarations after)
+    front_after (IsRightDeclared (ports_of tree)) (declarations tree.items) (declarations before ++ declared_by (Item.declaration here)) (declarations after)
     (parted declared_by tree.items before after (Item.declaration here) is
     ∙ sym (append_assoc (declarations before) (declared_by (Item.declaration here)) (declarations after))) right.declared
 next_item tree before after (Item.assign here) right is = right.items before (Item.assign here) after is
 next_item tree before after (Item.instance here) right is = (
   right.items before (Item.instance here) after is,
-  new_behind [] (map (λ (it : Instance). it.name) (instances before)) (map (λ (it : Instance). it.name) (instances after)) here.name
+  new_after [] (map (λ (it : Instance). it.name) (instances before)) (map (λ (it : Instance). it.name) (instances after)) here.name
       (subst (λ (listed : List (List ℕ)). repeats [] listed ≡ false)
       (ap (map (λ (it : Instance). it.name)) (parted instance_by tree.items before after (Item.instance here) is)
       ∙ map-append (λ (it : Instance). it.name) (instances before) (here ∷ instances after)) right.instances),
@@ -216,15 +216,15 @@ next_item tree before after (Item.instance here) right is = (
 
 -- items are read
 items_read : (tree : Module) (before items : List Item) (hand : Hand) → IsRight tree → tree.items ≡ before ++ items
-    → (last : Hand) × Reads (behind tree before hand) (flat_map item_symbols items) (behind tree (before ++ items) last)
+    → (last : Hand) × Reads (following tree before hand) (flat_map item_symbols items) (following tree (before ++ items) last)
 items_read tree before [] hand right is =
-    (hand, nothing_read _ ∙ ap (λ (all : List Item). Ok (behind tree all hand)) (sym (append-nil before)))
+    (hand, nothing_read _ ∙ ap (λ (all : List Item). Ok (following tree all hand)) (sym (append-nil before)))
 items_read tree before (here ∷ items) hand right is =
     let one = item_read tree before items here hand (next_item tree before items here right is) is in
     let rest = items_read tree (before ++ here ∷ []) items one.0 right (is ∙ sym (append_assoc before (here ∷ []) items)) in (
       rest.0,
-      joined (item_symbols here) (flat_map item_symbols items) _ (behind tree (before ++ here ∷ []) one.0) _ one.1
-          (rest.1 ∙ ap (λ (all : List Item). Ok (behind tree all rest.0)) (append_assoc before (here ∷ []) items)),
+      joined (item_symbols here) (flat_map item_symbols items) _ (following tree (before ++ here ∷ []) one.0) _ one.1
+          (rest.1 ∙ ap (λ (all : List Item). Ok (following tree all rest.0)) (append_assoc before (here ∷ []) items)),
     )
 
 port_directed : (name : List ℕ) (declared : List Declared) → is_directed name declared ≡ true → has_direction (seen_buses declared) name ≡ true
@@ -257,7 +257,7 @@ title_step name it = refl
 
 -- the reading of a whole tree
 abbrev pub tree_reading : Module → Hand → Reading
-tree_reading tree hand = at_place place.End (behind tree tree.items hand)
+tree_reading tree hand = at_place place.End (following tree tree.items hand)
 
 -- a right tree is read
 pub tree_read : (tree : Module) → IsRight tree → (last : Hand) × Reads nothing (module_symbols tree) (tree_reading tree last)
@@ -265,10 +265,10 @@ tree_read tree right =
     let items = items_read tree [] tree.items nothing.hand right refl in (
       items.0,
       joined (Symbol.other lexeme.Module ∷ Symbol.identifier tree.name ∷ header_symbols tree.header ++ Symbol.other lexeme.Semicolon ∷ flat_map item_symbols tree.items)
-          (Symbol.other lexeme.Endmodule ∷ []) _ (behind tree tree.items items.0) _
+          (Symbol.other lexeme.Endmodule ∷ []) _ (following tree tree.items items.0) _
           (joined (Symbol.other lexeme.Module ∷ Symbol.identifier tree.name ∷ header_symbols tree.header) (Symbol.other lexeme.Semicolon ∷ flat_map item_symbols tree.items) _
-          (at_place (behind_header tree.header) (with_ports (ports_of tree) nothing)) _
+          (at_place (after_header tree.header) (with_ports (ports_of tree) nothing)) _
           (then_more _ _ _ _ _ module_step (then_more _ _ _ _ _ (title_step tree.name nothing) (header_read tree.header right.ports)))
           (then_more _ _ _ _ _ (header_over tree.header (with_ports (ports_of tree) nothing)) items.1))
-          (one_symbol _ _ _ (end_step (behind tree tree.items items.0) (ports_directed (declarations tree.items) (ports_of tree) right.directed))),
+          (one_symbol _ _ _ (end_step (following tree tree.items items.0) (ports_directed (declarations tree.items) (ports_of tree) right.directed))),
     )

@@ -28,19 +28,19 @@ use Rattle.ca_syntax.specs.Names.{names_in, is_declared, is_directed}
 use Rattle.ca_syntax.specs.Rules.{IsRightDeclared, IsRight, IsRightItem, IsRightAssign, IsRightInstance}
 use Rattle.ca_syntax.proofs.NameLemmas as names
 use Rattle.ca_syntax.proofs.ReadLemmas.{symbol_step, Reads}
-use Rattle.ca_syntax.proofs.BehindLemmas.{OneByOne, each_behind}
+use Rattle.ca_syntax.proofs.AfterLemmas.{OneByOne, each_after}
 use Rattle.ca_syntax.proofs.DeclareLemmas.{seen_bus, seen_buses, bus_found, place_seen, undirected}
 use Rattle.ca_syntax.proofs.SeenLemmas.{seen_operand, operand_seen, width_seen, IsSeen}
-use Rattle.ca_syntax.proofs.OperandLemmas.{operand_read, behind_operand, first_new}
+use Rattle.ca_syntax.proofs.OperandLemmas.{operand_read, after_operand, first_new}
 use Rattle.ca_syntax.proofs.ItemLemmas as items
 use Rattle.ca_syntax.proofs.ItemLemmas.{commas, with_sides, hand_of}
 use Rattle.ca_syntax.proofs.TreeLemmas as trees
-use Rattle.ca_syntax.proofs.TreeLemmas.{behind, behind_header, IsNextItem, parted, placed_names, grown}
+use Rattle.ca_syntax.proofs.TreeLemmas.{following, after_header, IsNextItem, parted, placed_names, grown}
 use Rattle.ca_syntax.proofs.OnlyLemmas.{rest_read, next_read, first_taken, passed, not_false, operand_only}
 use Rattle.ca_syntax.proofs.OnlyLemmas.{connections_only, declaration_only, new_first, none_new}
 
 joined : (right : Operand) (it next : Reading)
-    → symbol_step (Symbol.other lexeme.Semicolon) (at_place (behind_operand side.Right right) it) ≡ Ok next
+    → symbol_step (Symbol.other lexeme.Semicolon) (at_place (after_operand side.Right right) it) ≡ Ok next
     → reader_width it.buses it.hand.left ≡ reader_width it.buses it.hand.operand
 unfolding lexeme_step row_of act
 joined (Operand.whole name) it next is = eqb-true _ _ (not_false _ (passed (not (reader_width it.buses it.hand.left == reader_width it.buses it.hand.operand)) BadRange _ next is).0)
@@ -124,20 +124,20 @@ record AreNext (tree : Module) (before listed : List Item) : Type 0 where
 
 -- an item that is read is right given those before it
 item_only : (tree : Module) (before after : List Item) (here : Item) (hand : Hand) (last : Reading) (rest : List Symbol)
-    → Reads (behind tree before hand) (item_symbols here ++ rest) last → AreNext tree before (here ∷ [])
+    → Reads (following tree before hand) (item_symbols here ++ rest) last → AreNext tree before (here ∷ [])
 item_only tree before after (Item.declaration here) hand last rest whole = record {
   declared = subst (OneByOne (IsRightDeclared (ports_of tree)) (declarations before)) (sym (append-nil (declared_by (Item.declaration here))))
-      (declaration_only here (declarations before) (behind tree before hand) last rest whole);
+      (declaration_only here (declarations before) (following tree before hand) last rest whole);
   right = (tt, tt);
   new = none_new (instance_names (instances before));
 }
 item_only tree before after (Item.assign here) hand last rest whole = record {
   declared = tt;
-  right = (assign_only (declarations before) here (behind tree before hand) last rest refl whole, tt);
+  right = (assign_only (declarations before) here (following tree before hand) last rest refl whole, tt);
   new = none_new (instance_names (instances before));
 }
 item_only tree before after (Item.instance here) hand last rest whole =
-    let right = instance_only (declarations before) here (behind tree before hand) last rest refl whole in
+    let right = instance_only (declarations before) here (following tree before hand) last rest refl whole in
     record {
       declared = tt;
       right = (right.0, tt);
@@ -150,7 +150,7 @@ item_only tree before after (Item.instance here) hand last rest whole =
 next_of : (tree : Module) (before : List Item) (here : Item) → OneByOne (IsRightDeclared (ports_of tree)) [] (declarations before)
     → AreNext tree before (here ∷ []) → IsNextItem tree before here
 next_of tree before (Item.declaration here) so_far next =
-    each_behind (IsRightDeclared (ports_of tree)) (declarations before ++ declared_by (Item.declaration here))
+    each_after (IsRightDeclared (ports_of tree)) (declarations before ++ declared_by (Item.declaration here))
     (one_append (IsRightDeclared (ports_of tree)) [] (declarations before) (declared_by (Item.declaration here)) so_far
     (subst (OneByOne (IsRightDeclared (ports_of tree)) (declarations before)) (append-nil (declared_by (Item.declaration here))) next.declared))
 next_of tree before (Item.assign here) so_far next = next.right.0
@@ -183,22 +183,22 @@ declared_so_far tree before here so_far one =
 -- items that are read are right, and what follows them is read
 items_only : (tree : Module) (before listed : List Item) (hand : Hand) (last : Reading) (rest : List Symbol) → tree.items ≡ before ++ listed
     → OneByOne (IsRightDeclared (ports_of tree)) [] (declarations before)
-    → Reads (behind tree before hand) (flat_map item_symbols listed ++ rest) last
-    → AreNext tree before listed × ((next : Hand) × Reads (behind tree (before ++ listed) next) rest last)
+    → Reads (following tree before hand) (flat_map item_symbols listed ++ rest) last
+    → AreNext tree before listed × ((next : Hand) × Reads (following tree (before ++ listed) next) rest last)
 items_only tree before [] hand last rest is so_far whole = (
   record { declared = tt; right = tt; new = none_new (instance_names (instances before)) },
-  (hand, subst (λ (all : List Item). Reads (behind tree all hand) rest last) (sym (append-nil before)) whole),
+  (hand, subst (λ (all : List Item). Reads (following tree all hand) rest last) (sym (append-nil before)) whole),
 )
 items_only tree before (here ∷ more) hand last rest is so_far whole =
-    let spread = subst (λ (symbols : List Symbol). Reads (behind tree before hand) symbols last)
+    let spread = subst (λ (symbols : List Symbol). Reads (following tree before hand) symbols last)
     (append_assoc (item_symbols here) (flat_map item_symbols more) rest) whole in
     let one = item_only tree before more here hand last (flat_map item_symbols more ++ rest) spread in
     let read = trees.item_read tree before more here hand (next_of tree before here so_far one) is in
-    let behind_it = rest_read (item_symbols here) (flat_map item_symbols more ++ rest) _ _ last read.1 spread in
+    let after_it = rest_read (item_symbols here) (flat_map item_symbols more ++ rest) _ _ last read.1 spread in
     let others = items_only tree (before ++ here ∷ []) more read.0 last rest (is ∙ sym (append_assoc before (here ∷ []) more))
-    (declared_so_far tree before here so_far one) behind_it in (
+    (declared_so_far tree before here so_far one) after_it in (
       next_more tree before more here one others.0,
-      (others.1.0, subst (λ (all : List Item). Reads (behind tree all others.1.0) rest last) (append_assoc before (here ∷ []) more) others.1.1),
+      (others.1.0, subst (λ (all : List Item). Reads (following tree all others.1.0) rest last) (append_assoc before (here ∷ []) more) others.1.1),
     )
 
 port_only : (name : List ℕ) (it next : Reading) → symbol_step (Symbol.identifier name) (at_place place.Port it) ≡ Ok next → has_name name it.ports ≡ false
@@ -235,19 +235,19 @@ directed_only : (name : List ℕ) (declared : List Declared) → has_direction (
 directed_only name declared is = by (is_directed name declared) refl
   where
     none : (has : Bool) → is_declared name declared ≡ has → is_directed name declared ≡ false → has_direction (seen_buses declared) name ≡ false
-    none false told unset =
+    none false reported unset =
         ap (λ (place : Option ℕ). elim place as (λ _. Bool) [ None ↦ false | Some place ↦ bus_directed (slice_get (seen_buses declared) place) ])
-        (bus_found name declared ∙ names.no_place name (names_in declared) (names.has_declared name declared ∙ told))
-    none true told unset =
-        let found = place_seen name declared told in
+        (bus_found name declared ∙ names.no_place name (names_in declared) (names.has_declared name declared ∙ reported))
+    none true reported unset =
+        let found = place_seen name declared reported in
         ap (λ (place : Option ℕ). elim place as (λ _. Bool) [ None ↦ false | Some place ↦ bus_directed (slice_get (seen_buses declared) place) ])
         (bus_found name declared ∙ found.2)
         ∙ ap bus_directed (got_map (seen_bus declared) (names_in declared) found.0 name found.1)
         ∙ ap (λ way. not (is_inner way)) (undirected declared name unset)
 
     by : (has : Bool) → is_directed name declared ≡ has → has ≡ true
-    by true told = refl
-    by false told = absurd (true≢false (sym is ∙ none (is_declared name declared) refl told))
+    by true reported = refl
+    by false reported = absurd (true≢false (sym is ∙ none (is_declared name declared) refl reported))
 
 all_directed : (declared : List Declared) (ports : List (List ℕ)) → list_all (has_direction (seen_buses declared)) ports ≡ true
     → All (λ name. is_directed name declared ≡ true) ports
@@ -275,8 +275,8 @@ tree_only tree last whole =
     let taken = first_taken _ _ _ _ right.1.1 in
     record {
       ports = ports;
-      directed = all_directed (declarations tree.items) (ports_of tree) (closed (behind tree tree.items right.1.0) taken.0 taken.1);
-      declared = each_behind (IsRightDeclared (ports_of tree)) (declarations tree.items) right.0.declared;
-      items = each_behind IsRightItem tree.items right.0.right;
+      directed = all_directed (declarations tree.items) (ports_of tree) (closed (following tree tree.items right.1.0) taken.0 taken.1);
+      declared = each_after (IsRightDeclared (ports_of tree)) (declarations tree.items) right.0.declared;
+      items = each_after IsRightItem tree.items right.0.right;
       instances = right.0.new;
     }

@@ -12,8 +12,8 @@ use Rattle.ca_syntax.specs.Tree.{instances, ports_of}
 use Rattle.ca_syntax.specs.Names.{is_declared, is_directed, is_wire, range_of}
 
 -- each of these has the property, given those before it
-abbrev pub EachBehind : {T : Type 0} → (List T → T → Type 0) → List T → Type 0
-EachBehind {T} P list = (before : List T) (here : T) (after : List T) → list ≡ before ++ here ∷ after
+abbrev pub EachAfter : {T : Type 0} → (List T → T → Type 0) → List T → Type 0
+EachAfter {T} P list = (before : List T) (here : T) (after : List T) → list ≡ before ++ here ∷ after
     → P before here
 
 -- the name has a declaration of this kind already: as `wire`, or with a direction
@@ -77,6 +77,6 @@ IsRightItem before (Item.instance it) = IsRightInstance (declarations before) it
 pub record IsRight (tree : Module) : Type 0 where
   pub ports : has_double (ports_of tree) ≡ false
   pub directed : All (λ name. is_directed name (declarations tree.items) ≡ true) (ports_of tree)
-  pub declared : EachBehind (IsRightDeclared (ports_of tree)) (declarations tree.items)
-  pub items : EachBehind IsRightItem tree.items
+  pub declared : EachAfter (IsRightDeclared (ports_of tree)) (declarations tree.items)
+  pub items : EachAfter IsRightItem tree.items
   pub instances : has_double (map (λ it. it.name) (instances tree.items)) ≡ false

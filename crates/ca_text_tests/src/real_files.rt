@@ -1,12 +1,12 @@
 //! The little that can be tried of real files and streams.
 
-use crate::stores::{Done, MISSING, Told, is_as_wanted};
+use crate::stores::{Done, MISSING, Reported, is_as_wanted};
 use ca_store::{Failed, FileStore, ReadFault, Sink, StdSink, read_file, write_file};
 use std::fs;
 use std::test::Fail;
 
 // Real files: the name, the limit, what a reading answers, and the count of faults.
-static REAL_READ: [(&str, usize, Told, u64); 3] = [
+static REAL_READ: [(&str, usize, Reported, u64); 3] = [
     ("/dev/null", 0, Ok(""), 0),
     ("/dev/zero", 5, Err(ReadFault::TooLong { taken: 6 }), 0),
     ("no such file here", 9, MISSING, 1),

@@ -58,13 +58,13 @@ pub(crate) fn is_as_wanted(got: Result<Text, ReadFault>, want: Result<&str, Read
 }
 
 // What a reading answers: the bytes, or the fault.
-pub(crate) type Told = Result<&'static str, ReadFault>;
+pub(crate) type Reported = Result<&'static str, ReadFault>;
 
-pub(crate) const MISSING: Told = Err(ReadFault::StoreFailed);
+pub(crate) const MISSING: Reported = Err(ReadFault::StoreFailed);
 
 // A call that fails, the file, the bytes that a call of the store gives at most, and the limit; then what is
 // answered, the count of faults, and what a second reading answers, which adds none.
-static READ: [(Call, &str, usize, usize, Told, u64, Told); 15] = [
+static READ: [(Call, &str, usize, usize, Reported, u64, Reported); 15] = [
     (None, "four", 1, 4, Ok("abcd"), 0, Ok("abcd")),
     (None, "four", 3, 4, Ok("abcd"), 0, Ok("abcd")),
     (None, "four", 9, 5, Ok("abcd"), 0, Ok("abcd")),
@@ -138,9 +138,9 @@ static READ: [(Call, &str, usize, usize, Told, u64, Told); 15] = [
     ),
 ];
 
-const TOO_LONG: Told = Err(ReadFault::TooLong { taken: 4 });
+const TOO_LONG: Reported = Err(ReadFault::TooLong { taken: 4 });
 
-const LONGER_THAN_0: Told = Err(ReadFault::TooLong { taken: 1 });
+const LONGER_THAN_0: Reported = Err(ReadFault::TooLong { taken: 1 });
 
 #[test]
 fn files_are_read_up_to_the_limit_and_listed_calls_fail_once(rt: HostRuntime) -> Result<(), Fail> {

@@ -23,16 +23,16 @@ use Rattle.ca_token.specs.Piece.{directive_piece, has_quote, is_bit, escaped_bef
 use Rattle.ca_token.specs.Piece.{constant_piece, number_before}
 use Rattle.ca_token.specs.Piece.{number_piece, quote_piece, sign_piece, piece_of}
 use Rattle.ca_token.specs.Scan.{Scan, broken_at, with_token, token_at, scan_from}
-use Rattle.ca_token.proofs.CutLemmas.{IsUncut, piece_cut, behind_name, behind_quote, behind_escaped}
-use Rattle.ca_token.proofs.CutLemmas.{behind_directive}
-use Rattle.ca_token.proofs.CutLemmas.{behind_open, behind_slash, behind_white}
+use Rattle.ca_token.proofs.CutLemmas.{IsUncut, piece_cut, after_name, after_quote, after_escaped}
+use Rattle.ca_token.proofs.CutLemmas.{after_directive}
+use Rattle.ca_token.proofs.CutLemmas.{after_open, after_slash, after_white}
 
 -- what a piece leaves to be read
 abbrev by_piece : Bool → ℕ → ℕ → List ℕ → Piece → Scan
 by_piece begins_line place byte more Blank = scan_from (begins_line || byte == 10) 0 (place + 1) more
 by_piece begins_line place byte more (Skipped len) = scan_from false (len - 1) (place + 1) more
 by_piece begins_line place byte more (Found found len) = with_token (token_at place found len) (scan_from false (len - 1) (place + 1) more)
-by_piece begins_line place byte more (Broken shift told) = broken_at place shift told
+by_piece begins_line place byte more (Broken shift reported) = broken_at place shift reported
 
 first_is : (begins_line : Bool) (place byte : ℕ) (more : List ℕ) (piece : Piece) → piece_of begins_line (byte ∷ more) ≡ piece
     → scan_from begins_line 0 place (byte ∷ more) ≡ by_piece begins_line place byte more piece
@@ -43,12 +43,12 @@ first_is begins_line place byte more piece is = whole (piece_of begins_line (byt
       | Blank ↦ scan_from (begins_line || byte == 10) 0 (place + 1) more
       | Skipped len ↦ scan_from false (len - 1) (place + 1) more
       | Found found len ↦ with_token (token_at place found len) (scan_from false (len - 1) (place + 1) more)
-      | Broken shift told ↦ broken_at place shift told
+      | Broken shift reported ↦ broken_at place shift reported
     ] ≡ by_piece begins_line place byte more given
     whole Blank = refl
     whole (Skipped len) = refl
     whole (Found found len) = refl
-    whole (Broken shift told) = refl
+    whole (Broken shift reported) = refl
 
 -- a choice has what both its ways have
 ways : (P : Piece → Type 0) (test : Bool) (one other : Piece) → (test ≡ true → P one) → (test ≡ false → P other) → P (cond test one other)
@@ -64,7 +64,7 @@ abbrev IsParted : List ℕ → Piece → Type 0
 IsParted text Blank = Unit {0}
 IsParted text (Skipped len) = Unit {0}
 IsParted text (Found found len) = found ≡ kind.Escaped → begins_white (drop len text) ≡ true
-IsParted text (Broken shift told) = Unit {0}
+IsParted text (Broken shift reported) = Unit {0}
 
 comment_parted : (whole : List ℕ) (start : ℕ) (text : List ℕ) → IsParted whole (comment_from start text)
 comment_parted whole start [] = tt
@@ -109,7 +109,7 @@ escaped_parted byte more = by (take (text_len more) more) (drop (text_len more) 
     by : (name rest : List ℕ) → length name ≡ text_len more → drop (text_len more) more ≡ rest → IsParted (byte ∷ more) (escaped_before name rest)
     by name [] count is =
         ways (IsParted (byte ∷ more)) (has_quote name) (Broken 0 Unsupported) (Broken 0 Syntax) (λ yes. tt) (λ no. tt)
-    by name (next ∷ behind) count is =
+    by name (next ∷ following) count is =
         ways (IsParted (byte ∷ more)) (not (is_white next)) (Broken 0 NotText)
         (cond (has_quote name) (Broken 0 Unsupported) (cond (length name == 0) (Broken 0 Syntax) (Found kind.Escaped (1 + length name))))
         (λ yes. tt)
@@ -117,12 +117,12 @@ escaped_parted byte more = by (take (text_len more) more) (drop (text_len more) 
         (cond (length name == 0) (Broken 0 Syntax) (Found kind.Escaped (1 + length name))) (λ yes. tt)
         (λ plain. ways (IsParted (byte ∷ more)) (length name == 0) (Broken 0 Syntax) (Found kind.Escaped (1 + length name)) (λ yes. tt)
         (λ some same.
-        let left : drop (1 + length name) (byte ∷ more) ≡ next ∷ behind = dropped (length name) count ∙ is in
+        let left : drop (1 + length name) (byte ∷ more) ≡ next ∷ following = dropped (length name) count ∙ is in
         ap begins_white left ∙ is_true (is_white next) white)))
       where
         is_true : (white : Bool) → not white ≡ false → white ≡ true
-        is_true true told = refl
-        is_true false told = absurd cc
+        is_true true reported = refl
+        is_true false reported = absurd cc
 
         dropped : (len : ℕ) → len ≡ text_len more → drop (1 + len) (byte ∷ more) ≡ drop (text_len more) more
         dropped len same =
@@ -163,14 +163,14 @@ sign_parted whole byte =
 piece_parted : (begins_line : Bool) (byte : ℕ) (more : List ℕ) → IsParted (byte ∷ more) (piece_of begins_line (byte ∷ more))
 unfolding piece_of
 piece_parted begins_line byte more =
-    ways (IsParted (byte ∷ more)) (is_white byte) Blank (behind_white begins_line byte more) (λ yes. tt)
-    (λ no. ways (IsParted (byte ∷ more)) (byte == 47) (slash_piece more) (behind_slash begins_line byte more) (λ yes. slash_parted (byte ∷ more) more)
-    (λ other. ways (IsParted (byte ∷ more)) (byte == 40) (open_piece more) (behind_open begins_line byte more) (λ yes. open_parted (byte ∷ more) more)
-    (λ no. ways (IsParted (byte ∷ more)) (byte == 96) (directive_piece begins_line more) (behind_directive byte more)
+    ways (IsParted (byte ∷ more)) (is_white byte) Blank (after_white begins_line byte more) (λ yes. tt)
+    (λ no. ways (IsParted (byte ∷ more)) (byte == 47) (slash_piece more) (after_slash begins_line byte more) (λ yes. slash_parted (byte ∷ more) more)
+    (λ other. ways (IsParted (byte ∷ more)) (byte == 40) (open_piece more) (after_open begins_line byte more) (λ yes. open_parted (byte ∷ more) more)
+    (λ no. ways (IsParted (byte ∷ more)) (byte == 96) (directive_piece begins_line more) (after_directive byte more)
     (λ yes. directive_parted (byte ∷ more) begins_line more)
-    (λ other. ways (IsParted (byte ∷ more)) (byte == 92) (escaped_piece more) (behind_escaped byte more) (λ yes. escaped_parted byte more)
-    (λ no. ways (IsParted (byte ∷ more)) (byte == 39) (quote_piece more) (behind_quote byte more) (λ yes. quote_parted (byte ∷ more) more)
-    (λ other. ways (IsParted (byte ∷ more)) (begins_name byte) (Found kind.Name (name_len (byte ∷ more))) (behind_name byte more)
+    (λ other. ways (IsParted (byte ∷ more)) (byte == 92) (escaped_piece more) (after_escaped byte more) (λ yes. escaped_parted byte more)
+    (λ no. ways (IsParted (byte ∷ more)) (byte == 39) (quote_piece more) (after_quote byte more) (λ yes. quote_parted (byte ∷ more) more)
+    (λ other. ways (IsParted (byte ∷ more)) (begins_name byte) (Found kind.Name (name_len (byte ∷ more))) (after_name byte more)
     (λ yes same. absurd cc)
     (λ no. ways (IsParted (byte ∷ more)) (is_digit byte) (number_piece (byte ∷ more)) (sign_piece byte)
     (λ yes. number_parted (byte ∷ more) (byte ∷ more)) (λ other. sign_parted (byte ∷ more) byte))))))))
@@ -179,47 +179,47 @@ some_same : {X : Type 0} (one other : X) → ◌≡◌ {A = Option X} (Some one)
 some_same one other is = cc
 
 -- a fault follows what was passed over before it
-flaw_behind : (begins_line : Bool) (passed place : ℕ) (text : List ℕ) (flaw : fault.Flaw) → (scan_from begins_line passed place text).flaw ≡ Some flaw
+flaw_after : (begins_line : Bool) (passed place : ℕ) (text : List ℕ) (flaw : fault.Flaw) → (scan_from begins_line passed place text).flaw ≡ Some flaw
     → place + passed ≤ flaw.at
 unfolding scan_from
-flaw_behind begins_line zero place [] flaw is = absurd cc
-flaw_behind begins_line (suc passed) place [] flaw is = absurd cc
-flaw_behind begins_line (suc passed) place (byte ∷ more) flaw is = omega (arith, flaw_behind begins_line passed (place + 1) more flaw is)
-flaw_behind begins_line zero place (byte ∷ more) flaw is =
+flaw_after begins_line zero place [] flaw is = absurd cc
+flaw_after begins_line (suc passed) place [] flaw is = absurd cc
+flaw_after begins_line (suc passed) place (byte ∷ more) flaw is = omega (arith, flaw_after begins_line passed (place + 1) more flaw is)
+flaw_after begins_line zero place (byte ∷ more) flaw is =
     by (piece_of begins_line (byte ∷ more))
     (ap (λ (scan : Scan). scan.flaw) (sym (first_is begins_line place byte more (piece_of begins_line (byte ∷ more)) refl)) ∙ is)
-    (λ line passed told. flaw_behind line passed (place + 1) more flaw told)
+    (λ line passed reported. flaw_after line passed (place + 1) more flaw reported)
   where
     by : (piece : Piece) → (by_piece begins_line place byte more piece).flaw ≡ Some flaw
         → ((line : Bool) (passed : ℕ) → (scan_from line passed (place + 1) more).flaw ≡ Some flaw → place + 1 + passed ≤ flaw.at)
         → place + 0 ≤ flaw.at
-    by Blank told later = omega (arith, later (begins_line || byte == 10) 0 told)
-    by (Skipped len) told later = omega (arith, later false (len - 1) told)
-    by (Found found len) told later = omega (arith, later false (len - 1) told)
-    by (Broken shift given) told later =
-        let same : place ≡ flaw.at = ap (λ (one : fault.Flaw). one.at) (some_same _ flaw told) in
+    by Blank reported later = omega (arith, later (begins_line || byte == 10) 0 reported)
+    by (Skipped len) reported later = omega (arith, later false (len - 1) reported)
+    by (Found found len) reported later = omega (arith, later false (len - 1) reported)
+    by (Broken shift given) reported later =
+        let same : place ≡ flaw.at = ap (λ (one : fault.Flaw). one.at) (some_same _ flaw reported) in
         omega (arith, same)
 
 white_piece : (byte : ℕ) (more : List ℕ) → is_white byte ≡ true → piece_of false (byte ∷ more) ≡ Blank
 unfolding piece_of
-white_piece byte more told = ap (λ (white : Bool). cond white Blank (behind_white false byte more)) told
+white_piece byte more reported = ap (λ (white : Bool). cond white Blank (after_white false byte more)) reported
 
 star_piece : (more : List ℕ) → piece_of false (42 ∷ more) ≡ Broken 0 Syntax
 unfolding piece_of
 star_piece more = refl
 
 -- the fault follows white space that follows what was passed over
-white_behind : (passed place : ℕ) (text : List ℕ) (flaw : fault.Flaw) → begins_white (drop passed text) ≡ true
+white_after : (passed place : ℕ) (text : List ℕ) (flaw : fault.Flaw) → begins_white (drop passed text) ≡ true
     → (scan_from false passed place text).flaw ≡ Some flaw → place + passed + 1 ≤ flaw.at
 unfolding scan_from
-white_behind zero place [] flaw white is = absurd cc
-white_behind (suc passed) place [] flaw white is = absurd cc
-white_behind (suc passed) place (byte ∷ more) flaw white is = omega (arith, white_behind passed (place + 1) more flaw white is)
-white_behind zero place (byte ∷ more) flaw white is =
+white_after zero place [] flaw white is = absurd cc
+white_after (suc passed) place [] flaw white is = absurd cc
+white_after (suc passed) place (byte ∷ more) flaw white is = omega (arith, white_after passed (place + 1) more flaw white is)
+white_after zero place (byte ∷ more) flaw white is =
     let blank : piece_of false (byte ∷ more) ≡ Blank = white_piece byte more white in
     omega (
       arith,
-      flaw_behind (false || byte == 10) 0 (place + 1) more flaw
+      flaw_after (false || byte == 10) 0 (place + 1) more flaw
           (ap (λ (scan : Scan). scan.flaw) (sym (first_is false place byte more Blank blank)) ∙ is),
     )
 
@@ -245,24 +245,24 @@ unfolding scan_from
 before_flaw begins_line zero place [] flaw is = absurd cc
 before_flaw begins_line (suc passed) place [] flaw is = absurd cc
 before_flaw begins_line (suc passed) place (byte ∷ more) flaw is =
-    let behind : place + 1 + passed ≤ flaw.at = flaw_behind begins_line passed (place + 1) more flaw is in
-    ap (λ (count : ℕ). scan_from begins_line (suc passed) place (take count (byte ∷ more))) (count behind)
+    let following : place + 1 + passed ≤ flaw.at = flaw_after begins_line passed (place + 1) more flaw is in
+    ap (λ (count : ℕ). scan_from begins_line (suc passed) place (take count (byte ∷ more))) (count following)
     ∙ before_flaw begins_line passed (place + 1) more flaw is
   where
     count : place + 1 + passed ≤ flaw.at → flaw.at - place ≡ suc (flaw.at - (place + 1))
-    count behind = omega (arith, behind)
+    count following = omega (arith, following)
 before_flaw begins_line zero place (byte ∷ more) flaw is =
     by (piece_of begins_line (byte ∷ more)) refl (piece_parted begins_line byte more)
     (ap (λ (scan : Scan). scan.flaw) (sym (first_is begins_line place byte more (piece_of begins_line (byte ∷ more)) refl)) ∙ is)
-    (λ line passed told. before_flaw line passed (place + 1) more flaw told)
+    (λ line passed reported. before_flaw line passed (place + 1) more flaw reported)
     ∙ ap sound (sym (first_is begins_line place byte more (piece_of begins_line (byte ∷ more)) refl))
   where
     front : (piece : Piece) → piece_of begins_line (byte ∷ more) ≡ piece → place + 1 ≤ flaw.at → IsUncut (flaw.at - (place + 1)) piece
         → (Found kind.Sign 1 ≡ piece → begins_with 42 more ≡ true → flaw.at - (place + 1) ≡ 0)
         → scan_from begins_line 0 place (take (flaw.at - place) (byte ∷ more))
         ≡ by_piece begins_line place byte (take (flaw.at - (place + 1)) more) piece
-    front piece at behind uncut lone =
-        let one : flaw.at - place ≡ suc (flaw.at - (place + 1)) = omega (arith, behind) in
+    front piece at following uncut lone =
+        let one : flaw.at - place ≡ suc (flaw.at - (place + 1)) = omega (arith, following) in
         ap (λ (count : ℕ). scan_from begins_line 0 place (take count (byte ∷ more))) one
         ∙ first_is begins_line place byte (take (flaw.at - (place + 1)) more) piece (piece_cut begins_line (flaw.at - (place + 1)) byte more piece uncut lone at)
 
@@ -271,18 +271,18 @@ before_flaw begins_line zero place (byte ∷ more) flaw is =
         → ((line : Bool) (passed : ℕ) → (scan_from line passed (place + 1) more).flaw ≡ Some flaw
         → scan_from line passed (place + 1) (take (flaw.at - (place + 1)) more) ≡ sound (scan_from line passed (place + 1) more))
         → scan_from begins_line 0 place (take (flaw.at - place) (byte ∷ more)) ≡ sound (by_piece begins_line place byte more piece)
-    by Blank at parted told later =
-        let behind : place + 1 + 0 ≤ flaw.at = flaw_behind (begins_line || byte == 10) 0 (place + 1) more flaw told in
-        front Blank at (omega (arith, behind)) tt (λ same. absurd cc) ∙ later (begins_line || byte == 10) 0 told
-    by (Skipped len) at parted told later =
-        let behind : place + 1 + (len - 1) ≤ flaw.at = flaw_behind false (len - 1) (place + 1) more flaw told in
-        front (Skipped len) at (omega (arith, behind)) (omega (arith, behind)) (λ same. absurd cc) ∙ later false (len - 1) told
-    by (Found found len) at parted told later =
-        let behind : place + 1 + (len - 1) ≤ flaw.at = flaw_behind false (len - 1) (place + 1) more flaw told in
-        front (Found found len) at (omega (arith, behind))
-        (omega (arith, behind), λ escaped. white_cut len (parted escaped) told)
-        (λ same star. lone_cut (found_len found len same) star told)
-        ∙ ap (with_token (token_at place found len)) (later false (len - 1) told)
+    by Blank at parted reported later =
+        let following : place + 1 + 0 ≤ flaw.at = flaw_after (begins_line || byte == 10) 0 (place + 1) more flaw reported in
+        front Blank at (omega (arith, following)) tt (λ same. absurd cc) ∙ later (begins_line || byte == 10) 0 reported
+    by (Skipped len) at parted reported later =
+        let following : place + 1 + (len - 1) ≤ flaw.at = flaw_after false (len - 1) (place + 1) more flaw reported in
+        front (Skipped len) at (omega (arith, following)) (omega (arith, following)) (λ same. absurd cc) ∙ later false (len - 1) reported
+    by (Found found len) at parted reported later =
+        let following : place + 1 + (len - 1) ≤ flaw.at = flaw_after false (len - 1) (place + 1) more flaw reported in
+        front (Found found len) at (omega (arith, following))
+        (omega (arith, following), λ escaped. white_cut len (parted escaped) reported)
+        (λ same star. lone_cut (found_len found len same) star reported)
+        ∙ ap (with_token (token_at place found len)) (later false (len - 1) reported)
       where
         found_len : (found : TokenKind) (len : ℕ) → Found kind.Sign 1 ≡ Found found len → len ≡ 1
         found_len found len same = cc
@@ -293,7 +293,7 @@ before_flaw begins_line zero place (byte ∷ more) flaw is =
         white_cut (suc count) white given =
             let same : suc count - 1 ≡ count = omega arith in
             let past : place + 1 + count + 1 ≤ flaw.at =
-            white_behind count (place + 1) more flaw white
+            white_after count (place + 1) more flaw white
             (ap (λ (passed : ℕ). (scan_from false passed (place + 1) more).flaw) (sym same) ∙ given) in
             omega (arith, past)
 
@@ -304,7 +304,7 @@ before_flaw begins_line zero place (byte ∷ more) flaw is =
             let here : place + 1 ≡ flaw.at =
             star_here (place + 1) more flaw star (ap (λ (passed : ℕ). (scan_from false passed (place + 1) more).flaw) (sym none) ∙ given) in
             omega (arith, here)
-    by (Broken shift given) at parted told later =
-        let same : place ≡ flaw.at = ap (λ (one : fault.Flaw). one.at) (some_same _ flaw told) in
+    by (Broken shift given) at parted reported later =
+        let same : place ≡ flaw.at = ap (λ (one : fault.Flaw). one.at) (some_same _ flaw reported) in
         let none : flaw.at - place ≡ 0 = omega (arith, same) in
         ap (λ (count : ℕ). scan_from begins_line 0 place (take count (byte ∷ more))) none

@@ -123,8 +123,8 @@ comment_cut whole start (suc cut) (byte ∷ more) piece fits uncut is =
     ap (λ (ends : Bool). cond ends (Skipped (start + 2)) (comment_from (start + 1) (take cut more)))
     (closes_cut 47 (suc cut) (byte ∷ more) (omega (arith, long, fits)))
     ∙ either (closes 47 (byte ∷ more)) (Skipped (start + 2)) (comment_from (start + 1) more) (Skipped (start + 2))
-    (comment_from (start + 1) (take cut more)) piece (λ ends told. told)
-    (λ ends told. comment_cut whole (start + 1) cut more piece (omega (arith, fits)) uncut told) is
+    (comment_from (start + 1) (take cut more)) piece (λ ends reported. reported)
+    (λ ends reported. comment_cut whole (start + 1) cut more piece (omega (arith, fits)) uncut reported) is
 
 attribute_cut : (whole start cut : ℕ) (text : List ℕ) (piece : Piece) → start + cut ≡ suc whole → IsUncut whole piece
     → attribute_from start text ≡ piece → attribute_from start (take cut text) ≡ piece
@@ -137,19 +137,19 @@ attribute_cut whole start (suc cut) (byte ∷ more) piece fits uncut is =
     ap (λ (ends : Bool). cond ends (Skipped (start + 2)) (cond (is_plain byte) (attribute_from (start + 1) (take cut more)) (Broken start NotText)))
     (closes_cut 41 (suc cut) (byte ∷ more) (omega (arith, long, fits)))
     ∙ either (closes 41 (byte ∷ more)) (Skipped (start + 2)) (cond (is_plain byte) (attribute_from (start + 1) more) (Broken start NotText))
-    (Skipped (start + 2)) (cond (is_plain byte) (attribute_from (start + 1) (take cut more)) (Broken start NotText)) piece (λ ends told. told)
-    (λ ends told. either (is_plain byte) (attribute_from (start + 1) more) (Broken start NotText) (attribute_from (start + 1) (take cut more))
+    (Skipped (start + 2)) (cond (is_plain byte) (attribute_from (start + 1) (take cut more)) (Broken start NotText)) piece (λ ends reported. reported)
+    (λ ends reported. either (is_plain byte) (attribute_from (start + 1) more) (Broken start NotText) (attribute_from (start + 1) (take cut more))
     (Broken start NotText) piece (λ plain read. attribute_cut whole (start + 1) cut more piece (omega (arith, fits)) uncut read)
-    (λ plain read. read) told) is
+    (λ plain read. read) reported) is
 
 slash_cut : (cut : ℕ) (more : List ℕ) (piece : Piece) → IsUncut cut piece → slash_piece more ≡ piece → slash_piece (take cut more) ≡ piece
 unfolding slash_piece
 slash_cut cut [] piece uncut is = absurd (broken_none cut 0 Syntax piece uncut is)
 slash_cut zero (byte ∷ more) piece uncut is =
     choose (byte == 47) (Skipped (2 + line_len more)) (cond (byte == 42) (comment_from 2 more) (Broken 0 Syntax)) piece
-    (λ yes told. absurd (few (line_len more) (subst (IsUncut 0) (sym told) uncut)))
-    (λ no told. choose (byte == 42) (comment_from 2 more) (Broken 0 Syntax) piece
-    (λ yes read. absurd (short (long_enough 4 0 piece (subst (IsRead 4) read (comment_read 2 more)) uncut))) (λ other read. read) told) is
+    (λ yes reported. absurd (few (line_len more) (subst (IsUncut 0) (sym reported) uncut)))
+    (λ no reported. choose (byte == 42) (comment_from 2 more) (Broken 0 Syntax) piece
+    (λ yes read. absurd (short (long_enough 4 0 piece (subst (IsRead 4) read (comment_read 2 more)) uncut))) (λ other read. read) reported) is
   where
     few : (count : ℕ) → 2 + count ≤ 1 → ⊥
     few count is = omega (arith, is)
@@ -159,10 +159,10 @@ slash_cut zero (byte ∷ more) piece uncut is =
 slash_cut (suc cut) (byte ∷ more) piece uncut is =
     either (byte == 47) (Skipped (2 + line_len more)) (cond (byte == 42) (comment_from 2 more) (Broken 0 Syntax))
     (Skipped (2 + line_len (take cut more))) (cond (byte == 42) (comment_from 2 (take cut more)) (Broken 0 Syntax)) piece
-    (λ yes told. ap (λ (count : ℕ). Skipped (2 + count))
-    (prefix_cut (λ one. not (one == 10)) cut more (less (line_len more) (subst (IsUncut (suc cut)) (sym told) uncut))) ∙ told)
-    (λ no told. either (byte == 42) (comment_from 2 more) (Broken 0 Syntax) (comment_from 2 (take cut more)) (Broken 0 Syntax) piece
-    (λ yes read. comment_cut (suc cut) 2 cut more piece (omega arith) uncut read) (λ other read. read) told) is
+    (λ yes reported. ap (λ (count : ℕ). Skipped (2 + count))
+    (prefix_cut (λ one. not (one == 10)) cut more (less (line_len more) (subst (IsUncut (suc cut)) (sym reported) uncut))) ∙ reported)
+    (λ no reported. either (byte == 42) (comment_from 2 more) (Broken 0 Syntax) (comment_from 2 (take cut more)) (Broken 0 Syntax) piece
+    (λ yes read. comment_cut (suc cut) 2 cut more piece (omega arith) uncut read) (λ other read. read) reported) is
   where
     less : (count : ℕ) → 2 + count ≤ suc (suc cut) → count ≤ cut
     less count is = omega (arith, is)
@@ -183,20 +183,20 @@ open_cut zero [] piece uncut lone is = is
 open_cut (suc cut) [] piece uncut lone is = is
 open_cut zero (byte ∷ more) piece uncut lone is =
     choose (byte == 42 && not (begins_with 41 more)) (attribute_from 2 more) (Found kind.Sign 1) piece
-    (λ yes told. absurd (short (long_enough 4 0 piece (subst (IsRead 4) told (attribute_read 2 more)) uncut))) (λ no told. told) is
+    (λ yes reported. absurd (short (long_enough 4 0 piece (subst (IsRead 4) reported (attribute_read 2 more)) uncut))) (λ no reported. reported) is
   where
     short : 4 ≤ 1 → ⊥
     short is = omega (arith, is)
 open_cut (suc cut) (byte ∷ more) piece uncut lone is =
     choose (byte == 42 && not (begins_with 41 more)) (attribute_from 2 more) (Found kind.Sign 1) piece
-    (λ yes told.
-    let long : 4 ≤ suc (suc cut) = long_enough 4 (suc cut) piece (subst (IsRead 4) told (attribute_read 2 more)) uncut in
+    (λ yes reported.
+    let long : 4 ≤ suc (suc cut) = long_enough 4 (suc cut) piece (subst (IsRead 4) reported (attribute_read 2 more)) uncut in
     ap (λ (test : Bool). cond test (attribute_from 2 (take cut more)) (Found kind.Sign 1))
     (ap (λ (ends : Bool). byte == 42 && not ends) (begins_cut 41 cut more (omega (arith, long))) ∙ yes)
-    ∙ attribute_cut (suc cut) 2 cut more piece (omega arith) uncut told)
-    (λ no told.
+    ∙ attribute_cut (suc cut) 2 cut more piece (omega arith) uncut reported)
+    (λ no reported.
     ap (λ (test : Bool). cond test (attribute_from 2 (take cut more)) (Found kind.Sign 1))
-    (star_false (byte == 42) (not (begins_with 41 (take cut more))) (no_star (byte == 42) (lone told))) ∙ told) is
+    (star_false (byte == 42) (not (begins_with 41 (take cut more))) (no_star (byte == 42) (lone reported))) ∙ reported) is
   where
     no_star : (star : Bool) → (star ≡ true → suc cut ≡ 0) → star ≡ false
     no_star true none = absurd (omega (arith, none refl))
@@ -218,9 +218,9 @@ name_line : (byte : ℕ) → is_name_byte byte ≡ true → not (byte == 10) ≡
 name_line byte is = by (byte == 10) refl
   where
     by : (ends : Bool) → byte == 10 ≡ ends → not ends ≡ true
-    by false told = refl
-    by true told =
-        let ten : byte ≡ 10 = eqb-true byte 10 told in
+    by false reported = refl
+    by true reported =
+        let ten : byte ≡ 10 = eqb-true byte 10 reported in
         absurd (true≢false (sym is ∙ ap is_name_byte ten))
 
 directive_cut : (begins_line : Bool) (cut : ℕ) (more : List ℕ) (piece : Piece) → IsUncut cut piece → directive_piece begins_line more ≡ piece
@@ -228,21 +228,21 @@ directive_cut : (begins_line : Bool) (cut : ℕ) (more : List ℕ) (piece : Piec
 unfolding directive_piece
 directive_cut begins_line cut more piece uncut is =
     choose (begins_line && is_directive (take (name_len more) more)) (directive_line (take (line_len more) more)) (Broken 0 Unsupported) piece
-    (λ yes told.
-    let line : line_len more ≤ cut = line_within (take (line_len more) more) (length-prefix_len (λ byte. not (byte == 10)) more) told in
+    (λ yes reported.
+    let line : line_len more ≤ cut = line_within (take (line_len more) more) (length-prefix_len (λ byte. not (byte == 10)) more) reported in
     let name : name_len more ≤ cut =
     omega (arith, line, prefix_within is_name_byte (λ byte. not (byte == 10)) name_line more) in
     ap (λ (word : List ℕ). cond (begins_line && is_directive word) (directive_line (take (line_len (take cut more)) (take cut more))) (Broken 0 Unsupported))
     (run_cut is_name_byte cut more name)
     ∙ ap (λ (test : Bool). cond test (directive_line (take (line_len (take cut more)) (take cut more))) (Broken 0 Unsupported)) yes
-    ∙ ap directive_line (run_cut (λ byte. not (byte == 10)) cut more line) ∙ told)
-    (λ no told. absurd (broken_none cut 0 Unsupported piece uncut told)) is
+    ∙ ap directive_line (run_cut (λ byte. not (byte == 10)) cut more line) ∙ reported)
+    (λ no reported. absurd (broken_none cut 0 Unsupported piece uncut reported)) is
   where
     line_within : (line : List ℕ) → length line ≡ line_len more → directive_line line ≡ piece → line_len more ≤ cut
-    line_within line count told =
+    line_within line count reported =
         choose (list_all is_plain line) (Skipped (1 + length line)) (Broken 0 NotText) piece
         (λ yes read. less (length line) count (subst (IsUncut cut) (sym read) uncut))
-        (λ no read. absurd (broken_none cut 0 NotText piece uncut read)) told
+        (λ no read. absurd (broken_none cut 0 NotText piece uncut read)) reported
       where
         less : (len : ℕ) → len ≡ line_len more → 1 + len ≤ suc cut → line_len more ≤ cut
         less len same is = omega (arith, same, is)
@@ -274,15 +274,15 @@ escaped_cut cut more piece uncut is =
     ∙ same_next (cut - text_len more) (take (text_len more) more) (drop (text_len more) more) (omega (arith, name)) is
   where
     same_next : (less : ℕ) (word rest : List ℕ) → 0 < less → escaped_before word rest ≡ piece → escaped_before word (take less rest) ≡ piece
-    same_next zero word rest some told = absurd (omega (arith, some))
-    same_next (suc less) word [] some told = told
-    same_next (suc less) word (next ∷ behind) some told = told
+    same_next zero word rest some reported = absurd (omega (arith, some))
+    same_next (suc less) word [] some reported = reported
+    same_next (suc less) word (next ∷ following) some reported = reported
 
     name_within : (word rest : List ℕ) → length word ≡ text_len more → escaped_before word rest ≡ piece → text_len more < cut
-    name_within word [] same told =
+    name_within word [] same reported =
         choose (has_quote word) (Broken 0 Unsupported) (Broken 0 Syntax) piece
-        (λ yes read. absurd (broken_none cut 0 Unsupported piece uncut read)) (λ no read. absurd (broken_none cut 0 Syntax piece uncut read)) told
-    name_within word (next ∷ behind) same told =
+        (λ yes read. absurd (broken_none cut 0 Unsupported piece uncut read)) (λ no read. absurd (broken_none cut 0 Syntax piece uncut read)) reported
+    name_within word (next ∷ following) same reported =
         choose (not (is_white next)) (Broken 0 NotText)
         (cond (has_quote word) (Broken 0 Unsupported) (cond (length word == 0) (Broken 0 Syntax) (Found kind.Escaped (1 + length word)))) piece
         (λ yes read. absurd (broken_none cut 0 NotText piece uncut read))
@@ -290,36 +290,36 @@ escaped_cut cut more piece uncut is =
         (λ quoted read. absurd (broken_none cut 0 Unsupported piece uncut read))
         (λ plain read. choose (length word == 0) (Broken 0 Syntax) (Found kind.Escaped (1 + length word)) piece
         (λ empty read. absurd (broken_none cut 0 Syntax piece uncut read))
-        (λ some read. less (length word) same ((subst (IsUncut cut) (sym read) uncut).1 refl)) read) read) told
+        (λ some read. less (length word) same ((subst (IsUncut cut) (sym read) uncut).1 refl)) read) read) reported
       where
         less : (len : ℕ) → len ≡ text_len more → 1 + len ≤ cut → text_len more < cut
         less len same is = omega (arith, same, is)
 
 -- digits with what follows them up to the cut, where `less` bytes are before it
-number_behind : (whole : ℕ) (digits : List ℕ) (less : ℕ) (rest : List ℕ) (piece : Piece) → length digits + less ≡ suc whole → IsUncut whole piece
+number_after : (whole : ℕ) (digits : List ℕ) (less : ℕ) (rest : List ℕ) (piece : Piece) → length digits + less ≡ suc whole → IsUncut whole piece
     → number_before digits rest ≡ piece → number_before digits (take less rest) ≡ piece
 unfolding constant_piece
-number_behind whole digits zero [] piece fits uncut is = is
-number_behind whole digits (suc less) [] piece fits uncut is = is
-number_behind whole digits zero (next ∷ more) piece fits uncut is =
+number_after whole digits zero [] piece fits uncut is = is
+number_after whole digits (suc less) [] piece fits uncut is = is
+number_after whole digits zero (next ∷ more) piece fits uncut is =
     choose (next == 39) (constant_piece digits (take (constant_len more) more)) (Found kind.Number (length digits)) piece
-    (λ yes told. choose (bytes_eq digits (codes "1") && is_bit (take (constant_len more) more))
+    (λ yes reported. choose (bytes_eq digits (codes "1") && is_bit (take (constant_len more) more))
     (Found kind.Constant (length digits + 1 + length (take (constant_len more) more))) (Broken 0 Unsupported) piece
     (λ bit read. absurd (over (length (take (constant_len more) more)) (subst (IsUncut whole) (sym read) uncut).0))
-    (λ other read. absurd (broken_none whole 0 Unsupported piece uncut read)) told) (λ no told. told) is
+    (λ other read. absurd (broken_none whole 0 Unsupported piece uncut read)) reported) (λ no reported. reported) is
   where
     over : (len : ℕ) → length digits + 1 + len ≤ suc whole → ⊥
     over len is = omega (arith, fits, is)
-number_behind whole digits (suc less) (next ∷ more) piece fits uncut is =
+number_after whole digits (suc less) (next ∷ more) piece fits uncut is =
     either (next == 39) (constant_piece digits (take (constant_len more) more)) (Found kind.Number (length digits))
     (constant_piece digits (take (constant_len (take less more)) (take less more))) (Found kind.Number (length digits)) piece
-    (λ yes told.
+    (λ yes reported.
     let within : constant_len more ≤ less =
     choose (bytes_eq digits (codes "1") && is_bit (take (constant_len more) more))
     (Found kind.Constant (length digits + 1 + length (take (constant_len more) more))) (Broken 0 Unsupported) piece
     (λ bit read. fitting (length (take (constant_len more) more)) (length-prefix_len is_constant_byte more) (subst (IsUncut whole) (sym read) uncut).0)
-    (λ other read. absurd (broken_none whole 0 Unsupported piece uncut read)) told in
-    ap (constant_piece digits) (run_cut is_constant_byte less more within) ∙ told) (λ no told. told) is
+    (λ other read. absurd (broken_none whole 0 Unsupported piece uncut read)) reported in
+    ap (constant_piece digits) (run_cut is_constant_byte less more within) ∙ reported) (λ no reported. reported) is
   where
     fitting : (len : ℕ) → len ≡ constant_len more → length digits + 1 + len ≤ suc whole → constant_len more ≤ less
     fitting len same is = omega (arith, fits, same, is)
@@ -327,20 +327,20 @@ number_behind whole digits (suc less) (next ∷ more) piece fits uncut is =
 constant_within : (cut : ℕ) (digits value : List ℕ) (piece : Piece) → IsUncut cut piece → constant_piece digits value ≡ piece
     → length digits ≤ suc cut
 unfolding constant_piece
-constant_within cut digits value piece uncut told =
+constant_within cut digits value piece uncut reported =
     choose (bytes_eq digits (codes "1") && is_bit value) (Found kind.Constant (length digits + 1 + length value)) (Broken 0 Unsupported) piece
     (λ bit read. fit (length digits) (length value) (subst (IsUncut cut) (sym read) uncut).0)
-    (λ other read. absurd (broken_none cut 0 Unsupported piece uncut read)) told
+    (λ other read. absurd (broken_none cut 0 Unsupported piece uncut read)) reported
   where
     fit : (len more : ℕ) → len + 1 + more ≤ suc cut → len ≤ suc cut
     fit len more is = omega (arith, is)
 
 digits_within : (cut : ℕ) (digits rest : List ℕ) (piece : Piece) → IsUncut cut piece → number_before digits rest ≡ piece → length digits ≤ suc cut
-digits_within cut digits [] piece uncut told = (subst (IsUncut cut) (sym told) uncut).0
-digits_within cut digits (next ∷ more) piece uncut told =
+digits_within cut digits [] piece uncut reported = (subst (IsUncut cut) (sym reported) uncut).0
+digits_within cut digits (next ∷ more) piece uncut reported =
     choose (next == 39) (constant_piece digits (take (constant_len more) more)) (Found kind.Number (length digits)) piece
     (λ yes read. constant_within cut digits (take (constant_len more) more) piece uncut read)
-    (λ no read. (subst (IsUncut cut) (sym read) uncut).0) told
+    (λ no read. (subst (IsUncut cut) (sym read) uncut).0) reported
 
 number_cut : (cut : ℕ) (text : List ℕ) (piece : Piece) → IsUncut cut piece → number_piece text ≡ piece → number_piece (take (suc cut) text) ≡ piece
 unfolding number_piece
@@ -353,7 +353,7 @@ number_cut cut text piece uncut is =
     ap (λ (digits : List ℕ). number_before digits (drop (digits_len (take (suc cut) text)) (take (suc cut) text))) (run_cut is_digit (suc cut) text within)
     ∙ ap (λ (len : ℕ). number_before (take (digits_len text) text) (drop len (take (suc cut) text))) same
     ∙ ap (number_before (take (digits_len text) text)) (drop_take (digits_len text) (suc cut) text)
-    ∙ number_behind cut (take (digits_len text) text) (suc cut - digits_len text) (drop (digits_len text) text) piece
+    ∙ number_after cut (take (digits_len text) text) (suc cut - digits_len text) (drop (digits_len text) text) piece
     (omega (arith, count, within)) uncut is
 
 quote_cut : (cut : ℕ) (more : List ℕ) (piece : Piece) → IsUncut cut piece → quote_piece more ≡ piece → quote_piece (take cut more) ≡ piece
@@ -361,7 +361,7 @@ unfolding quote_piece
 quote_cut cut [] piece uncut is = absurd (broken_none cut 0 Syntax piece uncut is)
 quote_cut cut (byte ∷ more) piece uncut is =
     choose (is_letter byte || is_digit byte) (Broken 0 Unsupported) (Broken 0 Syntax) piece
-    (λ yes told. absurd (broken_none cut 0 Unsupported piece uncut told)) (λ no told. absurd (broken_none cut 0 Syntax piece uncut told)) is
+    (λ yes reported. absurd (broken_none cut 0 Unsupported piece uncut reported)) (λ no reported. absurd (broken_none cut 0 Syntax piece uncut reported)) is
 
 name_cut : (cut : ℕ) (text : List ℕ) (piece : Piece) → IsUncut cut piece → Found kind.Name (name_len text) ≡ piece
     → Found kind.Name (name_len (take (suc cut) text)) ≡ piece
@@ -369,26 +369,26 @@ name_cut cut text piece uncut is =
     ap (λ (len : ℕ). Found kind.Name len) (prefix_cut is_name_byte (suc cut) text (subst (IsUncut cut) (sym is) uncut).0) ∙ is
 
 -- the ways of a piece, one after another
-abbrev pub behind_name : ℕ → List ℕ → Piece
-behind_name byte rest = cond (is_digit byte) (number_piece (byte ∷ rest)) (sign_piece byte)
+abbrev pub after_name : ℕ → List ℕ → Piece
+after_name byte rest = cond (is_digit byte) (number_piece (byte ∷ rest)) (sign_piece byte)
 
-abbrev pub behind_quote : ℕ → List ℕ → Piece
-behind_quote byte rest = cond (begins_name byte) (Found kind.Name (name_len (byte ∷ rest))) (behind_name byte rest)
+abbrev pub after_quote : ℕ → List ℕ → Piece
+after_quote byte rest = cond (begins_name byte) (Found kind.Name (name_len (byte ∷ rest))) (after_name byte rest)
 
-abbrev pub behind_escaped : ℕ → List ℕ → Piece
-behind_escaped byte rest = cond (byte == 39) (quote_piece rest) (behind_quote byte rest)
+abbrev pub after_escaped : ℕ → List ℕ → Piece
+after_escaped byte rest = cond (byte == 39) (quote_piece rest) (after_quote byte rest)
 
-abbrev pub behind_directive : ℕ → List ℕ → Piece
-behind_directive byte rest = cond (byte == 92) (escaped_piece rest) (behind_escaped byte rest)
+abbrev pub after_directive : ℕ → List ℕ → Piece
+after_directive byte rest = cond (byte == 92) (escaped_piece rest) (after_escaped byte rest)
 
-abbrev pub behind_open : Bool → ℕ → List ℕ → Piece
-behind_open begins_line byte rest = cond (byte == 96) (directive_piece begins_line rest) (behind_directive byte rest)
+abbrev pub after_open : Bool → ℕ → List ℕ → Piece
+after_open begins_line byte rest = cond (byte == 96) (directive_piece begins_line rest) (after_directive byte rest)
 
-abbrev pub behind_slash : Bool → ℕ → List ℕ → Piece
-behind_slash begins_line byte rest = cond (byte == 40) (open_piece rest) (behind_open begins_line byte rest)
+abbrev pub after_slash : Bool → ℕ → List ℕ → Piece
+after_slash begins_line byte rest = cond (byte == 40) (open_piece rest) (after_open begins_line byte rest)
 
-abbrev pub behind_white : Bool → ℕ → List ℕ → Piece
-behind_white begins_line byte rest = cond (byte == 47) (slash_piece rest) (behind_slash begins_line byte rest)
+abbrev pub after_white : Bool → ℕ → List ℕ → Piece
+after_white begins_line byte rest = cond (byte == 47) (slash_piece rest) (after_slash begins_line byte rest)
 
 -- a piece that ends before the cut is the same there; a `(` needs that no `*` follows before the cut
 pub piece_cut : (begins_line : Bool) (cut byte : ℕ) (more : List ℕ) (piece : Piece) → IsUncut cut piece
@@ -396,19 +396,19 @@ pub piece_cut : (begins_line : Bool) (cut byte : ℕ) (more : List ℕ) (piece :
     → piece_of begins_line (byte ∷ take cut more) ≡ piece
 unfolding piece_of
 piece_cut begins_line cut byte more piece uncut lone is =
-    either (is_white byte) Blank (behind_white begins_line byte more) Blank (behind_white begins_line byte (take cut more)) piece (λ yes told. told)
-    (λ no told. either (byte == 47) (slash_piece more) (behind_slash begins_line byte more) (slash_piece (take cut more)) (behind_slash begins_line byte (take cut more)) piece
+    either (is_white byte) Blank (after_white begins_line byte more) Blank (after_white begins_line byte (take cut more)) piece (λ yes reported. reported)
+    (λ no reported. either (byte == 47) (slash_piece more) (after_slash begins_line byte more) (slash_piece (take cut more)) (after_slash begins_line byte (take cut more)) piece
     (λ yes read. slash_cut cut more piece uncut read)
-    (λ no read. either (byte == 40) (open_piece more) (behind_open begins_line byte more) (open_piece (take cut more)) (behind_open begins_line byte (take cut more)) piece
-    (λ yes told. open_cut cut more piece uncut lone told)
-    (λ no told. either (byte == 96) (directive_piece begins_line more) (behind_directive byte more) (directive_piece begins_line (take cut more))
-    (behind_directive byte (take cut more)) piece (λ yes read. directive_cut begins_line cut more piece uncut read)
-    (λ no read. either (byte == 92) (escaped_piece more) (behind_escaped byte more) (escaped_piece (take cut more)) (behind_escaped byte (take cut more)) piece
-    (λ yes told. escaped_cut cut more piece uncut told)
-    (λ no told. either (byte == 39) (quote_piece more) (behind_quote byte more) (quote_piece (take cut more)) (behind_quote byte (take cut more)) piece
+    (λ no read. either (byte == 40) (open_piece more) (after_open begins_line byte more) (open_piece (take cut more)) (after_open begins_line byte (take cut more)) piece
+    (λ yes reported. open_cut cut more piece uncut lone reported)
+    (λ no reported. either (byte == 96) (directive_piece begins_line more) (after_directive byte more) (directive_piece begins_line (take cut more))
+    (after_directive byte (take cut more)) piece (λ yes read. directive_cut begins_line cut more piece uncut read)
+    (λ no read. either (byte == 92) (escaped_piece more) (after_escaped byte more) (escaped_piece (take cut more)) (after_escaped byte (take cut more)) piece
+    (λ yes reported. escaped_cut cut more piece uncut reported)
+    (λ no reported. either (byte == 39) (quote_piece more) (after_quote byte more) (quote_piece (take cut more)) (after_quote byte (take cut more)) piece
     (λ yes read. quote_cut cut more piece uncut read)
-    (λ no read. either (begins_name byte) (Found kind.Name (name_len (byte ∷ more))) (behind_name byte more)
-    (Found kind.Name (name_len (byte ∷ take cut more))) (behind_name byte (take cut more)) piece
-    (λ yes told. name_cut cut (byte ∷ more) piece uncut told)
-    (λ no told. either (is_digit byte) (number_piece (byte ∷ more)) (sign_piece byte) (number_piece (byte ∷ take cut more)) (sign_piece byte) piece
-    (λ yes read. number_cut cut (byte ∷ more) piece uncut read) (λ no read. read) told) read) told) read) told) read) told) is
+    (λ no read. either (begins_name byte) (Found kind.Name (name_len (byte ∷ more))) (after_name byte more)
+    (Found kind.Name (name_len (byte ∷ take cut more))) (after_name byte (take cut more)) piece
+    (λ yes reported. name_cut cut (byte ∷ more) piece uncut reported)
+    (λ no reported. either (is_digit byte) (number_piece (byte ∷ more)) (sign_piece byte) (number_piece (byte ∷ take cut more)) (sign_piece byte) piece
+    (λ yes read. number_cut cut (byte ∷ more) piece uncut read) (λ no read. read) reported) read) reported) read) reported) read) reported) is

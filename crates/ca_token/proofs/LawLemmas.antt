@@ -13,13 +13,13 @@ use Rattle.ca_token.proofs.BeforeLemmas.{before_flaw}
 -- the bytes before it are a list of tokens
 pub bytes_before : (text : List ℕ) (at line : ℕ) (kind : LexKind) → tokens_of text ≡ Err (At at line kind)
     → tokens_of (take at text) ≡ Ok (scan_of text).tokens
-bytes_before text at line kind told = by (scan_of text).flaw refl told
+bytes_before text at line kind reported = by (scan_of text).flaw refl reported
   where
     by : (flaw : Option fault.Flaw) → (scan_of text).flaw ≡ flaw
         → elim flaw as (λ _. Result (List Token) LexFault) [ None ↦ Ok (scan_of text).tokens | Some flaw ↦ Err (fault_at text flaw) ]
         ≡ Err (At at line kind) → tokens_of (take at text) ≡ Ok (scan_of text).tokens
-    by None is told = absurd cc
-    by (Some flaw) is told =
+    by None is reported = absurd cc
+    by (Some flaw) is reported =
         let same : flaw.at ≡ at = cc in
         let cut : flaw.at - 0 ≡ at = omega (arith, same) in
         ap (whole (take at text))

@@ -21,8 +21,8 @@ use Rattle.ca_token.specs.Piece.{directive_line, directive_piece, has_quote, is_
 use Rattle.ca_token.specs.Piece.{escaped_piece, constant_piece, number_before, number_piece, quote_piece}
 use Rattle.ca_token.specs.Piece.{sign_piece, piece_of}
 use Rattle.ca_token.specs.Scan.{Scan, broken_at, with_token, token_at, scan_from, scan_of, text_of}
-use Rattle.ca_token.proofs.CutLemmas.{behind_name, behind_quote, behind_escaped, behind_directive, behind_open}
-use Rattle.ca_token.proofs.CutLemmas.{behind_slash, behind_white}
+use Rattle.ca_token.proofs.CutLemmas.{after_name, after_quote, after_escaped, after_directive, after_open}
+use Rattle.ca_token.proofs.CutLemmas.{after_slash, after_white}
 use Rattle.ca_token.specs.Names.{is_unquoted, is_plain_name, HasPlainName, NamesArePlain}
 
 -- a token that the text begins with is such
@@ -30,7 +30,7 @@ abbrev IsNamedPiece : List ℕ → Piece → Type 0
 IsNamedPiece text Blank = ⊤
 IsNamedPiece text (Skipped len) = ⊤
 IsNamedPiece text (Found found len) = HasPlainName found (take len text)
-IsNamedPiece text (Broken shift told) = ⊤
+IsNamedPiece text (Broken shift reported) = ⊤
 
 -- a choice has what both its ways have
 ways : {T : Type 0} (P : T → Type 0) (test : Bool) (one other : T) → (test ≡ true → P one) → (test ≡ false → P other) → P (cond test one other)
@@ -238,14 +238,14 @@ sign_named whole byte =
 piece_named : (begins_line : Bool) (byte : ℕ) (more : List ℕ) → IsNamedPiece (byte ∷ more) (piece_of begins_line (byte ∷ more))
 unfolding piece_of
 piece_named begins_line byte more =
-    ways (IsNamedPiece (byte ∷ more)) (is_white byte) Blank (behind_white begins_line byte more) (λ yes. tt)
-    (λ no. ways (IsNamedPiece (byte ∷ more)) (byte == 47) (slash_piece more) (behind_slash begins_line byte more) (λ yes. slash_named (byte ∷ more) more)
-    (λ other. ways (IsNamedPiece (byte ∷ more)) (byte == 40) (open_piece more) (behind_open begins_line byte more) (λ yes. open_named (byte ∷ more) more)
-    (λ no. ways (IsNamedPiece (byte ∷ more)) (byte == 96) (directive_piece begins_line more) (behind_directive byte more)
+    ways (IsNamedPiece (byte ∷ more)) (is_white byte) Blank (after_white begins_line byte more) (λ yes. tt)
+    (λ no. ways (IsNamedPiece (byte ∷ more)) (byte == 47) (slash_piece more) (after_slash begins_line byte more) (λ yes. slash_named (byte ∷ more) more)
+    (λ other. ways (IsNamedPiece (byte ∷ more)) (byte == 40) (open_piece more) (after_open begins_line byte more) (λ yes. open_named (byte ∷ more) more)
+    (λ no. ways (IsNamedPiece (byte ∷ more)) (byte == 96) (directive_piece begins_line more) (after_directive byte more)
     (λ yes. directive_named (byte ∷ more) begins_line more)
-    (λ other. ways (IsNamedPiece (byte ∷ more)) (byte == 92) (escaped_piece more) (behind_escaped byte more) (λ yes. escaped_named byte more)
-    (λ no. ways (IsNamedPiece (byte ∷ more)) (byte == 39) (quote_piece more) (behind_quote byte more) (λ yes. quote_named (byte ∷ more) more)
-    (λ other. ways (IsNamedPiece (byte ∷ more)) (begins_name byte) (Found kind.Name (name_len (byte ∷ more))) (behind_name byte more)
+    (λ other. ways (IsNamedPiece (byte ∷ more)) (byte == 92) (escaped_piece more) (after_escaped byte more) (λ yes. escaped_named byte more)
+    (λ no. ways (IsNamedPiece (byte ∷ more)) (byte == 39) (quote_piece more) (after_quote byte more) (λ yes. quote_named (byte ∷ more) more)
+    (λ other. ways (IsNamedPiece (byte ∷ more)) (begins_name byte) (Found kind.Name (name_len (byte ∷ more))) (after_name byte more)
     (λ yes. name_named byte more yes)
     (λ no. ways (IsNamedPiece (byte ∷ more)) (is_digit byte) (number_piece (byte ∷ more)) (sign_piece byte)
     (λ yes. number_named (byte ∷ more) (byte ∷ more)) (λ other. sign_named (byte ∷ more) byte))))))))
@@ -255,7 +255,7 @@ abbrev by_piece : Bool → ℕ → ℕ → List ℕ → Piece → Scan
 by_piece begins_line place byte more Blank = scan_from (begins_line || byte == 10) 0 (place + 1) more
 by_piece begins_line place byte more (Skipped len) = scan_from false (len - 1) (place + 1) more
 by_piece begins_line place byte more (Found found len) = with_token (token_at place found len) (scan_from false (len - 1) (place + 1) more)
-by_piece begins_line place byte more (Broken shift told) = broken_at place shift told
+by_piece begins_line place byte more (Broken shift reported) = broken_at place shift reported
 
 first_is : (begins_line : Bool) (place byte : ℕ) (more : List ℕ)
     → scan_from begins_line 0 place (byte ∷ more) ≡ by_piece begins_line place byte more (piece_of begins_line (byte ∷ more))
@@ -266,12 +266,12 @@ first_is begins_line place byte more = whole (piece_of begins_line (byte ∷ mor
       | Blank ↦ scan_from (begins_line || byte == 10) 0 (place + 1) more
       | Skipped len ↦ scan_from false (len - 1) (place + 1) more
       | Found found len ↦ with_token (token_at place found len) (scan_from false (len - 1) (place + 1) more)
-      | Broken shift told ↦ broken_at place shift told
+      | Broken shift reported ↦ broken_at place shift reported
     ] ≡ by_piece begins_line place byte more given
     whole Blank = refl
     whole (Skipped len) = refl
     whole (Found found len) = refl
-    whole (Broken shift told) = refl
+    whole (Broken shift reported) = refl
 
 -- a text after one more byte
 next_text : (whole : List ℕ) (place byte : ℕ) (more : List ℕ) → drop place whole ≡ byte ∷ more → drop (place + 1) whole ≡ more
@@ -308,7 +308,7 @@ scan_named begins_line zero place (byte ∷ more) whole at =
         let same : text_of (token_at place found len) whole ≡ take len (byte ∷ more) =
         (λ j. take (count j) (at j)) in
         (subst (HasPlainName found) (sym same) named, later false (len - 1))
-    by (Broken shift told) named later = tt
+    by (Broken shift reported) named later = tt
 
 from_recursion : {X : Type 0} (P : X → Type 0) (xs : List X) → AllByRecursion P xs → All P xs
 from_recursion P [] all k d below = absurd (omega (arith, below))

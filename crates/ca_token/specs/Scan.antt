@@ -47,12 +47,12 @@ scan_from begins_line zero place (byte ∷ more) = elim (piece_of begins_line (b
 ]
 
 -- the tokens of a text after this place, which is 0 or the end of a token
-abbrev pub tokens_behind : ℕ → List ℕ → Scan
-tokens_behind place text = scan_from (place == 0) 0 place (drop place text)
+abbrev pub tokens_after : ℕ → List ℕ → Scan
+tokens_after place text = scan_from (place == 0) 0 place (drop place text)
 
 -- the tokens of a text
 abbrev pub scan_of : List ℕ → Scan
-scan_of text = tokens_behind 0 text
+scan_of text = tokens_after 0 text
 
 -- the line of the byte at this place, counted from 1; a line feed belongs to the line that it ends
 abbrev pub line_at : ℕ → List ℕ → ℕ

@@ -1,9 +1,9 @@
 //! The tokens of a text.
 ghost use Rattle.std.specs.Prelude.{◌≡◌, ◌≤◌, ◌||◌, ◌==◌, [], ◌∷◌, ◌++◌, length, OnOk};
 ghost use Rattle.ca_lex.specs.Reading.{Gives};
-ghost use Rattle.ca_token.specs.LexFault.{fault_told, tokens_of};
+ghost use Rattle.ca_token.specs.LexFault.{fault_reported, tokens_of};
 ghost use Rattle.ca_token.specs.Next.{IsNext};
-ghost use Rattle.ca_token.specs.Scan.{line_at, tokens_behind};
+ghost use Rattle.ca_token.specs.Scan.{line_at, tokens_after};
 
 use crate::fault::{Flaw, LexFault};
 use crate::piece::{Piece, piece_of};
@@ -67,7 +67,7 @@ pub fn line_at(text: &[u8], place: usize) -> usize
 }
 
 // Whether only white space is before the byte after a byte of white space, on its line.
-fn begins_line_behind(begins_line: bool, byte: u8) -> bool
+fn begins_line_after(begins_line: bool, byte: u8) -> bool
     ensures { result ≡ (begins_line || byte == 10) }
 {
     begins_line || byte == b'\n'
@@ -77,7 +77,7 @@ fn begins_line_behind(begins_line: bool, byte: u8) -> bool
 /// before.
 pub fn next_token(text: &[u8], place: usize) -> Next
     requires { place ≤ length text.now }
-    ensures { IsNext text.now place result (tokens_behind place text.now) }
+    ensures { IsNext text.now place result (tokens_after place text.now) }
 {
     let mut at = place;
     let mut begins_line = place == 0;
@@ -85,7 +85,7 @@ pub fn next_token(text: &[u8], place: usize) -> Next
         let (_, rest) = text.split_at(at);
         match piece_of(begins_line, rest) {
             Piece::Blank => {
-                begins_line = begins_line_behind(begins_line, text[at]);
+                begins_line = begins_line_after(begins_line, text[at]);
                 at += 1;
             }
             Piece::Skipped(len) => {
@@ -113,7 +113,7 @@ pub fn next_token(text: &[u8], place: usize) -> Next
 
 /// The tokens of a gate netlist's text, or its first fault.
 pub fn verilog_tokens(alloc: Global, bytes: &[u8]) -> Result<Tokens, LexFault>
-    ensures { Gives fault_told (λ tokens. tokens) result (tokens_of bytes.now) }
+    ensures { Gives fault_reported (λ tokens. tokens) result (tokens_of bytes.now) }
 {
     let mut tokens = Tokens {
         tokens: Vec::new(alloc),

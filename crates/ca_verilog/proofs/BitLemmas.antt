@@ -14,7 +14,7 @@ use Rattle.ca_verilog.specs.declared.raw.RawSpan.{RawSpan}
 use Rattle.ca_verilog.specs.declared.table.Range.{Range}
 use Rattle.ca_verilog.specs.Bus.{range_at}
 use Rattle.ca_verilog.specs.IsNetlist.{range_width, bit_count, IsBit, IsOnBit, IsJoinOf}
-use Rattle.ca_verilog.specs.Joins.{bit_behind, pairs_from}
+use Rattle.ca_verilog.specs.Joins.{bit_after, pairs_from}
 use Rattle.ca_verilog.specs.Kept.{IsIndexOf, IsOperand, IsUsed, IsJoin}
 use Rattle.ca_verilog.specs.Netlist.{bits_with, first_bits, first_at, first_bit, offset_in, raw_range}
 use Rattle.ca_verilog.specs.Netlist.{raw_bus, raw_span, raw_joins}
@@ -25,14 +25,14 @@ pub bits_grow : (bits : ℕ) (buses : List Bus) → bits ≤ bits_with bits buse
 bits_grow bits [] = omega arith
 bits_grow bits (bus ∷ more) = omega (arith, bits_grow (bits + width_in bus.range) more)
 
-width_told : (range : Option Range) → range_width (option_map raw_range range) ≡ width_in range
-width_told None = refl
-width_told (Some range) = refl
+width_reported : (range : Option Range) → range_width (option_map raw_range range) ≡ width_in range
+width_reported None = refl
+width_reported (Some range) = refl
 
 -- the bits of names are counted one name after another
 pub counted : (bits : ℕ) (buses : List Bus) → bits_with bits buses ≡ bits + bit_count (map raw_bus buses)
 counted bits [] = omega arith
-counted bits (bus ∷ more) = omega (arith, counted (bits + width_in bus.range) more, width_told bus.range)
+counted bits (bus ∷ more) = omega (arith, counted (bits + width_in bus.range) more, width_reported bus.range)
 
 -- the bits of the name at a place are among all
 pub bits_at : (bits : ℕ) (buses : List Bus) (place : ℕ) → place < length buses
@@ -67,12 +67,12 @@ offset_within None index is = absurd is
 offset_within (Some range) index is = between index range _ _ refl refl is
 
 -- the bits of an operand are declared ones
-pub behind_within : (buses : List Bus) (operand : Operand) (step : ℕ) → IsOperand buses operand → step < width_of buses operand
-    → IsBit (bits_with 0 buses) (bit_behind step (first_bit (first_bits 0 buses) buses operand))
-behind_within buses (Whole place) step is within = omega (arith, bits_at 0 buses place is)
-behind_within buses (Bit place index) step is within =
+pub after_within : (buses : List Bus) (operand : Operand) (step : ℕ) → IsOperand buses operand → step < width_of buses operand
+    → IsBit (bits_with 0 buses) (bit_after step (first_bit (first_bits 0 buses) buses operand))
+after_within buses (Whole place) step is within = omega (arith, bits_at 0 buses place is)
+after_within buses (Bit place index) step is within =
     omega (arith, bits_at 0 buses place is.0, offset_within (range_at place buses) index is.1)
-behind_within buses (Constant value) step is within = tt
+after_within buses (Constant value) step is within = tt
 
 -- the first bit of an operand is a declared one
 pub first_within : (buses : List Bus) (operand : Operand) → IsOperand buses operand
@@ -93,11 +93,11 @@ width_within buses (Bit place index) is = omega arith
 width_within buses (Constant value) is = omega arith
 
 pairs_within : (count : ℕ) (span : RawSpan) (step many : ℕ)
-    → ((k : ℕ) → k < step + many → IsBit count (bit_behind k span.left) × IsBit count (bit_behind k span.right))
+    → ((k : ℕ) → k < step + many → IsBit count (bit_after k span.left) × IsBit count (bit_after k span.right))
     → All (IsJoinOf count) (pairs_from span step many)
 pairs_within count span step zero within = All-nil (IsJoinOf count)
 pairs_within count span step (suc many) within =
-    All-cons (IsJoinOf count) (record { left = bit_behind step span.left; right = bit_behind step span.right })
+    All-cons (IsJoinOf count) (record { left = bit_after step span.left; right = bit_after step span.right })
     (pairs_from span (step + 1) many) (within step (omega arith))
     (pairs_within count span (step + 1) many (λ k lt. within k (omega arith)))
 
@@ -110,7 +110,7 @@ joins_within buses (join ∷ more) are =
     All-append (IsJoinOf (bits_with 0 buses)) (raw_joins (first_bits 0 buses) buses join)
     (flat_map (raw_joins (first_bits 0 buses) buses) more)
     (pairs_within (bits_with 0 buses) (raw_span (first_bits 0 buses) buses join) 0 (width_of buses join.left)
-    (λ k lt. (behind_within buses join.left k is.left_side (omega arith), behind_within buses join.right k is.right_side (omega (arith, is.same_width)))))
+    (λ k lt. (after_within buses join.left k is.left_side (omega arith), after_within buses join.right k is.right_side (omega (arith, is.same_width)))))
     (joins_within buses more (All-tail (IsJoin buses) join more are))
 
 -- the number of an operand's first bit is one of a declared bit

@@ -22,9 +22,9 @@ pub differ : (one other : List ℕ) → bytes_eq one other ≡ false → bytes_e
 differ one other is = by (bytes_eq other one) refl
   where
     by : (same : Bool) → bytes_eq other one ≡ same → same ≡ false
-    by false told = refl
-    by true told =
-        let equal : other ≡ one = (bytes_eq-Decides other one).0 told in
+    by false reported = refl
+    by true reported =
+        let equal : other ≡ one = (bytes_eq-Decides other one).0 reported in
         absurd (true≢false (sym ((bytes_eq-Decides one other).1 (sym equal)) ∙ is))
 
 apart_grown : (name new : List ℕ) (names : List (List ℕ)) → AllByRecursion (λ other. bytes_eq name other ≡ false) names

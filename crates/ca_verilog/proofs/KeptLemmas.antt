@@ -93,10 +93,10 @@ pub place_named : (name : List ℕ) (buses : List Bus) (place : ℕ) (bus : Bus)
     → bus.name ≡ name
 place_named name buses place bus found there =
     let at : slice_get (map (λ (bus : Bus). bus.name) buses) place ≡ Some bus.name = named_at buses place bus there in
-    let told : bytes_eq name (get_or (map (λ (bus : Bus). bus.name) buses) place []) ≡ true =
+    let reported : bytes_eq name (get_or (map (λ (bus : Bus). bus.name) buses) place []) ≡ true =
     (position-Some (bytes_eq name) (map (λ (bus : Bus). bus.name) buses) place [] found).1 in
     let equal : bytes_eq name bus.name ≡ true =
-    subst (λ (other : List ℕ). bytes_eq name other ≡ true) (got (map (λ (bus : Bus). bus.name) buses) place bus.name [] at) told in
+    subst (λ (other : List ℕ). bytes_eq name other ≡ true) (got (map (λ (bus : Bus). bus.name) buses) place bus.name [] at) reported in
     sym ((bytes_eq-Decides name bus.name).0 equal)
   where
     named_at : (buses : List Bus) (place : ℕ) (bus : Bus) → slice_get buses place ≡ Some bus
@@ -200,22 +200,22 @@ declared direction range name ports buses grown are is =
 
     by : (found : Option ℕ) → bus_of name buses ≡ found → (is_inner direction ≡ false → has_name name ports ≡ true)
         → given found ≡ Ok grown → Declares ports buses grown
-    by None none allowed told = pushed_kept direction range name ports buses grown none allowed are told
-    by (Some place) at allowed told =
-        again_kept direction range name ports buses grown place (slice_get buses place) refl at allowed are told
+    by None none allowed reported = pushed_kept direction range name ports buses grown none allowed are reported
+    by (Some place) at allowed reported =
+        again_kept direction range name ports buses grown place (slice_get buses place) refl at allowed are reported
 
 -- operands
 selected_kept : (buses : List Bus) (operand chosen : Operand) (index : ℕ) → IsOperand buses operand → selected buses operand index ≡ Ok chosen
     → IsOperand buses chosen
-selected_kept buses (Bit place at) chosen index is told = absurd cc
-selected_kept buses (Constant value) chosen index is told = absurd cc
-selected_kept buses (Whole place) chosen index is told = by (range_at place buses) refl told
+selected_kept buses (Bit place at) chosen index is reported = absurd cc
+selected_kept buses (Constant value) chosen index is reported = absurd cc
+selected_kept buses (Whole place) chosen index is reported = by (range_at place buses) refl reported
   where
     by : (range : Option Range) → range_at place buses ≡ range → bit_in place index range ≡ Ok chosen → IsOperand buses chosen
-    by None at told = absurd cc
-    by (Some range) at told =
+    by None at reported = absurd cc
+    by (Some range) at reported =
         let rule : (not (has_index index range) ≡ false) × (Ok (Bit place index) ≡ Ok chosen) =
-        passed (not (has_index index range)) BadRange (Ok (Bit place index)) chosen told in
+        passed (not (has_index index range)) BadRange (Ok (Bit place index)) chosen reported in
         subst (IsOperand buses) (inside (Bit place index) chosen rule.1)
         (is, subst (IsIndexOf index) (sym at) (not_false (has_index index range) rule.0))
 

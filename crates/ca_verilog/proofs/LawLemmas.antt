@@ -21,10 +21,10 @@ use Rattle.ca_verilog.specs.Laws.{IsFirstFaulty}
 
 -- a located step that has a fault has it at its token
 broken_at : (text : List ℕ) (here : Token) (line : ℕ) (kind : VerilogKind) (step : Step)
-    → elim step as (λ _. Result Reading VerilogFault) [ Ok next ↦ Ok next | Err told ↦ Err (at_token text here told) ] ≡ Err (At line kind)
+    → elim step as (λ _. Result Reading VerilogFault) [ Ok next ↦ Ok next | Err reported ↦ Err (at_token text here reported) ] ≡ Err (At line kind)
     → (step ≡ Err kind) × (line_at here.start text ≡ line)
-broken_at text here line kind (Ok next) told = absurd cc
-broken_at text here line kind (Err other) told = (cc, cc)
+broken_at text here line kind (Ok next) reported = absurd cc
+broken_at text here line kind (Err other) reported = (cc, cc)
 
 -- too many bits are no fault of a line
 not_limited : (it : Reading) (line : ℕ) (kind : VerilogKind) → limited it ≡ Err (At line kind) → ⊥
@@ -32,21 +32,21 @@ unfolding limited
 not_limited it line kind = by (nat_lt MOST_BITS (bits_with 0 it.buses))
   where
     by : (many : Bool) → cond many (Err (TooManyNets (bits_with 0 it.buses))) (Ok (netlist_with (first_bits 0 it.buses) it)) ≡ Err (At line kind) → ⊥
-    by true told = cc
-    by false told = cc
+    by true reported = cc
+    by false reported = cc
 
 found_end : (text : List ℕ) (line : ℕ) (kind : VerilogKind) (it : Reading) → tokens_from text nothing (scan_of text).tokens ≡ Ok it → (scan_of text).flaw ≡ None
     → (is_over : Bool) → is_end it.place ≡ is_over
     → limited_of (elim is_over as (λ _. Result Reading VerilogFault) [ true ↦ Ok it | false ↦ Err (At (line_at (length text - 1) text) Syntax) ]) ≡ Err (At line kind)
     → IsFirstFaulty text line kind
-found_end text line kind it read whole true is told = absurd (not_limited it line kind told)
-found_end text line kind it read whole false is told =
+found_end text line kind it read whole true is reported = absurd (not_limited it line kind reported)
+found_end text line kind it read whole false is reported =
     inr (inr (record { so_far = it; read = read; whole = whole; early = is; number = cc; same_kind = cc }))
 
 found_flaw : (text : List ℕ) (line : ℕ) (kind : VerilogKind) (it : Reading) → tokens_from text nothing (scan_of text).tokens ≡ Ok it
     → (flaw : Option Flaw) → (scan_of text).flaw ≡ flaw → limited_of (ended text (then_flaw text flaw (Ok it))) ≡ Err (At line kind) → IsFirstFaulty text line kind
-found_flaw text line kind it read None whole told = found_end text line kind it read whole (is_end it.place) refl told
-found_flaw text line kind it read (Some flaw) whole told =
+found_flaw text line kind it read None whole reported = found_end text line kind it read whole (is_end it.place) refl reported
+found_flaw text line kind it read (Some flaw) whole reported =
     inr (inl (record { so_far = it; flaw = flaw; read = read; found = whole; number = cc; same_kind = cc }))
 
 fault_kept : (text : List ℕ) (flaw : Option Flaw) (fault : VerilogFault) → limited_of (ended text (then_flaw text flaw (Err fault))) ≡ Err fault
@@ -58,9 +58,9 @@ inside one other is = cc
 
 found_in : (text : List ℕ) (line : ℕ) (kind : VerilogKind) (given : Result Reading VerilogFault) → tokens_from text nothing (scan_of text).tokens ≡ given
     → limited_of (ended text (then_flaw text (scan_of text).flaw given)) ≡ Err (At line kind) → IsFirstFaulty text line kind
-found_in text line kind (Ok it) read told = found_flaw text line kind it read (scan_of text).flaw refl told
-found_in text line kind (Err fault) read told =
-    let same : fault ≡ At line kind = inside fault (At line kind) (sym (fault_kept text (scan_of text).flaw fault) ∙ told) in
+found_in text line kind (Ok it) read reported = found_flaw text line kind it read (scan_of text).flaw refl reported
+found_in text line kind (Err fault) read reported =
+    let same : fault ≡ At line kind = inside fault (At line kind) (sym (fault_kept text (scan_of text).flaw fault) ∙ reported) in
     let it : IsFirstFault (located (at_token text) (token_step text)) nothing (scan_of text).tokens (At line kind) =
     first.found (located (at_token text) (token_step text)) nothing (scan_of text).tokens (At line kind) (read ∙ ap (λ (f : VerilogFault). Err f) same) in
     let at : (token_step text it.here it.so_far ≡ Err kind) × (line_at it.here.start text ≡ line) =
@@ -78,13 +78,13 @@ found_in text line kind (Err fault) read told =
 
 -- a fault on a line is the first of the text
 pub found : (text : List ℕ) (line : ℕ) (kind : VerilogKind) → netlist_of text ≡ Err (At line kind) → IsFirstFaulty text line kind
-found text line kind told = found_in text line kind (tokens_from text nothing (scan_of text).tokens) refl told
+found text line kind reported = found_in text line kind (tokens_from text nothing (scan_of text).tokens) refl reported
 
 -- the first fault of a text is reported
 pub only : (text : List ℕ) (line : ℕ) (kind : VerilogKind) → IsFirstFaulty text line kind → netlist_of text ≡ Err (At line kind)
 only text line kind (inl it) =
     let at : located (at_token text) (token_step text) it.here it.so_far ≡ Err (At line kind) =
-    ap (λ (step : Step). elim step as (λ _. Result Reading VerilogFault) [ Ok next ↦ Ok next | Err told ↦ Err (at_token text it.here told) ]) it.broken
+    ap (λ (step : Step). elim step as (λ _. Result Reading VerilogFault) [ Ok next ↦ Ok next | Err reported ↦ Err (at_token text it.here reported) ]) it.broken
     ∙ ap (λ (n : ℕ). Err (At n kind)) it.number in
     let read : tokens_from text nothing (scan_of text).tokens ≡ Err (At line kind) =
     first.only (located (at_token text) (token_step text)) nothing (scan_of text).tokens (At line kind)

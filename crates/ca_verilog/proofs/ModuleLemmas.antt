@@ -86,16 +86,16 @@ pub step_led : (lexeme : Lexeme) (name : List ℕ) (it next : Reading) → lexem
 unfolding lexeme_step
 step_led lexeme name it next is = moved (row_of it.place lexeme) name it next is
 
-led_behind : (text : List ℕ) (token : Token) (tokens : List Token) (it last : Reading) (given : Step) → token_step text token it ≡ given
+led_after : (text : List ℕ) (token : Token) (tokens : List Token) (it last : Reading) (given : Step) → token_step text token it ≡ given
     → ((next : Reading) → tokens_from text next tokens ≡ Ok last → places_from next.place (map (lexeme_at text) tokens) ≡ Ok last.place)
     → after_step (located (at_token text) (token_step text))
     (elim given as (λ _. Result Reading VerilogFault) [ Ok next ↦ Ok next | Err kind ↦ Err (at_token text token kind) ]) tokens ≡ Ok last
     → places_from it.place (map (lexeme_at text) (token ∷ tokens)) ≡ Ok last.place
-led_behind text token tokens it last (Ok next) is later read =
+led_after text token tokens it last (Ok next) is later read =
     steps_from-cons place_step it.place (lexeme_at text token) (map (lexeme_at text) tokens)
     ∙ ap (λ (step : Result Place VerilogKind). after_step place_step step (map (lexeme_at text) tokens))
     (step_led (lexeme_at text token) (name_of token.kind _) it next is) ∙ later next read
-led_behind text token tokens it last (Err kind) is later read = absurd cc
+led_after text token tokens it last (Err kind) is later read = absurd cc
 
 -- tokens that are read go along the table
 pub tokens_led : (text : List ℕ) (tokens : List Token) (it last : Reading) → tokens_from text it tokens ≡ Ok last
@@ -108,7 +108,7 @@ tokens_led text [] it last read = ap (λ (at : Place). Ok at) (by_value it last 
         let same : it ≡ last = cc in
         ap (λ (it : Reading). it.place) same
 tokens_led text (token ∷ tokens) it last read =
-    led_behind text token tokens it last (token_step text token it) refl (λ next. tokens_led text tokens next last)
+    led_after text token tokens it last (token_step text token it) refl (λ next. tokens_led text tokens next last)
     (sym (steps_from-cons (located (at_token text) (token_step text)) it token tokens) ∙ read)
 
 end_only : (at : Place) → is_end at ≡ true → at ≡ place.End
@@ -119,8 +119,8 @@ whole_end : (text : List ℕ) (it : Reading) (raw : RawNetlist) → tokens_from 
     → (is_over : Bool) → is_end it.place ≡ is_over
     → limited_of (elim is_over as (λ _. Result Reading VerilogFault) [ true ↦ Ok it | false ↦ Err (At (line_at (length text - 1) text) Syntax) ]) ≡ Ok raw
     → HasModule text
-whole_end text it raw read whole false is told = absurd cc
-whole_end text it raw read whole true is told = record {
+whole_end text it raw read whole false is reported = absurd cc
+whole_end text it raw read whole true is reported = record {
   whole = whole;
   in_grammar = module_way (map (lexeme_at text) (scan_of text).tokens)
       (tokens_led text (scan_of text).tokens nothing it read ∙ ap (λ (at : Place). Ok at) (end_only it.place is));
@@ -128,13 +128,13 @@ whole_end text it raw read whole true is told = record {
 
 whole_flaw : (text : List ℕ) (it : Reading) (raw : RawNetlist) → tokens_from text nothing (scan_of text).tokens ≡ Ok it
     → (flaw : Option Flaw) → (scan_of text).flaw ≡ flaw → limited_of (ended text (then_flaw text flaw (Ok it))) ≡ Ok raw → HasModule text
-whole_flaw text it raw read None whole told = whole_end text it raw read whole (is_end it.place) refl told
-whole_flaw text it raw read (Some flaw) whole told = absurd cc
+whole_flaw text it raw read None whole reported = whole_end text it raw read whole (is_end it.place) refl reported
+whole_flaw text it raw read (Some flaw) whole reported = absurd cc
 
 whole_in : (text : List ℕ) (raw : RawNetlist) (given : Result Reading VerilogFault) → tokens_from text nothing (scan_of text).tokens ≡ given
     → limited_of (ended text (then_flaw text (scan_of text).flaw given)) ≡ Ok raw → HasModule text
-whole_in text raw (Ok it) read told = whole_flaw text it raw read (scan_of text).flaw refl told
-whole_in text raw (Err fault) read told = absurd (no_reading (scan_of text).flaw fault told)
+whole_in text raw (Ok it) read reported = whole_flaw text it raw read (scan_of text).flaw refl reported
+whole_in text raw (Err fault) read reported = absurd (no_reading (scan_of text).flaw fault reported)
   where
     no_reading : (flaw : Option Flaw) (fault : VerilogFault) → limited_of (ended text (then_flaw text flaw (Err fault))) ≡ Ok raw → ⊥
     no_reading None fault is = cc
@@ -142,4 +142,4 @@ whole_in text raw (Err fault) read told = absurd (no_reading (scan_of text).flaw
 
 -- a text with a netlist is a module of the grammar
 pub in_grammar : (text : List ℕ) (raw : RawNetlist) → netlist_of text ≡ Ok raw → HasModule text
-in_grammar text raw told = whole_in text raw (tokens_from text nothing (scan_of text).tokens) refl told
+in_grammar text raw reported = whole_in text raw (tokens_from text nothing (scan_of text).tokens) refl reported

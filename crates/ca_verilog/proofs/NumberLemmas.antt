@@ -15,17 +15,17 @@ digits_grow value [] = omega arith
 digits_grow value (digit ∷ digits) = omega (arith, digits_grow (with_digit value digit) digits)
 
 -- a number with its digits, if it isn't too large
-abbrev told : ℕ → Lexeme
-told value = cond (nat_lt MOST value) Large (Number value)
+abbrev reported : ℕ → Lexeme
+reported value = cond (nat_lt MOST value) Large (Number value)
 
-pub number_told : (value : ℕ) (digits : List ℕ) → value ≤ MOST → number_from value digits ≡ told (fold with_digit value digits)
-number_told value [] few = ap (λ (large : Bool). cond large Large (Number value)) (sym (le-ltb MOST value few))
-number_told value (digit ∷ digits) few =
-    by (nat_lt MOST (with_digit value digit)) refl (number_told (with_digit value digit) digits)
+pub number_reported : (value : ℕ) (digits : List ℕ) → value ≤ MOST → number_from value digits ≡ reported (fold with_digit value digits)
+number_reported value [] few = ap (λ (large : Bool). cond large Large (Number value)) (sym (le-ltb MOST value few))
+number_reported value (digit ∷ digits) few =
+    by (nat_lt MOST (with_digit value digit)) refl (number_reported (with_digit value digit) digits)
   where
     by : (large : Bool) → nat_lt MOST (with_digit value digit) ≡ large
-        → (with_digit value digit ≤ MOST → number_from (with_digit value digit) digits ≡ told (fold with_digit (with_digit value digit) digits))
-        → cond large Large (number_from (with_digit value digit) digits) ≡ told (fold with_digit (with_digit value digit) digits)
+        → (with_digit value digit ≤ MOST → number_from (with_digit value digit) digits ≡ reported (fold with_digit (with_digit value digit) digits))
+        → cond large Large (number_from (with_digit value digit) digits) ≡ reported (fold with_digit (with_digit value digit) digits)
     by true is later =
         let passed : MOST < with_digit value digit = ltb-true MOST (with_digit value digit) is in
         let over : MOST < fold with_digit (with_digit value digit) digits = omega (arith, passed, digits_grow (with_digit value digit) digits) in

@@ -68,9 +68,9 @@ place_first (first ∷ more) distinct (suc place) name is =
     ap (λ (found : Bool). cond (not found) (1 + position_or_len (bytes_eq name) more) 0) other ∙ omega (arith, later)
 
 -- the place of a name among different ones is determined
-pub place_told : (names : List (List ℕ)) → IsDistinct bytes_eq names → (place : ℕ) (name : List ℕ) → slice_get names place ≡ Some name
+pub place_reported : (names : List (List ℕ)) → IsDistinct bytes_eq names → (place : ℕ) (name : List ℕ) → slice_get names place ≡ Some name
     → place_of name names ≡ Some place
-place_told names distinct place name is =
+place_reported names distinct place name is =
     ap (λ (at : ℕ). cond (nat_lt at (length names)) (Some at) None) (place_first names distinct place name is)
     ∙ ap (λ (inside : Bool). cond inside (Some place) None) (lt-ltb place (length names) (got_within names place name is))
 
@@ -82,9 +82,9 @@ found_at name (first ∷ more) is = by (bytes_eq name first) refl is (found_at n
     by : (same : Bool) → bytes_eq name first ≡ same → (same || has_name name more) ≡ true
         → (has_name name more ≡ true → (place : ℕ) × (slice_get more place ≡ Some name))
         → (place : ℕ) × (slice_get (first ∷ more) place ≡ Some name)
-    by true told is later =
-        let equal : name ≡ first = (bytes_eq-Decides name first).0 told in
+    by true reported is later =
+        let equal : name ≡ first = (bytes_eq-Decides name first).0 reported in
         (zero, ap (λ (n : List ℕ). Some n) (sym equal))
-    by false told is later =
+    by false reported is later =
         let there : (place : ℕ) × (slice_get more place ≡ Some name) = later is in
         (suc there.0, there.1)

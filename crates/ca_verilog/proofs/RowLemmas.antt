@@ -13,19 +13,19 @@ use Rattle.ca_verilog.specs.Table.{Move, row_of}
 use Rattle.ca_verilog.specs.Text.{is_end}
 
 -- the name in hand is new after the action, where it was before or not
-abbrev pub name_behind : Action → Bool → Bool
-name_behind action.TakeInstance was_new = true
-name_behind action.EndInstance was_new = false
-name_behind _ was_new = was_new
+abbrev pub name_after : Action → Bool → Bool
+name_after action.TakeInstance was_new = true
+name_after action.EndInstance was_new = false
+name_after _ was_new = was_new
 
 -- the pin in hand is new after the action
-abbrev pub pin_behind : Action → Bool → Bool
-pin_behind action.TakePin was_new = true
-pin_behind action.TakeInstance was_new = false
-pin_behind action.LeaveOpen was_new = false
-pin_behind action.Connect was_new = false
-pin_behind action.EndInstance was_new = false
-pin_behind _ was_new = was_new
+abbrev pub pin_after : Action → Bool → Bool
+pin_after action.TakePin was_new = true
+pin_after action.TakeInstance was_new = false
+pin_after action.LeaveOpen was_new = false
+pin_after action.Connect was_new = false
+pin_after action.EndInstance was_new = false
+pin_after _ was_new = was_new
 
 -- the action may be done with this name in hand
 abbrev pub takes_name : Action → Bool → Bool
@@ -45,23 +45,23 @@ closes _ = false
 
 -- the action leads from one place to the other with a new name and a new pin in hand where they say so
 pub record Follows (from : Place) (done : Action) (to : Place) : Type 0 where
-  pub name : in_instance to ≡ true → name_behind done (in_instance from) ≡ true
-  pub pin : in_pin to ≡ true → pin_behind done (in_pin from) ≡ true
+  pub name : in_instance to ≡ true → name_after done (in_instance from) ≡ true
+  pub pin : in_pin to ≡ true → pin_after done (in_pin from) ≡ true
   pub name_taken : takes_name done (in_instance from) ≡ true
   pub pin_taken : takes_pin done (in_pin from) ≡ true
   pub closed : is_end to ≡ true → closes done ≡ true
 
-abbrev behind_taken : Place → Action → Place → Bool
-behind_taken from done to = takes_pin done (in_pin from) && (not (is_end to) || closes done)
+abbrev after_taken : Place → Action → Place → Bool
+after_taken from done to = takes_pin done (in_pin from) && (not (is_end to) || closes done)
 
-abbrev behind_pin : Place → Action → Place → Bool
-behind_pin from done to = takes_name done (in_instance from) && behind_taken from done to
+abbrev after_pin : Place → Action → Place → Bool
+after_pin from done to = takes_name done (in_instance from) && after_taken from done to
 
-abbrev behind_name : Place → Action → Place → Bool
-behind_name from done to = (not (in_pin to) || pin_behind done (in_pin from)) && behind_pin from done to
+abbrev after_name : Place → Action → Place → Bool
+after_name from done to = (not (in_pin to) || pin_after done (in_pin from)) && after_pin from done to
 
 abbrev pub follows : Place → Action → Place → Bool
-follows from done to = (not (in_instance to) || name_behind done (in_instance from)) && behind_name from done to
+follows from done to = (not (in_instance to) || name_after done (in_instance from)) && after_name from done to
 
 abbrev moves : Place → Move → Bool
 moves from (Err kind) = true
@@ -77,13 +77,13 @@ implied false y is at = absurd cc
 
 pub followed : (from : Place) (done : Action) (to : Place) → follows from done to ≡ true → Follows from done to
 followed from done to is =
-    let one = both_true (not (in_instance to) || name_behind done (in_instance from)) (behind_name from done to) is in
-    let two = both_true (not (in_pin to) || pin_behind done (in_pin from)) (behind_pin from done to) one.1 in
-    let three = both_true (takes_name done (in_instance from)) (behind_taken from done to) two.1 in
+    let one = both_true (not (in_instance to) || name_after done (in_instance from)) (after_name from done to) is in
+    let two = both_true (not (in_pin to) || pin_after done (in_pin from)) (after_pin from done to) one.1 in
+    let three = both_true (takes_name done (in_instance from)) (after_taken from done to) two.1 in
     let four = both_true (takes_pin done (in_pin from)) (not (is_end to) || closes done) three.1 in
     record {
-      name = implied (in_instance to) (name_behind done (in_instance from)) one.0;
-      pin = implied (in_pin to) (pin_behind done (in_pin from)) two.0;
+      name = implied (in_instance to) (name_after done (in_instance from)) one.0;
+      pin = implied (in_pin to) (pin_after done (in_pin from)) two.0;
       name_taken = three.0;
       pin_taken = four.0;
       closed = implied (is_end to) (closes done) four.1;

@@ -35,10 +35,10 @@ use Rattle.ca_verilog.specs.Netlist.{bits_with, first_bits, raw_bus, raw_use, ra
 use Rattle.ca_verilog.specs.Netlist.{netlist_with, limited}
 use Rattle.ca_verilog.specs.Reading.{Reading, Step, nothing}
 use Rattle.ca_verilog.specs.Text.{token_step, at_token, tokens_from, then_flaw, is_end, ended, reading_of}
-use Rattle.ca_verilog.specs.VerilogFault.{fault_told}
+use Rattle.ca_verilog.specs.VerilogFault.{fault_reported}
 use Rattle.ca_verilog.proofs.BitLemmas.{counted, joins_within, used_within}
 use Rattle.ca_verilog.proofs.KeptLemmas.{all_at, got, place_named, step_kept, nothing_kept}
-use Rattle.ca_verilog.proofs.PlaceLemmas.{got_within, got_map, map_got, distinct_once, place_told, found_at}
+use Rattle.ca_verilog.proofs.PlaceLemmas.{got_within, got_map, map_got, distinct_once, place_reported, found_at}
 
 bus_names : (buses : List Bus) → map (λ (bus : RawBus). bus.name) (map raw_bus buses) ≡ map (λ (bus : Bus). bus.name) buses
 bus_names [] = refl
@@ -128,7 +128,7 @@ each_port ports buses are place (raw, there, outer) =
     let name_at = found_at at.0.name ports known in
     let is_place : port_place buses at.0.name ≡ place =
     place_is buses at.0.name place
-    (place_told (map (λ (bus : Bus). bus.name) buses) are.distinct_buses place at.0.name
+    (place_reported (map (λ (bus : Bus). bus.name) buses) are.distinct_buses place at.0.name
     (got_map (λ (bus : Bus). bus.name) buses place at.0 at.1)) in
     let got_place : slice_get (map (port_place buses) ports) name_at.0 ≡ Some (port_place buses at.0.name) =
     got_map (port_place buses) ports name_at.0 at.0.name name_at.1 in (
@@ -150,11 +150,11 @@ all_true test (first ∷ more) zero name all is =
     front : (x y : Bool) → (x && y) ≡ true → x ≡ true
     front true y is = refl
     front false y is = absurd cc
-all_true test (first ∷ more) (suc place) name all is = all_true test more place name (behind (test first) (list_all test more) all) is
+all_true test (first ∷ more) (suc place) name all is = all_true test more place name (following (test first) (list_all test more) all) is
   where
-    behind : (x y : Bool) → (x && y) ≡ true → y ≡ true
-    behind true y is = is
-    behind false y is = absurd cc
+    following : (x y : Bool) → (x && y) ≡ true → y ≡ true
+    following true y is = is
+    following false y is = absurd cc
 
 -- two names with directions that have one place are the same
 same_place : (buses : List Bus) (one other : List ℕ) → has_direction buses one ≡ true → has_direction buses other ≡ true
@@ -212,15 +212,15 @@ netlist_kept it kept over few few_instances =
 
 -- the netlist of a whole reading with not too many instances keeps it
 pub kept_in : (it : Reading) → IsWhole it → length it.instances < 2 ^ 30 → (result : Result RawNetlist VerilogFault)
-    → Gives fault_told (λ netlist. netlist) result (limited it) → IfOk result IsNetlist
+    → Gives fault_reported (λ netlist. netlist) result (limited it) → IfOk result IsNetlist
 unfolding limited
 kept_in it whole few (Err fault) gives = tt
 kept_in it whole few (Ok raw) gives = by (nat_lt MOST_BITS (bits_with 0 it.buses)) refl gives
   where
     by : (many : Bool) → nat_lt MOST_BITS (bits_with 0 it.buses) ≡ many
         → cond many (Err (TooManyNets (bits_with 0 it.buses))) (Ok (netlist_with (first_bits 0 it.buses) it)) ≡ Ok raw → IsNetlist raw
-    by true is told = absurd cc
-    by false is told =
+    by true is reported = absurd cc
+    by false is reported =
         let same : netlist_with (first_bits 0 it.buses) it ≡ raw = cc in
         subst IsNetlist same (netlist_kept it whole.kept whole.over (ltb-false MOST_BITS (bits_with 0 it.buses) is) few)
 
@@ -248,23 +248,23 @@ tokens_kept text (token ∷ tokens) it last kept read =
 
 whole_end : (text : List ℕ) (it last : Reading) → IsKept it.place it → (over : Bool) → is_end it.place ≡ over
     → elim over as (λ _. Result Reading VerilogFault) [ true ↦ Ok it | false ↦ Err (At (line_at (length text - 1) text) Syntax) ] ≡ Ok last → IsWhole last
-whole_end text it last kept false is told = absurd cc
-whole_end text it last kept true is told =
+whole_end text it last kept false is reported = absurd cc
+whole_end text it last kept true is reported =
     let same : it ≡ last = cc in
     subst (λ (one : Reading). IsWhole one) same (record { kept = kept; over = is })
 
 whole_flaw : (text : List ℕ) (it last : Reading) (flaw : Option Flaw) → IsKept it.place it → ended text (then_flaw text flaw (Ok it)) ≡ Ok last → IsWhole last
-whole_flaw text it last None kept told = whole_end text it last kept (is_end it.place) refl told
-whole_flaw text it last (Some flaw) kept told = absurd cc
+whole_flaw text it last None kept reported = whole_end text it last kept (is_end it.place) refl reported
+whole_flaw text it last (Some flaw) kept reported = absurd cc
 
 whole_in : (text : List ℕ) (last : Reading) (scan : Scan) (given : Result Reading VerilogFault) → tokens_from text nothing scan.tokens ≡ given
     → ended text (then_flaw text scan.flaw given) ≡ Ok last → IsWhole last
-whole_in text last scan (Ok it) read told = whole_flaw text it last scan.flaw (tokens_kept text scan.tokens nothing it nothing_kept read) told
-whole_in text last scan (Err fault) read told = absurd (no_reading scan.flaw told)
+whole_in text last scan (Ok it) read reported = whole_flaw text it last scan.flaw (tokens_kept text scan.tokens nothing it nothing_kept read) reported
+whole_in text last scan (Err fault) read reported = absurd (no_reading scan.flaw reported)
   where
     no_reading : (flaw : Option Flaw) → ended text (then_flaw text flaw (Err fault)) ≡ Ok last → ⊥
     no_reading None is = cc
     no_reading (Some flaw) is = cc
 
 pub whole_reading : (text : List ℕ) (last : Reading) → reading_of text ≡ Ok last → IsWhole last
-whole_reading text last told = whole_in text last (scan_of text) (tokens_from text nothing (scan_of text).tokens) refl told
+whole_reading text last reported = whole_in text last (scan_of text) (tokens_from text nothing (scan_of text).tokens) refl reported

@@ -31,20 +31,20 @@ token_taken text it next token left rest total is taken so_far =
     ∙ ap (reads_scan text it) (sym is) ∙ so_far
 
 -- a token that is refused ends the reading with its fault, or with out of memory
-pub token_refused : (text : List ℕ) (it : Reading) (token : Token) (left rest : Scan) (told : Option VerilogKind) (total : Result Reading VerilogFault) → left ≡ with_token token rest
-    → IsFault told (token_step text token it) → reads_scan text it left ≡ total → IsFault (option_map (at_token text token) told) total
+pub token_refused : (text : List ℕ) (it : Reading) (token : Token) (left rest : Scan) (reported : Option VerilogKind) (total : Result Reading VerilogFault) → left ≡ with_token token rest
+    → IsFault reported (token_step text token it) → reads_scan text it left ≡ total → IsFault (option_map (at_token text token) reported) total
 token_refused text it token left rest None total is refused so_far = tt
 token_refused text it token left rest (Some kind) total is refused so_far =
     sym so_far ∙ ap (reads_scan text it) is
     ∙ first_step text it token rest (Err (at_token text token kind)) (located_fault (at_token text) (token_step text) token it (Some kind) refused)
 
 -- the same, of the fault that the code reports
-pub fault_refused : (text : List ℕ) (it : Reading) (token : Token) (left rest : Scan) (told : Option VerilogKind) (total : Result Reading VerilogFault)
-    (line : ℕ) (fault : Option VerilogFault) → left ≡ with_token token rest → IsFault told (token_step text token it) → reads_scan text it left ≡ total
-    → line ≡ line_at token.start text → fault ≡ option_map (At line) told → IsFault fault total
-fault_refused text it token left rest told total line fault is refused so_far line_is fault_is =
+pub fault_refused : (text : List ℕ) (it : Reading) (token : Token) (left rest : Scan) (reported : Option VerilogKind) (total : Result Reading VerilogFault)
+    (line : ℕ) (fault : Option VerilogFault) → left ≡ with_token token rest → IsFault reported (token_step text token it) → reads_scan text it left ≡ total
+    → line ≡ line_at token.start text → fault ≡ option_map (At line) reported → IsFault fault total
+fault_refused text it token left rest reported total line fault is refused so_far line_is fault_is =
     subst (λ (other : Option VerilogFault). IsFault {Reading = Reading} other total)
-    (sym (fault_is ∙ ap (λ (place : ℕ). option_map (At place) told) line_is)) (token_refused text it token left rest told total is refused so_far)
+    (sym (fault_is ∙ ap (λ (place : ℕ). option_map (At place) reported) line_is)) (token_refused text it token left rest reported total is refused so_far)
 
 -- a fault that no token begins with ends the reading
 pub flaw_left : (text : List ℕ) (it : Reading) (left : Scan) (flaw : Flaw) (total : Result Reading VerilogFault) (line : ℕ) (kind : VerilogKind)

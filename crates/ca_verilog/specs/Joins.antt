@@ -6,15 +6,15 @@ use Rattle.ca_verilog.specs.declared.raw.RawJoin.{RawJoin}
 use Rattle.ca_verilog.specs.declared.raw.RawSpan.{RawSpan}
 
 -- the bit so far to the right of this one; a constant is the same at each place
-abbrev pub bit_behind : ℕ → RawBit → RawBit
-bit_behind step (bit.Bit number) = bit.Bit (number + step)
-bit_behind step (bit.Constant value) = bit.Constant value
+abbrev pub bit_after : ℕ → RawBit → RawBit
+bit_after step (bit.Bit number) = bit.Bit (number + step)
+bit_after step (bit.Constant value) = bit.Constant value
 
 -- this many pairs of a span, from this one on
 abbrev pub pairs_from : RawSpan → ℕ → ℕ → List RawJoin
 pairs_from span step zero = []
 pairs_from span step (suc count) =
-    record { left = bit_behind step span.left; right = bit_behind step span.right }
+    record { left = bit_after step span.left; right = bit_after step span.right }
     ∷ pairs_from span (step + 1) count
 
 -- the pairs of a span, from its left end on

@@ -60,11 +60,11 @@ lexeme_of kind.Constant text = constant_of text
 lexeme_of kind.Sign text = sign_of text
 
 -- the bytes after the first
-abbrev pub behind_first : List ℕ → List ℕ
-behind_first [] = []
-behind_first (byte ∷ more) = more
+abbrev pub after_first : List ℕ → List ℕ
+after_first [] = []
+after_first (byte ∷ more) = more
 
 -- the name of an identifier: an escaped one is without its `\`
 abbrev pub name_of : TokenKind → List ℕ → List ℕ
-name_of kind.Escaped text = behind_first text
+name_of kind.Escaped text = after_first text
 name_of _ text = text

@@ -2,7 +2,7 @@
 ghost use Rattle.std.specs.Prelude.{◌≡◌, ◌<◌, ◌≤◌, ◌^◌, [], map, length, slice_get};
 ghost use Rattle.ca_lex.specs.Reading.{Gives, Steps};
 ghost use Rattle.ca_verilog.specs.Reading.{width_in};
-ghost use Rattle.ca_verilog.specs.VerilogFault.{kind_told};
+ghost use Rattle.ca_verilog.specs.VerilogFault.{kind_reported};
 ghost use Rattle.ca_verilog.specs.Bus.{is_inner, same_range, is_twice, declared_again, again_at, bus_of};
 ghost use Rattle.ca_verilog.specs.Bus.{has_direction, range_at, declare};
 
@@ -101,7 +101,7 @@ fn declare_again(
     direction: Direction,
     range: Option<Range>,
 ) -> Result<(), Refusal>
-    ensures read { Steps kind_told buses.new.items result
+    ensures read { Steps kind_reported buses.new.items result
         (again_at direction range buses.old.items place (slice_get buses.old.items place)) }
     ensures names { map (λ bus. bus.name) buses.new.items ≡ map (λ bus. bus.name) buses.old.items }
 {
@@ -185,7 +185,7 @@ impl Buses {
         name: &[u8],
         ports: &NameSet,
     ) -> Result<Self, Refusal>
-        ensures { Gives kind_told (λ buses. buses) result (declare direction range name.now ports.now self) }
+        ensures { Gives kind_reported (λ buses. buses) result (declare direction range name.now ports.now self) }
     {
         if !direction.is_inner() && !ports.has(name) {
             return Err(Refusal::Kind(VerilogKind::Undeclared));

@@ -45,11 +45,11 @@ pub(crate) enum Refusal {
 
 impl Refusal {
     ghost use Rattle.ca_verilog.specs.declared.fault.VerilogFault.TheVariants.{At};
-    ghost use Rattle.ca_verilog.specs.VerilogFault.{fault_told, kind_told};
+    ghost use Rattle.ca_verilog.specs.VerilogFault.{fault_reported, kind_reported};
 
     /// The fault of the token that was not taken, which is on this line.
     pub(crate) fn at(self, line: usize) -> VerilogFault
-        ensures { fault_told result ≡ option_map (At line) (kind_told self) }
+        ensures { fault_reported result ≡ option_map (At line) (kind_reported self) }
     {
         match self {
             Refusal::Kind(kind) => VerilogFault::At { line, kind },

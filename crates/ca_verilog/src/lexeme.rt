@@ -1,7 +1,7 @@
 //! What a token is to the grammar.
 ghost use Rattle.std.specs.Prelude.{◌≡◌, ◌≤◌};
 ghost use Rattle.ca_verilog.specs.Lexeme.{is_refused, word_of, number_from, constant_of, sign_at, sign_of};
-ghost use Rattle.ca_verilog.specs.Lexeme.{lexeme_of, behind_first, name_of};
+ghost use Rattle.ca_verilog.specs.Lexeme.{lexeme_of, after_first, name_of};
 
 use ca_lex::TokenKind;
 
@@ -147,14 +147,14 @@ pub(crate) fn name_of(kind: TokenKind, text: &[u8]) -> &[u8]
     ensures { result.now ≡ name_of kind text.now }
 {
     match kind {
-        TokenKind::Escaped => behind_first(text),
+        TokenKind::Escaped => after_first(text),
         _ => text,
     }
 }
 
 // The bytes after the first.
-fn behind_first(text: &[u8]) -> &[u8]
-    ensures { result.now ≡ behind_first text.now }
+fn after_first(text: &[u8]) -> &[u8]
+    ensures { result.now ≡ after_first text.now }
 {
     match text {
         [] => text,

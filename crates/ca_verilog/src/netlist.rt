@@ -2,7 +2,7 @@
 ghost use Rattle.std.specs.Prelude.{◌≡◌, ◌<◌, ◌≤◌, ◌^◌, length, map, flat_map, IfOk};
 ghost use Rattle.std.specs.Prelude.{option_map};
 ghost use Rattle.ca_lex.specs.Reading.{Gives};
-ghost use Rattle.ca_verilog.specs.VerilogFault.{fault_told};
+ghost use Rattle.ca_verilog.specs.VerilogFault.{fault_reported};
 ghost use Rattle.ca_verilog.specs.Kept.{IsOperand, IsUsed, IsJoin, AreUses, AreInstances, IsWhole};
 ghost use Rattle.ca_verilog.specs.declared.netlist.TheConstants.{MOST_BITS};
 ghost use Rattle.std.specs.List.{All};
@@ -220,7 +220,7 @@ fn port_places(alloc: Global, ports: &NameSet, buses: &Buses) -> Result<Places, 
 #[tactic(auto, unfolding(crate::specs::Netlist::limited))]
 pub(crate) fn limited(alloc: Global, reading: &Reading) -> Result<RawNetlist, VerilogFault>
     requires { IsWhole (reading_seen reading.now) }
-    ensures { Gives fault_told (λ netlist. netlist) result (limited (reading_seen reading.now)) }
+    ensures { Gives fault_reported (λ netlist. netlist) result (limited (reading_seen reading.now)) }
 {
     let names = reading.buses.len();
     let buses = reading.buses.as_slice();

@@ -2,7 +2,7 @@
 ghost use Rattle.std.specs.Prelude.{◌≡◌, ◌<◌, ◌^◌};
 ghost use Rattle.ca_lex.specs.Reading.{Gives, Steps};
 ghost use Rattle.ca_verilog.specs.Reading.{width_of, is_vector, selected};
-ghost use Rattle.ca_verilog.specs.VerilogFault.{kind_told};
+ghost use Rattle.ca_verilog.specs.VerilogFault.{kind_reported};
 
 use crate::bus::Buses;
 use crate::fault::{Refusal, VerilogKind};
@@ -62,7 +62,7 @@ fn is_vector(buses: &Buses, operand: Operand) -> bool
 
 // The bit of an operand that has this index.
 fn selected(buses: &Buses, operand: Operand, index: u32) -> Result<Operand, Refusal>
-    ensures { Gives kind_told (λ found. found) result (selected buses.now operand index) }
+    ensures { Gives kind_reported (λ found. found) result (selected buses.now operand index) }
 {
     let Operand::Whole(place) = operand else {
         return Err(Refusal::Kind(VerilogKind::BadRange));
@@ -103,7 +103,7 @@ impl Reading {
     }
 
     fn add_port(&mut self, alloc: Global, name: &[u8]) -> Result<(), Refusal>
-        ensures { Steps kind_told (reading_seen self.new) result (add_port name.now (reading_seen self.old)) }
+        ensures { Steps kind_reported (reading_seen self.new) result (add_port name.now (reading_seen self.old)) }
     {
         if self.ports.has(name) {
             return Err(Refusal::Kind(VerilogKind::DoubleName));
@@ -119,7 +119,7 @@ impl Reading {
         range: Option<Range>,
         name: &[u8],
     ) -> Result<(), Refusal>
-        ensures { Steps kind_told (reading_seen self.new) result
+        ensures { Steps kind_reported (reading_seen self.new) result
             (declare_name direction range name.now (reading_seen self.old)) }
     {
         let buses = mem::replace(&mut self.buses, Buses::new(alloc));
@@ -128,7 +128,7 @@ impl Reading {
     }
 
     fn close(&self) -> Result<(), Refusal>
-        ensures { Steps kind_told (reading_seen self.now) result (close (reading_seen self.now)) }
+        ensures { Steps kind_reported (reading_seen self.now) result (close (reading_seen self.now)) }
     {
         let mut rest = self.ports.as_slice();
         'ports: while let [name, more @ ..] = rest {
@@ -141,7 +141,7 @@ impl Reading {
     }
 
     fn take_cell(&mut self, alloc: Global, name: &[u8]) -> Result<(), Refusal>
-        ensures { Steps kind_told (reading_seen self.new) result
+        ensures { Steps kind_reported (reading_seen self.new) result
             (take_cell name.now (reading_seen self.old)) }
     {
         self.hand.cell = fold(alloc, name)?;
@@ -149,7 +149,7 @@ impl Reading {
     }
 
     fn take_instance(&mut self, alloc: Global, name: &[u8]) -> Result<(), Refusal>
-        ensures { Steps kind_told (reading_seen self.new) result
+        ensures { Steps kind_reported (reading_seen self.new) result
             (take_instance name.now (reading_seen self.old)) }
     {
         if self.instances.has(name) {
@@ -161,7 +161,7 @@ impl Reading {
     }
 
     fn take_pin(&mut self, alloc: Global, name: &[u8]) -> Result<(), Refusal>
-        ensures { Steps kind_told (reading_seen self.new) result (take_pin name.now (reading_seen self.old)) }
+        ensures { Steps kind_reported (reading_seen self.new) result (take_pin name.now (reading_seen self.old)) }
     {
         let pin = fold(alloc, name)?;
         if self.hand.uses.has(pin.as_bytes()) {
@@ -172,7 +172,7 @@ impl Reading {
     }
 
     fn refer(&mut self, name: &[u8]) -> Result<(), Refusal>
-        ensures { Steps kind_told (reading_seen self.new) result (refer name.now (reading_seen self.old)) }
+        ensures { Steps kind_reported (reading_seen self.new) result (refer name.now (reading_seen self.old)) }
     {
         let Some(place) = self.buses.find(name) else {
             return Err(Refusal::Kind(VerilogKind::Undeclared));
@@ -182,7 +182,7 @@ impl Reading {
     }
 
     fn open_index(&self) -> Result<(), Refusal>
-        ensures { Steps kind_told (reading_seen self.now) result (open_index (reading_seen self.now)) }
+        ensures { Steps kind_reported (reading_seen self.now) result (open_index (reading_seen self.now)) }
     {
         if !is_vector(&self.buses, self.hand.operand) {
             return Err(Refusal::Kind(VerilogKind::BadRange));
@@ -191,14 +191,14 @@ impl Reading {
     }
 
     fn select(&mut self, index: u32) -> Result<(), Refusal>
-        ensures { Steps kind_told (reading_seen self.new) result (select index (reading_seen self.old)) }
+        ensures { Steps kind_reported (reading_seen self.new) result (select index (reading_seen self.old)) }
     {
         self.hand.operand = selected(&self.buses, self.hand.operand, index)?;
         Ok(())
     }
 
     fn use_pin(&mut self, alloc: Global, operand: Option<Operand>) -> Result<(), Refusal>
-        ensures { Steps kind_told (reading_seen self.new) result
+        ensures { Steps kind_reported (reading_seen self.new) result
             (Ok (with_use operand (reading_seen self.old))) }
     {
         let pin = mem::replace(&mut self.hand.pin, Text::new(alloc));
@@ -208,7 +208,7 @@ impl Reading {
     }
 
     fn connect(&mut self, alloc: Global) -> Result<(), Refusal>
-        ensures { Steps kind_told (reading_seen self.new) result (connect (reading_seen self.old)) }
+        ensures { Steps kind_reported (reading_seen self.new) result (connect (reading_seen self.old)) }
     {
         if is_vector(&self.buses, self.hand.operand) {
             return Err(Refusal::Kind(VerilogKind::BadRange));
@@ -217,7 +217,7 @@ impl Reading {
     }
 
     fn join(&mut self) -> Result<(), Refusal>
-        ensures { Steps kind_told (reading_seen self.new) result (join (reading_seen self.old)) }
+        ensures { Steps kind_reported (reading_seen self.new) result (join (reading_seen self.old)) }
     {
         let join = Join {
             left: self.hand.left,
@@ -231,7 +231,7 @@ impl Reading {
     }
 
     fn end_instance(&mut self, alloc: Global) -> Result<(), Refusal>
-        ensures { Steps kind_told (reading_seen self.new) result (Ok (end_instance (reading_seen self.old))) }
+        ensures { Steps kind_reported (reading_seen self.new) result (Ok (end_instance (reading_seen self.old))) }
     {
         let instance = Instance {
             name: mem::replace(&mut self.hand.name, Text::new(alloc)),
@@ -245,7 +245,7 @@ impl Reading {
 
     #[tactic(auto, unfolding(crate::specs::Reading::act))]
     fn act(&mut self, alloc: Global, action: Action, name: &[u8]) -> Result<(), Refusal>
-        ensures { Steps kind_told (reading_seen self.new) result
+        ensures { Steps kind_reported (reading_seen self.new) result
             (act action name.now (reading_seen self.old)) }
     {
         match action {
@@ -277,7 +277,7 @@ impl Reading {
     /// What the next token makes of what was read. The name is the token's where it is an identifier.
     #[tactic(auto, unfolding(crate::specs::Reading::lexeme_step))]
     pub(crate) fn step(&mut self, alloc: Global, lexeme: Lexeme, name: &[u8]) -> Result<(), Refusal>
-        ensures { Steps kind_told (reading_seen self.new) result
+        ensures { Steps kind_reported (reading_seen self.new) result
             (lexeme_step lexeme name.now (reading_seen self.old)) }
     {
         match row_of(self.place, lexeme) {
@@ -293,7 +293,7 @@ impl Reading {
     pub(crate) fn token(&mut self, alloc: Global, bytes: &[u8], token: Token) -> Result<(), Refusal>
         requires within { token.end ≤ length bytes.now }
         requires order { token.start ≤ token.end }
-        ensures { Steps kind_told (reading_seen self.new) result
+        ensures { Steps kind_reported (reading_seen self.new) result
             (token_step bytes.now token (reading_seen self.old)) }
     {
         let text = &bytes[token.start..token.end];

@@ -4,7 +4,7 @@ ghost use Rattle.ca_lex.specs.Reading.{Gives, Steps};
 ghost use Rattle.ca_token.specs.Scan.{scan_of};
 ghost use Rattle.ca_verilog.specs.IsNetlist.{IsNetlist};
 ghost use Rattle.ca_verilog.specs.Text.{reads_scan, is_end, ended, netlist_of};
-ghost use Rattle.ca_verilog.specs.VerilogFault.{fault_told};
+ghost use Rattle.ca_verilog.specs.VerilogFault.{fault_reported};
 ghost use Rattle.ca_verilog.specs.Views.{reading_seen};
 
 use crate::fault::{VerilogFault, VerilogKind, kind_of};
@@ -26,7 +26,7 @@ impl Place {
 
 // Reads the tokens of a text.
 fn read_tokens(alloc: Global, bytes: &[u8], reading: &mut Reading) -> Result<(), VerilogFault>
-    ensures { Steps fault_told (reading_seen reading.new) result
+    ensures { Steps fault_reported (reading_seen reading.new) result
         (reads_scan bytes.now (reading_seen reading.old) (scan_of bytes.now)) }
 {
     let mut place = 0;
@@ -51,7 +51,7 @@ fn read_tokens(alloc: Global, bytes: &[u8], reading: &mut Reading) -> Result<(),
 
 // Reads a whole text.
 fn read_text(alloc: Global, bytes: &[u8], reading: &mut Reading) -> Result<(), VerilogFault>
-    ensures { Steps fault_told (reading_seen reading.new) result
+    ensures { Steps fault_reported (reading_seen reading.new) result
         (ended bytes.now (reads_scan bytes.now (reading_seen reading.old) (scan_of bytes.now))) }
 {
     read_tokens(alloc, bytes, reading)?;
@@ -70,7 +70,7 @@ pub const MOST_INSTANCES: usize = 1_073_741_823;
 /// The netlist that a text reads as. More than 2^30 - 1 instances are answered as though there were no memory
 /// for them.
 pub fn read_netlist(alloc: Global, bytes: &[u8]) -> Result<RawNetlist, VerilogFault>
-    ensures exact { Gives fault_told (λ netlist. netlist) result (netlist_of bytes.now) }
+    ensures exact { Gives fault_reported (λ netlist. netlist) result (netlist_of bytes.now) }
     ensures kept { IfOk result IsNetlist }
 {
     let mut reading = Reading::new(alloc);

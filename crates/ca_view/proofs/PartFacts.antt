@@ -126,7 +126,7 @@ scan_at chip u scan = by (slice_get chip.parts u) refl scan
 pub scan_of_other : (chip : LinkedChip) (u : ℕ) → u < length chip.parts → (IsLibrary chip u → ⊥) → IsSomeAnd (slice_get chip.parts u) (λ part. IsScan part.body)
 scan_of_other chip u known other = elim (slice_get_cases chip.parts u).1 [
   | inl there ↦ by there.0 there.2 there.0.body refl
-  | inr past ↦ absurd (let behind = past.0 in omega arith)
+  | inr past ↦ absurd (let following = past.0 in omega arith)
 ]
   where
     by : (part : Part) → slice_get chip.parts u ≡ Some part → (body : Body) → part.body ≡ body → IsSomeAnd (slice_get chip.parts u) (λ p. IsScan p.body)

@@ -76,8 +76,8 @@ some_root parents back (suc most) w lt = elim (ℕ_discrete (parent_of parents w
 
 -- a wire that is linked to the one after the next leads where it led
 module _ (parents : List ℕ) (at : ℕ) (within : at < length parents) where
-  behind : ℕ
-  behind = parent_of parents (parent_of parents at)
+  following : ℕ
+  following = parent_of parents (parent_of parents at)
 
   halved_root : (w r : ℕ) → HasRoot parents w r → HasRoot (set parents at (parent_of parents (parent_of parents at))) w r
   halved_root w r (Itself e here) = Itself e (elim (ℕ_discrete w at) [
@@ -181,8 +181,8 @@ module _ (parents : List ℕ) (at other : ℕ) (within : at < length parents) (l
         (leads (parent_of parents w) r h))
   ]
 
-  pub linked_told : (a b : ℕ) → HaveOneRoot parents a b → HaveOneRoot (set parents at other) a b
-  linked_told a b h = ((if eqb h.0 at then other else h.0), leads a h.0 h.1, leads b h.0 h.2)
+  pub linked_reported : (a b : ℕ) → HaveOneRoot parents a b → HaveOneRoot (set parents at other) a b
+  linked_reported a b h = ((if eqb h.0 at then other else h.0), leads a h.0 h.1, leads b h.0 h.2)
 
   pub linked_one : (a b : ℕ) → HasRoot parents a at → HasRoot parents b other → HaveOneRoot (set parents at other) a b
   linked_one a b ha hb = (
@@ -234,7 +234,7 @@ united join old first mid new a b one two root_a root_b lt_a lt_b e =
         record {
           count = length-set mid b a ∙ both.count;
           back = linked_back mid b a lt_b lt (root_is_root mid join.right b root_b) (root_is_root mid join.left a left) both.back;
-          told = λ x y h. linked_told mid b a lt_b lt (root_is_root mid join.right b root_b) (root_is_root mid join.left a left) x y
+          reported = λ x y h. linked_reported mid b a lt_b lt (root_is_root mid join.right b root_b) (root_is_root mid join.left a left) x y
               (h.0, both.roots x h.0 h.1, both.roots y h.0 h.2);
           united = let one_root = linked_one mid b a lt_b lt (root_is_root mid join.right b root_b) (root_is_root mid join.left a left) join.right join.left root_b left in
               (one_root.0, one_root.2, one_root.1);
@@ -247,7 +247,7 @@ united join old first mid new a b one two root_a root_b lt_a lt_b e =
           subst (Unites join old) (sym still) (record {
             count = both.count;
             back = both.back;
-            told = λ x y h. (h.0, both.roots x h.0 h.1, both.roots y h.0 h.2);
+            reported = λ x y h. (h.0, both.roots x h.0 h.1, both.roots y h.0 h.2);
             united = (a, left, subst (HasRoot mid join.right) (sym same) root_b);
             forest = λ joins has is. both.forest joins is;
           })
@@ -256,7 +256,7 @@ united join old first mid new a b one two root_a root_b lt_a lt_b e =
           record {
             count = length-set mid a b ∙ both.count;
             back = linked_back mid a b lt_a lt (root_is_root mid join.left a left) (root_is_root mid join.right b root_b) both.back;
-            told = λ x y h. linked_told mid a b lt_a lt (root_is_root mid join.left a left) (root_is_root mid join.right b root_b) x y
+            reported = λ x y h. linked_reported mid a b lt_a lt (root_is_root mid join.left a left) (root_is_root mid join.right b root_b) x y
                 (h.0, both.roots x h.0 h.1, both.roots y h.0 h.2);
             united = linked_one mid a b lt_a lt (root_is_root mid join.left a left) (root_is_root mid join.right b root_b) join.left join.right left root_b;
             forest = λ joins has is. linked_joined mid a b lt_a lt (root_is_root mid join.left a left) (root_is_root mid join.right b root_b) joins
@@ -282,7 +282,7 @@ pub span_none : (span : Span) (old : List ℕ) → LeadBack old → UnitesSpan s
 span_none span old back = record {
   count = refl;
   back = back;
-  told = λ a b one. one;
+  reported = λ a b one. one;
   united = λ step lt. absurd (omega (arith, lt));
   forest = λ joins has is. is;
 }
@@ -293,10 +293,10 @@ pub span_more : (span : Span) (steps : ℕ) (old mid new : List ℕ) → UnitesS
 span_more span steps old mid new before more = record {
   count = more.count ∙ before.count;
   back = more.back;
-  told = λ a b one. more.told a b (before.told a b one);
+  reported = λ a b one. more.reported a b (before.reported a b one);
   united = λ step lt. elim (ℕ_discrete step steps) [
     | yes e ↦ subst (λ s. HaveOneRoot new (join_at span s).left (join_at span s).right) (sym e) more.united
-    | no ne ↦ more.told (join_at span step).left (join_at span step).right (before.united step (omega (arith, lt, ne)))
+    | no ne ↦ more.reported (join_at span step).left (join_at span step).right (before.united step (omega (arith, lt, ne)))
   ];
   forest = λ joins has is.
       more.forest joins (has steps (omega arith)) (before.forest joins (λ step lt. has step (omega (arith, lt))) is);
@@ -324,7 +324,7 @@ first_more spans k span old mid new at before more = record {
         subst (λ (j : Join). HaveOneRoot new j.left j.right)
         (ap (λ (s : Span). join_at s among.step) same ∙ among.same)
         (more.united among.step (subst (λ (s : Span). among.step < s.count) (sym same) among.within))
-    | no ne ↦ more.told join.left join.right (before.united join (earlier join among ne))
+    | no ne ↦ more.reported join.left join.right (before.united join (earlier join among ne))
   ];
   forest = λ joins has is.
       more.forest joins
@@ -378,7 +378,7 @@ roots_more parents roots new w root count are here e = subst (AreRoots parents (
 -- the roots are the earliest of those that are joined, once each join is made
 pub roots_are_earliest : (joins : List Join) (parents roots : List ℕ) (wires : ℕ) → IsForest joins parents
     → ((join : Join) → Contains joins join → HaveOneRoot parents join.left join.right) → length parents ≡ wires → length roots ≡ length parents → AreRoots parents (length parents) roots → AreEarliest joins wires roots
-roots_are_earliest joins parents roots wires is told count room are = record {
+roots_are_earliest joins parents roots wires is reported count room are = record {
   count = room ∙ count;
   each = λ w lt.
       let root = are w (omega arith) in
@@ -397,7 +397,7 @@ roots_are_earliest joins parents roots wires is told count room are = record {
     one a b (Same e) = let found = some_root parents is.back (a + 1) a (omega arith) in (found.0, found.1, subst (λ x. HasRoot parents x found.0) e found.1)
     one a b (Across join c h has links) =
         let before = one a c h in
-        let sides = told join has in
+        let sides = reported join has in
         elim links [
           | inl l ↦
               let at_c : HasRoot parents c sides.0 = subst (λ x. HasRoot parents x sides.0) l.0 sides.1 in

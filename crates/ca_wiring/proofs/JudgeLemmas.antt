@@ -67,14 +67,14 @@ module _ (raw : RawNetlist) (library : List Named) (scan : List ScanRow) where
     pub breaks : BreaksPart (means instance) instance.pins tail
 
   -- a rule after those on instances
-  pub record IsBehind (at : List ℕ) : Type 0 where
+  pub record IsAfter (at : List ℕ) : Type 0 where
     pub stage : ℕ
     pub tail : List ℕ
     pub place : at ≡ stage ∷ tail
     pub later : 1 < stage
 
   -- which rule is broken at a place
-  pub stage_of : (at : List ℕ) (broken : ChipFault) → BreaksAt raw library scan at broken → IsOfInstance at ⊎ IsBehind at
+  pub stage_of : (at : List ℕ) (broken : ChipFault) → BreaksAt raw library scan at broken → IsOfInstance at ⊎ IsAfter at
   stage_of at (fault.UnknownCell u) (place, has) =
       let found = item_of raw.instances u.0 (λ instance. means instance ≡ Unknown) has in
       inl (record {
@@ -139,12 +139,12 @@ module _ (raw : RawNetlist) (library : List Named) (scan : List ScanRow) where
         → (at : List ℕ) (other : ChipFault) → IsEarlier at (1 ∷ u ∷ here) → BreaksAt raw library scan at other → ⊥
     none_earlier here none at other earlier breaks = elim (stage_of at other breaks) [
       | inl part ↦ of_part part (subst (λ x. IsEarlier x (1 ∷ u ∷ here)) part.place earlier)
-      | inr behind ↦ of_behind behind (subst (λ x. IsEarlier x (1 ∷ u ∷ here)) behind.place earlier)
+      | inr following ↦ of_after following (subst (λ x. IsEarlier x (1 ∷ u ∷ here)) following.place earlier)
     ]
       where
-        of_behind : (behind : IsBehind at) → IsEarlier (behind.stage ∷ behind.tail) (1 ∷ u ∷ here) → ⊥
-        of_behind behind (inl lt) = let later = behind.later in omega (arith, lt, later)
-        of_behind behind (inr rest) = let later = behind.later in let e = rest.0 in omega (arith, e, later)
+        of_after : (following : IsAfter at) → IsEarlier (following.stage ∷ following.tail) (1 ∷ u ∷ here) → ⊥
+        of_after following (inl lt) = let later = following.later in omega (arith, lt, later)
+        of_after following (inr rest) = let later = following.later in let e = rest.0 in omega (arith, e, later)
 
         of_part : (part : IsOfInstance at) → IsEarlier (1 ∷ part.u ∷ part.tail) (1 ∷ u ∷ here) → ⊥
         of_part part (inl lt) = omega (arith, lt)

@@ -5,7 +5,7 @@ use Rattle.ca_wiring.specs.Joined.{Same, IsEarliest, AreEarliest}
 use Rattle.ca_wiring.specs.Wiring.{Wiring}
 use Rattle.ca_wiring.specs.Nets.{AreNets, IsNetOf}
 use Rattle.ca_wiring.specs.Numbers.{WireMarks, NetNumbers, earliest_of, IsUsed, LeadsToEarliest, AreNumbered}
-use Rattle.ca_wiring.specs.Numbers.{TellsUsed}
+use Rattle.ca_wiring.specs.Numbers.{ReportsUsed}
 use Rattle.ca_linked.proofs.OrderLemmas.{place_of}
 use Rattle.ca_wiring.proofs.ForestLemmas.{joined_trans}
 
@@ -33,7 +33,7 @@ module _ (joins : List Join) (wires : ℕ) (marks : WireMarks) (are : AreEarlies
   own_earliest w lt is = let le = earliest_within w lt in let ge = is.none_before (earliest_of marks w) (are.each w lt).joined in omega arith
 
 module _ (wiring : Wiring) (wires : ℕ) (marks : WireMarks) (made : NetNumbers) (are : AreEarliest wiring.joins wires marks.earliest)
-    (tells : TellsUsed wiring wires marks) (numbered : AreNumbered marks wires made) where
+    (reports : ReportsUsed wiring wires marks) (numbered : AreNumbered marks wires made) where
   -- the list of nets is that of the wiring
   pub nets_are : AreNets wiring made.nets
   nets_are = record {
@@ -43,12 +43,12 @@ module _ (wiring : Wiring) (wires : ℕ) (marks : WireMarks) (made : NetNumbers)
           let known = numbered.known contains.0 w (place_of made.nets w contains) in
           record {
             earliest = subst (IsEarliest wiring.joins w) known.1.own (are.each w known.0);
-            used = (tells.used w known.0 known.1.own).0 known.1.used;
+            used = (reports.used w known.0 known.1.own).0 known.1.used;
           },
       λ is.
-          let lt = tells.within w is in
+          let lt = reports.within w is in
           let own = own_earliest wiring.joins wires marks are w lt is.earliest in
-          numbered.has w lt (record { own = own; used = (tells.used w lt own).1 is.used }),
+          numbered.has w lt (record { own = own; used = (reports.used w lt own).1 is.used }),
     );
   }
 

@@ -20,7 +20,7 @@ use Rattle.ca_verilog.specs.declared.raw.RawUse.{RawUse}
 use Rattle.ca_wiring.specs.declared.scan_row.ScanRow.{ScanRow}
 use Rattle.ca_wiring.specs.Wiring.{Meaning, input_names, names_with, bit_on, row_of}
 use Rattle.ca_wiring.specs.InstanceRules.{pin_names, HasStrayPin}
-use Rattle.ca_wiring.specs.Pins.{first_open, first_stray, has_pin, TellsStray, TellsOpen, NoStray, IsFirstStray}
+use Rattle.ca_wiring.specs.Pins.{first_open, first_stray, has_pin, ReportsStray, ReportsOpen, NoStray, IsFirstStray}
 use Rattle.ca_linked.proofs.DriverLemmas.{some_inj}
 use Rattle.ca_linked.proofs.EndLemmas.{take_more}
 
@@ -65,9 +65,9 @@ module _ (meaning : Meaning) where
   names = pin_names meaning
 
   -- a stray pin after the first connection
-  behind : (used : RawUse) (more : List RawUse) (k : ℕ) (pin : List ℕ) → HasStrayPin meaning more k pin
+  following : (used : RawUse) (more : List RawUse) (k : ℕ) (pin : List ℕ) → HasStrayPin meaning more k pin
       → HasStrayPin meaning (used ∷ more) (suc k) pin
-  behind used more k pin has = record { used = has.used; at = has.at; named = has.named; stray = has.stray }
+  following used more k pin has = record { used = has.used; at = has.at; named = has.named; stray = has.stray }
 
   before : (used : RawUse) (more : List RawUse) (k : ℕ) (pin : List ℕ) → HasStrayPin meaning (used ∷ more) (suc k) pin
       → HasStrayPin meaning more k pin
@@ -81,31 +81,31 @@ module _ (meaning : Meaning) where
       let same : used ≡ has.used = cc in
       true≢false (sym known ∙ ap (λ (n : List ℕ). has_name n (pin_names meaning)) (ap (λ (u : RawUse). u.pin) same ∙ has.named) ∙ has.stray)
 
-  pub tells_stray : (uses : List RawUse) → TellsStray meaning uses (first_stray (pin_names meaning) uses)
-  tells_stray [] = λ place pin has. absurd (let lt = slice_get_within [] place has.used has.at in omega (arith, lt))
-  tells_stray (used ∷ more) = by (has_name used.pin (pin_names meaning)) refl (first_stray (pin_names meaning) more) (tells_stray more)
+  pub reports_stray : (uses : List RawUse) → ReportsStray meaning uses (first_stray (pin_names meaning) uses)
+  reports_stray [] = λ place pin has. absurd (let lt = slice_get_within [] place has.used has.at in omega (arith, lt))
+  reports_stray (used ∷ more) = by (has_name used.pin (pin_names meaning)) refl (first_stray (pin_names meaning) more) (reports_stray more)
     where
       no_stray : has_name used.pin (pin_names meaning) ≡ true → NoStray meaning more → NoStray meaning (used ∷ more)
       no_stray known none zero pin has = not_first used more pin known has
       no_stray known none (suc k) pin has = none k pin (before used more k pin has)
 
       later : has_name used.pin (pin_names meaning) ≡ true → (first : List ℕ) → IsFirstStray meaning more first
-          → (k : ℕ) (other : List ℕ) → (told : IsFirstStray meaning more first) → k < suc told.place → HasStrayPin meaning (used ∷ more) k other → ⊥
-      later known first is zero other told lt has = not_first used more other known has
-      later known first is (suc k) other told lt has = told.none_before k other (omega (arith, lt)) (before used more k other has)
+          → (k : ℕ) (other : List ℕ) → (reported : IsFirstStray meaning more first) → k < suc reported.place → HasStrayPin meaning (used ∷ more) k other → ⊥
+      later known first is zero other reported lt has = not_first used more other known has
+      later known first is (suc k) other reported lt has = reported.none_before k other (omega (arith, lt)) (before used more k other has)
 
-      by : (known : Bool) → has_name used.pin (pin_names meaning) ≡ known → (rest : Option (List ℕ)) → TellsStray meaning more rest
-          → TellsStray meaning (used ∷ more) (if has_name used.pin (pin_names meaning) then rest else Some used.pin)
-      by true e None told =
-          subst (λ b. TellsStray meaning (used ∷ more) (if b then None else Some used.pin)) (sym e) (no_stray e told)
-      by true e (Some first) told =
-          subst (λ b. TellsStray meaning (used ∷ more) (if b then Some first else Some used.pin)) (sym e) (record {
-            place = suc told.place;
-            here = behind used more told.place first told.here;
-            none_before = λ k other lt has. later e first told k other told lt has;
+      by : (known : Bool) → has_name used.pin (pin_names meaning) ≡ known → (rest : Option (List ℕ)) → ReportsStray meaning more rest
+          → ReportsStray meaning (used ∷ more) (if has_name used.pin (pin_names meaning) then rest else Some used.pin)
+      by true e None reported =
+          subst (λ b. ReportsStray meaning (used ∷ more) (if b then None else Some used.pin)) (sym e) (no_stray e reported)
+      by true e (Some first) reported =
+          subst (λ b. ReportsStray meaning (used ∷ more) (if b then Some first else Some used.pin)) (sym e) (record {
+            place = suc reported.place;
+            here = following used more reported.place first reported.here;
+            none_before = λ k other lt has. later e first reported k other reported lt has;
           })
-      by false e rest told =
-          subst (λ b. TellsStray meaning (used ∷ more) (if b then rest else Some used.pin)) (sym e) (record {
+      by false e rest reported =
+          subst (λ b. ReportsStray meaning (used ∷ more) (if b then rest else Some used.pin)) (sym e) (record {
             place = 0;
             here = record { used = used; at = refl; named = refl; stray = e };
             none_before = λ k other lt has. absurd (omega (arith, lt));
@@ -113,37 +113,37 @@ module _ (meaning : Meaning) where
 
 module _ (uses : List RawUse) where
   -- the first open pin among these names, and its place; or none is open
-  abbrev TellsAmong : List (List ℕ) → Option (List ℕ) → Type 0
-  TellsAmong names (Some pin) = (place : ℕ) × (slice_get names place ≡ Some pin) × (bit_on uses pin ≡ None)
+  abbrev ReportsAmong : List (List ℕ) → Option (List ℕ) → Type 0
+  ReportsAmong names (Some pin) = (place : ℕ) × (slice_get names place ≡ Some pin) × (bit_on uses pin ≡ None)
       × ((k : ℕ) (other : List ℕ) → k < place → slice_get names k ≡ Some other → bit_on uses other ≡ None → ⊥)
-  TellsAmong names None = (k : ℕ) (other : List ℕ) → slice_get names k ≡ Some other → bit_on uses other ≡ None → ⊥
+  ReportsAmong names None = (k : ℕ) (other : List ℕ) → slice_get names k ≡ Some other → bit_on uses other ≡ None → ⊥
 
-  among : (names : List (List ℕ)) → TellsAmong names (first_open uses names)
+  among : (names : List (List ℕ)) → ReportsAmong names (first_open uses names)
   among [] = λ k other at is. absurd (let lt = slice_get_within [] k other at in omega (arith, lt))
   among (name ∷ more) = by (bit_on uses name) refl (first_open uses more) (among more)
     where
-      none_at : (bit_on uses name ≡ None → ⊥) → TellsAmong more None → TellsAmong (name ∷ more) None
+      none_at : (bit_on uses name ≡ None → ⊥) → ReportsAmong more None → ReportsAmong (name ∷ more) None
       none_at closed none zero other at is = closed (subst (λ n. bit_on uses n ≡ None) (sym (some_inj name other at)) is)
       none_at closed none (suc k) other at is = none k other at is
 
-      earlier : (bit_on uses name ≡ None → ⊥) → (pin : List ℕ) (told : TellsAmong more (Some pin)) (k : ℕ) (other : List ℕ) → k < suc told.0
+      earlier : (bit_on uses name ≡ None → ⊥) → (pin : List ℕ) (reported : ReportsAmong more (Some pin)) (k : ℕ) (other : List ℕ) → k < suc reported.0
           → slice_get (name ∷ more) k ≡ Some other → bit_on uses other ≡ None → ⊥
-      earlier closed pin told zero other lt at is = closed (subst (λ n. bit_on uses n ≡ None) (sym (some_inj name other at)) is)
-      earlier closed pin told (suc k) other lt at is = told.3 k other (omega (arith, lt)) at is
+      earlier closed pin reported zero other lt at is = closed (subst (λ n. bit_on uses n ≡ None) (sym (some_inj name other at)) is)
+      earlier closed pin reported (suc k) other lt at is = reported.3 k other (omega (arith, lt)) at is
 
-      by : (bit : Option RawBit) → bit_on uses name ≡ bit → (rest : Option (List ℕ)) → TellsAmong more rest
-          → TellsAmong (name ∷ more) (if is_none (bit_on uses name) then Some name else rest)
-      by None e rest told = subst (λ b. TellsAmong (name ∷ more) (if is_none b then Some name else rest)) (sym e)
+      by : (bit : Option RawBit) → bit_on uses name ≡ bit → (rest : Option (List ℕ)) → ReportsAmong more rest
+          → ReportsAmong (name ∷ more) (if is_none (bit_on uses name) then Some name else rest)
+      by None e rest reported = subst (λ b. ReportsAmong (name ∷ more) (if is_none b then Some name else rest)) (sym e)
           (0, refl, e, λ k other lt at is. absurd (omega (arith, lt)))
-      by (Some bit) e None told = subst (λ b. TellsAmong (name ∷ more) (if is_none b then Some name else None)) (sym e)
-          (none_at (λ is. let clash : Some bit ≡ None = sym e ∙ is in cc) told)
-      by (Some bit) e (Some pin) told = subst (λ b. TellsAmong (name ∷ more) (if is_none b then Some name else Some pin)) (sym e)
-          (suc told.0, told.1, told.2, earlier (λ is. let clash : Some bit ≡ None = sym e ∙ is in cc) pin told)
+      by (Some bit) e None reported = subst (λ b. ReportsAmong (name ∷ more) (if is_none b then Some name else None)) (sym e)
+          (none_at (λ is. let clash : Some bit ≡ None = sym e ∙ is in cc) reported)
+      by (Some bit) e (Some pin) reported = subst (λ b. ReportsAmong (name ∷ more) (if is_none b then Some name else Some pin)) (sym e)
+          (suc reported.0, reported.1, reported.2, earlier (λ is. let clash : Some bit ≡ None = sym e ∙ is in cc) pin reported)
 
-  pub tells_open : (meaning : Meaning) → TellsOpen meaning uses (first_open uses (input_names meaning))
-  tells_open meaning = by (first_open uses (input_names meaning)) (among (input_names meaning))
+  pub reports_open : (meaning : Meaning) → ReportsOpen meaning uses (first_open uses (input_names meaning))
+  reports_open meaning = by (first_open uses (input_names meaning)) (among (input_names meaning))
     where
-      by : (told : Option (List ℕ)) → TellsAmong (input_names meaning) told → TellsOpen meaning uses told
+      by : (reported : Option (List ℕ)) → ReportsAmong (input_names meaning) reported → ReportsOpen meaning uses reported
       by None none = λ place pin lacks. none place pin lacks.at lacks.is_open
       by (Some pin) first = record {
         place = first.0;
@@ -153,7 +153,7 @@ module _ (uses : List RawUse) where
 
 -- what the place of a name says of the first place at which it is
 place_is : (name : List ℕ) (names : List (List ℕ)) (place : ℕ) → place_of name names ≡ Some place → position_or_len (bytes_eq name) names ≡ place
-place_is name names place told = by (nat_lt (position_or_len (bytes_eq name) names) (length names)) told
+place_is name names place reported = by (nat_lt (position_or_len (bytes_eq name) names) (length names)) reported
   where
     by : (less : Bool) → cond less (Some (position_or_len (bytes_eq name) names)) None ≡ Some place → position_or_len (bytes_eq name) names ≡ place
     by true e = let same : position_or_len (bytes_eq name) names ≡ place = cc in same
@@ -161,7 +161,7 @@ place_is name names place told = by (nat_lt (position_or_len (bytes_eq name) nam
 
 place_within : (name : List ℕ) (names : List (List ℕ)) (place : ℕ) → place_of name names ≡ Some place → (rows : List ScanRow) → length names ≡ length rows
     → place < length rows
-place_within name names place told rows same = by (nat_lt (position_or_len (bytes_eq name) names) (length names)) refl told
+place_within name names place reported rows same = by (nat_lt (position_or_len (bytes_eq name) names) (length names)) refl reported
   where
     by : (less : Bool) → nat_lt (position_or_len (bytes_eq name) names) (length names) ≡ less
         → cond less (Some (position_or_len (bytes_eq name) names)) None ≡ Some place → place < length rows
@@ -172,7 +172,7 @@ place_within name names place told rows same = by (nat_lt (position_or_len (byte
     by false less e = let clash : None ≡ Some place = e in cc
 
 place_past : (name : List ℕ) (names : List (List ℕ)) → place_of name names ≡ None → length names ≤ position_or_len (bytes_eq name) names
-place_past name names told = by (nat_lt (position_or_len (bytes_eq name) names) (length names)) refl told
+place_past name names reported = by (nat_lt (position_or_len (bytes_eq name) names) (length names)) refl reported
   where
     by : (less : Bool) → nat_lt (position_or_len (bytes_eq name) names) (length names) ≡ less
         → cond less (Some (position_or_len (bytes_eq name) names)) None ≡ None → length names ≤ position_or_len (bytes_eq name) names
@@ -245,14 +245,14 @@ cells_more scan distinct k row at =
     new = ap (has_name row.cell) (map-take cell k scan) ∙ new_name (map cell scan) distinct k row.cell (map_at cell scan k row at)
 
 -- the row that is found by its place, or none
-pub row_told : (scan : List ScanRow) (cell : List ℕ) (place : ℕ) (row : ScanRow)
+pub row_reported : (scan : List ScanRow) (cell : List ℕ) (place : ℕ) (row : ScanRow)
     → place_of cell (map (λ (r : ScanRow). r.cell) scan) ≡ Some place → row ≡ get_or scan place row → Some row ≡ row_of scan cell
-row_told scan cell place row told at =
-    ap Some at ∙ sym (slice_get-get_or scan place row (place_within cell (map (λ (r : ScanRow). r.cell) scan) place told scan (length-map scan (λ (r : ScanRow). r.cell))))
-    ∙ ap (slice_get scan) (sym (place_is cell (map (λ (r : ScanRow). r.cell) scan) place told)) ∙ sym (row_at scan cell)
+row_reported scan cell place row reported at =
+    ap Some at ∙ sym (slice_get-get_or scan place row (place_within cell (map (λ (r : ScanRow). r.cell) scan) place reported scan (length-map scan (λ (r : ScanRow). r.cell))))
+    ∙ ap (slice_get scan) (sym (place_is cell (map (λ (r : ScanRow). r.cell) scan) place reported)) ∙ sym (row_at scan cell)
 
 pub no_row : (scan : List ScanRow) (cell : List ℕ) → place_of cell (map (λ (r : ScanRow). r.cell) scan) ≡ None → None ≡ row_of scan cell
-no_row scan cell told =
+no_row scan cell reported =
     sym (get_past scan (position_or_len (bytes_eq cell) (map (λ (r : ScanRow). r.cell) scan))
-    (let le = place_past cell (map (λ (r : ScanRow). r.cell) scan) told in let len = length-map scan (λ (r : ScanRow). r.cell) in omega (arith, le, len)))
+    (let le = place_past cell (map (λ (r : ScanRow). r.cell) scan) reported in let len = length-map scan (λ (r : ScanRow). r.cell) in omega (arith, le, len)))
     ∙ sym (row_at scan cell)

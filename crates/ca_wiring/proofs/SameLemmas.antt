@@ -77,19 +77,19 @@ module _ (wiring : Wiring) (nets : List ℕ) where
   net_joined from net wire is at = subst (AreJoined wiring.joins from) (some_inj is.earliest wire (sym is.at ∙ at)) is.is_earliest.joined
 
   -- and a wire that is joined with it is on the net
-  pub joined_net : (are : AreNets wiring nets) (from told net wire : ℕ) → IsNetOf wiring nets from told → AreJoined wiring.joins from wire → slice_get nets net ≡ Some wire → told ≡ net
-  joined_net are from told net wire is joined at =
+  pub joined_net : (are : AreNets wiring nets) (from reported net wire : ℕ) → IsNetOf wiring nets from reported → AreJoined wiring.joins from wire → slice_get nets net ≡ Some wire → reported ≡ net
+  joined_net are from reported net wire is joined at =
       let known : IsNet wiring wire = (are.has wire).0 (contained_at nets net wire at) in
       let le = is.is_earliest.none_before wire joined in
       let ge = known.earliest.none_before is.earliest (joined_trans wiring.joins wire from is.earliest (joined_sym wiring.joins from wire joined) is.is_earliest.joined) in
       let same : is.earliest ≡ wire = omega (arith, le, ge) in
-      ascending_once nets told net wire are.ascending (is.at ∙ ap Some same) at
+      ascending_once nets reported net wire are.ascending (is.at ∙ ap Some same) at
 
 -- a list as long as another has something where that has
 also_there : {X Y : Type 0} (xs : List X) (ys : List Y) (k : ℕ) (y : Y) → length ys ≡ length xs → slice_get ys k ≡ Some y → (x : X) × (slice_get xs k ≡ Some x)
 also_there xs ys k y same at = elim (slice_get_cases xs k).1 [
   | inl there ↦ (there.0, there.2)
-  | inr past ↦ absurd (let lt = slice_get_within ys k y at in let behind = past.0 in omega (arith, lt, behind, same))
+  | inr past ↦ absurd (let lt = slice_get_within ys k y at in let following = past.0 in omega (arith, lt, following, same))
 ]
 
 module _ (wiring : Wiring) (chip : LinkedChip) (link : IsLinkOf wiring chip) (net wire : ℕ) (at : slice_get link.nets net ≡ Some wire) where

@@ -14,21 +14,21 @@ use Rattle.ca_verilog.specs.declared.raw.RawBit.{RawBit}
 use Rattle.ca_verilog.specs.declared.raw.RawBit.TheVariants.{Bit, Constant}
 use Rattle.ca_verilog.specs.declared.raw.RawJoin.{RawJoin}
 use Rattle.ca_verilog.specs.declared.raw.RawSpan.{RawSpan}
-use Rattle.ca_verilog.specs.Joins.{bit_behind, pairs_from, pairs_of}
+use Rattle.ca_verilog.specs.Joins.{bit_after, pairs_from, pairs_of}
 use Rattle.ca_verilog.specs.IsNetlist.{IsBit, IsJoinOf}
 use Rattle.ca_wiring.specs.declared.joined.Join.{Join}
 use Rattle.ca_wiring.specs.declared.joined.Span.{Span}
 use Rattle.ca_wiring.specs.Joined.{IsWithin}
 use Rattle.ca_wiring.specs.Wiring.{wire_of, joins_of}
-use Rattle.ca_wiring.specs.Spans.{wire_behind, join_at, is_moving, span_of, IsWith, IsSpanWithin, IsAmongFirst}
+use Rattle.ca_wiring.specs.Spans.{wire_after, join_at, is_moving, span_of, IsWith, IsSpanWithin, IsAmongFirst}
 use Rattle.ca_wiring.specs.Spans.{AreJoinsOf, IsOneOf, AreSpansOf}
 
 module _ (bits : ℕ) where
   -- the wire of a bit further right
-  behind : (bit : RawBit) (step : ℕ) → wire_of bits (bit_behind step bit) ≡ wire_behind (wire_of bits bit) (is_moving bit) step
-  behind (Bit number) step = refl
-  behind (Constant true) step = refl
-  behind (Constant false) step = refl
+  following : (bit : RawBit) (step : ℕ) → wire_of bits (bit_after step bit) ≡ wire_after (wire_of bits bit) (is_moving bit) step
+  following (Bit number) step = refl
+  following (Constant true) step = refl
+  following (Constant false) step = refl
 
   -- the join of a pair
   abbrev pub join_of : RawJoin → Join
@@ -36,12 +36,12 @@ module _ (bits : ℕ) where
 
   -- the pair so far to the right
   abbrev pub pair_at : RawSpan → ℕ → RawJoin
-  pair_at raw step = record { left = bit_behind step raw.left; right = bit_behind step raw.right }
+  pair_at raw step = record { left = bit_after step raw.left; right = bit_after step raw.right }
 
   is_pair : (raw : RawSpan) (step : ℕ) → join_of (pair_at raw step) ≡ join_at (span_of bits raw) step
   is_pair raw step =
-      ap (λ (l : ℕ). let made : Join = record { left = l; right = wire_of bits (bit_behind step raw.right) } in made) (behind raw.left step)
-      ∙ ap (λ (r : ℕ). let made : Join = record { left = wire_behind (wire_of bits raw.left) (is_moving raw.left) step; right = r } in made) (behind raw.right step)
+      ap (λ (l : ℕ). let made : Join = record { left = l; right = wire_of bits (bit_after step raw.right) } in made) (following raw.left step)
+      ∙ ap (λ (r : ℕ). let made : Join = record { left = wire_after (wire_of bits raw.left) (is_moving raw.left) step; right = r } in made) (following raw.right step)
 
   -- what is among the pairs from one on is that far to the right
   from_pairs : (raw : RawSpan) (count step : ℕ) (pair : RawJoin) → Contains (pairs_from raw step count) pair

@@ -45,7 +45,7 @@ linked_roots parents a b = if nat_lt a b then slice_set parents b a else slice_s
 pub record Unites (join : Join) (old new : List ℕ) : Type 0 where
   pub count : length new ≡ length old
   pub back : LeadBack new
-  pub told : (a b : ℕ) → HaveOneRoot old a b → HaveOneRoot new a b
+  pub reported : (a b : ℕ) → HaveOneRoot old a b → HaveOneRoot new a b
   pub united : HaveOneRoot new join.left join.right
   pub forest : (joins : List Join) → Contains joins join → IsForest joins old → IsForest joins new
 
@@ -53,7 +53,7 @@ pub record Unites (join : Join) (old new : List ℕ) : Type 0 where
 pub record UnitesSpan (span : Span) (steps : ℕ) (old new : List ℕ) : Type 0 where
   pub count : length new ≡ length old
   pub back : LeadBack new
-  pub told : (a b : ℕ) → HaveOneRoot old a b → HaveOneRoot new a b
+  pub reported : (a b : ℕ) → HaveOneRoot old a b → HaveOneRoot new a b
   pub united : (step : ℕ) → step < steps → HaveOneRoot new (join_at span step).left (join_at span step).right
   pub forest : (joins : List Join) → ((step : ℕ) → step < steps → Contains joins (join_at span step))
       → IsForest joins old → IsForest joins new

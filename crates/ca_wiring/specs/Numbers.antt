@@ -47,7 +47,7 @@ pub record AreNumbered (marks : WireMarks) (count : ℕ) (made : NetNumbers) : T
       → slice_get made.nets (slice_index made.numbers w) ≡ Some (earliest_of marks w)
 
 -- the marks say which nets have a driver or a load, and all nets are among the wires
-pub record TellsUsed (wiring : Wiring) (wires : ℕ) (marks : WireMarks) : Type 0 where
+pub record ReportsUsed (wiring : Wiring) (wires : ℕ) (marks : WireMarks) : Type 0 where
   pub used : (w : ℕ) → w < wires → earliest_of marks w ≡ w
       → IsUsed marks w ↔ (((driving : Driving) × Drives wiring w driving) ⊎ IsLoaded wiring w)
   pub within : (w : ℕ) → IsNet wiring w → w < wires

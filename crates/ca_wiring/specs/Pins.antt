@@ -52,14 +52,14 @@ pub record IsFirstOpen (meaning : Meaning) (uses : List RawUse) (pin : List ℕ)
   pub none_before : (before : ℕ) (other : List ℕ) → before < place → LacksPin meaning uses before other → ⊥
 
 -- what is reported about the first stray pin; where nothing is, there is none
-abbrev pub TellsStray : Meaning → List RawUse → Option (List ℕ) → Type 0
-TellsStray meaning uses (Some pin) = IsFirstStray meaning uses pin
-TellsStray meaning uses None = NoStray meaning uses
+abbrev pub ReportsStray : Meaning → List RawUse → Option (List ℕ) → Type 0
+ReportsStray meaning uses (Some pin) = IsFirstStray meaning uses pin
+ReportsStray meaning uses None = NoStray meaning uses
 
 -- what is reported about the first open pin; where nothing is, there is none
-abbrev pub TellsOpen : Meaning → List RawUse → Option (List ℕ) → Type 0
-TellsOpen meaning uses (Some pin) = IsFirstOpen meaning uses pin
-TellsOpen meaning uses None = NoOpen meaning uses
+abbrev pub ReportsOpen : Meaning → List RawUse → Option (List ℕ) → Type 0
+ReportsOpen meaning uses (Some pin) = IsFirstOpen meaning uses pin
+ReportsOpen meaning uses None = NoOpen meaning uses
 
 -- the first instances of the netlist keep their rules
 abbrev pub AreSoundFirst : ℕ → RawNetlist → List Named → List ScanRow → Type 0

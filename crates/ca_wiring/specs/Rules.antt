@@ -45,11 +45,11 @@ pub record IsNetAt (wiring : Wiring) (net wire : ℕ) : Type 0 where
 
 -- how a fault names what drives a net
 abbrev pub IsDriver : Wiring → ℕ → Driving → Driver → Type 0
-IsDriver wiring net (PortBit bit) told = told ≡ driver.Port (record { 0 = net })
-IsDriver wiring net (ConstantBit value) told = told ≡ driver.Constant value
-IsDriver wiring net (OutputPin u pin) told =
+IsDriver wiring net (PortBit bit) reported = reported ≡ driver.Port (record { 0 = net })
+IsDriver wiring net (ConstantBit value) reported = reported ≡ driver.Constant value
+IsDriver wiring net (OutputPin u pin) reported =
     (part : WiredPart) × (name : List ℕ) × (slice_get wiring.parts u ≡ Some part)
-    × (slice_get (output_names part.meaning) pin ≡ Some name) × (told ≡ driver.Pin (record { 0 = u }) name)
+    × (slice_get (output_names part.meaning) pin ≡ Some name) × (reported ≡ driver.Pin (record { 0 = u }) name)
 
 -- two drive the net, the first two of all that do
 pub record IsDoubleDriven (wiring : Wiring) (net : ℕ) (first second : Driver) : Type 0 where
@@ -61,8 +61,8 @@ pub record IsDoubleDriven (wiring : Wiring) (net : ℕ) (first second : Driver) 
   pub drives_two : Drives wiring wire two
   pub in_order : ComesBefore one two
   pub none_before : (other : Driving) → Drives wiring wire other → ComesBefore other two → other ≡ one
-  pub told_one : IsDriver wiring net one first
-  pub told_two : IsDriver wiring net two second
+  pub reported_one : IsDriver wiring net one first
+  pub reported_two : IsDriver wiring net two second
 
 -- the net has a load, and nothing drives it
 pub record IsUndriven (wiring : Wiring) (net : ℕ) : Type 0 where

@@ -11,14 +11,14 @@ use Rattle.ca_wiring.specs.Joined.{IsWithin}
 use Rattle.ca_wiring.specs.Wiring.{wire_of}
 
 -- the wire so far to the right, on a side that moves
-abbrev pub wire_behind : ℕ → Bool → ℕ → ℕ
-wire_behind wire moves step = if moves then wire + step else wire
+abbrev pub wire_after : ℕ → Bool → ℕ → ℕ
+wire_after wire moves step = if moves then wire + step else wire
 
 -- a join of the span, so far to the right of the first
 abbrev pub join_at : Span → ℕ → Join
 join_at span step = record {
-  left = wire_behind span.left span.left_moves step;
-  right = wire_behind span.right span.right_moves step;
+  left = wire_after span.left span.left_moves step;
+  right = wire_after span.right span.right_moves step;
 }
 
 -- all joins of the span are of this many wires

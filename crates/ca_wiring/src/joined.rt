@@ -5,7 +5,7 @@ ghost use Rattle.std.specs.Prelude.{slice_index, slice_set, IfOk, OnOk};
 ghost use Rattle.std.specs.List.{All, Contains};
 ghost use Rattle.ca_wiring.specs.declared.joined.Join.{Join};
 ghost use Rattle.ca_wiring.specs.Joined.{AreJoined, IsWithin, AreEarliest};
-ghost use Rattle.ca_wiring.specs.Spans.{wire_behind, join_at, IsSpanWithin, AreJoinsOf};
+ghost use Rattle.ca_wiring.specs.Spans.{wire_after, join_at, IsSpanWithin, AreJoinsOf};
 ghost use Rattle.ca_wiring.specs.Forest.{parent_of, HasRoot, HaveOneRoot, LeadBack, IsForest, Shortens, Unites};
 ghost use Rattle.ca_wiring.specs.Forest.{UnitesSpan, UnitesFirst, AreTheirOwn, AreRoots, linked_roots};
 
@@ -31,9 +31,9 @@ pub(crate) struct Span {
 }
 
 // The wire so far to the right, on a side that moves.
-fn wire_behind(wire: u32, moves: bool, step: u32) -> u32
-    requires { wire_behind wire moves step < 2 ^ 32 }
-    ensures { result ≡ wire_behind wire moves step }
+fn wire_after(wire: u32, moves: bool, step: u32) -> u32
+    requires { wire_after wire moves step < 2 ^ 32 }
+    ensures { result ≡ wire_after wire moves step }
 {
     if moves { wire + step } else { wire }
 }
@@ -45,8 +45,8 @@ impl Span {
         ensures { result ≡ join_at self step }
     {
         Join {
-            left: wire_behind(self.left, self.left_moves, step),
-            right: wire_behind(self.right, self.right_moves, step),
+            left: wire_after(self.left, self.left_moves, step),
+            right: wire_after(self.right, self.right_moves, step),
         }
     }
 }
@@ -108,11 +108,11 @@ impl Links {
         requires back { LeadBack self.old }
         requires within { w < length self.old }
         ensures shortens { Shortens self.old self.new }
-        ensures behind { result ≡ parent_of self.old (parent_of self.old w) }
+        ensures following { result ≡ parent_of self.old (parent_of self.old w) }
     {
-        let behind = self.parent(self.parent(w));
-        self.set(w, behind);
-        behind
+        let following = self.parent(self.parent(w));
+        self.set(w, following);
+        following
     }
 
     // The root of a wire. Links on the way there are shortened.

@@ -58,7 +58,7 @@ impl Progress {
 }
 
 impl Watch for Progress {
-    fn told(&mut self, done: usize, of: usize) {
+    fn reported(&mut self, done: usize, of: usize) {
         if done >= of {
             self.clear();
         } else if self.is_due() {

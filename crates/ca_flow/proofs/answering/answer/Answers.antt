@@ -6,5 +6,5 @@ returns-clause-answers g c = record {
   end = c.run-end.result;
   ends = c.run-end.ensures.ends;
   status_is = refl;
-  tells = c.tell_end.ensures;
+  reports = c.tell_end.ensures;
 }

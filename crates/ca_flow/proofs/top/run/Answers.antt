@@ -42,7 +42,7 @@ returns-in-Err-clause-ends g c =
           (refused_writes words end c.in-Err.fault is status none before.files);
       cause = cause;
       complete = completes words before after end answer cause;
-      of_store = rw is (c.in-Err.ensures).told;
+      of_store = rw is (c.in-Err.ensures).reported;
       of_sink = search rules;
     }
 

@@ -4,9 +4,9 @@ use Rattle.ca_lanes.specs.Choice.{choices_of, choice_at}
 use Rattle.ca_lanes.specs.Set.{constant_choice}
 use Rattle.ca_lanes.proofs.constants.set_constants.Given as goal
 
-abbrev pub invariant-loop-behind : goal.invariant-loop-behind
-invariant-loop-behind l = record {
+abbrev pub invariant-loop-following : goal.invariant-loop-following
+invariant-loop-following l = record {
   set : (lane net : ℕ) → choice_at (choices_of l.nets lane) net
-      ≡ constant_choice (drop (length l.constants - l.behind) l.constants) (lane_of l.fn.loaded lane) net (choice_at (choices_of l.fn.nets lane) net);
+      ≡ constant_choice (drop (length l.constants - l.following) l.constants) (lane_of l.fn.loaded lane) net (choice_at (choices_of l.fn.nets lane) net);
   count : length l.nets ≡ length l.fn.nets;
 }

@@ -1,7 +1,7 @@
 use Rattle.std.proofs.Common.{arith, ◌-◌, ap, sym, ◌∙◌, get_or}
 use Rattle.std.proofs.lemmas.List.Sums.{fold_more}
 use Rattle.ca_lex.specs.Length.{with_digit}
-use Rattle.ca_lex.proofs.DigitLemmas.{digit_behind, room_so_far}
+use Rattle.ca_lex.proofs.DigitLemmas.{digit_after, room_so_far}
 use Rattle.ca_lex.proofs.length.with_digits.Goals as goal
 
 pub overflow_mul-value : goal.overflow_mul-value
@@ -17,5 +17,5 @@ pub loop-digit-preserved : goal.loop-digit-preserved
 loop-digit-preserved c =
     let bounds = c.requires.digits c.loop-digit.digit-index (omega arith) in (
       ap (λ n. with_digit n (get_or c.args.digits.now c.loop-digit.digit-index 0)) c.loop-digit.invariant.0 ∙ sym (fold_more with_digit c.args.number c.args.digits.now c.loop-digit.digit-index 0 (omega arith)),
-      digit_behind c.loop-digit.value c.args.number c.loop-digit.digit-index (get_or c.args.digits.now c.loop-digit.digit-index 0 - 48) c.loop-digit.invariant.1 (omega (arith, bounds.1)),
+      digit_after c.loop-digit.value c.args.number c.loop-digit.digit-index (get_or c.args.digits.now c.loop-digit.digit-index 0 - 48) c.loop-digit.invariant.1 (omega (arith, bounds.1)),
     )

@@ -1,6 +1,6 @@
 use Rattle.std.proofs.Common.{◌∙◌, subst}
 use Rattle.ca_lex.specs.Reading.{IsFault}
-use Rattle.ca_spice.specs.SpiceFault.{fault_told}
+use Rattle.ca_spice.specs.SpiceFault.{fault_reported}
 use Rattle.ca_spice.specs.Reading.{library_of}
 use Rattle.ca_make_laws.proofs.CellLemmas.{library_read}
 use Rattle.ca_make_laws.proofs.ChipReadLemmas.{same_reading, no_fault}
@@ -17,11 +17,11 @@ returns-in-Ok-clause-sound c =
 pub unreachable-requires : goal.unreachable-requires
 unreachable-requires c =
     no_fault library_of _ _ _ _ (c.as_bytes.ensures ∙ c.in_ok-text.ensures {u = tt}) library_read
-    (subst (λ f. IsFault (fault_told f) (library_of c.as_bytes.result.now)) c.in-Err-At.field-0-is
+    (subst (λ f. IsFault (fault_reported f) (library_of c.as_bytes.result.now)) c.in-Err-At.field-0-is
     (c.in-Err-At.ensures {u = tt}).exact)
 
 pub unreachable-requires-in-Err-TooManyCells : goal.unreachable-requires-in-Err-TooManyCells
 unreachable-requires-in-Err-TooManyCells c =
     no_fault library_of _ _ _ _ (c.as_bytes.ensures ∙ c.in_ok-text.ensures {u = tt}) library_read
-    (subst (λ f. IsFault (fault_told f) (library_of c.as_bytes.result.now)) c.in-Err-TooManyCells.field-0-is
+    (subst (λ f. IsFault (fault_reported f) (library_of c.as_bytes.result.now)) c.in-Err-TooManyCells.field-0-is
     (c.in-Err-TooManyCells.ensures {u = tt}).exact)

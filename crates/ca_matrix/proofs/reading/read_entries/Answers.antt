@@ -41,21 +41,21 @@ loop-k-init c = (
 pub returns-then-not-branch-2-clause-cause : goal.returns-then-not-branch-2-clause-cause
 returns-then-not-branch-2-clause-cause c = λ records has.
     let inv = c.loop-k.invariant in
-    let behind = inv.0 records has in
+    let following = inv.0 records has in
     let none : c.in_ok-next-2.field-0 ≡ false = search rules in
-    let left = found_none c.in_ok-next-2.field-0 (fields_of c.next-in-loop-k.new.fields) c.next-in-loop-k.new.reader behind.0 none (c.in_ok-next-2.ensures behind.0 behind.1) in
+    let left = found_none c.in_ok-next-2.field-0 (fields_of c.next-in-loop-k.new.fields) c.next-in-loop-k.new.reader following.0 none (c.in_ok-next-2.ensures following.0 following.1) in
     let below : c.loop-k.k < record_count c.args.shape.now = subst (λ (due : ℕ). c.loop-k.k < due) c.record_count-due.ensures.count c.loop-k-test.true in
-    (_, c.loop-k.k, behind.2, refl, missing c.args.shape.now c.loop-k.k c.loop-k.entries.items behind.0 inv.1 below left)
+    (_, c.loop-k.k, following.2, refl, missing c.args.shape.now c.loop-k.k c.loop-k.entries.items following.0 inv.1 below left)
 
 pub returns-then-not-branch-3-clause-cause : goal.returns-then-not-branch-3-clause-cause
 returns-then-not-branch-3-clause-cause c = λ records has.
     let inv = c.loop-k.invariant in
-    let behind = inv.0 records has in
+    let following = inv.0 records has in
     let some : c.in_ok-next-2.field-0 ≡ true = search rules in
     let none : c.in_ok-take_record.field-0 ≡ false = search rules in
-    let found = found_some c.in_ok-next-2.field-0 (fields_of c.next-in-loop-k.new.fields) c.next-in-loop-k.new.reader behind.0 some (c.in_ok-next-2.ensures behind.0 behind.1) in
+    let found = found_some c.in_ok-next-2.field-0 (fields_of c.next-in-loop-k.new.fields) c.next-in-loop-k.new.reader following.0 some (c.in_ok-next-2.ensures following.0 following.1) in
     let stray = not_taken c.in_ok-take_record.field-0 c.args.shape.now c.loop-k.k (fields_of c.next-in-loop-k.new.fields) c.loop-k.entries.items c.take_record.new.entries.items none c.in_ok-take_record.ensures in
-    (_, c.loop-k.k, behind.2, refl, malformed c.args.shape.now c.loop-k.k c.loop-k.entries.items behind.0 (fields_of c.next-in-loop-k.new.fields) found.0 inv.1 inv.2 found.1 (λ below. stray))
+    (_, c.loop-k.k, following.2, refl, malformed c.args.shape.now c.loop-k.k c.loop-k.entries.items following.0 (fields_of c.next-in-loop-k.new.fields) found.0 inv.1 inv.2 found.1 (λ below. stray))
 
 pub loop-k-preserved : goal.loop-k-preserved
 loop-k-preserved c =
@@ -65,11 +65,11 @@ loop-k-preserved c =
     let took = taken c.in_ok-take_record.field-0 shape c.loop-k.k (fields_of c.next-in-loop-k.new.fields) c.loop-k.entries.items c.take_record.new.entries.items due c.in_ok-take_record.ensures in
     let below : c.loop-k.k < record_count shape = subst (λ (count : ℕ). c.loop-k.k < count) c.record_count-due.ensures.count c.loop-k-test.true in (
       λ records has.
-          let behind = inv.0 records has in
+          let following = inv.0 records has in
           let some : c.in_ok-next-2.field-0 ≡ true = search rules in
-          let found = found_some c.in_ok-next-2.field-0 (fields_of c.next-in-loop-k.new.fields) c.next-in-loop-k.new.reader behind.0 some (c.in_ok-next-2.ensures behind.0 behind.1) in
-          let more = one_taken shape c.loop-k.k c.loop-k.entries.items c.take_record.new.entries.items behind.0 (fields_of c.next-in-loop-k.new.fields) found.0 took.0 inv.1 found.1 took.1 in
-          (found.0, found.2, behind.2 ∙ ap (λ rest. header_of shape ∷ rest) more),
+          let found = found_some c.in_ok-next-2.field-0 (fields_of c.next-in-loop-k.new.fields) c.next-in-loop-k.new.reader following.0 some (c.in_ok-next-2.ensures following.0 following.1) in
+          let more = one_taken shape c.loop-k.k c.loop-k.entries.items c.take_record.new.entries.items following.0 (fields_of c.next-in-loop-k.new.fields) found.0 took.0 inv.1 found.1 took.1 in
+          (found.0, found.2, following.2 ∙ ap (λ rest. header_of shape ∷ rest) more),
       wider shape c.loop-k.k c.loop-k.entries.items c.take_record.new.entries.items (fields_of c.next-in-loop-k.new.fields) took.0 inv.1 took.1,
       omega (arith, below),
     )
@@ -77,28 +77,28 @@ loop-k-preserved c =
 pub returns-then-branch-clause-cause : goal.returns-then-branch-clause-cause
 returns-then-branch-clause-cause c = λ records has.
     let inv = c.loop-k.invariant in
-    let behind = inv.0 records has in
+    let following = inv.0 records has in
     let some : c.in_ok-next-3.field-0 ≡ true = search rules in
-    let found = found_some c.in_ok-next-3.field-0 (fields_of c.next-2.new.fields) c.next-2.new.reader behind.0 some (c.in_ok-next-3.ensures behind.0 behind.1) in
+    let found = found_some c.in_ok-next-3.field-0 (fields_of c.next-2.new.fields) c.next-2.new.reader following.0 some (c.in_ok-next-3.ensures following.0 following.1) in
     let count = c.record_count-due.ensures.count in
     let past : record_count c.args.shape.now ≤ c.loop-k.k = omega (arith, count, c.loop-k-test.false) in
     let all : c.record_count-due.result ≡ c.loop-k.k = omega (arith, count, past, inv.2) in (
       _,
       c.loop-k.k,
-      behind.2,
+      following.2,
       ap (λ n. n + 2) all,
-      malformed c.args.shape.now c.loop-k.k c.loop-k.entries.items behind.0 (fields_of c.next-2.new.fields) found.0 inv.1 inv.2 found.1 (λ below. absurd (omega (arith, below, past))),
+      malformed c.args.shape.now c.loop-k.k c.loop-k.entries.items following.0 (fields_of c.next-2.new.fields) found.0 inv.1 inv.2 found.1 (λ below. absurd (omega (arith, below, past))),
     )
 
 pub returns-clause-ok : goal.returns-clause-ok
 returns-clause-ok c = λ records has.
     let inv = c.loop-k.invariant in
-    let behind = inv.0 records has in
+    let following = inv.0 records has in
     let none : c.in_ok-next-3.field-0 ≡ false = search rules in
-    let left = found_none c.in_ok-next-3.field-0 (fields_of c.next-2.new.fields) c.next-2.new.reader behind.0 none (c.in_ok-next-3.ensures behind.0 behind.1) in
+    let left = found_none c.in_ok-next-3.field-0 (fields_of c.next-2.new.fields) c.next-2.new.reader following.0 none (c.in_ok-next-3.ensures following.0 following.1) in
     let count = c.record_count-due.ensures.count in
     let all : c.loop-k.k ≡ record_count c.args.shape.now = omega (arith, count, c.loop-k-test.false, inv.2) in
     let shape = c.args.shape.now in
     let read = records_from shape 0 c.loop-k.k c.loop-k.entries.items in
-    behind.2 ∙ ap (λ rest. header_of shape ∷ rest)
+    following.2 ∙ ap (λ rest. header_of shape ∷ rest)
     (ap (λ rest. read ++ rest) left ∙ append_none read ∙ ap (λ (n : ℕ). records_from shape 0 n c.loop-k.entries.items) all)

@@ -12,7 +12,7 @@ use Rattle.ca_cell.proofs.NodeLemmas.{few_inputs}
 use Rattle.ca_response.specs.Outputs.{pairs_of}
 use Rattle.ca_on_cell.specs.Outputs.{trit_of}
 use Rattle.ca_cell.proofs.OutputNameLemmas.{output_count}
-use Rattle.ca_on_cell.proofs.OutputLemmas.{told_pushed, told_are_ends}
+use Rattle.ca_on_cell.proofs.OutputLemmas.{reported_pushed, reported_are_ends}
 use Rattle.ca_on_cell.proofs.outputs.values_of.Goals as goal
 
 pub pairs-requires-clause-few : goal.pairs-requires-clause-few
@@ -47,7 +47,7 @@ loop-place-preserved g c =
     (slice_get-get_or c.deref-in-loop-place.result.now c.loop-place.place other within) in
     let pushed : c.push.new.self ≡ c.loop-place.values ++ (record { pin = c.in_ok-copy.field-0; value = wave.last } ∷ []) =
     (c.in_ok-push.ensures).ok in
-    told_pushed c.in_ok-pins.pins c.respond-waves.result.items c.loop-place.place c.get.result.now c.in_ok-copy.field-0 wave wave.last
+    reported_pushed c.in_ok-pins.pins c.respond-waves.result.items c.loop-place.place c.get.result.now c.in_ok-copy.field-0 wave wave.last
     c.loop-place.values c.push.new.self c.loop-place.invariant c.get.ensures there (c.in_ok-copy.ensures).ok refl pushed
 
 pub returns : goal.returns
@@ -78,5 +78,5 @@ returns g c =
     let waves : length c.respond-waves.result.items ≡ length c.in_ok-pins.pins = c.respond-waves.ensures.limits.count ∙ sym count in
     record {
       values = rw (c.loop-place.invariant, take_all c.loop-place.place c.in_ok-pins.pins all)
-          (told_are_ends raw (g.N.Network.circuit c.args.net.now) first last c.in_ok-pins.pins c.respond-waves.result.items are waves ends);
+          (reported_are_ends raw (g.N.Network.circuit c.args.net.now) first last c.in_ok-pins.pins c.respond-waves.result.items are waves ends);
     }

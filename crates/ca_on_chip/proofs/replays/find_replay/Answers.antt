@@ -1,8 +1,8 @@
 use Rattle.std.specs.Prelude.{Some}
 use Rattle.ca_load.specs.Texts.{names_of}
-use Rattle.ca_load.specs.Files.{TellsStoreFault}
+use Rattle.ca_load.specs.Files.{ReportsStoreFault}
 use Rattle.ca_load.proofs.LinkLemmas.{handed_on}
-use Rattle.ca_load.proofs.ReadLemmas.{told_since}
+use Rattle.ca_load.proofs.ReadLemmas.{reported_since}
 use Rattle.ca_on_chip.specs.Replay.{IsRunCause}
 use Rattle.ca_on_chip.proofs.AskedLemmas.{is_traced}
 use Rattle.ca_on_chip.proofs.ReplayLemmas.{at_run}
@@ -25,13 +25,13 @@ returns-in_err-ends-clause-cause g c =
     (at_run names files (g.S.Store.files c.load.new.store) before between after c.in_ok-chip.field-0.chip request.of.of.instance.now
     request.of.of.defect.now request.of.first.now request.of.last.now request.order.now fault read.kept read.quiet traced (c.in_err-ends.ensures).cause)
 
-pub returns-in_err-ends-clause-told : goal.returns-in_err-ends-clause-told
-returns-in_err-ends-clause-told g c =
+pub returns-in_err-ends-clause-reported : goal.returns-in_err-ends-clause-reported
+returns-in_err-ends-clause-reported g c =
     let before = g.S.Store.faults c.args.store.now in
     let between = g.S.Store.faults c.load.new.store in
     let after = g.S.Store.faults c.run_ends.new.store in
     let fault = c.in_err-ends.field-0.0 in
     let read = c.in_ok-chip.ensures in
-    handed_on c.from_residual-in_err-ends.result fault (λ fault. TellsStoreFault (Some fault) before after)
+    handed_on c.from_residual-in_err-ends.result fault (λ fault. ReportsStoreFault (Some fault) before after)
     c.from_residual-in_err-ends.ensures.1
-    (told_since (Some fault) before between after read.quiet (c.in_err-ends.ensures).told)
+    (reported_since (Some fault) before between after read.quiet (c.in_err-ends.ensures).reported)

@@ -14,12 +14,12 @@ returns-in_default c =
     sym (c.words.invariant ∙ (ap (λ (words : List (List ℕ)). nodes_before c.words.nodes (nodes_of places words)) found.1
     ∙ no_node places c.words.nodes word found.0 none))
 
-pub returns-in_default-behind : goal.returns-in_default-behind
-returns-in_default-behind c =
+pub returns-in_default-following : goal.returns-in_default-following
+returns-in_default-following c =
     let places = c.args.places.now in
     let word = c.cut_word.result.0.now in
     let node : node_of places word ≡ Some c.in-Some.node = search rules in
-    let last = MatchOption-at_none _ _ c.in_default-behind.is c.cut_word.ensures in
+    let last = MatchOption-at_none _ _ c.in_default-following.is c.cut_word.ensures in
     sym (c.words.invariant ∙ (ap (λ (words : List (List ℕ)). nodes_before c.words.nodes (nodes_of places words)) last
     ∙ (last_node places c.words.nodes word c.in-Some.node node ∙ ap (λ (nodes : List NodeId). Some nodes) (sym c.in_ok-push.ensures.ok))))
 
@@ -28,7 +28,7 @@ words-preserved c =
     let places = c.args.places.now in
     let word = c.cut_word.result.0.now in
     let node : node_of places word ≡ Some c.in-Some.node = search rules in
-    let more = MatchOption-at_some _ _ _ c.in-Some-behind.is c.cut_word.ensures in
+    let more = MatchOption-at_some _ _ _ c.in-Some-following.is c.cut_word.ensures in
     c.words.invariant ∙ (ap (λ (words : List (List ℕ)). nodes_before c.words.nodes (nodes_of places words)) more.0
     ∙ (one_node places c.words.nodes word _ c.in-Some.node node
-    ∙ ap (λ (nodes : List NodeId). nodes_before nodes (nodes_of places (words_of c.in-Some-behind.more.now))) (sym c.in_ok-push.ensures.ok)))
+    ∙ ap (λ (nodes : List NodeId). nodes_before nodes (nodes_of places (words_of c.in-Some-following.more.now))) (sym c.in_ok-push.ensures.ok)))

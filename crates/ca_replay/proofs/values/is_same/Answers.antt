@@ -5,7 +5,7 @@ use Rattle.ca_replay.proofs.values.is_same.Goals as goal
 
 pub returns : goal.returns
 returns c = (
-  λ told. ext_get_or X c.args.state.now c.args.other.now c.requires
+  λ reported. ext_get_or X c.args.state.now c.args.other.now c.requires
       (λ n lt. c.loop-n.invariant n (omega (arith, c.len-n-end.ensures))),
   λ same. refl,
 )

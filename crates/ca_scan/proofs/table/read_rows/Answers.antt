@@ -4,7 +4,7 @@ use Rattle.ca_csv.proofs.CsvLemmas.{found_none, found_some}
 use Rattle.ca_lex.specs.FirstFault.{steps_from}
 use Rattle.ca_wiring.specs.declared.scan_row.ScanRow.{ScanRow}
 use Rattle.ca_scan.specs.Table.{cells_of, is_header, rows_of, record_step, numbered, with_fields}
-use Rattle.ca_scan.proofs.TableLemmas.{behind_header, no_header, joined_on, not_joined, all_read, joins}
+use Rattle.ca_scan.proofs.TableLemmas.{after_header, no_header, joined_on, not_joined, all_read, joins}
 use Rattle.ca_scan.proofs.TableLemmas.{joins_not}
 use Rattle.ca_scan.proofs.table.read_rows.Goals as goal
 
@@ -28,7 +28,7 @@ loop-row-init c = (
       let test : is_header (fields_of c.next.new.fields) ≡ true = search rules in (
         found.0,
         found.2,
-        ap rows_of found.1 ∙ (behind_header (fields_of c.next.new.fields) found.0 test
+        ap rows_of found.1 ∙ (after_header (fields_of c.next.new.fields) found.0 test
             ∙ ap (λ (rows : List ScanRow). steps_from record_step rows (numbered 2 found.0)) (sym c.requires.rows)),
       ),
   c.requires.cells ∙ ap cells_of (sym c.requires.rows),

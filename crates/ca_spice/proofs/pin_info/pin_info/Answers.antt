@@ -2,10 +2,10 @@ use Rattle.std.proofs.Common.{◌≡◌, ◌∙◌, refl, sym, subst, Result, Li
 use Rattle.ca_lex.specs.Reading.{IsFault}
 use Rattle.ca_spice.specs.declared.fault.SpiceKind.{SpiceKind}
 use Rattle.ca_spice.specs.declared.pin.Pin.{Pin}
-use Rattle.ca_spice.specs.SpiceFault.{kind_told}
+use Rattle.ca_spice.specs.SpiceFault.{kind_reported}
 use Rattle.ca_spice.specs.Names.{texts}
 use Rattle.ca_spice.specs.PinInfo.{are_pin_words}
-use Rattle.ca_spice.proofs.PinLemmas.{all_words, first_within, behind_are, behind_goes_on, behind_stops}
+use Rattle.ca_spice.proofs.PinLemmas.{all_words, first_within, after_are, after_goes_on, after_stops}
 use Rattle.ca_spice.proofs.PinLemmas.{rest_ends, pin_info-steps}
 use Rattle.ca_spice.proofs.pin_info.pin_info.Goals as goal
 
@@ -22,16 +22,16 @@ take_role-requires c = first_within c.words.rest.now _ c.in-len1-up.len_at_least
 pub returns-in-Err-clause-read : goal.returns-in-Err-clause-read
 returns-in-Err-clause-read c =
     let are : are_pin_words (texts c.args.words.now) ≡ true = sym c.are_pin_words.ensures ∙ c.if-not-are_pin_words.false in
-    subst (λ (wanted : Result (List Pin) SpiceKind). IsFault (kind_told c.in-Err.refusal) wanted)
+    subst (λ (wanted : Result (List Pin) SpiceKind). IsFault (kind_reported c.in-Err.refusal) wanted)
     (sym (pin_info-steps c.args.nets.now (texts c.args.words.now) c.args.pins.items are))
-    (behind_stops c.args.nets.now c.words.rest.now _ c.words.pins.items (kind_told c.in-Err.refusal) _ c.in-len1-up.len_at_least c.in-Err.ensures.read c.words.invariant.steps)
+    (after_stops c.args.nets.now c.words.rest.now _ c.words.pins.items (kind_reported c.in-Err.refusal) _ c.in-len1-up.len_at_least c.in-Err.ensures.read c.words.invariant.steps)
 
 pub words-preserved : goal.words-preserved
 words-preserved c = record {
-  steps = behind_goes_on c.args.nets.now c.words.rest.now _ c.words.pins.items c.take_role.new.pins.items _ c.in-len1-up.len_at_least
+  steps = after_goes_on c.args.nets.now c.words.rest.now _ c.words.pins.items c.take_role.new.pins.items _ c.in-len1-up.len_at_least
       c.in_default-take_role.ensures.read c.words.invariant.steps;
   count = c.in_default-take_role.ensures.count ∙ c.words.invariant.count;
-  form = behind_are c.words.rest.now c.in-len1-up.len_at_least c.words.invariant.form;
+  form = after_are c.words.rest.now c.in-len1-up.len_at_least c.words.invariant.form;
 }
 
 pub returns-clause-read : goal.returns-clause-read

@@ -10,22 +10,22 @@ chunks-preserved g c = record {
   in_reading = search rules;
   files = search rules;
   quiet = search rules;
-  so_far = λ name start told is_told bytes is_bytes.
-      let before = c.chunks.invariant.so_far name start told is_told bytes is_bytes in
-      let next = c.in_ok-n.ensures.ok.next name _ before.place told (c.chunks.invariant.files ∙ is_told) bytes is_bytes in
+  so_far = λ name start reported is_reported bytes is_bytes.
+      let before = c.chunks.invariant.so_far name start reported is_reported bytes is_bytes in
+      let next = c.in_ok-n.ensures.ok.next name _ before.place reported (c.chunks.invariant.files ∙ is_reported) bytes is_bytes in
       read_on name bytes _ _ c.chunks.text _ _ _ _ before next (take-append-le c.in_ok-n.n _ _ c.in_ok-n.ensures.ok.fits)
       c.in_ok-n.ensures.ok.fits c.in_ok-append.ensures.ok;
 }
 
 pub returns-then-n-eq0-clause-read : goal.returns-then-n-eq0-clause-read
-returns-then-n-eq0-clause-read g c = λ name start told is_told bytes is_bytes.
-    let before = c.chunks.invariant.so_far name start told is_told bytes is_bytes in
-    let still_told = c.chunks.invariant.files ∙ is_told in
-    let next = c.in_ok-n.ensures.ok.next name _ before.place told still_told bytes is_bytes in
+returns-then-n-eq0-clause-read g c = λ name start reported is_reported bytes is_bytes.
+    let before = c.chunks.invariant.so_far name start reported is_reported bytes is_bytes in
+    let still_reported = c.chunks.invariant.files ∙ is_reported in
+    let next = c.in_ok-n.ensures.ok.next name _ before.place reported still_reported bytes is_bytes in
     is_whole name bytes _ c.chunks.text before
     (next.at_end (search rules) (omega (arith, c.read.auto.into, length-take {A = ℕ})))
 
 pub returns-clause-read : goal.returns-clause-read
-returns-clause-read g c = λ name start told is_told bytes is_bytes.
+returns-clause-read g c = λ name start reported is_reported bytes is_bytes.
     past_limit name bytes _ c.chunks.text c.args.limit
-    (c.chunks.invariant.so_far name start told is_told bytes is_bytes) (omega arith)
+    (c.chunks.invariant.so_far name start reported is_reported bytes is_bytes) (omega arith)

@@ -11,6 +11,6 @@ invariant-pieces g l = record {
   within : l.done ≤ length l.bytes;
   in_writing : IsWriting (g.S.Store.opened l.store);
   quiet : g.S.Store.faults l.store ≡ g.S.Store.faults l.initial.store;
-  named : (told : Files) → g.S.Store.files l.fn.store ≡ Some told → g.S.Store.opened l.store ≡ Writing l.name;
+  named : (reported : Files) → g.S.Store.files l.fn.store ≡ Some reported → g.S.Store.opened l.store ≡ Writing l.name;
   written : ChangesOnly (g.S.Store.files l.fn.store) (g.S.Store.files l.store) l.name (Some (take l.done l.bytes));
 }

@@ -5,7 +5,7 @@ use Rattle.ca_token.proofs.tokens.next_token.Goals as goal
 
 pub pieces-preserved-in-Blank : goal.pieces-preserved-in-Blank
 pieces-preserved-in-Blank c = (
-  ap (λ (is_first : Bool). scan_from is_first 0 (c.pieces.at + 1) (drop (c.pieces.at + 1) c.args.text.now)) c.begins_line_behind-begins_line.ensures
+  ap (λ (is_first : Bool). scan_from is_first 0 (c.pieces.at + 1) (drop (c.pieces.at + 1) c.args.text.now)) c.begins_line_after-begins_line.ensures
       ∙ blank_passed c.pieces.begins_line c.args.text.now c.pieces.at _ _ c.split_at.result.1.now c.split_at.ensures.back c.pieces-test.true c.in-Blank.ensures.piece c.pieces.invariant.0,
   omega (arith, c.pieces.invariant.1),
   omega (arith, c.pieces-test.true),

@@ -1,7 +1,7 @@
 use Rattle.std.proofs.Common.{refl, sym, subst}
 use Rattle.ca_wiring.specs.Wiring as wiring
-use Rattle.ca_wiring.specs.Pins.{IsFirstStray, IsFirstOpen, TellsStray, TellsOpen}
-use Rattle.ca_wiring.proofs.PinLemmas.{tells_stray, tells_open}
+use Rattle.ca_wiring.specs.Pins.{IsFirstStray, IsFirstOpen, ReportsStray, ReportsOpen}
+use Rattle.ca_wiring.proofs.PinLemmas.{reports_stray, reports_open}
 use Rattle.ca_wiring.proofs.judged.judge_scan.Goals as goal
 
 pub returns-in_ok-copy-in-Some-clause-cause : goal.returns-in_ok-copy-in-Some-clause-cause
@@ -9,21 +9,21 @@ returns-in_ok-copy-in-Some-clause-cause c = (
   refl,
   tt,
   subst (IsFirstStray (wiring.ScanCell c.args.row.now) c.args.uses.now) (sym (c.in_ok-copy-in-Some.ensures {u = tt}).ok)
-      (subst (TellsStray (wiring.ScanCell c.args.row.now) c.args.uses.now) (sym (c.in-Some.ensures {u = tt})) (tells_stray (wiring.ScanCell c.args.row.now) c.args.uses.now)),
+      (subst (ReportsStray (wiring.ScanCell c.args.row.now) c.args.uses.now) (sym (c.in-Some.ensures {u = tt})) (reports_stray (wiring.ScanCell c.args.row.now) c.args.uses.now)),
 )
 
 pub returns-in_ok-copy-in-Some-scan_open-clause-cause : goal.returns-in_ok-copy-in-Some-scan_open-clause-cause
 returns-in_ok-copy-in-Some-scan_open-clause-cause c = (
   refl,
   tt,
-  subst (TellsStray (wiring.ScanCell c.args.row.now) c.args.uses.now) (sym (c.in-None.ensures {u = tt})) (tells_stray (wiring.ScanCell c.args.row.now) c.args.uses.now),
+  subst (ReportsStray (wiring.ScanCell c.args.row.now) c.args.uses.now) (sym (c.in-None.ensures {u = tt})) (reports_stray (wiring.ScanCell c.args.row.now) c.args.uses.now),
   subst (IsFirstOpen (wiring.ScanCell c.args.row.now) c.args.uses.now) (sym (c.in_ok-copy-in-Some-scan_open.ensures {u = tt}).ok)
-      (subst (TellsOpen (wiring.ScanCell c.args.row.now) c.args.uses.now) (sym (c.in-Some-scan_open.ensures {u = tt})) (tells_open c.args.uses.now (wiring.ScanCell c.args.row.now))),
+      (subst (ReportsOpen (wiring.ScanCell c.args.row.now) c.args.uses.now) (sym (c.in-Some-scan_open.ensures {u = tt})) (reports_open c.args.uses.now (wiring.ScanCell c.args.row.now))),
 )
 
 pub returns-in-None-scan_open-clause-ok : goal.returns-in-None-scan_open-clause-ok
 returns-in-None-scan_open-clause-ok c = record {
   known = tt;
-  no_stray = subst (TellsStray (wiring.ScanCell c.args.row.now) c.args.uses.now) (sym (c.in-None.ensures {u = tt})) (tells_stray (wiring.ScanCell c.args.row.now) c.args.uses.now);
-  no_open = subst (TellsOpen (wiring.ScanCell c.args.row.now) c.args.uses.now) (sym (c.in-None-scan_open.ensures {u = tt})) (tells_open c.args.uses.now (wiring.ScanCell c.args.row.now));
+  no_stray = subst (ReportsStray (wiring.ScanCell c.args.row.now) c.args.uses.now) (sym (c.in-None.ensures {u = tt})) (reports_stray (wiring.ScanCell c.args.row.now) c.args.uses.now);
+  no_open = subst (ReportsOpen (wiring.ScanCell c.args.row.now) c.args.uses.now) (sym (c.in-None-scan_open.ensures {u = tt})) (reports_open c.args.uses.now (wiring.ScanCell c.args.row.now));
 }

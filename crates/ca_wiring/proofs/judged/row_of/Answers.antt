@@ -1,11 +1,11 @@
 use Rattle.std.proofs.Common.{◌∙◌, ap₂, sym}
 use Rattle.ca_names.specs.Names.{place_of}
-use Rattle.ca_wiring.proofs.PinLemmas.{row_told, no_row}
+use Rattle.ca_wiring.proofs.PinLemmas.{row_reported, no_row}
 use Rattle.ca_wiring.proofs.judged.row_of.Goals as goal
 
 pub returns-in-Some : goal.returns-in-Some
 returns-in-Some c =
-    row_told c.args.scan.now c.args.cell.now c.in-Some.place c.index-scan-place.result
+    row_reported c.args.scan.now c.args.cell.now c.in-Some.place c.index-scan-place.result
     (ap₂ place_of (sym c.as_bytes.ensures) (sym c.requires) ∙ sym (c.in-Some.ensures {u = tt}))
     c.index-scan-place.is
 

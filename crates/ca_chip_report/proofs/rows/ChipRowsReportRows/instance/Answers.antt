@@ -1,5 +1,5 @@
 use Rattle.std.proofs.Common.{◌≡◌}
-use Rattle.ca_chip_report.proofs.RowLemmas.{row_within, row_told, gate_at}
+use Rattle.ca_chip_report.proofs.RowLemmas.{row_within, row_reported, gate_at}
 use Rattle.ca_chip_report.proofs.rows.ChipRowsReportRows.instance.Goals as goal
 
 pub defect_at-requires : goal.defect_at-requires
@@ -16,5 +16,5 @@ instance_of-requires c =
 pub returns : goal.returns
 returns c =
     let rows = c.args.self.now in
-    row_told (λ row. row.instance ≡ c.instance_of.result.now) rows.chip.now rows.defects.now rows.verdicts.now c.args.k
+    row_reported (λ row. row.instance ≡ c.instance_of.result.now) rows.chip.now rows.defects.now rows.verdicts.now c.args.k
     c.defect_at.result rows.reported c.defect_at.ensures (λ verdict. c.instance_of.ensures)

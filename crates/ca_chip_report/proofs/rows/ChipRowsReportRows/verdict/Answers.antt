@@ -1,5 +1,5 @@
 use Rattle.std.proofs.Common.{arith}
-use Rattle.ca_chip_report.proofs.RowLemmas.{row_within, verdict_told}
+use Rattle.ca_chip_report.proofs.RowLemmas.{row_within, verdict_reported}
 use Rattle.ca_chip_report.proofs.rows.ChipRowsReportRows.verdict.Goals as goal
 
 pub get-requires : goal.get-requires
@@ -11,5 +11,5 @@ get-requires c =
 pub returns : goal.returns
 returns c =
     let rows = c.args.self.now in
-    verdict_told rows.chip.now rows.defects.now rows.verdicts.now c.args.k c.get.result.now c.told_of.result
-    rows.reported c.get.ensures c.told_of.ensures
+    verdict_reported rows.chip.now rows.defects.now rows.verdicts.now c.args.k c.get.result.now c.reported_of.result
+    rows.reported c.get.ensures c.reported_of.ensures

@@ -1,7 +1,7 @@
 use Rattle.std.proofs.Common.{◌≡◌, ◌∙◌, ◌++◌, ◌∷◌, [], List, sym, ap, subst, ℕ}
 use Rattle.std.specs.List.{All}
 use Rattle.std.proofs.lemmas.List.Elements.{All-push}
-use Rattle.ca_spice.specs.SpiceFault.{kind_told}
+use Rattle.ca_spice.specs.SpiceFault.{kind_reported}
 use Rattle.ca_spice.specs.Names.{texts}
 use Rattle.ca_spice.specs.Kept.{IsUpper, names_of}
 use Rattle.ca_spice.specs.Views.{cell_seen, reading_seen}
@@ -20,7 +20,7 @@ returns-in_err-cell c =
     let self = c.args.self in
     let names : self.names ≡ names_of self.cells.items = outside_names self.names self.cells.items self.current self.named c.requires.outside in
     handed_on reading_seen c.from_residual.result c.in_err-cell.field-0.0 _ c.from_residual.ensures.1
-    (named-fault c.args.line c.args.name.now (texts c.args.pins.now) self.names (reading_seen self) (kind_told c.in_err-cell.field-0.0) names c.in_err-cell.ensures.read)
+    (named-fault c.args.line c.args.name.now (texts c.args.pins.now) self.names (reading_seen self) (kind_reported c.in_err-cell.field-0.0) names c.in_err-cell.ensures.read)
 
 pub invariant_of-result-clause-upper : goal.invariant_of-result-clause-upper
 invariant_of-result-clause-upper c =

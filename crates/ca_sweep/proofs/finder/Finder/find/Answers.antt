@@ -37,8 +37,8 @@ returns-clause-found g c =
     let seen = subst (λ chip. IsSeen chip (value_at c.self.inside.sweep.lasts) c.args.defect.instance c.flips_of-flips.result c.see-seen.result) c.self.invariant.chip_is c.see-seen.ensures.seen in
     let flips_are = subst (λ list. AreFlipsOf core (value_at c.self.inside.sweep.lasts) c.args.defect.instance list c.flips_of-flips.result) c.as_slice.ensures.value
     (subst (λ chip. AreFlipsOf chip (value_at c.self.inside.sweep.lasts) c.args.defect.instance c.as_slice.result.now c.flips_of-flips.result) c.self.invariant.chip_is c.flips_of-flips.ensures) in
-    subst (λ chip. IsFound chip c.args.defect (g.V.NetWaves.seen c.args.waves.now).pair c.told.result) (sym own)
-    (subst (IsFound core c.args.defect (g.V.NetWaves.seen c.args.waves.now).pair) (sym c.told.ensures)
+    subst (λ chip. IsFound chip c.args.defect (g.V.NetWaves.seen c.args.waves.now).pair c.reported.result) (sym own)
+    (subst (IsFound core c.args.defect (g.V.NetWaves.seen c.args.waves.now).pair) (sym c.reported.ensures)
     (found_by c.swept_are_flipped.ensures c.detected_is_filled_in.ensures c.detected_is_flipped.ensures core rank c.args.defect pair pins (value_at c.self.inside.sweep.lasts) outputs flips
     (record {
       chip_is = is_chip;

@@ -17,18 +17,18 @@ steps-preserved c =
     let one = c.steps.invariant.one in
     let old = c.steps.self in
     let short = c.halve-at.ensures.shortens in
-    let behind = below_root old (parent_of old c.steps.at) one.0 (below_root old c.steps.at one.0 one.2) in
+    let following = below_root old (parent_of old c.steps.at) one.0 (below_root old c.steps.at one.0 one.2) in
     record {
       shortens = shortens_then c.args.self.now old c.halve-at.new.self c.steps.invariant.shortens short;
       one = (
         one.0,
         short.roots c.args.w one.0 one.1,
-        short.roots c.halve-at.result one.0 (subst (λ x. HasRoot old x one.0) (sym c.halve-at.ensures.behind) behind),
+        short.roots c.halve-at.result one.0 (subst (λ x. HasRoot old x one.0) (sym c.halve-at.ensures.following) following),
       );
       within =
           let first = c.steps.invariant.shortens.back c.steps.at in
           let second = c.steps.invariant.shortens.back (parent_of old c.steps.at) in
-          let e = c.halve-at.ensures.behind in
+          let e = c.halve-at.ensures.following in
           let within = c.steps.invariant.within in
           omega (arith, short.count);
     }

@@ -6,5 +6,5 @@ use Rattle.ca_wiring.proofs.joined.Links.halve.Goals as goal
 pub returns-clause-shortens : goal.returns-clause-shortens
 returns-clause-shortens c =
     subst (Shortens c.args.self.now)
-    (sym (c.set.ensures ∙ ap (set c.args.self.now c.args.w) (c.parent-behind.ensures ∙ ap (parent_of c.args.self.now) c.parent.ensures)))
+    (sym (c.set.ensures ∙ ap (set c.args.self.now c.args.w) (c.parent-following.ensures ∙ ap (parent_of c.args.self.now) c.parent.ensures)))
     (halved c.args.self.now c.args.w c.requires.within c.requires.back)

@@ -17,11 +17,11 @@ IsInputFile words name =
     ⊎ (IsReplay words × (name ≡ order_word words)))
 
 -- it is known what the store has under the name of each file that the command reads: these bytes, or no file
-abbrev pub TellsFiles : List (List ℕ) → Files → Outside → Type 0
-TellsFiles words files outside =
-    IsSomeAnd outside.files (λ told. (name : List ℕ) → IsInputFile words name → told name ≡ files name)
+abbrev pub ReportsFiles : List (List ℕ) → Files → Outside → Type 0
+ReportsFiles words files outside =
+    IsSomeAnd outside.files (λ reported. (name : List ℕ) → IsInputFile words name → reported name ≡ files name)
 
 -- each of these files is known to be there
-abbrev pub TellsAllFiles : List (List ℕ) → Outside → Type 0
-TellsAllFiles words outside =
-    IsSomeAnd outside.files (λ told. (name : List ℕ) → IsInputFile words name → IsSome (told name))
+abbrev pub ReportsAllFiles : List (List ℕ) → Outside → Type 0
+ReportsAllFiles words outside =
+    IsSomeAnd outside.files (λ reported. (name : List ℕ) → IsInputFile words name → IsSome (reported name))

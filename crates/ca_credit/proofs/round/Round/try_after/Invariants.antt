@@ -1,6 +1,6 @@
 use Rattle.std.proofs.Common.{◌≡◌}
 use Rattle.ca_credit.specs.Round.{TriesMore}
-use Rattle.ca_credit.proofs.round.Round.try_behind.Given as goal
+use Rattle.ca_credit.proofs.round.Round.try_after.Given as goal
 
 abbrev pub invariant-loop-place : goal.invariant-loop-place
 invariant-loop-place g l = TriesMore (g.S.Simulator.task l.fn.sim) l.pair l.number l.credited l.fn.self l.self

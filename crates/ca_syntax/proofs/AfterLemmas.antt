@@ -1,7 +1,7 @@
 -- Each of a list is right given those before it: one after another, and at any place.
 use Rattle.std.proofs.Common.{◌≡◌, List, [], ◌∷◌, ◌++◌, refl, sym, subst, append_assoc, append-nil}
 use Rattle.std.specs.Prelude.{⊤}
-use Rattle.ca_syntax.specs.Rules.{EachBehind}
+use Rattle.ca_syntax.specs.Rules.{EachAfter}
 
 -- each is right given those before it and these
 abbrev pub OneByOne : {T : Type 0} → (List T → T → Type 0) → List T → List T → Type 0
@@ -24,12 +24,12 @@ at_place P seen (one ∷ list) (first ∷ before) here after right is =
     (subst (λ (other : _). P ((seen ++ other ∷ []) ++ before) here) same.0
     (at_place P (seen ++ one ∷ []) list before here after right.1 same.1))
 
-pub each_behind : {T : Type 0} (P : List T → T → Type 0) (list : List T) → OneByOne P [] list → EachBehind P list
-each_behind P list right = λ before here after is. at_place P [] list before here after right is
+pub each_after : {T : Type 0} (P : List T → T → Type 0) (list : List T) → OneByOne P [] list → EachAfter P list
+each_after P list right = λ before here after is. at_place P [] list before here after right is
 
-pub one_by_one : {T : Type 0} (P : List T → T → Type 0) (seen list : List T) → EachBehind P (seen ++ list) → OneByOne P seen list
+pub one_by_one : {T : Type 0} (P : List T → T → Type 0) (seen list : List T) → EachAfter P (seen ++ list) → OneByOne P seen list
 one_by_one P seen [] right = tt
 one_by_one {T} P seen (here ∷ more) right = (
   right seen here more refl,
-  one_by_one P (seen ++ here ∷ []) more (subst (EachBehind P) (sym (append_assoc seen (here ∷ []) more)) right),
+  one_by_one P (seen ++ here ∷ []) more (subst (EachAfter P) (sym (append_assoc seen (here ∷ []) more)) right),
 )

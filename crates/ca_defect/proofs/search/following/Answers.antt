@@ -1,7 +1,7 @@
 use Rattle.std.proofs.Common.{◌≡◌, true, ap, ◌∙◌}
 use Rattle.ca_lex.specs.Words.{upper_case}
 use Rattle.ca_defect.proofs.CaseLemmas.{front_is}
-use Rattle.ca_defect.proofs.search.behind.Goals as goal
+use Rattle.ca_defect.proofs.search.following.Goals as goal
 
 pub returns-else-is_alike-clause-none : goal.returns-else-is_alike-clause-none
 returns-else-is_alike-clause-none c = λ rest begins.

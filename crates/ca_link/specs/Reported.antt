@@ -12,7 +12,7 @@ use Rattle.ca_linked.specs.declared.parts.Source.{Source}
 use Rattle.ca_linked.specs.declared.wiring.WireFault.{WireFault}
 use Rattle.ca_linked.specs.declared.wiring.WireFault.TheVariants as wire_fault
 use Rattle.ca_linked.specs.Linked.{LinkedChip}
-use Rattle.ca_link.specs.Names.{TellsSource}
+use Rattle.ca_link.specs.Names.{ReportsSource}
 
 -- the name of a control pin of a scan instance
 pub record IsControlName (chip : LinkedChip) (scan : List ScanRow) (u k : ℕ) (name : List ℕ) : Type 0 where
@@ -23,25 +23,25 @@ pub record IsControlName (chip : LinkedChip) (scan : List ScanRow) (u k : ℕ) (
   pub named : slice_get (control_names (ScanCell row)) k ≡ Some name
 
 -- the net is reported with the first two that drive it; or nothing does
-abbrev pub TellsMisdriven : LinkedChip → List ScanRow → ℕ → Option Source → Option Source → ChipFault → Type 0
-TellsMisdriven chip scan net None two told = told ≡ fault.Undriven (record { 0 = net })
-TellsMisdriven chip scan net (Some one) None told = told ≡ fault.Undriven (record { 0 = net })
-TellsMisdriven chip scan net (Some one) (Some two) told =
-    (first second : Driver) × TellsSource chip scan net one first × TellsSource chip scan net two second
-    × (told ≡ fault.DoubleDriven (record { 0 = net }) first second)
+abbrev pub ReportsMisdriven : LinkedChip → List ScanRow → ℕ → Option Source → Option Source → ChipFault → Type 0
+ReportsMisdriven chip scan net None two reported = reported ≡ fault.Undriven (record { 0 = net })
+ReportsMisdriven chip scan net (Some one) None reported = reported ≡ fault.Undriven (record { 0 = net })
+ReportsMisdriven chip scan net (Some one) (Some two) reported =
+    (first second : Driver) × ReportsSource chip scan net one first × ReportsSource chip scan net two second
+    × (reported ≡ fault.DoubleDriven (record { 0 = net }) first second)
 
 -- a control pin is reported by its name, the inverted output by its instance
-abbrev pub TellsMisused : LinkedChip → List ScanRow → Misused → ChipFault → Type 0
-TellsMisused chip scan misused told =
-    ((misused.pin ≡ 3) × (told ≡ fault.QnUsed (record { 0 = misused.instance })))
+abbrev pub ReportsMisused : LinkedChip → List ScanRow → Misused → ChipFault → Type 0
+ReportsMisused chip scan misused reported =
+    ((misused.pin ≡ 3) × (reported ≡ fault.QnUsed (record { 0 = misused.instance })))
     ⊎ ((misused.pin < 3) × ((name : List ℕ) × IsControlName chip scan misused.instance misused.pin name
-    × (told ≡ fault.ControlPin (record { 0 = misused.instance }) name)))
+    × (reported ≡ fault.ControlPin (record { 0 = misused.instance }) name)))
 
 -- what is reported about a fault
-abbrev pub TellsFault : LinkedChip → List ScanRow → WireFault → ChipFault → Type 0
-TellsFault chip scan (wire_fault.Misdriven net sources) told =
-    TellsMisdriven chip scan net sources.first sources.second told
-TellsFault chip scan (wire_fault.Misused misused) told = TellsMisused chip scan misused told
-TellsFault chip scan (wire_fault.Observed net) told = told ≡ fault.ControlObserved (record { 0 = net })
-TellsFault chip scan (wire_fault.Loop loop) told = told ≡ fault.Loop loop
-TellsFault chip scan wire_fault.NoMemory told = told ≡ fault.NoMemory
+abbrev pub ReportsFault : LinkedChip → List ScanRow → WireFault → ChipFault → Type 0
+ReportsFault chip scan (wire_fault.Misdriven net sources) reported =
+    ReportsMisdriven chip scan net sources.first sources.second reported
+ReportsFault chip scan (wire_fault.Misused misused) reported = ReportsMisused chip scan misused reported
+ReportsFault chip scan (wire_fault.Observed net) reported = reported ≡ fault.ControlObserved (record { 0 = net })
+ReportsFault chip scan (wire_fault.Loop loop) reported = reported ≡ fault.Loop loop
+ReportsFault chip scan wire_fault.NoMemory reported = reported ≡ fault.NoMemory

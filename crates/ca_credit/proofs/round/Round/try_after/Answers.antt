@@ -1,6 +1,6 @@
 use Rattle.std.proofs.Common.{rules}
 use Rattle.ca_credit.proofs.TableLemmas.{credit_count_within}
-use Rattle.ca_credit.proofs.round.Round.try_behind.Goals as goal
+use Rattle.ca_credit.proofs.round.Round.try_after.Goals as goal
 
 pub overflow_add-credited : goal.overflow_add-credited
 overflow_add-credited g c =
