@@ -14,7 +14,7 @@ use Rattle.std.specs.Map.{keys_of}
 use Rattle.ca_lex.specs.Words.{upper_case}
 use Rattle.ca_cell.specs.declared.library.Entry.{Entry}
 use Rattle.ca_cell.specs.Library.{Named, entry_of}
-use Rattle.ca_cell.specs.Entries.{named_entries}
+use Rattle.ca_cell.specs.code.Entries.{named_entries}
 
 -- the names before a place are as short as those before the next, if that at the place is
 pub longest_step : (library : List Named) (i old new : ℕ) (here : Named) → slice_get library i ≡ Some here

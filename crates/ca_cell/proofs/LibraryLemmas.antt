@@ -19,7 +19,7 @@ use Rattle.std.specs.declared.alloc.Global.{Global}
 use Rattle.ca_cell.specs.declared.library.Entry.{Entry}
 use Rattle.ca_cell.specs.Library.{Named, IsEntry, entry_of, IsPlaceOf}
 use Rattle.ca_lex.specs.Words.{upper_case}
-use Rattle.ca_cell.specs.Entries.{named_entries, AllUpperCase, AllEntries}
+use Rattle.ca_cell.specs.code.Entries.{named_entries, AllUpperCase, AllEntries}
 
 -- the entry of a name is what the map finds under it
 pub entry_of-named : (entries : List (Vec ℕ Global × Entry)) (name : List ℕ)

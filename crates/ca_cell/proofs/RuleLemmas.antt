@@ -11,7 +11,8 @@ use Rattle.ca_cell.specs.declared.rule.CellRule.TheVariants.{NoRail, TooManyDevi
 use Rattle.ca_cell.specs.declared.rule.CellRule.TheVariants.{TooManyInputs, NoOutput, TooManyOutputs}
 use Rattle.ca_cell.specs.declared.rule.CellRule.TheVariants.{InputDrivesChannel}
 use Rattle.ca_cell.specs.declared.rule.TheConstants.{MOST_NODES}
-use Rattle.ca_cell.specs.Rules.{node_count, channel_pin, DrivesChannel, KeepsCounts, KeepsRules}
+use Rattle.ca_cell.specs.Rules.{node_count, channel_pin, DrivesChannel, KeepsRules}
+use Rattle.ca_cell.specs.code.Rules.{KeepsCounts}
 
 -- where no device has its drain or its source on an input pin, none is the first that has
 pub none_drives : (raw : RawCell) → All (λ d. ¬ (IsSome (channel_pin raw.pins d))) raw.devices → (pin device : ℕ) → DrivesChannel raw pin device → ⊥

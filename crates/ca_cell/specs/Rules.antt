@@ -103,7 +103,3 @@ KeepsAllBut but raw = (rule : CellRule) → (rule ≡ but → ⊥) → Breaks ra
 abbrev pub IsCause : RawCell → CellFault → Type 0
 IsCause raw (Rule rule) = IsFirstBroken raw rule
 IsCause raw NoMemory = KeepsRules raw
-
--- the rules on counts: all but the last
-abbrev pub KeepsCounts : RawCell → Type 0
-KeepsCounts raw = (rule : CellRule) → rank_of rule < 6 → Breaks raw rule → ⊥

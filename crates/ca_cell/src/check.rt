@@ -4,7 +4,8 @@ ghost use Rattle.std.specs.Prelude.{◌≡◌, ◌<◌, ◌≤◌, ℕ, length, 
 ghost use Rattle.ca_cell.specs.Raw.{is_input, is_output, is_power, is_ground, role_count, inner_count};
 ghost use Rattle.ca_cell.specs.Raw.{node_of};
 ghost use Rattle.ca_cell.specs.Rules.{IsRaw, PlacesWithin, node_count, input_node, channel_pin, KeepsRules};
-ghost use Rattle.ca_cell.specs.Rules.{IsFirstBroken, KeepsCounts};
+ghost use Rattle.ca_cell.specs.Rules.{IsFirstBroken};
+ghost use Rattle.ca_cell.specs.code.Rules.{KeepsCounts};
 
 use crate::raw::{RawCell, RawDevice, RawPin, Role};
 use crate::rule::{CellRule, MOST_DEVICES, MOST_INPUTS, MOST_NODES, MOST_OUTPUTS};

@@ -92,7 +92,7 @@ pub struct Library {
 impl Model for Library {
     ghost use Rattle.std.specs.Prelude.{List, ◌<◌, ◌^◌, length};
     ghost use Rattle.ca_cell.specs.Library.{Named};
-    ghost use Rattle.ca_cell.specs.Entries.{named_entries, AllUpperCase, AllEntries};
+    ghost use Rattle.ca_cell.specs.code.Entries.{named_entries, AllUpperCase, AllEntries};
 
     ghost Value = { List Named };
 

@@ -15,13 +15,13 @@ use Rattle.ca_flat.specs.Detection.{trits_of, Detects, NoneDetects, IsFirstOutpu
 use Rattle.ca_claim.specs.Stands.{Stands, StandsAt, StandBelow}
 use Rattle.ca_claim.proofs.TrueLemmas.{one_entry}
 use Rattle.ca_cert.specs.declared.detection.Detection.{Detection}
-use Rattle.ca_cert.specs.Found.{asks, IsFoundTo, AreFound}
+use Rattle.ca_cert.specs.code.Found.{asks, IsFoundTo, AreFound}
 use Rattle.ca_flat.specs.declared.token.Token.{Token}
 use Rattle.ca_flat.specs.Codes.{IsSpentBy}
 use Rattle.ca_read_code.specs.ClaimedCode.{claim_rules}
 use Rattle.ca_read_code.specs.Examined.{Examined, with_pair, IsSameAim}
 use Rattle.ca_cert.specs.Tested.{with_aim}
-use Rattle.ca_cert.specs.Standing.{StandsBy}
+use Rattle.ca_cert.specs.code.Standing.{StandsBy}
 
 -- an entry at a place with a property has it
 some_entry : {T : Type 0} (o : Option T) (P : T → Type 0) (Q : Type 0) → IsSomeAnd o P → ((x : T) → o ≡ Some x → P x → Q) → Q

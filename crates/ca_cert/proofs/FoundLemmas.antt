@@ -15,9 +15,10 @@ use Rattle.ca_claim.specs.declared.claim.Claim.{Claim}
 use Rattle.ca_flat.specs.Detection.{trits_of, Detects, NoneDetects, IsFirstOutput}
 use Rattle.ca_read_code.specs.Examined.{Examined, with_pair}
 use Rattle.ca_cert.specs.declared.detection.Detection.{Detection}
-use Rattle.ca_cert.specs.Tested.{KeepsChip, IsDetectingOutput}
-use Rattle.ca_cert.specs.Found.{IsFoundTo, IsFoundAt, AreFound}
-use Rattle.ca_cert.specs.Looked.{entry_of, LooksAt}
+use Rattle.ca_cert.specs.Tested.{IsDetectingOutput}
+use Rattle.ca_cert.specs.code.Tested.{KeepsChip}
+use Rattle.ca_cert.specs.code.Found.{IsFoundTo, IsFoundAt, AreFound}
+use Rattle.ca_cert.specs.code.Looked.{entry_of, LooksAt}
 
 -- the entry at the first place is in the list
 pub contained : {T : Type 0} (xs : List T) (P : T → Type 0) (k : ℕ) → IsSomeAnd (slice_get xs k) P → (x : T) × Contains xs x × P x

@@ -3,7 +3,7 @@
 ghost use Rattle.std.specs.Prelude.{◌≡◌, ◌<◌, ◌+◌, ◌^◌, ◌≤◌, length, slice_get, Some, IfOk};
 ghost use Rattle.std.specs.List.{All};
 ghost use Rattle.ca_flat.specs.Pair.{bit_count};
-ghost use Rattle.ca_cert.specs.Found.{asks, AreFound};
+ghost use Rattle.ca_cert.specs.code.Found.{asks, AreFound};
 
 use crate::tester::Tester;
 use ca_base::NoMemory;
@@ -30,8 +30,9 @@ fn asks(claim: &Claim) -> bool
 }
 
 ghost use Rattle.ca_flat.specs.declared.chip_defect.ChipDefect.{ChipDefect};
-ghost use Rattle.ca_cert.specs.Tested.{KeepsChip, IsTestable, AreTestable, IsDetectingOutput};
-ghost use Rattle.ca_cert.specs.Looked.{LooksAt, KeepsPair};
+ghost use Rattle.ca_cert.specs.Tested.{IsTestable, AreTestable, IsDetectingOutput};
+ghost use Rattle.ca_cert.specs.code.Tested.{KeepsChip};
+ghost use Rattle.ca_cert.specs.code.Looked.{LooksAt, KeepsPair};
 
 // At which output the pair that is loaded detects the defect, if it does.
 fn look<T: Tester>(tester: &mut T, defect: ChipDefect) -> Option<u32>

@@ -3,7 +3,7 @@ use Rattle.std.proofs.Common.{◌≡◌, ℕ, suc, ◌==◌, Bool, true, false, 
 use Rattle.std.proofs.Common.{sym, ap, ◌∙◌, subst}
 use Rattle.std.proofs.lemmas.Bool.{eqb-true, eq-eqb}
 use Rattle.std.proofs.Math.Seq.{take-append_seam, drop-append_seam}
-use Rattle.ca_cert_text.specs.Cut.{len_before, IsFree, BeginsWith, IsOnlyCut}
+use Rattle.ca_cert_text.specs.code.Cut.{len_before, IsFree, BeginsWith, IsOnlyCut}
 
 -- the length before a byte, by whether the first byte is the one
 abbrev length_by : ℕ → List ℕ → Bool → ℕ

@@ -9,7 +9,7 @@ use Rattle.ca_claim.specs.declared.claim.Claim.{Claim}
 use Rattle.ca_claim.specs.declared.claim.Claim.TheVariants.{Credited, Unexposable, Untestable, Aborted}
 use Rattle.ca_cert_text.specs.declared.number.TheConstants.{MOST_BUDGET}
 use Rattle.ca_cert_text.specs.CertText.{token_word, code_words, claim_words, head_words, IsTokenOf, AreTokens, IsClaimOf}
-use Rattle.ca_cert_text.specs.Cut.{IsFree}
+use Rattle.ca_cert_text.specs.code.Cut.{IsFree}
 
 pub free_none : (byte : ℕ) → IsFree byte []
 unfolding IsFree

@@ -6,8 +6,8 @@ use Rattle.ca_claim.specs.declared.claim.Claim.{Claim}
 use Rattle.ca_cert_text.specs.declared.number.TheConstants.{MOST_BUDGET}
 use Rattle.ca_cert_text.specs.CertText.{claim_words, claim_line, claim_lines, head_words, head_line, IsClaimOf}
 use Rattle.ca_cert_text.specs.CertFault.{HasNoHead, HasNoClaim}
-use Rattle.ca_cert_text.specs.Cut.{BeginsWith, IsOnlyCut}
-use Rattle.ca_cert_text.specs.Reading.{IsClaimAt, IsBudgetAt}
+use Rattle.ca_cert_text.specs.code.Cut.{BeginsWith, IsOnlyCut}
+use Rattle.ca_cert_text.specs.code.Reading.{IsClaimAt, IsBudgetAt}
 use Rattle.ca_cert_text.proofs.FreeLemmas.{free_claim, free_head}
 use Rattle.ca_cert_text.proofs.WordLemmas.{tail_of, whole_is, lines_push}
 

@@ -15,7 +15,7 @@ use Rattle.ca_cert_text.specs.CertText.{token_word, code_words, claim_words, cla
 use Rattle.ca_cert_text.specs.CertText.{head_words, head_line, IsTokenOf, AreTokens, IsClaimOf, AreClaims}
 use Rattle.ca_cert_text.specs.CertFault.{HasNoClaim}
 use Rattle.ca_cert_text.specs.Laws.{TextIsRead, FaultyLineIsOne}
-use Rattle.ca_cert_text.specs.Cut.{IsFree, BeginsWith}
+use Rattle.ca_cert_text.specs.code.Cut.{IsFree, BeginsWith}
 use Rattle.ca_cert_text.proofs.CutLemmas.{cut_only}
 use Rattle.ca_cert_text.proofs.FreeLemmas.{free_decimal, free_token, free_claim, free_head}
 use Rattle.ca_cert_text.proofs.WordLemmas.{begins_code}

@@ -9,8 +9,8 @@ use Rattle.ca_flat.specs.declared.token.Token.{Token}
 use Rattle.ca_claim.specs.declared.claim.Claim.{Claim}
 use Rattle.ca_cert_text.specs.CertText.{token_word, code_words, credit_words, claim_line, claim_lines}
 use Rattle.ca_cert_text.specs.CertText.{head_words, IsTokenOf, AreTokens, IsClaimOf, AreClaims}
-use Rattle.ca_cert_text.specs.Cut.{BeginsWith, IsOnlyCut}
-use Rattle.ca_cert_text.specs.Reading.{IsCode}
+use Rattle.ca_cert_text.specs.code.Cut.{BeginsWith, IsOnlyCut}
+use Rattle.ca_cert_text.specs.code.Reading.{IsCode}
 use Rattle.ca_cert_text.proofs.FreeLemmas.{free_decimal, free_token}
 
 -- all but the first byte

@@ -1,5 +1,4 @@
 pub mod CertText
 pub mod CertFault
 pub mod Laws
-pub mod Cut
-pub mod Reading
+pub mod code

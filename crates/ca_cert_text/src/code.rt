@@ -1,7 +1,7 @@
 //! The codes of claims.
 
 ghost use Rattle.std.specs.Prelude.{IfOk, true, false};
-ghost use Rattle.ca_cert_text.specs.Reading.{IsTokenAt, IsBranchAt, IsCodeAt};
+ghost use Rattle.ca_cert_text.specs.code.Reading.{IsTokenAt, IsBranchAt, IsCodeAt};
 
 use crate::cut::cut;
 use crate::number::{GREATEST_BIT, number_of};

@@ -1,10 +1,10 @@
 //! A text cut before a byte.
 
 ghost use Rattle.std.specs.Prelude.{ℕ, List, ◌≡◌, ◌++◌, ◌≤◌, length};
-ghost use Rattle.ca_cert_text.specs.Cut.{len_before, BeginsWith, IsOnlyCut};
+ghost use Rattle.ca_cert_text.specs.code.Cut.{len_before, BeginsWith, IsOnlyCut};
 
 // The number of bytes before the first that is this one, or of all bytes.
-#[tactic(auto, unfolding(crate::specs::Cut::len_before))]
+#[tactic(auto, unfolding(crate::specs::code::Cut::len_before))]
 fn len_before(text: &[u8], byte: u8) -> usize
     ensures len { result ≡ len_before byte text.now }
     ensures within { result ≤ length text.now }

@@ -1,8 +1,8 @@
 //! The lines of a certificate, without their line feeds.
 
 ghost use Rattle.std.specs.Prelude.{IfOk};
-ghost use Rattle.ca_cert_text.specs.Reading.{IsBudgetAt, IsCreditAt, IsUnexposableAt, IsUntestableAt};
-ghost use Rattle.ca_cert_text.specs.Reading.{IsAbortedAt, IsClaimAt};
+ghost use Rattle.ca_cert_text.specs.code.Reading.{IsBudgetAt, IsCreditAt, IsUnexposableAt, IsUntestableAt};
+ghost use Rattle.ca_cert_text.specs.code.Reading.{IsAbortedAt, IsClaimAt};
 
 use crate::code::code_of;
 use crate::cut::cut;

@@ -1,7 +1,7 @@
 //! Numbers in decimal digits.
 
 ghost use Rattle.std.specs.Prelude.{◌≡◌, ◌<◌, ◌^◌, ◌↔◌, decimal, IsTrue, MatchOption};
-ghost use Rattle.ca_cert_text.specs.Reading.{IsNumber, IsNoNumber};
+ghost use Rattle.ca_cert_text.specs.code.Reading.{IsNumber, IsNoNumber};
 
 use itoa::Buffer;
 

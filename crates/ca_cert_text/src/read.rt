@@ -1,7 +1,7 @@
 //! A certificate read from its text.
 
 ghost use Rattle.ca_cert_text.specs.CertFault.{Reads};
-ghost use Rattle.ca_cert_text.specs.Reading.{AreClaimsAt};
+ghost use Rattle.ca_cert_text.specs.code.Reading.{AreClaimsAt};
 
 use crate::cut::cut;
 use crate::fault::CertFault;

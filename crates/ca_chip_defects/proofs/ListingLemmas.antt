@@ -8,7 +8,8 @@ use Rattle.ca_defect.specs.declared.defect.Defect.{Defect}
 use Rattle.ca_flat.specs.declared.chip_defect.ChipDefect.{ChipDefect}
 use Rattle.ca_flat.specs.Chip.{Chip}
 use Rattle.ca_view.specs.Linked.{place_in}
-use Rattle.ca_chip_defects.specs.ChipDefects.{placed_at, defects_at, chip_defects, if_placed, placed_before}
+use Rattle.ca_chip_defects.specs.ChipDefects.{placed_at, defects_at, chip_defects}
+use Rattle.ca_chip_defects.specs.code.ChipDefects.{if_placed, placed_before}
 
 before_next : (places : List ℕ) (u : ℕ)
     → placed_before places (u + 1) ≡ placed_before places u ++ if_placed (place_in places u) u

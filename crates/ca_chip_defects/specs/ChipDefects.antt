@@ -1,10 +1,9 @@
 -- The list of the defects of a chip.
-use Rattle.std.specs.Prelude.{ℕ, zero, suc, List, [], ◌∷◌, ◌++◌, map, flat_map}
+use Rattle.std.specs.Prelude.{ℕ, List, map, flat_map}
 use Rattle.ca_defect.specs.declared.defect.Defect.{Defect}
 use Rattle.ca_defect.specs.List.{defects_of}
 use Rattle.ca_flat.specs.declared.chip_defect.ChipDefect.{ChipDefect}
-use Rattle.ca_flat.specs.Chip.{Chip, cell_at, count_of}
-use Rattle.ca_view.specs.Linked.{place_in}
+use Rattle.ca_flat.specs.Chip.{Chip, cell_at}
 
 -- the defect of a cell as one of the instance u
 abbrev pub placed_at : ℕ → Defect → ChipDefect
@@ -17,17 +16,3 @@ defects_at chip u = map (placed_at u) (defects_of (cell_at chip u))
 -- the defects of these instances of a chip: by instance, and then in the order of its cell's list
 abbrev pub chip_defects : Chip → List ℕ → List ChipDefect
 chip_defects chip instances = flat_map (defects_at chip) instances
-
--- the instance u, if its place isn't 0
-abbrev pub if_placed : ℕ → ℕ → List ℕ
-if_placed zero u = []
-if_placed (suc place) u = u ∷ []
-
--- of the first `count` instances those that have a place, in order
-unfoldable pub placed_before : List ℕ → ℕ → List ℕ
-placed_before places zero = []
-placed_before places (suc u) = placed_before places u ++ if_placed (place_in places u) u
-
--- the instances of a chip that have a place in the order
-abbrev pub placed_instances : Chip → List ℕ → List ℕ
-placed_instances chip places = placed_before places (count_of chip)

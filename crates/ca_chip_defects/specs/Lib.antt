@@ -1,1 +1,2 @@
 pub mod ChipDefects
+pub mod code

@@ -5,7 +5,8 @@ ghost use Rattle.std.specs.List.{All};
 ghost use Rattle.ca_flat.specs.Chip.{count_of};
 ghost use Rattle.ca_linked.specs.Instances.{gates_of};
 ghost use Rattle.ca_view.specs.Linked.{IsPlacedDefect, place_in};
-ghost use Rattle.ca_chip_defects.specs.ChipDefects.{chip_defects, if_placed};
+ghost use Rattle.ca_chip_defects.specs.ChipDefects.{chip_defects};
+ghost use Rattle.ca_chip_defects.specs.code.ChipDefects.{if_placed};
 
 use ca_base::{List, NoMemory};
 use ca_defect::defects;

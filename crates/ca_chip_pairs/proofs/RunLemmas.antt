@@ -11,7 +11,7 @@ use Rattle.ca_linked.specs.declared.parts.PortBit.{PortBit}
 use Rattle.ca_linked.specs.Linked.{LinkedChip}
 use Rattle.ca_linked.specs.Instances.{HasOnPin}
 use Rattle.ca_scan.specs.Chain.{count_of, IsLink, IsOnPin, IsAtPort, RunsOut, IsChainFrom}
-use Rattle.ca_scan.specs.Kept.{drivers_of, in_nets, so_nets}
+use Rattle.ca_scan.specs.code.Kept.{drivers_of, in_nets, so_nets}
 use Rattle.ca_scan.proofs.ChainLemmas.{one_net}
 use Rattle.ca_scan.proofs.CountLemmas.{item_of, count_here, counted, one_place, enough, takes, count-append}
 use Rattle.ca_scan.proofs.FollowLemmas.{found_in}

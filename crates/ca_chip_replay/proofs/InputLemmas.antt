@@ -22,7 +22,7 @@ use Rattle.ca_replay.proofs.ValueLemmas.{contains_head, contains_tail}
 use Rattle.ca_view.specs.Linked.{IsPinned}
 use Rattle.ca_sim.proofs.Feeding.{neq-eqb}
 use Rattle.ca_chip_replay.specs.ChipRun.{input_nodes}
-use Rattle.ca_chip_replay.specs.Kept.{IsVector}
+use Rattle.ca_chip_replay.specs.code.Kept.{IsVector}
 
 -- the node of a net
 abbrev pub node_of : ℕ → NodeId

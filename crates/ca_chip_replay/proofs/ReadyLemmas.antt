@@ -17,7 +17,7 @@ use Rattle.ca_order.specs.declared.event.OrderFault.{OrderFault}
 use Rattle.ca_order.specs.Allowed.{meaning, IsAllowed, ReadsFor}
 use Rattle.ca_replay.specs.Replay.{CoverInputs, IsReplay}
 use Rattle.ca_chip_replay.specs.ChipRun.{RunOf, input_nodes, AreReplayed}
-use Rattle.ca_chip_replay.specs.Kept.{IsReady, HaveOneValue, AreOutputValues}
+use Rattle.ca_chip_replay.specs.code.Kept.{IsReady, HaveOneValue, AreOutputValues}
 use Rattle.ca_chip_replay.proofs.VectorLemmas.{one_value}
 use Rattle.ca_chip_replay.proofs.SameLemmas.{same_back, replay_same, pair_run_same, allowed_same, reads_same}
 use Rattle.ca_chip_replay.proofs.SameLemmas.{answer_allowed}

@@ -14,7 +14,7 @@ use Rattle.ca_order.specs.declared.event.Event as order
 use Rattle.ca_order.specs.declared.event.OrderFault.{OrderFault}
 use Rattle.ca_order.specs.Allowed.{meaning, MaySet, IsAllowed, ReadsFor}
 use Rattle.ca_replay.specs.Replay.{IsReplay, is_same, settings}
-use Rattle.ca_chip_replay.specs.Kept.{HaveOneValue}
+use Rattle.ca_chip_replay.specs.code.Kept.{HaveOneValue}
 
 pub same_back : (v w : List Trit) → HaveOneValue v w → HaveOneValue w v
 same_back v w same n = sym (same n)

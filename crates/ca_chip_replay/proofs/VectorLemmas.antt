@@ -14,7 +14,7 @@ use Rattle.ca_flat.specs.Chip.{Chip, Constant}
 use Rattle.ca_flat.specs.Pair.{input_value, constant_value, values_from, values_of, flat_vector}
 use Rattle.ca_flat.proofs.PairLemmas.{vector_value}
 use Rattle.ca_sim.proofs.Feeding.{neq-eqb}
-use Rattle.ca_chip_replay.specs.Kept.{unknown_nets, IsVector, HaveOneValue}
+use Rattle.ca_chip_replay.specs.code.Kept.{unknown_nets, IsVector, HaveOneValue}
 
 -- power and ground alone
 pub rails_known : (nodes : ℕ) (old power new : List Trit) → 2 ≤ nodes → old ≡ replicate nodes X → power ≡ slice_set old 0 One

@@ -1,3 +1,3 @@
 -- What the contracts of this crate say, in reading order.
 pub mod ChipRun
-pub mod Kept
+pub mod code

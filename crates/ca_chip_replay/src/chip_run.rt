@@ -8,7 +8,7 @@ ghost use Rattle.ca_flat.specs.Chip.{IsChipDefect};
 ghost use Rattle.ca_flat.specs.Pair.{bit_count, first_vector, last_vector};
 ghost use Rattle.ca_order.specs.Allowed.{meaning, IsAllowed, ReadsFor};
 ghost use Rattle.ca_chip_replay.specs.ChipRun.{AreReplayed};
-ghost use Rattle.ca_chip_replay.specs.Kept.{AreOutputValues};
+ghost use Rattle.ca_chip_replay.specs.code.Kept.{AreOutputValues};
 
 use crate::input_nodes::input_nodes;
 use crate::vectors::vector_of;
@@ -38,7 +38,7 @@ pub struct ChipRun<'a, B: Bits> {
 
 impl<'a, B: Bits> Model for ChipRun<'a, B> {
     ghost use Rattle.ca_chip_replay.specs.ChipRun.{RunOf};
-    ghost use Rattle.ca_chip_replay.specs.Kept.{IsReady};
+    ghost use Rattle.ca_chip_replay.specs.code.Kept.{IsReady};
 
     ghost Value = { RunOf };
 

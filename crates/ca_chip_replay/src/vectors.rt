@@ -2,7 +2,7 @@
 
 ghost use Rattle.std.specs.Prelude.{◌+◌, ◌≤◌, ◌≡◌, length, IfOk};
 ghost use Rattle.ca_flat.specs.Pair.{bit_count, net_value, constant_value, input_value};
-ghost use Rattle.ca_chip_replay.specs.Kept.{IsVector, unknown_nets};
+ghost use Rattle.ca_chip_replay.specs.code.Kept.{IsVector, unknown_nets};
 
 use ca_base::NoMemory;
 use ca_net::{State, Trit};

@@ -2,4 +2,4 @@
 pub mod ChipReport
 pub mod Summary
 pub mod Laws
-pub mod Kept
+pub mod code

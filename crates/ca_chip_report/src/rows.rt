@@ -6,7 +6,7 @@ ghost use Rattle.ca_flat.specs.Chip.{cell_at};
 ghost use Rattle.ca_core.specs.Core.{core_of};
 ghost use Rattle.ca_chip_report.specs.ChipReport.{reported_of, instance_name, cell_name, IsGateDefect};
 ghost use Rattle.ca_chip_report.specs.ChipReport.{AreReported};
-ghost use Rattle.ca_chip_report.specs.Kept.{AreReported-prop};
+ghost use Rattle.ca_chip_report.specs.code.Kept.{AreReported-prop};
 
 use ca_base::NoMemory;
 use ca_credit::{Verdict, Verdicts};

@@ -11,7 +11,7 @@ use Rattle.ca_linked.specs.Linked.{LinkedChip}
 use Rattle.ca_linked.specs.Instances.{HasOnPin, IsScan}
 use Rattle.ca_scan.specs.Chain.{IsOnPin, RunsOut, IsChainFrom, IsScanAt}
 use Rattle.ca_scan.specs.ChainFault.{AreAllChains}
-use Rattle.ca_chip_stil.specs.Kept.{AreScans, IsRun}
+use Rattle.ca_chip_stil.specs.code.Kept.{AreScans, IsRun}
 
 -- what has a pin of a scan instance is one
 scan_on_pin : (chip : LinkedChip) (u net : ℕ) → IsOnPin chip Si u net → IsScanAt chip u

@@ -10,7 +10,7 @@ use Rattle.ca_scan.specs.ChainFault.{AreAllChains}
 use Rattle.ca_stil.specs.declared.chip.StilChip.{StilChip}
 use Rattle.ca_stil.specs.Chip.{IsWithin, AreOf}
 use Rattle.ca_chip_stil.specs.ChipStil.{place_of, chain_of, stil_chip, AreOfChip}
-use Rattle.ca_chip_stil.specs.Kept.{IsRun}
+use Rattle.ca_chip_stil.specs.code.Kept.{IsRun}
 use Rattle.ca_chip_stil.proofs.PlaceLemmas.{place_within}
 use Rattle.ca_chip_stil.proofs.ChainLemmas.{all_runs}
 use Rattle.ca_chip_stil.proofs.SiteLemmas.{input_count, output_count}

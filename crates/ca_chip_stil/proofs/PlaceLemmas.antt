@@ -17,7 +17,7 @@ use Rattle.ca_linked.proofs.EndLemmas.{drop_at, take_more}
 use Rattle.ca_scan.specs.Chain.{IsScanAt}
 use Rattle.ca_scan.proofs.JointLemmas.{scan_at, scan_place}
 use Rattle.ca_chip_stil.specs.ChipStil.{place_of}
-use Rattle.ca_chip_stil.specs.Kept.{ArePlacesFrom, AreScans}
+use Rattle.ca_chip_stil.specs.code.Kept.{ArePlacesFrom, AreScans}
 
 -- a scan instance is one of the chip's
 pub at_within : (chip : LinkedChip) (u : ℕ) → IsScanAt chip u → u < length chip.parts

@@ -13,7 +13,7 @@ use Rattle.ca_linked.specs.Paths.{is_port_on}
 use Rattle.ca_linked.proofs.EndLemmas.{drop_at}
 use Rattle.ca_chip_stil.specs.Sites.{is_directed}
 use Rattle.ca_chip_stil.specs.ChipStil.{port_on}
-use Rattle.ca_chip_stil.specs.Kept.{port_at, entry_of, AreFirstPorts, SetsPort}
+use Rattle.ca_chip_stil.specs.code.Kept.{port_at, entry_of, AreFirstPorts, SetsPort}
 
 entry_none : (count net : ℕ) → entry_of (replicate count None) net ≡ None
 entry_none zero net = refl

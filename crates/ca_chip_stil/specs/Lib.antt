@@ -2,4 +2,4 @@
 pub mod Sites
 pub mod ChipStil
 pub mod Laws
-pub mod Kept
+pub mod code

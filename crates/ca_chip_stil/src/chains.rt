@@ -4,7 +4,7 @@ ghost use Rattle.std.specs.Prelude.{◌≡◌, ◌<◌, length, map, IfOk};
 ghost use Rattle.std.specs.List.{All};
 ghost use Rattle.ca_scan.specs.ChainFault.{AreAllChains};
 ghost use Rattle.ca_chip_stil.specs.ChipStil.{place_of, chain_of};
-ghost use Rattle.ca_chip_stil.specs.Kept.{ArePorts, ArePlacesFrom, AreScans, IsRun};
+ghost use Rattle.ca_chip_stil.specs.code.Kept.{ArePorts, ArePlacesFrom, AreScans, IsRun};
 
 use crate::names::name_at;
 use crate::ports::Ports;

@@ -5,7 +5,7 @@ ghost use Rattle.ca_linked.specs.Instances.{scans_of};
 ghost use Rattle.ca_scan.specs.Chain.{IsScanAt};
 ghost use Rattle.ca_chip_stil.specs.Sites.{is_data_port, if_data_port, data_ports};
 ghost use Rattle.ca_chip_stil.specs.ChipStil.{signal_of, names_of, name_at, controls_of};
-ghost use Rattle.ca_chip_stil.specs.Kept.{ArePorts};
+ghost use Rattle.ca_chip_stil.specs.code.Kept.{ArePorts};
 
 use crate::ports::{Ports, is_directed};
 use ca_base::{List, NoMemory};

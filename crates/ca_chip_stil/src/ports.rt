@@ -5,7 +5,7 @@ ghost use Rattle.std.specs.Prelude.{IfOk};
 ghost use Rattle.ca_linked.specs.Linked.{net_count};
 ghost use Rattle.ca_chip_stil.specs.Sites.{is_directed};
 ghost use Rattle.ca_chip_stil.specs.ChipStil.{port_on};
-ghost use Rattle.ca_chip_stil.specs.Kept.{entry_of, port_at, AreFirstPorts, SetsPort, ArePorts};
+ghost use Rattle.ca_chip_stil.specs.code.Kept.{entry_of, port_at, AreFirstPorts, SetsPort, ArePorts};
 
 use ca_base::NoMemory;
 use ca_linked::{Chip, NetId};

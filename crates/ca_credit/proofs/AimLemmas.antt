@@ -7,7 +7,8 @@ use Rattle.ca_credit.specs.declared.verdict.Verdict.{Verdict}
 use Rattle.ca_credit.specs.Defects.{Task, IsDefectAt}
 use Rattle.ca_credit.specs.Detection.{IsAllowedByRows}
 use Rattle.ca_credit.specs.Table.{verdict_at, is_open, CreditsPair}
-use Rattle.ca_credit.specs.Aims.{Start, Passes, Counts, IsSuspectAt, AimsAtSuspect, AimsUpTo, AimsAtSuspects}
+use Rattle.ca_credit.specs.Aims.{Start, Passes, Counts, IsSuspectAt, AimsAtSuspects}
+use Rattle.ca_credit.specs.code.Aims.{AimsAtSuspect, AimsUpTo}
 use Rattle.ca_credit.specs.Aims.{NoPair, OnePair, AimsOverBlock, bits_after, aimed_after}
 use Rattle.std.specs.Prelude.{slice_get, slice_index_or}
 

@@ -14,10 +14,11 @@ use Rattle.ca_credit.specs.declared.round.Round.{Round}
 use Rattle.ca_search.specs.Filled.{trits_of}
 use Rattle.ca_credit.specs.Defects.{Task, IsDefectAt}
 use Rattle.ca_credit.specs.Detection.{AreDetectedAlike, IsFirstOutput}
-use Rattle.ca_credit.specs.Table.{verdict_at, is_open, one_if, IsAfterPair, CreditsOne}
+use Rattle.ca_credit.specs.Table.{verdict_at, is_open, IsAfterPair}
+use Rattle.ca_credit.specs.code.Table.{one_if, CreditsOne}
 use Rattle.ca_credit.specs.Table.{CreditsPair}
 use Rattle.ca_credit.specs.Detection.{IsAnswer}
-use Rattle.ca_credit.specs.Round.{is_tried, IsTried, TriesMore}
+use Rattle.ca_credit.specs.code.Round.{is_tried, IsTried, TriesMore}
 use Rattle.ca_credit.proofs.DetectionLemmas.{first_by, not_shown_by, shown_by_first}
 use Rattle.ca_credit.proofs.TableLemmas.{of_open, verdict_at-set, verdict_at-other, credit_count-set}
 

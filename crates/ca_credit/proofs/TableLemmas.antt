@@ -16,7 +16,8 @@ use Rattle.ca_credit.specs.Defects.{Task, IsDefectAt}
 use Rattle.ca_search.specs.Filled.{trits_of}
 use Rattle.ca_credit.specs.Detection.{IsFirstOutput}
 use Rattle.ca_credit.specs.Table.{known_verdicts, AreAllKnown, verdict_at, is_open, credit_count, IsCredit}
-use Rattle.ca_credit.specs.Table.{IsCreditOrKept, IsAfterPair, CreditsUpTo, CreditsOne}
+use Rattle.ca_credit.specs.Table.{IsCreditOrKept, IsAfterPair, CreditsUpTo}
+use Rattle.ca_credit.specs.code.Table.{CreditsOne}
 use Rattle.ca_credit.specs.Table.{CreditsPair, CreditsBlock, Credits}
 use Rattle.ca_credit.proofs.DetectionLemmas.{shown_by_first, get_or-other}
 

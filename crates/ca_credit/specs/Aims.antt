@@ -1,5 +1,5 @@
 -- How many defects are aimed at for a pair: at most those that it may detect by the rows that expose them.
-use Rattle.std.specs.Prelude.{ℕ, zero, suc, ◌+◌, ◌≡◌, ◌≤◌, ◌⊎◌, Bool, true, List, [], length, slice_get}
+use Rattle.std.specs.Prelude.{ℕ, zero, suc, ◌+◌, ◌≡◌, ◌≤◌, Bool, true, List, [], length, slice_get}
 use Rattle.std.specs.Prelude.{slice_index_or, Option, None, Some}
 use Rattle.ca_net.specs.declared.trit.Trit.{Trit}
 use Rattle.ca_flat.specs.declared.chip_defect.ChipDefect.{ChipDefect}
@@ -21,18 +21,6 @@ pub record IsSuspectAt (task : Task) (pair : List Bool) (table : List (Option Ve
     pub waits : is_open (verdict_at table place) ≡ true
     pub allowed : (defect : ChipDefect) → IsDefectAt task place defect
         → IsAllowedByRows task.chip defect (trits_of pair)
-
--- one was aimed at the defect at this place at most once, and only where it is suspect
-abbrev pub AimsAtSuspect : Task → List Bool → List (Option Verdict) → ℕ → ℕ → ℕ → Type 0
-AimsAtSuspect task pair table place before after =
-    (after ≤ before) ⊎ (IsSuspectAt task pair table place × (after ≤ before + 1))
-
--- one aimed at most as often as there are suspect defects among the first `count`
-pub record AimsUpTo (task : Task) (pair : List Bool) (count : ℕ) (table : List (Option Verdict))
-    (before after : ℕ) : Type 0 where
-  pub suspects : ℕ
-  pub are : HaveAmong (IsSuspectAt task pair table) count suspects
-  pub few : after ≤ before + suspects
 
 -- one was aimed at most once more often than there are suspect defects
 pub record AimsAtSuspects (task : Task) (pair : List Bool) (table : List (Option Verdict)) (before after : ℕ)

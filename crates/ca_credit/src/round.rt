@@ -8,11 +8,13 @@ ghost use Rattle.ca_flat.specs.Pair.{bit_count};
 ghost use Rattle.ca_search.specs.Filled.{trits_of};
 ghost use Rattle.ca_credit.specs.Defects.{Task, IsDefectAt};
 ghost use Rattle.ca_credit.specs.Detection.{IsAllowedByRows};
-ghost use Rattle.ca_credit.specs.Table.{verdict_at, is_open, IsAfterPair, CreditsOne, CreditsPair};
-ghost use Rattle.ca_credit.specs.Table.{credit_count, one_if};
-ghost use Rattle.ca_credit.specs.Aims.{AimsAtSuspect, AimsUpTo};
+ghost use Rattle.ca_credit.specs.Table.{verdict_at, is_open, IsAfterPair, CreditsPair};
+ghost use Rattle.ca_credit.specs.code.Table.{CreditsOne};
+ghost use Rattle.ca_credit.specs.Table.{credit_count};
+ghost use Rattle.ca_credit.specs.code.Table.{one_if};
+ghost use Rattle.ca_credit.specs.code.Aims.{AimsAtSuspect, AimsUpTo};
 ghost use Rattle.ca_credit.specs.Detection.{IsAnswer};
-ghost use Rattle.ca_credit.specs.Round.{is_tried, TriesMore};
+ghost use Rattle.ca_credit.specs.code.Round.{is_tried, TriesMore};
 
 use crate::by_lasts::ByLasts;
 use crate::credit::detecting_output;

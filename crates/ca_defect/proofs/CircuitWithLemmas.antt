@@ -26,7 +26,7 @@ use Rattle.ca_defect.specs.Defect.{drain_on, source_on, gate_on, device_with, ch
 use Rattle.ca_defect.specs.Defect.{bridge, new_node, new_device, nodes_with, devices_with, circuit_with}
 use Rattle.ca_defect.specs.Defect.{is_short, IsDefect}
 use Rattle.ca_defect.specs.List.{faulty_of}
-use Rattle.ca_defect.specs.Overlay.{IsFaulty}
+use Rattle.ca_defect.specs.code.Overlay.{IsFaulty}
 use Rattle.ca_defect.proofs.ListLemmas.{slice_get-append_left, slice_get-append_end, length-append_some}
 use Rattle.ca_defect.proofs.ListLemmas.{length-append_none, length-append_option}
 

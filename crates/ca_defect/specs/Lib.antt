@@ -6,3 +6,4 @@ pub mod Overlay
 pub mod Row
 pub mod Exposes
 pub mod Laws
+pub mod code

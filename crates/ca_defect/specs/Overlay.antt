@@ -1,16 +1,8 @@
 -- What an overlay is seen as.
 use Rattle.ca_cell.specs.declared.raw.RawCell.{RawCell}
-use Rattle.ca_cell.specs.Rules.{IsRaw, KeepsRules}
 use Rattle.ca_defect.specs.declared.defect.Defect.{Defect}
-use Rattle.ca_defect.specs.List.{IsDefectOf}
 
 -- a cell's subcircuit, and a defect of the cell
 pub record Faulty : Type 0 where
   pub raw : RawCell
   pub defect : Defect
-
--- the subcircuit is that of a cell, and the defect one of the cell's
-pub record IsFaulty (raw : RawCell) (defect : Defect) : Type 0 where
-  pub is_raw : IsRaw raw
-  pub keeps : KeepsRules raw
-  pub listed : IsDefectOf raw defect

@@ -17,7 +17,8 @@ pub struct Overlay<'a> {
 }
 
 impl<'a> Model for Overlay<'a> {
-    ghost use Rattle.ca_defect.specs.Overlay.{Faulty, IsFaulty};
+    ghost use Rattle.ca_defect.specs.Overlay.{Faulty};
+    ghost use Rattle.ca_defect.specs.code.Overlay.{IsFaulty};
 
     ghost Value = { Faulty };
 

@@ -33,10 +33,11 @@ use Rattle.ca_wiring.specs.Numbers.{NetNumbers, LeadsToEarliest}
 use Rattle.ca_wiring.proofs.NetLemmas.{leads}
 use Rattle.ca_linked.specs.Linked.{LinkedChip}
 use Rattle.ca_linked.specs.Drivers.{IsDrafted}
-use Rattle.ca_draft.specs.OnWires.{pins_of, output_wire, next_own, wired_of, header_of, open_counts}
-use Rattle.ca_draft.specs.OnWires.{AreOnWires, constant_wires, touched_of, wiring_on, AreMarks, IsNamedBy}
-use Rattle.ca_draft.specs.OnWires.{IsNumbering, IsNetlistOnWires, chip_on, cells_of, constant_number}
-use Rattle.ca_draft.specs.OnWires.{numbered_part, numbered_port}
+use Rattle.ca_draft.specs.code.OnWires.{pins_of, output_wire, next_own, wired_of, header_of, open_counts}
+use Rattle.ca_draft.specs.OnWires.{constant_wires}
+use Rattle.ca_draft.specs.code.OnWires.{AreOnWires, touched_of, wiring_on, AreMarks, IsNamedBy}
+use Rattle.ca_draft.specs.code.OnWires.{IsNumbering, IsNetlistOnWires, chip_on, cells_of, constant_number}
+use Rattle.ca_draft.specs.code.OnWires.{numbered_part, numbered_port}
 use Rattle.ca_draft.specs.declared.draft.OnWires.{OnWires}
 use Rattle.ca_draft.proofs.OutputLemmas.{outputs_cons, open_cons}
 use Rattle.ca_draft.proofs.HeaderLemmas.{header_within}

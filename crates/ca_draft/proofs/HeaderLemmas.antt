@@ -14,7 +14,8 @@ use Rattle.ca_verilog.specs.IsNetlist.{range_width, bit_count, IsPort}
 use Rattle.ca_linked.specs.declared.parts.PortBit.{PortBit}
 use Rattle.ca_wiring.specs.Wiring.{bit_name, is_input_port, HeaderBit, header_bits_from, header_bits_of}
 use Rattle.ca_wiring.specs.Wiring.{header_bits}
-use Rattle.ca_draft.specs.OnWires.{header_of, AreFirsts}
+use Rattle.ca_draft.specs.OnWires.{AreFirsts}
+use Rattle.ca_draft.specs.code.OnWires.{header_of}
 use Rattle.ca_linked.proofs.EndLemmas.{take_more}
 
 -- the bits of some names, and of others after them

@@ -25,8 +25,8 @@ use Rattle.ca_wiring.specs.Wiring as wiring
 use Rattle.ca_wiring.specs.Wiring.{Meaning, ScanCell, bit_on, names_with, input_wire, input_wires, output_wires}
 use Rattle.ca_wiring.specs.Wiring.{input_names, output_names, open_count, meaning_of, entry_meaning, WiredPart}
 use Rattle.ca_wiring.specs.Wiring.{wired_part, wired_parts}
-use Rattle.ca_draft.specs.OnWires.{cells_of, IsCellAt, IsOnWires, IsPartOnWires, wired_of, open_counts}
-use Rattle.ca_draft.specs.OnWires.{IsKept, AreOnWires, next_own}
+use Rattle.ca_draft.specs.code.OnWires.{cells_of, IsCellAt, IsOnWires, IsPartOnWires, wired_of, open_counts}
+use Rattle.ca_draft.specs.code.OnWires.{IsKept, AreOnWires, next_own}
 use Rattle.ca_linked.proofs.EndLemmas.{drop_at}
 use Rattle.ca_draft.proofs.OutputLemmas.{outputs_cons}
 

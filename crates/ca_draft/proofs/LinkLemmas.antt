@@ -26,16 +26,18 @@ use Rattle.ca_wiring.specs.Nets.{Driving, ConstantBit, OutputPin, DrivesWire, Dr
 use Rattle.ca_wiring.specs.Nets.{AreNets, IsNetOf, AreNetsOf, constant_wire}
 use Rattle.ca_wiring.specs.Nets as nets
 use Rattle.ca_wiring.specs.Linking.{HasMeaning, IsPartOf, IsPortOf, IsLinkOf}
-use Rattle.ca_wiring.specs.Numbers.{WireMarks, NetNumbers, earliest_of, IsUsed, ReportsUsed}
+use Rattle.ca_wiring.specs.Numbers.{WireMarks, NetNumbers, earliest_of, IsUsed}
+use Rattle.ca_wiring.specs.code.Numbers.{ReportsUsed}
 use Rattle.ca_linked.proofs.OrderLemmas.{place_of, contained_at}
 use Rattle.ca_linked.proofs.DriverLemmas.{some_inj, to_some}
 use Rattle.ca_linked.proofs.FeedingLemmas.{item_of}
 use Rattle.ca_wiring.proofs.ForestLemmas.{joined_trans, joined_sym}
 use Rattle.ca_wiring.proofs.NetLemmas.{nets_are, net_is}
 use Rattle.ca_wiring.proofs.SameLemmas.{joined_net, net_joined}
-use Rattle.ca_draft.specs.OnWires.{cells_of, pins_of, wired_of, header_of, IsKept, number_of, numbered}
-use Rattle.ca_draft.specs.OnWires.{numbered_option, numbered_part, numbered_port, constant_number}
-use Rattle.ca_draft.specs.OnWires.{constant_wires, touched_of, wiring_on, chip_on, IsNumbering}
+use Rattle.ca_draft.specs.code.OnWires.{cells_of, pins_of, wired_of, header_of, IsKept, number_of, numbered}
+use Rattle.ca_draft.specs.code.OnWires.{numbered_option, numbered_part, numbered_port, constant_number}
+use Rattle.ca_draft.specs.OnWires.{constant_wires}
+use Rattle.ca_draft.specs.code.OnWires.{touched_of, wiring_on, chip_on, IsNumbering}
 use Rattle.ca_draft.proofs.ConstantLemmas.{in_part, in_all, value_of, value_at}
 
 -- an instance's pins, once their wires are numbered

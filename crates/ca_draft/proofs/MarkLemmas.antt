@@ -9,7 +9,7 @@ use Rattle.std.proofs.lemmas.List.{take_all, drop-set-lt, drop-drop}
 use Rattle.std.proofs.lemmas.List.Elements.{Contains-append_left, Contains-push, Contains-push_cases}
 use Rattle.std.proofs.lemmas.Option.{slice_get_within, slice_get-get_or, get_or_from_slice_get}
 use native.Mathlib.Decide.{ℕ_discrete}
-use Rattle.ca_draft.specs.OnWires.{AreMarks}
+use Rattle.ca_draft.specs.code.OnWires.{AreMarks}
 use Rattle.ca_linked.proofs.EndLemmas.{take_more}
 
 module _ (earliest : List ℕ) where

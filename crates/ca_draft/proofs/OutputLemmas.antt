@@ -9,7 +9,7 @@ use Rattle.ca_cell.specs.Raw.{is_output}
 use Rattle.ca_verilog.specs.declared.raw.RawBit.{RawBit}
 use Rattle.ca_verilog.specs.declared.raw.RawUse.{RawUse}
 use Rattle.ca_wiring.specs.Wiring.{bit_on, names_with, open_count, output_wires}
-use Rattle.ca_draft.specs.OnWires.{output_wire, next_own}
+use Rattle.ca_draft.specs.code.OnWires.{output_wire, next_own}
 use Rattle.ca_linked.proofs.EndLemmas.{drop_at}
 
 module _ (bits : ℕ) (uses : List RawUse) where

@@ -1,1 +1,2 @@
 pub mod OnWires
+pub mod code

@@ -9,7 +9,7 @@ ghost use Rattle.ca_linked.specs.Drivers.{IsDrafted};
 ghost use Rattle.ca_wiring.specs.Wiring.{joins_of, wiring_of};
 ghost use Rattle.ca_wiring.specs.InstanceRules.{AreSound};
 ghost use Rattle.ca_wiring.specs.Linking.{IsLinkOf};
-ghost use Rattle.ca_draft.specs.OnWires.{IsNetlistOnWires, IsNumbering};
+ghost use Rattle.ca_draft.specs.code.OnWires.{IsNetlistOnWires, IsNumbering};
 
 use crate::header::{bits_of, ports_of};
 use crate::instances::instances_of;

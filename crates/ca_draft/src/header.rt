@@ -4,7 +4,8 @@ ghost use Rattle.std.specs.Prelude.{◌≡◌, ◌<◌, ◌+◌, ◌++◌, ◌^�
 ghost use Rattle.std.specs.List.{All};
 ghost use Rattle.ca_verilog.specs.IsNetlist.{IsPort, bit_count, range_width};
 ghost use Rattle.ca_wiring.specs.Wiring.{bit_name, header_bits, header_bits_from, index_at, is_input_port};
-ghost use Rattle.ca_draft.specs.OnWires.{AreFirsts, header_of};
+ghost use Rattle.ca_draft.specs.OnWires.{AreFirsts};
+ghost use Rattle.ca_draft.specs.code.OnWires.{header_of};
 
 use ca_base::NoMemory;
 use ca_lex::Text;

@@ -9,7 +9,7 @@ ghost use Rattle.ca_cell.specs.Rules.{IsRaw, KeepsRules};
 ghost use Rattle.ca_wiring.specs.Wiring as wiring;
 ghost use Rattle.ca_wiring.specs.Wiring.{ScanCell, entry_meaning, meaning_of};
 ghost use Rattle.ca_wiring.specs.InstanceRules.{IsKnown};
-ghost use Rattle.ca_draft.specs.OnWires.{AreOnWires, AreSoundAll, IsCellAt, IsOnWires, IsPartOnWires};
+ghost use Rattle.ca_draft.specs.code.OnWires.{AreOnWires, AreSoundAll, IsCellAt, IsOnWires, IsPartOnWires};
 
 use crate::pins::{library_outputs, scan_pins};
 use ca_base::NoMemory;

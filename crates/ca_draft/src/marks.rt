@@ -2,7 +2,7 @@
 
 ghost use Rattle.std.specs.Prelude.{◌≡◌, ◌<◌, length, slice_index, IfOk};
 ghost use Rattle.std.specs.List.{All};
-ghost use Rattle.ca_draft.specs.OnWires.{AreMarks};
+ghost use Rattle.ca_draft.specs.code.OnWires.{AreMarks};
 
 use ca_base::NoMemory;
 use std::alloc::Global;

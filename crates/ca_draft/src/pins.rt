@@ -7,7 +7,7 @@ ghost use Rattle.ca_linked.specs.declared.parts.Body.TheVariants.{Scan};
 ghost use Rattle.ca_linked.specs.Linked.{input_nets, output_nets};
 ghost use Rattle.ca_wiring.specs.Wiring.{ScanCell, bit_on, input_names, input_wires, inverted_name, names_with};
 ghost use Rattle.ca_wiring.specs.Wiring.{open_count, output_names, output_wires};
-ghost use Rattle.ca_draft.specs.OnWires.{next_own, output_wire};
+ghost use Rattle.ca_draft.specs.code.OnWires.{next_own, output_wire};
 
 use ca_base::NoMemory;
 use ca_cell::RawPin;

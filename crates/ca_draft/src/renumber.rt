@@ -4,8 +4,8 @@ ghost use Rattle.std.specs.Prelude.{◌≡◌, ◌<◌, length, map, option_to_l
 ghost use Rattle.std.specs.List.{All};
 ghost use Rattle.ca_linked.specs.declared.parts.Body.TheVariants.{Scan};
 ghost use Rattle.ca_linked.specs.Linked.{input_nets, output_nets};
-ghost use Rattle.ca_draft.specs.OnWires.{constant_number, number_of, numbered, numbered_option};
-ghost use Rattle.ca_draft.specs.OnWires.{numbered_part, numbered_port, pins_of};
+ghost use Rattle.ca_draft.specs.code.OnWires.{constant_number, number_of, numbered, numbered_option};
+ghost use Rattle.ca_draft.specs.code.OnWires.{numbered_part, numbered_port, pins_of};
 
 use ca_base::NoMemory;
 use ca_wiring::NetTable;

@@ -3,8 +3,9 @@
 ghost use Rattle.std.specs.Prelude.{◌≡◌, ◌<◌, ◌+◌, ◌^◌, ◌⊎◌, ◌↔◌, ◌++◌, true, false, IsTrue, map, IfOk, OnOk};
 ghost use Rattle.std.specs.List.{Contains, flat_map, list_any};
 ghost use Rattle.ca_linked.specs.Linked.{input_nets, output_nets};
-ghost use Rattle.ca_draft.specs.OnWires.{IsNamedBy, constant_wires, has_constant, is_constant, pins_of};
-ghost use Rattle.ca_draft.specs.OnWires.{touched_of};
+ghost use Rattle.ca_draft.specs.OnWires.{constant_wires, has_constant, is_constant};
+ghost use Rattle.ca_draft.specs.code.OnWires.{IsNamedBy, pins_of};
+ghost use Rattle.ca_draft.specs.code.OnWires.{touched_of};
 
 use ca_base::NoMemory;
 use ca_verilog::{RawBit, RawSpan};

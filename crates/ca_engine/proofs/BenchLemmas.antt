@@ -28,7 +28,7 @@ use Rattle.ca_credit.specs.Defects.{IsSearchable}
 use Rattle.ca_credit.specs.Detection.{IsNetEnd, AreDetectedAlike}
 use Rattle.ca_generate.specs.Outcome.{IsSearch}
 use Rattle.ca_generate.specs.Laws.{OutcomeIsSearch}
-use Rattle.ca_engine.specs.ChipBench.{IsChipBench}
+use Rattle.ca_engine.specs.code.ChipBench.{IsChipBench}
 
 -- a defect at a place of the list may be aimed at
 pub placed_at : (chip : Chip) (place_of : ℕ → ℕ) (defects : List ChipDefect) (place : ℕ) (defect : ChipDefect)

@@ -13,7 +13,7 @@ use Rattle.ca_flips.specs.Flips.{AreLastsOf}
 use Rattle.ca_sim.specs.Seen.{Seen, IsExact}
 use Rattle.ca_sim.specs.Simulator.{Simulator}
 use Rattle.ca_sweep.specs.Seen.{Swept, lasts_in}
-use Rattle.ca_engine.specs.FlipBench.{IsFlipBench}
+use Rattle.ca_engine.specs.code.FlipBench.{IsFlipBench}
 
 -- the same chip and bits, and the same places
 pub flip_kept : (old new : Simulator) (swept : Swept) (loaded : Bool) → new.seen.chip ≡ old.seen.chip → new.seen.places ≡ old.seen.places

@@ -1,4 +1,4 @@
 pub mod ChipDefects
 pub mod ChipTask
 pub mod ChipBench
-pub mod FlipBench
+pub mod code

@@ -37,7 +37,8 @@ pub struct ChipBench<'a, R: ExposableDefects, P: Choice + Drop> {
 }
 
 impl<'a, R: ExposableDefects, P: Choice + Drop> Model for ChipBench<'a, R, P> {
-    ghost use Rattle.ca_engine.specs.ChipBench.{Benched, IsChipBench};
+    ghost use Rattle.ca_engine.specs.ChipBench.{Benched};
+    ghost use Rattle.ca_engine.specs.code.ChipBench.{IsChipBench};
 
     ghost Value = { Benched };
 

@@ -25,7 +25,7 @@ pub(crate) struct FlipBench<'a, R: ExposingRows, P: Choice + Drop> {
 
 impl<'a, R: ExposingRows, P: Choice + Drop> Model for FlipBench<'a, R, P> {
     ghost use Rattle.ca_sim.specs.Simulator.{Simulator};
-    ghost use Rattle.ca_engine.specs.FlipBench.{IsFlipBench};
+    ghost use Rattle.ca_engine.specs.code.FlipBench.{IsFlipBench};
 
     ghost Value = { Simulator };
 

@@ -17,9 +17,9 @@ use Rattle.ca_flat.proofs.Detected.{some_good, detected_is_exposed_lem}
 use Rattle.ca_flat.proofs.Filled.{fill, fill_definite, fill_above}
 use Rattle.ca_sim.specs.Seen.{Seen, IsExact}
 use Rattle.ca_cert.specs.Tested.{IsDetectingOutput}
-use Rattle.ca_examiner.specs.PinRows.{IsNoneAllowed}
+use Rattle.ca_examiner.specs.code.PinRows.{IsNoneAllowed}
 use Rattle.ca_examiner.specs.ChipExaminer.{AreNetworks}
-use Rattle.ca_examiner.specs.Ends.{is_opposite_at, IsFirstOpposite}
+use Rattle.ca_examiner.specs.code.Ends.{is_opposite_at, IsFirstOpposite}
 use Rattle.ca_examiner.proofs.RowLemmas.{none_rules_out}
 use Rattle.ca_examiner.proofs.StandingLemmas.{detects_at, detected_at}
 use Rattle.ca_examiner.proofs.LeaveLemmas.{IsView}

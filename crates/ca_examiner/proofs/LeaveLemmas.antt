@@ -22,13 +22,14 @@ use Rattle.ca_flat.specs.RuleOut.{IsFull}
 use Rattle.ca_flat.proofs.Detected.{some_good, some_faulty}
 use Rattle.ca_flat.specs.CheckedCode.{IsPlainPair, MayLeave}
 use Rattle.ca_sim.specs.Seen.{Seen, value_of, AreNetWaves, IsExact}
-use Rattle.ca_examiner.specs.Marks.{IsMarked}
-use Rattle.ca_examiner.specs.Sweep.{AreReached}
-use Rattle.ca_examiner.specs.OpenNets.{AreOpenNets}
-use Rattle.ca_examiner.specs.PinRows.{IsSomeAllowed, IsNoneAllowed}
-use Rattle.ca_examiner.specs.Ends.{is_opposite_at, is_alike_at}
+use Rattle.ca_examiner.specs.code.Marks.{IsMarked}
+use Rattle.ca_examiner.specs.code.Sweep.{AreReached}
+use Rattle.ca_examiner.specs.code.OpenNets.{AreOpenNets}
+use Rattle.ca_examiner.specs.code.PinRows.{IsSomeAllowed, IsNoneAllowed}
+use Rattle.ca_examiner.specs.code.Ends.{is_opposite_at, is_alike_at}
 use Rattle.ca_read_code.specs.Examined.{MayLeaveFor, MayBranchFor, MayLeaveHere, MayBranchHere, MayGoOn}
-use Rattle.ca_examiner.specs.ChipExaminer.{AreNetworks, IsSeenOf, ReachesOutput, HasUnset, CanBranch, examined_of}
+use Rattle.ca_examiner.specs.ChipExaminer.{AreNetworks, examined_of}
+use Rattle.ca_examiner.specs.code.ChipExaminer.{IsSeenOf, ReachesOutput, HasUnset, CanBranch}
 use Rattle.ca_examiner.proofs.OpenLemmas.{unreached_rules_out, reached_is_chain}
 use Rattle.ca_examiner.proofs.RowLemmas.{none_rules_out, some_is_allowed}
 use Rattle.ca_examiner.proofs.StandingLemmas.{SeesBoth, shown_so, so_shown, settled_so, so_settled}

@@ -5,8 +5,9 @@ use native.Mathlib.Decide.{ℕ_discrete}
 use Rattle.std.specs.List.{All}
 use Rattle.ca_flat.specs.Chip.{Chip, net_of}
 use Rattle.std.proofs.lemmas.List.{get_or_default}
-use Rattle.ca_examiner.specs.Marks.{IsMarked, MarksIf, MarksListed, IsListedBelow, MarksListedTo, IsOnPins, MarksPins}
-use Rattle.ca_examiner.specs.Marks.{HasMarkedPin, Passes}
+use Rattle.ca_examiner.specs.code.Marks.{IsMarked, MarksIf, MarksListed, IsListedBelow, MarksListedTo}
+use Rattle.ca_examiner.specs.code.Marks.{IsOnPins, MarksPins}
+use Rattle.ca_examiner.specs.code.Marks.{HasMarkedPin, Passes}
 
 -- where no mark is there, no net has one
 pub unmarked : (marks : List Bool) → All (λ mark. mark ≡ false) marks → (net : ℕ) → IsMarked marks net → ⊥

@@ -12,9 +12,9 @@ use Rattle.ca_flat.specs.Waves.{FlatWaves, wave_of}
 use Rattle.ca_flat.specs.Chain.{IsOutputOf}
 use Rattle.ca_flat.specs.RuleOut.{IsOpenNet, IsOpenChain, HasNoOpenChain}
 use Rattle.ca_sim.specs.Seen.{Seen, AreNetWaves}
-use Rattle.ca_examiner.specs.Marks.{IsMarked}
-use Rattle.ca_examiner.specs.OpenNets.{is_closed_wave, is_closed_net, AreOpenTo, AreOpenNets}
-use Rattle.ca_examiner.specs.ChipExaminer.{ReachesOutput}
+use Rattle.ca_examiner.specs.code.Marks.{IsMarked}
+use Rattle.ca_examiner.specs.code.OpenNets.{is_closed_wave, is_closed_net, AreOpenTo, AreOpenNets}
+use Rattle.ca_examiner.specs.code.ChipExaminer.{ReachesOutput}
 use Rattle.ca_examiner.proofs.WaveTests.{not_closed_to, not_closed_from}
 
 module _ (chip : Chip) (rank : ℕ → ℕ) (is_chip : IsChip chip rank) (u : ℕ) (known : u < count_of chip)

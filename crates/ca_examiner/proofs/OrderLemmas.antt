@@ -6,7 +6,7 @@ use Rattle.std.specs.Prelude.{slice_get, slice_set, replicate}
 use Rattle.std.proofs.lemmas.List.{length-replicate, length-set}
 use Rattle.ca_flat.specs.Chip.{Chip, count_of}
 use Rattle.ca_view.specs.Linked.{IsPlaced, IsLinked}
-use Rattle.ca_examiner.specs.Order.{IsOrderTo}
+use Rattle.ca_examiner.specs.code.Order.{IsOrderTo}
 
 none_there : {T : Type 0} (count place : ℕ) (x : T) → slice_get (replicate count None) place ≡ Some (Some x) → ⊥
 none_there zero place x e = cc

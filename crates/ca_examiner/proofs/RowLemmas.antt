@@ -22,7 +22,8 @@ use Rattle.ca_flat.proofs.ListedRows.{listed_rows_are_enough_lem}
 use Rattle.ca_sim.specs.Seen.{Seen, AreNetWaves}
 use Rattle.ca_examiner.specs.declared.rows.End.{End}
 use Rattle.ca_examiner.specs.declared.rows.End.TheVariants.{First, Last}
-use Rattle.ca_examiner.specs.PinRows.{end_of, pin_value, IsOverPins, IsOver, IsAllowed, IsSomeAllowed, IsNoneAllowed}
+use Rattle.ca_examiner.specs.code.PinRows.{end_of, pin_value, IsOverPins, IsOver, IsAllowed, IsSomeAllowed}
+use Rattle.ca_examiner.specs.code.PinRows.{IsNoneAllowed}
 
 -- the digit at a place
 digit_at : (count number place : ℕ) → place < count → value_at (vector_of count number) place ≡ digit_value (number / 2 ^ (count - 1 - place) % 2)

@@ -15,7 +15,7 @@ use Rattle.ca_flat.specs.Simulation.{IsFlattened}
 use Rattle.ca_flat.specs.Pair.{NetEndsAt, DetectsAt, EndsAlike, IsShown, IsSettledPair}
 use Rattle.ca_sim.specs.Seen.{Seen, AreNetWaves}
 use Rattle.ca_sim.proofs.Exact.{definite_last_is_end_lem}
-use Rattle.ca_examiner.specs.Ends.{are_opposite, are_alike, is_opposite_at, is_alike_at, AreAlikeBelow}
+use Rattle.ca_examiner.specs.code.Ends.{are_opposite, are_alike, is_opposite_at, is_alike_at, AreAlikeBelow}
 use Rattle.ca_examiner.proofs.EndLemmas.{opposite_is, is_opposite, opposite_definite, alike_is, is_alike}
 
 -- the waves are those of the pair, without the defect and with it

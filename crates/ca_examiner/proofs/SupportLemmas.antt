@@ -9,9 +9,9 @@ use Rattle.ca_flat.specs.Chip.{Chip, IsChip, inputs_at, count_of}
 use Rattle.ca_flat.specs.Chain.{Feeds, IsChain, IsOutputOf, IsReachedFrom, IsBitOf, IsSupportBit}
 use Rattle.ca_flat.specs.RuleOut.{IsOpenChain}
 use Rattle.ca_flat.proofs.Codes.{support_within}
-use Rattle.ca_examiner.specs.Marks.{IsMarked, MarksListed}
-use Rattle.ca_examiner.specs.Sweep.{HasOpenChain, AreReached, AreLeading}
-use Rattle.ca_examiner.specs.Support.{AreLeadingNets}
+use Rattle.ca_examiner.specs.code.Marks.{IsMarked, MarksListed}
+use Rattle.ca_examiner.specs.code.Sweep.{HasOpenChain, AreReached, AreLeading}
+use Rattle.ca_examiner.specs.code.Support.{AreLeadingNets}
 use Rattle.ca_examiner.proofs.MarkLemmas.{unmarked, all_marked}
 
 chain_longer : (chip : Chip) (path : List ℕ) (from to next : ℕ) → IsChain chip from path to → Feeds chip to next

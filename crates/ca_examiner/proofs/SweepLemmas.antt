@@ -8,9 +8,10 @@ use Rattle.ca_flat.specs.Chip.{Chip, inputs_at, outputs_at, net_of, count_of}
 use Rattle.ca_flat.specs.Chain.{IsChain, IsOutputOf}
 use Rattle.ca_flat.specs.RuleOut.{IsOpenChain}
 use Rattle.ca_view.specs.Linked.{IsPlaced, IsLinked}
-use Rattle.ca_examiner.specs.Marks.{IsMarked, IsOnPins, MarksPins, Passes}
-use Rattle.ca_examiner.specs.Order.{IsOrder}
-use Rattle.ca_examiner.specs.Sweep.{HasOpenChain, IsSweptTo, AreReached, LeadsToRoot, IsSweptFrom, AreLeading}
+use Rattle.ca_examiner.specs.code.Marks.{IsMarked, IsOnPins, MarksPins, Passes}
+use Rattle.ca_examiner.specs.code.Order.{IsOrder}
+use Rattle.ca_examiner.specs.code.Sweep.{HasOpenChain, IsSweptTo, AreReached, LeadsToRoot, IsSweptFrom}
+use Rattle.ca_examiner.specs.code.Sweep.{AreLeading}
 use Rattle.ca_examiner.proofs.MarkLemmas.{unmarked, all_marked}
 
 none_plus : (pin : ℕ) → 0 + pin ≡ pin

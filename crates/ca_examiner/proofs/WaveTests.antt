@@ -6,7 +6,7 @@ use Rattle.ca_net.specs.declared.trit.Trit.TheVariants.{Zero, One, X}
 use Rattle.ca_net.specs.declared.wave.Wave.{Wave}
 use Rattle.ca_flat.specs.RuleOut.{IsClosed}
 use Rattle.ca_flat.proofs.Clashes.{wave_ext}
-use Rattle.ca_examiner.specs.OpenNets.{is_known, is_same, is_closed_wave}
+use Rattle.ca_examiner.specs.code.OpenNets.{is_known, is_same, is_closed_wave}
 
 known_to : (a : Trit) → is_known a ≡ true → a ≢ X
 known_to Zero e f = cc

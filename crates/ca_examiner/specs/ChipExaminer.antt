@@ -1,71 +1,16 @@
 -- What an examiner sees and keeps.
-use Rattle.std.specs.Prelude.{ℕ, ◌^◌, ◌≡◌, ◌<◌, Bool, true, List, length, Option, None, Some}
-use Rattle.std.specs.List.{All, Contains}
-use Rattle.ca_net.specs.declared.trit.Trit.TheVariants.{X}
+use Rattle.std.specs.Prelude.{None, Some}
 use Rattle.ca_net.specs.Circuit.{IsWellFormed}
-use Rattle.ca_net.specs.State.{value_at}
 use Rattle.ca_flat.specs.declared.chip_defect.ChipDefect.{ChipDefect}
 use Rattle.ca_flat.specs.Chip.{Chip, IsDefectIn}
 use Rattle.ca_flat.specs.Flat.{flat}
-use Rattle.ca_flat.specs.Chain.{IsSupportBit}
-use Rattle.ca_flat.specs.Codes.{MayBranch}
-use Rattle.ca_view.specs.Linked.{IsPlacedDefect}
 use Rattle.ca_sim.specs.Seen.{Seen}
 use Rattle.ca_read_code.specs.Examined.{Examined}
-use Rattle.ca_examiner.specs.Order.{IsOrder}
-use Rattle.ca_examiner.specs.Sweep.{HasOpenChain}
-use Rattle.ca_examiner.specs.Support.{AreLeadingNets}
 
 -- the good flat network of the chip and those with a defect are networks
 pub record AreNetworks (chip : Chip) : Type 0 where
   pub good_is : IsWellFormed (flat chip None)
   pub faulty_are : (defect : ChipDefect) → IsDefectIn chip defect → IsWellFormed (flat chip (Some defect))
-
--- what is seen is seen of the chip, and of the defect that is aimed at
-pub record IsSeenOf (chip : Chip) (place_of : ℕ → ℕ) (seen : Seen) (defect : ChipDefect) : Type 0 where
-  pub same : seen.chip ≡ chip
-  pub aim : seen.aim ≡ Some defect
-  pub defect_is : IsPlacedDefect chip place_of defect
-  pub networks : AreNetworks chip
-
--- an open chain leads from the instance u to some observed output
-pub record ReachesOutput (chip : Chip) (open_nets : List Bool) (u : ℕ) : Type 0 where
-  pub output : ℕ
-  pub observed : Contains chip.outputs output
-  pub reaches : HasOpenChain chip open_nets u output
-
--- some bit of the support is unset
-pub record HasUnset (seen : Seen) (defect : ChipDefect) : Type 0 where
-  pub bit : ℕ
-  pub supports : IsSupportBit seen.chip defect bit
-  pub unset : value_at seen.pair bit ≡ X
-
--- a branch on some bit may stand
-pub record CanBranch (seen : Seen) (defect : ChipDefect) : Type 0 where
-  pub bit : ℕ
-  pub may : MayBranch seen.chip defect seen.pair bit
-
--- the nets that lead to the outputs which the defect that is aimed at reaches are marked
-abbrev pub IsAimed : Chip → (ℕ → ℕ) → List Bool → Option ChipDefect → Type 0
-IsAimed chip place_of leading None = length leading ≡ length chip.nets
-IsAimed chip place_of leading (Some defect) =
-    IsPlacedDefect chip place_of defect × AreLeadingNets chip defect.instance leading
-
--- what the fields of an examiner keep
-pub record IsChipExaminer (chip : Chip) (place_of : ℕ → ℕ) (aim : Option ChipDefect) (rows_chip : Chip)
-    (outputs : List ℕ) (order : List (Option ℕ)) (all_nets open_nets marks leading : List Bool)
-    (defect : Option ChipDefect) : Type 0 where
-  pub networks : AreNetworks chip
-  pub rows_are : rows_chip ≡ chip
-  pub outputs_are : outputs ≡ chip.outputs
-  pub few_outputs : length outputs < 2 ^ 32
-  pub order_is : IsOrder chip place_of order
-  pub all : All (λ mark. mark ≡ true) all_nets
-  pub all_count : length all_nets ≡ length chip.nets
-  pub open_count : length open_nets ≡ length chip.nets
-  pub marks_count : length marks ≡ length chip.nets
-  pub aim_is : aim ≡ defect
-  pub aimed : IsAimed chip place_of leading defect
 
 -- what an examiner is
 abbrev pub examined_of : Seen → Examined

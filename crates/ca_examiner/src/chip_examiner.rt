@@ -40,7 +40,7 @@ impl<'a, R: ExposableDefects> Model for ChipExaminer<'a, R> {
     ghost use Rattle.std.specs.Prelude.{◌≡◌};
     ghost use Rattle.ca_view.specs.Linked.{place_in};
     ghost use Rattle.ca_sim.specs.Simulator.{Simulator};
-    ghost use Rattle.ca_examiner.specs.ChipExaminer.{IsChipExaminer};
+    ghost use Rattle.ca_examiner.specs.code.ChipExaminer.{IsChipExaminer};
 
     ghost Value = { Simulator };
 

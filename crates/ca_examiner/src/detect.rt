@@ -5,8 +5,9 @@ ghost use Rattle.ca_flat.specs.Pair.{IsShown};
 ghost use Rattle.ca_flat.specs.Rows.{ListsExposingRows};
 ghost use Rattle.ca_view.specs.Linked.{IsPlacedDefect, place_in};
 ghost use Rattle.ca_cert.specs.Tested.{IsDetectingOutput};
-ghost use Rattle.ca_examiner.specs.ChipExaminer.{AreNetworks, IsSeenOf};
-ghost use Rattle.ca_examiner.specs.Ends.{IsFirstOpposite};
+ghost use Rattle.ca_examiner.specs.ChipExaminer.{AreNetworks};
+ghost use Rattle.ca_examiner.specs.code.ChipExaminer.{IsSeenOf};
+ghost use Rattle.ca_examiner.specs.code.Ends.{IsFirstOpposite};
 ghost use Rattle.std.specs.List.{All};
 
 use crate::rows::is_some_row_allowed;

@@ -8,11 +8,11 @@ ghost use Rattle.ca_flat.specs.Pair.{IsOpenPair};
 ghost use Rattle.ca_flat.specs.Rows.{ListsExposingRows};
 ghost use Rattle.ca_view.specs.Linked.{IsPlaced, place_in};
 ghost use Rattle.ca_flat.specs.CheckedCode.{MayLeave};
-ghost use Rattle.ca_examiner.specs.Order.{IsOrder};
-ghost use Rattle.ca_examiner.specs.Marks.{IsMarked};
-ghost use Rattle.ca_examiner.specs.OpenNets.{AreOpenNets};
-ghost use Rattle.ca_examiner.specs.Support.{AreLeadingNets};
-ghost use Rattle.ca_examiner.specs.ChipExaminer.{IsSeenOf, ReachesOutput, HasUnset};
+ghost use Rattle.ca_examiner.specs.code.Order.{IsOrder};
+ghost use Rattle.ca_examiner.specs.code.Marks.{IsMarked};
+ghost use Rattle.ca_examiner.specs.code.OpenNets.{AreOpenNets};
+ghost use Rattle.ca_examiner.specs.code.Support.{AreLeadingNets};
+ghost use Rattle.ca_examiner.specs.code.ChipExaminer.{IsSeenOf, ReachesOutput, HasUnset};
 ghost use Rattle.std.specs.List.{Any};
 
 use crate::open_nets::mark_open;
@@ -159,7 +159,7 @@ pub(crate) fn may_go_on<V: NetWaves>(
     is_open_pair(chip, waves, outputs, defect)
 }
 
-ghost use Rattle.ca_examiner.specs.ChipExaminer.{CanBranch};
+ghost use Rattle.ca_examiner.specs.code.ChipExaminer.{CanBranch};
 
 /// Whether a leaf may stand at the pair. The first two lists are room.
 pub(crate) fn may_leave<V: NetWaves>(

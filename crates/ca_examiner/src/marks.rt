@@ -2,7 +2,7 @@
 
 ghost use Rattle.std.specs.Prelude.{◌≡◌, ◌<◌, length, false};
 ghost use Rattle.std.specs.List.{All};
-ghost use Rattle.ca_examiner.specs.Marks.{IsMarked, MarksIf, MarksListed};
+ghost use Rattle.ca_examiner.specs.code.Marks.{IsMarked, MarksIf, MarksListed};
 
 // Takes all marks away.
 pub(crate) fn unmark(marks: &mut Vec<bool>)

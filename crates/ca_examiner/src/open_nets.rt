@@ -1,7 +1,7 @@
 //! The nets that a completion may still change, or that the defect has changed.
 
 ghost use Rattle.std.specs.Prelude.{◌≡◌, length};
-ghost use Rattle.ca_examiner.specs.OpenNets.{is_known, is_same, is_closed_wave, AreOpenNets};
+ghost use Rattle.ca_examiner.specs.code.OpenNets.{is_known, is_same, is_closed_wave, AreOpenNets};
 
 use ca_net::{Trit, Wave};
 use ca_sim::NetWaves;

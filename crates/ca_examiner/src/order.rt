@@ -2,7 +2,7 @@
 
 ghost use Rattle.std.specs.Prelude.{IfOk};
 ghost use Rattle.ca_view.specs.Linked.{place_in};
-ghost use Rattle.ca_examiner.specs.Order.{IsOrder};
+ghost use Rattle.ca_examiner.specs.code.Order.{IsOrder};
 
 use ca_base::NoMemory;
 use ca_view::View;

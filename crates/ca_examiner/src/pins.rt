@@ -4,7 +4,7 @@ ghost use Rattle.std.specs.Prelude.{◌≡◌, ◌<◌, ◌≤◌, ◌+◌, ◌�
 ghost use Rattle.ca_flat.specs.Chip.{inputs_at, outputs_at};
 ghost use Rattle.ca_cell.specs.declared.rule.TheConstants.{MOST_INPUTS};
 ghost use Rattle.ca_view.specs.Linked.{IsPlaced, place_in};
-ghost use Rattle.ca_examiner.specs.Marks.{MarksPins, HasMarkedPin, Passes};
+ghost use Rattle.ca_examiner.specs.code.Marks.{MarksPins, HasMarkedPin, Passes};
 
 use crate::marks::mark_if;
 use ca_view::View;

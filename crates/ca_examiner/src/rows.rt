@@ -4,7 +4,7 @@ ghost use Rattle.std.specs.Prelude.{◌≡◌, ◌<◌, ◌+◌, ◌/◌, ◌%�
 ghost use Rattle.ca_cell.specs.declared.rule.TheConstants.{MOST_INPUTS};
 ghost use Rattle.ca_defect.specs.Row.{digit_value};
 ghost use Rattle.ca_view.specs.Linked.{IsPlaced, place_in};
-ghost use Rattle.ca_examiner.specs.PinRows.{end_of, IsOver, IsAllowed, IsSomeAllowed, IsNoneAllowed};
+ghost use Rattle.ca_examiner.specs.code.PinRows.{end_of, IsOver, IsAllowed, IsSomeAllowed, IsNoneAllowed};
 
 use crate::pins::input_pins;
 use ca_cell::MOST_INPUTS;

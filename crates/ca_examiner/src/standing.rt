@@ -2,7 +2,7 @@
 
 ghost use Rattle.std.specs.Prelude.{◌≡◌, ◌<◌, ◌↔◌, length, true, IsTrue};
 ghost use Rattle.std.specs.List.{All, Any};
-ghost use Rattle.ca_examiner.specs.Ends.{are_opposite, are_alike, is_opposite_at, is_alike_at};
+ghost use Rattle.ca_examiner.specs.code.Ends.{are_opposite, are_alike, is_opposite_at, is_alike_at};
 
 use ca_net::Trit;
 use ca_sim::NetWaves;

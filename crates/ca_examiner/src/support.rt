@@ -4,8 +4,8 @@ ghost use Rattle.std.specs.Prelude.{◌≡◌, ◌<◌, ◌↔◌, length, true,
 ghost use Rattle.std.specs.List.{All};
 ghost use Rattle.ca_flat.specs.Chain.{IsSupportBit};
 ghost use Rattle.ca_view.specs.Linked.{IsPlaced, place_in};
-ghost use Rattle.ca_examiner.specs.Order.{IsOrder};
-ghost use Rattle.ca_examiner.specs.Support.{AreLeadingNets};
+ghost use Rattle.ca_examiner.specs.code.Order.{IsOrder};
+ghost use Rattle.ca_examiner.specs.code.Support.{AreLeadingNets};
 
 use crate::marks::{mark_listed, unmark};
 use crate::sweep::{mark_back, mark_onward};

@@ -3,8 +3,8 @@
 ghost use Rattle.std.specs.Prelude.{◌≡◌, length, true};
 ghost use Rattle.std.specs.List.{All};
 ghost use Rattle.ca_view.specs.Linked.{IsPlaced, place_in};
-ghost use Rattle.ca_examiner.specs.Order.{IsOrder};
-ghost use Rattle.ca_examiner.specs.Sweep.{AreReached, AreLeading};
+ghost use Rattle.ca_examiner.specs.code.Order.{IsOrder};
+ghost use Rattle.ca_examiner.specs.code.Sweep.{AreReached, AreLeading};
 
 use crate::marks::unmark;
 use crate::pins::{input_pins, mark_pins, output_pins, pass};

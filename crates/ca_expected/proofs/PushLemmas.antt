@@ -11,7 +11,7 @@ use Rattle.ca_flat.specs.Chip.{Chip}
 use Rattle.ca_search.specs.Filled.{trits_of}
 use Rattle.ca_credit.specs.Detection.{IsNetEnd}
 use Rattle.ca_expected.specs.Expected.{AreGoodEnds, AreExpected}
-use Rattle.ca_expected.specs.Kept.{AreFirstEnds, AreFirstRows}
+use Rattle.ca_expected.specs.code.Kept.{AreFirstEnds, AreFirstRows}
 
 pub no_ends : (chip : Chip) (pair : List Trit) → AreFirstEnds chip pair 0 []
 no_ends chip pair = record { room = refl; each = λ o lt. absurd (omega (arith, lt)) }

@@ -11,7 +11,8 @@ use Rattle.ca_flat.specs.Chip.{Chip}
 use Rattle.ca_search.specs.Filled.{trits_of}
 use Rattle.ca_credit.specs.Detection.{IsNetEnd}
 use Rattle.ca_expected.specs.Expected.{AreGoodEnds}
-use Rattle.ca_expected.specs.Wrong.{IsRightAt, AreRightUpTo, IsWrongFrom, AreRightRows}
+use Rattle.ca_expected.specs.Wrong.{IsRightAt, IsWrongFrom}
+use Rattle.ca_expected.specs.code.Wrong.{AreRightUpTo, AreRightRows}
 
 -- a network ends with one value
 zero_definite : Zero ≢ X

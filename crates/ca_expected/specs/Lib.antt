@@ -1,4 +1,4 @@
 pub mod Expected
 pub mod Wrong
 pub mod Laws
-pub mod Kept
+pub mod code

@@ -19,10 +19,6 @@ pub record IsWrongFrom (chip : Chip) (pair values : List Trit) (output : ℕ) : 
   pub before : (o : ℕ) → o < output → IsRightAt chip pair values o
   pub here : ¬ (IsRightAt chip pair values output)
 
--- at the first outputs it is
-abbrev pub AreRightUpTo : Chip → List Trit → List Trit → ℕ → Type 0
-AreRightUpTo chip pair values count = (o : ℕ) → o < count → IsRightAt chip pair values o
-
 -- under this pair some value is wrong, and this is the first output at which one is; under each pair before
 -- all are right
 pub record IsFirstWrong (chip : Chip) (pairs : List (List Bool)) (rows : List (List Trit))
@@ -32,9 +28,3 @@ pub record IsFirstWrong (chip : Chip) (pairs : List (List Bool)) (rows : List (L
       → AreGoodEnds chip (trits_of (slice_index_or pairs place [])) (slice_index_or rows place [])
   pub here : IsWrongFrom chip (trits_of (slice_index_or pairs wrong.pair []))
       (slice_index_or rows wrong.pair []) wrong.output
-
--- under the first pairs all are right
-abbrev pub AreRightRows : Chip → List (List Bool) → List (List Trit) → ℕ → Type 0
-AreRightRows chip pairs rows count =
-    (place : ℕ) → place < count
-    → AreGoodEnds chip (trits_of (slice_index_or pairs place [])) (slice_index_or rows place [])

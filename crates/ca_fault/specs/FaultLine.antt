@@ -29,15 +29,6 @@ status_of (StoreFailed name) = 4
 status_of SinkFailed = 4
 status_of NoMemory = 5
 
--- the number in the text of a fault, and 0 where it has none
-abbrev pub number_of : Fault → ℕ
-number_of (Cells line kind) = line
-number_of (Netlist line kind) = line
-number_of (Scan row) = row
-number_of (Order line) = line
-number_of (Limit kind count) = count
-number_of _ = 0
-
 -- what a fault prints between the program's name and the line's end
 abbrev pub text_of : Fault → List ℕ
 text_of BadWords = codes "bad command line"

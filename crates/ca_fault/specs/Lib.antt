@@ -1,2 +1,3 @@
 pub mod KindText
 pub mod FaultLine
+pub mod code

@@ -121,7 +121,8 @@ pub enum LimitKind {
 }
 
 impl Fault {
-    ghost use Rattle.ca_fault.specs.FaultLine.{status_of, number_of, text_of, line_of, place_line};
+    ghost use Rattle.ca_fault.specs.FaultLine.{status_of, text_of, line_of, place_line};
+    ghost use Rattle.ca_fault.specs.code.FaultLine.{number_of};
 
     /// The exit status that stands for the fault.
     pub fn status(&self) -> u8

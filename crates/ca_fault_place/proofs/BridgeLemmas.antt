@@ -27,7 +27,7 @@ use Rattle.ca_linked.proofs.FeedingLemmas.{item_of}
 use Rattle.ca_linked.proofs.OrderLemmas.{place_of, contained_at}
 use Rattle.ca_draft.specs.OnWires.{constant_wires, has_constant}
 use Rattle.ca_draft.proofs.ConstantLemmas.{in_part, in_all, value_of, value_at, sides_of, constant_at, joined_named, named_joined}
-use Rattle.ca_fault_place.specs.Touched.{use_wires, instance_wires, touched_of}
+use Rattle.ca_fault_place.specs.code.Touched.{use_wires, instance_wires, touched_of}
 use Rattle.ca_fault_place.proofs.WithinLemmas.{one_of}
 use Rattle.ca_fault_place.proofs.UseLemmas.{use_at, input_from, output_from}
 

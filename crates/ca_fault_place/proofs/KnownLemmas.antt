@@ -14,7 +14,8 @@ use Rattle.ca_verilog.specs.declared.raw.RawNetlist.{RawNetlist}
 use Rattle.ca_verilog.specs.IsNetlist.{bit_count, IsNetlist}
 use Rattle.ca_wiring.specs.declared.scan_row.ScanRow.{ScanRow}
 use Rattle.ca_wiring.specs.declared.joined.Join.{Join}
-use Rattle.ca_wiring.specs.Joined.{AreJoined, Same, Across, AreEarliest, IsEarliest, IsWithin}
+use Rattle.ca_wiring.specs.Joined.{AreJoined, Same, Across, AreEarliest, IsEarliest}
+use Rattle.ca_wiring.specs.code.Joined.{IsWithin}
 use Rattle.ca_wiring.specs.Wiring.{Wiring, joins_of, wiring_of}
 use Rattle.ca_wiring.specs.Nets.{Driving, Drives, IsLoaded, IsNet, AreNets}
 use Rattle.ca_wiring.specs.InstanceRules.{AreSound}
@@ -22,8 +23,9 @@ use Rattle.ca_wiring.specs.Numbers.{WireMarks}
 use Rattle.ca_wiring.proofs.ForestLemmas.{joined_sym, joined_trans}
 use Rattle.ca_linked.proofs.DriverLemmas.{some_inj}
 use Rattle.ca_linked.proofs.OrderLemmas.{place_of, contained_at}
-use Rattle.ca_draft.specs.OnWires.{AreMarks}
-use Rattle.ca_fault_place.specs.Touched.{IsFoundAmong, IsFoundFor, IsNth, IsTouched, is_known, known_count, touched_of}
+use Rattle.ca_draft.specs.code.OnWires.{AreMarks}
+use Rattle.ca_fault_place.specs.code.Touched.{IsFoundAmong, IsFoundFor, IsNth, IsTouched, is_known}
+use Rattle.ca_fault_place.specs.code.Touched.{known_count, touched_of}
 use Rattle.ca_fault_place.proofs.WithinLemmas.{bit_within, touched_within}
 use Rattle.ca_fault_place.proofs.BridgeLemmas.{touched_touches, drives_touched, load_touched}
 

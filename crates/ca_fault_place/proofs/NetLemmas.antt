@@ -18,7 +18,7 @@ use Rattle.ca_linked.proofs.DriverLemmas.{to_some}
 use Rattle.ca_verilog.specs.IsNetlist.{bit_count}
 use Rattle.ca_fault_place.specs.Names.{wire_name, wire_text}
 use Rattle.ca_fault_place.specs.Place.{OfNet, ReportsPlace, double_text, net_text}
-use Rattle.ca_fault_place.specs.Touched.{IsFoundFor, IsTextOfNet}
+use Rattle.ca_fault_place.specs.code.Touched.{IsFoundFor, IsTextOfNet}
 
 module _ (raw : RawNetlist) (library : List Named) (scan : List ScanRow) where
   -- where no rule on an instance is broken, each instance keeps its rules

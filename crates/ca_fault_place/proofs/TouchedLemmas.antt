@@ -8,7 +8,7 @@ use Rattle.ca_verilog.specs.declared.raw.RawBus.{RawBus}
 use Rattle.ca_verilog.specs.IsNetlist.{range_width, bit_count}
 use Rattle.ca_wiring.specs.Wiring.{HeaderBit, header_bits, header_bits_from, header_bits_of}
 use Rattle.ca_linked.proofs.EndLemmas.{take_more}
-use Rattle.ca_fault_place.specs.Touched.{wires_from}
+use Rattle.ca_fault_place.specs.code.Touched.{wires_from}
 
 -- the next of this many wires
 pub from_step : (first k count : ℕ) → k < count

@@ -16,7 +16,7 @@ use Rattle.ca_wiring.specs.InstanceRules.{IsSound, pin_names}
 use Rattle.ca_linked.proofs.DriverLemmas.{some_inj}
 use Rattle.ca_linked.proofs.OrderLemmas.{place_of, contained_at}
 use Rattle.ca_draft.proofs.ConstantLemmas.{value_of, value_at, any_passed, in_all, in_part}
-use Rattle.ca_fault_place.specs.Touched.{use_wires}
+use Rattle.ca_fault_place.specs.code.Touched.{use_wires}
 
 -- one of two lists has what both have together
 any_append : {X : Type 0} (p : X → Bool) (xs ys : List X) → list_any p (xs ++ ys) ≡ true

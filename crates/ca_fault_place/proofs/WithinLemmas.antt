@@ -18,7 +18,7 @@ use Rattle.ca_draft.specs.OnWires.{constant_wires, has_constant}
 use Rattle.ca_draft.proofs.ConstantLemmas.{in_part, value_of}
 use Rattle.ca_draft.proofs.HeaderLemmas.{header_within}
 use Rattle.ca_linked.proofs.OrderLemmas.{place_of}
-use Rattle.ca_fault_place.specs.Touched.{IsTouched, use_wires, instance_wires, touched_of}
+use Rattle.ca_fault_place.specs.code.Touched.{IsTouched, use_wires, instance_wires, touched_of}
 
 -- what holds of all, holds of the one at a place
 pub one_of : {X : Type 0} (P : X → Type 0) (xs : List X) (k : ℕ) (x : X) → All P xs → slice_get xs k ≡ Some x → P x

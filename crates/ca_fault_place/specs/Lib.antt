@@ -1,3 +1,3 @@
 pub mod Names
 pub mod Place
-pub mod Touched
+pub mod code

@@ -3,8 +3,8 @@
 ghost use Rattle.std.specs.Prelude.{◌≡◌, ◌<◌, ◌^◌, length, slice_index, IfOk};
 ghost use Rattle.std.specs.List.{All};
 ghost use Rattle.ca_verilog.specs.IsNetlist.{IsNetlist};
-ghost use Rattle.ca_draft.specs.OnWires.{AreMarks};
-ghost use Rattle.ca_fault_place.specs.Touched.{IsFoundAmong, IsFoundFor};
+ghost use Rattle.ca_draft.specs.code.OnWires.{AreMarks};
+ghost use Rattle.ca_fault_place.specs.code.Touched.{IsFoundAmong, IsFoundFor};
 
 use crate::touched::touched_of;
 use ca_base::NoMemory;

@@ -9,7 +9,7 @@ ghost use Rattle.ca_wiring.specs.declared.scan_row.ScanRow.{ScanRow};
 ghost use Rattle.ca_fault_place.specs.Names.{wire_name};
 ghost use Rattle.ca_fault_place.specs.Place.{IsOfNetlist, ReportsPlace, after_comma, double_text, net_text};
 ghost use Rattle.ca_fault_place.specs.Place.{refused_text, rule_in};
-ghost use Rattle.ca_fault_place.specs.Touched.{IsTextOfNet};
+ghost use Rattle.ca_fault_place.specs.code.Touched.{IsTextOfNet};
 
 use crate::bits::wire_name;
 use crate::cells::rule_place;

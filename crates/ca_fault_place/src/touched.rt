@@ -5,7 +5,7 @@ ghost use Rattle.std.specs.List.{All, flat_map, list_any};
 ghost use Rattle.ca_verilog.specs.IsNetlist.{IsPort, bit_count, range_width};
 ghost use Rattle.ca_wiring.specs.Wiring.{header_bits};
 ghost use Rattle.ca_draft.specs.OnWires.{AreFirsts, constant_wires, has_constant};
-ghost use Rattle.ca_fault_place.specs.Touched.{IsTouched, instance_wires, use_wires, wires_from};
+ghost use Rattle.ca_fault_place.specs.code.Touched.{IsTouched, instance_wires, use_wires, wires_from};
 
 use ca_base::NoMemory;
 use ca_wiring::wire_of;

@@ -17,7 +17,7 @@ use Rattle.ca_flat.specs.Flat.{place, old_devices, defect_at, devices_of, device
 use Rattle.ca_linked.specs.Linked.{LinkedChip}
 use Rattle.ca_linked.proofs.EndLemmas.{take_more}
 use Rattle.ca_core.specs.Core.{core_kinds}
-use Rattle.ca_flatten.specs.Kept.{core_kind, first_devices}
+use Rattle.ca_flatten.specs.code.Kept.{core_kind, first_devices}
 
 pub no_kinds : (chip : LinkedChip) (nodes : List NodeKind) → nodes ≡ nodes ++ core_kinds chip 0
 unfolding core_kinds

@@ -17,7 +17,7 @@ use Rattle.ca_linked.specs.declared.parts.Body.TheVariants.{Gate, Scan}
 use Rattle.ca_linked.specs.Linked.{LinkedChip, IsGate, IsLibrary}
 use Rattle.ca_linked.specs.Instances.{if_gate, gates_from, gates_of}
 use Rattle.ca_linked.proofs.OrderLemmas.{place_of, contained_at}
-use Rattle.ca_flatten.specs.Kept.{mark_at, AreGateMarks}
+use Rattle.ca_flatten.specs.code.Kept.{mark_at, AreGateMarks}
 
 -- a library instance among these, of which the first is the instance `from`
 record IsGateFrom (from : ℕ) (parts : List Part) (u : ℕ) : Type 0 where

@@ -24,7 +24,7 @@ use Rattle.std.proofs.lemmas.Bool.{eqb-true}
 use Rattle.ca_core.specs.Core.{core_net, core_instance, core_of, empty_cell}
 use Rattle.ca_core.proofs.CorePartLemmas.{core_at, part_at}
 use Rattle.ca_core.proofs.CoreIsChip.{data_within}
-use Rattle.ca_flatten.specs.Kept.{IsInverting}
+use Rattle.ca_flatten.specs.code.Kept.{IsInverting}
 use Rattle.ca_flatten.proofs.GateLemmas.{some_at, at_some}
 use Rattle.ca_flatten.proofs.SizeLemmas.{core_count}
 

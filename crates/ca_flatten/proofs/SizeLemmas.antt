@@ -29,7 +29,7 @@ use Rattle.ca_core.specs.Core.{core_of, core_instance, rank_of}
 use Rattle.ca_core.proofs.CoreIsChip.{core_is}
 use Rattle.ca_flatten.specs.Few.{IsFew}
 use Rattle.ca_flatten.specs.declared.sizes.Sizes.{Sizes}
-use Rattle.ca_flatten.specs.Kept.{device_total, AreSizes}
+use Rattle.ca_flatten.specs.code.Kept.{device_total, AreSizes}
 
 pub core_count : (chip : LinkedChip) → count_of (core_of chip) ≡ length chip.parts
 core_count chip = length-map chip.parts (λ (p : Part). core_instance chip p.body)

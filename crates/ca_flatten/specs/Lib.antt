@@ -1,3 +1,3 @@
 pub mod Few
 pub mod Laws
-pub mod Kept
+pub mod code

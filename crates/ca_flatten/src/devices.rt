@@ -8,7 +8,7 @@ ghost use Rattle.ca_linked.specs.Linked.{IsLibrary};
 ghost use Rattle.ca_core.specs.Core.{core_of};
 ghost use Rattle.ca_core.specs.Numbers.{AreCoreNumbers};
 ghost use Rattle.ca_flatten.specs.Few.{IsFew};
-ghost use Rattle.ca_flatten.specs.Kept.{AreGateMarks, AreSizes, IsSpot};
+ghost use Rattle.ca_flatten.specs.code.Kept.{AreGateMarks, AreSizes, IsSpot};
 
 use crate::gates::Gates;
 use crate::sizes::Sizes;

@@ -1,7 +1,7 @@
 //! Which instances are of the library.
 
 ghost use Rattle.std.specs.Prelude.{◌≡◌, ◌<◌, length, IfOk};
-ghost use Rattle.ca_flatten.specs.Kept.{mark_at, AreGateMarks};
+ghost use Rattle.ca_flatten.specs.code.Kept.{mark_at, AreGateMarks};
 
 use ca_base::NoMemory;
 use ca_linked::{Chip, InstanceId};

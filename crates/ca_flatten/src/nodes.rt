@@ -7,7 +7,7 @@ ghost use Rattle.ca_flat.specs.Flat.{flat, new_nodes, defect_of};
 ghost use Rattle.ca_linked.specs.Linked.{net_count, is_scan_path};
 ghost use Rattle.ca_core.specs.Core.{core_of, kind_of};
 ghost use Rattle.ca_core.specs.Numbers.{AreCoreNumbers};
-ghost use Rattle.ca_flatten.specs.Kept.{AreGateMarks, AreSizes, core_kind};
+ghost use Rattle.ca_flatten.specs.code.Kept.{AreGateMarks, AreSizes, core_kind};
 
 use crate::gates::Gates;
 use crate::sizes::Sizes;

@@ -4,7 +4,7 @@ ghost use Rattle.std.specs.Prelude.{◌≡◌, ◌^◌, ◌<◌, length, IfSome}
 ghost use Rattle.ca_flat.specs.Chip.{circuit_at};
 ghost use Rattle.ca_core.specs.Core.{core_of};
 ghost use Rattle.ca_core.specs.Numbers.{AreCoreNumbers};
-ghost use Rattle.ca_flatten.specs.Kept.{AreGateMarks, AreSizes};
+ghost use Rattle.ca_flatten.specs.code.Kept.{AreGateMarks, AreSizes};
 
 use crate::gates::Gates;
 use crate::spots::{cell_at, inner_count};

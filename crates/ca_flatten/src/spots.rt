@@ -10,7 +10,7 @@ ghost use Rattle.ca_linked.specs.Linked.{IsLibrary};
 ghost use Rattle.ca_core.specs.Core.{core_of};
 ghost use Rattle.ca_core.specs.Numbers.{AreCoreNumbers};
 ghost use Rattle.ca_flatten.specs.Few.{IsFew};
-ghost use Rattle.ca_flatten.specs.Kept.{mark_at, AreGateMarks, IsSpot, IsInverting};
+ghost use Rattle.ca_flatten.specs.code.Kept.{mark_at, AreGateMarks, IsSpot, IsInverting};
 
 use crate::gates::Gates;
 use ca_cell::Cell;

@@ -41,12 +41,13 @@ use Rattle.ca_credit.specs.declared.verdict.Verdict.{Verdict}
 use Rattle.ca_credit.specs.Good.{IsGood}
 use Rattle.ca_engine.specs.ChipTask.{task_of}
 use Rattle.ca_atpg.specs.Atpg.{IsStil, report_of}
-use Rattle.ca_flow.specs.Work.{IsOutFile, HasFiles}
+use Rattle.ca_flow.specs.code.Work.{IsOutFile, HasFiles}
 use Rattle.ca_words.specs.declared.words.Command.{Command}
 use Rattle.ca_words.specs.declared.words.Command.TheVariants as command
 use Rattle.ca_words.specs.Command.{IsSpelledDefects, IsSpelledMatrix, IsSpelledCheck, IsSpelledFlatten}
 use Rattle.ca_words.specs.Command.{IsSpelledSimulate, IsSpelledAtpg, IsSpelledReplay}
-use Rattle.ca_words.specs.Command.{IsSpelledMake, IsSpelled, IsWhole}
+use Rattle.ca_words.specs.Command.{IsSpelledMake, IsSpelled}
+use Rattle.ca_words.specs.code.Command.{IsWhole}
 use Rattle.ca_on_chip.specs.declared.making.TheConstants.{MAKE_BUDGET}
 use Rattle.ca_on_chip.specs.Making.{IsMadeChip, IsMakeStage}
 use Rattle.ca_on_chip.specs.OnChip.{IsChipOfFiles, IsTracedChipOf, IsFlatOf, AreEndsOf, IsFlatCause}

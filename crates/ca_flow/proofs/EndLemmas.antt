@@ -26,8 +26,9 @@ use Rattle.ca_flow.specs.Fault.{Outside, IsWorkCause, IsWriteCause, IsPrintCause
 use Rattle.ca_load.specs.Files.{ReportsStoreFault}
 use Rattle.ca_flow.specs.Ends.{IsAsked}
 use Rattle.ca_atpg.specs.Atpg.{IsStil, report_of}
-use Rattle.ca_flow.specs.Work.{IsOutFile, IsFileWith, HasFiles, HasWritten, FailsToWrite, HaveBeenWritten}
-use Rattle.ca_flow.specs.Work.{FailToWrite, HasPrinted, FailsToPrint, EndsWork}
+use Rattle.ca_flow.specs.code.Work.{IsOutFile, IsFileWith, HasFiles, HasWritten, FailsToWrite}
+use Rattle.ca_flow.specs.code.Work.{HaveBeenWritten}
+use Rattle.ca_flow.specs.code.Work.{FailToWrite, HasPrinted, FailsToPrint, EndsWork}
 use Rattle.ca_flow.proofs.CauseLemmas.{out_is_unread}
 
 -- no fault has the status of work that is whole

@@ -4,7 +4,7 @@ use Rattle.std.specs.Prelude.{IsSomeAnd}
 use Rattle.ca_store.specs.Store.{Files}
 use Rattle.ca_fault.specs.declared.fault.Fault.{Fault}
 use Rattle.ca_flow.specs.declared.work.OutFile.{OutFile}
-use Rattle.ca_flow.specs.Work.{HasWritten, FailsToWrite, HaveBeenWritten, FailToWrite}
+use Rattle.ca_flow.specs.code.Work.{HasWritten, FailsToWrite, HaveBeenWritten, FailToWrite}
 
 module _ (file second : Option OutFile) (old between new : Option Files) where
   pub were_written : HasWritten file old between → HasWritten second between new → HaveBeenWritten file second old new

@@ -3,5 +3,5 @@ pub mod Finished
 pub mod Fault
 pub mod Complete
 pub mod Ends
-pub mod Work
 pub mod Answer
+pub mod code

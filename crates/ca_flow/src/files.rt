@@ -3,7 +3,7 @@ ghost use Rattle.std.specs.Prelude.{◌≡◌, IfOk};
 ghost use Rattle.std.specs.List.{All};
 ghost use Rattle.ca_flat_text.specs.FlatText.{HasLine, flat_text};
 ghost use Rattle.ca_matrix.specs.Text.{text_of};
-ghost use Rattle.ca_flow.specs.Work.{IsOutFile};
+ghost use Rattle.ca_flow.specs.code.Work.{IsOutFile};
 
 use crate::work::OutFile;
 use ca_base::NoMemory;

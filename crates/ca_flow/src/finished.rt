@@ -4,7 +4,7 @@ ghost use Rattle.ca_store.specs.Store.{Nothing};
 ghost use Rattle.ca_fault.specs.FaultLine.{status_of};
 ghost use Rattle.ca_flow.specs.Finished.{status_reported, IsReported, ReportsSinkFault};
 ghost use Rattle.ca_flow.specs.Ends.{IsAsked};
-ghost use Rattle.ca_flow.specs.Work.{HasFiles, HasPrinted, FailsToPrint, EndsWork};
+ghost use Rattle.ca_flow.specs.code.Work.{HasFiles, HasPrinted, FailsToPrint, EndsWork};
 
 use crate::usage::{usage, version};
 use crate::work::{Work, write_out};

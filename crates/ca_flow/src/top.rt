@@ -4,13 +4,14 @@ ghost use Rattle.std.specs.String.{string_bytes};
 ghost use Rattle.ca_store.specs.Store.{Nothing, Files};
 ghost use Rattle.ca_make.specs.declared.gate.TheConstants.{MOST_GATES};
 ghost use Rattle.ca_words.specs.Words.{IsCommand};
-ghost use Rattle.ca_words.specs.Command.{IsSpelled, IsSpelledAtpg, IsSpelledReplay, IsSpelledMake, NamesBoth};
+ghost use Rattle.ca_words.specs.Command.{IsSpelled, IsSpelledAtpg, IsSpelledReplay, IsSpelledMake};
+ghost use Rattle.ca_words.specs.code.Command.{NamesBoth};
 ghost use Rattle.ca_words.specs.Command.{IsSpelledFlatten, IsSpelledMatrix};
-ghost use Rattle.ca_words.specs.Command.{IsWhole};
+ghost use Rattle.ca_words.specs.code.Command.{IsWhole};
 ghost use Rattle.ca_flow.specs.Fault.{IsWorkCause};
 ghost use Rattle.ca_load.specs.Files.{ReportsStoreFault};
 ghost use Rattle.ca_flow.specs.Ends.{IsAsked, Ends};
-ghost use Rattle.ca_flow.specs.Work.{HasFiles, IsOutFile};
+ghost use Rattle.ca_flow.specs.code.Work.{HasFiles, IsOutFile};
 
 use crate::files::{flat_file, matrix_file, text_file};
 use crate::finished::{Done, Finished, finish, refused};

@@ -1,7 +1,7 @@
 //! The work of a command, before it is written and printed.
 ghost use Rattle.std.specs.Prelude.{◌≡◌, IfErr, IsSomeAnd, OnOk};
 ghost use Rattle.ca_store.specs.Store.{Nothing, KeepsCount};
-ghost use Rattle.ca_flow.specs.Work.{HasWritten, FailsToWrite, HaveBeenWritten, FailToWrite};
+ghost use Rattle.ca_flow.specs.code.Work.{HasWritten, FailsToWrite, HaveBeenWritten, FailToWrite};
 
 use crate::finished::Done;
 use ca_fault::Fault;

@@ -27,13 +27,14 @@ use Rattle.ca_spice.specs.declared.fault.SpiceFault.TheVariants.{TooManyCells}
 use Rattle.ca_spice.specs.Card.{card_by_letter, is_ignored, card_of}
 use Rattle.ca_spice.specs.Names.{is_text, is_name}
 use Rattle.ca_spice.specs.PinInfo as info
-use Rattle.ca_spice.specs.Mos.{Wiring, has_gate, kind_of, wiring_with, wiring_of, are_sound}
+use Rattle.ca_spice.specs.Mos.{Wiring, kind_of, wiring_with, wiring_of, are_sound}
+use Rattle.ca_spice.specs.code.Mos.{has_gate}
 use Rattle.ca_spice.specs.OpenCell.{OpenCell, pin_of, new_cell, with_pins, has_roles, pin_info, with_drain, with_gate, with_source, device_of}
 use Rattle.ca_spice.specs.OpenCell.{mos, pins_after, is_ended_by, subcircuit_with, ended}
 use Rattle.ca_spice.specs.Reading.{Reading, Step, nothing, is_outside, has_cell, with_open, is_header, named, subckt, goes_on, in_cell, with_cell}
 use Rattle.ca_spice.specs.Reading.{ends, card_step, is_stray, is_comment, judged, words_step, line_step, at_line, lines_from, library_from}
 use Rattle.ca_spice.specs.Reading.{library_of}
-use Rattle.ca_spice.specs.Kept.{HasOwnStrength, IsPlaced, IsPlacedCell}
+use Rattle.ca_spice.specs.code.Kept.{HasOwnStrength, IsPlaced, IsPlacedCell}
 use Rattle.ca_spice.proofs.SpelledLemmas.{all_append}
 use Rattle.ca_spice.proofs.CardLemmas.{kept_rule, kept_value, mos_found, at_its_place}
 use Rattle.ca_spice.proofs.CellLemmas.{with_name-longer, IsPlaced-grown, IsPlaced-IsRaw}

@@ -10,7 +10,7 @@ use Rattle.ca_credit.specs.Defects.{Task, IsExposableIn}
 use Rattle.ca_credit.specs.Good.{HasVerdict, IsGood}
 use Rattle.ca_credit.specs.Table.{known_verdicts, AreAllKnown, verdict_at}
 use Rattle.ca_credit.proofs.TableLemmas.{known_at, length-known, all_known}
-use Rattle.ca_generate.specs.Progress.{IsEntry, StandsAfter}
+use Rattle.ca_generate.specs.code.Progress.{IsEntry, StandsAfter}
 
 -- within a list there is an entry
 entry_of : {T : Type 0} (xs : List T) (k : ℕ) → k < length xs → (x : T) × (slice_get xs k ≡ Some x)

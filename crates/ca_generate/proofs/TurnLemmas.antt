@@ -20,8 +20,8 @@ use Rattle.ca_credit.specs.Table.{verdict_at, IsCredit, IsAfterPair, CreditsPair
 use Rattle.ca_credit.proofs.LawLemmas.{not_ample}
 use Rattle.ca_credit.proofs.TableLemmas.{same_defect, verdict_at-set, verdict_at-other}
 use Rattle.ca_credit.specs.declared.limit.TheConstants.{MOST_PAIRS}
-use Rattle.ca_generate.specs.Progress.{IsWaiting, IsEntry, IsCreditAt, StandsAfter, IsScreenedEntry}
-use Rattle.ca_generate.specs.Progress.{IsScreened}
+use Rattle.ca_generate.specs.code.Progress.{IsWaiting, IsEntry, IsCreditAt, StandsAfter, IsScreenedEntry}
+use Rattle.ca_generate.specs.code.Progress.{IsScreened}
 use Rattle.ca_generate.proofs.ListLemmas.{entry_stays, entry_new, entry_is, some_within, some_stays, some_new}
 use Rattle.ca_generate.proofs.ListLemmas.{first_stays, first_new}
 use Rattle.ca_generate.proofs.FoundLemmas.{found_detects, whole_is_untestable}

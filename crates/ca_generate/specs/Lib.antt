@@ -2,4 +2,4 @@
 pub mod Outcome
 pub mod GenerateFault
 pub mod Laws
-pub mod Progress
+pub mod code

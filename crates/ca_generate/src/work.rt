@@ -4,7 +4,7 @@ ghost use Rattle.std.specs.Prelude.{◌≡◌, ◌<◌, ◌^◌, ◌+◌, length
 ghost use Rattle.ca_credit.specs.Listed.{IsFoundAt};
 ghost use Rattle.ca_credit.specs.Table.{verdict_at};
 ghost use Rattle.ca_generate.specs.GenerateFault.{IsCause};
-ghost use Rattle.ca_generate.specs.Progress.{WorkStands, IsScreened};
+ghost use Rattle.ca_generate.specs.code.Progress.{WorkStands, IsScreened};
 
 use crate::bench::Bench;
 use crate::fault::{Aims, GenerateFault};

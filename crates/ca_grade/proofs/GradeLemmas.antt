@@ -16,7 +16,7 @@ use Rattle.ca_credit.specs.Table.{verdict_at, IsAfterPair, CreditsPair, CreditsB
 use Rattle.ca_credit.specs.Table.CreditsBlock.{Begins, Credits}
 use Rattle.ca_grade.specs.declared.grade.Grade.{Grade}
 use Rattle.ca_grade.specs.Graded.{IsGrade, AreGraded}
-use Rattle.ca_grade.specs.Table.{grade_of, IsVerdictAfter, AreVerdictsAfter, AreMarkedUpTo}
+use Rattle.ca_grade.specs.code.Table.{grade_of, IsVerdictAfter, AreVerdictsAfter, AreMarkedUpTo}
 
 -- no pair of one more detects the defect
 none_more : (chip : Chip) (defect : ChipDefect) (pairs : List (List Bool)) (n : ℕ) (pair : List Bool) → slice_get pairs n ≡ Some pair

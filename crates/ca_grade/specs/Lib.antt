@@ -1,4 +1,4 @@
 -- What the contracts of this crate say, in reading order.
 pub mod Graded
 pub mod GradeFault
-pub mod Table
+pub mod code

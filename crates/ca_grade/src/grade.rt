@@ -2,7 +2,7 @@
 
 ghost use Rattle.std.specs.Prelude.{◌≡◌, ◌<◌, ◌+◌, length, map, IfOk};
 ghost use Rattle.std.specs.Option.{option_copied};
-ghost use Rattle.ca_grade.specs.Table.{grade_of};
+ghost use Rattle.ca_grade.specs.code.Table.{grade_of};
 
 use ca_base::{List, NoMemory};
 use ca_credit::{Credits, Verdict};

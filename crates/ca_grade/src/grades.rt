@@ -4,7 +4,7 @@ ghost use Rattle.std.specs.Prelude.{◌≡◌, ◌<◌, ◌≤◌, ◌+◌, ◌^
 ghost use Rattle.std.specs.List.{All};
 ghost use Rattle.ca_flat.specs.Pair.{bit_count};
 ghost use Rattle.ca_grade.specs.Graded.{AreGraded};
-ghost use Rattle.ca_grade.specs.Table.{AreMarkedUpTo, AreVerdictsAfter};
+ghost use Rattle.ca_grade.specs.code.Table.{AreMarkedUpTo, AreVerdictsAfter};
 
 use crate::grade::{Grades, grades_of};
 use ca_base::NoMemory;

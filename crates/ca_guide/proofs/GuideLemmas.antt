@@ -25,11 +25,13 @@ use Rattle.ca_flat.proofs.CheckedCodes.{plain_is_of_pair_lem}
 use Rattle.ca_flat.proofs.ListedRows.{listed_rows_are_enough_lem}
 use Rattle.ca_guide.specs.declared.rows.End.{End}
 use Rattle.ca_guide.specs.declared.rows.End.TheVariants.{First, Last}
-use Rattle.ca_guide.specs.Flood.{IsFlood, EndsFlood}
+use Rattle.ca_guide.specs.code.Flood.{IsFlood, EndsFlood}
 use Rattle.ca_view.specs.NetLists.{NetLists, input_nets, output_nets, AreNetsOf}
-use Rattle.ca_guide.specs.Seen.{Seen, AreGoodWaves, set_trit, pair_of, open_area, Covers}
+use Rattle.ca_guide.specs.Seen.{Seen, set_trit, pair_of, open_area, Covers}
+use Rattle.ca_guide.specs.code.Seen.{AreGoodWaves}
 use Rattle.ca_guide.specs.PinRows.{end_of, pin_value, IsOver, IsAllowed, IsSomeAllowed, IsNoneAllowed}
-use Rattle.ca_guide.specs.Guide.{IsSupport, ShowsPair, IsUnsetIn}
+use Rattle.ca_guide.specs.Guide.{IsSupport, ShowsPair}
+use Rattle.ca_guide.specs.code.Guide.{IsUnsetIn}
 use Rattle.ca_guide.proofs.OpenChains.{flood_rules_out, end_is_chain}
 use Rattle.std.proofs.lemmas.List.{get_or-map}
 use Rattle.std.proofs.lemmas.Option.{get_or_from_slice_get, slice_get-get_or, slice_get_within}

@@ -7,7 +7,7 @@ use Rattle.ca_flat.specs.Chip.{Chip, inputs_at, outputs_at, count_of}
 use Rattle.ca_flat.specs.Waves.{FlatWaves, wave_of, unknown_wave}
 use Rattle.ca_flat.specs.Chain.{Feeds, IsOutputOf}
 use Rattle.ca_flat.specs.RuleOut.{IsOpenNet, IsOpenChain, HasNoOpenChain}
-use Rattle.ca_guide.specs.Flood.{IsPath, IsFlood, EndsFlood}
+use Rattle.ca_guide.specs.code.Flood.{IsPath, IsFlood, EndsFlood}
 use Rattle.ca_view.specs.NetLists.{NetLists, output_nets, AreNetsOf}
 use Rattle.ca_guide.specs.Seen.{Seen, pair_of, ShowsWaves, is_closed_wave, open_area}
 use Rattle.ca_guide.proofs.WaveTests.{not_closed_to, not_closed_from}

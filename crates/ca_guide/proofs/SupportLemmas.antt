@@ -5,8 +5,9 @@ use Rattle.std.specs.Prelude.{slice_get}
 use Rattle.std.specs.List.{Contains}
 use Rattle.std.proofs.lemmas.List.{take_more}
 use Rattle.std.proofs.lemmas.List.Elements.{Contains-push, Contains-push_cases, Contains-append_left}
-use Rattle.ca_guide.specs.NumberSet.{Numbers, IsInsert, AddsIf}
-use Rattle.ca_guide.specs.Support.{AreObserved, AreSupportBits, IsLeadingBit, IsBitAfter, AddsBits}
+use Rattle.ca_guide.specs.NumberSet.{Numbers, IsInsert}
+use Rattle.ca_guide.specs.code.NumberSet.{AddsIf}
+use Rattle.ca_guide.specs.code.Support.{AreObserved, AreSupportBits, IsLeadingBit, IsBitAfter, AddsBits}
 use Rattle.std.proofs.lemmas.Option.{slice_get_within, slice_get-get_or, get_or_from_slice_get}
 use Rattle.std.proofs.lemmas.Bool.{eqb-false}
 

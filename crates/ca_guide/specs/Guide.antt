@@ -1,6 +1,6 @@
 -- What the guide answers.
-use Rattle.std.specs.Prelude.{ℕ, ◌+◌, ◌≡◌, ◌↔◌, Bool, List, length, Option, None, Some, slice_get}
-use Rattle.std.specs.List.{All, Contains}
+use Rattle.std.specs.Prelude.{ℕ, ◌+◌, ◌≡◌, ◌↔◌, List, length, None, Some}
+use Rattle.std.specs.List.{Contains}
 use Rattle.ca_net.specs.declared.trit.Trit.{Trit}
 use Rattle.ca_flat.specs.declared.chip_defect.ChipDefect.{ChipDefect}
 use Rattle.ca_flat.specs.Chip.{Chip}
@@ -37,13 +37,3 @@ pub record ShowsPair (chip : Chip) (defect : ChipDefect) (seen : Seen) : Type 0 
 abbrev pub IsStep : Chip → ChipDefect → List Trit → Step → Type 0
 IsStep chip defect pair (Branch bit first) = IsCheckedBranch chip defect pair bit
 IsStep chip defect pair RuledOut = IsPlain chip defect pair
-
--- an unset bit of the support, if there is one
-pub record IsUnsetIn (support : List ℕ) (bits : List (Option Bool)) (bit : ℕ) : Type 0 where
-  pub listed : Contains support bit
-  pub unset : slice_get bits bit ≡ Some None
-
--- such a bit, or none where each bit of the support is set
-abbrev pub IsUnsetAnswer : List ℕ → List (Option Bool) → Option ℕ → Type 0
-IsUnsetAnswer support bits None = All (λ bit. slice_get bits bit ≡ Some None → ⊥) support
-IsUnsetAnswer support bits (Some bit) = IsUnsetIn support bits bit

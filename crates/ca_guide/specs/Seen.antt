@@ -27,11 +27,6 @@ set_trit (Some value) = bit_trit value
 abbrev pub pair_of : Seen → List Trit
 pair_of seen = map set_trit seen.bits
 
--- these are the waves of the nets without a defect
-abbrev pub AreGoodWaves : (chip : Chip) (pair : List Trit) → List Wave → FlatWaves chip None pair → Type 0
-AreGoodWaves chip pair waves good =
-    (net : ℕ) → net < length chip.nets → slice_get waves net ≡ Some (wave_of good net)
-
 -- the waves are the limits of the flat networks for the bits, good and with the defect
 pub record ShowsWaves (chip : Chip) (defect : ChipDefect) (seen : Seen)
     (good : FlatWaves chip None (pair_of seen))

@@ -2,9 +2,9 @@
 
 ghost use Rattle.std.specs.Prelude.{◌≡◌, ◌<◌, ◌≤◌, [], ◌∷◌, length};
 ghost use Rattle.std.specs.List.{All};
-ghost use Rattle.ca_guide.specs.Flood.{IsFloodTo};
+ghost use Rattle.ca_guide.specs.code.Flood.{IsFloodTo};
 ghost use Rattle.ca_view.specs.NetLists.{AreWithin};
-ghost use Rattle.ca_guide.specs.Visit.{IsVisit};
+ghost use Rattle.ca_guide.specs.code.Visit.{IsVisit};
 
 use crate::number_set::NumberSet;
 

@@ -6,7 +6,8 @@ ghost use Rattle.ca_flat.specs.Chip.{count_of};
 ghost use Rattle.ca_flat.specs.Pair.{IsOpenPair};
 ghost use Rattle.ca_flat.specs.Rows.{ListsExposingRows};
 ghost use Rattle.ca_guide.specs.Seen.{pair_of, Covers};
-ghost use Rattle.ca_guide.specs.Guide.{HasRoomFor, IsSupport, ShowsPair, IsStep, IsUnsetAnswer};
+ghost use Rattle.ca_guide.specs.Guide.{HasRoomFor, IsSupport, ShowsPair, IsStep};
+ghost use Rattle.ca_guide.specs.code.Guide.{IsUnsetAnswer};
 
 use crate::number_set::NumberSet;
 use crate::open_chain::reaches_output;

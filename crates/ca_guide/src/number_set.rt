@@ -17,7 +17,8 @@ pub struct NumberSet {
 
 impl Model for NumberSet {
     ghost use Rattle.std.specs.Prelude.{◌≤◌, vec_len, vec_capacity};
-    ghost use Rattle.ca_guide.specs.NumberSet.{Numbers, AreFlags};
+    ghost use Rattle.ca_guide.specs.NumberSet.{Numbers};
+    ghost use Rattle.ca_guide.specs.code.NumberSet.{AreFlags};
 
     ghost Value = { Numbers };
 

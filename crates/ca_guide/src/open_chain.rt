@@ -1,7 +1,7 @@
 //! Whether a chain of open nets leads from a defect to an observed output.
 
 ghost use Rattle.std.specs.Prelude.{◌≡◌, ◌<◌, length};
-ghost use Rattle.ca_guide.specs.Flood.{IsFloodTo};
+ghost use Rattle.ca_guide.specs.code.Flood.{IsFloodTo};
 ghost use Rattle.ca_view.specs.NetLists.{output_nets};
 ghost use Rattle.ca_guide.specs.Seen.{open_area, Covers};
 

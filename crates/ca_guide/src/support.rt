@@ -5,8 +5,8 @@ ghost use Rattle.std.specs.List.{Contains};
 ghost use Rattle.ca_flat.specs.declared.chip_defect.ChipDefect.{ChipDefect};
 ghost use Rattle.ca_flat.specs.Chip.{count_of};
 ghost use Rattle.ca_guide.specs.Guide.{IsSupport};
-ghost use Rattle.ca_guide.specs.NumberSet.{AddsIf};
-ghost use Rattle.ca_guide.specs.Support.{AreObserved, AddsBits};
+ghost use Rattle.ca_guide.specs.code.NumberSet.{AddsIf};
+ghost use Rattle.ca_guide.specs.code.Support.{AreObserved, AddsBits};
 
 use crate::chip::{AllNets, Back, Onward};
 use crate::flood::flood;

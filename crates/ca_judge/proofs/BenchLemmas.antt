@@ -23,10 +23,11 @@ use Rattle.ca_guide.specs.declared.guide.Step.TheVariants.{Branch, RuledOut}
 use Rattle.ca_search.specs.declared.judge.Standing.{Standing}
 use Rattle.ca_search.specs.declared.judge.Standing.TheVariants.{Shown, Settled, Open}
 use Rattle.ca_search.specs.Judged.{with_pair, IsStanding, IsStep, IsOpenFor}
-use Rattle.ca_judge.specs.Ends.{LooksSo}
-use Rattle.ca_judge.specs.Outputs.{AreObservedBelow}
+use Rattle.ca_judge.specs.code.Ends.{LooksSo}
+use Rattle.ca_judge.specs.code.Outputs.{AreObservedBelow}
 use Rattle.ca_judge.specs.GuideSeen.{guide_seen}
-use Rattle.ca_judge.specs.Bench.{IsBench, IsGuidedTo, CanBeJudged, judged_of}
+use Rattle.ca_judge.specs.Bench.{CanBeJudged, judged_of}
+use Rattle.ca_judge.specs.code.Bench.{IsBench, IsGuidedTo}
 use Rattle.ca_judge.proofs.StandingLemmas.{SeesBoth, StandsSo, stands_so}
 use Rattle.ca_judge.proofs.StepLemmas.{IsSearchStep, search_step}
 use Rattle.ca_judge.proofs.SeenLemmas.{pair_again, bits_count, shows_pair}

@@ -5,7 +5,7 @@ use Rattle.std.specs.Prelude.{slice_index_or}
 use Rattle.std.specs.List.{Contains}
 use Rattle.std.proofs.lemmas.List.Elements.{Contains-push, Contains-append_left, Contains-push_cases}
 use native.Mathlib.Decide.{ℕ_discrete}
-use Rattle.ca_judge.specs.Outputs.{AreObservedBelow}
+use Rattle.ca_judge.specs.code.Outputs.{AreObservedBelow}
 
 -- none is before the first
 pub observed_none : (observed : List Bool) (nets : List ℕ) → nets ≡ [] → AreObservedBelow observed 0 nets

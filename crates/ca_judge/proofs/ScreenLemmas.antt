@@ -12,12 +12,12 @@ use Rattle.ca_flat.specs.Waves.{FlatWaves, wave_of, unknown_wave, IsFlatChip}
 use Rattle.ca_flat.proofs.Detected.{some_good, detected_is_exposed_lem}
 use Rattle.ca_flat.proofs.Filled.{fill, fill_definite, fill_above}
 use Rattle.ca_view.specs.NetLists.{NetLists, input_nets}
-use Rattle.ca_guide.specs.Seen.{AreGoodWaves}
+use Rattle.ca_guide.specs.code.Seen.{AreGoodWaves}
 use Rattle.ca_guide.specs.PinRows.{IsNoneAllowed, IsSomeAllowed}
 use Rattle.ca_guide.specs.Guide.{Guided}
 use Rattle.ca_guide.proofs.GuideLemmas.{none_rules_out, some_is_allowed}
 use Rattle.ca_sim.specs.Seen.{Seen, IsExact}
-use Rattle.ca_judge.specs.Bench.{IsBench}
+use Rattle.ca_judge.specs.code.Bench.{IsBench}
 
 -- where the rows rule a pair out, it shows nothing
 rows_show_nothing : (chip : Chip) (rank : ℕ → ℕ) (defect : ChipDefect) (pair : List Trit) → IsFlatChip chip rank defect

@@ -18,7 +18,8 @@ use Rattle.ca_sim.specs.Seen.{Seen, AreNetWaves}
 use Rattle.ca_sim.proofs.Exact.{definite_last_is_end_lem}
 use Rattle.ca_search.specs.declared.judge.Standing.{Standing}
 use Rattle.ca_search.specs.declared.judge.Standing.TheVariants.{Shown, Settled, Open}
-use Rattle.ca_judge.specs.Ends.{are_opposite, are_alike, is_opposite_at, is_alike_at, LooksSo, AreAlikeBelow}
+use Rattle.ca_judge.specs.code.Ends.{are_opposite, are_alike, is_opposite_at, is_alike_at, LooksSo}
+use Rattle.ca_judge.specs.code.Ends.{AreAlikeBelow}
 use Rattle.ca_judge.proofs.EndLemmas.{opposite_is, is_opposite, opposite_definite, alike_is, is_alike}
 
 -- this is how the pair stands for the defect

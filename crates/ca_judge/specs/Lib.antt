@@ -1,4 +1,3 @@
-pub mod Ends
-pub mod Outputs
 pub mod GuideSeen
 pub mod Bench
+pub mod code

@@ -3,7 +3,7 @@
 ghost use Rattle.std.specs.Prelude.{◌≡◌, length, IfOk};
 ghost use Rattle.ca_flat.specs.Chip.{IsChipDefect};
 ghost use Rattle.ca_guide.specs.Guide.{HasRoomFor};
-ghost use Rattle.ca_judge.specs.Bench.{IsGuidedTo};
+ghost use Rattle.ca_judge.specs.code.Bench.{IsGuidedTo};
 
 use crate::guide_waves::GuideWaves;
 use crate::outputs::observed_nets;
@@ -45,7 +45,7 @@ pub struct Bench<'a, R: ExposingRows, P: Choice + Drop> {
 
 impl<'a, R: ExposingRows, P: Choice + Drop> Model for Bench<'a, R, P> {
     ghost use Rattle.ca_sim.specs.Simulator.{Simulator};
-    ghost use Rattle.ca_judge.specs.Bench.{IsBench};
+    ghost use Rattle.ca_judge.specs.code.Bench.{IsBench};
 
     ghost Value = { Simulator };
 

@@ -1,7 +1,7 @@
 //! The observed nets of a chip.
 
 ghost use Rattle.std.specs.Prelude.{◌+◌, ◌^◌, ◌<◌, length, IfOk, OnOk};
-ghost use Rattle.ca_judge.specs.Outputs.{AreObservedBelow};
+ghost use Rattle.ca_judge.specs.code.Outputs.{AreObservedBelow};
 
 use ca_base::NoMemory;
 use ca_view::View;

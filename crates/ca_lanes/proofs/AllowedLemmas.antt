@@ -11,7 +11,7 @@ use Rattle.ca_net.specs.declared.trit.Trit.TheVariants.{Zero, One, X}
 use Rattle.ca_net.specs.Trit.{IsBelow}
 use Rattle.ca_defect.proofs.NumberLemmas.{number_of, number_within}
 use Rattle.ca_lanes.specs.Choice.{Choice, choice_for}
-use Rattle.ca_lanes.specs.Allowed.{doubled, allowed_by}
+use Rattle.ca_lanes.specs.code.Allowed.{doubled, allowed_by}
 
 -- the masks in a loaded lane in which the pins have these values
 abbrev pub allowed_for : List Trit → List Bool

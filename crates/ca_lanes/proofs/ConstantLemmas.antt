@@ -8,10 +8,11 @@ use Rattle.ca_net.specs.declared.trit.Trit.{Trit}
 use Rattle.ca_flat.specs.Pair.{constant_value}
 use Rattle.ca_lanes.specs.declared.values.Values.{Values}
 use Rattle.ca_lanes.specs.declared.constants.Constant.{Constant}
-use Rattle.ca_lanes.specs.Choice.{Choice, no_choice, choice_of, choice_with, choice_for, choices_of}
+use Rattle.ca_lanes.specs.Choice.{Choice, no_choice, choice_of, choice_for, choices_of}
+use Rattle.ca_lanes.specs.code.Choice.{choice_with}
 use Rattle.ca_lanes.specs.Choice.{choice_at}
 use Rattle.ca_lanes.specs.Netlist.{constants_of}
-use Rattle.ca_lanes.specs.Set.{constant_choice}
+use Rattle.ca_lanes.specs.code.Set.{constant_choice}
 use Rattle.ca_lanes.proofs.SetLemmas.{set_here, set_elsewhere}
 
 pub constant_more : (constants : List Constant) (loaded : Bool) (place lane net : ℕ) (constant : Constant) (nets : List Values) (old : Choice) (value : Values)

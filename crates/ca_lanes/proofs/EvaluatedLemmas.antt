@@ -11,8 +11,8 @@ use Rattle.ca_lanes.specs.declared.values.Values.{Values}
 use Rattle.ca_lanes.specs.Choice.{Choice, no_choice, choice_of, choices_of, choice_at}
 use Rattle.ca_lanes.specs.GoodRows.{good_at}
 use Rattle.ca_lanes.specs.Netlist.{output_of, ArePinsOf}
-use Rattle.ca_lanes.specs.Given.{given_by, given_by_rows}
-use Rattle.ca_lanes.specs.Evaluated.{first_given, last_given, IsEvaluated}
+use Rattle.ca_lanes.specs.code.Given.{given_by, given_by_rows}
+use Rattle.ca_lanes.specs.code.Evaluated.{first_given, last_given, IsEvaluated}
 
 -- there is room for the masks of so few pins
 pub few_masks : (pins room : ℕ) → pins ≤ MOST_INPUTS → 2 ^ MOST_INPUTS ≤ room → 2 ^ pins ≤ room

@@ -10,10 +10,11 @@ use Rattle.ca_flat.specs.Pair.{input_value, constant_value}
 use Rattle.ca_flat.specs.Codes.{bit_trit}
 use Rattle.ca_lanes.specs.declared.values.Values.{Values}
 use Rattle.ca_lanes.specs.declared.constants.Constant.{Constant}
-use Rattle.ca_lanes.specs.Choice.{Choice, choice_over, choice_for, choice_at, unknown}
+use Rattle.ca_lanes.specs.Choice.{Choice, choice_for, choice_at}
+use Rattle.ca_lanes.specs.code.Choice.{choice_over, unknown}
 use Rattle.ca_lanes.specs.Netlist.{constants_of}
-use Rattle.ca_lanes.specs.Set.{input_choice, constant_choice, set_choice}
-use Rattle.ca_lanes.specs.Sweep.{HasInputs}
+use Rattle.ca_lanes.specs.code.Set.{input_choice, constant_choice, set_choice}
+use Rattle.ca_lanes.specs.code.Sweep.{HasInputs}
 use Rattle.ca_lanes.proofs.SetLemmas.{inputs_are}
 use Rattle.ca_lanes.proofs.ConstantLemmas.{constants_are}
 

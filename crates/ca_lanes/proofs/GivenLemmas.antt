@@ -4,8 +4,9 @@ use Rattle.std.proofs.Common.{inl, inr, refl, sym, ◌∙◌, subst, arith}
 use Rattle.std.proofs.lemmas.Bool.{cases_lt}
 use Rattle.ca_net.specs.declared.trit.Trit.{Trit}
 use Rattle.ca_net.specs.declared.trit.Trit.TheVariants.{Zero, One, X}
-use Rattle.ca_lanes.specs.Choice.{Choice, no_choice, either_choice, choice_over, choice_for}
-use Rattle.ca_lanes.specs.Given.{given_by, given_by_rows}
+use Rattle.ca_lanes.specs.Choice.{Choice, no_choice, choice_for}
+use Rattle.ca_lanes.specs.code.Choice.{either_choice, choice_over}
+use Rattle.ca_lanes.specs.code.Given.{given_by, given_by_rows}
 
 -- whether the choice may be this value
 abbrev pub may_be : Choice → Trit → Bool

@@ -14,10 +14,10 @@ use Rattle.ca_lanes.specs.Choice.{Choice, choice_for, trit_for, choice_at}
 use Rattle.ca_lanes.specs.GoodRows.{good_at, AreGoodRows}
 use Rattle.ca_lanes.specs.Netlist.{IsAmong, IsOrder}
 use Rattle.ca_lanes.specs.Loaded.{trits_for, IsOfTrit, IsLoaded}
-use Rattle.ca_lanes.specs.Allowed.{allowed_by}
-use Rattle.ca_lanes.specs.Given.{given_by, given_by_rows}
-use Rattle.ca_lanes.specs.Evaluated.{IsEvaluated}
-use Rattle.ca_lanes.specs.Sweep.{IsSettledAt, IsLoadedTo}
+use Rattle.ca_lanes.specs.code.Allowed.{allowed_by}
+use Rattle.ca_lanes.specs.code.Given.{given_by, given_by_rows}
+use Rattle.ca_lanes.specs.code.Evaluated.{IsEvaluated}
+use Rattle.ca_lanes.specs.code.Sweep.{IsSettledAt, IsLoadedTo}
 use Rattle.ca_lanes.proofs.PinLemmas.{trit_again, of_trit, value_of, pin_trits, instance_pins, instance_masks}
 use Rattle.ca_lanes.proofs.PlainLemmas.{ArePins, first_is_common, first_is_shown, last_is_common}
 use Rattle.ca_lanes.proofs.PlainLemmas.{last_is_shown, common_same}

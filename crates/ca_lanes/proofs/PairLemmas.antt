@@ -4,8 +4,9 @@ use Rattle.std.proofs.Common.{get_or, length, take, refl, sym, ap, ◌∙◌, ar
 use Rattle.std.specs.Prelude.{slice_get, Some}
 use Rattle.std.proofs.lemmas.Bool.{eqb-true, eqb-false}
 use Rattle.ca_flat.specs.Codes.{bit_trit}
-use Rattle.ca_lanes.specs.Choice.{Choice, no_choice, choice_for, choice_with}
-use Rattle.ca_lanes.specs.Set.{bit_choice}
+use Rattle.ca_lanes.specs.Choice.{Choice, no_choice, choice_for}
+use Rattle.ca_lanes.specs.code.Choice.{choice_with}
+use Rattle.ca_lanes.specs.code.Set.{bit_choice}
 use Rattle.ca_lanes.proofs.RowLemmas.{either_none}
 
 -- a bit that is there

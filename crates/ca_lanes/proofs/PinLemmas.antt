@@ -9,8 +9,8 @@ use Rattle.ca_flat.specs.Chip.{Chip, instance_at, inputs_at, outputs_at, net_of}
 use Rattle.ca_lanes.specs.declared.values.Values.{Values}
 use Rattle.ca_lanes.specs.Choice.{Choice, no_choice, choice_of, choice_for, trit_for, choices_of, choice_at}
 use Rattle.ca_lanes.specs.Loaded.{trits_for, IsOfTrit}
-use Rattle.ca_lanes.specs.Allowed.{allowed_by}
-use Rattle.ca_lanes.specs.Evaluated.{pin_choices, masks_for}
+use Rattle.ca_lanes.specs.code.Allowed.{allowed_by}
+use Rattle.ca_lanes.specs.code.Evaluated.{pin_choices, masks_for}
 use Rattle.ca_lanes.proofs.PlainLemmas.{ArePins}
 
 pub trit_again : (t : Trit) → trit_for (choice_for t) ≡ t

@@ -13,7 +13,7 @@ use Rattle.ca_flat.specs.TwoFrame.{IsCommon, IsVectorOver, FirstRowsGive, LastRo
 use Rattle.ca_defect.proofs.NumberLemmas.{number_of, number_within, vector_again}
 use Rattle.ca_lanes.specs.Choice.{Choice, choice_for, trit_for}
 use Rattle.ca_lanes.specs.GoodRows.{good_at, IsEndValue, AreGoodRows}
-use Rattle.ca_lanes.specs.Given.{given_by, given_by_rows}
+use Rattle.ca_lanes.specs.code.Given.{given_by, given_by_rows}
 use Rattle.ca_lanes.proofs.AllowedLemmas.{allowed_for, AreBelow, over_is_allowed, allowed_is_over}
 use Rattle.ca_lanes.proofs.AllowedLemmas.{some_vector, length_below}
 use Rattle.ca_lanes.proofs.GivenLemmas.{may_be, given_is_from, given_has, rows_are_from, rows_have}

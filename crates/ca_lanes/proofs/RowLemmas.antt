@@ -5,10 +5,11 @@ use Rattle.ca_net.specs.declared.trit.Trit.{Trit}
 use Rattle.ca_net.specs.declared.trit.Trit.TheVariants.{Zero, X}
 use Rattle.ca_lanes.specs.declared.plane.Plane.{Plane}
 use Rattle.ca_lanes.specs.Plane.{lane_of}
-use Rattle.ca_lanes.specs.Choice.{Choice, no_choice, either_choice, choice_over, choice_with}
+use Rattle.ca_lanes.specs.Choice.{Choice, no_choice}
+use Rattle.ca_lanes.specs.code.Choice.{either_choice, choice_over, choice_with}
 use Rattle.ca_lanes.specs.GoodRows.{good_at, AreRows}
-use Rattle.ca_lanes.specs.Allowed.{lanes_of}
-use Rattle.ca_lanes.specs.Given.{given_by, given_by_rows}
+use Rattle.ca_lanes.specs.code.Allowed.{lanes_of}
+use Rattle.ca_lanes.specs.code.Given.{given_by, given_by_rows}
 use Rattle.ca_lanes.proofs.MaskLemmas.{lane_at}
 
 -- within a list what is past it doesn't count

@@ -17,8 +17,8 @@ use Rattle.ca_lanes.specs.Choice.{Choice}
 use Rattle.ca_lanes.specs.Loaded.{trits_for, IsLoaded}
 use Rattle.ca_lanes.specs.Screened.{SaysSuspect, ClearBitMeansNoDetection, PlainInLaneIsNeverOpposite}
 use Rattle.ca_lanes.specs.Screened.{WavesAreBelowLane, SetBitIsAllowed}
-use Rattle.ca_lanes.specs.Allowed.{allowed_by, is_row_allowed}
-use Rattle.ca_lanes.specs.Evaluated.{pin_choices, masks_for}
+use Rattle.ca_lanes.specs.code.Allowed.{allowed_by, is_row_allowed}
+use Rattle.ca_lanes.specs.code.Evaluated.{pin_choices, masks_for}
 use Rattle.ca_lanes.proofs.AllowedLemmas.{in_zeros, in_ones}
 use Rattle.ca_lanes.proofs.PinLemmas.{pin_trits, instance_pins, instance_masks}
 use Rattle.ca_lanes.proofs.SuspectLemmas.{suspect_from_any, any_from_suspect}

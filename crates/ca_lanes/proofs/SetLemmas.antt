@@ -10,9 +10,10 @@ use Rattle.ca_lanes.specs.declared.plane.Plane.{Plane}
 use Rattle.ca_lanes.specs.declared.values.Values.{Values}
 use Rattle.ca_flat.specs.Codes.{bit_trit}
 use Rattle.ca_lanes.specs.Plane.{lane_of}
-use Rattle.ca_lanes.specs.Choice.{Choice, no_choice, choice_of, choice_over, choice_for, unknown, choices_of}
+use Rattle.ca_lanes.specs.Choice.{Choice, no_choice, choice_of, choice_for, choices_of}
+use Rattle.ca_lanes.specs.code.Choice.{choice_over, unknown}
 use Rattle.ca_lanes.specs.Choice.{choice_at}
-use Rattle.ca_lanes.specs.Set.{bit_choice, input_choice}
+use Rattle.ca_lanes.specs.code.Set.{bit_choice, input_choice}
 use Rattle.ca_net.specs.State.{value_at}
 use Rattle.ca_flat.specs.Pair.{input_value}
 

@@ -13,7 +13,7 @@ use Rattle.ca_flat.specs.Chip.{Chip, cell_at, inputs_at}
 use Rattle.ca_flat.specs.Rows.{ListsExposingRows}
 use Rattle.ca_flat.specs.TwoFrame.{IsVectorOver, IsSuspect}
 use Rattle.ca_defect.proofs.NumberLemmas.{number_of}
-use Rattle.ca_lanes.specs.Allowed.{is_row_allowed}
+use Rattle.ca_lanes.specs.code.Allowed.{is_row_allowed}
 use Rattle.ca_lanes.proofs.AllowedLemmas.{allowed_for, HasVector, allowed_is_over}
 use Rattle.ca_lanes.proofs.GivenLemmas.{and_first, and_second}
 use Rattle.ca_lanes.proofs.PlainLemmas.{ArePins, from_below, allowed, number_known, vector_is}

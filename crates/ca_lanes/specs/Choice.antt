@@ -1,5 +1,5 @@
 -- Choices: whether a net may be 0 in a lane, and whether it may be 1.
-use Rattle.std.specs.Prelude.{ℕ, Bool, true, false, ◌&&◌, ◌||◌, if◌then◌else◌, List, get_or, map}
+use Rattle.std.specs.Prelude.{ℕ, Bool, true, false, if◌then◌else◌, List, get_or, map}
 use Rattle.ca_net.specs.declared.trit.Trit.{Trit}
 use Rattle.ca_net.specs.declared.trit.Trit.TheVariants.{Zero, One, X}
 use Rattle.ca_lanes.specs.declared.values.Values.{Values}
@@ -27,22 +27,6 @@ trit_for choice = if choice.zero then (if choice.one then X else Zero) else (if 
 -- what values over all lanes may be in one
 abbrev pub choice_of : Values → ℕ → Choice
 choice_of values lane = record { zero = lane_of values.zero lane; one = lane_of values.one lane }
-
--- what one of the two may be
-abbrev pub either_choice : Choice → Choice → Choice
-either_choice a b = record { zero = a.zero || b.zero; one = a.one || b.one }
-
--- the choice where that is allowed, else neither
-abbrev pub choice_over : Bool → Choice → Choice
-choice_over allowed choice = record { zero = allowed && choice.zero; one = allowed && choice.one }
-
--- with what a row of this value may be, where the row is allowed
-abbrev pub choice_with : Choice → Bool → Trit → Choice
-choice_with choice allowed value = either_choice choice (choice_over allowed (choice_for value))
-
--- what an unknown value may be
-abbrev pub unknown : Choice
-unknown = choice_for X
 
 -- what each net may be in a lane
 abbrev pub choices_of : List Values → ℕ → List Choice

@@ -5,8 +5,4 @@ pub mod Netlist
 pub mod Loaded
 pub mod Planes
 pub mod Screened
-pub mod Allowed
-pub mod Given
-pub mod Evaluated
-pub mod Set
-pub mod Sweep
+pub mod code

@@ -4,7 +4,7 @@ ghost use Rattle.std.specs.Prelude.{◌≡◌, ◌<◌, ℕ, length};
 ghost use Rattle.std.specs.List.{All};
 ghost use Rattle.ca_lanes.specs.Plane.{lane_of};
 ghost use Rattle.ca_lanes.specs.Choice.{choices_of, choice_at};
-ghost use Rattle.ca_lanes.specs.Set.{constant_choice};
+ghost use Rattle.ca_lanes.specs.code.Set.{constant_choice};
 
 use crate::plane::Plane;
 use crate::values::Values;

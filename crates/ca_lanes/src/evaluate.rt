@@ -2,9 +2,9 @@
 
 ghost use Rattle.std.specs.Prelude.{◌≡◌, ◌+◌, ◌*◌, ◌<◌, ◌≤◌, ◌^◌, ℕ, length};
 ghost use Rattle.ca_lanes.specs.Choice.{choice_of};
-ghost use Rattle.ca_lanes.specs.Allowed.{lanes_of};
+ghost use Rattle.ca_lanes.specs.code.Allowed.{lanes_of};
 ghost use Rattle.ca_lanes.specs.GoodRows.{good_at, AreRows};
-ghost use Rattle.ca_lanes.specs.Given.{AreLikeNext, given_by, given_by_rows};
+ghost use Rattle.ca_lanes.specs.code.Given.{AreLikeNext, given_by, given_by_rows};
 
 use crate::plane::Plane;
 use crate::values::Values;

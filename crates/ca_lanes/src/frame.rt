@@ -3,9 +3,10 @@
 ghost use Rattle.std.specs.Prelude.{◌≡◌, ◌+◌, ◌<◌, ◌≤◌, ◌^◌, ℕ, length};
 ghost use Rattle.std.specs.List.{All};
 ghost use Rattle.ca_lanes.specs.Plane.{lane_of};
-ghost use Rattle.ca_lanes.specs.Choice.{choices_of, choice_at, choice_over, unknown};
+ghost use Rattle.ca_lanes.specs.Choice.{choices_of, choice_at};
+ghost use Rattle.ca_lanes.specs.code.Choice.{choice_over, unknown};
 ghost use Rattle.ca_lanes.specs.Netlist.{HasBits};
-ghost use Rattle.ca_lanes.specs.Set.{input_choice, set_choice};
+ghost use Rattle.ca_lanes.specs.code.Set.{input_choice, set_choice};
 
 use crate::constants::{Constant, set_constants};
 use crate::inputs::bit_values;

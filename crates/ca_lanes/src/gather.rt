@@ -3,7 +3,7 @@
 ghost use Rattle.std.specs.Prelude.{◌≡◌, ◌<◌, ◌≤◌, ℕ, length, vec_capacity};
 ghost use Rattle.std.specs.List.{All};
 ghost use Rattle.ca_lanes.specs.Choice.{choices_of};
-ghost use Rattle.ca_lanes.specs.Evaluated.{pin_choices};
+ghost use Rattle.ca_lanes.specs.code.Evaluated.{pin_choices};
 
 use crate::values::Values;
 

@@ -3,7 +3,7 @@
 ghost use Rattle.std.specs.Prelude.{◌≡◌, ◌^◌, ◌≤◌, length, IfOk};
 ghost use Rattle.ca_cell.specs.declared.rule.TheConstants.{MOST_INPUTS};
 ghost use Rattle.ca_lanes.specs.GoodRows.{AreRows};
-ghost use Rattle.ca_lanes.specs.Given.{AreLikeNext};
+ghost use Rattle.ca_lanes.specs.code.Given.{AreLikeNext};
 
 use crate::alike::are_alike;
 use ca_base::NoMemory;

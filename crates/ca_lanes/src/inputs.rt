@@ -5,7 +5,7 @@ ghost use Rattle.std.specs.List.{All};
 ghost use Rattle.ca_flat.specs.Codes.{bit_trit};
 ghost use Rattle.ca_lanes.specs.Plane.{lane_of, is_lane};
 ghost use Rattle.ca_lanes.specs.Choice.{choice_of};
-ghost use Rattle.ca_lanes.specs.Set.{bit_choice};
+ghost use Rattle.ca_lanes.specs.code.Set.{bit_choice};
 
 use crate::plane::{LANES, Plane};
 use crate::values::Values;

@@ -18,7 +18,7 @@ impl Planes {
     ghost use Rattle.ca_flat.specs.Codes.{bit_trit};
     ghost use Rattle.ca_lanes.specs.Plane.{lane_of, is_lane};
     ghost use Rattle.ca_lanes.specs.Choice.{choice_at};
-    ghost use Rattle.ca_lanes.specs.Set.{set_choice};
+    ghost use Rattle.ca_lanes.specs.code.Set.{set_choice};
     ghost use Rattle.ca_lanes.specs.Planes.{net_count, is_loaded, firsts_in, lasts_in};
     ghost use Rattle.ca_lanes.specs.Netlist.{HasBits, IsReadable, IsNetlistOf};
     ghost use Rattle.ca_lanes.specs.Loaded.{IsLoaded};

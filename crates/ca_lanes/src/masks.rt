@@ -3,7 +3,7 @@
 ghost use Rattle.std.specs.Prelude.{◌≡◌, ◌*◌, ◌^◌, ◌≤◌, ◌&&◌, ◌++◌, ℕ, length, map, take, drop, vec_capacity};
 ghost use Rattle.ca_lanes.specs.Plane.{lane_of};
 ghost use Rattle.ca_lanes.specs.Choice.{choice_of, choices_of};
-ghost use Rattle.ca_lanes.specs.Allowed.{lanes_of, doubled, allowed_by};
+ghost use Rattle.ca_lanes.specs.code.Allowed.{lanes_of, doubled, allowed_by};
 
 use crate::plane::Plane;
 use crate::values::Values;

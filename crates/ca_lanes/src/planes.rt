@@ -40,9 +40,9 @@ impl Planes {
     ghost use Rattle.ca_net.specs.State.{value_at};
     ghost use Rattle.ca_lanes.specs.Plane.{lane_of};
     ghost use Rattle.ca_lanes.specs.Planes.{net_count, is_loaded, firsts_in, lasts_in, AreEmpty, KeepsLanes};
-    ghost use Rattle.ca_lanes.specs.Allowed.{lanes_of};
+    ghost use Rattle.ca_lanes.specs.code.Allowed.{lanes_of};
     ghost use Rattle.ca_lanes.specs.Netlist.{ArePinsOf};
-    ghost use Rattle.ca_lanes.specs.Evaluated.{masks_for, IsEvaluated};
+    ghost use Rattle.ca_lanes.specs.code.Evaluated.{masks_for, IsEvaluated};
     ghost use Rattle.ca_lanes.specs.Loaded.{trits_for};
     ghost use Rattle.ca_lanes.specs.Screened.{IsScreenable, SaysSuspect};
 

@@ -3,7 +3,7 @@
 ghost use Rattle.std.specs.Prelude.{◌≡◌, ℕ, length};
 ghost use Rattle.std.specs.List.{All, list_any};
 ghost use Rattle.ca_lanes.specs.Plane.{lane_of};
-ghost use Rattle.ca_lanes.specs.Allowed.{lanes_of, is_row_allowed};
+ghost use Rattle.ca_lanes.specs.code.Allowed.{lanes_of, is_row_allowed};
 ghost use Rattle.ca_lanes.specs.Screened.{IsRowIn};
 
 use crate::plane::Plane;

@@ -6,7 +6,7 @@ ghost use Rattle.ca_net.specs.declared.trit.Trit.{Trit};
 ghost use Rattle.ca_flat.specs.Chip.{Chip, IsChip};
 ghost use Rattle.ca_lanes.specs.Planes.{net_count, is_loaded, firsts_in, lasts_in};
 ghost use Rattle.ca_lanes.specs.Netlist.{IsOrder, IsInstanceReadable, AreInstancesOf};
-ghost use Rattle.ca_lanes.specs.Sweep.{HasInputs, IsLoadedTo};
+ghost use Rattle.ca_lanes.specs.code.Sweep.{HasInputs, IsLoadedTo};
 
 use crate::good_rows::GoodRows;
 use crate::netlist::Instance;

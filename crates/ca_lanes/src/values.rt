@@ -2,7 +2,8 @@
 
 ghost use Rattle.std.specs.Prelude.{◌≡◌, ◌<◌, ℕ};
 ghost use Rattle.ca_lanes.specs.Plane.{lane_of};
-ghost use Rattle.ca_lanes.specs.Choice.{choice_of, no_choice, choice_with, choice_over, either_choice};
+ghost use Rattle.ca_lanes.specs.Choice.{choice_of, no_choice};
+ghost use Rattle.ca_lanes.specs.code.Choice.{choice_with, choice_over, either_choice};
 ghost use Rattle.ca_lanes.specs.Choice.{trit_for};
 
 use crate::plane::{LANES, Plane};

@@ -9,7 +9,7 @@ use Rattle.std.proofs.lemmas.List.{length-take, get_or-take}
 use Rattle.std.proofs.lemmas.List.Sums.{prefix_len_passes}
 use Rattle.std.proofs.lemmas.Bool.Decides.{nat_tests}
 use Rattle.ca_lex.specs.Length.{is_digit, digits_len, in_range, with_digit, scaled}
-use Rattle.ca_lex.specs.LengthViews.{AllDigits}
+use Rattle.ca_lex.specs.code.LengthViews.{AllDigits}
 
 pub digit_bounds : (byte : ℕ) → is_digit byte ≡ true → (48 ≤ byte) × (byte ≤ 57)
 digit_bounds byte passes = (grind (arith, nat_tests), grind (arith, nat_tests))

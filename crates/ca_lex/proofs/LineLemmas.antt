@@ -10,7 +10,7 @@ use Rattle.ca_lex.specs.Words.{with_byte}
 use Rattle.ca_lex.specs.Physical.{lines_of, line_len, Physical, Nothing, Continuation, PinInfo, Card}
 use Rattle.ca_lex.specs.Physical.{physical_of}
 use Rattle.ca_lex.specs.Lines.{continued, logical_from, spice_lines}
-use Rattle.ca_lex.specs.Joining.{joined, with_last}
+use Rattle.ca_lex.specs.code.Joining.{joined, with_last}
 
 -- what follows the line feed
 abbrev pub following : List ℕ → List ℕ

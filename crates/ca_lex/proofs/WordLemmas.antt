@@ -5,8 +5,9 @@ use Rattle.std.proofs.Math.Numerals.{one-add, sub-one}
 use Rattle.std.proofs.Math.Seq.{take-length}
 use Rattle.std.proofs.lemmas.List.{append-nil}
 use Rattle.std.proofs.lemmas.Bool.{eqb-true}
-use Rattle.ca_lex.specs.Words.{is_blank, ends_word, with_byte, word_len, words_of, words_with, BeginsWord}
-use Rattle.ca_lex.specs.Words.{first_word_len}
+use Rattle.ca_lex.specs.Words.{is_blank, ends_word, with_byte, word_len, words_of, words_with}
+use Rattle.ca_lex.specs.code.Words.{BeginsWord}
+use Rattle.ca_lex.specs.code.Words.{first_word_len}
 
 abbrev cut_after : ℕ → List ℕ → ℕ → List (List ℕ)
 cut_after byte more len = (byte ∷ take len more) ∷ words_of (drop len more)

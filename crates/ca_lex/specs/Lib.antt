@@ -2,9 +2,8 @@
 pub mod Words
 pub mod Physical
 pub mod Lines
-pub mod Joining
 pub mod Length
-pub mod LengthViews
 pub mod LengthGrammar
 pub mod FirstFault
 pub mod Reading
+pub mod code

@@ -1,5 +1,5 @@
 -- What a reader's steps and calls give, where memory may run out at any time.
-use Rattle.std.specs.Prelude.{◌≡◌, Bool, if◌then◌else◌, Option, Some, None, Result, Ok, Err, ⊤}
+use Rattle.std.specs.Prelude.{◌≡◌, Bool, if◌then◌else◌, Option, Some, None, Result, Ok, Err}
 
 -- rules in the order in which they are tried: the first that is broken is reported
 abbrev pub unless : {Reading Kind : Type 0} → Bool → Kind → Result Reading Kind → Result Reading Kind
@@ -16,10 +16,3 @@ abbrev pub Gives : {Value Reading Error Fault : Type 0} → (Error → Option Fa
     → Result Value Error → Result Reading Fault → Type 0
 Gives reported view (Ok value) wanted = wanted ≡ Ok (view value)
 Gives reported view (Err error) wanted = IsFault (reported error) wanted
-
--- a step left `after` where that was wanted, or reported the wanted fault; what it leaves with a fault is not
--- said
-abbrev pub Steps : {Reading Error Fault : Type 0} → (Error → Option Fault) → Reading
-    → Result ⊤ Error → Result Reading Fault → Type 0
-Steps reported after (Ok done) wanted = wanted ≡ Ok after
-Steps reported after (Err error) wanted = IsFault (reported error) wanted

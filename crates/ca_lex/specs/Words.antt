@@ -1,5 +1,5 @@
 -- The words of a logical line: the longest runs of bytes that are neither blanks nor `=`, and each `=`.
-use Rattle.std.specs.Prelude.{ℕ, ◌≡◌, false, not, ◌==◌, Bool, ◌||◌, if◌then◌else◌, List, [], ◌∷◌, map}
+use Rattle.std.specs.Prelude.{ℕ, not, ◌==◌, Bool, ◌||◌, if◌then◌else◌, List, [], ◌∷◌, map}
 use Rattle.std.specs.List.{prefix_len}
 use Rattle.std.specs.Char.{to_ascii_uppercase}
 
@@ -30,16 +30,6 @@ unfoldable pub words_of : List ℕ → List (List ℕ)
 words_of [] = []
 words_of (byte ∷ more) = if is_blank byte then words_of more
     else (if byte == 61 then (byte ∷ []) ∷ words_of more else words_with byte more (words_of more))
-
--- the text begins with a word, and not with a blank
-abbrev pub BeginsWord : List ℕ → Type 0
-BeginsWord [] = ⊥
-BeginsWord (byte ∷ more) = is_blank byte ≡ false
-
--- how long the word is that a text begins with
-abbrev pub first_word_len : List ℕ → ℕ
-first_word_len [] = 0
-first_word_len (byte ∷ more) = if byte == 61 then 1 else word_len (byte ∷ more)
 
 -- the text with each ASCII letter in upper case
 abbrev pub upper_case : List ℕ → List ℕ

@@ -1,7 +1,7 @@
 //! Lengths as words spell them.
 ghost use Rattle.std.specs.Prelude.{◌≡◌, ◌<◌, ◌≤◌, ◌+◌, ◌*◌, ◌^◌, ◌/◌, ◌++◌, ℕ, length, fold, take, drop};
 ghost use Rattle.std.specs.Prelude.{option_map, Some, None, IfSome, IfNone};
-ghost use Rattle.ca_lex.specs.LengthViews.{IsMantissa, AllDigits, shift_of, IsSmallShift};
+ghost use Rattle.ca_lex.specs.code.LengthViews.{IsMantissa, AllDigits, shift_of, IsSmallShift};
 ghost use Rattle.ca_lex.specs.Length.{is_digit, digits_len, with_digit, number_of, fraction_at, places_at};
 ghost use Rattle.ca_lex.specs.Length.{signed_at, exponent_at, suffix_of, places_of, is_e, is_m, scaled};
 ghost use Rattle.ca_lex.specs.Length.{in_range, mantissa_of, length_of};

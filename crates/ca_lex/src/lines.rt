@@ -1,7 +1,7 @@
 //! The logical lines of a cell netlist.
 ghost use Rattle.std.specs.Prelude.{◌≡◌, ◌∷◌, IfOk, OnOk, None};
 ghost use Rattle.ca_lex.specs.Lines.{spice_lines};
-ghost use Rattle.ca_lex.specs.Joining.{physical, with_last, TakesOver};
+ghost use Rattle.ca_lex.specs.code.Joining.{physical, with_last, TakesOver};
 
 use crate::Text;
 use crate::physical::{Piece, first_line, piece_of};

@@ -4,7 +4,7 @@ ghost use Rattle.std.specs.List.{prefix_len};
 ghost use Rattle.ca_lex.specs.Words.{is_blank};
 ghost use Rattle.ca_lex.specs.Physical.{lines_of, line_len, code_len, without_comment, is_pin_info, card_of};
 ghost use Rattle.ca_lex.specs.Physical.{physical_of};
-ghost use Rattle.ca_lex.specs.Joining.{physical};
+ghost use Rattle.ca_lex.specs.code.Joining.{physical};
 
 use crate::words::{ends_word, is_blank, word_len};
 

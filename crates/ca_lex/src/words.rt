@@ -1,6 +1,7 @@
 //! The words of a logical line.
 ghost use Rattle.std.specs.Prelude.{◌≡◌, ◌<◌, ◌≤◌, ◌∷◌, ◌++◌, length, map, IfOk, List, ℕ, false};
-ghost use Rattle.ca_lex.specs.Words.{is_blank, ends_word, word_len, words_of, BeginsWord, first_word_len};
+ghost use Rattle.ca_lex.specs.Words.{is_blank, ends_word, word_len, words_of};
+ghost use Rattle.ca_lex.specs.code.Words.{BeginsWord, first_word_len};
 ghost use Rattle.ca_lex.specs.Words.{upper_case};
 
 use crate::Text;

@@ -24,9 +24,9 @@ use Rattle.ca_linked.specs.Drivers.{AreFirst, IsSingle}
 use Rattle.ca_linked.specs.Controls.{misused_of}
 use Rattle.ca_linked.specs.Paths.{IsFirstObserved}
 use Rattle.ca_linked.specs.Wired.{IsFirstMisdriven, AreDriven, KeepsNetRules, IsWireCause}
-use Rattle.ca_link.specs.Stages.{IsMisused, PassesLimit}
-use Rattle.ca_link.specs.Reported.{ReportsMisdriven, ReportsMisused, ReportsFault}
-use Rattle.ca_link.specs.Limits.{chip_defects, first_limit}
+use Rattle.ca_link.specs.code.Stages.{IsMisused, PassesLimit}
+use Rattle.ca_link.specs.code.Reported.{ReportsMisdriven, ReportsMisused, ReportsFault}
+use Rattle.ca_link.specs.code.Limits.{chip_defects, first_limit}
 use Rattle.ca_link.proofs.ControlLemmas.{control_broken, inverted_used, misused_pin, no_earlier_control}
 use Rattle.ca_link.proofs.ControlLemmas.{no_earlier_inverted, controls_kept, inverted_kept}
 use Rattle.ca_link.proofs.DriverLemmas.{driven_keeps, none_misdriven_before, is_undriven, is_double_driven}

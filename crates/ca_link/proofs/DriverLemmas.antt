@@ -17,7 +17,7 @@ use Rattle.ca_linked.specs.Linked.{LinkedChip, net_count, Drives}
 use Rattle.ca_linked.specs.Drivers.{AreFirst}
 use Rattle.ca_linked.specs.Wired.{HasOneDriver, IsFirstMisdriven, AreDriven}
 use Rattle.ca_linked.proofs.OrderLemmas.{contained_at}
-use Rattle.ca_link.specs.Stages.{IsMisdriven}
+use Rattle.ca_link.specs.code.Stages.{IsMisdriven}
 use Rattle.ca_link.proofs.NetsLemmas.{net_of_chip, net_of_wiring, net_within, wire_of_net}
 
 -- each that drives is that of a source

@@ -23,7 +23,7 @@ use Rattle.ca_linked.specs.declared.parts.Body.TheVariants.{Gate}
 use Rattle.ca_linked.specs.declared.parts.Part.{Part}
 use Rattle.ca_linked.specs.Linked.{cell_of, no_cell, IsBody}
 use Rattle.ca_linked.proofs.FeedingLemmas.{item_of}
-use Rattle.ca_link.specs.Limits.{body_defects}
+use Rattle.ca_link.specs.code.Limits.{body_defects}
 
 -- a place past the last cell has no cell
 past_none : (cells : List RawCell) (place : ℕ) → length cells ≤ place → cell_of cells place ≡ no_cell

@@ -24,8 +24,8 @@ use Rattle.ca_linked.specs.declared.parts.ScanNets.{ScanNets}
 use Rattle.ca_linked.specs.Linked.{LinkedChip, has, input_nets, output_nets, path_nets, q_nets, d_nets, is_scan_path}
 use Rattle.ca_linked.specs.Linked.{port_nets, inputs_of, outputs_of, no_cell}
 use Rattle.ca_linked.specs.Instances.{if_gate, gates_from, gates_of}
-use Rattle.ca_link.specs.Stages.{PassesLimit}
-use Rattle.ca_link.specs.Limits.{body_defects, chip_defects, first_limit}
+use Rattle.ca_link.specs.code.Stages.{PassesLimit}
+use Rattle.ca_link.specs.code.Limits.{body_defects, chip_defects, first_limit}
 use Rattle.ca_link.proofs.NetsLemmas.{same_nets, nets_once, net_once, also_there}
 
 module _ (cells : List RawCell) where

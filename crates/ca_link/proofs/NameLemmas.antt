@@ -29,8 +29,8 @@ use Rattle.ca_linked.specs.declared.parts.Source.TheVariants.{FromPort, FromCons
 use Rattle.ca_linked.specs.Linked.{LinkedChip, output_nets, no_cell}
 use Rattle.ca_linked.specs.Instances.{IsScan}
 use Rattle.ca_linked.proofs.DriverLemmas.{some_inj, of_some}
-use Rattle.ca_link.specs.Names.{body_outputs, part_outputs, HaveNames, ReportsSource}
-use Rattle.ca_link.specs.Reported.{IsControlName}
+use Rattle.ca_link.specs.code.Names.{body_outputs, part_outputs, HaveNames, ReportsSource}
+use Rattle.ca_link.specs.code.Reported.{IsControlName}
 use Rattle.ca_link.proofs.NetsLemmas.{nets_length, also_there}
 
 -- a wire for each output pin

@@ -13,7 +13,7 @@ use Rattle.ca_wiring.specs.Nets.{FeedsWire}
 use Rattle.ca_wiring.specs.Rules.{IsEarlier, IsObservedPath, BreaksAt, IsFirstBroken, KeepsRules}
 use Rattle.ca_wiring.proofs.JudgeLemmas.{IsAfter, stage_of, sound_keeps}
 use Rattle.ca_linked.specs.Order.{IsLoop}
-use Rattle.ca_link.specs.Stages.{IsMisdriven, IsMisused, PassesLimit}
+use Rattle.ca_link.specs.code.Stages.{IsMisdriven, IsMisused, PassesLimit}
 
 module _ (raw : RawNetlist) (library : List Named) (scan : List ScanRow) where
   -- no rule is broken at a place that passes the test

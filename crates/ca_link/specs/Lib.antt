@@ -1,4 +1,1 @@
-pub mod Stages
-pub mod Names
-pub mod Reported
-pub mod Limits
+pub mod code

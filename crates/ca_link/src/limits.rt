@@ -3,7 +3,7 @@
 ghost use Rattle.std.specs.Prelude.{◌≡◌, ◌<◌, ◌≤◌, ◌^◌, length};
 ghost use Rattle.std.specs.List.{All};
 ghost use Rattle.ca_linked.specs.Linked.{IsBody};
-ghost use Rattle.ca_link.specs.Limits as limits;
+ghost use Rattle.ca_link.specs.code.Limits as limits;
 
 use ca_cell::Entry;
 use ca_wiring::{ChipFault, MOST_CHIP_DEFECTS, MOST_CHIP_INPUTS, MOST_CHIP_OUTPUTS, MOST_INSTANCES};

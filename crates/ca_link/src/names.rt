@@ -7,7 +7,7 @@ ghost use Rattle.ca_cell.specs.Library as library;
 ghost use Rattle.ca_wiring.specs.Wiring as wiring;
 ghost use Rattle.ca_wiring.specs.Wiring.{ScanCell, names_with, output_names};
 ghost use Rattle.ca_linked.specs.Linked.{cell_of};
-ghost use Rattle.ca_link.specs.Names.{part_outputs, IsOutputName};
+ghost use Rattle.ca_link.specs.code.Names.{part_outputs, IsOutputName};
 
 use ca_base::NoMemory;
 use ca_cell::{Entry, RawCell, RawPin};

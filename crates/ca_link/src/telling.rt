@@ -5,8 +5,8 @@ ghost use Rattle.ca_linked.specs.Linked.{Drives};
 ghost use Rattle.ca_linked.specs.Drivers.{AreFirst};
 ghost use Rattle.ca_linked.specs.Instances.{IsScan};
 ghost use Rattle.ca_linked.specs.Wired.{IsWireCause};
-ghost use Rattle.ca_link.specs.Names.{HaveNames, ReportsSource};
-ghost use Rattle.ca_link.specs.Reported.{ReportsMisdriven, ReportsMisused, ReportsFault, IsControlName};
+ghost use Rattle.ca_link.specs.code.Names.{HaveNames, ReportsSource};
+ghost use Rattle.ca_link.specs.code.Reported.{ReportsMisdriven, ReportsMisused, ReportsFault, IsControlName};
 
 use crate::controls::control_name;
 use crate::names::{output_name, row_of};

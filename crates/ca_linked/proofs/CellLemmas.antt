@@ -8,7 +8,8 @@ use Rattle.std.proofs.lemmas.Option.{slice_get_within, slice_get-get_or}
 use Rattle.ca_cell.specs.declared.rule.CellRule.TheVariants.{NoRail}
 use Rattle.ca_cell.specs.Rules.{KeepsRules}
 use Rattle.ca_linked.specs.Linked.{Gate, Part, LinkedChip, no_cell, cell_of, IsBody, IsGate, IsLibrary, IsWired}
-use Rattle.ca_linked.specs.Instances.{IsNamedGate, HasNamed}
+use Rattle.ca_linked.specs.Instances.{IsNamedGate}
+use Rattle.ca_linked.specs.code.Instances.{HasNamed}
 use Rattle.ca_linked.proofs.OrderLemmas.{place_of, contained_at}
 use Rattle.ca_linked.proofs.PartLemmas.{of_all}
 

@@ -10,8 +10,10 @@ use native.Mathlib.Decide.{ℕ_discrete}
 use Rattle.ca_linked.specs.declared.drivers.Sources.{Sources}
 use Rattle.ca_linked.specs.Linked.{Source, FromPort, FromConstant, FromPin, Part, PortBit, LinkedChip, net_count}
 use Rattle.ca_linked.specs.Linked.{constant_net, output_nets, Drives}
-use Rattle.ca_linked.specs.Drivers.{ComesBefore, AreFirst, no_sources, sources_at, AreDrivers, noted, AreNoted}
-use Rattle.ca_linked.specs.Drivers.{IsSeen, after_constant, IsDrafted}
+use Rattle.ca_linked.specs.Drivers.{ComesBefore, AreFirst, no_sources, sources_at}
+use Rattle.ca_linked.specs.code.Drivers.{AreDrivers, noted, AreNoted}
+use Rattle.ca_linked.specs.Drivers.{IsDrafted}
+use Rattle.ca_linked.specs.code.Drivers.{IsSeen, after_constant}
 
 -- equal entries
 pub some_inj : {X : Type 0} (x y : X) → Some x ≡ Some y → x ≡ y

@@ -10,15 +10,16 @@ use Rattle.std.proofs.lemmas.Bool.{cases_lt}
 use native.Mathlib.Decide.{ℕ_discrete}
 use Rattle.ca_linked.specs.declared.drivers.Sources.{Sources}
 use Rattle.ca_linked.specs.Order.{IsOrder, IsChain, IsLoop}
-use Rattle.ca_linked.specs.Walk.{row_of, IsFeeder, IsSortCause}
+use Rattle.ca_linked.specs.code.Walk.{row_of, IsFeeder, IsSortCause}
 use Rattle.ca_linked.specs.declared.order.SortFault.{SortFault}
 use Rattle.ca_linked.specs.declared.order.SortFault.TheVariants.{Loop, NoMemory}
 use Rattle.ca_linked.specs.Linked.{Source, FromPort, FromConstant, FromPin, Body, Gate, Scan, Part, LinkedChip}
 use Rattle.ca_linked.specs.Linked.{gate_inputs, gate_outputs, input_nets, output_nets, Drives, Feeds, IsGate}
 use Rattle.ca_linked.specs.Linked.{IsLibrary}
 use Rattle.ca_linked.specs.Drivers.{sources_at, instance_of, first_instance}
-use Rattle.ca_linked.specs.Feeding.{IsDrivenBy, DrivesFromGate, IsGateOn, FeedsPin, IsRow, HaveFeeders}
-use Rattle.ca_linked.specs.Feeding.{HasGates, IsOrderCause}
+use Rattle.ca_linked.specs.Feeding.{IsDrivenBy}
+use Rattle.ca_linked.specs.code.Feeding.{DrivesFromGate, IsGateOn, FeedsPin, IsRow, HaveFeeders}
+use Rattle.ca_linked.specs.code.Feeding.{HasGates, IsOrderCause}
 use Rattle.ca_linked.proofs.OrderLemmas.{place_of, contained_at}
 use Rattle.ca_linked.proofs.DriverLemmas.{of_some, to_some, some_within, some_inj}
 

@@ -14,9 +14,10 @@ use Rattle.ca_linked.specs.declared.order.Mark.{Mark}
 use Rattle.ca_linked.specs.declared.order.Mark.TheVariants.{New, Open, Done}
 use Rattle.ca_linked.specs.declared.order.Visit.{Visit}
 use Rattle.ca_linked.specs.Order.{IsChain, IsOnce, IsSimpleLoop, IsOrder}
-use Rattle.ca_linked.specs.Walk.{row_of, IsFeeder, WalkState, mark_of, IsVisit, IsWalk, Meets, IsFinish}
-use Rattle.ca_linked.specs.Walk.{IsVisited, KeepsReached, IsVisitOf, no_visit, instance_at, back_from}
-use Rattle.ca_linked.specs.Walk.{IsTurned}
+use Rattle.ca_linked.specs.Walk.{WalkState}
+use Rattle.ca_linked.specs.code.Walk.{row_of, IsFeeder, mark_of, IsVisit, IsWalk, Meets, IsFinish}
+use Rattle.ca_linked.specs.code.Walk.{IsVisited, KeepsReached, IsVisitOf, no_visit, instance_at, back_from}
+use Rattle.ca_linked.specs.code.Walk.{IsTurned}
 use Rattle.ca_linked.proofs.OrderLemmas.{place_of, contained_at, chain_then, Returns, turned, loop_of, swapped_once}
 use Rattle.ca_linked.proofs.WalkLemmas.{not_open, not_done, mark_set, mark_other, entered}
 

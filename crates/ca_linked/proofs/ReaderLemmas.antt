@@ -7,9 +7,10 @@ use Rattle.std.proofs.lemmas.List.{get_or-set_same, get_or-set_other, length-set
 use Rattle.std.proofs.lemmas.List.{length-replicate}
 use Rattle.std.proofs.lemmas.List.Elements.{Contains-append_left, Contains-push, Contains-push_cases}
 use native.Mathlib.Decide.{ℕ_discrete}
-use Rattle.ca_linked.specs.Walk.{row_of}
+use Rattle.ca_linked.specs.code.Walk.{row_of}
 use Rattle.ca_linked.specs.Linked.{Body, Gate, Scan, Part, LinkedChip, net_count, gate_inputs}
-use Rattle.ca_linked.specs.Reading.{Reads, HaveReaders, ReadsAmong, ReadsSoFar, AreReaders}
+use Rattle.ca_linked.specs.Reading.{Reads}
+use Rattle.ca_linked.specs.code.Reading.{HaveReaders, ReadsAmong, ReadsSoFar, AreReaders}
 use Rattle.ca_linked.proofs.OrderLemmas.{place_of, contained_at}
 use Rattle.ca_linked.proofs.DriverLemmas.{of_some, to_some, some_within, some_inj}
 

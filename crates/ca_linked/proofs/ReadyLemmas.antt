@@ -4,7 +4,8 @@ use Rattle.std.specs.Prelude.{Option, Some, None}
 use Rattle.ca_linked.specs.declared.drivers.Sources.{Sources}
 use Rattle.ca_linked.specs.Linked.{Source, FromPort, FromConstant, FromPin, LinkedChip, Drives, Feeds}
 use Rattle.ca_linked.specs.Order.{IsSimpleLoop, IsLoop, HasNoLoop}
-use Rattle.ca_linked.specs.Drivers.{AreFirst, ComesBefore, sources_at, AreDrivers}
+use Rattle.ca_linked.specs.Drivers.{AreFirst, ComesBefore, sources_at}
+use Rattle.ca_linked.specs.code.Drivers.{AreDrivers}
 use Rattle.ca_linked.specs.Feeding.{IsDrivenBy, AreSingle}
 use Rattle.ca_linked.specs.Wired.{HasOneDriver, AreDriven}
 

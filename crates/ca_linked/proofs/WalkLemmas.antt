@@ -10,7 +10,7 @@ use native.Mathlib.Decide.{ℕ_discrete}
 use Rattle.ca_linked.specs.declared.order.Mark.{Mark}
 use Rattle.ca_linked.specs.declared.order.Mark.TheVariants.{New, Open, Done}
 use Rattle.ca_linked.specs.declared.order.Visit.{Visit}
-use Rattle.ca_linked.specs.Walk.{row_of, IsFeeder, mark_of, IsVisit, Stands, IsWalk, LeadsOn}
+use Rattle.ca_linked.specs.code.Walk.{row_of, IsFeeder, mark_of, IsVisit, Stands, IsWalk, LeadsOn}
 use Rattle.ca_linked.proofs.OrderLemmas.{place_of}
 
 -- places of a list with one more at its end

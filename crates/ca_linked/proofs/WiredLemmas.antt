@@ -9,17 +9,21 @@ use Rattle.ca_linked.specs.declared.drivers.Sources.{Sources}
 use Rattle.ca_linked.specs.Order.{IsOrder}
 use Rattle.ca_linked.specs.Linked.{Source, FromPort, FromConstant, FromPin, Part, PortBit, LinkedChip, net_count}
 use Rattle.ca_linked.specs.Linked.{Body, ScanNets, Gate, Scan, inverted_nets, is_read}
-use Rattle.ca_linked.specs.Controls.{is_misplaced, is_used, pin_fault, scan_or, first_scan, body_fault, misused_or, misused_from}
+use Rattle.ca_linked.specs.Controls.{is_misplaced, is_used, pin_fault, scan_or, first_scan, body_fault}
+use Rattle.ca_linked.specs.Controls.{misused_or, misused_from}
 use Rattle.ca_linked.specs.Controls.{misused_of}
 use Rattle.ca_linked.specs.Linked.{constant_net, has, is_scan_path, output_nets, data_nets, Drives, Feeds}
 use Rattle.ca_linked.specs.Linked.{IsGate, IsLibrary, IsWired}
-use Rattle.ca_linked.specs.Drivers.{AreFirst, sources_at, AreDrivers, IsSingle, IsFirstFlaw, AreAllSingle}
+use Rattle.ca_linked.specs.Drivers.{AreFirst, sources_at, IsSingle}
+use Rattle.ca_linked.specs.code.Drivers.{AreDrivers, IsFirstFlaw, AreAllSingle}
 use Rattle.ca_linked.specs.Drivers.{IsDrafted}
-use Rattle.ca_linked.specs.Feeding.{IsDrivenBy, AreSingle, IsOrderCause}
+use Rattle.ca_linked.specs.Feeding.{IsDrivenBy, AreSingle}
+use Rattle.ca_linked.specs.code.Feeding.{IsOrderCause}
 use Rattle.ca_linked.specs.Paths.{is_on_data, is_on_port}
 use Rattle.ca_linked.specs.declared.order.SortFault.{SortFault}
 use Rattle.ca_linked.specs.declared.order.SortFault.TheVariants.{Loop, NoMemory}
-use Rattle.ca_linked.specs.Wired.{wire_fault, IsWireCause, IsFirstMisdriven, AreDriven, AreUnobserved}
+use Rattle.ca_linked.specs.Wired.{IsWireCause, IsFirstMisdriven, AreDriven, AreUnobserved}
+use Rattle.ca_linked.specs.code.Wired.{wire_fault}
 use Rattle.ca_linked.specs.Wired.{KeepsNetRules}
 use Rattle.ca_linked.proofs.PartLemmas.{contains_has}
 use Rattle.ca_linked.proofs.PartLemmas.{of_all}

@@ -11,8 +11,9 @@ use Rattle.std.proofs.Math.Decide.{dec_le}
 use Rattle.ca_linked.specs.declared.order.Mark.{Mark}
 use Rattle.ca_linked.specs.declared.order.Mark.TheVariants.{New, Open, Done}
 use Rattle.ca_linked.specs.declared.order.Visit.{Visit}
-use Rattle.ca_linked.specs.Walk.{row_of, WalkState, mark_of, IsVisit, IsWalk, LeadsOn, AreClosed, HaveRows}
-use Rattle.ca_linked.specs.Walk.{KeepsReached, mark_work, visit_work, GoesOn, Meets}
+use Rattle.ca_linked.specs.Walk.{WalkState}
+use Rattle.ca_linked.specs.code.Walk.{row_of, mark_of, IsVisit, IsWalk, LeadsOn, AreClosed, HaveRows}
+use Rattle.ca_linked.specs.code.Walk.{KeepsReached, mark_work, visit_work, GoesOn, Meets}
 use Rattle.ca_linked.proofs.OrderLemmas.{contained_at}
 use Rattle.ca_linked.proofs.WalkLemmas.{not_open, mark_within, mark_set, mark_other, advanced, left, entered}
 

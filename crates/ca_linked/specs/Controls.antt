@@ -2,9 +2,8 @@
 use Rattle.std.specs.Prelude.{ℕ, ◌+◌, Bool, true, false, not, ◌||◌, eqb, List, [], ◌∷◌, Option, Some, None}
 use Rattle.std.specs.Prelude.{if◌then◌else◌}
 use Rattle.ca_linked.specs.declared.controls.Misused.{Misused}
-use Rattle.ca_linked.specs.Linked.{ScanNets, Body, Gate, Scan, Part, LinkedChip, net_count, input_nets}
-use Rattle.ca_linked.specs.declared.controls.LoadMarks.{LoadMarks}
-use Rattle.ca_linked.specs.Paths.{is_among, is_on_port, AreMarks}
+use Rattle.ca_linked.specs.Linked.{ScanNets, Body, Gate, Scan, Part, LinkedChip, input_nets}
+use Rattle.ca_linked.specs.Paths.{is_among, is_on_port}
 
 -- a control pin is on no input port, or on another net than the same pin of the first scan instance
 abbrev pub is_misplaced : LinkedChip → ℕ → ℕ → Bool
@@ -59,10 +58,3 @@ misused_from chip first u (part ∷ more) =
 -- the first scan instance with a pin that breaks its rule, and the first such pin
 abbrev pub misused_of : LinkedChip → Option Misused
 misused_of chip = misused_from chip (first_scan chip.parts) 0 chip.parts
-
--- the marks of the nets that are on input pins, on input ports and on output ports; only the proofs of the
--- code cite this
-pub record AreLoadMarks (chip : LinkedChip) (marks : LoadMarks) : Type 0 where
-  pub pins_are : AreMarks (net_count chip) (is_among input_nets chip.parts) marks.pins
-  pub inputs_are : AreMarks (net_count chip) (is_on_port chip true) marks.inputs
-  pub outputs_are : AreMarks (net_count chip) (is_on_port chip false) marks.outputs

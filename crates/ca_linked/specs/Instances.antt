@@ -2,7 +2,8 @@
 use Rattle.std.specs.Prelude.{ℕ, ◌+◌, ◌≡◌, List, [], ◌∷◌, ◌++◌, Some, slice_get}
 use Rattle.ca_linked.specs.declared.pins.ScanPin.{ScanPin}
 use Rattle.ca_linked.specs.declared.pins.ScanPin.TheVariants.{D, Q, Si, So, Se, Ck, Hold}
-use Rattle.ca_linked.specs.Linked.{ScanNets, Body, Gate, Scan, Part, LinkedChip, cell_of, input_nets, output_nets}
+use Rattle.ca_linked.specs.Linked.{ScanNets, Body, Gate, Scan, Part, LinkedChip, cell_of, input_nets}
+use Rattle.ca_linked.specs.Linked.{output_nets}
 use Rattle.ca_linked.specs.Linked.{IsGate}
 use Rattle.ca_cell.specs.declared.raw.RawCell.{RawCell}
 
@@ -74,9 +75,3 @@ pub record IsNamedGate (chip : LinkedChip) (name : List ℕ) (u : ℕ) : Type 0 
   pub at : slice_get chip.parts u ≡ Some part
   pub is_gate : IsGate part.body
   pub named : part.name ≡ name
-
--- the library instance at a place of the order has this name
-pub record HasNamed (chip : LinkedChip) (name : List ℕ) (k : ℕ) : Type 0 where
-  pub u : ℕ
-  pub at : slice_get chip.order k ≡ Some u
-  pub is : IsNamedGate chip name u

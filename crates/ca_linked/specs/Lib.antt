@@ -6,9 +6,8 @@ pub mod Feeding
 pub mod Paths
 pub mod Controls
 pub mod Reading
-pub mod Ends
 pub mod Instances
 pub mod Cells
-pub mod Kept
 pub mod Wired
 pub mod Laws
+pub mod code

@@ -1,6 +1,6 @@
 -- The scan path, and marks of nets.
-use Rattle.std.specs.Prelude.{ℕ, ◌≡◌, ◌<◌, Bool, true, false, not, ◌&&◌, ◌||◌, eqb, List, length, Option}
-use Rattle.std.specs.Prelude.{Some, None, slice_index_or, if◌then◌else◌}
+use Rattle.std.specs.Prelude.{ℕ, ◌≡◌, ◌<◌, Bool, true, false, not, ◌&&◌, ◌||◌, eqb, List, length}
+use Rattle.std.specs.Prelude.{slice_index_or, if◌then◌else◌}
 use Rattle.std.specs.List.{list_any}
 use Rattle.ca_linked.specs.Linked.{Body, Part, PortBit, LinkedChip, net_count, has, is_scan_path, data_nets}
 
@@ -26,10 +26,6 @@ pub record IsFirstObserved (chip : LinkedChip) (net : ℕ) : Type 0 where
   pub within : net < net_count chip
   pub here : is_observed chip net ≡ true
   pub none_before : (before : ℕ) → before < net → is_observed chip before ≡ false
-
-abbrev pub IsObservedAt : LinkedChip → Option ℕ → Type 0
-IsObservedAt chip None = (net : ℕ) → net < net_count chip → is_observed chip net ≡ false
-IsObservedAt chip (Some net) = IsFirstObserved chip net
 
 -- the mark of a net
 abbrev pub mark_at : List Bool → ℕ → Bool

@@ -1,24 +1,18 @@
 -- Why a chip's nets aren't wired: the rules on drivers, on control pins, on the scan path and on loops, in
 -- the order in which they are tried.
-use Rattle.std.specs.Prelude.{ℕ, ◌≡◌, ◌<◌, false, List, Some, None, length}
+use Rattle.std.specs.Prelude.{ℕ, ◌≡◌, ◌<◌, false, List, Some, None}
 use Rattle.ca_linked.specs.declared.drivers.Sources.{Sources}
-use Rattle.ca_linked.specs.declared.order.SortFault.{SortFault}
-use Rattle.ca_linked.specs.declared.order.SortFault.TheVariants as sort_fault
 use Rattle.ca_linked.specs.declared.wiring.WireFault.{WireFault}
-use Rattle.ca_linked.specs.declared.wiring.WireFault.TheVariants.{Misdriven, Misused, Observed, Loop, NoMemory}
+use Rattle.ca_linked.specs.declared.wiring.WireFault.TheVariants.{Misdriven, Misused, Observed, Loop}
+use Rattle.ca_linked.specs.declared.wiring.WireFault.TheVariants.{NoMemory}
 use Rattle.ca_linked.specs.declared.wiring.Judged.{Judged}
-use Rattle.ca_linked.specs.declared.wiring.Tables.{Tables}
 use Rattle.ca_linked.specs.Order.{IsSimpleLoop, IsOrder, HasNoLoop}
-use Rattle.ca_linked.specs.Linked.{Source, LinkedChip, net_count, is_scan_path, Drives, Feeds, IsLibrary, inputs_of}
-use Rattle.ca_linked.specs.Linked.{outputs_of, IsWired}
+use Rattle.ca_linked.specs.Linked.{Source, LinkedChip, net_count, is_scan_path, Drives, Feeds, IsLibrary}
+use Rattle.ca_linked.specs.Linked.{IsWired}
 use Rattle.ca_linked.specs.Drivers.{IsOnly, AreFirst, IsSingle, IsDrafted}
 use Rattle.ca_linked.specs.Paths.{is_observed, IsFirstObserved, AreMarks}
 use Rattle.ca_linked.specs.Feeding.{AreSingle}
 use Rattle.ca_linked.specs.Controls.{misused_of}
-use Rattle.ca_linked.specs.Reading.{AreReaders}
-use Rattle.ca_linked.specs.Instances.{gates_of, scans_of}
-use Rattle.ca_linked.specs.Cells.{used_cells}
-use Rattle.ca_linked.specs.Kept.{ArePlaces}
 
 -- the net has one driver
 pub record HasOneDriver (chip : LinkedChip) (net : ℕ) : Type 0 where
@@ -39,11 +33,6 @@ AreDriven chip = (net : ℕ) → net < net_count chip → HasOneDriver chip net
 -- no net of the scan path is observed
 abbrev pub AreUnobserved : LinkedChip → Type 0
 AreUnobserved chip = (net : ℕ) → net < net_count chip → is_observed chip net ≡ false
-
--- what a fault of the order is a fault of
-abbrev pub wire_fault : SortFault → WireFault
-wire_fault (sort_fault.Loop loop) = Loop loop
-wire_fault sort_fault.NoMemory = NoMemory
 
 -- each net has one driver, each control pin and inverted output keeps its rule, and no net of the scan path
 -- is observed
@@ -80,13 +69,3 @@ pub record IsReady (draft : LinkedChip) : Type 0 where
   pub no_loop : HasNoLoop (Feeds draft)
   pub wired : (order : List ℕ) → IsOrder (Feeds draft) (IsLibrary draft) order
       → IsWired (record draft { order = order })
-
--- the tables are of this chip and of the order that was found
-pub record AreTables (chip : LinkedChip) (judged : Judged) (tables : Tables) : Type 0 where
-  pub read : AreReaders chip tables.readers
-  pub are_inputs : tables.inputs ≡ inputs_of chip
-  pub are_outputs : tables.outputs ≡ outputs_of chip
-  pub are_gates : tables.gates ≡ gates_of chip
-  pub are_scans : tables.scans ≡ scans_of chip
-  pub are_used : tables.used.items ≡ used_cells chip
-  pub placed : ArePlaces judged.order (length judged.order) (length chip.parts) tables.places.items

@@ -3,7 +3,8 @@
 ghost use Rattle.std.specs.Prelude.{ℕ, ◌≡◌, ◌<◌, ◌↔◌, true, length, IsTrue, IsSomeAnd, IfSome, IfNone};
 ghost use Rattle.std.specs.Prelude.{Some, slice_get};
 ghost use Rattle.ca_linked.specs.Linked.{IsLibrary, cell_of, has};
-ghost use Rattle.ca_linked.specs.Instances.{IsOfCell, IsCellOf, IsNamedGate, HasNamed};
+ghost use Rattle.ca_linked.specs.Instances.{IsOfCell, IsCellOf, IsNamedGate};
+ghost use Rattle.ca_linked.specs.code.Instances.{HasNamed};
 ghost use Rattle.ca_linked.specs.Cells.{used_cells, IsOfUsedCell};
 
 use crate::chip::Chip;

@@ -39,7 +39,7 @@ impl Model for Chip {
     ghost use Rattle.std.specs.Prelude.{map};
     ghost use Rattle.ca_cell.specs.Library.{raw_of};
     ghost use Rattle.ca_linked.specs.Linked as linked;
-    ghost use Rattle.ca_linked.specs.Kept.{IsKept};
+    ghost use Rattle.ca_linked.specs.code.Kept.{IsKept};
 
     ghost Value = { linked.LinkedChip };
 

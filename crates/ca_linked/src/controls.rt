@@ -6,7 +6,8 @@ ghost use Rattle.ca_linked.specs.Linked.{Scan, net_count, input_nets, output_net
 ghost use Rattle.ca_linked.specs.Drivers.{IsDrafted};
 ghost use Rattle.ca_linked.specs.Paths.{is_among, is_on_port, AreMarks, Marks};
 ghost use Rattle.ca_linked.specs.Controls.{is_misplaced, is_used, pin_fault, first_scan, body_fault};
-ghost use Rattle.ca_linked.specs.Controls.{misused_of, AreLoadMarks};
+ghost use Rattle.ca_linked.specs.Controls.{misused_of};
+ghost use Rattle.ca_linked.specs.code.Controls.{AreLoadMarks};
 
 use crate::draft::Draft;
 use crate::marks::NetMarks;

@@ -3,9 +3,11 @@
 ghost use Rattle.std.specs.Prelude.{◌≡◌, ◌<◌, ◌↔◌, ◌+◌, ◌^◌, IsTrue, false, length, replicate, slice_set};
 ghost use Rattle.std.specs.Prelude.{IfSome, IfNone, IfOk};
 ghost use Rattle.ca_linked.specs.Linked.{FromConstant, FromPin, FromPort, net_count};
-ghost use Rattle.ca_linked.specs.Drivers.{no_sources, sources_at, first_instance, noted, after_constant};
-ghost use Rattle.ca_linked.specs.Drivers.{AreDrivers, AreNoted, IsSeen, IsDrafted, IsSingle, IsFirstFlaw};
-ghost use Rattle.ca_linked.specs.Drivers.{AreAllSingle};
+ghost use Rattle.ca_linked.specs.Drivers.{no_sources, sources_at, first_instance};
+ghost use Rattle.ca_linked.specs.code.Drivers.{noted, after_constant};
+ghost use Rattle.ca_linked.specs.Drivers.{IsDrafted, IsSingle};
+ghost use Rattle.ca_linked.specs.code.Drivers.{AreDrivers, AreNoted, IsSeen, IsFirstFlaw};
+ghost use Rattle.ca_linked.specs.code.Drivers.{AreAllSingle};
 
 use crate::draft::Draft;
 use crate::parts::{Body, Source};

@@ -5,7 +5,7 @@ ghost use Rattle.ca_linked.specs.Linked.{net_count, is_scan_path, port_nets, q_n
 ghost use Rattle.ca_linked.specs.Linked.{outputs_of};
 ghost use Rattle.ca_linked.specs.Drivers.{IsDrafted};
 ghost use Rattle.ca_linked.specs.Paths.{AreMarks};
-ghost use Rattle.ca_linked.specs.Ends.{is_end};
+ghost use Rattle.ca_linked.specs.code.Ends.{is_end};
 
 use crate::draft::Draft;
 use crate::marks::NetMarks;

@@ -4,8 +4,9 @@ ghost use Rattle.std.specs.Prelude.{◌≡◌, ◌<◌, length, IfOk, IfErr};
 ghost use Rattle.ca_linked.specs.Linked.{net_count, Feeds, IsLibrary};
 ghost use Rattle.ca_linked.specs.Drivers.{IsDrafted};
 ghost use Rattle.ca_linked.specs.Order.{IsOrder};
-ghost use Rattle.ca_linked.specs.Feeding.{AreSingle, IsGateOn, FeedsPin, IsRow, HaveFeeders, HasGates};
-ghost use Rattle.ca_linked.specs.Feeding.{IsOrderCause};
+ghost use Rattle.ca_linked.specs.Feeding.{AreSingle};
+ghost use Rattle.ca_linked.specs.code.Feeding.{IsGateOn, FeedsPin, IsRow, HaveFeeders, HasGates};
+ghost use Rattle.ca_linked.specs.code.Feeding.{IsOrderCause};
 
 use crate::draft::Draft;
 use crate::drivers::Drivers;

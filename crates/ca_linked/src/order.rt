@@ -6,9 +6,10 @@ ghost use Rattle.std.specs.Prelude.{IfErr, OnOk, OnErr, Option, Some, None};
 ghost use Rattle.std.specs.List.{Contains, All};
 ghost use Rattle.ca_linked.specs.Order.{IsOrder, IsLoop};
 ghost use Rattle.ca_linked.specs.declared.order.Mark.TheVariants as mark;
-ghost use Rattle.ca_linked.specs.Walk.{row_of, IsFeeder, mark_of, IsVisit, IsWalk, AreClosed, HaveRows};
-ghost use Rattle.ca_linked.specs.Walk.{KeepsReached, IsStep, IsFinish, IsVisited, AreVisited, IsOnTrail};
-ghost use Rattle.ca_linked.specs.Walk.{IsVisitOf, instance_at, back_from, IsLowestAt, IsTurned, IsSortCause};
+ghost use Rattle.ca_linked.specs.code.Walk.{row_of, IsFeeder, mark_of, IsVisit, IsWalk, AreClosed, HaveRows};
+ghost use Rattle.ca_linked.specs.code.Walk.{KeepsReached, IsStep, IsFinish, IsVisited, AreVisited, IsOnTrail};
+ghost use Rattle.ca_linked.specs.code.Walk.{IsVisitOf, instance_at, back_from, IsLowestAt, IsTurned};
+ghost use Rattle.ca_linked.specs.code.Walk.{IsSortCause};
 
 use crate::instances::InstanceList;
 use ca_base::NoMemory;

@@ -4,7 +4,8 @@ ghost use Rattle.std.specs.Prelude.{◌≡◌, ◌<◌, length, IfOk};
 ghost use Rattle.std.specs.List.{All};
 ghost use Rattle.ca_linked.specs.Linked.{net_count, data_nets, is_scan_path, path_nets};
 ghost use Rattle.ca_linked.specs.Drivers.{IsDrafted};
-ghost use Rattle.ca_linked.specs.Paths.{is_among, is_observed, is_on_data, is_on_port, IsObservedAt, Marks};
+ghost use Rattle.ca_linked.specs.Paths.{is_among, is_observed, is_on_data, is_on_port, Marks};
+ghost use Rattle.ca_linked.specs.code.Paths.{IsObservedAt};
 ghost use Rattle.ca_linked.specs.Paths.{AreMarks};
 
 use crate::draft::Draft;

@@ -3,8 +3,8 @@
 ghost use Rattle.std.specs.Prelude.{◌≡◌, ◌<◌, ◌+◌, ◌++◌, [], ◌∷◌, length, replicate, slice_set, IfOk, OnOk};
 ghost use Rattle.ca_linked.specs.Linked.{net_count};
 ghost use Rattle.ca_linked.specs.Drivers.{IsDrafted};
-ghost use Rattle.ca_linked.specs.Walk.{row_of};
-ghost use Rattle.ca_linked.specs.Reading.{HaveReaders, ReadsAmong, AreReaders};
+ghost use Rattle.ca_linked.specs.code.Walk.{row_of};
+ghost use Rattle.ca_linked.specs.code.Reading.{HaveReaders, ReadsAmong, AreReaders};
 
 use crate::draft::Draft;
 use crate::instances::{InstanceId, InstanceList};

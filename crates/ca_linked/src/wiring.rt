@@ -3,12 +3,14 @@
 ghost use Rattle.std.specs.Prelude.{◌≡◌, ◌<◌, length, IfOk, OnOk, IfErr};
 ghost use Rattle.std.specs.List.{All};
 ghost use Rattle.ca_linked.specs.Linked.{net_count, is_scan_path, IsWired};
-ghost use Rattle.ca_linked.specs.Drivers.{AreDrivers, IsDrafted};
+ghost use Rattle.ca_linked.specs.Drivers.{IsDrafted};
+ghost use Rattle.ca_linked.specs.code.Drivers.{AreDrivers};
 ghost use Rattle.ca_linked.specs.Feeding.{AreSingle};
 ghost use Rattle.ca_linked.specs.Paths.{AreMarks};
-ghost use Rattle.ca_linked.specs.Kept.{ArePlaces};
+ghost use Rattle.ca_linked.specs.code.Kept.{ArePlaces};
 ghost use Rattle.ca_linked.specs.Order.{IsOnce};
-ghost use Rattle.ca_linked.specs.Wired.{wire_fault, KeepsNetRules, IsWireCause, IsFound, IsJudged, AreTables};
+ghost use Rattle.ca_linked.specs.Wired.{KeepsNetRules, IsWireCause, IsFound, IsJudged};
+ghost use Rattle.ca_linked.specs.code.Wired.{wire_fault, AreTables};
 
 use crate::chip::Chip;
 use crate::controls::{Misused, first_misused};

@@ -6,10 +6,11 @@ use Rattle.ca_cell.specs.Library.{raw_of}
 use Rattle.ca_linked.specs.Linked.{LinkedChip}
 use Rattle.ca_fault.specs.declared.fault.Fault.{Fault}
 use Rattle.ca_load.specs.declared.loading.Loaded.{Loaded}
-use Rattle.ca_load.specs.Texts.{InputFiles, Inputs, AreRead, OfInputs}
+use Rattle.ca_load.specs.Texts.{InputFiles, Inputs, OfInputs}
+use Rattle.ca_load.specs.code.Texts.{AreRead}
 use Rattle.ca_load.specs.Chips.{IsChipOf}
 use Rattle.ca_load.specs.Causes.{IsLoadCause}
-use Rattle.ca_load.specs.Stages.{IsLinkStage, IsTraceStage, IsLinkedStage}
+use Rattle.ca_load.specs.code.Stages.{IsLinkStage, IsTraceStage, IsLinkedStage}
 
 -- inputs that don't link
 pub at_link : (inputs : Inputs) (fault : Fault) → IsLinkStage inputs fault → IsLinkedStage inputs fault

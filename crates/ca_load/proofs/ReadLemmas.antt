@@ -12,7 +12,8 @@ use Rattle.ca_fault.specs.declared.fault.Fault.{Fault}
 use Rattle.ca_load.specs.declared.cells.TheConstants.{MAX_CELLS}
 use Rattle.ca_load.specs.declared.netlists.TheConstants.{MAX_NETLIST}
 use Rattle.ca_load.specs.Files.{OfFile, ReportsStoreFault}
-use Rattle.ca_load.specs.Texts.{IsLibraryOf, IsNetlistOf, IsTableAt, InputFiles, Inputs, AreRead}
+use Rattle.ca_load.specs.Texts.{IsLibraryOf, IsNetlistOf, IsTableAt, InputFiles, Inputs}
+use Rattle.ca_load.specs.code.Texts.{AreRead}
 use Rattle.ca_load.specs.Causes.{HasLibrary, HasNetlist, IsLibraryCause, IsNetlistCause, IsScanCause}
 use Rattle.ca_load.specs.Causes.{IsInputCause}
 

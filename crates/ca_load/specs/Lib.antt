@@ -3,4 +3,4 @@ pub mod Files
 pub mod Texts
 pub mod Chips
 pub mod Causes
-pub mod Stages
+pub mod code

@@ -62,10 +62,6 @@ pub record ReadAs (names : InputFiles) (inputs : Inputs) (reported : Files) : Ty
   pub netlist : IsFileWith reported names.netlist MAX_NETLIST (IsNetlistOf inputs.netlist)
   pub rows : IsTableAt (Some reported) names.scan inputs.rows
 
--- the same, where the files are known
-abbrev pub AreRead : Option Files → InputFiles → Inputs → Type 0
-AreRead files names inputs = ForSome files (ReadAs names inputs)
-
 -- where the files are known, this holds of what they read as
 abbrev pub OfInputs : Option Files → InputFiles → (Inputs → Type 0) → Type 0
 OfInputs files names Holds =

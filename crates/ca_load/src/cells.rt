@@ -5,7 +5,7 @@ ghost use Rattle.ca_store.specs.Store.{Nothing};
 ghost use Rattle.ca_load.specs.Files.{OfFile, ReportsStoreFault};
 ghost use Rattle.ca_load.specs.Texts.{IsLibraryOf};
 ghost use Rattle.ca_load.specs.Causes.{IsLibraryCause};
-ghost use Rattle.ca_load.specs.Stages.{IsCellsStage};
+ghost use Rattle.ca_load.specs.code.Stages.{IsCellsStage};
 
 use crate::files::read_input;
 use ca_cell::Library;

@@ -11,7 +11,7 @@ ghost use Rattle.ca_wiring.specs.Rules.{IsCause};
 ghost use Rattle.ca_fault_place.specs.Place.{IsOfNetlist};
 ghost use Rattle.ca_scan.specs.ChainFault.{AreAllChains, IsChainCause};
 ghost use Rattle.ca_load.specs.Chips.{IsChipOf, IsOfCell};
-ghost use Rattle.ca_load.specs.Stages.{inputs_of, IsLinkStage, IsTraceStage, IsLinkedStage};
+ghost use Rattle.ca_load.specs.code.Stages.{inputs_of, IsLinkStage, IsTraceStage, IsLinkedStage};
 
 use crate::loading::Loaded;
 use crate::reading::Read;

@@ -5,7 +5,7 @@ ghost use Rattle.ca_verilog.specs.IsNetlist.{IsNetlist};
 ghost use Rattle.ca_load.specs.Files.{OfFile, ReportsStoreFault};
 ghost use Rattle.ca_load.specs.Texts.{IsNetlistOf};
 ghost use Rattle.ca_load.specs.Causes.{IsNetlistCause};
-ghost use Rattle.ca_load.specs.Stages.{IsNetlistStage};
+ghost use Rattle.ca_load.specs.code.Stages.{IsNetlistStage};
 
 use crate::files::read_input;
 use ca_fault::{Fault, LimitKind};

@@ -6,9 +6,10 @@ ghost use Rattle.ca_store.specs.Store.{Nothing};
 ghost use Rattle.ca_cell.specs.Library.{raw_of};
 ghost use Rattle.ca_verilog.specs.IsNetlist.{IsNetlist};
 ghost use Rattle.ca_load.specs.Files.{ReportsStoreFault};
-ghost use Rattle.ca_load.specs.Texts.{names_of, AreRead};
+ghost use Rattle.ca_load.specs.Texts.{names_of};
+ghost use Rattle.ca_load.specs.code.Texts.{AreRead};
 ghost use Rattle.ca_load.specs.Causes.{IsInputCause};
-ghost use Rattle.ca_load.specs.Stages.{inputs_of, AreTyped};
+ghost use Rattle.ca_load.specs.code.Stages.{inputs_of, AreTyped};
 
 use crate::cells::open_library;
 use crate::loading::FileNames;

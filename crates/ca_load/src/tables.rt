@@ -7,7 +7,7 @@ ghost use Rattle.ca_store.specs.Store.{Nothing};
 ghost use Rattle.ca_load.specs.Files.{OfFile, ReportsStoreFault};
 ghost use Rattle.ca_load.specs.Texts.{IsTableOf, IsTableAt};
 ghost use Rattle.ca_load.specs.Causes.{IsTableCause, IsScanCause};
-ghost use Rattle.ca_load.specs.Stages.{IsTableStage};
+ghost use Rattle.ca_load.specs.code.Stages.{IsTableStage};
 
 use crate::files::read_input;
 use ca_base::List;

@@ -8,7 +8,7 @@ use Rattle.ca_make.specs.declared.gate.TheConstants.{INPUTS}
 use Rattle.ca_make.specs.declared.gate.Gate.{Gate}
 use Rattle.ca_make.specs.declared.gate.Gate.TheVariants as gate
 use Rattle.ca_make.specs.Draw.{gate_from, state_after, gates_from}
-use Rattle.ca_make.specs.Chip.{IsWithin}
+use Rattle.ca_make.specs.code.Chip.{IsWithin}
 
 -- a gate among some candidates is among more
 within_more : (few many : ℕ) (it : Gate) → few ≤ many → IsWithin few it → IsWithin many it

@@ -10,8 +10,9 @@ use Rattle.std.proofs.lemmas.Bool.Decides.{eqb_tells}
 use Rattle.std.specs.List.{All, filter, range_with_len}
 use Rattle.ca_make.specs.declared.gate.Gate.{Gate}
 use Rattle.ca_make.specs.declared.gate.Gate.TheVariants as gate
-use Rattle.ca_make.specs.Chip.{IsWithin, takes, is_loaded}
-use Rattle.ca_make.specs.Kept.{marked_by, AreLoads}
+use Rattle.ca_make.specs.Chip.{takes, is_loaded}
+use Rattle.ca_make.specs.code.Chip.{IsWithin}
+use Rattle.ca_make.specs.code.Kept.{marked_by, AreLoads}
 
 or_true : (b : Bool) → true ≡ (b || true)
 or_true true = refl

@@ -1,5 +1,5 @@
 -- The generated chip of a number: its gates, and its outputs.
-use Rattle.std.specs.Prelude.{ℕ, ◌+◌, ◌<◌, ◌==◌, Bool, not, ◌||◌, List, length}
+use Rattle.std.specs.Prelude.{ℕ, ◌+◌, ◌==◌, Bool, not, ◌||◌, List, length}
 use Rattle.std.specs.List.{filter, list_any, range_with_len}
 use Rattle.ca_make.specs.declared.gate.Gate.{Gate}
 use Rattle.ca_make.specs.declared.gate.Gate.TheVariants as gate
@@ -9,12 +9,6 @@ use Rattle.ca_make.specs.Draw.{gates_from}
 -- the gates: as many as the number, which the state begins at; the chip inputs are the first candidates
 unfoldable pub gates_of : ℕ → List Gate
 gates_of n = gates_from n INPUTS n
-
--- both inputs of a gate are among this many candidates
-abbrev pub IsWithin : ℕ → Gate → Type 0
-IsWithin candidates (gate.Inv a) = a < candidates
-IsWithin candidates (gate.Nand2 a b) = (a < candidates) × (b < candidates)
-IsWithin candidates (gate.Nor2 a b) = (a < candidates) × (b < candidates)
 
 -- the gate takes the candidate at this place
 abbrev pub takes : ℕ → Gate → Bool

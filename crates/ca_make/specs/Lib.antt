@@ -3,4 +3,4 @@ pub mod Draw
 pub mod Chip
 pub mod LibraryText
 pub mod NetlistText
-pub mod Kept
+pub mod code

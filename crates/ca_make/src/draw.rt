@@ -4,7 +4,8 @@ ghost use Rattle.std.specs.Prelude.{◌≡◌, ◌+◌, ◌<◌, ◌≤◌, leng
 ghost use Rattle.std.specs.List.{All};
 ghost use Rattle.ca_make.specs.declared.gate.TheConstants.{INPUTS, MOST_GATES};
 ghost use Rattle.ca_make.specs.Draw.{next_state, drawn, place_from, gate_from, state_after};
-ghost use Rattle.ca_make.specs.Chip.{gates_of, IsWithin};
+ghost use Rattle.ca_make.specs.Chip.{gates_of};
+ghost use Rattle.ca_make.specs.code.Chip.{IsWithin};
 
 use crate::gate::{Gate, INPUTS};
 use ca_base::{List, NoMemory};

@@ -3,8 +3,9 @@
 ghost use Rattle.std.specs.Prelude.{◌≡◌, ◌+◌, ◌≤◌, IfOk, length};
 ghost use Rattle.std.specs.List.{All};
 ghost use Rattle.ca_make.specs.declared.gate.TheConstants.{INPUTS, MOST_GATES};
-ghost use Rattle.ca_make.specs.Chip.{IsWithin, unloaded};
-ghost use Rattle.ca_make.specs.Kept.{marked_by, AreLoads};
+ghost use Rattle.ca_make.specs.Chip.{unloaded};
+ghost use Rattle.ca_make.specs.code.Chip.{IsWithin};
+ghost use Rattle.ca_make.specs.code.Kept.{marked_by, AreLoads};
 
 use crate::gate::{Gate, INPUTS};
 use ca_base::{List, NoMemory};

@@ -10,7 +10,8 @@ use Rattle.ca_make.specs.declared.gate.Gate.TheVariants as gate
 use Rattle.ca_make.specs.declared.gate.TheConstants.{INPUTS, MOST_GATES}
 use Rattle.ca_make.specs.Draw.{next_state, drawn, place_from, gate_of_kind, gate_from, state_after}
 use Rattle.ca_make.specs.Draw.{gates_from}
-use Rattle.ca_make.specs.Chip.{IsWithin, is_loaded, gates_of, unloaded}
+use Rattle.ca_make.specs.Chip.{is_loaded, gates_of, unloaded}
+use Rattle.ca_make.specs.code.Chip.{IsWithin}
 use Rattle.ca_make_laws.proofs.SpelledLemmas.{AreSpelled}
 
 -- as many gates as are drawn

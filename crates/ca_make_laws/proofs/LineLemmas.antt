@@ -13,7 +13,7 @@ use Rattle.ca_syntax.specs.Symbols.{Symbol, symbol_of, item_symbols}
 use Rattle.ca_make.specs.declared.gate.Gate.{Gate}
 use Rattle.ca_make.specs.declared.gate.Gate.TheVariants as gate
 use Rattle.ca_make.specs.declared.gate.TheConstants.{INPUTS}
-use Rattle.ca_make.specs.Chip.{IsWithin}
+use Rattle.ca_make.specs.code.Chip.{IsWithin}
 use Rattle.ca_make.specs.NetlistText.{numbered, candidate, declaration_line}
 use Rattle.ca_make.specs.NetlistText.{instance_line, assign_line}
 use Rattle.ca_make_laws.specs.ChipTree.{declared, instance_item, assign_item}

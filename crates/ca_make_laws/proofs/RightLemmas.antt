@@ -31,7 +31,7 @@ use Rattle.ca_syntax.proofs.AfterLemmas.{OneByOne, each_after}
 use Rattle.ca_make.specs.declared.gate.Gate.{Gate}
 use Rattle.ca_make.specs.declared.gate.Gate.TheVariants as gate
 use Rattle.ca_make.specs.declared.gate.TheConstants.{INPUTS}
-use Rattle.ca_make.specs.Chip.{IsWithin}
+use Rattle.ca_make.specs.code.Chip.{IsWithin}
 use Rattle.ca_make.specs.NetlistText.{numbered, candidate}
 use Rattle.ca_make_laws.specs.ChipTree.{names_of, declared, on_pin, instance_item, assign_item, items_from}
 use Rattle.ca_make_laws.specs.ChipTree.{declared_items, tree_of}

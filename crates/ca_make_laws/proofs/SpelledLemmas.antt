@@ -13,7 +13,7 @@ use Rattle.ca_syntax.specs.Tree.{Item}
 use Rattle.ca_syntax.specs.Symbols.{Symbol, name_symbols, item_symbols, module_symbols, IsTextOf}
 use Rattle.ca_make.specs.declared.gate.Gate.{Gate}
 use Rattle.ca_make.specs.declared.gate.TheConstants.{INPUTS}
-use Rattle.ca_make.specs.Chip.{IsWithin}
+use Rattle.ca_make.specs.code.Chip.{IsWithin}
 use Rattle.ca_make.specs.NetlistText.{numbered, counted, listed_from, declaration_line, instance_line}
 use Rattle.ca_make.specs.NetlistText.{assign_line}
 use Rattle.ca_make.specs.NetlistText.{output_port, header_text, names_text, chip_text}

@@ -15,7 +15,8 @@ use Rattle.ca_make.specs.declared.gate.Gate.{Gate}
 use Rattle.ca_make.specs.declared.gate.Gate.TheVariants as gate
 use Rattle.ca_make.specs.declared.gate.TheConstants.{INPUTS}
 use Rattle.ca_make.specs.Draw.{gate_from, state_after, gates_from}
-use Rattle.ca_make.specs.Chip.{IsWithin, gates_of, unloaded}
+use Rattle.ca_make.specs.Chip.{gates_of, unloaded}
+use Rattle.ca_make.specs.code.Chip.{IsWithin}
 use Rattle.ca_make_laws.specs.Cells.{sound_library}
 use Rattle.ca_make_laws.specs.ChipNetlist.{candidate_bit, wire_bit, netlist_in_numbers}
 use Rattle.ca_make_laws.proofs.ChipLemmas.{gate_within}

@@ -21,8 +21,9 @@ use Rattle.ca_defect.specs.Row.{IsBefore, vector_of}
 use Rattle.ca_defect.specs.Exposes.{opposite_of, IsDefiniteVector, CellEndsAt, IsExposingRow}
 use Rattle.ca_defect.proofs.NumberLemmas.{vector_definite}
 use Rattle.ca_response.specs.Outputs.{output_node}
-use Rattle.ca_matrix.specs.Filled.{row_at}
-use Rattle.ca_matrix.specs.Single.{AreExposingRows, AreFound, AreRowEnds, DifferAt, DifferSomewhere, row_number}
+use Rattle.ca_matrix.specs.code.Filled.{row_at}
+use Rattle.ca_matrix.specs.Single.{AreExposingRows}
+use Rattle.ca_matrix.specs.code.Single.{AreFound, AreRowEnds, DifferAt, DifferSomewhere, row_number}
 use Rattle.ca_matrix.proofs.VectorLemmas.{length-vector_of}
 use Rattle.ca_matrix.proofs.BuiltLemmas.{row_again}
 use Rattle.ca_matrix.proofs.ExposeLemmas.{before_by_number, only_one}

@@ -7,8 +7,8 @@ ghost use Rattle.ca_cell.specs.Raw.{is_input, is_output, role_count, circuit_of}
 ghost use Rattle.ca_defect.specs.List.{IsDefectOf, defects_of, faulty_of};
 ghost use Rattle.ca_defect.specs.Row.{IsBefore};
 ghost use Rattle.ca_settle.specs.Settled.{IsRoomFor, HoldsGroups};
-ghost use Rattle.ca_matrix.specs.Rooms.{AreRoomsOf};
-ghost use Rattle.ca_matrix.specs.Single.{HoldsVector, AreRowEnds, DifferAt, DifferSomewhere, AreFound};
+ghost use Rattle.ca_matrix.specs.code.Rooms.{AreRoomsOf};
+ghost use Rattle.ca_matrix.specs.code.Single.{HoldsVector, AreRowEnds, DifferAt, DifferSomewhere, AreFound};
 ghost use Rattle.ca_matrix.specs.Single.{AreExposingRows};
 
 use crate::showing::are_opposite;

@@ -25,7 +25,7 @@ use Rattle.ca_merged.proofs.Lists.{ascending_distinct, get_or_contains}
 use Rattle.ca_merged.proofs.Blocks.{start_take}
 use Rattle.ca_merged.proofs.Seats.{node_count_is}
 use Rattle.ca_merge.specs.declared.pins.ClusterNets.{ClusterNets}
-use Rattle.ca_merge.specs.Seats.{AreSeated, IsInHand}
+use Rattle.ca_merge.specs.code.Seats.{AreSeated, IsInHand}
 
 -- the terminals of a transistor in the cell's network
 pub record Terminals (cell : RawCell) (x : RawDevice) (device : Device) : Type 0 where

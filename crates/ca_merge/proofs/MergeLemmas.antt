@@ -20,7 +20,7 @@ use Rattle.ca_merged.specs.Merged.{merged, cluster_place}
 use Rattle.ca_linked.specs.Linked.{has}
 use Rattle.ca_linked.specs.Paths.{mark_at, Marks}
 use Rattle.ca_merge.specs.declared.pins.ClusterNets.{ClusterNets}
-use Rattle.ca_merge.specs.Pins.{AreClusterNets}
+use Rattle.ca_merge.specs.code.Pins.{AreClusterNets}
 use Rattle.ca_merge.specs.Draft.{part_of, no_part, AreGates, other_parts, cluster_part, merged_draft}
 use Rattle.ca_merge.specs.Draft.{cluster_input_nets, cluster_output_nets}
 use Rattle.ca_merge.proofs.ListLemmas.{map_same}

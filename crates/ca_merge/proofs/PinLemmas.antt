@@ -16,7 +16,7 @@ use Rattle.ca_linked.specs.Paths.{mark_at, Marks, AreMarks}
 use Rattle.ca_linked.proofs.PartLemmas.{of_all}
 use Rattle.ca_merged.proofs.Lists.{get_or_contains}
 use Rattle.ca_merge.specs.Draft.{part_of, no_part, AreGates, reads_net, drives_net, feeds_members}
-use Rattle.ca_merge.specs.Pins.{IsListed}
+use Rattle.ca_merge.specs.code.Pins.{IsListed}
 use Rattle.ca_merge.proofs.DraftLemmas.{gate_at}
 
 -- a member at a place of the list is an instance

@@ -28,8 +28,8 @@ use Rattle.ca_merged.proofs.Seats.{seat_rail, seat_pin, seat_inner, seat_within,
 use Rattle.ca_merge.specs.declared.pins.ClusterNets.{ClusterNets}
 use Rattle.ca_merge.specs.Draft.{part_of, no_part, drives_net, reads_net, feeds_members, AreGates}
 use Rattle.ca_merge.specs.Draft.{cluster_input_nets, cluster_output_nets}
-use Rattle.ca_merge.specs.Pins.{AreClusterNets}
-use Rattle.ca_merge.specs.Seats.{IsInHand, HasSeat, seat_of}
+use Rattle.ca_merge.specs.code.Pins.{AreClusterNets}
+use Rattle.ca_merge.specs.code.Seats.{IsInHand, HasSeat, seat_of}
 use Rattle.ca_merge.proofs.PinLemmas.{passing_more}
 use Rattle.ca_merge.proofs.DraftLemmas.{gate_at, drives_at, reads_at, driven_data, read_data, driven_same}
 use Rattle.ca_merge.proofs.DraftLemmas.{outputs_numbered, inputs_numbered}

@@ -32,8 +32,8 @@ use Rattle.ca_merged.proofs.Pins.{role_cons}
 use Rattle.ca_merged.proofs.Seats.{cluster_is_raw, nets_are, devices_are, node_count_is}
 use Rattle.ca_merge.specs.declared.pins.ClusterNets.{ClusterNets}
 use Rattle.ca_merge.specs.Draft.{AreGates, feeds_members, drives_net}
-use Rattle.ca_merge.specs.Pins.{AreClusterNets}
-use Rattle.ca_merge.specs.Seats.{AreSeated}
+use Rattle.ca_merge.specs.code.Pins.{AreClusterNets}
+use Rattle.ca_merge.specs.code.Seats.{AreSeated}
 use Rattle.ca_merge.proofs.DraftLemmas.{gate_at}
 use Rattle.ca_merge.proofs.PinLemmas.{passing_few}
 use Rattle.ca_merge.proofs.SeatLemmas.{inputs_counted, outputs_counted}

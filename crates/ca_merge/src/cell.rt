@@ -10,8 +10,8 @@ ghost use Rattle.ca_core.specs.Core.{core_of};
 ghost use Rattle.ca_merged.specs.Cluster.{bare_pin, pins_of, cluster_cell};
 ghost use Rattle.ca_merged.specs.Merged.{AreMembers};
 ghost use Rattle.ca_merge.specs.Draft.{AreGates};
-ghost use Rattle.ca_merge.specs.Pins.{AreClusterNets};
-ghost use Rattle.ca_merge.specs.Seats.{AreSeated};
+ghost use Rattle.ca_merge.specs.code.Pins.{AreClusterNets};
+ghost use Rattle.ca_merge.specs.code.Seats.{AreSeated};
 ghost use Rattle.ca_merge.specs.Merge.{IsCause};
 ghost use Rattle.ca_merge.specs.declared.cell.MergeFault.TheVariants as fault;
 

@@ -6,7 +6,7 @@ ghost use Rattle.std.specs.List.{All};
 ghost use Rattle.ca_linked.specs.Linked.{net_count, gate_inputs, gate_outputs};
 ghost use Rattle.ca_linked.specs.Paths.{mark_at, Marks, AreMarks};
 ghost use Rattle.ca_merge.specs.Draft.{AreGates, drives_net, reads_net, feeds_members};
-ghost use Rattle.ca_merge.specs.Pins.{IsListed, AreClusterNets};
+ghost use Rattle.ca_merge.specs.code.Pins.{IsListed, AreClusterNets};
 
 use ca_base::NoMemory;
 use ca_linked::{Body, Chip, InstanceList, NetList, NetMarks};

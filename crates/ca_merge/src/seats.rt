@@ -5,7 +5,7 @@ ghost use Rattle.ca_flat.specs.Chip.{cell_at, circuit_at};
 ghost use Rattle.ca_core.specs.Core.{core_of};
 ghost use Rattle.ca_merged.specs.Cluster.{seat, seated, seated_devices};
 ghost use Rattle.ca_cell.specs.Raw.{inner_count};
-ghost use Rattle.ca_merge.specs.Seats.{AreSeated, HasSeat, IsInHand, seat_of};
+ghost use Rattle.ca_merge.specs.code.Seats.{AreSeated, HasSeat, IsInHand, seat_of};
 
 use crate::pins::ClusterNets;
 use ca_base::NoMemory;

@@ -6,7 +6,7 @@ use Rattle.ca_net.specs.Circuit.{Circuit}
 use Rattle.ca_net.specs.State.{value_at}
 use Rattle.ca_net.specs.Path.{Path, root_of}
 use Rattle.ca_net.specs.Response.{Reaches, AllGive}
-use Rattle.ca_net.specs.Walk.{RootReaches}
+use Rattle.ca_net.specs.code.Walk.{RootReaches}
 use Rattle.ca_net.proofs.Strongest.{root_within}
 
 module _ (net : Circuit) (s : List Trit) where

@@ -11,7 +11,8 @@ use Rattle.ca_net.specs.declared.trit.Trit.{Trit}
 use Rattle.ca_net.specs.Circuit.{Circuit, IsWellFormed, IsStorage}
 use Rattle.ca_net.specs.State.{value_at}
 use Rattle.ca_net.specs.Path.{Path, Root, Via, root_of, end_of, strength_of, IsOn, IsPath}
-use Rattle.ca_net.specs.Walk.{IsHop, Leads, Here, Onward}
+use Rattle.ca_net.specs.code.Walk.{Here, Onward}
+use Rattle.ca_net.specs.code.Walk.{IsHop, Leads}
 use Rattle.ca_net.specs.Passing.{PassesAt}
 use Rattle.ca_net.proofs.Hops.{links_within, named_at}
 

@@ -13,7 +13,7 @@ use Rattle.ca_net.specs.declared.device.Device.{Device}
 use Rattle.ca_net.specs.Circuit.{Circuit, IsWellFormed, IsStorage, NamesWithin}
 use Rattle.ca_net.specs.State.{value_at}
 use Rattle.ca_net.specs.Conduction.{Links}
-use Rattle.ca_net.specs.Walk.{IsHop}
+use Rattle.ca_net.specs.code.Walk.{IsHop}
 use Rattle.ca_net.specs.Passing.{PassesAt}
 
 pub named_at : (net : Circuit) (i : ℕ) (d : Device) → IsWellFormed net → slice_get net.devices i ≡ Some d → NamesWithin (length net.nodes) d

@@ -9,7 +9,7 @@ use Rattle.ca_net.specs.Path.{Path, Root, Via, end_of, IsOn, IsPath, IsDefinite,
 use Rattle.ca_net.specs.Response.{IsBlocked}
 use Rattle.ca_net.proofs.StateLemmas.{storage_or_input}
 use Rattle.ca_net.proofs.ScaleLemmas.{strength_below_input}
-use Rattle.ca_net.specs.Walk.{IsInner}
+use Rattle.ca_net.specs.code.Walk.{IsInner}
 
 -- a device of a path is weaker than an input node
 device_below_input : (net : Circuit) → IsWellFormed net → (p : Path) (d : Device) (n : ℕ) → IsPath net (Via p d n) → d.strength < INPUT

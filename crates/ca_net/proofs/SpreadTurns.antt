@@ -10,7 +10,8 @@ use Rattle.ca_net.specs.declared.path_kind.PathKind.{PathKind}
 use Rattle.ca_net.specs.declared.search.PathEnd.{PathEnd}
 use Rattle.ca_net.specs.declared.trit.Trit.{Trit}
 use Rattle.ca_net.specs.Circuit.{Circuit}
-use Rattle.ca_net.specs.Walk.{IsHop, Leads, Here, Onward, Explores}
+use Rattle.ca_net.specs.code.Walk.{Here, Onward}
+use Rattle.ca_net.specs.code.Walk.{IsHop, Leads, Explores}
 
 -- the end of a path at a node
 abbrev pub path_end : ℕ → ℕ → PathEnd

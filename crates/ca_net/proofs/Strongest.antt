@@ -13,8 +13,8 @@ use Rattle.ca_net.specs.Circuit.{Circuit, IsWellFormed, HasSize, HasStrength, ki
 use Rattle.ca_net.specs.Path.{Path, Root, Via, root_of, end_of, strength_of, root_strength, IsPath}
 use Rattle.ca_net.specs.Path.{IsPotential, IsDefinite}
 use Rattle.ca_net.specs.Response.{HasStronger, IsBlocked}
-use Rattle.ca_net.specs.Walk.{IsInner, Leads, Explores, HasDefinite, AreStrongest, AreStrongestFrom}
-use Rattle.ca_net.specs.Walk.{RootReaches}
+use Rattle.ca_net.specs.code.Walk.{IsInner, Leads, Explores, HasDefinite, AreStrongest, AreStrongestFrom}
+use Rattle.ca_net.specs.code.Walk.{RootReaches}
 use Rattle.std.proofs.lemmas.Option.{get_or_from_slice_get, slice_get-get_or}
 use Rattle.ca_net.proofs.Hops.{unmark}
 use Rattle.ca_net.proofs.ScaleLemmas.{size_pos, strength_pos, input_pos}

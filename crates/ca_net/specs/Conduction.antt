@@ -27,11 +27,6 @@ Conducts s d = ConductsAt d.kind (value_at s d.gate.0)
 abbrev pub IsOpen : List Trit → Device → Type 0
 IsOpen s d = OpenAt d.kind (value_at s d.gate.0)
 
--- the device neither conducts nor is open in the state: its gate is X
-pub record IsUnknown (s : List Trit) (d : Device) : Type 0 where
-  pub not_conducting : ¬ (Conducts s d)
-  pub not_open : ¬ (IsOpen s d)
-
 -- the device lies between the two nodes, whichever of them is its drain
 abbrev pub Links : Device → ℕ → ℕ → Type 0
 Links d m n = ((d.a.0 ≡ m) × (d.b.0 ≡ n)) ⊎ ((d.b.0 ≡ m) × (d.a.0 ≡ n))

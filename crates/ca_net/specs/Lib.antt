@@ -11,4 +11,4 @@ pub mod Wave
 pub mod Laws
 pub mod NetFault
 pub mod Passing
-pub mod Walk
+pub mod code

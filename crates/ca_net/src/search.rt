@@ -4,7 +4,7 @@
 ghost use Rattle.std.specs.Prelude.{◌≡◌, ◌≢◌, ◌<◌, ◌≤◌, ℕ, length, false, IsTrue, ◌↔◌, IfSome, replicate};
 ghost use Rattle.ca_net.specs.Circuit.{IsWellFormed};
 ghost use Rattle.ca_net.specs.Conduction.{Links};
-ghost use Rattle.ca_net.specs.Walk.{IsHop, Explores, AreStrongest, RootReaches};
+ghost use Rattle.ca_net.specs.code.Walk.{IsHop, Explores, AreStrongest, RootReaches};
 
 use crate::device::{Device, DeviceId};
 use crate::network::Network;

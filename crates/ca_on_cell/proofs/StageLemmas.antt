@@ -14,7 +14,8 @@ use Rattle.ca_request.specs.Vectors.{dash}
 use Rattle.ca_on_cell.specs.Cells.{OfFile}
 use Rattle.ca_on_cell.specs.Outputs.{asked_network}
 use Rattle.ca_on_cell.specs.Causes.{BreaksAt, IsCellCause, IsFirstUnfit, IsPairCause, IsVectorCause, IsValueCause}
-use Rattle.ca_on_cell.specs.Stages.{IsEntryCause, IsEvaluationCause}
+use Rattle.ca_on_cell.specs.Stages.{IsEntryCause}
+use Rattle.ca_on_cell.specs.code.Stages.{IsEvaluationCause}
 use Rattle.ca_on_cell.proofs.FileLemmas.{of_entry, of_none}
 
 -- a vector that doesn't fit is the first or the last

@@ -4,3 +4,4 @@ pub mod Defects
 pub mod Causes
 pub mod Stages
 pub mod Lines
+pub mod code

@@ -1,17 +1,15 @@
 -- Why a stage of a command on one cell fails, over what it was handed: a library, a cell.
-use Rattle.std.specs.Prelude.{◌≡◌, ◌⊎◌, ℕ, List, Some, None, ⊤}
+use Rattle.std.specs.Prelude.{◌≡◌, ℕ, List, Some, None, ⊤}
 use Rattle.ca_lex.specs.Words.{upper_case}
 use Rattle.ca_cell.specs.declared.raw.RawCell.{RawCell}
 use Rattle.ca_cell.specs.declared.rule.CellRule.{CellRule}
 use Rattle.ca_cell.specs.declared.library.Entry.TheVariants.{Refused}
 use Rattle.ca_cell.specs.Library.{Named, entry_of}
-use Rattle.ca_cell.specs.Rules.{KeepsRules, IsFirstBroken}
+use Rattle.ca_cell.specs.Rules.{IsFirstBroken}
 use Rattle.ca_on_cell.specs.declared.inputs.TypedWords.{TypedWords}
 use Rattle.ca_fault.specs.declared.fault.Fault.{Fault}
-use Rattle.ca_fault.specs.declared.fault.Fault.TheVariants.{NoCell, Cell, BadVector, NoMemory}
-use Rattle.ca_on_cell.specs.Outputs.{Fits}
+use Rattle.ca_fault.specs.declared.fault.Fault.TheVariants.{NoCell, Cell, NoMemory}
 use Rattle.ca_fault_place.specs.Place.{rule_text}
-use Rattle.ca_on_cell.specs.Causes.{IsPairCause}
 
 -- the words of a file and a cell as they were typed, and the cell's also in upper case
 pub record AreTyped (cells cell : List ℕ) (typed : TypedWords) : Type 0 where
@@ -34,13 +32,3 @@ IsEntryCause word library (Cell name rule place) =
     (name ≡ upper_case word) × RefusesCell library word rule place
 IsEntryCause word library NoMemory = ⊤
 IsEntryCause word library _ = ⊥
-
--- why a vector isn't one of the cell
-abbrev pub IsUnfit : RawCell → List ℕ → Fault → Type 0
-IsUnfit raw word (BadVector typed) = (typed ≡ word) × (KeepsRules raw × ¬ (Fits raw word))
-IsUnfit raw word NoMemory = ⊤
-IsUnfit raw word _ = ⊥
-
--- why a cell has no values under two vectors with a defect
-abbrev pub IsEvaluationCause : List ℕ → List ℕ → List ℕ → RawCell → Fault → Type 0
-IsEvaluationCause first last defect raw fault = (fault ≡ NoMemory) ⊎ IsPairCause first last defect fault raw

@@ -5,7 +5,7 @@ ghost use Rattle.ca_cell.specs.Rules.{KeepsRules};
 ghost use Rattle.ca_on_cell.specs.Cells.{OfCell};
 ghost use Rattle.ca_on_cell.specs.Outputs.{letters_of, Fits, AreValues};
 ghost use Rattle.ca_on_cell.specs.Causes.{IsValueCause};
-ghost use Rattle.ca_on_cell.specs.Stages.{IsEvaluationCause, IsUnfit};
+ghost use Rattle.ca_on_cell.specs.code.Stages.{IsEvaluationCause, IsUnfit};
 ghost use Rattle.ca_load.specs.Files.{ReportsStoreFault};
 
 use crate::inputs::{find_cell, typed_words};

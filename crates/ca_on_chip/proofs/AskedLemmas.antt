@@ -21,8 +21,10 @@ use Rattle.ca_request.specs.Asked.{IsDefectStage, IsVectorsStage}
 use Rattle.ca_simulate.specs.Simulated.{pair_of, AreSimulated}
 use Rattle.ca_on_chip.specs.OnChip.{IsChipOfFiles, IsTracedChipOf, OfChip, IsFlatOf, AreEndsOf, IsDefectWord}
 use Rattle.ca_on_chip.specs.OnChip.{IsVectorWord}
-use Rattle.ca_on_chip.specs.OnChip.{IsSimulationCause, IsFlatCause, IsEndsCause, IsSimulationStage}
-use Rattle.ca_on_chip.specs.OnChip.{IsPairsFault, IsPairsCause, IsTestsCause, IsTestsStage}
+use Rattle.ca_on_chip.specs.OnChip.{IsSimulationCause, IsFlatCause, IsEndsCause}
+use Rattle.ca_on_chip.specs.code.OnChip.{IsSimulationStage}
+use Rattle.ca_on_chip.specs.OnChip.{IsPairsFault, IsPairsCause, IsTestsCause}
+use Rattle.ca_on_chip.specs.code.OnChip.{IsTestsStage}
 
 -- what holds of the chip of the files
 pub of_chip : (files : Option Files) (names : InputFiles) (chip : LinkedChip) (P : LinkedChip → Type 0)

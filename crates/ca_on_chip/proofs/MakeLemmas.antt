@@ -12,7 +12,7 @@ use Rattle.ca_make_laws.specs.ChipNetlist.{chip_netlist}
 use Rattle.ca_make_laws.specs.Laws.{LibraryIsRead, NetlistIsRead}
 use Rattle.ca_make_links.specs.Laws.{ChipKeepsRules}
 use Rattle.ca_on_chip.specs.declared.making.TheConstants.{MAKE_BUDGET}
-use Rattle.ca_on_chip.specs.OnChip.{IsTestsStage}
+use Rattle.ca_on_chip.specs.code.OnChip.{IsTestsStage}
 use Rattle.ca_on_chip.specs.Making.{IsMadeChip, IsMakeStage}
 use Rattle.ca_on_chip.proofs.AskedLemmas.{pairs_fault}
 

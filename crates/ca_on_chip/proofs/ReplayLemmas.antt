@@ -16,8 +16,10 @@ use Rattle.ca_simulate.specs.Simulated.{pair_of}
 use Rattle.ca_simulate.specs.OneRun.{AreRunEnds, IsFaultyLine}
 use Rattle.ca_on_chip.specs.declared.replays.TheConstants.{MAX_ORDER}
 use Rattle.ca_on_chip.specs.OnChip.{IsTracedChipOf, IsSimulationCause}
-use Rattle.ca_on_chip.specs.Replay.{run_of, IsAskedRun, AreRunEndsOf, HasFaultyLine, HasRun, IsOrderStage}
-use Rattle.ca_on_chip.specs.Replay.{IsRunStage, IsOrderCause, IsRunCause}
+use Rattle.ca_on_chip.specs.Replay.{run_of, IsAskedRun, AreRunEndsOf, HasFaultyLine, HasRun}
+use Rattle.ca_on_chip.specs.code.Replay.{IsOrderStage}
+use Rattle.ca_on_chip.specs.Replay.{IsOrderCause, IsRunCause}
+use Rattle.ca_on_chip.specs.code.Replay.{IsRunStage}
 use Rattle.ca_load.proofs.ReadLemmas.{of_whole}
 use Rattle.ca_on_chip.proofs.AskedLemmas.{of_chip, own_word}
 

@@ -3,3 +3,4 @@ pub mod OnChip
 pub mod Replay
 pub mod Making
 pub mod Lines
+pub mod code

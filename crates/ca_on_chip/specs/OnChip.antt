@@ -9,7 +9,6 @@ use Rattle.ca_linked.specs.Linked.{LinkedChip}
 use Rattle.ca_core.specs.Core.{core_of}
 use Rattle.ca_fault.specs.declared.fault.Fault.{Fault}
 use Rattle.ca_fault.specs.declared.fault.Fault.TheVariants.{BadVector, NoInstance, NoDefect, TooManyPairs}
-use Rattle.ca_fault.specs.declared.fault.Fault.TheVariants.{NoMemory}
 use Rattle.ca_load.specs.Texts.{InputFiles, Inputs, OfInputs}
 use Rattle.ca_load.specs.Chips.{IsChipOf, IsTraced}
 use Rattle.ca_load.specs.Causes.{IsLoadCause}
@@ -98,11 +97,6 @@ abbrev pub IsEndsCause : InputFiles → List ℕ → List ℕ → List ℕ → L
 IsEndsCause names instance defect first last files before after fault =
     IsLoadCause names files before after fault ⊎ IsSimulateCause names instance defect first last files fault
 
--- the causes of a simulation, or there was no memory
-abbrev pub IsSimulationStage : List ℕ → List ℕ → List ℕ → List ℕ → LinkedChip → Fault → Type 0
-IsSimulationStage instance defect first last chip fault =
-    (fault ≡ NoMemory) ⊎ IsSimulationCause instance defect first last fault chip
-
 -- the pairs, their aims and the verdicts keep the promise for the chip's defects and the budget that a word
 -- says
 pub record AreTestsOf (budget_word : List ℕ) (chip : LinkedChip) (pairs : List (List Bool)) (aims : List ℕ)
@@ -137,7 +131,3 @@ pub record IsAtpgCause (names : InputFiles) (budget_word : List ℕ) (files : Op
 abbrev pub IsTestsCause : InputFiles → ℕ → Option Files → ℕ → ℕ → Fault → Type 0
 IsTestsCause names budget files before after fault =
     IsLoadCause names files before after fault ⊎ AreTooMany names budget files fault
-
--- the cause of a chip that has none, or there was no memory
-abbrev pub IsTestsStage : ℕ → LinkedChip → Fault → Type 0
-IsTestsStage budget chip fault = (fault ≡ NoMemory) ⊎ IsPairsCause budget fault chip

@@ -16,7 +16,7 @@ use Rattle.ca_chip_replay.specs.ChipRun.{RunOf}
 use Rattle.ca_simulate.specs.Simulated.{pair_of}
 use Rattle.ca_simulate.specs.OneRun.{AreRunEnds, IsFaultyLine}
 use Rattle.ca_on_chip.specs.declared.replays.TheConstants.{MAX_ORDER}
-use Rattle.ca_on_chip.specs.OnChip.{OfChip, IsSimulateCause, IsSimulationStage}
+use Rattle.ca_on_chip.specs.OnChip.{OfChip, IsSimulateCause}
 
 -- the runs of the chip between the two vectors, with this defect or without one
 abbrev pub run_of : LinkedChip → Option ChipDefect → List ℕ → List ℕ → RunOf
@@ -49,22 +49,6 @@ pub record HasFaultyLine (instance defect first last : List ℕ) (line : ℕ) (c
 -- the words name a run of the chip
 abbrev pub HasRun : List ℕ → List ℕ → List ℕ → List ℕ → LinkedChip → Type 0
 HasRun instance defect first last chip = (run : RunOf) × IsAskedRun instance defect first last chip run
-
--- why the file of events gives none for the run of the chip that the words name: its first faulty line, or it
--- could not be read
-abbrev pub IsOrderStage : List ℕ → List ℕ → List ℕ → List ℕ → List ℕ → LinkedChip → Option Files → ℕ → ℕ → Fault
-    → Type 0
-IsOrderStage instance defect first last order chip files before after (Order line) =
-    OfFile files order MAX_ORDER (HasFaultyLine instance defect first last line chip)
-IsOrderStage instance defect first last order chip files before after fault =
-    HasRun instance defect first last chip × IsReadCause order files MAX_ORDER before after fault
-
--- why a chip has no such run: the file comes after the words
-abbrev pub IsRunStage : List ℕ → List ℕ → List ℕ → List ℕ → List ℕ → LinkedChip → Option Files → ℕ → ℕ → Fault
-    → Type 0
-IsRunStage instance defect first last order chip files before after fault =
-    IsSimulationStage instance defect first last chip fault
-    ⊎ IsOrderStage instance defect first last order chip files before after fault
 
 -- why the file of events gives none for the run of the files' chip that the words name
 abbrev pub IsOrderCause : InputFiles → List ℕ → List ℕ → List ℕ → List ℕ → List ℕ → Option Files → ℕ → ℕ

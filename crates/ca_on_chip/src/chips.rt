@@ -7,7 +7,8 @@ ghost use Rattle.ca_load.specs.Files.{ReportsStoreFault};
 ghost use Rattle.ca_load.specs.Texts.{names_of};
 ghost use Rattle.ca_request.specs.Asked.{AreBothOrNeither, IsDefectStage};
 ghost use Rattle.ca_on_chip.specs.OnChip.{IsTracedChipOf, IsFlatOf, AreEndsOf};
-ghost use Rattle.ca_on_chip.specs.OnChip.{IsFlatCause, IsEndsCause, IsSimulationStage};
+ghost use Rattle.ca_on_chip.specs.OnChip.{IsFlatCause, IsEndsCause};
+ghost use Rattle.ca_on_chip.specs.code.OnChip.{IsSimulationStage};
 
 use ca_request::{find_defect, find_vectors};
 use ca_fault::Fault;

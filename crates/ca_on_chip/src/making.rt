@@ -3,7 +3,7 @@ ghost use Rattle.std.specs.Prelude.{◌≤◌, IfErr, IfOk};
 ghost use Rattle.ca_credit.specs.Good.{IsGood};
 ghost use Rattle.ca_engine.specs.ChipTask.{task_of};
 ghost use Rattle.ca_make.specs.declared.gate.TheConstants.{MOST_GATES};
-ghost use Rattle.ca_on_chip.specs.OnChip.{IsTestsStage};
+ghost use Rattle.ca_on_chip.specs.code.OnChip.{IsTestsStage};
 ghost use Rattle.ca_on_chip.specs.Making.{IsMadeChip, IsMakeStage};
 
 use ca_credit::Verdicts;

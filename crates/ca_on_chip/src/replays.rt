@@ -6,7 +6,8 @@ ghost use Rattle.ca_load.specs.Texts.{names_of};
 ghost use Rattle.ca_request.specs.Asked.{AreBothOrNeither, IsAskedDefect, IsLibraryDefect, FitsInputs};
 ghost use Rattle.ca_request.specs.Vectors.{letters_of};
 ghost use Rattle.ca_on_chip.specs.OnChip.{IsTracedChipOf};
-ghost use Rattle.ca_on_chip.specs.Replay.{AreRunEndsOf, IsRunStage, IsRunCause};
+ghost use Rattle.ca_on_chip.specs.Replay.{AreRunEndsOf, IsRunCause};
+ghost use Rattle.ca_on_chip.specs.code.Replay.{IsRunStage};
 
 use ca_request::{find_defect, find_vectors};
 use ca_fault::Fault;

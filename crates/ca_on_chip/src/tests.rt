@@ -7,7 +7,8 @@ ghost use Rattle.ca_engine.specs.ChipTask.{task_of};
 ghost use Rattle.ca_atpg.specs.Atpg.{IsStil, report_of};
 ghost use Rattle.ca_load.specs.Files.{ReportsStoreFault};
 ghost use Rattle.ca_load.specs.Texts.{names_of};
-ghost use Rattle.ca_on_chip.specs.OnChip.{IsChipOfFiles, IsTestsCause, IsTestsStage};
+ghost use Rattle.ca_on_chip.specs.OnChip.{IsChipOfFiles, IsTestsCause};
+ghost use Rattle.ca_on_chip.specs.code.OnChip.{IsTestsStage};
 
 use ca_atpg::{Tested, atpg};
 use ca_fault::Fault;

@@ -7,7 +7,8 @@ use Rattle.std.specs.Str.{bytes_eq}
 use Rattle.ca_lex.specs.Words.{with_byte}
 use Rattle.ca_net.specs.declared.node.NodeId.{NodeId}
 use Rattle.ca_order.specs.declared.event.Place.{Place}
-use Rattle.ca_order.specs.Lines.{words_of, node_of, with_node, nodes_of, some_nodes, nodes_before, value_of}
+use Rattle.ca_order.specs.Lines.{words_of, node_of, with_node, nodes_of, some_nodes, value_of}
+use Rattle.ca_order.specs.code.Lines.{nodes_before}
 use Rattle.ca_order.specs.Order.{set_of, set_with, settled, blurred, event_of}
 
 -- a text has a word

@@ -2,7 +2,8 @@
 use Rattle.std.proofs.Common.{◌≡◌, ℕ, suc, ◌<◌, ◌≤◌, ◌==◌, Bool, true, false, List, [], ◌∷◌, length, take}
 use Rattle.std.proofs.Common.{drop, ap, arith, refl}
 use Rattle.ca_lex.specs.Words.{with_byte}
-use Rattle.ca_order.specs.Lines.{words_of, word_len}
+use Rattle.ca_order.specs.Lines.{words_of}
+use Rattle.ca_order.specs.code.Lines.{word_len}
 
 pub word_here : (text : List ℕ) → word_len text < length text
     → words_of text ≡ take (word_len text) text ∷ words_of (drop (suc (word_len text)) text)

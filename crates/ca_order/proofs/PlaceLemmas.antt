@@ -15,7 +15,8 @@ use Rattle.ca_net.specs.Circuit.{Circuit, kind_at}
 use Rattle.ca_net.specs.State.{value_at}
 use Rattle.ca_order.specs.declared.event.Place.{Place}
 use Rattle.ca_order.specs.declared.event.Place.TheVariants as place
-use Rattle.ca_order.specs.Allowed.{IsFree, MaySet, ArePlaces}
+use Rattle.ca_order.specs.Allowed.{MaySet, ArePlaces}
+use Rattle.ca_order.specs.code.Allowed.{IsFree}
 
 -- the first n nodes have their places
 pub record HavePlaces (net : Circuit) (v1 v2 : List Trit) (n : ℕ) (places : List Place) : Type 0 where

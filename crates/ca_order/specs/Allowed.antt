@@ -2,8 +2,6 @@
 use Rattle.std.specs.Prelude.{ℕ, ◌≡◌, ◌↔◌, List, length, map, slice_get, Some, Result}
 use Rattle.ca_net.specs.declared.trit.Trit.{Trit}
 use Rattle.ca_net.specs.declared.node.NodeId.{NodeId}
-use Rattle.ca_net.specs.declared.node.NodeKind.{NodeKind}
-use Rattle.ca_net.specs.declared.node.NodeKind.TheVariants.{Input}
 use Rattle.ca_net.specs.declared.trit.Trit.TheVariants.{X}
 use Rattle.ca_net.specs.State.{value_at}
 use Rattle.ca_net.specs.Circuit.{Circuit, IsInput}
@@ -26,11 +24,6 @@ abbrev pub meaning : Event → model.Event
 meaning (event.Settle nodes) = model.Settle (numbers nodes)
 meaning (event.Blur nodes) = model.Blur (numbers nodes)
 meaning (event.Set node value) = model.Set node.0 value
-
--- a node of this kind with these values in the two vectors may be set: it is an input node that doesn't have
--- one value of 0 and 1 in both
-abbrev pub IsFree : NodeKind → Trit → Trit → Type 0
-IsFree kind first last = (kind ≡ Input) × (first ≡ last → first ≡ X)
 
 -- n is an input node, and may be set: it doesn't have one value of 0 and 1 in both vectors
 abbrev pub MaySet : Circuit → List Trit → List Trit → ℕ → Type 0

@@ -4,3 +4,4 @@ pub mod Order
 pub mod OrderFault
 pub mod Allowed
 pub mod Laws
+pub mod code

@@ -1,5 +1,5 @@
 -- The lines of a text, the words of a line, and the nodes and values that words name.
-use Rattle.std.specs.Prelude.{ℕ, suc, ◌==◌, nat_lt, Bool, true, false, not, ◌&&◌, List, [], ◌∷◌, ◌++◌, length}
+use Rattle.std.specs.Prelude.{ℕ, ◌==◌, nat_lt, Bool, true, false, not, ◌&&◌, List, [], ◌∷◌, length}
 use Rattle.std.specs.Prelude.{Option, Some, None, if◌then◌else◌}
 use Rattle.std.specs.List.{list_all}
 use Rattle.ca_lex.specs.Length.{is_digit, number_of}
@@ -8,11 +8,6 @@ use Rattle.ca_net.specs.declared.trit.Trit.{Trit}
 use Rattle.ca_net.specs.declared.trit.Trit.TheVariants.{Zero, One, X}
 use Rattle.ca_net.specs.declared.node.NodeId.{NodeId}
 use Rattle.ca_order.specs.declared.event.Place.{Place}
-
--- the number of bytes before the first space, or of all bytes
-unfoldable pub word_len : List ℕ → ℕ
-word_len [] = 0
-word_len (byte ∷ bytes) = elim (byte == 32) [ true ↦ 0 | false ↦ suc (word_len bytes) ]
 
 -- the words of a line: what is between two spaces, also where that is nothing
 unfoldable pub words_of : List ℕ → List (List ℕ)
@@ -51,11 +46,6 @@ nodes_of places (word ∷ words) = with_node (node_of places word) (nodes_of pla
 abbrev pub some_nodes : List Place → List (List ℕ) → Option (List NodeId)
 some_nodes places [] = None
 some_nodes places (word ∷ words) = nodes_of places (word ∷ words)
-
--- these nodes, and then those
-abbrev pub nodes_before : List NodeId → Option (List NodeId) → Option (List NodeId)
-nodes_before nodes None = None
-nodes_before nodes (Some more) = Some (nodes ++ more)
 
 -- the value that a word names
 abbrev pub value_of : List ℕ → Option Trit

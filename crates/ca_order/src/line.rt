@@ -2,12 +2,13 @@
 
 ghost use Rattle.std.specs.Prelude.{◌≡◌, ◌∷◌, ◌<◌, ◌≤◌, [], length, Some, None, MatchOption};
 ghost use Rattle.ca_net.specs.declared.trit.Trit.TheVariants.{Zero, One, X};
-ghost use Rattle.ca_order.specs.Lines.{words_of, word_len, value_of};
+ghost use Rattle.ca_order.specs.Lines.{words_of, value_of};
+ghost use Rattle.ca_order.specs.code.Lines.{word_len};
 
 use ca_net::Trit;
 
 // The number of bytes before the first space, or of all bytes.
-#[tactic(auto, unfolding(crate::specs::Lines::word_len))]
+#[tactic(auto, unfolding(crate::specs::code::Lines::word_len))]
 fn word_len(text: &[u8]) -> usize
     ensures len { result ≡ word_len text.now }
     ensures within { result ≤ length text.now }

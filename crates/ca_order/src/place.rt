@@ -2,7 +2,8 @@
 
 ghost use Rattle.std.specs.Prelude.{◌≡◌, ◌↔◌, length, IfOk};
 ghost use Rattle.ca_order.specs.declared.event.Place.TheVariants as place;
-ghost use Rattle.ca_order.specs.Allowed.{IsFree, ArePlaces};
+ghost use Rattle.ca_order.specs.Allowed.{ArePlaces};
+ghost use Rattle.ca_order.specs.code.Allowed.{IsFree};
 
 use crate::event::Place;
 use ca_base::{List, NoMemory};

@@ -1,3 +1,3 @@
 pub mod Outputs
 pub mod Laws
-pub mod Kept
+pub mod code

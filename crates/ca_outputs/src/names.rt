@@ -3,7 +3,7 @@
 ghost use Rattle.std.specs.Prelude.{◌≡◌, ◌<◌, ◌++◌, length, slice_get, IsSomeAnd, IfOk, OnOk};
 ghost use Rattle.ca_linked.specs.Linked.{outputs_of};
 ghost use Rattle.ca_outputs.specs.Outputs.{is_observed, observed_ports, names_of, pin_name, output_names};
-ghost use Rattle.ca_outputs.specs.Kept.{port_names, part_names};
+ghost use Rattle.ca_outputs.specs.code.Kept.{port_names, part_names};
 
 use ca_base::NoMemory;
 use ca_lex::{Names, Text};

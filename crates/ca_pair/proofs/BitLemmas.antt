@@ -5,7 +5,7 @@ use Rattle.std.specs.Prelude.{slice_get, ◌==◌}
 use Rattle.std.specs.Int.{bit_at}
 use Rattle.std.proofs.lemmas.Bool.{cases_eq}
 use Rattle.std.proofs.lemmas.List.{get_or-set_same, get_or-set_other}
-use Rattle.ca_pair.specs.Bits.{bit_in, bits_from}
+use Rattle.ca_pair.specs.code.Bits.{bit_in, bits_from}
 
 pub length-bits_from : (words : List ℕ) (from count : ℕ) → length (bits_from words from count) ≡ count
 unfolding bits_from

@@ -3,7 +3,7 @@
 ghost use Rattle.std.specs.Prelude.{ℕ, ◌≡◌, ◌≢◌, ◌++◌, ◌<◌, ◌/◌, [], ◌∷◌, length, slice_get};
 ghost use Rattle.std.specs.Prelude.{◌≤◌, ◌*◌, OnOk, OnErr, IsTrue, ◌↔◌, Some, vec_len};
 ghost use Rattle.std.specs.Int.{bit_at};
-ghost use Rattle.ca_pair.specs.Bits.{bit_in};
+ghost use Rattle.ca_pair.specs.code.Bits.{bit_in};
 
 use ca_base::{List, NoMemory};
 use std::alloc::Global;
@@ -22,7 +22,7 @@ pub type Pairs = List<Pair>;
 
 impl Model for Pair {
     ghost use Rattle.std.specs.Prelude.{List, Bool, ◌≤◌, ◌*◌, vec_len};
-    ghost use Rattle.ca_pair.specs.Bits.{bits_from};
+    ghost use Rattle.ca_pair.specs.code.Bits.{bits_from};
 
     ghost Value = { List Bool };
 

@@ -13,8 +13,10 @@ use Rattle.ca_read_code.specs.declared.walk.CodeEnd.{CodeEnd}
 use Rattle.ca_read_code.specs.declared.walk.CodeEnd.TheVariants.{Unlawful, Whole, Front}
 use Rattle.ca_read_code.specs.declared.walk.Stride.TheVariants.{Falls, Ends, Goes}
 use Rattle.ca_read_code.specs.Examined.{Examined, with_pair, IsSameAim, MayGoOn}
-use Rattle.ca_read_code.specs.CodeEnd.{rules_of, start_of, IsUnlawful, IsEnd, end_by}
-use Rattle.ca_read_code.specs.Walk.{pair_after, later_after, AreFresh, Follows, still_later, reading_of, IsReadTo, IsStride}
+use Rattle.ca_read_code.specs.CodeEnd.{rules_of}
+use Rattle.ca_read_code.specs.code.CodeEnd.{start_of, IsUnlawful, IsEnd, end_by}
+use Rattle.ca_read_code.specs.code.Walk.{pair_after, later_after, AreFresh, Follows, still_later, reading_of}
+use Rattle.ca_read_code.specs.code.Walk.{IsReadTo, IsStride}
 
 -- before the first token
 pub reading_begins : (old new : Examined) (code : List Token) (ds : List Decision) → new ≡ with_pair old (unset_pair old.chip)

@@ -15,7 +15,7 @@ use Rattle.ca_read_code.specs.declared.walk.Decision.{Decision}
 use Rattle.ca_read_code.specs.declared.walk.Stride.TheVariants.{Falls, Ends, Goes}
 use Rattle.ca_read_code.specs.Examined.{Examined, with_pair, MayLeaveHere, MayBranchFor, MayBranchHere}
 use Rattle.ca_read_code.specs.CodeEnd.{rules_of}
-use Rattle.ca_read_code.specs.Walk.{Follows, still_later, reading_of, TurnsTo, IsStride}
+use Rattle.ca_read_code.specs.code.Walk.{Follows, still_later, reading_of, TurnsTo, IsStride}
 use Rattle.ca_read_code.proofs.WalkLemmas.{pair_after_push, later_after_push, fresh_push, length-pair_after}
 use Rattle.ca_read_code.proofs.WalkLemmas.{length-unset}
 

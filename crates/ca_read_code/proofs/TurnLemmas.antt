@@ -8,7 +8,7 @@ use Rattle.ca_flat.specs.Pair.{bit_count}
 use Rattle.ca_flat.specs.Codes.{bit_trit, unset_pair, with_bit}
 use Rattle.ca_read_code.specs.declared.walk.Decision.{Decision}
 use Rattle.ca_read_code.specs.Examined.{Examined, with_pair, IsSameAim}
-use Rattle.ca_read_code.specs.Walk.{pair_after, later_after, AreFresh, Follows, still_later, TurnsTo}
+use Rattle.ca_read_code.specs.code.Walk.{pair_after, later_after, AreFresh, Follows, still_later, TurnsTo}
 use Rattle.ca_read_code.proofs.WalkLemmas.{pair_after_push, later_after_push, fresh_push, fresh_pop}
 use Rattle.ca_read_code.proofs.WalkLemmas.{length-pair_after, length-unset, set_twice, set_back}
 

@@ -12,7 +12,7 @@ use Rattle.ca_flat.specs.Pair.{bit_count}
 use Rattle.ca_flat.specs.Codes.{unset_pair, with_bit}
 use Rattle.ca_flat.proofs.Codes.{bit_itself, bit_other, length-with_bit}
 use Rattle.ca_read_code.specs.declared.walk.Decision.{Decision}
-use Rattle.ca_read_code.specs.Walk.{pair_after, later_after, AreFresh}
+use Rattle.ca_read_code.specs.code.Walk.{pair_after, later_after, AreFresh}
 
 -- a first decision leaves the opposite for later
 abbrev pub left_for_later : Decision → List Trit → List (List Trit) → List (List Trit)

@@ -1,4 +1,4 @@
 pub mod ClaimedCode
 pub mod Examined
 pub mod CodeEnd
-pub mod Walk
+pub mod code

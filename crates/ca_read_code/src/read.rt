@@ -3,7 +3,8 @@
 ghost use Rattle.std.specs.Prelude.{◌≡◌, ◌↔◌, IfOk, IsTrue};
 ghost use Rattle.ca_flat.specs.Codes.{branch_count, IsWholeBy, IsSpentBy};
 ghost use Rattle.ca_read_code.specs.Examined.{IsSameAim};
-ghost use Rattle.ca_read_code.specs.CodeEnd.{rules_of, end_by, IsEnd};
+ghost use Rattle.ca_read_code.specs.CodeEnd.{rules_of};
+ghost use Rattle.ca_read_code.specs.code.CodeEnd.{end_by, IsEnd};
 
 use crate::examiner::Examiner;
 use crate::walk::{CodeEnd, Stride, read_token};

@@ -17,7 +17,7 @@ use Rattle.ca_order.specs.declared.event.Event as order
 use Rattle.ca_order.specs.Allowed.{numbers, meaning, IsAllowed}
 use Rattle.ca_replay.specs.Replay.{all_nodes, rounds, long_phase, is_same, settings}
 use Rattle.ca_replay.specs.Laws.{ReplayIsPairRun}
-use Rattle.ca_replay.specs.Kept.{IsWithin}
+use Rattle.ca_replay.specs.code.Kept.{IsWithin}
 use Rattle.ca_replay.proofs.ValueLemmas.{with_listed}
 use Rattle.ca_replay.proofs.RoundLemmas.{among}
 use Rattle.ca_replay.proofs.SettingLemmas.{other_values, settings_end}

@@ -11,7 +11,7 @@ use Rattle.ca_net.specs.Circuit.{Circuit, IsInput}
 use Rattle.ca_net.specs.State.{value_at}
 use Rattle.ca_net.specs.Event.{Set, Run}
 use Rattle.ca_replay.specs.Replay.{is_same, settings}
-use Rattle.ca_replay.specs.Kept.{with_values}
+use Rattle.ca_replay.specs.code.Kept.{with_values}
 
 pub same_values : (a b : Trit) → is_same a b ≡ true → a ≡ b
 same_values Zero Zero is = refl

@@ -14,7 +14,7 @@ use Rattle.ca_net.proofs.ReachingRun.{Trit-stable}
 use Rattle.ca_order.specs.declared.event.Event as order
 use Rattle.ca_order.specs.declared.event.Event.TheVariants as order_event
 use Rattle.ca_order.specs.Allowed.{numbers, meaning}
-use Rattle.ca_replay.specs.Kept.{with_values, met_with, IsWithin, IsEventOf}
+use Rattle.ca_replay.specs.code.Kept.{with_values, met_with, IsWithin, IsEventOf}
 use Rattle.ca_replay.proofs.ValueLemmas.{are_within, length-with_values, with_others, with_listed}
 use Rattle.ca_replay.proofs.ValueLemmas.{length-met_with, met_others, met_listed, meet_differs, meet_same}
 

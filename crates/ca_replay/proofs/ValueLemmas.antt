@@ -12,7 +12,7 @@ use Rattle.ca_net.specs.Trit.{meet_of}
 use Rattle.ca_net.specs.State.{value_at}
 use Rattle.ca_net.proofs.ReachingRun.{Trit-stable}
 use Rattle.ca_order.specs.Allowed.{numbers}
-use Rattle.ca_replay.specs.Kept.{with_values, met_with, IsWithin}
+use Rattle.ca_replay.specs.code.Kept.{with_values, met_with, IsWithin}
 
 pub contains_head : (x : ℕ) (xs : List ℕ) → Contains (x ∷ xs) x
 contains_head x xs = (0, omega arith, refl)

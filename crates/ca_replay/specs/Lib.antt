@@ -1,4 +1,4 @@
 -- What the contracts of this crate say, in reading order.
 pub mod Replay
 pub mod Laws
-pub mod Kept
+pub mod code

@@ -6,7 +6,7 @@ ghost use Rattle.ca_net.specs.Circuit.{IsWellFormed};
 ghost use Rattle.ca_net.specs.Event.{Run, Step};
 ghost use Rattle.ca_relax.specs.Groups.{AreChannelGroups};
 ghost use Rattle.ca_order.specs.Allowed.{meaning};
-ghost use Rattle.ca_replay.specs.Kept.{IsEventOf};
+ghost use Rattle.ca_replay.specs.code.Kept.{IsEventOf};
 
 use crate::values::{meet_with, take_values};
 use ca_net::{Network, State};

@@ -2,7 +2,7 @@
 
 ghost use Rattle.std.specs.Prelude.{◌≡◌, ◌<◌, length, IsTrue, ◌↔◌};
 ghost use Rattle.std.specs.List.{All};
-ghost use Rattle.ca_replay.specs.Kept.{IsWithin, with_values, met_with};
+ghost use Rattle.ca_replay.specs.code.Kept.{IsWithin, with_values, met_with};
 
 use ca_net::{NodeId, State, meet};
 

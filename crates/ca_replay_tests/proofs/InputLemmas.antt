@@ -13,7 +13,7 @@ use Rattle.ca_net.specs.declared.node.NodeKind.TheVariants.{Input, Storage}
 use Rattle.ca_net.specs.Circuit.{Circuit, kind_at, IsInput}
 use Rattle.ca_order.specs.Allowed.{numbers}
 use Rattle.ca_replay.specs.Replay.{CoverInputs}
-use Rattle.ca_replay_tests.specs.Inputs.{AreInputs}
+use Rattle.ca_replay_tests.specs.code.Inputs.{AreInputs}
 
 module _ (net : Circuit) (n : ℕ) (inputs : List NodeId) (before : AreInputs net n inputs) where
   pub input_listed : (node : NodeId) → node.0 ≡ n → n < length net.nodes → slice_get net.nodes n ≡ Some Input

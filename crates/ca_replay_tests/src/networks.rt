@@ -4,7 +4,7 @@ ghost use Rattle.std.specs.Prelude.{◌≡◌, ◌+◌, ◌<◌, length, IfOk, O
 ghost use Rattle.ca_net.specs.Circuit.{HasSize, HasStrength, GateIsDrain};
 ghost use Rattle.ca_net.specs.declared.trit.Trit.{Trit};
 ghost use Rattle.ca_replay.specs.Replay.{CoverInputs};
-ghost use Rattle.ca_replay_tests.specs.Inputs.{AreInputs};
+ghost use Rattle.ca_replay_tests.specs.code.Inputs.{AreInputs};
 
 use Part::{N, P};
 use Place::{Inner, Input, Output};

@@ -19,7 +19,8 @@ use Rattle.ca_defect.proofs.NumberLemmas.{number_of, number_within, vector_again
 use Rattle.ca_matrix.specs.Matrix.{Entries, width_of}
 use Rattle.ca_matrix.specs.Built.{IsMatrixOf}
 use Rattle.ca_matrix.specs.Showing.{ListsExposing}
-use Rattle.ca_rows.specs.CellTable.{ListsRows, IsCellTable, AreShown}
+use Rattle.ca_rows.specs.CellTable.{ListsRows}
+use Rattle.ca_rows.specs.code.CellTable.{IsCellTable, AreShown}
 
 -- one defect more
 pub none_shown : (matrix : Entries) → AreShown matrix 0 []

@@ -22,7 +22,7 @@ use Rattle.ca_linked.proofs.OrderLemmas.{place_of}
 use Rattle.ca_core.specs.Core.{core_of}
 use Rattle.ca_view.proofs.PartFacts.{gate_at, at_some, core_gate}
 use Rattle.ca_rows.specs.CellTable.{CellTable}
-use Rattle.ca_rows.specs.ChipTable.{IsOfCellAt, HasTable, AreFound, IsChipTable}
+use Rattle.ca_rows.specs.code.ChipTable.{IsOfCellAt, HasTable, AreFound, IsChipTable}
 
 -- what is of a library cell is a library instance
 of_cell_is_library : (chip : LinkedChip) (u place : ℕ) → IsOfCellAt chip u place → IsLibrary chip u

@@ -1,2 +1,3 @@
 pub mod CellTable
 pub mod ChipTable
+pub mod code

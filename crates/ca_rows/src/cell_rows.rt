@@ -3,7 +3,8 @@
 ghost use Rattle.std.specs.Prelude.{◌≡◌, ◌↔◌, length, IsTrue, IfOk};
 ghost use Rattle.ca_defect.specs.List.{IsDefectOf};
 ghost use Rattle.ca_defect.specs.Exposes.{IsExposable};
-ghost use Rattle.ca_rows.specs.CellTable.{ListsRows, AreShown};
+ghost use Rattle.ca_rows.specs.CellTable.{ListsRows};
+ghost use Rattle.ca_rows.specs.code.CellTable.{AreShown};
 
 use ca_base::NoMemory;
 use ca_cell::Cell;
@@ -21,7 +22,8 @@ pub struct CellRows<'a> {
 }
 
 impl<'a> Model for CellRows<'a> {
-    ghost use Rattle.ca_rows.specs.CellTable.{CellTable, IsCellTable};
+    ghost use Rattle.ca_rows.specs.CellTable.{CellTable};
+    ghost use Rattle.ca_rows.specs.code.CellTable.{IsCellTable};
 
     ghost Value = { CellTable };
 

@@ -2,7 +2,7 @@
 
 ghost use Rattle.std.specs.Prelude.{◌≡◌, length, replicate, None, IfOk};
 ghost use Rattle.ca_linked.specs.Instances.{gates_of};
-ghost use Rattle.ca_rows.specs.ChipTable.{AreFound};
+ghost use Rattle.ca_rows.specs.code.ChipTable.{AreFound};
 
 use crate::cell_rows::CellRows;
 use ca_base::NoMemory;

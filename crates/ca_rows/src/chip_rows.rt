@@ -25,7 +25,8 @@ pub struct ChipRows<'a> {
 }
 
 impl<'a> Model for ChipRows<'a> {
-    ghost use Rattle.ca_rows.specs.ChipTable.{ChipTable, IsChipTable};
+    ghost use Rattle.ca_rows.specs.ChipTable.{ChipTable};
+    ghost use Rattle.ca_rows.specs.code.ChipTable.{IsChipTable};
 
     ghost Value = { ChipTable };
 

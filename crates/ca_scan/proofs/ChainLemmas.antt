@@ -15,7 +15,7 @@ use Rattle.ca_linked.specs.declared.parts.PortBit.{PortBit}
 use Rattle.ca_linked.specs.Linked.{LinkedChip, has, path_nets, is_scan_path}
 use Rattle.ca_linked.specs.Instances.{HasOnPin}
 use Rattle.ca_scan.specs.Chain.{IsLink, IsOnPin, IsAtPort, IsOut, RunsOut, IsChainFrom, IsChainAt, AreChains}
-use Rattle.ca_scan.specs.Kept.{drivers_of, takers_of}
+use Rattle.ca_scan.specs.code.Kept.{drivers_of, takers_of}
 use Rattle.ca_scan.proofs.CountLemmas.{item_of, enough, so_drives, takes, one_taker, port_drives, goes_out}
 
 -- one net is on a pin

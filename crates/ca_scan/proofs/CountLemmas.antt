@@ -13,7 +13,7 @@ use Rattle.ca_linked.specs.declared.parts.PortBit.{PortBit}
 use Rattle.ca_linked.specs.Linked.{LinkedChip}
 use Rattle.ca_linked.specs.Instances.{HasOnPin, pin_nets}
 use Rattle.ca_scan.specs.Chain.{count_of, ends_of, IsOnPin, IsAtPort, IsOut}
-use Rattle.ca_scan.specs.Kept.{so_nets, si_nets, in_nets, out_nets, drivers_of, takers_of, outs_of}
+use Rattle.ca_scan.specs.code.Kept.{so_nets, si_nets, in_nets, out_nets, drivers_of, takers_of, outs_of}
 
 -- what is at a place of a list
 pub record IsAt {X : Type 0} (xs : List X) (k : ℕ) (P : X → Type 0) : Type 0 where

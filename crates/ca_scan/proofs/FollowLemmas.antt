@@ -15,8 +15,9 @@ use Rattle.ca_linked.specs.Instances.{HasOnPin, IsScan, scans_of}
 use Rattle.ca_scan.specs.declared.joints.Joints.{Joints}
 use Rattle.ca_scan.specs.Chain.{count_of, ends_of, IsLink, IsOnPin, IsAtPort, IsOut, IsScanAt, RunsOut}
 use Rattle.ca_scan.specs.Chain.{IsChainFrom}
-use Rattle.ca_scan.specs.Kept.{drivers_of, out_nets, up_to_three, tally_at, taker_at, IsTakerAmong, AreJoints}
-use Rattle.ca_scan.specs.Kept.{IsFollowed}
+use Rattle.ca_scan.specs.code.Kept.{drivers_of, out_nets, up_to_three, tally_at, taker_at, IsTakerAmong}
+use Rattle.ca_scan.specs.code.Kept.{AreJoints}
+use Rattle.ca_scan.specs.code.Kept.{IsFollowed}
 use Rattle.ca_scan.proofs.CountLemmas.{count-append, so_drives, port_drives, goes_out}
 use Rattle.ca_scan.proofs.ChainLemmas.{one_net, one_run, so_on_path, si_on_path, not_both, same_taker}
 use Rattle.ca_scan.proofs.ChainLemmas.{run_length}

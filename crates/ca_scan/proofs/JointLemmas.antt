@@ -18,8 +18,8 @@ use Rattle.ca_linked.specs.declared.parts.PortBit.{PortBit}
 use Rattle.ca_linked.specs.Linked.{LinkedChip, IsWired, is_scan_path, data_nets, path_nets}
 use Rattle.ca_linked.specs.Instances.{HasOnPin, IsScan, if_scan, pin_nets, scans_from, scans_of}
 use Rattle.ca_scan.specs.Chain.{count_of, ends_of, IsOnPin, IsScanAt}
-use Rattle.ca_scan.specs.Kept.{nets_at, nets_of, out_nets, Counts, Adds, IsTakerAmong, AreTakersAmong}
-use Rattle.ca_scan.specs.Kept.{taker_at, SetsTaker}
+use Rattle.ca_scan.specs.code.Kept.{nets_at, nets_of, out_nets, Counts, Adds, IsTakerAmong, AreTakersAmong}
+use Rattle.ca_scan.specs.code.Kept.{taker_at, SetsTaker}
 use Rattle.ca_scan.proofs.CountLemmas.{item_of, count-append}
 use Rattle.ca_scan.proofs.ChainLemmas.{one_net}
 use Rattle.ca_scan.proofs.TallyLemmas.{take_more}

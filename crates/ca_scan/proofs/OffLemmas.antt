@@ -11,7 +11,7 @@ use Rattle.ca_linked.specs.Linked.{LinkedChip, has}
 use Rattle.ca_linked.specs.Instances.{scans_of}
 use Rattle.ca_scan.specs.Chain.{count_of, IsChainAt, AreChainsOf, AreChains, IsOnChain, AreOnChains}
 use Rattle.ca_scan.specs.Chain.{IsFirstOff}
-use Rattle.ca_scan.specs.Kept.{up_to_three, tally_at, Counts, Adds, all_of, AreOnChainsBefore}
+use Rattle.ca_scan.specs.code.Kept.{up_to_three, tally_at, Counts, Adds, all_of, AreOnChainsBefore}
 use Rattle.ca_scan.proofs.CountLemmas.{counted, item_of}
 use Rattle.ca_scan.proofs.ChainLemmas.{one_found}
 use Rattle.ca_scan.proofs.JointLemmas.{counts_more, scan_at, scan_place, scans_rise}

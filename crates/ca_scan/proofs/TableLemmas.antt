@@ -10,7 +10,8 @@ use Rattle.std.specs.List.{list_all}
 use Rattle.std.proofs.lemmas.List.{map-append}
 use Rattle.ca_names.specs.Names.{has_name, with_name}
 use Rattle.ca_scan.specs.Table.{cells_of, is_text, is_row, is_header, row_of, row_with, may_join, with_fields}
-use Rattle.ca_scan.specs.Table.{numbered, record_step, rows_of, Joins}
+use Rattle.ca_scan.specs.Table.{numbered, record_step, rows_of}
+use Rattle.ca_scan.specs.code.Table.{Joins}
 
 -- there is a field at each place within
 pub field_within : (xs : List (List ℕ)) (i : ℕ) → i < length xs → field_at xs i ≡ None → ⊥

@@ -7,7 +7,7 @@ use Rattle.std.proofs.lemmas.List.{get_or-set_same, get_or-set_other}
 use Rattle.std.proofs.lemmas.Bool.{ne_eqb, eq-eqb}
 use native.Mathlib.Decide.{ℕ_discrete}
 use Rattle.ca_scan.specs.Chain.{count_of}
-use Rattle.ca_scan.specs.Kept.{up_to_three, tally_at, Counts, Adds, taker_at, SetsTaker}
+use Rattle.ca_scan.specs.code.Kept.{up_to_three, tally_at, Counts, Adds, taker_at, SetsTaker}
 use Rattle.ca_scan.proofs.CountLemmas.{count-append}
 
 -- an empty place more at the end

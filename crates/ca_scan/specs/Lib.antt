@@ -1,6 +1,5 @@
 -- What the contracts of this crate say, in reading order.
 pub mod Table
-pub mod Into
 pub mod Chain
 pub mod ChainFault
-pub mod Kept
+pub mod code

@@ -121,8 +121,3 @@ abbrev pub Reads : Result (List ScanRow) ScanFault → Result (List ScanRow) ℕ
 Reads (Ok rows) wanted = wanted ≡ Ok rows
 Reads (Err (fault.BadScanRow row)) wanted = wanted ≡ Err row
 Reads (Err fault.NoMemory) wanted = Unit {0}
-
--- the row joined those before it, or it can't
-abbrev pub Joins : Bool → Option (List ScanRow) → List ScanRow → Type 0
-Joins true wanted rows = wanted ≡ Some rows
-Joins false wanted rows = wanted ≡ None

@@ -3,7 +3,7 @@
 ghost use Rattle.std.specs.Prelude.{◌≡◌, ◌≤◌, ◌<◌, true, length, IfOk};
 ghost use Rattle.ca_linked.specs.Linked.{is_scan_path};
 ghost use Rattle.ca_scan.specs.Chain.{IsAtPort, IsChainAt};
-ghost use Rattle.ca_scan.specs.Kept.{drivers_of, AreJoints, IsStep, IsRun};
+ghost use Rattle.ca_scan.specs.code.Kept.{drivers_of, AreJoints, IsStep, IsRun};
 
 use crate::joints::Joints;
 use ca_base::NoMemory;

@@ -3,7 +3,7 @@
 ghost use Rattle.std.specs.Prelude.{◌<◌, ◌++◌, map, length, IfOk, OnOk, IsSomeAnd, slice_get};
 ghost use Rattle.std.specs.List.{flat_map};
 ghost use Rattle.ca_linked.specs.Instances.{scans_of};
-ghost use Rattle.ca_scan.specs.Kept.{nets_of, out_nets, Counts, Adds, AreJoints};
+ghost use Rattle.ca_scan.specs.code.Kept.{nets_of, out_nets, Counts, Adds, AreJoints};
 
 use crate::pins::add_scan;
 use crate::takers::{Takers, takers_of};

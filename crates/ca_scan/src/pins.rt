@@ -3,7 +3,7 @@
 ghost use Rattle.std.specs.Prelude.{◌<◌, length, slice_get, slice_index, OnOk};
 ghost use Rattle.ca_linked.specs.Instances.{scans_of};
 ghost use Rattle.ca_scan.specs.Chain.{IsScanAt, IsOnPin};
-ghost use Rattle.ca_scan.specs.Kept.{nets_at, Adds};
+ghost use Rattle.ca_scan.specs.code.Kept.{nets_at, Adds};
 
 use crate::tally::Tally;
 use ca_base::NoMemory;

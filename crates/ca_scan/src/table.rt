@@ -3,8 +3,9 @@
 ghost use Rattle.std.specs.Prelude.{◌≡◌, ◌++◌, ◌∷◌, [], ℕ, List, false, IfOk, OnOk};
 ghost use Rattle.ca_csv.specs.Streams.{HasLeft};
 ghost use Rattle.ca_names.specs.Names.{has_name};
-ghost use Rattle.ca_scan.specs.Table.{cells_of, may_join, with_fields, rows_of, table_of, Reads, Joins};
-ghost use Rattle.ca_scan.specs.Into.{ReadsInto};
+ghost use Rattle.ca_scan.specs.Table.{cells_of, may_join, with_fields, rows_of, table_of, Reads};
+ghost use Rattle.ca_scan.specs.code.Table.{Joins};
+ghost use Rattle.ca_scan.specs.code.Into.{ReadsInto};
 
 use crate::fault::ScanFault;
 use crate::fields::{are_texts, fields_in, is_header, is_row, row_with};

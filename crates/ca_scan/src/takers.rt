@@ -2,7 +2,7 @@
 
 ghost use Rattle.std.specs.Prelude.{◌≡◌, ◌<◌, ℕ, [], length, OnOk, IfOk};
 ghost use Rattle.ca_linked.specs.Instances.{scans_of};
-ghost use Rattle.ca_scan.specs.Kept.{taker_at, SetsTaker, AreTakersAmong};
+ghost use Rattle.ca_scan.specs.code.Kept.{taker_at, SetsTaker, AreTakersAmong};
 
 use crate::pins::scan_net;
 use ca_base::NoMemory;

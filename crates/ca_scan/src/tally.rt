@@ -1,7 +1,7 @@
 //! How often numbers were added.
 
 ghost use Rattle.std.specs.Prelude.{◌≡◌, ◌<◌, ℕ, [], ◌∷◌, length, slice_index, OnOk};
-ghost use Rattle.ca_scan.specs.Kept.{tally_at, Counts, Adds};
+ghost use Rattle.ca_scan.specs.code.Kept.{tally_at, Counts, Adds};
 
 use ca_base::NoMemory;
 use ca_linked::InstanceList;

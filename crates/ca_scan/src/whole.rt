@@ -4,7 +4,7 @@ ghost use Rattle.std.specs.Prelude.{◌≡◌, ◌<◌, ◌++◌, length, option
 ghost use Rattle.std.specs.Prelude.{IfErr, OnOk};
 ghost use Rattle.ca_scan.specs.Chain.{AreChains};
 ghost use Rattle.ca_scan.specs.ChainFault.{AreAllChains, IsChainCause};
-ghost use Rattle.ca_scan.specs.Kept.{AreJoints, IsFirstOffIn, Counts, Adds, all_of};
+ghost use Rattle.ca_scan.specs.code.Kept.{AreJoints, IsFirstOffIn, Counts, Adds, all_of};
 
 use crate::fault::ChainFault;
 use crate::follow::chain_at;

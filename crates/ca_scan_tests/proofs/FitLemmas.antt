@@ -11,7 +11,7 @@ use Rattle.ca_linked.specs.declared.parts.Body.TheVariants.{Gate, Scan}
 use Rattle.ca_linked.specs.declared.parts.Part.{Part}
 use Rattle.ca_linked.specs.Linked.{LinkedChip, IsBody}
 use Rattle.ca_linked.specs.Drivers.{IsDrafted}
-use Rattle.ca_scan_tests.specs.Fits.{AllBefore, IsFit, IsScan}
+use Rattle.ca_scan_tests.specs.code.Fits.{AllBefore, IsFit, IsScan}
 
 pub one_more : {X : Type 0} (P : X → Type 0) (k : ℕ) (xs : List X) (x : X) → AllBefore P k xs → slice_get xs k ≡ Some x → P x → AllBefore P (k + 1) xs
 one_more P k xs x before at here j d below = by (eqb j k) refl

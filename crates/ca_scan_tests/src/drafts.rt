@@ -4,7 +4,7 @@ ghost use Rattle.std.specs.Prelude.{◌≡◌, ◌<◌, true, IsTrue};
 ghost use Rattle.std.specs.List.{All};
 ghost use Rattle.ca_linked.specs.Linked.{net_count, input_nets, output_nets};
 ghost use Rattle.ca_linked.specs.Drivers.{IsDrafted};
-ghost use Rattle.ca_scan_tests.specs.Fits.{IsFit};
+ghost use Rattle.ca_scan_tests.specs.code.Fits.{IsFit};
 
 use ca_linked::{Body, Draft};
 

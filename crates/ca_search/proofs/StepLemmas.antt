@@ -16,10 +16,12 @@ use Rattle.ca_flat.specs.Codes.{IsWholeBy}
 use Rattle.ca_flat.proofs.Codes.{support_within}
 use Rattle.ca_search.specs.declared.trail.Decision.{Decision}
 use Rattle.ca_search.specs.SearchRules.{rules_for, MayLeaveFor, MayDecideFor}
-use Rattle.ca_search.specs.Judged.{Judged, with_pair, IsSameAim, IsSettledFor, IsPlainFor, MayLeaveHere}
-use Rattle.ca_search.specs.Judged.{MayDecideHere}
-use Rattle.ca_search.specs.Steps.{pair_after, later_after, AreFresh, Follows, still_later, Stands, TurnsTo}
-use Rattle.ca_search.specs.Steps.{IsTurn}
+use Rattle.ca_search.specs.Judged.{Judged, with_pair, IsSameAim, IsSettledFor, IsPlainFor}
+use Rattle.ca_search.specs.code.Judged.{MayLeaveHere}
+use Rattle.ca_search.specs.code.Judged.{MayDecideHere}
+use Rattle.ca_search.specs.code.Steps.{pair_after, later_after, AreFresh, Follows, still_later, Stands}
+use Rattle.ca_search.specs.code.Steps.{TurnsTo}
+use Rattle.ca_search.specs.code.Steps.{IsTurn}
 use Rattle.ca_search.proofs.WalkLemmas.{pair_after_push, later_after_push, fresh_push, fresh_pop}
 use Rattle.ca_search.proofs.WalkLemmas.{length-pair_after, length-unset, set_twice, set_back, reads_append}
 use Rattle.ca_search.proofs.WalkLemmas.{branch_count-append, front_is_short}

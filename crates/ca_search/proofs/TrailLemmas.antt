@@ -8,12 +8,13 @@ use Rattle.ca_flat.specs.declared.token.Token.TheVariants.{Branch, Leaf}
 use Rattle.ca_flat.specs.Pair.{bit_count}
 use Rattle.ca_flat.specs.Codes.{unset_pair, with_bit, branch_count, IsFrontBy, IsSpentBy}
 use Rattle.ca_search.specs.declared.trail.Decision.{Decision}
-use Rattle.ca_search.specs.Judged.{Judged, with_pair, IsSameAim, MayLeaveHere, MayDecideHere}
+use Rattle.ca_search.specs.Judged.{Judged, with_pair, IsSameAim}
+use Rattle.ca_search.specs.code.Judged.{MayLeaveHere, MayDecideHere}
 use Rattle.ca_search.specs.Tokens.{token_of, tokens_of}
 use Rattle.ca_search.specs.declared.trail.Trail.{Trail}
 use Rattle.ca_search.specs.SearchRules.{rules_for}
-use Rattle.ca_search.specs.Steps.{AreFresh, Follows, still_later, Stands, TrailStands, TurnsTo, IsTurn}
-use Rattle.ca_search.specs.Steps.{IsLeft}
+use Rattle.ca_search.specs.code.Steps.{AreFresh, Follows, still_later, Stands, TrailStands, TurnsTo, IsTurn}
+use Rattle.ca_search.specs.code.Steps.{IsLeft}
 use Rattle.ca_code.proofs.TokenLemmas.{tokens_push, tokens_counted}
 use Rattle.ca_search.proofs.WalkLemmas.{fresh_pop, length-pair_after, length-unset}
 use Rattle.ca_search.proofs.StepLemmas.{begins, first_to, branched, TurnsBack, takes_back, turned, turns}

@@ -15,7 +15,7 @@ use Rattle.ca_flat.specs.Codes.{Reading, At, Ended, unset_pair, with_bit, after_
 use Rattle.ca_flat.specs.Codes.{branch_count}
 use Rattle.ca_flat.proofs.Codes.{bit_itself, bit_other, length-with_bit}
 use Rattle.ca_search.specs.declared.trail.Decision.{Decision}
-use Rattle.ca_search.specs.Steps.{pair_after, later_after, AreFresh}
+use Rattle.ca_search.specs.code.Steps.{pair_after, later_after, AreFresh}
 
 -- a first decision leaves the opposite for later
 abbrev pub left_for_later : Decision → List Trit → List (List Trit) → List (List Trit)

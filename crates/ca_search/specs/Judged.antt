@@ -8,7 +8,7 @@ use Rattle.ca_guide.specs.declared.guide.Step.{Step}
 use Rattle.ca_guide.specs.declared.guide.Step.TheVariants.{Branch, RuledOut}
 use Rattle.ca_search.specs.declared.judge.Standing.{Standing}
 use Rattle.ca_search.specs.declared.judge.Standing.TheVariants.{Shown, Settled, Open}
-use Rattle.ca_search.specs.SearchRules.{IsPlainPair, MayLeaveFor, MayDecideFor}
+use Rattle.ca_search.specs.SearchRules.{IsPlainPair, MayDecideFor}
 
 -- a chip, with the places of its instances in the order of evaluation; the defect of it that is aimed at, if
 -- one is; and a partial pair
@@ -56,11 +56,3 @@ IsStanding judged Open = IsOpenFor judged.chip judged.aim judged.pair
 abbrev pub IsStep : Judged → Step → Type 0
 IsStep judged (Branch bit first) = MayDecideFor judged.chip judged.aim judged.pair bit
 IsStep judged RuledOut = IsPlainFor judged.chip judged.aim judged.pair
-
--- a leaf is allowed at the pair in hand
-abbrev pub MayLeaveHere : Judged → Type 0
-MayLeaveHere judged = MayLeaveFor judged.chip judged.aim judged.pair
-
--- a branch on the bit may
-abbrev pub MayDecideHere : Judged → ℕ → Type 0
-MayDecideHere judged bit = MayDecideFor judged.chip judged.aim judged.pair bit

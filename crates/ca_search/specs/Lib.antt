@@ -4,4 +4,4 @@ pub mod Tokens
 pub mod Filled
 pub mod Outcome
 pub mod Laws
-pub mod Steps
+pub mod code

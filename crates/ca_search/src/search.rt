@@ -20,7 +20,7 @@ pub struct Search {
 
 impl Model for Search {
     ghost use Rattle.ca_search.specs.Outcome.{Searched};
-    ghost use Rattle.ca_search.specs.Steps.{searched_of};
+    ghost use Rattle.ca_search.specs.code.Steps.{searched_of};
 
     ghost Value = { Searched };
 

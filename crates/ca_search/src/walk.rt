@@ -2,10 +2,11 @@
 
 ghost use Rattle.std.specs.Prelude.{◌≡◌, ◌+◌, ◌*◌, ◌<◌, ◌≤◌, length, IfOk, IsSome};
 ghost use Rattle.ca_flat.specs.Codes.{branch_count};
-ghost use Rattle.ca_search.specs.Judged.{IsSameAim, MayLeaveHere, MayDecideHere};
+ghost use Rattle.ca_search.specs.Judged.{IsSameAim};
+ghost use Rattle.ca_search.specs.code.Judged.{MayLeaveHere, MayDecideHere};
 ghost use Rattle.ca_search.specs.Tokens.{tokens_of};
 ghost use Rattle.ca_search.specs.Outcome.{IsOutcome};
-ghost use Rattle.ca_search.specs.Steps.{Follows, TrailStands, IsSameRoom, IsMove, IsTurn, IsLeft};
+ghost use Rattle.ca_search.specs.code.Steps.{Follows, TrailStands, IsSameRoom, IsMove, IsTurn, IsLeft};
 
 use crate::judge::{Judge, Standing};
 use crate::trail::{Decision, Outcome, Trail};

@@ -7,7 +7,7 @@ use Rattle.ca_flat.specs.Chip.{Chip, cell_at}
 use Rattle.ca_table.specs.declared.rooms.Rooms.{Rooms}
 use Rattle.ca_view.specs.Linked.{IsLinked, IsPlaced}
 use Rattle.ca_table.specs.Rooms.{AreRoomsOf}
-use Rattle.ca_sim.specs.Cells.{AreCellRooms}
+use Rattle.ca_sim.specs.code.Cells.{AreCellRooms}
 
 module _ (chip : Chip) (place_of number_of : ℕ → ℕ) (rooms : List Rooms) (are : AreCellRooms chip place_of number_of rooms) (u : ℕ) (lt : IsPlaced chip place_of u) where
   -- the rooms at the number of the instance's cell are its cell's

@@ -14,9 +14,10 @@ use Rattle.ca_flat.specs.Chain.{IsBitOf}
 use Rattle.ca_flat.specs.Pair.{bit_count}
 use Rattle.ca_view.specs.Linked.{Reads, IsLinked, IsPinned}
 use Rattle.ca_sim.specs.PlaceSet.{Has}
-use Rattle.ca_sim.specs.Simulator.{counted_up, CountsOne}
+use Rattle.ca_sim.specs.Simulator.{counted_up}
+use Rattle.ca_sim.specs.code.Simulator.{CountsOne}
 use Rattle.ca_sim.specs.declared.network.Network.{Network}
-use Rattle.ca_sim.specs.Network.{IsDue, IsFedAt, IsUnderway}
+use Rattle.ca_sim.specs.code.Network.{IsDue, IsFedAt, IsUnderway}
 use Rattle.ca_sim.proofs.Feeding.{wave_of_input}
 use Rattle.ca_sim.proofs.Loading.{changed_first, changed_last}
 

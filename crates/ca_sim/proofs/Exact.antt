@@ -25,9 +25,9 @@ use Rattle.ca_flat.proofs.NetInduction.{net_induction}
 use Rattle.ca_flat.proofs.InstanceWaves.{at_instance, output_value, rail_value, input_wave, part_limits}
 use Rattle.ca_flat.proofs.InstanceWaves.{ends_last, last_ends}
 use Rattle.ca_table.specs.Gives.{wave_at}
-use Rattle.ca_sim.specs.Current.{input_waves, output_waves, IsSimulated}
+use Rattle.ca_sim.specs.code.Current.{input_waves, output_waves, IsSimulated}
 use Rattle.ca_flat.specs.Simulation.{IsFlattened}
-use Rattle.ca_sim.specs.Current.{none_due}
+use Rattle.ca_sim.specs.code.Current.{none_due}
 use Rattle.ca_sim.specs.Laws.{DefiniteLastIsEnd, WavesAreThere}
 use Rattle.ca_sim.specs.Seen.{AreNetWaves}
 use Rattle.ca_sim.proofs.LimitLemmas.{SameInputs, limits_over, at_first_inputs}

@@ -6,7 +6,7 @@ use Rattle.ca_view.specs.Linked.{IsAim}
 use Rattle.ca_sim.specs.Seen.{IsExact}
 use Rattle.ca_sim.specs.declared.cells.Cells.{Cells}
 use Rattle.ca_sim.specs.declared.networks.Networks.{Networks}
-use Rattle.ca_sim.specs.Kept.{IsKept}
+use Rattle.ca_sim.specs.code.Kept.{IsKept}
 use Rattle.ca_sim.proofs.Exact.{waves_are_exact_lem}
 
 -- the defect that is aimed at is the chip's

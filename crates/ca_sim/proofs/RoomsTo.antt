@@ -8,8 +8,8 @@ use Rattle.ca_table.specs.declared.rooms.Rooms.{Rooms}
 use Rattle.ca_flat.specs.Chip.{Chip}
 use Rattle.ca_view.specs.Linked.{IsPlaced}
 use Rattle.ca_sim.specs.declared.cache.Entry.{Entry}
-use Rattle.ca_sim.specs.Cache.{HoldsTrue, HoldTrue, IsEmpty}
-use Rattle.ca_sim.specs.Cells.{AreCellRooms, AreRoomsTo, FitCellsOf}
+use Rattle.ca_sim.specs.code.Cache.{HoldsTrue, HoldTrue, IsEmpty}
+use Rattle.ca_sim.specs.code.Cells.{AreCellRooms, AreRoomsTo, FitCellsOf}
 
 module _ (chip : Chip) (place_of number_of : ℕ → ℕ) where
   pub rooms_none : AreRoomsTo chip place_of number_of 0 []

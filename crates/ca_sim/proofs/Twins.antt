@@ -9,9 +9,9 @@ use Rattle.ca_flat.specs.declared.chip_defect.ChipDefect.{ChipDefect}
 use Rattle.ca_flat.specs.Chip.{Chip, cell_at, circuit_at, output_net, outputs_at, count_of}
 use Rattle.ca_flat.specs.Flat.{defect_at, with_defect, circuit_in}
 use Rattle.ca_table.specs.Gives.{Gives}
-use Rattle.ca_sim.specs.Current.{input_waves, output_waves}
+use Rattle.ca_sim.specs.code.Current.{input_waves, output_waves}
 use Rattle.ca_sim.specs.declared.network.Network.{Network}
-use Rattle.ca_sim.specs.Network.{IsTwin, IsGiven}
+use Rattle.ca_sim.specs.code.Network.{IsTwin, IsGiven}
 use Rattle.ca_sim.proofs.WaveLemmas.{all_waves_from}
 
 pub twin_gives : (chip : Chip) (o : Option ChipDefect) (u : ℕ) (net : Network) (pins outputs : List Wave) → IsTwin chip net → u < count_of chip → defect_at o u ≡ None

@@ -1,12 +1,5 @@
 pub mod Seen
 pub mod Simulator
 pub mod Laws
-pub mod Current
-pub mod Changes
 pub mod PlaceSet
-pub mod Marking
-pub mod Network
-pub mod Networks
-pub mod Cache
-pub mod Cells
-pub mod Kept
+pub mod code

@@ -19,11 +19,6 @@ pub record Simulator : Type 0 where
 abbrev pub counted_up : ℕ → ℕ
 counted_up count = if nat_lt count (2 ^ 64 - 1) then count + 1 else 2 ^ 64 - 1
 
--- one more was counted, and so it never falls
-pub record CountsOne (old new : ℕ) : Type 0 where
-  pub is : new ≡ counted_up old
-  pub grows : old ≤ new
-
 -- a simulator of the chip of which nothing was asked yet
 pub record IsFresh (chip : Chip) (places : List ℕ) (sim : Simulator) : Type 0 where
   pub chip_is : sim.seen.chip ≡ chip

@@ -8,7 +8,7 @@ ghost use Rattle.ca_flat.specs.Chip.{cell_at, inputs_at, count_of, IsChipDefect}
 ghost use Rattle.ca_flat.specs.Flat.{circuit_in, defect_at};
 ghost use Rattle.ca_view.specs.Linked.{IsPlaced, place_in};
 ghost use Rattle.ca_view.specs.Places.{cell_number};
-ghost use Rattle.ca_sim.specs.Simulator.{CountsOne};
+ghost use Rattle.ca_sim.specs.code.Simulator.{CountsOne};
 
 use crate::cache::{Cache, Entry};
 use ca_base::NoMemory;
@@ -35,7 +35,7 @@ pub struct Cells {
 }
 
 impl Cells {
-    ghost use Rattle.ca_sim.specs.Cells.{AreCellRooms, AreCells, AreRoomsTo};
+    ghost use Rattle.ca_sim.specs.code.Cells.{AreCellRooms, AreCells, AreRoomsTo};
 
     /// Takes the room for the cells of all instances with a place, and builds their tables.
     pub(crate) fn reserve(alloc: Global, chip: &View) -> Result<Self, NoMemory>
@@ -139,7 +139,7 @@ impl Cells {
     }
 }
 
-ghost use Rattle.ca_sim.specs.Cells.{IsOneOf, FitCellsOf};
+ghost use Rattle.ca_sim.specs.code.Cells.{IsOneOf, FitCellsOf};
 
 // The room for the cell of a number, if some instance has it.
 fn rooms_for(alloc: Global, chip: &View, number: usize) -> Result<Rooms, NoMemory>

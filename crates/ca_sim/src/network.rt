@@ -30,11 +30,11 @@ pub struct Network {
 
 impl Network {
     ghost use Rattle.ca_sim.specs.PlaceSet.{Has, HoldsUpTo};
-    ghost use Rattle.ca_sim.specs.Network.{IsPut, IsWrittenOut, IsFedAt, IsTurned, IsReady, IsSettled};
-    ghost use Rattle.ca_sim.specs.Network.{IsTwin, IsGiven, IsUnderway, IsRestingCopy, CountsDue};
+    ghost use Rattle.ca_sim.specs.code.Network.{IsPut, IsWrittenOut, IsFedAt, IsTurned, IsReady, IsSettled};
+    ghost use Rattle.ca_sim.specs.code.Network.{IsTwin, IsGiven, IsUnderway, IsRestingCopy, CountsDue};
     ghost use Rattle.std.specs.Prelude.{IsTrue};
-    ghost use Rattle.ca_sim.specs.Current.{input_waves, output_waves, IsCurrent};
-    ghost use Rattle.ca_sim.specs.Cells.{AreCells};
+    ghost use Rattle.ca_sim.specs.code.Current.{input_waves, output_waves, IsCurrent};
+    ghost use Rattle.ca_sim.specs.code.Cells.{AreCells};
 
     /// Takes the room for the waves of a chip's nets. No bit is set, and each instance with a place is due.
     pub(crate) fn reserve(alloc: Global, chip: &View) -> Result<Self, NoMemory>
@@ -235,8 +235,8 @@ impl Network {
 }
 
 ghost use Rattle.ca_sim.specs.PlaceSet.{Has, HoldsUpTo};
-ghost use Rattle.ca_sim.specs.Marking.{IsMarked, HasAllPlaces};
-ghost use Rattle.ca_sim.specs.Network.{HasConstants};
+ghost use Rattle.ca_sim.specs.code.Marking.{IsMarked, HasAllPlaces};
+ghost use Rattle.ca_sim.specs.code.Network.{HasConstants};
 
 // The waves of the nets while no bit is set and no instance has been evaluated: those of constants are known.
 fn constant_waves(alloc: Global, chip: &View) -> Result<Waves, NoMemory>
@@ -285,9 +285,9 @@ ghost use Rattle.ca_net.specs.Wave.{IsWave};
 ghost use Rattle.ca_table.specs.Gives.{Gives};
 ghost use Rattle.ca_flat.specs.Chip.{cell_at, inputs_at};
 ghost use Rattle.ca_flat.specs.Flat.{circuit_in};
-ghost use Rattle.ca_sim.specs.Network.{IsTwin};
-ghost use Rattle.ca_sim.specs.Cells.{AreCells};
-ghost use Rattle.ca_sim.specs.Simulator.{CountsOne};
+ghost use Rattle.ca_sim.specs.code.Network.{IsTwin};
+ghost use Rattle.ca_sim.specs.code.Cells.{AreCells};
+ghost use Rattle.ca_sim.specs.code.Simulator.{CountsOne};
 
 /// How an instance responds: as in the good network, if it can.
 fn respond_beside(

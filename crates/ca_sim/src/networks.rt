@@ -24,9 +24,9 @@ impl Networks {
     ghost use Rattle.ca_flat.specs.Chip.{IsChipDefect};
     ghost use Rattle.ca_view.specs.Linked.{IsAim, place_in};
     ghost use Rattle.ca_view.specs.Places.{cell_number};
-    ghost use Rattle.ca_sim.specs.Cells.{AreCells};
-    ghost use Rattle.ca_sim.specs.Network.{CountsDue};
-    ghost use Rattle.ca_sim.specs.Networks.{AreUnderway, AreAtRest, AreReady, MakesReadersDue};
+    ghost use Rattle.ca_sim.specs.code.Cells.{AreCells};
+    ghost use Rattle.ca_sim.specs.code.Network.{CountsDue};
+    ghost use Rattle.ca_sim.specs.code.Networks.{AreUnderway, AreAtRest, AreReady, MakesReadersDue};
 
     /// Gives a chip input two bits.
     pub(crate) fn change(&mut self, chip: &View, input: usize, first: Trit, last: Trit)

@@ -31,7 +31,7 @@ impl<'a> Model for Sim<'a> {
     ghost use Rattle.ca_sim.specs.Simulator.{Simulator};
     ghost use Rattle.ca_view.specs.Linked.{place_in};
     ghost use Rattle.ca_view.specs.Places.{cell_number};
-    ghost use Rattle.ca_sim.specs.Kept.{IsKept};
+    ghost use Rattle.ca_sim.specs.code.Kept.{IsKept};
 
     ghost Value = { Simulator };
 

@@ -30,7 +30,7 @@ use Rattle.ca_view.proofs.PartFacts.{library_known}
 use Rattle.ca_view.proofs.RankLemmas.{library_place}
 use Rattle.ca_request.specs.Asked.{IsLibraryDefect}
 use Rattle.ca_simulate.specs.Simulated.{AreOutputEnds, AreSimulated}
-use Rattle.ca_simulate.specs.Lasts.{HaveLasts, AreLasts}
+use Rattle.ca_simulate.specs.code.Lasts.{HaveLasts, AreLasts}
 use Rattle.ca_simulate.proofs.RunLemmas.{is_chip_defect}
 
 -- no value yet

@@ -1,3 +1,3 @@
 pub mod Simulated
 pub mod OneRun
-pub mod Lasts
+pub mod code

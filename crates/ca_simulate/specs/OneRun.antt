@@ -1,5 +1,5 @@
 -- One run of a chip between two vectors, as a text names it.
-use Rattle.std.specs.Prelude.{ℕ, List, map, Result, Ok, Err, ⊤}
+use Rattle.std.specs.Prelude.{ℕ, List, map, Result, Ok, Err}
 use Rattle.ca_net.specs.declared.trit.Trit.{Trit}
 use Rattle.ca_flat.specs.Flat.{flat}
 use Rattle.ca_flat.specs.Pair.{first_vector, last_vector}
@@ -23,8 +23,3 @@ pub record AreRunEnds (run : RunOf) (text : List ℕ) (values : List Trit) : Typ
 -- this line of the text is its first that isn't allowed
 abbrev pub IsFaultyLine : RunOf → ℕ → List ℕ → Type 0
 IsFaultyLine run line text = ReadsRun run text (Err (order.At line))
-
--- why a text names no run: its first faulty line, or there was no memory
-abbrev pub IsRunFault : RunOf → List ℕ → OrderFault → Type 0
-IsRunFault run text (order.At line) = IsFaultyLine run line text
-IsRunFault run text order.NoMemory = ⊤

@@ -5,7 +5,8 @@ ghost use Rattle.ca_linked.specs.Linked.{inputs_of};
 ghost use Rattle.ca_core.specs.Core.{core_of};
 ghost use Rattle.ca_request.specs.Asked.{IsLibraryDefect};
 ghost use Rattle.ca_simulate.specs.Simulated.{pair_of};
-ghost use Rattle.ca_simulate.specs.OneRun.{AreRunEnds, IsRunFault};
+ghost use Rattle.ca_simulate.specs.OneRun.{AreRunEnds};
+ghost use Rattle.ca_simulate.specs.code.OneRun.{IsRunFault};
 
 use crate::letters::Letters;
 use ca_request::Vectors;

@@ -6,7 +6,7 @@ ghost use Rattle.ca_core.specs.Core.{core_of};
 ghost use Rattle.ca_sim.specs.Seen.{IsExact};
 ghost use Rattle.ca_request.specs.Asked.{IsLibraryDefect};
 ghost use Rattle.ca_simulate.specs.Simulated.{pair_of, AreOutputEnds, AreSimulated};
-ghost use Rattle.ca_simulate.specs.Lasts.{AreLasts, AreReady};
+ghost use Rattle.ca_simulate.specs.code.Lasts.{AreLasts, AreReady};
 
 use crate::letters::Letters;
 use ca_request::Vectors;

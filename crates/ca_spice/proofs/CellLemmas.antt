@@ -19,10 +19,11 @@ use Rattle.ca_cell.specs.Rules.{PlacesWithin, IsRaw}
 use Rattle.ca_spice.specs.declared.pin.Pin.{Pin}
 use Rattle.ca_spice.specs.declared.subcircuit.Subcircuit.{Subcircuit}
 use Rattle.ca_names.specs.Names.{has_name, with_name}
-use Rattle.ca_spice.specs.Mos.{has_gate, strength_of}
+use Rattle.ca_spice.specs.Mos.{strength_of}
+use Rattle.ca_spice.specs.code.Mos.{has_gate}
 use Rattle.ca_spice.specs.OpenCell.{has_device, pins_after}
 use Rattle.ca_spice.specs.Reading.{has_cell}
-use Rattle.ca_spice.specs.Kept.{HasOwnStrength, IsPlaced, IsPlacedCell}
+use Rattle.ca_spice.specs.code.Kept.{HasOwnStrength, IsPlaced, IsPlacedCell}
 
 -- names never become fewer
 pub with_name-longer : (name : List ℕ) (names : List (List ℕ)) → length names ≤ length (with_name name names)

@@ -12,7 +12,7 @@ use Rattle.ca_cell.specs.declared.library.Entry.{Entry}
 use Rattle.ca_cell.specs.Library.{Named, entry_of, raw_of}
 use Rattle.ca_spice.specs.declared.subcircuit.Subcircuit.{Subcircuit}
 use Rattle.ca_names.specs.Names.{has_name}
-use Rattle.ca_spice.specs.Kept.{IsUpper, names_of}
+use Rattle.ca_spice.specs.code.Kept.{IsUpper, names_of}
 use Rattle.ca_spice.specs.Views.{subcircuit_seen}
 
 -- names differ whichever is compared with the other

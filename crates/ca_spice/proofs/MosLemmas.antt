@@ -2,7 +2,7 @@
 use Rattle.std.proofs.Common.{◌≡◌, ℕ, ◌<◌, List, [], ◌∷◌, length, None, arith, refl}
 use Rattle.std.specs.Prelude.{◌==◌}
 use denote.Bor.{Bor}
-use Rattle.ca_spice.specs.Names.{texts}
+use Rattle.ca_spice.specs.code.Names.{texts}
 use Rattle.ca_spice.specs.Mos.{are_params, count_of, value_of}
 
 -- fewer than three words have no parameter

@@ -15,7 +15,8 @@ use Rattle.ca_spice.specs.declared.fault.SpiceKind.{SpiceKind}
 use Rattle.ca_spice.specs.declared.fault.SpiceKind.TheVariants.{BadCard, BadRole}
 use Rattle.ca_spice.specs.declared.pin.Pin.{Pin}
 use Rattle.ca_names.specs.Names.{place_of}
-use Rattle.ca_spice.specs.Names.{is_name, texts}
+use Rattle.ca_spice.specs.Names.{is_name}
+use Rattle.ca_spice.specs.code.Names.{texts}
 use Rattle.ca_spice.specs.PinInfo.{colon_place, pin_part, is_pin_word, are_pin_words, role_of, with_role}
 use Rattle.ca_spice.specs.PinInfo.{role_step, pin_info}
 

@@ -18,14 +18,14 @@ use Rattle.ca_spice.specs.declared.open_cell.OpenCell as code
 use Rattle.ca_spice.specs.declared.pin.Pin.{Pin}
 use Rattle.ca_spice.specs.declared.subcircuit.Subcircuit.{Subcircuit}
 use Rattle.ca_names.specs.Names.{has_name, with_name, has_double}
-use Rattle.ca_spice.specs.Names.{texts}
+use Rattle.ca_spice.specs.code.Names.{texts}
 use Rattle.ca_spice.specs.Mos.{Wiring, Sizes, wiring_of, sizes_of}
 use Rattle.ca_spice.specs.OpenCell.{OpenCell, new_cell, has_device, with_device, wired, mos, pins_after}
-use Rattle.ca_spice.specs.SpiceFault.{kind_reported}
+use Rattle.ca_spice.specs.code.SpiceFault.{kind_reported}
 use Rattle.ca_spice.specs.Reading.{Reading, is_outside, has_cell, with_open, named}
-use Rattle.ca_spice.specs.Kept.{IsPlaced, IsUpper, names_of}
-use Rattle.ca_spice.specs.Named.{open_names}
-use Rattle.ca_spice.specs.Views.{cell_seen}
+use Rattle.ca_spice.specs.code.Kept.{IsPlaced, IsUpper, names_of}
+use Rattle.ca_spice.specs.code.Named.{open_names}
+use Rattle.ca_spice.specs.code.Views.{cell_seen}
 use Rattle.ca_spice.proofs.CellLemmas.{has_name-cells, pins_after-length}
 use Rattle.ca_spice.proofs.PinLemmas.{following, following-cons}
 

@@ -16,7 +16,7 @@ use Rattle.ca_lex.specs.Physical.{PinInfo, Card, card_of, physical_at, physical_
 use Rattle.ca_lex.specs.Lines.{continued, logical_from, spice_lines}
 use Rattle.ca_lex.proofs.WordLemmas.{first_of_words}
 use Rattle.ca_spice.specs.Names.{is_text}
-use Rattle.ca_spice.specs.Kept.{IsUpper}
+use Rattle.ca_spice.specs.code.Kept.{IsUpper}
 use Rattle.ca_spice.proofs.SpelledLemmas.{HasNoComment, IsInside, IsOneWord, IsSpelled, not_blank, not_sign}
 use Rattle.ca_spice.proofs.SpelledLemmas.{shown_spaced, shown_before}
 use Rattle.ca_spice.proofs.UpperLemmas.{words_of-upper}

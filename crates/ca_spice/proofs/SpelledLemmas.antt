@@ -10,7 +10,7 @@ use Rattle.ca_lex.specs.Words.{is_blank, ends_word, word_len, with_byte, words_w
 use Rattle.ca_lex.specs.Physical.{code_len, without_comment}
 use Rattle.ca_lex.proofs.WordLemmas.{first_of_words}
 use Rattle.ca_spice.specs.Names.{is_text}
-use Rattle.ca_spice.specs.Kept.{IsUpper}
+use Rattle.ca_spice.specs.code.Kept.{IsUpper}
 use Rattle.ca_spice.specs.Writing.{spaced}
 
 -- no word of the text begins with `$`, where `begins` says whether a word can begin at once

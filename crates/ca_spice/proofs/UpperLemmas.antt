@@ -6,7 +6,7 @@ use Rattle.std.specs.List.{All}
 use Rattle.std.proofs.lemmas.List.Elements.{All-nil, All-cons, All-head, All-tail}
 use Rattle.std.proofs.lemmas.Str.Ascii.{uppercase-uppercase}
 use Rattle.ca_lex.specs.Words.{is_blank, ends_word, with_byte, words_with, words_of, upper_case}
-use Rattle.ca_spice.specs.Kept.{IsUpper}
+use Rattle.ca_spice.specs.code.Kept.{IsUpper}
 
 -- the byte is in upper case
 abbrev IsUpperByte : ℕ → Type 0

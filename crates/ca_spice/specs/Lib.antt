@@ -7,8 +7,7 @@ pub mod OpenCell
 pub mod Reading
 pub mod Called
 pub mod SpiceFault
-pub mod Kept
-pub mod Named
 pub mod Views
 pub mod Laws
 pub mod Writing
+pub mod code

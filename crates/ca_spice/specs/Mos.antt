@@ -45,12 +45,6 @@ unfoldable pub kind_of : List ℕ → Option DeviceKind
 kind_of [] = None
 kind_of (letter ∷ model) = if letter == 78 then Some kind.N else (if letter == 80 then Some kind.P else None)
 
--- a device of this kind has a gate
-abbrev pub has_gate : DeviceKind → Bool
-has_gate kind.N = true
-has_gate kind.P = true
-has_gate kind.D = false
-
 -- what the words of an M card say after the device's name; the bulk is not used
 pub record Wiring : Type 0 where
   pub drain : List ℕ

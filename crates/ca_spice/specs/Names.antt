@@ -1,11 +1,7 @@
 -- Which words may be in a text, and which are names.
-use Rattle.std.specs.Prelude.{ℕ, ◌==◌, nat_le, Bool, not, ◌&&◌, ◌||◌, List, map}
+use Rattle.std.specs.Prelude.{ℕ, ◌==◌, nat_le, Bool, not, ◌&&◌, ◌||◌, List}
 use denote.Bor.{Bor}
 use Rattle.std.specs.List.{list_all}
-
--- the words of a line, as a list of references shows them
-abbrev pub texts : List (Bor (List ℕ)) → List (List ℕ)
-texts words = map (λ word. word.now) words
 
 -- a byte that may be in a word: from 33 to 126
 abbrev pub is_text_byte : ℕ → Bool

@@ -1,18 +1,10 @@
 -- Why a text gives no library.
 use Rattle.std.specs.Prelude.{Option, Some, None}
-use Rattle.ca_spice.specs.declared.fault.SpiceKind.{SpiceKind}
 use Rattle.ca_spice.specs.declared.fault.SpiceFault.{SpiceFault}
 use Rattle.ca_spice.specs.declared.fault.SpiceFault.TheVariants.{At, TooManyCells, NoMemory}
-use Rattle.ca_spice.specs.declared.fault.Refusal.{Refusal}
-use Rattle.ca_spice.specs.declared.fault.Refusal.TheVariants as refusal
 
 -- the fault of the text that an error is; out of memory says nothing about the text
 abbrev pub fault_reported : SpiceFault → Option SpiceFault
 fault_reported (At line kind) = Some (At line kind)
 fault_reported (TooManyCells count) = Some (TooManyCells count)
 fault_reported NoMemory = None
-
--- the rule that a refusal says a line breaks, if it isn't out of memory
-abbrev pub kind_reported : Refusal → Option SpiceKind
-kind_reported (refusal.Kind kind) = Some kind
-kind_reported refusal.NoMemory = None

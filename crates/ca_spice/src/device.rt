@@ -1,9 +1,9 @@
 //! A transistor more in a subcircuit.
 ghost use Rattle.std.specs.Prelude.{◌≡◌, ◌≤◌, true, false, [], ◌∷◌, ◌++◌, map, length, OnOk};
-ghost use Rattle.ca_spice.specs.Mos.{has_gate};
-ghost use Rattle.ca_spice.specs.Kept.{IsPlaced};
+ghost use Rattle.ca_spice.specs.code.Mos.{has_gate};
+ghost use Rattle.ca_spice.specs.code.Kept.{IsPlaced};
 ghost use Rattle.ca_spice.specs.OpenCell.{has_device, with_source, device_of};
-ghost use Rattle.ca_spice.specs.Views.{wiring_seen, sizes_seen};
+ghost use Rattle.ca_spice.specs.code.Views.{wiring_seen, sizes_seen};
 
 use crate::mos::{Sizes, Wiring};
 use ca_base::NoMemory;

@@ -48,7 +48,8 @@ pub(crate) enum Refusal {
 
 impl Refusal {
     ghost use Rattle.ca_spice.specs.declared.fault.SpiceFault.TheVariants.{At};
-    ghost use Rattle.ca_spice.specs.SpiceFault.{fault_reported, kind_reported};
+    ghost use Rattle.ca_spice.specs.SpiceFault.{fault_reported};
+    ghost use Rattle.ca_spice.specs.code.SpiceFault.{kind_reported};
 
     /// The fault of the line that was not taken.
     pub(crate) fn at(self, line: usize) -> SpiceFault

@@ -5,9 +5,10 @@ ghost use Rattle.std.specs.Str.{bytes_eq};
 ghost use Rattle.ca_lex.specs.Reading.{Gives};
 ghost use Rattle.ca_cell.specs.Library.{IsEntry};
 ghost use Rattle.ca_spice.specs.SpiceFault.{fault_reported};
-ghost use Rattle.ca_spice.specs.Kept.{IsPlacedCell, IsUpper, names_of};
+ghost use Rattle.ca_spice.specs.code.Kept.{IsPlacedCell, IsUpper, names_of};
 ghost use Rattle.ca_spice.specs.Reading.{nothing, lines_from, library_from, library_of};
-ghost use Rattle.ca_spice.specs.Views.{reading_seen, subcircuit_seen};
+ghost use Rattle.ca_spice.specs.Views.{subcircuit_seen};
+ghost use Rattle.ca_spice.specs.code.Views.{reading_seen};
 
 use crate::fault::{SpiceFault, SpiceKind};
 use crate::reading::Reading;

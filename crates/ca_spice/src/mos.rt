@@ -1,9 +1,10 @@
 //! The words of an M card.
 ghost use Rattle.std.specs.Prelude.{◌≡◌, ◌+◌, true, option_map, IfSome};
 ghost use Rattle.ca_spice.specs.Mos.{is_sign, are_params, count_of, value_of, are_sound, kind_of, wiring_of};
-ghost use Rattle.ca_spice.specs.Mos.{has_gate, length_at, sizes_of, strength_of};
-ghost use Rattle.ca_spice.specs.Names.{texts};
-ghost use Rattle.ca_spice.specs.Views.{wiring_seen, sizes_seen};
+ghost use Rattle.ca_spice.specs.Mos.{length_at, sizes_of, strength_of};
+ghost use Rattle.ca_spice.specs.code.Mos.{has_gate};
+ghost use Rattle.ca_spice.specs.code.Names.{texts};
+ghost use Rattle.ca_spice.specs.code.Views.{wiring_seen, sizes_seen};
 
 use crate::names::all_names;
 use ca_lex::{Length, read_length};

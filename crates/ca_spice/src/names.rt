@@ -4,8 +4,9 @@ ghost use Rattle.std.specs.List.{list_all};
 ghost use Rattle.ca_lex.specs.Reading.{Gives, unless};
 ghost use Rattle.ca_names.specs.Names.{has_double};
 ghost use Rattle.ca_spice.specs.declared.fault.SpiceKind.TheVariants.{DoubleName};
-ghost use Rattle.ca_spice.specs.SpiceFault.{kind_reported};
-ghost use Rattle.ca_spice.specs.Names.{texts, is_text_byte, is_text, is_name_byte, is_name};
+ghost use Rattle.ca_spice.specs.code.SpiceFault.{kind_reported};
+ghost use Rattle.ca_spice.specs.Names.{is_text_byte, is_text, is_name_byte, is_name};
+ghost use Rattle.ca_spice.specs.code.Names.{texts};
 
 use crate::fault::{Refusal, SpiceKind};
 use ca_names::NameSet;

@@ -1,8 +1,8 @@
 //! The subcircuit that is being read.
 ghost use Rattle.std.specs.Prelude.{◌≡◌, true, map, length};
-ghost use Rattle.ca_spice.specs.Mos.{has_gate};
-ghost use Rattle.ca_spice.specs.Kept.{IsPlaced};
-ghost use Rattle.ca_spice.specs.Names.{texts};
+ghost use Rattle.ca_spice.specs.code.Mos.{has_gate};
+ghost use Rattle.ca_spice.specs.code.Kept.{IsPlaced};
+ghost use Rattle.ca_spice.specs.code.Names.{texts};
 ghost use Rattle.ca_spice.specs.OpenCell.{is_ended_by};
 
 use crate::device::add_device;
@@ -36,12 +36,12 @@ impl OpenCell {
     ghost use Rattle.std.specs.Prelude.{false, IfOk, Ok};
     ghost use Rattle.ca_lex.specs.Reading.{Gives, unless};
     ghost use Rattle.ca_spice.specs.declared.fault.SpiceKind.TheVariants.{DoubleName};
-    ghost use Rattle.ca_spice.specs.SpiceFault.{kind_reported};
+    ghost use Rattle.ca_spice.specs.code.SpiceFault.{kind_reported};
     ghost use Rattle.ca_names.specs.Names.{has_double};
-    ghost use Rattle.ca_spice.specs.Names.{texts};
+    ghost use Rattle.ca_spice.specs.code.Names.{texts};
     ghost use Rattle.ca_spice.specs.OpenCell.{new_cell, pin_info, has_device, with_device, wired, mos, ended};
-    ghost use Rattle.ca_spice.specs.Kept.{IsPlacedCell};
-    ghost use Rattle.ca_spice.specs.Views.{cell_seen, wiring_seen, sizes_seen};
+    ghost use Rattle.ca_spice.specs.code.Kept.{IsPlacedCell};
+    ghost use Rattle.ca_spice.specs.code.Views.{cell_seen, wiring_seen, sizes_seen};
 
     /// The subcircuit that a `.SUBCKT` with these pins begins.
     pub(crate) fn new(

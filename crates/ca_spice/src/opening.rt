@@ -3,10 +3,10 @@ ghost use Rattle.std.specs.Prelude.{◌≡◌, ◌||◌, [], ◌∷◌, ◌++◌
 ghost use Rattle.ca_lex.specs.Reading.{Gives, unless};
 ghost use Rattle.ca_names.specs.Names.{has_name, has_double};
 ghost use Rattle.ca_spice.specs.declared.fault.SpiceKind.TheVariants.{DoubleName};
-ghost use Rattle.ca_spice.specs.Names.{texts};
+ghost use Rattle.ca_spice.specs.code.Names.{texts};
 ghost use Rattle.ca_spice.specs.OpenCell.{new_cell};
-ghost use Rattle.ca_spice.specs.SpiceFault.{kind_reported};
-ghost use Rattle.ca_spice.specs.Views.{cell_seen};
+ghost use Rattle.ca_spice.specs.code.SpiceFault.{kind_reported};
+ghost use Rattle.ca_spice.specs.code.Views.{cell_seen};
 
 use crate::fault::{Refusal, SpiceKind};
 use crate::open_cell::OpenCell;

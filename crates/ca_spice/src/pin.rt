@@ -1,6 +1,6 @@
 //! The pins of a subcircuit that is being read.
 ghost use Rattle.std.specs.Prelude.{◌≡◌, ◌∷◌, ◌++◌, [], map, IfOk};
-ghost use Rattle.ca_spice.specs.Names.{texts};
+ghost use Rattle.ca_spice.specs.code.Names.{texts};
 ghost use Rattle.ca_spice.specs.OpenCell.{pin_of, pins_after};
 
 use ca_base::NoMemory;

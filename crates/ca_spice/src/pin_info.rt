@@ -1,9 +1,10 @@
 //! The roles of pins.
 ghost use Rattle.std.specs.Prelude.{◌≡◌, ◌≤◌, ◌<◌, length, slice_get, IfOk};
 ghost use Rattle.std.specs.List.{list_all};
-ghost use Rattle.ca_lex.specs.Reading.{Gives, Steps};
-ghost use Rattle.ca_spice.specs.SpiceFault.{kind_reported};
-ghost use Rattle.ca_spice.specs.Names.{texts};
+ghost use Rattle.ca_lex.specs.Reading.{Gives};
+ghost use Rattle.ca_lex.specs.code.Reading.{Steps};
+ghost use Rattle.ca_spice.specs.code.SpiceFault.{kind_reported};
+ghost use Rattle.ca_spice.specs.code.Names.{texts};
 ghost use Rattle.ca_spice.specs.PinInfo.{colon_place, is_pin_word, are_pin_words, role_of, with_role};
 ghost use Rattle.ca_spice.specs.PinInfo.{role_step, pin_info};
 

@@ -1,9 +1,9 @@
 //! Reading a cell netlist, line by line.
 ghost use Rattle.std.specs.Prelude.{◌≡◌, ◌++◌};
 ghost use Rattle.std.specs.List.{All, list_all};
-ghost use Rattle.ca_spice.specs.Kept.{IsPlacedCell, IsUpper, names_of};
-ghost use Rattle.ca_spice.specs.Named.{open_names};
-ghost use Rattle.ca_spice.specs.Names.{texts};
+ghost use Rattle.ca_spice.specs.code.Kept.{IsPlacedCell, IsUpper, names_of};
+ghost use Rattle.ca_spice.specs.code.Named.{open_names};
+ghost use Rattle.ca_spice.specs.code.Names.{texts};
 ghost use Rattle.ca_spice.specs.Reading.{is_header_word, is_header};
 
 use crate::card::{Card, card_of};
@@ -31,11 +31,11 @@ pub(crate) struct Reading {
 impl Reading {
     ghost use Rattle.std.specs.Prelude.{IsTrue};
     ghost use Rattle.ca_lex.specs.Reading.{Gives};
-    ghost use Rattle.ca_spice.specs.SpiceFault.{kind_reported};
+    ghost use Rattle.ca_spice.specs.code.SpiceFault.{kind_reported};
     ghost use Rattle.ca_spice.specs.OpenCell.{pin_info, mos};
     ghost use Rattle.ca_spice.specs.Reading.{nothing, is_outside, named, subckt, ends, in_cell, card_step};
     ghost use Rattle.ca_spice.specs.Reading.{is_comment, words_step, line_step};
-    ghost use Rattle.ca_spice.specs.Views.{reading_seen};
+    ghost use Rattle.ca_spice.specs.code.Views.{reading_seen};
 
     /// What is read before the first line.
     pub(crate) fn new(alloc: Global) -> Self

@@ -18,7 +18,7 @@ use Rattle.ca_defect.specs.Exposes.{pin_vector, CellEndsAt}
 use Rattle.ca_defect.proofs.NumberLemmas.{number_of, number_within, vector_again, vector_definite}
 use Rattle.ca_response.specs.Outputs.{output_node, AreEndsOf}
 use Rattle.ca_flips.specs.Static.{EndsByLast, LastEnd, IsStatic}
-use Rattle.ca_static.specs.StaticAt.{IsStaticAt}
+use Rattle.ca_static.specs.code.StaticAt.{IsStaticAt}
 use Rattle.ca_static.proofs.WaveLemmas.{length-vector_of}
 
 -- unknown values may be left out at the end of a vector

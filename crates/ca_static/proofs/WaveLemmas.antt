@@ -7,7 +7,7 @@ use Rattle.ca_net.specs.declared.wave.Wave.{Wave}
 use Rattle.ca_net.specs.Wave.{IsWave, pair_of}
 use Rattle.ca_defect.specs.Row.{digit_value, vector_of}
 use Rattle.ca_response.proofs.PairLemmas.{pairs_are_waves, length-pairs_of}
-use Rattle.ca_static.specs.StaticAt.{waves_to}
+use Rattle.ca_static.specs.code.StaticAt.{waves_to}
 
 pub length-vector_of : (inputs number : ℕ) → length (vector_of inputs number) ≡ inputs
 length-vector_of zero number = refl

@@ -1,3 +1,3 @@
 -- What the contracts of this crate say.
-pub mod StaticAt
 pub mod LastTable
+pub mod code

@@ -9,7 +9,7 @@ ghost use Rattle.ca_cell.specs.Raw.{circuit_of};
 ghost use Rattle.ca_defect.specs.Row.{digit_value};
 ghost use Rattle.ca_settle.specs.Settled.{IsRoomFor};
 ghost use Rattle.ca_flips.specs.Static.{IsStatic};
-ghost use Rattle.ca_static.specs.StaticAt.{IsStaticAt, waves_to};
+ghost use Rattle.ca_static.specs.code.StaticAt.{IsStaticAt, waves_to};
 
 use ca_cell::{Cell, MOST_INPUTS};
 use ca_net::{Trit, Wave};

@@ -1,5 +1,5 @@
 -- What a STIL text needs of a chip, and which pairs and expected values are of it.
-use Rattle.std.specs.Prelude.{ℕ, ◌≡◌, ◌+◌, ◌^◌, ◌<◌, ◌≤◌, Bool, List, [], ◌∷◌, length, map, max, take, drop}
+use Rattle.std.specs.Prelude.{ℕ, ◌≡◌, ◌+◌, ◌<◌, Bool, List, [], ◌∷◌, length, map, max, take, drop}
 use Rattle.std.specs.List.{All}
 use Rattle.ca_net.specs.declared.trit.Trit.{Trit}
 use Rattle.ca_stil.specs.declared.chip.StilChain.{StilChain}
@@ -10,10 +10,6 @@ use Rattle.ca_stil.specs.declared.chip.End.TheVariants as at
 -- `count` values, from a place on
 abbrev pub part : {Value : Type 0} → ℕ → ℕ → List Value → List Value
 part from count values = take count (drop from values)
-
--- these values are there, and their places can be counted
-abbrev pub Spans : {Value : Type 0} → ℕ → ℕ → List Value → Type 0
-Spans from count values = (from + count ≤ length values) × (from + count < 2 ^ 64)
 
 -- how many pattern bits a vector has: first one for each chip input among the ports, and then one for each
 -- scan instance

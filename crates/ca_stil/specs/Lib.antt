@@ -5,3 +5,4 @@ pub mod Groups
 pub mod Frame
 pub mod Pair
 pub mod Text
+pub mod code

@@ -2,7 +2,8 @@
 
 ghost use Rattle.std.specs.Prelude.{◌≡◌, ◌++◌, ◌<◌, ◌≤◌, ◌+◌, length, OnOk, codes};
 ghost use Rattle.std.specs.List.{All};
-ghost use Rattle.ca_stil.specs.Chip.{part, Spans, width_of, IsStilChip, IsPairOf, AreValuesOf};
+ghost use Rattle.ca_stil.specs.Chip.{part, width_of, IsStilChip, IsPairOf, AreValuesOf};
+ghost use Rattle.ca_stil.specs.code.Chip.{Spans};
 ghost use Rattle.ca_stil.specs.Pair.{load_text, hold_text, vector_text, apply_text, half_text, first_text};
 ghost use Rattle.ca_stil.specs.Pair.{second_text, expected_text, unobserved_text, unload_text, label_text};
 ghost use Rattle.ca_stil.specs.Pair.{pair_text};

@@ -3,7 +3,8 @@
 ghost use Rattle.std.specs.Prelude.{◌≡◌, ◌++◌, ◌<◌, ◌≤◌, ◌+◌, ◌-◌, ◌∷◌, [], length, map, max, replicate};
 ghost use Rattle.std.specs.Prelude.{OnOk, codes, slice_get, Some};
 ghost use Rattle.std.specs.List.{All};
-ghost use Rattle.ca_stil.specs.Chip.{part, Spans, longest, end_of, IsWithin};
+ghost use Rattle.ca_stil.specs.Chip.{part, longest, end_of, IsWithin};
+ghost use Rattle.ca_stil.specs.code.Chip.{Spans};
 ghost use Rattle.ca_stil.specs.Words.{digit_of, level_of, key_text, cell_bits, cell_levels};
 ghost use Rattle.ca_stil.specs.Pair.{state_text, states_text, levels_text, all_levels_text, steady_text};
 

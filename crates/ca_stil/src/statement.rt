@@ -3,7 +3,8 @@
 ghost use Rattle.std.specs.Prelude.{◌≡◌, ◌++◌, ◌<◌, ◌≤◌, ◌+◌, ◌==◌, length, map, replicate, OnOk, codes};
 ghost use Rattle.std.specs.Prelude.{decimal, slice_get, Some};
 ghost use Rattle.std.specs.List.{All};
-ghost use Rattle.ca_stil.specs.Chip.{part, Spans, IsWithin};
+ghost use Rattle.ca_stil.specs.Chip.{part, IsWithin};
+ghost use Rattle.ca_stil.specs.code.Chip.{Spans};
 ghost use Rattle.ca_stil.specs.Words.{digit_of, level_of};
 ghost use Rattle.ca_stil.specs.Pair.{states_text, all_levels_text, steady_text, hold_text, vector_text};
 ghost use Rattle.ca_stil.specs.Pair.{expected_text, unobserved_text, load_of_text, load_text, capture_text};

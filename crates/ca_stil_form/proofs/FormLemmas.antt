@@ -5,7 +5,8 @@ use Rattle.std.proofs.Common.{sym, ap, ◌∙◌, append_assoc}
 use Rattle.std.specs.Str.{bytes_eq}
 use Rattle.std.specs.Prelude.{⊤}
 use Rattle.std.proofs.lemmas.Slice.Eq.{bytes_eq-Decides}
-use Rattle.ca_stil_form.specs.Form.{Token, Outcome, Got, Stuck, IsStuck, IsExact, read_one, read_fixed}
+use Rattle.ca_stil_form.specs.Form.{Token, Outcome, Got, Stuck, read_one, read_fixed}
+use Rattle.ca_stil_form.specs.code.Form.{IsStuck, IsExact}
 use Rattle.ca_stil_form.specs.Form.{with_first, read_after, read_then, mapped, read_each, written_each}
 use Rattle.ca_stil_form.specs.Form.{all_each}
 

@@ -4,8 +4,10 @@ use Rattle.std.proofs.Common.{◌∙◌}
 use Rattle.std.specs.Prelude.{⊤, if◌then◌else◌}
 use Rattle.std.specs.Str.{bytes_eq}
 use Rattle.std.proofs.lemmas.Slice.Eq.{bytes_eq-Decides}
-use Rattle.ca_stil_form.specs.Form.{Token, read_fixed, read_then, Begins, BeginsOther}
-use Rattle.ca_stil_form.specs.Grammar.{Piece, Form, IsExactForm, spelled_value, word, and_then, following}
+use Rattle.ca_stil_form.specs.Form.{Token, read_fixed, read_then}
+use Rattle.ca_stil_form.specs.code.Form.{Begins, BeginsOther}
+use Rattle.ca_stil_form.specs.Grammar.{Piece, Form, spelled_value, word, and_then, following}
+use Rattle.ca_stil_form.specs.code.Grammar.{IsExactForm}
 use Rattle.ca_stil_form.specs.Grammar.{before, items_until, for_each, maybe}
 use Rattle.ca_stil_form.proofs.FormLemmas.{left_true, right_true, one_exact, then_exact, mapped_exact}
 use Rattle.ca_stil_form.proofs.FormLemmas.{fixed_exact, each_exact}

@@ -3,8 +3,10 @@ use Rattle.std.proofs.Common.{◌≡◌, ℕ, zero, suc, ◌+◌, ◌<◌, ◌�
 use Rattle.std.proofs.Common.{length, refl, sym, ap, ◌∙◌, arith, append_assoc, length-append, subst}
 use Rattle.std.specs.Str.{bytes_eq}
 use Rattle.std.proofs.lemmas.Slice.Eq.{bytes_eq-Decides}
-use Rattle.ca_stil_form.specs.Form.{Token, Outcome, Got, Stuck, IsExact, with_first, read_after, mapped}
-use Rattle.ca_stil_form.specs.Form.{read_until, written_until, all_allowed, read_items, BeginsOther}
+use Rattle.ca_stil_form.specs.Form.{Token, Outcome, Got, Stuck, with_first, read_after, mapped}
+use Rattle.ca_stil_form.specs.code.Form.{IsExact}
+use Rattle.ca_stil_form.specs.Form.{read_until, written_until, all_allowed, read_items}
+use Rattle.ca_stil_form.specs.code.Form.{BeginsOther}
 use Rattle.ca_stil_form.proofs.FormLemmas.{left_true, right_true}
 
 pub begins_other_more : (key : Token) (tokens more : List Token) → BeginsOther key tokens → BeginsOther key (tokens ++ more)

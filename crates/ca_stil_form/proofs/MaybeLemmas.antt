@@ -2,9 +2,11 @@
 use Rattle.std.proofs.Common.{◌≡◌, Bool, true, false, ◌&&◌, List, [], ◌∷◌, ◌++◌, Option, Some, None, refl}
 use Rattle.std.proofs.Common.{sym, ap, ◌∙◌, append_assoc}
 use Rattle.std.specs.Str.{bytes_eq}
-use Rattle.ca_stil_form.specs.Form.{Token, Outcome, Got, Stuck, IsStuck, IsExact, with_first, read_after}
-use Rattle.ca_stil_form.specs.Form.{mapped, as_some, read_maybe, written_maybe, allowed_maybe, Begins}
-use Rattle.ca_stil_form.specs.Form.{BeginsOther}
+use Rattle.ca_stil_form.specs.Form.{Token, Outcome, Got, Stuck, with_first, read_after}
+use Rattle.ca_stil_form.specs.code.Form.{IsStuck, IsExact}
+use Rattle.ca_stil_form.specs.Form.{mapped, as_some, read_maybe, written_maybe, allowed_maybe}
+use Rattle.ca_stil_form.specs.code.Form.{Begins}
+use Rattle.ca_stil_form.specs.code.Form.{BeginsOther}
 use Rattle.ca_stil_form.proofs.FormLemmas.{left_true, right_true}
 use Rattle.ca_stil_form.proofs.ItemsLemmas.{begins_other_more}
 

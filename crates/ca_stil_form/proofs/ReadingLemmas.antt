@@ -3,7 +3,8 @@ use Rattle.std.proofs.Common.{◌≡◌, ℕ, ◌+◌, ◌<◌, true, List, [], 
 use Rattle.std.proofs.Common.{ap, ◌∙◌, arith, append_assoc, length-append}
 use Rattle.std.proofs.lemmas.List.{append-nil}
 use Rattle.ca_stil_form.specs.Form.{Token, Outcome, Got, Stuck}
-use Rattle.ca_stil_form.specs.Grammar.{Form, IsExactForm}
+use Rattle.ca_stil_form.specs.Grammar.{Form}
+use Rattle.ca_stil_form.specs.code.Grammar.{IsExactForm}
 use Rattle.ca_stil_form.specs.Tokens.{tokens_from, tokens_of}
 use Rattle.ca_stil_form.proofs.SpelledLemmas.{IsSpelled}
 use Rattle.ca_stil_form.specs.Reading.{at_end, whole, IsWritten, Begins, IsFirstFaulty}

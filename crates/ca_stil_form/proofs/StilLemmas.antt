@@ -10,8 +10,10 @@ use Rattle.std.proofs.lemmas.List.{length-replicate, length-map}
 use Rattle.std.proofs.Math.Seq.{drop-append_seam, take-append_seam}
 use Rattle.ca_net.specs.declared.trit.Trit.{Trit}
 use Rattle.ca_net.specs.declared.trit.Trit.TheVariants.{Zero, One, X}
-use Rattle.ca_stil_form.specs.Form.{Token, all_allowed, written_maybe, BeginsOther}
-use Rattle.ca_stil_form.specs.Grammar.{fixed, blank, token, ◌<>◌, IsExactForm, word, following, before}
+use Rattle.ca_stil_form.specs.Form.{Token, all_allowed, written_maybe}
+use Rattle.ca_stil_form.specs.code.Form.{BeginsOther}
+use Rattle.ca_stil_form.specs.Grammar.{fixed, blank, token, ◌<>◌, word, following, before}
+use Rattle.ca_stil_form.specs.code.Grammar.{IsExactForm}
 use Rattle.ca_stil_form.specs.Frame.{Signal, Names, Scan, Frame, Member, is_name, quoted, group_word}
 use Rattle.ca_stil_form.specs.Frame.{quoted_from, names_of, is_group, is_among, fits_in_order, fits_in_number}
 use Rattle.ca_stil_form.specs.Frame.{all_in, has_some, group_member, load_members, unload_members, key_inputs}

@@ -3,7 +3,7 @@
 use Rattle.std.specs.Prelude.{ℕ, ◌+◌, Bool, ◌&&◌, List, [], ◌∷◌, ◌++◌, Option, Some, None, if◌then◌else◌}
 use Rattle.std.specs.Str.{bytes_eq}
 use Rattle.ca_stil_form.specs.Tokens.{tokens_of}
-use Rattle.ca_stil_form.specs.Form.{Token, Outcome, IsExact, read_one, read_fixed, read_then, mapped}
+use Rattle.ca_stil_form.specs.Form.{Token, Outcome, read_one, read_fixed, read_then, mapped}
 use Rattle.ca_stil_form.specs.Form.{read_items, written_until, all_allowed, read_maybe, written_maybe}
 use Rattle.ca_stil_form.specs.Form.{allowed_maybe, read_each, written_each, all_each}
 
@@ -44,10 +44,6 @@ pub record Form (Value : Type 0) : Type 0 where
   pub text : Value → List ℕ
   pub written : Value → List Token
   pub read : List Token → Outcome Value
-
--- its reader is exact
-pub record IsExactForm {Value : Type 0} (form : Form Value) : Type 0 where
-  pub exact : IsExact form.allowed form.written form.read
 
 -- the value that a token spells: the one that a first look gives, if it is allowed and spelled so
 abbrev pub spelled_value : {Value : Type 0} → (Value → Bool) → (Value → Token) → (Token → Value) → Token

@@ -8,3 +8,4 @@ pub mod Whole
 pub mod Value
 pub mod Reading
 pub mod Allowed
+pub mod code

@@ -1,5 +1,5 @@
 -- The tokens of a STIL text: words, marks, and quoted texts, in which nothing else counts.
-use Rattle.std.specs.Prelude.{ℕ, suc, ◌≡◌, ◌==◌, Bool, true, false, not, ◌||◌, if◌then◌else◌, List, [], ◌∷◌}
+use Rattle.std.specs.Prelude.{ℕ, suc, ◌==◌, Bool, true, false, not, ◌||◌, if◌then◌else◌, List, [], ◌∷◌}
 use Rattle.std.specs.Prelude.{◌++◌, drop}
 use Rattle.std.specs.List.{prefix_len}
 use Rattle.ca_stil_form.specs.Form.{Token}
@@ -90,11 +90,6 @@ group_len in_name [] = 0
 group_len true (byte ∷ bytes) = suc (group_len (not (byte == 34)) bytes)
 group_len false (byte ∷ bytes) = if byte == 39 then 1 else suc (group_len (byte == 34) bytes)
 
--- the text begins with a token, and not with a space
-abbrev pub BeginsToken : List ℕ → Type 0
-BeginsToken [] = ⊥
-BeginsToken (byte ∷ bytes) = is_space byte ≡ false
-
 -- how long the token is that a text begins with
 abbrev pub first_len : List ℕ → ℕ
 first_len [] = 0
@@ -106,8 +101,3 @@ first_len (byte ∷ bytes) =
 -- the text without the spaces before its first token
 abbrev pub trimmed : List ℕ → List ℕ
 trimmed text = drop (prefix_len is_space text) text
-
--- the text is empty, or begins with a token
-abbrev pub IsTrimmed : List ℕ → Type 0
-IsTrimmed [] = Unit {0}
-IsTrimmed (byte ∷ bytes) = is_space byte ≡ false

@@ -34,7 +34,7 @@ use Rattle.ca_wiring.specs.Rules.{KeepsRules, IsOnInputPort, control_names, IsSc
 use Rattle.ca_scan.specs.Chain.{IsOnPin, IsOut, RunsOut, IsChainFrom, IsScanAt}
 use Rattle.ca_scan.specs.Chain.{count_of, ends_of}
 use Rattle.ca_scan.specs.ChainFault.{AreAllChains}
-use Rattle.ca_scan.specs.Kept.{in_nets, so_nets, takers_of, outs_of}
+use Rattle.ca_scan.specs.code.Kept.{in_nets, so_nets, takers_of, outs_of}
 use Rattle.ca_scan.proofs.CountLemmas.{item_of, count_here, one_place, enough, takes}
 use Rattle.ca_scan.proofs.ChainLemmas.{run_length}
 use Rattle.ca_scan.proofs.JointLemmas.{scan_at, scan_place}

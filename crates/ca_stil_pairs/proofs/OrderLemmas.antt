@@ -16,7 +16,7 @@ use Rattle.ca_stil_form.specs.Value.{in_chain, values_of}
 use Rattle.ca_stil_form.proofs.PairTexts.{chain_seen}
 use Rattle.ca_stil_read.specs.Plan.{flat}
 use Rattle.ca_stil_pairs.specs.Chip.{order_of, IsCovered}
-use Rattle.ca_stil_pairs.specs.Places.{AreSites, sited}
+use Rattle.ca_stil_pairs.specs.code.Places.{AreSites, sited}
 use Rattle.ca_stil_pairs.proofs.ListLemmas.{long_part, all_of}
 
 pub reversed : {One Two : Type 0} (f : One → Two) (list : List One) → reverse (map f list) ≡ map f (reverse list)

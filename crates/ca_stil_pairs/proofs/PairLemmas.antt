@@ -15,8 +15,8 @@ use Rattle.ca_stil_read.specs.declared.pair.TextPair.{TextPair}
 use Rattle.ca_stil_read.specs.Kept.{pair_seen}
 use Rattle.ca_stil_read.specs.Plan.{flat, flat_pair}
 use Rattle.ca_stil_pairs.specs.Chip.{order_of, IsCovered}
-use Rattle.ca_stil_pairs.specs.Places.{AreSites, cell_count, sited, chip_bits}
-use Rattle.ca_stil_pairs.specs.Places.{chip_levels, IsPairFor}
+use Rattle.ca_stil_pairs.specs.code.Places.{AreSites, cell_count, sited, chip_bits}
+use Rattle.ca_stil_pairs.specs.code.Places.{chip_levels, IsPairFor}
 use Rattle.ca_stil_pairs.proofs.ListLemmas.{part_seam, long_part, cut_two, cut_four}
 use Rattle.ca_stil_pairs.proofs.OrderLemmas.{flat_in_chains, flat_values, gathered}
 use Rattle.ca_stil_pairs.proofs.ShapeLemmas.{HasShape, shape_of, same_pair, same_long}

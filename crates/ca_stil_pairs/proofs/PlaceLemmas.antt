@@ -5,7 +5,7 @@ use Rattle.std.specs.Prelude.{Some, slice_get}
 use Rattle.std.proofs.lemmas.List.{take_more, map-append, get_or-drop}
 use Rattle.std.proofs.lemmas.Option.{get_or_from_slice_get, slice_get_within}
 use Rattle.ca_stil.specs.Chip.{part}
-use Rattle.ca_stil_pairs.specs.Places.{sited}
+use Rattle.ca_stil_pairs.specs.code.Places.{sited}
 
 part_more : {Value : Type 0} (from k : ℕ) (values : List Value) (value : Value) → slice_get values (from + k) ≡ Some value
     → part from (k + 1) values ≡ part from k values ++ value ∷ []

@@ -13,8 +13,8 @@ use Rattle.ca_stil_read.specs.declared.groups.ScanGroups.{ScanGroups}
 use Rattle.ca_stil_read.specs.declared.read.StilText.{StilText}
 use Rattle.ca_stil_read.specs.Groups.{scan_in, scan_seen}
 use Rattle.ca_stil_pairs.specs.Chip.{ChipPart, part_of}
-use Rattle.ca_stil_pairs.specs.Same.{bool_eq, signals_eq, names_eq, scan_ins_eq, scan_outs_eq, cells_eq}
-use Rattle.ca_stil_pairs.specs.Same.{group_eq, scan_eq, text_eq}
+use Rattle.ca_stil_pairs.specs.code.Same.{bool_eq, signals_eq, names_eq, scan_ins_eq, scan_outs_eq, cells_eq}
+use Rattle.ca_stil_pairs.specs.code.Same.{group_eq, scan_eq, text_eq}
 
 text_true : (one other : List ℕ) → bytes_eq one other ≡ true → one ≡ other
 text_true one other is = (bytes_eq-Decides one other).0 is

@@ -22,10 +22,11 @@ use Rattle.ca_stil_read.specs.Plan.{flat_pair}
 use Rattle.ca_stil_read.specs.Text.{ReadsAs}
 use Rattle.ca_stil_read.specs.Whole.{FlatStil}
 use Rattle.ca_stil_pairs.specs.Chip.{ChipPart, chip_part, part_of, order_of, IsCovered}
-use Rattle.ca_stil_pairs.specs.Places.{AreSites, chip_bits, chip_levels, IsPairFor}
-use Rattle.ca_stil_pairs.specs.File.{IsMadeFrom, IsFileOf, IsOfOther}
+use Rattle.ca_stil_pairs.specs.code.Places.{AreSites, chip_bits, chip_levels, IsPairFor}
+use Rattle.ca_stil_pairs.specs.File.{IsFileOf, IsOfOther}
+use Rattle.ca_stil_pairs.specs.code.File.{IsMadeFrom}
 use Rattle.ca_stil_pairs.specs.declared.file.StilFile.{StilFile}
-use Rattle.ca_stil_pairs.specs.Same.{text_eq}
+use Rattle.ca_stil_pairs.specs.code.Same.{text_eq}
 use Rattle.ca_stil_pairs.proofs.ListLemmas.{all_of}
 use Rattle.ca_stil_pairs.proofs.OrderLemmas.{longest_within}
 use Rattle.ca_stil_pairs.proofs.PairLemmas.{bits_of_chip, levels_of_chip, pair_for, pair_is}

@@ -1,29 +1,16 @@
 -- What a text is to a chip: a file of its pairs, or why it is none.
-use Rattle.std.specs.Prelude.{ℕ, ◌≡◌, ◌≢◌, List, map, Ok}
+use Rattle.std.specs.Prelude.{ℕ, ◌≡◌, ◌≢◌, List, Ok}
 use Rattle.ca_stil.specs.declared.chip.StilChip.{StilChip}
 use Rattle.ca_stil.specs.Chip.{AreOf}
 use Rattle.ca_stil_form.specs.Reading.{whole}
 use Rattle.ca_stil_form.specs.Tokens.{tokens_of}
 use Rattle.ca_stil_form.specs.Value.{stil_value}
 use Rattle.ca_stil_form.specs.Whole.{Stil, stil_form}
-use Rattle.ca_stil_read.specs.declared.pair.TextPair.{TextPair}
 use Rattle.ca_stil_read.specs.Text.{IsFaultyAt}
 use Rattle.ca_stil_pairs.specs.declared.file.StilFile.{StilFile}
 use Rattle.ca_stil_pairs.specs.declared.read.StilFault.{StilFault}
 use Rattle.ca_stil_pairs.specs.declared.read.StilFault.TheVariants as fault
-use Rattle.ca_stil_pairs.specs.Chip.{order_of, chip_part, part_of}
-use Rattle.ca_stil_pairs.specs.Places.{AreSites, chip_bits, chip_levels}
-
--- the file has the pairs of a text by place
-pub record IsMade (chip : StilChip) (sites : List ℕ) (pairs : List TextPair) (file : StilFile) : Type 0 where
-  pub pairs_are : file.pairs ≡ map (chip_bits chip sites) pairs
-  pub expected_are : file.expected ≡ map (chip_levels chip sites) pairs
-
--- so it has, by the sites of the chip's scan instances
-pub record IsMadeFrom (chip : StilChip) (pairs : List TextPair) (file : StilFile) : Type 0 where
-  pub sites : List ℕ
-  pub are_sites : AreSites (order_of chip.chains) chip.scan_count sites
-  pub made : IsMade chip sites pairs file
+use Rattle.ca_stil_pairs.specs.Chip.{chip_part, part_of}
 
 -- the pairs and the expected values are of the chip, and the text reads as its values with these
 pub record IsFileOf (chip : StilChip) (bytes : List ℕ) (file : StilFile) : Type 0 where

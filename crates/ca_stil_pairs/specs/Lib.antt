@@ -1,6 +1,5 @@
 -- What the contracts of this crate say, in reading order.
 pub mod Chip
-pub mod Places
 pub mod File
 pub mod Laws
-pub mod Same
+pub mod code

@@ -2,15 +2,15 @@
 
 ghost use Rattle.std.specs.Prelude.{◌≡◌, length, decimal};
 ghost use Rattle.std.specs.Str.{bytes_eq};
-ghost use Rattle.ca_stil_pairs.specs.Same.{signals_eq, names_eq, scan_ins_eq, scan_outs_eq, cells_eq};
-ghost use Rattle.ca_stil_pairs.specs.Same.{group_eq, scan_groups_eq, scan_eq, text_eq};
+ghost use Rattle.ca_stil_pairs.specs.code.Same.{signals_eq, names_eq, scan_ins_eq, scan_outs_eq, cells_eq};
+ghost use Rattle.ca_stil_pairs.specs.code.Same.{group_eq, scan_groups_eq, scan_eq, text_eq};
 
 use ca_lex::{Names, Text};
 use ca_stil::{Signal, StilChain, StilChip};
 use ca_stil_read::{ScanGroups, StilText};
 use itoa::Buffer;
 
-#[tactic(auto, unfolding(crate::specs::Same::signals_eq))]
+#[tactic(auto, unfolding(crate::specs::code::Same::signals_eq))]
 fn same_signals(signals: &[Signal], others: &[Signal]) -> bool
     ensures { result ≡ signals_eq signals.now others.now }
 {
@@ -32,7 +32,7 @@ fn same_signals(signals: &[Signal], others: &[Signal]) -> bool
     right.is_empty()
 }
 
-#[tactic(auto, unfolding(crate::specs::Same::names_eq))]
+#[tactic(auto, unfolding(crate::specs::code::Same::names_eq))]
 fn same_names(names: &[Text], others: &[Text]) -> bool
     ensures { result ≡ names_eq names.now others.now }
 {
@@ -52,7 +52,7 @@ fn same_names(names: &[Text], others: &[Text]) -> bool
 }
 
 // Whether these are the scan-in ports of the chains.
-#[tactic(auto, unfolding(crate::specs::Same::scan_ins_eq))]
+#[tactic(auto, unfolding(crate::specs::code::Same::scan_ins_eq))]
 fn same_scan_ins(names: &[Text], chains: &[StilChain]) -> bool
     ensures { result ≡ scan_ins_eq names.now chains.now }
 {
@@ -72,7 +72,7 @@ fn same_scan_ins(names: &[Text], chains: &[StilChain]) -> bool
 }
 
 // Whether these are the scan-out ports of the chains.
-#[tactic(auto, unfolding(crate::specs::Same::scan_outs_eq))]
+#[tactic(auto, unfolding(crate::specs::code::Same::scan_outs_eq))]
 fn same_scan_outs(names: &[Text], chains: &[StilChain]) -> bool
     ensures { result ≡ scan_outs_eq names.now chains.now }
 {
@@ -100,7 +100,7 @@ fn is_length(digits: &[u8], chain: &StilChain) -> bool
 }
 
 // Whether these are the numbers of cells of the chains.
-#[tactic(auto, unfolding(crate::specs::Same::cells_eq))]
+#[tactic(auto, unfolding(crate::specs::code::Same::cells_eq))]
 fn same_cells(cells: &[Text], chains: &[StilChain]) -> bool
     ensures { result ≡ cells_eq cells.now chains.now }
 {

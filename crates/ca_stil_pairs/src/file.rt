@@ -3,8 +3,8 @@
 ghost use Rattle.std.specs.Prelude.{◌≡◌, ◌<◌, length, map, IfOk};
 ghost use Rattle.std.specs.List.{All};
 ghost use Rattle.ca_stil_pairs.specs.Chip.{order_of};
-ghost use Rattle.ca_stil_pairs.specs.Places.{cell_count, chip_bits, chip_levels, IsPairFor};
-ghost use Rattle.ca_stil_pairs.specs.File.{IsMade};
+ghost use Rattle.ca_stil_pairs.specs.code.Places.{cell_count, chip_bits, chip_levels, IsPairFor};
+ghost use Rattle.ca_stil_pairs.specs.code.File.{IsMade};
 
 use crate::places::{bits_by_place, levels_by_place};
 use ca_base::{List, NoMemory};

@@ -2,7 +2,7 @@
 
 ghost use Rattle.std.specs.Prelude.{◌≡◌, ◌++◌, ◌<◌, reverse, IfOk, OnOk};
 ghost use Rattle.ca_stil_pairs.specs.Chip.{order_of, IsCovered};
-ghost use Rattle.ca_stil_pairs.specs.Places.{AreSites};
+ghost use Rattle.ca_stil_pairs.specs.code.Places.{AreSites};
 
 use ca_base::{List, NoMemory};
 use ca_stil::{StilChain, StilChip};

@@ -3,8 +3,9 @@
 ghost use Rattle.std.specs.Prelude.{◌≡◌, ◌++◌, ◌<◌, ◌+◌, Bool, false, length, map, IfOk, OnOk};
 ghost use Rattle.std.specs.List.{All};
 ghost use Rattle.ca_net.specs.declared.trit.Trit.TheVariants.{X};
-ghost use Rattle.ca_stil.specs.Chip.{part, Spans};
-ghost use Rattle.ca_stil_pairs.specs.Places.{sited, bits_from, levels_from};
+ghost use Rattle.ca_stil.specs.Chip.{part};
+ghost use Rattle.ca_stil.specs.code.Chip.{Spans};
+ghost use Rattle.ca_stil_pairs.specs.code.Places.{sited, bits_from, levels_from};
 
 use ca_base::{List, NoMemory};
 use ca_net::Trit;

@@ -4,8 +4,9 @@ ghost use Rattle.std.specs.Prelude.{◌≡◌, IfOk, IfErr};
 ghost use Rattle.std.specs.List.{All};
 ghost use Rattle.ca_stil_read.specs.Text.{ReadsAs};
 ghost use Rattle.ca_stil_pairs.specs.Chip.{IsCovered, order_of};
-ghost use Rattle.ca_stil_pairs.specs.File.{IsFileOf, IsMadeFrom, IsCause};
-ghost use Rattle.ca_stil_pairs.specs.Places.{IsPairFor};
+ghost use Rattle.ca_stil_pairs.specs.File.{IsFileOf, IsCause};
+ghost use Rattle.ca_stil_pairs.specs.code.File.{IsMadeFrom};
+ghost use Rattle.ca_stil_pairs.specs.code.Places.{IsPairFor};
 ghost use Rattle.ca_stil_pairs.specs.declared.read.StilFault.TheVariants as fault;
 
 use crate::chip::is_of_chip;

@@ -11,8 +11,8 @@ use Rattle.ca_stil_form.specs.Frame.{Names}
 use Rattle.ca_stil_form.specs.Whole.{Ports, numbered}
 use Rattle.ca_stil_read.specs.declared.stop.Stop.{Stop}
 use Rattle.ca_stil_read.specs.declared.stop.Stop.TheVariants as stop
-use Rattle.ca_stil_read.specs.Kept.{ports_at}
-use Rattle.ca_stil_read.specs.Views.{IsStopped}
+use Rattle.ca_stil_read.specs.code.Kept.{ports_at}
+use Rattle.ca_stil_read.specs.code.Views.{IsStopped}
 
 pub drop_at : {Value : Type 0} (list : List Value) (k : ℕ) (one : Value) → k < length list → one ≡ get_or list k one
     → drop k list ≡ one ∷ drop (k + 1) list

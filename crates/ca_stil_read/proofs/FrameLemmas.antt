@@ -7,8 +7,8 @@ use Rattle.std.proofs.Common.{length-drop}
 use Rattle.std.proofs.lemmas.Bool.Decides.{nat_tests}
 use Rattle.std.proofs.lemmas.List.{append-nil}
 use Rattle.ca_stil_read.specs.declared.frame.FrameChain.{FrameChain}
-use Rattle.ca_stil_read.specs.Frames.{chain_seen}
-use Rattle.ca_stil_read.specs.Kept.{chain_at}
+use Rattle.ca_stil_read.specs.code.Frames.{chain_seen}
+use Rattle.ca_stil_read.specs.code.Kept.{chain_at}
 use Rattle.ca_stil_read.proofs.ChainLemmas.{drop_at, numbered_at, numbered_end}
 use Rattle.ca_lex.specs.Length.{with_digit, number_of}
 use Rattle.ca_stil_form.specs.Frame.{Chain, Names, longest}

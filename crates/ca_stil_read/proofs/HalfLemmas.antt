@@ -6,7 +6,7 @@ use Rattle.ca_stil_form.specs.Frame.{key_outputs}
 use Rattle.ca_stil_form.specs.Pattern.{load_ends, first_ends, last_ends, unload_ends}
 use Rattle.ca_stil_read.specs.declared.plan.Step.{Step}
 use Rattle.ca_stil_read.specs.declared.plan.Step.TheVariants as step
-use Rattle.ca_stil_read.specs.Frames.{first_half, last_half, expected_part}
+use Rattle.ca_stil_read.specs.code.Frames.{first_half, last_half, expected_part}
 use Rattle.ca_stil_read.specs.Plan.{member_steps, bits_step, levels_step, pair_steps}
 use Rattle.ca_stil_read.proofs.Appending.{after_three, after_four}
 

@@ -3,8 +3,10 @@ use Rattle.std.proofs.Common.{◌≡◌, ℕ, zero, suc, ◌+◌, ◌<◌, Bool,
 use Rattle.std.proofs.Common.{refl, ap, ◌∙◌, arith, length-append}
 use Rattle.std.specs.Str.{bytes_eq}
 use Rattle.ca_stil_form.specs.Form.{Token, Outcome, Got, Stuck, with_first, read_after, mapped, read_until}
-use Rattle.ca_stil_form.specs.Form.{read_items, BeginsOther}
-use Rattle.ca_stil_form.specs.Grammar.{Form, IsExactForm}
+use Rattle.ca_stil_form.specs.Form.{read_items}
+use Rattle.ca_stil_form.specs.code.Form.{BeginsOther}
+use Rattle.ca_stil_form.specs.Grammar.{Form}
+use Rattle.ca_stil_form.specs.code.Grammar.{IsExactForm}
 use Rattle.ca_stil_form.proofs.ItemsLemmas.{some_tokens, next_items, until_step, until_close}
 
 -- an item takes some tokens

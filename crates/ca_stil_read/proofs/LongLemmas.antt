@@ -3,10 +3,12 @@ use Rattle.std.proofs.Common.{◌≡◌, ℕ, zero, suc, ◌+◌, ◌<◌, ◌�
 use Rattle.std.proofs.Common.{codes, refl, sym, ap, ◌∙◌, arith, subst, take}
 use Rattle.std.specs.Prelude.{⊤, Option, Some, None, map}
 use Rattle.std.specs.Str.{bytes_eq}
-use Rattle.ca_stil_form.specs.Form.{Token, Outcome, Got, Stuck, mapped, read_one, read_fixed, BeginsOther}
+use Rattle.ca_stil_form.specs.Form.{Token, Outcome, Got, Stuck, mapped, read_one, read_fixed}
+use Rattle.ca_stil_form.specs.code.Form.{BeginsOther}
 use Rattle.ca_stil_form.specs.Frame.{Chain, Frame, Names, Scan, Member, longest, load_member}
 use Rattle.ca_stil_form.specs.Pattern.{pair_begins, member_begins}
-use Rattle.ca_stil_form.specs.Tokens.{tokens_of, tokens_from, trimmed, first_len, IsTrimmed}
+use Rattle.ca_stil_form.specs.Tokens.{tokens_of, tokens_from, trimmed, first_len}
+use Rattle.ca_stil_form.specs.code.Tokens.{IsTrimmed}
 use Rattle.ca_lex.specs.Length.{number_of}
 use Rattle.ca_stil_form.specs.Whole.{ports_of, numbered, chains_of, frame_of}
 use Rattle.ca_stil_read.specs.declared.plan.Step.{Step}
@@ -15,11 +17,11 @@ use Rattle.ca_stil_read.specs.declared.stop.Stop.{Stop}
 use Rattle.ca_stil_read.specs.declared.stop.Stop.TheVariants as stop
 use Rattle.ca_stil_read.specs.declared.pair.TextPair.{TextPair}
 use Rattle.ca_stil_read.specs.Kept.{pair_seen}
-use Rattle.ca_stil_read.specs.Long.{first_due, BeginsShort}
+use Rattle.ca_stil_read.specs.code.Long.{first_due, BeginsShort}
 use Rattle.ca_stil_read.specs.Onward.{onward}
 use Rattle.ca_stil_read.specs.Plan.{Flat, joined, read_steps, bits_of, bits_step, member_steps}
 use Rattle.ca_stil_read.specs.Plan.{first_steps, read_pair}
-use Rattle.ca_stil_read.specs.Views.{IsStopped}
+use Rattle.ca_stil_read.specs.code.Views.{IsStopped}
 use Rattle.ca_stil_read.specs.Whole.{read_pairs}
 use Rattle.ca_stil_read.proofs.LoopLemmas.{pairs_loop}
 use Rattle.ca_stil_read.proofs.PlanLemmas.{due_step}

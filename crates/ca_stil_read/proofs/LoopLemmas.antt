@@ -5,8 +5,9 @@ use Rattle.std.specs.Str.{bytes_eq}
 use Rattle.std.proofs.lemmas.List.{append-nil}
 use Rattle.std.proofs.lemmas.Slice.Eq.{bytes_eq-Decides}
 use Rattle.ca_stil_form.specs.Form.{Token, Outcome, Got, Stuck, mapped, with_first, read_until, read_items}
-use Rattle.ca_stil_form.specs.Form.{BeginsOther}
-use Rattle.ca_stil_form.specs.Grammar.{Form, IsExactForm}
+use Rattle.ca_stil_form.specs.code.Form.{BeginsOther}
+use Rattle.ca_stil_form.specs.Grammar.{Form}
+use Rattle.ca_stil_form.specs.code.Grammar.{IsExactForm}
 use Rattle.ca_stil_form.specs.Frame.{Frame}
 use Rattle.ca_stil_form.specs.Pattern.{pair_form}
 use Rattle.ca_stil_form.specs.Whole.{signal_form}
@@ -15,7 +16,7 @@ use Rattle.ca_stil_read.specs.declared.stop.Stop.{Stop}
 use Rattle.ca_stil_read.specs.declared.stop.Stop.TheVariants as stop
 use Rattle.ca_stil_read.specs.Plan.{flat_pair, read_pair}
 use Rattle.ca_stil_read.specs.Whole.{read_pairs}
-use Rattle.ca_stil_read.specs.Views.{IsStopped}
+use Rattle.ca_stil_read.specs.code.Views.{IsStopped}
 use Rattle.ca_stil_read.proofs.ItemSteps.{item_shorter, items_step, items_stop, items_close}
 use Rattle.ca_stil_read.proofs.PlanLemmas.{pair_flat}
 

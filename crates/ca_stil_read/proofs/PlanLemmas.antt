@@ -6,7 +6,8 @@ use Rattle.std.proofs.lemmas.List.{append-nil}
 use Rattle.ca_net.specs.declared.trit.Trit.{Trit}
 use Rattle.ca_stil_form.specs.Form.{Token, Outcome, Got, Stuck, mapped, with_first, read_after, read_one}
 use Rattle.ca_stil_form.specs.Form.{read_fixed, read_each}
-use Rattle.ca_stil_form.specs.Grammar.{Piece, Form, and_then, following, before, for_each, spelled_value, word}
+use Rattle.ca_stil_form.specs.Grammar.{Piece, Form, and_then, following, before, for_each, spelled_value}
+use Rattle.ca_stil_form.specs.Grammar.{word}
 use Rattle.ca_stil_form.specs.Grammar.{fixed}
 use Rattle.ca_stil_form.specs.Tokens.{tokens_of}
 use Rattle.ca_stil_form.specs.Frame.{Member, Frame, load_members, unload_members, group_member, key_inputs}

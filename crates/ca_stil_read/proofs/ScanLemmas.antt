@@ -7,8 +7,8 @@ use Rattle.ca_stil_form.specs.Whole.{group_form, scan_form}
 use Rattle.ca_stil_read.specs.declared.pool.Pools.{Pools}
 use Rattle.ca_stil_read.specs.declared.stop.Stop.{Stop}
 use Rattle.ca_stil_read.specs.declared.stop.Stop.TheVariants as stop
-use Rattle.ca_stil_read.specs.Groups.{ArePools}
-use Rattle.ca_stil_read.specs.Views.{IsStopped}
+use Rattle.ca_stil_read.specs.code.Groups.{ArePools}
+use Rattle.ca_stil_read.specs.code.Views.{IsStopped}
 use Rattle.ca_stil_read.proofs.GroupLemmas.{fits_same}
 
 -- one form after another stops, or is read

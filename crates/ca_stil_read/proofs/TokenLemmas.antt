@@ -10,7 +10,8 @@ use Rattle.std.proofs.lemmas.Bool.Decides.{nat_tests}
 use Rattle.ca_stil_form.specs.Form.{Token}
 use Rattle.ca_stil_form.specs.Tokens.{Between, InWord, InName, InGroup, InMember, is_space, is_mark}
 use Rattle.ca_stil_form.specs.Tokens.{is_inside, begun, alone, tokens_from, tokens_of, word_len, name_len}
-use Rattle.ca_stil_form.specs.Tokens.{group_len, first_len, BeginsToken, trimmed, IsTrimmed}
+use Rattle.ca_stil_form.specs.Tokens.{group_len, first_len, trimmed}
+use Rattle.ca_stil_form.specs.code.Tokens.{BeginsToken, IsTrimmed}
 
 -- so many bytes of this list end the text, and the tokens after them follow
 abbrev cut : List ℕ → ℕ → List ℕ → List Token

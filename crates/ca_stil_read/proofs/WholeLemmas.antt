@@ -15,7 +15,8 @@ use Rattle.ca_stil_read.specs.Onward.{onward, read_optional}
 use Rattle.ca_stil_read.specs.Plan.{flat_pair}
 use Rattle.ca_stil_read.specs.Whole.{FlatRest, FlatStil, flat_stil, read_signals, read_inputs, read_outputs}
 use Rattle.ca_stil_read.specs.Whole.{read_scan, read_groups}
-use Rattle.ca_stil_read.specs.Whole.{read_cells, read_pairs, read_rest, read_all, nothing_after}
+use Rattle.ca_stil_read.specs.Whole.{read_cells, read_pairs, read_rest, read_all}
+use Rattle.ca_stil_read.specs.code.Whole.{nothing_after}
 use Rattle.ca_stil_read.proofs.OnwardLemmas.{after_onward, and_then_onward, maybe_onward, mapped_twice}
 use Rattle.ca_stil_read.proofs.OnwardLemmas.{onward_twice, onward_mapped, onward_got}
 

@@ -13,7 +13,7 @@ use Rattle.ca_net.specs.declared.trit.Trit.{Trit}
 use Rattle.ca_net.specs.declared.trit.Trit.TheVariants.{Zero, One, X}
 use Rattle.ca_stil_form.specs.Pattern.{digit_of, level_of, level_at}
 use Rattle.ca_stil_read.specs.Plan.{bits_of, levels_of}
-use Rattle.ca_stil_read.specs.Kept.{is_bit, is_one, is_level}
+use Rattle.ca_stil_read.specs.code.Kept.{is_bit, is_one, is_level}
 
 both_true : (one other : Bool) → (one && other) ≡ true → (one ≡ true) × (other ≡ true)
 both_true true other is = (refl, is)

@@ -1,24 +1,7 @@
 -- What a group's names have to be, as the code has it.
-use Rattle.std.specs.Prelude.{ℕ, ◌≡◌, Bool, true, false, List, Option, Some, None}
-use Rattle.ca_names.specs.Names.{has_name}
-use Rattle.ca_stil_form.specs.Frame.{Signal, Names, Scan, names_of, fits_in_order, fits_in_number}
-use Rattle.ca_stil_read.specs.declared.pool.Pools.{Pools}
-use Rattle.ca_stil_read.specs.declared.pool.Fit.{Fit}
-use Rattle.ca_stil_read.specs.declared.pool.Fit.TheVariants as fit
+use Rattle.std.specs.Prelude.{Option, Some, None}
+use Rattle.ca_stil_form.specs.Frame.{Scan}
 use Rattle.ca_stil_read.specs.declared.groups.ScanGroups.{ScanGroups}
-use Rattle.ca_stil_read.specs.declared.groups.Groups.{Groups}
-
--- what the names have to be
-abbrev pub fits_of : Fit → Names → Bool
-fits_of (fit.InOrder pool) = fits_in_order pool.now
-fits_of (fit.InNumber count set) = fits_in_number count set.now
-
--- the names are those of the signals, and the sets have the same names
-pub record ArePools (signals : List Signal) (pools : Pools) : Type 0 where
-  pub ins_are : pools.ins ≡ names_of true signals
-  pub outs_are : pools.outs ≡ names_of false signals
-  pub in_set_is : (name : List ℕ) → has_name name pools.in_set ≡ has_name name pools.ins
-  pub out_set_is : (name : List ℕ) → has_name name pools.out_set ≡ has_name name pools.outs
 
 -- the scan groups
 abbrev pub scan_seen : ScanGroups → Scan
@@ -27,7 +10,3 @@ scan_seen groups = (groups.controls, (groups.scan_ins, groups.scan_outs))
 abbrev pub scan_in : Option ScanGroups → Option Scan
 scan_in None = None
 scan_in (Some groups) = Some (scan_seen groups)
-
--- the groups that are there
-abbrev pub groups_seen : Groups → Option Names × (Option Names × Option Scan)
-groups_seen groups = (groups.inputs, (groups.outputs, scan_in groups.scan))

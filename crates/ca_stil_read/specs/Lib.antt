@@ -3,9 +3,7 @@ pub mod Line
 pub mod Onward
 pub mod Plan
 pub mod Whole
-pub mod Views
 pub mod Groups
-pub mod Frames
-pub mod Long
 pub mod Text
 pub mod Kept
+pub mod code

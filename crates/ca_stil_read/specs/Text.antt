@@ -1,5 +1,5 @@
 -- What a text reads as, and why it is refused.
-use Rattle.std.specs.Prelude.{ℕ, ◌≡◌, List, [], map, Result, Ok, Err}
+use Rattle.std.specs.Prelude.{ℕ, ◌≡◌, List, map, Ok, Err}
 use Rattle.ca_stil_form.specs.Reading.{whole}
 use Rattle.ca_stil_form.specs.Tokens.{tokens_of}
 use Rattle.ca_stil_form.specs.Value.{signal_seen}
@@ -10,11 +10,7 @@ use Rattle.ca_stil_read.specs.declared.read.TextFault.TheVariants as fault
 use Rattle.ca_stil_read.specs.Groups.{scan_in}
 use Rattle.ca_stil_read.specs.Kept.{pair_seen}
 use Rattle.ca_stil_read.specs.Line.{fault_line}
-use Rattle.ca_stil_read.specs.Views.{IsStopped}
-use Rattle.ca_stil_read.specs.Whole.{FlatStil, FlatRest, flat_stil, nothing_after}
-use Rattle.ca_stil_read.specs.declared.read.TextRest.{TextRest}
-use Rattle.ca_stil_read.specs.declared.stop.Stop.{Stop}
-use Rattle.ca_stil_form.specs.Form.{Outcome, Got}
+use Rattle.ca_stil_read.specs.Whole.{FlatStil, flat_stil}
 
 -- the values of a text that was read, those of each pair one after another
 abbrev pub text_seen : StilText → FlatStil
@@ -25,15 +21,6 @@ text_seen text = (
     (text.groups.outputs, (scan_in text.groups.scan, (text.cells, map pair_seen text.pairs))),
   ),
 )
-
--- what stands after the groups
-abbrev pub rest_seen : TextRest → FlatRest
-rest_seen rest = (rest.cells, map pair_seen rest.pairs)
-
--- a whole text was read as is wanted
-abbrev pub IsWhole : Result StilText Stop → Outcome FlatStil → Type 0
-IsWhole (Ok text) wanted = wanted ≡ Got (text_seen text) []
-IsWhole (Err why) wanted = IsStopped why (nothing_after wanted)
 
 -- the text is of the form, for these values
 pub record ReadsAs (bytes : List ℕ) (text : StilText) : Type 0 where

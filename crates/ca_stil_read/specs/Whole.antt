@@ -1,6 +1,6 @@
 -- What a whole text reads as, part by part: the form's own values, but those of a pair one after another.
-use Rattle.std.specs.Prelude.{ℕ, true, false, ◌&&◌, List, [], ◌∷◌, map, Option, codes}
-use Rattle.ca_stil_form.specs.Form.{Token, Outcome, Got, Stuck, mapped, read_fixed, read_items, read_each}
+use Rattle.std.specs.Prelude.{ℕ, true, false, ◌&&◌, List, map, Option, codes}
+use Rattle.ca_stil_form.specs.Form.{Token, Outcome, mapped, read_fixed, read_items, read_each}
 use Rattle.ca_stil_form.specs.Tokens.{tokens_of}
 use Rattle.ca_stil_form.specs.Frame.{Signal, Names, Scan, Frame, names_of, fits_in_order, has_some}
 use Rattle.ca_stil_form.specs.Frame.{key_inputs, key_outputs, key_controls}
@@ -76,9 +76,3 @@ read_all tokens =
     onward (read_groups signals after) (λ groups beyond.
     mapped (λ rest. (signals, (groups.0, (groups.1.0, (groups.1.1, rest)))))
     (read_rest groups.0 groups.1.0 groups.1.1 beyond)))
-
--- a reading with nothing after it
-abbrev pub nothing_after : {Value : Type 0} → Outcome Value → Outcome Value
-nothing_after (Got value []) = Got value []
-nothing_after (Got value (token ∷ tokens)) = Stuck (token ∷ tokens)
-nothing_after (Stuck rest) = Stuck rest

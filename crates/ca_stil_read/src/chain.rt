@@ -9,8 +9,8 @@ ghost use Rattle.ca_stil_form.specs.Grammar.{word};
 ghost use Rattle.ca_stil_form.specs.Tokens.{tokens_of};
 ghost use Rattle.ca_stil_form.specs.Whole.{Ports, numbered, is_count, chain_begins, chain_ends, chain_form};
 ghost use Rattle.ca_stil_read.specs.Groups.{scan_in};
-ghost use Rattle.ca_stil_read.specs.Kept.{ports_at};
-ghost use Rattle.ca_stil_read.specs.Views.{IsRead};
+ghost use Rattle.ca_stil_read.specs.code.Kept.{ports_at};
+ghost use Rattle.ca_stil_read.specs.code.Views.{IsRead};
 ghost use Rattle.ca_stil_read.specs.Whole.{read_cells};
 
 use crate::due::{pass, push_fixed, push_numbered, push_quoted};

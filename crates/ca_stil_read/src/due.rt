@@ -4,7 +4,7 @@ ghost use Rattle.std.specs.Prelude.{◌≡◌, ◌++◌, ◌∷◌, [], length, 
 ghost use Rattle.ca_stil_form.specs.Form.{read_fixed};
 ghost use Rattle.ca_stil_form.specs.Frame.{quoted};
 ghost use Rattle.ca_stil_form.specs.Tokens.{tokens_of};
-ghost use Rattle.ca_stil_read.specs.Views.{IsPassed};
+ghost use Rattle.ca_stil_read.specs.code.Views.{IsPassed};
 
 use crate::stop::Stop;
 use crate::token::first_token;

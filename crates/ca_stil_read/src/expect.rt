@@ -2,7 +2,7 @@
 ghost use Rattle.std.specs.Prelude.{◌≡◌, map, codes};
 ghost use Rattle.ca_stil_form.specs.Form.{read_fixed};
 ghost use Rattle.ca_stil_form.specs.Tokens.{tokens_of};
-ghost use Rattle.ca_stil_read.specs.Views.{IsPassed, IsRead};
+ghost use Rattle.ca_stil_read.specs.code.Views.{IsPassed, IsRead};
 ghost use Rattle.ca_stil_form.specs.Grammar.{before, fixed};
 ghost use Rattle.ca_stil_form.specs.Whole.{direction_form};
 

@@ -7,10 +7,10 @@ ghost use Rattle.ca_stil_form.specs.Frame.{fits_in_order};
 ghost use Rattle.ca_stil_form.specs.Grammar.{word, fixed, before};
 ghost use Rattle.ca_stil_form.specs.Tokens.{tokens_of};
 ghost use Rattle.ca_stil_form.specs.Whole.{group_form};
-ghost use Rattle.ca_stil_read.specs.Groups.{fits_of};
-ghost use Rattle.ca_stil_read.specs.Kept.{open_of};
+ghost use Rattle.ca_stil_read.specs.code.Groups.{fits_of};
+ghost use Rattle.ca_stil_read.specs.code.Kept.{open_of};
 ghost use Rattle.ca_stil_read.specs.Onward.{begins_with, read_optional};
-ghost use Rattle.ca_stil_read.specs.Views.{IsRead};
+ghost use Rattle.ca_stil_read.specs.code.Views.{IsRead};
 
 use crate::due::{pass, push_fixed, push_token};
 use crate::expect::expect;

@@ -5,8 +5,9 @@ ghost use Rattle.ca_stil_form.specs.Frame.{has_some, key_controls};
 ghost use Rattle.ca_stil_form.specs.Tokens.{tokens_of};
 ghost use Rattle.ca_stil_form.specs.Value.{signal_seen};
 ghost use Rattle.ca_stil_form.specs.Whole.{scan_form};
-ghost use Rattle.ca_stil_read.specs.Groups.{ArePools, scan_seen, scan_in, groups_seen};
-ghost use Rattle.ca_stil_read.specs.Views.{IsRead};
+ghost use Rattle.ca_stil_read.specs.Groups.{scan_seen, scan_in};
+ghost use Rattle.ca_stil_read.specs.code.Groups.{ArePools, groups_seen};
+ghost use Rattle.ca_stil_read.specs.code.Views.{IsRead};
 ghost use Rattle.ca_stil_read.specs.Whole.{read_inputs, read_outputs, read_scan, read_groups};
 
 use crate::group::{begins_with, group_if_any, next_group};

@@ -6,9 +6,9 @@ ghost use Rattle.ca_stil_form.specs.Tokens.{tokens_of};
 ghost use Rattle.ca_stil_form.specs.Whole.{chains_of, ports_of, frame_of};
 ghost use Rattle.ca_stil_read.specs.Groups.{scan_in};
 ghost use Rattle.ca_stil_read.specs.Kept.{pair_seen};
-ghost use Rattle.ca_stil_read.specs.Long.{due_before, first_due};
+ghost use Rattle.ca_stil_read.specs.code.Long.{due_before, first_due};
 ghost use Rattle.ca_stil_read.specs.Plan.{read_pair};
-ghost use Rattle.ca_stil_read.specs.Views.{IsRead, IsStopped};
+ghost use Rattle.ca_stil_read.specs.code.Views.{IsRead, IsStopped};
 ghost use Rattle.ca_stil_read.specs.Whole.{read_pairs};
 
 use crate::due::{pass, push_fixed, push_numbered, push_quoted};

@@ -3,10 +3,11 @@
 ghost use Rattle.std.specs.Prelude.{◌≡◌, ◌≤◌, ◌^◌, [], map, length, codes};
 ghost use Rattle.ca_stil_form.specs.Frame.{longest};
 ghost use Rattle.ca_stil_form.specs.Tokens.{tokens_of};
-ghost use Rattle.ca_stil_read.specs.Frames.{frame_seen};
-ghost use Rattle.ca_stil_read.specs.Kept.{pair_seen, IsAdded};
+ghost use Rattle.ca_stil_read.specs.code.Frames.{frame_seen};
+ghost use Rattle.ca_stil_read.specs.Kept.{pair_seen};
+ghost use Rattle.ca_stil_read.specs.code.Kept.{IsAdded};
 ghost use Rattle.ca_stil_read.specs.Plan.{read_step, read_steps, pair_steps, read_pair};
-ghost use Rattle.ca_stil_read.specs.Views.{IsRead};
+ghost use Rattle.ca_stil_read.specs.code.Views.{IsRead};
 ghost use Rattle.ca_stil_read.specs.Whole.{read_pairs};
 
 use crate::due::pass;

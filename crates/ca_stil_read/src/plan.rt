@@ -11,9 +11,9 @@ ghost use Rattle.ca_stil_form.specs.Pattern.{member_begins, steady, load_ends, f
 ghost use Rattle.ca_stil_form.specs.Pattern.{unload_ends};
 ghost use Rattle.ca_stil_form.specs.Pattern.{first_begins, capture, pair_begins};
 ghost use Rattle.ca_stil_form.specs.Tokens.{tokens_of};
-ghost use Rattle.ca_stil_read.specs.Frames.{member_seen, chain_seen, frame_seen};
+ghost use Rattle.ca_stil_read.specs.code.Frames.{member_seen, chain_seen, frame_seen};
 ghost use Rattle.ca_stil_read.specs.Plan.{member_steps, bits_step, levels_step, pair_steps};
-ghost use Rattle.ca_stil_read.specs.Frames.{first_half, last_half, expected_part};
+ghost use Rattle.ca_stil_read.specs.code.Frames.{first_half, last_half, expected_part};
 
 use crate::due::{push_fixed, push_letters, push_numbered, push_quoted, push_token};
 use crate::frame::{Frame, FrameChain};

@@ -8,7 +8,7 @@ ghost use Rattle.std.specs.Str.{bytes_eq};
 ghost use Rattle.ca_names.specs.Names.{has_name};
 ghost use Rattle.ca_stil_form.specs.Frame.{goes, names_of, is_name, is_group, is_among, all_in};
 ghost use Rattle.ca_stil_form.specs.Value.{signal_seen};
-ghost use Rattle.ca_stil_read.specs.Groups.{fits_of, ArePools};
+ghost use Rattle.ca_stil_read.specs.code.Groups.{fits_of, ArePools};
 
 use crate::name::is_name;
 use ca_base::NoMemory;

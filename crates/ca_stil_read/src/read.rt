@@ -7,10 +7,12 @@ ghost use Rattle.ca_stil_form.specs.Whole.{timing, pattern_begins, frame_of, inp
 ghost use Rattle.ca_stil_form.specs.Whole.{scan_waves};
 ghost use Rattle.ca_stil_form.specs.Whole.{chains_begin, chains_end, macro, shifted};
 ghost use Rattle.ca_stil_form.specs.Grammar.{pieces};
-ghost use Rattle.ca_stil_read.specs.Groups.{groups_seen, scan_in};
+ghost use Rattle.ca_stil_read.specs.Groups.{scan_in};
+ghost use Rattle.ca_stil_read.specs.code.Groups.{groups_seen};
 ghost use Rattle.ca_stil_read.specs.Kept.{pair_seen};
-ghost use Rattle.ca_stil_read.specs.Text.{text_seen, rest_seen, IsWhole, ReadsAs, IsCause};
-ghost use Rattle.ca_stil_read.specs.Views.{IsRead};
+ghost use Rattle.ca_stil_read.specs.Text.{text_seen, ReadsAs, IsCause};
+ghost use Rattle.ca_stil_read.specs.code.Text.{rest_seen, IsWhole};
+ghost use Rattle.ca_stil_read.specs.code.Views.{IsRead};
 ghost use Rattle.ca_stil_read.specs.Whole.{read_pairs, read_rest, read_all};
 ghost use Rattle.ca_stil_read.specs.declared.read.TextFault.TheVariants as fault;
 

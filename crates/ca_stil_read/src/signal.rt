@@ -5,7 +5,7 @@ ghost use Rattle.ca_stil_form.specs.Form.{read_items};
 ghost use Rattle.ca_stil_form.specs.Tokens.{tokens_of};
 ghost use Rattle.ca_stil_form.specs.Value.{signal_seen};
 ghost use Rattle.ca_stil_form.specs.Whole.{name_form, signal_form};
-ghost use Rattle.ca_stil_read.specs.Views.{IsRead};
+ghost use Rattle.ca_stil_read.specs.code.Views.{IsRead};
 ghost use Rattle.ca_stil_read.specs.Whole.{read_signals};
 
 use crate::expect::{expect, signal_end};

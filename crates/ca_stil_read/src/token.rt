@@ -1,7 +1,8 @@
 //! The tokens of a STIL text.
 ghost use Rattle.std.specs.Prelude.{◌≡◌, ◌<◌, ◌≤◌, ◌∷◌, ◌++◌, [], length, false, true, MatchOption};
 ghost use Rattle.ca_stil_form.specs.Tokens.{is_space, is_mark, is_quote, is_inside, word_len, name_len};
-ghost use Rattle.ca_stil_form.specs.Tokens.{group_len, first_len, tokens_of, BeginsToken, trimmed, IsTrimmed};
+ghost use Rattle.ca_stil_form.specs.Tokens.{group_len, first_len, tokens_of, trimmed};
+ghost use Rattle.ca_stil_form.specs.code.Tokens.{BeginsToken, IsTrimmed};
 
 fn is_space(byte: u8) -> bool
     ensures { result ≡ is_space byte }

@@ -7,7 +7,7 @@ ghost use Rattle.ca_stil_form.specs.Form.{read_one};
 ghost use Rattle.ca_stil_form.specs.Pattern.{level_at};
 ghost use Rattle.ca_stil_form.specs.Tokens.{tokens_of};
 ghost use Rattle.ca_stil_read.specs.Plan.{bits_of, levels_of};
-ghost use Rattle.ca_stil_read.specs.Kept.{is_bit, is_level, is_one, IsTaken};
+ghost use Rattle.ca_stil_read.specs.code.Kept.{is_bit, is_level, is_one, IsTaken};
 
 use crate::stop::Stop;
 use crate::token::first_token;

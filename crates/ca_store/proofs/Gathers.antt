@@ -5,7 +5,7 @@ use Rattle.std.proofs.lemmas.List.{length-take, take_all}
 use Rattle.std.proofs.Math.Seq.{take-add}
 use Rattle.ca_store.specs.Store.{Files, Opened, Nothing, Reading, Writing, IsReading, IsOpen}
 use Rattle.ca_store.specs.Store.{GivesNext, OpensFile}
-use Rattle.ca_store.specs.Reading.{IsSoFar, IsEnd, IsReadUpTo}
+use Rattle.ca_store.specs.code.Reading.{IsSoFar, IsEnd, IsReadUpTo}
 
 -- a read goes on from what earlier reads gathered
 pub read_on : (name bytes : List ℕ) (mid new : Opened) (text more grown into : List ℕ) (n : ℕ)

@@ -9,8 +9,9 @@ use Rattle.ca_store.specs.declared.mem_store.Mode.{Mode}
 use Rattle.ca_store.specs.declared.mem_store.Mode.TheVariants.{Closed, InReading, InWriting}
 use Rattle.ca_store.specs.Store.{Files, Writing, IsWriting, appended}
 use Rattle.ca_store.specs.Writing.{CreatesFile, WritesOn}
-use Rattle.ca_store.specs.Memory.{files_of, name_at, bytes_at, last_name, opened_of, HasOpenFile}
-use Rattle.ca_store.specs.Arena.{with_more}
+use Rattle.ca_store.specs.Memory.{files_of, name_at, last_name, opened_of}
+use Rattle.ca_store.specs.code.Memory.{bytes_at, HasOpenFile}
+use Rattle.ca_store.specs.code.Arena.{with_more}
 use Rattle.ca_store.proofs.Parts.{equal, unequal}
 
 -- the file at a place isn't looked for where it has another name

@@ -5,7 +5,7 @@ use Rattle.std.specs.Str.{bytes_eq}
 use Rattle.std.proofs.lemmas.List.{take-append-le, drop-append-le, take_rest}
 use Rattle.std.proofs.lemmas.Slice.Eq.{bytes_eq-Decides}
 use Rattle.std.proofs.Math.Seq.{drop-append_seam}
-use Rattle.ca_store.specs.Arena.{part}
+use Rattle.ca_store.specs.code.Arena.{part}
 
 -- lists of bytes that differ are told apart
 pub unequal : (xs ys : List ℕ) → xs ≢ ys → bytes_eq xs ys ≡ false

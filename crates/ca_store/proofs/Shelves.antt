@@ -5,8 +5,9 @@ use Rattle.std.specs.List.{slice_get}
 use Rattle.std.proofs.lemmas.Option.{slice_get-get_or}
 use Rattle.ca_store.specs.declared.file_map.File.{File}
 use Rattle.ca_store.specs.declared.shelf.Span.{Span}
-use Rattle.ca_store.specs.Memory.{name_at, bytes_at, name_in, bytes_in}
-use Rattle.ca_store.specs.Arena.{part, first_start, files_in, IsLaid, with_more}
+use Rattle.ca_store.specs.Memory.{name_at, name_in}
+use Rattle.ca_store.specs.code.Memory.{bytes_at, bytes_in}
+use Rattle.ca_store.specs.code.Arena.{part, first_start, files_in, IsLaid, with_more}
 use Rattle.ca_store.proofs.Parts.{part_before, part_grown, part_added, part_empty}
 
 -- as many files as spans

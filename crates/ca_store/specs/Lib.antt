@@ -1,9 +1,9 @@
 pub mod Store
 pub mod Writing
 pub mod ReadFault
-pub mod Reading
 pub mod Memory
 pub mod Arena
 pub mod MemStore
 pub mod MemSink
 pub mod FileStore
+pub mod code

@@ -1,12 +1,11 @@
 -- Files in memory, and the calls that a store or a sink in memory lets fail.
-use Rattle.std.specs.Prelude.{◌≡◌, ◌<◌, ◌≤◌, ◌-◌, ℕ, ◌+◌, ◌^◌, min, Bool, true, false}
-use Rattle.std.specs.Prelude.{List, [], ◌∷◌, length, slice_get, Option, Some, None}
+use Rattle.std.specs.Prelude.{◌≡◌, ◌-◌, ℕ, ◌+◌, ◌^◌, min, Bool, true, false}
+use Rattle.std.specs.Prelude.{List, [], ◌∷◌, slice_get, Option, Some, None}
 use Rattle.std.specs.List.{position}
 use Rattle.std.specs.Str.{bytes_eq}
 use Rattle.ca_store.specs.Store.{Files, Opened, Nothing, Reading, Writing}
 use Rattle.ca_store.specs.declared.fail_list.StoreCall.{StoreCall}
 use Rattle.ca_store.specs.declared.file_map.File.{File}
-use Rattle.ca_store.specs.declared.mem_store.OpenFile.{OpenFile}
 use Rattle.ca_store.specs.declared.mem_store.Mode.{Mode}
 use Rattle.ca_store.specs.declared.mem_store.Mode.TheVariants.{Closed, InReading, InWriting}
 
@@ -43,18 +42,9 @@ abbrev pub name_in : Option File → List ℕ
 name_in None = []
 name_in (Some file) = file.name
 
--- the bytes of a file, or no bytes where there is no file
-abbrev pub bytes_in : Option File → List ℕ
-bytes_in None = []
-bytes_in (Some file) = file.bytes
-
 -- the name of the file at a place
 abbrev pub name_at : List File → ℕ → List ℕ
 name_at files place = name_in (slice_get files place)
-
--- the bytes of the file at a place
-abbrev pub bytes_at : List File → ℕ → List ℕ
-bytes_at files place = bytes_in (slice_get files place)
 
 -- the name of the last file
 abbrev pub last_name : List File → List ℕ
@@ -67,14 +57,3 @@ abbrev pub opened_of : List File → Mode → Opened
 opened_of files Closed = Nothing
 opened_of files (InReading spot) = Reading (name_at files spot.file) spot.place
 opened_of files InWriting = Writing (last_name files)
-
--- a file in reading is in the list, is what its name stands for, and has at least as many bytes as were read
-pub record IsOpenWithin (files : List File) (spot : OpenFile) : Type 0 where
-  pub there : spot.file < length files
-  pub meant : files_of files (name_at files spot.file) ≡ Some (bytes_at files spot.file)
-  pub within : spot.place ≤ length (bytes_at files spot.file)
-
--- what is open in this mode is in the list
-pub record HasOpenFile (files : List File) (mode : Mode) : Type 0 where
-  pub reading : (spot : OpenFile) → mode ≡ InReading spot → IsOpenWithin files spot
-  pub writing : mode ≡ InWriting → 0 < length files

@@ -1,6 +1,6 @@
 //! A store of files in memory, which fails where it is told to.
 ghost use Rattle.std.specs.Prelude.{◌<◌, ◌^◌};
-ghost use Rattle.ca_store.specs.Memory.{HasOpenFile};
+ghost use Rattle.ca_store.specs.code.Memory.{HasOpenFile};
 
 use crate::fail_list::{FailList, StoreCall};
 use crate::file_map::FileMap;

@@ -2,7 +2,7 @@
 ghost use Rattle.std.specs.Prelude.{◌≡◌, ◌≤◌, ◌<◌, [], length, true, Ok, IfOk, IfErr, OnOk, IsErrOf};
 ghost use Rattle.ca_store.specs.Store.{Nothing, IsReading, KeepsCount, Lacks};
 ghost use Rattle.ca_store.specs.ReadFault.{IsCause, IsWhole};
-ghost use Rattle.ca_store.specs.Reading.{IsReadUpTo, IsStop};
+ghost use Rattle.ca_store.specs.code.Reading.{IsReadUpTo, IsStop};
 ghost use Rattle.ca_store.specs.declared.reading.ReadFault.TheVariants as fault;
 
 use crate::store::{Failed, Store};

@@ -1,7 +1,7 @@
 //! Files in memory, which is taken when they are put there and never given back. Only the last file grows.
 ghost use Rattle.std.specs.Prelude.{◌≡◌, ◌≤◌, ◌<◌, ◌+◌, length, drop, IfOk};
-ghost use Rattle.ca_store.specs.Memory.{bytes_at};
-ghost use Rattle.ca_store.specs.Arena.{IsPlaceOf, first_start, part, with_file, with_bytes};
+ghost use Rattle.ca_store.specs.code.Memory.{bytes_at};
+ghost use Rattle.ca_store.specs.code.Arena.{IsPlaceOf, first_start, part, with_file, with_bytes};
 
 use crate::file_map::File;
 use ca_base::NoMemory;
@@ -26,7 +26,8 @@ pub(crate) struct Shelf {
 
 impl Model for Shelf {
     ghost use Rattle.std.specs.Prelude.{◌+◌, ◌≤◌, length, vec_len, vec_capacity};
-    ghost use Rattle.ca_store.specs.Arena.{Shelved, files_in, IsLaid};
+    ghost use Rattle.ca_store.specs.Arena.{Shelved};
+    ghost use Rattle.ca_store.specs.code.Arena.{files_in, IsLaid};
 
     ghost Value = { Shelved };
 

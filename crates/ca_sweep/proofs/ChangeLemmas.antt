@@ -10,7 +10,7 @@ use Rattle.ca_net.specs.State.{value_at}
 use Rattle.ca_flat.specs.Chip.{Chip, outputs_at, output_net, count_of, IsChip}
 use Rattle.ca_view.specs.Linked.{Reads, AreReaders}
 use Rattle.ca_sweep.specs.declared.values.Values.{Values}
-use Rattle.ca_sweep.specs.Changes.{IsDue, IsMarked, Changes, IsPut, IsOutputBelow, IsWrittenTo}
+use Rattle.ca_sweep.specs.code.Changes.{IsDue, IsMarked, Changes, IsPut, IsOutputBelow, IsWrittenTo}
 
 -- the mark that was read
 pub due_read : (due : List Bool) (place : ℕ) (read : Bool) → place < length due → read ≡ get_or due place read → read ≡ true → IsDue due place

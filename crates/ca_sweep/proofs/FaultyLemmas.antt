@@ -16,7 +16,7 @@ use Rattle.ca_sweep.specs.declared.memo.Memo.{Memo}
 use Rattle.ca_sweep.specs.declared.seen.Flips.{Flips}
 use Rattle.ca_sweep.specs.declared.seen.Seen.{Seen}
 use Rattle.ca_sweep.specs.Seen.{IsSeen}
-use Rattle.ca_sweep.specs.Faulty.{HoldsTrue, code_of, IsMemo, IsFlippedAt, AreFlipsOf}
+use Rattle.ca_sweep.specs.code.Faulty.{HoldsTrue, code_of, IsMemo, IsFlippedAt, AreFlipsOf}
 
 -- what the cell of one instance gives is kept for each with its number
 pub entry_true : (chip : Chip) (place_of number_of : ℕ → ℕ) (u : ℕ) (entry : Entry) (outputs : List Wave) → IsLinked chip place_of number_of → IsPlaced chip place_of u

@@ -18,8 +18,9 @@ use Rattle.ca_sweep.specs.declared.seen.Flips.{Flips}
 use Rattle.ca_sweep.specs.declared.seen.Seen.{Seen}
 use Rattle.ca_sweep.specs.declared.seen.Seen.TheVariants.{Undecided, Nowhere, At}
 use Rattle.ca_sweep.specs.Seen.{flipped_if, is_flipped, flipped_outputs, IsOppositeAt, IsSeenFrom, IsSeen}
-use Rattle.ca_sweep.specs.Found.{reported, IsFound}
-use Rattle.ca_sweep.specs.Faulty.{AreWavesAt, AreFlipsOf}
+use Rattle.ca_sweep.specs.Found.{IsFound}
+use Rattle.ca_sweep.specs.code.Found.{reported}
+use Rattle.ca_sweep.specs.code.Faulty.{AreWavesAt, AreFlipsOf}
 
 -- the good value, flipped where the known one is opposite, is the known one or the good one
 same_value : (flipped : Bool) (good known : Trit) → good ≢ X → (flipped ≡ true) ↔ IsOpposite good known → flipped_if flipped good ≡ known_or known good

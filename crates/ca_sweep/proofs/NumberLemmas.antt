@@ -9,7 +9,7 @@ use Rattle.ca_net.specs.declared.trit.Trit.TheVariants.{Zero, One, X}
 use Rattle.ca_defect.specs.Row.{vector_of}
 use Rattle.ca_defect.proofs.NumberLemmas.{number_of, number_within, vector_again}
 use Rattle.ca_flat.specs.Pair.{values_from}
-use Rattle.ca_sweep.specs.Changes.{IsNumberOf}
+use Rattle.ca_sweep.specs.code.Changes.{IsNumberOf}
 
 -- the number is that of the values of the first `end` pins, which are definite
 pub record IsNumberTo (value : ℕ → Trit) (end number : ℕ) : Type 0 where

@@ -15,7 +15,8 @@ use Rattle.ca_view.specs.Linked.{IsLinked, IsPlaced}
 use Rattle.ca_sweep.specs.declared.seen.Flips.{Flips}
 use Rattle.ca_sweep.specs.declared.values.Values.{Values}
 use Rattle.ca_sweep.specs.Seen.{flipped_outputs, flipped_if, is_flipped}
-use Rattle.ca_sweep.specs.Changes.{IsDue, AreRoomy, IsOutputBelow, IsWritten, IsEvaluatedOut, IsPassed, IsSweptTo}
+use Rattle.ca_sweep.specs.code.Changes.{IsDue, AreRoomy, IsOutputBelow, IsWritten, IsEvaluatedOut, IsPassed}
+use Rattle.ca_sweep.specs.code.Changes.{IsSweptTo}
 
 -- the opposites of the same values
 pub flipped_anew : (chip : Chip) (place_of : ℕ → ℕ) (u : ℕ) (goods others : ℕ → Trit) (flips : Flips) (old new : Values) → ((net : ℕ) → goods net ≡ others net)

@@ -1,19 +1,11 @@
 -- What is found of a defect: the first observed output at which a pair detects it.
-use Rattle.std.specs.Prelude.{ℕ, ◌<◌, Bool, true, false, List, length, slice_index}
+use Rattle.std.specs.Prelude.{ℕ, ◌<◌, List, length, slice_index}
 use Rattle.ca_net.specs.declared.trit.Trit.{Trit}
 use Rattle.ca_flat.specs.declared.chip_defect.ChipDefect.{ChipDefect}
 use Rattle.ca_flat.specs.Chip.{Chip}
 use Rattle.ca_flat.specs.Pair.{DetectsAt}
 use Rattle.ca_sweep.specs.declared.seen.Seen.{Seen}
 use Rattle.ca_sweep.specs.declared.seen.Seen.TheVariants.{Undecided, Nowhere, At}
-
--- what is told where flips are seen so: that a detection was found only where all last values of the outputs
--- of the defect's instance are known
-abbrev pub reported : Bool → Seen → Seen
-reported known Undecided = Undecided
-reported known Nowhere = Nowhere
-reported true (At output) = At output
-reported false (At output) = Undecided
 
 -- the pair detects the defect at this observed output, counted from 0
 abbrev pub IsDetectedAt : Chip → ChipDefect → List Trit → ℕ → Type 0

@@ -3,7 +3,7 @@
 ghost use Rattle.std.specs.Prelude.{◌<◌, ◌≡◌, ◌+◌, None, Some, slice_set, length, IfOk};
 ghost use Rattle.ca_view.specs.Linked.{place_in};
 ghost use Rattle.ca_view.specs.Places.{cell_number};
-ghost use Rattle.ca_sweep.specs.Cells.{AreTables, FitsNumber, IsOrder};
+ghost use Rattle.ca_sweep.specs.code.Cells.{AreTables, FitsNumber, IsOrder};
 
 use ca_base::NoMemory;
 use ca_cell::Cell;
@@ -45,7 +45,7 @@ fn table_for(
 }
 
 ghost use Rattle.ca_static.specs.LastTable.{IsTableWhereStatic};
-ghost use Rattle.ca_sim.specs.Cells.{IsOneOf};
+ghost use Rattle.ca_sim.specs.code.Cells.{IsOneOf};
 
 // The table of a cell.
 fn table_of(alloc: Global, cell: &Cell) -> Result<Option<LastTable>, NoMemory>

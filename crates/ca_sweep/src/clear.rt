@@ -6,9 +6,9 @@ ghost use Rattle.ca_flat.specs.Chip.{outputs_at, count_of};
 ghost use Rattle.ca_view.specs.Linked.{IsPlaced, place_in};
 ghost use Rattle.ca_view.specs.Places.{cell_number};
 ghost use Rattle.ca_sweep.specs.Seen.{IsClear};
-ghost use Rattle.ca_sweep.specs.Cells.{AreTables, IsOrder};
-ghost use Rattle.ca_sweep.specs.Kept.{AreDefinitePins, IsPassing, AreReadersMarked, AreOutputsClear};
-ghost use Rattle.ca_sweep.specs.Kept.{AreMarks};
+ghost use Rattle.ca_sweep.specs.code.Cells.{AreTables, IsOrder};
+ghost use Rattle.ca_sweep.specs.code.Kept.{AreDefinitePins, IsPassing, AreReadersMarked, AreOutputsClear};
+ghost use Rattle.ca_sweep.specs.code.Kept.{AreMarks};
 
 use crate::cells::Tables;
 use ca_net::{State, Trit};
@@ -85,7 +85,7 @@ fn unmark(marks: &mut Vec<bool>)
     }
 }
 
-ghost use Rattle.ca_sweep.specs.Kept.{is_marked};
+ghost use Rattle.ca_sweep.specs.code.Kept.{is_marked};
 
 /// Finds the clear instances, the last ones first, and marks those that pass flips on.
 pub(crate) fn find_clear(

@@ -8,8 +8,8 @@ ghost use Rattle.ca_table.specs.Gives.{Gives};
 ghost use Rattle.ca_flat.specs.Chip.{cell_at, inputs_at, IsDefectIn};
 ghost use Rattle.ca_view.specs.Linked.{IsPlaced, IsPlacedDefect, place_in};
 ghost use Rattle.ca_view.specs.Places.{cell_number};
-ghost use Rattle.ca_sim.specs.Cells.{AreCellRooms, FitCellsOf};
-ghost use Rattle.ca_sweep.specs.Faulty.{AreFaulty, HoldsTrue};
+ghost use Rattle.ca_sim.specs.code.Cells.{AreCellRooms, FitCellsOf};
+ghost use Rattle.ca_sweep.specs.code.Faulty.{AreFaulty, HoldsTrue};
 
 use crate::cells::instance_with;
 use ca_base::NoMemory;
@@ -187,7 +187,7 @@ fn if_same(entry: &Entry, number: usize, defect: Defect, pins: &[Wave]) -> Optio
     }
 }
 
-ghost use Rattle.ca_sweep.specs.Faulty.{IsEntry};
+ghost use Rattle.ca_sweep.specs.code.Faulty.{IsEntry};
 
 // Whether the waves are one.
 fn same_wave(a: Wave, b: Wave) -> bool

@@ -14,7 +14,7 @@ ghost use Rattle.ca_view.specs.Linked.{IsPlaced, IsPlacedDefect, place_in};
 ghost use Rattle.ca_view.specs.Places.{cell_number};
 ghost use Rattle.ca_sweep.specs.Seen.{IsSeen, IsOfChip, lasts_in};
 ghost use Rattle.ca_sweep.specs.Found.{IsFound};
-ghost use Rattle.ca_sweep.specs.Faulty.{AreWavesAt, AreFlipsOf};
+ghost use Rattle.ca_sweep.specs.code.Faulty.{AreWavesAt, AreFlipsOf};
 
 use crate::faulty::Faulty;
 use crate::memo::Memo;
@@ -45,7 +45,7 @@ impl<'a> Model for Finder<'a> {
     ghost use Rattle.ca_view.specs.Linked.{place_in};
     ghost use Rattle.ca_view.specs.Places.{cell_number};
     ghost use Rattle.ca_sweep.specs.Seen.{Swept};
-    ghost use Rattle.ca_sweep.specs.Faulty.{IsFinder};
+    ghost use Rattle.ca_sweep.specs.code.Faulty.{IsFinder};
 
     ghost Value = { Swept };
 
@@ -160,8 +160,8 @@ impl<'a> Finder<'a> {
     }
 }
 
-ghost use Rattle.ca_sweep.specs.Faulty.{IsFlippedAt};
-ghost use Rattle.ca_sweep.specs.Found.{reported};
+ghost use Rattle.ca_sweep.specs.code.Faulty.{IsFlippedAt};
+ghost use Rattle.ca_sweep.specs.code.Found.{reported};
 
 // What is told where flips are seen so, and all last values of the instance's outputs are known or not.
 fn reported(seen: Seen, is_known: bool) -> Seen

@@ -4,7 +4,7 @@ ghost use Rattle.std.specs.Prelude.{ℕ, ◌≡◌, ◌<◌, length, IfOk, None,
 ghost use Rattle.ca_net.specs.declared.trit.Trit.{Trit};
 ghost use Rattle.ca_flat.specs.Chip.{Chip};
 ghost use Rattle.ca_sweep.specs.Seen.{IsSeen};
-ghost use Rattle.ca_sweep.specs.Faulty.{IsMemo, code_of};
+ghost use Rattle.ca_sweep.specs.code.Faulty.{IsMemo, code_of};
 
 use crate::seen::{Flips, Seen};
 use ca_base::NoMemory;
@@ -70,7 +70,7 @@ impl Memo {
     }
 }
 
-ghost use Rattle.ca_sweep.specs.Faulty.{IsSeenOr};
+ghost use Rattle.ca_sweep.specs.code.Faulty.{IsSeenOr};
 
 // No answer.
 fn empty(answers: &mut Vec<Option<Seen>>)

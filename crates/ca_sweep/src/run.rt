@@ -7,8 +7,8 @@ ghost use Rattle.ca_flips.specs.Flips.{AreSwept};
 ghost use Rattle.ca_view.specs.Linked.{IsPlaced, place_in};
 ghost use Rattle.ca_view.specs.Places.{cell_number};
 ghost use Rattle.ca_sweep.specs.Seen.{flipped_outputs, IsFirstIn};
-ghost use Rattle.ca_sweep.specs.Cells.{AreTables, IsOrder};
-ghost use Rattle.ca_sweep.specs.Changes.{AreRoomy, IsSweptTo};
+ghost use Rattle.ca_sweep.specs.code.Cells.{AreTables, IsOrder};
+ghost use Rattle.ca_sweep.specs.code.Changes.{AreRoomy, IsSweptTo};
 
 use crate::cells::Tables;
 use crate::seen::Flips;
@@ -77,7 +77,7 @@ fn pass(
     }
 }
 
-ghost use Rattle.ca_sweep.specs.Changes.{IsPassed};
+ghost use Rattle.ca_sweep.specs.code.Changes.{IsPassed};
 
 /// The first of these nets at which the values are opposite.
 pub(crate) fn first_opposite(nets: &[u32], lasts: &State, values: &State) -> Option<usize>

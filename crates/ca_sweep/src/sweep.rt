@@ -36,7 +36,7 @@ impl<'a> Model for Sweep<'a> {
     ghost use Rattle.ca_view.specs.Linked.{place_in};
     ghost use Rattle.ca_view.specs.Places.{cell_number};
     ghost use Rattle.ca_sweep.specs.Seen.{Swept};
-    ghost use Rattle.ca_sweep.specs.Kept.{IsKept};
+    ghost use Rattle.ca_sweep.specs.code.Kept.{IsKept};
 
     ghost Value = { Swept };
 

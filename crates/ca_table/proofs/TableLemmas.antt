@@ -19,7 +19,7 @@ use Rattle.ca_cell.specs.declared.raw.RawCell.{RawCell}
 use Rattle.ca_cell.specs.Raw.{is_input, role_count}
 use Rattle.ca_table.specs.Gives.{Gives}
 use Rattle.ca_table.specs.Table.{code_of_values, code_of, place_of, entry_at, IsTableOf}
-use Rattle.ca_table.specs.Decoding.{trit_of, coded_wave, pins_at}
+use Rattle.ca_table.specs.code.Decoding.{trit_of, coded_wave, pins_at}
 
 -- a definite value is below itself alone
 zero_below : (b : Trit) → IsBelow Zero b → b ≡ Zero

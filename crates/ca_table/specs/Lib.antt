@@ -2,4 +2,4 @@ pub mod Gives
 pub mod Laws
 pub mod Table
 pub mod Rooms
-pub mod Decoding
+pub mod code

@@ -6,7 +6,7 @@ ghost use Rattle.ca_net.specs.Wave.{IsWave};
 ghost use Rattle.ca_cell.specs.Raw.{is_input, role_count};
 ghost use Rattle.ca_settle.specs.Settled.{IsRoomFor};
 ghost use Rattle.ca_table.specs.Table.{digit_of, code_of, place_of};
-ghost use Rattle.ca_table.specs.Decoding.{trit_of, coded_wave, pins_at};
+ghost use Rattle.ca_table.specs.code.Decoding.{trit_of, coded_wave, pins_at};
 
 use ca_base::NoMemory;
 use ca_net::{Trit, Wave};

@@ -9,7 +9,8 @@ use Rattle.ca_lex.specs.declared.token.TokenKind.{TokenKind}
 use Rattle.ca_token.specs.declared.fault.LexKind.{LexKind}
 use Rattle.ca_token.specs.declared.piece.Piece.{Piece}
 use Rattle.ca_token.specs.declared.piece.Piece.TheVariants.{Blank, Skipped, Found, Broken}
-use Rattle.ca_token.specs.Piece.{piece_of, IsWithin}
+use Rattle.ca_token.specs.Piece.{piece_of}
+use Rattle.ca_token.specs.code.Piece.{IsWithin}
 use Rattle.ca_token.specs.Next.{IsNextToken, IsNextFlaw}
 use Rattle.ca_token.specs.Scan.{Scan, nothing, broken_at, with_token, token_at, scan_from, tokens_after}
 

@@ -1,5 +1,5 @@
 -- What the text of a gate netlist begins with: white space, something that is skipped, a token, or a fault.
-use Rattle.std.specs.Prelude.{ℕ, ◌+◌, ◌-◌, ◌<◌, ◌≤◌, ◌==◌, Bool, true, false, not, ◌&&◌, ◌||◌}
+use Rattle.std.specs.Prelude.{ℕ, ◌+◌, ◌-◌, ◌==◌, Bool, false, not, ◌&&◌, ◌||◌}
 use Rattle.std.specs.Prelude.{if◌then◌else◌, List, [], ◌∷◌, length, take, drop, codes}
 use Rattle.std.specs.List.{list_all, list_any}
 use Rattle.std.specs.Str.{bytes_eq}
@@ -121,10 +121,3 @@ piece_of begins_line (byte ∷ more) =
     else (if byte == 39 then quote_piece more
     else (if begins_name byte then Found Name (name_len (byte ∷ more))
     else (if is_digit byte then number_piece (byte ∷ more) else sign_piece byte)))))))
-
--- the piece is within `count` bytes, and has some
-abbrev pub IsWithin : ℕ → Piece → Type 0
-IsWithin count Blank = 0 < count
-IsWithin count (Skipped len) = (0 < len) × (len ≤ count)
-IsWithin count (Found kind len) = (0 < len) × (len ≤ count)
-IsWithin count (Broken shift kind) = shift < count

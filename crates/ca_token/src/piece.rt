@@ -1,8 +1,9 @@
 //! What a text begins with.
 ghost use Rattle.std.specs.Prelude.{◌≡◌, ◌<◌, ◌≤◌, ◌+◌, length};
 ghost use Rattle.std.specs.Prelude.{IsTrue};
-ghost use Rattle.ca_token.specs.Bytes.{begins_digit};
-ghost use Rattle.ca_token.specs.Piece.{IsWithin, has_quote, escaped_before, escaped_piece, is_bit};
+ghost use Rattle.ca_token.specs.code.Bytes.{begins_digit};
+ghost use Rattle.ca_token.specs.Piece.{has_quote, escaped_before, escaped_piece, is_bit};
+ghost use Rattle.ca_token.specs.code.Piece.{IsWithin};
 ghost use Rattle.ca_token.specs.Piece.{constant_piece, number_before, number_piece, quote_piece};
 ghost use Rattle.ca_token.specs.Piece.{sign_piece, piece_of};
 

@@ -1,6 +1,7 @@
 //! Comments and attributes.
 ghost use Rattle.std.specs.Prelude.{◌≡◌, ◌+◌, length};
-ghost use Rattle.ca_token.specs.Piece.{IsWithin, closes, comment_from, attribute_from, slash_piece};
+ghost use Rattle.ca_token.specs.Piece.{closes, comment_from, attribute_from, slash_piece};
+ghost use Rattle.ca_token.specs.code.Piece.{IsWithin};
 ghost use Rattle.ca_token.specs.Piece.{open_piece};
 
 use crate::fault::LexKind;

@@ -15,7 +15,7 @@ use Rattle.ca_verilog.specs.declared.table.Range.{Range}
 use Rattle.ca_verilog.specs.Bus.{range_at}
 use Rattle.ca_verilog.specs.IsNetlist.{range_width, bit_count, IsBit, IsOnBit, IsJoinOf}
 use Rattle.ca_verilog.specs.Joins.{bit_after, pairs_from}
-use Rattle.ca_verilog.specs.Kept.{IsIndexOf, IsOperand, IsUsed, IsJoin}
+use Rattle.ca_verilog.specs.code.Kept.{IsIndexOf, IsOperand, IsUsed, IsJoin}
 use Rattle.ca_verilog.specs.Netlist.{bits_with, first_bits, first_at, first_bit, offset_in, raw_range}
 use Rattle.ca_verilog.specs.Netlist.{raw_bus, raw_span, raw_joins}
 use Rattle.ca_verilog.specs.Reading.{width_in, width_of}

@@ -11,7 +11,7 @@ use Rattle.ca_verilog.specs.declared.instance.Join.{Join}
 use Rattle.ca_verilog.specs.declared.instance.Use.{Use}
 use Rattle.ca_verilog.specs.declared.instance.Instance.{Instance}
 use Rattle.ca_verilog.specs.Bus.{range_at}
-use Rattle.ca_verilog.specs.Kept.{IsIndexOf, IsOperand, IsUsed, IsJoin, AreUses, AreInstances, IsHand}
+use Rattle.ca_verilog.specs.code.Kept.{IsIndexOf, IsOperand, IsUsed, IsJoin, AreUses, AreInstances, IsHand}
 use Rattle.ca_verilog.specs.Reading.{Hand, width_in, width_of}
 
 -- the declared names have their places and ranges among the grown ones

@@ -34,8 +34,8 @@ use Rattle.ca_verilog.specs.declared.table.Action.TheVariants as action
 use Rattle.ca_verilog.specs.Bus.{is_inner, has_direction, same_range, bus_of, is_twice, new_bus}
 use Rattle.ca_verilog.specs.Bus.{declared_again, again_at, declare, range_at}
 use Rattle.ca_verilog.specs.Instance.{has_pin, has_instance}
-use Rattle.ca_verilog.specs.Kept.{IsIndexOf, IsOperand, IsUsed, IsJoin, AreUses, IsOfHeader, AreNames}
-use Rattle.ca_verilog.specs.Kept.{in_instance, in_pin, IsNew, IsClosed, IsKept}
+use Rattle.ca_verilog.specs.code.Kept.{IsIndexOf, IsOperand, IsUsed, IsJoin, AreUses, IsOfHeader, AreNames}
+use Rattle.ca_verilog.specs.code.Kept.{in_instance, in_pin, IsNew, IsClosed, IsKept}
 use Rattle.ca_verilog.specs.Text.{is_end}
 use Rattle.ca_verilog.specs.Reading.{Hand, Reading, Step, act, given_buses, given_operand, has_index, bit_in}
 use Rattle.ca_verilog.specs.Reading.{selected, width_of}

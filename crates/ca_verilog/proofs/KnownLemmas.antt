@@ -6,7 +6,7 @@ use Rattle.std.proofs.lemmas.Slice.Eq.{bytes_eq-Decides}
 use Rattle.std.proofs.lemmas.List.{map-append}
 use Rattle.std.proofs.lemmas.List.Folds.{list_any-append}
 use Rattle.ca_names.specs.Names.{has_name, with_name}
-use Rattle.ca_verilog.specs.Known.{Knows}
+use Rattle.ca_verilog.specs.code.Known.{Knows}
 
 absorbed : (x y : Bool) → (y ≡ true → x ≡ true) → x ≡ (x || (y || false))
 absorbed true y implies = refl

@@ -8,7 +8,7 @@ use Rattle.ca_verilog.specs.declared.table.Place.TheVariants as place
 use Rattle.ca_verilog.specs.declared.table.Action.{Action}
 use Rattle.ca_verilog.specs.declared.table.Action.TheVariants as action
 use Rattle.ca_verilog.specs.declared.table.Row.{Row}
-use Rattle.ca_verilog.specs.Kept.{in_instance, in_pin}
+use Rattle.ca_verilog.specs.code.Kept.{in_instance, in_pin}
 use Rattle.ca_verilog.specs.Table.{Move, row_of}
 use Rattle.ca_verilog.specs.Text.{is_end}
 

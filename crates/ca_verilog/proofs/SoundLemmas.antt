@@ -30,7 +30,7 @@ use Rattle.ca_verilog.specs.declared.table.Direction.{Direction}
 use Rattle.ca_verilog.specs.declared.table.Direction.TheVariants as direction
 use Rattle.ca_verilog.specs.Bus.{is_inner, bus_of, is_directed, has_direction}
 use Rattle.ca_verilog.specs.IsNetlist.{bit_count, IsJoinOf, IsOnBit, IsInstanceOf, IsPort, IsNetlist}
-use Rattle.ca_verilog.specs.Kept.{IsOfHeader, AreNames, AreUses, IsUsed, IsKept, IsWhole}
+use Rattle.ca_verilog.specs.code.Kept.{IsOfHeader, AreNames, AreUses, IsUsed, IsKept, IsWhole}
 use Rattle.ca_verilog.specs.Netlist.{bits_with, first_bits, raw_bus, raw_use, raw_instance, port_place}
 use Rattle.ca_verilog.specs.Netlist.{netlist_with, limited}
 use Rattle.ca_verilog.specs.Reading.{Reading, Step, nothing}

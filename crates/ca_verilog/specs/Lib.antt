@@ -1,11 +1,9 @@
 pub mod VerilogFault
 pub mod Lexeme
 pub mod Table
-pub mod Known
 pub mod Bus
 pub mod Instance
 pub mod Reading
-pub mod Views
 pub mod Joins
 pub mod Netlist
 pub mod Text
@@ -13,5 +11,5 @@ pub mod Laws
 pub mod Grammar
 pub mod Path
 pub mod Module
-pub mod Kept
 pub mod IsNetlist
+pub mod code

@@ -1,8 +1,9 @@
 //! Declared names.
 ghost use Rattle.std.specs.Prelude.{◌≡◌, ◌<◌, ◌≤◌, ◌^◌, [], map, length, slice_get};
-ghost use Rattle.ca_lex.specs.Reading.{Gives, Steps};
+ghost use Rattle.ca_lex.specs.Reading.{Gives};
+ghost use Rattle.ca_lex.specs.code.Reading.{Steps};
 ghost use Rattle.ca_verilog.specs.Reading.{width_in};
-ghost use Rattle.ca_verilog.specs.VerilogFault.{kind_reported};
+ghost use Rattle.ca_verilog.specs.code.VerilogFault.{kind_reported};
 ghost use Rattle.ca_verilog.specs.Bus.{is_inner, same_range, is_twice, declared_again, again_at, bus_of};
 ghost use Rattle.ca_verilog.specs.Bus.{has_direction, range_at, declare};
 

@@ -45,7 +45,8 @@ pub(crate) enum Refusal {
 
 impl Refusal {
     ghost use Rattle.ca_verilog.specs.declared.fault.VerilogFault.TheVariants.{At};
-    ghost use Rattle.ca_verilog.specs.VerilogFault.{fault_reported, kind_reported};
+    ghost use Rattle.ca_verilog.specs.VerilogFault.{fault_reported};
+    ghost use Rattle.ca_verilog.specs.code.VerilogFault.{kind_reported};
 
     /// The fault of the token that was not taken, which is on this line.
     pub(crate) fn at(self, line: usize) -> VerilogFault

@@ -43,7 +43,7 @@ pub(crate) struct Uses {
 impl Model for Uses {
     ghost use Rattle.std.specs.Prelude.{List, map};
     ghost use Rattle.ca_verilog.specs.declared.instance.Use.{Use};
-    ghost use Rattle.ca_verilog.specs.Known.{Knows};
+    ghost use Rattle.ca_verilog.specs.code.Known.{Knows};
 
     ghost Value = { List Use };
 
@@ -114,7 +114,7 @@ pub(crate) struct Instances {
 impl Model for Instances {
     ghost use Rattle.std.specs.Prelude.{List, map};
     ghost use Rattle.ca_verilog.specs.declared.instance.Instance.{Instance};
-    ghost use Rattle.ca_verilog.specs.Known.{Knows};
+    ghost use Rattle.ca_verilog.specs.code.Known.{Knows};
 
     ghost Value = { List Instance };
 

@@ -3,13 +3,13 @@ ghost use Rattle.std.specs.Prelude.{◌≡◌, ◌<◌, ◌≤◌, ◌^◌, leng
 ghost use Rattle.std.specs.Prelude.{option_map};
 ghost use Rattle.ca_lex.specs.Reading.{Gives};
 ghost use Rattle.ca_verilog.specs.VerilogFault.{fault_reported};
-ghost use Rattle.ca_verilog.specs.Kept.{IsOperand, IsUsed, IsJoin, AreUses, AreInstances, IsWhole};
+ghost use Rattle.ca_verilog.specs.code.Kept.{IsOperand, IsUsed, IsJoin, AreUses, AreInstances, IsWhole};
 ghost use Rattle.ca_verilog.specs.declared.netlist.TheConstants.{MOST_BITS};
 ghost use Rattle.std.specs.List.{All};
 ghost use Rattle.ca_verilog.specs.Netlist.{bits_with, first_bits, offset_in, first_at, first_bit};
 ghost use Rattle.ca_verilog.specs.Netlist.{raw_span, raw_joins};
 ghost use Rattle.ca_verilog.specs.Netlist.{raw_range, raw_bus, raw_use, raw_instance, port_place, limited};
-ghost use Rattle.ca_verilog.specs.Views.{reading_seen};
+ghost use Rattle.ca_verilog.specs.code.Views.{reading_seen};
 
 use crate::bus::{Bus, Buses};
 use crate::fault::VerilogFault;

@@ -1,8 +1,9 @@
 //! Reading a gate netlist, token by token.
 ghost use Rattle.std.specs.Prelude.{◌≡◌, ◌<◌, ◌^◌};
-ghost use Rattle.ca_lex.specs.Reading.{Gives, Steps};
+ghost use Rattle.ca_lex.specs.Reading.{Gives};
+ghost use Rattle.ca_lex.specs.code.Reading.{Steps};
 ghost use Rattle.ca_verilog.specs.Reading.{width_of, is_vector, selected};
-ghost use Rattle.ca_verilog.specs.VerilogFault.{kind_reported};
+ghost use Rattle.ca_verilog.specs.code.VerilogFault.{kind_reported};
 
 use crate::bus::Buses;
 use crate::fault::{Refusal, VerilogKind};
@@ -79,7 +80,7 @@ impl Reading {
     ghost use Rattle.ca_verilog.specs.Reading.{keep_left, join, with_use, end_instance, act, lexeme_step};
     ghost use Rattle.std.specs.Prelude.{Ok, ◌≤◌, length};
     ghost use Rattle.ca_verilog.specs.Text.{token_step};
-    ghost use Rattle.ca_verilog.specs.Views.{reading_seen};
+    ghost use Rattle.ca_verilog.specs.code.Views.{reading_seen};
 
     /// What is read before the first token.
     pub(crate) fn new(alloc: Global) -> Self

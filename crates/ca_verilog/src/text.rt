@@ -1,11 +1,12 @@
 //! The netlist of a text.
 ghost use Rattle.std.specs.Prelude.{◌≡◌, IfOk};
-ghost use Rattle.ca_lex.specs.Reading.{Gives, Steps};
+ghost use Rattle.ca_lex.specs.Reading.{Gives};
+ghost use Rattle.ca_lex.specs.code.Reading.{Steps};
 ghost use Rattle.ca_token.specs.Scan.{scan_of};
 ghost use Rattle.ca_verilog.specs.IsNetlist.{IsNetlist};
 ghost use Rattle.ca_verilog.specs.Text.{reads_scan, is_end, ended, netlist_of};
 ghost use Rattle.ca_verilog.specs.VerilogFault.{fault_reported};
-ghost use Rattle.ca_verilog.specs.Views.{reading_seen};
+ghost use Rattle.ca_verilog.specs.code.Views.{reading_seen};
 
 use crate::fault::{VerilogFault, VerilogKind, kind_of};
 use crate::netlist::limited;

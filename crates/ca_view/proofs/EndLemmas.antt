@@ -21,7 +21,7 @@ use Rattle.ca_core.specs.Core.{core_net, core_of}
 use Rattle.ca_core.specs.Numbers.{Numbers, AreCoreNumbers}
 use Rattle.ca_core.proofs.CoreLemmas.{IsOutside}
 use Rattle.ca_core.proofs.CoreIsChip.{data_within, data_outside, number_within, outputs_outside, core_is}
-use Rattle.ca_view.specs.Ends.{AreMarked}
+use Rattle.ca_view.specs.code.Ends.{AreMarked}
 
 -- what the pieces of a list contain
 contains_piece : {X : Type 0} (f : X → List ℕ) (xs : List X) (n : ℕ) → Contains (flat_map f xs) n → (x : X) × Contains xs x × Contains (f x) n

@@ -5,8 +5,9 @@ use Rattle.std.proofs.lemmas.Grind.{get_or_default_zero}
 use Rattle.ca_flat.specs.Chip.{Chip, inputs_at, outputs_at, net_of, count_of}
 use Rattle.ca_flat.specs.Chain.{Feeds}
 use Rattle.ca_view.specs.NetLists.{ArePinNets}
-use Rattle.ca_view.specs.Pins.{Pins, inputs_of, outputs_of, ArePinsOf}
-use Rattle.ca_view.specs.Links.{turned, LinksPins, AreFeeds}
+use Rattle.ca_view.specs.Pins.{Pins}
+use Rattle.ca_view.specs.code.Pins.{inputs_of, outputs_of, ArePinsOf}
+use Rattle.ca_view.specs.code.Links.{turned, LinksPins, AreFeeds}
 
 -- the net is on one of the pins
 record IsOnPin (chip : Chip) (u before count net : ℕ) : Type 0 where

@@ -11,8 +11,9 @@ use Rattle.std.proofs.lemmas.List.{get_or_past, map-set, length-map, set-get_or}
 use Rattle.std.proofs.lemmas.List.Elements.{Contains-push, Contains-push_cases, Contains-append_left}
 use Rattle.std.proofs.lemmas.List.Elements.{All-get_or, All-replicate, All-push, All-nil, All-set}
 use Rattle.ca_view.specs.NetLists.{linked_from, AreWithin}
-use Rattle.ca_view.specs.Pins.{Pins, items_of, inputs_of, outputs_of}
-use Rattle.ca_view.specs.Links.{Grows, IsLink, IsLinkToEach, IsLinkOfPins, IsLinkOfFirst, LinksPins}
+use Rattle.ca_view.specs.Pins.{Pins}
+use Rattle.ca_view.specs.code.Pins.{items_of, inputs_of, outputs_of}
+use Rattle.ca_view.specs.code.Links.{Grows, IsLink, IsLinkToEach, IsLinkOfPins, IsLinkOfFirst, LinksPins}
 use Rattle.std.proofs.lemmas.Bool.{eqb-false}
 
 -- nothing has come

@@ -26,7 +26,8 @@ use Rattle.ca_core.specs.Core.{core_net, stored_nets, core_instance, core_of}
 use Rattle.ca_core.proofs.CorePartLemmas.{core_at, stored_count, stored_pin, read_count}
 use Rattle.ca_core.proofs.CoreIsChip.{body_of, data_within, data_outside, core_is}
 use Rattle.ca_view.specs.NetLists.{ArePinNets}
-use Rattle.ca_view.specs.Pins.{items_of, AreBelow, HaveNets, AreInputNets, AreOutputNets, AreCorePins, IsInverted}
+use Rattle.ca_view.specs.code.Pins.{items_of, AreBelow, HaveNets, AreInputNets, AreOutputNets, AreCorePins}
+use Rattle.ca_view.specs.code.Pins.{IsInverted}
 use Rattle.ca_view.proofs.PartFacts.{ScanAt, scan_at, some_at, at_some}
 
 -- one pin more

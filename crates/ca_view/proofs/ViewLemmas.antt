@@ -19,10 +19,12 @@ use Rattle.ca_view.specs.NetLists.{NetLists, AreNetsOf}
 use Rattle.ca_view.specs.Constants.{constants_of}
 use Rattle.ca_view.specs.Places.{AreRanks, cell_number}
 use Rattle.ca_view.specs.Readers.{AreRows, row_at}
-use Rattle.ca_view.specs.Pins.{Pins, AreCorePins}
-use Rattle.ca_view.specs.Links.{turned, LinksPins}
-use Rattle.ca_view.specs.Ends.{AreMarked}
-use Rattle.ca_view.specs.View.{Viewed, viewed_as, IsKept}
+use Rattle.ca_view.specs.Pins.{Pins}
+use Rattle.ca_view.specs.code.Pins.{AreCorePins}
+use Rattle.ca_view.specs.code.Links.{turned, LinksPins}
+use Rattle.ca_view.specs.code.Ends.{AreMarked}
+use Rattle.ca_view.specs.View.{Viewed}
+use Rattle.ca_view.specs.code.View.{viewed_as, IsKept}
 use Rattle.ca_view.proofs.EndLemmas.{core_inputs_within}
 use Rattle.ca_view.proofs.FeedLemmas.{links_are_feeds}
 use Rattle.ca_view.proofs.InputLemmas.{core_pinned}

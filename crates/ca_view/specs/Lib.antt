@@ -4,6 +4,5 @@ pub mod Places
 pub mod Readers
 pub mod Constants
 pub mod Pins
-pub mod Links
-pub mod Ends
 pub mod View
+pub mod code

@@ -4,7 +4,8 @@ ghost use Rattle.std.specs.Prelude.{◌≡◌, ◌<◌, ◌++◌, ◌↔◌, if�
 ghost use Rattle.ca_linked.specs.Linked.{net_count, constant_net};
 ghost use Rattle.ca_core.specs.Core.{trit_of, constant_on, in_net_order, core_constants};
 ghost use Rattle.ca_core.specs.Numbers.{AreCoreNumbers};
-ghost use Rattle.ca_view.specs.Constants.{fixed_of, constants_of};
+ghost use Rattle.ca_view.specs.Constants.{constants_of};
+ghost use Rattle.ca_view.specs.code.Constants.{fixed_of};
 
 use ca_base::NoMemory;
 use ca_core::CoreNets;

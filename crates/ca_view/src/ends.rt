@@ -4,7 +4,7 @@ ghost use Rattle.std.specs.Prelude.{◌≡◌, ◌<◌, length, IfOk};
 ghost use Rattle.std.specs.List.{All};
 ghost use Rattle.ca_core.specs.Core.{core_of};
 ghost use Rattle.ca_core.specs.Numbers.{AreCoreNumbers};
-ghost use Rattle.ca_view.specs.Ends.{AreMarked};
+ghost use Rattle.ca_view.specs.code.Ends.{AreMarked};
 
 use ca_base::NoMemory;
 use ca_core::CoreNets;

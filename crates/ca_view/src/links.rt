@@ -3,7 +3,7 @@
 ghost use Rattle.std.specs.Prelude.{◌≡◌, ◌<◌, [], ◌++◌, ◌∷◌, length, replicate, slice_set, OnOk, IfOk};
 ghost use Rattle.std.specs.List.{All};
 ghost use Rattle.ca_view.specs.NetLists.{linked_from};
-ghost use Rattle.ca_view.specs.Links.{Grows, IsLinkToEach, IsLinkOfPins, LinksPins, turned};
+ghost use Rattle.ca_view.specs.code.Links.{Grows, IsLinkToEach, IsLinkOfPins, LinksPins, turned};
 
 use crate::pins::CorePins;
 use ca_base::NoMemory;
@@ -19,7 +19,7 @@ pub(crate) struct LinkTable {
 impl Model for LinkTable {
     ghost use Rattle.std.specs.Prelude.{ℕ, List};
     ghost use Rattle.ca_view.specs.NetLists.{AreWithin};
-    ghost use Rattle.ca_view.specs.Pins.{items_of};
+    ghost use Rattle.ca_view.specs.code.Pins.{items_of};
 
     ghost Value = { List (List ℕ) };
 

@@ -9,8 +9,8 @@ ghost use Rattle.ca_linked.specs.Instances.{IsScan};
 ghost use Rattle.ca_core.specs.Core.{core_of};
 ghost use Rattle.ca_core.specs.Numbers.{AreCoreNumbers};
 ghost use Rattle.ca_view.specs.NetLists.{ArePinNets};
-ghost use Rattle.ca_view.specs.Pins.{inputs_of, outputs_of, items_of};
-ghost use Rattle.ca_view.specs.Pins.{AreCorePins, AreInputNets, AreOutputNets, IsInverted};
+ghost use Rattle.ca_view.specs.code.Pins.{inputs_of, outputs_of, items_of};
+ghost use Rattle.ca_view.specs.code.Pins.{AreCorePins, AreInputNets, AreOutputNets, IsInverted};
 
 use ca_base::NoMemory;
 use ca_core::CoreNets;
@@ -32,7 +32,8 @@ pub(crate) struct CorePins {
 
 impl Model for CorePins {
     ghost use Rattle.std.specs.Prelude.{◌≡◌, vec_len};
-    ghost use Rattle.ca_view.specs.Pins.{Pins, items_of, AreBelow};
+    ghost use Rattle.ca_view.specs.Pins.{Pins};
+    ghost use Rattle.ca_view.specs.code.Pins.{items_of, AreBelow};
 
     ghost Value = { Pins };
 

@@ -47,7 +47,8 @@ pub struct View<'a> {
 }
 
 impl<'a> Model for View<'a> {
-    ghost use Rattle.ca_view.specs.View.{Viewed, viewed_as, IsKept};
+    ghost use Rattle.ca_view.specs.View.{Viewed};
+    ghost use Rattle.ca_view.specs.code.View.{viewed_as, IsKept};
 
     ghost Value = { Viewed };
 

@@ -11,10 +11,11 @@ use Rattle.std.proofs.lemmas.List.{set-get_or}
 use native.Mathlib.Decide.{ℕ_discrete}
 use Rattle.ca_wiring.specs.declared.joined.Join.{Join}
 use Rattle.ca_wiring.specs.declared.joined.Span.{Span}
-use Rattle.ca_wiring.specs.Spans.{join_at, IsAmongFirst}
+use Rattle.ca_wiring.specs.code.Spans.{join_at, IsAmongFirst}
 use Rattle.ca_wiring.specs.Joined.{Links, AreJoined, Same, Across, AreEarliest}
-use Rattle.ca_wiring.specs.Forest.{parent_of, HasRoot, Itself, Above, HaveOneRoot, LeadBack, IsForest, Shortens}
-use Rattle.ca_wiring.specs.Forest.{Unites, UnitesSpan, UnitesFirst, AreTheirOwn, AreRoots, linked_roots}
+use Rattle.ca_wiring.specs.code.Forest.{Itself, Above}
+use Rattle.ca_wiring.specs.code.Forest.{parent_of, HasRoot, HaveOneRoot, LeadBack, IsForest, Shortens}
+use Rattle.ca_wiring.specs.code.Forest.{Unites, UnitesSpan, UnitesFirst, AreTheirOwn, AreRoots, linked_roots}
 
 module _ (joins : List Join) where
   pub joined_trans : (a b c : ℕ) → AreJoined joins a b → AreJoined joins b c → AreJoined joins a c

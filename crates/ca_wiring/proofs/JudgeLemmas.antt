@@ -14,7 +14,7 @@ use Rattle.ca_wiring.specs.declared.fault.ChipFault.TheVariants as fault
 use Rattle.ca_wiring.specs.Wiring.{Meaning, Unknown, Broken, Library, ScanCell, meaning_of}
 use Rattle.ca_wiring.specs.InstanceRules.{IsKnown, HasStrayPin, LacksPin, IsSound}
 use Rattle.ca_wiring.specs.Rules.{IsEarlier, OfInstance, BreaksAt, IsCause}
-use Rattle.ca_wiring.specs.Pins.{NoStray, IsFirstStray, IsFirstOpen, IsInstanceCause, AreSoundFirst}
+use Rattle.ca_wiring.specs.code.Pins.{NoStray, IsFirstStray, IsFirstOpen, IsInstanceCause, AreSoundFirst}
 use Rattle.ca_linked.proofs.FeedingLemmas.{item_of}
 use Rattle.ca_linked.proofs.DriverLemmas.{to_some}
 

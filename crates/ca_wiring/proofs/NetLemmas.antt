@@ -5,7 +5,7 @@ use Rattle.ca_wiring.specs.Joined.{Same, IsEarliest, AreEarliest}
 use Rattle.ca_wiring.specs.Wiring.{Wiring}
 use Rattle.ca_wiring.specs.Nets.{AreNets, IsNetOf}
 use Rattle.ca_wiring.specs.Numbers.{WireMarks, NetNumbers, earliest_of, IsUsed, LeadsToEarliest, AreNumbered}
-use Rattle.ca_wiring.specs.Numbers.{ReportsUsed}
+use Rattle.ca_wiring.specs.code.Numbers.{ReportsUsed}
 use Rattle.ca_linked.proofs.OrderLemmas.{place_of}
 use Rattle.ca_wiring.proofs.ForestLemmas.{joined_trans}
 

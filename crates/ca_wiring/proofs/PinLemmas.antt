@@ -20,7 +20,8 @@ use Rattle.ca_verilog.specs.declared.raw.RawUse.{RawUse}
 use Rattle.ca_wiring.specs.declared.scan_row.ScanRow.{ScanRow}
 use Rattle.ca_wiring.specs.Wiring.{Meaning, input_names, names_with, bit_on, row_of}
 use Rattle.ca_wiring.specs.InstanceRules.{pin_names, HasStrayPin}
-use Rattle.ca_wiring.specs.Pins.{first_open, first_stray, has_pin, ReportsStray, ReportsOpen, NoStray, IsFirstStray}
+use Rattle.ca_wiring.specs.code.Pins.{first_open, first_stray, has_pin, ReportsStray, ReportsOpen, NoStray}
+use Rattle.ca_wiring.specs.code.Pins.{IsFirstStray}
 use Rattle.ca_linked.proofs.DriverLemmas.{some_inj}
 use Rattle.ca_linked.proofs.EndLemmas.{take_more}
 

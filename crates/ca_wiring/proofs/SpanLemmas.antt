@@ -18,10 +18,11 @@ use Rattle.ca_verilog.specs.Joins.{bit_after, pairs_from, pairs_of}
 use Rattle.ca_verilog.specs.IsNetlist.{IsBit, IsJoinOf}
 use Rattle.ca_wiring.specs.declared.joined.Join.{Join}
 use Rattle.ca_wiring.specs.declared.joined.Span.{Span}
-use Rattle.ca_wiring.specs.Joined.{IsWithin}
+use Rattle.ca_wiring.specs.code.Joined.{IsWithin}
 use Rattle.ca_wiring.specs.Wiring.{wire_of, joins_of}
-use Rattle.ca_wiring.specs.Spans.{wire_after, join_at, is_moving, span_of, IsWith, IsSpanWithin, IsAmongFirst}
-use Rattle.ca_wiring.specs.Spans.{AreJoinsOf, IsOneOf, AreSpansOf}
+use Rattle.ca_wiring.specs.code.Spans.{wire_after, join_at, is_moving, span_of, IsWith, IsSpanWithin}
+use Rattle.ca_wiring.specs.code.Spans.{IsAmongFirst}
+use Rattle.ca_wiring.specs.code.Spans.{AreJoinsOf, IsOneOf, AreSpansOf}
 
 module _ (bits : ℕ) where
   -- the wire of a bit further right

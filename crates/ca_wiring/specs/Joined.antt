@@ -18,10 +18,6 @@ pub record IsEarliest (joins : List Join) (wire earliest : ℕ) : Type 0 where
   pub joined : AreJoined joins wire earliest
   pub none_before : (other : ℕ) → AreJoined joins wire other → earliest ≤ other
 
--- each side of the join is one of this many wires
-abbrev pub IsWithin : ℕ → Join → Type 0
-IsWithin wires join = (join.left < wires) × (join.right < wires)
-
 -- the list has for each wire the earliest of those that are joined with it
 pub record AreEarliest (joins : List Join) (wires : ℕ) (earliest : List ℕ) : Type 0 where
   pub count : length earliest ≡ wires

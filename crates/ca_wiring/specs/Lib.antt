@@ -5,7 +5,5 @@ pub mod Linking
 pub mod InstanceRules
 pub mod Rules
 pub mod Same
-pub mod Pins
-pub mod Spans
-pub mod Forest
 pub mod Numbers
+pub mod code

@@ -1,9 +1,7 @@
 -- How nets are numbered: the earliest wires that are used, in order. Only the proofs of the code cite this.
-use Rattle.std.specs.Prelude.{ℕ, ◌≡◌, ◌<◌, ◌≤◌, ◌⊎◌, ◌↔◌, Bool, true, false, List, length, Some, slice_get}
+use Rattle.std.specs.Prelude.{ℕ, ◌≡◌, ◌<◌, ◌≤◌, Bool, true, false, List, length, Some, slice_get}
 use Rattle.std.specs.Prelude.{slice_index, slice_index_or}
 use Rattle.std.specs.List.{AllPairs, Contains}
-use Rattle.ca_wiring.specs.Wiring.{Wiring}
-use Rattle.ca_wiring.specs.Nets.{Driving, Drives, IsLoaded, IsNet}
 
 -- for each wire the earliest that is joined with it, and whether a net that is known by a wire has a driver
 -- or a load
@@ -45,9 +43,3 @@ pub record AreNumbered (marks : WireMarks) (count : ℕ) (made : NetNumbers) : T
   pub has : (w : ℕ) → w < count → IsKnownBy marks w → Contains made.nets w
   pub numbered : (w : ℕ) → w < count → IsUsed marks (earliest_of marks w)
       → slice_get made.nets (slice_index made.numbers w) ≡ Some (earliest_of marks w)
-
--- the marks say which nets have a driver or a load, and all nets are among the wires
-pub record ReportsUsed (wiring : Wiring) (wires : ℕ) (marks : WireMarks) : Type 0 where
-  pub used : (w : ℕ) → w < wires → earliest_of marks w ≡ w
-      → IsUsed marks w ↔ (((driving : Driving) × Drives wiring w driving) ⊎ IsLoaded wiring w)
-  pub within : (w : ℕ) → IsNet wiring w → w < wires

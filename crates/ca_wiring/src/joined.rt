@@ -4,10 +4,12 @@ ghost use Rattle.std.specs.Prelude.{◌≡◌, ◌<◌, ◌≤◌, ◌+◌, ◌^
 ghost use Rattle.std.specs.Prelude.{slice_index, slice_set, IfOk, OnOk};
 ghost use Rattle.std.specs.List.{All, Contains};
 ghost use Rattle.ca_wiring.specs.declared.joined.Join.{Join};
-ghost use Rattle.ca_wiring.specs.Joined.{AreJoined, IsWithin, AreEarliest};
-ghost use Rattle.ca_wiring.specs.Spans.{wire_after, join_at, IsSpanWithin, AreJoinsOf};
-ghost use Rattle.ca_wiring.specs.Forest.{parent_of, HasRoot, HaveOneRoot, LeadBack, IsForest, Shortens, Unites};
-ghost use Rattle.ca_wiring.specs.Forest.{UnitesSpan, UnitesFirst, AreTheirOwn, AreRoots, linked_roots};
+ghost use Rattle.ca_wiring.specs.Joined.{AreJoined, AreEarliest};
+ghost use Rattle.ca_wiring.specs.code.Joined.{IsWithin};
+ghost use Rattle.ca_wiring.specs.code.Spans.{wire_after, join_at, IsSpanWithin, AreJoinsOf};
+ghost use Rattle.ca_wiring.specs.code.Forest.{parent_of, HasRoot, HaveOneRoot, LeadBack, IsForest, Shortens};
+ghost use Rattle.ca_wiring.specs.code.Forest.{Unites};
+ghost use Rattle.ca_wiring.specs.code.Forest.{UnitesSpan, UnitesFirst, AreTheirOwn, AreRoots, linked_roots};
 
 use ca_base::NoMemory;
 use std::alloc::Global;

@@ -7,7 +7,7 @@ ghost use Rattle.std.specs.Str.{bytes_eq};
 ghost use Rattle.ca_wiring.specs.Wiring as wiring;
 ghost use Rattle.ca_wiring.specs.Wiring.{ScanCell, meaning_of, row_of};
 ghost use Rattle.ca_wiring.specs.InstanceRules.{IsSound, AreSound};
-ghost use Rattle.ca_wiring.specs.Pins.{IsInstanceCause};
+ghost use Rattle.ca_wiring.specs.code.Pins.{IsInstanceCause};
 ghost use Rattle.ca_wiring.specs.Rules.{IsCause};
 
 use crate::fault::ChipFault;

@@ -6,7 +6,7 @@ ghost use Rattle.ca_names.specs.Names.{has_name};
 ghost use Rattle.ca_cell.specs.Raw.{is_input};
 ghost use Rattle.ca_wiring.specs.Wiring.{Library, ScanCell, bit_on, input_names, names_with, wire_of};
 ghost use Rattle.ca_wiring.specs.InstanceRules.{pin_names};
-ghost use Rattle.ca_wiring.specs.Pins.{first_open, first_stray, has_pin};
+ghost use Rattle.ca_wiring.specs.code.Pins.{first_open, first_stray, has_pin};
 
 use crate::scan_row::ScanRow;
 use ca_cell::{RawCell, RawPin};

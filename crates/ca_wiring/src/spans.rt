@@ -5,7 +5,7 @@ ghost use Rattle.std.specs.List.{All};
 ghost use Rattle.ca_verilog.specs.IsNetlist.{IsJoinOf};
 ghost use Rattle.ca_wiring.specs.Wiring.{wire_of, joins_of};
 ghost use Rattle.ca_wiring.specs.Joined.{AreEarliest};
-ghost use Rattle.ca_wiring.specs.Spans.{is_moving, span_of, IsWith, AreSpansOf};
+ghost use Rattle.ca_wiring.specs.code.Spans.{is_moving, span_of, IsWith, AreSpansOf};
 
 use crate::joined::{Span, earliest};
 use crate::pins::wire_of;

@@ -1,9 +1,7 @@
 -- The command that words spell.
-use Rattle.std.specs.Prelude.{◌≡◌, ◌≤◌, ℕ, List, ⊤}
-use Rattle.ca_make.specs.declared.gate.TheConstants.{MOST_GATES}
+use Rattle.std.specs.Prelude.{◌≡◌, ℕ, List}
 use Rattle.ca_load.specs.declared.loading.FileNames.{FileNames}
 use Rattle.ca_load.specs.Texts.{names_of}
-use Rattle.ca_request.specs.Asked.{AreBothOrNeither}
 use Rattle.ca_words.specs.Budget.{HasBudget, HasChipNumber}
 use Rattle.ca_words.specs.declared.words.CellWords.{CellWords}
 use Rattle.ca_words.specs.declared.words.PairWords.{PairWords}
@@ -116,15 +114,3 @@ IsSpelled words (Replay request) = IsSpelledReplay words request
 IsSpelled words (Make number) = IsSpelledMake words number
 IsSpelled words Help = IsHelp words
 IsSpelled words Version = IsVersion words
-
--- both the instance and the defect of a command on a chip are a dash, or neither is
-abbrev pub NamesBoth : ChipWords → Type 0
-NamesBoth request = AreBothOrNeither request.instance.now request.defect.now
-
--- the same of a command that has them, and the number of `make` is one of a generated chip
-abbrev pub IsWhole : Command → Type 0
-IsWhole (Flatten request) = NamesBoth request.of
-IsWhole (Simulate request) = NamesBoth request.of
-IsWhole (Replay request) = NamesBoth request.of.of
-IsWhole (Make number) = number ≤ MOST_GATES
-IsWhole _ = ⊤

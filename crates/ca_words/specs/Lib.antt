@@ -1,3 +1,4 @@
 pub mod Budget
 pub mod Words
 pub mod Command
+pub mod code

@@ -1,6 +1,6 @@
 use Rattle.std.proofs.Common.{◌≡◌, ◌++◌, length}
 use Rattle.ca_cert_text.specs.CertText.{code_words, AreTokens}
-use Rattle.ca_cert_text.specs.Reading.{Leaves}
+use Rattle.ca_cert_text.specs.code.Reading.{Leaves}
 use Rattle.ca_cert_text.proofs.code.code_of.Given as goal
 
 abbrev pub invariant-words : goal.invariant-words

@@ -1,5 +1,5 @@
 use Rattle.std.proofs.Common.{rules, sym, subst, ◌∙◌, ap, take, drop, List, ℕ}
-use Rattle.ca_cert_text.specs.Cut.{len_before, IsOnlyCut}
+use Rattle.ca_cert_text.specs.code.Cut.{len_before, IsOnlyCut}
 use Rattle.ca_cert_text.proofs.CutLemmas.{cut_begins, cut_only}
 use Rattle.ca_cert_text.proofs.cut.cut.Goals as goal
 

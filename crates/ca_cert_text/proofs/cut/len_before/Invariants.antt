@@ -1,5 +1,5 @@
 use Rattle.std.proofs.Common.{◌≡◌, ◌+◌, length}
-use Rattle.ca_cert_text.specs.Cut.{len_before}
+use Rattle.ca_cert_text.specs.code.Cut.{len_before}
 use Rattle.ca_cert_text.proofs.cut.len_before.Given as goal
 
 abbrev pub invariant-bytes : goal.invariant-bytes

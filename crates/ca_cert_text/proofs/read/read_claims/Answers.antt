@@ -1,5 +1,5 @@
 use Rattle.std.proofs.Common.{◌<◌, length, arith, ap, subst, rules, length-append, [], ◌∷◌}
-use Rattle.ca_cert_text.specs.Reading.{IsClaimAt}
+use Rattle.ca_cert_text.specs.code.Reading.{IsClaimAt}
 use Rattle.ca_cert_text.proofs.WordLemmas.{claims_push}
 use Rattle.ca_cert_text.proofs.LineLemmas.{no_claim_end, no_claim_line, one_claim}
 use Rattle.ca_cert_text.proofs.read.read_claims.Goals as goal

@@ -5,7 +5,8 @@ use Rattle.ca_flat.specs.declared.chip_defect.ChipDefect.{ChipDefect}
 use Rattle.ca_view.specs.Linked.{IsPlacedDefect, place_in}
 use Rattle.ca_linked.specs.Instances.{gates_of}
 use Rattle.ca_flat.specs.Chip.{Chip, count_of}
-use Rattle.ca_chip_defects.specs.ChipDefects.{chip_defects, placed_before, placed_instances}
+use Rattle.ca_chip_defects.specs.ChipDefects.{chip_defects}
+use Rattle.ca_chip_defects.specs.code.ChipDefects.{placed_before, placed_instances}
 use Rattle.ca_chip_defects.proofs.PlacedLemmas.{placed_are_gates}
 use Rattle.ca_chip_defects.proofs.ListingLemmas.{none_before, instance_adds}
 use Rattle.ca_chip_defects.proofs.listing.chip_defects.Goals as goal

@@ -1,7 +1,8 @@
 use Rattle.std.proofs.Common.{◌≡◌}
 use Rattle.std.specs.List.{All}
 use Rattle.ca_view.specs.Linked.{IsPlacedDefect, place_in}
-use Rattle.ca_chip_defects.specs.ChipDefects.{chip_defects, placed_before}
+use Rattle.ca_chip_defects.specs.ChipDefects.{chip_defects}
+use Rattle.ca_chip_defects.specs.code.ChipDefects.{placed_before}
 use Rattle.ca_chip_defects.proofs.listing.chip_defects.Given as goal
 
 abbrev pub invariant-loop-u : goal.invariant-loop-u

@@ -2,7 +2,7 @@ use Rattle.std.proofs.Common.{◌≡◌, ℕ, suc, ◌+◌, ◌-◌, length, dro
 use Rattle.std.specs.Prelude.{Some, slice_get}
 use Rattle.ca_flat.specs.Chip.{Constant}
 use Rattle.ca_flat.specs.Pair.{input_value, constant_value}
-use Rattle.ca_chip_replay.specs.Kept.{IsVector}
+use Rattle.ca_chip_replay.specs.code.Kept.{IsVector}
 use Rattle.ca_chip_replay.proofs.VectorLemmas.{constant_set}
 use Rattle.ca_chip_replay.proofs.vectors.set_constants.Goals as goal
 

@@ -1,6 +1,6 @@
 use Rattle.std.proofs.Common.{◌-◌, length, drop}
 use Rattle.ca_flat.specs.Pair.{input_value, constant_value}
-use Rattle.ca_chip_replay.specs.Kept.{IsVector}
+use Rattle.ca_chip_replay.specs.code.Kept.{IsVector}
 use Rattle.ca_chip_replay.proofs.vectors.set_constants.Given as goal
 
 abbrev pub invariant-loop-k : goal.invariant-loop-k

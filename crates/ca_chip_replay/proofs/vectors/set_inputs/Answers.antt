@@ -2,7 +2,7 @@ use Rattle.std.proofs.Common.{◌≡◌, ℕ, suc, ◌+◌, ◌-◌, ◌<◌, le
 use Rattle.std.specs.Prelude.{slice_index}
 use Rattle.ca_net.specs.State.{value_at}
 use Rattle.ca_flat.specs.Pair.{input_value}
-use Rattle.ca_chip_replay.specs.Kept.{IsVector}
+use Rattle.ca_chip_replay.specs.code.Kept.{IsVector}
 use Rattle.ca_chip_replay.proofs.VectorLemmas.{input_set}
 use Rattle.ca_chip_replay.proofs.vectors.set_inputs.Goals as goal
 

@@ -1,5 +1,5 @@
 use Rattle.std.proofs.Common.{◌≡◌, ◌+◌, ◌-◌, subst, arith}
-use Rattle.ca_chip_stil.specs.Kept.{ArePlacesFrom}
+use Rattle.ca_chip_stil.specs.code.Kept.{ArePlacesFrom}
 use Rattle.ca_chip_stil.proofs.PlaceLemmas.{scan_within, places_more}
 use Rattle.ca_chip_stil.proofs.chains.places_of.Goals as goal
 

@@ -1,6 +1,6 @@
 use Rattle.std.proofs.Common.{◌≤◌, length}
 use Rattle.ca_linked.specs.Instances.{scans_of}
-use Rattle.ca_chip_stil.specs.Kept.{ArePlacesFrom}
+use Rattle.ca_chip_stil.specs.code.Kept.{ArePlacesFrom}
 use Rattle.ca_chip_stil.proofs.chains.places_of.Given as goal
 
 abbrev pub invariant-scans : goal.invariant-scans

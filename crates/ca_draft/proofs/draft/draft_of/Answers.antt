@@ -3,7 +3,7 @@ use Rattle.ca_wiring.specs.declared.scan_row.ScanRow.{ScanRow}
 use Rattle.ca_wiring.specs.Wiring.{joins_of, wiring_of}
 use Rattle.ca_wiring.specs.Linking.{IsLinkOf}
 use Rattle.ca_linked.specs.Drivers.{IsDrafted}
-use Rattle.ca_draft.specs.OnWires.{IsNumbering}
+use Rattle.ca_draft.specs.code.OnWires.{IsNumbering}
 use Rattle.ca_draft.proofs.DraftLemmas.{draft_link, draft_drafted, parts_within, ports_within, chip_is}
 use Rattle.ca_draft.proofs.draft.draft_of.Goals as goal
 

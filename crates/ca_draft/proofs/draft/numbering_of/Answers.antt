@@ -1,7 +1,7 @@
 use Rattle.std.proofs.Common.{◌∙◌, sym, subst, List, ℕ}
 use Rattle.ca_wiring.specs.Wiring.{joins_of}
 use Rattle.ca_wiring.specs.Joined.{AreEarliest}
-use Rattle.ca_draft.specs.OnWires.{AreMarks}
+use Rattle.ca_draft.specs.code.OnWires.{AreMarks}
 use Rattle.ca_draft.proofs.DraftLemmas.{firsts_within, leads_to}
 use Rattle.ca_draft.proofs.draft.numbering_of.Goals as goal
 

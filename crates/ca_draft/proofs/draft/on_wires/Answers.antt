@@ -7,7 +7,7 @@ use Rattle.ca_verilog.specs.IsNetlist.{bit_count, IsPort}
 use Rattle.ca_linked.specs.declared.parts.Part.{Part}
 use Rattle.ca_linked.specs.declared.parts.PortBit.{PortBit}
 use Rattle.ca_wiring.specs.Wiring.{header_bits}
-use Rattle.ca_draft.specs.OnWires.{AreOnWires, IsNamedBy, touched_of}
+use Rattle.ca_draft.specs.code.OnWires.{AreOnWires, IsNamedBy, touched_of}
 use Rattle.ca_draft.proofs.DraftLemmas.{netlist_is}
 use Rattle.ca_draft.proofs.draft.on_wires.Goals as goal
 

@@ -1,7 +1,7 @@
 use Rattle.std.proofs.Common.{◌<◌, arith, refl, map, ◌++◌}
 use Rattle.ca_verilog.specs.IsNetlist.{range_width}
 use Rattle.ca_wiring.specs.Wiring.{header_bits_from}
-use Rattle.ca_draft.specs.OnWires.{header_of}
+use Rattle.ca_draft.specs.code.OnWires.{header_of}
 use Rattle.ca_draft.proofs.HeaderLemmas.{port_more}
 use Rattle.ca_draft.proofs.header.add_port.Goals as goal
 

@@ -1,4 +1,4 @@
-use Rattle.ca_draft.specs.OnWires.{AreOnWires}
+use Rattle.ca_draft.specs.code.OnWires.{AreOnWires}
 use Rattle.ca_draft.proofs.instances.instances_of.Given as goal
 
 abbrev pub invariant-loop-u : goal.invariant-loop-u

@@ -1,5 +1,5 @@
 use Rattle.std.specs.Prelude.{take}
-use Rattle.ca_draft.specs.OnWires.{AreMarks}
+use Rattle.ca_draft.specs.code.OnWires.{AreMarks}
 use Rattle.ca_draft.proofs.marks.marks_of.Given as goal
 
 abbrev pub invariant-loop-k : goal.invariant-loop-k

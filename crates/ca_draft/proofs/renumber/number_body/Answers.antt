@@ -1,7 +1,7 @@
 use Rattle.std.proofs.Common.{◌<◌, ℕ, length, subst}
 use Rattle.std.specs.List.{All}
 use Rattle.ca_linked.specs.declared.parts.Body.{Body}
-use Rattle.ca_draft.specs.OnWires.{pins_of}
+use Rattle.ca_draft.specs.code.OnWires.{pins_of}
 use Rattle.ca_draft.proofs.DraftLemmas.{after_all}
 use Rattle.ca_draft.proofs.renumber.number_body.Goals as goal
 

@@ -2,7 +2,7 @@ use Rattle.std.proofs.Common.{◌∙◌, ap, ap₂, sym, ◌++◌, [], ◌∷◌
 use Rattle.std.specs.Prelude.{take}
 use Rattle.std.proofs.lemmas.List.{map-append}
 use Rattle.ca_linked.proofs.EndLemmas.{take_more}
-use Rattle.ca_draft.specs.OnWires.{number_of}
+use Rattle.ca_draft.specs.code.OnWires.{number_of}
 use Rattle.ca_draft.proofs.renumber.number_list.Goals as goal
 
 pub loop-k-preserved : goal.loop-k-preserved

@@ -1,6 +1,6 @@
 use Rattle.std.proofs.Common.{◌≡◌, map}
 use Rattle.std.specs.Prelude.{take}
-use Rattle.ca_draft.specs.OnWires.{number_of}
+use Rattle.ca_draft.specs.code.OnWires.{number_of}
 use Rattle.ca_draft.proofs.renumber.number_list.Given as goal
 
 abbrev pub invariant-loop-k : goal.invariant-loop-k

@@ -4,7 +4,7 @@ use Rattle.std.specs.List.{All}
 use Rattle.ca_linked.specs.declared.parts.Part.{Part}
 use Rattle.ca_linked.specs.declared.parts.Body.{Body}
 use Rattle.ca_linked.proofs.DriverLemmas.{some_inj}
-use Rattle.ca_draft.specs.OnWires.{numbered, numbered_part, pins_of}
+use Rattle.ca_draft.specs.code.OnWires.{numbered, numbered_part, pins_of}
 use Rattle.ca_draft.proofs.MarkLemmas.{changed_more, holds_at, got, unchanged_at}
 use Rattle.ca_draft.proofs.renumber.number_parts.Goals as goal
 

@@ -1,4 +1,4 @@
-use Rattle.ca_draft.specs.OnWires.{numbered_part}
+use Rattle.ca_draft.specs.code.OnWires.{numbered_part}
 use Rattle.ca_draft.proofs.MarkLemmas.{IsChanged}
 use Rattle.ca_draft.proofs.renumber.number_parts.Given as goal
 

@@ -2,7 +2,7 @@ use Rattle.std.proofs.Common.{◌≡◌, ◌<◌, ◌∙◌, ap, sym, refl, arit
 use Rattle.std.specs.Prelude.{Some, slice_get}
 use Rattle.ca_linked.specs.declared.parts.PortBit.{PortBit}
 use Rattle.ca_linked.proofs.DriverLemmas.{some_inj}
-use Rattle.ca_draft.specs.OnWires.{number_of, numbered_port}
+use Rattle.ca_draft.specs.code.OnWires.{number_of, numbered_port}
 use Rattle.ca_draft.proofs.MarkLemmas.{changed_more, holds_at, got, unchanged_at}
 use Rattle.ca_draft.proofs.renumber.number_ports.Goals as goal
 

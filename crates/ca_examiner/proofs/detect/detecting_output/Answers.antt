@@ -1,7 +1,7 @@
 use Rattle.std.proofs.Common.{◌∙◌, sym, ap, subst}
 use Rattle.ca_flat.specs.Chip.{Chip}
 use Rattle.ca_view.specs.Linked.{place_in}
-use Rattle.ca_examiner.specs.Ends.{IsFirstOpposite}
+use Rattle.ca_examiner.specs.code.Ends.{IsFirstOpposite}
 use Rattle.ca_examiner.proofs.LeaveLemmas.{view_of, outputs_within}
 use Rattle.ca_examiner.proofs.DetectLemmas.{detecting_is}
 use Rattle.ca_examiner.proofs.detect.detecting_output.Goals as goal

@@ -1,4 +1,4 @@
-use Rattle.ca_examiner.specs.Ends.{IsNoneOppositeBelow}
+use Rattle.ca_examiner.specs.code.Ends.{IsNoneOppositeBelow}
 use Rattle.ca_examiner.proofs.detect.first_opposite.Given as goal
 
 abbrev pub invariant-loop-output : goal.invariant-loop-output

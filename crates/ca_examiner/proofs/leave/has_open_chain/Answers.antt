@@ -2,8 +2,8 @@ use Rattle.std.proofs.Common.{length, ◌∙◌, ap, subst}
 use Rattle.std.specs.Prelude.{IsTrue, ◌↔◌}
 use Rattle.std.specs.List.{Any}
 use Rattle.ca_view.specs.Linked.{place_in}
-use Rattle.ca_examiner.specs.Marks.{IsMarked}
-use Rattle.ca_examiner.specs.Sweep.{AreReached}
+use Rattle.ca_examiner.specs.code.Marks.{IsMarked}
+use Rattle.ca_examiner.specs.code.Sweep.{AreReached}
 use Rattle.ca_examiner.proofs.LeaveLemmas.{reaches_is, marks_within}
 use Rattle.ca_examiner.proofs.leave.has_open_chain.Goals as goal
 

@@ -3,7 +3,7 @@ use Rattle.ca_flat.specs.Chip.{Chip}
 use Rattle.ca_flat.specs.Rows.{ListsExposingRows}
 use Rattle.ca_flat.specs.CheckedCode.{MayLeave}
 use Rattle.ca_view.specs.Linked.{place_in}
-use Rattle.ca_examiner.specs.ChipExaminer.{ReachesOutput}
+use Rattle.ca_examiner.specs.code.ChipExaminer.{ReachesOutput}
 use Rattle.ca_examiner.proofs.LeaveLemmas.{view_of, outputs_within, shown_is, settled_is, plain_by_rows, plain_by_chains, plain_by_full}
 use Rattle.ca_examiner.proofs.LeaveLemmas.{unset_stays, shown_stays, leave_by_shown}
 use Rattle.ca_examiner.proofs.leave.may_leave.Goals as goal

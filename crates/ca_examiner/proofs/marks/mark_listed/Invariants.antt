@@ -1,4 +1,4 @@
-use Rattle.ca_examiner.specs.Marks.{MarksListedTo}
+use Rattle.ca_examiner.specs.code.Marks.{MarksListedTo}
 use Rattle.ca_examiner.proofs.marks.mark_listed.Given as goal
 
 abbrev pub invariant-loop-net : goal.invariant-loop-net

@@ -1,4 +1,4 @@
-use Rattle.ca_examiner.specs.OpenNets.{AreOpenTo}
+use Rattle.ca_examiner.specs.code.OpenNets.{AreOpenTo}
 use Rattle.ca_examiner.proofs.open_nets.mark_open.Given as goal
 
 abbrev pub invariant-loop-net : goal.invariant-loop-net

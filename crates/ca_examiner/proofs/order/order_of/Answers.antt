@@ -1,7 +1,7 @@
 use Rattle.std.proofs.Common.{◌+◌, sym, ap, subst, arith}
 use Rattle.ca_view.specs.Linked.{place_in}
 use Rattle.ca_view.specs.Places.{cell_number}
-use Rattle.ca_examiner.specs.Order.{IsOrderTo}
+use Rattle.ca_examiner.specs.code.Order.{IsOrderTo}
 use Rattle.ca_examiner.proofs.OrderLemmas.{order_more, order_skip}
 use Rattle.ca_examiner.proofs.order.order_of.Goals.{then-place-gt0, else-place-gt0}
 use Rattle.ca_examiner.proofs.order.order_of.Goals as goal

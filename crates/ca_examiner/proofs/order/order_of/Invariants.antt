@@ -1,5 +1,5 @@
 use Rattle.ca_view.specs.Linked.{place_in}
-use Rattle.ca_examiner.specs.Order.{IsOrderTo}
+use Rattle.ca_examiner.specs.code.Order.{IsOrderTo}
 use Rattle.ca_examiner.proofs.order.order_of.Given as goal
 
 abbrev pub invariant-loop-u : goal.invariant-loop-u

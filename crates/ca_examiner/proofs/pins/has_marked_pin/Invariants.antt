@@ -1,6 +1,6 @@
 use Rattle.std.proofs.Common.{ℕ, ◌+◌, ◌<◌}
 use Rattle.ca_flat.specs.Chip.{net_of}
-use Rattle.ca_examiner.specs.Marks.{IsMarked}
+use Rattle.ca_examiner.specs.code.Marks.{IsMarked}
 use Rattle.ca_examiner.proofs.pins.has_marked_pin.Given as goal
 
 abbrev pub invariant-loop-pin : goal.invariant-loop-pin

@@ -1,4 +1,4 @@
-use Rattle.ca_examiner.specs.Marks.{MarksPins}
+use Rattle.ca_examiner.specs.code.Marks.{MarksPins}
 use Rattle.ca_examiner.proofs.pins.mark_pins.Given as goal
 
 abbrev pub invariant-loop-pin : goal.invariant-loop-pin

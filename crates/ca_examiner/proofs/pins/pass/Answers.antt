@@ -1,5 +1,5 @@
 use Rattle.std.proofs.Common.{◌≡◌, ◌∙◌, sym, subst, true, false}
-use Rattle.ca_examiner.specs.Marks.{HasMarkedPin}
+use Rattle.ca_examiner.specs.code.Marks.{HasMarkedPin}
 use Rattle.ca_examiner.proofs.MarkLemmas.{pass_some, pass_none}
 use Rattle.ca_examiner.proofs.pins.pass.Goals as goal
 

@@ -1,4 +1,4 @@
-use Rattle.ca_examiner.specs.PinRows.{IsOverPins}
+use Rattle.ca_examiner.specs.code.PinRows.{IsOverPins}
 use Rattle.ca_examiner.proofs.rows.is_over.Given as goal
 
 abbrev pub invariant-loop-pin : goal.invariant-loop-pin

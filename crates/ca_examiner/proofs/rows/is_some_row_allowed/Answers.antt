@@ -1,5 +1,5 @@
 use Rattle.std.proofs.Common.{◌≡◌, ◌∙◌, sym, true, false, arith}
-use Rattle.ca_examiner.specs.PinRows.{IsAllowed}
+use Rattle.ca_examiner.specs.code.PinRows.{IsAllowed}
 use Rattle.ca_examiner.proofs.RowLemmas.{all_more, all_taken}
 use Rattle.ca_examiner.proofs.rows.is_some_row_allowed.Goals as goal
 

@@ -1,5 +1,5 @@
 use Rattle.std.proofs.Common.{take}
-use Rattle.ca_examiner.specs.PinRows.{IsNoneAllowed}
+use Rattle.ca_examiner.specs.code.PinRows.{IsNoneAllowed}
 use Rattle.ca_examiner.proofs.rows.is_some_row_allowed.Given as goal
 
 abbrev pub invariant-loop-place : goal.invariant-loop-place

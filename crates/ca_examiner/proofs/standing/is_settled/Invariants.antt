@@ -1,4 +1,4 @@
-use Rattle.ca_examiner.specs.Ends.{AreAlikeBelow}
+use Rattle.ca_examiner.specs.code.Ends.{AreAlikeBelow}
 use Rattle.ca_examiner.proofs.standing.is_settled.Given as goal
 
 abbrev pub invariant-loop-net : goal.invariant-loop-net

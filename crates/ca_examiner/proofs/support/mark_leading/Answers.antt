@@ -1,7 +1,7 @@
 use Rattle.std.proofs.Common.{ℕ, ◌≡◌, ◌<◌, length, sym, ◌∙◌, ap, subst, arith, get_or}
 use Rattle.std.specs.List.{All}
 use Rattle.ca_view.specs.Linked.{place_in}
-use Rattle.ca_examiner.specs.Marks.{MarksListed}
+use Rattle.ca_examiner.specs.code.Marks.{MarksListed}
 use Rattle.ca_examiner.proofs.SupportLemmas.{leading_are}
 use Rattle.ca_examiner.proofs.LeaveLemmas.{outputs_within}
 use Rattle.ca_examiner.proofs.support.mark_leading.Goals as goal

@@ -3,7 +3,7 @@ use Rattle.std.proofs.lemmas.Option.{slice_get-get_or}
 use Rattle.ca_flat.specs.Chip.{inputs_at, outputs_at}
 use Rattle.ca_view.specs.Linked.{place_in}
 use Rattle.ca_view.specs.Places.{cell_number}
-use Rattle.ca_examiner.specs.Sweep.{IsSweptFrom}
+use Rattle.ca_examiner.specs.code.Sweep.{IsSweptFrom}
 use Rattle.ca_examiner.proofs.MarkLemmas.{passes_at}
 use Rattle.ca_examiner.proofs.OrderLemmas.{none_of}
 use Rattle.ca_examiner.proofs.SweepLemmas.{back_begin, back_more, back_skip, back_all}

@@ -1,5 +1,5 @@
 use Rattle.ca_view.specs.Linked.{place_in}
-use Rattle.ca_examiner.specs.Sweep.{IsSweptTo}
+use Rattle.ca_examiner.specs.code.Sweep.{IsSweptTo}
 use Rattle.ca_examiner.proofs.sweep.mark_onward.Given as goal
 
 abbrev pub invariant-loop-place : goal.invariant-loop-place

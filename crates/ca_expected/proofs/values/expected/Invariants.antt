@@ -1,5 +1,5 @@
 use Rattle.std.proofs.Common.{◌≡◌}
-use Rattle.ca_expected.specs.Kept.{AreFirstRows}
+use Rattle.ca_expected.specs.code.Kept.{AreFirstRows}
 use Rattle.ca_expected.proofs.values.expected.Given as goal
 
 abbrev pub invariant-loop-place : goal.invariant-loop-place

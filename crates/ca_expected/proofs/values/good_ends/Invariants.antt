@@ -1,4 +1,4 @@
-use Rattle.ca_expected.specs.Kept.{AreFirstEnds}
+use Rattle.ca_expected.specs.code.Kept.{AreFirstEnds}
 use Rattle.ca_expected.proofs.values.good_ends.Given as goal
 
 abbrev pub invariant-loop-output : goal.invariant-loop-output

@@ -1,5 +1,5 @@
 use Rattle.std.proofs.Common.{◌≡◌}
-use Rattle.ca_expected.specs.Wrong.{AreRightRows}
+use Rattle.ca_expected.specs.code.Wrong.{AreRightRows}
 use Rattle.ca_expected.proofs.wrong.first_wrong.Given as goal
 
 abbrev pub invariant-loop-place : goal.invariant-loop-place

@@ -1,4 +1,4 @@
-use Rattle.ca_expected.specs.Wrong.{AreRightUpTo}
+use Rattle.ca_expected.specs.code.Wrong.{AreRightUpTo}
 use Rattle.ca_expected.proofs.wrong.wrong_output.Given as goal
 
 abbrev pub invariant-loop-output : goal.invariant-loop-output

@@ -2,8 +2,8 @@ use Rattle.std.proofs.Common.{◌≡◌, ◌+◌, ◌∙◌, ℕ, ap, length, su
 use Rattle.ca_verilog.specs.IsNetlist.{bit_count}
 use Rattle.ca_wiring.specs.Numbers.{WireMarks}
 use Rattle.ca_wiring.specs.Wiring.{joins_of}
-use Rattle.ca_draft.specs.OnWires.{AreMarks}
-use Rattle.ca_fault_place.specs.Touched.{IsFoundAmong}
+use Rattle.ca_draft.specs.code.OnWires.{AreMarks}
+use Rattle.ca_fault_place.specs.code.Touched.{IsFoundAmong}
 use Rattle.ca_fault_place.proofs.KnownLemmas.{is_found}
 use Rattle.ca_fault_place.proofs.WithinLemmas.{listed_within, marks_listed, marks_within}
 use Rattle.ca_fault_place.proofs.nets.net_wire.Goals as goal

@@ -1,5 +1,5 @@
 use Rattle.std.proofs.Common.{◌≡◌, ◌+◌}
-use Rattle.ca_fault_place.specs.Touched.{known_count}
+use Rattle.ca_fault_place.specs.code.Touched.{known_count}
 use Rattle.ca_fault_place.proofs.nets.nth_wire.Given as goal
 
 abbrev pub invariant-loop-w : goal.invariant-loop-w

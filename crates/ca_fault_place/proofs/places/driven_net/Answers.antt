@@ -1,6 +1,6 @@
 use Rattle.std.proofs.Common.{List, ℕ, subst}
 use Rattle.ca_fault_place.specs.Place.{double_text}
-use Rattle.ca_fault_place.specs.Touched.{IsFoundFor}
+use Rattle.ca_fault_place.specs.code.Touched.{IsFoundFor}
 use Rattle.ca_fault_place.proofs.NetLemmas.{named_net, ok_then, unnamed_net}
 use Rattle.ca_fault_place.proofs.places.driven_net.Goals as goal
 

@@ -1,6 +1,6 @@
 use Rattle.std.proofs.Common.{subst}
 use Rattle.ca_fault_place.specs.Place.{net_text}
-use Rattle.ca_fault_place.specs.Touched.{IsFoundFor}
+use Rattle.ca_fault_place.specs.code.Touched.{IsFoundFor}
 use Rattle.ca_fault_place.proofs.NetLemmas.{named_net, ok_then, unnamed_net}
 use Rattle.ca_fault_place.proofs.places.one_net.Goals as goal
 

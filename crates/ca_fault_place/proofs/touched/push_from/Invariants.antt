@@ -1,5 +1,5 @@
 use Rattle.std.proofs.Common.{◌≡◌, ◌++◌, ◌+◌, ◌-◌}
-use Rattle.ca_fault_place.specs.Touched.{wires_from}
+use Rattle.ca_fault_place.specs.code.Touched.{wires_from}
 use Rattle.ca_fault_place.proofs.touched.push_from.Given as goal
 
 abbrev pub invariant-loop-k : goal.invariant-loop-k

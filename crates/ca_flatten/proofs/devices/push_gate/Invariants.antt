@@ -1,6 +1,6 @@
 use Rattle.std.proofs.Common.{◌≡◌, ◌++◌}
 use Rattle.ca_core.specs.Core.{core_of}
-use Rattle.ca_flatten.specs.Kept.{first_devices}
+use Rattle.ca_flatten.specs.code.Kept.{first_devices}
 use Rattle.ca_flatten.proofs.devices.push_gate.Given as goal
 
 abbrev pub invariant-loop-d : goal.invariant-loop-d

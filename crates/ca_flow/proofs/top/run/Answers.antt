@@ -4,7 +4,7 @@ use Rattle.std.specs.String.{string_bytes}
 use Rattle.ca_flow.specs.Fault.{Outside, IsWorkCause, IsCause}
 use Rattle.ca_flow.specs.Finished.{Writes}
 use Rattle.ca_flow.specs.Ends.{IsAsked}
-use Rattle.ca_flow.specs.Work.{EndsWork}
+use Rattle.ca_flow.specs.code.Work.{EndsWork}
 use Rattle.ca_flow.proofs.CompleteLemmas.{completes}
 use Rattle.ca_flow.proofs.EndLemmas.{refused_answer, refused_asked, refused_prints, refused_writes}
 use Rattle.ca_flow.proofs.EndLemmas.{read_is_not_written, work_asked, work_cause, work_has_words}

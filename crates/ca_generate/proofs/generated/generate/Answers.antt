@@ -1,7 +1,7 @@
 use Rattle.std.proofs.Common.{◌≡◌, ℕ, List, arith, length, subst, sym}
 use Rattle.ca_credit.specs.declared.verdict.Verdict.{Verdict}
 use Rattle.ca_credit.specs.Good.{IsGood}
-use Rattle.ca_generate.specs.Progress.{WorkStands}
+use Rattle.ca_generate.specs.code.Progress.{WorkStands}
 use Rattle.ca_generate.proofs.GoodLemmas.{all_known_at_end, good_at_end}
 use Rattle.ca_generate.proofs.generated.generate.Goals as goal
 

@@ -1,5 +1,5 @@
 use Rattle.std.proofs.Common.{◌≡◌}
-use Rattle.ca_generate.specs.Progress.{WorkStands}
+use Rattle.ca_generate.specs.code.Progress.{WorkStands}
 use Rattle.ca_generate.proofs.generated.generate.Given as goal
 
 abbrev pub invariant-loop-place : goal.invariant-loop-place

@@ -1,4 +1,4 @@
-use Rattle.ca_generate.specs.Progress.{IsScreened}
+use Rattle.ca_generate.specs.code.Progress.{IsScreened}
 use Rattle.ca_generate.proofs.work.screen.Given as goal
 
 abbrev pub invariant-loop-place : goal.invariant-loop-place

@@ -3,7 +3,7 @@ use Rattle.std.specs.Prelude.{min}
 use Rattle.ca_credit.specs.Defects.{Task}
 use Rattle.ca_credit.specs.Table.{CreditsBlock}
 use Rattle.ca_credit.specs.declared.credits.TheConstants.{BLOCK}
-use Rattle.ca_grade.specs.Table.{AreVerdictsAfter}
+use Rattle.ca_grade.specs.code.Table.{AreVerdictsAfter}
 use Rattle.ca_grade.proofs.GradeLemmas.{after_block}
 use Rattle.ca_grade.proofs.grades.credit_all.Goals as goal
 

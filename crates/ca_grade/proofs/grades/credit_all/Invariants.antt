@@ -1,5 +1,5 @@
 use Rattle.std.proofs.Common.{◌≡◌, ◌≤◌, ◌-◌, length}
-use Rattle.ca_grade.specs.Table.{AreVerdictsAfter}
+use Rattle.ca_grade.specs.code.Table.{AreVerdictsAfter}
 use Rattle.ca_grade.proofs.grades.credit_all.Given as goal
 
 abbrev pub invariant-credited : goal.invariant-credited

@@ -1,4 +1,4 @@
-use Rattle.ca_grade.specs.Table.{AreMarkedUpTo}
+use Rattle.ca_grade.specs.code.Table.{AreMarkedUpTo}
 use Rattle.ca_grade.proofs.grades.marked.Given as goal
 
 abbrev pub invariant-loop-place : goal.invariant-loop-place

@@ -1,4 +1,4 @@
-use Rattle.ca_judge.specs.Outputs.{AreObservedBelow}
+use Rattle.ca_judge.specs.code.Outputs.{AreObservedBelow}
 use Rattle.ca_judge.proofs.outputs.observed_nets.Given as goal
 
 abbrev pub invariant-loop-net : goal.invariant-loop-net

@@ -1,4 +1,4 @@
-use Rattle.ca_judge.specs.Ends.{IsNoneOppositeBelow}
+use Rattle.ca_judge.specs.code.Ends.{IsNoneOppositeBelow}
 use Rattle.ca_judge.proofs.standing.is_shown.Given as goal
 
 abbrev pub invariant-loop-net : goal.invariant-loop-net

@@ -4,8 +4,9 @@ use Rattle.std.proofs.lemmas.List.Elements.{All-get_or}
 use Rattle.ca_net.specs.declared.trit.Trit.TheVariants.{Zero}
 use Rattle.ca_lanes.specs.declared.constants.Constant.{Constant}
 use Rattle.ca_lanes.specs.Plane.{lane_of}
-use Rattle.ca_lanes.specs.Choice.{choice_with, choices_of, choice_at}
-use Rattle.ca_lanes.specs.Set.{constant_choice}
+use Rattle.ca_lanes.specs.Choice.{choices_of, choice_at}
+use Rattle.ca_lanes.specs.code.Choice.{choice_with}
+use Rattle.ca_lanes.specs.code.Set.{constant_choice}
 use Rattle.ca_lanes.proofs.ConstantLemmas.{constant_more}
 use Rattle.ca_lanes.proofs.constants.set_constants.Goals as goal
 

@@ -1,7 +1,7 @@
 use Rattle.std.proofs.Common.{◌≡◌, ◌-◌, ℕ, length, drop}
 use Rattle.ca_lanes.specs.Plane.{lane_of}
 use Rattle.ca_lanes.specs.Choice.{choices_of, choice_at}
-use Rattle.ca_lanes.specs.Set.{constant_choice}
+use Rattle.ca_lanes.specs.code.Set.{constant_choice}
 use Rattle.ca_lanes.proofs.constants.set_constants.Given as goal
 
 abbrev pub invariant-loop-following : goal.invariant-loop-following

@@ -1,8 +1,8 @@
 use Rattle.std.proofs.Common.{◌≡◌, ℕ, length}
 use Rattle.ca_lanes.specs.Choice.{choice_of}
 use Rattle.ca_lanes.specs.GoodRows.{good_at}
-use Rattle.ca_lanes.specs.Allowed.{lanes_of}
-use Rattle.ca_lanes.specs.Given.{given_by}
+use Rattle.ca_lanes.specs.code.Allowed.{lanes_of}
+use Rattle.ca_lanes.specs.code.Given.{given_by}
 use Rattle.ca_lanes.proofs.evaluate.first_values.Given as goal
 
 abbrev pub invariant-loop-vector : goal.invariant-loop-vector

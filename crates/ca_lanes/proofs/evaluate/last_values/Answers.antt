@@ -1,10 +1,11 @@
 use Rattle.std.proofs.Common.{◌≡◌, ◌∙◌, ◌+◌, ◌<◌, ℕ, ap₂, length, subst, sym, ap, arith}
 use Rattle.ca_net.specs.declared.trit.Trit.{Trit}
 use Rattle.ca_lanes.specs.Plane.{lane_of}
-use Rattle.ca_lanes.specs.Choice.{choice_of, choice_over, either_choice, no_choice}
+use Rattle.ca_lanes.specs.Choice.{choice_of, no_choice}
+use Rattle.ca_lanes.specs.code.Choice.{choice_over, either_choice}
 use Rattle.ca_lanes.specs.GoodRows.{good_at}
-use Rattle.ca_lanes.specs.Allowed.{lanes_of}
-use Rattle.ca_lanes.specs.Given.{given_by}
+use Rattle.ca_lanes.specs.code.Allowed.{lanes_of}
+use Rattle.ca_lanes.specs.code.Given.{given_by}
 use Rattle.ca_lanes.proofs.RowLemmas.{given_by_no_rows, more_rows, none_carried, given_by_same}
 use Rattle.ca_lanes.proofs.evaluate.last_values.Goals as goal
 use Rattle.ca_lanes.proofs.evaluate.last_values.Goals.{then-first-count}

@@ -1,9 +1,10 @@
 use Rattle.std.proofs.Common.{◌≡◌, ◌≤◌, ℕ, length, false}
 use Rattle.ca_lanes.specs.Plane.{lane_of}
-use Rattle.ca_lanes.specs.Choice.{choice_of, either_choice, choice_over}
+use Rattle.ca_lanes.specs.Choice.{choice_of}
+use Rattle.ca_lanes.specs.code.Choice.{either_choice, choice_over}
 use Rattle.ca_lanes.specs.GoodRows.{good_at}
-use Rattle.ca_lanes.specs.Allowed.{lanes_of}
-use Rattle.ca_lanes.specs.Given.{given_by, given_by_rows}
+use Rattle.ca_lanes.specs.code.Allowed.{lanes_of}
+use Rattle.ca_lanes.specs.code.Given.{given_by, given_by_rows}
 use Rattle.ca_lanes.proofs.evaluate.last_values.Given as goal
 
 abbrev pub invariant-loop-first : goal.invariant-loop-first

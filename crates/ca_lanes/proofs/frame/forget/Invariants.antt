@@ -1,6 +1,7 @@
 use Rattle.std.proofs.Common.{◌≡◌, ◌<◌, ℕ, length}
 use Rattle.ca_lanes.specs.Plane.{lane_of}
-use Rattle.ca_lanes.specs.Choice.{choice_over, unknown, choices_of, choice_at}
+use Rattle.ca_lanes.specs.Choice.{choices_of, choice_at}
+use Rattle.ca_lanes.specs.code.Choice.{choice_over, unknown}
 use Rattle.ca_lanes.proofs.frame.forget.Given as goal
 
 abbrev pub invariant-loop-net : goal.invariant-loop-net

@@ -1,6 +1,6 @@
 use Rattle.std.proofs.Common.{◌∙◌, ap, arith}
 use Rattle.ca_lanes.specs.Plane.{lane_of}
-use Rattle.ca_lanes.specs.Set.{input_choice, constant_choice}
+use Rattle.ca_lanes.specs.code.Set.{input_choice, constant_choice}
 use Rattle.ca_lanes.proofs.frame.set_frame.Goals as goal
 
 pub returns-clause-set : goal.returns-clause-set

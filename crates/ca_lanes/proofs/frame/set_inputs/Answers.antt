@@ -2,7 +2,7 @@ use Rattle.std.proofs.Common.{◌≡◌, ◌<◌, ◌+◌, ◌-◌, ◌∙◌, s
 use Rattle.std.proofs.lemmas.List.{length-set}
 use Rattle.std.proofs.lemmas.List.Elements.{All-get_or}
 use Rattle.ca_lanes.specs.Choice.{choices_of, choice_at}
-use Rattle.ca_lanes.specs.Set.{input_choice}
+use Rattle.ca_lanes.specs.code.Set.{input_choice}
 use Rattle.ca_lanes.proofs.SetLemmas.{input_more}
 use Rattle.ca_lanes.proofs.frame.set_inputs.Goals as goal
 

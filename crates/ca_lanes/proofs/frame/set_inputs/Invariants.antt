@@ -1,6 +1,6 @@
 use Rattle.std.proofs.Common.{◌≡◌, ◌+◌, ◌-◌, ℕ, length, drop}
 use Rattle.ca_lanes.specs.Choice.{choices_of, choice_at}
-use Rattle.ca_lanes.specs.Set.{input_choice}
+use Rattle.ca_lanes.specs.code.Set.{input_choice}
 use Rattle.ca_lanes.proofs.frame.set_inputs.Given as goal
 
 abbrev pub invariant-loop-following : goal.invariant-loop-following

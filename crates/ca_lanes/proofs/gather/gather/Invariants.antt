@@ -1,7 +1,7 @@
 use Rattle.std.proofs.Common.{◌≡◌, ℕ, length, take}
 use Rattle.std.specs.Prelude.{vec_capacity}
 use Rattle.ca_lanes.specs.Choice.{choices_of}
-use Rattle.ca_lanes.specs.Evaluated.{pin_choices}
+use Rattle.ca_lanes.specs.code.Evaluated.{pin_choices}
 use Rattle.ca_lanes.proofs.gather.gather.Given as goal
 
 abbrev pub invariant-loop-place : goal.invariant-loop-place

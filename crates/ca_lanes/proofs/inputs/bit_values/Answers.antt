@@ -1,6 +1,7 @@
 use Rattle.std.proofs.Common.{◌∙◌, ◌||◌, ◌==◌, ap}
 use Rattle.ca_lanes.specs.Plane.{lane_of}
-use Rattle.ca_lanes.specs.Choice.{choice_of, choice_with}
+use Rattle.ca_lanes.specs.Choice.{choice_of}
+use Rattle.ca_lanes.specs.code.Choice.{choice_with}
 use Rattle.ca_lanes.proofs.PairLemmas.{bit_read, one_pair_more}
 use Rattle.ca_lanes.proofs.inputs.bit_values.Goals as goal
 

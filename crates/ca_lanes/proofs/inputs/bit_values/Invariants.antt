@@ -1,6 +1,6 @@
 use Rattle.std.proofs.Common.{◌≡◌, ℕ, take}
 use Rattle.ca_lanes.specs.Choice.{choice_of}
-use Rattle.ca_lanes.specs.Set.{bit_choice}
+use Rattle.ca_lanes.specs.code.Set.{bit_choice}
 use Rattle.ca_lanes.proofs.inputs.bit_values.Given as goal
 
 abbrev pub invariant-loop-lane : goal.invariant-loop-lane

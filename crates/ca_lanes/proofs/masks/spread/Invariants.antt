@@ -2,7 +2,7 @@ use Rattle.std.proofs.Common.{◌≡◌, ◌-◌, ◌^◌, ℕ, length, drop}
 use Rattle.std.specs.Prelude.{vec_capacity}
 use Rattle.ca_lanes.specs.Plane.{lane_of}
 use Rattle.ca_lanes.specs.Choice.{choices_of}
-use Rattle.ca_lanes.specs.Allowed.{lanes_of, allowed_by}
+use Rattle.ca_lanes.specs.code.Allowed.{lanes_of, allowed_by}
 use Rattle.ca_lanes.proofs.masks.spread.Given as goal
 
 abbrev pub invariant-loop-later : goal.invariant-loop-later

@@ -1,7 +1,7 @@
 use Rattle.std.proofs.Common.{◌≡◌, ℕ, take}
 use Rattle.std.specs.List.{list_any}
 use Rattle.ca_lanes.specs.Plane.{lane_of}
-use Rattle.ca_lanes.specs.Allowed.{lanes_of, is_row_allowed}
+use Rattle.ca_lanes.specs.code.Allowed.{lanes_of, is_row_allowed}
 use Rattle.ca_lanes.proofs.screen.suspect_lanes.Given as goal
 
 abbrev pub invariant-loop-place : goal.invariant-loop-place

@@ -6,7 +6,7 @@ use Rattle.ca_flat.specs.Chip.{instance_at, inputs_at, outputs_at}
 use Rattle.ca_lanes.specs.Plane.{lane_of}
 use Rattle.ca_lanes.specs.Choice.{choices_of}
 use Rattle.ca_lanes.specs.Netlist.{IsInstanceReadable}
-use Rattle.ca_lanes.specs.Sweep.{IsLoadedTo}
+use Rattle.ca_lanes.specs.code.Sweep.{IsLoadedTo}
 use Rattle.ca_lanes.proofs.EvaluatedLemmas.{evaluated_same}
 use Rattle.ca_lanes.proofs.LoadLemmas.{loaded_more}
 use Rattle.ca_lanes.proofs.sweep.sweep.Goals as goal

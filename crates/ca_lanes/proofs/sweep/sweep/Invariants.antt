@@ -4,7 +4,7 @@ use Rattle.ca_flat.specs.Chip.{Chip, IsChip}
 use Rattle.ca_lanes.specs.Plane.{lane_of}
 use Rattle.ca_lanes.specs.Choice.{choices_of}
 use Rattle.ca_lanes.specs.Netlist.{IsOrder, AreInstancesOf}
-use Rattle.ca_lanes.specs.Sweep.{HasInputs, IsLoadedTo}
+use Rattle.ca_lanes.specs.code.Sweep.{HasInputs, IsLoadedTo}
 use Rattle.ca_lanes.proofs.sweep.sweep.Given as goal
 
 abbrev pub invariant-loop-place : goal.invariant-loop-place

@@ -1,7 +1,7 @@
 use Rattle.std.proofs.Common.{◌≡◌, ◌+◌, ◌≤◌, length, map}
 use Rattle.ca_lex.specs.Physical.{lines_of, physical_of}
 use Rattle.ca_lex.specs.Lines.{spice_lines}
-use Rattle.ca_lex.specs.Joining.{joined}
+use Rattle.ca_lex.specs.code.Joining.{joined}
 use Rattle.ca_lex.proofs.lines.spice_lines.Given as goal
 
 abbrev pub invariant-lines : goal.invariant-lines

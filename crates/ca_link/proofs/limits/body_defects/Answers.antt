@@ -4,7 +4,7 @@ use Rattle.ca_cell.specs.Library.{Named, raw_of, IsEntry}
 use Rattle.ca_cell.specs.Nodes.{defect_count}
 use Rattle.ca_cell.specs.Rules.{KeepsRules}
 use Rattle.ca_linked.specs.Linked.{LinkedChip, cell_of}
-use Rattle.ca_link.specs.Limits as limits
+use Rattle.ca_link.specs.code.Limits as limits
 use Rattle.ca_link.proofs.EntryLemmas.{kept_within, entry_at, not_refused, few_defects, gate_keeps}
 use Rattle.ca_link.proofs.limits.body_defects.Goals as goal
 

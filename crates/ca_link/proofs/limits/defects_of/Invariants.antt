@@ -1,7 +1,7 @@
 use Rattle.std.proofs.Common.{◌≡◌, ◌≤◌, ◌^◌, ◌*◌}
 use Rattle.std.specs.Prelude.{take}
 use Rattle.std.specs.List.{sum_by}
-use Rattle.ca_link.specs.Limits as limits
+use Rattle.ca_link.specs.code.Limits as limits
 use Rattle.ca_link.proofs.limits.defects_of.Given as goal
 
 abbrev pub invariant-loop-u : goal.invariant-loop-u

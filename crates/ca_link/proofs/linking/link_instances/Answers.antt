@@ -1,8 +1,8 @@
 use Rattle.std.proofs.Common.{◌∙◌, sym, subst}
 use Rattle.ca_wiring.specs.declared.scan_row.ScanRow.{ScanRow}
 use Rattle.std.specs.Prelude.{List}
-use Rattle.ca_link.specs.Names.{HaveNames}
-use Rattle.ca_link.specs.Reported.{ReportsFault}
+use Rattle.ca_link.specs.code.Names.{HaveNames}
+use Rattle.ca_link.specs.code.Reported.{ReportsFault}
 use Rattle.ca_link.proofs.CauseLemmas.{wire_cause, made_link, made_cause, made_kept}
 use Rattle.ca_link.proofs.NameLemmas.{have_names}
 use Rattle.ca_link.proofs.linking.link_instances.Goals as goal

@@ -1,7 +1,7 @@
 use Rattle.std.proofs.Common.{◌∙◌, ◌++◌, [], ◌∷◌, ap₂, sym, ◌<◌, if◌then◌else◌}
 use Rattle.ca_linked.specs.declared.parts.PortBit.{PortBit}
 use Rattle.ca_linked.specs.Linked.{net_count}
-use Rattle.ca_linked.specs.Ends.{end_nets}
+use Rattle.ca_linked.specs.code.Ends.{end_nets}
 use Rattle.ca_linked.proofs.PartLemmas.{of_all}
 use Rattle.ca_linked.proofs.EndLemmas.{flat_more}
 use Rattle.ca_linked.proofs.ends.ports_of.Goals as goal

@@ -1,5 +1,5 @@
 use Rattle.std.proofs.Common.{◌+◌, subst, sym}
-use Rattle.ca_linked.specs.Feeding.{HaveFeeders}
+use Rattle.ca_linked.specs.code.Feeding.{HaveFeeders}
 use Rattle.ca_linked.proofs.FeedingLemmas.{feeders_pushed}
 use Rattle.ca_linked.proofs.feeding.feeders_of.Goals as goal
 

@@ -1,4 +1,4 @@
-use Rattle.ca_linked.specs.Feeding.{HaveFeeders}
+use Rattle.ca_linked.specs.code.Feeding.{HaveFeeders}
 use Rattle.ca_linked.proofs.feeding.feeders_of.Given as goal
 
 abbrev pub invariant-loop-u : goal.invariant-loop-u

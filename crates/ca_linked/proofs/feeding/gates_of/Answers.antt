@@ -1,5 +1,5 @@
 use Rattle.std.proofs.Common.{◌≡◌, ◌+◌, subst, sym, ◌∙◌, arith, length}
-use Rattle.ca_linked.specs.Feeding.{HasGates}
+use Rattle.ca_linked.specs.code.Feeding.{HasGates}
 use Rattle.ca_linked.proofs.FeedingLemmas.{gate_pushed, gate_skipped}
 use Rattle.ca_linked.proofs.feeding.gates_of.Goals as goal
 use Rattle.ca_linked.proofs.feeding.gates_of.Goals.{then-is_gate+in_ok-push, else-is_gate}

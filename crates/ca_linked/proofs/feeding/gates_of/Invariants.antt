@@ -1,4 +1,4 @@
-use Rattle.ca_linked.specs.Feeding.{HasGates}
+use Rattle.ca_linked.specs.code.Feeding.{HasGates}
 use Rattle.ca_linked.proofs.feeding.gates_of.Given as goal
 
 abbrev pub invariant-loop-u : goal.invariant-loop-u

@@ -2,9 +2,9 @@ use Rattle.std.proofs.Common.{length, subst, sym}
 use Rattle.std.specs.List.{Contains}
 use Rattle.std.proofs.lemmas.Result.{IfOk-weaker, IfErr-weaker}
 use Rattle.ca_linked.specs.Order.{IsOrder}
-use Rattle.ca_linked.specs.Walk.{IsFeeder, IsSortCause}
+use Rattle.ca_linked.specs.code.Walk.{IsFeeder, IsSortCause}
 use Rattle.ca_linked.specs.Linked.{Feeds, IsLibrary}
-use Rattle.ca_linked.specs.Feeding.{HasGates, IsOrderCause}
+use Rattle.ca_linked.specs.code.Feeding.{HasGates, IsOrderCause}
 use Rattle.ca_linked.proofs.FeedingLemmas.{gates_closed, gates_have_rows, library_order, cause_is}
 use Rattle.ca_linked.proofs.feeding.order_of.Goals as goal
 

@@ -2,7 +2,7 @@ use Rattle.std.proofs.Common.{◌≡◌, ℕ, List, ◌+◌, length, subst, sym,
 use Rattle.std.specs.Prelude.{◌↔◌}
 use Rattle.std.specs.List.{Contains}
 use Rattle.ca_linked.specs.Linked.{input_nets}
-use Rattle.ca_linked.specs.Feeding.{IsGateOn, FeedsPin, IsRow}
+use Rattle.ca_linked.specs.code.Feeding.{IsGateOn, FeedsPin, IsRow}
 use Rattle.ca_linked.proofs.FeedingLemmas.{row_pushed, row_kept, row_done, row_of_scan}
 use Rattle.ca_linked.proofs.feeding.row.Goals as goal
 use Rattle.ca_linked.proofs.feeding.row.Goals.{in-Some+in_ok-push, in_default, then-is_gate+else-loop-pin-test}

@@ -1,7 +1,7 @@
 use Rattle.std.proofs.Common.{ℕ}
 use Rattle.std.specs.Prelude.{◌↔◌}
 use Rattle.std.specs.List.{Contains}
-use Rattle.ca_linked.specs.Feeding.{FeedsPin}
+use Rattle.ca_linked.specs.code.Feeding.{FeedsPin}
 use Rattle.ca_linked.proofs.feeding.row.Given as goal
 
 abbrev pub invariant-loop-pin : goal.invariant-loop-pin

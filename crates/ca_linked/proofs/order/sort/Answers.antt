@@ -1,6 +1,6 @@
 use Rattle.std.proofs.Common.{◌≡◌, sym, ◌∙◌, subst}
 use Rattle.std.specs.List.{Contains}
-use Rattle.ca_linked.specs.Walk.{AreVisited, IsFeeder}
+use Rattle.ca_linked.specs.code.Walk.{AreVisited, IsFeeder}
 use Rattle.ca_linked.specs.Order.{IsOnce, IsOrder}
 use Rattle.ca_linked.proofs.OrderLemmas.{Returns}
 use Rattle.ca_linked.proofs.LoopLemmas.{some_back, ordered, back_once, returns_back, loop_turned}

@@ -1,4 +1,4 @@
-use Rattle.ca_linked.specs.Reading.{HaveReaders, ReadsAmong}
+use Rattle.ca_linked.specs.code.Reading.{HaveReaders, ReadsAmong}
 use Rattle.ca_linked.proofs.readers.readers_of.Given as goal
 
 abbrev pub invariant-loop-u : goal.invariant-loop-u

@@ -1,5 +1,5 @@
 use Rattle.std.proofs.Common.{subst}
-use Rattle.ca_linked.specs.Feeding.{IsOrderCause}
+use Rattle.ca_linked.specs.code.Feeding.{IsOrderCause}
 use Rattle.ca_linked.proofs.ReadyLemmas.{no_such_loop}
 use Rattle.ca_linked.proofs.ready.known_order.Goals as goal
 

@@ -1,6 +1,6 @@
 use Rattle.std.proofs.Common.{sym, subst}
 use Rattle.ca_linked.specs.Linked.{LinkedChip, IsWired}
-use Rattle.ca_linked.specs.Kept.{KeptTables, IsKept}
+use Rattle.ca_linked.specs.code.Kept.{KeptTables, IsKept}
 use Rattle.ca_linked.proofs.ReaderLemmas.{readers_too}
 use Rattle.ca_linked.proofs.WiredLemmas.{single_too}
 use Rattle.ca_linked.proofs.wiring.chip_of.Goals as goal

@@ -1,6 +1,6 @@
 use Rattle.std.proofs.Common.{◌∙◌, sym, subst}
 use Rattle.ca_linked.specs.Wired.{IsFirstMisdriven}
-use Rattle.ca_linked.specs.Paths.{IsObservedAt}
+use Rattle.ca_linked.specs.code.Paths.{IsObservedAt}
 use Rattle.ca_linked.proofs.WiredLemmas.{all_single, misdriven, are_driven}
 use Rattle.ca_linked.proofs.wiring.judge_nets.Goals as goal
 

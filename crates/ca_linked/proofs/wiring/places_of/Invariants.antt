@@ -1,4 +1,4 @@
-use Rattle.ca_linked.specs.Kept.{ArePlaces}
+use Rattle.ca_linked.specs.code.Kept.{ArePlaces}
 use Rattle.ca_linked.proofs.wiring.places_of.Given as goal
 
 abbrev pub invariant-loop-k : goal.invariant-loop-k

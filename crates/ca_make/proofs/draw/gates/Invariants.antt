@@ -2,7 +2,7 @@ use Rattle.std.proofs.Common.{◌≡◌, ◌++◌, ◌+◌, ◌-◌, length}
 use Rattle.std.specs.List.{All}
 use Rattle.ca_make.specs.declared.gate.TheConstants.{INPUTS}
 use Rattle.ca_make.specs.Draw.{gates_from}
-use Rattle.ca_make.specs.Chip.{IsWithin}
+use Rattle.ca_make.specs.code.Chip.{IsWithin}
 use Rattle.ca_make.proofs.draw.gates.Given as goal
 
 -- the gates so far, and those that are still drawn, are those of the chip

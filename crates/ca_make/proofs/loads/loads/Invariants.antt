@@ -1,5 +1,5 @@
 use Rattle.std.proofs.Common.{take}
-use Rattle.ca_make.specs.Kept.{AreLoads}
+use Rattle.ca_make.specs.code.Kept.{AreLoads}
 use Rattle.ca_make.proofs.loads.loads.Given as goal
 
 abbrev pub invariant-loop-gate : goal.invariant-loop-gate

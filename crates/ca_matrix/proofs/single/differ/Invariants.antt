@@ -1,5 +1,5 @@
 use Rattle.std.proofs.Common.{ℕ, ◌<◌}
-use Rattle.ca_matrix.specs.Single.{DifferAt}
+use Rattle.ca_matrix.specs.code.Single.{DifferAt}
 use Rattle.ca_matrix.proofs.single.differ.Given as goal
 
 abbrev pub invariant-loop-output : goal.invariant-loop-output

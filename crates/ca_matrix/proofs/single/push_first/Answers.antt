@@ -3,7 +3,7 @@ use Rattle.ca_cell.specs.declared.raw.RawCell.{RawCell}
 use Rattle.ca_cell.specs.Raw.{is_input, is_output, role_count, circuit_of}
 use Rattle.ca_defect.specs.declared.row.Row.{Row}
 use Rattle.ca_defect.specs.List.{faulty_of}
-use Rattle.ca_matrix.specs.Single.{AreFound, AreRowEnds}
+use Rattle.ca_matrix.specs.code.Single.{AreFound, AreRowEnds}
 use Rattle.ca_matrix.proofs.SingleLemmas.{found_before, found_more, differing_exposes, exposing_differs}
 use Rattle.ca_matrix.proofs.single.push_first.Goals as goal
 

@@ -1,7 +1,7 @@
 use Rattle.std.proofs.Common.{◌+◌, ◌*◌, ◌^◌}
 use Rattle.ca_cell.specs.Raw.{is_input, role_count, circuit_of}
 use Rattle.ca_defect.specs.List.{faulty_of}
-use Rattle.ca_matrix.specs.Single.{HoldsVector, AreFound}
+use Rattle.ca_matrix.specs.code.Single.{HoldsVector, AreFound}
 use Rattle.ca_matrix.proofs.single.push_first.Given as goal
 
 abbrev pub invariant-loop-last : goal.invariant-loop-last

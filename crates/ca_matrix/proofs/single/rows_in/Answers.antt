@@ -1,6 +1,6 @@
 use Rattle.std.proofs.Common.{◌≡◌, ◌*◌, ◌^◌, ◌∙◌, ap, subst, arith}
 use Rattle.ca_cell.specs.Raw.{is_input, role_count}
-use Rattle.ca_matrix.specs.Single.{AreFound}
+use Rattle.ca_matrix.specs.code.Single.{AreFound}
 use Rattle.ca_matrix.proofs.SingleLemmas.{all_found}
 use Rattle.ca_matrix.proofs.single.rows_in.Goals as goal
 

@@ -2,7 +2,7 @@ use Rattle.std.proofs.Common.{◌*◌, ◌^◌}
 use Rattle.ca_cell.specs.Raw.{is_input, role_count, circuit_of}
 use Rattle.ca_defect.specs.List.{faulty_of}
 use Rattle.ca_settle.specs.Settled.{HoldsGroups}
-use Rattle.ca_matrix.specs.Single.{AreFound}
+use Rattle.ca_matrix.specs.code.Single.{AreFound}
 use Rattle.ca_matrix.proofs.single.rows_in.Given as goal
 
 abbrev pub invariant-loop-first : goal.invariant-loop-first

@@ -1,5 +1,5 @@
 use Rattle.ca_merge.specs.Draft.{drives_net}
-use Rattle.ca_merge.specs.Pins.{IsListed}
+use Rattle.ca_merge.specs.code.Pins.{IsListed}
 use Rattle.ca_merge.proofs.pins.driven_nets.Given as goal
 
 abbrev pub invariant-loop-k : goal.invariant-loop-k

@@ -1,5 +1,5 @@
 use Rattle.std.proofs.Common.{◌≡◌, ◌<◌, length, arith, subst}
-use Rattle.ca_net.specs.Walk.{AreStrongestFrom}
+use Rattle.ca_net.specs.code.Walk.{AreStrongestFrom}
 use Rattle.ca_net.proofs.Strongest.{own_is, restored, strongest_turn, strongest_all}
 use Rattle.ca_net.proofs.search.find_strongest.Goals as goal
 

@@ -1,5 +1,5 @@
 use Rattle.std.proofs.Common.{◌≡◌}
-use Rattle.ca_net.specs.Walk.{AreStrongestFrom}
+use Rattle.ca_net.specs.code.Walk.{AreStrongestFrom}
 use Rattle.ca_net.proofs.search.find_strongest.Given as goal
 
 abbrev pub invariant-loop-root : goal.invariant-loop-root

@@ -2,7 +2,8 @@ use Rattle.std.proofs.Common.{List, ℕ, subst}
 use Rattle.ca_core.specs.Core.{core_of}
 use Rattle.ca_chip_replay.specs.ChipRun.{RunOf}
 use Rattle.ca_simulate.specs.Simulated.{pair_of}
-use Rattle.ca_simulate.specs.OneRun.{IsFaultyLine, IsRunFault}
+use Rattle.ca_simulate.specs.OneRun.{IsFaultyLine}
+use Rattle.ca_simulate.specs.code.OneRun.{IsRunFault}
 use Rattle.ca_on_chip.proofs.ReplayLemmas.{at_line}
 use Rattle.ca_on_chip.proofs.replays.run_ends.Goals as goal
 

@@ -1,7 +1,8 @@
 use Rattle.std.proofs.Common.{◌≡◌, ◌∙◌, ℕ, suc, ◌+◌, List, ◌∷◌, take, drop, length, length-drop, ap, sym}
 use Rattle.std.proofs.Common.{arith}
 use Rattle.std.proofs.lemmas.List.{take_rest}
-use Rattle.ca_order.specs.Lines.{words_of, word_len}
+use Rattle.ca_order.specs.Lines.{words_of}
+use Rattle.ca_order.specs.code.Lines.{word_len}
 use Rattle.ca_order.proofs.LineLemmas.{word_here, word_last}
 use Rattle.ca_order.proofs.line.cut_word.Goals as goal
 

@@ -1,5 +1,5 @@
 use Rattle.std.proofs.Common.{◌≡◌, ◌+◌, length}
-use Rattle.ca_order.specs.Lines.{word_len}
+use Rattle.ca_order.specs.code.Lines.{word_len}
 use Rattle.ca_order.proofs.line.word_len.Given as goal
 
 abbrev pub invariant-bytes : goal.invariant-bytes

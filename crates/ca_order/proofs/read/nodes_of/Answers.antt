@@ -1,7 +1,8 @@
 use Rattle.std.proofs.Common.{◌≡◌, ◌∙◌, ℕ, List, ap, sym, rules, Some, None}
 use Rattle.std.proofs.lemmas.Option.{MatchOption-at_none, MatchOption-at_some}
 use Rattle.ca_net.specs.declared.node.NodeId.{NodeId}
-use Rattle.ca_order.specs.Lines.{words_of, node_of, nodes_of, nodes_before}
+use Rattle.ca_order.specs.Lines.{words_of, node_of, nodes_of}
+use Rattle.ca_order.specs.code.Lines.{nodes_before}
 use Rattle.ca_order.proofs.EventLemmas.{one_node, no_node, last_node, first_word}
 use Rattle.ca_order.proofs.read.nodes_of.Goals as goal
 

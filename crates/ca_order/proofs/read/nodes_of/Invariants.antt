@@ -1,5 +1,6 @@
 use Rattle.std.proofs.Common.{◌≡◌, length}
-use Rattle.ca_order.specs.Lines.{words_of, nodes_of, nodes_before}
+use Rattle.ca_order.specs.Lines.{words_of, nodes_of}
+use Rattle.ca_order.specs.code.Lines.{nodes_before}
 use Rattle.ca_order.proofs.read.nodes_of.Given as goal
 
 abbrev pub invariant-words : goal.invariant-words

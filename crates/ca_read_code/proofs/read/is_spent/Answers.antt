@@ -1,6 +1,6 @@
 use Rattle.std.proofs.Common.{◌≡◌, true, false, sym, ◌∙◌, subst}
 use Rattle.ca_read_code.specs.declared.walk.CodeEnd.TheVariants.{Unlawful, Whole, Front}
-use Rattle.ca_read_code.specs.CodeEnd.{IsEnd}
+use Rattle.ca_read_code.specs.code.CodeEnd.{IsEnd}
 use Rattle.ca_read_code.proofs.ReadLemmas.{not_spent, spent_of, spent_goes_on}
 use Rattle.ca_read_code.proofs.read.is_spent.Goals as goal
 

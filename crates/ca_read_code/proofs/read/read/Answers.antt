@@ -1,6 +1,6 @@
 use Rattle.std.proofs.Common.{◌+◌, drop, sym, subst, arith}
-use Rattle.ca_read_code.specs.CodeEnd.{IsEnd}
-use Rattle.ca_read_code.specs.Walk.{IsStride}
+use Rattle.ca_read_code.specs.code.CodeEnd.{IsEnd}
+use Rattle.ca_read_code.specs.code.Walk.{IsStride}
 use Rattle.ca_read_code.proofs.TurnLemmas.{aim_of, aim_on}
 use Rattle.ca_read_code.proofs.ReadLemmas.{reading_begins, drop_at, drop_all, read_more, read_falls, read_ends, read_all, last_by, more_by}
 use Rattle.ca_read_code.proofs.read.read.Goals as goal

@@ -1,6 +1,6 @@
 use Rattle.std.proofs.Common.{◌≡◌, length}
 use Rattle.std.specs.List.{All}
-use Rattle.ca_replay.specs.Kept.{IsWithin, met_with}
+use Rattle.ca_replay.specs.code.Kept.{IsWithin, met_with}
 use Rattle.ca_replay.proofs.values.meet_with.Given as goal
 
 abbrev pub invariant-nodes : goal.invariant-nodes

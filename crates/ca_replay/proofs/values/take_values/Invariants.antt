@@ -1,6 +1,6 @@
 use Rattle.std.proofs.Common.{◌≡◌, length}
 use Rattle.std.specs.List.{All}
-use Rattle.ca_replay.specs.Kept.{IsWithin, with_values}
+use Rattle.ca_replay.specs.code.Kept.{IsWithin, with_values}
 use Rattle.ca_replay.proofs.values.take_values.Given as goal
 
 abbrev pub invariant-nodes : goal.invariant-nodes

@@ -1,6 +1,6 @@
 use Rattle.std.proofs.Common.{◌+◌, refl, sym, subst}
 use Rattle.std.proofs.lemmas.Result.{on_ok_weaker}
-use Rattle.ca_replay_tests.specs.Inputs.{AreInputs}
+use Rattle.ca_replay_tests.specs.code.Inputs.{AreInputs}
 use Rattle.ca_replay_tests.proofs.InputLemmas.{input_listed, storage_passed}
 use Rattle.ca_replay_tests.proofs.networks.list_input.Goals as goal
 

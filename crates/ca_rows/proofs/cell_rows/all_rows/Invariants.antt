@@ -1,4 +1,4 @@
-use Rattle.ca_rows.specs.CellTable.{AreShown}
+use Rattle.ca_rows.specs.code.CellTable.{AreShown}
 use Rattle.ca_rows.proofs.cell_rows.all_rows.Given as goal
 
 abbrev pub invariant-loop-place : goal.invariant-loop-place

@@ -1,4 +1,4 @@
-use Rattle.ca_rows.specs.ChipTable.{AreFound}
+use Rattle.ca_rows.specs.code.ChipTable.{AreFound}
 use Rattle.ca_rows.proofs.cells.tables_of.Given as goal
 
 abbrev pub invariant-loop-k : goal.invariant-loop-k

@@ -2,7 +2,7 @@ use Rattle.std.proofs.Common.{◌≡◌, true, false, length, subst, arith, rule
 use Rattle.std.specs.Prelude.{IsSomeAnd, slice_get}
 use Rattle.ca_linked.specs.Linked.{is_scan_path}
 use Rattle.ca_linked.specs.declared.parts.PortBit.{PortBit}
-use Rattle.ca_scan.specs.Kept.{IsRun}
+use Rattle.ca_scan.specs.code.Kept.{IsRun}
 use Rattle.ca_scan.proofs.FollowLemmas.{no_input, off_path_from, port_net_drives, empty_run_from}
 use Rattle.ca_scan.proofs.follow.chain_at.Goals as goal
 

@@ -1,5 +1,5 @@
 use Rattle.std.proofs.Common.{◌≡◌, ◌<◌, ◌++◌, ◌∷◌, [], length, sym, subst, arith}
-use Rattle.ca_scan.specs.Kept.{IsFollowed}
+use Rattle.ca_scan.specs.code.Kept.{IsFollowed}
 use Rattle.ca_scan.proofs.FollowLemmas.{more_followed, out_followed, long_followed}
 use Rattle.ca_scan.proofs.follow.follow.Goals as goal
 

@@ -1,5 +1,5 @@
 use Rattle.std.proofs.Common.{◌+◌, ◌-◌, length}
-use Rattle.ca_scan.specs.Kept.{IsFollowed}
+use Rattle.ca_scan.specs.code.Kept.{IsFollowed}
 use Rattle.ca_scan.proofs.follow.follow.Given as goal
 
 abbrev pub invariant-steps : goal.invariant-steps

@@ -1,5 +1,5 @@
 use Rattle.std.proofs.Common.{◌≡◌, ◌∙◌, sym, rules}
-use Rattle.ca_scan.specs.Kept.{tally_at}
+use Rattle.ca_scan.specs.code.Kept.{tally_at}
 use Rattle.ca_scan.proofs.FollowLemmas.{not_two, is_two, is_out, no_taker, taken}
 use Rattle.ca_scan.proofs.follow.next_step.Goals as goal
 

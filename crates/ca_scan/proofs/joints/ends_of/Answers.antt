@@ -1,5 +1,5 @@
 use Rattle.ca_linked.specs.Instances.{scans_of}
-use Rattle.ca_scan.specs.Kept.{nets_of}
+use Rattle.ca_scan.specs.code.Kept.{nets_of}
 use Rattle.ca_scan.proofs.JointLemmas.{net_more}
 use Rattle.ca_scan.proofs.joints.ends_of.Goals as goal
 

@@ -1,6 +1,6 @@
 use Rattle.std.proofs.Common.{take}
 use Rattle.std.specs.List.{flat_map}
-use Rattle.ca_scan.specs.Kept.{Counts, out_nets}
+use Rattle.ca_scan.specs.code.Kept.{Counts, out_nets}
 use Rattle.ca_scan.proofs.joints.outs_of.Given as goal
 
 abbrev pub invariant-loop-p : goal.invariant-loop-p

@@ -1,6 +1,6 @@
 use Rattle.std.proofs.Common.{take}
 use Rattle.ca_linked.specs.Instances.{scans_of}
-use Rattle.ca_scan.specs.Kept.{Counts, nets_of}
+use Rattle.ca_scan.specs.code.Kept.{Counts, nets_of}
 use Rattle.ca_scan.proofs.joints.pins_of.Given as goal
 
 abbrev pub invariant-loop-k : goal.invariant-loop-k

@@ -1,6 +1,6 @@
 use Rattle.std.proofs.Common.{◌∙◌, ◌≤◌, length, sym, subst, arith}
 use Rattle.ca_linked.specs.Instances.{scans_of}
-use Rattle.ca_scan.specs.Kept.{Counts, all_of}
+use Rattle.ca_scan.specs.code.Kept.{Counts, all_of}
 use Rattle.ca_scan.proofs.OffLemmas.{on_marked, off_unmarked, on_more, all_on, first_off_at}
 use Rattle.ca_scan.proofs.whole.first_off.Goals as goal
 

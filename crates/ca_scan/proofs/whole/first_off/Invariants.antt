@@ -1,4 +1,4 @@
-use Rattle.ca_scan.specs.Kept.{AreOnChainsBefore}
+use Rattle.ca_scan.specs.code.Kept.{AreOnChainsBefore}
 use Rattle.ca_scan.proofs.whole.first_off.Given as goal
 
 abbrev pub invariant-loop-k : goal.invariant-loop-k

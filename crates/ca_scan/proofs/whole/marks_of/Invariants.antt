@@ -1,5 +1,5 @@
 use Rattle.std.proofs.Common.{take}
-use Rattle.ca_scan.specs.Kept.{Counts, all_of}
+use Rattle.ca_scan.specs.code.Kept.{Counts, all_of}
 use Rattle.ca_scan.proofs.whole.marks_of.Given as goal
 
 abbrev pub invariant-loop-k : goal.invariant-loop-k

@@ -1,6 +1,6 @@
 use Rattle.std.proofs.Common.{◌<◌}
 use Rattle.ca_linked.specs.Linked.{input_nets}
-use Rattle.ca_scan_tests.specs.Fits.{AllBefore}
+use Rattle.ca_scan_tests.specs.code.Fits.{AllBefore}
 use Rattle.ca_scan_tests.proofs.drafts.inputs_fit.Given as goal
 
 abbrev pub invariant-loop-pin : goal.invariant-loop-pin

@@ -1,4 +1,4 @@
-use Rattle.ca_simulate.specs.Lasts.{HaveLasts}
+use Rattle.ca_simulate.specs.code.Lasts.{HaveLasts}
 use Rattle.ca_simulate.proofs.simulation.last_values.Given as goal
 
 abbrev pub invariant-loop-o : goal.invariant-loop-o

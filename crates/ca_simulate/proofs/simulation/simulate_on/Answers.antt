@@ -4,7 +4,7 @@ use Rattle.ca_flat.specs.Chip as flat
 use Rattle.ca_core.specs.Core.{core_of}
 use Rattle.ca_view.specs.Linked.{IsAim, place_in}
 use Rattle.ca_simulate.specs.Simulated.{pair_of}
-use Rattle.ca_simulate.specs.Lasts.{AreLasts}
+use Rattle.ca_simulate.specs.code.Lasts.{AreLasts}
 use Rattle.ca_simulate.proofs.EndLemmas.{aimed_at, simulated_ends}
 use Rattle.ca_simulate.proofs.simulation.simulate_on.Goals as goal
 

@@ -6,7 +6,7 @@ use Rattle.std.proofs.lemmas.Iterator.Consumers.{YieldsList-turn, YieldsList-end
 use Rattle.ca_cell.specs.Library.{Named, IsEntry, IsCause}
 use Rattle.ca_cell.specs.declared.library.LibraryFault.{LibraryFault}
 use Rattle.ca_spice.specs.declared.subcircuit.Subcircuit.{Subcircuit}
-use Rattle.ca_spice.specs.Kept.{IsPlacedCell}
+use Rattle.ca_spice.specs.code.Kept.{IsPlacedCell}
 use Rattle.ca_spice.specs.Views.{subcircuit_seen}
 use Rattle.ca_spice.proofs.CellLemmas.{IsPlaced-IsRaw}
 use Rattle.ca_spice.proofs.LibraryLemmas.{at_turn, upper_at, seen_grown, not_added}

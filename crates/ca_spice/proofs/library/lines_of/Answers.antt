@@ -3,9 +3,9 @@ use Rattle.ca_lex.specs.FirstFault.{located}
 use Rattle.ca_lex.specs.Reading.{IsFault}
 use Rattle.ca_lex.proofs.FirstFaultLemmas.{goes_on, refused, ends, located_value, located_fault}
 use Rattle.ca_spice.specs.declared.fault.SpiceFault.{SpiceFault}
-use Rattle.ca_spice.specs.SpiceFault.{kind_reported}
+use Rattle.ca_spice.specs.code.SpiceFault.{kind_reported}
 use Rattle.ca_spice.specs.Reading.{Reading, nothing, at_line, line_step, lines_from}
-use Rattle.ca_spice.specs.Views.{reading_seen}
+use Rattle.ca_spice.specs.code.Views.{reading_seen}
 use Rattle.ca_spice.proofs.library.lines_of.Goals as goal
 
 pub returns-in-Err : goal.returns-in-Err

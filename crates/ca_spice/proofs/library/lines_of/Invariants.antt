@@ -1,6 +1,6 @@
 use Rattle.std.proofs.Common.{◌≡◌, drop}
 use Rattle.ca_spice.specs.Reading.{nothing, lines_from}
-use Rattle.ca_spice.specs.Views.{reading_seen}
+use Rattle.ca_spice.specs.code.Views.{reading_seen}
 use Rattle.ca_spice.proofs.library.lines_of.Given as goal
 
 abbrev pub invariant-lines : goal.invariant-lines

@@ -1,5 +1,5 @@
 use Rattle.std.proofs.Common.{◌≡◌, length}
-use Rattle.ca_spice.specs.Names.{texts}
+use Rattle.ca_spice.specs.code.Names.{texts}
 use Rattle.ca_spice.specs.Mos.{value_of}
 use Rattle.ca_spice.proofs.mos.value_of.Given as goal
 

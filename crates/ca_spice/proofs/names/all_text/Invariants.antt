@@ -1,6 +1,7 @@
 use Rattle.std.proofs.Common.{◌≡◌, length}
 use Rattle.std.specs.List.{list_all}
-use Rattle.ca_spice.specs.Names.{texts, is_text}
+use Rattle.ca_spice.specs.Names.{is_text}
+use Rattle.ca_spice.specs.code.Names.{texts}
 use Rattle.ca_spice.proofs.names.all_text.Given as goal
 
 abbrev pub invariant-words : goal.invariant-words

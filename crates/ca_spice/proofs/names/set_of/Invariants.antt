@@ -1,6 +1,6 @@
 use Rattle.std.proofs.Common.{◌≡◌, ◌<◌, ◌^◌, ◌++◌, length}
 use Rattle.ca_names.specs.Names.{repeats, has_double}
-use Rattle.ca_spice.specs.Names.{texts}
+use Rattle.ca_spice.specs.code.Names.{texts}
 use Rattle.ca_spice.proofs.names.set_of.Given as goal
 
 abbrev pub invariant-words : goal.invariant-words

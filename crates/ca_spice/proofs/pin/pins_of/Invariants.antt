@@ -1,5 +1,5 @@
 use Rattle.std.proofs.Common.{◌≡◌, length, ◌++◌, map}
-use Rattle.ca_spice.specs.Names.{texts}
+use Rattle.ca_spice.specs.code.Names.{texts}
 use Rattle.ca_spice.specs.OpenCell.{pin_of}
 use Rattle.ca_spice.proofs.pin.pins_of.Given as goal
 

@@ -2,8 +2,8 @@ use Rattle.std.proofs.Common.{◌≡◌, ◌∙◌, refl, sym, subst, Result, Li
 use Rattle.ca_lex.specs.Reading.{IsFault}
 use Rattle.ca_spice.specs.declared.fault.SpiceKind.{SpiceKind}
 use Rattle.ca_spice.specs.declared.pin.Pin.{Pin}
-use Rattle.ca_spice.specs.SpiceFault.{kind_reported}
-use Rattle.ca_spice.specs.Names.{texts}
+use Rattle.ca_spice.specs.code.SpiceFault.{kind_reported}
+use Rattle.ca_spice.specs.code.Names.{texts}
 use Rattle.ca_spice.specs.PinInfo.{are_pin_words}
 use Rattle.ca_spice.proofs.PinLemmas.{all_words, first_within, after_are, after_goes_on, after_stops}
 use Rattle.ca_spice.proofs.PinLemmas.{rest_ends, pin_info-steps}

@@ -1,7 +1,7 @@
 use Rattle.std.proofs.Common.{◌≡◌, length, true}
 use Rattle.std.specs.List.{list_all}
 use Rattle.ca_lex.specs.FirstFault.{steps_from}
-use Rattle.ca_spice.specs.Names.{texts}
+use Rattle.ca_spice.specs.code.Names.{texts}
 use Rattle.ca_spice.specs.PinInfo.{is_pin_word, role_step}
 use Rattle.ca_spice.proofs.pin_info.pin_info.Given as goal
 

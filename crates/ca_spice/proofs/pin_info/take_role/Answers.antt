@@ -1,9 +1,9 @@
 use Rattle.std.proofs.Common.{◌≡◌, ◌∙◌, sym, subst, Result, List}
 use Rattle.std.specs.Prelude.{slice_get}
-use Rattle.ca_lex.specs.Reading.{Steps}
+use Rattle.ca_lex.specs.code.Reading.{Steps}
 use Rattle.ca_spice.specs.declared.fault.SpiceKind.{SpiceKind}
 use Rattle.ca_spice.specs.declared.pin.Pin.{Pin}
-use Rattle.ca_spice.specs.SpiceFault.{kind_reported}
+use Rattle.ca_spice.specs.code.SpiceFault.{kind_reported}
 use Rattle.ca_spice.specs.PinInfo.{with_role, role_step}
 use Rattle.ca_spice.proofs.PinLemmas.{role_step-is}
 use Rattle.ca_spice.proofs.pin_info.take_role.Goals as goal

@@ -1,7 +1,7 @@
 use Rattle.std.proofs.Common.{ℕ, ◌<◌}
 use Rattle.ca_cell.specs.Raw.{circuit_of}
 use Rattle.ca_settle.specs.Settled.{IsRoomFor}
-use Rattle.ca_static.specs.StaticAt.{IsStaticAt}
+use Rattle.ca_static.specs.code.StaticAt.{IsStaticAt}
 use Rattle.ca_static.proofs.statics.is_static.Given as goal
 
 abbrev pub invariant-loop-number : goal.invariant-loop-number

@@ -1,7 +1,7 @@
 use Rattle.std.proofs.Common.{◌-◌, ◌++◌, ◌≡◌, [], refl, sym, ◌∙◌, subst, append-nil, arith}
 use Rattle.std.specs.List.{All}
 use Rattle.ca_net.specs.Wave.{IsWave}
-use Rattle.ca_static.specs.StaticAt.{waves_to}
+use Rattle.ca_static.specs.code.StaticAt.{waves_to}
 use Rattle.ca_static.proofs.WaveLemmas.{wave_pushed, waves_to_are_waves}
 use Rattle.ca_static.proofs.statics.waves_to.Goals as goal
 

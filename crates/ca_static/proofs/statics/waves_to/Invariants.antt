@@ -1,5 +1,5 @@
 use Rattle.std.proofs.Common.{◌≡◌, ◌-◌, ◌++◌, length}
-use Rattle.ca_static.specs.StaticAt.{waves_to}
+use Rattle.ca_static.specs.code.StaticAt.{waves_to}
 use Rattle.ca_static.proofs.statics.waves_to.Given as goal
 
 abbrev pub invariant-loop-before : goal.invariant-loop-before

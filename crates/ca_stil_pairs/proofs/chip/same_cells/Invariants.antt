@@ -1,5 +1,5 @@
 use Rattle.std.proofs.Common.{◌≡◌, length}
-use Rattle.ca_stil_pairs.specs.Same.{cells_eq}
+use Rattle.ca_stil_pairs.specs.code.Same.{cells_eq}
 use Rattle.ca_stil_pairs.proofs.chip.same_cells.Given as goal
 
 abbrev pub invariant-cells : goal.invariant-cells

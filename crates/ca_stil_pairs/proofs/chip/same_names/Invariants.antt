@@ -1,5 +1,5 @@
 use Rattle.std.proofs.Common.{◌≡◌, length}
-use Rattle.ca_stil_pairs.specs.Same.{names_eq}
+use Rattle.ca_stil_pairs.specs.code.Same.{names_eq}
 use Rattle.ca_stil_pairs.proofs.chip.same_names.Given as goal
 
 abbrev pub invariant-names : goal.invariant-names

@@ -1,5 +1,5 @@
 use Rattle.std.proofs.Common.{◌≡◌, length}
-use Rattle.ca_stil_pairs.specs.Same.{signals_eq}
+use Rattle.ca_stil_pairs.specs.code.Same.{signals_eq}
 use Rattle.ca_stil_pairs.proofs.chip.same_signals.Given as goal
 
 abbrev pub invariant-signals : goal.invariant-signals

@@ -1,4 +1,4 @@
-use Rattle.ca_stil_pairs.specs.Places.{AreSitesUpTo}
+use Rattle.ca_stil_pairs.specs.code.Places.{AreSitesUpTo}
 use Rattle.ca_stil_pairs.proofs.order.sites_of.Given as goal
 
 abbrev pub invariant-loop-i : goal.invariant-loop-i

@@ -1,5 +1,5 @@
 use Rattle.std.proofs.Common.{◌≡◌, ◌++◌, take, false}
-use Rattle.ca_stil_pairs.specs.Places.{sited}
+use Rattle.ca_stil_pairs.specs.code.Places.{sited}
 use Rattle.ca_stil_pairs.proofs.places.push_bits_at.Given as goal
 
 abbrev pub invariant-loop-k : goal.invariant-loop-k

@@ -1,6 +1,6 @@
 use Rattle.std.proofs.Common.{◌≡◌, ◌++◌, take}
 use Rattle.ca_net.specs.declared.trit.Trit.TheVariants.{X}
-use Rattle.ca_stil_pairs.specs.Places.{sited}
+use Rattle.ca_stil_pairs.specs.code.Places.{sited}
 use Rattle.ca_stil_pairs.proofs.places.push_levels_at.Given as goal
 
 abbrev pub invariant-loop-k : goal.invariant-loop-k

@@ -6,8 +6,8 @@ use Rattle.ca_stil_form.proofs.StilLemmas.{stil_exact}
 use Rattle.ca_stil_form.proofs.ReadingLemmas.{read_written}
 use Rattle.ca_stil_read.specs.declared.pair.TextPair.{TextPair}
 use Rattle.ca_stil_pairs.specs.Chip.{order_of}
-use Rattle.ca_stil_pairs.specs.Places.{IsPairFor}
-use Rattle.ca_stil_pairs.specs.File.{IsMadeFrom}
+use Rattle.ca_stil_pairs.specs.code.Places.{IsPairFor}
+use Rattle.ca_stil_pairs.specs.code.File.{IsMadeFrom}
 use Rattle.ca_stil_pairs.proofs.OrderLemmas.{chains_within}
 use Rattle.ca_stil_pairs.proofs.WholeLemmas.{other_chip, text_pairs_for, file_is}
 use Rattle.ca_stil_pairs.proofs.read.file_in.Goals as goal

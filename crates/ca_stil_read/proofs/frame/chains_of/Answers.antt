@@ -1,5 +1,5 @@
 use Rattle.std.proofs.Common.{length, map}
-use Rattle.ca_stil_read.specs.Frames.{chain_seen}
+use Rattle.ca_stil_read.specs.code.Frames.{chain_seen}
 use Rattle.ca_stil_read.proofs.FrameLemmas.{chains_large, chains_kept, chains_none, below_three}
 use Rattle.ca_stil_read.proofs.frame.chains_of.Goals as goal
 

@@ -1,6 +1,6 @@
 use Rattle.std.proofs.Common.{map, length, codes, rules}
 use Rattle.ca_stil_form.specs.Tokens.{tokens_of}
-use Rattle.ca_stil_read.specs.Frames.{frame_seen}
+use Rattle.ca_stil_read.specs.code.Frames.{frame_seen}
 use Rattle.ca_stil_read.specs.Kept.{pair_seen}
 use Rattle.ca_stil_read.specs.Whole.{read_pairs}
 use Rattle.ca_stil_read.proofs.LoopLemmas.{pairs_loop, loop_early, loop_close, loop_stop, loop_step}

@@ -1,6 +1,6 @@
 use Rattle.std.proofs.Common.{◌==◌, ℕ, ap, ◌∙◌}
 use Rattle.std.specs.List.{list_all}
-use Rattle.ca_stil_read.specs.Kept.{is_bit}
+use Rattle.ca_stil_read.specs.code.Kept.{is_bit}
 use Rattle.ca_stil_read.proofs.WordLemmas.{bits_some, bits_none, not_so, is_so}
 use Rattle.ca_stil_read.proofs.word.bits_in.Goals as goal
 

@@ -1,6 +1,6 @@
 use Rattle.std.proofs.Common.{◌==◌, ℕ, ap, ◌∙◌}
 use Rattle.std.specs.List.{list_all}
-use Rattle.ca_stil_read.specs.Kept.{is_level}
+use Rattle.ca_stil_read.specs.code.Kept.{is_level}
 use Rattle.ca_stil_read.proofs.WordLemmas.{levels_some, levels_none, not_so, is_so}
 use Rattle.ca_stil_read.proofs.word.levels_in.Goals as goal
 

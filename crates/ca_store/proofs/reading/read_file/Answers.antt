@@ -1,5 +1,5 @@
 use Rattle.std.proofs.Common.{rules, refl, Some, ◌∙◌, sym, ap, subst, Bool}
-use Rattle.ca_store.specs.Reading.{IsEnd}
+use Rattle.ca_store.specs.code.Reading.{IsEnd}
 use Rattle.ca_store.proofs.Gathers.{read_of}
 use Rattle.ca_store.proofs.reading.read_file.Goals as goal
 

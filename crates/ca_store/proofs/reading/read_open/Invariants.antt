@@ -1,6 +1,6 @@
 use Rattle.std.proofs.Common.{◌≡◌, ◌≤◌, ◌+◌, ◌-◌, length}
 use Rattle.ca_store.specs.Store.{IsReading}
-use Rattle.ca_store.specs.Reading.{IsReadSoFar}
+use Rattle.ca_store.specs.code.Reading.{IsReadSoFar}
 use Rattle.ca_store.proofs.reading.read_open.Given as goal
 
 abbrev pub decreases-chunks : goal.decreases-chunks

@@ -1,6 +1,6 @@
 use Rattle.ca_view.specs.Linked.{place_in}
 use Rattle.ca_view.specs.Places.{cell_number}
-use Rattle.ca_sweep.specs.Cells.{AreTablesTo}
+use Rattle.ca_sweep.specs.code.Cells.{AreTablesTo}
 use Rattle.ca_sweep.proofs.cells.tables_of.Given as goal
 
 abbrev pub invariant-loop-number : goal.invariant-loop-number

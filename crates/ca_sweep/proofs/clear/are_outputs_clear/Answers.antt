@@ -4,7 +4,7 @@ use Rattle.ca_net.specs.declared.trit.Trit.TheVariants.{X}
 use Rattle.ca_cell.specs.declared.raw.RawCell.{RawCell}
 use Rattle.ca_cell.specs.Raw.{is_input, is_output, role_count}
 use Rattle.ca_flat.specs.Chip.{net_of, output_net, inputs_at, outputs_at}
-use Rattle.ca_sweep.specs.Kept.{AreReadersMarked}
+use Rattle.ca_sweep.specs.code.Kept.{AreReadersMarked}
 use Rattle.ca_sweep.proofs.clear.are_outputs_clear.Goals as goal
 
 pub loop-output-preserved : goal.loop-output-preserved

@@ -1,5 +1,5 @@
 use Rattle.ca_net.specs.State.{value_at}
-use Rattle.ca_sweep.specs.Kept.{AreOutputsClear}
+use Rattle.ca_sweep.specs.code.Kept.{AreOutputsClear}
 use Rattle.ca_sweep.proofs.clear.are_outputs_clear.Given as goal
 
 abbrev pub invariant-loop-output : goal.invariant-loop-output

@@ -2,7 +2,7 @@ use Rattle.std.proofs.Common.{true, subst, refl}
 use Rattle.ca_net.specs.State.{value_at}
 use Rattle.ca_flat.specs.Chip.{outputs_at}
 use Rattle.ca_sweep.specs.Seen.{IsClear}
-use Rattle.ca_sweep.specs.Kept.{IsPassing, AreOutputsClear}
+use Rattle.ca_sweep.specs.code.Kept.{IsPassing, AreOutputsClear}
 use Rattle.ca_sweep.proofs.ClearLemmas.{clear_of, marks_put}
 use Rattle.ca_sweep.proofs.clear.mark.Goals as goal
 

@@ -3,7 +3,7 @@ use Rattle.ca_net.specs.State.{value_at}
 use Rattle.ca_view.specs.Linked.{place_in}
 use Rattle.ca_view.specs.Places.{cell_number}
 use Rattle.ca_sweep.specs.Seen.{flipped_outputs}
-use Rattle.ca_sweep.specs.Changes.{IsSweptTo}
+use Rattle.ca_sweep.specs.code.Changes.{IsSweptTo}
 use Rattle.ca_sweep.proofs.SweepLemmas.{flipped_anew, swept_begins, swept_passes, swept_ends}
 use Rattle.ca_sweep.proofs.run.sweep.Goals as goal
 

@@ -2,7 +2,7 @@ use Rattle.std.proofs.Common.{length, arith, ap, sym, ◌∙◌}
 use Rattle.ca_token.specs.Scan.{scan_of}
 use Rattle.ca_verilog.specs.Reading.{Reading}
 use Rattle.ca_verilog.specs.Text.{reads_scan, ended}
-use Rattle.ca_verilog.specs.Views.{reading_seen}
+use Rattle.ca_verilog.specs.code.Views.{reading_seen}
 use Rattle.ca_verilog.proofs.SoundLemmas.{whole_reading, kept_in}
 use Rattle.ca_verilog.proofs.text.read_netlist.Goals as goal
 

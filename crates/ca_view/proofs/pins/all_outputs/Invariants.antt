@@ -1,5 +1,5 @@
 use Rattle.ca_core.specs.Core.{core_of}
-use Rattle.ca_view.specs.Pins.{items_of, AreOutputNets}
+use Rattle.ca_view.specs.code.Pins.{items_of, AreOutputNets}
 use Rattle.ca_view.proofs.pins.all_outputs.Given as goal
 
 abbrev pub invariant-loop-u : goal.invariant-loop-u

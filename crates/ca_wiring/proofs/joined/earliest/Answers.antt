@@ -1,7 +1,7 @@
 use Rattle.std.proofs.Common.{◌∙◌, [], subst, sym}
 use Rattle.std.specs.List.{All}
-use Rattle.ca_wiring.specs.Spans.{IsSpanWithin}
-use Rattle.ca_wiring.specs.Forest.{AreTheirOwn}
+use Rattle.ca_wiring.specs.code.Spans.{IsSpanWithin}
+use Rattle.ca_wiring.specs.code.Forest.{AreTheirOwn}
 use Rattle.ca_wiring.proofs.ForestLemmas.{own_forest, roots_are_earliest}
 use Rattle.ca_wiring.proofs.joined.earliest.Goals as goal
 

@@ -1,4 +1,4 @@
-use Rattle.ca_wiring.specs.Pins.{AreSoundFirst}
+use Rattle.ca_wiring.specs.code.Pins.{AreSoundFirst}
 use Rattle.ca_wiring.proofs.judged.judge_instances.Given as goal
 
 abbrev pub invariant-loop-u : goal.invariant-loop-u

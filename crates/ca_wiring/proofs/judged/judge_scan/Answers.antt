@@ -1,6 +1,6 @@
 use Rattle.std.proofs.Common.{refl, sym, subst}
 use Rattle.ca_wiring.specs.Wiring as wiring
-use Rattle.ca_wiring.specs.Pins.{IsFirstStray, IsFirstOpen, ReportsStray, ReportsOpen}
+use Rattle.ca_wiring.specs.code.Pins.{IsFirstStray, IsFirstOpen, ReportsStray, ReportsOpen}
 use Rattle.ca_wiring.proofs.PinLemmas.{reports_stray, reports_open}
 use Rattle.ca_wiring.proofs.judged.judge_scan.Goals as goal
 

@@ -1,5 +1,5 @@
 use Rattle.std.proofs.Common.{◌∙◌, ap}
-use Rattle.ca_wiring.specs.Pins.{has_pin}
+use Rattle.ca_wiring.specs.code.Pins.{has_pin}
 use Rattle.ca_wiring.proofs.PinLemmas.{has_pin-names}
 use Rattle.ca_wiring.proofs.pins.library_has.Goals as goal
 

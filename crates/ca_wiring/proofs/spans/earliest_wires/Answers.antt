@@ -5,7 +5,7 @@ use Rattle.ca_verilog.specs.Joins.{pairs_of}
 use Rattle.ca_verilog.specs.IsNetlist.{IsJoinOf}
 use Rattle.ca_wiring.specs.Wiring.{joins_of}
 use Rattle.ca_wiring.specs.Joined.{AreEarliest}
-use Rattle.ca_wiring.specs.Spans.{AreSpansOf}
+use Rattle.ca_wiring.specs.code.Spans.{AreSpansOf}
 use Rattle.ca_wiring.proofs.SpanLemmas.{are_joins, spans_within}
 use Rattle.ca_wiring.proofs.spans.earliest_wires.Goals as goal
 

@@ -1,7 +1,7 @@
 use Rattle.std.proofs.Common.{subst, arith}
 use Rattle.std.proofs.lemmas.Option.{slice_get-get_or}
 use Rattle.ca_wiring.specs.declared.joined.Span.{Span}
-use Rattle.ca_wiring.specs.Spans.{IsWith}
+use Rattle.ca_wiring.specs.code.Spans.{IsWith}
 use Rattle.ca_wiring.proofs.SpanLemmas.{spans_more, spans_end}
 use Rattle.ca_wiring.proofs.spans.spans_of.Goals as goal
 

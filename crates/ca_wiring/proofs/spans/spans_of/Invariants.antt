@@ -1,4 +1,4 @@
-use Rattle.ca_wiring.specs.Spans.{AreSpansOf}
+use Rattle.ca_wiring.specs.code.Spans.{AreSpansOf}
 use Rattle.ca_wiring.proofs.spans.spans_of.Given as goal
 
 abbrev pub invariant-loop-k : goal.invariant-loop-k

@@ -1,6 +1,6 @@
 use Rattle.std.proofs.Common.{◌≡◌, ◌+◌, ◌<◌, ◌^◌, ◌++◌, [], ◌∷◌, List, length, sym, ap, ◌∙◌, subst}
 use Rattle.ca_cell.specs.Library.{Named}
-use Rattle.ca_cell.specs.Entries.{named_entries}
+use Rattle.ca_cell.specs.code.Entries.{named_entries}
 use Rattle.ca_cell.proofs.LibraryLemmas.{added_last, IsKept, kept_grown, named_grown}
 use Rattle.ca_cell.proofs.library.Library.insert.Goals as goal
 

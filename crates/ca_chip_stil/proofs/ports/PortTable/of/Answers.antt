@@ -1,6 +1,6 @@
 use Rattle.std.proofs.Common.{◌≡◌, ◌+◌, ◌-◌, ◌∙◌, replicate, ap, subst, arith}
 use Rattle.std.specs.Prelude.{None}
-use Rattle.ca_chip_stil.specs.Kept.{AreFirstPorts}
+use Rattle.ca_chip_stil.specs.code.Kept.{AreFirstPorts}
 use Rattle.ca_chip_stil.proofs.PortLemmas.{ports_none, ports_more}
 use Rattle.ca_chip_stil.proofs.ports.PortTable.of.Goals as goal
 

@@ -1,5 +1,5 @@
 use Rattle.std.proofs.Common.{◌≤◌, length}
-use Rattle.ca_chip_stil.specs.Kept.{AreFirstPorts}
+use Rattle.ca_chip_stil.specs.code.Kept.{AreFirstPorts}
 use Rattle.ca_chip_stil.proofs.ports.PortTable.of.Given as goal
 
 abbrev pub invariant-ports : goal.invariant-ports

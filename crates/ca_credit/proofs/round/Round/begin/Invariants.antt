@@ -1,6 +1,6 @@
 use Rattle.std.proofs.Common.{◌≡◌, ◌<◌, ℕ, length}
 use Rattle.std.specs.Prelude.{false}
-use Rattle.ca_credit.specs.Round.{is_tried}
+use Rattle.ca_credit.specs.code.Round.{is_tried}
 use Rattle.ca_credit.proofs.round.Round.begin.Given as goal
 
 abbrev pub invariant-loop-place : goal.invariant-loop-place

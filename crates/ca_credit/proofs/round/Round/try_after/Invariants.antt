@@ -1,5 +1,5 @@
 use Rattle.std.proofs.Common.{◌≡◌}
-use Rattle.ca_credit.specs.Round.{TriesMore}
+use Rattle.ca_credit.specs.code.Round.{TriesMore}
 use Rattle.ca_credit.proofs.round.Round.try_after.Given as goal
 
 abbrev pub invariant-loop-place : goal.invariant-loop-place

@@ -1,7 +1,7 @@
 use Rattle.std.proofs.Common.{rules, arith, ◌≡◌, ◌<◌, length, true, false, List, slice_set, subst}
 use Rattle.ca_net.specs.declared.trit.Trit.{Trit}
 use Rattle.ca_credit.specs.Detection.{IsAnswer}
-use Rattle.ca_credit.specs.Round.{is_tried}
+use Rattle.ca_credit.specs.code.Round.{is_tried}
 use Rattle.ca_credit.proofs.RoundLemmas.{some_of, answer_alike, tries_one}
 use Rattle.ca_credit.proofs.round.Round.try_alike.Goals as goal
 

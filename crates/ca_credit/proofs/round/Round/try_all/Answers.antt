@@ -1,6 +1,6 @@
 use Rattle.std.proofs.Common.{rules, arith, ◌≡◌, ◌≤◌, ◌+◌, ◌∙◌, length, refl, subst, ap, sym}
 use native.Mathlib.Decide.{ℕ_discrete}
-use Rattle.ca_credit.specs.Round.{is_tried, IsTried}
+use Rattle.ca_credit.specs.code.Round.{is_tried, IsTried}
 use Rattle.ca_credit.specs.Table.{credit_count}
 use Rattle.ca_credit.proofs.TableLemmas.{credit_count_within}
 use Rattle.ca_credit.proofs.AimLemmas.{aims_begin, aims_turn}

@@ -1,9 +1,9 @@
 use Rattle.std.proofs.Common.{◌≡◌, ◌<◌, ◌+◌, ℕ}
 use Rattle.std.specs.Prelude.{true}
 use Rattle.ca_search.specs.Filled.{trits_of}
-use Rattle.ca_credit.specs.Round.{IsTried, is_tried}
+use Rattle.ca_credit.specs.code.Round.{IsTried, is_tried}
 use Rattle.ca_credit.specs.Table.{credit_count}
-use Rattle.ca_credit.specs.Aims.{AimsUpTo}
+use Rattle.ca_credit.specs.code.Aims.{AimsUpTo}
 use Rattle.ca_credit.proofs.round.Round.try_all.Given as goal
 
 abbrev pub invariant-loop-place : goal.invariant-loop-place

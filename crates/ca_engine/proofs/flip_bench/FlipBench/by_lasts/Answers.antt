@@ -5,7 +5,7 @@ use Rattle.ca_flat.specs.Flat.{flat}
 use Rattle.ca_flips.specs.Flips.{AreLastsOf}
 use Rattle.ca_sim.specs.Simulator.{Simulator}
 use Rattle.ca_sweep.specs.Seen.{Swept}
-use Rattle.ca_engine.specs.FlipBench.{IsFlipBench}
+use Rattle.ca_engine.specs.code.FlipBench.{IsFlipBench}
 use Rattle.ca_engine.proofs.FlipLemmas.{loaded_lasts}
 use Rattle.ca_engine.proofs.flip_bench.FlipBench.by_lasts.Goals as goal
 

@@ -1,5 +1,5 @@
 use Rattle.std.proofs.Common.{sym, subst, List, [], Bool, ℕ}
-use Rattle.ca_generate.specs.Progress.{StandsAfter}
+use Rattle.ca_generate.specs.code.Progress.{StandsAfter}
 use Rattle.ca_generate.proofs.TurnLemmas.{no_turn}
 use Rattle.ca_generate.proofs.work.Work.begin.Goals as goal
 

@@ -4,7 +4,7 @@ use Rattle.std.proofs.lemmas.Option.{slice_get_within}
 use Rattle.ca_credit.specs.Listed.{AreAims}
 use Rattle.ca_credit.specs.Table.{CreditsPair}
 use Rattle.ca_credit.specs.declared.limit.TheConstants.{MOST_PAIRS}
-use Rattle.ca_generate.specs.Progress.{StandsAfter}
+use Rattle.ca_generate.specs.code.Progress.{StandsAfter}
 use Rattle.ca_generate.proofs.FoundLemmas.{length-found}
 use Rattle.ca_generate.proofs.TurnLemmas.{aims_found, turn_found}
 use Rattle.ca_generate.proofs.work.Work.list.Goals as goal

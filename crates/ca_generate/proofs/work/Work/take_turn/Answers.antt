@@ -5,7 +5,7 @@ use Rattle.ca_credit.specs.Table.{verdict_at}
 use Rattle.ca_credit.proofs.TableLemmas.{some_within}
 use Rattle.ca_search.specs.declared.trail.Outcome.TheVariants.{Exhausted, Spent}
 use Rattle.ca_generate.specs.Outcome.{IsSearch}
-use Rattle.ca_generate.specs.Progress.{StandsAfter}
+use Rattle.ca_generate.specs.code.Progress.{StandsAfter}
 use Rattle.ca_generate.proofs.TurnLemmas.{turn_exhausted, turn_spent}
 use Rattle.ca_generate.proofs.work.Work.take_turn.Goals as goal
 

@@ -1,9 +1,10 @@
 use Rattle.std.proofs.Common.{subst, sym}
-use Rattle.ca_guide.specs.Flood.{IsFloodTo}
+use Rattle.ca_guide.specs.code.Flood.{IsFloodTo}
 use Rattle.ca_view.specs.NetLists.{output_nets}
 use Rattle.ca_guide.specs.Seen.{open_area}
 use Rattle.ca_guide.specs.PinRows.{IsSomeAllowed, IsNoneAllowed}
-use Rattle.ca_guide.specs.Guide.{IsSupport, IsUnsetAnswer}
+use Rattle.ca_guide.specs.Guide.{IsSupport}
+use Rattle.ca_guide.specs.code.Guide.{IsUnsetAnswer}
 use Rattle.ca_guide.proofs.GuideLemmas.{pins_within, plain_by_rows, plain_by_chain, plain_by_full, branches}
 use Rattle.ca_guide.proofs.guide.Guide.next.Goals as goal
 

@@ -3,7 +3,7 @@ use Rattle.std.specs.Prelude.{IsSome}
 use Rattle.std.specs.List.{All}
 use Rattle.ca_search.specs.Judged.{IsStanding}
 use Rattle.ca_judge.specs.Bench.{judged_of}
-use Rattle.ca_judge.specs.Ends.{LooksSo}
+use Rattle.ca_judge.specs.code.Ends.{LooksSo}
 use Rattle.ca_judge.proofs.BenchLemmas.{outputs_within, bench_stands}
 use Rattle.ca_judge.proofs.bench.BenchJudge.standing.Goals as goal
 

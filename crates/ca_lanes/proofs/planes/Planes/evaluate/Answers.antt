@@ -3,7 +3,7 @@ use Rattle.std.proofs.lemmas.List.{map-set, length-set}
 use Rattle.ca_lanes.specs.Plane.{lane_of}
 use Rattle.ca_lanes.specs.Choice.{choice_of, choices_of}
 use Rattle.ca_lanes.specs.Netlist.{output_of}
-use Rattle.ca_lanes.specs.Allowed.{lanes_of}
+use Rattle.ca_lanes.specs.code.Allowed.{lanes_of}
 use Rattle.ca_lanes.proofs.EvaluatedLemmas.{evaluated_more, first_same, last_same, length-choices_of}
 use Rattle.ca_lanes.proofs.planes.Planes.evaluate.Goals as goal
 

@@ -1,8 +1,8 @@
 use Rattle.std.proofs.Common.{◌≡◌, ◌^◌, ℕ, length}
 use Rattle.ca_lanes.specs.Plane.{lane_of}
 use Rattle.ca_lanes.specs.Choice.{choices_of}
-use Rattle.ca_lanes.specs.Allowed.{lanes_of}
-use Rattle.ca_lanes.specs.Evaluated.{masks_for, IsEvaluated}
+use Rattle.ca_lanes.specs.code.Allowed.{lanes_of}
+use Rattle.ca_lanes.specs.code.Evaluated.{masks_for, IsEvaluated}
 use Rattle.ca_lanes.proofs.planes.Planes.evaluate.Given as goal
 
 abbrev pub invariant-loop-output : goal.invariant-loop-output

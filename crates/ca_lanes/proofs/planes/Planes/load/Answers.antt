@@ -5,7 +5,7 @@ use Rattle.ca_flat.specs.Codes.{bit_trit}
 use Rattle.ca_lanes.specs.Plane.{lane_of}
 use Rattle.ca_lanes.specs.Netlist.{IsOrder, AreInstancesOf, HasBits}
 use Rattle.ca_lanes.specs.Planes.{firsts_in, lasts_in}
-use Rattle.ca_lanes.specs.Sweep.{IsLoadedTo}
+use Rattle.ca_lanes.specs.code.Sweep.{IsLoadedTo}
 use Rattle.ca_lanes.proofs.FrameLemmas.{pair_has, has_inputs}
 use Rattle.ca_lanes.proofs.LoadLemmas.{is_loaded}
 use Rattle.ca_lanes.proofs.planes.Planes.load.Goals as goal

@@ -2,8 +2,8 @@ use Rattle.std.proofs.Common.{◌∙◌, ap, length, take}
 use Rattle.std.specs.List.{list_any}
 use Rattle.ca_lanes.specs.Plane.{lane_of}
 use Rattle.ca_lanes.specs.Choice.{choices_of}
-use Rattle.ca_lanes.specs.Allowed.{lanes_of, allowed_by, is_row_allowed}
-use Rattle.ca_lanes.specs.Evaluated.{pin_choices}
+use Rattle.ca_lanes.specs.code.Allowed.{lanes_of, allowed_by, is_row_allowed}
+use Rattle.ca_lanes.specs.code.Evaluated.{pin_choices}
 use Rattle.ca_lanes.proofs.ScreenLemmas.{says_suspect, none_suspect, bit_from}
 use Rattle.ca_lanes.proofs.planes.Planes.screen_block.Goals as goal
 

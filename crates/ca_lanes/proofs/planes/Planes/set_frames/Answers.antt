@@ -1,7 +1,7 @@
 use Rattle.std.proofs.Common.{◌≡◌, ◌<◌, ◌∙◌, length, ap, ap₂, sym, subst, arith}
 use Rattle.ca_lanes.specs.Plane.{lane_of}
 use Rattle.ca_lanes.specs.Choice.{choice_at, choices_of}
-use Rattle.ca_lanes.specs.Set.{set_choice}
+use Rattle.ca_lanes.specs.code.Set.{set_choice}
 use Rattle.ca_lanes.proofs.FrameLemmas.{nets_written}
 use Rattle.ca_lanes.proofs.planes.Planes.set_frames.Goals as goal
 

@@ -1,5 +1,5 @@
 use Rattle.std.proofs.Common.{◌<◌, sym, ◌∙◌, subst}
-use Rattle.ca_linked.specs.Drivers.{AreNoted, IsSeen, after_constant}
+use Rattle.ca_linked.specs.code.Drivers.{AreNoted, IsSeen, after_constant}
 use Rattle.ca_linked.proofs.DriverLemmas.{constant_seen, constant_passed, constant_within}
 use Rattle.ca_linked.proofs.drivers.Drivers.note_constant.Goals as goal
 

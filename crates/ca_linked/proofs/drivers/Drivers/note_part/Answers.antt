@@ -1,7 +1,7 @@
 use Rattle.std.proofs.Common.{◌≡◌, ◌+◌, ◌<◌, sym, subst, arith, length}
 use Rattle.std.specs.List.{All}
 use Rattle.ca_linked.specs.Linked.{Part, FromPin, net_count, output_nets}
-use Rattle.ca_linked.specs.Drivers.{AreNoted, IsSeen}
+use Rattle.ca_linked.specs.code.Drivers.{AreNoted, IsSeen}
 use Rattle.ca_linked.proofs.PartLemmas.{of_all}
 use Rattle.ca_linked.proofs.DriverLemmas.{pin_seen, part_seen, of_get}
 use Rattle.ca_linked.proofs.drivers.Drivers.note_part.Goals as goal

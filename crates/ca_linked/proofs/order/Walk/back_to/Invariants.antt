@@ -1,5 +1,5 @@
 use Rattle.std.proofs.Common.{◌≡◌, ◌-◌}
-use Rattle.ca_linked.specs.Walk.{back_from}
+use Rattle.ca_linked.specs.code.Walk.{back_from}
 use Rattle.ca_linked.proofs.order.Walk.back_to.Given as goal
 
 abbrev pub invariant-loop-k : goal.invariant-loop-k

@@ -1,5 +1,5 @@
 use Rattle.std.specs.List.{Contains}
-use Rattle.ca_linked.specs.Walk.{IsWalk, KeepsReached, work_of}
+use Rattle.ca_linked.specs.code.Walk.{IsWalk, KeepsReached, work_of}
 use Rattle.ca_linked.proofs.order.Walk.finish.Given as goal
 
 abbrev pub invariant-steps : goal.invariant-steps

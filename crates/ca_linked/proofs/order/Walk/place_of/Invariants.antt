@@ -1,5 +1,5 @@
 use Rattle.std.proofs.Common.{◌≡◌, ◌<◌, ℕ}
-use Rattle.ca_linked.specs.Walk.{instance_at}
+use Rattle.ca_linked.specs.code.Walk.{instance_at}
 use Rattle.ca_linked.proofs.order.Walk.place_of.Given as goal
 
 abbrev pub invariant-loop-place : goal.invariant-loop-place

@@ -1,7 +1,7 @@
 use Rattle.std.proofs.Common.{◌≡◌, ◌<◌, ℕ, [], slice_index}
 use Rattle.std.specs.List.{Contains}
 use Rattle.ca_linked.specs.declared.order.Mark.TheVariants.{New}
-use Rattle.ca_linked.specs.Walk.{IsWalk, mark_of}
+use Rattle.ca_linked.specs.code.Walk.{IsWalk, mark_of}
 use Rattle.ca_linked.proofs.order.Walk.visit.Given as goal
 
 abbrev pub invariant-loop-i : goal.invariant-loop-i

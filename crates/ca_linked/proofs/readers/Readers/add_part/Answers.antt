@@ -1,7 +1,7 @@
 use Rattle.std.proofs.Common.{◌≡◌, ◌+◌, ◌<◌, sym, ◌∙◌, subst, arith, length}
 use Rattle.std.specs.List.{All}
 use Rattle.ca_linked.specs.Linked.{Part, Body, net_count, input_nets}
-use Rattle.ca_linked.specs.Reading.{HaveReaders, ReadsSoFar}
+use Rattle.ca_linked.specs.code.Reading.{HaveReaders, ReadsSoFar}
 use Rattle.ca_linked.proofs.PartLemmas.{of_all}
 use Rattle.ca_linked.proofs.DriverLemmas.{of_get}
 use Rattle.ca_linked.proofs.ReaderLemmas.{pin_added, pins_begin, pins_seen, scan_passed}

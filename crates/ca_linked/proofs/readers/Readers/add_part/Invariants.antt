@@ -1,4 +1,4 @@
-use Rattle.ca_linked.specs.Reading.{HaveReaders, ReadsSoFar}
+use Rattle.ca_linked.specs.code.Reading.{HaveReaders, ReadsSoFar}
 use Rattle.ca_linked.proofs.readers.Readers.add_part.Given as goal
 
 abbrev pub invariant-loop-pin : goal.invariant-loop-pin

@@ -1,6 +1,6 @@
 use Rattle.std.proofs.Common.{◌<◌, ◌∙◌, sym, ap, length, arith, List, ℕ, Bool, Some}
 use Rattle.std.specs.Prelude.{slice_get}
-use Rattle.ca_pair.specs.Bits.{bit_in}
+use Rattle.ca_pair.specs.code.Bits.{bit_in}
 use Rattle.ca_pair.proofs.BitLemmas.{length-bits_from, bit_there}
 use Rattle.ca_pair.proofs.pair.Pair.get.Goals as goal
 

@@ -1,7 +1,8 @@
 use Rattle.std.proofs.Common.{◌≡◌, [], length, sym, ◌∙◌, ap, subst, arith, rules, get_or}
 use Rattle.std.specs.Prelude.{Some}
 use Rattle.std.proofs.lemmas.List.{get_or_default}
-use Rattle.ca_rows.specs.CellTable.{ListsRows, CellTable, IsCellTable}
+use Rattle.ca_rows.specs.CellTable.{ListsRows, CellTable}
+use Rattle.ca_rows.specs.code.CellTable.{IsCellTable}
 use Rattle.ca_rows.proofs.CellTableLemmas.{some_place}
 use Rattle.ca_rows.proofs.cell_rows.CellRows.rows.Goals as goal
 

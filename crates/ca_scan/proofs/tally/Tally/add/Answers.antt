@@ -1,7 +1,7 @@
 use Rattle.std.proofs.Common.{◌≡◌, ◌<◌, ◌+◌, ◌∙◌, ℕ, [], ◌∷◌, length, ap, sym, subst, arith}
 use Rattle.std.proofs.lemmas.List.{get_or_default}
 use Rattle.std.specs.Prelude.{slice_set}
-use Rattle.ca_scan.specs.Kept.{tally_at, Adds}
+use Rattle.ca_scan.specs.code.Kept.{tally_at, Adds}
 use Rattle.ca_scan.proofs.TallyLemmas.{one_added, none_added}
 use Rattle.ca_scan.proofs.tally.Tally.add.Goals as goal
 

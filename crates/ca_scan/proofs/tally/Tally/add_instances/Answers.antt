@@ -1,5 +1,5 @@
 use Rattle.std.proofs.Common.{◌<◌, ◌≤◌, [], ◌∷◌, length, subst, arith}
-use Rattle.ca_scan.specs.Kept.{Adds}
+use Rattle.ca_scan.specs.code.Kept.{Adds}
 use Rattle.ca_scan.proofs.TallyLemmas.{adds_more, adds_all}
 use Rattle.ca_scan.proofs.tally.Tally.add_instances.Goals as goal
 

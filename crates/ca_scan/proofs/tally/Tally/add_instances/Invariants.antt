@@ -1,5 +1,5 @@
 use Rattle.std.proofs.Common.{take}
-use Rattle.ca_scan.specs.Kept.{Adds}
+use Rattle.ca_scan.specs.code.Kept.{Adds}
 use Rattle.ca_scan.proofs.tally.Tally.add_instances.Given as goal
 
 abbrev pub invariant-loop-k : goal.invariant-loop-k

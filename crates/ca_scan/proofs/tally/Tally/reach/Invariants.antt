@@ -1,5 +1,5 @@
 use Rattle.std.proofs.Common.{◌≡◌, ℕ, length, ◌+◌, ◌-◌}
-use Rattle.ca_scan.specs.Kept.{tally_at}
+use Rattle.ca_scan.specs.code.Kept.{tally_at}
 use Rattle.ca_scan.proofs.tally.Tally.reach.Given as goal
 
 abbrev pub invariant-room : goal.invariant-room

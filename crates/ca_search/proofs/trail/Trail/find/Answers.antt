@@ -1,6 +1,7 @@
 use Rattle.std.proofs.Common.{arith, refl, sym, subst}
-use Rattle.ca_search.specs.Steps.{TrailStands}
-use Rattle.ca_search.specs.Judged.{IsShownFor, MayDecideHere}
+use Rattle.ca_search.specs.code.Steps.{TrailStands}
+use Rattle.ca_search.specs.Judged.{IsShownFor}
+use Rattle.ca_search.specs.code.Judged.{MayDecideHere}
 use Rattle.ca_search.proofs.StepLemmas.{aim_of}
 use Rattle.ca_search.proofs.TrailLemmas.{begins_to, bits_stay, front_of, spent_of, numbers_have_room}
 use Rattle.ca_search.proofs.trail.Trail.find.Goals as goal

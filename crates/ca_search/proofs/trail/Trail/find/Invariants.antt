@@ -1,6 +1,6 @@
 use Rattle.std.proofs.Common.{◌≡◌, ◌+◌, ◌*◌, ◌-◌, length}
 use Rattle.ca_search.specs.Judged.{IsSameAim}
-use Rattle.ca_search.specs.Steps.{TrailStands}
+use Rattle.ca_search.specs.code.Steps.{TrailStands}
 use Rattle.ca_search.proofs.trail.Trail.find.Given as goal
 
 abbrev pub invariant-deciding : goal.invariant-deciding

@@ -1,6 +1,6 @@
 use Rattle.std.proofs.Common.{◌≡◌, ◌≤◌, length, vec_len}
 use Rattle.ca_search.proofs.StepLemmas.{TurnsBack}
-use Rattle.ca_search.specs.Steps.{IsSameRoom}
+use Rattle.ca_search.specs.code.Steps.{IsSameRoom}
 use Rattle.ca_search.proofs.trail.Trail.turn.Given as goal
 
 abbrev pub invariant-loop-decision : goal.invariant-loop-decision

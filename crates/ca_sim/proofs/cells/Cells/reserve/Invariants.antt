@@ -1,5 +1,5 @@
 use Rattle.ca_view.specs.Linked.{place_in}
-use Rattle.ca_sim.specs.Cells.{AreRoomsTo}
+use Rattle.ca_sim.specs.code.Cells.{AreRoomsTo}
 use Rattle.ca_view.specs.Places.{cell_number}
 use Rattle.ca_sim.proofs.cells.Cells.reserve.Given as goal
 

@@ -4,7 +4,7 @@ use Rattle.ca_cell.specs.declared.raw.RawCell.{RawCell}
 use Rattle.ca_cell.specs.Raw.{is_input, role_count}
 use Rattle.ca_flat.specs.Chip.{net_of, output_net, inputs_at}
 use Rattle.ca_table.specs.Gives.{wave_at}
-use Rattle.ca_sim.specs.Current.{waves_from}
+use Rattle.ca_sim.specs.code.Current.{waves_from}
 use Rattle.ca_sim.proofs.WaveLemmas.{waves_from-none, waves_from-more, length-waves_from}
 use Rattle.ca_sim.proofs.network.Network.output_waves.Goals as goal
 

@@ -1,7 +1,7 @@
 use Rattle.std.specs.Prelude.{Option}
 use Rattle.ca_flat.specs.declared.chip_defect.ChipDefect.{ChipDefect}
 use Rattle.ca_view.specs.Linked.{place_in}
-use Rattle.ca_sim.specs.Networks.{AreReady, AreUnderway}
+use Rattle.ca_sim.specs.code.Networks.{AreReady, AreUnderway}
 use Rattle.ca_sim.proofs.Loading.{IsLoadedTo}
 use Rattle.ca_sim.proofs.networks.Networks.load.Given as goal
 

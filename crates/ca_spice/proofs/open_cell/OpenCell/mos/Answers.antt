@@ -1,7 +1,7 @@
 use Rattle.std.proofs.Common.{◌≡◌, ◌∙◌, sym, true, false}
 use Rattle.ca_spice.specs.OpenCell.{has_device}
-use Rattle.ca_spice.specs.Names.{texts}
-use Rattle.ca_spice.specs.Views.{cell_seen, wiring_seen, sizes_seen}
+use Rattle.ca_spice.specs.code.Names.{texts}
+use Rattle.ca_spice.specs.code.Views.{cell_seen, wiring_seen, sizes_seen}
 use Rattle.ca_spice.proofs.CellLemmas.{known_device}
 use Rattle.ca_spice.proofs.ReadingLemmas.{mos-double, mos-new}
 use Rattle.ca_spice.proofs.open_cell.OpenCell.mos.Goals as goal

@@ -1,5 +1,5 @@
 use Rattle.std.proofs.Common.{ℕ, sym, subst}
-use Rattle.ca_spice.specs.Kept.{IsPlaced}
+use Rattle.ca_spice.specs.code.Kept.{IsPlaced}
 use Rattle.ca_spice.proofs.open_cell.OpenCell.pin_info.Goals as goal
 
 pub invariant_of-result-clause-placed : goal.invariant_of-result-clause-placed

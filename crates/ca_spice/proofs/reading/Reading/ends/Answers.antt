@@ -2,7 +2,7 @@ use Rattle.std.proofs.Common.{sym, subst}
 use Rattle.std.specs.List.{All}
 use Rattle.std.proofs.lemmas.List.Elements.{All-push}
 use Rattle.ca_spice.specs.declared.subcircuit.Subcircuit.{Subcircuit}
-use Rattle.ca_spice.specs.Kept.{IsPlacedCell}
+use Rattle.ca_spice.specs.code.Kept.{IsPlacedCell}
 use Rattle.ca_spice.proofs.ReadingLemmas.{names_ended}
 use Rattle.ca_spice.proofs.reading.Reading.ends.Goals as goal
 

@@ -1,8 +1,8 @@
 use Rattle.std.proofs.Common.{◌≡◌, ◌∙◌, sym, subst, ap}
 use Rattle.std.specs.List.{All}
 use Rattle.ca_lex.specs.Words.{words_of, upper_case}
-use Rattle.ca_spice.specs.Names.{texts}
-use Rattle.ca_spice.specs.Kept.{IsUpper}
+use Rattle.ca_spice.specs.code.Names.{texts}
+use Rattle.ca_spice.specs.code.Kept.{IsUpper}
 use Rattle.ca_spice.proofs.UpperLemmas.{words_of-upper}
 use Rattle.ca_spice.proofs.reading.Reading.line.Goals as goal
 

@@ -1,10 +1,10 @@
 use Rattle.std.proofs.Common.{◌≡◌, ◌∙◌, ◌++◌, ◌∷◌, [], List, sym, ap, subst, ℕ}
 use Rattle.std.specs.List.{All}
 use Rattle.std.proofs.lemmas.List.Elements.{All-push}
-use Rattle.ca_spice.specs.SpiceFault.{kind_reported}
-use Rattle.ca_spice.specs.Names.{texts}
-use Rattle.ca_spice.specs.Kept.{IsUpper, names_of}
-use Rattle.ca_spice.specs.Views.{cell_seen, reading_seen}
+use Rattle.ca_spice.specs.code.SpiceFault.{kind_reported}
+use Rattle.ca_spice.specs.code.Names.{texts}
+use Rattle.ca_spice.specs.code.Kept.{IsUpper, names_of}
+use Rattle.ca_spice.specs.code.Views.{cell_seen, reading_seen}
 use Rattle.ca_spice.proofs.ReadingLemmas.{outside_names, named-new, named-fault, handed_on}
 use Rattle.ca_spice.proofs.reading.Reading.named.Goals as goal
 

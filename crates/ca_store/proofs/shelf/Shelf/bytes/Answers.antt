@@ -1,5 +1,6 @@
 use Rattle.std.proofs.Common.{arith, ◌≡◌, ◌+◌, ap, length, drop, refl}
-use Rattle.ca_store.specs.Arena.{Shelved, first_start}
+use Rattle.ca_store.specs.Arena.{Shelved}
+use Rattle.ca_store.specs.code.Arena.{first_start}
 use Rattle.ca_store.proofs.Shelves.{stands_at, length_spans}
 use Rattle.ca_store.proofs.shelf.Shelf.bytes.Goals as goal
 

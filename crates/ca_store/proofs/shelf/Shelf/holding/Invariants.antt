@@ -1,5 +1,5 @@
 use Rattle.std.proofs.Common.{◌≡◌, length, take}
-use Rattle.ca_store.specs.Arena.{files_in, IsLaid}
+use Rattle.ca_store.specs.code.Arena.{files_in, IsLaid}
 use Rattle.ca_store.proofs.shelf.Shelf.holding.Given as goal
 
 abbrev pub invariant-loop-file : goal.invariant-loop-file

@@ -12,7 +12,7 @@ use Rattle.ca_view.specs.Linked.{place_in}
 use Rattle.ca_sim.specs.Seen.{AreNetWaves}
 use Rattle.ca_sweep.specs.Seen.{Swept, IsSeen}
 use Rattle.ca_sweep.specs.Found.{IsFound}
-use Rattle.ca_sweep.specs.Faulty.{AreFlipsOf}
+use Rattle.ca_sweep.specs.code.Faulty.{AreFlipsOf}
 use Rattle.ca_sweep.proofs.FoundLemmas.{found_by, good_lasts, faulty_lasts}
 use Rattle.ca_sweep.proofs.finder.Finder.find.Goals as goal
 

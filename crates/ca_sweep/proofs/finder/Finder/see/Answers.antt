@@ -3,7 +3,7 @@ use Rattle.ca_net.specs.State.{value_at}
 use Rattle.ca_view.specs.Linked.{place_in}
 use Rattle.ca_view.specs.Places.{cell_number}
 use Rattle.ca_sweep.specs.Seen.{Swept, IsSeen}
-use Rattle.ca_sweep.specs.Faulty.{IsFinder}
+use Rattle.ca_sweep.specs.code.Faulty.{IsFinder}
 use Rattle.ca_sweep.proofs.finder.Finder.see.Goals as goal
 
 pub get-requires : goal.get-requires

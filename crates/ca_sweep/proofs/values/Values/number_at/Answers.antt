@@ -4,7 +4,7 @@ use Rattle.ca_cell.specs.declared.raw.RawCell.{RawCell}
 use Rattle.ca_cell.specs.Raw.{is_input, role_count}
 use Rattle.ca_flat.specs.Chip.{net_of, inputs_at}
 use Rattle.ca_flat.specs.Pair.{values_from}
-use Rattle.ca_sweep.specs.Changes.{IsNumberOf}
+use Rattle.ca_sweep.specs.code.Changes.{IsNumberOf}
 use Rattle.ca_sweep.proofs.NumberLemmas.{number_none, number_more_zero, number_more_one, number_small, number_all}
 use Rattle.ca_sweep.proofs.values.Values.number_at.Goals.{in-Zero, in-One}
 use Rattle.ca_sweep.proofs.values.Values.number_at.Goals as goal

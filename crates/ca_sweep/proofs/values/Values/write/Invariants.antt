@@ -1,6 +1,6 @@
 use Rattle.ca_view.specs.Linked.{place_in}
 use Rattle.ca_static.specs.LastTable.{last_at}
-use Rattle.ca_sweep.specs.Changes.{IsWrittenTo}
+use Rattle.ca_sweep.specs.code.Changes.{IsWrittenTo}
 use Rattle.ca_sweep.proofs.values.Values.write.Given as goal
 
 abbrev pub invariant-loop-output : goal.invariant-loop-output

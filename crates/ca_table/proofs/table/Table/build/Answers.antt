@@ -3,7 +3,7 @@ use Rattle.std.specs.List.{All}
 use Rattle.ca_net.specs.Wave.{IsWave}
 use Rattle.ca_cell.specs.declared.raw.RawCell.{RawCell}
 use Rattle.ca_cell.specs.Raw.{is_input, role_count}
-use Rattle.ca_table.specs.Decoding.{pins_at}
+use Rattle.ca_table.specs.code.Decoding.{pins_at}
 use Rattle.ca_table.proofs.GivesLemmas.{gives}
 use Rattle.ca_table.proofs.TableLemmas.{pins_count, pins_are_waves, built_more, built_all, entries_pushed}
 use Rattle.ca_table.proofs.table.Table.build.Goals as goal

@@ -1,5 +1,5 @@
 use Rattle.std.proofs.Common.{arith, ap, ◌∙◌, subst}
-use Rattle.ca_verilog.specs.Kept.{IsOperand}
+use Rattle.ca_verilog.specs.code.Kept.{IsOperand}
 use Rattle.ca_verilog.specs.Netlist.{offset_in}
 use Rattle.ca_verilog.proofs.BitLemmas.{bit_fits}
 use Rattle.ca_verilog.proofs.netlist.Numbers.first_bit.Goals as goal

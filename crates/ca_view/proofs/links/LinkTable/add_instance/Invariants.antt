@@ -1,5 +1,5 @@
 use Rattle.std.proofs.Common.{take}
-use Rattle.ca_view.specs.Links.{Grows, IsLinkOfPins}
+use Rattle.ca_view.specs.code.Links.{Grows, IsLinkOfPins}
 use Rattle.ca_view.proofs.links.LinkTable.add_instance.Given as goal
 
 abbrev pub invariant-loop-from : goal.invariant-loop-from

@@ -1,5 +1,5 @@
 use Rattle.std.proofs.Common.{take}
-use Rattle.ca_view.specs.Links.{Grows, IsLinkToEach}
+use Rattle.ca_view.specs.code.Links.{Grows, IsLinkToEach}
 use Rattle.ca_view.proofs.links.LinkTable.add_to_each.Given as goal
 
 abbrev pub invariant-loop-to : goal.invariant-loop-to

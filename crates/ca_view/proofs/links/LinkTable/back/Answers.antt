@@ -1,5 +1,5 @@
 use Rattle.std.proofs.Common.{arith, refl, replicate, [], List, ℕ}
-use Rattle.ca_view.specs.Links.{turned}
+use Rattle.ca_view.specs.code.Links.{turned}
 use Rattle.ca_view.proofs.LinkLemmas.{first_more, all_links}
 use Rattle.ca_view.proofs.links.LinkTable.back.Goals as goal
 

@@ -1,5 +1,5 @@
 use Rattle.std.proofs.Common.{[], replicate}
-use Rattle.ca_view.specs.Links.{Grows, IsLinkOfFirst, turned}
+use Rattle.ca_view.specs.code.Links.{Grows, IsLinkOfFirst, turned}
 use Rattle.ca_view.proofs.links.LinkTable.back.Given as goal
 
 abbrev pub invariant-loop-instance : goal.invariant-loop-instance

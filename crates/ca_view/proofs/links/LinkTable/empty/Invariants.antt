@@ -1,5 +1,5 @@
 use Rattle.std.proofs.Common.{◌≡◌, [], replicate}
-use Rattle.ca_view.specs.Pins.{items_of}
+use Rattle.ca_view.specs.code.Pins.{items_of}
 use Rattle.ca_view.proofs.links.LinkTable.empty.Given as goal
 
 abbrev pub invariant-loop-net : goal.invariant-loop-net

@@ -1,5 +1,5 @@
 use Rattle.std.proofs.Common.{[], replicate}
-use Rattle.ca_view.specs.Links.{Grows, IsLinkOfFirst}
+use Rattle.ca_view.specs.code.Links.{Grows, IsLinkOfFirst}
 use Rattle.ca_view.proofs.links.LinkTable.onward.Given as goal
 
 abbrev pub invariant-loop-instance : goal.invariant-loop-instance

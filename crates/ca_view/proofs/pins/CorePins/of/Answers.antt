@@ -2,7 +2,7 @@ use Rattle.std.proofs.Common.{sym, ◌∙◌, subst, arith, ℕ}
 use Rattle.std.specs.Prelude.{Vec}
 use Rattle.std.specs.Global.{Global}
 use Rattle.std.proofs.lemmas.List.{length-map}
-use Rattle.ca_view.specs.Pins.{items_of, AreBelow}
+use Rattle.ca_view.specs.code.Pins.{items_of, AreBelow}
 use Rattle.ca_view.proofs.PinLemmas.{inputs_below, outputs_below}
 use Rattle.ca_view.proofs.pins.CorePins.of.Goals as goal
 

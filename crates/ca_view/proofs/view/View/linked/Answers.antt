@@ -1,5 +1,5 @@
 use Rattle.std.proofs.Common.{subst}
-use Rattle.ca_view.specs.View.{IsKept}
+use Rattle.ca_view.specs.code.View.{IsKept}
 use Rattle.ca_view.proofs.ViewLemmas.{shows_core}
 use Rattle.ca_view.proofs.view.View.linked.Goals as goal
 

@@ -1,5 +1,5 @@
 use Rattle.std.proofs.Common.{ℕ, List, ◌∙◌, subst, arith}
-use Rattle.ca_view.specs.Ends.{AreMarked}
+use Rattle.ca_view.specs.code.Ends.{AreMarked}
 use Rattle.ca_view.proofs.EndLemmas.{numbers_cover}
 use Rattle.ca_view.proofs.ViewLemmas.{view_is_kept}
 use Rattle.ca_view.proofs.view.View.new.Goals as goal

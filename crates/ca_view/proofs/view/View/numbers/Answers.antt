@@ -1,5 +1,6 @@
 use Rattle.std.proofs.Common.{ℕ, ◌<◌, length, sym, subst, arith}
-use Rattle.ca_view.specs.View.{Viewed, IsKept}
+use Rattle.ca_view.specs.View.{Viewed}
+use Rattle.ca_view.specs.code.View.{IsKept}
 use Rattle.ca_view.specs.Linked.{IsPlaced, place_in}
 use Rattle.ca_view.specs.Places.{cell_number}
 use Rattle.ca_view.proofs.LinkedLemmas.{number_within}

@@ -3,7 +3,8 @@ use Rattle.std.specs.Prelude.{slice_get, slice_index}
 use Rattle.std.proofs.lemmas.Option.{slice_get_within}
 use Rattle.ca_flat.specs.Chip.{Chip}
 use Rattle.ca_view.specs.Linked.{IsPlaced, IsPlace, place_in}
-use Rattle.ca_view.specs.View.{Viewed, IsKept}
+use Rattle.ca_view.specs.View.{Viewed}
+use Rattle.ca_view.specs.code.View.{IsKept}
 use Rattle.ca_view.proofs.LinkedLemmas.{placed_at, placed_same}
 use Rattle.ca_view.proofs.view.View.order.Goals as goal
 

@@ -1,6 +1,7 @@
 use Rattle.std.proofs.Common.{ℕ, List, sym, ◌∙◌, ap, subst, get_or}
 use Rattle.ca_flat.specs.Chip.{Chip}
-use Rattle.ca_view.specs.View.{Viewed, IsKept}
+use Rattle.ca_view.specs.View.{Viewed}
+use Rattle.ca_view.specs.code.View.{IsKept}
 use Rattle.ca_view.proofs.ViewLemmas.{shows_core}
 use Rattle.ca_view.proofs.view.View.output.Goals as goal
 

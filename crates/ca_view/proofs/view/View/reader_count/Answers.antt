@@ -2,7 +2,8 @@ use Rattle.std.proofs.Common.{◌≡◌, ℕ, List, [], length, ◌∙◌, ap, s
 use Rattle.std.proofs.lemmas.List.{get_or_default}
 use Rattle.ca_flat.specs.Chip.{Chip}
 use Rattle.ca_view.specs.Readers.{row_at}
-use Rattle.ca_view.specs.View.{Viewed, IsKept}
+use Rattle.ca_view.specs.View.{Viewed}
+use Rattle.ca_view.specs.code.View.{IsKept}
 use Rattle.ca_view.proofs.ReaderLemmas.{row_count}
 use Rattle.ca_view.proofs.view.View.reader_count.Goals as goal
 

@@ -1,5 +1,5 @@
 use Rattle.std.proofs.Common.{◌≡◌, ◌+◌, sym, ◌∙◌, subst, arith}
-use Rattle.ca_wiring.specs.Forest.{HasRoot, parent_of}
+use Rattle.ca_wiring.specs.code.Forest.{HasRoot, parent_of}
 use Rattle.ca_wiring.proofs.ForestLemmas.{some_root, below_root, root_itself, shortens_none, shortens_then}
 use Rattle.ca_wiring.proofs.joined.Links.find.Goals as goal
 

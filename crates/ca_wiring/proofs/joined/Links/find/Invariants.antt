@@ -1,5 +1,5 @@
 use Rattle.std.proofs.Common.{◌<◌, length}
-use Rattle.ca_wiring.specs.Forest.{HaveOneRoot, Shortens}
+use Rattle.ca_wiring.specs.code.Forest.{HaveOneRoot, Shortens}
 use Rattle.ca_wiring.proofs.joined.Links.find.Given as goal
 
 abbrev pub invariant-steps : goal.invariant-steps

@@ -1,5 +1,5 @@
 use Rattle.std.proofs.Common.{sym, ◌∙◌, ap, subst, set}
-use Rattle.ca_wiring.specs.Forest.{parent_of, Shortens}
+use Rattle.ca_wiring.specs.code.Forest.{parent_of, Shortens}
 use Rattle.ca_wiring.proofs.ForestLemmas.{halved}
 use Rattle.ca_wiring.proofs.joined.Links.halve.Goals as goal
 

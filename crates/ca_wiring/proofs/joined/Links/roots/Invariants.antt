@@ -1,5 +1,5 @@
 use Rattle.std.proofs.Common.{◌≡◌, length}
-use Rattle.ca_wiring.specs.Forest.{AreRoots}
+use Rattle.ca_wiring.specs.code.Forest.{AreRoots}
 use Rattle.ca_wiring.proofs.joined.Links.roots.Given as goal
 
 abbrev pub invariant-loop-w : goal.invariant-loop-w

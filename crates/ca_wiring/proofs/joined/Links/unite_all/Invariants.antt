@@ -1,4 +1,4 @@
-use Rattle.ca_wiring.specs.Forest.{UnitesFirst}
+use Rattle.ca_wiring.specs.code.Forest.{UnitesFirst}
 use Rattle.ca_wiring.proofs.joined.Links.unite_all.Given as goal
 
 abbrev pub invariant-loop-k : goal.invariant-loop-k

@@ -1,6 +1,6 @@
 use Rattle.std.proofs.Common.{subst}
 use Rattle.ca_wiring.specs.declared.joined.Join.{Join}
-use Rattle.ca_wiring.specs.Forest.{Unites}
+use Rattle.ca_wiring.specs.code.Forest.{Unites}
 use Rattle.ca_wiring.proofs.ForestLemmas.{span_none, span_more}
 use Rattle.ca_wiring.proofs.joined.Links.unite_span.Goals as goal
 

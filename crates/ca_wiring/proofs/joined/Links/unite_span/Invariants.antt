@@ -1,4 +1,4 @@
-use Rattle.ca_wiring.specs.Forest.{UnitesSpan}
+use Rattle.ca_wiring.specs.code.Forest.{UnitesSpan}
 use Rattle.ca_wiring.proofs.joined.Links.unite_span.Given as goal
 
 abbrev pub invariant-loop-step : goal.invariant-loop-step

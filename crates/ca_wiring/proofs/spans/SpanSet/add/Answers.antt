@@ -1,5 +1,5 @@
 use Rattle.std.proofs.Common.{subst}
-use Rattle.ca_wiring.specs.Spans.{IsWith}
+use Rattle.ca_wiring.specs.code.Spans.{IsWith}
 use Rattle.ca_wiring.specs.contracts.joined.SpanPartialEq.TheImpl as same
 use Rattle.ca_wiring.proofs.SpanLemmas.{same_span, with_inserted}
 use Rattle.ca_wiring.proofs.spans.SpanSet.add.Goals as goal

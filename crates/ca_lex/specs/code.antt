@@ -1,0 +1,5 @@
+-- Words of the code: what its invariants and private contracts say. No public claim rests on them.
+pub mod Words
+pub mod Joining
+pub mod LengthViews
+pub mod Reading

@@ -1,0 +1,6 @@
+-- Words of the code: what its invariants and private contracts say. No public claim rests on them.
+pub mod Matrix
+pub mod Fields
+pub mod Filled
+pub mod Rooms
+pub mod Single

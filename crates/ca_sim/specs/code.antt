@@ -1,0 +1,10 @@
+-- Words of the code: what its invariants and private contracts say. No public claim rests on them.
+pub mod Simulator
+pub mod Current
+pub mod Changes
+pub mod Marking
+pub mod Network
+pub mod Networks
+pub mod Cache
+pub mod Cells
+pub mod Kept

@@ -1,0 +1,36 @@
+-- What the reader keeps of a subcircuit's nets and devices.
+use Rattle.std.specs.Prelude.{ℕ, ◌≡◌, ◌<◌, ◌≤◌, ◌^◌, true, List, length, map}
+use Rattle.std.specs.List.{All}
+use Rattle.ca_lex.specs.Words.{upper_case}
+use Rattle.ca_cell.specs.declared.raw.RawDevice.{RawDevice}
+use Rattle.ca_cell.specs.declared.raw.RawCell.{RawCell}
+use Rattle.ca_cell.specs.Rules.{PlacesWithin}
+use Rattle.ca_spice.specs.declared.subcircuit.Subcircuit.{Subcircuit}
+use Rattle.ca_spice.specs.Mos.{strength_of}
+use Rattle.ca_spice.specs.code.Mos.{has_gate}
+
+-- the device has the strength that its width and length give it
+abbrev pub HasOwnStrength : RawDevice → Type 0
+HasOwnStrength device = device.strength ≡ strength_of device.width.0 device.length.0
+
+-- there are at least as many nets as pins, terminals are places among the nets, and each device has a gate and
+-- the strength of its sizes
+pub record IsPlaced (pins : ℕ) (nets : List (List ℕ)) (devices : List RawDevice) : Type 0 where
+  pub few_nets : length nets < 2 ^ 32
+  pub few_devices : length devices < 2 ^ 32
+  pub pins_within : pins ≤ length nets
+  pub places : All (PlacesWithin (length nets)) devices
+  pub strengths : All HasOwnStrength devices
+  pub gated : All (λ device. has_gate device.kind ≡ true) devices
+
+-- the same of a subcircuit
+abbrev pub IsPlacedCell : RawCell → Type 0
+IsPlacedCell raw = IsPlaced (length raw.pins) raw.nets raw.devices
+
+-- the name's letters are in upper case
+abbrev pub IsUpper : List ℕ → Type 0
+IsUpper name = upper_case name ≡ name
+
+-- the names of subcircuits
+abbrev pub names_of : List Subcircuit → List (List ℕ)
+names_of cells = map (λ cell. cell.name) cells

@@ -1,0 +1,6 @@
+-- Words of the code: what its invariants and private contracts say. No public claim rests on them.
+pub mod Found
+pub mod Cells
+pub mod Changes
+pub mod Kept
+pub mod Faulty

@@ -1,0 +1,57 @@
+-- What only proofs of code cite: marks of instances that are clear and pass flips on, and what a sweep keeps.
+use Rattle.std.specs.Prelude.{ℕ, ◌^◌, ◌≡◌, ◌≢◌, ◌<◌, Bool, true, false, List, length, slice_index_or, Option}
+use Rattle.ca_net.specs.declared.trit.Trit.{Trit}
+use Rattle.ca_net.specs.declared.trit.Trit.TheVariants.{X}
+use Rattle.ca_net.specs.declared.wave.Wave.{Wave}
+use Rattle.ca_net.specs.State.{value_at}
+use Rattle.ca_flat.specs.Chip.{Chip, cell_at, inputs_at, net_of, output_net, count_of}
+use Rattle.ca_flips.specs.Static.{IsStatic}
+use Rattle.ca_view.specs.Linked.{Reads}
+use Rattle.ca_sweep.specs.declared.values.Values.{Values}
+use Rattle.ca_sweep.specs.Seen.{IsClear}
+use Rattle.ca_sweep.specs.code.Cells.{AreTables, IsOrder}
+use Rattle.ca_sweep.specs.code.Changes.{AreRoomy}
+
+-- the values of the instance's input nets are definite
+abbrev pub AreDefinitePins : Chip → (ℕ → Trit) → ℕ → Type 0
+AreDefinitePins chip goods w = (pin : ℕ) → pin < inputs_at chip w → goods (net_of chip w pin) ≢ X
+
+-- a flip of an input net passes the instance on by last values alone: its cell is static, its input nets have
+-- definite values, and it is clear
+pub record IsPassing (chip : Chip) (goods : ℕ → Trit) (w : ℕ) : Type 0 where
+  pub cell_static : IsStatic (cell_at chip w)
+  pub pins : AreDefinitePins chip goods w
+  pub clear : IsClear chip goods w
+
+-- whether the instance is marked
+abbrev pub is_marked : List Bool → ℕ → Bool
+is_marked marks u = slice_index_or marks u false
+
+-- all that read the net are marked
+abbrev pub AreReadersMarked : Chip → List Bool → ℕ → Type 0
+AreReadersMarked chip marks net = (w : ℕ) → Reads chip w net → is_marked marks w ≡ true
+
+-- the value of each output net is definite, and all that read one are marked
+abbrev pub AreOutputsClear : Chip → (ℕ → Trit) → List Bool → ℕ → ℕ → Type 0
+AreOutputsClear chip goods marks u count =
+    (output : ℕ) → output < count → (goods (output_net chip u output) ≢ X)
+    × AreReadersMarked chip marks (output_net chip u output)
+
+-- a mark for each instance; what is marked has the property
+pub record AreMarks (chip : Chip) (P : ℕ → Type 0) (marks : List Bool) : Type 0 where
+  pub room : length marks ≡ count_of chip
+  pub each : (u : ℕ) → is_marked marks u ≡ true → P u
+
+-- the nets of the observed outputs, the tables of the cells, the instances by their places, a value for each
+-- net, and which instances are clear
+pub record IsKept (chip : Chip) (place_of number_of : ℕ → ℕ) (outputs : List ℕ)
+    (tables : List (Option (List (List Wave)))) (order : List (Option ℕ)) (lasts : List Trit)
+    (clear passing : List Bool) (values : Values) : Type 0 where
+  pub outputs_are : outputs ≡ chip.outputs
+  pub few : length outputs < 2 ^ 32
+  pub tables_are : AreTables chip place_of number_of tables
+  pub order_is : IsOrder chip place_of order
+  pub nets : length lasts ≡ length chip.nets
+  pub clear_are : AreMarks chip (IsClear chip (value_at lasts)) clear
+  pub passing_are : length passing ≡ count_of chip
+  pub room : AreRoomy chip values

@@ -1,0 +1,6 @@
+-- Words of the code: what its invariants and private contracts say. No public claim rests on them.
+pub mod Constants
+pub mod Pins
+pub mod Links
+pub mod Ends
+pub mod View
