@@ -22,8 +22,8 @@ use Rattle.ca_view.specs.NetLists.{NetLists}
 use Rattle.ca_search.specs.declared.trail.Outcome.{Outcome}
 use Rattle.ca_search.specs.Judged.{IsSameAim}
 use Rattle.ca_search.specs.Outcome.{IsOutcome}
-use Rattle.ca_judge.specs.Bench.{judged_of}
-use Rattle.ca_judge.specs.Bench as judge
+use Rattle.ca_judge.specs.ChipJudge.{judged_of}
+use Rattle.ca_judge.specs.ChipJudge as judge
 use Rattle.ca_credit.specs.Defects.{IsSearchable}
 use Rattle.ca_credit.specs.Detection.{IsNetEnd, AreDetectedAlike}
 use Rattle.ca_generate.specs.Outcome.{IsSearch}

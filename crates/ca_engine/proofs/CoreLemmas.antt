@@ -6,7 +6,7 @@ use Rattle.ca_linked.specs.Linked.{IsWired}
 use Rattle.ca_core.specs.Core.{core_of}
 use Rattle.ca_flatten.specs.Few.{IsFew}
 use Rattle.ca_flatten.specs.Laws.{FlatIsWellFormed}
-use Rattle.ca_judge.specs.Bench.{CanBeJudged}
+use Rattle.ca_judge.specs.ChipJudge.{CanBeJudged}
 use Rattle.ca_credit.specs.Defects.{Task}
 use Rattle.ca_view.specs.View.{Viewed, IsViewOf}
 

@@ -18,7 +18,7 @@ use std::marker::Model;
 /// is taken by `reserve`.
 #[derive(Drop)]
 pub(crate) struct FlipBench<'a, R: ExposingRows, P: Choice + Drop> {
-    judge: ca_judge::Bench<'a, R, P>,
+    judge: ca_judge::ChipJudge<'a, R, P>,
     finder: Finder<'a>,
     is_loaded: bool,
 }
@@ -45,7 +45,7 @@ impl<'a, R: ExposingRows, P: Choice + Drop> FlipBench<'a, R, P> {
     ghost use Rattle.ca_view.specs.Linked.{IsAim, IsPlacedDefect, place_in};
     ghost use Rattle.ca_sim.specs.Seen.{IsExact, aimed_anew};
     ghost use Rattle.ca_sim.specs.Simulator.{IsFresh, KeepsAim, KeepsPair, KeepsSeen, counted_up};
-    ghost use Rattle.ca_judge.specs.Bench.{CanBeJudged};
+    ghost use Rattle.ca_judge.specs.ChipJudge.{CanBeJudged};
     ghost use Rattle.ca_sweep.specs.Found.{IsFound};
 
     /// Takes all memory. No bit is set, and no defect is aimed at.
@@ -63,7 +63,7 @@ impl<'a, R: ExposingRows, P: Choice + Drop> FlipBench<'a, R, P> {
         ensures { IfOk result (IsFresh view.now.core view.now.ranks) }
     {
         let finder = Finder::reserve(alloc, view, outputs)?;
-        let judge = ca_judge::Bench::reserve(alloc, view, rows, choice)?;
+        let judge = ca_judge::ChipJudge::reserve(alloc, view, rows, choice)?;
         Ok(FlipBench {
             judge,
             finder,
@@ -165,7 +165,7 @@ impl<R: ExposingRows, P: Choice + Drop> NetWaves for FlipBench<'_, R, P> {
 }
 
 impl<R: ExposingRows, P: Choice + Drop> Judge for FlipBench<'_, R, P> {
-    ghost use Rattle.ca_judge.specs.Bench.{judged_of};
+    ghost use Rattle.ca_judge.specs.ChipJudge.{judged_of};
 
     ghost judged = { λ bench. judged_of bench.seen };
 

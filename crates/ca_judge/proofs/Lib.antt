@@ -3,5 +3,5 @@ pub mod StandingLemmas
 pub mod SeenLemmas
 pub mod StepLemmas
 pub mod OutputLemmas
-pub mod BenchLemmas
+pub mod JudgeLemmas
 pub mod ScreenLemmas

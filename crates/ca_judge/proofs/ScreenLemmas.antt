@@ -17,7 +17,7 @@ use Rattle.ca_guide.specs.PinRows.{IsNoneAllowed, IsSomeAllowed}
 use Rattle.ca_guide.specs.Guide.{Guided}
 use Rattle.ca_guide.proofs.GuideLemmas.{none_rules_out, some_is_allowed}
 use Rattle.ca_sim.specs.Seen.{Seen, IsExact}
-use Rattle.ca_judge.specs.code.Bench.{IsBench}
+use Rattle.ca_judge.specs.code.ChipJudge.{IsChipJudge}
 
 -- where the rows rule a pair out, it shows nothing
 rows_show_nothing : (chip : Chip) (rank : ℕ → ℕ) (defect : ChipDefect) (pair : List Trit) → IsFlatChip chip rank defect
@@ -33,7 +33,7 @@ rows_show_nothing chip rank defect pair is good rule shown =
     (rule.steady (fill chip u first) (fill_above chip u first))
 
 module _ (seen : Seen) (chip : Chip) (lists : NetLists) (rows_chip : Chip) (guide_is : Guided) (outputs : List ℕ)
-    (aim : Option ChipDefect) (is : IsBench seen.chip seen.aim chip lists rows_chip guide_is outputs aim) (exact : IsExact seen)
+    (aim : Option ChipDefect) (is : IsChipJudge seen.chip seen.aim chip lists rows_chip guide_is outputs aim) (exact : IsExact seen)
     (defect : ChipDefect) (in_chip : IsDefectIn seen.chip defect) where
   flat_chip : IsFlatChip seen.chip is.rank defect
   flat_chip = record {

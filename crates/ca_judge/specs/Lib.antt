@@ -1,3 +1,3 @@
 pub mod GuideSeen
-pub mod Bench
+pub mod ChipJudge
 pub mod code

@@ -1,4 +1,4 @@
 -- Words of the code: what its invariants and private contracts say. No public claim rests on them.
 pub mod Ends
 pub mod Outputs
-pub mod Bench
+pub mod ChipJudge

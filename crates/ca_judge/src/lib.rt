@@ -1,10 +1,10 @@
 //! The simulator and the guide as one: the judge that a search asks.
 #![tactic(auto)]
 
-mod bench;
+mod chip_judge;
 mod guide_waves;
 mod outputs;
 mod standing;
 
-pub use bench::Bench;
+pub use chip_judge::ChipJudge;
 pub use ca_flat::ExposingRows;

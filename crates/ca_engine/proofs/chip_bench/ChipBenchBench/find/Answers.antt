@@ -2,7 +2,7 @@ use Rattle.std.proofs.Common.{◌≡◌, ◌≤◌, Some, subst}
 use Rattle.ca_flat.specs.declared.chip_defect.ChipDefect.{ChipDefect}
 use Rattle.ca_flat.specs.Codes.{branch_count}
 use Rattle.ca_search.specs.Outcome.{IsOutcome}
-use Rattle.ca_judge.specs.Bench.{judged_of}
+use Rattle.ca_judge.specs.ChipJudge.{judged_of}
 use Rattle.ca_generate.specs.Outcome.{IsSearch}
 use Rattle.ca_engine.specs.ChipBench.{Benched}
 use Rattle.ca_engine.proofs.BenchLemmas.{search_ends}

@@ -2,10 +2,10 @@ use Rattle.std.proofs.Common.{◌<◌, length, sym, subst}
 use Rattle.std.specs.Prelude.{IsSome}
 use Rattle.std.specs.List.{All}
 use Rattle.ca_search.specs.Judged.{IsStanding}
-use Rattle.ca_judge.specs.Bench.{judged_of}
+use Rattle.ca_judge.specs.ChipJudge.{judged_of}
 use Rattle.ca_judge.specs.code.Ends.{LooksSo}
-use Rattle.ca_judge.proofs.BenchLemmas.{outputs_within, bench_stands}
-use Rattle.ca_judge.proofs.bench.BenchJudge.standing.Goals as goal
+use Rattle.ca_judge.proofs.JudgeLemmas.{outputs_within, judge_stands}
+use Rattle.ca_judge.proofs.chip_judge.ChipJudgeJudge.standing.Goals as goal
 
 pub standing-requires : goal.standing-requires
 standing-requires g c =
@@ -19,5 +19,5 @@ returns g c =
     let looks = subst (λ outputs. LooksSo inside.sim.seen outputs c.standing.result) c.deref.ensures.value
     c.standing.ensures in
     subst (λ sim. IsStanding (judged_of sim.seen) c.standing.result) c.self.view_is
-    (bench_stands inside.sim.seen _ _ _ _ inside.outputs.items _ c.self.invariant c.exact.ensures some
+    (judge_stands inside.sim.seen _ _ _ _ inside.outputs.items _ c.self.invariant c.exact.ensures some
     c.standing.result looks)

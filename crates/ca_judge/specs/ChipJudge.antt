@@ -1,4 +1,4 @@
--- What a bench is built on, and what it keeps.
+-- What a judge is built on, and what it keeps.
 use Rattle.std.specs.Prelude.{◌≤◌, None, Some}
 use Rattle.ca_net.specs.Circuit.{IsWellFormed}
 use Rattle.ca_flat.specs.declared.chip_defect.ChipDefect.{ChipDefect}

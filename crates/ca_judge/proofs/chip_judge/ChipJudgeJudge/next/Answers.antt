@@ -1,9 +1,9 @@
 use Rattle.std.proofs.Common.{◌∙◌, sym, subst}
 use Rattle.ca_flat.specs.Rows.{ListsExposingRows}
 use Rattle.ca_search.specs.Judged.{IsOpenFor, IsStep}
-use Rattle.ca_judge.specs.Bench.{judged_of}
-use Rattle.ca_judge.proofs.BenchLemmas.{asks, bench_steps}
-use Rattle.ca_judge.proofs.bench.BenchJudge.next.Goals as goal
+use Rattle.ca_judge.specs.ChipJudge.{judged_of}
+use Rattle.ca_judge.proofs.JudgeLemmas.{asks, judge_steps}
+use Rattle.ca_judge.proofs.chip_judge.ChipJudgeJudge.next.Goals as goal
 
 pub next-requires-clause-support : goal.next-requires-clause-support
 next-requires-clause-support g c =
@@ -27,5 +27,5 @@ returns-in-Some-clause-step g c =
     let inside = c.self.inside in
     let is_open = subst (λ sim. IsOpenFor sim.seen.chip sim.seen.aim sim.seen.pair) (sym c.self.view_is) c.requires in
     subst (λ sim. IsStep (judged_of sim.seen) c.next.result) c.self.view_is
-    (bench_steps inside.sim.seen _ _ _ _ _ _ c.self.invariant c.exact.ensures c.in-Some.defect c.in-Some.is
+    (judge_steps inside.sim.seen _ _ _ _ _ _ c.self.invariant c.exact.ensures c.in-Some.defect c.in-Some.is
     is_open c.next.result c.next.ensures.step)

@@ -1,7 +1,7 @@
 use Rattle.std.proofs.Common.{sym, subst}
 use Rattle.ca_view.specs.Linked.{IsAim, place_in}
-use Rattle.ca_judge.proofs.BenchLemmas.{aim_in_chip}
-use Rattle.ca_judge.proofs.bench.Bench.aim.Goals as goal
+use Rattle.ca_judge.proofs.JudgeLemmas.{aim_in_chip}
+use Rattle.ca_judge.proofs.chip_judge.ChipJudge.aim.Goals as goal
 
 pub guide_to-requires-clause-defect : goal.guide_to-requires-clause-defect
 guide_to-requires-clause-defect g c =

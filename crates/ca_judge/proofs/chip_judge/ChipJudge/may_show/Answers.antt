@@ -6,7 +6,7 @@ use Rattle.ca_flat.specs.Waves.{FlatWaves}
 use Rattle.ca_guide.specs.PinRows.{IsNoneAllowed, IsSomeAllowed}
 use Rattle.ca_sim.specs.Simulator.{Simulator}
 use Rattle.ca_judge.proofs.ScreenLemmas.{none_shows, some_allows}
-use Rattle.ca_judge.proofs.bench.Bench.may_show.Goals as goal
+use Rattle.ca_judge.proofs.chip_judge.ChipJudge.may_show.Goals as goal
 
 pub returns-clause-not_shown : goal.returns-clause-not_shown
 returns-clause-not_shown g c denied shown =

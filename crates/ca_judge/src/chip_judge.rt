@@ -3,7 +3,7 @@
 ghost use Rattle.std.specs.Prelude.{◌≡◌, length, IfOk};
 ghost use Rattle.ca_flat.specs.Chip.{IsChipDefect};
 ghost use Rattle.ca_guide.specs.Guide.{HasRoomFor};
-ghost use Rattle.ca_judge.specs.code.Bench.{IsGuidedTo};
+ghost use Rattle.ca_judge.specs.code.ChipJudge.{IsGuidedTo};
 
 use crate::guide_waves::GuideWaves;
 use crate::outputs::observed_nets;
@@ -32,7 +32,7 @@ fn guide_to(guide: &mut Guide, view: &View<'_>, defect: Option<ChipDefect>)
 
 /// A simulator of a chip, and the guide of the defect that is aimed at. All memory is taken by `reserve`.
 #[derive(Drop)]
-pub struct Bench<'a, R: ExposingRows, P: Choice + Drop> {
+pub struct ChipJudge<'a, R: ExposingRows, P: Choice + Drop> {
     sim: Sim<'a>,
     view: &'a View<'a>,
     rows: &'a R,
@@ -43,19 +43,19 @@ pub struct Bench<'a, R: ExposingRows, P: Choice + Drop> {
     defect: Option<ChipDefect>,
 }
 
-impl<'a, R: ExposingRows, P: Choice + Drop> Model for Bench<'a, R, P> {
+impl<'a, R: ExposingRows, P: Choice + Drop> Model for ChipJudge<'a, R, P> {
     ghost use Rattle.ca_sim.specs.Simulator.{Simulator};
-    ghost use Rattle.ca_judge.specs.code.Bench.{IsBench};
+    ghost use Rattle.ca_judge.specs.code.ChipJudge.{IsChipJudge};
 
     ghost Value = { Simulator };
 
-    ghost view = { λ bench. bench.sim };
+    ghost view = { λ judge. judge.sim };
 
-    ghost invariant = { λ bench. IsBench bench.sim.seen.chip bench.sim.seen.aim bench.view.now.core
-        bench.view.now.lists (R.chip bench.rows.now) bench.guide bench.outputs.items bench.defect };
+    ghost invariant = { λ judge. IsChipJudge judge.sim.seen.chip judge.sim.seen.aim judge.view.now.core
+        judge.view.now.lists (R.chip judge.rows.now) judge.guide judge.outputs.items judge.defect };
 }
 
-impl<'a, R: ExposingRows, P: Choice + Drop> Bench<'a, R, P> {
+impl<'a, R: ExposingRows, P: Choice + Drop> ChipJudge<'a, R, P> {
     ghost use Rattle.std.specs.Prelude.{IsFalse, IsTrue, None};
     ghost use Rattle.ca_flat.specs.Chip.{IsDefectIn};
     ghost use Rattle.ca_flat.specs.RuleOut.{RowsRuleOut};
@@ -65,10 +65,10 @@ impl<'a, R: ExposingRows, P: Choice + Drop> Bench<'a, R, P> {
     ghost use Rattle.ca_view.specs.Linked.{IsAim, IsPlacedDefect, place_in};
     ghost use Rattle.ca_sim.specs.Seen.{IsExact, aimed_anew};
     ghost use Rattle.ca_sim.specs.Simulator.{IsFresh, KeepsAim, KeepsPair, KeepsSeen, counted_up};
-    ghost use Rattle.ca_judge.specs.Bench.{CanBeJudged};
+    ghost use Rattle.ca_judge.specs.ChipJudge.{CanBeJudged};
 
     /// Takes all memory. No bit is set, and no defect is aimed at.
-    #[tactic(auto, using(crate::proofs::BenchLemmas::bench_begins, crate::proofs::BenchLemmas::few_onward))]
+    #[tactic(auto, using(crate::proofs::JudgeLemmas::judge_begins, crate::proofs::JudgeLemmas::few_onward))]
     pub fn reserve(
         alloc: Global,
         view: &'a View<'a>,
@@ -84,7 +84,7 @@ impl<'a, R: ExposingRows, P: Choice + Drop> Bench<'a, R, P> {
         let outputs = observed_nets(alloc, view)?;
         let guide = Guide::reserve(alloc, view)?;
         let sim = Sim::reserve(alloc, view)?;
-        Ok(Bench {
+        Ok(ChipJudge {
             sim,
             view,
             rows,
@@ -96,7 +96,7 @@ impl<'a, R: ExposingRows, P: Choice + Drop> Bench<'a, R, P> {
     }
 
     /// Aims at a defect, or at none. The bits stay.
-    #[tactic(auto, using(crate::proofs::BenchLemmas::bench_aims))]
+    #[tactic(auto, using(crate::proofs::JudgeLemmas::judge_aims))]
     pub fn aim(&mut self, defect: Option<ChipDefect>)
         requires { IsAim self.old.seen.chip (place_in self.old.seen.places) defect }
         ensures aim { self.new.seen.aim ≡ defect }
@@ -156,8 +156,8 @@ impl<'a, R: ExposingRows, P: Choice + Drop> Bench<'a, R, P> {
     }
 }
 
-impl<R: ExposingRows, P: Choice + Drop> NetWaves for Bench<'_, R, P> {
-    ghost seen = { λ bench. bench.seen };
+impl<R: ExposingRows, P: Choice + Drop> NetWaves for ChipJudge<'_, R, P> {
+    ghost seen = { λ judge. judge.seen };
 
     fn good(&self, net: usize) -> Wave {
         self.sim.good(net)
@@ -176,10 +176,10 @@ impl<R: ExposingRows, P: Choice + Drop> NetWaves for Bench<'_, R, P> {
     }
 }
 
-impl<R: ExposingRows, P: Choice + Drop> Judge for Bench<'_, R, P> {
-    ghost use Rattle.ca_judge.specs.Bench.{judged_of};
+impl<R: ExposingRows, P: Choice + Drop> Judge for ChipJudge<'_, R, P> {
+    ghost use Rattle.ca_judge.specs.ChipJudge.{judged_of};
 
-    ghost judged = { λ bench. judged_of bench.seen };
+    ghost judged = { λ judge. judged_of judge.seen };
 
     fn bit_count(&self) -> usize {
         2 * self.view.inputs().len()

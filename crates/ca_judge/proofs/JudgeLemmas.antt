@@ -1,4 +1,4 @@
--- What the fields of a bench keep.
+-- What the fields of a judge keep.
 use Rattle.std.proofs.Common.{◌≡◌, ◌↔◌, ◌<◌, ◌^◌, ℕ, List, length, true, false, Option, None, Some, sym, ◌∙◌}
 use Rattle.std.proofs.Common.{ap, subst, arith}
 use Rattle.std.specs.Prelude.{slice_index_or, IsSome}
@@ -26,20 +26,20 @@ use Rattle.ca_search.specs.Judged.{with_pair, IsStanding, IsStep, IsOpenFor}
 use Rattle.ca_judge.specs.code.Ends.{LooksSo}
 use Rattle.ca_judge.specs.code.Outputs.{AreObservedBelow}
 use Rattle.ca_judge.specs.GuideSeen.{guide_seen}
-use Rattle.ca_judge.specs.Bench.{CanBeJudged, judged_of}
-use Rattle.ca_judge.specs.code.Bench.{IsBench, IsGuidedTo}
+use Rattle.ca_judge.specs.ChipJudge.{CanBeJudged, judged_of}
+use Rattle.ca_judge.specs.code.ChipJudge.{IsChipJudge, IsGuidedTo}
 use Rattle.ca_judge.proofs.StandingLemmas.{SeesBoth, StandsSo, stands_so}
 use Rattle.ca_judge.proofs.StepLemmas.{IsSearchStep, search_step}
 use Rattle.ca_judge.proofs.SeenLemmas.{pair_again, bits_count, shows_pair}
 
--- the bench is kept where the chip and the defect stay
-pub bench_kept : (old new : Simulator) (chip : Chip) (lists : NetLists) (rows_chip : Chip) (guided : Guided)
+-- the judge is kept where the chip and the defect stay
+pub judge_kept : (old new : Simulator) (chip : Chip) (lists : NetLists) (rows_chip : Chip) (guided : Guided)
     (outputs : List ℕ) (defect : Option ChipDefect) → KeepsAim old new
-    → IsBench old.seen.chip old.seen.aim chip lists rows_chip guided outputs defect
-    → IsBench new.seen.chip new.seen.aim chip lists rows_chip guided outputs defect
-bench_kept old new chip lists rows_chip guided outputs defect keeps is =
-    subst (λ c. IsBench c new.seen.aim chip lists rows_chip guided outputs defect) (sym keeps.chip.chip)
-    (subst (λ a. IsBench old.seen.chip a chip lists rows_chip guided outputs defect) (sym keeps.aim) is)
+    → IsChipJudge old.seen.chip old.seen.aim chip lists rows_chip guided outputs defect
+    → IsChipJudge new.seen.chip new.seen.aim chip lists rows_chip guided outputs defect
+judge_kept old new chip lists rows_chip guided outputs defect keeps is =
+    subst (λ c. IsChipJudge c new.seen.aim chip lists rows_chip guided outputs defect) (sym keeps.chip.chip)
+    (subst (λ a. IsChipJudge old.seen.chip a chip lists rows_chip guided outputs defect) (sym keeps.aim) is)
 
 -- what a search is given changes with the pair alone
 pub judged_kept : (old new : Simulator) (pair : List Trit) → new.seen.pair ≡ pair → KeepsAim old new
@@ -62,7 +62,7 @@ pub record IsAsked (chip : Chip) (lists : NetLists) (guide_is : Guided) (d : Chi
   pub is_open : IsOpenPair chip d (guide.pair_of (guide_seen seen))
 
 module _ (seen : Seen) (chip : Chip) (lists : NetLists) (rows_chip : Chip) (guide_is : Guided) (outputs : List ℕ)
-    (defect : Option ChipDefect) (is : IsBench seen.chip seen.aim chip lists rows_chip guide_is outputs defect) where
+    (defect : Option ChipDefect) (is : IsChipJudge seen.chip seen.aim chip lists rows_chip guide_is outputs defect) where
   -- the outputs are those of the chip
   outputs_of : (net : ℕ) → Contains outputs net ↔ Contains seen.chip.outputs net
   outputs_of net = (
@@ -114,9 +114,9 @@ module _ (seen : Seen) (chip : Chip) (lists : NetLists) (rows_chip : Chip) (guid
     stands_for (Some d) e some standing looks = so_standing d standing
         (stands_so is.rank d seen (sees_both d e) outputs outputs_of (λ net at. is.chip_is.observed net at) standing looks)
 
-    pub bench_stands : IsSome seen.aim → (standing : Standing) → LooksSo seen outputs standing
+    pub judge_stands : IsSome seen.aim → (standing : Standing) → LooksSo seen outputs standing
         → IsStanding (judged_of seen) standing
-    bench_stands some standing looks = stands_for seen.aim (sym is.aim_is) some standing looks
+    judge_stands some standing looks = stands_for seen.aim (sym is.aim_is) some standing looks
 
     -- what the guide asks
     pub asks : (d : ChipDefect) → defect ≡ Some d → IsOpenFor seen.chip seen.aim seen.pair
@@ -141,10 +141,10 @@ module _ (seen : Seen) (chip : Chip) (lists : NetLists) (rows_chip : Chip) (guid
     so_step d (Branch bit first) so = so
     so_step d RuledOut so = so
 
-    pub bench_steps : (d : ChipDefect) → defect ≡ Some d → IsOpenFor seen.chip seen.aim seen.pair → (step : Step)
+    pub judge_steps : (d : ChipDefect) → defect ≡ Some d → IsOpenFor seen.chip seen.aim seen.pair → (step : Step)
         → (ShowsPair chip d (guide_seen seen) → guided.IsStep chip d (guide.pair_of (guide_seen seen)) step)
         → IsStep (judged_of seen) step
-    bench_steps d e is_open step each =
+    judge_steps d e is_open step each =
         let aimed : seen.aim ≡ Some d = is.aim_is ∙ e in
         let sees = sees_both d e in
         let at_core = subst (λ c. ShowsPair c d (guide_seen seen)
@@ -160,14 +160,14 @@ module _ (seen : Seen) (chip : Chip) (lists : NetLists) (rows_chip : Chip) (guid
     pub open_aims : defect ≡ None → IsOpenFor seen.chip seen.aim seen.pair → ⊥
     open_aims e is_open = subst (λ a. IsOpenFor seen.chip a seen.pair) (is.aim_is ∙ e) is_open
 
--- a bench begins without a defect
-pub bench_begins : (core : Chip) (places : List ℕ) (number_of : ℕ → ℕ) (sim : Simulator) (chip : Chip)
+-- a judge begins without a defect
+pub judge_begins : (core : Chip) (places : List ℕ) (number_of : ℕ → ℕ) (sim : Simulator) (chip : Chip)
     (lists : NetLists) (rows_chip : Chip) (guide_is : Guided) (outputs : List ℕ) → IsFresh core places sim
     → IsLinked core (place_in places) number_of → CanBeJudged core → chip ≡ core → AreNetsOf core lists → rows_chip ≡ core
     → HasRoomFor lists guide_is → AreObservedBelow lists.observed (length lists.onward) outputs
-    → IsBench sim.seen.chip sim.seen.aim chip lists rows_chip guide_is outputs None
-bench_begins core places number_of sim chip lists rows_chip guide_is outputs fresh linked judged one nets same room are =
-    subst (λ c. IsBench c sim.seen.aim chip lists rows_chip guide_is outputs None) (sym fresh.chip_is) (record {
+    → IsChipJudge sim.seen.chip sim.seen.aim chip lists rows_chip guide_is outputs None
+judge_begins core places number_of sim chip lists rows_chip guide_is outputs fresh linked judged one nets same room are =
+    subst (λ c. IsChipJudge c sim.seen.aim chip lists rows_chip guide_is outputs None) (sym fresh.chip_is) (record {
       judged = judged;
       same = one;
       nets = nets;
@@ -191,13 +191,13 @@ aim_in_chip core chip place_of None same aim = tt
 aim_in_chip core chip place_of (Some d) same aim = subst (λ c. IsDefectIn c d) (sym same) aim.defect_is
 
 -- another defect is aimed at
-pub bench_aims : (old new : Simulator) (chip : Chip) (lists : NetLists) (rows_chip : Chip)
+pub judge_aims : (old new : Simulator) (chip : Chip) (lists : NetLists) (rows_chip : Chip)
     (guide_is guide_new : Guided) (outputs : List ℕ) (before defect : Option ChipDefect)
-    → IsBench old.seen.chip old.seen.aim chip lists rows_chip guide_is outputs before → KeepsPair old new
+    → IsChipJudge old.seen.chip old.seen.aim chip lists rows_chip guide_is outputs before → KeepsPair old new
     → new.seen.aim ≡ defect → HasRoomFor lists guide_new → IsGuidedTo chip guide_new defect
-    → IsBench new.seen.chip new.seen.aim chip lists rows_chip guide_new outputs defect
-bench_aims old new chip lists rows_chip guide_is guide_new outputs before defect is keeps aimed room guided_to =
-    subst (λ c. IsBench c new.seen.aim chip lists rows_chip guide_new outputs defect) (sym keeps.chip.chip) (record {
+    → IsChipJudge new.seen.chip new.seen.aim chip lists rows_chip guide_new outputs defect
+judge_aims old new chip lists rows_chip guide_is guide_new outputs before defect is keeps aimed room guided_to =
+    subst (λ c. IsChipJudge c new.seen.aim chip lists rows_chip guide_new outputs defect) (sym keeps.chip.chip) (record {
       judged = is.judged;
       same = is.same;
       nets = is.nets;
