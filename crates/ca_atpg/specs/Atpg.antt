@@ -14,7 +14,8 @@ use Rattle.ca_chip_report.specs.Summary as summary
 use Rattle.ca_engine.specs.ChipTask.{task_of}
 
 -- the text of these pairs and of what the good chip ends with under each
-pub record IsStil (chip : LinkedChip) (chains : List (List ℕ)) (pairs : List (List Bool)) (text : List ℕ) : Type 0
+pub record IsStil (chip : LinkedChip) (chains : List (List ℕ)) (pairs : List (List Bool))
+    (text : List ℕ) : Type 0
   where
     pub expected : List (List Trit)
     pub are_expected : AreExpected (core_of chip) pairs expected

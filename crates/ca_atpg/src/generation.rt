@@ -19,11 +19,11 @@ use ca_expected::{Expected, expected};
 use ca_generate::{Aims, GenerateFault, Generated, Watch};
 use ca_guide::LowestUnset;
 use ca_lex::Text;
+use ca_linked::Chip;
 use ca_pair::Pairs;
 use ca_rows::ChipRows;
 use ca_scan::Chains;
 use ca_view::View;
-use ca_linked::Chip;
 use std::alloc::Global;
 
 /// The listed pairs, for each the place of the defect for which it was found, a verdict for each defect, and

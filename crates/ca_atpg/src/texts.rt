@@ -18,10 +18,10 @@ use ca_credit::Verdicts;
 use ca_engine::chip_defects;
 use ca_expected::Expected;
 use ca_lex::Text;
+use ca_linked::Chip;
 use ca_pair::Pairs;
 use ca_scan::Chains;
 use ca_view::View;
-use ca_linked::Chip;
 use std::alloc::Global;
 
 /// The text of the patterns.

@@ -8,12 +8,12 @@ ghost use Rattle.ca_verilog.specs.IsNetlist.{IsNetlist};
 use crate::described::described;
 use crate::texts::{CHIPS, LIBRARY};
 use ca_base::NoMemory;
-use ca_wiring::{ScanRow, ScanTable};
 use ca_lex::Text;
 use ca_link::link;
+use ca_linked::Chip;
 use ca_spice::read_library;
 use ca_verilog::{RawNetlist, read_netlist};
-use ca_linked::Chip;
+use ca_wiring::{ScanRow, ScanTable};
 use std::alloc::Global;
 
 // Writes the names of a scan cell with an inverted output, and of its pins.

@@ -5,8 +5,8 @@ ghost use Rattle.ca_linked.specs.Linked.{IsLibrary};
 
 use ca_base::NoMemory;
 use ca_lex::Text;
-use ca_outputs::output_names;
 use ca_linked::{Chip, InstanceId, NetId, ScanPin, Source};
+use ca_outputs::output_names;
 use std::alloc::Global;
 
 // Appends a number with a space before it.

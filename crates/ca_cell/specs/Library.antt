@@ -1,5 +1,6 @@
 -- Libraries of cells by name.
-use Rattle.std.specs.Prelude.{ℕ, ◌+◌, ◌≡◌, ◌≤◌, List, [], ◌∷◌, ◌++◌, length, Option, Some, None, IsSome, IsNone}
+use Rattle.std.specs.Prelude.{ℕ, ◌+◌, ◌≡◌, ◌≤◌, List, [], ◌∷◌, ◌++◌, length, Option, Some, None, IsSome}
+use Rattle.std.specs.Prelude.{IsNone}
 use Rattle.std.specs.Prelude.{IsSomeAnd, slice_get, if◌then◌else◌}
 use Rattle.std.specs.Str.{bytes_eq}
 use Rattle.ca_lex.specs.Words.{upper_case}
@@ -43,8 +44,8 @@ pub record HasOneMore (old : List Named) (raw : RawCell) (new : List Named) : Ty
   pub fresh : IsNone (entry_of old name)
   pub is : new ≡ old ++ record { name = name; entry = Sound raw } ∷ []
 
--- why an entry wasn't added: its name is there; or it isn't, and the library has the most cells that are added
--- by name, or more, with one more than it has; or there was no memory
+-- why an entry wasn't added: its name is there; or it isn't, and the library has the most cells that are
+-- added by name, or more, with one more than it has; or there was no memory
 abbrev pub IsCause : List Named → List ℕ → LibraryFault → Type 0
 IsCause library name DoubleName = IsSome (entry_of library (upper_case name))
 IsCause library name (TooManyCells count) =

@@ -84,7 +84,8 @@ impl RawDevice {
 
     // Whether each terminal is a place among the first `nets` nets, and the device is a transistor.
     fn is_placed(&self, nets: usize) -> bool
-        ensures { IsTrue result ↔ (PlacesWithin nets self.now × IsTransistor self.now.kind self.now.strength) }
+        ensures { IsTrue result ↔ (PlacesWithin nets self.now
+            × IsTransistor self.now.kind self.now.strength) }
     {
         (self.drain as usize) < nets
             && (self.gate as usize) < nets
@@ -146,8 +147,8 @@ impl RawCell {
     ghost use Rattle.ca_cell.specs.Raw.{output_names};
     ghost use Rattle.ca_cell.specs.Rules.{IsRaw};
 
-    /// Whether each device is a transistor, weak or strong, whose terminals are places in the list of nets, and
-    /// there are no more pins than nets.
+    /// Whether each device is a transistor, weak or strong, whose terminals are places in the list of nets,
+    /// and there are no more pins than nets.
     pub fn is_raw(&self) -> bool
         ensures { IsTrue result ↔ IsRaw self.now }
     {

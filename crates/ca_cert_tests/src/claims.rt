@@ -7,18 +7,18 @@ ghost use Rattle.ca_verilog.specs.IsNetlist.{IsNetlist};
 
 use crate::chips::{Claimed, LIBRARY, OF_INVERTER, OF_TIED};
 use ca_cert_text::read_certificate;
-use ca_wiring::ScanTable;
 use ca_chip_cert::check_over;
 use ca_chip_defects::chip_defects;
 use ca_claim::{Answer, Certificate};
 use ca_lex::Text;
 use ca_link::link;
+use ca_linked::Chip;
 use ca_pair::{Pair, Pairs};
 use ca_rows::ChipRows;
 use ca_spice::read_library;
 use ca_verilog::{RawNetlist, read_netlist};
 use ca_view::View;
-use ca_linked::Chip;
+use ca_wiring::ScanTable;
 use std::alloc::Global;
 
 // The chip of a netlist that was read, if it links.

@@ -14,14 +14,14 @@ use ca_chip_defects::chip_defects;
 use ca_claim::{Answer, Certificate};
 use ca_examiner::check_linked;
 use ca_flatten::{flat_is_well_formed, judge_size};
+use ca_linked::Chip;
 use ca_pair::Pairs;
 use ca_rows::ChipRows;
 use ca_view::View;
-use ca_linked::Chip;
 use std::alloc::Global;
 
-/// Whether every claim of the certificate on the defects of a linked chip stands for the listed pairs, or else
-/// the first that doesn't. Also answers out of memory for a chip with 2^14 chip inputs or 2^32 observed
+/// Whether every claim of the certificate on the defects of a linked chip stands for the listed pairs, or
+/// else the first that doesn't. Also answers out of memory for a chip with 2^14 chip inputs or 2^32 observed
 /// outputs, for 2^32 pairs or claims, and where the flat network may have 2^32 nodes or devices.
 pub fn check_chip(
     alloc: Global,

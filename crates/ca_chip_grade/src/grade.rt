@@ -15,12 +15,12 @@ use ca_engine::ChipBench;
 use ca_generate::Watch;
 use ca_grade::{GradeFault, Grades, grade_judged};
 use ca_guide::LowestUnset;
+use ca_linked::Chip;
 use ca_net::Trit;
 use ca_pair::Pair;
 use ca_rows::{ChipRows, ExposableDefects};
 use ca_scan::Chains;
 use ca_view::View;
-use ca_linked::Chip;
 use std::alloc::Global;
 
 // The grades by rows of any type: so the bench that is dropped here has few parts to the prover.

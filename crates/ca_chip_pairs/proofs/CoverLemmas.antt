@@ -232,8 +232,7 @@ covered chip chains all = record { within = within; once = once; each = each }
         let is_scan = scan_at chip place u there in
         let on = on_chains chip chains all.are u (all.on_chains u is_scan) in
         let found = is_in list u (subst (λ given. 1 ≤ count_of u given) (sym list_is) on) in
-        let at = scan_once chip (place_of chip u) place u (at_place chip u is_scan) there in
-        (
+        let at = scan_once chip (place_of chip u) place u (at_place chip u is_scan) there in (
           found.place,
           ap (λ given. slice_get given found.place) is ∙ slice_get-map (place_of chip) list found.place
               ∙ ap (option_map (place_of chip)) found.at ∙ ap Some at,

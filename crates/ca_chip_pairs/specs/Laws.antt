@@ -19,7 +19,8 @@ ChainsCover = (chip : LinkedChip) (chains : List (List ℕ)) → AreAllChains ch
 
 -- the STIL text of such a chip, its chains, its pairs and their expected values is read back
 abbrev pub WrittenChipIsReadBack : Type 0
-WrittenChipIsReadBack = (netlist : RawNetlist) (library : List Named) (scan : List ScanRow) (chip : LinkedChip)
+WrittenChipIsReadBack =
+    (netlist : RawNetlist) (library : List Named) (scan : List ScanRow) (chip : LinkedChip)
     (chains : List (List ℕ)) (pairs : List (List Bool)) (expected : List (List Trit))
     → IsNamedLink netlist library scan chip → AreOfChip chip chains pairs expected
     → IsReadBack (stil_chip chip chains) (stil_text (stil_chip chip chains) pairs expected) pairs expected

@@ -7,9 +7,9 @@ ghost use Rattle.ca_stil_pairs.specs.File.{IsFileOf, IsCause};
 
 use crate::laws::chains_cover;
 use ca_chip_stil::{sites_are_ends, stil_chip};
+use ca_linked::Chip;
 use ca_scan::Chains;
 use ca_stil_pairs::{StilFault, StilFile, read_stil};
-use ca_linked::Chip;
 use std::alloc::Global;
 
 /// The pairs of a linked chip with these whole chains that a STIL text has, and the values that are expected

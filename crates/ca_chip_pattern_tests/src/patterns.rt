@@ -1,16 +1,16 @@
 //! An accumulator, and what is written of a pair.
 
 use ca_base::{List, NoMemory};
-use ca_wiring::{ScanRow, ScanTable};
 use ca_chip_stil::{are_of_chip, write_chip_stil};
 use ca_lex::Text;
 use ca_link::link;
+use ca_linked::Chip;
 use ca_net::Trit;
 use ca_pair::Pair;
 use ca_scan::trace;
 use ca_spice::read_library;
 use ca_verilog::read_netlist;
-use ca_linked::Chip;
+use ca_wiring::{ScanRow, ScanTable};
 use std::alloc::Global;
 
 // A full adder of which nothing is asked but its pins.

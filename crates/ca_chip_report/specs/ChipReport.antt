@@ -58,7 +58,8 @@ IsVerdictWithin outputs (Aborted code) = Unit {0}
 
 -- the defects are those of library instances of the chip, there is a verdict for each, and each output that
 -- is credited is an observed one
-pub record AreReported (chip : LinkedChip) (defects : List ChipDefect) (verdicts : List Verdict) : Type 0 where
+pub record AreReported (chip : LinkedChip) (defects : List ChipDefect)
+    (verdicts : List Verdict) : Type 0 where
   pub defects_are : All (IsGateDefect chip) defects
   pub one_each : length verdicts ≡ length defects
   pub outputs : All (IsVerdictWithin (length (outputs_of chip))) verdicts

@@ -12,8 +12,8 @@ use ca_base::NoMemory;
 use ca_credit::{Verdict, Verdicts};
 use ca_flat::ChipDefect;
 use ca_lex::Text;
-use ca_report::ReportRows;
 use ca_linked::{Chip, InstanceId};
+use ca_report::ReportRows;
 use std::alloc::Global;
 
 // The name of a defect's instance.

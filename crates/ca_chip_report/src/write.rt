@@ -10,9 +10,9 @@ use ca_base::NoMemory;
 use ca_credit::Verdicts;
 use ca_flat::ChipDefect;
 use ca_lex::Text;
+use ca_linked::Chip;
 use ca_outputs::output_names;
 use ca_report::write_report;
-use ca_linked::Chip;
 use std::alloc::Global;
 
 /// The report of a chip: for each of these defects its instance, its cell, its name and its verdict.

@@ -8,9 +8,9 @@ use crate::chains::chains_of;
 use crate::names::{controls_of, data_names, signals_of};
 use crate::ports::Ports;
 use ca_base::NoMemory;
+use ca_linked::Chip;
 use ca_scan::Chains;
 use ca_stil::StilChip;
-use ca_linked::Chip;
 use std::alloc::Global;
 
 /// What a STIL text needs of a chip and its whole scan chains: its signals, its groups and its chains, by the

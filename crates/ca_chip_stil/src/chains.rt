@@ -9,9 +9,9 @@ ghost use Rattle.ca_chip_stil.specs.code.Kept.{ArePorts, ArePlacesFrom, AreScans
 use crate::names::name_at;
 use crate::ports::Ports;
 use ca_base::{List, NoMemory};
+use ca_linked::{Chip, InstanceList, ScanPin};
 use ca_scan::Chains;
 use ca_stil::StilChain;
-use ca_linked::{Chip, InstanceList, ScanPin};
 use std::alloc::Global;
 
 // For each scan instance its place among them, by its number among all instances.

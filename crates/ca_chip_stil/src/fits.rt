@@ -4,9 +4,9 @@ ghost use Rattle.std.specs.Prelude.{◌↔◌, IsTrue, map};
 ghost use Rattle.ca_scan.specs.ChainFault.{AreAllChains};
 ghost use Rattle.ca_chip_stil.specs.ChipStil.{AreOfChip};
 
+use ca_linked::Chip;
 use ca_scan::Chains;
 use ca_stil::{ExpectedValues, PatternBits, have_bits, have_values};
-use ca_linked::Chip;
 
 /// Whether each pair has the chip's pattern bits, and there is an expected value for each observed output
 /// under each pair: what the text is asked of.

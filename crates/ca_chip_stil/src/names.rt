@@ -10,8 +10,8 @@ ghost use Rattle.ca_chip_stil.specs.code.Kept.{ArePorts};
 use crate::ports::{Ports, is_directed};
 use ca_base::{List, NoMemory};
 use ca_lex::{Names, Text};
-use ca_stil::Signal;
 use ca_linked::{Chip, InstanceId, ScanPin};
+use ca_stil::Signal;
 use std::alloc::Global;
 
 // A bit of a port, with its name and its direction.

@@ -7,9 +7,9 @@ ghost use Rattle.ca_chip_stil.specs.ChipStil.{stil_chip, AreOfChip};
 use crate::build::stil_chip;
 use ca_base::NoMemory;
 use ca_lex::Text;
+use ca_linked::Chip;
 use ca_scan::Chains;
 use ca_stil::{ExpectedValues, PatternBits, write_stil};
-use ca_linked::Chip;
 use std::alloc::Global;
 
 /// The STIL text of pairs of a chip, and of the values that its observed outputs end with under each. The

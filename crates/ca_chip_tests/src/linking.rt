@@ -6,11 +6,11 @@ ghost use Rattle.std.specs.Str.{bytes_eq};
 ghost use Rattle.ca_verilog.specs.IsNetlist.{IsNetlist};
 
 use ca_base::NoMemory;
-use ca_wiring::{Chip, ChipFault, ScanRow, ScanTable};
 use ca_lex::Text;
 use ca_link::link;
 use ca_spice::read_library;
 use ca_verilog::{RawNetlist, read_netlist};
+use ca_wiring::{Chip, ChipFault, ScanRow, ScanTable};
 use std::alloc::{AllocError, Global};
 
 /// The numbers of nets, library instances, inputs and observed outputs of a chip.

@@ -5,10 +5,10 @@ ghost use Rattle.std.specs.Prelude.{◌≡◌, ◌<◌, length};
 use crate::tables::CellTable;
 use ca_base::NoMemory;
 use ca_cell::Cell;
+use ca_linked::{Chip, InstanceId};
 use ca_net::{Network, Trit, Wave};
 use ca_response::{pairs, respond};
 use ca_settle::Work;
-use ca_linked::{Chip, InstanceId};
 use std::alloc::Global;
 
 // Tables of a number of cells of which nothing is known.
@@ -24,8 +24,8 @@ fn no_tables(alloc: Global, count: usize) -> Result<Vec<CellTable>, NoMemory> {
     Ok(tables)
 }
 
-/// The table of each cell of the library that an instance is of, by the cell's place in the library; a cell that
-/// no instance is of has an empty one.
+/// The table of each cell of the library that an instance is of, by the cell's place in the library; a cell
+/// that no instance is of has an empty one.
 pub(crate) fn cells_of(alloc: Global, chip: &Chip) -> Result<Vec<CellTable>, NoMemory> {
     chip.wired();
     let mut tables = no_tables(alloc, chip.library_cells())?;

@@ -4,8 +4,8 @@ use crate::cell_cubes::CellCubes;
 use crate::cell_tables::cells_of;
 use crate::cube::Cube;
 use ca_base::NoMemory;
-use ca_view::View;
 use ca_linked::{Chip, InstanceId};
+use ca_view::View;
 use std::alloc::Global;
 
 /// What drives a net.
@@ -19,8 +19,8 @@ pub(crate) enum Source {
     Other,
 }
 
-/// A chip, its instances in their order, the cubes of its cells by their places in the library, and what drives
-/// each net. Instances and nets have the numbers of the chip's core.
+/// A chip, its instances in their order, the cubes of its cells by their places in the library, and what
+/// drives each net. Instances and nets have the numbers of the chip's core.
 #[derive(Drop)]
 pub(crate) struct Plan<'a> {
     view: &'a View<'a>,

@@ -18,9 +18,9 @@ use crate::renumber::{number_constant, number_parts, number_ports};
 use crate::touched::{Touched, touched_of};
 use ca_base::NoMemory;
 use ca_cell::Library;
-use ca_wiring::{NetTable, ScanRow, ScanTable, earliest_wires, number_nets};
-use ca_verilog::{RawJoins, RawNetlist};
 use ca_linked::{Draft, Part, PortBit};
+use ca_verilog::{RawJoins, RawNetlist};
+use ca_wiring::{NetTable, ScanRow, ScanTable, earliest_wires, number_nets};
 use std::alloc::Global;
 
 /// A netlist on its wires: the numbers of declared bits and of wires, the instances and port bits, and what

@@ -9,8 +9,8 @@ ghost use Rattle.ca_draft.specs.code.OnWires.{header_of};
 
 use ca_base::NoMemory;
 use ca_lex::Text;
-use ca_verilog::{Direction, RawBus};
 use ca_linked::PortBit;
+use ca_verilog::{Direction, RawBus};
 use itoa::Buffer;
 use std::alloc::Global;
 

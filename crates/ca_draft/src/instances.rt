@@ -14,11 +14,11 @@ ghost use Rattle.ca_draft.specs.code.OnWires.{AreOnWires, AreSoundAll, IsCellAt,
 use crate::pins::{library_outputs, scan_pins};
 use ca_base::NoMemory;
 use ca_cell::{Entry, Library, RawCell};
-use ca_wiring::{ScanRow, cells_of, library_inputs, row_of};
 use ca_lex::Text;
+use ca_linked::{Body, Part};
 use ca_names::NameSet;
 use ca_verilog::{RawInstance, RawUse};
-use ca_linked::{Body, Part};
+use ca_wiring::{ScanRow, cells_of, library_inputs, row_of};
 use std::alloc::Global;
 
 // The body of an instance of the cell at a place of the library.

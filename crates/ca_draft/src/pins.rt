@@ -5,16 +5,17 @@ ghost use Rattle.std.specs.Prelude.{if◌then◌else◌, IfOk, OnOk};
 ghost use Rattle.ca_cell.specs.Raw.{is_output};
 ghost use Rattle.ca_linked.specs.declared.parts.Body.TheVariants.{Scan};
 ghost use Rattle.ca_linked.specs.Linked.{input_nets, output_nets};
-ghost use Rattle.ca_wiring.specs.Wiring.{ScanCell, bit_on, input_names, input_wires, inverted_name, names_with};
+ghost use Rattle.ca_wiring.specs.Wiring.{ScanCell, bit_on, input_names, input_wires, inverted_name};
+ghost use Rattle.ca_wiring.specs.Wiring.{names_with};
 ghost use Rattle.ca_wiring.specs.Wiring.{open_count, output_names, output_wires};
 ghost use Rattle.ca_draft.specs.code.OnWires.{next_own, output_wire};
 
 use ca_base::NoMemory;
 use ca_cell::RawPin;
-use ca_wiring::{ScanRow, bit_on, input_wire, wire_of};
 use ca_lex::Text;
-use ca_verilog::{RawBit, RawUse};
 use ca_linked::{NetList, ScanNets};
+use ca_verilog::{RawBit, RawUse};
+use ca_wiring::{ScanRow, bit_on, input_wire, wire_of};
 use std::alloc::Global;
 
 // The wire of an output pin, where the next wire of its own has the number `own`. The last number isn't

@@ -8,8 +8,8 @@ ghost use Rattle.ca_draft.specs.code.OnWires.{constant_number, number_of, number
 ghost use Rattle.ca_draft.specs.code.OnWires.{numbered_part, numbered_port, pins_of};
 
 use ca_base::NoMemory;
-use ca_wiring::NetTable;
 use ca_linked::{Body, NetList, Part, PortBit, ScanNets};
+use ca_wiring::NetTable;
 use std::alloc::Global;
 
 // The nets of wires.

@@ -8,8 +8,8 @@ ghost use Rattle.ca_draft.specs.code.OnWires.{IsNamedBy, pins_of};
 ghost use Rattle.ca_draft.specs.code.OnWires.{touched_of};
 
 use ca_base::NoMemory;
-use ca_verilog::{RawBit, RawSpan};
 use ca_linked::{Body, Part, PortBit};
+use ca_verilog::{RawBit, RawSpan};
 use std::alloc::Global;
 
 // Appends the wires of an instance's input pins.

@@ -9,9 +9,9 @@ use crate::chip_bench::ChipBench;
 use ca_choice::CheapestWay;
 use ca_generate::{GenerateFault, Generated, Watch, generate};
 use ca_guide::Choice;
+use ca_linked::Chip;
 use ca_rows::{ChipRows, ExposableDefects};
 use ca_view::View;
-use ca_linked::Chip;
 use std::alloc::Global;
 
 /// Searches for pairs that show the defects of a linked chip, with at most `budget` branches for each: the

@@ -8,12 +8,12 @@ use crate::pieces::write_pieces;
 use crate::three::FaultText;
 use ca_base::{List, NoMemory};
 use ca_cell::CellRule;
-use ca_wiring::ChipFault;
 use ca_lex::Text;
 use ca_pair::Pairs;
 use ca_spice::SpiceKind;
 use ca_store::{Failed, Sink};
 use ca_verilog::VerilogKind;
+use ca_wiring::ChipFault;
 use itoa::Buffer;
 
 /// Why a command didn't end well. Words are as they were typed.

@@ -5,9 +5,9 @@ ghost use Rattle.ca_fault.specs.KindText.{most_text};
 
 use crate::fault::LimitKind;
 use ca_cell::CellRule;
-use ca_wiring::ChipFault;
 use ca_spice::SpiceKind;
 use ca_verilog::VerilogKind;
+use ca_wiring::ChipFault;
 
 /// The text of a kind of faulty line, after the line's number.
 pub(crate) fn kind_text(kind: SpiceKind) -> &'static [u8]

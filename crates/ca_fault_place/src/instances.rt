@@ -9,10 +9,10 @@ ghost use Rattle.ca_fault_place.specs.Place.{loop_text, pin_text};
 
 use crate::cells::add_number;
 use ca_base::NoMemory;
-use ca_wiring::Driver;
 use ca_lex::Text;
-use ca_verilog::RawInstance;
 use ca_linked::InstanceList;
+use ca_verilog::RawInstance;
+use ca_wiring::Driver;
 use std::alloc::Global;
 
 // The name of the instance at a place.

@@ -8,9 +8,9 @@ ghost use Rattle.ca_fault_place.specs.code.Touched.{IsFoundAmong, IsFoundFor};
 
 use crate::touched::touched_of;
 use ca_base::NoMemory;
-use ca_wiring::earliest_wires;
 use ca_draft::bits_of;
 use ca_verilog::RawNetlist;
+use ca_wiring::earliest_wires;
 use std::alloc::Global;
 
 // Marks the earliest wire of each that is listed.

@@ -17,10 +17,10 @@ use crate::instances::{add_driver, cell_name, cell_text, loop_text, pin_text};
 use crate::nets::net_wire;
 use ca_base::NoMemory;
 use ca_cell::{CellRule, Entry, Library};
-use ca_wiring::{ChipFault, Driver};
 use ca_lex::Text;
-use ca_verilog::RawNetlist;
 use ca_linked::{InstanceId, NetId};
+use ca_verilog::RawNetlist;
+use ca_wiring::{ChipFault, Driver};
 use std::alloc::Global;
 
 /// The names of what a fault carries, as they are in the netlist; an empty text where it carries none. Those

@@ -8,9 +8,9 @@ ghost use Rattle.ca_draft.specs.OnWires.{AreFirsts, constant_wires, has_constant
 ghost use Rattle.ca_fault_place.specs.code.Touched.{IsTouched, instance_wires, use_wires, wires_from};
 
 use ca_base::NoMemory;
-use ca_wiring::wire_of;
 use ca_draft::{DeclaredBits, is_joined, push_constant, range_width};
 use ca_verilog::{RawBit, RawBus, RawInstance, RawNetlist, RawSpan, RawUse};
+use ca_wiring::wire_of;
 use std::alloc::Global;
 
 // Appends the wires of an instance's connections.

@@ -7,7 +7,8 @@ use Rattle.ca_flat.specs.declared.token.Token.TheVariants.{Branch, Leaf}
 use Rattle.ca_flat.specs.Chip.{Chip}
 use Rattle.ca_flat.specs.Pair.{IsSettledPair, IsRuledOut}
 use Rattle.ca_flat.specs.Chain.{IsSupportBit}
-use Rattle.ca_flat.specs.Codes.{unset_pair, IsWholeBy, IsFrontBy, IsSpentBy, IsWholeCode, IsFront, IsSpentCode}
+use Rattle.ca_flat.specs.Codes.{unset_pair, IsWholeBy, IsFrontBy, IsSpentBy, IsWholeCode, IsFront}
+use Rattle.ca_flat.specs.Codes.{IsSpentCode}
 use Rattle.ca_flat.specs.CheckedCode.{checked_rules}
 use Rattle.ca_flat_tests.specs.Inverter.{inverter_chip, open_gate}
 

@@ -19,4 +19,5 @@ FlatIsWellFormed =
 -- each device of it has a line in the text of a network
 abbrev pub FlatHasLines : Type 0
 FlatHasLines =
-    (chip : LinkedChip) (given : Option ChipDefect) → IsWired chip → All HasLine (flat (core_of chip) given).devices
+    (chip : LinkedChip) (given : Option ChipDefect) → IsWired chip
+    → All HasLine (flat (core_of chip) given).devices

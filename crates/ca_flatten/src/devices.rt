@@ -18,8 +18,8 @@ use ca_cell::Cell;
 use ca_core::CoreNets;
 use ca_defect::{Defect, changed_device};
 use ca_flat::ChipDefect;
-use ca_net::{Device, DeviceId, DeviceList, Network, NodeId};
 use ca_linked::{Chip, InstanceId};
+use ca_net::{Device, DeviceId, DeviceList, Network, NodeId};
 use std::alloc::Global;
 
 // The defect of an instance.

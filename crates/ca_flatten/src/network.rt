@@ -14,8 +14,8 @@ use crate::sizes::sizes_of;
 use ca_base::NoMemory;
 use ca_core::core_nets;
 use ca_flat::ChipDefect;
-use ca_net::{DeviceList, FlatNet, NetFault, NodeList};
 use ca_linked::Chip;
+use ca_net::{DeviceList, FlatNet, NetFault, NodeList};
 use std::alloc::Global;
 
 // The network of these nodes and devices, which are those of the flat network.

@@ -14,8 +14,8 @@ use crate::sizes::Sizes;
 use ca_base::NoMemory;
 use ca_core::CoreNets;
 use ca_flat::ChipDefect;
-use ca_net::{INNER_NODE, NodeKind, NodeList, OUTPUT_NET};
 use ca_linked::{Chip, InstanceId, NetId, Source};
+use ca_net::{INNER_NODE, NodeKind, NodeList, OUTPUT_NET};
 use std::alloc::Global;
 
 // The kind of a net: that of an output net where a library instance or an inverted output drives it.

@@ -9,8 +9,8 @@ ghost use Rattle.ca_flatten.specs.code.Kept.{AreGateMarks, AreSizes};
 use crate::gates::Gates;
 use crate::spots::{cell_at, inner_count};
 use ca_core::CoreNets;
-use ca_net::Network;
 use ca_linked::{Chip, InstanceId};
+use ca_net::Network;
 
 // The most nodes, and the most devices, of a network.
 const MOST: usize = u32::MAX as usize;

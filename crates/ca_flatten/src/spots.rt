@@ -16,8 +16,8 @@ use crate::gates::Gates;
 use ca_cell::Cell;
 use ca_core::CoreNets;
 use ca_flat::ChipDefect;
-use ca_net::{Device, Network, NodeId};
 use ca_linked::{Chip, InstanceId};
+use ca_net::{Device, Network, NodeId};
 
 /// An instance, and the flat nodes from which on its inner nodes and the new node of the defect are.
 #[derive(Clone, Copy)]

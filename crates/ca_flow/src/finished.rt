@@ -14,6 +14,7 @@ use ca_credit::Verdicts;
 use ca_fault::Fault;
 use ca_generate::Aims;
 use ca_lex::{Names, Text};
+use ca_linked::Chip;
 use ca_matrix::Matrix;
 use ca_net::{FlatNet, Trit};
 use ca_on_cell::{PinValues, lines_of_names, lines_of_values, summary};
@@ -22,7 +23,6 @@ use ca_pair::Pairs;
 use ca_scan::Chains;
 use ca_simulate::OutputEnds;
 use ca_store::{Failed, Sink, Store, write_all};
-use ca_linked::Chip;
 use std::alloc::Global;
 
 /// The exit status, the fault where the status isn't 0, and what was done where the work was whole.

@@ -19,7 +19,8 @@ use Rattle.ca_flow_laws.specs.Reported.{ReportsFiles, ReportsAllFiles}
 abbrev pub HasOneCause : List (List ℕ) → Files → Type 0
 HasOneCause words files =
     (before after again later : Outside) (fault other : Fault)
-    → ReportsFiles words files before → ReportsFiles words files again → IsInputFault fault → IsInputFault other
+    → ReportsFiles words files before → ReportsFiles words files again → IsInputFault fault
+    → IsInputFault other
     → IsCause words before after fault → IsCause words again later other
     → IsSame fault other
 
@@ -52,7 +53,8 @@ abbrev pub CauseIsReported : Type 0
 CauseIsReported =
     (words : List (List ℕ)) (files : Files) (before after : Outside) (end : Finished) (fault : Fault)
     → ReportsFiles words files before → Ends words before after end → IsInputFault fault
-    → IsCause words before after fault → IsSomeAnd end.fault (λ reported. IsCallFault reported ⊎ IsSame reported fault)
+    → IsCause words before after fault → IsSomeAnd end.fault
+    (λ reported. IsCallFault reported ⊎ IsSame reported fault)
 
 -- of each cell that a word names in a text, and that keeps the rules, the defects have names that differ
 abbrev pub NamesMeanOneDefect : Type 0

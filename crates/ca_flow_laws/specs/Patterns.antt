@@ -28,7 +28,8 @@ pub record ReadsBack (chip : LinkedChip) (chains : List (List ℕ)) (pairs : Lis
 -- text which STIL holds after status 0
 abbrev pub AtpgTextIsRead : Type 0
 AtpgTextIsRead =
-    (words : List (List ℕ)) (before after : Outside) (end : Finished) (chip : LinkedChip) (chains : List (List ℕ))
+    (words : List (List ℕ)) (before after : Outside) (end : Finished) (chip : LinkedChip)
+    (chains : List (List ℕ))
     (pairs : List (List Bool)) (aims : List ℕ) (verdicts : List Verdict) (text : List ℕ)
     → IsSome before.files → Ends words before after end
     → end.done ≡ Some (Atpg chip chains pairs aims verdicts) → IsStil chip chains pairs text

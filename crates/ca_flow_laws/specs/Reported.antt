@@ -19,7 +19,8 @@ IsInputFile words name =
 -- it is known what the store has under the name of each file that the command reads: these bytes, or no file
 abbrev pub ReportsFiles : List (List ℕ) → Files → Outside → Type 0
 ReportsFiles words files outside =
-    IsSomeAnd outside.files (λ reported. (name : List ℕ) → IsInputFile words name → reported name ≡ files name)
+    IsSomeAnd outside.files (λ reported. (name : List ℕ) → IsInputFile words name
+    → reported name ≡ files name)
 
 -- each of these files is known to be there
 abbrev pub ReportsAllFiles : List (List ℕ) → Outside → Type 0

@@ -15,10 +15,10 @@ use ca_engine::ChipBench;
 use ca_generate::{Bench, Unwatched, generate};
 use ca_guide::{Choice, LowestUnset};
 use ca_lex::Text;
+use ca_linked::Chip;
 use ca_pair::{Pair, Pairs};
 use ca_rows::ChipRows;
 use ca_view::View;
-use ca_linked::Chip;
 use std::alloc::Global;
 use std::process::Abort;
 
@@ -154,8 +154,8 @@ struct Reported {
     evaluations: u64,
 }
 
-// What is reported about a bench of a chip, given its view and its rows. Pairs have `bits` bits. Each value is
-// dropped in one place here and below: more places are slow to prove.
+// What is reported about a bench of a chip, given its view and its rows. Pairs have `bits` bits. Each value
+// is dropped in one place here and below: more places are slow to prove.
 fn tell_over<P: Choice + Drop>(
     alloc: Global,
     view: &View<'_>,
@@ -261,8 +261,8 @@ fn reported_of(
     (text, reported.aims, reported.evaluations)
 }
 
-// Three of the nine defects of an inverter are detected where its input falls, and four are suspect. Last values
-// alone say which of these are, so a bench aims at six of them at most.
+// Three of the nine defects of an inverter are detected where its input falls, and four are suspect. Last
+// values alone say which of these are, so a bench aims at six of them at most.
 #[test]
 fn a_falling_input_of_an_inverter(rt: HostRuntime) {
     let alloc = rt.alloc();

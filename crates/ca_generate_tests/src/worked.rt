@@ -4,14 +4,14 @@ ghost use Rattle.ca_verilog.specs.IsNetlist.{IsNetlist};
 
 use crate::chips::{COUNTED, HAZARD, KEPT_CHARGE, LIBRARY, SPELT};
 use crate::reported::{all, fault, summary, verdict};
-use ca_wiring::ScanTable;
 use ca_engine::generate_chip;
 use ca_generate::{Generated, Unwatched};
 use ca_lex::Text;
 use ca_link::link;
+use ca_linked::Chip;
 use ca_spice::read_library;
 use ca_verilog::{RawNetlist, read_netlist};
-use ca_linked::Chip;
+use ca_wiring::ScanTable;
 use std::alloc::Global;
 
 // The chip of a netlist that was read, if it links. Each value is dropped in one place here and below: more

@@ -3,18 +3,18 @@
 ghost use Rattle.ca_scan.specs.ChainFault.{AreAllChains};
 
 use ca_base::NoMemory;
-use ca_wiring::ScanTable;
 use ca_chip_grade::grade_chip;
 use ca_chip_pairs::read_chip_stil;
 use ca_generate::Unwatched;
 use ca_grade::{Grade, GradeFault, Grades};
 use ca_lex::Text;
 use ca_link::link;
+use ca_linked::Chip;
 use ca_scan::{Chains, trace};
 use ca_spice::read_library;
 use ca_stil_pairs::StilFault;
 use ca_verilog::read_netlist;
-use ca_linked::Chip;
+use ca_wiring::ScanTable;
 use std::alloc::Global;
 
 const LIBRARY: &[u8] = b"
@@ -38,15 +38,20 @@ const BEGIN: &[u8] = b"STIL 1.0;\nSignals {\n  \"a\" In;\n  \"z\" Out;\n}\n\
     PatternExec {\n  PatternBurst \"_burst_\";\n}\n\
     Pattern \"_pattern_\" {\n  W \"_wft_\";\n";
 
-const FIRST: &[u8] = b"  \"pair 0\": V { \"_pi_\"=1; \"_po_\"=X; }\n  V { \"_pi_\"=0; \"_po_\"=H; }\n";
+const FIRST: &[u8] =
+    b"  \"pair 0\": V { \"_pi_\"=1; \"_po_\"=X; }\n  V { \"_pi_\"=0; \"_po_\"=H; }\n";
 
-const SECOND: &[u8] = b"  \"pair 1\": V { \"_pi_\"=0; \"_po_\"=X; }\n  V { \"_pi_\"=1; \"_po_\"=L; }\n";
+const SECOND: &[u8] =
+    b"  \"pair 1\": V { \"_pi_\"=0; \"_po_\"=X; }\n  V { \"_pi_\"=1; \"_po_\"=L; }\n";
 
-const LOW: &[u8] = b"  \"pair 0\": V { \"_pi_\"=1; \"_po_\"=X; }\n  V { \"_pi_\"=0; \"_po_\"=L; }\n";
+const LOW: &[u8] =
+    b"  \"pair 0\": V { \"_pi_\"=1; \"_po_\"=X; }\n  V { \"_pi_\"=0; \"_po_\"=L; }\n";
 
-const UNKNOWN: &[u8] = b"  \"pair 1\": V { \"_pi_\"=0; \"_po_\"=X; }\n  V { \"_pi_\"=1; \"_po_\"=X; }\n";
+const UNKNOWN: &[u8] =
+    b"  \"pair 1\": V { \"_pi_\"=0; \"_po_\"=X; }\n  V { \"_pi_\"=1; \"_po_\"=X; }\n";
 
-const LONG: &[u8] = b"  \"pair 0\": V { \"_pi_\"=11; \"_po_\"=X; }\n  V { \"_pi_\"=0; \"_po_\"=H; }\n";
+const LONG: &[u8] =
+    b"  \"pair 0\": V { \"_pi_\"=11; \"_po_\"=X; }\n  V { \"_pi_\"=0; \"_po_\"=H; }\n";
 
 // A part of a text.
 #[derive(Clone, Copy)]
@@ -85,16 +90,40 @@ enum Seen {
 type Row = (&'static [u8], &'static [Part], Seen);
 
 static ROWS: [Row; 8] = [
-    (INVERTER, &[Part::Begin, Part::First, Part::Second, Part::End], Seen::Graded(6, 3, 0)),
-    (INVERTER, &[Part::Begin, Part::First, Part::End], Seen::Graded(3, 3, 3)),
+    (
+        INVERTER,
+        &[Part::Begin, Part::First, Part::Second, Part::End],
+        Seen::Graded(6, 3, 0),
+    ),
+    (
+        INVERTER,
+        &[Part::Begin, Part::First, Part::End],
+        Seen::Graded(3, 3, 3),
+    ),
     (INVERTER, &[Part::Begin, Part::End], Seen::Graded(0, 3, 6)),
     // An expected value that is the opposite, and one that isn't told where the good chip ends with one.
-    (INVERTER, &[Part::Begin, Part::Low, Part::Second, Part::End], Seen::Wrong(0, 0)),
-    (INVERTER, &[Part::Begin, Part::First, Part::Unknown, Part::End], Seen::Wrong(1, 0)),
+    (
+        INVERTER,
+        &[Part::Begin, Part::Low, Part::Second, Part::End],
+        Seen::Wrong(0, 0),
+    ),
+    (
+        INVERTER,
+        &[Part::Begin, Part::First, Part::Unknown, Part::End],
+        Seen::Wrong(1, 0),
+    ),
     // A word that is too long, and a text that ends too early; the same text of another chip.
-    (INVERTER, &[Part::Begin, Part::Long, Part::Second, Part::End], Seen::Line(27)),
+    (
+        INVERTER,
+        &[Part::Begin, Part::Long, Part::Second, Part::End],
+        Seen::Line(27),
+    ),
     (INVERTER, &[Part::Begin, Part::First], Seen::Line(28)),
-    (OTHER, &[Part::Begin, Part::First, Part::Second, Part::End], Seen::OtherChip),
+    (
+        OTHER,
+        &[Part::Begin, Part::First, Part::Second, Part::End],
+        Seen::OtherChip,
+    ),
 ];
 
 fn text_of(alloc: Global, parts: &[Part]) -> Result<Text, NoMemory> {

@@ -3,17 +3,17 @@
 ghost use Rattle.ca_scan.specs.ChainFault.{AreAllChains};
 
 use ca_base::{List, NoMemory};
-use ca_wiring::{ScanRow, ScanTable};
 use ca_chip_pairs::read_chip_stil;
 use ca_chip_stil::{are_of_chip, write_chip_stil};
 use ca_lex::Text;
 use ca_link::link;
+use ca_linked::Chip;
 use ca_net::Trit;
 use ca_pair::Pair;
 use ca_scan::{Chains, trace};
 use ca_spice::read_library;
 use ca_verilog::read_netlist;
-use ca_linked::Chip;
+use ca_wiring::{ScanRow, ScanTable};
 use std::alloc::Global;
 
 // A full adder of which nothing is asked but its pins.
@@ -123,13 +123,7 @@ fn shown(alloc: Global, pairs: &[Pair], expected: &[List<Trit>]) -> Option<Text>
 }
 
 // What is read of what was written.
-fn again(
-    alloc: Global,
-    chip: &Chip,
-    chains: &Chains,
-    digits: &[u8],
-    letters: &[u8],
-) -> Option<Text>
+fn again(alloc: Global, chip: &Chip, chains: &Chains, digits: &[u8], letters: &[u8]) -> Option<Text>
     requires { AreAllChains chip.now chains.now }
 {
     let pairs = bits_of(alloc, digits).ok()?;

@@ -9,7 +9,8 @@ use Rattle.ca_sim.specs.Seen.{Seen}
 use Rattle.ca_code.specs.declared.token.TheConstants.{MOST_PATTERN_BITS}
 use Rattle.ca_search.specs.Judged.{Judged}
 
--- Tokens of the chip's bits fit into two bytes, and the good flat network and those with a defect are networks.
+-- Tokens of the chip's bits fit into two bytes, and the good flat network and those with a defect are
+-- networks.
 pub record CanBeJudged (core : Chip) : Type 0 where
   pub few : bit_count core ≤ MOST_PATTERN_BITS
   pub good_is : IsWellFormed (flat core None)

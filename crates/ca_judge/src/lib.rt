@@ -6,5 +6,5 @@ mod guide_waves;
 mod outputs;
 mod standing;
 
-pub use chip_judge::ChipJudge;
 pub use ca_flat::ExposingRows;
+pub use chip_judge::ChipJudge;

@@ -10,8 +10,8 @@ abbrev pub IsFault : {Reading Fault : Type 0} → Option Fault → Result Readin
 IsFault None wanted = Unit {0}
 IsFault (Some fault) wanted = wanted ≡ Err fault
 
--- a call gave the view of what was wanted, or its fault; `reported` is the fault that an error is, and None when
--- out of memory
+-- a call gave the view of what was wanted, or its fault; `reported` is the fault that an error is, and None
+-- when out of memory
 abbrev pub Gives : {Value Reading Error Fault : Type 0} → (Error → Option Fault) → (Value → Reading)
     → Result Value Error → Result Reading Fault → Type 0
 Gives reported view (Ok value) wanted = wanted ≡ Ok (view value)

@@ -5,8 +5,8 @@ ghost use Rattle.ca_wiring.specs.Wiring.{ScanCell};
 ghost use Rattle.ca_wiring.specs.Rules.{control_names};
 
 use ca_base::NoMemory;
-use ca_wiring::ScanRow;
 use ca_lex::Text;
+use ca_wiring::ScanRow;
 use std::alloc::Global;
 
 /// The name of a control pin of a scan cell: 0, 1 and 2 are the scan enable, the clock and the hold.

@@ -6,8 +6,10 @@ ghost use Rattle.ca_linked.specs.Linked.{IsBody};
 ghost use Rattle.ca_link.specs.code.Limits as limits;
 
 use ca_cell::Entry;
-use ca_wiring::{ChipFault, MOST_CHIP_DEFECTS, MOST_CHIP_INPUTS, MOST_CHIP_OUTPUTS, MOST_INSTANCES};
 use ca_linked::{Body, Chip, Draft};
+use ca_wiring::{
+    ChipFault, MOST_CHIP_DEFECTS, MOST_CHIP_INPUTS, MOST_CHIP_OUTPUTS, MOST_INSTANCES,
+};
 
 // The number of defects of an instance.
 fn body_defects(draft: &Draft, body: &Body) -> usize

@@ -13,10 +13,10 @@ ghost use Rattle.ca_wiring.specs.Rules.{KeepsRules, IsCause};
 use crate::limits::{defects_of, first_limit};
 use crate::telling::tell;
 use ca_cell::Library;
-use ca_wiring::{ChipFault, ScanTable, judge_instances};
 use ca_draft::draft_of;
-use ca_verilog::RawNetlist;
 use ca_linked::{Chip, judge, wire};
+use ca_verilog::RawNetlist;
+use ca_wiring::{ChipFault, ScanTable, judge_instances};
 use std::alloc::Global;
 
 /// The chip of a netlist, which takes the library over; or the first rule that is broken, and then the

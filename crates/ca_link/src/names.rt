@@ -11,9 +11,9 @@ ghost use Rattle.ca_link.specs.code.Names.{part_outputs, IsOutputName};
 
 use ca_base::NoMemory;
 use ca_cell::{Entry, RawCell, RawPin};
-use ca_wiring::ScanRow;
 use ca_lex::Text;
 use ca_linked::{Body, Draft, Part};
+use ca_wiring::ScanRow;
 use std::alloc::Global;
 
 /// The row of the scan table for a cell.

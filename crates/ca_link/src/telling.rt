@@ -11,9 +11,9 @@ ghost use Rattle.ca_link.specs.code.Reported.{ReportsMisdriven, ReportsMisused, 
 use crate::controls::control_name;
 use crate::names::{output_name, row_of};
 use ca_base::NoMemory;
-use ca_wiring::{ChipFault, Driver, InstanceId, NetId, ScanRow};
 use ca_lex::Text;
 use ca_linked::{Draft, Misused, Source, Sources, WireFault};
+use ca_wiring::{ChipFault, Driver, InstanceId, NetId, ScanRow};
 use std::alloc::Global;
 
 // How a fault names what drives a net.

@@ -16,7 +16,8 @@ use Rattle.ca_link_laws.specs.Alike.{AreAlike, HaveOneCell}
 -- links of one wiring are alike
 abbrev pub LinksAreAlike : Type 0
 LinksAreAlike =
-    (wiring : Wiring) (chip also : LinkedChip) → IsLinkOf wiring chip → IsLinkOf wiring also → AreAlike chip also
+    (wiring : Wiring) (chip also : LinkedChip) → IsLinkOf wiring chip → IsLinkOf wiring also
+    → AreAlike chip also
 
 -- and over the same cells their instances are of the same subcircuits
 abbrev pub LinksHaveOneCell : Type 0

@@ -8,7 +8,8 @@ use Rattle.ca_fault.specs.declared.fault.Fault.TheVariants.{TooLong, StoreFailed
 
 -- the file of this name is there with at most this many bytes, and this holds of them
 abbrev pub IsFileWith : Files → List ℕ → ℕ → (List ℕ → Type 0) → Type 0
-IsFileWith reported name limit Holds = IsSomeAnd (reported name) (λ bytes. (length bytes ≤ limit) × Holds bytes)
+IsFileWith reported name limit Holds =
+    IsSomeAnd (reported name) (λ bytes. (length bytes ≤ limit) × Holds bytes)
 
 -- the same, where the files are known
 abbrev pub OfFile : Option Files → List ℕ → ℕ → (List ℕ → Type 0) → Type 0

@@ -17,14 +17,14 @@ use crate::loading::Loaded;
 use crate::reading::Read;
 use ca_base::NoMemory;
 use ca_cell::Library;
-use ca_wiring::{ChipFault, ScanRow, judge_instances};
 use ca_fault::{Fault, LimitKind};
+use ca_fault_place::{place_of, refused_place};
 use ca_lex::{Text, fold};
 use ca_link::link_instances;
-use ca_fault_place::{place_of, refused_place};
+use ca_linked::{Chip, InstanceId};
 use ca_scan::{ChainFault, Chains, ScanTable, trace};
 use ca_verilog::RawNetlist;
-use ca_linked::{Chip, InstanceId};
+use ca_wiring::{ChipFault, ScanRow, judge_instances};
 use std::alloc::Global;
 
 /// The chip of what was read, with its chains.
@@ -159,8 +159,8 @@ fn chip_of(
     }
 }
 
-// The fault for a broken rule other than that of an instance's cell: the rule and its place, or the limit that
-// is passed.
+// The fault for a broken rule other than that of an instance's cell: the rule and its place, or the limit
+// that is passed.
 fn broken_rule(alloc: Global, netlist: &RawNetlist, fault: ChipFault) -> Fault
     requires rules { IsNetlist netlist.now }
     requires of_netlist { IsOfNetlist fault }

@@ -10,9 +10,9 @@ ghost use Rattle.ca_load.specs.Causes.{IsLoadCause};
 use crate::linking::link_all;
 use crate::reading::read_all;
 use ca_fault::Fault;
+use ca_linked::Chip;
 use ca_scan::Chains;
 use ca_store::Store;
-use ca_linked::Chip;
 use std::alloc::Global;
 
 /// The names of the files of a command on a chip. One without scan cells may have no file for their table.

@@ -11,10 +11,10 @@ ghost use Rattle.ca_make_laws.specs.Cells.{sound_library};
 ghost use Rattle.ca_make_laws.specs.ChipNetlist.{chip_netlist};
 
 use ca_base::NoMemory;
-use ca_wiring::{ChipFault, ScanTable};
 use ca_link::link;
-use ca_make_laws::{made_library, made_netlist};
 use ca_linked::Chip;
+use ca_make_laws::{made_library, made_netlist};
+use ca_wiring::{ChipFault, ScanTable};
 use std::alloc::Global;
 
 // The only fault that linking meets here.

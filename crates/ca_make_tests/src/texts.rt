@@ -5,13 +5,13 @@ ghost use Rattle.ca_verilog.specs.IsNetlist.{IsNetlist};
 ghost use Rattle.ca_make.specs.declared.gate.TheConstants.{MOST_GATES};
 
 use ca_cell::Library;
-use ca_wiring::ScanTable;
 use ca_link::link;
 use ca_make::{library, netlist};
 use ca_make_laws::{made_library, made_netlist};
 use ca_make_links::made_chip;
 use ca_spice::read_library;
 use ca_verilog::{RawNetlist, read_netlist};
+use ca_wiring::ScanTable;
 use std::alloc::Global;
 
 // The texts as they were written by another program from the same rules.

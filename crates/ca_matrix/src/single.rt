@@ -11,9 +11,9 @@ ghost use Rattle.ca_matrix.specs.code.Rooms.{AreRoomsOf};
 ghost use Rattle.ca_matrix.specs.code.Single.{HoldsVector, AreRowEnds, DifferAt, DifferSomewhere, AreFound};
 ghost use Rattle.ca_matrix.specs.Single.{AreExposingRows};
 
-use crate::showing::are_opposite;
 use crate::fill::waves_of;
 use crate::rooms::Rooms;
+use crate::showing::are_opposite;
 use ca_base::NoMemory;
 use ca_cell::Cell;
 use ca_defect::{Defect, Overlay, Row, Rows, defects};
@@ -93,7 +93,8 @@ fn push_first(
     requires first { first < 2 ^ role_count is_input cell.now.pins }
     requires good { HoldsGroups (circuit_of cell.now) good.old }
     requires faulty { HoldsGroups (faulty_of overlay.now.raw overlay.now.defect) faulty.old }
-    requires rows { AreFound cell.now overlay.now.defect (first * 2 ^ role_count is_input cell.now.pins) rows.old }
+    requires rows { AreFound cell.now overlay.now.defect
+        (first * 2 ^ role_count is_input cell.now.pins) rows.old }
 
     ensures good { HoldsGroups (circuit_of cell.now) good.new }
     ensures faulty { HoldsGroups (faulty_of overlay.now.raw overlay.now.defect) faulty.new }

@@ -65,7 +65,7 @@ rank_in p (suc n) net lt h =
           let r0 = r.0 in (
             omega arith,
             ap (λ ys. get_or ys (length (filter p (range_with_len 0 net))) 0) more
-            ∙ get_or_append_left (filter p (range_with_len 0 n)) tail 0 (length (filter p (range_with_len 0 net))) r.0 ∙ r.1,
+                ∙ get_or_append_left (filter p (range_with_len 0 n)) tail 0 (length (filter p (range_with_len 0 net))) r.0 ∙ r.1,
           )
       | inr ge ↦
           let e : net ≡ n = omega arith in
@@ -76,7 +76,7 @@ rank_in p (suc n) net lt h =
           let two : length tail ≡ 1 = ap (λ t. length t) one in (
             omega arith,
             ap (λ ys. get_or ys (length (filter p (range_with_len 0 net))) 0) last
-            ∙ get_or_push (filter p (range_with_len 0 n)) n 0 (length (filter p (range_with_len 0 net))) here ∙ sym e,
+                ∙ get_or_push (filter p (range_with_len 0 n)) n 0 (length (filter p (range_with_len 0 net))) here ∙ sym e,
           )
     ]
 
@@ -166,9 +166,9 @@ module _ (chip : LinkedChip) (members : List ℕ) (nets : ClusterNets) (u start 
     here = ap (λ (i : Instance). get_or i.pins pin 0) (core_at chip u part at) ∙ of part.body (subst (λ (p : Part). IsGate p.body) (sym (part_is part at)) is_gate) has;
     on = elim (Contains-append_cases (gate_inputs (part_of chip u).body) (gate_outputs (part_of chip u).body) net
         (listed (part_of chip u).body is_gate (subst (λ (p : Part). slice_get (input_nets p.body ++ output_nets p.body) pin ≡ Some net) (part_is part at) has))) [
-      | inl i ↦ inr (reads_at chip members is gates u net hand.member i)
-      | inr o ↦ inl (drives_at chip members is gates u net hand.member o)
-    ];
+          | inl i ↦ inr (reads_at chip members is gates u net hand.member i)
+          | inr o ↦ inl (drives_at chip members is gates u net hand.member o)
+        ];
   }
     where
       of : (body : Body) → IsGate body → slice_get (input_nets body ++ output_nets body) pin ≡ Some net → get_or (core_instance chip body).pins pin 0 ≡ core_net chip net

@@ -15,7 +15,8 @@ pub record CanMerge (chip : LinkedChip) (members : List ℕ) : Type 0 where
   pub some : 0 < length members
   pub are : AreMembers (core_of chip) members
 
--- a wired chip that is the merged one, whose last instance is the cluster's; its core is the core's merged chip
+-- a wired chip that is the merged one, whose last instance is the cluster's; its core is the core's merged
+-- chip
 pub record IsMergedOf (chip : LinkedChip) (members : List ℕ) (made : LinkedChip) (u : ℕ) : Type 0 where
   pub is : made ≡ record (merged_draft chip members) { order = made.order }
   pub wired : IsWired made

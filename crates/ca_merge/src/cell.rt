@@ -17,7 +17,9 @@ ghost use Rattle.ca_merge.specs.declared.cell.MergeFault.TheVariants as fault;
 
 use crate::seats::{Cluster, devices_of, inner_count};
 use ca_base::NoMemory;
-use ca_cell::{Cell, CellFault, CellRule, MOST_DEVICES, MOST_NODES, RawCell, RawPin, RawPins, Role};
+use ca_cell::{
+    Cell, CellFault, CellRule, MOST_DEVICES, MOST_NODES, RawCell, RawPin, RawPins, Role,
+};
 use ca_lex::{Names, Text};
 use ca_net::Network;
 use std::alloc::Global;

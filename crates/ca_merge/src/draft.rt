@@ -13,7 +13,12 @@ use ca_linked::{Body, Chip, Draft, InstanceId, InstanceList, NetList, NetMarks, 
 use std::alloc::Global;
 
 // Appends a copy of an instance, unless it is skipped.
-fn push_part(alloc: Global, parts: &mut Vec<Part>, skipped: bool, part: &Part) -> Result<(), NoMemory>
+fn push_part(
+    alloc: Global,
+    parts: &mut Vec<Part>,
+    skipped: bool,
+    part: &Part,
+) -> Result<(), NoMemory>
     ensures { OnOk result (parts.new.items ≡ parts.old.items ++ (if skipped then [] else part.now ∷ [])) }
 {
     if skipped {

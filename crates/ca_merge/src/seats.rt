@@ -1,6 +1,7 @@
 //! The cluster's nodes for the nodes of its members, and its devices.
 
-ghost use Rattle.std.specs.Prelude.{◌≡◌, ◌+◌, ◌<◌, ◌^◌, [], ◌++◌, map, length, slice_get, IsSomeAnd, IfOk, OnOk};
+ghost use Rattle.std.specs.Prelude.{◌≡◌, ◌+◌, ◌<◌, ◌^◌, [], ◌++◌, map, length, slice_get, IsSomeAnd, IfOk};
+ghost use Rattle.std.specs.Prelude.{OnOk};
 ghost use Rattle.ca_flat.specs.Chip.{cell_at, circuit_at};
 ghost use Rattle.ca_core.specs.Core.{core_of};
 ghost use Rattle.ca_merged.specs.Cluster.{seat, seated, seated_devices};
@@ -11,8 +12,8 @@ use crate::pins::ClusterNets;
 use ca_base::NoMemory;
 use ca_cell::{Cell, RawDevice, RawDevices};
 use ca_lex::Text;
-use ca_net::{DeviceId, Network, NodeId};
 use ca_linked::{Chip, InstanceId, InstanceList};
+use ca_net::{DeviceId, Network, NodeId};
 use std::alloc::Global;
 
 /// The members of a cluster and the nets of its pins, in one hand.
@@ -104,7 +105,8 @@ fn push_devices(
     start: usize,
 ) -> Result<(), NoMemory>
     requires hand { IsInHand of.now.chip.now of.now.members.now of.now.nets.now u.0 start }
-    ensures { OnOk result (devices.new ≡ devices.old ++ map (seated (core_of of.now.chip.now) of.now.members.now u.0)
+    ensures { OnOk result (devices.new ≡ devices.old ++ map
+        (seated (core_of of.now.chip.now) of.now.members.now u.0)
         (cell_at (core_of of.now.chip.now) u.0).devices) }
 {
     of.chip.wired();

@@ -9,14 +9,14 @@ ghost use Rattle.ca_verilog.specs.IsNetlist.{IsNetlist};
 use crate::chips::{CHIPS, LIBRARY};
 use ca_base::NoMemory;
 use ca_cell::{Cell, CellRule};
-use ca_wiring::ScanTable;
 use ca_lex::Text;
 use ca_link::link;
+use ca_linked::{Chip, InstanceId, InstanceList};
 use ca_merge::{MergeFault, merged};
 use ca_net::{DeviceId, Network, NodeId};
 use ca_spice::read_library;
 use ca_verilog::{RawNetlist, read_netlist};
-use ca_linked::{Chip, InstanceId, InstanceList};
+use ca_wiring::ScanTable;
 use std::alloc::Global;
 
 // The chip of a netlist that was read, if it links. Each value is dropped in one place here and below.

@@ -76,7 +76,8 @@ bare_pin role = record { name = []; role = role }
 -- power, ground, and so many input and output pins
 abbrev pub pins_of : ℕ → ℕ → List RawPin
 pins_of inputs outputs =
-    bare_pin Power ∷ bare_pin Ground ∷ (replicate inputs (bare_pin Input) ++ replicate outputs (bare_pin Output))
+    bare_pin Power ∷ bare_pin Ground ∷ (replicate inputs (bare_pin Input) ++ replicate outputs
+    (bare_pin Output))
 
 -- a device of the member u: each terminal is on the cluster's net of its node
 abbrev pub seated : Chip → List ℕ → ℕ → RawDevice → RawDevice

@@ -34,7 +34,10 @@ others chip members = filter (λ u. not (is_member members u)) (range_with_len 0
 -- the members as one instance
 abbrev pub cluster_of : Chip → List ℕ → Instance
 cluster_of chip members =
-    record { cell = cluster_cell chip members; pins = cluster_inputs chip members ++ cluster_outputs chip members }
+    record {
+      cell = cluster_cell chip members;
+      pins = cluster_inputs chip members ++ cluster_outputs chip members;
+    }
 
 -- the place of the cluster in the merged chip
 abbrev pub cluster_place : Chip → List ℕ → ℕ

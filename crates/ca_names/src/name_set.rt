@@ -72,8 +72,8 @@ impl NameSet {
         self.names.as_slice()
     }
 
-    /// Adds a name, if it isn't there, and answers its place. A set of 2^32 - 1 names answers as though it were
-    /// out of memory. The set is as it was after an error.
+    /// Adds a name, if it isn't there, and answers its place. A set of 2^32 - 1 names answers as though it
+    /// were out of memory. The set is as it was after an error.
     pub fn add(&mut self, alloc: Global, name: &[u8]) -> Result<u32, NoMemory>
         ensures names { OnOk result (self.new ≡ with_name name.now self.old) }
         ensures place { IfOk result (λ place. place ≡ place_with name.now self.old) }

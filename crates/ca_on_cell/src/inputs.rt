@@ -9,8 +9,8 @@ ghost use Rattle.ca_on_cell.specs.Stages.{AreTyped, IsEntryCause};
 use ca_base::NoMemory;
 use ca_cell::{Cell, Entry, Library};
 use ca_fault::Fault;
-use ca_lex::{Text, fold};
 use ca_fault_place::rule_place;
+use ca_lex::{Text, fold};
 use ca_words::CellWords;
 use std::alloc::Global;
 

@@ -4,9 +4,9 @@ ghost use Rattle.ca_cell.specs.Raw.{is_input, role_count};
 ghost use Rattle.ca_on_cell.specs.Outputs.{trit_of, AreEnds};
 
 use crate::pin_values::{PinValue, PinValues};
-use ca_request::trit;
 use ca_base::NoMemory;
 use ca_net::Trit;
+use ca_request::trit;
 use ca_response::{CellNet, pairs, respond};
 use ca_settle::Work;
 use std::alloc::Global;

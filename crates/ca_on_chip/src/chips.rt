@@ -10,14 +10,14 @@ ghost use Rattle.ca_on_chip.specs.OnChip.{IsTracedChipOf, IsFlatOf, AreEndsOf};
 ghost use Rattle.ca_on_chip.specs.OnChip.{IsFlatCause, IsEndsCause};
 ghost use Rattle.ca_on_chip.specs.code.OnChip.{IsSimulationStage};
 
-use ca_request::{find_defect, find_vectors};
 use ca_fault::Fault;
 use ca_flatten::{flat_has_lines, flatten};
+use ca_linked::Chip;
 use ca_load::{Loaded, load};
 use ca_net::FlatNet;
+use ca_request::{find_defect, find_vectors};
 use ca_simulate::{OutputEnds, simulate};
 use ca_store::Store;
-use ca_linked::Chip;
 use ca_words::{ChipWords, SimulateWords};
 use std::alloc::Global;
 

@@ -7,11 +7,11 @@ ghost use Rattle.ca_on_chip.specs.Lines.{line_of_output, simulate_text, line_of_
 
 use ca_base::NoMemory;
 use ca_lex::Text;
+use ca_linked::Chip;
 use ca_net::{FlatNet, Network, Trit, letter};
 use ca_outputs::output_names;
 use ca_scan::Chains;
 use ca_simulate::OutputEnds;
-use ca_linked::Chip;
 use itoa::Buffer;
 use std::alloc::Global;
 

@@ -10,10 +10,10 @@ use ca_credit::Verdicts;
 use ca_engine::generate_chip;
 use ca_fault::Fault;
 use ca_generate::{Aims, GenerateFault, Generated, Watch};
+use ca_linked::Chip;
 use ca_make_laws::{library_is_read, netlist_is_read};
 use ca_make_links::{chip_keeps_rules, made_chip};
 use ca_pair::Pairs;
-use ca_linked::Chip;
 use std::alloc::Global;
 
 /// How many branches each search has on a generated chip.

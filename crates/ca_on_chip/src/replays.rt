@@ -9,15 +9,15 @@ ghost use Rattle.ca_on_chip.specs.OnChip.{IsTracedChipOf};
 ghost use Rattle.ca_on_chip.specs.Replay.{AreRunEndsOf, IsRunCause};
 ghost use Rattle.ca_on_chip.specs.code.Replay.{IsRunStage};
 
-use ca_request::{find_defect, find_vectors};
 use ca_fault::Fault;
 use ca_lex::Text;
+use ca_linked::Chip;
 use ca_load::{Loaded, load, read_input};
 use ca_net::Trit;
 use ca_order::OrderFault;
+use ca_request::{find_defect, find_vectors};
 use ca_simulate::replay;
 use ca_store::Store;
-use ca_linked::Chip;
 use ca_words::ReplayWords;
 use std::alloc::Global;
 

@@ -13,10 +13,10 @@ ghost use Rattle.ca_on_chip.specs.code.OnChip.{IsTestsStage};
 use ca_atpg::{Tested, atpg};
 use ca_fault::Fault;
 use ca_generate::{GenerateFault, Watch};
+use ca_linked::Chip;
 use ca_load::{Loaded, load};
 use ca_scan::Chains;
 use ca_store::Store;
-use ca_linked::Chip;
 use ca_words::AtpgWords;
 use std::alloc::Global;
 

@@ -6,8 +6,8 @@ ghost use Rattle.ca_request.specs.Asked.{FitsInputs, IsVectorsStage};
 
 use ca_fault::Fault;
 use ca_lex::Text;
-use ca_net::Trit;
 use ca_linked::Chip;
+use ca_net::Trit;
 use std::alloc::Global;
 
 /// The letters of a vector, of which a dash has none.

@@ -8,8 +8,8 @@ ghost use Rattle.ca_scan.specs.Table.{same_texts, is_header, row_of, is_text, is
 ghost use Rattle.ca_scan.specs.Table.{are_pins, pins_of, is_row, row_with};
 
 use ca_base::NoMemory;
-use ca_wiring::ScanRow;
 use ca_lex::{Names, Text, fold};
+use ca_wiring::ScanRow;
 use csv::ByteRecord;
 use std::alloc::Global;
 

@@ -10,10 +10,10 @@ ghost use Rattle.ca_scan.specs.code.Into.{ReadsInto};
 use crate::fault::ScanFault;
 use crate::fields::{are_texts, fields_in, is_header, is_row, row_with};
 use ca_base::{List, NoMemory};
-use ca_wiring::{ScanRow, ScanTable};
 use ca_csv::{next, reader_of};
 use ca_lex::{Names, Text};
 use ca_names::NameSet;
+use ca_wiring::{ScanRow, ScanTable};
 use csv::{ByteRecord, Reader};
 use std::alloc::Global;
 

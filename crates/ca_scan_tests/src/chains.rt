@@ -5,8 +5,8 @@ ghost use Rattle.ca_linked.specs.Drivers.{IsDrafted};
 use crate::drafts::is_drafted;
 use ca_cell::Library;
 use ca_lex::Text;
-use ca_scan::{ChainFault, Chains, trace};
 use ca_linked::{Body, Chip, Draft, InstanceList, Part, PortBit, ScanNets, judge, wire};
+use ca_scan::{ChainFault, Chains, trace};
 use std::alloc::Global;
 
 /// A scan instance, by the nets of its output, its scan-in and its scan-out.

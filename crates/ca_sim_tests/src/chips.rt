@@ -3,12 +3,12 @@
 ghost use Rattle.ca_verilog.specs.IsNetlist.{IsNetlist};
 
 use ca_base::NoMemory;
-use ca_wiring::ScanTable;
 use ca_lex::Text;
 use ca_link::link;
+use ca_linked::Chip;
 use ca_spice::read_library;
 use ca_verilog::{RawNetlist, read_netlist};
-use ca_linked::Chip;
+use ca_wiring::ScanTable;
 use itoa::Buffer;
 use std::alloc::Global;
 use std::process::Abort;
@@ -165,8 +165,8 @@ impl Instances {
     }
 }
 
-// The chip of a netlist that was read. Each value is dropped in one place here and above: more places are slow
-// to prove.
+// The chip of a netlist that was read. Each value is dropped in one place here and above: more places are
+// slow to prove.
 fn linked_netlist(rt: &impl Abort, alloc: Global, raw: &RawNetlist) -> Chip
     requires { IsNetlist raw.now }
 {

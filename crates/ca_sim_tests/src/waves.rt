@@ -5,10 +5,10 @@ ghost use Rattle.std.specs.Prelude.{◌<◌};
 use crate::chips::{INV, Instances, KEEP, NAND2, NOR4, chip};
 use ca_defect::parse;
 use ca_flat::ChipDefect;
+use ca_linked::Chip;
 use ca_net::{State, Trit, Wave};
 use ca_sim::{NetWaves, Sim};
 use ca_view::View;
-use ca_linked::Chip;
 use std::alloc::Global;
 use std::process::Abort;
 

@@ -2,8 +2,8 @@
 
 ghost use Rattle.std.specs.Prelude.{◌+◌, ◌<◌, length};
 
-use ca_request::{Vectors, trit};
 use ca_net::Trit;
+use ca_request::{Vectors, trit};
 use ca_sim::Bits;
 
 /// The letters of a first vector, and then those of a last one.

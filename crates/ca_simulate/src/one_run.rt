@@ -9,13 +9,13 @@ ghost use Rattle.ca_simulate.specs.OneRun.{AreRunEnds};
 ghost use Rattle.ca_simulate.specs.code.OneRun.{IsRunFault};
 
 use crate::letters::Letters;
-use ca_request::Vectors;
 use ca_chip_replay::ChipRun;
 use ca_flat::ChipDefect;
+use ca_linked::Chip;
 use ca_net::Trit;
 use ca_order::OrderFault;
+use ca_request::Vectors;
 use ca_view::View;
-use ca_linked::Chip;
 use std::alloc::Global;
 
 /// The values of the observed outputs, in their order, at the end of the run that a text names, good or with

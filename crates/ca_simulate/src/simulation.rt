@@ -9,14 +9,14 @@ ghost use Rattle.ca_simulate.specs.Simulated.{pair_of, AreOutputEnds, AreSimulat
 ghost use Rattle.ca_simulate.specs.code.Lasts.{AreLasts, AreReady};
 
 use crate::letters::Letters;
-use ca_request::Vectors;
 use ca_base::NoMemory;
 use ca_flat::ChipDefect;
 use ca_flatten::judge_size;
+use ca_linked::Chip;
 use ca_net::Trit;
+use ca_request::Vectors;
 use ca_sim::{NetWaves, Sim};
 use ca_view::View;
-use ca_linked::Chip;
 use std::alloc::Global;
 
 /// What the observed outputs settle to, in their order, without a defect and with one: X where runs differ or

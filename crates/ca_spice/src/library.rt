@@ -81,7 +81,8 @@ fn judge_end(reading: &Reading) -> Result<(), SpiceFault>
 // The library of a whole text's reading. Each large value is dropped in one place here and below: more places
 // are slow to prove.
 fn library_from(alloc: Global, reading: Reading) -> Result<Library, SpiceFault>
-    ensures exact { Gives fault_reported (map subcircuit_seen) result (library_from (Ok (reading_seen reading))) }
+    ensures exact { Gives fault_reported (map subcircuit_seen) result
+        (library_from (Ok (reading_seen reading))) }
     ensures entries { IfOk result (λ library. All (λ named. IsEntry named.entry) library) }
 {
     let judged = judge_end(&reading);

@@ -134,7 +134,8 @@ impl OpenCell {
     /// The subcircuit after an M card with these words.
     #[tactic(auto, unfolding(crate::specs::OpenCell::mos))]
     pub(crate) fn mos(self, alloc: Global, name: &[u8], words: &[&[u8]]) -> Result<Self, Refusal>
-        ensures read { Gives kind_reported cell_seen result (mos name.now (texts words.now) (cell_seen self)) }
+        ensures read { Gives kind_reported cell_seen result
+            (mos name.now (texts words.now) (cell_seen self)) }
         ensures same_name { IfOk result (λ cell. cell.name ≡ self.name) }
     {
         let Some(wiring) = wiring_of(name, words) else {

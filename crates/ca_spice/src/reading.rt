@@ -79,7 +79,8 @@ impl Reading {
     #[tactic(auto, unfolding(crate::specs::Reading::subckt))]
     fn subckt(self, alloc: Global, line: usize, words: &[&[u8]]) -> Result<Self, Refusal>
         requires { All IsUpper (texts words.now) }
-        ensures { Gives kind_reported reading_seen result (subckt line (texts words.now) (reading_seen self)) }
+        ensures { Gives kind_reported reading_seen result
+            (subckt line (texts words.now) (reading_seen self)) }
     {
         match words {
             [name, pins @ ..] if self.is_outside() && is_header(words) => {

@@ -12,6 +12,7 @@ use Rattle.ca_stil_form.specs.Frame.{is_name}
 
 -- where a text reads as the netlist, each port bit of the chip that it links to has a name of the form
 abbrev pub PortsAreNamed : Type 0
-PortsAreNamed = (text : List ℕ) (netlist : RawNetlist) (library : List Named) (scan : List ScanRow) (chip : LinkedChip)
+PortsAreNamed =
+    (text : List ℕ) (netlist : RawNetlist) (library : List Named) (scan : List ScanRow) (chip : LinkedChip)
     → netlist_of text ≡ Ok netlist → IsLinkOf (wiring_of netlist library scan) chip
     → All (λ port. is_name port.name ≡ true) chip.ports

@@ -121,9 +121,8 @@ chains_within chip covered = all_of (IsWithin chip.scan_count) chip.chains (by c
     by : (chains : List StilChain) → ((i place : ℕ) → slice_get (order_of chains) i ≡ Some place → place < chip.scan_count)
         → AllByRecursion (IsWithin chip.scan_count) chains
     by [] within = tt
-    by (chain ∷ chains) within =
-        (
-          chain_within chain.places (order_of chains) within,
-          by chains (λ i place is. within (length (reverse chain.places) + i) place
-              (found_after (reverse chain.places) (order_of chains) i place is)),
-        )
+    by (chain ∷ chains) within = (
+      chain_within chain.places (order_of chains) within,
+      by chains (λ i place is. within (length (reverse chain.places) + i) place
+          (found_after (reverse chain.places) (order_of chains) i place is)),
+    )

@@ -174,8 +174,17 @@ pair_for chip number values pair shape same =
     long_four : (a b c d : List Bool) (e f g h : ℕ) → length a ≡ e → length b ≡ f → length c ≡ g → length d ≡ h
         → length (a ++ (b ++ (c ++ (d ++ [])))) ≡ e + (f + (g + (h + 0)))
     long_four a b c d e f g h one two three four =
-        omega (arith, one, two, three, four, length-append a (b ++ (c ++ (d ++ []))), length-append b (c ++ (d ++ [])),
-        length-append c (d ++ []), length-append d [])
+        omega (
+          arith,
+          one,
+          two,
+          three,
+          four,
+          length-append a (b ++ (c ++ (d ++ []))),
+          length-append b (c ++ (d ++ [])),
+          length-append c (d ++ []),
+          length-append d [],
+        )
 
 -- so it is the pair by place
 pub pair_is : (chip : StilChip) (sites : List ℕ) (number : ℕ) (values : PairValues) (pair : TextPair) → IsCovered chip

@@ -96,8 +96,7 @@ same_long frame values others shape other_shape =
     let three = flat_long values.1.1.0 others.1.1.0 (shape.last_state ∙ sym other_shape.last_state) in
     let four = flat_long values.1.1.1.0 others.1.1.1.0 (shape.last ∙ sym other_shape.last) in
     let five = flat_long values.1.1.1.1.0 others.1.1.1.1.0 (shape.expected ∙ sym other_shape.expected) in
-    let six = flat_long values.1.1.1.1.1 others.1.1.1.1.1 (shape.captured ∙ sym other_shape.captured) in
-    (
+    let six = flat_long values.1.1.1.1.1 others.1.1.1.1.1 (shape.captured ∙ sym other_shape.captured) in (
       four_long (flat values.0) (flat values.1.0) (flat values.1.1.0) (flat values.1.1.1.0)
           (flat others.0) (flat others.1.0) (flat others.1.1.0) (flat others.1.1.1.0) one two three four,
       length-append (flat values.1.1.1.1.0) (flat values.1.1.1.1.1) ∙ (λ j. five j + six j)

@@ -85,8 +85,7 @@ pairs_for chip number (value ∷ values) [] is same = absurd cc
 pairs_for chip number (value ∷ values) (pair ∷ pairs) is same =
     let rest : Bool = all_allowed (λ number. (pair_form (frame_seen chip) number).allowed) (number + 1) values in
     let here = left_true ((pair_form (frame_seen chip) number).allowed value) rest is in
-    let later = right_true ((pair_form (frame_seen chip) number).allowed value) rest is in
-    (
+    let later = right_true ((pair_form (frame_seen chip) number).allowed value) rest is in (
       pair_for chip number value pair (shape_of (frame_seen chip) number value here) cc,
       pairs_for chip (number + 1) values pairs later cc,
     )

@@ -33,7 +33,11 @@ pub(crate) fn order_of(alloc: Global, chains: &[StilChain]) -> Result<List<usize
 }
 
 /// For each scan instance its place in this order.
-pub(crate) fn sites_of(alloc: Global, chip: &StilChip, order: &[usize]) -> Result<Vec<usize>, NoMemory>
+pub(crate) fn sites_of(
+    alloc: Global,
+    chip: &StilChip,
+    order: &[usize],
+) -> Result<Vec<usize>, NoMemory>
     requires covered { IsCovered chip.now }
     requires order { order.now ≡ order_of chip.now.chains }
     ensures { IfOk result (λ sites. AreSites order.now chip.now.scan_count sites.items) }

@@ -52,7 +52,7 @@ word_stuck : (used filled : ℕ) → 2 ^ 64 ≤ filled + used → (tokens : List
 word_stuck used filled large [] short = refl
 word_stuck used filled large (token ∷ tokens) short =
     (λ j. elim (bits_none used filled token (λ (is : IsBitsWord used filled token). omega (arith, large, short, is.total)) j)
-        as (λ _. Outcome (List Bool)) [ None ↦ Stuck (token ∷ tokens) | Some value ↦ Got value tokens ])
+    as (λ _. Outcome (List Bool)) [ None ↦ Stuck (token ∷ tokens) | Some value ↦ Got value tokens ])
 
 -- steps that begin with such a word
 steps_stuck : (used filled : ℕ) (steps : List Step) → 2 ^ 64 ≤ filled + used → (tokens : List Token) → BeginsShort tokens
@@ -60,7 +60,7 @@ steps_stuck : (used filled : ℕ) (steps : List Step) → 2 ^ 64 ≤ filled + us
 unfolding read_steps
 steps_stuck used filled steps large tokens short =
     (λ j. onward (mapped (λ bits. (bits, [])) (word_stuck used filled large tokens short j))
-        (λ one rest. mapped (joined one) (read_steps steps rest)))
+    (λ one rest. mapped (joined one) (read_steps steps rest)))
 
 -- fixed tokens, some after others
 fixed_append : (one more tokens : List Token)
@@ -73,7 +73,7 @@ fixed_append (due ∷ one) more (token ∷ tokens) = by (bytes_eq due token) (fi
     by : (same : Bool) → read_fixed (one ++ more) tokens ≡ onward (read_fixed one tokens) (λ passed. read_fixed more)
         → elim same as (λ _. Outcome ⊤) [ true ↦ read_fixed (one ++ more) tokens | false ↦ Stuck (token ∷ tokens) ]
         ≡ onward (elim same as (λ _. Outcome ⊤) [ true ↦ read_fixed one tokens | false ↦ Stuck (token ∷ tokens) ])
-            (λ passed. read_fixed more)
+        (λ passed. read_fixed more)
     by true later = later
     by false later = refl
 

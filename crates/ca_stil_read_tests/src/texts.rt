@@ -19,7 +19,8 @@ const OUT: &[u8] = b"  \"z\" Out;\n";
 
 const GROUPS: &[u8] = b"}\nSignalGroups {\n  \"_pi_\"='\"a\"';\n  \"_po_\"='\"z\"';\n}\n";
 
-const TIMING: &[u8] = b"Timing {\n  WaveformTable \"_wft_\" {\n    Period '100ns';\n    Waveforms {\n\
+const TIMING: &[u8] =
+    b"Timing {\n  WaveformTable \"_wft_\" {\n    Period '100ns';\n    Waveforms {\n\
     \x20     \"_pi_\" { 01 { '0ns' D/U; } }\n\
     \x20     \"_po_\" { LHX { '0ns' X; '90ns' L/H/X; } }\n    }\n  }\n}\n";
 
@@ -28,16 +29,21 @@ const BURST: &[u8] = b"PatternBurst \"_burst_\" {\n  PatList { \"_pattern_\"; }\
 
 const PATTERN: &[u8] = b"Pattern \"_pattern_\" {\n  W \"_wft_\";\n";
 
-const PAIR: &[u8] = b"  \"pair 0\": V { \"_pi_\"=1; \"_po_\"=X; }\n  V { \"_pi_\"=0; \"_po_\"=H; }\n";
+const PAIR: &[u8] =
+    b"  \"pair 0\": V { \"_pi_\"=1; \"_po_\"=X; }\n  V { \"_pi_\"=0; \"_po_\"=H; }\n";
 
-const SECOND: &[u8] = b"  \"pair 1\": V { \"_pi_\"=0; \"_po_\"=X; }\n  V { \"_pi_\"=1; \"_po_\"=L; }\n";
+const SECOND: &[u8] =
+    b"  \"pair 1\": V { \"_pi_\"=0; \"_po_\"=X; }\n  V { \"_pi_\"=1; \"_po_\"=L; }\n";
 
-const THIRD: &[u8] = b"  \"pair 2\": V { \"_pi_\"=0; \"_po_\"=X; }\n  V { \"_pi_\"=1; \"_po_\"=L; }\n";
+const THIRD: &[u8] =
+    b"  \"pair 2\": V { \"_pi_\"=0; \"_po_\"=X; }\n  V { \"_pi_\"=1; \"_po_\"=L; }\n";
 
-const LONG: &[u8] = b"  \"pair 0\": V { \"_pi_\"=11; \"_po_\"=X; }\n  V { \"_pi_\"=0; \"_po_\"=H; }\n";
+const LONG: &[u8] =
+    b"  \"pair 0\": V { \"_pi_\"=11; \"_po_\"=X; }\n  V { \"_pi_\"=0; \"_po_\"=H; }\n";
 
 // The accumulator, in parts around the number of its cells and around its pair.
-const CHAIN: &[u8] = b"STIL 1.0;\nSignals {\n  \"x[1]\" In;\n  \"x[0]\" In;\n  \"se\" In;\n  \"ck\" In;\n\
+const CHAIN: &[u8] =
+    b"STIL 1.0;\nSignals {\n  \"x[1]\" In;\n  \"x[0]\" In;\n  \"se\" In;\n  \"ck\" In;\n\
     \x20 \"hold\" In;\n  \"si\" In;\n  \"so\" Out;\n  \"y[1]\" Out;\n  \"y[0]\" Out;\n}\nSignalGroups {\n\
     \x20 \"_pi_\"='\"x[1]\" + \"x[0]\"';\n  \"_po_\"='\"y[1]\" + \"y[0]\"';\n\
     \x20 \"_ctl_\"='\"se\" + \"ck\" + \"hold\"';\n  \"_si_\"='\"si\"';\n  \"_so_\"='\"so\"';\n}\n\
@@ -82,8 +88,10 @@ enum Part {
     Other(&'static [u8]),
 }
 
-use Part::{Burst, Cells, Chain, Groups, Loads, Long, Other, Out};
-use Part::{Pair, Pattern, Second, Signals, Third, Timing};
+use Part::{
+    Burst, Cells, Chain, Groups, Loads, Long, Other, Out, Pair, Pattern, Second, Signals, Third,
+    Timing,
+};
 
 fn bytes_of(part: Part) -> &'static [u8] {
     match part {
@@ -108,25 +116,132 @@ fn bytes_of(part: Part) -> &'static [u8] {
 type Row = (&'static [Part], Seen);
 
 static ROWS: [Row; 15] = [
-    (&[Signals, Out, Groups, Timing, Burst, Pattern, Pair, Second, Other(b"}\n")], Seen::Pairs(2, 2, 1)),
+    (
+        &[
+            Signals,
+            Out,
+            Groups,
+            Timing,
+            Burst,
+            Pattern,
+            Pair,
+            Second,
+            Other(b"}\n"),
+        ],
+        Seen::Pairs(2, 2, 1),
+    ),
     // A word that is too long; an empty text; one without its last brace; one with a word after it.
-    (&[Signals, Out, Groups, Timing, Burst, Pattern, Long, Second, Other(b"}\n")], Seen::Line(27)),
+    (
+        &[
+            Signals,
+            Out,
+            Groups,
+            Timing,
+            Burst,
+            Pattern,
+            Long,
+            Second,
+            Other(b"}\n"),
+        ],
+        Seen::Line(27),
+    ),
     (&[], Seen::Line(1)),
-    (&[Signals, Out, Groups, Timing, Burst, Pattern, Pair, Second], Seen::Line(30)),
-    (&[Signals, Out, Groups, Timing, Burst, Pattern, Pair, Second, Other(b"}\nx")], Seen::Line(32)),
+    (
+        &[Signals, Out, Groups, Timing, Burst, Pattern, Pair, Second],
+        Seen::Line(30),
+    ),
+    (
+        &[
+            Signals,
+            Out,
+            Groups,
+            Timing,
+            Burst,
+            Pattern,
+            Pair,
+            Second,
+            Other(b"}\nx"),
+        ],
+        Seen::Line(32),
+    ),
     // A group of signals that go the other way; a pair out of turn; no pairs; blank lines after the end.
-    (&[Signals, Other(b"  \"z\" In;\n"), Groups, Timing, Burst, Pattern, Other(b"}\n")], Seen::Line(8)),
-    (&[Signals, Out, Groups, Timing, Burst, Pattern, Pair, Third, Other(b"}\n")], Seen::Line(29)),
-    (&[Signals, Out, Groups, Timing, Burst, Pattern, Other(b"}\n")], Seen::Pairs(0, 0, 0)),
-    (&[Signals, Out, Groups, Timing, Burst, Pattern, Pair, Other(b"}\n\n \t\r\n")], Seen::Pairs(1, 2, 1)),
+    (
+        &[
+            Signals,
+            Other(b"  \"z\" In;\n"),
+            Groups,
+            Timing,
+            Burst,
+            Pattern,
+            Other(b"}\n"),
+        ],
+        Seen::Line(8),
+    ),
+    (
+        &[
+            Signals,
+            Out,
+            Groups,
+            Timing,
+            Burst,
+            Pattern,
+            Pair,
+            Third,
+            Other(b"}\n"),
+        ],
+        Seen::Line(29),
+    ),
+    (
+        &[Signals, Out, Groups, Timing, Burst, Pattern, Other(b"}\n")],
+        Seen::Pairs(0, 0, 0),
+    ),
+    (
+        &[
+            Signals,
+            Out,
+            Groups,
+            Timing,
+            Burst,
+            Pattern,
+            Pair,
+            Other(b"}\n\n \t\r\n"),
+        ],
+        Seen::Pairs(1, 2, 1),
+    ),
     // With a chain; a captured word that is too long; a number of cells that begins with 0.
-    (&[Chain, Other(b"2"), Cells, Loads, Other(b"HL; }\n}\n")], Seen::Pairs(1, 8, 4)),
-    (&[Chain, Other(b"2"), Cells, Loads, Other(b"HLX; }\n}\n")], Seen::Line(60)),
+    (
+        &[Chain, Other(b"2"), Cells, Loads, Other(b"HL; }\n}\n")],
+        Seen::Pairs(1, 8, 4),
+    ),
+    (
+        &[Chain, Other(b"2"), Cells, Loads, Other(b"HLX; }\n}\n")],
+        Seen::Line(60),
+    ),
     (&[Chain, Other(b"02"), Cells, Other(b"}\n")], Seen::Line(34)),
     // More cells than any text has bytes: without pairs, and with one.
-    (&[Chain, Other(b"18446744073709551616"), Cells, Other(b"}\n")], Seen::Pairs(0, 0, 0)),
-    (&[Chain, Other(b"18446744073709551616"), Cells, Loads, Other(b"HL; }\n}\n")], Seen::Line(55)),
-    (&[Chain, Other(b"18446744073709551616"), Cells, Other(b"\"pair 0\" V")], Seen::Line(55)),
+    (
+        &[Chain, Other(b"18446744073709551616"), Cells, Other(b"}\n")],
+        Seen::Pairs(0, 0, 0),
+    ),
+    (
+        &[
+            Chain,
+            Other(b"18446744073709551616"),
+            Cells,
+            Loads,
+            Other(b"HL; }\n}\n"),
+        ],
+        Seen::Line(55),
+    ),
+    (
+        &[
+            Chain,
+            Other(b"18446744073709551616"),
+            Cells,
+            Other(b"\"pair 0\" V"),
+        ],
+        Seen::Line(55),
+    ),
 ];
 
 fn text_of(alloc: Global, parts: &[Part]) -> Result<Text, NoMemory> {

@@ -7,7 +7,8 @@ use Rattle.ca_store.specs.declared.reading.ReadFault.TheVariants.{StoreFailed, T
 
 -- the file of this name, where it is known, has more bytes than the limit
 abbrev pub IsPastLimit : Option Files → List ℕ → ℕ → Type 0
-IsPastLimit files name limit = ForSome files (λ reported. IsSomeAnd (reported name) (λ bytes. limit < length bytes))
+IsPastLimit files name limit =
+    ForSome files (λ reported. IsSomeAnd (reported name) (λ bytes. limit < length bytes))
 
 -- one byte more than the limit was taken of a file that has more, and no call failed
 pub record IsTooLong (files : Option Files) (name : List ℕ) (limit taken before after : ℕ) : Type 0 where

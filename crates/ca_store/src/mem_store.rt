@@ -51,7 +51,8 @@ impl MemStore {
     ghost use Rattle.std.specs.Prelude.{◌≡◌, ◌<◌, None, Some, IfOk, MatchOption};
     ghost use Rattle.ca_store.specs.Store.{Nothing};
     ghost use Rattle.ca_store.specs.Memory.{files_of};
-    ghost use Rattle.ca_store.specs.MemStore.{settings_of, room_of, calls_of, reported_by, opened_by, faults_of};
+    ghost use Rattle.ca_store.specs.MemStore.{settings_of, room_of, calls_of, reported_by, opened_by};
+    ghost use Rattle.ca_store.specs.MemStore.{faults_of};
 
     /// A store of these files, with nothing open, and with all the memory that it ever takes. A call gives or
     /// takes up to `piece` bytes. `room` is the number of bytes that created names and written bytes may fill

@@ -66,13 +66,16 @@ module _ (chip : Chip) (place_of number_of : ℕ → ℕ) (linked : IsLinked chi
         | inl before ↦ absurd (none at before)
         | inr more ↦
             let reads = more.3 in
-            let out = more.2 in
-            (more.0, record {
-              known = reads.known;
-              pin = reads.pin;
-              within = reads.within;
-              reached = subst (λ n. IsReachedFrom chip u n) (out.on ∙ sym reads.on) (reached_own chip u out.output out.within);
-            }, more.4)
+            let out = more.2 in (
+              more.0,
+              record {
+                known = reads.known;
+                pin = reads.pin;
+                within = reads.within;
+                reached = subst (λ n. IsReachedFrom chip u n) (out.on ∙ sym reads.on) (reached_own chip u out.output out.within);
+              },
+              more.4,
+            )
       ];
     }
       where
@@ -169,13 +172,16 @@ module _ (chip : Chip) (place_of number_of : ℕ → ℕ) (linked : IsLinked chi
           | inl before ↦ so_far.due one before
           | inr more ↦
               let reads = more.3 in
-              let out = more.2 in
-              (more.0, record {
-                known = reads.known;
-                pin = reads.pin;
-                within = reads.within;
-                reached = subst (λ n. IsReachedFrom chip u n) (out.on ∙ sym reads.on) (after_reached chip u w out.output following out.within);
-              }, more.4)
+              let out = more.2 in (
+                more.0,
+                record {
+                  known = reads.known;
+                  pin = reads.pin;
+                  within = reads.within;
+                  reached = subst (λ n. IsReachedFrom chip u n) (out.on ∙ sym reads.on) (after_reached chip u w out.output following out.within);
+                },
+                more.4,
+              )
         ];
       }
 

@@ -9,8 +9,8 @@ use ca_base::NoMemory;
 use ca_cell::Cell;
 use ca_net::Network;
 use ca_settle::Work;
-use ca_view::View;
 use ca_static::LastTable;
+use ca_view::View;
 use std::alloc::Global;
 
 /// For each cell its table, if it is static.
@@ -29,11 +29,7 @@ pub(crate) fn tables_of(alloc: Global, chip: &View<'_>) -> Result<Tables, NoMemo
 }
 
 // The table of the cell with a number, if some instance has it.
-fn table_for(
-    alloc: Global,
-    chip: &View<'_>,
-    number: usize,
-) -> Result<Option<LastTable>, NoMemory>
+fn table_for(alloc: Global, chip: &View<'_>, number: usize) -> Result<Option<LastTable>, NoMemory>
     ensures { IfOk result (FitsNumber chip.now.core (place_in chip.now.ranks)
         (cell_number chip.now.chip) number) }
 {

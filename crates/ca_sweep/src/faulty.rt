@@ -17,8 +17,8 @@ use ca_defect::Defect;
 use ca_flat::ChipDefect;
 use ca_net::{Trit, Wave};
 use ca_response::{OutWaves, PinWaves};
-use ca_view::View;
 use ca_table::{Rooms, copied};
+use ca_view::View;
 use std::alloc::Global;
 
 // The number of slots: about four MiB.
@@ -178,7 +178,8 @@ fn empty_slots(alloc: Global) -> Result<Vec<Option<Entry>>, NoMemory>
 fn if_same(entry: &Entry, number: usize, defect: Defect, pins: &[Wave]) -> Option<OutWaves>
     ensures { IfSome result (λ outputs. IsEntry entry.now number defect pins.now outputs.items) }
 {
-    let same = entry.number == number && entry.defect == defect
+    let same = entry.number == number
+        && entry.defect == defect
         && same_waves(entry.pins.as_slice(), pins);
     if same {
         Some(copied(&entry.outputs))

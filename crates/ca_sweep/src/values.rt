@@ -18,8 +18,8 @@ use crate::cells::Tables;
 use crate::seen::Flips;
 use ca_base::NoMemory;
 use ca_net::{State, Trit};
-use ca_view::View;
 use ca_static::LastTable;
+use ca_view::View;
 use std::alloc::Global;
 
 /// A last value for each net, and for each place in the order whether its instance is due.
@@ -94,7 +94,11 @@ impl Values {
         chip.linked();
         let first = chip.cell(w).inputs();
         for output in 0..chip.cell(w).outputs() {
-            self.put(chip, chip.pin_net(w, first + output), table.last(number, output));
+            self.put(
+                chip,
+                chip.pin_net(w, first + output),
+                table.last(number, output),
+            );
         }
     }
 
@@ -181,7 +185,11 @@ ghost use Rattle.ca_sweep.specs.Seen.{is_flipped, flipped_if};
 fn is_flipped(flips: Flips, output: usize) -> bool
     ensures { result ≡ is_flipped flips output }
 {
-    if output == 0 { flips.first } else { flips.second }
+    if output == 0 {
+        flips.first
+    } else {
+        flips.second
+    }
 }
 
 // The opposite of a value, or the value.

@@ -26,4 +26,5 @@ HasPlainName Sign text = ⊤
 -- each identifier of a text has such a name
 abbrev pub NamesArePlain : Type 0
 NamesArePlain =
-    (text : List ℕ) → All (λ (token : Token). HasPlainName token.kind (text_of token text)) (scan_of text).tokens
+    (text : List ℕ) → All (λ (token : Token). HasPlainName token.kind (text_of token text))
+    (scan_of text).tokens

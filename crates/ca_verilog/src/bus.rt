@@ -186,7 +186,8 @@ impl Buses {
         name: &[u8],
         ports: &NameSet,
     ) -> Result<Self, Refusal>
-        ensures { Gives kind_reported (λ buses. buses) result (declare direction range name.now ports.now self) }
+        ensures { Gives kind_reported (λ buses. buses) result
+            (declare direction range name.now ports.now self) }
     {
         if !direction.is_inner() && !ports.has(name) {
             return Err(Refusal::Kind(VerilogKind::Undeclared));

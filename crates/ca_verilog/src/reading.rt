@@ -104,7 +104,8 @@ impl Reading {
     }
 
     fn add_port(&mut self, alloc: Global, name: &[u8]) -> Result<(), Refusal>
-        ensures { Steps kind_reported (reading_seen self.new) result (add_port name.now (reading_seen self.old)) }
+        ensures { Steps kind_reported (reading_seen self.new) result
+            (add_port name.now (reading_seen self.old)) }
     {
         if self.ports.has(name) {
             return Err(Refusal::Kind(VerilogKind::DoubleName));
@@ -162,7 +163,8 @@ impl Reading {
     }
 
     fn take_pin(&mut self, alloc: Global, name: &[u8]) -> Result<(), Refusal>
-        ensures { Steps kind_reported (reading_seen self.new) result (take_pin name.now (reading_seen self.old)) }
+        ensures { Steps kind_reported (reading_seen self.new) result
+            (take_pin name.now (reading_seen self.old)) }
     {
         let pin = fold(alloc, name)?;
         if self.hand.uses.has(pin.as_bytes()) {
@@ -173,7 +175,8 @@ impl Reading {
     }
 
     fn refer(&mut self, name: &[u8]) -> Result<(), Refusal>
-        ensures { Steps kind_reported (reading_seen self.new) result (refer name.now (reading_seen self.old)) }
+        ensures { Steps kind_reported (reading_seen self.new) result
+            (refer name.now (reading_seen self.old)) }
     {
         let Some(place) = self.buses.find(name) else {
             return Err(Refusal::Kind(VerilogKind::Undeclared));
@@ -232,7 +235,8 @@ impl Reading {
     }
 
     fn end_instance(&mut self, alloc: Global) -> Result<(), Refusal>
-        ensures { Steps kind_reported (reading_seen self.new) result (Ok (end_instance (reading_seen self.old))) }
+        ensures { Steps kind_reported (reading_seen self.new) result
+            (Ok (end_instance (reading_seen self.old))) }
     {
         let instance = Instance {
             name: mem::replace(&mut self.hand.name, Text::new(alloc)),

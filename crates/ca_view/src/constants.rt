@@ -9,8 +9,8 @@ ghost use Rattle.ca_view.specs.code.Constants.{fixed_of};
 
 use ca_base::NoMemory;
 use ca_core::CoreNets;
-use ca_net::Trit;
 use ca_linked::{Chip, NetId};
+use ca_net::Trit;
 use std::alloc::Global;
 
 /// An input net whose value is fixed.

@@ -30,8 +30,8 @@ const MOST_PATTERN_INPUTS: usize = 16_383;
 
 /// A linked chip, which it borrows, and its core as tables: the rank of each instance, the instances that
 /// read each net, the constants, the nets of the pins of each instance, for each net those that it feeds and
-/// those that feed it, and the nets of the chip inputs and of the observed outputs. Nets and instances have the
-/// numbers of the core.
+/// those that feed it, and the nets of the chip inputs and of the observed outputs. Nets and instances have
+/// the numbers of the core.
 #[derive(Drop)]
 pub struct View<'a> {
     chip: &'a Chip,
@@ -109,8 +109,8 @@ impl<'a> View<'a> {
         let _ = &self.chip;
     }
 
-    /// The order is topological, the chip inputs and constants have nets of their own, these are all that read a
-    /// net, and the lists are those of the core. The call does nothing: it is for the facts.
+    /// The order is topological, the chip inputs and constants have nets of their own, these are all that
+    /// read a net, and the lists are those of the core. The call does nothing: it is for the facts.
     pub fn linked(&self)
         ensures linked { IsLinked self.now.core (place_in self.now.ranks) (cell_number self.now.chip) }
         ensures pinned { IsPinned self.now.core }

@@ -49,7 +49,8 @@ IsDriver wiring net (PortBit bit) reported = reported ≡ driver.Port (record { 
 IsDriver wiring net (ConstantBit value) reported = reported ≡ driver.Constant value
 IsDriver wiring net (OutputPin u pin) reported =
     (part : WiredPart) × (name : List ℕ) × (slice_get wiring.parts u ≡ Some part)
-    × (slice_get (output_names part.meaning) pin ≡ Some name) × (reported ≡ driver.Pin (record { 0 = u }) name)
+    × (slice_get (output_names part.meaning) pin ≡ Some name)
+    × (reported ≡ driver.Pin (record { 0 = u }) name)
 
 -- two drive the net, the first two of all that do
 pub record IsDoubleDriven (wiring : Wiring) (net : ℕ) (first second : Driver) : Type 0 where

@@ -18,7 +18,8 @@ driving_of (FromPin u pin) = OutputPin u pin
 -- the same drives the net in the chip, and the wires of that net in the wiring
 abbrev pub HasSameDrivers : Type 0
 HasSameDrivers =
-    (wiring : Wiring) (chip : LinkedChip) (link : IsLinkOf wiring chip) (net wire : ℕ) → slice_get link.nets net
+    (wiring : Wiring) (chip : LinkedChip) (link : IsLinkOf wiring chip) (net wire : ℕ)
+    → slice_get link.nets net
     ≡ Some wire
     → (source : Source) → Drives chip net source ↔ nets.Drives wiring wire (driving_of source)
 
@@ -33,7 +34,8 @@ pub record AreFirstDrivings (wiring : Wiring) (wire : ℕ) (one two : Driving) :
 -- the first two that drive a net of the chip are the first two in the wiring
 abbrev pub HasSameFirstTwo : Type 0
 HasSameFirstTwo =
-    (wiring : Wiring) (chip : LinkedChip) (link : IsLinkOf wiring chip) (net wire : ℕ) → slice_get link.nets net
+    (wiring : Wiring) (chip : LinkedChip) (link : IsLinkOf wiring chip) (net wire : ℕ)
+    → slice_get link.nets net
     ≡ Some wire
     → (one two : Source) → AreFirstTwo (Drives chip net) one two
     → AreFirstDrivings wiring wire (driving_of one) (driving_of two)

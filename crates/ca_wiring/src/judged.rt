@@ -16,9 +16,9 @@ use crate::scan_row::ScanRow;
 use ca_base::NoMemory;
 use ca_cell::{Entry, Library, RawCell};
 use ca_lex::Text;
+use ca_linked::InstanceId;
 use ca_names::NameSet;
 use ca_verilog::{RawInstance, RawNetlist, RawUse};
-use ca_linked::InstanceId;
 use std::alloc::Global;
 
 // An instance of a library cell.

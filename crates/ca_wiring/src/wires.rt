@@ -8,8 +8,8 @@ use crate::pins::{bit_on, wire_of};
 use crate::scan_row::ScanRow;
 use ca_base::NoMemory;
 use ca_cell::RawPin;
-use ca_verilog::{RawBit, RawUse};
 use ca_linked::NetList;
+use ca_verilog::{RawBit, RawUse};
 use std::alloc::Global;
 
 /// The wire of an input pin; one that is connected to nothing breaks a rule.

@@ -12,9 +12,10 @@ abbrev pub IsGuidedTo : Chip → Guided → Option ChipDefect → Type 0
 IsGuidedTo chip guided None = Unit {0}
 IsGuidedTo chip guided (Some defect) = IsDefectIn chip defect × IsSupport chip defect guided.support
 
--- What the fields of a judge keep: the simulator's chip, `core`, is that of the view, `chip`, whose lists these
--- are.
-pub record IsChipJudge (core : Chip) (aim : Option ChipDefect) (chip : Chip) (lists : NetLists) (rows_chip : Chip)
+-- What the fields of a judge keep: the simulator's chip, `core`, is that of the view, `chip`, whose lists
+-- these are.
+pub record IsChipJudge (core : Chip) (aim : Option ChipDefect) (chip : Chip) (lists : NetLists)
+    (rows_chip : Chip)
     (guided : Guided) (outputs : List ℕ) (defect : Option ChipDefect) : Type 0 where
   pub judged : CanBeJudged core
   pub same : chip ≡ core

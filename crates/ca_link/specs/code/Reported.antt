@@ -23,7 +23,8 @@ pub record IsControlName (chip : LinkedChip) (scan : List ScanRow) (u k : ℕ) (
   pub named : slice_get (control_names (ScanCell row)) k ≡ Some name
 
 -- the net is reported with the first two that drive it; or nothing does
-abbrev pub ReportsMisdriven : LinkedChip → List ScanRow → ℕ → Option Source → Option Source → ChipFault → Type 0
+abbrev pub ReportsMisdriven : LinkedChip → List ScanRow → ℕ → Option Source → Option Source → ChipFault
+    → Type 0
 ReportsMisdriven chip scan net None two reported = reported ≡ fault.Undriven (record { 0 = net })
 ReportsMisdriven chip scan net (Some one) None reported = reported ≡ fault.Undriven (record { 0 = net })
 ReportsMisdriven chip scan net (Some one) (Some two) reported =
@@ -42,6 +43,7 @@ abbrev pub ReportsFault : LinkedChip → List ScanRow → WireFault → ChipFaul
 ReportsFault chip scan (wire_fault.Misdriven net sources) reported =
     ReportsMisdriven chip scan net sources.first sources.second reported
 ReportsFault chip scan (wire_fault.Misused misused) reported = ReportsMisused chip scan misused reported
-ReportsFault chip scan (wire_fault.Observed net) reported = reported ≡ fault.ControlObserved (record { 0 = net })
+ReportsFault chip scan (wire_fault.Observed net) reported =
+    reported ≡ fault.ControlObserved (record { 0 = net })
 ReportsFault chip scan (wire_fault.Loop loop) reported = reported ≡ fault.Loop loop
 ReportsFault chip scan wire_fault.NoMemory reported = reported ≡ fault.NoMemory

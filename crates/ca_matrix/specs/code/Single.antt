@@ -19,7 +19,8 @@ row_number raw row = row.first * 2 ^ role_count is_input raw.pins + row.last
 
 -- these are the rows that do, of the first `count`
 pub record AreFound (raw : RawCell) (defect : Defect) (count : ℕ) (rows : List Row) : Type 0 where
-  pub contained : (row : Row) → Contains rows row → IsExposingRow raw defect row × (row_number raw row < count)
+  pub contained : (row : Row) → Contains rows row
+      → IsExposingRow raw defect row × (row_number raw row < count)
   pub contains : (row : Row) → IsExposingRow raw defect row → row_number raw row < count → Contains rows row
 
 -- the room holds the first limit for a vector over the input pins, given by its number

@@ -17,6 +17,7 @@ pub record IsListed (test : ℕ → Bool) (first count : ℕ) (nets seats : List
 -- the marks of the nets that members drive, and the nets of the input pins and of the output pins
 pub record AreClusterNets (chip : LinkedChip) (members : List ℕ) (nets : ClusterNets) : Type 0 where
   pub driven : AreMarks (net_count chip) (drives_net chip members) nets.driven
-  pub inputs : IsListed (feeds_members chip members) 2 (net_count chip) nets.inputs.nets nets.inputs.seats.items
+  pub inputs : IsListed (feeds_members chip members) 2
+      (net_count chip) nets.inputs.nets nets.inputs.seats.items
   pub outputs : IsListed (drives_net chip members) (2 + length nets.inputs.nets) (net_count chip)
       nets.outputs.nets nets.outputs.seats.items

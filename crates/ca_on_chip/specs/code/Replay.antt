@@ -11,7 +11,8 @@ use Rattle.ca_on_chip.specs.Replay.{HasFaultyLine, HasRun}
 
 -- why the file of events gives none for the run of the chip that the words name: its first faulty line, or it
 -- could not be read
-abbrev pub IsOrderStage : List ℕ → List ℕ → List ℕ → List ℕ → List ℕ → LinkedChip → Option Files → ℕ → ℕ → Fault
+abbrev pub IsOrderStage : List ℕ → List ℕ → List ℕ → List ℕ → List ℕ → LinkedChip → Option Files → ℕ → ℕ
+    → Fault
     → Type 0
 IsOrderStage instance defect first last order chip files before after (Order line) =
     OfFile files order MAX_ORDER (HasFaultyLine instance defect first last line chip)

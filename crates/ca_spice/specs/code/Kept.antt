@@ -13,8 +13,8 @@ use Rattle.ca_spice.specs.code.Mos.{has_gate}
 abbrev pub HasOwnStrength : RawDevice → Type 0
 HasOwnStrength device = device.strength ≡ strength_of device.width.0 device.length.0
 
--- there are at least as many nets as pins, terminals are places among the nets, and each device has a gate and
--- the strength of its sizes
+-- there are at least as many nets as pins, terminals are places among the nets, and each device has a gate
+-- and the strength of its sizes
 pub record IsPlaced (pins : ℕ) (nets : List (List ℕ)) (devices : List RawDevice) : Type 0 where
   pub few_nets : length nets < 2 ^ 32
   pub few_devices : length devices < 2 ^ 32

@@ -13,9 +13,10 @@ loop-output-preserved c =
     let inputs : c.inputs-first.result ≡ inputs_at core c.args.u = c.inputs-first.ensures.count ∙ ap (λ (raw : RawCell). role_count is_input raw.pins) c.cell.ensures in
     let net_is : c.pin_net-net.result ≡ output_net core c.args.u c.loop-output.output = c.pin_net-net.ensures ∙ ap (λ k. net_of core c.args.u (k + c.loop-output.output)) inputs in
     below_more (λ output. (value_at c.args.lasts.now (output_net core c.args.u output) ≢ X) × AreReadersMarked core c.args.marks.now (output_net core c.args.u output))
-    c.loop-output.output c.loop-output.invariant
-    (subst (λ n. value_at c.args.lasts.now n ≢ X) net_is (λ e. let r : c.get.result ≡ X = c.get.ensures ∙ e in let h = rw r at c.if-eq.ensures in cc),
-    subst (AreReadersMarked core c.args.marks.now) net_is (c.if-not-are_readers_marked.ensures refl))
+    c.loop-output.output c.loop-output.invariant (
+      subst (λ n. value_at c.args.lasts.now n ≢ X) net_is (λ e. let r : c.get.result ≡ X = c.get.ensures ∙ e in let h = rw r at c.if-eq.ensures in cc),
+      subst (AreReadersMarked core c.args.marks.now) net_is (c.if-not-are_readers_marked.ensures refl),
+    )
 
 pub returns : goal.returns
 returns c = λ is output within.
