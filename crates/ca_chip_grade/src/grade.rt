@@ -14,7 +14,7 @@ use ca_base::List;
 use ca_engine::ChipBench;
 use ca_generate::Watch;
 use ca_grade::{GradeFault, Grades, grade_judged};
-use ca_guide::LowestUnset;
+use ca_guide::{Choice, LowestUnset};
 use ca_linked::Chip;
 use ca_net::Trit;
 use ca_pair::Pair;
@@ -23,16 +23,17 @@ use ca_scan::Chains;
 use ca_view::View;
 use std::alloc::Global;
 
-// The grades by rows of any type: so the bench that is dropped here has few parts to the prover.
-fn graded_by<R: ExposableDefects, T: Watch>(
+// The grades by rows and a choice of any type: so the bench that is dropped here has few parts to the prover.
+fn graded_by<R: ExposableDefects, P: Choice + Drop, T: Watch>(
     alloc: Global,
     view: &View<'_>,
     rows: &R,
+    choice: P,
     pairs: &[Pair],
     expected: &[List<Trit>],
     watch: &mut T,
 ) -> Result<Grades, GradeFault>
-    requires rows { R.chip rows.now ≡ core_of view.now.chip }
+    requires rows { R.chip rows.now ≡ view.now.core }
     requires numbers { length pairs.now < 2 ^ 32 }
     requires bits { All (λ pair. length pair ≡ bit_count (core_of view.now.chip)) pairs.now }
     requires counted { length pairs.now ≡ length expected.now }
@@ -41,7 +42,7 @@ fn graded_by<R: ExposableDefects, T: Watch>(
     ensures expected { IfOk result (λ grades. AreExpected (core_of view.now.chip) pairs.now expected.now) }
     ensures cause { IfErr result (IsCause (core_of view.now.chip) pairs.now expected.now) }
 {
-    let mut bench = ChipBench::reserve(alloc, view, rows, LowestUnset, 0)?;
+    let mut bench = ChipBench::reserve(alloc, view, rows, choice, 0)?;
     let graded = grade_judged(alloc, &mut bench, pairs, expected, watch);
     drop(bench);
     graded
@@ -64,8 +65,9 @@ fn graded_over<T: Watch>(
     ensures expected { IfOk result (λ grades. AreExpected (core_of view.now.chip) pairs.now expected.now) }
     ensures cause { IfErr result (IsCause (core_of view.now.chip) pairs.now expected.now) }
 {
+    view.viewed();
     let rows = ChipRows::new(alloc, view.chip())?;
-    let graded = graded_by(alloc, view, &rows, pairs, expected, watch);
+    let graded = graded_by(alloc, view, &rows, LowestUnset, pairs, expected, watch);
     drop(rows);
     graded
 }

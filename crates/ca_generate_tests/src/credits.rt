@@ -17,7 +17,7 @@ use ca_guide::{Choice, LowestUnset};
 use ca_lex::Text;
 use ca_linked::Chip;
 use ca_pair::{Pair, Pairs};
-use ca_rows::ChipRows;
+use ca_rows::{ChipRows, ExposableDefects};
 use ca_view::View;
 use std::alloc::Global;
 use std::process::Abort;
@@ -156,21 +156,22 @@ struct Reported {
 
 // What is reported about a bench of a chip, given its view and its rows. Pairs have `bits` bits. Each value
 // is dropped in one place here and below: more places are slow to prove.
-fn tell_over<P: Choice + Drop>(
+fn tell_over<R: ExposableDefects, P: Choice + Drop>(
     alloc: Global,
     view: &View<'_>,
-    rows: &ChipRows<'_>,
+    rows: &R,
     choice: P,
     budget: u32,
     pairs: &[Pair],
     bits: usize,
     asked: Asked,
 ) -> Result<Reported, NoMemory>
-    requires rows { rows.now.chip ≡ view.now.chip }
+    requires rows { R.chip rows.now ≡ view.now.core }
     requires bits { All (λ pair. length pair ≡ bits) pairs.now }
     requires numbers { length pairs.now < 2 ^ 32 }
 {
     view.linked();
+    view.viewed();
     if bits != 2 * view.input_count() {
         return Err(NoMemory);
     }
@@ -199,6 +200,7 @@ fn tell_by_choice(
     requires bits { All (λ pair. length pair ≡ bits) pairs.now }
     requires numbers { length pairs.now < 2 ^ 32 }
 {
+    view.viewed();
     if let Asked::Verdict(_) = asked {
         return tell_over(alloc, view, rows, LowestUnset, budget, pairs, bits, asked);
     }
