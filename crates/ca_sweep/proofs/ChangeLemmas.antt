@@ -1,6 +1,6 @@
 -- Marks of places, and values of nets, that change one after another.
 use Rattle.std.proofs.Common.{◌≡◌, ◌≢◌, ℕ, ◌+◌, ◌<◌, ◌⊎◌, Bool, true, false, List, length, inl, inr, refl, sym, ◌∙◌, ap, subst, arith}
-use Rattle.std.proofs.Common.{get_or, slice_set, below_more}
+use Rattle.std.proofs.Common.{get_or, slice_set, below_more, ◌↔◌}
 use Rattle.std.proofs.lemmas.Bool.{cases_eq}
 use Rattle.std.proofs.lemmas.List.{get_or_default, get_or-set_same, get_or-set_other, length-set}
 use Rattle.std.proofs.lemmas.List.Elements.{All-contains, All-from_get_or}
@@ -9,50 +9,47 @@ use Rattle.ca_net.specs.declared.trit.Trit.TheVariants.{X}
 use Rattle.ca_net.specs.State.{value_at}
 use Rattle.ca_flat.specs.Chip.{Chip, outputs_at, output_net, count_of, IsChip}
 use Rattle.ca_view.specs.Linked.{Reads, AreReaders}
+use Rattle.ca_sweep.specs.declared.place_set.PlaceSet.{PlaceSet}
 use Rattle.ca_sweep.specs.declared.values.Values.{Values}
+use Rattle.ca_sweep.specs.code.PlaceSet.{HoldsUpTo}
 use Rattle.ca_sweep.specs.code.Changes.{IsDue, IsMarked, Changes, IsPut, IsOutputBelow, IsWrittenTo}
 
--- the mark that was read
-pub due_read : (due : List Bool) (place : ℕ) (read : Bool) → place < length due → read ≡ get_or due place read → read ≡ true → IsDue due place
-due_read due place read within at is = get_or_default due place false read within ∙ sym at ∙ is
+-- a mark that was read
+pub mark_read : (marks : List Bool) (place : ℕ) (read : Bool) → place < length marks → read ≡ get_or marks place read → read ≡ true → get_or marks place false ≡ true
+mark_read marks place read within at is = get_or_default marks place false read within ∙ sym at ∙ is
 
 -- the first `end` readers are due, and all that was, and nothing else
-pub record IsMarkedTo (chip : Chip) (place_of : ℕ → ℕ) (net : ℕ) (readers : List ℕ) (end : ℕ) (old new : List Bool) : Type 0 where
-  pub room : length new ≡ length old
+pub record IsMarkedTo (chip : Chip) (place_of : ℕ → ℕ) (net : ℕ) (readers : List ℕ) (end : ℕ) (old new : PlaceSet) : Type 0 where
+  pub room : (count : ℕ) → HoldsUpTo old count → HoldsUpTo new count
   pub kept : (place : ℕ) → IsDue old place → IsDue new place
   pub done : (k : ℕ) → k < end → IsDue new (place_of (get_or readers k 0))
   pub added : (place : ℕ) → IsDue new place → IsDue old place ⊎ ((w : ℕ) × Reads chip w net × (place_of w ≡ place))
 
 module _ (chip : Chip) (place_of : ℕ → ℕ) (net : ℕ) (readers : List ℕ) where
-  pub marked_none : (due : List Bool) → IsMarkedTo chip place_of net readers 0 due due
-  marked_none due = record { room = refl; kept = λ place is. is; done = λ k less. absurd (omega arith); added = λ place is. inl is }
+  pub marked_none : (due : PlaceSet) → IsMarkedTo chip place_of net readers 0 due due
+  marked_none due = record { room = λ count holds. holds; kept = λ place is. is; done = λ k less. absurd (omega arith); added = λ place is. inl is }
 
-  pub marked_more : (end u : ℕ) (old mid new : List Bool) → IsMarkedTo chip place_of net readers end old mid → get_or readers end 0 ≡ u → Reads chip u net
-      → place_of u < length mid → new ≡ slice_set mid (place_of u) true → IsMarkedTo chip place_of net readers (end + 1) old new
-  marked_more end u old mid new so_far at reads within is = record {
-    room = ap length is ∙ length-set mid (place_of u) true ∙ so_far.room;
+  pub marked_more : (end u : ℕ) (old mid new : PlaceSet) → IsMarkedTo chip place_of net readers end old mid → get_or readers end 0 ≡ u → Reads chip u net
+      → IsDue new (place_of u) → ((other : ℕ) → other ≢ place_of u → IsDue new other ↔ IsDue mid other) → ((count : ℕ) → HoldsUpTo mid count → HoldsUpTo new count)
+      → IsMarkedTo chip place_of net readers (end + 1) old new
+  marked_more end u old mid new so_far at reads here others room = record {
+    room = λ count holds. room count (so_far.room count holds);
     kept = λ place due. stays place (so_far.kept place due);
     done = below_more (λ k. IsDue new (place_of (get_or readers k 0))) end (λ k less. stays (place_of (get_or readers k 0)) (so_far.done k less))
         (subst (λ x. IsDue new (place_of x)) (sym at) here);
     added = λ place due. elim (cases_eq place (place_of u)) [
       | inl e ↦ inr (u, reads, sym e)
-      | inr other ↦ so_far.added place (sym (elsewhere place other) ∙ due)
+      | inr other ↦ so_far.added place ((others place other).0 due)
     ];
   }
     where
-      here : IsDue new (place_of u)
-      here = ap (λ due. get_or due (place_of u) false) is ∙ get_or-set_same mid (place_of u) true false within
-
-      elsewhere : (place : ℕ) → place ≢ place_of u → get_or new place false ≡ get_or mid place false
-      elsewhere place other = ap (λ due. get_or due place false) is ∙ get_or-set_other mid (place_of u) place true false other
-
       stays : (place : ℕ) → IsDue mid place → IsDue new place
       stays place due = elim (cases_eq place (place_of u)) [
         | inl e ↦ subst (IsDue new) (sym e) here
-        | inr other ↦ elsewhere place other ∙ due
+        | inr other ↦ (others place other).1 due
       ]
 
-  pub marked_all : (end : ℕ) (old new : List Bool) → AreReaders chip net readers → end ≡ length readers → IsMarkedTo chip place_of net readers end old new
+  pub marked_all : (end : ℕ) (old new : PlaceSet) → AreReaders chip net readers → end ≡ length readers → IsMarkedTo chip place_of net readers end old new
       → IsMarked chip place_of net old new
   marked_all end old new are all marked = record {
     room = marked.room;
@@ -66,7 +63,8 @@ module _ (chip : Chip) (place_of : ℕ → ℕ) where
   pub changes_none : (given : ℕ → Type 0) (values : Values) → Changes chip place_of given values values
   changes_none given values = record {
     nets = refl;
-    places = refl;
+    places = λ count holds. holds;
+    changed = λ net. inl refl;
     others = λ net none. refl;
     kept = λ place due. due;
     readers = λ w net reads. inl refl;
@@ -78,7 +76,11 @@ module _ (chip : Chip) (place_of : ℕ → ℕ) where
       → ((net : ℕ) → one net → both net) → ((net : ℕ) → other net → both net) → Changes chip place_of both old new
   changes_then one other both old mid new first then from_one from_other = record {
     nets = then.nets ∙ first.nets;
-    places = then.places ∙ first.places;
+    places = λ count holds. then.places count (first.places count holds);
+    changed = λ net. elim (then.changed net) [
+      | inl same ↦ elim (first.changed net) [ inl before ↦ inl (same ∙ before) | inr is ↦ inr (from_one net is) ]
+      | inr is ↦ inr (from_other net is)
+    ];
     others = λ net none. then.others net (λ is. none (from_other net is)) ∙ first.others net (λ is. none (from_one net is));
     kept = λ place due. then.kept place (first.kept place due);
     readers = λ w net reads. elim (then.readers w net reads) [
@@ -93,12 +95,13 @@ module _ (chip : Chip) (place_of : ℕ → ℕ) where
 
   -- a net is given another value
   pub put_new : (net : ℕ) (value : Trit) (old new : Values) → net < length old.values → new.values ≡ slice_set old.values net value
-      → IsMarked chip place_of net old.due.items new.due.items → IsPut chip place_of net value old new
+      → IsMarked chip place_of net old.due new.due → IsPut chip place_of net value old new
   put_new net value old new within is marked = record {
     here = ap (λ values. value_at values net) is ∙ get_or-set_same old.values net value X within;
     changes = record {
       nets = ap length is ∙ length-set old.values net value;
       places = marked.room;
+      changed = λ other. elim (cases_eq other net) [ inl e ↦ inr e | inr apart ↦ inl (others other apart) ];
       others = others;
       kept = marked.kept;
       readers = λ w other reads. elim (cases_eq other net) [

@@ -3,6 +3,7 @@ pub mod ChangeLemmas
 pub mod NumberLemmas
 pub mod ClearLemmas
 pub mod SweepLemmas
+pub mod HeldLemmas
 pub mod SeenLemmas
 pub mod FaultyLemmas
 pub mod FoundLemmas

@@ -1,5 +1,5 @@
 -- The values behind an instance, place by place.
-use Rattle.std.proofs.Common.{◌≡◌, ℕ, ◌+◌, ◌<◌, ◌≤◌, ◌⊎◌, inl, inr, refl, sym, ◌∙◌, ap, subst, arith}
+use Rattle.std.proofs.Common.{◌≡◌, ℕ, ◌+◌, ◌<◌, ◌≤◌, ◌⊎◌, inl, inr, refl, sym, ◌∙◌, ap, subst, arith, None, Some}
 use Rattle.std.proofs.lemmas.Bool.{cases_eq, cases_lt}
 use Rattle.ca_net.specs.declared.trit.Trit.{Trit}
 use Rattle.ca_net.specs.declared.scale.TheConstants.{OUTPUT_NET}
@@ -12,19 +12,11 @@ use Rattle.ca_flips.specs.Flips.{IsAfter, vector_at, KeepsGood, IsEvaluated, Are
 use Rattle.ca_flips.proofs.ReachLemmas.{reached_own, after_reached, after_other}
 use Rattle.ca_flips.proofs.VectorLemmas.{vector_same}
 use Rattle.ca_view.specs.Linked.{IsLinked, IsPlaced}
-use Rattle.ca_sweep.specs.declared.seen.Flips.{Flips}
 use Rattle.ca_sweep.specs.declared.values.Values.{Values}
-use Rattle.ca_sweep.specs.Seen.{flipped_outputs, flipped_if, is_flipped}
-use Rattle.ca_sweep.specs.code.Changes.{IsDue, AreRoomy, IsOutputBelow, IsWritten, IsEvaluatedOut, IsPassed}
-use Rattle.ca_sweep.specs.code.Changes.{IsSweptTo}
-
--- the opposites of the same values
-pub flipped_anew : (chip : Chip) (place_of : ℕ → ℕ) (u : ℕ) (goods others : ℕ → Trit) (flips : Flips) (old new : Values) → ((net : ℕ) → goods net ≡ others net)
-    → IsWritten chip place_of u (flipped_outputs chip u goods flips) old new → IsWritten chip place_of u (flipped_outputs chip u others flips) old new
-flipped_anew chip place_of u goods others flips old new same written = record {
-  written = λ output less. written.written output less ∙ ap (flipped_if (is_flipped flips output)) (same (output_net chip u output));
-  changes = written.changes;
-}
+use Rattle.ca_sweep.specs.code.Changes.{IsDue, AreRoomy, IsOutputBelow, IsWritten, IsEvaluatedOut}
+use Rattle.ca_sweep.specs.code.Changes.{IsEvaluatedAt, IsSweptTo}
+use Rattle.ca_sweep.specs.code.PlaceSet.{IsNext}
+use Rattle.ca_sweep.specs.code.Held.{IsHeld}
 
 module _ (chip : Chip) (place_of number_of : ℕ → ℕ) (linked : IsLinked chip place_of number_of) where
   abbrev driver : (w : ℕ) → w < count_of chip → (net : ℕ) → IsOutputBelow chip w (outputs_at chip w) net → Drives chip net
@@ -47,10 +39,10 @@ module _ (chip : Chip) (place_of number_of : ℕ → ℕ) (linked : IsLinked chi
 
   module _ (u : ℕ) (known : u < count_of chip) (goods outputs : ℕ → Trit) where
     -- the output nets of u are given their values
-    pub swept_begins : (old new : Values) → AreRoomy chip old → ((net : ℕ) → value_at old.values net ≡ goods net) → ((place : ℕ) → IsDue old.due.items place → ⊥)
+    pub swept_begins : (old new : Values) → AreRoomy chip old → ((net : ℕ) → value_at old.values net ≡ goods net) → ((place : ℕ) → IsDue old.due place → ⊥)
         → IsWritten chip place_of u outputs old new → IsSweptTo chip place_of u goods outputs (place_of u + 1) new
     swept_begins old new room good none written = record {
-      room = record { nets = written.changes.nets ∙ room.nets; places = written.changes.places ∙ room.places };
+      room = record { nets = written.changes.nets ∙ room.nets; places = written.changes.places (count_of chip + 1) room.places };
       inputs = λ net within kind. written.changes.others net (not_input u net known kind) ∙ good net;
       given = written.written;
       before = λ w w_known apart less. inl (record {
@@ -77,35 +69,37 @@ module _ (chip : Chip) (place_of number_of : ℕ → ℕ) (linked : IsLinked chi
               more.4,
             )
       ];
+      changed = λ net. elim (written.changes.changed net) [ inl same ↦ inl (same ∙ good net) | inr out ↦ inr (inl out) ];
     }
       where
         own : (w : ℕ) → w < count_of chip → (w ≡ u → ⊥) → (output : ℕ) → output < outputs_at chip w → value_at new.values (output_net chip w output) ≡ goods (output_net chip w output)
         own w w_known apart output within = written.changes.others (output_net chip w output) (not_other u w output known w_known apart within) ∙ good (output_net chip w output)
 
-    -- where nothing is due at a place, its instance keeps good values
-    pub swept_skips : (place : ℕ) (values : Values) → IsSweptTo chip place_of u goods outputs place values → (IsDue values.due.items place → ⊥)
-        → IsSweptTo chip place_of u goods outputs (place + 1) values
-    swept_skips place values so_far none = record {
+    -- where nothing is due from one place on and before another, the instances in between keep good values
+    pub swept_skips : (place end : ℕ) (values : Values) → IsSweptTo chip place_of u goods outputs place values → place ≤ end
+        → ((at : ℕ) → place ≤ at → at < end → IsDue values.due at → ⊥) → IsSweptTo chip place_of u goods outputs end values
+    swept_skips place end values so_far least none = record {
       room = so_far.room;
       inputs = so_far.inputs;
       given = so_far.given;
       before = λ w w_known apart less. elim (cases_lt (place_of w) place) [
         | inl low ↦ so_far.before w w_known apart low
         | inr high ↦ inl (record {
-          pins = λ pin within. elim (so_far.waiting w pin w_known apart (omega arith) within) [
+          pins = λ pin within. elim (so_far.waiting w pin w_known apart high within) [
             | inl good ↦ good
-            | inr due ↦ absurd (none (subst (IsDue values.due.items) (let e : place_of w ≡ place = omega arith in e) due))
+            | inr due ↦ absurd (none (place_of w) high less due)
           ];
-          outputs = λ output within. so_far.ahead w output w_known apart (omega arith) within;
+          outputs = λ output within. so_far.ahead w output w_known apart high within;
         })
       ];
       ahead = λ w output w_known apart from within. so_far.ahead w output w_known apart (omega arith) within;
       waiting = λ w pin w_known apart from within. so_far.waiting w pin w_known apart (omega arith) within;
       due = so_far.due;
+      changed = so_far.changed;
     }
 
     -- the instance at a place is evaluated
-    module _ (place w : ℕ) (old new : Values) (so_far : IsSweptTo chip place_of u goods outputs place old) (is_due : IsDue old.due.items place)
+    module _ (place w : ℕ) (old new : Values) (so_far : IsSweptTo chip place_of u goods outputs place old) (is_due : IsDue old.due place)
         (placed : IsPlaced chip place_of w) (at : place_of w ≡ place) (evaluated : IsEvaluatedOut chip place_of w old new) where
       same_as : (v : ℕ) → v < count_of chip → place_of v ≡ place → v ≡ w
       same_as v v_known v_at = linked.apart v w (record { known = v_known; placed = (let p = placed.placed in omega (arith, at, v_at)) }) placed (v_at ∙ sym at)
@@ -149,7 +143,7 @@ module _ (chip : Chip) (place_of number_of : ℕ → ℕ) (linked : IsLinked chi
 
       pub swept_goes_on : IsSweptTo chip place_of u goods outputs (place + 1) new
       swept_goes_on = record {
-        room = record { nets = evaluated.written.changes.nets ∙ so_far.room.nets; places = evaluated.written.changes.places ∙ so_far.room.places };
+        room = record { nets = evaluated.written.changes.nets ∙ so_far.room.nets; places = evaluated.written.changes.places (count_of chip + 1) so_far.room.places };
         inputs = λ net within kind. others net (not_input w net placed.known kind) ∙ so_far.inputs net within kind;
         given = λ output within. outputs_still u known (λ e. other (sym e)) output within ∙ so_far.given output within;
         before = λ v v_known apart less. elim (cases_eq v w) [
@@ -183,18 +177,58 @@ module _ (chip : Chip) (place_of number_of : ℕ → ℕ) (linked : IsLinked chi
                 more.4,
               )
         ];
+        changed = λ net. elim (evaluated.written.changes.changed net) [
+          | inl same ↦ elim (so_far.changed net) [
+            | inl good ↦ inl (same ∙ good)
+            | inr (inl out) ↦ inr (inl out)
+            | inr (inr was) ↦ inr (inr (record {
+              instance = was.instance;
+              placed = was.placed;
+              is_due = evaluated.written.changes.kept (place_of was.instance) was.is_due;
+              out = was.out;
+            }))
+          ]
+          | inr out ↦ inr (inr (record {
+            instance = w;
+            placed = placed;
+            is_due = evaluated.written.changes.kept (place_of w) (subst (IsDue old.due) (sym at) is_due);
+            out = out;
+          }))
+        ];
       }
 
-    -- at a place whose instance is evaluated if it is due
-    pub swept_passes : (place : ℕ) (old new : Values) → IsSweptTo chip place_of u goods outputs place old → IsPassed chip place_of place old new
-        → IsSweptTo chip place_of u goods outputs (place + 1) new
-    swept_passes place old new so_far (inl done) = swept_goes_on place done.1.instance old new so_far done.0 done.1.placed done.1.at done.1.evaluated
-    swept_passes place old new so_far (inr none) = subst (IsSweptTo chip place_of u goods outputs (place + 1)) (sym none.1) (swept_skips place old so_far none.0)
+    -- the first instance that is due from a place on is evaluated
+    pub swept_passes : (from place : ℕ) (old new : Values) → IsSweptTo chip place_of u goods outputs from old → IsNext old.due from (Some place)
+        → IsEvaluatedAt chip place_of place old new → IsSweptTo chip place_of u goods outputs (place + 1) new
+    swept_passes from place old new so_far next done =
+        swept_goes_on place done.instance old new (swept_skips from place old so_far next.0 next.2) next.1 done.placed done.at done.evaluated
 
-    -- past the last place all are found
-    pub swept_ends : (place : ℕ) (values : Values) → IsSweptTo chip place_of u goods outputs place values → count_of chip < place → AreSwept chip u goods outputs (value_at values.values)
-    swept_ends place values so_far past = record {
+    -- where nothing is due from a place on, all are found
+    pub swept_ends : (from : ℕ) (values : Values) → IsSweptTo chip place_of u goods outputs from values → IsNext values.due from None → AreSwept chip u goods outputs (value_at values.values)
+    swept_ends from values so_far none = record {
       inputs = so_far.inputs;
       given = so_far.given;
-      others = λ w w_known apart. so_far.before w w_known apart (let l = linked.within w w_known in omega arith);
+      others = λ w w_known apart. (swept_skips from (from + place_of w + 1) values so_far (omega arith) (λ at low high. none at low)).before w w_known apart (omega arith);
     }
+
+    -- what is due has a place, and only what is due has changed
+    pub swept_held : (from : ℕ) (values : Values) → IsSweptTo chip place_of u goods outputs from values → IsHeld chip place_of u goods values
+    swept_held from values so_far = record {
+      room = so_far.room;
+      each = so_far.changed;
+      placed = λ place due. let found = so_far.due place due in record {
+        instance = found.0;
+        is_placed = record { known = found.1.known; placed = has_place found.0 found.1 };
+        at = found.2;
+      };
+    }
+      where
+        has_place : (w : ℕ) → IsAfter chip u w → 0 < place_of w
+        has_place w following = elim (cases_lt 0 (place_of w)) [
+          | inl some ↦ some
+          | inr none ↦
+              let bare = linked.bare w following.known (let e : place_of w ≡ 0 = omega arith in e) in
+              let no_pin = bare.no_pin in
+              let within = following.within in
+              absurd (omega arith)
+        ]

@@ -7,6 +7,7 @@ mod clear;
 mod faulty;
 mod finder;
 mod memo;
+mod place_set;
 mod run;
 mod seen;
 mod sweep;

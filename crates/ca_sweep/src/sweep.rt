@@ -18,8 +18,8 @@ use ca_view::View;
 use std::alloc::Global;
 use std::marker::Model;
 
-/// The good last values of the nets of a chip, and the room for values behind an instance whose output pins
-/// are flipped. All memory is taken by `reserve`.
+/// The good last values of the nets of a chip, and values behind an instance whose output pins are flipped,
+/// which are the good ones between two calls. All memory is taken by `reserve`.
 #[derive(Drop)]
 pub struct Sweep<'a> {
     chip: &'a View<'a>,
@@ -80,6 +80,7 @@ impl<'a> Sweep<'a> {
     {
         waves.exact();
         load(waves, &mut self.lasts);
+        load(waves, &mut self.values.values);
         find_clear(
             self.chip,
             &self.tables,
@@ -113,15 +114,16 @@ impl<'a> Sweep<'a> {
             self.chip,
             &self.tables,
             &self.order,
-            &self.lasts,
             &mut self.values,
             u,
             flips,
         );
+        let first = first_opposite(&self.outputs, &self.lasts, &self.values.values);
+        self.values.restore(self.chip, &self.lasts, u);
         if !done {
             return Seen::Undecided;
         }
-        match first_opposite(&self.outputs, &self.lasts, &self.values.values) {
+        match first {
             Some(output) => Seen::At(output as u32),
             None => Seen::Nowhere,
         }

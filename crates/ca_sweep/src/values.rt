@@ -1,7 +1,7 @@
 //! Last values of the nets behind an instance, found in the order of the instances.
 
-ghost use Rattle.std.specs.Prelude.{ℕ, ◌+◌, ◌≡◌, ◌<◌, ◌≤◌, length, false, IsTrue, IfOk, IfSome};
-ghost use Rattle.std.specs.Prelude.{slice_index_or};
+ghost use Rattle.std.specs.Prelude.{◌+◌, ◌≡◌, ◌<◌, length, replicate, false, IsTrue, IfOk, IfSome};
+ghost use Rattle.ca_net.specs.declared.trit.Trit.TheVariants.{X};
 ghost use Rattle.ca_net.specs.State.{value_at};
 ghost use Rattle.ca_flat.specs.Chip.{cell_at, inputs_at, outputs_at, count_of};
 ghost use Rattle.ca_flips.specs.Flips.{vector_at};
@@ -12,9 +12,11 @@ ghost use Rattle.ca_sweep.specs.Seen.{flipped_outputs};
 ghost use Rattle.ca_sweep.specs.code.Cells.{AreTables};
 ghost use Rattle.ca_sweep.specs.code.Changes.{AreRoomy, IsMarked, IsPut, IsWritten, IsNumberOf};
 ghost use Rattle.ca_sweep.specs.code.Changes.{IsEvaluatedOut};
-ghost use Rattle.ca_sweep.specs.code.Changes.{IsDue};
+ghost use Rattle.ca_sweep.specs.code.PlaceSet.{HoldsUpTo};
+ghost use Rattle.ca_sweep.specs.code.Held.{IsAtRest, IsHeld, IsGivenBack};
 
 use crate::cells::Tables;
+use crate::place_set::PlaceSet;
 use crate::seen::Flips;
 use ca_base::NoMemory;
 use ca_net::{State, Trit};
@@ -22,35 +24,23 @@ use ca_static::LastTable;
 use ca_view::View;
 use std::alloc::Global;
 
-/// A last value for each net, and for each place in the order whether its instance is due.
+/// A last value for each net, and the places in the order whose instances are due.
 #[derive(Drop, Debug)]
 pub struct Values {
     pub(crate) values: State,
-    pub(crate) due: Vec<bool>,
+    pub(crate) due: PlaceSet,
 }
 
 impl Values {
-    /// Takes the room for the nets and instances of a chip.
+    /// Takes the room for the nets and instances of a chip. No value is known, and nothing is due.
     pub(crate) fn reserve(alloc: Global, chip: &View<'_>) -> Result<Self, NoMemory>
-        ensures { IfOk result (AreRoomy chip.now.core) }
+        ensures { IfOk result (IsAtRest chip.now.core (replicate (length chip.now.core.nets) X)) }
     {
         chip.linked();
         Ok(Values {
             values: State::unknown(alloc, chip.nets())?,
-            due: vec![in alloc; false; chip.instances() + 1]?,
+            due: PlaceSet::reserve(alloc, chip.instances() + 1)?,
         })
-    }
-
-    /// The nets have these values, and nothing is due.
-    pub(crate) fn begin(&mut self, lasts: &State)
-        requires { length self.old.values ≡ length lasts.now }
-        ensures nets { length self.new.values ≡ length self.old.values }
-        ensures places { length self.new.due.items ≡ length self.old.due.items }
-        ensures values { (net : ℕ) → value_at self.new.values net ≡ value_at lasts.now net }
-        ensures none { (place : ℕ) → ¬ (IsDue self.new.due.items place) }
-    {
-        copy(lasts, &mut self.values);
-        clear(&mut self.due);
     }
 
     // Gives a net a value; if that is another one, its readers are due.
@@ -131,6 +121,7 @@ impl Values {
         ensures evaluated { IsTrue result
             → IsEvaluatedOut chip.now.core (place_in chip.now.ranks) w self.old self.new }
         ensures room { AreRoomy chip.now.core self.new }
+        ensures kept { result ≡ false → self.new ≡ self.old }
     {
         let number = match self.number_at(chip, w) {
             Some(number) => number,
@@ -144,38 +135,50 @@ impl Values {
             None => false,
         }
     }
+
+    // Gives the output nets of an instance their good values.
+    fn give_back(&mut self, chip: &View<'_>, lasts: &State, w: usize)
+        requires placed { IsPlaced chip.now.core (place_in chip.now.ranks) w }
+        requires nets { length lasts.now ≡ length chip.now.core.nets }
+        requires room { length self.old.values ≡ length chip.now.core.nets }
+        ensures { IsGivenBack chip.now.core w (value_at lasts.now) self.old self.new }
+    {
+        chip.linked();
+        let first = chip.cell(w).inputs();
+        for output in 0..chip.cell(w).outputs() {
+            let net = chip.pin_net(w, first + output);
+            self.values.set(net, lasts.get(net));
+        }
+    }
+
+    /// Gives each net that may have another value its good one: the output nets of an instance, and those of
+    /// all that are due. Nothing is due any more.
+    pub(crate) fn restore(&mut self, chip: &View<'_>, lasts: &State, u: usize)
+        requires placed { IsPlaced chip.now.core (place_in chip.now.ranks) u }
+        requires nets { length lasts.now ≡ length chip.now.core.nets }
+        requires held { IsHeld chip.now.core (place_in chip.now.ranks) u (value_at lasts.now) self.old }
+        ensures { IsAtRest chip.now.core lasts.now self.new }
+    {
+        chip.linked();
+        self.give_back(chip, lasts, u);
+        let mut from = 0;
+        while let Some(place) = self.due.next(from) {
+            self.due.remove(place);
+            self.give_back(chip, lasts, chip.order(place));
+            from = place + 1;
+        }
+    }
 }
 
 // The instances that read a net become due.
-fn mark_readers(chip: &View<'_>, net: usize, due: &mut Vec<bool>)
+fn mark_readers(chip: &View<'_>, net: usize, due: &mut PlaceSet)
     requires known { net < length chip.now.core.nets }
-    requires room { length due.old.items ≡ count_of chip.now.core + 1 }
-    ensures { IsMarked chip.now.core (place_in chip.now.ranks) net due.old.items due.new.items }
+    requires room { HoldsUpTo due.old (count_of chip.now.core + 1) }
+    ensures { IsMarked chip.now.core (place_in chip.now.ranks) net due.old due.new }
 {
     chip.linked();
     for k in 0..chip.reader_count(net) {
-        due[chip.rank(chip.reader(net, k))] = true;
-    }
-}
-
-// Nothing is due.
-fn clear(due: &mut Vec<bool>)
-    ensures room { length due.new.items ≡ length due.old.items }
-    ensures none { (place : ℕ) → ¬ (IsDue due.new.items place) }
-{
-    for place in 0..due.len() {
-        due[place] = false;
-    }
-}
-
-// Copies the values of the nets.
-fn copy(from: &State, to: &mut State)
-    requires { length to.old ≡ length from.now }
-    ensures count { length to.new ≡ length to.old }
-    ensures same { (net : ℕ) → value_at to.new net ≡ value_at from.now net }
-{
-    for net in 0..from.len() {
-        to.set(net, from.get(net));
+        due.insert(chip.rank(chip.reader(net, k)));
     }
 }
 

@@ -1,6 +1,5 @@
 -- What only proofs of code cite: values of nets that change, and the readers of these nets, which are due.
-use Rattle.std.specs.Prelude.{ℕ, ◌+◌, ◌^◌, ◌≡◌, ◌<◌, ◌≤◌, ◌⊎◌, Bool, true, false, List, length}
-use Rattle.std.specs.Prelude.{slice_index_or}
+use Rattle.std.specs.Prelude.{ℕ, ◌+◌, ◌^◌, ◌≡◌, ◌<◌, ◌≤◌, ◌⊎◌, List, length}
 use Rattle.ca_net.specs.declared.trit.Trit.{Trit}
 use Rattle.ca_net.specs.declared.node.NodeKind.TheVariants.{Input}
 use Rattle.ca_net.specs.State.{value_at}
@@ -9,20 +8,22 @@ use Rattle.ca_flat.specs.Chip.{Chip, cell_at, inputs_at, outputs_at, net_of, out
 use Rattle.ca_flips.specs.Static.{EndsByLast}
 use Rattle.ca_flips.specs.Flips.{IsAfter, vector_at, KeepsGood, IsEvaluated}
 use Rattle.ca_view.specs.Linked.{Reads, IsPlaced}
+use Rattle.ca_sweep.specs.declared.place_set.PlaceSet.{PlaceSet}
 use Rattle.ca_sweep.specs.declared.values.Values.{Values}
+use Rattle.ca_sweep.specs.code.PlaceSet.{Has, HoldsUpTo}
 
 -- the instance at this place is due
-abbrev pub IsDue : List Bool → ℕ → Type 0
-IsDue due place = slice_index_or due place false ≡ true
+abbrev pub IsDue : PlaceSet → ℕ → Type 0
+IsDue due place = Has due place
 
--- a value for each net, and a mark for each place
+-- a value for each net, and room for each place
 pub record AreRoomy (chip : Chip) (values : Values) : Type 0 where
   pub nets : length values.values ≡ length chip.nets
-  pub places : length values.due.items ≡ count_of chip + 1
+  pub places : HoldsUpTo values.due (count_of chip + 1)
 
 -- the readers of the net are due, and all that was, and nothing else
-pub record IsMarked (chip : Chip) (place_of : ℕ → ℕ) (net : ℕ) (old new : List Bool) : Type 0 where
-  pub room : length new ≡ length old
+pub record IsMarked (chip : Chip) (place_of : ℕ → ℕ) (net : ℕ) (old new : PlaceSet) : Type 0 where
+  pub room : (count : ℕ) → HoldsUpTo old count → HoldsUpTo new count
   pub kept : (place : ℕ) → IsDue old place → IsDue new place
   pub readers : (w : ℕ) → Reads chip w net → IsDue new (place_of w)
   pub added : (place : ℕ) → IsDue new place
@@ -32,12 +33,13 @@ pub record IsMarked (chip : Chip) (place_of : ℕ → ℕ) (net : ℕ) (old new 
 -- due reads a net with the property.
 pub record Changes (chip : Chip) (place_of : ℕ → ℕ) (given : ℕ → Type 0) (old new : Values) : Type 0 where
   pub nets : length new.values ≡ length old.values
-  pub places : length new.due.items ≡ length old.due.items
+  pub places : (count : ℕ) → HoldsUpTo old.due count → HoldsUpTo new.due count
+  pub changed : (net : ℕ) → (value_at new.values net ≡ value_at old.values net) ⊎ given net
   pub others : (net : ℕ) → ¬ (given net) → value_at new.values net ≡ value_at old.values net
-  pub kept : (place : ℕ) → IsDue old.due.items place → IsDue new.due.items place
+  pub kept : (place : ℕ) → IsDue old.due place → IsDue new.due place
   pub readers : (w net : ℕ) → Reads chip w net
-      → (value_at new.values net ≡ value_at old.values net) ⊎ IsDue new.due.items (place_of w)
-  pub added : (place : ℕ) → IsDue new.due.items place → IsDue old.due.items place
+      → (value_at new.values net ≡ value_at old.values net) ⊎ IsDue new.due (place_of w)
+  pub added : (place : ℕ) → IsDue new.due place → IsDue old.due place
       ⊎ ((w : ℕ) × (net : ℕ) × given net × Reads chip w net × (place_of w ≡ place))
 
 -- the net is given a value
@@ -81,15 +83,17 @@ pub record IsEvaluatedAt (chip : Chip) (place_of : ℕ → ℕ) (place : ℕ) (o
   pub at : place_of instance ≡ place
   pub evaluated : IsEvaluatedOut chip place_of instance old new
 
--- the instance at a place is due and is evaluated, or it isn't due and nothing changes
-abbrev pub IsPassed : Chip → (ℕ → ℕ) → ℕ → Values → Values → Type 0
-IsPassed chip place_of place old new =
-    (IsDue old.due.items place × IsEvaluatedAt chip place_of place old new)
-    ⊎ (¬ (IsDue old.due.items place) × (new ≡ old))
+-- the net is an output net of an instance that is due
+pub record IsTouched (chip : Chip) (place_of : ℕ → ℕ) (due : PlaceSet) (net : ℕ) : Type 0 where
+  pub instance : ℕ
+  pub placed : IsPlaced chip place_of instance
+  pub is_due : IsDue due (place_of instance)
+  pub out : IsOutputBelow chip instance (outputs_at chip instance) net
 
 -- Values that are found an instance at a time, in the order, where the output pins of u have these: before
 -- this place each instance keeps good values or is evaluated. From there on the output nets have good values,
--- and so have the input nets unless the instance is due. What is due is behind u.
+-- and so have the input nets unless the instance is due. What is due is behind u. Only output nets of u and of
+-- instances that are due have other values than the good ones.
 pub record IsSweptTo (chip : Chip) (place_of : ℕ → ℕ) (u : ℕ) (goods outputs : ℕ → Trit) (place : ℕ)
     (values : Values) : Type 0 where
   pub room : AreRoomy chip values
@@ -104,5 +108,7 @@ pub record IsSweptTo (chip : Chip) (place_of : ℕ → ℕ) (u : ℕ) (goods out
       → value_at values.values (output_net chip w output) ≡ goods (output_net chip w output)
   pub waiting : (w pin : ℕ) → w < count_of chip → (w ≡ u → ⊥) → place ≤ place_of w → pin < inputs_at chip w
       → (value_at values.values (net_of chip w pin) ≡ goods (net_of chip w pin))
-      ⊎ IsDue values.due.items (place_of w)
-  pub due : (at : ℕ) → IsDue values.due.items at → (w : ℕ) × IsAfter chip u w × (place_of w ≡ at)
+      ⊎ IsDue values.due (place_of w)
+  pub due : (at : ℕ) → IsDue values.due at → (w : ℕ) × IsAfter chip u w × (place_of w ≡ at)
+  pub changed : (net : ℕ) → (value_at values.values net ≡ goods net)
+      ⊎ (IsOutputBelow chip u (outputs_at chip u) net ⊎ IsTouched chip place_of values.due net)

@@ -10,7 +10,7 @@ use Rattle.ca_view.specs.Linked.{Reads}
 use Rattle.ca_sweep.specs.declared.values.Values.{Values}
 use Rattle.ca_sweep.specs.Seen.{IsClear}
 use Rattle.ca_sweep.specs.code.Cells.{AreTables, IsOrder}
-use Rattle.ca_sweep.specs.code.Changes.{AreRoomy}
+use Rattle.ca_sweep.specs.code.Held.{IsAtRest}
 
 -- the values of the instance's input nets are definite
 abbrev pub AreDefinitePins : Chip → (ℕ → Trit) → ℕ → Type 0
@@ -42,8 +42,8 @@ pub record AreMarks (chip : Chip) (P : ℕ → Type 0) (marks : List Bool) : Typ
   pub room : length marks ≡ count_of chip
   pub each : (u : ℕ) → is_marked marks u ≡ true → P u
 
--- the nets of the observed outputs, the tables of the cells, the instances by their places, a value for each
--- net, and which instances are clear
+-- The nets of the observed outputs, the tables of the cells, the instances by their places, a value for each
+-- net, and which instances are clear. Between two sweeps the values are the good ones.
 pub record IsKept (chip : Chip) (place_of number_of : ℕ → ℕ) (outputs : List ℕ)
     (tables : List (Option (List (List Wave)))) (order : List (Option ℕ)) (lasts : List Trit)
     (clear passing : List Bool) (values : Values) : Type 0 where
@@ -54,4 +54,4 @@ pub record IsKept (chip : Chip) (place_of number_of : ℕ → ℕ) (outputs : Li
   pub nets : length lasts ≡ length chip.nets
   pub clear_are : AreMarks chip (IsClear chip (value_at lasts)) clear
   pub passing_are : length passing ≡ count_of chip
-  pub room : AreRoomy chip values
+  pub values_are : IsAtRest chip lasts values

@@ -1,5 +1,3 @@
-use Rattle.std.proofs.Common.{inl, arith}
-use Rattle.ca_sweep.proofs.ChangeLemmas.{due_read}
 use Rattle.ca_sweep.proofs.run.pass.Goals as goal
 
 pub evaluate-requires-clause-placed : goal.evaluate-requires-clause-placed
@@ -8,4 +6,4 @@ evaluate-requires-clause-placed c = (c.requires.order.only c.args.place c.in-Som
 pub returns-in-Some-clause-passed : goal.returns-in-Some-clause-passed
 returns-in-Some-clause-passed c = λ is.
     let at = c.requires.order.only c.args.place c.in-Some.w c.in-Some.is in
-    inl (due_read c.args.values.now.due.items c.args.place c.index.result.now (let r = c.requires.room.places in let o = c.requires.order.room in let w = c.requires.within in omega arith) c.index.ensures c.if-not-index.false, record { instance = c.in-Some.w; placed = at.0; at = at.1; evaluated = c.evaluate.ensures.evaluated is })
+    record { instance = c.in-Some.w; placed = at.0; at = at.1; evaluated = c.evaluate.ensures.evaluated is }

@@ -1,9 +1,17 @@
+use Rattle.std.proofs.Common.{◌+◌, ◌-◌, ◌≤◌}
 use Rattle.ca_net.specs.State.{value_at}
+use Rattle.ca_flat.specs.Chip.{count_of}
 use Rattle.ca_view.specs.Linked.{place_in}
 use Rattle.ca_sweep.specs.Seen.{flipped_outputs}
 use Rattle.ca_sweep.specs.code.Changes.{IsSweptTo}
 use Rattle.ca_sweep.proofs.run.sweep.Given as goal
 
 abbrev pub invariant-loop-place : goal.invariant-loop-place
-invariant-loop-place l = IsSweptTo l.chip.core (place_in l.chip.ranks) l.u (value_at l.lasts)
-    (flipped_outputs l.chip.core l.u (value_at l.lasts) l.fn.flips) l.place l.values
+invariant-loop-place l = record {
+  swept : IsSweptTo l.chip.core (place_in l.chip.ranks) l.u (value_at l.fn.values.values)
+      (flipped_outputs l.chip.core l.u (value_at l.fn.values.values) l.fn.flips) l.from l.values;
+  within : l.from ≤ count_of l.chip.core + 1;
+}
+
+abbrev pub decreases-loop-place : goal.decreases-loop-place
+decreases-loop-place l = count_of l.chip.core + 1 - l.from

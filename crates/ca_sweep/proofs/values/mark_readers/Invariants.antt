@@ -5,4 +5,4 @@ use Rattle.ca_sweep.proofs.values.mark_readers.Given as goal
 
 abbrev pub invariant-loop-k : goal.invariant-loop-k
 invariant-loop-k l =
-    IsMarkedTo l.chip.core (place_in l.chip.ranks) l.net (row_at l.chip.readers l.net) l.k l.fn.due.items l.due.items
+    IsMarkedTo l.chip.core (place_in l.chip.ranks) l.net (row_at l.chip.readers l.net) l.k l.fn.due l.due

@@ -3,14 +3,15 @@ use Rattle.std.specs.List.{Contains}
 use Rattle.std.proofs.lemmas.List.Elements.{Contains-get_or}
 use Rattle.ca_net.specs.State.{value_at}
 use Rattle.ca_flat.specs.Chip.{count_of}
-use Rattle.ca_sweep.proofs.ChangeLemmas.{due_read}
-use Rattle.ca_sweep.specs.Seen.{IsSeen, Swept}
+use Rattle.ca_sweep.proofs.ChangeLemmas.{mark_read}
+use Rattle.ca_flips.specs.Flips.{AreSwept}
+use Rattle.ca_sweep.specs.Seen.{IsSeen, Swept, flipped_outputs}
 use Rattle.ca_sweep.proofs.SeenLemmas.{seen_from}
 use Rattle.ca_sweep.proofs.sweep.Sweep.see.Goals.{in-Some, in-None}
 use Rattle.ca_sweep.proofs.sweep.Sweep.see.Goals as goal
 
-pub first_opposite-requires-clause-nets : goal.first_opposite-requires-clause-nets
-first_opposite-requires-clause-nets c = λ k d less.
+pub first_opposite-first-requires-clause-nets : goal.first_opposite-first-requires-clause-nets
+first_opposite-first-requires-clause-nets c = λ k d less.
     let core = c.self.inside.chip.now.core in
     let kept = c.self.invariant in
     let are = c.deref-2.ensures.value ∙ kept.outputs_are in
@@ -24,12 +25,13 @@ returns-clause-seen c =
     let goods = value_at c.self.inside.lasts in
     let kept = c.self.invariant in
     let known : c.args.u < count_of core = subst (λ (s : Swept). c.args.u < count_of s.chip) (sym c.self.view_is) c.requires.known in
-    let clear = kept.clear_are.each c.args.u (due_read c.self.inside.clear.items c.args.u c.index.result.now
+    let clear = kept.clear_are.each c.args.u (mark_read c.self.inside.clear.items c.args.u c.index.result.now
     (subst (λ n. c.args.u < n) (sym kept.clear_are.room) known) c.index.ensures c.if-not-index.false) in
-    let swept = c.if-not-done.ensures.swept refl in
+    let swept = subst (λ list. AreSwept core c.args.u (value_at list) (flipped_outputs core c.args.u (value_at list) c.args.flips) (value_at c.sweep-done.new.values.values))
+    kept.values_are.values_are (c.if-not-done.ensures.swept refl) in
     let are = c.deref-2.ensures.value ∙ kept.outputs_are in
-    subst (λ (s : Swept). IsSeen s.chip (value_at s.lasts) c.args.u c.args.flips c.match-first_opposite.result) c.self.view_is
-    (elim c.match-first_opposite.branch [
+    subst (λ (s : Swept). IsSeen s.chip (value_at s.lasts) c.args.u c.args.flips c.match-first.result) c.self.view_is
+    (elim c.match-first.branch [
       | in-Some w ↦ subst (IsSeen core (value_at c.self.inside.lasts) c.args.u c.args.flips) (sym w.result-is)
           (seen_from core (value_at c.self.inside.lasts) (value_at c.sweep-done.new.values.values) c.args.u c.args.flips c.deref-2.result.now (Some w.in-Some.output) are clear swept w.in-Some.ensures)
       | in-None w ↦ subst (IsSeen core (value_at c.self.inside.lasts) c.args.u c.args.flips) (sym w.result-is)

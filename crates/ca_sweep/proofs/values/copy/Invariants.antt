@@ -1,9 +1,0 @@
-use Rattle.std.proofs.Common.{ℕ, ◌≡◌, ◌<◌, length}
-use Rattle.ca_net.specs.State.{value_at}
-use Rattle.ca_sweep.proofs.values.copy.Given as goal
-
-abbrev pub invariant-loop-net : goal.invariant-loop-net
-invariant-loop-net l = record {
-  count : length l.to ≡ length l.fn.to;
-  same : (net : ℕ) → net < l.net → value_at l.to net ≡ value_at l.from net;
-}
