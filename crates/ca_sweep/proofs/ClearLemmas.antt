@@ -1,7 +1,7 @@
 -- An instance is clear where its output nets are definite, and all that read one pass flips on.
-use Rattle.std.proofs.Common.{◌≡◌, ℕ, ◌<◌, Bool, true, false, List, [], ◌∷◌, length, get_or, set, sym, ◌∙◌, ap, subst, arith, inl, inr}
-use Rattle.std.proofs.lemmas.Bool.{cases_eq}
-use Rattle.std.proofs.lemmas.List.{get_or-set_same, get_or-set_other, length-set}
+use Rattle.std.proofs.Common.{◌≡◌, ℕ, ◌<◌, Bool, true, false, List, [], ◌∷◌, length, get_or, set, replicate, sym, ◌∙◌, ap, subst, arith, inl, inr}
+use Rattle.std.proofs.lemmas.Bool.{cases_eq, cases_lt}
+use Rattle.std.proofs.lemmas.List.{get_or-set_same, get_or-set_other, length-set, get_or-replicate, get_or_past, length-replicate}
 use Rattle.ca_net.specs.declared.trit.Trit.{Trit}
 use Rattle.ca_flat.specs.Chip.{Chip, cell_at, inputs_at, outputs_at, net_of, count_of}
 use Rattle.ca_flat.specs.Chain.{IsChain}
@@ -65,3 +65,16 @@ marks_put chip P old new u mark are known is holds = record {
 -- nothing is marked
 pub marks_none : (chip : Chip) (P : ℕ → Type 0) (marks : List Bool) → length marks ≡ count_of chip → ((u : ℕ) → is_marked marks u ≡ true → ⊥) → AreMarks chip P marks
 marks_none chip P marks room none = record { room = room; each = λ u marked. absurd (none u marked) }
+
+-- nor in new marks
+pub marks_new : (chip : Chip) (P : ℕ → Type 0) (marks : List Bool) (count : ℕ) → count ≡ count_of chip → marks ≡ replicate count false → AreMarks chip P marks
+marks_new chip P marks count counted is = record {
+  room = ap length is ∙ length-replicate count false ∙ counted;
+  each = λ u marked. let e : false ≡ true = sym (unmarked u) ∙ ap (λ list. get_or list u false) (sym is) ∙ marked in cc;
+}
+  where
+    unmarked : (u : ℕ) → get_or (replicate count false) u false ≡ false
+    unmarked u = elim (cases_lt u count) [
+      | inl low ↦ get_or-replicate count u false false low
+      | inr high ↦ get_or_past (replicate count false) u false (let l = length-replicate count false in omega arith)
+    ]

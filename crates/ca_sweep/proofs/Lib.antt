@@ -4,6 +4,7 @@ pub mod NumberLemmas
 pub mod ClearLemmas
 pub mod SweepLemmas
 pub mod HeldLemmas
+pub mod FirstLemmas
 pub mod SeenLemmas
 pub mod FaultyLemmas
 pub mod FoundLemmas

@@ -4,5 +4,6 @@ pub mod Cells
 pub mod PlaceSet
 pub mod Changes
 pub mod Held
+pub mod Firsts
 pub mod Kept
 pub mod Faulty

@@ -17,8 +17,8 @@ ghost use Rattle.ca_sweep.specs.Found.{IsFound};
 ghost use Rattle.ca_sweep.specs.code.Faulty.{AreWavesAt, AreFlipsOf};
 
 use crate::faulty::Faulty;
+use crate::firsts::are_opposite;
 use crate::memo::Memo;
-use crate::run::are_opposite;
 use crate::seen::{Flips, Seen};
 use crate::sweep::Sweep;
 use ca_base::NoMemory;

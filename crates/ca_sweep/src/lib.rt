@@ -6,6 +6,7 @@ mod cells;
 mod clear;
 mod faulty;
 mod finder;
+mod firsts;
 mod memo;
 mod place_set;
 mod run;

@@ -8,7 +8,8 @@ ghost use Rattle.ca_sweep.specs.Seen.{IsSeen, IsOfChip, lasts_in};
 
 use crate::cells::{Tables, order_of, tables_of};
 use crate::clear::find_clear;
-use crate::run::{first_opposite, sweep};
+use crate::firsts::{first_opposite, firsts_of};
+use crate::run::sweep;
 use crate::seen::{Flips, Seen};
 use crate::values::Values;
 use ca_base::NoMemory;
@@ -24,6 +25,7 @@ use std::marker::Model;
 pub struct Sweep<'a> {
     chip: &'a View<'a>,
     outputs: Vec<u32>,
+    firsts: Vec<usize>,
     tables: Tables,
     order: Vec<Option<usize>>,
     lasts: State,
@@ -47,8 +49,8 @@ impl<'a> Model for Sweep<'a> {
     } };
 
     ghost invariant = { λ sweep. IsKept sweep.chip.now.core (place_in sweep.chip.now.ranks)
-        (cell_number sweep.chip.now.chip) sweep.outputs.items sweep.tables.items sweep.order.items sweep.lasts
-        sweep.clear.items sweep.passing.items sweep.values };
+        (cell_number sweep.chip.now.chip) sweep.outputs.items sweep.firsts.items sweep.tables.items
+        sweep.order.items sweep.lasts sweep.clear.items sweep.passing.items sweep.values };
 }
 
 impl<'a> Sweep<'a> {
@@ -59,9 +61,11 @@ impl<'a> Sweep<'a> {
         ensures { IfOk result (IsOfChip chip.now.core chip.now.ranks) }
     {
         chip.linked();
+        let firsts = firsts_of(alloc, chip.nets(), &outputs)?;
         Ok(Sweep {
             chip,
             outputs,
+            firsts,
             tables: tables_of(alloc, chip)?,
             order: order_of(alloc, chip)?,
             lasts: State::unknown(alloc, chip.nets())?,
@@ -118,7 +122,14 @@ impl<'a> Sweep<'a> {
             u,
             flips,
         );
-        let first = first_opposite(&self.outputs, &self.lasts, &self.values.values);
+        let first = first_opposite(
+            self.chip,
+            &self.firsts,
+            self.outputs.len(),
+            &self.lasts,
+            &self.values,
+            u,
+        );
         self.values.restore(self.chip, &self.lasts, u);
         if !done {
             return Seen::Undecided;

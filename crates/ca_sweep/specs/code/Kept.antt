@@ -10,6 +10,7 @@ use Rattle.ca_view.specs.Linked.{Reads}
 use Rattle.ca_sweep.specs.declared.values.Values.{Values}
 use Rattle.ca_sweep.specs.Seen.{IsClear}
 use Rattle.ca_sweep.specs.code.Cells.{AreTables, IsOrder}
+use Rattle.ca_sweep.specs.code.Firsts.{AreFirsts}
 use Rattle.ca_sweep.specs.code.Held.{IsAtRest}
 
 -- the values of the instance's input nets are definite
@@ -42,13 +43,14 @@ pub record AreMarks (chip : Chip) (P : ℕ → Type 0) (marks : List Bool) : Typ
   pub room : length marks ≡ count_of chip
   pub each : (u : ℕ) → is_marked marks u ≡ true → P u
 
--- The nets of the observed outputs, the tables of the cells, the instances by their places, a value for each
+-- The nets of the observed outputs, the first ones of nets, the tables of the cells, the instances by their places, a value for each
 -- net, and which instances are clear. Between two sweeps the values are the good ones.
-pub record IsKept (chip : Chip) (place_of number_of : ℕ → ℕ) (outputs : List ℕ)
+pub record IsKept (chip : Chip) (place_of number_of : ℕ → ℕ) (outputs firsts : List ℕ)
     (tables : List (Option (List (List Wave)))) (order : List (Option ℕ)) (lasts : List Trit)
     (clear passing : List Bool) (values : Values) : Type 0 where
   pub outputs_are : outputs ≡ chip.outputs
   pub few : length outputs < 2 ^ 32
+  pub firsts_are : AreFirsts outputs (length chip.nets) firsts
   pub tables_are : AreTables chip place_of number_of tables
   pub order_is : IsOrder chip place_of order
   pub nets : length lasts ≡ length chip.nets

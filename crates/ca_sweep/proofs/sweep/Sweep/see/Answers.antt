@@ -1,23 +1,20 @@
-use Rattle.std.proofs.Common.{◌<◌, get_or, None, Some, refl, subst, sym, ◌∙◌}
-use Rattle.std.specs.List.{Contains}
-use Rattle.std.proofs.lemmas.List.Elements.{Contains-get_or}
+use Rattle.std.proofs.Common.{◌<◌, length, None, Some, refl, subst, sym}
 use Rattle.ca_net.specs.State.{value_at}
 use Rattle.ca_flat.specs.Chip.{count_of}
 use Rattle.ca_sweep.proofs.ChangeLemmas.{mark_read}
 use Rattle.ca_flips.specs.Flips.{AreSwept}
+use Rattle.ca_sweep.specs.code.Firsts.{AreFirsts}
 use Rattle.ca_sweep.specs.Seen.{IsSeen, Swept, flipped_outputs}
 use Rattle.ca_sweep.proofs.SeenLemmas.{seen_from}
 use Rattle.ca_sweep.proofs.sweep.Sweep.see.Goals.{in-Some, in-None}
 use Rattle.ca_sweep.proofs.sweep.Sweep.see.Goals as goal
 
-pub first_opposite-first-requires-clause-nets : goal.first_opposite-first-requires-clause-nets
-first_opposite-first-requires-clause-nets c = λ k d less.
+pub first_opposite-first-requires-clause-firsts : goal.first_opposite-first-requires-clause-firsts
+first_opposite-first-requires-clause-firsts c =
     let core = c.self.inside.chip.now.core in
     let kept = c.self.invariant in
-    let are = c.deref-2.ensures.value ∙ kept.outputs_are in
-    subst (λ n. get_or c.deref-2.result.now k d < n) (sym kept.nets)
-    (c.linked.ensures.linked.is_chip.observed (get_or c.deref-2.result.now k d)
-    (subst (λ list. Contains list (get_or c.deref-2.result.now k d)) are (Contains-get_or c.deref-2.result.now k d less)))
+    subst (λ list. AreFirsts core.outputs (length core.nets) list) (sym c.deref-2.ensures.value)
+    (subst (λ outputs. AreFirsts outputs (length core.nets) c.self.inside.firsts.items) kept.outputs_are kept.firsts_are)
 
 pub returns-clause-seen : goal.returns-clause-seen
 returns-clause-seen c =
@@ -29,11 +26,10 @@ returns-clause-seen c =
     (subst (λ n. c.args.u < n) (sym kept.clear_are.room) known) c.index.ensures c.if-not-index.false) in
     let swept = subst (λ list. AreSwept core c.args.u (value_at list) (flipped_outputs core c.args.u (value_at list) c.args.flips) (value_at c.sweep-done.new.values.values))
     kept.values_are.values_are (c.if-not-done.ensures.swept refl) in
-    let are = c.deref-2.ensures.value ∙ kept.outputs_are in
     subst (λ (s : Swept). IsSeen s.chip (value_at s.lasts) c.args.u c.args.flips c.match-first.result) c.self.view_is
     (elim c.match-first.branch [
       | in-Some w ↦ subst (IsSeen core (value_at c.self.inside.lasts) c.args.u c.args.flips) (sym w.result-is)
-          (seen_from core (value_at c.self.inside.lasts) (value_at c.sweep-done.new.values.values) c.args.u c.args.flips c.deref-2.result.now (Some w.in-Some.output) are clear swept w.in-Some.ensures)
+          (seen_from core (value_at c.self.inside.lasts) (value_at c.sweep-done.new.values.values) c.args.u c.args.flips core.outputs (Some w.in-Some.output) refl clear swept w.in-Some.ensures)
       | in-None w ↦ subst (IsSeen core (value_at c.self.inside.lasts) c.args.u c.args.flips) (sym w.result-is)
-          (seen_from core (value_at c.self.inside.lasts) (value_at c.sweep-done.new.values.values) c.args.u c.args.flips c.deref-2.result.now None are clear swept w.in-None.ensures)
+          (seen_from core (value_at c.self.inside.lasts) (value_at c.sweep-done.new.values.values) c.args.u c.args.flips core.outputs None refl clear swept w.in-None.ensures)
     ])

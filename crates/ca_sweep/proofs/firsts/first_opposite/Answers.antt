@@ -1,0 +1,46 @@
+use Rattle.std.proofs.Common.{arith}
+use Rattle.ca_net.specs.State.{value_at}
+use Rattle.ca_view.specs.Linked.{place_in}
+use Rattle.ca_view.specs.Places.{cell_number}
+use Rattle.ca_sweep.proofs.FirstLemmas.{least_begins, least_more, first_there, first_nowhere}
+use Rattle.ca_sweep.proofs.firsts.first_opposite.Goals as goal
+
+pub loop-place-init : goal.loop-place-init
+loop-place-init c = record {
+  least = least_begins c.args.chip.now.core (place_in c.args.chip.now.ranks) (cell_number c.args.chip.now.chip) c.linked.ensures.linked c.args.u (value_at c.args.lasts.now)
+      c.args.values.now c.args.firsts.now c.args.count c.lessened-first.result c.requires.count c.lessened-first.ensures;
+  within = omega arith;
+}
+
+pub order-w-requires : goal.order-w-requires
+order-w-requires c = c.requires.held.placed c.in-Some.place c.in-Some.ensures.1
+
+pub loop-place-preserved : goal.loop-place-preserved
+loop-place-preserved c =
+    let place = c.requires.held.placed c.in-Some.place c.in-Some.ensures.1 in
+    let bound = c.linked.ensures.linked.within place.instance place.is_placed.known in
+    let at = place.at in
+    record {
+      least = least_more c.args.chip.now.core (place_in c.args.chip.now.ranks) (cell_number c.args.chip.now.chip) c.linked.ensures.linked c.args.u (value_at c.args.lasts.now)
+          c.args.values.now c.args.firsts.now c.loop-place.from c.in-Some.place c.order-w.result c.loop-place.first c.lessened-first-in-Some.result c.loop-place.invariant.least
+          c.in-Some.ensures c.order-w.ensures.placed c.order-w.ensures.at c.lessened-first-in-Some.ensures;
+      within = omega arith;
+    }
+
+pub loop-place-smaller : goal.loop-place-smaller
+loop-place-smaller c =
+    let place = c.requires.held.placed c.in-Some.place c.in-Some.ensures.1 in
+    let bound = c.linked.ensures.linked.within place.instance place.is_placed.known in
+    let at = place.at in
+    let least = c.in-Some.ensures.0 in
+    omega arith
+
+pub returns-then-first-count : goal.returns-then-first-count
+returns-then-first-count c =
+    first_there c.args.chip.now.core (place_in c.args.chip.now.ranks) (cell_number c.args.chip.now.chip) c.linked.ensures.linked c.args.u (value_at c.args.lasts.now)
+    c.args.values.now c.args.firsts.now c.loop-place.from c.loop-place.first c.loop-place.invariant.least c.in_default.ensures c.requires.held c.requires.firsts (omega arith)
+
+pub returns-else-first-count : goal.returns-else-first-count
+returns-else-first-count c =
+    first_nowhere c.args.chip.now.core (place_in c.args.chip.now.ranks) (cell_number c.args.chip.now.chip) c.linked.ensures.linked c.args.u (value_at c.args.lasts.now)
+    c.args.values.now c.args.firsts.now c.loop-place.from c.loop-place.first c.loop-place.invariant.least c.in_default.ensures c.requires.held c.requires.firsts (omega arith)
