@@ -64,11 +64,7 @@ pub(crate) fn first_opposite(
         first = lessened(chip, firsts, lasts, &values.values, w, first);
         from = place + 1;
     }
-    if first < count {
-        Some(first)
-    } else {
-        None
-    }
+    if first < count { Some(first) } else { None }
 }
 
 // The least of a number and the first observed outputs of an instance's output nets with opposite values.
@@ -103,11 +99,7 @@ fn lesser_if(is: bool, one: usize, other: usize) -> usize
     ensures here { IsTrue is → result ≤ one }
     ensures from { (result ≡ other) ⊎ (IsTrue is × (result ≡ one)) }
 {
-    if is && one < other {
-        one
-    } else {
-        other
-    }
+    if is && one < other { one } else { other }
 }
 
 /// Whether the good value is definite, and the other the opposite.

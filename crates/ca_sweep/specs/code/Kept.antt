@@ -43,8 +43,8 @@ pub record AreMarks (chip : Chip) (P : ℕ → Type 0) (marks : List Bool) : Typ
   pub room : length marks ≡ count_of chip
   pub each : (u : ℕ) → is_marked marks u ≡ true → P u
 
--- The nets of the observed outputs, the first ones of nets, the tables of the cells, the instances by their places, a value for each
--- net, and which instances are clear. Between two sweeps the values are the good ones.
+-- The nets of the observed outputs, the first outputs of nets, the tables of the cells, the instances by their
+-- places, a value for each net, and which instances are clear. Between two sweeps the values are the good ones.
 pub record IsKept (chip : Chip) (place_of number_of : ℕ → ℕ) (outputs firsts : List ℕ)
     (tables : List (Option (List (List Wave)))) (order : List (Option ℕ)) (lasts : List Trit)
     (clear passing : List Bool) (values : Values) : Type 0 where
