@@ -9,16 +9,15 @@ use std::alloc::Global;
 #[derive(Drop, Debug)]
 pub struct PlaceSet {
     pub(crate) words: Vec<u64>,
-    ghost few: { length words.items < 2 ^ 32 },
+    ghost few: { length words.items ≤ 2 ^ 58 },
 }
 
 impl PlaceSet {
-    ghost use Rattle.ca_sweep.specs.code.PlaceSet.{Has, HoldsUpTo, IsNext};
+    ghost use Rattle.ca_places.specs.PlaceSet.{Has, HoldsUpTo, HasRoomFor, IsAsRoomy, IsNext};
 
     /// The empty set, with room for `places` places: eight bytes for 64 places.
     pub fn reserve(alloc: Global, places: usize) -> Result<Self, NoMemory>
-        requires { places ≤ 2 ^ 32 }
-        ensures room { IfOk result (λ set. HoldsUpTo set places) }
+        ensures room { IfOk result (λ set. HasRoomFor set places) }
         ensures none { IfOk result (λ set. (place : ℕ) → ¬ (Has set place)) }
     {
         Ok(PlaceSet {
@@ -31,7 +30,7 @@ impl PlaceSet {
         requires { HoldsUpTo self.old (place + 1) }
         ensures here { Has self.new place }
         ensures others { (other : ℕ) → other ≢ place → Has self.new other ↔ Has self.old other }
-        ensures room { (count : ℕ) → HoldsUpTo self.old count → HoldsUpTo self.new count }
+        ensures room { IsAsRoomy self.new self.old }
     {
         self.words[place / 64] |= 1 << (place % 64);
     }
@@ -41,7 +40,7 @@ impl PlaceSet {
         requires { HoldsUpTo self.old (place + 1) }
         ensures here { ¬ (Has self.new place) }
         ensures others { (other : ℕ) → other ≢ place → Has self.new other ↔ Has self.old other }
-        ensures room { (count : ℕ) → HoldsUpTo self.old count → HoldsUpTo self.new count }
+        ensures room { IsAsRoomy self.new self.old }
     {
         self.words[place / 64] &= !(1 << (place % 64));
     }
@@ -65,5 +64,14 @@ impl PlaceSet {
             }
         }
         None
+    }
+
+    /// Takes over the places of a set with as many words.
+    pub fn take_over(&mut self, other: &PlaceSet)
+        requires { IsAsRoomy self.old other.now }
+        ensures same { (place : ℕ) → Has self.new place ↔ Has other.now place }
+        ensures room { IsAsRoomy self.new self.old }
+    {
+        self.words.copy_from_slice(&other.words);
     }
 }

@@ -2,8 +2,8 @@ use Rattle.std.proofs.Common.{◌/◌, ◌%◌, ◌^◌, ◌≡◌, ◌<◌, get
 use Rattle.std.specs.Int.{bit_at, trailing_zeros}
 use Rattle.std.proofs.lemmas.List.{get_or_read}
 use Rattle.std.proofs.lemmas.Nat.Bits.{bit_at-trailing_zeros}
-use Rattle.ca_sim.proofs.PlaceLemmas.{found_in_word, none_in_word, rest, rest_small, rest_none, rest_lowest}
-use Rattle.ca_sweep.proofs.place_set.PlaceSet.next.Goals as goal
+use Rattle.ca_places.proofs.PlaceLemmas.{found_in_word, none_in_word, rest, rest_small, rest_none, rest_lowest}
+use Rattle.ca_places.proofs.place_set.PlaceSet.next.Goals as goal
 
 pub returns-then-rest-ne0 : goal.returns-then-rest-ne0
 returns-then-rest-ne0 c =

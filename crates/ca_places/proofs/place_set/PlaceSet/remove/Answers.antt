@@ -2,8 +2,8 @@ use Rattle.std.proofs.Common.{◌<◌, ◌/◌, ◌%◌, length, arith, w64, ap,
 use Rattle.std.proofs.lemmas.List.{get_or_read}
 use Rattle.std.specs.Int.{bit_at}
 use Rattle.std.proofs.lemmas.Nat.Bits.{bit_at_clear_same, bit_at_clear_other}
-use Rattle.ca_sim.proofs.PlaceLemmas.{no_bit_here, bit_elsewhere}
-use Rattle.ca_sweep.proofs.place_set.PlaceSet.remove.Goals as goal
+use Rattle.ca_places.proofs.PlaceLemmas.{no_bit_here, bit_elsewhere}
+use Rattle.ca_places.proofs.place_set.PlaceSet.remove.Goals as goal
 
 pub returns-clause-here : goal.returns-clause-here
 returns-clause-here c =
