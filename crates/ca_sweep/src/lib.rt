@@ -11,6 +11,7 @@ mod memo;
 mod place_set;
 mod run;
 mod seen;
+mod segments;
 mod sweep;
 mod values;
 
