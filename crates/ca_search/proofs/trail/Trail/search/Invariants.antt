@@ -1,7 +1,7 @@
 use Rattle.std.proofs.Common.{◌≡◌, ◌+◌, ◌*◌, ◌-◌, length}
 use Rattle.ca_search.specs.Judged.{IsSameAim}
 use Rattle.ca_search.specs.code.Steps.{TrailStands}
-use Rattle.ca_search.proofs.trail.Trail.find.Given as goal
+use Rattle.ca_search.proofs.trail.Trail.search.Given as goal
 
 abbrev pub invariant-deciding : goal.invariant-deciding
 invariant-deciding g l = record {
