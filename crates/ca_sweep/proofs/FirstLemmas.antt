@@ -10,11 +10,11 @@ use Rattle.ca_net.specs.State.{value_at}
 use Rattle.ca_flat.specs.Chip.{Chip, outputs_at, output_net}
 use Rattle.ca_flips.specs.Flips.{IsOpposite}
 use Rattle.ca_view.specs.Linked.{IsLinked, IsPlaced}
-use Rattle.ca_sweep.specs.declared.place_set.PlaceSet.{PlaceSet}
+use Rattle.ca_places.specs.declared.place_set.PlaceSet.{PlaceSet}
 use Rattle.ca_sweep.specs.declared.values.Values.{Values}
 use Rattle.ca_sweep.specs.Seen.{IsOppositeAt}
 use Rattle.ca_sweep.specs.code.Segments.{IsFirstNumber}
-use Rattle.ca_sweep.specs.code.PlaceSet.{IsNext}
+use Rattle.ca_places.specs.PlaceSet.{IsNext}
 use Rattle.ca_sweep.specs.code.Changes.{IsDue}
 use Rattle.ca_sweep.specs.code.Held.{IsHeld}
 use Rattle.ca_sweep.specs.code.Firsts.{AreFirstsFrom, AreFirsts, IsOppositeIf, IsLeastOf, IsLessenedTo, IsLessened}

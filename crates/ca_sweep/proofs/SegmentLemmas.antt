@@ -20,7 +20,7 @@ use Rattle.ca_sweep.specs.declared.values.Values.{Values}
 use Rattle.ca_sweep.specs.Seen.{flipped_outputs, IsOppositeAt, IsClear, IsSeenFrom}
 use Rattle.ca_sweep.specs.code.Changes.{IsOutputBelow, IsEvaluatedAt, IsSweptTo}
 use Rattle.ca_sweep.specs.code.Faulty.{code_of}
-use Rattle.ca_sweep.specs.code.PlaceSet.{IsNext}
+use Rattle.ca_places.specs.PlaceSet.{IsNext}
 use Rattle.ca_sweep.specs.code.Segments.{IsBehind, IsFirstNumber, IsSweptFrom, IsSweptUntil, IsCutAt, IsSegment, AreSegments}
 use Rattle.ca_sweep.proofs.FaultyLemmas.{same_code, code_small}
 use Rattle.ca_sweep.proofs.SweepLemmas.{not_input, later, not_other, swept_passes, swept_ends}

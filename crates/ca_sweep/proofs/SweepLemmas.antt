@@ -15,7 +15,7 @@ use Rattle.ca_view.specs.Linked.{IsLinked, IsPlaced}
 use Rattle.ca_sweep.specs.declared.values.Values.{Values}
 use Rattle.ca_sweep.specs.code.Changes.{IsDue, AreRoomy, IsOutputBelow, IsWritten, IsEvaluatedOut}
 use Rattle.ca_sweep.specs.code.Changes.{IsEvaluatedAt, IsSweptTo}
-use Rattle.ca_sweep.specs.code.PlaceSet.{IsNext}
+use Rattle.ca_places.specs.PlaceSet.{IsNext}
 use Rattle.ca_sweep.specs.code.Held.{IsHeld}
 
 module _ (chip : Chip) (place_of number_of : ℕ → ℕ) (linked : IsLinked chip place_of number_of) where

@@ -8,7 +8,6 @@ mod faulty;
 mod finder;
 mod firsts;
 mod memo;
-mod place_set;
 mod run;
 mod seen;
 mod segments;

@@ -8,15 +8,15 @@ ghost use Rattle.ca_sweep.specs.Seen.{flipped_if};
 ghost use Rattle.ca_sweep.specs.code.Cells.{AreTables, IsOrder};
 ghost use Rattle.ca_sweep.specs.code.Changes.{AreRoomy, IsEvaluatedAt};
 ghost use Rattle.ca_sweep.specs.code.Held.{IsAtRest, IsHeld};
-ghost use Rattle.ca_sweep.specs.code.PlaceSet.{IsNext};
+ghost use Rattle.ca_places.specs.PlaceSet.{IsNext};
 ghost use Rattle.ca_sweep.specs.code.Segments.{IsHalt, AreFlippedAt, IsFlippedOrGood};
 
 use crate::cells::Tables;
-use crate::place_set::PlaceSet;
 use crate::seen::Flips;
 use crate::segments::Cut;
 use crate::values::Values;
 use ca_net::{State, Trit};
+use ca_places::PlaceSet;
 use ca_view::View;
 
 /// How a sweep ends.
