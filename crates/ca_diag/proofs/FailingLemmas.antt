@@ -9,7 +9,8 @@ use Rattle.std.proofs.lemmas.List.Elements.{All-nil, All-cons, All-head, All-tai
 use Rattle.std.proofs.lemmas.Option.{slice_get_within, get_or_from_slice_get, slice_get-get_or}
 use native.Mathlib.Decide.{ℕ_discrete}
 use Rattle.ca_log.specs.declared.record.LogRecord.{LogRecord}
-use Rattle.ca_diag.specs.code.Failing.{outputs_at, AreByPair, AreMarked, AreWithin}
+use Rattle.ca_diag.specs.code.Failing.{outputs_at, AreByPair, AreMarked}
+use Rattle.ca_diag.specs.Candidates.{AreLoggedWithin}
 
 -- one record more
 at_push : (pair : ℕ) (log : List LogRecord) (here : LogRecord)
@@ -112,7 +113,7 @@ at_within (x ∷ xs) zero below = (x, refl)
 at_within (x ∷ xs) (suc k) below = at_within xs k (omega (arith, below))
 
 -- what was logged for a pair is an output
-pub outputs_within : (pairs outputs pair : ℕ) (log : List LogRecord) → AreWithin pairs outputs log
+pub outputs_within : (pairs outputs pair : ℕ) (log : List LogRecord) → AreLoggedWithin pairs outputs log
     → All (λ output. output < outputs) (outputs_at pair log)
 outputs_within pairs outputs pair [] all = All-nil (λ output. output < outputs)
 outputs_within pairs outputs pair (here ∷ log) all =

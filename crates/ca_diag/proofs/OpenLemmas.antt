@@ -15,7 +15,7 @@ use Rattle.ca_log.specs.declared.record.LogRecord.{LogRecord}
 use Rattle.ca_diag.specs.declared.candidate.Candidate.{Candidate}
 use Rattle.ca_diag.specs.Diagnosis.{IsContradicted, IsCandidate, Explains, IsPlaceOf}
 use Rattle.ca_diag.specs.Candidates.{AreSoMany, IsListed, Has, AreCandidates}
-use Rattle.ca_diag.specs.code.Failing.{outputs_at, AreWithin}
+use Rattle.ca_diag.specs.code.Failing.{outputs_at}
 use Rattle.ca_diag.specs.code.Judged.{FailsAt, IsAgainstSome, IsJudged}
 use Rattle.ca_diag.specs.code.Pass.{IsContradictedBy, ExplainsBy, IsOpen, AreOpen, IsLeft, IsKept, IsPass, AreAll}
 use Rattle.ca_diag.proofs.FailingLemmas.{of_get, at_within}

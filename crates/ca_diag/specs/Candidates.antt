@@ -7,6 +7,10 @@ use Rattle.ca_log.specs.declared.record.LogRecord.{LogRecord}
 use Rattle.ca_diag.specs.declared.candidate.Candidate.{Candidate}
 use Rattle.ca_diag.specs.Diagnosis.{IsCandidate, Explains}
 
+-- each record is of one of so many pairs and outputs
+abbrev pub AreLoggedWithin : ℕ → ℕ → List LogRecord → Type 0
+AreLoggedWithin pairs outputs log = All (λ here. (here.pair < pairs) × (here.output < outputs)) log
+
 -- so many entries of the list have the property
 abbrev pub AreSoMany : {T : Type 0} → (T → Type 0) → List T → ℕ → Type 0
 AreSoMany P [] count = count ≡ 0

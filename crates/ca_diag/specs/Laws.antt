@@ -19,10 +19,11 @@ use Rattle.ca_diag.specs.Candidates.{AreCandidates}
 abbrev pub AreRuns : Chip → List (List Bool) → ChipDefect → (ℕ → List Trit) → Type 0
 AreRuns chip pairs defect ends =
     (k : ℕ) (pair : List Bool) → slice_get pairs k ≡ Some pair
-    → PairRun (flat chip (Some defect)) (first_vector chip (trits_of pair)) (last_vector chip (trits_of pair))
-    (ends k)
+    → PairRun (flat chip (Some defect)) (first_vector chip (trits_of pair))
+    (last_vector chip (trits_of pair)) (ends k)
 
--- where the good chip ends with a value, the log has the place exactly if the run has ended with another there
+-- where the good chip ends with a value, the log has the place exactly if the run has ended with another
+-- there
 abbrev pub IsLogOf : Chip → List (List Bool) → (ℕ → List Trit) → List LogRecord → Type 0
 IsLogOf chip pairs ends log =
     (here : LogRecord) (pair : List Bool) (value : Trit) → IsPlaceOf chip pairs here pair

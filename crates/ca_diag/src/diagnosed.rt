@@ -4,8 +4,8 @@ ghost use Rattle.std.specs.Prelude.{◌≡◌, ◌<◌, ◌+◌, ◌^◌, length
 ghost use Rattle.std.specs.List.{All};
 ghost use Rattle.ca_flat.specs.Pair.{bit_count};
 ghost use Rattle.ca_search.specs.Filled.{trits_of};
-ghost use Rattle.ca_diag.specs.Candidates.{AreCandidates};
-ghost use Rattle.ca_diag.specs.code.Failing.{AreByPair, AreWithin};
+ghost use Rattle.ca_diag.specs.Candidates.{AreCandidates, AreLoggedWithin};
+ghost use Rattle.ca_diag.specs.code.Failing.{AreByPair};
 ghost use Rattle.ca_diag.specs.code.Pass.{AreAll, AreOpen, IsPass};
 
 use crate::candidate::{Candidate, Candidates};
@@ -85,7 +85,7 @@ fn pass_all<S: Simulator, T: Watch>(
     watch: &mut T,
 )
     requires bits { All (λ pair. length pair ≡ bit_count (S.task sim.old).chip) pairs.now }
-    requires log { AreWithin (length pairs.now) (length (S.task sim.old).chip.outputs) log.now }
+    requires log { AreLoggedWithin (length pairs.now) (length (S.task sim.old).chip.outputs) log.now }
     requires few { length log.now < 2 ^ 32 }
     requires by { AreByPair (length pairs.now) log.now by.now }
     requires room { length marks.old.items ≡ length (S.task sim.old).chip.outputs }
@@ -113,7 +113,7 @@ pub fn diagnose<S: Simulator, T: Watch>(
     requires few { length (S.task sim.old).defects < 2 ^ 32 }
     requires records { length log.now < 2 ^ 32 }
     requires bits { All (λ pair. length pair ≡ bit_count (S.task sim.old).chip) pairs.now }
-    requires places { AreWithin (length pairs.now) (length (S.task sim.old).chip.outputs) log.now }
+    requires places { AreLoggedWithin (length pairs.now) (length (S.task sim.old).chip.outputs) log.now }
     ensures candidates { IfOk result (AreCandidates (S.task sim.old) pairs.now log.now) }
     ensures task { S.task sim.new ≡ S.task sim.old }
 {

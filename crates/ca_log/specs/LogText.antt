@@ -1,7 +1,7 @@
 -- What the text of a tester's log reads as: its records, one after another, up to the first that is bad.
 use Rattle.std.specs.Prelude.{ℕ, zero, suc, ◌≡◌, ◌<◌, ◌^◌, ◌+◌, ◌==◌, ◌≢◌, Bool, true, false, not, ◌&&◌}
-use Rattle.std.specs.Prelude.{List, [], ◌∷◌, ◌++◌, length, slice_index_or, Option, Some, None, Result, Ok, Err}
-use Rattle.std.specs.Prelude.{option_map, codes, decimal, if◌then◌else◌}
+use Rattle.std.specs.Prelude.{List, [], ◌∷◌, ◌++◌, length, slice_index_or, Option, Some, None, Result, Ok}
+use Rattle.std.specs.Prelude.{Err, option_map, codes, decimal, if◌then◌else◌}
 use Rattle.std.specs.List.{list_any, All, AllPairs}
 use Rattle.std.specs.Str.{bytes_eq}
 use Rattle.ca_csv.specs.Records.{text_records}

@@ -1,7 +1,7 @@
 -- The outputs that were logged, pair by pair.
-use Rattle.std.specs.Prelude.{ℕ, ◌≡◌, ◌<◌, ◌↔◌, ◌==◌, Bool, true, false, List, [], ◌∷◌, length, slice_index_or}
-use Rattle.std.specs.Prelude.{if◌then◌else◌}
-use Rattle.std.specs.List.{Contains, All}
+use Rattle.std.specs.Prelude.{ℕ, ◌≡◌, ◌<◌, ◌↔◌, ◌==◌, Bool, true, false, List, [], ◌∷◌, length}
+use Rattle.std.specs.Prelude.{slice_index_or, if◌then◌else◌}
+use Rattle.std.specs.List.{Contains}
 use Rattle.ca_log.specs.declared.record.LogRecord.{LogRecord}
 
 -- the outputs that were logged for a pair, in order
@@ -18,8 +18,5 @@ pub record AreByPair (pairs : ℕ) (log : List LogRecord) (rows : List (List ℕ
 -- these outputs are marked, and no others
 abbrev pub AreMarked : List ℕ → List Bool → Type 0
 AreMarked outputs marks =
-    (output : ℕ) → output < length marks → (slice_index_or marks output false ≡ true) ↔ Contains outputs output
-
--- each record is of so many pairs and outputs
-abbrev pub AreWithin : ℕ → ℕ → List LogRecord → Type 0
-AreWithin pairs outputs log = All (λ here. (here.pair < pairs) × (here.output < outputs)) log
+    (output : ℕ) → output < length marks
+    → (slice_index_or marks output false ≡ true) ↔ Contains outputs output

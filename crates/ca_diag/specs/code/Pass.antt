@@ -23,8 +23,8 @@ abbrev pub ExplainsBy : ℕ → Chip → List (List Bool) → ChipDefect → Log
 ExplainsBy count chip pairs defect here = (here.pair < count) × Explains chip pairs defect here
 
 -- none of the first pairs contradicts the defect at this place, and so many of their records it explains
-pub record IsOpen (count : ℕ) (task : Task) (pairs : List (List Bool)) (log : List LogRecord) (one : Candidate)
-    : Type 0 where
+pub record IsOpen (count : ℕ) (task : Task) (pairs : List (List Bool)) (log : List LogRecord)
+    (one : Candidate) : Type 0 where
   pub defect : ChipDefect
   pub at : IsDefectAt task one.defect defect
   pub stands : ¬ (IsContradictedBy count task.chip pairs log defect)
@@ -61,8 +61,8 @@ IsPass task bits outputs (one ∷ old) new =
     ⊎ ((kept : Candidate) × (others : List Candidate) × (new ≡ kept ∷ others)
     × IsKept task bits outputs one kept × IsPass task bits outputs old others)
 
--- so it is of the first k of the old candidates, of which `kept` are kept at the front of the list; those that
--- are still to come are where they were
+-- so it is of the first k of the old candidates, of which `kept` are kept at the front of the list; those
+-- that are still to come are where they were
 pub record IsPassTo (task : Task) (bits : List Trit) (outputs : List ℕ) (old : List Candidate) (k kept : ℕ)
     (list : List Candidate) : Type 0 where
   pub long : length list ≡ length old
