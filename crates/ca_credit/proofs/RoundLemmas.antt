@@ -18,14 +18,11 @@ use Rattle.ca_credit.specs.Table.{verdict_at, is_open, IsAfterPair}
 use Rattle.ca_credit.specs.code.Table.{one_if, CreditsOne}
 use Rattle.ca_credit.specs.Table.{CreditsPair}
 use Rattle.ca_credit.specs.Detection.{IsAnswer}
-use Rattle.ca_credit.specs.Told.{IsUndetectedAt}
 use Rattle.ca_credit.specs.code.Round.{IsOpenAt, AreOpen, IsRound, IsWithout, IsTried, TriesMore}
 use Rattle.ca_places.specs.declared.place_set.PlaceSet.{PlaceSet}
 use Rattle.ca_places.specs.PlaceSet.{Has, IsAsRoomy}
-use Rattle.std.proofs.lemmas.Bool.{cases_eq}
-use Rattle.std.specs.Int.{bit_at}
 use Rattle.std.proofs.lemmas.List.Elements.{Contains-get_or}
-use Rattle.std.proofs.Common.{◌↔◌, ◌⊎◌, ◌/◌, ◌%◌, slice_index}
+use Rattle.std.proofs.Common.{◌↔◌, ◌/◌, slice_index}
 use Rattle.ca_credit.proofs.DetectionLemmas.{first_by, not_shown_by, shown_by_first}
 use Rattle.ca_credit.proofs.TableLemmas.{some_within, of_open, verdict_at-set, verdict_at-other, credit_count-set}
 
@@ -92,15 +89,7 @@ pub some_of : {T : Type 0} (o : Option T) → IsSome o → (x : T) × (o ≡ Som
 some_of None is = absurd (let k : false ≡ true = is in cc)
 some_of (Some x) is = (x, refl)
 
--- what the pair doesn't detect, and what no pair may be credited with any more, stays
-pub stays_undetected : (chip : Chip) (pair : List Bool) (number : ℕ) (defect : ChipDefect) (verdict : Option Verdict)
-    → ¬ (IsShown chip defect (trits_of pair)) → IsAfterPair chip pair number defect verdict verdict
-stays_undetected chip pair number defect None none = inr (record { undetected = none; same = refl })
-stays_undetected chip pair number defect (Some (Credited p o)) none = refl
-stays_undetected chip pair number defect (Some Unexposable) none = refl
-stays_undetected chip pair number defect (Some Untestable) none = refl
-stays_undetected chip pair number defect (Some (Aborted code)) none = inr (record { undetected = none; same = refl })
-
+-- what no pair may be credited with any more stays
 pub stays_closed : (chip : Chip) (pair : List Bool) (number : ℕ) (defect : ChipDefect) (verdict : Option Verdict)
     → (is_open verdict ≡ true → ⊥) → IsAfterPair chip pair number defect verdict verdict
 stays_closed chip pair number defect None closed = absurd (closed refl)
@@ -266,19 +255,11 @@ tried_begin task pair number open_places left table is count same = record {
     some_before (x ∷ xs) zero y e = omega arith
     some_before (x ∷ xs) (suc k) y e = let l = some_before xs k y e in omega arith
 
--- where no defect that is left is detected, this is what the pair makes of the table
+-- where none is left, this is what the pair makes of the table
 pub tried_all : (task : Task) (pair : List Bool) (number : ℕ) (left : PlaceSet) (old new : List (Option Verdict))
-    → ((place : ℕ) → Has left place → IsUndetectedAt task (trits_of pair) place)
-    → IsTried task pair number left old new → CreditsPair task pair number old new
+    → ((place : ℕ) → Has left place → ⊥) → IsTried task pair number left old new → CreditsPair task pair number old new
 tried_all task pair number left old new none is = record {
   as_many = is.as_many;
-  each = λ place defect below at. elim (has_or_not left place) [
-    | inl has ↦ subst (λ (v : Option Verdict). IsAfterPair task.chip pair number defect (verdict_at old place) v) (sym (is.others place has))
-        (stays_undetected task.chip pair number defect (verdict_at old place) (none place has defect at))
-    | inr gone ↦ is.done place defect gone at
-  ];
+  each = λ place defect below at. is.done place defect (none place) at;
   others = λ place from. past new place None (let e = is.as_many in omega arith) ∙ sym (past old place None from);
 }
-  where
-    has_or_not : (set : PlaceSet) (place : ℕ) → Has set place ⊎ ¬ (Has set place)
-    has_or_not set place = cases_eq (bit_at (slice_index set.words.items (place / 64)) (place % 64)) 1

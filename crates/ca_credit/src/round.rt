@@ -9,10 +9,10 @@ ghost use Rattle.ca_credit.specs.Defects.{Task, IsDefectAt};
 ghost use Rattle.ca_credit.specs.Table.{verdict_at, is_open, CreditsPair};
 ghost use Rattle.ca_credit.specs.Table.{credit_count};
 ghost use Rattle.ca_credit.specs.code.Aims.{AimsAtSuspect, AimsUpTo};
-ghost use Rattle.ca_credit.specs.Detection.{IsAnswer, IsDecided};
+ghost use Rattle.ca_credit.specs.Detection.{IsAnswer};
 ghost use Rattle.ca_credit.specs.code.Round.{IsRound, IsWithout, TriesMore};
 
-use crate::by_lasts::{ByLasts, Told};
+use crate::by_lasts::ByLasts;
 use crate::credit::detecting_output;
 use crate::simulator::Simulator;
 use crate::verdict::Verdict;
@@ -238,10 +238,37 @@ impl Round {
         credited
     }
 
-    // Tries the pair on the defect at a place by waves, if the rows allow it, and on those left after it of
-    // the same instance that let it give the same. So what an instance gives is led through the chip once for
-    // all of these.
+    // Tries the pair on the defect at a place by waves, and on those left after it of the same instance that
+    // let it give the same. So what an instance gives is led through the chip once for all of these.
     fn try_from<S: Simulator>(&mut self, sim: &mut S, pair: &Pair, number: u32, place: usize) -> u32
+        requires left { Has self.old.left place }
+        requires same { length self.old.verdicts.items ≡ length (S.task sim.old).defects }
+        requires few { length self.old.verdicts.items < 2 ^ 32 }
+        requires stands { IsRound self.old }
+        requires bits { S.bits sim.old ≡ trits_of pair.now }
+
+        ensures tries { TriesMore (S.task sim.old) pair.now number result self.old self.new }
+        ensures here { ¬ (Has self.new.left place) }
+        ensures task { S.task sim.new ≡ S.task sim.old }
+        ensures bits { S.bits sim.new ≡ S.bits sim.old }
+        ensures aims { S.aims sim.new ≤ S.aims sim.old + 1 }
+    {
+        sim.aim(place);
+        let answer = detecting_output(sim);
+        let here = self.give(number, place, answer);
+        let following = self.try_after(sim, pair, number, place + 1, answer);
+        here + following
+    }
+
+    // Tries the pair on the defect at a place. The rows are asked first, then last values, and waves where
+    // these alone say nothing.
+    fn take_turn<S: Simulator>(
+        &mut self,
+        sim: &mut S,
+        pair: &Pair,
+        number: u32,
+        place: usize,
+    ) -> u32
         requires left { Has self.old.left place }
         requires same { length self.old.verdicts.items ≡ length (S.task sim.old).defects }
         requires few { length self.old.verdicts.items < 2 ^ 32 }
@@ -259,46 +286,21 @@ impl Round {
             self.pass(place);
             return 0;
         }
-        sim.aim(place);
-        let answer = detecting_output(sim);
-        let here = self.give(number, place, answer);
-        let following = self.try_after(sim, pair, number, place + 1, answer);
-        here + following
-    }
-
-    // Tries the pair on the defect at a place of which is told what last values say. Waves are asked where
-    // these alone say nothing.
-    fn take_turn<S: Simulator>(&mut self, sim: &mut S, pair: &Pair, number: u32, told: Told) -> u32
-        requires left { Has self.old.left told.place }
-        requires decided { (defect : ChipDefect) → IsDefectAt (S.task sim.old) told.place defect
-            → IsDecided (S.task sim.old).chip defect (S.bits sim.old) told.by_lasts }
-        requires same { length self.old.verdicts.items ≡ length (S.task sim.old).defects }
-        requires few { length self.old.verdicts.items < 2 ^ 32 }
-        requires stands { IsRound self.old }
-        requires bits { S.bits sim.old ≡ trits_of pair.now }
-
-        ensures tries { TriesMore (S.task sim.old) pair.now number result self.old self.new }
-        ensures here { ¬ (Has self.new.left told.place) }
-        ensures task { S.task sim.new ≡ S.task sim.old }
-        ensures bits { S.bits sim.new ≡ S.bits sim.old }
-        ensures aims { AimsAtSuspect (S.task sim.old) pair.now self.old.verdicts.items told.place
-            (S.aims sim.old) (S.aims sim.new) }
-    {
-        match told.by_lasts {
+        match sim.by_lasts(place) {
             ByLasts::At(output) => {
-                self.credit(number, told.place, output);
+                self.credit(number, place, output);
                 1
             }
             ByLasts::Nowhere => {
-                self.pass(told.place);
+                self.pass(place);
                 0
             }
-            ByLasts::Undecided => self.try_from(sim, pair, number, told.place),
+            ByLasts::Undecided => self.try_from(sim, pair, number, place),
         }
     }
 
     /// Tries the pair in hand on all defects with which a pair may yet be credited. Answers how many it is
-    /// credited with. Its time is that of the open ones, and a look at the words of their set.
+    /// credited with. Its time is that of these defects, and a look at the words of their set.
     pub(crate) fn try_all<S: Simulator>(&mut self, sim: &mut S, pair: &Pair, number: u32) -> u32
         requires same { length self.old.verdicts.items ≡ length (S.task sim.old).defects }
         requires few { length self.old.verdicts.items < 2 ^ 32 }
@@ -318,9 +320,9 @@ impl Round {
         self.left.take_over(&self.open_places);
         let mut credited = 0;
         let mut from = 0;
-        'places: while let Some(told) = sim.next_told(&self.left, from) {
-            credited += self.take_turn(sim, pair, number, told);
-            from = told.place + 1;
+        'places: while let Some(place) = self.left.next(from) {
+            credited += self.take_turn(sim, pair, number, place);
+            from = place + 1;
         }
         credited
     }

@@ -1,17 +1,7 @@
-use Rattle.std.proofs.Common.{rules, arith, ◌∙◌, ◌^◌, ◌<◌, inr, ap, sym, subst, length, List, None}
-use Rattle.ca_net.specs.declared.trit.Trit.{Trit}
-use Rattle.ca_credit.specs.Detection.{IsAnswer}
+use Rattle.std.proofs.Common.{rules, ◌∙◌, ◌^◌, ◌<◌, ap, sym, subst, length}
 use Rattle.ca_credit.proofs.TableLemmas.{credit_count_within}
-use Rattle.ca_credit.proofs.AimLemmas.{is_suspect}
-use Rattle.ca_credit.proofs.RoundLemmas.{answer_here, open_left, undetected_answer, tries_then, tries_same, aimed_some}
+use Rattle.ca_credit.proofs.RoundLemmas.{answer_here, open_left, tries_then, tries_same, aimed_some}
 use Rattle.ca_credit.proofs.round.Round.try_from.Goals as goal
-
-pub returns-then-not-may_detect-clause-tries : goal.returns-then-not-may_detect-clause-tries
-returns-then-not-may_detect-clause-tries g c =
-    let task = g.S.Simulator.task c.args.sim.now in
-    c.pass.ensures.tries task c.args.pair.now c.args.number (λ defect at.
-    subst (λ (b : List Trit). IsAnswer task.chip defect b None) c.requires.bits
-    (undetected_answer task.chip defect (g.S.Simulator.bits c.args.sim.now) (c.may_detect.ensures.undetected defect at c.if-not-may_detect.true)))
 
 pub try_after-following-requires-clause-same : goal.try_after-following-requires-clause-same
 try_after-following-requires-clause-same g c =
@@ -58,12 +48,3 @@ returns-clause-tries g c =
     c.try_after-following.new.self one
     (tries_same task (g.S.Simulator.task c.aim.new.self) c.args.pair.now c.args.number c.try_after-following.result c.give-here.new.self
     c.try_after-following.new.self c.aim.ensures.task c.try_after-following.ensures.tries)
-
-pub returns-clause-aims : goal.returns-clause-aims
-returns-clause-aims g c =
-    inr (
-      is_suspect (g.S.Simulator.task c.args.sim.now) c.args.pair.now (g.S.Simulator.bits c.args.sim.now)
-          c.args.self.now.verdicts.items c.args.place c.requires.bits (open_left c.args.self.now c.args.place c.requires.stands c.requires.left).1
-          (λ defect at. c.may_detect.ensures.allowed defect at c.if-not-may_detect.false),
-      (let same = c.try_after-following.ensures.aims in let once = c.aim.ensures.aims in omega arith),
-    )
