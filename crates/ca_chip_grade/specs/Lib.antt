@@ -1,1 +1,2 @@
--- The contracts of this crate need no words of their own.
+-- What the contracts of this crate say.
+pub mod Texts

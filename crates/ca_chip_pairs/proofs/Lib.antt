@@ -1,4 +1,4 @@
 mod RunLemmas
 mod PlaceLemmas
-mod CoverLemmas
+pub mod CoverLemmas
 mod FitLemmas

@@ -20,9 +20,13 @@ use Rattle.ca_credit.specs.declared.verdict.Verdict.TheVariants.{Credited, Unexp
 use Rattle.ca_credit.specs.Defects.{Task}
 use Rattle.ca_credit.specs.Detection.{IsFirstOutput, IsFirstDetection}
 use Rattle.ca_credit.specs.Good.{IsGood}
+use Rattle.ca_grade.specs.declared.grade.Grade.{Grade}
+use Rattle.ca_grade.specs.declared.grade.Grade.TheVariants as grade
+use Rattle.ca_grade.specs.Graded.{AreGraded}
 use Rattle.ca_chip_report.specs.declared.summary.Kind.{Kind}
 use Rattle.ca_chip_report.specs.declared.summary.Kind.TheVariants as kind
 use Rattle.ca_chip_report.specs.ChipReport.{IsGateDefect, IsVerdictWithin, AreReported}
+use Rattle.ca_chip_report.specs.Grades.{IsGradeWithin, AreGradesOf}
 use Rattle.ca_chip_report.specs.Summary.{is_kind, count_of}
 use Rattle.ca_chip_report.proofs.RowLemmas.{none_past}
 
@@ -113,12 +117,38 @@ counted (verdict ∷ verdicts) =
     let aborted = count_cons kind.Aborted verdict verdicts in
     omega (arith, more, one, credited, unexposable, untestable, aborted)
 
--- the count of one verdict more
-pub counted_more : (of : Kind) (verdicts : List Verdict) (k count one : ℕ) (verdict : Verdict) (passed : Bool)
-    → slice_get verdicts k ≡ Some verdict → passed ≡ is_kind of verdict → one ≡ cond passed 1 0
-    → count ≡ count_of of (take k verdicts) → count + one ≡ count_of of (take (k + 1) verdicts)
-counted_more of verdicts k count one verdict passed at is reports before =
-    let last = length-filter_more (is_kind of) verdicts k verdict (slice_get_within verdicts k verdict at) in
-    let read = ap (λ (given : Verdict). cond {A = ℕ} (is_kind of given) 1 0) (get_or_from_slice_get verdicts k verdict verdict at) in
+-- the count of one entry more that is of a kind
+pub counted_more : {V : Type 0} (is_of : V → Bool) (entries : List V) (k count one : ℕ) (entry : V) (passed : Bool)
+    → slice_get entries k ≡ Some entry → passed ≡ is_of entry → one ≡ cond passed 1 0
+    → count ≡ length (filter is_of (take k entries)) → count + one ≡ length (filter is_of (take (k + 1) entries))
+counted_more is_of entries k count one entry passed at is reports before =
+    let last = length-filter_more is_of entries k entry (slice_get_within entries k entry at) in
+    let read = ap (λ given. cond {A = ℕ} (is_of given) 1 0) (get_or_from_slice_get entries k entry entry at) in
     let here = reports ∙ ap (λ (test : Bool). cond {A = ℕ} test 1 0) is in
     omega (arith, last, read, here, before)
+
+-- grades that are so are on the chip's defects, with observed outputs
+pub graded_reported : (chip : LinkedChip) (task : Task) (pairs : List (List Bool)) (grades : List Grade)
+    → task.chip ≡ core_of chip → All (IsGateDefect chip) task.defects → AreGraded task pairs grades
+    → AreGradesOf chip task.defects grades
+graded_reported chip task pairs grades is_core gates graded = record {
+  defects_are = gates;
+  one_each = graded.one_each;
+  outputs = λ k d lt. within k (get_or grades k d) (slice_get-get_or grades k d lt) lt;
+}
+  where
+    outputs : length task.chip.outputs ≡ length (outputs_of chip)
+    outputs = ap (λ (core : flat.Chip). length core.outputs) is_core ∙ length-map (outputs_of chip) (core_net chip)
+
+    within : (k : ℕ) (given : Grade) → slice_get grades k ≡ Some given → k < length grades
+        → IsGradeWithin (length (outputs_of chip)) given
+    within k (grade.Credited pair output) at lt = by (slice_get task.defects k) refl
+      where
+        by : (o : Option ChipDefect) → slice_get task.defects k ≡ o → output < length (outputs_of chip)
+        by None none = absurd (let past = none_past task.defects k none in omega (arith, lt, graded.one_each, past))
+        by (Some defect) there =
+            subst (λ count. output < count) outputs
+            (output_within task.chip defect pairs pair output
+            (graded.each k defect (grade.Credited pair output) there at).first)
+    within k grade.Unexposable at lt = tt
+    within k grade.Uncredited at lt = tt

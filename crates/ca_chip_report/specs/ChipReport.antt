@@ -1,5 +1,5 @@
 -- The report of a linked chip: of each of its defects the instance, the cell, the name and the verdict.
-use Rattle.std.specs.Prelude.{ℕ, ◌≡◌, ◌<◌, List, [], length, Option, Some, None, slice_get}
+use Rattle.std.specs.Prelude.{ℕ, ◌≡◌, ◌<◌, List, [], length, map, Option, Some, None, slice_get}
 use Rattle.std.specs.List.{All}
 use Rattle.std.specs.Simd.Lanes.{zip2}
 use Rattle.ca_defect.specs.Name.{name_of}
@@ -31,18 +31,22 @@ abbrev pub cell_name : Option Part → List ℕ
 cell_name None = []
 cell_name (Some part) = part.cell
 
--- the row of a defect
-abbrev pub row_of : LinkedChip → ChipDefect → Verdict → ReportRow
+-- the row of a defect with what is reported of it
+abbrev pub row_of : LinkedChip → ChipDefect → report.Verdict → ReportRow
 row_of chip defect verdict = record {
   instance = instance_name (slice_get chip.parts defect.instance);
   cell = cell_name (slice_get chip.parts defect.instance);
   defect = name_of (cell_at (core_of chip) defect.instance) defect.defect;
-  verdict = reported_of verdict;
+  verdict = verdict;
 }
 
--- the rows of defects, each with its verdict, in order
+-- the rows of defects, each with what is reported of it, in order
+abbrev pub rows_of : LinkedChip → List ChipDefect → List report.Verdict → List ReportRow
+rows_of chip defects reported = zip2 (row_of chip) defects reported
+
+-- those of defects with their verdicts
 abbrev pub report_rows : LinkedChip → List ChipDefect → List Verdict → List ReportRow
-report_rows chip defects verdicts = zip2 (row_of chip) defects verdicts
+report_rows chip defects verdicts = rows_of chip defects (map reported_of verdicts)
 
 -- the defect is one of a library instance's cell
 pub record IsGateDefect (chip : LinkedChip) (defect : ChipDefect) : Type 0 where

@@ -5,37 +5,39 @@ ghost use Rattle.ca_defect.specs.Name.{name_of};
 ghost use Rattle.ca_flat.specs.Chip.{cell_at};
 ghost use Rattle.ca_core.specs.Core.{core_of};
 ghost use Rattle.ca_chip_report.specs.ChipReport.{reported_of, instance_name, cell_name, IsGateDefect};
-ghost use Rattle.ca_chip_report.specs.ChipReport.{AreReported};
-ghost use Rattle.ca_chip_report.specs.code.Kept.{AreReported-prop};
+ghost use Rattle.ca_chip_report.specs.Grades.{reported_grade};
+ghost use Rattle.ca_chip_report.specs.code.Rows.{found_of, AreRows};
+ghost use Rattle.ca_chip_report.specs.code.Kept.{AreRows-prop};
 
 use ca_base::NoMemory;
 use ca_credit::{Verdict, Verdicts};
 use ca_flat::ChipDefect;
+use ca_grade::{Grade, Grades};
 use ca_lex::Text;
 use ca_linked::{Chip, InstanceId};
 use ca_report::ReportRows;
 use std::alloc::Global;
 
-// The name of a defect's instance.
+/// The name of a defect's instance, as the netlist spells it.
 #[tactic(auto, using(crate::proofs::RowLemmas::gate_within, crate::proofs::RowLemmas::name_reported))]
-fn instance_of(chip: &Chip, defect: ChipDefect) -> &[u8]
+pub fn instance_of(chip: &Chip, defect: ChipDefect) -> &[u8]
     requires { IsGateDefect chip.now defect }
     ensures { instance_name (slice_get chip.now.parts defect.instance) ≡ result.now }
 {
     chip.instance_name(InstanceId(defect.instance)).as_bytes()
 }
 
-// The name of its cell.
+/// The name of its cell, in upper case.
 #[tactic(auto, using(crate::proofs::RowLemmas::gate_within, crate::proofs::RowLemmas::cell_reported))]
-fn cell_of(chip: &Chip, defect: ChipDefect) -> &[u8]
+pub fn cell_of(chip: &Chip, defect: ChipDefect) -> &[u8]
     requires { IsGateDefect chip.now defect }
     ensures { cell_name (slice_get chip.now.parts defect.instance) ≡ result.now }
 {
     chip.cell_name(InstanceId(defect.instance)).as_bytes()
 }
 
-// Its name in the cell.
-fn name_of(alloc: Global, chip: &Chip, defect: ChipDefect) -> Result<Text, NoMemory>
+/// Its name in the cell.
+pub fn name_of(alloc: Global, chip: &Chip, defect: ChipDefect) -> Result<Text, NoMemory>
     requires { IsGateDefect chip.now defect }
     ensures { IfOk result (λ name.
         name_of (cell_at (core_of chip.now) defect.instance) defect.defect ≡ name) }
@@ -59,6 +61,35 @@ fn reported_of(verdict: &Verdict) -> ca_report::Verdict
     }
 }
 
+// The grade in a report.
+fn reported_grade(grade: Grade) -> ca_report::Verdict
+    ensures { reported_grade grade ≡ result }
+{
+    match grade {
+        Grade::Credited { pair, output } => ca_report::Verdict::Credited { pair, output },
+        Grade::Unexposable => ca_report::Verdict::Unexposable,
+        Grade::Uncredited => ca_report::Verdict::Uncredited,
+    }
+}
+
+/// What was found of the defects of a chip.
+#[derive(Clone, Copy)]
+pub(crate) enum Found<'a> {
+    Verdicts(&'a Verdicts),
+    Grades(&'a Grades),
+}
+
+// What is reported of the defect at a place.
+fn found_at(found: Found<'_>, k: usize) -> ca_report::Verdict
+    requires { k < length (found_of found) }
+    ensures { slice_get (found_of found.entry) k ≡ Some result }
+{
+    match found {
+        Found::Verdicts(verdicts) => reported_of(verdicts.get(k)),
+        Found::Grades(grades) => reported_grade(grades.get(k)),
+    }
+}
+
 // The defect at a place.
 fn defect_at(defects: &[ChipDefect], k: usize) -> ChipDefect
     requires { k < length defects.now }
@@ -67,19 +98,20 @@ fn defect_at(defects: &[ChipDefect], k: usize) -> ChipDefect
     defects[k]
 }
 
-/// The defects of a chip with their verdicts. No name is copied before its row is written.
+/// The defects of a chip with what was found of them. No name is copied before its row is written.
 #[derive(Clone, Copy)]
 pub(crate) struct ChipRows<'a> {
     pub(crate) chip: &'a Chip,
     pub(crate) defects: &'a [ChipDefect],
-    pub(crate) verdicts: &'a Verdicts,
-    ghost reported: { AreReported chip.now defects.now verdicts.now } by { AreReported-prop _ _ _ },
+    pub(crate) found: Found<'a>,
+    ghost reported: { AreRows chip.now defects.now (found_of found) } by { AreRows-prop _ _ _ },
 }
 
 impl ReportRows for ChipRows<'_> {
-    ghost use Rattle.ca_chip_report.specs.ChipReport.{report_rows};
+    ghost use Rattle.ca_chip_report.specs.ChipReport.{rows_of};
+    ghost use Rattle.ca_chip_report.specs.code.Rows.{found_of};
 
-    ghost rows = { λ rows. report_rows rows.chip.now rows.defects.now rows.verdicts.now };
+    ghost rows = { λ rows. rows_of rows.chip.now rows.defects.now (found_of rows.found) };
 
     fn len(&self) -> usize {
         self.defects.len()
@@ -99,6 +131,6 @@ impl ReportRows for ChipRows<'_> {
     }
 
     fn verdict(&self, k: usize) -> ca_report::Verdict {
-        reported_of(self.verdicts.get(k))
+        found_at(self.found, k)
     }
 }

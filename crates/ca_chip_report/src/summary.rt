@@ -42,8 +42,8 @@ fn is_kind(verdict: &Verdict, kind: Kind) -> bool
     }
 }
 
-// One where the test is passed, and else none.
-fn one_if(passed: bool) -> usize
+/// One where the test is passed, and else none.
+pub(crate) fn one_if(passed: bool) -> usize
     ensures is { result ≡ cond passed 1 0 }
     ensures few { result ≤ 1 }
 {
@@ -76,8 +76,8 @@ pub fn summary_of(verdicts: &Verdicts, pairs: usize) -> Summary
     }
 }
 
-// Appends a label and a number's digits.
-fn add_count(text: &mut Text, label: &[u8], count: usize) -> Result<(), NoMemory>
+/// Appends a label and a number's digits.
+pub(crate) fn add_count(text: &mut Text, label: &[u8], count: usize) -> Result<(), NoMemory>
     ensures { OnOk result (text.new ≡ with_count text.old label.now count) }
 {
     text.append(label)?;

@@ -5,7 +5,7 @@ ghost use Rattle.ca_outputs.specs.Outputs.{output_names};
 ghost use Rattle.ca_report.specs.Report.{report_text};
 ghost use Rattle.ca_chip_report.specs.ChipReport.{report_rows, AreReported};
 
-use crate::rows::ChipRows;
+use crate::rows::{ChipRows, Found};
 use ca_base::NoMemory;
 use ca_credit::Verdicts;
 use ca_flat::ChipDefect;
@@ -30,7 +30,7 @@ pub fn write_chip_report(
     let rows = ChipRows {
         chip,
         defects,
-        verdicts,
+        found: Found::Verdicts(verdicts),
     };
     write_report(alloc, &outputs, &rows)
 }

@@ -44,17 +44,18 @@ module _ {A : Type 0} (text_in : A → List ℕ) (pieces : List A) (place : ℕ)
         (part_of_first (concat (map text_in (take place pieces)) ++ text_in (get_or pieces place other)) (concat (map text_in (drop (place + 1) pieces))) old new
         (part_of_second (concat (map text_in (take place pieces))) (text_in (get_or pieces place other)) old mid new before wrote))
 
--- a line of five pieces, of which the inner three are its text
-pub line_joined : (head start word end last first text final : List ℕ)
-    → head ≡ first → start ++ (word ++ end) ≡ text → last ≡ final
-    → concat (head ∷ start ∷ word ∷ end ∷ last ∷ []) ≡ first ++ (text ++ final)
-line_joined head start word end last first text final is_head is_text is_last =
-    ap (λ more. head ++ (start ++ (word ++ (end ++ more)))) (append-nil last)
-    ∙ ap (λ more. head ++ (start ++ more)) (sym (append_assoc word end last))
-    ∙ ap (λ more. head ++ more) (sym (append_assoc start (word ++ end) last))
-    ∙ ap (λ inner. head ++ (inner ++ last)) is_text
-    ∙ ap (λ front. front ++ (text ++ last)) is_head
-    ∙ ap (λ back. first ++ (text ++ back)) is_last
+-- a line of six pieces, of which the inner four are its text
+pub line_joined : (head start word end last tail first text final : List ℕ)
+    → head ≡ first → start ++ (word ++ (end ++ last)) ≡ text → tail ≡ final
+    → concat (head ∷ start ∷ word ∷ end ∷ last ∷ tail ∷ []) ≡ first ++ (text ++ final)
+line_joined head start word end last tail first text final is_head is_text is_tail =
+    ap (λ more. head ++ (start ++ (word ++ (end ++ (last ++ more))))) (append-nil tail)
+    ∙ ap (λ more. head ++ (start ++ (word ++ more))) (sym (append_assoc end last tail))
+    ∙ ap (λ more. head ++ (start ++ more)) (sym (append_assoc word (end ++ last) tail))
+    ∙ ap (λ more. head ++ more) (sym (append_assoc start (word ++ (end ++ last)) tail))
+    ∙ ap (λ inner. head ++ (inner ++ tail)) is_text
+    ∙ ap (λ front. front ++ (text ++ tail)) is_head
+    ∙ ap (λ back. first ++ (text ++ back)) is_tail
 
 -- what is said of an answer of Ok follows from what is said of it elsewhere
 pub on_ok_from : {T E : Type 0} (r : Result T E) (P Q : Type 0) → (P → Q) → OnOk r P → OnOk r Q

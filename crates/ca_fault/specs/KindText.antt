@@ -68,6 +68,7 @@ limit_text limit.Inputs = codes "Inputs"
 limit_text limit.Outputs = codes "Outputs"
 limit_text limit.Defects = codes "Defects"
 limit_text limit.Chains = codes "Chains"
+limit_text limit.Pairs = codes "Pairs"
 
 -- what there is too much of, and how much there may be, after its number
 abbrev pub most_text : LimitKind → List ℕ
@@ -78,3 +79,4 @@ most_text limit.Inputs = codes " inputs, at most 4096"
 most_text limit.Outputs = codes " outputs, at most 8192"
 most_text limit.Defects = codes " defects, at most 1048576"
 most_text limit.Chains = codes " chains, at most 64"
+most_text limit.Pairs = codes " pairs, at most 65536"

@@ -75,6 +75,18 @@ pub enum Fault {
     Order {
         line: usize,
     },
+    /// The file of patterns isn't of the form. Lines are counted from 1.
+    Stil {
+        line: usize,
+    },
+    /// The file of patterns is of the form, and of another chip: its signals, groups or chains aren't these.
+    StilChip,
+    /// An expected value of the file of patterns isn't what the good chip ends with: the first pair with such
+    /// a value, and the first observed output at which it isn't, both counted from 0.
+    Expected {
+        pair: u32,
+        output: u32,
+    },
     /// A file has more bytes than it may have. That many were taken.
     TooLong {
         name: Text,
@@ -118,11 +130,13 @@ pub enum LimitKind {
     Defects,
     /// A chip has more than 64 scan chains.
     Chains,
+    /// A file of patterns lists more than 65,536 pairs.
+    Pairs,
 }
 
 impl Fault {
     ghost use Rattle.ca_fault.specs.FaultLine.{status_of, text_of, line_of, place_line};
-    ghost use Rattle.ca_fault.specs.code.FaultLine.{number_of};
+    ghost use Rattle.ca_fault.specs.code.FaultLine.{number_of, last_number_of, joined_of};
 
     /// The exit status that stands for the fault.
     pub fn status(&self) -> u8
@@ -140,7 +154,10 @@ impl Fault {
             | Fault::BadVector { .. }
             | Fault::NoInstance { .. }
             | Fault::NoDefect { .. }
-            | Fault::Order { .. } => 2,
+            | Fault::Order { .. }
+            | Fault::Stil { .. }
+            | Fault::StilChip
+            | Fault::Expected { .. } => 2,
             Fault::TooLong { .. } | Fault::TooManyPairs { .. } | Fault::Limit { .. } => 3,
             Fault::StoreFailed { .. } | Fault::SinkFailed => 4,
             Fault::NoMemory => 5,
@@ -157,7 +174,11 @@ impl Fault {
         ensures count { KeepsCount result (W.faults err.old) (W.faults err.new) }
     {
         let mut buffer = Buffer::new();
-        let text = self.text(buffer.format(self.number()).as_bytes());
+        let mut last = Buffer::new();
+        let text = self.text(
+            buffer.format(self.number()).as_bytes(),
+            last.format(self.last_number()).as_bytes(),
+        );
         write_pieces(
             err,
             &[
@@ -165,6 +186,7 @@ impl Fault {
                 text.start,
                 text.word,
                 text.end,
+                text.last,
                 b"\n".as_slice(),
             ],
         )
@@ -181,7 +203,7 @@ impl Fault {
     {
         let mut buffer = Buffer::new();
         let text = self.place(buffer.format(self.number()).as_bytes());
-        write_pieces(err, &[text.start, text.word, text.end])
+        write_pieces(err, &[text.start, text.word, text.end, text.last])
     }
 
     // The number in the text of the fault.
@@ -191,8 +213,19 @@ impl Fault {
         match self {
             Fault::Cells { line, .. } | Fault::Netlist { line, .. } => *line,
             Fault::Scan { row } => *row,
-            Fault::Order { line } => *line,
+            Fault::Order { line } | Fault::Stil { line } => *line,
+            Fault::Expected { pair, .. } => *pair as usize,
             Fault::Limit { count, .. } => *count,
+            _ => 0,
+        }
+    }
+
+    // The number after it, where there are two.
+    fn last_number(&self) -> usize
+        ensures { result ≡ last_number_of self.now }
+    {
+        match self {
+            Fault::Expected { output, .. } => *output as usize,
             _ => 0,
         }
     }
@@ -200,7 +233,7 @@ impl Fault {
     // The line with the names of what the fault carries, for which its number is written already.
     fn place<'a>(&'a self, number: &'a [u8]) -> FaultText<'a>
         requires { number.now ≡ decimal (number_of self.now) }
-        ensures { result.start.now ++ (result.word.now ++ result.end.now) ≡ place_line self.now }
+        ensures { joined_of result ≡ place_line self.now }
     {
         match self {
             Fault::Chip { place, .. } | Fault::Cell { place, .. } => FaultText::indented(place),
@@ -208,15 +241,17 @@ impl Fault {
                 start: b"  ",
                 word: number,
                 end: most_text(*kind),
+                last: &[],
             },
             _ => FaultText::plain(&[]),
         }
     }
 
-    // The text of the fault, for which its number is written already.
-    fn text<'a>(&'a self, number: &'a [u8]) -> FaultText<'a>
-        requires { number.now ≡ decimal (number_of self.now) }
-        ensures { result.start.now ++ (result.word.now ++ result.end.now) ≡ text_of self.now }
+    // The text of the fault, for which its numbers are written already.
+    fn text<'a>(&'a self, number: &'a [u8], last: &'a [u8]) -> FaultText<'a>
+        requires number { number.now ≡ decimal (number_of self.now) }
+        requires last { last.now ≡ decimal (last_number_of self.now) }
+        ensures { joined_of result ≡ text_of self.now }
     {
         match self {
             Fault::BadWords => FaultText::plain(b"bad command line"),
@@ -224,16 +259,19 @@ impl Fault {
                 start: b"cells: line ",
                 word: number,
                 end: kind_text(*kind),
+                last: &[],
             },
             Fault::Netlist { kind, .. } => FaultText {
                 start: b"netlist: line ",
                 word: number,
                 end: netlist_text(*kind),
+                last: &[],
             },
             Fault::Scan { .. } => FaultText {
                 start: b"scan table: record ",
                 word: number,
                 end: &[],
+                last: &[],
             },
             Fault::Chip { rule, .. } => FaultText::plain(chip_text(rule)),
             Fault::Chain { instance } => {
@@ -244,6 +282,7 @@ impl Fault {
                 start: b"cell ",
                 word: cell.as_bytes(),
                 end: rule_text(*rule),
+                last: &[],
             },
             Fault::BadVector { word } => FaultText::with_word(b"bad vector: ", word),
             Fault::NoInstance { word } => FaultText::with_word(b"no instance ", word),
@@ -252,6 +291,20 @@ impl Fault {
                 start: b"order: line ",
                 word: number,
                 end: &[],
+                last: &[],
+            },
+            Fault::Stil { .. } => FaultText {
+                start: b"stil: line ",
+                word: number,
+                end: &[],
+                last: &[],
+            },
+            Fault::StilChip => FaultText::plain(b"stil: other chip"),
+            Fault::Expected { .. } => FaultText {
+                start: b"expected value: pair ",
+                word: number,
+                end: b" output ",
+                last,
             },
             Fault::TooLong { name, .. } => FaultText::with_word(b"file too long: ", name),
             Fault::TooManyPairs { .. } => FaultText::plain(b"too many pairs"),
@@ -259,6 +312,7 @@ impl Fault {
                 start: limit_text(*kind),
                 word: number,
                 end: &[],
+                last: &[],
             },
             Fault::StoreFailed { name } => FaultText::with_word(b"file fault: ", name),
             Fault::SinkFailed => FaultText::plain(b"output fault"),

@@ -89,6 +89,7 @@ pub(crate) fn limit_text(kind: LimitKind) -> &'static [u8]
         LimitKind::Outputs => b"limit: Outputs ",
         LimitKind::Defects => b"limit: Defects ",
         LimitKind::Chains => b"limit: Chains ",
+        LimitKind::Pairs => b"limit: Pairs ",
     }
 }
 
@@ -104,5 +105,6 @@ pub(crate) fn most_text(kind: LimitKind) -> &'static [u8]
         LimitKind::Outputs => b" outputs, at most 8192\n",
         LimitKind::Defects => b" defects, at most 1048576\n",
         LimitKind::Chains => b" chains, at most 64\n",
+        LimitKind::Pairs => b" pairs, at most 65536\n",
     }
 }

@@ -4,6 +4,7 @@ use Rattle.ca_csv.specs.Records.{written}
 use Rattle.ca_report.specs.declared.rows.ReportRow.{ReportRow}
 use Rattle.ca_report.specs.declared.verdict.Verdict.{Verdict}
 use Rattle.ca_report.specs.declared.verdict.Verdict.TheVariants.{Credited, Unexposable, Untestable, Aborted}
+use Rattle.ca_report.specs.declared.verdict.Verdict.TheVariants.{Uncredited}
 
 -- the first record
 abbrev pub header : List (List ℕ)
@@ -16,6 +17,7 @@ word_of (Credited pair output) = codes "credited"
 word_of Unexposable = codes "unexposable"
 word_of Untestable = codes "untestable"
 word_of Aborted = codes "aborted"
+word_of Uncredited = codes "uncredited"
 
 -- the number of the pair that is credited; nothing for another verdict
 abbrev pub pair_field : Verdict → List ℕ
@@ -23,6 +25,7 @@ pair_field (Credited pair output) = decimal pair
 pair_field Unexposable = []
 pair_field Untestable = []
 pair_field Aborted = []
+pair_field Uncredited = []
 
 -- the name of the output that is credited; nothing for another verdict
 abbrev pub output_field : List (List ℕ) → Verdict → List ℕ
@@ -30,6 +33,7 @@ output_field outputs (Credited pair output) = unwrap_or (slice_get outputs outpu
 output_field outputs Unexposable = []
 output_field outputs Untestable = []
 output_field outputs Aborted = []
+output_field outputs Uncredited = []
 
 -- the record of a defect; `outputs` are the names of the observed outputs
 abbrev pub record_of : List (List ℕ) → ReportRow → List (List ℕ)
@@ -47,6 +51,7 @@ IsVerdictOf outputs (Credited pair output) = output < outputs
 IsVerdictOf outputs Unexposable = Unit {0}
 IsVerdictOf outputs Untestable = Unit {0}
 IsVerdictOf outputs Aborted = Unit {0}
+IsVerdictOf outputs Uncredited = Unit {0}
 
 -- the output that the row credits, if it does, is one of `outputs` outputs
 abbrev pub IsRowOf : ℕ → ReportRow → Type 0

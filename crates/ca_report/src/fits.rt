@@ -13,7 +13,7 @@ fn is_verdict_of(verdict: Verdict, outputs: usize) -> bool
 {
     match verdict {
         Verdict::Credited { output, .. } => (output as usize) < outputs,
-        Verdict::Unexposable | Verdict::Untestable | Verdict::Aborted => true,
+        Verdict::Unexposable | Verdict::Untestable | Verdict::Aborted | Verdict::Uncredited => true,
     }
 }
 

@@ -26,6 +26,7 @@ fn word_of(verdict: Verdict) -> &'static [u8]
         Verdict::Unexposable => b"unexposable",
         Verdict::Untestable => b"untestable",
         Verdict::Aborted => b"aborted",
+        Verdict::Uncredited => b"uncredited",
     }
 }
 
@@ -50,7 +51,7 @@ fn output_of(outputs: &Names, verdict: Verdict) -> &[u8]
 {
     match verdict {
         Verdict::Credited { output, .. } => outputs.get(output as usize).as_bytes(),
-        Verdict::Unexposable | Verdict::Untestable | Verdict::Aborted => &[],
+        Verdict::Unexposable | Verdict::Untestable | Verdict::Aborted | Verdict::Uncredited => &[],
     }
 }
 
@@ -60,7 +61,7 @@ fn pair_of(buffer: &mut Buffer, verdict: Verdict) -> &[u8]
 {
     match verdict {
         Verdict::Credited { pair, .. } => buffer.format(pair).as_bytes(),
-        Verdict::Unexposable | Verdict::Untestable | Verdict::Aborted => &[],
+        Verdict::Unexposable | Verdict::Untestable | Verdict::Aborted | Verdict::Uncredited => &[],
     }
 }
 

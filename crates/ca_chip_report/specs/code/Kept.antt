@@ -10,9 +10,11 @@ use Rattle.ca_flat.specs.declared.chip_defect.ChipDefect.{ChipDefect}
 use Rattle.ca_linked.specs.declared.parts.Body.{Body}
 use Rattle.ca_linked.specs.declared.parts.Body.TheVariants.{Gate, Scan}
 use Rattle.ca_linked.specs.Linked.{LinkedChip, IsGate}
-use Rattle.ca_credit.specs.declared.verdict.Verdict.{Verdict}
-use Rattle.ca_credit.specs.declared.verdict.Verdict.TheVariants.{Credited, Unexposable, Untestable, Aborted}
-use Rattle.ca_chip_report.specs.ChipReport.{IsVerdictWithin, AreReported}
+use Rattle.ca_report.specs.declared.verdict.Verdict as report
+use Rattle.ca_report.specs.declared.verdict.Verdict.TheVariants.{Credited, Unexposable, Untestable, Aborted}
+use Rattle.ca_report.specs.declared.verdict.Verdict.TheVariants.{Uncredited}
+use Rattle.ca_report.specs.Report.{IsVerdictOf}
+use Rattle.ca_chip_report.specs.code.Rows.{AreRows}
 
 pub IsDefect-prop : (net : Circuit) (inputs : ℕ) (defect : Defect) → IsProp (IsDefect net inputs defect)
 IsDefect-prop net inputs (OpenDrain opened) = Prim.hlevel props
@@ -25,14 +27,15 @@ pub IsGate-prop : (body : Body) → IsProp (IsGate body)
 IsGate-prop (Gate cell inputs outputs) = Prim.hlevel props
 IsGate-prop (Scan nets) = Prim.hlevel props
 
-pub IsVerdictWithin-prop : (outputs : ℕ) (verdict : Verdict) → IsProp (IsVerdictWithin outputs verdict)
-IsVerdictWithin-prop outputs (Credited pair output) = Prim.hlevel props
-IsVerdictWithin-prop outputs Unexposable = Prim.hlevel props
-IsVerdictWithin-prop outputs Untestable = Prim.hlevel props
-IsVerdictWithin-prop outputs (Aborted code) = Prim.hlevel props
+pub IsVerdictOf-prop : (outputs : ℕ) (verdict : report.Verdict) → IsProp (IsVerdictOf outputs verdict)
+IsVerdictOf-prop outputs (Credited pair output) = Prim.hlevel props
+IsVerdictOf-prop outputs Unexposable = Prim.hlevel props
+IsVerdictOf-prop outputs Untestable = Prim.hlevel props
+IsVerdictOf-prop outputs Aborted = Prim.hlevel props
+IsVerdictOf-prop outputs Uncredited = Prim.hlevel props
 
-pub ruleset reported_props = (IsDefect-prop, IsGate-prop, IsVerdictWithin-prop, props)
+pub ruleset reported_props = (IsDefect-prop, IsGate-prop, IsVerdictOf-prop, props)
 
-pub AreReported-prop : (chip : LinkedChip) (defects : List ChipDefect) (verdicts : List Verdict)
-    → IsProp (AreReported chip defects verdicts)
-AreReported-prop chip defects verdicts = Prim.hlevel reported_props
+pub AreRows-prop : (chip : LinkedChip) (defects : List ChipDefect) (reported : List report.Verdict)
+    → IsProp (AreRows chip defects reported)
+AreRows-prop chip defects reported = Prim.hlevel reported_props
