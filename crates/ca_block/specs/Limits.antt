@@ -10,8 +10,8 @@ use Rattle.ca_planes.specs.declared.block.Block.{Block}
 use Rattle.ca_planes.specs.Trits.{state_in}
 use Rattle.ca_block.specs.declared.work.BlockWork.{BlockWork}
 
--- these states are the limits for any vectors that two states have at the input nodes, and for a vector between
--- that is their meet there
+-- these states are the limits for any vectors that two states have at the input nodes, and for a vector
+-- between that is their meet there
 abbrev pub AreLimitsIn : Circuit → List Trit → List Trit → List Trit → List Trit → List Trit → Type 0
 AreLimitsIn net from to first middle last =
     (v1 vm v2 : List Trit) → HasInputs net v1 from → HasInputs net v2 to → IsMeet net v1 v2 vm
@@ -21,14 +21,15 @@ AreLimitsIn net from to first middle last =
 -- states have at the input nodes
 abbrev pub EndIn : Circuit → List Trit → List Trit → List Trit → Type 0
 EndIn net from to last =
-    (v1 v2 : List Trit) (n : ℕ) (v : Trit) → HasInputs net v1 from → HasInputs net v2 to → n < length net.nodes
+    (v1 v2 : List Trit) (n : ℕ) (v : Trit) → HasInputs net v1 from → HasInputs net v2 to
+    → n < length net.nodes
     → ((v ≢ X) × (value_at last n ≡ v)) ↔ EndsAt net v1 v2 n v
 
 -- in a lane the room holds the limits for the vectors of two blocks
 abbrev pub HoldsLimits : Circuit → Block → Block → ℕ → BlockWork → Type 0
 HoldsLimits net from to lane work =
-    AreLimitsIn net (state_in from lane) (state_in to lane) (state_in work.first lane) (state_in work.middle lane)
-    (state_in work.last lane)
+    AreLimitsIn net (state_in from lane) (state_in to lane) (state_in work.first lane)
+    (state_in work.middle lane) (state_in work.last lane)
 
 -- in a lane the last limits are what every pair run ends with
 abbrev pub HoldsEnds : Circuit → Block → Block → ℕ → BlockWork → Type 0

@@ -19,8 +19,10 @@ pub fn settle_block<N: Network>(net: &N, from: &Block, to: &Block, work: &mut Bl
     requires to { HasNodes (length (N.circuit net.now).nodes) to.now }
     requires work { HoldsNet (N.circuit net.now) work.old }
 
-    ensures limits { (lane : ℕ) → lane < LANES → HoldsLimits (N.circuit net.now) from.now to.now lane work.new }
-    ensures ends { (lane : ℕ) → lane < LANES → HoldsEnds (N.circuit net.now) from.now to.now lane work.new }
+    ensures limits { (lane : ℕ) → lane < LANES
+        → HoldsLimits (N.circuit net.now) from.now to.now lane work.new }
+    ensures ends { (lane : ℕ) → lane < LANES
+        → HoldsEnds (N.circuit net.now) from.now to.now lane work.new }
     ensures kept { HoldsNet (N.circuit net.now) work.new }
 {
     forget(&mut work.last);

@@ -4,7 +4,8 @@ ghost use Rattle.std.specs.Prelude.{ℕ, ◌≡◌, ◌<◌, length, IsTrue, ◌
 ghost use Rattle.ca_net.specs.Circuit.{IsWellFormed};
 ghost use Rattle.ca_planes.specs.Trits.{HasNodes, state_in};
 ghost use Rattle.ca_levels.specs.Levels.{HoldsNetwork};
-ghost use Rattle.ca_settle.specs.code.Turns.{HasSameValues, IsMetWith, AreBlurred, IsHeldUp, RisesTo, FallsTo};
+ghost use Rattle.ca_settle.specs.code.Turns.{HasSameValues, IsMetWith, AreBlurred, IsHeldUp};
+ghost use Rattle.ca_settle.specs.code.Turns.{RisesTo, FallsTo};
 
 use ca_levels::{Levels, respond};
 use ca_net::Network;
@@ -54,8 +55,8 @@ fn is_same(state: &Block, other: &Block) -> bool
     true
 }
 
-/// Takes the state of each lane up to where each storage node has its response, from one in which each is at or
-/// below it.
+/// Takes the state of each lane up to where each storage node has its response, from one in which each is at
+/// or below it.
 pub(crate) fn rise<N: Network>(net: &N, at: &mut Block, next: &mut Block, levels: &mut Levels)
     requires well_formed { IsWellFormed (N.circuit net.now) }
     requires at { HasNodes (length (N.circuit net.now).nodes) at.old }

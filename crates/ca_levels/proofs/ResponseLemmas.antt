@@ -1,6 +1,7 @@
 -- From the nodes that paths reach to responses.
-use Rattle.std.proofs.Common.{◌≡◌, ◌≢◌, ℕ, ◌+◌, ◌-◌, ◌<◌, ◌≤◌, ◌^◌, ◌++◌, ◌↔◌, List, Bool, true, false, length, take, drop}
+use Rattle.std.proofs.Common.{min, ◌≡◌, ◌≢◌, ℕ, ◌+◌, ◌-◌, ◌<◌, ◌≤◌, ◌^◌, ◌++◌, ◌↔◌, List, Bool, true, false, length, take, drop}
 use Rattle.std.proofs.Common.{inl, inr, refl, sym, ◌∙◌, ap, subst, arith, get_or, replicate}
+use Rattle.std.proofs.Math.Decide.{dec_le}
 use Rattle.std.proofs.lemmas.List.{get_or-replicate}
 use Rattle.std.proofs.lemmas.Grind.{common_steps}
 use Rattle.ca_net.specs.declared.scale.TheConstants.{INPUT}
@@ -26,7 +27,10 @@ use Rattle.ca_levels.specs.declared.levels.Levels.{Levels}
 use Rattle.ca_levels.specs.code.Advance.{IsAdvanced}
 use Rattle.ca_levels.specs.code.Way.{IsFree, HasWay, HasOther, AreThose}
 use Rattle.ca_levels.specs.code.Reached.{IsLoaded, IsReachedIn, AreKept}
-use Rattle.ca_levels.proofs.WayLemmas.{advanced}
+use Rattle.ca_levels.specs.code.Reached.{IsGivenByNone, IsCarriedByNone}
+use Rattle.std.specs.Prelude.{Some, slice_get}
+use Rattle.ca_relax.proofs.JoinedLemmas.{placed}
+use Rattle.ca_levels.proofs.WayLemmas.{advanced, weaker}
 
 -- what is written back to a list of the same length
 pub written_back : (new old : List ℕ) (count : ℕ) → count ≡ length new → take count (new ++ drop (length new) old) ≡ new
@@ -223,3 +227,38 @@ kept_as {own} {own_read} {from} {from_read} {old} {old_read} {new} e f g a =
 
 pub zeros_as : (m n : ℕ) → m ≡ n → ◌≡◌ {A = List ℕ} (replicate m 0) (replicate n 0)
 zeros_as m n e = ap (λ (k : ℕ). replicate {A = ℕ} k 0) e
+
+-- where no node and no device has a strength, no path has
+module _ (net : Circuit) (own : List ℕ) (devices : List Device) (level : ℕ) (count : length own ≡ length net.nodes) (owns : HaveOwnStrengths net (length net.nodes) own)
+    (same : devices ≡ net.devices) (given : IsGivenByNone own level) (carried : IsCarriedByNone devices level) where
+  not_as_strong : (p : Path) → IsPath net p → strength_of net p ≢ level
+  not_as_strong (Root r) is_path = λ e. given r (omega (arith, is_path, count)) (owns r is_path ∙ e)
+  not_as_strong (Via p d n) is_path =
+      let before : strength_of net p ≢ level = not_as_strong p is_path.0 in
+      let here : d.strength ≢ level = carried is_path.1.0 d (subst (λ xs. slice_get xs is_path.1.0 ≡ Some d) (sym same) (placed net d is_path.1)) in
+      λ e.
+      let is : min (strength_of net p) d.strength ≡ level = e in
+      elim (dec_le (strength_of net p) d.strength) [
+        | yes le ↦ before (omega (arith, is, le))
+        | no gt ↦ here (omega (arith, is, gt))
+      ]
+
+  -- so a level of that strength adds nothing
+  pub reached_unused : (s : List Trit) (lane : ℕ) (stronger zeros ones : List ℕ) → 0 < level → IsReachedIn net s lane level stronger zeros ones
+      → IsReachedIn net s lane (level - 1) stronger zeros ones
+  reached_unused s lane stronger zeros ones some h = record {
+    stronger_there = λ n lt. let both = h.stronger_there n lt in (
+      λ has. stronger_falls net s n (level - 1) level (omega arith) (both.0 has),
+      λ w. both.1 (record { path = w.path; is_path = w.is_path; ends = w.ends; definite = w.definite; stronger = more w.path w.is_path w.stronger }),
+    );
+    not_one = λ n lt. let both = h.not_one n lt in (
+      λ has. weaker net s Potential (HasStronger net s) (λ r. value_at s r ≢ One) n level (level - 1) (omega arith) (both.0 has),
+      λ w. both.1 (record { path = w.path; is_path = w.is_path; free = w.free; begins = w.begins; ends = w.ends; stronger = more w.path w.is_path w.stronger }),
+    );
+    not_zero = λ n lt. let both = h.not_zero n lt in (
+      λ has. weaker net s Potential (HasStronger net s) (λ r. value_at s r ≢ Zero) n level (level - 1) (omega arith) (both.0 has),
+      λ w. both.1 (record { path = w.path; is_path = w.is_path; free = w.free; begins = w.begins; ends = w.ends; stronger = more w.path w.is_path w.stronger }),
+    );
+  } where
+    more : (p : Path) → IsPath net p → level - 1 < strength_of net p → level < strength_of net p
+    more p is_path lt = let ne : strength_of net p ≢ level = not_as_strong p is_path in omega (arith, some, lt, ne)

@@ -64,7 +64,7 @@ module _ (net : Circuit) (s : List Trit) (kind : PathKind) (Blocks : ℕ → ℕ
         }
       ]
 
-  weaker : (n j k : ℕ) → k ≤ j → HasWay net s kind Blocks Starts n j → HasWay net s kind Blocks Starts n k
+  pub weaker : (n j k : ℕ) → k ≤ j → HasWay net s kind Blocks Starts n j → HasWay net s kind Blocks Starts n k
   weaker n j k le w =
       let lt : j < strength_of net w.path = w.stronger in
       record { path = w.path; is_path = w.is_path; free = w.free; begins = w.begins; ends = w.ends; stronger = omega arith }

@@ -78,8 +78,8 @@ fn begin(own: &[u8], level: u8, source: &[u64], blocked: &[u64], reached: &mut [
     }
 }
 
-/// From the lanes in which stronger paths reach each node finds those in which paths of at least this strength
-/// do: paths from nodes of `source`, through nodes that aren't blocked.
+/// From the lanes in which stronger paths reach each node finds those in which paths of at least this
+/// strength do: paths from nodes of `source`, through nodes that aren't blocked.
 pub(crate) fn advance(
     devices: &[Device],
     own: &[u8],
@@ -97,7 +97,8 @@ pub(crate) fn advance(
     requires blocked { length blocked.now ≡ length own.now }
     requires links { length links.old ≡ length devices.now }
     requires reached { length reached.old ≡ length own.now }
-    ensures { IsAdvanced devices.now own.now from.now kind level source.now blocked.now reached.old reached.new }
+    ensures { IsAdvanced
+        devices.now own.now from.now kind level source.now blocked.now reached.old reached.new }
 {
     link_all(devices, from, kind, level, links);
     begin(own, level, source, blocked, reached);

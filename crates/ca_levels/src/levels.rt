@@ -56,8 +56,8 @@ fn copy_devices<N: Network>(net: &N, devices: &mut [Device])
 }
 
 impl Levels {
-    /// Takes the room for a network of this many nodes and devices: 33 bytes a node and 28 a device. As yet it
-    /// holds no network.
+    /// Takes the room for a network of this many nodes and devices: 33 bytes a node and 28 a device. As yet
+    /// it holds no network.
     pub fn reserve(alloc: Global, nodes: usize, devices: usize) -> Result<Self, NoMemory>
         ensures { IfOk result (HasRoom nodes devices) }
     {

@@ -1,5 +1,5 @@
-//! The responses of all nodes in 64 lanes at once, level by level of strengths from the strongest: which nodes
-//! paths of at least that strength reach. All memory is taken beforehand.
+//! The responses of all nodes in 64 lanes at once, level by level of strengths from the strongest: which
+//! nodes paths of at least that strength reach. All memory is taken beforehand.
 #![tactic(auto)]
 
 mod advance;

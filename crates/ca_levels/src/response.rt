@@ -1,15 +1,16 @@
 //! The responses of all nodes in a block of lanes.
 
-ghost use Rattle.std.specs.Prelude.{ℕ, ◌≡◌, ◌<◌, ◌-◌, length};
+ghost use Rattle.std.specs.Prelude.{ℕ, ◌≡◌, ◌<◌, ◌-◌, false, length};
 ghost use Rattle.ca_net.specs.Circuit.{IsWellFormed};
 ghost use Rattle.ca_net.specs.Response.{AreResponses};
 ghost use Rattle.ca_planes.specs.Trits.{HasNodes, state_in};
 ghost use Rattle.ca_levels.specs.Levels.{HoldsNetwork};
 ghost use Rattle.ca_levels.specs.code.Reached.{AreNotOnes, IsLoaded, AreReached, AreKept};
+ghost use Rattle.ca_levels.specs.code.Reached.{IsGivenByNone, IsCarriedByNone};
 
 use crate::advance::advance;
 use crate::levels::Levels;
-use ca_net::{INPUT, Network, PathKind};
+use ca_net::{Device, INPUT, Network, PathKind};
 use ca_planes::{Block, LANES, not_one};
 
 // Finds the lanes in which the value of each node isn't 1.
@@ -23,9 +24,33 @@ fn find_not_ones(from: &Block, not_ones: &mut [u64])
     }
 }
 
+// Whether some node gives this strength to the paths that begin at it.
+fn is_given(own: &[u8], level: u8) -> bool
+    ensures { result ≡ false → IsGivenByNone own.now level }
+{
+    for node in 0..own.len() {
+        if own[node] == level {
+            return true;
+        }
+    }
+    false
+}
+
+// Whether some device has this strength.
+fn is_carried(devices: &[Device], level: u8) -> bool
+    ensures { result ≡ false → IsCarriedByNone devices.now level }
+{
+    for i in 0..devices.len() {
+        if devices[i].strength == level {
+            return true;
+        }
+    }
+    false
+}
+
 // From the nodes that paths stronger than the level reach finds those that paths of at least its strength
 // reach.
-fn descend<N: Network>(_net: &N, from: &Block, level: u8, levels: &mut Levels, out: &mut Block)
+fn lower<N: Network>(_net: &N, from: &Block, level: u8, levels: &mut Levels, out: &mut Block)
     requires well_formed { IsWellFormed (N.circuit _net.now) }
     requires from { HasNodes (length (N.circuit _net.now).nodes) from.now }
     requires level { 0 < level }
@@ -69,6 +94,23 @@ fn descend<N: Network>(_net: &N, from: &Block, level: u8, levels: &mut Levels, o
         &mut levels.links,
         &mut levels.stronger,
     );
+}
+
+// The same, with nothing to do where no node and no device has the level's strength, as no path then has.
+fn descend<N: Network>(_net: &N, from: &Block, level: u8, levels: &mut Levels, out: &mut Block)
+    requires well_formed { IsWellFormed (N.circuit _net.now) }
+    requires from { HasNodes (length (N.circuit _net.now).nodes) from.now }
+    requires level { 0 < level }
+    requires loaded { IsLoaded (N.circuit _net.now) from.now levels.old }
+    requires room { HasNodes (length (N.circuit _net.now).nodes) out.old }
+    requires above { AreReached (N.circuit _net.now) from.now level levels.old out.old }
+    ensures loaded { IsLoaded (N.circuit _net.now) from.now levels.new }
+    ensures room { HasNodes (length (N.circuit _net.now).nodes) out.new }
+    ensures reached { AreReached (N.circuit _net.now) from.now (level - 1) levels.new out.new }
+{
+    if is_given(&levels.own, level) || is_carried(&levels.devices, level) {
+        lower(_net, from, level, levels, out);
+    }
 }
 
 // Gives each input node what it has in `from`.

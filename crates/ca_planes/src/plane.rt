@@ -78,7 +78,8 @@ pub fn has(plane: u64, lane: usize) -> bool
 pub fn with_lane(plane: u64, lane: usize, bit: bool) -> u64
     requires { lane < LANES }
     ensures here { has_lane result lane ≡ bit }
-    ensures others { (other : ℕ) → other < LANES → other ≢ lane → has_lane result other ≡ has_lane plane other }
+    ensures others { (other : ℕ) → other < LANES → other ≢ lane
+        → has_lane result other ≡ has_lane plane other }
 {
     if bit {
         plane | (1 << lane)

@@ -12,7 +12,8 @@ use Rattle.ca_settle.proofs.WriteLemmas.{write_more}
 use Rattle.ca_planes.specs.Plane.{has_lane}
 use Rattle.ca_row_block.specs.declared.load.Side.{Side}
 use Rattle.ca_row_block.specs.declared.load.Side.TheVariants.{First, Last}
-use Rattle.ca_row_block.specs.code.Digits.{has_digit, is_value}
+use Rattle.ca_row_block.specs.Masks.{has_digit}
+use Rattle.ca_row_block.specs.code.Digits.{is_value}
 use Rattle.ca_row_block.specs.code.Loaded.{IsLoadedTo, rails_and, side_of, row_digit}
 
 -- a low digit of a row's number is one of its lane

@@ -4,7 +4,7 @@ use Rattle.ca_net.specs.Circuit.{Circuit}
 use Rattle.ca_planes.specs.Trits.{HasNodes}
 use Rattle.ca_block.specs.Work as work
 use Rattle.ca_row_block.specs.declared.room.RowRoom.{RowRoom}
-use Rattle.ca_row_block.specs.code.Digits.{AreMasks}
+use Rattle.ca_row_block.specs.Masks.{AreMasks}
 
 -- there is room for vectors over this many nodes, and the masks of lanes are there
 pub record HasVectors (nodes : ℕ) (room : RowRoom) : Type 0 where

@@ -3,7 +3,8 @@
 ghost use Rattle.std.specs.Prelude.{ℕ, ◌≡◌, ◌+◌, ◌*◌, ◌<◌, length};
 ghost use Rattle.ca_planes.specs.Plane.{has_lane};
 ghost use Rattle.ca_planes.specs.Trits.{trit_in};
-ghost use Rattle.ca_row_block.specs.code.Digits.{has_digit, is_value, AreMasks};
+ghost use Rattle.ca_row_block.specs.Masks.{has_digit, AreMasks};
+ghost use Rattle.ca_row_block.specs.code.Digits.{is_value};
 
 use ca_planes::{ALL_LANES, LANES, Trits, except, has, with_lane};
 

@@ -2,7 +2,7 @@
 
 ghost use Rattle.std.specs.Prelude.{ℕ, ◌≡◌, ◌+◌, ◌*◌, ◌≤◌, ◌<◌, length};
 ghost use Rattle.ca_planes.specs.Trits.{HasNodes, state_in};
-ghost use Rattle.ca_row_block.specs.code.Digits.{AreMasks};
+ghost use Rattle.ca_row_block.specs.Masks.{AreMasks};
 ghost use Rattle.ca_row_block.specs.code.Loaded.{IsLoadedTo, rails_and, row_digit, side_of};
 
 use crate::digits::{LANE_DIGITS, digit_plane, ones_in};
@@ -36,7 +36,8 @@ pub(crate) fn load_rows(side: Side, masks: &[u64], inputs: usize, number: usize,
     requires room { length block.old.ones.items ≡ length block.old.zeros.items }
     requires nodes { 2 + inputs ≤ length block.old.zeros.items }
     ensures loaded { (lane : ℕ) → lane < LANES
-        → IsLoadedTo (2 + inputs) (rails_and (side_of side inputs (number * 64 + lane))) (state_in block.new lane) }
+        → IsLoadedTo (2 + inputs) (rails_and (side_of side inputs (number * 64 + lane)))
+        (state_in block.new lane) }
     ensures zeros { length block.new.zeros.items ≡ length block.old.zeros.items }
     ensures ones { length block.new.ones.items ≡ length block.old.ones.items }
 {

@@ -39,7 +39,8 @@ impl RowRoom {
 
     /// Leaves in the room what is read of a network, whatever it held: once for all rows. It takes no memory.
     pub fn load<N: Network>(&mut self, net: &N)
-        requires { IsRoomFor (length (N.circuit net.now).nodes) (length (N.circuit net.now).devices) self.old }
+        requires { IsRoomFor
+            (length (N.circuit net.now).nodes) (length (N.circuit net.now).devices) self.old }
         ensures { HoldsCellNet (N.circuit net.now) self.new }
     {
         self.work.load(net);

@@ -12,8 +12,8 @@ use ca_net::Wave;
 use ca_planes::LANES;
 use ca_response::{CellNet, OutWaves};
 
-/// Finds what every run of a cell's network ends with at each output pin, in the 64 rows of a block. It takes no
-/// memory.
+/// Finds what every run of a cell's network ends with at each output pin, in the 64 rows of a block. It takes
+/// no memory.
 pub fn settle_rows<N: CellNet>(net: &N, block: usize, room: &mut RowRoom)
     requires { HoldsCellNet (N.circuit net.now) room.old }
     ensures rows { (lane : ℕ) → lane < LANES

@@ -1,7 +1,7 @@
 -- Where the links of devices lead in a lane, and how planes rise to that. Only the proofs of the code cite
 -- this.
-use Rattle.std.specs.Prelude.{ℕ, Bool, true, false, ◌≡◌, ◌<◌, ◌≤◌, ◌&&◌, ◌||◌, not, List, length, Some, slice_get}
-use Rattle.std.specs.Prelude.{slice_index, slice_set, sum}
+use Rattle.std.specs.Prelude.{ℕ, Bool, true, false, ◌≡◌, ◌<◌, ◌≤◌, ◌&&◌, ◌||◌, not, List, length, Some}
+use Rattle.std.specs.Prelude.{slice_get, slice_index, slice_set, sum}
 use Rattle.ca_net.specs.declared.device.Device.{Device}
 use Rattle.ca_net.specs.Conduction.{Links}
 use Rattle.ca_planes.specs.Plane.{has_lane, lane_at}
@@ -25,7 +25,8 @@ pub record Leads (link from to : ℕ) (blocked old new : List ℕ) (rose : Bool)
   pub word : ℕ
   pub put : new ≡ slice_set old to word
   pub lanes : (lane : ℕ) → has_lane word lane
-      ≡ (lane_at old to lane || (lane_at old from lane && (has_lane link lane && not (lane_at blocked to lane))))
+      ≡ (lane_at old to lane
+      || (lane_at old from lane && (has_lane link lane && not (lane_at blocked to lane))))
   pub more : slice_index old to ≤ word
   pub rises : rose ≡ true → slice_index old to < word
   pub same : rose ≡ false → word ≡ slice_index old to
@@ -34,7 +35,8 @@ pub record Leads (link from to : ℕ) (blocked old new : List ℕ) (rose : Bool)
 pub record RaisesSome (devices : List Device) (links blocked old new : List ℕ) : Type 0 where
   pub room : length new ≡ length old
   pub kept : (lane n : ℕ) → lane_at old n lane ≡ true → lane_at new n lane ≡ true
-  pub come : (first : List ℕ) → AreCome devices links blocked first old → AreCome devices links blocked first new
+  pub come : (first : List ℕ) → AreCome devices links blocked first old
+      → AreCome devices links blocked first new
   pub more : sum old ≤ sum new
 
 -- nodes have more lanes, or none has

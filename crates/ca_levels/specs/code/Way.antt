@@ -1,5 +1,5 @@
--- Ways: paths of one kind from some roots, that aren't blocked. Both the definite paths to a node and the paths
--- by which a value may reach it are ways. Only the proofs of the code cite this.
+-- Ways: paths of one kind from some roots, that aren't blocked. Both the definite paths to a node and the
+-- paths by which a value may reach it are ways. Only the proofs of the code cite this.
 use Rattle.std.specs.Prelude.{ℕ, ◌≡◌, ◌≢◌, ◌<◌, ◌↔◌, true, List, length}
 use Rattle.ca_net.specs.declared.trit.Trit.{Trit}
 use Rattle.ca_net.specs.declared.path_kind.PathKind.{PathKind}
@@ -11,16 +11,16 @@ use Rattle.ca_net.specs.Response.{HasStronger}
 use Rattle.ca_relax.specs.code.Spread.{Passes}
 use Rattle.ca_planes.specs.Plane.{lane_at}
 
--- each device of the path passes, and at no node is the path's own part up to it blocked, which depends on the
--- node and on the part's strength
+-- each device of the path passes, and at no node is the path's own part up to it blocked, which depends on
+-- the node and on the part's strength
 abbrev pub IsFree : Circuit → List Trit → PathKind → (ℕ → ℕ → Type 0) → Path → Type 0
 IsFree net s kind Blocks (Root r) = Blocks r (strength_of net (Root r)) → ⊥
 IsFree net s kind Blocks (Via p d n) =
     IsFree net s kind Blocks p × Passes s kind d × (Blocks n (strength_of net (Via p d n)) → ⊥)
 
 -- a free path from one of these roots to n, stronger than k
-pub record HasWay (net : Circuit) (s : List Trit) (kind : PathKind) (Blocks : ℕ → ℕ → Type 0) (Begins : ℕ → Type 0)
-    (n k : ℕ) : Type 0 where
+pub record HasWay (net : Circuit) (s : List Trit) (kind : PathKind) (Blocks : ℕ → ℕ → Type 0)
+    (Begins : ℕ → Type 0) (n k : ℕ) : Type 0 where
   pub path : Path
   pub is_path : IsPath net path
   pub free : IsFree net s kind Blocks path

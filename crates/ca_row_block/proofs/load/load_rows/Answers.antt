@@ -3,7 +3,8 @@ use Rattle.std.specs.Prelude.{slice_set}
 use Rattle.ca_planes.specs.Trits.{state_in}
 use Rattle.ca_planes.proofs.BitLemmas.{in_all, in_none}
 use Rattle.ca_block.proofs.StateLemmas.{is_state}
-use Rattle.ca_row_block.specs.code.Digits.{has_digit, is_value}
+use Rattle.ca_row_block.specs.Masks.{has_digit}
+use Rattle.ca_row_block.specs.code.Digits.{is_value}
 use Rattle.ca_row_block.specs.code.Loaded.{side_of}
 use Rattle.ca_row_block.proofs.DigitLemmas.{rails_loaded, loaded_more}
 use Rattle.ca_row_block.proofs.load.load_rows.Goals as goal

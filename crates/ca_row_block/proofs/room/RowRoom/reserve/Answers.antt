@@ -1,6 +1,6 @@
 use Rattle.std.proofs.Common.{◌∙◌, length, sym, ap, subst}
 use Rattle.ca_levels.proofs.ResponseLemmas.{written_back}
-use Rattle.ca_row_block.specs.code.Digits.{AreMasks}
+use Rattle.ca_row_block.specs.Masks.{AreMasks}
 use Rattle.ca_row_block.proofs.room.RowRoom.reserve.Goals as goal
 
 pub returns : goal.returns
