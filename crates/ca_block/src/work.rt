@@ -1,12 +1,14 @@
 //! The room for three limits in 64 lanes.
 
-ghost use Rattle.std.specs.Prelude.{IfOk, length};
+ghost use Rattle.std.specs.Prelude.{ℕ, ◌≡◌, ◌<◌, IfOk, length};
+ghost use Rattle.ca_net.specs.State.{value_at};
+ghost use Rattle.ca_planes.specs.Trits.{state_in, trit_in};
 ghost use Rattle.ca_block.specs.Work.{HasRoom, HoldsNet};
 
 use ca_base::NoMemory;
 use ca_levels::Levels;
 use ca_net::Network;
-use ca_planes::Block;
+use ca_planes::{Block, Trits};
 use std::alloc::Global;
 
 /// The room for the limits of a network in 64 lanes, and the limits that it holds.
@@ -45,5 +47,14 @@ impl BlockWork {
         ensures { HoldsNet (N.circuit net.now) self.new }
     {
         self.levels.load(net);
+    }
+
+    /// The last limit of a node in each lane.
+    pub fn last_value(&self, node: usize) -> Trits
+        requires node { node < length self.now.last.zeros.items }
+        requires room { length self.now.last.ones.items ≡ length self.now.last.zeros.items }
+        ensures { (lane : ℕ) → trit_in result lane ≡ value_at (state_in self.now.last lane) node }
+    {
+        self.last.get(node)
     }
 }

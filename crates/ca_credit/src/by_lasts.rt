@@ -10,3 +10,10 @@ pub enum ByLasts {
     /// The pair detects it first at this observed output, counted from 0.
     At(u32),
 }
+
+/// The place of a defect in the list, and what last values alone say of the defect.
+#[derive(Clone, Copy, Debug)]
+pub struct Told {
+    pub place: usize,
+    pub by_lasts: ByLasts,
+}

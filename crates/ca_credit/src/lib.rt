@@ -11,7 +11,7 @@ mod simulator;
 mod verdict;
 mod verdicts;
 
-pub use by_lasts::ByLasts;
+pub use by_lasts::{ByLasts, Told};
 pub use credits::{BLOCK, Credits};
 pub use laws::{
     ample_is_never_aborted, pattern_bits_are_never_aborted, suspect_is_allowed_by_rows,

@@ -1,8 +1,9 @@
 //! What credits ask of the simulator of a chip.
 
-use crate::by_lasts::ByLasts;
+use crate::by_lasts::Told;
 use ca_net::Trit;
 use ca_pair::Pair;
+use ca_places::PlaceSet;
 
 /// A chip with the list of its defects, the pattern bits that are set, the defect that is aimed at, and what
 /// every run of the flat network ends with.
@@ -15,7 +16,8 @@ pub trait Simulator {
     ghost use Rattle.ca_credit.specs.Defects.{Task, IsDefectAt};
     ghost use Rattle.ca_search.specs.Filled.{trits_of};
     ghost use Rattle.ca_credit.specs.Detection.{IsNetEnd, IsAllowedByRows, AreDetectedAlike};
-    ghost use Rattle.ca_credit.specs.Detection.{IsDecided};
+    ghost use Rattle.ca_places.specs.PlaceSet.{Has};
+    ghost use Rattle.ca_credit.specs.Told.{IsToldNext};
 
     /// The chip, the list of its defects, and how many branches each search may have.
     ghost task: { Self → Task };
@@ -55,13 +57,13 @@ pub trait Simulator {
         ensures allowed { (defect : ChipDefect) → IsDefectAt (task self.now) place defect
             → IsTrue result → IsAllowedByRows (task self.now).chip defect (bits self.now) };
 
-    /// What last values alone say of the defect at this place of the list, under the bits that are set. Where
-    /// it is undecided the defect has to be aimed at. The bits and the aim stay.
-    fn by_lasts(&mut self, place: usize) -> ByLasts
-        requires { place < length (task self.old).defects }
+    /// The first place of the set, from one on, of which last values alone and the rows don't say that the
+    /// bits that are set detect its defect nowhere, with what last values alone say of it. Where they say
+    /// nothing the defect has to be aimed at. The bits and the aim stay.
+    fn next_told(&mut self, places: &PlaceSet, from: usize) -> Option<Told>
+        requires { (place : ℕ) → Has places.now place → place < length (task self.old).defects }
 
-        ensures decided { (defect : ChipDefect) → IsDefectAt (task self.old) place defect
-            → IsDecided (task self.old).chip defect (bits self.old) result }
+        ensures told { IsToldNext (task self.old) (bits self.old) places.now from result }
         ensures aimed { aimed self.new ≡ aimed self.old }
         ensures task { task self.new ≡ task self.old }
         ensures bits { bits self.new ≡ bits self.old }

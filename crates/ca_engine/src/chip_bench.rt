@@ -1,6 +1,6 @@
 //! The bench of a linked chip.
 
-ghost use Rattle.std.specs.Prelude.{◌≡◌, ◌<◌, ◌^◌, length, IfOk};
+ghost use Rattle.std.specs.Prelude.{◌≡◌, ◌+◌, ◌<◌, ◌^◌, length, IfOk};
 ghost use Rattle.ca_engine.specs.ChipTask.{task_of};
 
 use crate::flip_bench::FlipBench;
@@ -8,13 +8,14 @@ use crate::outputs::output_nets;
 use crate::pair_bits::PairBits;
 use ca_base::NoMemory;
 use ca_chip_defects::{ChipDefects, chip_defects};
-use ca_credit::{ByLasts, Simulator};
+use ca_credit::{ByLasts, Simulator, Told};
 use ca_flat::ChipDefect;
 use ca_flatten::{flat_is_well_formed, judge_size};
 use ca_generate::{Bench, outcome_is_search};
 use ca_guide::Choice;
 use ca_net::Trit;
 use ca_pair::Pair;
+use ca_places::PlaceSet;
 use ca_rows::ExposableDefects;
 use ca_search::{Code, Judge, Outcome, Search};
 use ca_sim::{NetWaves, definite_last_is_end};
@@ -62,6 +63,9 @@ impl<'a, R: ExposableDefects, P: Choice + Drop> Model for ChipBench<'a, R, P> {
 
 impl<'a, R: ExposableDefects, P: Choice + Drop> ChipBench<'a, R, P> {
     ghost use Rattle.ca_engine.specs.ChipBench.{IsUnused};
+    ghost use Rattle.ca_flat.specs.declared.chip_defect.ChipDefect.{ChipDefect};
+    ghost use Rattle.ca_credit.specs.Defects.{IsDefectAt};
+    ghost use Rattle.ca_credit.specs.Detection.{IsDecided};
 
     /// The bench of a linked chip. Its task is to search for each defect of a library instance, with at most
     /// `budget` branches. No bit is set, and no defect is aimed at. Also answers out of memory for a
@@ -102,6 +106,24 @@ impl<'a, R: ExposableDefects, P: Choice + Drop> ChipBench<'a, R, P> {
         })
     }
 
+    // What the rows and last values alone say of the defect at a place of the list.
+    fn told(&mut self, place: usize) -> ByLasts
+        requires { place < length self.old.task.defects }
+        ensures decided { (defect : ChipDefect) → IsDefectAt self.old.task place defect
+            → IsDecided self.old.task.chip defect self.old.bits result }
+        ensures kept { self.new ≡ self.old }
+    {
+        let defect = self.defects.get(place);
+        if !self.judge.may_show(defect) {
+            return ByLasts::Nowhere;
+        }
+        match self.judge.by_lasts(defect) {
+            Seen::Undecided => ByLasts::Undecided,
+            Seen::Nowhere => ByLasts::Nowhere,
+            Seen::At(output) => ByLasts::At(output),
+        }
+    }
+
     /// How often was aimed at a defect or at none since `reserve`, up to the type's greatest value.
     pub fn aim_count(&self) -> u64
         ensures { result ≡ self.now.aims }
@@ -140,12 +162,18 @@ impl<R: ExposableDefects, P: Choice + Drop> Simulator for ChipBench<'_, R, P> {
         self.judge.load(&PairBits { pair });
     }
 
-    fn by_lasts(&mut self, place: usize) -> ByLasts {
-        match self.judge.by_lasts(self.defects.get(place)) {
-            Seen::Undecided => ByLasts::Undecided,
-            Seen::Nowhere => ByLasts::Nowhere,
-            Seen::At(output) => ByLasts::At(output),
+    fn next_told(&mut self, places: &PlaceSet, from: usize) -> Option<Told> {
+        let count = self.defects.len();
+        let mut from = from;
+        'places: while let Some(place) = places.next(from) {
+            match self.told(place) {
+                ByLasts::Nowhere => {
+                    from = place_after(place, count);
+                }
+                by_lasts => return Some(Told { place, by_lasts }),
+            }
         }
+        None
     }
 
     fn may_detect(&self, place: usize) -> bool {
@@ -221,4 +249,12 @@ impl<R: ExposableDefects, P: Choice + Drop> Bench for ChipBench<'_, R, P> {
     fn keep_code(&self, alloc: Global) -> Result<Code, NoMemory> {
         self.search.keep_code(alloc)
     }
+}
+
+// The place after one that is below a count.
+fn place_after(place: usize, count: usize) -> usize
+    requires { place < count }
+    ensures { result ≡ place + 1 }
+{
+    place + 1
 }

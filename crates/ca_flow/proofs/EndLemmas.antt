@@ -11,7 +11,8 @@ use Rattle.ca_matrix.specs.Text.{text_of}
 use Rattle.ca_fault.specs.declared.fault.Fault.{Fault}
 use Rattle.ca_fault.specs.declared.fault.Fault.TheVariants.{BadWords, Cells, Netlist, Scan, Chip, Chain}
 use Rattle.ca_fault.specs.declared.fault.Fault.TheVariants.{NoCell, Cell, BadVector, NoInstance, NoDefect}
-use Rattle.ca_fault.specs.declared.fault.Fault.TheVariants.{Order, TooLong, TooManyPairs, Limit, StoreFailed}
+use Rattle.ca_fault.specs.declared.fault.Fault.TheVariants.{Order, Stil, StilChip, Expected, TooLong}
+use Rattle.ca_fault.specs.declared.fault.Fault.TheVariants.{TooManyPairs, Limit, StoreFailed}
 use Rattle.ca_fault.specs.declared.fault.Fault.TheVariants.{SinkFailed, NoMemory}
 use Rattle.ca_flow.specs.declared.finished.Done.{Done}
 use Rattle.ca_flow.specs.declared.finished.Done.TheVariants.{Respond, Pair, Defects, Matrix, Check, Flatten}
@@ -45,6 +46,9 @@ status_is_reported (BadVector typed) zero = cc
 status_is_reported (NoInstance typed) zero = cc
 status_is_reported (NoDefect typed) zero = cc
 status_is_reported (Order line) zero = cc
+status_is_reported (Stil line) zero = cc
+status_is_reported StilChip zero = cc
+status_is_reported (Expected pair output) zero = cc
 status_is_reported (TooLong typed taken) zero = cc
 status_is_reported (TooManyPairs pairs aims) zero = cc
 status_is_reported (Limit kind count) zero = cc

@@ -5,7 +5,7 @@ use Rattle.ca_store.specs.Store.{Files}
 use Rattle.ca_fault.specs.declared.fault.Fault.{Fault}
 use Rattle.ca_fault.specs.declared.fault.Fault.TheVariants.{BadWords, Cells, Netlist, Scan, Chip, Chain}
 use Rattle.ca_fault.specs.declared.fault.Fault.TheVariants.{NoCell, Cell, BadVector, NoInstance, NoDefect}
-use Rattle.ca_fault.specs.declared.fault.Fault.TheVariants.{Order, TooLong, TooManyPairs}
+use Rattle.ca_fault.specs.declared.fault.Fault.TheVariants.{Order, Stil, StilChip, Expected, TooLong, TooManyPairs}
 use Rattle.ca_fault.specs.declared.fault.Fault.TheVariants.{Limit, StoreFailed, SinkFailed, NoMemory}
 use Rattle.ca_load.specs.Causes.{IsScanCause, IsLoadCause}
 use Rattle.ca_words.specs.Words.{cells_word, cell_word, vector_word, first_word, last_word, defect_word, dash, chip_files, IsAtpg, IsMake}
@@ -33,6 +33,9 @@ kind_of_fault (BadVector word) = inr (inl tt)
 kind_of_fault (NoInstance word) = inr (inl tt)
 kind_of_fault (NoDefect word) = inr (inl tt)
 kind_of_fault (Order line) = inr (inl tt)
+kind_of_fault (Stil line) = inr (inl tt)
+kind_of_fault StilChip = inr (inl tt)
+kind_of_fault (Expected pair output) = inr (inl tt)
 kind_of_fault (TooLong name taken) = inr (inl tt)
 kind_of_fault (TooManyPairs pairs aims) = inr (inr tt)
 kind_of_fault (Limit kind count) = inr (inl tt)

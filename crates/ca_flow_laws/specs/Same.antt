@@ -4,7 +4,7 @@ use Rattle.ca_wiring.specs.declared.fault.ChipFault.TheVariants as rule
 use Rattle.ca_fault.specs.declared.fault.Fault.{Fault}
 use Rattle.ca_fault.specs.declared.fault.Fault.TheVariants.{BadWords, Cells, Netlist, Scan, Chip, Chain}
 use Rattle.ca_fault.specs.declared.fault.Fault.TheVariants.{NoCell, Cell, BadVector, NoInstance, NoDefect}
-use Rattle.ca_fault.specs.declared.fault.Fault.TheVariants.{Order, TooLong, TooManyPairs}
+use Rattle.ca_fault.specs.declared.fault.Fault.TheVariants.{Order, Stil, StilChip, Expected, TooLong, TooManyPairs}
 use Rattle.ca_fault.specs.declared.fault.Fault.TheVariants.{Limit, StoreFailed, SinkFailed, NoMemory}
 
 -- the faults of what a command was given: of its words, and of the contents and the size of its files
@@ -21,6 +21,9 @@ IsInputFault (BadVector word) = ⊤
 IsInputFault (NoInstance word) = ⊤
 IsInputFault (NoDefect word) = ⊤
 IsInputFault (Order line) = ⊤
+IsInputFault (Stil line) = ⊤
+IsInputFault StilChip = ⊤
+IsInputFault (Expected pair output) = ⊤
 IsInputFault (TooLong name taken) = ⊤
 IsInputFault (TooManyPairs pairs aims) = ⊥
 IsInputFault (Limit kind count) = ⊤

@@ -8,7 +8,12 @@ use Rattle.std.proofs.lemmas.Nat.{and_le_l}
 use Rattle.std.proofs.lemmas.List.{get_or-set_same, get_or-set_other, get_or_past}
 use Rattle.std.proofs.lemmas.Nat.Bits.{bit_at-lt, bit_at-zero, bit_at_and, bit_at_mask_inside}
 use Rattle.std.proofs.lemmas.Nat.Bits.{bit_at_mask_below, ones_shl, bit_at-trailing_zeros}
-use Rattle.ca_places.specs.PlaceSet.{HasBit}
+use Rattle.ca_places.specs.PlaceSet.{HasBit, HoldsUpTo, IsAsRoomy}
+use Rattle.ca_places.specs.declared.place_set.PlaceSet.{PlaceSet}
+
+-- a set holds as many places as one that is as roomy
+pub holds_as : (old new : PlaceSet) → IsAsRoomy new old → (count : ℕ) → HoldsUpTo old count → HoldsUpTo new count
+holds_as old new same count holds = omega arith
 
 pub bit_here : (words : List ℕ) (place word : ℕ) → place / 64 < length words → bit_at word (place % 64) ≡ 1 → HasBit (slice_set words (place / 64) word) place
 bit_here words place word within set = ap (λ w. bit_at w (place % 64)) (get_or-set_same words (place / 64) word 0 within) ∙ set

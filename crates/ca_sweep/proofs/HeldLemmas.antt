@@ -9,14 +9,9 @@ use Rattle.ca_net.specs.State.{value_at}
 use Rattle.ca_flat.specs.Chip.{Chip, outputs_at, output_net, count_of}
 use Rattle.ca_view.specs.Linked.{IsLinked, IsPlaced, IsPlace}
 use Rattle.ca_sweep.specs.declared.values.Values.{Values}
-use Rattle.ca_places.specs.PlaceSet.{HoldsUpTo, IsAsRoomy, IsNext}
-use Rattle.ca_places.specs.declared.place_set.PlaceSet.{PlaceSet}
+use Rattle.ca_places.specs.PlaceSet.{HoldsUpTo, IsNext}
 use Rattle.ca_sweep.specs.code.Changes.{IsDue, AreRoomy, IsOutputBelow, IsTouched}
 use Rattle.ca_sweep.specs.code.Held.{IsAtRest, IsHeld, IsGivenBackTo, IsGivenBack}
-
--- a set holds as many places as one that is as roomy
-pub holds_as : (old new : PlaceSet) → IsAsRoomy new old → (count : ℕ) → HoldsUpTo old count → HoldsUpTo new count
-holds_as old new same count holds = omega arith
 
 module _ (chip : Chip) (w : ℕ) (goods : ℕ → Trit) where
   pub back_none : (values : Values) → IsGivenBackTo chip w 0 goods values values

@@ -62,7 +62,10 @@ pub(crate) fn sweep(
         if is_last {
             let w = chip.order(place);
             if let Some(flips) = flips_at(chip, lasts, &values.values, w) {
-                return Halt::Cut(Cut { instance: w, flips });
+                return Halt::Cut(Cut {
+                    instance: w as u32,
+                    flips,
+                });
             }
         }
         from = place + 1;

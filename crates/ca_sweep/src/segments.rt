@@ -13,7 +13,7 @@ use std::alloc::Global;
 /// Where a sweep is cut: an instance, and which of its output pins have the opposite of the good last value.
 #[derive(Clone, Copy, Debug)]
 pub struct Cut {
-    pub instance: usize,
+    pub instance: u32,
     pub flips: Flips,
 }
 
@@ -21,7 +21,7 @@ pub struct Cut {
 /// the outputs; and where it is cut, if it is.
 #[derive(Clone, Copy, Debug)]
 pub struct Segment {
-    pub first: usize,
+    pub first: u32,
     pub next: Option<Cut>,
 }
 

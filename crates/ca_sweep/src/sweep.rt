@@ -137,9 +137,12 @@ impl<'a> Sweep<'a> {
         self.values.restore(self.chip, &self.lasts, u);
         match halt {
             Halt::Stuck => None,
-            Halt::Done => Some(Segment { first, next: None }),
+            Halt::Done => Some(Segment {
+                first: first as u32,
+                next: None,
+            }),
             Halt::Cut(cut) => Some(Segment {
-                first,
+                first: first as u32,
                 next: Some(cut),
             }),
         }
@@ -175,11 +178,11 @@ impl<'a> Sweep<'a> {
         let mut flips = flips;
         'parts: loop {
             let segment = self.segment(from, flips)?;
-            number = number.min(segment.first);
+            number = number.min(segment.first as usize);
             match segment.next {
                 None => return Some(number),
                 Some(cut) => {
-                    from = cut.instance;
+                    from = cut.instance as usize;
                     flips = cut.flips;
                 }
             }

@@ -2,7 +2,8 @@ use Rattle.std.proofs.Common.{refl, arith}
 use Rattle.ca_net.specs.State.{value_at}
 use Rattle.ca_view.specs.Linked.{place_in}
 use Rattle.ca_view.specs.Places.{cell_number}
-use Rattle.ca_sweep.proofs.HeldLemmas.{holds_as, held_begins, held_more, held_ends}
+use Rattle.ca_places.proofs.PlaceLemmas.{holds_as}
+use Rattle.ca_sweep.proofs.HeldLemmas.{held_begins, held_more, held_ends}
 use Rattle.ca_sweep.proofs.values.Values.restore.Goals as goal
 
 pub loop-place-init : goal.loop-place-init
