@@ -1,10 +1,11 @@
 #!/usr/bin/env python3
 """Measures test generation: seconds of user time, memory and verdicts, a CSV record for each run.
 
-usage: bench/chips.py PROGRAM [examples|mapped|made|rows|large].. [--budgets N,N..] [--most N]
+usage: bench/chips.py PROGRAM [examples|mapped|aes|made|rows|large].. [--budgets N,N..] [--most N]
 
 examples  the chips of examples/
 mapped    bench/rtl mapped to OSU's library for 0.35 micrometres, where Debian's yosys and qflow-tech-osu035 are installed
+aes       an AES core of bench/rtl, mapped in the same way: some 12,000 instances; not among the sets that run by themselves
 made      `make N`, for N from 64 to --most (1,024 if it isn't said)
 rows      `check` of rows of inverters up to 32,768, and one more, which is refused
 large     `check` of a gate netlist of nearly 64 MiB, which has too many instances, and of one with a million `assign`s
@@ -81,25 +82,35 @@ def write_bits(netlist):
     open(netlist, "w").write(text)
 
 
-def mapped(folder):
-    """Maps the designs, and gives for each its netlist and its scan table."""
+def library(folder):
+    """OSU's library with pin roles."""
     cells = f"{folder}/osu035.sp"
     with open(cells, "w") as out:
         subprocess.run([f"{TOP}/tools/add_pin_roles.py", f"{OSU}/osu035_stdcells.sp", "--models", f"{OSU}/osu035_stdcells.v",
                         "--power", "vdd,vdd2", "--ground", "gnd,gnd2"], stdout=out, stderr=subprocess.DEVNULL, check=True)
+    return cells
+
+
+def netlist_of(folder, name, is_clocked, flags=""):
+    """Maps a design, with its flip-flops in two scan chains, and gives its netlist and its scan table."""
+    flops = f"dfflibmap -liberty {OSU}/osu035_stdcells.lib;" if is_clocked else ""
+    netlist = f"{folder}/{name}.v"
+    subprocess.run(["yosys", "-q", "-p", f"read_verilog {HERE}/rtl/{name}.v; synth -flatten {flags} -top {name}; {flops} abc -liberty {OSU}/osu035_stdcells.lib;"
+                    f" opt_clean -purge; splitnets; write_verilog -noattr -noexpr -nodec {netlist}"], check=True)
+    write_bits(netlist)
+    if not is_clocked:
+        return netlist, "-"
+    scanned = subprocess.run([f"{TOP}/tools/insert_scan.py", netlist, "--cell", "DFFPOSX1", "--pins", "D,Q,CLK", "--chains", "2"],
+                             capture_output=True, text=True, check=True).stdout
+    open(netlist, "w").write(scanned)
+    return netlist, f"{TOP}/examples/scan.csv"
+
+
+def mapped(folder):
+    """Maps the designs, and gives for each its netlist and its scan table."""
+    cells = library(folder)
     for name, is_clocked in DESIGNS.items():
-        flops = f"dfflibmap -liberty {OSU}/osu035_stdcells.lib;" if is_clocked else ""
-        netlist = f"{folder}/{name}.v"
-        subprocess.run(["yosys", "-q", "-p", f"read_verilog {HERE}/rtl/{name}.v; synth -flatten -top {name}; {flops} abc -liberty {OSU}/osu035_stdcells.lib;"
-                        f" opt_clean -purge; splitnets; write_verilog -noattr -noexpr -nodec {netlist}"], check=True)
-        write_bits(netlist)
-        table = "-"
-        if is_clocked:
-            scanned = subprocess.run([f"{TOP}/tools/insert_scan.py", netlist, "--cell", "DFFPOSX1", "--pins", "D,Q,CLK", "--chains", "2"],
-                                     capture_output=True, text=True, check=True).stdout
-            open(netlist, "w").write(scanned)
-            table = f"{TOP}/examples/scan.csv"
-        yield name, cells, netlist, table
+        yield name, cells, *netlist_of(folder, name, is_clocked)
     netlist = f"{folder}/mult8_fa.v"
     subprocess.run(["yosys", "-q", "-p", f"read_verilog {HERE}/rtl/mult8.v; hierarchy -top mult8; proc; flatten; opt; wreduce; peepopt; opt_clean; {ADDERS};"
                     f" write_verilog -noattr -noexpr -nodec {netlist}"], check=True)
@@ -171,6 +182,11 @@ def main(words):
             for name, cells, netlist, table in mapped(folder):
                 for budget in budgets:
                     record(writer, name, budget, [program, "atpg", cells, netlist, table, *out, str(budget)])
+        if "aes" in sets and os.path.isdir(OSU):
+            # (yosys would move flip-flops into the tables of the S-boxes without -nordff)
+            netlist, table = netlist_of(folder, "aes", True, "-nordff")
+            for budget in budgets:
+                record(writer, "aes", budget, [program, "atpg", library(folder), netlist, table, *out, str(budget)])
         if "made" in sets:
             number = 64
             while number <= most:

@@ -1,18 +1,24 @@
 #!/usr/bin/env python3
-"""Makes a Verilog testbench of the patterns that `cellaware atpg` wrote, for the good chip.
+"""Makes a Verilog testbench that plays the patterns which `cellaware atpg` wrote.
 
-usage: stil_testbench.py PATTERNS.stil NETLIST.v > bench.v
+usage: stil_testbench.py PATTERNS.stil NETLIST.v --data PATTERNS.dat [--replace INSTANCE=MODEL --netlist OUT.v] > bench.v
 
-The bench plays each statement of the patterns in a period of its own, compares each strobed output that is L or H, prints
-a line for each mismatch, and at the end how many strobes it compared and how many didn't match. With Icarus Verilog:
+The bench has one size, however many patterns there are: it reads their statements from PATTERNS.dat, which this tool
+writes. It plays each statement in a period of its own, compares each strobed output that is L or H, prints a line for
+each of the first twenty mismatches and one for each thousand pairs, and at the end how many strobes it compared and how
+many didn't match. With Icarus Verilog, in the folder that has PATTERNS.dat:
 
     iverilog -o bench bench.v NETLIST.v CELLS.v && vvp bench
 
 CELLS.v has the models of the library's cells, and of the scan cells, if there are some (`tools/scan_cell.v` has one).
-Python 3.9 or later, no packages.
+With --replace, OUT.v is the netlist in which one instance is of another model, for example of one that behaves as the
+cell does with a defect; compile OUT.v in the place of NETLIST.v. Python 3.9 or later, no packages.
 """
+import argparse
 import re
 import sys
+
+VECTOR, SHIFT, PAIR = 1, 2, 3
 
 
 def groups_of(text):
@@ -37,105 +43,207 @@ def module_of(netlist):
     return name, ranges
 
 
-class Bench:
-    """The statements of the bench, and the values that its inputs have."""
+class Bits:
+    """Places of signals in a row of bits; values are numbers, the first signal is the lowest bit."""
 
-    def __init__(self, groups):
-        self.groups, self.lines, self.pair = groups, [], "?"
+    def __init__(self, signals):
+        self.place = {it: k for k, it in enumerate(signals)}
+        self.count = max(1, len(signals))
 
-    def members(self, word):
-        return self.groups.get(word, [word])
+    def value(self, parts, letters):
+        found = 0
+        for signal, letter in parts:
+            if letter in letters and signal in self.place:
+                found |= 1 << self.place[signal]
+        return found
 
-    def compare(self, word, letters, at):
-        for signal, letter in zip(self.members(word), letters):
-            if letter in "LH":
-                self.lines.append(f'    check("{signal}", {signal}, 1\'b{int(letter == "H")}, "{self.pair} {at}");')
 
-    def drive(self, word, letters):
-        """Sets inputs at once, and answers those that get a pulse."""
-        pulsed = []
-        for signal, letter in zip(self.members(word), letters):
-            self.lines.append(f"    {signal} = 1'b{0 if letter == 'P' else letter};")
-            pulsed += [signal] if letter == "P" else []
-        return pulsed
+class Statements:
+    """Writes the statements of the patterns, a line each: its kind, and numbers in hexadecimal."""
 
-    def vector(self, parts, at, shifted=()):
-        """One statement V: inputs at 0, scan outputs at 40, pulses at 45 and 55, other outputs at 90."""
-        pulsed = []
-        outs = []
-        for word, letters in parts:
-            if re.fullmatch(r"[01P]+", letters):
-                pulsed += self.drive(word, letters)
-            else:
-                outs.append((word, letters))
-        for signal, letter in shifted:
-            if letter in "01":
-                self.drive(signal, letter)
-        self.lines.append("    #40;")
-        for signal, letter in shifted:
-            self.compare(signal, letter, at)
-        self.lines.append("    #5;" + "".join(f" {it} = 1'b1;" for it in pulsed))
-        self.lines.append("    #10;" + "".join(f" {it} = 1'b0;" for it in pulsed))
-        self.lines.append("    #35;")
-        for word, letters in outs:
-            self.compare(word, letters, at)
-        self.lines.append("    #10;")
+    def __init__(self, out, signals, groups):
+        self.out, self.groups = out, groups
+        self.ins = Bits([it for it, direction in signals if direction == "In"])
+        self.outs = Bits([it for it, direction in signals if direction == "Out"])
+        self.scan_ins, self.scan_outs = groups.get("_si_", []), groups.get("_so_", [])
+        self.length = 0
+
+    def pair(self, number):
+        self.out.write(f"{PAIR} {number:x} 0 0 0 0\n")
+
+    def parts(self, words):
+        """The letters of a statement, signal by signal."""
+        return [it for word, letters in words for it in zip(self.groups.get(word, [word]), letters)]
+
+    def vector(self, words):
+        parts = self.parts(words)
+        driven, high = self.ins.value(parts, "01P"), self.ins.value(parts, "1")
+        compared, wanted = self.outs.value(parts, "LH"), self.outs.value(parts, "H")
+        self.out.write(f"{VECTOR} {driven:x} {high:x} {self.ins.value(parts, 'P'):x} {compared:x} {wanted:x}\n")
+
+    def shift(self, words):
+        """One line for a whole shift: place by place, a bit a chain."""
+        letters = dict(words)
+        count = max(len(it) for it in letters.values())
+        self.length = max(self.length, count)
+        loaded, compared, wanted = 0, 0, 0
+        for place in range(count):
+            for k, signal in enumerate(self.scan_ins):
+                loaded |= (letters[signal][place] == "1") << (place * len(self.scan_ins) + k)
+            for k, signal in enumerate(self.scan_outs):
+                at = place * len(self.scan_outs) + k
+                compared |= (letters[signal][place] in "LH") << at
+                wanted |= (letters[signal][place] == "H") << at
+        self.out.write(f"{SHIFT} {count:x} {loaded:x} 0 {compared:x} {wanted:x}\n")
+
+
+def write_statements(out, text, signals, groups):
+    """Writes all statements, and answers what the bench has to know of them."""
+    made = Statements(out, signals, groups)
+    for line in text[text.index('Pattern "_pattern_" {') :].split("\n")[1:]:
+        labelled = re.match(r'\s*"pair (\d+)": (.*)', line)
+        if labelled:
+            made.pair(int(labelled.group(1)))
+            line = labelled.group(2)
+        words = re.findall(r'"([^"]+)"=([01PLHX]+);', line)
+        if line.strip().startswith("Macro"):
+            made.shift(words)
+        elif line.strip().startswith("V"):
+            made.vector(words)
+    return made
+
+
+BENCH = """`timescale 1ns/1ns
+module bench;
+{declared}  reg [{ins}:0] in, driven, high, pulse;
+  wire [{outs}:0] out;
+  reg [{outs}:0] compared, wanted;
+  reg [{scanned}:0] loaded, kept, shifted;
+  reg [{chains}:0] scan_in, scan_out;
+  reg [8*{width}-1:0] names [0:{outs}];
+  integer file, kind, found, count, place, k, strobes, mismatches, pair;
+{joined}  {module} chip({ports});
+
+  task report(input integer at, input value, input want);
+    begin
+      mismatches = mismatches + 1;
+      if (mismatches <= 20) $display("pair %0d: %0s is %b, not %b", pair, names[at], value, want);
+    end
+  endtask
+
+  task compare;
+    for (k = 0; k <= {outs}; k = k + 1)
+      if (compared[k]) begin
+        strobes = strobes + 1;
+        if (out[k] !== wanted[k]) report(k, out[k], wanted[k]);
+      end
+  endtask
+
+  // One period: inputs at 0, outputs of chains at 40, pulses from 45 to 55, other outputs at 90.
+  task period;
+    begin
+      #45 in = in | pulse;
+      #10 in = in & ~pulse;
+      #35 if (|compared) compare;
+      #10;
+    end
+  endtask
+
+  task shift_one;
+    begin
+{shifting}      #40;
+{comparing}      #5 in = in | pulse;
+      #10 in = in & ~pulse;
+      #45;
+    end
+  endtask
+
+  initial begin
+    strobes = 0; mismatches = 0; in = 0; pair = 0;
+{naming}    file = $fopen("{data}", "r");
+    if (file == 0) begin
+      $display("{data} can't be opened");
+      $finish;
+    end
+    found = $fscanf(file, "%d", kind);
+    while (found == 1) begin
+      if (kind == {kind_pair}) begin
+        found = $fscanf(file, " %h %h %h %h %h", pair, loaded, pulse, compared, wanted);
+        if (pair % 1000 == 0 && pair > 0) $display("pair %0d, %0d mismatches", pair, mismatches);
+      end else if (kind == {kind_vector}) begin
+        found = $fscanf(file, " %h %h %h %h %h", driven, high, pulse, compared, wanted);
+        in = (in & ~driven) | high;
+        period;
+      end else begin
+        found = $fscanf(file, " %h %h %h %h %h", count, loaded, pulse, kept, shifted);
+        pulse = {clock};
+        for (place = 0; place < count; place = place + 1) shift_one;
+      end
+      found = $fscanf(file, "%d", kind);
+    end
+    $display("%0d strobes compared, %0d mismatches", strobes, mismatches);
+    $finish;
+  end
+endmodule
+"""
+
+
+def bench_of(made, signals, module, ranges, data):
+    """The text of the bench."""
+    whole = {}
+    for name, direction in signals:
+        whole.setdefault(name.split("[")[0], direction)
+    declared = "".join(f"  wire {ranges.get(it, '')} {it};\n".replace("  wire  ", "  wire ") for it in whole)
+    joined = "".join(f"  assign {name} = in[{made.ins.place[name]}];\n" if direction == "In"
+                     else f"  assign out[{made.outs.place[name]}] = {name};\n" for name, direction in signals)
+    naming = "".join(f'    names[{k}] = "{name}";\n' for name, k in made.outs.place.items())
+    shifting, comparing = "", ""
+    if made.scan_ins:
+        enable, clock, hold = (made.ins.place[it] for it in made.groups["_ctl_"])
+        shifting = f"      in[{enable}] = 1'b1; in[{hold}] = 1'b1; in[{clock}] = 1'b0;\n" + "".join(
+            f"      in[{made.ins.place[it]}] = loaded[place * {len(made.scan_ins)} + {k}];\n" for k, it in enumerate(made.scan_ins))
+        for k, it in enumerate(made.scan_outs):
+            at, place = f"place * {len(made.scan_outs)} + {k}", made.outs.place[it]
+            comparing += (f"      if (kept[{at}]) begin\n        strobes = strobes + 1;\n"
+                          f"        if (out[{place}] !== shifted[{at}]) report({place}, out[{place}], shifted[{at}]);\n      end\n")
+    bits = max(1, made.length * max(1, len(made.scan_ins)))
+    clock = f"1 << {made.ins.place[made.groups['_ctl_'][1]]}" if made.scan_ins else "0"
+    return BENCH.format(declared=declared, joined=joined, naming=naming, shifting=shifting, comparing=comparing, module=module,
+                        ports=", ".join(f".{it}({it})" for it in whole), ins=made.ins.count - 1, outs=made.outs.count - 1,
+                        scanned=bits - 1, chains=max(1, len(made.scan_ins)) - 1, width=max([len(it) for it in made.outs.place] + [1]),
+                        data=data, clock=clock, kind_pair=PAIR, kind_vector=VECTOR)
+
+
+def replaced(netlist, words):
+    """The netlist with another model for one instance."""
+    instance, model = words.split("=", 1)
+    found = re.compile(rf"(^\s*)([\w$]+)(\s+\\?{re.escape(instance)}\s*\()", re.M)
+    text, count = found.subn(lambda it: f"{it.group(1)}{model}{it.group(3)}", netlist)
+    if count != 1:
+        sys.exit(f"{instance} is the name of {count} instances")
+    return text
 
 
 def main():
-    if len(sys.argv) != 3:
-        sys.exit(__doc__)
-    with open(sys.argv[1], encoding="utf-8") as file:
+    parser = argparse.ArgumentParser(usage=__doc__)
+    parser.add_argument("patterns")
+    parser.add_argument("gates")
+    parser.add_argument("--data", required=True)
+    parser.add_argument("--replace")
+    parser.add_argument("--netlist")
+    asked = parser.parse_args()
+    with open(asked.patterns, encoding="utf-8") as file:
         text = file.read()
-    with open(sys.argv[2], encoding="utf-8") as file:
-        module, ranges = module_of(file.read())
+    with open(asked.gates, encoding="utf-8") as file:
+        netlist = file.read()
+    module, ranges = module_of(netlist)
     signals, groups = groups_of(text)
-    bench = Bench(groups)
-    shift = re.search(r"Shift \{\s*V \{ \"_ctl_\"=([01P]+);", text)
-    pattern = re.search(r'Pattern "_pattern_" \{\n(.*)\n\}', text, re.S).group(1)
-    for line in pattern.split("\n"):
-        labelled = re.match(r'\s*"(pair \d+)": (.*)', line)
-        if labelled:
-            bench.pair, line = labelled.group(1), labelled.group(2)
-        parts = re.findall(r'"([^"]+)"=([01PLHX]+);', line)
-        if line.strip().startswith("Macro"):
-            for place in range(max((len(letters) for _, letters in parts), default=0)):
-                bits = [(word, letters[place]) for word, letters in parts if place < len(letters)]
-                bench.vector([("_ctl_", shift.group(1))], f"shift {place}", bits)
-        elif line.strip().startswith("V"):
-            bench.vector(parts, "vector")
-    ports, whole = [], {}
-    for name, direction in signals:
-        base = name.split("[")[0]
-        if base not in whole:
-            whole[base] = direction
-            ports.append(base)
-    print("`timescale 1ns/1ns")
-    print("module bench;")
-    for port in ports:
-        kind = "reg" if whole[port] == "In" else "wire"
-        print(f"  {kind} {ranges.get(port, '')} {port};".replace("  ", " ").replace(" reg", "  reg").replace(" wire", "  wire"))
-    print("  integer strobes, mismatches;")
-    print(f"  {module} chip (" + ", ".join(f".{port}({port})" for port in ports) + ");")
-    print("  task check(input [8*64-1:0] name, input value, input wanted, input [8*64-1:0] place);")
-    print("    begin")
-    print("      strobes = strobes + 1;")
-    print("      if (value !== wanted) begin")
-    print("        mismatches = mismatches + 1;")
-    print('        $display("%0s: %0s is %b, not %b", place, name, value, wanted);')
-    print("      end")
-    print("    end")
-    print("  endtask")
-    print("  initial begin")
-    print("    strobes = 0; mismatches = 0;")
-    for port in ports:
-        if whole[port] == "In":
-            print(f"    {port} = 0;")
-    print("\n".join(bench.lines))
-    print('    $display("%0d strobes compared, %0d mismatches", strobes, mismatches);')
-    print("    $finish;")
-    print("  end")
-    print("endmodule")
+    with open(asked.data, "w", encoding="utf-8") as out:
+        made = write_statements(out, text, signals, groups)
+    sys.stdout.write(bench_of(made, signals, module, ranges, asked.data))
+    if asked.replace and asked.netlist:
+        with open(asked.netlist, "w", encoding="utf-8") as out:
+            out.write(replaced(netlist, asked.replace))
 
 
 if __name__ == "__main__":

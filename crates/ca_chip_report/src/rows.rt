@@ -18,26 +18,26 @@ use ca_linked::{Chip, InstanceId};
 use ca_report::ReportRows;
 use std::alloc::Global;
 
-// The name of a defect's instance.
+/// The name of a defect's instance, as the netlist spells it.
 #[tactic(auto, using(crate::proofs::RowLemmas::gate_within, crate::proofs::RowLemmas::name_reported))]
-fn instance_of(chip: &Chip, defect: ChipDefect) -> &[u8]
+pub fn instance_of(chip: &Chip, defect: ChipDefect) -> &[u8]
     requires { IsGateDefect chip.now defect }
     ensures { instance_name (slice_get chip.now.parts defect.instance) ≡ result.now }
 {
     chip.instance_name(InstanceId(defect.instance)).as_bytes()
 }
 
-// The name of its cell.
+/// The name of its cell, in upper case.
 #[tactic(auto, using(crate::proofs::RowLemmas::gate_within, crate::proofs::RowLemmas::cell_reported))]
-fn cell_of(chip: &Chip, defect: ChipDefect) -> &[u8]
+pub fn cell_of(chip: &Chip, defect: ChipDefect) -> &[u8]
     requires { IsGateDefect chip.now defect }
     ensures { cell_name (slice_get chip.now.parts defect.instance) ≡ result.now }
 {
     chip.cell_name(InstanceId(defect.instance)).as_bytes()
 }
 
-// Its name in the cell.
-fn name_of(alloc: Global, chip: &Chip, defect: ChipDefect) -> Result<Text, NoMemory>
+/// Its name in the cell.
+pub fn name_of(alloc: Global, chip: &Chip, defect: ChipDefect) -> Result<Text, NoMemory>
     requires { IsGateDefect chip.now defect }
     ensures { IfOk result (λ name.
         name_of (cell_at (core_of chip.now) defect.instance) defect.defect ≡ name) }

@@ -6,17 +6,19 @@ use crate::cone::Cone;
 use crate::goals::Goals;
 use crate::plan::Plan;
 use crate::prices::Prices;
+use crate::route::Route;
 use crate::row_cubes::RowCubes;
-use crate::row_goals::{unknown_pin, want_row};
+use crate::row_goals::{add_cheapest_row, unknown_pin, want_row};
 use crate::scene::{BitValue, Scene};
 use crate::sight::{GuideSight, Sight};
 use crate::trial::Trial;
+use crate::tries::Tries;
 use crate::wants::Wants;
 use crate::ways::{Asked, Ways, best_output, showing_output};
 use ca_base::NoMemory;
 use ca_defect::Rows;
 use ca_flat::ChipDefect;
-use ca_guide::{Choice, Guide, NetWaves, Proposal};
+use ca_guide::{Attempt, Choice, Guide, NetWaves, Proposal};
 use ca_view::View;
 use std::alloc::Global;
 
@@ -39,8 +41,13 @@ pub struct CheapestWay<'a> {
     // that of a decision without a plan
     nothing: Wants,
     trial: Trial,
-    // the defect of the rows and of the cone
+    // the way, the plan and the bits of an attempt
+    route: Route,
+    aims: Goals,
+    tries: Tries,
+    // the defect of the rows, and the instance of the cone
     defect: Option<ChipDefect>,
+    part: Option<u32>,
 }
 
 impl<'a> CheapestWay<'a> {
@@ -56,21 +63,61 @@ impl<'a> CheapestWay<'a> {
             wants: Wants::reserve(alloc, plan.net_count())?,
             nothing: Wants::reserve(alloc, 0)?,
             trial: Trial::reserve(alloc, &plan)?,
+            route: Route::reserve(alloc, &plan, &prices)?,
+            aims: Goals::reserve(alloc, plan.net_count().saturating_add(MOST_ROW_GOALS))?,
+            tries: Tries::reserve(alloc, plan.input_count().saturating_mul(2))?,
             plan,
             prices,
             defect: None,
+            part: None,
         })
     }
 
-    // Turns to a defect, if it is another one than before.
+    // Turns to the rows of a defect, if it is another one than before.
     fn turn_to(&mut self, defect: ChipDefect, rows: &Rows) {
         if self.defect == Some(defect) {
             return;
         }
         self.defect = Some(defect);
+        self.aims.clear();
         self.rows
             .find(rows, self.plan.inputs(defect.instance).len());
-        self.cone.find(&self.plan, defect.instance);
+    }
+
+    // Turns to the cone of an instance, if it is another one than before.
+    fn turn_to_cone(&mut self, part: u32) {
+        if self.part == Some(part) {
+            return;
+        }
+        self.part = Some(part);
+        self.cone.find(&self.plan, part);
+    }
+
+    // The next bit of an attempt. The plan is kept as long as the waves don't contradict it and it wants a
+    // bit.
+    fn next_bit<S: Sight>(&mut self, sight: &S, part: u32) -> Option<BitValue> {
+        let scene = Scene {
+            plan: &self.plan,
+            prices: &self.prices,
+            cone: &self.cone,
+            sight,
+            wants: &self.nothing,
+        };
+        if !self.aims.is_broken(&scene) {
+            if let Some(found) = bit_of(&scene, &self.aims) {
+                return Some(found);
+            }
+        }
+        if !aim_anew(
+            &scene,
+            &mut self.rows,
+            &mut self.route,
+            part,
+            &mut self.aims,
+        ) {
+            return None;
+        }
+        bit_of(&scene, &self.aims)
     }
 
     // A bit that brings the defect nearer to being seen.
@@ -159,6 +206,7 @@ impl Choice for CheapestWay<'_> {
     ) -> Proposal {
         let sight = GuideSight { guide, chip, waves };
         self.turn_to(defect, rows);
+        self.turn_to_cone(defect.instance);
         match self.bit(&sight, defect.instance) {
             Some(found) => proposal(found),
             None => match twin(&sight, self.plan.input_count()) {
@@ -166,6 +214,66 @@ impl Choice for CheapestWay<'_> {
                 None => none(),
             },
         }
+    }
+
+    fn begin(&mut self) {
+        self.aims.clear();
+        self.tries.begin();
+    }
+
+    fn attempt<V: NetWaves>(
+        &mut self,
+        guide: &Guide,
+        chip: &View<'_>,
+        waves: &V,
+        rows: &Rows,
+        defect: ChipDefect,
+    ) -> Attempt {
+        if let Some(next) = self.tries.turned() {
+            return next;
+        }
+        let sight = GuideSight { guide, chip, waves };
+        self.turn_to(defect, rows);
+        match self.next_bit(&sight, defect.instance) {
+            Some(found) => self.tries.set(found),
+            None => {
+                self.aims.clear();
+                self.tries.turn_back()
+            }
+        }
+    }
+}
+
+// The bit for the dearest goal of a plan.
+fn bit_of<S: Sight>(scene: &Scene<'_, S>, aims: &Goals) -> Option<BitValue> {
+    match aims.dearest(scene) {
+        Some(goal) => scene.backtrace(goal),
+        None => None,
+    }
+}
+
+// Makes a plan: the cheapest row that isn't met, unless the defect shows at its instance, and a way out.
+// Whether there is one.
+fn aim_anew<S: Sight>(
+    scene: &Scene<'_, S>,
+    rows: &mut RowCubes,
+    route: &mut Route,
+    part: u32,
+    aims: &mut Goals,
+) -> bool {
+    aims.clear();
+    let start = match route.start(scene, part, true) {
+        Some(net) => Some(net),
+        None => {
+            if !add_cheapest_row(scene, rows, part, aims) {
+                return false;
+            }
+            route.start(scene, part, false)
+        }
+    };
+    match start {
+        Some(net) => route.add_goals(scene, net, aims),
+        None => false,
     }
 }
 

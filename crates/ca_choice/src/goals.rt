@@ -32,6 +32,25 @@ impl Goals {
         self.count = 0;
     }
 
+    /// Takes out all but the first `count` goals.
+    pub(crate) fn shorten(&mut self, count: usize) {
+        if count < self.count {
+            self.count = count;
+        }
+    }
+
+    /// Whether the waves contradict one of the goals.
+    pub(crate) fn is_broken<S: Sight>(&self, scene: &Scene<'_, S>) -> bool {
+        for place in 0..self.count {
+            if let Some(goal) = self.get(place) {
+                if scene.is_lost(goal) {
+                    return true;
+                }
+            }
+        }
+        false
+    }
+
     /// The number of goals.
     pub(crate) fn len(&self) -> usize {
         self.count

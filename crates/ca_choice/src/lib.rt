@@ -12,15 +12,18 @@ mod cube;
 mod followed;
 mod goal;
 mod goals;
+mod outlets;
 mod plan;
 mod points;
 mod prices;
+mod route;
 mod row_cubes;
 mod row_goals;
 mod scene;
 mod sight;
 mod tables;
 mod trial;
+mod tries;
 mod wants;
 mod ways;
 

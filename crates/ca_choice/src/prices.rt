@@ -31,6 +31,11 @@ impl Prices {
         })
     }
 
+    /// What a value of a net costs in one frame while no bit is set.
+    pub(crate) fn unset(&self, net: u32, value: bool) -> u32 {
+        self.once.get(net, value)
+    }
+
     /// What the goal costs: nothing where it is met, and it is out of reach where the wave has the opposite.
     pub(crate) fn of<S: Sight>(&self, sight: &S, goal: Goal) -> u32 {
         let wave = sight.good(goal.net);

@@ -35,6 +35,23 @@ pub(crate) fn want_row<S: Sight>(
     }
 }
 
+/// Adds the goals of the cheapest row in reach that isn't met yet. Whether there is one.
+pub(crate) fn add_cheapest_row<S: Sight>(
+    scene: &Scene<'_, S>,
+    rows: &mut RowCubes,
+    part: u32,
+    goals: &mut Goals,
+) -> bool {
+    price_rows(scene, rows, part);
+    match next_row(rows, Some(LAST_MET)) {
+        Some(offer) => {
+            add_row_goals(scene, rows, part, rows.get(offer.place), goals);
+            true
+        }
+        None => false,
+    }
+}
+
 /// Whether one of the cheapest rows in reach that aren't met yet can be wanted, or not all were looked at.
 pub(crate) fn is_row_open<S: Sight>(
     scene: &Scene<'_, S>,

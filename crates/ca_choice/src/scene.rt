@@ -42,6 +42,15 @@ impl<S: Sight> Scene<'_, S> {
         }
     }
 
+    /// Whether the waves contradict a goal: the good one, or the last value with the defect.
+    pub(crate) fn is_lost(&self, goal: Goal) -> bool {
+        if self.prices.of(self.sight, goal) == NEVER {
+            return true;
+        }
+        let faulty = self.sight.faulty(goal.net).last;
+        goal.frame == Frame::Last && are_opposite(faulty, trit_of(goal.value))
+    }
+
     /// The price of the values that an instance's other pins need in the last frame, without and with the
     /// defect. A value that isn't there costs something.
     pub(crate) fn side_price(&self, part: u32, pin: usize, cube: Cube) -> u32 {

@@ -46,6 +46,11 @@ fn has_net(chip: &View<'_>, net: u32) -> bool
     (net as usize) < chip.nets()
 }
 
+/// Whether there is such a net, and it is observed.
+pub(crate) fn is_observed(chip: &View<'_>, net: u32) -> bool {
+    has_net(chip, net) && chip.is_observed(net)
+}
+
 impl<V: NetWaves> Sight for GuideSight<'_, V> {
     fn good(&self, net: u32) -> Wave {
         if has_net(self.chip, net) {
@@ -64,7 +69,7 @@ impl<V: NetWaves> Sight for GuideSight<'_, V> {
     }
 
     fn is_observed(&self, net: u32) -> bool {
-        has_net(self.chip, net) && self.chip.is_observed(net)
+        is_observed(self.chip, net)
     }
 
     fn onward(&self, net: u32) -> &[u32] {

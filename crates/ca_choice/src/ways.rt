@@ -12,14 +12,14 @@ use ca_base::NoMemory;
 use ca_net::Trit;
 use std::alloc::Global;
 
-// The next piece of a way: through an instance from a pin to an output, under values of the other pins.
+/// The next piece of a way: through an instance from a pin to an output, under values of the other pins.
 #[derive(Clone, Copy)]
-struct Piece {
-    part: u32,
-    pin: usize,
-    cube: Cube,
+pub(crate) struct Piece {
+    pub(crate) part: u32,
+    pub(crate) pin: usize,
+    pub(crate) cube: Cube,
     // the net of the output
-    net: u32,
+    pub(crate) net: u32,
 }
 
 /// Which values of a way are asked for.
@@ -194,8 +194,13 @@ impl Ways {
     }
 }
 
-// Adds the values of the other pins of a piece of a way.
-fn add_sides<S: Sight>(scene: &Scene<'_, S>, piece: Piece, asked: Asked, goals: &mut Goals) {
+/// Adds the values of the other pins of a piece of a way.
+pub(crate) fn add_sides<S: Sight>(
+    scene: &Scene<'_, S>,
+    piece: Piece,
+    asked: Asked,
+    goals: &mut Goals,
+) {
     for (pin, net) in scene.plan.inputs(piece.part).iter().enumerate() {
         if pin != piece.pin {
             let wanted = if asked == Asked::Unknown {

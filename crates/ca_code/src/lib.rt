@@ -5,4 +5,4 @@ mod code;
 mod token;
 
 pub use code::Code;
-pub use token::{MOST_PATTERN_BITS, packed};
+pub use token::{MOST_PATTERN_BITS, packed, unpacked};

@@ -21,8 +21,8 @@ pub fn packed(token: Token) -> u16
     }
 }
 
-// The token that has this number.
-pub(crate) fn unpacked(number: u16) -> Token
+/// The token that has this number.
+pub fn unpacked(number: u16) -> Token
     ensures { result ≡ token_of number }
 {
     if number == 0 {

@@ -1,5 +1,5 @@
 -- How often is aimed while a pair is credited.
-use Rattle.std.proofs.Common.{◌≡◌, ◌≤◌, ℕ, suc, ◌+◌, inl, inr, List, [], length, Bool, Option, Some, None, ◌∙◌, sym, ap, subst, arith, true, false, refl}
+use Rattle.std.proofs.Common.{◌≡◌, ◌≤◌, ℕ, zero, suc, ◌+◌, ◌-◌, inl, inr, List, [], length, Bool, Option, Some, None, ◌∙◌, sym, ap, subst, arith, true}
 use Rattle.ca_net.specs.declared.trit.Trit.{Trit}
 use Rattle.ca_flat.specs.declared.chip_defect.ChipDefect.{ChipDefect}
 use Rattle.ca_search.specs.Filled.{trits_of}
@@ -7,7 +7,7 @@ use Rattle.ca_credit.specs.declared.verdict.Verdict.{Verdict}
 use Rattle.ca_credit.specs.Defects.{Task, IsDefectAt}
 use Rattle.ca_credit.specs.Detection.{IsAllowedByRows}
 use Rattle.ca_credit.specs.Table.{verdict_at, is_open, CreditsPair}
-use Rattle.ca_credit.specs.Aims.{Start, Passes, Counts, IsSuspectAt, AimsAtSuspects}
+use Rattle.ca_credit.specs.Aims.{HaveAmong, Start, Passes, Counts, IsSuspectAt, AimsAtSuspects}
 use Rattle.ca_credit.specs.code.Aims.{AimsAtSuspect, AimsUpTo}
 use Rattle.ca_credit.specs.Aims.{NoPair, OnePair, AimsOverBlock, bits_after, aimed_after}
 use Rattle.std.specs.Prelude.{slice_get, slice_index_or}
@@ -45,19 +45,20 @@ aims_more task same pair count table middle before between after same_is at upto
       }
     ]
 
--- the turn of a defect, which may have been tried before
-pub aims_turn : (task same : Task) (pair : List Bool) (count : ℕ) (tried : Bool) (table middle : List (Option Verdict))
-    (before between after : ℕ) → same ≡ task → (tried ≡ false → verdict_at middle count ≡ verdict_at table count)
-    → AimsUpTo task pair count table before between → (tried ≡ true → after ≤ between)
-    → (tried ≡ false → AimsAtSuspect same pair middle count between after)
-    → AimsUpTo task pair (count + 1) table before after
-aims_turn task same pair count true table middle before between after same_is at upto again aims = record {
+-- places that are passed over
+pass_to : (P : ℕ → Type 0) (count more some : ℕ) → HaveAmong P count some → HaveAmong P (count + more) some
+pass_to P count zero some have = subst (λ n. HaveAmong P n some) (let e : count ≡ count + 0 = omega arith in e) have
+pass_to P count (suc more) some have =
+    subst (λ n. HaveAmong P n some) (let e : count + more + 1 ≡ count + suc more = omega arith in e) (Passes (count + more) some (pass_to P count more some have))
+
+pub aims_pass : (task : Task) (pair : List Bool) (count onward : ℕ) (table : List (Option Verdict)) (before after : ℕ) → count ≤ onward
+    → AimsUpTo task pair count table before after → AimsUpTo task pair onward table before after
+aims_pass task pair count onward table before after le upto = record {
   suspects = upto.suspects;
-  are = Passes count upto.suspects upto.are;
-  few = let few = upto.few in let less = again refl in omega arith;
+  are = subst (λ n. HaveAmong (IsSuspectAt task pair table) n upto.suspects) (let e : count + (onward - count) ≡ onward = omega arith in e)
+      (pass_to (IsSuspectAt task pair table) count (onward - count) upto.suspects upto.are);
+  few = upto.few;
 }
-aims_turn task same pair count false table middle before between after same_is at upto again aims =
-    aims_more task same pair count table middle before between after same_is (at refl) upto (aims refl)
 
 -- and at last no defect is aimed at
 pub aims_end : (task : Task) (pair : List Bool) (table : List (Option Verdict)) (before between after : ℕ)

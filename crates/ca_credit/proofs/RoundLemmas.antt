@@ -1,15 +1,15 @@
 -- A pair that is tried on defects, one after another.
 use Rattle.std.proofs.Common.{◌≡◌, ℕ, zero, suc, ◌+◌, ◌<◌, ◌≤◌, List, [], ◌∷◌, length, Bool, true, false, inl, inr, refl, sym}
-use Rattle.std.proofs.Common.{◌∙◌, ap, subst, arith, Some, None, Option, get_or, get_or-set_same, get_or-set_other}
+use Rattle.std.proofs.Common.{◌∙◌, ap, subst, arith, Some, None, Option, get_or}
 use native.Mathlib.Decide.{ℕ_discrete}
 use Rattle.std.proofs.lemmas.List.{length-set}
 use Rattle.std.specs.Prelude.{slice_get, slice_set, IsSome}
 use Rattle.ca_net.specs.declared.trit.Trit.{Trit}
 use Rattle.ca_flat.specs.declared.chip_defect.ChipDefect.{ChipDefect}
 use Rattle.ca_flat.specs.Chip.{Chip}
-use Rattle.ca_flat.specs.Pair.{DetectsAt}
+use Rattle.ca_flat.specs.Pair.{DetectsAt, IsShown}
 use Rattle.ca_credit.specs.declared.verdict.Verdict.{Verdict}
-use Rattle.ca_credit.specs.declared.verdict.Verdict.TheVariants.{Credited}
+use Rattle.ca_credit.specs.declared.verdict.Verdict.TheVariants.{Credited, Unexposable, Untestable, Aborted}
 use Rattle.ca_credit.specs.declared.round.Round.{Round}
 use Rattle.ca_search.specs.Filled.{trits_of}
 use Rattle.ca_credit.specs.Defects.{Task, IsDefectAt}
@@ -18,9 +18,13 @@ use Rattle.ca_credit.specs.Table.{verdict_at, is_open, IsAfterPair}
 use Rattle.ca_credit.specs.code.Table.{one_if, CreditsOne}
 use Rattle.ca_credit.specs.Table.{CreditsPair}
 use Rattle.ca_credit.specs.Detection.{IsAnswer}
-use Rattle.ca_credit.specs.code.Round.{is_tried, IsTried, TriesMore}
+use Rattle.ca_credit.specs.code.Round.{IsOpenAt, AreOpen, IsRound, IsWithout, IsTried, TriesMore}
+use Rattle.ca_places.specs.declared.place_set.PlaceSet.{PlaceSet}
+use Rattle.ca_places.specs.PlaceSet.{Has, IsAsRoomy}
+use Rattle.std.proofs.lemmas.List.Elements.{Contains-get_or}
+use Rattle.std.proofs.Common.{◌↔◌, ◌/◌, slice_index}
 use Rattle.ca_credit.proofs.DetectionLemmas.{first_by, not_shown_by, shown_by_first}
-use Rattle.ca_credit.proofs.TableLemmas.{of_open, verdict_at-set, verdict_at-other, credit_count-set}
+use Rattle.ca_credit.proofs.TableLemmas.{some_within, of_open, verdict_at-set, verdict_at-other, credit_count-set}
 
 -- the answer for a defect is that for another which is detected at the same outputs
 pub answer_alike : (chip : Chip) (one other : ChipDefect) (pair : List Trit) (answer : Option ℕ)
@@ -33,10 +37,17 @@ answer_alike chip one other pair (Some output) alike is = record {
       ((alike before (let l = is.within in omega arith)).1 detects);
 }
 
--- what a table is with a credit at a place, or without one
-pub given_table : List (Option Verdict) → ℕ → ℕ → Option ℕ → List (Option Verdict)
-given_table table number place None = table
-given_table table number place (Some output) = slice_set table place (Some (Credited number output))
+-- where a defect isn't shown, it is detected at no output
+pub undetected_answer : (chip : Chip) (defect : ChipDefect) (pair : List Trit) → (IsShown chip defect pair → ⊥) → IsAnswer chip defect pair None
+undetected_answer chip defect pair none = λ output lt detects. none (record {
+  output = slice_index chip.outputs output;
+  observed = Contains-get_or chip.outputs output 0 lt;
+  detects = detects;
+})
+
+-- the place that is left is open
+pub open_left : (round : Round) (place : ℕ) → IsRound round → Has round.left place → IsOpenAt round.verdicts.items place
+open_left round place is has = (is.are place).0 (is.some place has)
 
 -- the pair is credited with the defect at a place where it detects it
 pub gives_some : (task : Task) (pair : List Bool) (number place output : ℕ) (table : List (Option Verdict))
@@ -73,30 +84,95 @@ gives_none task pair number place table waits answers = record {
   counted = omega arith;
 }
 
--- nothing is made of the defect at a place
-pub passes_one : (task : Task) (pair : List Bool) (number place : ℕ) (table : List (Option Verdict))
-    → ((defect : ChipDefect) → IsDefectAt task place defect
-    → IsAfterPair task.chip pair number defect (verdict_at table place) (verdict_at table place))
-    → CreditsOne task pair number place false table table
-passes_one task pair number place table each = record {
-  as_many = refl;
-  here = each;
-  others = λ other differ. refl;
-  counted = omega arith;
-}
-
 -- what there is
 pub some_of : {T : Type 0} (o : Option T) → IsSome o → (x : T) × (o ≡ Some x)
 some_of None is = absurd (let k : false ≡ true = is in cc)
 some_of (Some x) is = (x, refl)
 
+-- what no pair may be credited with any more stays
+pub stays_closed : (chip : Chip) (pair : List Bool) (number : ℕ) (defect : ChipDefect) (verdict : Option Verdict)
+    → (is_open verdict ≡ true → ⊥) → IsAfterPair chip pair number defect verdict verdict
+stays_closed chip pair number defect None closed = absurd (closed refl)
+stays_closed chip pair number defect (Some (Credited p o)) closed = refl
+stays_closed chip pair number defect (Some Unexposable) closed = refl
+stays_closed chip pair number defect (Some Untestable) closed = refl
+stays_closed chip pair number defect (Some (Aborted code)) closed = absurd (closed refl)
+
+-- the defect at a place is left no more
+pub leaves_one : (table : List (Option Verdict)) (open_places left new : PlaceSet) (place : ℕ) → AreOpen table open_places left
+    → IsWithout left new place → AreOpen table open_places new
+leaves_one table open_places left new place is without = record {
+  are = is.are;
+  some = λ k has. is.some k ((without.others k (λ e. without.here (subst (Has new) e has))).0 has);
+  room = is.room;
+  left_room = without.room ∙ is.left_room;
+}
+
+-- a verdict with which no pair may be credited any more
+pub closes_one : (table : List (Option Verdict)) (open_places left new_open new_left : PlaceSet) (place : ℕ) (verdict : Option Verdict)
+    → AreOpen table open_places left → is_open verdict ≡ false → IsWithout open_places new_open place → IsWithout left new_left place
+    → place < length table → AreOpen (slice_set table place verdict) new_open new_left
+closes_one table open_places left new_open new_left place verdict is closed without left_without within = record {
+  are = λ k. elim (ℕ_discrete k place) [
+    | yes e ↦ (
+      (λ has. absurd (without.here (subst (Has new_open) e has))),
+      (λ open_at. let here : is_open verdict ≡ true = sym (ap is_open (ap (verdict_at (slice_set table place verdict)) e ∙ verdict_at-set table place verdict within)) ∙ open_at.1 in
+          let both : true ≡ false = sym here ∙ closed in cc),
+    )
+    | no differ ↦
+        let same : verdict_at (slice_set table place verdict) k ≡ verdict_at table k = verdict_at-other table place k verdict differ in
+        let count : length (slice_set table place verdict) ≡ length table = length-set table place verdict in (
+          (λ has. let at = (is.are k).0 ((without.others k differ).0 has) in (subst (λ n. k < n) (sym count) at.0, ap is_open same ∙ at.1)),
+          (λ at. (without.others k differ).1 ((is.are k).1 (subst (λ n. k < n) count at.0, ap is_open (sym same) ∙ at.1))),
+        )
+  ];
+  some = λ k has.
+      let differ : k ≡ place → ⊥ = λ e. left_without.here (subst (Has new_left) e has) in
+      (without.others k differ).1 (is.some k ((left_without.others k differ).0 has));
+  room = without.room ∙ is.room ∙ ap (λ n. n / 64 + 1) (sym (length-set table place verdict));
+  left_room = left_without.room ∙ is.left_room ∙ ap (λ n. n / 64 + 1) (sym (length-set table place verdict));
+}
+
+-- a verdict with which a pair may yet be credited
+pub stays_open : (table : List (Option Verdict)) (open_places left : PlaceSet) (place : ℕ) (verdict : Option Verdict)
+    → AreOpen table open_places left → is_open verdict ≡ true → is_open (verdict_at table place) ≡ true
+    → place < length table → AreOpen (slice_set table place verdict) open_places left
+stays_open table open_places left place verdict is may was within = record {
+  are = λ k.
+      let count : length (slice_set table place verdict) ≡ length table = length-set table place verdict in
+      elim (ℕ_discrete k place) [
+        | yes e ↦ (
+          (λ has. (subst (λ n. k < n) (sym count) ((is.are k).0 has).0, ap is_open (ap (verdict_at (slice_set table place verdict)) e ∙ verdict_at-set table place verdict within) ∙ may)),
+          (λ at. (is.are k).1 (subst (λ n. k < n) count at.0, ap (λ j. is_open (verdict_at table j)) e ∙ was)),
+        )
+        | no differ ↦
+            let same : verdict_at (slice_set table place verdict) k ≡ verdict_at table k = verdict_at-other table place k verdict differ in (
+              (λ has. let at = (is.are k).0 has in (subst (λ n. k < n) (sym count) at.0, ap is_open same ∙ at.1)),
+              (λ at. (is.are k).1 (subst (λ n. k < n) count at.0, ap is_open (sym same) ∙ at.1)),
+            )
+      ];
+  some = is.some;
+  room = is.room ∙ ap (λ n. n / 64 + 1) (sym (length-set table place verdict));
+  left_room = is.left_room ∙ ap (λ n. n / 64 + 1) (sym (length-set table place verdict));
+}
+
+-- all open places are left
+pub leaves_all : (table : List (Option Verdict)) (open_places left new : PlaceSet) → AreOpen table open_places left
+    → ((place : ℕ) → Has new place ↔ Has open_places place) → IsAsRoomy new left → AreOpen table open_places new
+leaves_all table open_places left new is same room = record {
+  are = is.are;
+  some = λ k has. (same k).0 has;
+  room = is.room;
+  left_room = room ∙ is.left_room;
+}
+
 -- nothing was tried
 pub tries_none : (task : Task) (pair : List Bool) (number : ℕ) (round : Round) → TriesMore task pair number 0 round round
 tries_none task pair number round = record {
   tried = λ table before. before;
-  kept = λ place was. was;
+  fewer = λ place has. has;
+  stands = λ is. is;
   as_many = refl;
-  marks = refl;
   counted = omega arith;
 }
 
@@ -106,9 +182,9 @@ pub tries_then : (task : Task) (pair : List Bool) (number some more : ℕ) (a b 
     → TriesMore task pair number (some + more) a c
 tries_then task pair number some more a b c first second = record {
   tried = λ table before. second.tried table (first.tried table before);
-  kept = λ place was. second.kept place (first.kept place was);
+  fewer = λ place has. first.fewer place (second.fewer place has);
+  stands = λ is. second.stands (first.stands is);
   as_many = second.as_many ∙ first.as_many;
-  marks = second.marks ∙ first.marks;
   counted = let one = first.counted in let two = second.counted in omega arith;
 }
 
@@ -117,58 +193,37 @@ pub tries_same : (task same : Task) (pair : List Bool) (number some : ℕ) (a b 
     → TriesMore same pair number some a b → TriesMore task pair number some a b
 tries_same task same pair number some a b e tries = subst (λ (t : Task). TriesMore t pair number some a b) e tries
 
-module _ (task : Task) (pair : List Bool) (number place : ℕ) (given : Bool) (old new : Round)
-    (within : place < length old.tried.items) (marked : new.tried.items ≡ slice_set old.tried.items place true)
-    (untried : is_tried old.tried.items place ≡ false)
-    (one : CreditsOne task pair number place given old.verdicts.items new.verdicts.items) where
-  tried_here : is_tried new.tried.items place ≡ true
-  tried_here = ap (λ (t : List Bool). is_tried t place) marked ∙ get_or-set_same old.tried.items place true false within
-
-  tried_elsewhere : (k : ℕ) → (k ≡ place → ⊥) → is_tried new.tried.items k ≡ is_tried old.tried.items k
-  tried_elsewhere k differ = ap (λ (t : List Bool). is_tried t k) marked ∙ get_or-set_other old.tried.items place k true false differ
-
-  -- the defect at a place was tried
-  pub tries_one : TriesMore task pair number (one_if given) old new
-  tries_one = record {
-    tried = λ table before. record {
-      as_many = one.as_many ∙ before.as_many;
-      marks = ap length marked ∙ length-set old.tried.items place true ∙ before.marks;
-      done = λ k defect is at. elim (ℕ_discrete k place) [
-        | yes e ↦ subst (λ (j : ℕ). IsAfterPair task.chip pair number defect (verdict_at table j) (verdict_at new.verdicts.items j)) (sym e)
-            (subst (λ (v : Option Verdict). IsAfterPair task.chip pair number defect v (verdict_at new.verdicts.items place))
-            (before.others place untried) (one.here defect (subst (λ (j : ℕ). IsDefectAt task j defect) e at)))
-        | no differ ↦ subst (λ (v : Option Verdict). IsAfterPair task.chip pair number defect (verdict_at table k) v)
-            (sym (one.others k differ)) (before.done k defect (sym (tried_elsewhere k differ) ∙ is) at)
-      ];
-      others = λ k not.
-          let differ : k ≡ place → ⊥ = λ e.
-          let both : true ≡ false = sym tried_here ∙ ap (is_tried new.tried.items) (sym e) ∙ not in cc in
-          one.others k differ ∙ before.others k (sym (tried_elsewhere k differ) ∙ not);
-    };
-    kept = λ k was. elim (ℕ_discrete k place) [
-      | yes e ↦ ap (is_tried new.tried.items) e ∙ tried_here
-      | no differ ↦ tried_elsewhere k differ ∙ was
+-- the defect at a place was tried
+pub tries_one : (task : Task) (pair : List Bool) (number place : ℕ) (given : Bool) (old new : Round) → Has old.left place
+    → IsWithout old.left new.left place → (IsRound old → IsRound new)
+    → CreditsOne task pair number place given old.verdicts.items new.verdicts.items
+    → TriesMore task pair number (one_if given) old new
+tries_one task pair number place given old new was without stands one = record {
+  tried = λ table before. record {
+    as_many = one.as_many ∙ before.as_many;
+    done = λ k defect gone at. elim (ℕ_discrete k place) [
+      | yes e ↦ subst (λ (j : ℕ). IsAfterPair task.chip pair number defect (verdict_at table j) (verdict_at new.verdicts.items j)) (sym e)
+          (subst (λ (v : Option Verdict). IsAfterPair task.chip pair number defect v (verdict_at new.verdicts.items place))
+          (before.others place was) (one.here defect (subst (λ (j : ℕ). IsDefectAt task j defect) e at)))
+      | no differ ↦ subst (λ (v : Option Verdict). IsAfterPair task.chip pair number defect (verdict_at table k) v)
+          (sym (one.others k differ)) (before.done k defect (λ has. gone ((without.others k differ).1 has)) at)
     ];
-    as_many = one.as_many;
-    marks = ap length marked ∙ length-set old.tried.items place true;
-    counted = one.counted;
-  }
+    others = λ k has.
+        let differ : k ≡ place → ⊥ = λ e. without.here (subst (Has new.left) e has) in
+        one.others k differ ∙ before.others k ((without.others k differ).0 has);
+  };
+  fewer = λ k has. elim (ℕ_discrete k place) [
+    | yes e ↦ subst (Has old.left) (sym e) was
+    | no differ ↦ (without.others k differ).0 has
+  ];
+  stands = stands;
+  as_many = one.as_many;
+  counted = one.counted;
+}
 
-  pub tries_here : is_tried new.tried.items place ≡ true
-  tries_here = tried_here
-
--- the defect at a place was tried, and then others
-pub tries_lead : (task same : Task) (pair : List Bool) (number place following total : ℕ) (here given : Bool) (old mid new : Round)
-    → place < length old.tried.items → mid.tried.items ≡ slice_set old.tried.items place true
-    → is_tried old.tried.items place ≡ false
-    → CreditsOne task pair number place here old.verdicts.items mid.verdicts.items → here ≡ given
-    → same ≡ task → TriesMore same pair number following mid new → total ≡ one_if given + following
-    → TriesMore task pair number total old new
-tries_lead task same pair number place following total here given old mid new within marked untried one is same_is more sum =
-    subst (λ n. TriesMore task pair number n old new) (ap (λ b. one_if b + following) is ∙ sym sum)
-    (tries_then task pair number (one_if here) following old mid new
-    (tries_one task pair number place here old mid within marked untried one)
-    (tries_same task same pair number following mid new same_is more))
+-- a place of the list has a defect
+pub aimed_some : (task : Task) (place : ℕ) (aimed : Option ChipDefect) → aimed ≡ slice_get task.defects place → place < length task.defects → IsSome aimed
+aimed_some task place aimed is within = let some = some_within task.defects place within in subst IsSome (sym (is ∙ some.1)) refl
 
 -- the answer for the defect that was aimed at is that for the one at its place
 pub answer_here : (task same : Task) (pair : List Bool) (bits : List Trit) (aimed : Option ChipDefect) (place : ℕ)
@@ -179,28 +234,32 @@ answer_here task same pair bits aimed place answer same_is bits_are aimed_is ans
     subst (λ (t : Task). IsAnswer t.chip defect (trits_of pair) answer) same_is
     (subst (λ (b : List Trit). IsAnswer same.chip defect b answer) bits_are (answers defect (aimed_is ∙ at)))
 
--- before the first trial
-pub tried_begin : (task : Task) (pair : List Bool) (number : ℕ) (tried : List Bool) (table : List (Option Verdict))
-    → length tried ≡ length table → ((place : ℕ) → is_tried tried place ≡ false)
-    → IsTried task pair number tried table table
-tried_begin task pair number tried table marks none = record {
-  as_many = refl;
-  marks = marks;
-  done = λ place defect is at. absurd (let both : true ≡ false = sym is ∙ none place in cc);
-  others = λ place not. refl;
-}
-
 past : {T : Type 0} (xs : List T) (k : ℕ) (d : T) → length xs ≤ k → get_or xs k d ≡ d
 past [] k d le = refl
 past (x ∷ xs) zero d le = absurd (omega arith)
 past (x ∷ xs) (suc k) d le = past xs k d (omega arith)
 
--- where each was tried, this is what the pair makes of the table
-pub tried_all : (task : Task) (pair : List Bool) (number count : ℕ) (tried : List Bool) (old new : List (Option Verdict))
-    → length old ≤ count → ((place : ℕ) → place < count → is_tried tried place ≡ true)
-    → IsTried task pair number tried old new → CreditsPair task pair number old new
-tried_all task pair number count tried old new enough each is = record {
+-- before the first trial all open defects are left
+pub tried_begin : (task : Task) (pair : List Bool) (number : ℕ) (open_places left : PlaceSet) (table : List (Option Verdict))
+    → AreOpen table open_places left → length table ≡ length task.defects → ((place : ℕ) → Has left place ↔ Has open_places place)
+    → IsTried task pair number left table table
+tried_begin task pair number open_places left table is count same = record {
+  as_many = refl;
+  done = λ place defect gone at. stays_closed task.chip pair number defect (verdict_at table place)
+      (λ may. gone ((same place).1 ((is.are place).1 (subst (λ n. place < n) (sym count) (some_before task.defects place defect at), may))));
+  others = λ place has. refl;
+}
+  where
+    some_before : {T : Type 0} (xs : List T) (k : ℕ) (x : T) → slice_get xs k ≡ Some x → k < length xs
+    some_before [] k x e = cc
+    some_before (x ∷ xs) zero y e = omega arith
+    some_before (x ∷ xs) (suc k) y e = let l = some_before xs k y e in omega arith
+
+-- where none is left, this is what the pair makes of the table
+pub tried_all : (task : Task) (pair : List Bool) (number : ℕ) (left : PlaceSet) (old new : List (Option Verdict))
+    → ((place : ℕ) → Has left place → ⊥) → IsTried task pair number left old new → CreditsPair task pair number old new
+tried_all task pair number left old new none is = record {
   as_many = is.as_many;
-  each = λ place defect below at. is.done place defect (each place (omega arith)) at;
+  each = λ place defect below at. is.done place defect (none place) at;
   others = λ place from. past new place None (let e = is.as_many in omega arith) ∙ sym (past old place None from);
 }

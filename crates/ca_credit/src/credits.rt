@@ -30,15 +30,16 @@ pub struct Credits {
 }
 
 impl Model for Credits {
-    ghost use Rattle.std.specs.Prelude.{◌≡◌, List, Option, length};
+    ghost use Rattle.std.specs.Prelude.{List, Option};
     ghost use Rattle.ca_credit.specs.declared.verdict.Verdict.{Verdict};
 
     ghost Value = { List (Option Verdict) };
 
     ghost view = { λ credits. credits.round.verdicts.items };
 
-    ghost invariant = { λ credits.
-        length credits.round.tried.items ≡ length credits.round.verdicts.items };
+    ghost use Rattle.ca_credit.specs.code.Round.{IsRound};
+
+    ghost invariant = { λ credits. IsRound credits.round };
 }
 
 impl Credits {
@@ -75,7 +76,7 @@ impl Credits {
 
         ensures { self.new ≡ slice_set self.old place (Some verdict) }
     {
-        self.round.verdicts[place] = Some(verdict);
+        self.round.settle(place, verdict);
     }
 
     /// Credits the pair, with its number, with each defect that it detects and that has no verdict yet or an

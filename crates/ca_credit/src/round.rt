@@ -1,20 +1,16 @@
-//! The verdicts so far, and which defects were tried with the pair in hand.
+//! The verdicts so far, and which defects are left to be tried with the pair in hand.
 
-ghost use Rattle.std.specs.Prelude.{◌≡◌, ◌↔◌, ◌<◌, ◌≤◌, ◌^◌, ◌+◌, ℕ, length, replicate};
-ghost use Rattle.std.specs.Prelude.{true, false, List, Bool, None, Some, IsSome, IfSome, IfOk, IsTrue};
-ghost use Rattle.std.specs.Prelude.{IsFalse};
+ghost use Rattle.std.specs.Prelude.{ℕ, ◌≡◌, ◌↔◌, ◌<◌, ◌≤◌, ◌^◌, ◌+◌, length, replicate, slice_set};
+ghost use Rattle.std.specs.Prelude.{true, false, List, Bool, None, Some, IsSome, IfOk, IsTrue, IsFalse};
+ghost use Rattle.ca_places.specs.PlaceSet.{Has, HasRoomFor};
 ghost use Rattle.ca_flat.specs.declared.chip_defect.ChipDefect.{ChipDefect};
-ghost use Rattle.ca_flat.specs.Pair.{bit_count};
 ghost use Rattle.ca_search.specs.Filled.{trits_of};
 ghost use Rattle.ca_credit.specs.Defects.{Task, IsDefectAt};
-ghost use Rattle.ca_credit.specs.Detection.{IsAllowedByRows};
-ghost use Rattle.ca_credit.specs.Table.{verdict_at, is_open, IsAfterPair, CreditsPair};
-ghost use Rattle.ca_credit.specs.code.Table.{CreditsOne};
+ghost use Rattle.ca_credit.specs.Table.{verdict_at, is_open, CreditsPair};
 ghost use Rattle.ca_credit.specs.Table.{credit_count};
-ghost use Rattle.ca_credit.specs.code.Table.{one_if};
 ghost use Rattle.ca_credit.specs.code.Aims.{AimsAtSuspect, AimsUpTo};
 ghost use Rattle.ca_credit.specs.Detection.{IsAnswer};
-ghost use Rattle.ca_credit.specs.code.Round.{is_tried, TriesMore};
+ghost use Rattle.ca_credit.specs.code.Round.{IsRound, IsWithout, TriesMore};
 
 use crate::by_lasts::ByLasts;
 use crate::credit::detecting_output;
@@ -22,92 +18,158 @@ use crate::simulator::Simulator;
 use crate::verdict::Verdict;
 use ca_base::NoMemory;
 use ca_pair::Pair;
+use ca_places::PlaceSet;
 use std::alloc::Global;
 
-/// A verdict for each defect, or none yet, and whether the pair in hand was tried on it.
+/// A verdict for each defect, or none yet. The places of those with which a pair may yet be credited are a
+/// set, and so are those of them on which the pair in hand wasn't tried.
 #[derive(Drop, Debug)]
 pub(crate) struct Round {
     pub(crate) verdicts: Vec<Option<Verdict>>,
-    pub(crate) tried: Vec<bool>,
+    pub(crate) open_places: PlaceSet,
+    pub(crate) left: PlaceSet,
+}
+
+// The set of the first `count` places.
+fn all_places(alloc: Global, count: usize) -> Result<PlaceSet, NoMemory>
+    ensures all { IfOk result (λ set. (place : ℕ) → Has set place ↔ (place < count)) }
+    ensures room { IfOk result (λ set. HasRoomFor set count) }
+{
+    let mut set = PlaceSet::reserve(alloc, count)?;
+    for place in 0..count {
+        set.insert(place);
+    }
+    Ok(set)
+}
+
+// No verdicts.
+fn no_verdicts(alloc: Global, count: usize) -> Result<Vec<Option<Verdict>>, NoMemory>
+    ensures { IfOk result (λ verdicts. verdicts.items ≡ replicate count None) }
+{
+    let mut verdicts = Vec::with_capacity(alloc, count)?;
+    for _ in 0..count {
+        verdicts.push_reserved(None);
+    }
+    Ok(verdicts)
+}
+
+// Whether no pair may be credited any more with a defect that has the verdict.
+fn is_closing(verdict: &Verdict) -> bool
+    ensures closed { IsTrue result → is_open (Some verdict.now) ≡ false }
+    ensures open_yet { IsFalse result → is_open (Some verdict.now) ≡ true }
+{
+    match verdict {
+        Verdict::Aborted { .. } => false,
+        Verdict::Credited { .. } | Verdict::Unexposable | Verdict::Untestable => true,
+    }
 }
 
 impl Round {
     /// No verdict for `count` defects.
     pub(crate) fn reserve(alloc: Global, count: usize) -> Result<Self, NoMemory>
-        ensures { IfOk result (λ round. (round.verdicts.items ≡ replicate count None)
-            × (length round.tried.items ≡ count)) }
+        ensures verdicts { IfOk result (λ round. round.verdicts.items ≡ replicate count None) }
+        ensures stands { IfOk result IsRound }
     {
-        let mut verdicts = Vec::with_capacity(alloc, count)?;
-        let mut tried = Vec::with_capacity(alloc, count)?;
-        for _ in 0..count {
-            verdicts.push_reserved(None);
-            tried.push_reserved(false);
-        }
-        Ok(Round { verdicts, tried })
+        let verdicts = no_verdicts(alloc, count)?;
+        let open_places = all_places(alloc, count)?;
+        let left = PlaceSet::reserve(alloc, count)?;
+        Ok(Round {
+            verdicts,
+            open_places,
+            left,
+        })
     }
 
-    // No defect was tried yet.
-    fn begin(&mut self)
-        requires { length self.old.tried.items ≡ length self.old.verdicts.items }
-        ensures none { (place : ℕ) → is_tried self.new.tried.items place ≡ false }
-        ensures marks { length self.new.tried.items ≡ length self.new.verdicts.items }
-        ensures verdicts { self.new.verdicts ≡ self.old.verdicts }
-    {
-        for place in 0..self.tried.len() {
-            self.tried[place] = false;
-        }
-    }
-
-    /// Whether a pair may yet be credited with the defect.
-    pub(crate) fn is_open(&self, place: usize) -> bool
-        requires { place < length self.now.verdicts.items }
-        ensures { result ≡ is_open (verdict_at self.now.verdicts.items place) }
-    {
-        match &self.verdicts[place] {
-            None | Some(Verdict::Aborted { .. }) => true,
-            Some(Verdict::Credited { .. } | Verdict::Unexposable | Verdict::Untestable) => false,
-        }
-    }
-
-    // Whether the pair in hand may be credited with the defect.
-    fn may_credit<S: Simulator>(&self, sim: &S, place: usize) -> bool
-        requires within { place < length self.now.verdicts.items }
-        requires same { length self.now.verdicts.items ≡ length (S.task sim.now).defects }
-
-        ensures waits { IsTrue result → is_open (verdict_at self.now.verdicts.items place) ≡ true }
-        ensures allowed { (defect : ChipDefect) → IsDefectAt (S.task sim.now) place defect → IsTrue result
-            → IsAllowedByRows (S.task sim.now).chip defect (S.bits sim.now) }
-        ensures kept { (defect : ChipDefect) (pair : List Bool) (number : ℕ)
-            → S.bits sim.now ≡ trits_of pair → IsDefectAt (S.task sim.now) place defect → IsFalse result
-            → IsAfterPair (S.task sim.now).chip pair number defect
-            (verdict_at self.now.verdicts.items place) (verdict_at self.now.verdicts.items place) }
-    {
-        if !self.is_open(place) {
-            return false;
-        }
-        sim.may_detect(place)
-    }
-
-    // Credits the pair with the defect at a place, if it detects it at some output.
-    fn give(&mut self, number: u32, place: usize, answer: Option<u32>) -> bool
+    // Gives a defect a verdict with which no pair may be credited with it any more.
+    fn close(&mut self, place: usize, verdict: Verdict)
         requires within { place < length self.old.verdicts.items }
-        requires waits { is_open (verdict_at self.old.verdicts.items place) ≡ true }
+        requires closed { is_open (Some verdict) ≡ false }
+        requires stands { IsRound self.old }
 
-        ensures credited { (task : Task) (pair : List Bool)
+        ensures verdicts { self.new.verdicts.items ≡ slice_set self.old.verdicts.items place (Some verdict) }
+        ensures left { IsWithout self.old.left self.new.left place }
+        ensures stands { IsRound self.new }
+    {
+        self.left.remove(place);
+        self.open_places.remove(place);
+        self.verdicts[place] = Some(verdict);
+    }
+
+    /// Gives a defect that is open a verdict that isn't a credit.
+    pub(crate) fn settle(&mut self, place: usize, verdict: Verdict)
+        requires within { place < length self.old.verdicts.items }
+        requires uncredited { is_open (verdict_at self.old.verdicts.items place) ≡ true }
+        requires stands { IsRound self.old }
+
+        ensures verdicts { self.new.verdicts.items ≡ slice_set self.old.verdicts.items place (Some verdict) }
+        ensures stands { IsRound self.new }
+    {
+        if is_closing(&verdict) {
+            self.close(place, verdict);
+        } else {
+            self.verdicts[place] = Some(verdict);
+        }
+    }
+
+    // The defect at a place, which the pair doesn't detect, is left no more.
+    fn pass(&mut self, place: usize)
+        requires left { Has self.old.left place }
+        requires stands { IsRound self.old }
+
+        ensures tries { (task : Task) (pair : List Bool) (number : ℕ)
+            → ((defect : ChipDefect) → IsDefectAt task place defect
+            → IsAnswer task.chip defect (trits_of pair) None)
+            → TriesMore task pair number 0 self.old self.new }
+        ensures here { ¬ (Has self.new.left place) }
+        ensures stands { IsRound self.new }
+    {
+        self.left.remove(place);
+    }
+
+    // The defect at a place, which the pair detects first at an output, is credited to it and left no more.
+    fn credit(&mut self, number: u32, place: usize, output: u32)
+        requires left { Has self.old.left place }
+        requires stands { IsRound self.old }
+
+        ensures tries { (task : Task) (pair : List Bool)
+            → ((defect : ChipDefect) → IsDefectAt task place defect
+            → IsAnswer task.chip defect (trits_of pair) (Some output))
+            → TriesMore task pair number 1 self.old self.new }
+        ensures here { ¬ (Has self.new.left place) }
+        ensures stands { IsRound self.new }
+    {
+        self.close(
+            place,
+            Verdict::Credited {
+                pair: number,
+                output,
+            },
+        );
+    }
+
+    // What the pair makes of the defect at a place, of which is known where the pair detects it. Answers how
+    // many defects it is credited with.
+    fn give(&mut self, number: u32, place: usize, answer: Option<u32>) -> u32
+        requires left { Has self.old.left place }
+        requires stands { IsRound self.old }
+
+        ensures tries { (task : Task) (pair : List Bool)
             → ((defect : ChipDefect) → IsDefectAt task place defect
             → IsAnswer task.chip defect (trits_of pair) answer)
-            → CreditsOne task pair number place result self.old.verdicts.items self.new.verdicts.items }
-        ensures tried { self.new.tried ≡ self.old.tried }
+            → TriesMore task pair number result self.old self.new }
+        ensures here { ¬ (Has self.new.left place) }
+        ensures stands { IsRound self.new }
+        ensures few { result ≤ 1 }
     {
         match answer {
             Some(output) => {
-                self.verdicts[place] = Some(Verdict::Credited {
-                    pair: number,
-                    output,
-                });
-                true
+                self.credit(number, place, output);
+                1
             }
-            None => false,
+            None => {
+                self.pass(place);
+                0
+            }
         }
     }
 
@@ -120,30 +182,29 @@ impl Round {
         number: u32,
         place: usize,
         answer: Option<u32>,
-    ) -> bool
-        requires within { place < length self.old.verdicts.items }
+    ) -> u32
+        requires left { Has self.old.left place }
         requires same { length self.old.verdicts.items ≡ length (S.task sim.old).defects }
-        requires marks { length self.old.tried.items ≡ length self.old.verdicts.items }
+        requires stands { IsRound self.old }
         requires bits { S.bits sim.old ≡ trits_of pair.now }
         requires answer { (one : ChipDefect) → S.aimed sim.old ≡ Some one
             → IsAnswer (S.task sim.old).chip one (S.bits sim.old) answer }
         requires aimed { IsSome (S.aimed sim.old) }
 
-        ensures tries { TriesMore (S.task sim.old) pair.now number (one_if result) self.old self.new }
+        ensures tries { TriesMore (S.task sim.old) pair.now number result self.old self.new }
         ensures aimed { S.aimed sim.new ≡ S.aimed sim.old }
         ensures task { S.task sim.new ≡ S.task sim.old }
         ensures bits { S.bits sim.new ≡ S.bits sim.old }
         ensures aims { S.aims sim.new ≡ S.aims sim.old }
     {
-        if self.tried[place] || !self.may_credit(sim, place) || !sim.is_alike(place) {
-            return false;
+        if !sim.is_alike(place) {
+            return 0;
         }
-        self.tried[place] = true;
         self.give(number, place, answer)
     }
 
-    // Tries the pair on the defects from a place on that are of the instance of the defect that is aimed at
-    // and let it give the same.
+    // Tries the pair on the defects from a place on that are left, are of the instance of the defect that is
+    // aimed at and let it give the same.
     fn try_after<S: Simulator>(
         &mut self,
         sim: &mut S,
@@ -154,7 +215,7 @@ impl Round {
     ) -> u32
         requires same { length self.old.verdicts.items ≡ length (S.task sim.old).defects }
         requires few { length self.old.verdicts.items < 2 ^ 32 }
-        requires marks { length self.old.tried.items ≡ length self.old.verdicts.items }
+        requires stands { IsRound self.old }
         requires bits { S.bits sim.old ≡ trits_of pair.now }
         requires answer { (one : ChipDefect) → S.aimed sim.old ≡ Some one
             → IsAnswer (S.task sim.old).chip one (S.bits sim.old) answer }
@@ -166,88 +227,41 @@ impl Round {
         ensures aims { S.aims sim.new ≡ S.aims sim.old }
     {
         let mut credited = 0;
-        for place in from..self.verdicts.len() {
+        let mut from = from;
+        'places: while let Some(place) = self.left.next(from) {
             if !sim.shares_instance(place) {
                 return credited;
             }
-            if self.try_alike(sim, pair, number, place, answer) {
-                credited += 1;
-            }
+            credited += self.try_alike(sim, pair, number, place, answer);
+            from = place + 1;
         }
         credited
     }
 
-    // Tries the pair on the defect at a place that wasn't tried, and on those after it of the same instance
-    // that let it give the same. So what an instance gives is led through the chip once for all of these.
+    // Tries the pair on the defect at a place by waves, and on those left after it of the same instance that
+    // let it give the same. So what an instance gives is led through the chip once for all of these.
     fn try_from<S: Simulator>(&mut self, sim: &mut S, pair: &Pair, number: u32, place: usize) -> u32
-        requires within { place < length self.old.verdicts.items }
+        requires left { Has self.old.left place }
         requires same { length self.old.verdicts.items ≡ length (S.task sim.old).defects }
         requires few { length self.old.verdicts.items < 2 ^ 32 }
-        requires marks { length self.old.tried.items ≡ length self.old.verdicts.items }
-        requires untried { is_tried self.old.tried.items place ≡ false }
+        requires stands { IsRound self.old }
         requires bits { S.bits sim.old ≡ trits_of pair.now }
 
         ensures tries { TriesMore (S.task sim.old) pair.now number result self.old self.new }
-        ensures here { is_tried self.new.tried.items place ≡ true }
+        ensures here { ¬ (Has self.new.left place) }
         ensures task { S.task sim.new ≡ S.task sim.old }
         ensures bits { S.bits sim.new ≡ S.bits sim.old }
-        ensures aims { AimsAtSuspect (S.task sim.old) pair.now self.old.verdicts.items place
-            (S.aims sim.old) (S.aims sim.new) }
+        ensures aims { S.aims sim.new ≤ S.aims sim.old + 1 }
     {
-        self.tried[place] = true;
-        if !self.may_credit(sim, place) {
-            return 0;
-        }
         sim.aim(place);
         let answer = detecting_output(sim);
         let here = self.give(number, place, answer);
         let following = self.try_after(sim, pair, number, place + 1, answer);
-        if here { following + 1 } else { following }
+        here + following
     }
 
-    // Tries the pair on the defect at a place that wasn't tried, by the rows and by last values alone.
-    // Answers how many it is credited with, or nothing where that says nothing; then nothing changes.
-    fn try_by_lasts<S: Simulator>(
-        &mut self,
-        sim: &mut S,
-        pair: &Pair,
-        number: u32,
-        place: usize,
-    ) -> Option<u32>
-        requires within { place < length self.old.verdicts.items }
-        requires same { length self.old.verdicts.items ≡ length (S.task sim.old).defects }
-        requires marks { length self.old.tried.items ≡ length self.old.verdicts.items }
-        requires untried { is_tried self.old.tried.items place ≡ false }
-        requires bits { S.bits sim.old ≡ trits_of pair.now }
-
-        ensures tries { IfSome result
-            (λ credited. TriesMore (S.task sim.old) pair.now number credited self.old self.new) }
-        ensures here { IfSome result (λ _. is_tried self.new.tried.items place ≡ true) }
-        ensures none { result ≡ None → self.new ≡ self.old }
-        ensures task { S.task sim.new ≡ S.task sim.old }
-        ensures bits { S.bits sim.new ≡ S.bits sim.old }
-        ensures aims { S.aims sim.new ≡ S.aims sim.old }
-    {
-        if !self.may_credit(sim, place) {
-            self.tried[place] = true;
-            return Some(0);
-        }
-        match sim.by_lasts(place) {
-            ByLasts::At(output) => {
-                self.tried[place] = true;
-                let given = self.give(number, place, Some(output));
-                Some(if given { 1 } else { 0 })
-            }
-            ByLasts::Nowhere => {
-                self.tried[place] = true;
-                Some(0)
-            }
-            ByLasts::Undecided => None,
-        }
-    }
-
-    // The turn of the defect at a place: the pair is tried on it, unless it was tried already. Waves are
-    // asked where last values alone say nothing.
+    // Tries the pair on the defect at a place. The rows are asked first, then last values, and waves where
+    // these alone say nothing.
     fn take_turn<S: Simulator>(
         &mut self,
         sim: &mut S,
@@ -255,51 +269,60 @@ impl Round {
         number: u32,
         place: usize,
     ) -> u32
-        requires within { place < length self.old.verdicts.items }
+        requires left { Has self.old.left place }
         requires same { length self.old.verdicts.items ≡ length (S.task sim.old).defects }
         requires few { length self.old.verdicts.items < 2 ^ 32 }
-        requires marks { length self.old.tried.items ≡ length self.old.verdicts.items }
+        requires stands { IsRound self.old }
         requires bits { S.bits sim.old ≡ trits_of pair.now }
 
         ensures tries { TriesMore (S.task sim.old) pair.now number result self.old self.new }
-        ensures here { is_tried self.new.tried.items place ≡ true }
+        ensures here { ¬ (Has self.new.left place) }
         ensures task { S.task sim.new ≡ S.task sim.old }
         ensures bits { S.bits sim.new ≡ S.bits sim.old }
-        ensures again { is_tried self.old.tried.items place ≡ true → S.aims sim.new ≤ S.aims sim.old }
-        ensures aims { is_tried self.old.tried.items place ≡ false
-            → AimsAtSuspect (S.task sim.old) pair.now self.old.verdicts.items place
+        ensures aims { AimsAtSuspect (S.task sim.old) pair.now self.old.verdicts.items place
             (S.aims sim.old) (S.aims sim.new) }
     {
-        if self.tried[place] {
+        if !sim.may_detect(place) {
+            self.pass(place);
             return 0;
         }
-        match self.try_by_lasts(sim, pair, number, place) {
-            Some(credited) => credited,
-            None => self.try_from(sim, pair, number, place),
+        match sim.by_lasts(place) {
+            ByLasts::At(output) => {
+                self.credit(number, place, output);
+                1
+            }
+            ByLasts::Nowhere => {
+                self.pass(place);
+                0
+            }
+            ByLasts::Undecided => self.try_from(sim, pair, number, place),
         }
     }
 
-    /// Tries the pair in hand on all defects. Answers how many it is credited with.
+    /// Tries the pair in hand on all defects with which a pair may yet be credited. Answers how many it is
+    /// credited with. Its time is that of these defects, and a look at the words of their set.
     pub(crate) fn try_all<S: Simulator>(&mut self, sim: &mut S, pair: &Pair, number: u32) -> u32
         requires same { length self.old.verdicts.items ≡ length (S.task sim.old).defects }
         requires few { length self.old.verdicts.items < 2 ^ 32 }
-        requires marks { length self.old.tried.items ≡ length self.old.verdicts.items }
+        requires stands { IsRound self.old }
         requires bits { S.bits sim.old ≡ trits_of pair.now }
 
         ensures credited { CreditsPair (S.task sim.old) pair.now number
             self.old.verdicts.items self.new.verdicts.items }
         ensures counted { credit_count self.new.verdicts.items
             ≡ credit_count self.old.verdicts.items + result }
-        ensures marks { length self.new.tried.items ≡ length self.new.verdicts.items }
+        ensures stands { IsRound self.new }
         ensures task { S.task sim.new ≡ S.task sim.old }
         ensures bits { S.bits sim.new ≡ S.bits sim.old }
         ensures aims { AimsUpTo (S.task sim.old) pair.now (length self.old.verdicts.items)
             self.old.verdicts.items (S.aims sim.old) (S.aims sim.new) }
     {
-        self.begin();
+        self.left.take_over(&self.open_places);
         let mut credited = 0;
-        for place in 0..self.verdicts.len() {
+        let mut from = 0;
+        'places: while let Some(place) = self.left.next(from) {
             credited += self.take_turn(sim, pair, number, place);
+            from = place + 1;
         }
         credited
     }

@@ -4,7 +4,7 @@ ghost use Rattle.std.specs.Prelude.{◌≡◌, ◌<◌, ◌^◌, length, IfOk};
 
 use ca_base::NoMemory;
 use ca_flat::ChipDefect;
-use ca_guide::{Choice, Step};
+use ca_guide::{Attempt, Choice, Step};
 use ca_judge::ExposingRows;
 use ca_net::Wave;
 use ca_search::{Judge, Standing};
@@ -173,6 +173,10 @@ impl<R: ExposingRows, P: Choice + Drop> Judge for FlipBench<'_, R, P> {
         self.judge.bit_count()
     }
 
+    fn flat(&self) {
+        self.judge.flat();
+    }
+
     fn clear(&mut self) {
         self.is_loaded = false;
         self.judge.clear();
@@ -183,6 +187,10 @@ impl<R: ExposingRows, P: Choice + Drop> Judge for FlipBench<'_, R, P> {
         self.judge.set(bit, value);
     }
 
+    fn is_shown(&self) -> bool {
+        self.judge.is_shown()
+    }
+
     fn standing(&self) -> Standing {
         self.judge.standing()
     }
@@ -190,5 +198,10 @@ impl<R: ExposingRows, P: Choice + Drop> Judge for FlipBench<'_, R, P> {
     fn next(&mut self) -> Step {
         self.is_loaded = false;
         self.judge.next()
+    }
+
+    fn attempt(&mut self) -> Attempt {
+        self.is_loaded = false;
+        self.judge.attempt()
     }
 }

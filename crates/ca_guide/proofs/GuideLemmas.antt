@@ -30,8 +30,7 @@ use Rattle.ca_view.specs.NetLists.{NetLists, input_nets, output_nets, AreNetsOf}
 use Rattle.ca_guide.specs.Seen.{Seen, set_trit, pair_of, open_area, Covers}
 use Rattle.ca_guide.specs.code.Seen.{AreGoodWaves}
 use Rattle.ca_guide.specs.PinRows.{end_of, pin_value, IsOver, IsAllowed, IsSomeAllowed, IsNoneAllowed}
-use Rattle.ca_guide.specs.Guide.{IsSupport, ShowsPair}
-use Rattle.ca_guide.specs.code.Guide.{IsUnsetIn}
+use Rattle.ca_guide.specs.Guide.{IsSupport, ShowsPair, IsUnsetIn}
 use Rattle.ca_guide.proofs.OpenChains.{flood_rules_out, end_is_chain}
 use Rattle.std.proofs.lemmas.List.{get_or-map}
 use Rattle.std.proofs.lemmas.Option.{get_or_from_slice_get, slice_get-get_or, slice_get_within}

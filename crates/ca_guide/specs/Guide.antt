@@ -1,5 +1,5 @@
 -- What the guide answers.
-use Rattle.std.specs.Prelude.{ℕ, ◌+◌, ◌≡◌, ◌↔◌, List, length, None, Some}
+use Rattle.std.specs.Prelude.{ℕ, ◌+◌, ◌≡◌, ◌↔◌, Bool, List, length, Option, None, Some, slice_get}
 use Rattle.std.specs.List.{Contains}
 use Rattle.ca_net.specs.declared.trit.Trit.{Trit}
 use Rattle.ca_flat.specs.declared.chip_defect.ChipDefect.{ChipDefect}
@@ -9,6 +9,8 @@ use Rattle.ca_flat.specs.Chain.{IsSupportBit}
 use Rattle.ca_flat.specs.CheckedCode.{IsPlain, IsCheckedBranch}
 use Rattle.ca_guide.specs.declared.guide.Step.{Step}
 use Rattle.ca_guide.specs.declared.guide.Step.TheVariants.{Branch, RuledOut}
+use Rattle.ca_guide.specs.declared.guide.Attempt.{Attempt}
+use Rattle.ca_guide.specs.declared.guide.Attempt.TheVariants.{Set, TakeBack, GiveUp}
 use Rattle.ca_view.specs.NetLists.{NetLists}
 use Rattle.ca_guide.specs.Seen.{Seen, pair_of, ShowsWaves}
 
@@ -37,3 +39,14 @@ pub record ShowsPair (chip : Chip) (defect : ChipDefect) (seen : Seen) : Type 0 
 abbrev pub IsStep : Chip → ChipDefect → List Trit → Step → Type 0
 IsStep chip defect pair (Branch bit first) = IsCheckedBranch chip defect pair bit
 IsStep chip defect pair RuledOut = IsPlain chip defect pair
+
+-- an unset bit of the support
+pub record IsUnsetIn (support : List ℕ) (bits : List (Option Bool)) (bit : ℕ) : Type 0 where
+  pub listed : Contains support bit
+  pub unset : slice_get bits bit ≡ Some None
+
+-- a bit that is set is an unset one of the support
+abbrev pub IsAttempt : List ℕ → List (Option Bool) → Attempt → Type 0
+IsAttempt support bits (Set bit value) = IsUnsetIn support bits bit
+IsAttempt support bits TakeBack = Unit {0}
+IsAttempt support bits GiveUp = Unit {0}

@@ -6,7 +6,7 @@ ghost use Rattle.ca_flat.specs.Chip.{count_of};
 ghost use Rattle.ca_flat.specs.Pair.{IsOpenPair};
 ghost use Rattle.ca_flat.specs.Rows.{ListsExposingRows};
 ghost use Rattle.ca_guide.specs.Seen.{pair_of, Covers};
-ghost use Rattle.ca_guide.specs.Guide.{HasRoomFor, IsSupport, ShowsPair, IsStep};
+ghost use Rattle.ca_guide.specs.Guide.{HasRoomFor, IsSupport, ShowsPair, IsStep, IsAttempt};
 ghost use Rattle.ca_guide.specs.code.Guide.{IsUnsetAnswer};
 
 use crate::number_set::NumberSet;
@@ -35,6 +35,14 @@ pub struct Proposal {
     pub first: bool,
 }
 
+/// What to do next in an attempt: a bit is set, the latest one that is set is taken back, or all is given up.
+#[derive(Clone, Copy, Debug, PartialEq, Eq)]
+pub enum Attempt {
+    Set { bit: u16, value: bool },
+    TakeBack,
+    GiveUp,
+}
+
 /// Which bit to decide next. Any answer serves: one that isn't an unset bit of the support is not taken.
 pub trait Choice {
     ghost use Rattle.std.specs.Prelude.{◌<◌};
@@ -52,9 +60,26 @@ pub trait Choice {
     ) -> Proposal
         requires defect { defect.instance < count_of chip.now.core }
         requires covers { Covers chip.now.lists (V.seen waves.now) };
+
+    /// An attempt begins, and no bit is set.
+    fn begin(&mut self);
+
+    /// The next step of the attempt. A bit may be taken back at no cost, so nothing is known of the pair but
+    /// that it doesn't show the defect.
+    fn attempt<V: NetWaves>(
+        &mut self,
+        guide: &Guide,
+        chip: &View,
+        waves: &V,
+        rows: &Rows,
+        defect: ChipDefect,
+    ) -> Attempt
+        requires defect { defect.instance < count_of chip.now.core }
+        requires covers { Covers chip.now.lists (V.seen waves.now) };
 }
 
 /// The plainest choice: it leaves the bit to the guide, which takes the lowest unset one, and decides for 0.
+/// It attempts nothing.
 #[derive(Clone, Copy, Debug, Default)]
 pub struct LowestUnset;
 
@@ -71,6 +96,19 @@ impl Choice for LowestUnset {
             bit: u16::MAX,
             first: false,
         }
+    }
+
+    fn begin(&mut self) {}
+
+    fn attempt<V: NetWaves>(
+        &mut self,
+        _guide: &Guide,
+        _chip: &View,
+        _waves: &V,
+        _rows: &Rows,
+        _defect: ChipDefect,
+    ) -> Attempt {
+        Attempt::GiveUp
     }
 }
 
@@ -169,6 +207,33 @@ impl Guide {
                 first: proposal.first,
             },
             None => Step::RuledOut,
+        }
+    }
+
+    /// The next step of an attempt: a bit is set only where it is an unset one of the support.
+    pub fn attempt<V: NetWaves, P: Choice>(
+        &self,
+        chip: &View,
+        waves: &V,
+        rows: &Rows,
+        defect: ChipDefect,
+        choice: &mut P,
+    ) -> Attempt
+        requires room { HasRoomFor chip.now.lists self.now }
+        requires defect { defect.instance < count_of chip.now.core }
+        requires covers { Covers chip.now.lists (V.seen waves.now) }
+        ensures { IsAttempt self.now.support (V.seen waves.now).bits result }
+    {
+        match choice.attempt(self, chip, waves, rows, defect) {
+            Attempt::Set { bit, value } => {
+                if self.supports(bit) && waves.bit(bit).is_none() {
+                    Attempt::Set { bit, value }
+                } else {
+                    Attempt::GiveUp
+                }
+            }
+            Attempt::TakeBack => Attempt::TakeBack,
+            Attempt::GiveUp => Attempt::GiveUp,
         }
     }
 

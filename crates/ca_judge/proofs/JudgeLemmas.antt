@@ -1,8 +1,9 @@
 -- What the fields of a judge keep.
-use Rattle.std.proofs.Common.{◌≡◌, ◌↔◌, ◌<◌, ◌^◌, ℕ, List, length, true, false, Option, None, Some, sym, ◌∙◌}
+use Rattle.std.proofs.Common.{◌≡◌, ◌↔◌, ◌<◌, ◌^◌, ℕ, List, length, Bool, true, false, Option, None, Some, sym}
+use Rattle.std.proofs.Common.{◌∙◌}
 use Rattle.std.proofs.Common.{ap, subst, arith}
-use Rattle.std.specs.Prelude.{slice_index_or, IsSome}
-use Rattle.std.specs.List.{All, Contains}
+use Rattle.std.specs.Prelude.{slice_index_or, IsSome, IsTrue}
+use Rattle.std.specs.List.{All, Any, Contains}
 use Rattle.std.proofs.lemmas.List.Elements.{Contains-get_or}
 use Rattle.ca_net.specs.declared.trit.Trit.{Trit}
 use Rattle.ca_flat.specs.declared.chip_defect.ChipDefect.{ChipDefect}
@@ -20,17 +21,20 @@ use Rattle.ca_guide.specs.Guide.{Guided, HasRoomFor, IsSupport, ShowsPair}
 use Rattle.ca_guide.specs.Guide as guided
 use Rattle.ca_guide.specs.declared.guide.Step.{Step}
 use Rattle.ca_guide.specs.declared.guide.Step.TheVariants.{Branch, RuledOut}
+use Rattle.ca_guide.specs.declared.guide.Attempt.{Attempt}
+use Rattle.ca_guide.specs.declared.guide.Attempt.TheVariants.{Set, TakeBack, GiveUp}
+use Rattle.ca_net.specs.State.{value_at}
 use Rattle.ca_search.specs.declared.judge.Standing.{Standing}
 use Rattle.ca_search.specs.declared.judge.Standing.TheVariants.{Shown, Settled, Open}
-use Rattle.ca_search.specs.Judged.{with_pair, IsStanding, IsStep, IsOpenFor}
-use Rattle.ca_judge.specs.code.Ends.{LooksSo}
+use Rattle.ca_search.specs.Judged.{with_pair, IsStanding, IsStep, IsOpenFor, IsShownFor, IsFlatFor, IsAttempted}
+use Rattle.ca_judge.specs.code.Ends.{LooksSo, is_opposite_at}
 use Rattle.ca_judge.specs.code.Outputs.{AreObservedBelow}
 use Rattle.ca_judge.specs.GuideSeen.{guide_seen}
 use Rattle.ca_judge.specs.ChipJudge.{CanBeJudged, judged_of}
 use Rattle.ca_judge.specs.code.ChipJudge.{IsChipJudge, IsGuidedTo}
-use Rattle.ca_judge.proofs.StandingLemmas.{SeesBoth, StandsSo, stands_so}
+use Rattle.ca_judge.proofs.StandingLemmas.{SeesBoth, StandsSo, stands_so, shown_so, so_shown}
 use Rattle.ca_judge.proofs.StepLemmas.{IsSearchStep, search_step}
-use Rattle.ca_judge.proofs.SeenLemmas.{pair_again, bits_count, shows_pair}
+use Rattle.ca_judge.proofs.SeenLemmas.{pair_again, bits_count, shows_pair, unset_value}
 
 -- the judge is kept where the chip and the defect stay
 pub judge_kept : (old new : Simulator) (chip : Chip) (lists : NetLists) (rows_chip : Chip) (guided : Guided)
@@ -60,6 +64,11 @@ pub record IsAsked (chip : Chip) (lists : NetLists) (guide_is : Guided) (d : Chi
   pub support : IsSupport chip d guide_is.support
   pub covers : guide.Covers lists (guide_seen seen)
   pub is_open : IsOpenPair chip d (guide.pair_of (guide_seen seen))
+
+-- what it asks for a step of an attempt
+pub record IsAskedFor (chip : Chip) (lists : NetLists) (d : ChipDefect) (seen : Seen) : Type 0 where
+  pub instance : d.instance < count_of chip
+  pub covers : guide.Covers lists (guide_seen seen)
 
 module _ (seen : Seen) (chip : Chip) (lists : NetLists) (rows_chip : Chip) (guide_is : Guided) (outputs : List ℕ)
     (defect : Option ChipDefect) (is : IsChipJudge seen.chip seen.aim chip lists rows_chip guide_is outputs defect) where
@@ -117,6 +126,59 @@ module _ (seen : Seen) (chip : Chip) (lists : NetLists) (rows_chip : Chip) (guid
     pub judge_stands : IsSome seen.aim → (standing : Standing) → LooksSo seen outputs standing
         → IsStanding (judged_of seen) standing
     judge_stands some standing looks = stands_for seen.aim (sym is.aim_is) some standing looks
+
+    flat_for : (aim : Option ChipDefect) → defect ≡ aim → IsFlatFor seen.chip aim
+    flat_for None e = tt
+    flat_for (Some d) e = (is.rank, flat_chip d e)
+
+    -- the flat networks are networks
+    pub judge_is_flat : IsFlatFor (judged_of seen).chip (judged_of seen).aim
+    judge_is_flat = flat_for seen.aim (sym is.aim_is)
+
+    shown_for : (aim : Option ChipDefect) → defect ≡ aim → IsSome aim
+        → Any (λ net. is_opposite_at seen net ≡ true) outputs ↔ IsShownFor seen.chip aim seen.pair
+    shown_for None e some = absurd (let clash : false ≡ true = some in cc)
+    shown_for (Some d) e some = (
+      (λ any. shown_so is.rank d seen (sees_both d e) outputs outputs_of (λ net at. is.chip_is.observed net at) any),
+      (λ shown. so_shown is.rank d seen (sees_both d e) outputs outputs_of (λ net at. is.chip_is.observed net at) shown),
+    )
+
+    -- a pair is shown where it looks so
+    pub judge_shows : IsSome seen.aim → (b : Bool) → (IsTrue b ↔ Any (λ net. is_opposite_at seen net ≡ true) outputs)
+        → IsTrue b ↔ IsShownFor (judged_of seen).chip (judged_of seen).aim (judged_of seen).pair
+    judge_shows some b looks =
+        let stands = shown_for seen.aim (sym is.aim_is) some in
+        ((λ t. stands.0 (looks.0 t)), (λ shown. looks.1 (stands.1 shown)))
+
+    -- what an attempt asks of the guide
+    pub attempts : (d : ChipDefect) → defect ≡ Some d → IsAskedFor chip lists d seen
+    attempts d e = subst (λ c. IsAskedFor c lists d seen) (sym is.same) (record {
+      instance = (sees_both d e).faulty_flat.defect_is.known;
+      covers = record {
+        good = exact.whole.good ∙ sym is.nets.onward_count;
+        faulty = exact.whole.faulty ∙ sym is.nets.onward_count;
+        bits =
+            let bits = bits_count seen in let whole = exact.whole.bits in
+            let same = ap length is.nets.inputs in omega arith;
+      };
+    })
+
+    -- a bit that is set is an unset one of the support
+    so_attempt : (d : ChipDefect) → defect ≡ Some d → (attempt : Attempt)
+        → guided.IsAttempt guide_is.support (guide_seen seen).bits attempt
+        → IsAttempted (record { chip = seen.chip; places = seen.places; aim = Some d; pair = seen.pair }) attempt
+    so_attempt d e (Set bit value) is_set = record {
+      supports = ((subst (IsGuidedTo seen.chip guide_is) e is.guided_to).1 bit).0 is_set.listed;
+      unset = unset_value seen.pair bit is_set.unset;
+    }
+    so_attempt d e TakeBack is_set = tt
+    so_attempt d e GiveUp is_set = tt
+
+    pub judge_attempts : (d : ChipDefect) → defect ≡ Some d → (attempt : Attempt)
+        → guided.IsAttempt guide_is.support (guide_seen seen).bits attempt → IsAttempted (judged_of seen) attempt
+    judge_attempts d e attempt is_set =
+        subst (λ a. IsAttempted (record { chip = seen.chip; places = seen.places; aim = a; pair = seen.pair }) attempt)
+        (sym (is.aim_is ∙ e)) (so_attempt d e attempt is_set)
 
     -- what the guide asks
     pub asks : (d : ChipDefect) → defect ≡ Some d → IsOpenFor seen.chip seen.aim seen.pair

@@ -45,6 +45,17 @@ read_bit [] bit value lt e = absurd (omega arith)
 read_bit (t ∷ pair) zero value lt e = ap Some (sym (bit_again value t e))
 read_bit (t ∷ pair) (suc bit) value lt e = read_bit pair bit value (omega arith) e
 
+none_is_x : (t : Trit) → Some (bit_of t) ≡ Some None → t ≡ X
+none_is_x Zero e = absurd (let clash : Some (Some false) ≡ Some None = e in cc)
+none_is_x One e = absurd (let clash : Some (Some true) ≡ Some None = e in cc)
+none_is_x X e = refl
+
+-- a bit that is read as unset
+pub unset_value : (pair : List Trit) (bit : ℕ) → slice_get (map bit_of pair) bit ≡ Some None → value_at pair bit ≡ X
+unset_value [] bit e = refl
+unset_value (t ∷ pair) zero e = none_is_x t e
+unset_value (t ∷ pair) (suc bit) e = unset_value pair bit e
+
 -- a wave that is read
 pub read_wave : (waves : List Wave) (net : ℕ) (wave : Wave) → net < length waves → wave ≡ wave_at waves net
     → slice_get waves net ≡ Some wave

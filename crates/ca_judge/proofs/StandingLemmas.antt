@@ -82,7 +82,7 @@ module _ (rank : ℕ → ℕ) (defect : ChipDefect) (seen : Seen) (sees : SeesBo
 module _ (rank : ℕ → ℕ) (defect : ChipDefect) (seen : Seen) (sees : SeesBoth rank defect seen) (outputs : List ℕ)
     (are : (net : ℕ) → Contains outputs net ↔ Contains seen.chip.outputs net)
     (within : (net : ℕ) → Contains seen.chip.outputs net → net < length seen.chip.nets) where
-  shown_so : Any (λ net. is_opposite_at seen net ≡ true) outputs → IsShown seen.chip defect seen.pair
+  pub shown_so : Any (λ net. is_opposite_at seen net ≡ true) outputs → IsShown seen.chip defect seen.pair
   shown_so some =
       let observed = (are some.1).0 (some.0, some.2, some.3) in
       record {
@@ -91,7 +91,7 @@ module _ (rank : ℕ → ℕ) (defect : ChipDefect) (seen : Seen) (sees : SeesBo
         detects = detects_at rank defect seen sees some.1 (within some.1 observed) some.4;
       }
 
-  so_shown : IsShown seen.chip defect seen.pair → Any (λ net. is_opposite_at seen net ≡ true) outputs
+  pub so_shown : IsShown seen.chip defect seen.pair → Any (λ net. is_opposite_at seen net ≡ true) outputs
   so_shown shown =
       let at = (are shown.output).1 shown.observed in (
         at.0,

@@ -7,10 +7,10 @@ ghost use Rattle.ca_judge.specs.code.ChipJudge.{IsGuidedTo};
 
 use crate::guide_waves::GuideWaves;
 use crate::outputs::observed_nets;
-use crate::standing::standing;
+use crate::standing::{is_shown, standing};
 use ca_base::NoMemory;
 use ca_flat::{ChipDefect, ExposingRows};
-use ca_guide::{Choice, Guide, Step, is_some_row_allowed};
+use ca_guide::{Attempt, Choice, Guide, Step, is_some_row_allowed};
 use ca_net::Wave;
 use ca_search::{Judge, Standing};
 use ca_sim::{Bits, NetWaves, Sim};
@@ -185,13 +185,23 @@ impl<R: ExposingRows, P: Choice + Drop> Judge for ChipJudge<'_, R, P> {
         2 * self.view.inputs().len()
     }
 
+    fn flat(&self) {
+        self.sim.exact();
+    }
+
     fn clear(&mut self) {
+        self.choice.begin();
         self.sim.clear();
     }
 
     fn set(&mut self, bit: u16, value: Option<bool>) {
         self.sim.exact();
         self.sim.set(bit, value);
+    }
+
+    fn is_shown(&self) -> bool {
+        self.sim.exact();
+        is_shown(&self.sim, &self.outputs)
     }
 
     fn standing(&self) -> Standing {
@@ -211,6 +221,21 @@ impl<R: ExposingRows, P: Choice + Drop> Judge for ChipJudge<'_, R, P> {
                 &mut self.choice,
             ),
             None => Step::RuledOut,
+        }
+    }
+
+    fn attempt(&mut self) -> Attempt {
+        self.sim.exact();
+        let waves = GuideWaves { waves: &self.sim };
+        match self.defect {
+            Some(defect) => self.guide.attempt(
+                self.view,
+                &waves,
+                self.rows.rows(defect),
+                defect,
+                &mut self.choice,
+            ),
+            None => Attempt::GiveUp,
         }
     }
 }

@@ -33,7 +33,7 @@ fn are_alike(good: Trit, faulty: Trit) -> bool
 }
 
 // Whether the waves end with opposite values at one of the nets.
-fn is_shown<V: NetWaves>(waves: &V, outputs: &[u32]) -> bool
+pub(crate) fn is_shown<V: NetWaves>(waves: &V, outputs: &[u32]) -> bool
     requires { All (λ net. net < length (V.seen waves.now).chip.nets) outputs.now }
     ensures { IsTrue result ↔ Any (λ net. is_opposite_at (V.seen waves.now) net ≡ true) outputs.now }
 {

@@ -6,45 +6,22 @@ ghost use Rattle.std.specs.List.{All};
 ghost use Rattle.ca_cell.specs.Raw.{is_input, is_output, role_count, circuit_of};
 ghost use Rattle.ca_defect.specs.List.{IsDefectOf, defects_of, faulty_of};
 ghost use Rattle.ca_defect.specs.Row.{IsBefore};
-ghost use Rattle.ca_settle.specs.Settled.{IsRoomFor, HoldsGroups};
-ghost use Rattle.ca_matrix.specs.code.Rooms.{AreRoomsOf};
-ghost use Rattle.ca_matrix.specs.code.Single.{HoldsVector, AreRowEnds, DifferAt, DifferSomewhere, AreFound};
+ghost use Rattle.ca_row_block.specs.Room.{HoldsCellNet};
+ghost use Rattle.ca_matrix.specs.code.Rooms.{AreRoomsOf, HasRoomFor};
+ghost use Rattle.ca_matrix.specs.code.Filled.{row_count, block_end};
+ghost use Rattle.ca_matrix.specs.code.Single.{DifferAt, DifferSomewhere, AreFound};
 ghost use Rattle.ca_matrix.specs.Single.{AreExposingRows};
 
-use crate::fill::waves_of;
 use crate::rooms::Rooms;
+use crate::row_number::{row_at, vector_count};
 use crate::showing::are_opposite;
 use ca_base::NoMemory;
 use ca_cell::Cell;
 use ca_defect::{Defect, Overlay, Row, Rows, defects};
 use ca_net::Wave;
-use ca_response::{CellNet, OutWaves, respond_from_first, settle_first};
-use ca_settle::{Work, group};
+use ca_planes::LANES;
+use ca_row_block::{RowRoom, row_ends, settle_rows};
 use std::alloc::Global;
-
-// Finds the first limit of a network for a vector.
-fn begin<N: CellNet>(net: &N, work: &mut Work, first: usize)
-    requires groups { HoldsGroups (N.circuit net.now) work.old }
-    requires first { first < 2 ^ role_count is_input (N.subcircuit net.now).pins }
-    ensures { HoldsVector (N.subcircuit net.now) (N.circuit net.now) first work.new }
-{
-    let inputs = net.cell().inputs();
-    settle_first(net, waves_of(inputs, first, first).as_slice(), work);
-}
-
-// The waves of the output pins for the row of two vectors, from the first limit of the first one.
-fn ends<N: CellNet>(net: &N, work: &mut Work, first: usize, last: usize) -> OutWaves
-    requires first { first < 2 ^ role_count is_input (N.subcircuit net.now).pins }
-    requires last { last < 2 ^ role_count is_input (N.subcircuit net.now).pins }
-    requires held { HoldsVector (N.subcircuit net.now) (N.circuit net.now) first work.old }
-    ensures ends { AreRowEnds (N.subcircuit net.now) (N.circuit net.now) first last result.items }
-    ensures count { length result.items ≡ role_count is_output (N.subcircuit net.now).pins }
-    ensures held { HoldsVector (N.subcircuit net.now) (N.circuit net.now) first work.new }
-{
-    let inputs = net.cell().inputs();
-    let pins = waves_of(inputs, first, last);
-    respond_from_first(net, pins.as_slice(), work)
-}
 
 // Whether the first wave at an output ends with 0 or 1, and the second with the opposite.
 fn differ_at(good: &[Wave], faulty: &[Wave], output: usize) -> bool
@@ -80,37 +57,34 @@ fn push_if(rows: &mut Rows, passed: bool, row: Row) -> Result<(), NoMemory>
     if passed { rows.push(row) } else { Ok(()) }
 }
 
-// Appends the rows of one first vector that expose the defect.
-fn push_first(
+// Appends the rows of a block that expose the defect.
+fn push_block(
     cell: &Cell,
     overlay: &Overlay<'_>,
-    good: &mut Work,
-    faulty: &mut Work,
+    good: &mut RowRoom,
+    faulty: &mut RowRoom,
     rows: &mut Rows,
-    first: usize,
+    block: usize,
 ) -> Result<(), NoMemory>
     requires cell { overlay.now.raw ≡ cell.now }
-    requires first { first < 2 ^ role_count is_input cell.now.pins }
-    requires good { HoldsGroups (circuit_of cell.now) good.old }
-    requires faulty { HoldsGroups (faulty_of overlay.now.raw overlay.now.defect) faulty.old }
-    requires rows { AreFound cell.now overlay.now.defect
-        (first * 2 ^ role_count is_input cell.now.pins) rows.old }
+    requires block { block * 64 < row_count cell.now }
+    requires good { HoldsCellNet (circuit_of cell.now) good.old }
+    requires faulty { HoldsCellNet (faulty_of overlay.now.raw overlay.now.defect) faulty.old }
+    requires rows { AreFound cell.now overlay.now.defect (block * 64) rows.old }
 
-    ensures good { HoldsGroups (circuit_of cell.now) good.new }
-    ensures faulty { HoldsGroups (faulty_of overlay.now.raw overlay.now.defect) faulty.new }
-    ensures rows { OnOk result (AreFound cell.now overlay.now.defect
-        ((first + 1) * 2 ^ role_count is_input cell.now.pins) rows.new) }
+    ensures good { HoldsCellNet (circuit_of cell.now) good.new }
+    ensures faulty { HoldsCellNet (faulty_of overlay.now.raw overlay.now.defect) faulty.new }
+    ensures rows { OnOk result
+        (AreFound cell.now overlay.now.defect (block_end cell.now (block + 1)) rows.new) }
 {
-    begin(cell, good, first);
-    begin(overlay, faulty, first);
-    for last in 0..2usize.pow(cell.inputs() as u32) {
-        let waves = ends(cell, good, first, last);
-        let others = ends(overlay, faulty, first, last);
-        let row = Row {
-            first: first as u8,
-            last: last as u8,
-        };
-        push_if(rows, differ(waves.as_slice(), others.as_slice()), row)?;
+    let vectors = vector_count(cell.inputs());
+    settle_rows(cell, block, good);
+    settle_rows(overlay, block, faulty);
+    for number in block * LANES..(vectors * vectors).min(block * LANES + LANES) {
+        let waves = row_ends(cell, good, number - block * LANES);
+        let others = row_ends(overlay, faulty, number - block * LANES);
+        let passed = differ(waves.as_slice(), others.as_slice());
+        push_if(rows, passed, row_at(vectors, number))?;
     }
     Ok(())
 }
@@ -120,19 +94,20 @@ fn rows_in(
     alloc: Global,
     cell: &Cell,
     overlay: &Overlay<'_>,
-    good: &mut Work,
-    faulty: &mut Work,
+    good: &mut RowRoom,
+    faulty: &mut RowRoom,
 ) -> Result<Rows, NoMemory>
     requires cell { overlay.now.raw ≡ cell.now }
-    requires good { IsRoomFor (circuit_of cell.now) good.old }
-    requires faulty { IsRoomFor (faulty_of overlay.now.raw overlay.now.defect) faulty.old }
+    requires good { HasRoomFor (circuit_of cell.now) good.old }
+    requires faulty { HasRoomFor (faulty_of overlay.now.raw overlay.now.defect) faulty.old }
     ensures { IfOk result (AreExposingRows cell.now overlay.now.defect) }
 {
-    group(cell, good);
-    group(overlay, faulty);
+    good.load(cell);
+    faulty.load(overlay);
+    let vectors = vector_count(cell.inputs());
     let mut rows = Rows::new(alloc);
-    for first in 0..2usize.pow(cell.inputs() as u32) {
-        push_first(cell, overlay, good, faulty, &mut rows, first)?;
+    for block in 0..(vectors * vectors).div_ceil(LANES) {
+        push_block(cell, overlay, good, faulty, &mut rows, block)?;
     }
     Ok(rows)
 }
@@ -153,7 +128,7 @@ fn rows_of(alloc: Global, cell: &Cell, defect: Defect) -> Result<Rows, NoMemory>
 }
 
 /// The rows that expose a defect of the cell, given by its place in the cell's list, in ascending order. It
-/// keeps no matrix: for each row the cell and the cell with the defect respond once.
+/// keeps no matrix: in each row the cell and the cell with the defect are settled once, 64 rows at a time.
 pub fn exposing(alloc: Global, cell: &Cell, defect: usize) -> Result<Rows, NoMemory>
     requires { defect < length (defects_of cell.now) }
     ensures { IfOk result (λ rows. IsSomeAnd (slice_get (defects_of cell.now) defect)

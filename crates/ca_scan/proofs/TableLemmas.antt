@@ -13,13 +13,6 @@ use Rattle.ca_scan.specs.Table.{cells_of, is_text, is_row, is_header, row_of, ro
 use Rattle.ca_scan.specs.Table.{numbered, record_step, rows_of}
 use Rattle.ca_scan.specs.code.Table.{Joins}
 
--- there is a field at each place within
-pub field_within : (xs : List (List ℕ)) (i : ℕ) → i < length xs → field_at xs i ≡ None → ⊥
-unfolding field_at
-field_within [] i below none = omega arith
-field_within (y ∷ ys) zero below none = cc
-field_within (y ∷ ys) (suc i) below none = field_within ys i (omega arith) none
-
 -- the fields up to a place end with the one before it
 take_at : (xs : List (List ℕ)) (i m : ℕ) (x : List ℕ) → field_at xs i ≡ Some x → m ≡ i + 1 → take m xs ≡ take i xs ++ x ∷ []
 unfolding field_at

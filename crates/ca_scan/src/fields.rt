@@ -8,22 +8,11 @@ ghost use Rattle.ca_scan.specs.Table.{same_texts, is_header, row_of, is_text, is
 ghost use Rattle.ca_scan.specs.Table.{are_pins, pins_of, is_row, row_with};
 
 use ca_base::NoMemory;
+use ca_csv::field;
 use ca_lex::{Names, Text, fold};
 use ca_wiring::ScanRow;
 use csv::ByteRecord;
 use std::alloc::Global;
-
-// The field at a place.
-#[tactic(auto, using(crate::proofs::TableLemmas::field_within))]
-fn field(fields: &ByteRecord, i: usize) -> &[u8]
-    requires { i < length (fields_of fields.now) }
-    ensures { field_at (fields_of fields.now) i ≡ Some result.now }
-{
-    let Some(field) = fields.get(i) else {
-        unreachable!()
-    };
-    field
-}
 
 /// The fields of a record.
 #[tactic(auto, using(crate::proofs::TableLemmas::take_field, crate::proofs::TableLemmas::take_fields))]

@@ -20,12 +20,12 @@ filled_definite One e = cc
 filled_definite X e = cc
 
 -- each value stays or is filled
-filled_above : (partial : List Trit) (n : ℕ) → IsBelow (value_at partial n) (value_at (trits_of (filled partial)) n)
+pub filled_above : (partial : List Trit) (n : ℕ) → IsBelow (value_at partial n) (value_at (trits_of (filled partial)) n)
 filled_above [] n = inl refl
 filled_above (t ∷ partial) zero = below_filled t
 filled_above (t ∷ partial) (suc n) = filled_above partial n
 
-filled_at : (partial : List Trit) (n : ℕ) → n < length partial → value_at (trits_of (filled partial)) n ≢ X
+pub filled_at : (partial : List Trit) (n : ℕ) → n < length partial → value_at (trits_of (filled partial)) n ≢ X
 filled_at [] n lt e = absurd (omega arith)
 filled_at (t ∷ partial) zero lt e = filled_definite t e
 filled_at (t ∷ partial) (suc n) lt e = filled_at partial n (omega arith) e

@@ -3,3 +3,4 @@ pub mod StepLemmas
 pub mod TrailLemmas
 pub mod FilledLemmas
 pub mod RuleLemmas
+pub mod WayLemmas

@@ -50,7 +50,7 @@ module _ (chip : Chip) (rank : ℕ → ℕ) (defect : ChipDefect) (is : IsFlatCh
       some_faulty chip rank defect is pair (λ faulty.
       none (record { good = good; faulty = faulty; plain = plain good faulty })))
 
-  leaf_is_ruled_out : (pair : List Trit) → MayLeave chip defect pair → IsRuledOut chip defect pair
+  pub leaf_is_ruled_out : (pair : List Trit) → MayLeave chip defect pair → IsRuledOut chip defect pair
   leaf_is_ruled_out pair (inl settled) = settled_is_ruled_out_lem chip rank defect pair is settled
   leaf_is_ruled_out pair (inr plain) = λ whole completes shown. plain_is_checked pair plain (λ checked.
       plain_is_ruled_out_lem chip rank defect pair checked.good checked.faulty is checked.plain whole completes shown)

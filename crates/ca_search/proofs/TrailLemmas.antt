@@ -13,12 +13,13 @@ use Rattle.ca_search.specs.code.Judged.{MayLeaveHere, MayDecideHere}
 use Rattle.ca_search.specs.Tokens.{token_of, tokens_of}
 use Rattle.ca_search.specs.declared.trail.Trail.{Trail}
 use Rattle.ca_search.specs.SearchRules.{rules_for}
-use Rattle.ca_search.specs.code.Steps.{AreFresh, Follows, still_later, Stands, TrailStands, TurnsTo, IsTurn}
+use Rattle.ca_search.specs.code.Steps.{AreFresh, Follows, still_later, Stands, TrailStands, HasBegun, TurnsTo}
+use Rattle.ca_search.specs.code.Steps.{IsTurn}
 use Rattle.ca_search.specs.code.Steps.{IsLeft}
 use Rattle.ca_code.proofs.TokenLemmas.{tokens_push, tokens_counted}
 use Rattle.ca_search.proofs.WalkLemmas.{fresh_pop, length-pair_after, length-unset}
 use Rattle.ca_search.proofs.StepLemmas.{begins, first_to, branched, TurnsBack, takes_back, turned, turns}
-use Rattle.ca_search.proofs.StepLemmas.{turns_out, IsLeftAt, left, has_room, leaf_within}
+use Rattle.ca_search.proofs.StepLemmas.{turns_out, IsLeftAt, left, has_room, leaf_within, aim_of}
 
 -- the search begins
 pub begins_to : (old new : Judged) (numbers : List ℕ) (ds : List Decision) (budget : ℕ)
@@ -132,4 +133,12 @@ spent_of judged trail bit stands may spent = record {
   spent = sym stands.stands.counted ∙ spent;
   bit = bit;
   goes_on = may;
+}
+
+-- where a search has begun, its trail stands
+pub trail_begins : (old new : Judged) (trail : Trail) → HasBegun old new trail → TrailStands new trail
+trail_begins old new trail begun = record {
+  stands = subst (λ n. Stands new (tokens_of trail.numbers.items) trail.decisions.items n trail.budget) (sym begun.branches)
+      (begins_to old new _ _ _ begun.unset begun.numbers begun.decisions);
+  bits = bits_stay old new _ (aim_of old new _ begun.unset) begun.bits;
 }

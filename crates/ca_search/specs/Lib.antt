@@ -1,4 +1,5 @@
 pub mod SearchRules
+pub mod FreeWay
 pub mod Judged
 pub mod Tokens
 pub mod Filled

@@ -1,6 +1,7 @@
 //! Laws of the definitions, each the contract of a function that does nothing.
 
 ghost use Rattle.ca_search.specs.Filled.{FilledIsShown};
+ghost use Rattle.ca_search.specs.FreeWay.{FreeWayIsFront};
 ghost use Rattle.ca_search.specs.Laws.{SearchCodesAreCodes, SearchCodesAreChecked};
 
 /// A code that a search may write is a code.
@@ -16,4 +17,9 @@ pub fn search_codes_are_checked()
 /// Where a partial pair shows the defect, so does the pair that it gives when its unset bits are filled.
 pub fn filled_is_shown()
     ensures { FilledIsShown }
+{}
+
+/// A free way to a pair that shows the defect is a front.
+pub fn free_way_is_front()
+    ensures { FreeWayIsFront }
 {}

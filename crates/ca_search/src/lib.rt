@@ -1,6 +1,7 @@
 //! The branching search for a partial pair that shows a defect, over a simulator and a guide.
 #![tactic(auto)]
 
+mod attempt;
 mod judge;
 mod laws;
 mod search;
@@ -9,6 +10,8 @@ mod walk;
 
 pub use ca_code::{Code, MOST_PATTERN_BITS};
 pub use judge::{Judge, Standing};
-pub use laws::{filled_is_shown, search_codes_are_checked, search_codes_are_codes};
+pub use laws::{
+    filled_is_shown, free_way_is_front, search_codes_are_checked, search_codes_are_codes,
+};
 pub use search::Search;
 pub use trail::Outcome;

@@ -6,7 +6,8 @@ ghost use Rattle.ca_search.specs.Judged.{IsSameAim};
 ghost use Rattle.ca_search.specs.code.Judged.{MayLeaveHere, MayDecideHere};
 ghost use Rattle.ca_search.specs.Tokens.{tokens_of};
 ghost use Rattle.ca_search.specs.Outcome.{IsOutcome};
-ghost use Rattle.ca_search.specs.code.Steps.{Follows, TrailStands, IsSameRoom, IsMove, IsTurn, IsLeft};
+ghost use Rattle.ca_search.specs.code.Steps.{Follows, TrailStands, HasBegun, IsSameRoom};
+ghost use Rattle.ca_search.specs.code.Steps.{IsMove, IsTurn, IsLeft};
 
 use crate::judge::{Judge, Standing};
 use crate::trail::{Decision, Outcome, Trail};
@@ -54,7 +55,8 @@ impl Trail {
         })
     }
 
-    /// Searches from the pair of which no bit is set.
+    /// Searches from the pair of which no bit is set: first by an attempt, and where that comes to nothing,
+    /// with a code.
     pub(crate) fn find<J: Judge>(&mut self, judge: &mut J) -> Outcome
         requires aimed { IsSome (J.judged judge.old).aim }
         ensures aim { IsSameAim (J.judged judge.old) (J.judged judge.new) }
@@ -63,11 +65,37 @@ impl Trail {
         ensures outcome { IsOutcome (J.judged judge.new) self.new.budget
             (tokens_of self.new.numbers.items) result }
     {
+        self.begin(judge);
+        if self.attempt(judge) {
+            judge.flat();
+            return Outcome::Found;
+        }
+        self.begin(judge);
+        self.search(judge)
+    }
+
+    // Unsets all bits, and takes back all tokens and decisions.
+    fn begin<J: Judge>(&mut self, judge: &mut J)
+        ensures begun { HasBegun (J.judged judge.old) (J.judged judge.new) self.new }
+        ensures budget { self.new.budget ≡ self.old.budget }
+    {
         self.numbers.clear();
         self.decisions.clear();
         self.branches = 0;
         self.bits = judge.bit_count();
         judge.clear();
+    }
+
+    // Searches with a code.
+    fn search<J: Judge>(&mut self, judge: &mut J) -> Outcome
+        requires aimed { IsSome (J.judged judge.old).aim }
+        requires stands { TrailStands (J.judged judge.old) self.old }
+        ensures aim { IsSameAim (J.judged judge.old) (J.judged judge.new) }
+        ensures budget { self.new.budget ≡ self.old.budget }
+        ensures within { branch_count (tokens_of self.new.numbers.items) ≤ self.new.budget }
+        ensures outcome { IsOutcome (J.judged judge.new) self.new.budget
+            (tokens_of self.new.numbers.items) result }
+    {
         'deciding: loop {
             match decide(judge) {
                 Move::Stop => return Outcome::Found,

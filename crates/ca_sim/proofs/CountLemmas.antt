@@ -13,7 +13,7 @@ use Rattle.ca_flat.specs.Chip.{Chip, net_of}
 use Rattle.ca_flat.specs.Chain.{IsBitOf}
 use Rattle.ca_flat.specs.Pair.{bit_count}
 use Rattle.ca_view.specs.Linked.{Reads, IsLinked, IsPinned}
-use Rattle.ca_sim.specs.PlaceSet.{Has}
+use Rattle.ca_places.specs.PlaceSet.{Has}
 use Rattle.ca_sim.specs.Simulator.{counted_up}
 use Rattle.ca_sim.specs.code.Simulator.{CountsOne}
 use Rattle.ca_sim.specs.declared.network.Network.{Network}

@@ -2,7 +2,6 @@ pub mod LimitLemmas
 pub mod WaveLemmas
 pub mod Exact
 pub mod StepLemmas
-pub mod PlaceLemmas
 pub mod Marking
 pub mod Putting
 pub mod CellLemmas

@@ -9,7 +9,7 @@ use Rattle.ca_table.specs.Gives.{unknown_wave, wave_at}
 use Rattle.ca_view.specs.Linked.{IsLinked, IsPlaced, IsPlace, Reads}
 use Rattle.ca_sim.specs.code.Changes.{HasReadersDue}
 use Rattle.ca_sim.specs.declared.network.Network.{Network}
-use Rattle.ca_sim.specs.PlaceSet.{Has, HoldsUpTo}
+use Rattle.ca_places.specs.PlaceSet.{Has, HoldsUpTo}
 use Rattle.ca_sim.specs.code.Marking.{IsMarked}
 use Rattle.ca_sim.specs.code.Network.{IsDue, IsPut, IsWrittenOut}
 

@@ -1,5 +1,4 @@
 pub mod Seen
 pub mod Simulator
 pub mod Laws
-pub mod PlaceSet
 pub mod code

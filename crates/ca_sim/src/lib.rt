@@ -9,7 +9,6 @@ mod laws;
 mod net_waves;
 mod network;
 mod networks;
-mod place_set;
 mod sim;
 mod waves;
 

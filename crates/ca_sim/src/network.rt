@@ -12,11 +12,11 @@ ghost use Rattle.ca_view.specs.Places.{cell_number};
 
 use crate::cache::same_waves;
 use crate::cells::{Cells, defect_here};
-use crate::place_set::PlaceSet;
 use crate::waves::Waves;
 use ca_base::NoMemory;
 use ca_flat::ChipDefect;
 use ca_net::{State, Wave};
+use ca_places::PlaceSet;
 use ca_response::{OutWaves, PinWaves};
 use ca_view::View;
 use std::alloc::Global;
@@ -29,7 +29,7 @@ pub struct Network {
 }
 
 impl Network {
-    ghost use Rattle.ca_sim.specs.PlaceSet.{Has, HoldsUpTo};
+    ghost use Rattle.ca_places.specs.PlaceSet.{Has, HoldsUpTo};
     ghost use Rattle.ca_sim.specs.code.Network.{IsPut, IsWrittenOut, IsFedAt, IsTurned, IsReady, IsSettled};
     ghost use Rattle.ca_sim.specs.code.Network.{IsTwin, IsGiven, IsUnderway, IsRestingCopy, CountsDue};
     ghost use Rattle.std.specs.Prelude.{IsTrue};
@@ -234,7 +234,7 @@ impl Network {
     }
 }
 
-ghost use Rattle.ca_sim.specs.PlaceSet.{Has, HoldsUpTo};
+ghost use Rattle.ca_places.specs.PlaceSet.{Has, HoldsUpTo};
 ghost use Rattle.ca_sim.specs.code.Marking.{IsMarked, HasAllPlaces};
 ghost use Rattle.ca_sim.specs.code.Network.{HasConstants};
 

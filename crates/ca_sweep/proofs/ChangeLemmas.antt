@@ -9,9 +9,9 @@ use Rattle.ca_net.specs.declared.trit.Trit.TheVariants.{X}
 use Rattle.ca_net.specs.State.{value_at}
 use Rattle.ca_flat.specs.Chip.{Chip, outputs_at, output_net, count_of, IsChip}
 use Rattle.ca_view.specs.Linked.{Reads, AreReaders}
-use Rattle.ca_sweep.specs.declared.place_set.PlaceSet.{PlaceSet}
+use Rattle.ca_places.specs.declared.place_set.PlaceSet.{PlaceSet}
 use Rattle.ca_sweep.specs.declared.values.Values.{Values}
-use Rattle.ca_sweep.specs.code.PlaceSet.{HoldsUpTo}
+use Rattle.ca_places.specs.PlaceSet.{HoldsUpTo}
 use Rattle.ca_sweep.specs.code.Changes.{IsDue, IsMarked, Changes, IsPut, IsOutputBelow, IsWrittenTo}
 
 -- a mark that was read

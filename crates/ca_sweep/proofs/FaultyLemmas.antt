@@ -51,7 +51,7 @@ same_code true true true false e = absurd (omega arith)
 same_code true true false true e = absurd (omega arith)
 same_code true true true true e = (refl, refl)
 
-code_small : (a b : Bool) → code_of a b < 4
+pub code_small : (a b : Bool) → code_of a b < 4
 code_small false false = omega arith
 code_small true false = omega arith
 code_small false true = omega arith

@@ -10,10 +10,11 @@ use Rattle.ca_net.specs.State.{value_at}
 use Rattle.ca_flat.specs.Chip.{Chip, outputs_at, output_net}
 use Rattle.ca_flips.specs.Flips.{IsOpposite}
 use Rattle.ca_view.specs.Linked.{IsLinked, IsPlaced}
-use Rattle.ca_sweep.specs.declared.place_set.PlaceSet.{PlaceSet}
+use Rattle.ca_places.specs.declared.place_set.PlaceSet.{PlaceSet}
 use Rattle.ca_sweep.specs.declared.values.Values.{Values}
-use Rattle.ca_sweep.specs.Seen.{IsFirstIn, IsOppositeAt}
-use Rattle.ca_sweep.specs.code.PlaceSet.{IsNext}
+use Rattle.ca_sweep.specs.Seen.{IsOppositeAt}
+use Rattle.ca_sweep.specs.code.Segments.{IsFirstNumber}
+use Rattle.ca_places.specs.PlaceSet.{IsNext}
 use Rattle.ca_sweep.specs.code.Changes.{IsDue}
 use Rattle.ca_sweep.specs.code.Held.{IsHeld}
 use Rattle.ca_sweep.specs.code.Firsts.{AreFirstsFrom, AreFirsts, IsOppositeIf, IsLeastOf, IsLessenedTo, IsLessened}
@@ -143,8 +144,9 @@ module _ (chip : Chip) (place_of number_of : ℕ → ℕ) (linked : IsLinked chi
 
   module _ (from number : ℕ) (so_far : IsLeastTo chip place_of u goods (value_at values.values) values.due firsts from number) (next : IsNext values.due from None)
       (held : IsHeld chip place_of u goods values) (are : AreFirsts chip.outputs (length chip.nets) firsts) where
-    pub first_there : number < length chip.outputs → IsFirstIn goods (value_at values.values) chip.outputs (Some number)
-    first_there less = (less, so_far.opposite less, λ output before opposite. let l = none_before from number so_far next held are output (omega arith) opposite in absurd (omega arith))
-
-    pub first_nowhere : length chip.outputs ≤ number → IsFirstIn goods (value_at values.values) chip.outputs None
-    first_nowhere past = λ output before opposite. let l = none_before from number so_far next held are output before opposite in absurd (omega arith)
+    pub first_number : number ≤ length chip.outputs → IsFirstNumber goods (value_at values.values) chip.outputs number
+    first_number within = record {
+      within = within;
+      here = so_far.opposite;
+      before = λ output before opposite. let l = none_before from number so_far next held are output (omega arith) opposite in absurd (omega arith);
+    }

@@ -9,7 +9,7 @@ use Rattle.ca_net.specs.State.{value_at}
 use Rattle.ca_flat.specs.Chip.{Chip, outputs_at, output_net, count_of}
 use Rattle.ca_view.specs.Linked.{IsLinked, IsPlaced, IsPlace}
 use Rattle.ca_sweep.specs.declared.values.Values.{Values}
-use Rattle.ca_sweep.specs.code.PlaceSet.{HoldsUpTo, IsNext}
+use Rattle.ca_places.specs.PlaceSet.{HoldsUpTo, IsNext}
 use Rattle.ca_sweep.specs.code.Changes.{IsDue, AreRoomy, IsOutputBelow, IsTouched}
 use Rattle.ca_sweep.specs.code.Held.{IsAtRest, IsHeld, IsGivenBackTo, IsGivenBack}
 

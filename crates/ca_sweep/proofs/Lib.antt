@@ -8,3 +8,4 @@ pub mod FirstLemmas
 pub mod SeenLemmas
 pub mod FaultyLemmas
 pub mod FoundLemmas
+pub mod SegmentLemmas

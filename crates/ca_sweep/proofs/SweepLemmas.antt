@@ -15,7 +15,7 @@ use Rattle.ca_view.specs.Linked.{IsLinked, IsPlaced}
 use Rattle.ca_sweep.specs.declared.values.Values.{Values}
 use Rattle.ca_sweep.specs.code.Changes.{IsDue, AreRoomy, IsOutputBelow, IsWritten, IsEvaluatedOut}
 use Rattle.ca_sweep.specs.code.Changes.{IsEvaluatedAt, IsSweptTo}
-use Rattle.ca_sweep.specs.code.PlaceSet.{IsNext}
+use Rattle.ca_places.specs.PlaceSet.{IsNext}
 use Rattle.ca_sweep.specs.code.Held.{IsHeld}
 
 module _ (chip : Chip) (place_of number_of : ℕ → ℕ) (linked : IsLinked chip place_of number_of) where
@@ -23,17 +23,17 @@ module _ (chip : Chip) (place_of number_of : ℕ → ℕ) (linked : IsLinked chi
   driver w known net out = record { instance = w; output = out.output; known = known; within = out.within; on = out.on }
 
   -- no input net is an output net of an instance
-  not_input : (w net : ℕ) → w < count_of chip → net_kind chip net ≡ Input → IsOutputBelow chip w (outputs_at chip w) net → ⊥
+  pub not_input : (w net : ℕ) → w < count_of chip → net_kind chip net ≡ Input → IsOutputBelow chip w (outputs_at chip w) net → ⊥
   not_input w net known kind out =
       let is = linked.is_chip.drives net (driver w known net out) in
       let e : Input ≡ Storage OUTPUT_NET = sym kind ∙ is in cc
 
   -- an instance that reads an output net of another one comes later
-  later : (w v pin : ℕ) → w < count_of chip → v < count_of chip → pin < inputs_at chip v → IsOutputBelow chip w (outputs_at chip w) (net_of chip v pin) → place_of w < place_of v
+  pub later : (w v pin : ℕ) → w < count_of chip → v < count_of chip → pin < inputs_at chip v → IsOutputBelow chip w (outputs_at chip w) (net_of chip v pin) → place_of w < place_of v
   later w v pin known v_known within out = linked.is_chip.ranked v pin v_known within (driver w known (net_of chip v pin) out)
 
   -- an output net of one instance is none of another one
-  not_other : (w v output : ℕ) → w < count_of chip → v < count_of chip → (v ≡ w → ⊥) → output < outputs_at chip v → IsOutputBelow chip w (outputs_at chip w) (output_net chip v output) → ⊥
+  pub not_other : (w v output : ℕ) → w < count_of chip → v < count_of chip → (v ≡ w → ⊥) → output < outputs_at chip v → IsOutputBelow chip w (outputs_at chip w) (output_net chip v output) → ⊥
   not_other w v output known v_known apart within out = apart (linked.is_chip.one_driver (output_net chip v output)
       (record { instance = v; output = output; known = v_known; within = within; on = refl }) (driver w known (output_net chip v output) out)).0
 

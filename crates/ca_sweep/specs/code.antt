@@ -1,9 +1,9 @@
 -- Words of the code: what its invariants and private contracts say. No public claim rests on them.
 pub mod Found
 pub mod Cells
-pub mod PlaceSet
 pub mod Changes
 pub mod Held
 pub mod Firsts
 pub mod Kept
 pub mod Faulty
+pub mod Segments

@@ -21,8 +21,12 @@ use ca_table::{Rooms, copied};
 use ca_view::View;
 use std::alloc::Global;
 
-// The number of slots: about four MiB.
-const SLOTS: usize = 65_536;
+// The least and the greatest number of slots, and how many there are for an instance in between.
+const FEWEST_SLOTS: usize = 4_096;
+
+const MOST_SLOTS: usize = 524_288;
+
+const SLOTS_EACH: usize = 32;
 
 // An odd number with many digits, by which slots are spread.
 const MIX: usize = 0x9E37_79B9_7F4A_7C15;
@@ -52,7 +56,7 @@ impl Faulty {
         let rooms = rooms_of(alloc, chip)?;
         Ok(Faulty {
             rooms,
-            slots: empty_slots(alloc)?,
+            slots: empty_slots(alloc, slot_count(chip.instances()))?,
         })
     }
 
@@ -162,13 +166,23 @@ fn rooms_for(alloc: Global, chip: &View<'_>, number: usize) -> Result<Rooms, NoM
 
 ghost use Rattle.std.specs.Prelude.{None};
 
+// How many slots there are for this many instances.
+fn slot_count(instances: usize) -> usize
+    ensures { 0 < result }
+{
+    instances
+        .saturating_mul(SLOTS_EACH)
+        .max(FEWEST_SLOTS)
+        .min(MOST_SLOTS)
+}
+
 // Empty slots.
-fn empty_slots(alloc: Global) -> Result<Vec<Option<Entry>>, NoMemory>
-    ensures count { IfOk result (λ slots. length slots.items ≡ SLOTS) }
+fn empty_slots(alloc: Global, count: usize) -> Result<Vec<Option<Entry>>, NoMemory>
+    ensures count { IfOk result (λ slots. length slots.items ≡ count) }
     ensures empty { IfOk result (λ slots. All (λ slot. slot ≡ None) slots.items) }
 {
-    let mut slots = Vec::with_capacity(alloc, SLOTS)?;
-    for _slot in 0..SLOTS {
+    let mut slots = Vec::with_capacity(alloc, count)?;
+    for _slot in 0..count {
         slots.push(None)?;
     }
     Ok(slots)

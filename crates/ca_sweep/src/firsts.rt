@@ -5,9 +5,9 @@ ghost use Rattle.std.specs.List.{All};
 ghost use Rattle.ca_net.specs.State.{value_at};
 ghost use Rattle.ca_flips.specs.Flips.{IsOpposite};
 ghost use Rattle.ca_view.specs.Linked.{IsPlaced, place_in};
-ghost use Rattle.ca_sweep.specs.Seen.{IsFirstIn};
 ghost use Rattle.ca_sweep.specs.code.Firsts.{AreFirsts, IsLessened};
 ghost use Rattle.ca_sweep.specs.code.Held.{IsHeld};
+ghost use Rattle.ca_sweep.specs.code.Segments.{IsFirstNumber};
 
 use crate::values::Values;
 use ca_base::NoMemory;
@@ -39,8 +39,9 @@ fn put_at(firsts: &mut Vec<usize>, net: usize, output: usize)
     firsts[net] = output;
 }
 
-/// The first observed output with an opposite value, where only output nets of an instance and of those that
-/// are due may have other values than the good ones. Its time is that of those.
+/// The number of the first observed output with an opposite value, or the number of the outputs, where only
+/// output nets of an instance and of those that are due may have other values than the good ones. Its time is
+/// that of those.
 pub(crate) fn first_opposite(
     chip: &View<'_>,
     firsts: &[usize],
@@ -48,13 +49,13 @@ pub(crate) fn first_opposite(
     lasts: &State,
     values: &Values,
     u: usize,
-) -> Option<usize>
+) -> usize
     requires placed { IsPlaced chip.now.core (place_in chip.now.ranks) u }
     requires firsts { AreFirsts chip.now.core.outputs (length chip.now.core.nets) firsts.now }
     requires count { count ≡ length chip.now.core.outputs }
     requires nets { length lasts.now ≡ length chip.now.core.nets }
     requires held { IsHeld chip.now.core (place_in chip.now.ranks) u (value_at lasts.now) values.now }
-    ensures { IsFirstIn (value_at lasts.now) (value_at values.now.values) chip.now.core.outputs result }
+    ensures { IsFirstNumber (value_at lasts.now) (value_at values.now.values) chip.now.core.outputs result }
 {
     chip.linked();
     let mut first = lessened(chip, firsts, lasts, &values.values, u, count);
@@ -64,7 +65,7 @@ pub(crate) fn first_opposite(
         first = lessened(chip, firsts, lasts, &values.values, w, first);
         from = place + 1;
     }
-    if first < count { Some(first) } else { None }
+    first
 }
 
 // The least of a number and the first observed outputs of an instance's output nets with opposite values.

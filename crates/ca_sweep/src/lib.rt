@@ -8,9 +8,9 @@ mod faulty;
 mod finder;
 mod firsts;
 mod memo;
-mod place_set;
 mod run;
 mod seen;
+mod segments;
 mod sweep;
 mod values;
 

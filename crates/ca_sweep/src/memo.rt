@@ -85,7 +85,7 @@ fn empty(answers: &mut Vec<Option<Seen>>)
 ghost use Rattle.std.specs.Prelude.{slice_index_or};
 
 // The number of a choice of output pins.
-fn code_of(first: bool, second: bool) -> usize
+pub(crate) fn code_of(first: bool, second: bool) -> usize
     ensures same { result ≡ code_of first second }
     ensures few { result < 4 }
 {

@@ -1,16 +1,18 @@
 //! Where flips of an instance's outputs are seen.
 
-ghost use Rattle.std.specs.Prelude.{◌≡◌, ◌<◌, ◌^◌, length, map, replicate, IfOk};
+ghost use Rattle.std.specs.Prelude.{◌≡◌, ◌<◌, ◌^◌, length, map, replicate, IfOk, IfSome};
 ghost use Rattle.ca_net.specs.State.{value_at};
 ghost use Rattle.ca_view.specs.Linked.{IsPlaced, place_in};
 ghost use Rattle.ca_view.specs.Places.{cell_number};
 ghost use Rattle.ca_sweep.specs.Seen.{IsSeen, IsOfChip, lasts_in};
+ghost use Rattle.ca_sweep.specs.code.Segments.{IsSegment, IsSweptFrom};
 
 use crate::cells::{Tables, order_of, tables_of};
 use crate::clear::find_clear;
 use crate::firsts::{first_opposite, firsts_of};
-use crate::run::sweep;
+use crate::run::{Halt, sweep};
 use crate::seen::{Flips, Seen};
+use crate::segments::{Segment, Segments};
 use crate::values::Values;
 use ca_base::NoMemory;
 use ca_net::{State, Trit};
@@ -32,6 +34,7 @@ pub struct Sweep<'a> {
     clear: Vec<bool>,
     passing: Vec<bool>,
     values: Values,
+    segments: Segments,
 }
 
 impl<'a> Model for Sweep<'a> {
@@ -50,7 +53,8 @@ impl<'a> Model for Sweep<'a> {
 
     ghost invariant = { λ sweep. IsKept sweep.chip.now.core (place_in sweep.chip.now.ranks)
         (cell_number sweep.chip.now.chip) sweep.outputs.items sweep.firsts.items sweep.tables.items
-        sweep.order.items sweep.lasts sweep.clear.items sweep.passing.items sweep.values };
+        sweep.order.items sweep.lasts sweep.clear.items sweep.passing.items sweep.values
+        sweep.segments.slots.items };
 }
 
 impl<'a> Sweep<'a> {
@@ -72,6 +76,7 @@ impl<'a> Sweep<'a> {
             clear: vec![in alloc; false; chip.instances()]?,
             passing: vec![in alloc; false; chip.instances()]?,
             values: Values::reserve(alloc, chip)?,
+            segments: Segments::reserve(alloc, chip.instances())?,
         })
     }
 
@@ -93,6 +98,7 @@ impl<'a> Sweep<'a> {
             &mut self.clear,
             &mut self.passing,
         );
+        self.segments.forget();
     }
 
     /// The good last value of a net.
@@ -103,21 +109,19 @@ impl<'a> Sweep<'a> {
         self.lasts.get(net)
     }
 
-    /// Where it is first seen that some output pins of an instance are flipped. It is undecided where an
-    /// instance behind it isn't static, or a good last value isn't definite there.
-    pub fn see(&mut self, u: usize, flips: Flips) -> Seen
+    // A part of a sweep, found by evaluating.
+    fn find_segment(&mut self, u: usize, flips: Flips) -> Option<Segment>
         requires { IsPlaced self.old.chip (place_in self.old.places) u }
-        ensures seen { IsSeen self.old.chip (value_at self.old.lasts) u flips result }
+        ensures segment { IfSome result
+            (IsSegment self.old.chip (place_in self.old.places) (value_at self.old.lasts) u flips) }
         ensures kept { self.new ≡ self.old }
     {
         self.chip.linked();
-        if !self.clear[u] {
-            return Seen::Undecided;
-        }
-        let done = sweep(
+        let halt = sweep(
             self.chip,
             &self.tables,
             &self.order,
+            &self.lasts,
             &mut self.values,
             u,
             flips,
@@ -131,12 +135,75 @@ impl<'a> Sweep<'a> {
             u,
         );
         self.values.restore(self.chip, &self.lasts, u);
-        if !done {
+        match halt {
+            Halt::Stuck => None,
+            Halt::Done => Some(Segment {
+                first: first as u32,
+                next: None,
+            }),
+            Halt::Cut(cut) => Some(Segment {
+                first: first as u32,
+                next: Some(cut),
+            }),
+        }
+    }
+
+    // A part of a sweep, as it is kept, or found and kept.
+    fn segment(&mut self, u: usize, flips: Flips) -> Option<Segment>
+        requires { IsPlaced self.old.chip (place_in self.old.places) u }
+        ensures segment { IfSome result
+            (IsSegment self.old.chip (place_in self.old.places) (value_at self.old.lasts) u flips) }
+        ensures kept { self.new ≡ self.old }
+    {
+        self.chip.linked();
+        if let Some(segment) = self.segments.get(u, flips) {
+            return Some(segment);
+        }
+        let segment = self.find_segment(u, flips)?;
+        self.segments.put(u, flips, segment);
+        Some(segment)
+    }
+
+    // The number of the first observed output with an opposite value, or the number of the outputs: part by
+    // part, each from the cut of the one before.
+    fn first_number(&mut self, u: usize, flips: Flips) -> Option<usize>
+        requires { IsPlaced self.old.chip (place_in self.old.places) u }
+        ensures swept { IfSome result
+            (IsSweptFrom self.old.chip (place_in self.old.places) (value_at self.old.lasts) u flips) }
+        ensures kept { self.new ≡ self.old }
+    {
+        self.chip.linked();
+        let mut number = self.outputs.len();
+        let mut from = u;
+        let mut flips = flips;
+        'parts: loop {
+            let segment = self.segment(from, flips)?;
+            number = number.min(segment.first as usize);
+            match segment.next {
+                None => return Some(number),
+                Some(cut) => {
+                    from = cut.instance as usize;
+                    flips = cut.flips;
+                }
+            }
+        }
+    }
+
+    /// Where it is first seen that some output pins of an instance are flipped. It is undecided where an
+    /// instance behind it isn't static, or a good last value isn't definite there.
+    pub fn see(&mut self, u: usize, flips: Flips) -> Seen
+        requires { IsPlaced self.old.chip (place_in self.old.places) u }
+        ensures seen { IsSeen self.old.chip (value_at self.old.lasts) u flips result }
+        ensures kept { self.new ≡ self.old }
+    {
+        self.chip.linked();
+        if !self.clear[u] {
             return Seen::Undecided;
         }
-        match first {
-            Some(output) => Seen::At(output as u32),
-            None => Seen::Nowhere,
+        match self.first_number(u, flips) {
+            Some(number) if number < self.outputs.len() => Seen::At(number as u32),
+            Some(_) => Seen::Nowhere,
+            None => Seen::Undecided,
         }
     }
 }

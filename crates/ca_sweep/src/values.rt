@@ -12,14 +12,14 @@ ghost use Rattle.ca_sweep.specs.Seen.{flipped_outputs};
 ghost use Rattle.ca_sweep.specs.code.Cells.{AreTables};
 ghost use Rattle.ca_sweep.specs.code.Changes.{AreRoomy, IsMarked, IsPut, IsWritten, IsNumberOf};
 ghost use Rattle.ca_sweep.specs.code.Changes.{IsEvaluatedOut};
-ghost use Rattle.ca_sweep.specs.code.PlaceSet.{HoldsUpTo};
+ghost use Rattle.ca_places.specs.PlaceSet.{HoldsUpTo};
 ghost use Rattle.ca_sweep.specs.code.Held.{IsAtRest, IsHeld, IsGivenBack};
 
 use crate::cells::Tables;
-use crate::place_set::PlaceSet;
 use crate::seen::Flips;
 use ca_base::NoMemory;
 use ca_net::{State, Trit};
+use ca_places::PlaceSet;
 use ca_static::LastTable;
 use ca_view::View;
 use std::alloc::Global;

@@ -1,35 +1,49 @@
 -- What only proofs of code cite: at which output a defect is detected, and the defects that were tried with
 -- the pair in hand.
-use Rattle.std.specs.Prelude.{ℕ, ◌+◌, ◌≡◌, ◌<◌, Bool, true, false, List, length, slice_index, slice_index_or}
-use Rattle.std.specs.Prelude.{Option, None, Some}
-use Rattle.ca_net.specs.declared.trit.Trit.{Trit}
+use Rattle.std.specs.Prelude.{ℕ, ◌+◌, ◌≡◌, ◌≢◌, ◌<◌, ◌↔◌, Bool, true, List, length, Option}
+use Rattle.ca_places.specs.declared.place_set.PlaceSet.{PlaceSet}
+use Rattle.ca_places.specs.PlaceSet.{Has, HasRoomFor, IsAsRoomy}
 use Rattle.ca_flat.specs.declared.chip_defect.ChipDefect.{ChipDefect}
-use Rattle.ca_flat.specs.Chip.{Chip}
-use Rattle.ca_flat.specs.Pair.{DetectsAt}
 use Rattle.ca_credit.specs.declared.verdict.Verdict.{Verdict}
 use Rattle.ca_credit.specs.declared.round.Round.{Round}
 use Rattle.ca_credit.specs.Defects.{Task, IsDefectAt}
-use Rattle.ca_credit.specs.Table.{verdict_at, credit_count, IsAfterPair}
+use Rattle.ca_credit.specs.Table.{verdict_at, is_open, credit_count, IsAfterPair}
 
--- the defect at the place was tried
-abbrev pub is_tried : List Bool → ℕ → Bool
-is_tried tried place = slice_index_or tried place false
+-- a pair may yet be credited with the defect at this place
+abbrev pub IsOpenAt : List (Option Verdict) → ℕ → Type 0
+IsOpenAt table place = (place < length table) × (is_open (verdict_at table place) ≡ true)
 
--- what the pair makes of the verdicts of the defects that were tried; the others stay
-pub record IsTried (task : Task) (pair : List Bool) (number : ℕ) (tried : List Bool)
+-- the open places are those of the table, and the places that are left are some of these
+pub record AreOpen (table : List (Option Verdict)) (open_places left : PlaceSet) : Type 0 where
+  pub are : (place : ℕ) → Has open_places place ↔ IsOpenAt table place
+  pub some : (place : ℕ) → Has left place → Has open_places place
+  pub room : HasRoomFor open_places (length table)
+  pub left_room : HasRoomFor left (length table)
+
+-- so are those of a round
+abbrev pub IsRound : Round → Type 0
+IsRound round = AreOpen round.verdicts.items round.open_places round.left
+
+-- a set but for one place
+pub record IsWithout (old new : PlaceSet) (place : ℕ) : Type 0 where
+  pub here : ¬ (Has new place)
+  pub others : (other : ℕ) → other ≢ place → Has new other ↔ Has old other
+  pub room : IsAsRoomy new old
+
+-- what the pair makes of the verdicts of the defects that are left no more; the others stay
+pub record IsTried (task : Task) (pair : List Bool) (number : ℕ) (left : PlaceSet)
     (old new : List (Option Verdict)) : Type 0 where
   pub as_many : length new ≡ length old
-  pub marks : length tried ≡ length old
-  pub done : (place : ℕ) (defect : ChipDefect) → is_tried tried place ≡ true → IsDefectAt task place defect
+  pub done : (place : ℕ) (defect : ChipDefect) → ¬ (Has left place) → IsDefectAt task place defect
       → IsAfterPair task.chip pair number defect (verdict_at old place) (verdict_at new place)
-  pub others : (place : ℕ) → is_tried tried place ≡ false → verdict_at new place ≡ verdict_at old place
+  pub others : (place : ℕ) → Has left place → verdict_at new place ≡ verdict_at old place
 
 -- more defects were tried, and `credited` were credited
 pub record TriesMore (task : Task) (pair : List Bool) (number credited : ℕ) (old new : Round) : Type 0 where
   pub tried : (table : List (Option Verdict))
-      → IsTried task pair number old.tried.items table old.verdicts.items
-      → IsTried task pair number new.tried.items table new.verdicts.items
-  pub kept : (place : ℕ) → is_tried old.tried.items place ≡ true → is_tried new.tried.items place ≡ true
+      → IsTried task pair number old.left table old.verdicts.items
+      → IsTried task pair number new.left table new.verdicts.items
+  pub fewer : (place : ℕ) → Has new.left place → Has old.left place
+  pub stands : IsRound old → IsRound new
   pub as_many : length new.verdicts.items ≡ length old.verdicts.items
-  pub marks : length new.tried.items ≡ length old.tried.items
   pub counted : credit_count new.verdicts.items ≡ credit_count old.verdicts.items + credited

@@ -1,11 +1,7 @@
 -- Words of the code beside those of `specs/Guide.antt`. Private functions and proofs cite them.
 use Rattle.std.specs.Prelude.{ℕ, ◌≡◌, Bool, List, Option, None, Some, slice_get}
-use Rattle.std.specs.List.{All, Contains}
-
--- an unset bit of the support, if there is one
-pub record IsUnsetIn (support : List ℕ) (bits : List (Option Bool)) (bit : ℕ) : Type 0 where
-  pub listed : Contains support bit
-  pub unset : slice_get bits bit ≡ Some None
+use Rattle.std.specs.List.{All}
+use Rattle.ca_guide.specs.Guide.{IsUnsetIn}
 
 -- such a bit, or none where each bit of the support is set
 abbrev pub IsUnsetAnswer : List ℕ → List (Option Bool) → Option ℕ → Type 0

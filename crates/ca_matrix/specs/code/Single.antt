@@ -8,10 +8,8 @@ use Rattle.ca_cell.specs.Raw.{is_input, role_count}
 use Rattle.ca_defect.specs.declared.defect.Defect.{Defect}
 use Rattle.ca_defect.specs.declared.row.Row.{Row}
 use Rattle.ca_defect.specs.Row.{vector_of}
-use Rattle.ca_defect.specs.Exposes.{opposite_of, pin_vector, IsExposingRow}
+use Rattle.ca_defect.specs.Exposes.{opposite_of, IsExposingRow}
 use Rattle.ca_response.specs.Outputs.{AreEndsOf}
-use Rattle.ca_settle.specs.declared.work.Work.{Work}
-use Rattle.ca_settle.specs.Settled.{HoldsFirst}
 
 -- the number of a row, where there are this many vectors
 abbrev pub row_number : RawCell → Row → ℕ
@@ -22,11 +20,6 @@ pub record AreFound (raw : RawCell) (defect : Defect) (count : ℕ) (rows : List
   pub contained : (row : Row) → Contains rows row
       → IsExposingRow raw defect row × (row_number raw row < count)
   pub contains : (row : Row) → IsExposingRow raw defect row → row_number raw row < count → Contains rows row
-
--- the room holds the first limit for a vector over the input pins, given by its number
-abbrev pub HoldsVector : RawCell → Circuit → ℕ → Work → Type 0
-HoldsVector raw net first work =
-    HoldsFirst net (pin_vector net (vector_of (role_count is_input raw.pins) first)) work
 
 -- the lasts of the waves are what every run ends with at the output pins for a row
 abbrev pub AreRowEnds : RawCell → Circuit → ℕ → ℕ → List Wave → Type 0

@@ -14,8 +14,8 @@ use Rattle.ca_flat.specs.Pair.{constant_value}
 use Rattle.ca_view.specs.Linked.{Reads, IsPlace}
 use Rattle.ca_sim.specs.code.Current.{IsCurrent, IsSimulated, none_due}
 use Rattle.ca_sim.specs.code.Changes.{IsWritten, HasReadersDue}
-use Rattle.ca_sim.specs.declared.place_set.PlaceSet.{PlaceSet}
-use Rattle.ca_sim.specs.PlaceSet.{Has, HoldsUpTo}
+use Rattle.ca_places.specs.declared.place_set.PlaceSet.{PlaceSet}
+use Rattle.ca_places.specs.PlaceSet.{Has, HoldsUpTo}
 use Rattle.ca_sim.specs.Simulator.{counted_up}
 use Rattle.ca_sim.specs.declared.network.Network.{Network}
 

@@ -8,9 +8,9 @@ use Rattle.ca_flat.specs.Chip.{Chip, cell_at, inputs_at, outputs_at, net_of, out
 use Rattle.ca_flips.specs.Static.{EndsByLast}
 use Rattle.ca_flips.specs.Flips.{IsAfter, vector_at, KeepsGood, IsEvaluated}
 use Rattle.ca_view.specs.Linked.{Reads, IsPlaced}
-use Rattle.ca_sweep.specs.declared.place_set.PlaceSet.{PlaceSet}
+use Rattle.ca_places.specs.declared.place_set.PlaceSet.{PlaceSet}
 use Rattle.ca_sweep.specs.declared.values.Values.{Values}
-use Rattle.ca_sweep.specs.code.PlaceSet.{Has, HoldsUpTo}
+use Rattle.ca_places.specs.PlaceSet.{Has, HoldsUpTo}
 
 -- the instance at this place is due
 abbrev pub IsDue : PlaceSet → ℕ → Type 0

@@ -8,7 +8,9 @@ use Rattle.ca_flat.specs.Chip.{Chip, cell_at, inputs_at, net_of, output_net, cou
 use Rattle.ca_flips.specs.Static.{IsStatic}
 use Rattle.ca_view.specs.Linked.{Reads}
 use Rattle.ca_sweep.specs.declared.values.Values.{Values}
+use Rattle.ca_sweep.specs.declared.segments.Segment.{Segment}
 use Rattle.ca_sweep.specs.Seen.{IsClear}
+use Rattle.ca_sweep.specs.code.Segments.{AreSegments}
 use Rattle.ca_sweep.specs.code.Cells.{AreTables, IsOrder}
 use Rattle.ca_sweep.specs.code.Firsts.{AreFirsts}
 use Rattle.ca_sweep.specs.code.Held.{IsAtRest}
@@ -43,11 +45,12 @@ pub record AreMarks (chip : Chip) (P : ℕ → Type 0) (marks : List Bool) : Typ
   pub room : length marks ≡ count_of chip
   pub each : (u : ℕ) → is_marked marks u ≡ true → P u
 
--- The nets of the observed outputs, the first outputs of nets, the tables of the cells, the instances by their
--- places, a value for each net, and which instances are clear. Between two sweeps the values are the good ones.
+-- The nets of the observed outputs, the first outputs of nets, the tables of the cells, the instances by
+-- their places, a value for each net, which instances are clear, and parts of sweeps. Between two sweeps the
+-- values are the good ones.
 pub record IsKept (chip : Chip) (place_of number_of : ℕ → ℕ) (outputs firsts : List ℕ)
     (tables : List (Option (List (List Wave)))) (order : List (Option ℕ)) (lasts : List Trit)
-    (clear passing : List Bool) (values : Values) : Type 0 where
+    (clear passing : List Bool) (values : Values) (segments : List (Option Segment)) : Type 0 where
   pub outputs_are : outputs ≡ chip.outputs
   pub few : length outputs < 2 ^ 32
   pub firsts_are : AreFirsts outputs (length chip.nets) firsts
@@ -57,3 +60,4 @@ pub record IsKept (chip : Chip) (place_of number_of : ℕ → ℕ) (outputs firs
   pub clear_are : AreMarks chip (IsClear chip (value_at lasts)) clear
   pub passing_are : length passing ≡ count_of chip
   pub values_are : IsAtRest chip lasts values
+  pub segments_are : AreSegments chip place_of (value_at lasts) segments

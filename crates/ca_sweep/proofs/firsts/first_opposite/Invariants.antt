@@ -9,6 +9,7 @@ abbrev pub invariant-loop-place : goal.invariant-loop-place
 invariant-loop-place l = record {
   least : IsLeastTo l.chip.core (place_in l.chip.ranks) l.u (value_at l.lasts) (value_at l.values.values) l.values.due l.firsts l.from l.first;
   within : l.from ≤ count_of l.chip.core + 1;
+  few : l.first ≤ l.count;
 }
 
 abbrev pub decreases-loop-place : goal.decreases-loop-place

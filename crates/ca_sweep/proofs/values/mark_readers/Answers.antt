@@ -31,7 +31,7 @@ loop-k-preserved c =
     let at : c.rank.result ≡ place_of u = c.rank.ensures in
     marked_more core place_of c.args.net readers c.loop-k.k u c.args.due.now c.loop-k.due c.insert.new.self
     c.loop-k.invariant (get_or_from_slice_get readers c.loop-k.k u 0 c.reader.ensures) reads (subst (IsDue c.insert.new.self) at c.insert.ensures.here)
-    (λ other apart. c.insert.ensures.others other (λ e. apart (e ∙ at))) c.insert.ensures.room
+    (λ other apart. c.insert.ensures.others other (λ e. apart (e ∙ at))) (λ count holds. let same = c.insert.ensures.room in omega arith)
 
 pub returns : goal.returns
 returns c =

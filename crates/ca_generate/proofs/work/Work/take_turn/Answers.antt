@@ -3,11 +3,27 @@ use Rattle.ca_flat.specs.declared.token.Token.{Token}
 use Rattle.ca_credit.specs.Defects.{Task}
 use Rattle.ca_credit.specs.Table.{verdict_at}
 use Rattle.ca_credit.proofs.TableLemmas.{some_within}
-use Rattle.ca_search.specs.declared.trail.Outcome.TheVariants.{Exhausted, Spent}
+use Rattle.ca_search.specs.declared.trail.Outcome.TheVariants.{Found, Exhausted, Spent}
 use Rattle.ca_generate.specs.Outcome.{IsSearch}
 use Rattle.ca_generate.specs.code.Progress.{StandsAfter}
+use Rattle.ca_credit.specs.Listed.{IsFoundAt}
+use Rattle.ca_generate.proofs.ScreenLemmas.{found_for}
 use Rattle.ca_generate.proofs.TurnLemmas.{turn_exhausted, turn_spent}
 use Rattle.ca_generate.proofs.work.Work.take_turn.Goals as goal
+
+pub list-requires-clause-found : goal.list-requires-clause-found
+list-requires-clause-found g c =
+    let task = g.B.Simulator.task c.args.bench.now in
+    let listed = some_within task.defects c.args.place c.requires.within in
+    let search = subst (λ (t : Task). IsSearch t listed.0 (g.B.Bench.code c.find.new.self)
+    (g.B.Simulator.bits c.find.new.self) Found) c.aim.ensures.task
+    (c.in-Found.ensures.searched listed.0 (c.aim.ensures.aimed ∙ listed.1)) in
+    subst (λ (t : Task). IsFoundAt t c.args.place c.in_ok-pair-in-Found.pair) (sym (c.in-Found.ensures.task ∙ c.aim.ensures.task)) (record {
+      defect = listed.0;
+      is_defect = listed.1;
+      found = found_for task listed.0 (g.B.Bench.code c.find.new.self) (g.B.Simulator.bits c.find.new.self) c.in_ok-pair-in-Found.pair search
+          c.in_ok-pair-in-Found.ensures;
+    })
 
 pub returns-in-Exhausted-clause-ok : goal.returns-in-Exhausted-clause-ok
 returns-in-Exhausted-clause-ok g c =

@@ -6,6 +6,7 @@ use Rattle.ca_flat.specs.Flat.{circuit_in}
 use Rattle.ca_table.specs.Gives.{Gives}
 use Rattle.ca_sim.specs.code.Current.{input_waves}
 use Rattle.ca_sim.specs.code.Network.{IsWrittenOut}
+use Rattle.ca_places.proofs.PlaceLemmas.{holds_as}
 use Rattle.ca_view.specs.Places.{cell_number}
 use Rattle.ca_sim.proofs.WaveLemmas.{length-waves_from, all_waves_from}
 use Rattle.ca_sim.proofs.Settling.{settled_more, settled_all}
@@ -25,7 +26,8 @@ respond_beside-outputs-requires-clause-waves c =
     (all_waves_from (net_of core c.order-u.result) c.loop-place.self.waves c.loop-place.invariant.settled.ready.are_waves (inputs_at core c.order-u.result))
 
 pub write-requires-clause-room : goal.write-requires-clause-room
-write-requires-clause-room c = c.remove.ensures.room _ c.loop-place.invariant.settled.ready.room
+write-requires-clause-room c = holds_as c.loop-place.self.due c.remove.new.self c.remove.ensures.room _
+    c.loop-place.invariant.settled.ready.room
 
 pub loop-place-preserved : goal.loop-place-preserved
 loop-place-preserved c =
@@ -44,7 +46,7 @@ loop-place-preserved c =
     record {
       settled = settled_more core place_of (cell_number c.args.chip.now.chip) linked c.args.aim c.args.self.now c.loop-place.from c.in-Some.place u
           c.respond_beside-outputs.result.items mid c.write.new.self c.remove.new.self c.loop-place.invariant.settled c.in-Some.ensures c.remove.ensures.here c.remove.ensures.others
-          c.remove.ensures.room c.order-u.ensures.placed c.order-u.ensures.at given c.respond_beside-outputs.ensures.waves out;
+          (holds_as c.loop-place.self.due c.remove.new.self c.remove.ensures.room) c.order-u.ensures.placed c.order-u.ensures.at given c.respond_beside-outputs.ensures.waves out;
       cells = c.respond_beside-outputs.ensures.cells;
       within = omega arith;
       grows = let before = c.loop-place.invariant.grows in let now = c.respond_beside-outputs.ensures.grows in omega arith;

@@ -27,4 +27,5 @@ invariant_of-result c = record {
       c.instances.ensures (c.in_ok-vec.ensures.items_if_clones_equal (λ y same. same));
   passing_are = search rules;
   values_are = search rules;
+  segments_are = c.in_ok-reserve-2.ensures _ _ _ (sym c.instances-3.ensures);
 }

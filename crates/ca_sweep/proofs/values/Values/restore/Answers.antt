@@ -2,6 +2,7 @@ use Rattle.std.proofs.Common.{refl, arith}
 use Rattle.ca_net.specs.State.{value_at}
 use Rattle.ca_view.specs.Linked.{place_in}
 use Rattle.ca_view.specs.Places.{cell_number}
+use Rattle.ca_places.proofs.PlaceLemmas.{holds_as}
 use Rattle.ca_sweep.proofs.HeldLemmas.{held_begins, held_more, held_ends}
 use Rattle.ca_sweep.proofs.values.Values.restore.Goals as goal
 
@@ -20,7 +21,7 @@ loop-place-preserved c =
     record {
       held = held_more c.args.chip.now.core (place_in c.args.chip.now.ranks) (cell_number c.args.chip.now.chip) c.linked.ensures.linked (value_at c.args.lasts.now)
           c.loop-place.from c.in-Some.place c.order.result c.loop-place.self _ c.give_back-in-Some.new.self c.loop-place.invariant.held c.in-Some.ensures refl
-          c.remove.ensures.here c.remove.ensures.others c.remove.ensures.room c.order.ensures.placed c.order.ensures.at c.give_back-in-Some.ensures;
+          c.remove.ensures.here c.remove.ensures.others (holds_as c.loop-place.self.due c.remove.new.self c.remove.ensures.room) c.order.ensures.placed c.order.ensures.at c.give_back-in-Some.ensures;
       within = omega arith;
     }
 

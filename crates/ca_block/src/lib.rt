@@ -1,0 +1,10 @@
+//! The three limits of a network in 64 lanes at once. All memory is taken beforehand.
+#![tactic(auto)]
+
+mod limits;
+mod start;
+mod turns;
+mod work;
+
+pub use limits::settle_block;
+pub use work::BlockWork;

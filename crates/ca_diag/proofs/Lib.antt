@@ -1,0 +1,6 @@
+mod LawLemmas
+mod JudgeLemmas
+mod FailingLemmas
+mod ScreenLemmas
+mod PassLemmas
+mod OpenLemmas

@@ -1,0 +1,15 @@
+use Rattle.std.proofs.Common.{◌≡◌, true, false, rules, IsTrue, Some, subst, sym}
+use Rattle.ca_diag.proofs.JudgeLemmas.{by_waves}
+use Rattle.ca_diag.proofs.judge.judge_by_waves.Goals as goal
+
+pub returns-clause-judged : goal.returns-clause-judged
+returns-clause-judged g c =
+    by_waves (g.S.Simulator.task c.args.sim.now) (g.S.Simulator.task c.aim.new.self) (g.S.Simulator.bits c.args.sim.now)
+    (g.S.Simulator.bits c.aim.new.self) (g.S.Simulator.aimed c.aim.new.self) c.args.failing.now.outputs.now c.args.place
+    c.aim.ensures.task c.aim.ensures.bits c.aim.ensures.aimed (Some c.explained.result)
+    (λ defect at. (
+      λ some.
+          let is = (c.is_contradicted.ensures defect at).1 some in
+          let wrong : IsTrue false = subst IsTrue c.if-is_contradicted.false is in search rules,
+      c.explained.ensures defect at,
+    ))

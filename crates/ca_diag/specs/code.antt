@@ -1,0 +1,4 @@
+-- Words of the code: what its invariants and private contracts say. No public claim rests on them.
+pub mod Judged
+pub mod Failing
+pub mod Pass

@@ -1,0 +1,4 @@
+pub mod LeadLemmas
+pub mod WayLemmas
+pub mod AdvanceLemmas
+pub mod ResponseLemmas

@@ -1,0 +1,264 @@
+-- From the nodes that paths reach to responses.
+use Rattle.std.proofs.Common.{min, ◌≡◌, ◌≢◌, ℕ, ◌+◌, ◌-◌, ◌<◌, ◌≤◌, ◌^◌, ◌++◌, ◌↔◌, List, Bool, true, false, length, take, drop}
+use Rattle.std.proofs.Common.{inl, inr, refl, sym, ◌∙◌, ap, subst, arith, get_or, replicate}
+use Rattle.std.proofs.Math.Decide.{dec_le}
+use Rattle.std.proofs.lemmas.List.{get_or-replicate}
+use Rattle.std.proofs.lemmas.Grind.{common_steps}
+use Rattle.ca_net.specs.declared.scale.TheConstants.{INPUT}
+use Rattle.ca_net.specs.declared.trit.Trit.{Trit}
+use Rattle.ca_net.specs.declared.trit.Trit.TheVariants.{Zero, One, X}
+use Rattle.ca_net.specs.declared.node.NodeKind.{NodeKind}
+use Rattle.ca_net.specs.declared.node.NodeKind.TheVariants.{Input, Storage}
+use Rattle.ca_net.specs.declared.device.Device.{Device}
+use Rattle.ca_net.specs.declared.path_kind.PathKind.{PathKind}
+use Rattle.ca_net.specs.declared.path_kind.PathKind.TheVariants.{Definite, Potential}
+use Rattle.ca_net.specs.Circuit.{Circuit, IsWellFormed, HasSize, kind_at}
+use Rattle.ca_net.specs.State.{value_at}
+use Rattle.ca_net.specs.Path.{Path, Root, Via, root_of, IsPath, strength_of, root_strength, IsPotential, IsDefinite}
+use Rattle.ca_net.specs.Response.{HasStronger, IsBlocked, AllGive, StorageResponse, ResponseAt, IsResponse, AreResponses}
+use Rattle.ca_relax.specs.Groups.{HaveOwnStrengths}
+use Rattle.ca_relax.proofs.OwnLemmas.{size_below_input, strength_of-pos}
+use Rattle.ca_planes.specs.declared.block.Block.{Block}
+use Rattle.ca_planes.specs.Plane.{has_lane, lane_at}
+use Rattle.ca_planes.specs.Trits.{trit_for, value_in, values_in, state_in, HasNodes}
+use Rattle.ca_planes.proofs.BitLemmas.{in_none, in_all}
+use Rattle.ca_planes.proofs.ValueLemmas.{length-values_in, value_at-values_in, may_be_one}
+use Rattle.ca_levels.specs.declared.levels.Levels.{Levels}
+use Rattle.ca_levels.specs.code.Advance.{IsAdvanced}
+use Rattle.ca_levels.specs.code.Way.{IsFree, HasWay, HasOther, AreThose}
+use Rattle.ca_levels.specs.code.Reached.{IsLoaded, IsReachedIn, AreKept}
+use Rattle.ca_levels.specs.code.Reached.{IsGivenByNone, IsCarriedByNone}
+use Rattle.std.specs.Prelude.{Some, slice_get}
+use Rattle.ca_relax.proofs.JoinedLemmas.{placed}
+use Rattle.ca_levels.proofs.WayLemmas.{advanced, weaker}
+
+-- what is written back to a list of the same length
+pub written_back : (new old : List ℕ) (count : ℕ) → count ≡ length new → take count (new ++ drop (length new) old) ≡ new
+written_back new old count same = grind (arith, common_steps, same)
+
+-- no path is stronger than an input node
+at_most_input : (net : Circuit) → IsWellFormed net → (p : Path) → IsPath net p → strength_of net p ≤ INPUT
+at_most_input net well_formed (Root r) is_path = root_at_most (kind_at net r) (well_formed.sizes r Input is_path)
+  where
+    root_at_most : (kind : NodeKind) → HasSize kind → root_strength kind ≤ INPUT
+    root_at_most Input sized = omega arith
+    root_at_most (Storage size) sized = let lt : size < INPUT = size_below_input size sized in omega arith
+at_most_input net well_formed (Via p d n) is_path = let le : strength_of net p ≤ INPUT = at_most_input net well_formed p is_path.0 in omega arith
+
+-- every definite path is a way from any root, which nothing blocks
+module _ (net : Circuit) (s : List Trit) where
+  definite_free : (p : Path) → IsDefinite s p → IsFree net s Definite (λ n k. ⊥) p
+  definite_free (Root r) definite = λ never. never
+  definite_free (Via p d n) definite = (definite_free p definite.0, definite.1, λ never. never)
+
+  free_definite : (p : Path) → IsFree net s Definite (λ n k. ⊥) p → IsDefinite s p
+  free_definite (Root r) free = tt
+  free_definite (Via p d n) free = (free_definite p free.0, free.1)
+
+  way_of_stronger : (n k : ℕ) → HasStronger net s n k → HasWay net s Definite (λ m j. ⊥) (λ r. Unit {0}) n k
+  way_of_stronger n k h = record { path = h.path; is_path = h.is_path; free = definite_free h.path h.definite; begins = tt; ends = h.ends; stronger = h.stronger }
+
+  stronger_of_way : (n k : ℕ) → HasWay net s Definite (λ m j. ⊥) (λ r. Unit {0}) n k → HasStronger net s n k
+  stronger_of_way n k w = record { path = w.path; is_path = w.is_path; ends = w.ends; definite = free_definite w.path w.free; stronger = w.stronger }
+
+  stronger_falls : (n i j : ℕ) → i ≤ j → HasStronger net s n j → HasStronger net s n i
+  stronger_falls n i j le h =
+      let lt : j < strength_of net h.path = h.stronger in
+      record { path = h.path; is_path = h.is_path; ends = h.ends; definite = h.definite; stronger = omega arith }
+
+  -- a path that may reach a node is free
+  free_of : (p : Path) → IsPotential s p → (IsBlocked net s p → ⊥) → IsFree net s Potential (HasStronger net s) p
+  free_of (Root r) potential unblocked = unblocked
+  free_of (Via p d n) potential unblocked = (free_of p potential.0 (λ b. unblocked (inl b)), potential.1, λ b. unblocked (inr b))
+
+  free_potential : (p : Path) → IsFree net s Potential (HasStronger net s) p → IsPotential s p
+  free_potential (Root r) free = tt
+  free_potential (Via p d n) free = (free_potential p free.0, free.1)
+
+  free_unblocked : (p : Path) → IsFree net s Potential (HasStronger net s) p → IsBlocked net s p → ⊥
+  free_unblocked (Root r) free blocked = free blocked
+  free_unblocked (Via p d n) free (inl blocked) = free_unblocked p free.0 blocked
+  free_unblocked (Via p d n) free (inr blocked) = free.2 blocked
+
+  trit_is : (a b : Trit) → ((a ≡ b → ⊥) → ⊥) → a ≡ b
+  trit_is Zero Zero h = refl
+  trit_is One One h = refl
+  trit_is X X h = refl
+  trit_is Zero One h = absurd (h (λ e. cc))
+  trit_is Zero X h = absurd (h (λ e. cc))
+  trit_is One Zero h = absurd (h (λ e. cc))
+  trit_is One X h = absurd (h (λ e. cc))
+  trit_is X Zero h = absurd (h (λ e. cc))
+  trit_is X One h = absurd (h (λ e. cc))
+
+  -- where no path of another value reaches a node, all give the value
+  all_give : IsWellFormed net → (n : ℕ) (value : Trit) → (HasOther net s value n 0 → ⊥) → AllGive net s n value
+  all_give well_formed n value none p r = trit_is (value_at s (root_of p)) value (λ ne. none (record {
+    path = p;
+    is_path = r.is_path;
+    free = free_of p r.potential r.unblocked;
+    begins = ne;
+    ends = r.ends;
+    stronger = strength_of-pos net well_formed p r.is_path;
+  }))
+
+  not_all : (n : ℕ) (value : Trit) → HasOther net s value n 0 → AllGive net s n value → ⊥
+  not_all n value w all =
+      w.begins (all w.path (record { is_path = w.is_path; ends = w.ends; potential = free_potential w.path w.free; unblocked = free_unblocked w.path w.free }))
+
+  -- the response of a storage node, by which paths reach it
+  storage_response : IsWellFormed net → (n : ℕ) (z o : Bool) → (o ≡ true) ↔ HasOther net s Zero n 0 → (z ≡ true) ↔ HasOther net s One n 0
+      → StorageResponse net s n (trit_for z o)
+  storage_response well_formed n true true not_zero not_one = (not_all n Zero (not_zero.0 refl), not_all n One (not_one.0 refl))
+  storage_response well_formed n false true not_zero not_one = all_give well_formed n One (λ w. let e = not_one.1 w in let no : ⊥ = cc in no)
+  storage_response well_formed n true false not_zero not_one = all_give well_formed n Zero (λ w. let e = not_zero.1 w in let no : ⊥ = cc in no)
+  storage_response well_formed n false false not_zero not_one = all_give well_formed n Zero (λ w. let e = not_zero.1 w in let no : ⊥ = cc in no)
+
+-- no path is stronger than an input node, so no lane is there at first
+module _ (net : Circuit) (well_formed : IsWellFormed net) (s : List Trit) (lane : ℕ) (stronger zeros ones : List ℕ) where
+  pub none_reached : stronger ≡ replicate (length net.nodes) 0 → zeros ≡ replicate (length net.nodes) 0 → ones ≡ replicate (length net.nodes) 0
+      → IsReachedIn net s lane INPUT stronger zeros ones
+  none_reached is_stronger is_zeros is_ones = record {
+    stronger_there = λ n lt. (λ has. absurd (no_lane stronger is_stronger n lt has), λ h. absurd (too_strong h.path h.is_path h.stronger));
+    not_one = λ n lt. (λ has. absurd (no_lane zeros is_zeros n lt has), λ w. absurd (too_strong w.path w.is_path w.stronger));
+    not_zero = λ n lt. (λ has. absurd (no_lane ones is_ones n lt has), λ w. absurd (too_strong w.path w.is_path w.stronger));
+  } where
+    no_lane : (planes : List ℕ) → planes ≡ replicate (length net.nodes) 0 → (n : ℕ) → n < length net.nodes → lane_at planes n lane ≡ true → ⊥
+    no_lane planes are n lt has =
+        let zero : get_or planes n 0 ≡ 0 = ap (λ xs. get_or xs n 0) are ∙ get_or-replicate (length net.nodes) n 0 0 lt in
+        let e : false ≡ true = sym (ap (λ w. has_lane w lane) zero ∙ in_none lane) ∙ has in
+        cc
+
+    too_strong : (p : Path) → IsPath net p → INPUT < strength_of net p → ⊥
+    too_strong p is_path lt = let le : strength_of net p ≤ INPUT = at_most_input net well_formed p is_path in omega arith
+
+-- one level more
+pub reached_more : (net : Circuit) → IsWellFormed net → (from : Block) (levels : Levels) (level lane : ℕ) (zeros ones new_stronger new_zeros new_ones : List ℕ)
+    → 0 < level → lane < 64 → HasNodes (length net.nodes) from → IsLoaded net from levels
+    → IsReachedIn net (state_in from lane) lane level levels.stronger.items zeros ones
+    → IsAdvanced levels.devices.items levels.own.items from Potential level from.ones.items levels.stronger.items ones new_ones
+    → IsAdvanced levels.devices.items levels.own.items from Potential level levels.not_ones.items levels.stronger.items zeros new_zeros
+    → IsAdvanced levels.devices.items levels.own.items from Definite level levels.all.items levels.none.items levels.stronger.items new_stronger
+    → IsReachedIn net (state_in from lane) lane (level - 1) new_stronger new_zeros new_ones
+reached_more net well_formed from levels level lane zeros ones new_stronger new_zeros new_ones some low nodes loaded above by_ones by_zeros by_stronger =
+    let s = state_in from lane in
+    let holds = loaded.holds in
+    let is : level ≡ level - 1 + 1 = omega (arith, some) in
+    let same : length from.ones.items ≡ length from.zeros.items = nodes.ones ∙ sym nodes.zeros in
+    let others : AreThose net lane (λ r. value_at s r ≢ Zero) from.ones.items =
+    λ n lt.
+    let at = value_at-values_in from.zeros.items from.ones.items lane n same (omega (arith, lt, nodes.zeros)) in
+    subst (λ v. (lane_at from.ones.items n lane ≡ true) ↔ (v ≢ Zero)) (sym at) (may_be_one (lane_at from.zeros.items n lane) (lane_at from.ones.items n lane))
+    in
+    let not_ones : AreThose net lane (λ r. value_at s r ≢ One) levels.not_ones.items = λ n lt. loaded.not_ones n lane (omega (arith, lt, nodes.zeros)) low in
+    let all : AreThose net lane (λ r. Unit {0}) levels.all.items =
+    λ n lt.
+    let full : get_or levels.all.items n 0 ≡ 2 ^ 64 - 1 = ap (λ xs. get_or xs n 0) holds.room.all ∙ get_or-replicate (length net.nodes) n (2 ^ 64 - 1) 0 lt in
+    (λ has. tt, λ t. ap (λ w. has_lane w lane) full ∙ in_all lane low)
+    in
+    let none : AreThose net lane (λ n. ⊥) levels.none.items =
+    λ n lt.
+    let zero : get_or levels.none.items n 0 ≡ 0 = ap (λ xs. get_or xs n 0) holds.room.none ∙ get_or-replicate (length net.nodes) n 0 0 lt in
+    (λ has. let e : false ≡ true = sym (ap (λ w. has_lane w lane) zero ∙ in_none lane) ∙ has in cc, λ never. absurd never)
+    in
+    let strong = advanced net from Definite (λ n k. ⊥) (λ r. Unit {0}) well_formed (level - 1) lane level levels.devices.items levels.own.items levels.all.items
+    levels.none.items levels.stronger.items new_stronger is low holds.devices holds.room.own holds.own (λ n i j le never. never) none all
+    (λ n lt. let both = above.stronger_there n lt in (λ has. way_of_stronger net s n level (both.0 has), λ w. both.1 (stronger_of_way net s n level w))) by_stronger in
+    record {
+      stronger_there = λ n lt. let both = strong n lt in
+          (λ has. stronger_of_way net s n (level - 1) (both.0 has), λ h. both.1 (way_of_stronger net s n (level - 1) h));
+      not_one = advanced net from Potential (HasStronger net s) (λ r. value_at s r ≢ One) well_formed (level - 1) lane level levels.devices.items levels.own.items
+          levels.not_ones.items levels.stronger.items zeros new_zeros is low holds.devices holds.room.own holds.own (stronger_falls net s) above.stronger_there not_ones
+          above.not_one by_zeros;
+      not_zero = advanced net from Potential (HasStronger net s) (λ r. value_at s r ≢ Zero) well_formed (level - 1) lane level levels.devices.items levels.own.items
+          from.ones.items levels.stronger.items ones new_ones is low holds.devices holds.room.own holds.own (stronger_falls net s) above.stronger_there others
+          above.not_zero by_ones;
+    }
+
+-- the nodes that any path reaches, and the values of the input nodes, are the responses
+pub responses_of : (net : Circuit) → IsWellFormed net → (from : Block) (own stronger zeros ones new_zeros new_ones : List ℕ) (lane : ℕ)
+    → HasNodes (length net.nodes) from → length own ≡ length net.nodes → HaveOwnStrengths net (length net.nodes) own
+    → length new_zeros ≡ length net.nodes → length new_ones ≡ length net.nodes
+    → IsReachedIn net (state_in from lane) lane 0 stronger zeros ones
+    → AreKept (length own) own from.zeros.items zeros new_zeros → AreKept (length own) own from.ones.items ones new_ones
+    → AreResponses net (state_in from lane) (values_in new_zeros new_ones lane)
+responses_of net well_formed from own stronger zeros ones new_zeros new_ones lane nodes count owns room_zeros room_ones reached kept_zeros kept_ones = record {
+  is_state = length-values_in new_zeros new_ones lane (room_ones ∙ sym room_zeros) ∙ room_zeros;
+  responds = λ n lt.
+      subst (IsResponse net (state_in from lane) n) (sym (value_at-values_in new_zeros new_ones lane n (room_ones ∙ sym room_zeros) (omega (arith, lt, room_zeros))))
+      (at n lt (kind_at net n) refl (well_formed.sizes n Input lt));
+} where
+  at : (n : ℕ) → n < length net.nodes → (kind : NodeKind) → kind_at net n ≡ kind → HasSize kind
+      → ResponseAt kind net (state_in from lane) n (value_in (get_or new_zeros n 0) (get_or new_ones n 0) lane)
+  at n lt Input is sized =
+      let strong : get_or own n 0 ≡ INPUT = owns n lt ∙ ap root_strength is in
+      let within : n < length own = omega (arith, lt, count) in
+      let same : length from.ones.items ≡ length from.zeros.items = nodes.ones ∙ sym nodes.zeros in
+      ap (λ z. value_in z (get_or new_ones n 0) lane) (kept_zeros.input n within (omega (arith, strong)))
+      ∙ ap (λ o. value_in (get_or from.zeros.items n 0) o lane) (kept_ones.input n within (omega (arith, strong)))
+      ∙ sym (value_at-values_in from.zeros.items from.ones.items lane n same (omega (arith, lt, nodes.zeros)))
+  at n lt (Storage size) is sized =
+      let own_is : get_or own n 0 ≡ size = owns n lt ∙ ap root_strength is in
+      let below : size < INPUT = size_below_input size sized in
+      let within : n < length own = omega (arith, lt, count) in
+      let zero_is = kept_zeros.storage n within (omega (arith, own_is, below)) in
+      let one_is = kept_ones.storage n within (omega (arith, own_is, below)) in
+      storage_response net (state_in from lane) well_formed n (lane_at new_zeros n lane) (lane_at new_ones n lane)
+      (subst (λ o. (has_lane o lane ≡ true) ↔ HasOther net (state_in from lane) Zero n 0) (sym one_is) (reached.not_zero n lt))
+      (subst (λ z. (has_lane z lane ≡ true) ↔ HasOther net (state_in from lane) One n 0) (sym zero_is) (reached.not_one n lt))
+
+-- a level's clause in other words for its lists
+pub read_as : {from : Block} {kind : PathKind} {level : ℕ} {devices devices_read : List Device} {own own_read source source_read blocked blocked_read old old_read new : List ℕ}
+    → devices ≡ devices_read → own ≡ own_read → source ≡ source_read → blocked ≡ blocked_read → old ≡ old_read
+    → IsAdvanced devices own from kind level source blocked old new → IsAdvanced devices_read own_read from kind level source_read blocked_read old_read new
+read_as {from} {kind} {level} {devices} {devices_read} {own} {own_read} {source} {source_read} {blocked} {blocked_read} {old} {old_read} {new} e f g h i a =
+    subst (λ x. IsAdvanced x own_read from kind level source_read blocked_read old_read new) e
+    (subst (λ x. IsAdvanced devices x from kind level source_read blocked_read old_read new) f
+    (subst (λ x. IsAdvanced devices own from kind level x blocked_read old_read new) g
+    (subst (λ x. IsAdvanced devices own from kind level source x old_read new) h
+    (subst (λ x. IsAdvanced devices own from kind level source blocked x new) i a))))
+
+-- and so those that are kept
+pub kept_as : {own own_read from from_read old old_read new : List ℕ} → own ≡ own_read → from ≡ from_read → old ≡ old_read
+    → AreKept (length own) own from old new → AreKept (length own_read) own_read from_read old_read new
+kept_as {own} {own_read} {from} {from_read} {old} {old_read} {new} e f g a =
+    subst (λ x. AreKept (length x) x from_read old_read new) e
+    (subst (λ x. AreKept (length own) own x old_read new) f (subst (λ x. AreKept (length own) own from x new) g a))
+
+pub zeros_as : (m n : ℕ) → m ≡ n → ◌≡◌ {A = List ℕ} (replicate m 0) (replicate n 0)
+zeros_as m n e = ap (λ (k : ℕ). replicate {A = ℕ} k 0) e
+
+-- where no node and no device has a strength, no path has
+module _ (net : Circuit) (own : List ℕ) (devices : List Device) (level : ℕ) (count : length own ≡ length net.nodes) (owns : HaveOwnStrengths net (length net.nodes) own)
+    (same : devices ≡ net.devices) (given : IsGivenByNone own level) (carried : IsCarriedByNone devices level) where
+  not_as_strong : (p : Path) → IsPath net p → strength_of net p ≢ level
+  not_as_strong (Root r) is_path = λ e. given r (omega (arith, is_path, count)) (owns r is_path ∙ e)
+  not_as_strong (Via p d n) is_path =
+      let before : strength_of net p ≢ level = not_as_strong p is_path.0 in
+      let here : d.strength ≢ level = carried is_path.1.0 d (subst (λ xs. slice_get xs is_path.1.0 ≡ Some d) (sym same) (placed net d is_path.1)) in
+      λ e.
+      let is : min (strength_of net p) d.strength ≡ level = e in
+      elim (dec_le (strength_of net p) d.strength) [
+        | yes le ↦ before (omega (arith, is, le))
+        | no gt ↦ here (omega (arith, is, gt))
+      ]
+
+  -- so a level of that strength adds nothing
+  pub reached_unused : (s : List Trit) (lane : ℕ) (stronger zeros ones : List ℕ) → 0 < level → IsReachedIn net s lane level stronger zeros ones
+      → IsReachedIn net s lane (level - 1) stronger zeros ones
+  reached_unused s lane stronger zeros ones some h = record {
+    stronger_there = λ n lt. let both = h.stronger_there n lt in (
+      λ has. stronger_falls net s n (level - 1) level (omega arith) (both.0 has),
+      λ w. both.1 (record { path = w.path; is_path = w.is_path; ends = w.ends; definite = w.definite; stronger = more w.path w.is_path w.stronger }),
+    );
+    not_one = λ n lt. let both = h.not_one n lt in (
+      λ has. weaker net s Potential (HasStronger net s) (λ r. value_at s r ≢ One) n level (level - 1) (omega arith) (both.0 has),
+      λ w. both.1 (record { path = w.path; is_path = w.is_path; free = w.free; begins = w.begins; ends = w.ends; stronger = more w.path w.is_path w.stronger }),
+    );
+    not_zero = λ n lt. let both = h.not_zero n lt in (
+      λ has. weaker net s Potential (HasStronger net s) (λ r. value_at s r ≢ Zero) n level (level - 1) (omega arith) (both.0 has),
+      λ w. both.1 (record { path = w.path; is_path = w.is_path; free = w.free; begins = w.begins; ends = w.ends; stronger = more w.path w.is_path w.stronger }),
+    );
+  } where
+    more : (p : Path) → IsPath net p → level - 1 < strength_of net p → level < strength_of net p
+    more p is_path lt = let ne : strength_of net p ≢ level = not_as_strong p is_path in omega (arith, some, lt, ne)

@@ -1,0 +1,77 @@
+//! What planes of links lead on.
+
+ghost use Rattle.std.specs.Prelude.{ℕ, ◌≡◌, ◌<◌, length};
+ghost use Rattle.std.specs.List.{All};
+ghost use Rattle.ca_net.specs.Circuit.{NamesWithin};
+ghost use Rattle.ca_levels.specs.code.Come.{Leads, Raises, RaisesSome, LeadsNoMore, AreClosed};
+
+use ca_net::Device;
+use ca_planes::{both, either, except};
+
+// Adds to the lanes of `to` those in which the link leads there from `from` and `to` isn't blocked. Whether
+// there were more.
+fn lead(link: u64, from: u32, to: u32, blocked: &[u64], reached: &mut [u64]) -> bool
+    requires blocked { length blocked.now ≡ length reached.old }
+    requires from { from < length reached.old }
+    requires to { to < length reached.old }
+    ensures { Leads link from to blocked.now reached.old reached.new result }
+{
+    let old = reached[to as usize];
+    let open = except(link, blocked[to as usize]);
+    let new = either(old, both(reached[from as usize], open));
+    reached[to as usize] = new;
+    new != old
+}
+
+// The same both ways. Whether there were more lanes at either end.
+fn lead_both(
+    devices: &[Device],
+    links: &[u64],
+    blocked: &[u64],
+    reached: &mut [u64],
+    i: usize,
+) -> bool
+    requires named { All (NamesWithin (length reached.old)) devices.now }
+    requires links { length links.now ≡ length devices.now }
+    requires blocked { length blocked.now ≡ length reached.old }
+    requires device { i < length devices.now }
+    ensures raises { Raises devices.now links.now blocked.now reached.old reached.new result }
+    ensures settled { LeadsNoMore devices.now links.now blocked.now reached.old result i }
+{
+    let device = devices[i];
+    let forth = lead(links[i], device.a.0, device.b.0, blocked, reached);
+    let back = lead(links[i], device.b.0, device.a.0, blocked, reached);
+    forth || back
+}
+
+// Goes once over all devices. Whether some node has more lanes.
+fn sweep(devices: &[Device], links: &[u64], blocked: &[u64], reached: &mut [u64]) -> bool
+    requires named { All (NamesWithin (length reached.old)) devices.now }
+    requires links { length links.now ≡ length devices.now }
+    requires blocked { length blocked.now ≡ length reached.old }
+    ensures raises { Raises devices.now links.now blocked.now reached.old reached.new result }
+    ensures settled { (i : ℕ) → i < length devices.now
+        → LeadsNoMore devices.now links.now blocked.now reached.old result i }
+{
+    let mut rose = false;
+    for i in 0..devices.len() {
+        let here = lead_both(devices, links, blocked, reached, i);
+        rose = rose || here;
+    }
+    rose
+}
+
+/// Adds to the lanes of each node those in which links lead there, through nodes that aren't blocked.
+pub(crate) fn close(devices: &[Device], links: &[u64], blocked: &[u64], reached: &mut [u64])
+    requires named { All (NamesWithin (length reached.old)) devices.now }
+    requires links { length links.now ≡ length devices.now }
+    requires blocked { length blocked.now ≡ length reached.old }
+    ensures raises { RaisesSome devices.now links.now blocked.now reached.old reached.new }
+    ensures closed { AreClosed devices.now links.now blocked.now reached.new }
+{
+    'sweeps: loop {
+        if !sweep(devices, links, blocked, reached) {
+            return;
+        }
+    }
+}

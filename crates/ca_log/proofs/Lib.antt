@@ -1,0 +1,5 @@
+mod NumberLemmas
+mod FieldLemmas
+mod LookupLemmas
+mod LogLemmas
+mod KeptLemmas
