@@ -1,5 +1,5 @@
 -- How the causes of a command follow from those of its stages.
-use Rattle.std.proofs.Common.{ℕ, ◌≡◌, ◌≢◌, ◌⊎◌, ◌∙◌, inl, inr, sym, ap, arith, List, Option, Some, None}
+use Rattle.std.proofs.Common.{ℕ, ◌≡◌, ◌≢◌, ◌⊎◌, ◌∙◌, inl, inr, refl, sym, ap, arith, List, Option, Some, None}
 use Rattle.std.proofs.Common.{Result, Ok, Err, Bool, true, false, subst}
 use Rattle.std.proofs.lemmas.Option.{same_Some}
 use Rattle.std.specs.Prelude.{Vec, if◌then◌else◌, IfOk}
@@ -15,7 +15,7 @@ use Rattle.ca_words.specs.Words.{scan_word, dash, file_called}
 use Rattle.ca_words.specs.Words.{chip_files, instance_word, chip_defect_word, flat_out_word, chip_first_word}
 use Rattle.ca_words.specs.Words.{chip_last_word}
 use Rattle.ca_words.specs.Words.{netlist_word, stil_word, report_word, order_word}
-use Rattle.ca_words.specs.Words.{IsOtherFile, IsMatrix, IsFlatten, IsAtpg, HasOut}
+use Rattle.ca_words.specs.Words.{IsOtherFile, IsMatrix, IsFlatten, IsAtpg, IsGrade, HasOut}
 use Rattle.ca_on_cell.specs.Cells.{OfCell}
 use Rattle.ca_load.specs.Files.{OfFile}
 use Rattle.ca_linked.specs.Linked.{LinkedChip}
@@ -24,7 +24,7 @@ use Rattle.ca_load.specs.declared.loading.FileNames.{FileNames}
 use Rattle.ca_load.specs.Texts.{InputFiles, names_of}
 use Rattle.ca_load.specs.Causes.{IsLoadCause}
 use Rattle.ca_flow.specs.declared.finished.Done.TheVariants.{Defects, Matrix, Check, Flatten, Simulate, Atpg}
-use Rattle.ca_flow.specs.declared.finished.Done.TheVariants.{Replay, Make}
+use Rattle.ca_flow.specs.declared.finished.Done.TheVariants.{Replay, Grade, Make}
 use Rattle.ca_simulate.specs.declared.simulation.OutputEnds.{OutputEnds}
 use Rattle.ca_net.specs.Circuit.{Circuit}
 use Rattle.ca_words.specs.declared.words.CellWords.{CellWords}
@@ -33,6 +33,11 @@ use Rattle.ca_words.specs.declared.words.FlattenWords.{FlattenWords}
 use Rattle.ca_words.specs.declared.words.SimulateWords.{SimulateWords}
 use Rattle.ca_words.specs.declared.words.AtpgWords.{AtpgWords}
 use Rattle.ca_words.specs.declared.words.ReplayWords.{ReplayWords}
+use Rattle.ca_words.specs.declared.words.GradeWords.{GradeWords}
+use Rattle.ca_grade.specs.declared.grade.Grade as grade
+use Rattle.ca_chip_grade.specs.Texts.{grades_text}
+use Rattle.ca_patterns.specs.Patterns.{IsPatternsCause, IsLoadedCause}
+use Rattle.ca_grading.specs.Grading.{AreGradesByFile}
 use Rattle.ca_net.specs.declared.trit.Trit.{Trit}
 use Rattle.ca_on_chip.specs.declared.replays.TheConstants.{MAX_ORDER}
 use Rattle.ca_on_chip.specs.Replay.{AreRunEndsOf, IsRunCause}
@@ -45,7 +50,7 @@ use Rattle.ca_flow.specs.code.Work.{IsOutFile, HasFiles}
 use Rattle.ca_words.specs.declared.words.Command.{Command}
 use Rattle.ca_words.specs.declared.words.Command.TheVariants as command
 use Rattle.ca_words.specs.Command.{IsSpelledDefects, IsSpelledMatrix, IsSpelledCheck, IsSpelledFlatten}
-use Rattle.ca_words.specs.Command.{IsSpelledSimulate, IsSpelledAtpg, IsSpelledReplay}
+use Rattle.ca_words.specs.Command.{IsSpelledSimulate, IsSpelledAtpg, IsSpelledReplay, IsSpelledGrade}
 use Rattle.ca_words.specs.Command.{IsSpelledMake, IsSpelled}
 use Rattle.ca_words.specs.code.Command.{IsWhole}
 use Rattle.ca_on_chip.specs.declared.making.TheConstants.{MAKE_BUDGET}
@@ -136,8 +141,10 @@ module _ (words : List (List ℕ)) (typed : List ℕ) (files : Option Files) (be
   flatten_reads flatten named (inr (inr (inr (inr (inl (is, inr (inr (inl (own, (inl word, held)))))))))) = word
   flatten_reads flatten named (inr (inr (inr (inr (inl (is, inr (inr (inl (own, (inr word, held)))))))))) = word
   flatten_reads flatten named (inr (inr (inr (inr (inl (is, inr (inr (inr (inl (own, cause)))))))))) = cause.many.0
-  flatten_reads flatten named (inr (inr (inr (inr (inl (is, inr (inr (inr (inr (own, cause)))))))))) =
+  flatten_reads flatten named (inr (inr (inr (inr (inl (is, inr (inr (inr (inr (inl (own, cause))))))))))) =
       let nine = own.nine in let seven = flatten.seven in omega (arith, nine, seven)
+  flatten_reads flatten named (inr (inr (inr (inr (inl (is, inr (inr (inr (inr (inr (own, cause))))))))))) =
+      let six = own.six in let seven = flatten.seven in omega (arith, six, seven)
 
   -- nor one of those that `atpg` writes
   atpg_reads : IsAtpg words → IsOtherFile typed (cells_word words) (netlist_word words) (scan_word words)
@@ -159,8 +166,35 @@ module _ (words : List (List ℕ)) (typed : List ℕ) (files : Option Files) (be
   atpg_reads atpg other (inr (inr (inr (inr (inl (is, inr (inr (inl (own, (inl word, held)))))))))) = word
   atpg_reads atpg other (inr (inr (inr (inr (inl (is, inr (inr (inl (own, (inr word, held)))))))))) = word
   atpg_reads atpg other (inr (inr (inr (inr (inl (is, inr (inr (inr (inl (own, cause)))))))))) = cause.many.0
-  atpg_reads atpg other (inr (inr (inr (inr (inl (is, inr (inr (inr (inr (own, cause)))))))))) =
+  atpg_reads atpg other (inr (inr (inr (inr (inl (is, inr (inr (inr (inr (inl (own, cause))))))))))) =
       let nine = own.nine in let seven = atpg.seven in omega (arith, nine, seven)
+  atpg_reads atpg other (inr (inr (inr (inr (inl (is, inr (inr (inr (inr (inr (own, cause))))))))))) =
+      let six = own.six in let seven = atpg.seven in omega (arith, six, seven)
+
+  -- nor the one that `grade` writes
+  grade_reads : IsGrade words → typed ≡ report_word words → IsWorkCause words files before after (StoreFailed typed) → ⊥
+  grade_reads graded named (inr (inr (inr (inr (inr (make, cause)))))) =
+      let two = make.two in let six = graded.six in omega (arith, two, six)
+  grade_reads graded named (inl (is, cause)) = no_chip words (inl is) (inr (inr (inr (inr (inr graded)))))
+  grade_reads graded named (inr (inl (is, cause))) = no_chip words (inr (inl is)) (inr (inr (inr (inr (inr graded)))))
+  grade_reads graded named (inr (inr (inl (is, cause)))) = no_chip words (inr (inr (inl is))) (inr (inr (inr (inr (inr graded)))))
+  grade_reads graded named (inr (inr (inr (inl (is, cause))))) =
+      no_chip words (inr (inr (inr is))) (inr (inr (inr (inr (inr graded)))))
+  grade_reads graded named (inr (inr (inr (inr (inl (is, inl load)))))) =
+      elim (at_load_stage (chip_files words) typed files before after load) [
+        | inl same ↦ graded.report.not_cells (sym named ∙ same)
+        | inr (inl same) ↦ graded.report.not_netlist (sym named ∙ same)
+        | inr (inr same) ↦ graded.report.not_scan (sym named ∙ sym (called_is (scan_word words) typed same))
+      ]
+  grade_reads graded named (inr (inr (inr (inr (inl (is, inr (inl (own, (word, held))))))))) = word
+  grade_reads graded named (inr (inr (inr (inr (inl (is, inr (inr (inl (own, (inl word, held)))))))))) = word
+  grade_reads graded named (inr (inr (inr (inr (inl (is, inr (inr (inl (own, (inr word, held)))))))))) = word
+  grade_reads graded named (inr (inr (inr (inr (inl (is, inr (inr (inr (inl (own, cause)))))))))) = cause.many.0
+  grade_reads graded named (inr (inr (inr (inr (inl (is, inr (inr (inr (inr (inl (own, cause))))))))))) =
+      let nine = own.nine in let six = graded.six in omega (arith, nine, six)
+  grade_reads graded named (inr (inr (inr (inr (inl (is, inr (inr (inr (inr (inr (own, inl (held, read)))))))))))) =
+      graded.others (sym named ∙ read.0)
+  grade_reads graded named (inr (inr (inr (inr (inl (is, inr (inr (inr (inr (inr (own, inr (word, held)))))))))))) = word
 
   named_other : (name : List ℕ) → typed ≡ name → IsOtherFile name (cells_word words) (netlist_word words) (scan_word words)
       → IsOtherFile typed (cells_word words) (netlist_word words) (scan_word words)
@@ -170,8 +204,9 @@ module _ (words : List (List ℕ)) (typed : List ℕ) (files : Option Files) (be
   pub out_is_unread : HasOut words typed → IsWorkCause words files before after (StoreFailed typed) → ⊥
   out_is_unread (inl (matrix, named)) cause = matrix.others (sym named ∙ matrix_reads matrix cause)
   out_is_unread (inr (inl (flatten, named))) cause = flatten_reads flatten named cause
-  out_is_unread (inr (inr (atpg, inl named))) cause = atpg_reads atpg (named_other (stil_word words) named atpg.stil) cause
-  out_is_unread (inr (inr (atpg, inr named))) cause = atpg_reads atpg (named_other (report_word words) named atpg.report) cause
+  out_is_unread (inr (inr (inr (graded, named)))) cause = grade_reads graded named cause
+  out_is_unread (inr (inr (inl (atpg, inl named)))) cause = atpg_reads atpg (named_other (stil_word words) named atpg.stil) cause
+  out_is_unread (inr (inr (inl (atpg, inr named)))) cause = atpg_reads atpg (named_other (report_word words) named atpg.report) cause
 
 -- the names that the words of `defects` ask for
 pub defects_asked : (words : List (List ℕ)) (request : CellWords) (files : Option Files) (names : List (List ℕ)) → IsSpelledDefects words request
@@ -399,7 +434,7 @@ pub replay_cause : (words : List (List ℕ)) (request : ReplayWords) (files : Op
     → IsRunCause (names_of request.of.of.files) request.of.of.instance.now request.of.of.defect.now
     request.of.first.now request.of.last.now request.order.now files before after fault → IsWorkCause words files before after fault
 replay_cause words request files before after fault spelled cause = inr (inr (inr (inr (inl (
-  inr (inr (inr (inr spelled.is))),
+  inr (inr (inr (inr (inl spelled.is)))),
   by (rw (spelled.of.instance, spelled.of.defect, spelled.first, spelled.last, spelled.order) at at_files),
 )))))
   where
@@ -413,7 +448,63 @@ replay_cause words request files before after fault spelled cause = inr (inr (in
         (chip_last_word words) (order_word words) files before after fault
         → IsLoadCause (chip_files words) files before after fault ⊎ IsOwnCause words files before after fault
     by (inl load) = inl load
-    by (inr own) = inr (inr (inr (inr (spelled.is, own))))
+    by (inr own) = inr (inr (inr (inr (inl (spelled.is, own)))))
+
+-- nor is the work of `grade`
+pub no_grade_sink : (names : InputFiles) (stil : List ℕ) (files : Option Files) (before after : ℕ) (fault : Fault)
+    → IsLoadedCause names stil files before after fault → fault ≢ SinkFailed
+no_grade_sink names stil files before after fault cause same =
+    by (subst (IsLoadedCause names stil files before after) same cause)
+  where
+    by : IsLoadedCause names stil files before after SinkFailed → ⊥
+    by (inl load) = no_load_sink names files before after load
+    by (inr (inl (held, read))) = read
+    by (inr (inr (word, held))) = word
+
+-- the grades that the words of `grade` ask for
+pub grade_asked : (words : List (List ℕ)) (request : GradeWords) (files : Option Files) (chip : LinkedChip) (chains : List (List ℕ))
+    (pairs : List (List Bool)) (grades : List grade.Grade) → IsSpelledGrade words request → AreAllChains chip chains
+    → IsChipOfFiles files (names_of request.files) chip → AreGradesByFile files request.stil.now chip chains pairs grades
+    → IsAsked words files (Grade chip chains pairs grades)
+grade_asked words request files chip chains pairs grades spelled all held are = (
+  spelled.is,
+  (
+    all,
+    (
+      subst (λ asked. IsChipOfFiles files asked chip) spelled.files held,
+      subst (λ name. AreGradesByFile files name chip chains pairs grades) spelled.stil are,
+    ),
+  ),
+)
+
+-- the file that they name
+pub grade_files : (words : List (List ℕ)) (request : GradeWords) (chip : LinkedChip) (chains : List (List ℕ))
+    (pairs : List (List Bool)) (grades : List grade.Grade) (text : List ℕ) (file : OutFile) → IsSpelledGrade words request
+    → text ≡ grades_text chip grades → IsOutFile request.report.now text file
+    → HasFiles words (Grade chip chains pairs grades) (Some file) None
+grade_files words request chip chains pairs grades text file spelled is file_is = record {
+  first_is = record {
+    name_is = file_is.name_is ∙ spelled.report;
+    typed_is = file_is.typed_is ∙ spelled.report;
+    bytes_are = file_is.bytes_are ∙ is;
+  };
+  second_is = refl;
+}
+
+-- why they ask for none
+pub grade_cause : (words : List (List ℕ)) (request : GradeWords) (files : Option Files) (before after : ℕ) (fault : Fault)
+    → IsSpelledGrade words request → IsLoadedCause (names_of request.files) request.stil.now files before after fault
+    → IsWorkCause words files before after fault
+grade_cause words request files before after fault spelled cause = inr (inr (inr (inr (inl (
+  inr (inr (inr (inr (inr spelled.is)))),
+  by (subst (λ name. IsLoadedCause (chip_files words) name files before after fault) spelled.stil
+      (subst (λ asked. IsLoadedCause asked request.stil.now files before after fault) spelled.files cause)),
+)))))
+  where
+    by : IsLoadedCause (chip_files words) (stil_word words) files before after fault
+        → IsLoadCause (chip_files words) files before after fault ⊎ IsOwnCause words files before after fault
+    by (inl load) = inl load
+    by (inr own) = inr (inr (inr (inr (inr (spelled.is, own)))))
 
 -- the tests of the generated chip that the words of `make` ask for
 pub make_asked : (words : List (List ℕ)) (number : ℕ) (files : Option Files) (chip : LinkedChip) (pairs : List (List Bool))
@@ -449,6 +540,7 @@ is_whole words (command.Flatten request) spelled = rw (spelled.of.instance, spel
 is_whole words (command.Simulate request) spelled = rw (spelled.of.instance, spelled.of.defect) spelled.is.defect
 is_whole words (command.Atpg request) spelled = tt
 is_whole words (command.Replay request) spelled = rw (spelled.of.instance, spelled.of.defect) spelled.is.defect
+is_whole words (command.Grade request) spelled = tt
 is_whole words (command.Make number) spelled = let said = spelled.number_is in said.few
 is_whole words command.Help spelled = tt
 is_whole words command.Version spelled = tt

@@ -29,7 +29,11 @@ use Rattle.ca_flow.specs.declared.finished.Finished.{Finished}
 use Rattle.ca_flow.specs.Finished.{IsAnswer, status_reported}
 use Rattle.ca_words.specs.Words.{cells_word, cell_word, vector_word, first_word, last_word, defect_word, dash}
 use Rattle.ca_words.specs.Words.{chip_files, instance_word, chip_defect_word, chip_first_word, chip_last_word}
-use Rattle.ca_words.specs.Words.{order_word, IsReplay, AsksNoFile, GeneratesTests, IsCommand}
+use Rattle.ca_words.specs.Words.{stil_word, order_word, IsReplay, IsGrade, AsksNoFile, GeneratesTests, IsCommand}
+use Rattle.ca_scan.specs.ChainFault.{AreAllChains}
+use Rattle.ca_patterns.specs.declared.patterns.TheConstants.{MAX_STIL}
+use Rattle.ca_patterns.specs.Patterns.{IsStilCause, OfTraced, GiveTraced, IsPatternsCause}
+use Rattle.ca_patterns.proofs.OneLemmas.{no_file_cause, is_read as is_patterns_read}
 use Rattle.ca_on_cell.specs.Outputs.{Fits, asked_network}
 use Rattle.ca_on_cell.specs.Cells.{OfFile, HasCell, LacksCell}
 use Rattle.ca_on_chip.specs.OnChip.{GiveChipWith, OfChip, IsSimulationCause, IsPairsFault}
@@ -276,6 +280,26 @@ module _ (words : List (List ℕ)) (files : Option Files) (reported : Files) (ar
       let own = fits.own found.chip found.is in
       no_read found.chip before after fault (own.replay is) read
 
+  -- so for chips with their chains
+  at_traced : (P : LinkedChip → List (List ℕ) → Type 0) → OfTraced files (chip_files words) P → GiveTraced P fits.inputs
+  at_traced P held =
+      let found = held reported are in
+      subst (GiveTraced P) (one_reading (chip_files words) reported found.0 fits.inputs found.1.0 fits.read) found.1.1
+
+  -- the file of `grade` is read, and has right patterns
+  no_patterns : IsGrade words → (before after : ℕ) (fault : Fault)
+      → IsPatternsCause (chip_files words) (stil_word words) files before after fault → IsOutsideFault fault before after
+  no_patterns is before after fault (inl (held, read)) =
+      let found = at_traced _ held in
+      let own = fits.own found.chip found.is in
+      is_patterns_read files reported are (stil_word words) found.chip found.chains found.all
+      (own.grade is found.chains found.all) before after fault read
+  no_patterns is before after fault (inr (word, held)) = absurd (
+      let found = at_traced (λ chip chains. reading.OfFile files (stil_word words) MAX_STIL (IsStilCause chip chains fault)) held in
+      let own = fits.own found.chip found.is in
+      no_file_cause files reported are (stil_word words) found.chip found.chains found.all
+      (own.grade is found.chains found.all) fault found.holds)
+
   -- a command's own words are of the chip
   no_own : (before after : ℕ) (fault : Fault) → IsOwnCause words files before after fault
       → IsOutsideFault fault before after ⊎ (GeneratesTests words × IsPairsFault fault)
@@ -290,13 +314,14 @@ module _ (words : List (List ℕ)) (files : Option Files) (reported : Files) (ar
       let own = fits.own found.chip found.is in
       no_simulation found.chip fault (own.simulate is) found.holds)
   no_own before after fault (inr (inr (inl (is, cause)))) = inr (inl is, cause.many.0)
-  no_own before after fault (inr (inr (inr (is, inl (word, held))))) = absurd (
+  no_own before after fault (inr (inr (inr (inr (is, cause))))) = inl (no_patterns is before after fault cause)
+  no_own before after fault (inr (inr (inr (inl (is, inl (word, held)))))) = absurd (
       let found =
       at_inputs (IsSimulationCause (instance_word words) (chip_defect_word words) (chip_first_word words) (chip_last_word words) fault) held in
       let own = fits.own found.chip found.is in
       let replay = own.replay is in
       no_simulation found.chip fault replay.pair found.holds)
-  no_own before after fault (inr (inr (inr (is, inr order)))) = inl (no_order is before after fault order)
+  no_own before after fault (inr (inr (inr (inl (is, inr order))))) = inl (no_order is before after fault order)
 
   -- work on a chip that the files give, and that the words fit, is refused where the store failed, for want
   -- of memory, or where `atpg` found too many pairs

@@ -16,7 +16,8 @@ use Rattle.ca_fault.specs.declared.fault.Fault.TheVariants.{TooManyPairs, Limit,
 use Rattle.ca_fault.specs.declared.fault.Fault.TheVariants.{SinkFailed, NoMemory}
 use Rattle.ca_flow.specs.declared.finished.Done.{Done}
 use Rattle.ca_flow.specs.declared.finished.Done.TheVariants.{Respond, Pair, Defects, Matrix, Check, Flatten}
-use Rattle.ca_flow.specs.declared.finished.Done.TheVariants.{Simulate, Atpg, Replay, Make, Help, Version}
+use Rattle.ca_flow.specs.declared.finished.Done.TheVariants.{Simulate, Atpg, Replay, Grade, Make, Help}
+use Rattle.ca_flow.specs.declared.finished.Done.TheVariants.{Version}
 use Rattle.ca_flow.specs.declared.finished.Finished.{Finished}
 use Rattle.ca_flow.specs.declared.work.OutFile.{OutFile}
 use Rattle.ca_fault.specs.FaultLine.{status_of}
@@ -27,6 +28,7 @@ use Rattle.ca_flow.specs.Fault.{Outside, IsWorkCause, IsWriteCause, IsPrintCause
 use Rattle.ca_load.specs.Files.{ReportsStoreFault}
 use Rattle.ca_flow.specs.Ends.{IsAsked}
 use Rattle.ca_atpg.specs.Atpg.{IsStil, report_of}
+use Rattle.ca_chip_grade.specs.Texts.{grades_text}
 use Rattle.ca_flow.specs.code.Work.{IsOutFile, IsFileWith, HasFiles, HasWritten, FailsToWrite}
 use Rattle.ca_flow.specs.code.Work.{HaveBeenWritten}
 use Rattle.ca_flow.specs.code.Work.{FailToWrite, HasPrinted, FailsToPrint, EndsWork}
@@ -161,10 +163,12 @@ leaves_written words fault old new (Matrix matrix) file second asked other fits 
     text_written words fault old new (out_word words) (text_of matrix) file other fits.first_is (one_file file second old new fits.second_is written)
 leaves_written words fault old new (Flatten chip net) file second asked other fits written =
     text_written words fault old new (flat_out_word words) (flat_text net) file other fits.first_is (one_file file second old new fits.second_is written)
+leaves_written words fault old new (Grade chip chains pairs grades) file second asked other fits written =
+    text_written words fault old new (report_word words) (grades_text chip grades) file other fits.first_is (one_file file second old new fits.second_is written)
 leaves_written words fault old new (Atpg chip chains pairs aims verdicts) file second asked other fits written =
     both_written words fault old new (IsStil chip chains pairs) (report_of chip verdicts) file second other
-    (λ failed. other (stil_word words, (inr (inr (asked.0, inl refl)), failed)))
-    (λ failed. other (report_word words, (inr (inr (asked.0, inr refl)), failed)))
+    (λ failed. other (stil_word words, (inr (inr (inl (asked.0, inl refl))), failed)))
+    (λ failed. other (report_word words, (inr (inr (inl (asked.0, inr refl))), failed)))
     fits.first_is fits.second_is written
 
 -- what is known of a writing that failed: the command writes a file of this name, and a part of its text may
@@ -223,7 +227,7 @@ both_failed words before after old new fault IsFirst text None second atpg fits 
 both_failed words before after old new fault IsFirst text (Some file) None atpg fits fit failed = absurd fit
 both_failed words before after old new fault IsFirst text (Some file) (Some it) atpg fits fit (inl failed) =
     let named : fault ≡ StoreFailed (stil_word words) = failed.fault_is ∙ ap StoreFailed fits.typed_is in
-    let out : HasOut words (stil_word words) = inr (inr (atpg, inl refl)) in
+    let out : HasOut words (stil_word words) = inr (inr (inl (atpg, inl refl))) in
     record {
       name = stil_word words;
       out = out;
@@ -240,7 +244,7 @@ both_failed words before after old new fault IsFirst text (Some file) (Some it) 
 both_failed words before after old new fault IsFirst text (Some file) (Some it) atpg fits fit (inr following) =
     let failed = following.second_is in
     let named : fault ≡ StoreFailed (report_word words) = failed.fault_is ∙ ap StoreFailed fit.typed_is in
-    let out : HasOut words (report_word words) = inr (inr (atpg, inr refl)) in
+    let out : HasOut words (report_word words) = inr (inr (inl (atpg, inr refl))) in
     record {
       name = report_word words;
       out = out;
@@ -285,6 +289,9 @@ failed_writing words before after old new fault (Matrix matrix) file second fits
     (one_failure file second old new before after fault fits.second_is failed)
 failed_writing words before after old new fault (Flatten chip net) file second fits asked failed =
     text_failed words before after old new fault (flat_out_word words) (flat_text net) file (inr (inl (asked.0, refl))) fits.first_is
+    (one_failure file second old new before after fault fits.second_is failed)
+failed_writing words before after old new fault (Grade chip chains pairs grades) file second fits asked failed =
+    text_failed words before after old new fault (report_word words) (grades_text chip grades) file (inr (inr (inr (asked.0, refl)))) fits.first_is
     (one_failure file second old new before after fault fits.second_is failed)
 failed_writing words before after old new fault (Atpg chip chains pairs aims verdicts) file second fits asked failed =
     both_failed words before after old new fault (IsStil chip chains pairs) (report_of chip verdicts) file second asked.0 fits.first_is fits.second_is failed

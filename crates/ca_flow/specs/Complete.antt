@@ -8,14 +8,16 @@ use Rattle.ca_flow.specs.declared.finished.Finished.{Finished}
 use Rattle.ca_load.specs.Texts.{Inputs, ReadAs}
 use Rattle.ca_load.specs.Chips.{IsChipOf, GiveChip}
 use Rattle.ca_linked.specs.Linked.{LinkedChip}
+use Rattle.ca_scan.specs.ChainFault.{AreAllChains}
+use Rattle.ca_patterns.specs.Patterns.{FitsPatterns}
 use Rattle.ca_linked.specs.Instances.{IsNamedGate}
 use Rattle.ca_flat.specs.Chip.{cell_at}
 use Rattle.ca_core.specs.Core.{core_of}
 use Rattle.ca_request.specs.Asked.{FitsInputs, defect_called}
 use Rattle.ca_words.specs.Words.{cells_word, cell_word, vector_word, first_word, last_word, defect_word, dash}
 use Rattle.ca_words.specs.Words.{chip_files, instance_word, chip_defect_word, chip_first_word, chip_last_word}
-use Rattle.ca_words.specs.Words.{order_word}
-use Rattle.ca_words.specs.Words.{IsRespond, IsPair, IsFlatten, IsSimulate, IsReplay}
+use Rattle.ca_words.specs.Words.{stil_word, order_word}
+use Rattle.ca_words.specs.Words.{IsRespond, IsPair, IsFlatten, IsSimulate, IsReplay, IsGrade}
 use Rattle.ca_words.specs.Words.{GeneratesTests, AsksNoFile, IsOnCell, IsOnChip}
 use Rattle.ca_on_chip.specs.OnChip.{IsPairsFault}
 use Rattle.ca_on_chip.specs.declared.replays.TheConstants.{MAX_ORDER}
@@ -78,11 +80,17 @@ pub record FitsReplay (words : List (List ℕ)) (reported : Files) (chip : Linke
   pub pair : FitsSimulate words chip
   pub events : reading.IsFileWith reported (order_word words) MAX_ORDER (HasEvents words chip)
 
+-- the file of `grade` has right patterns of the chip
+abbrev pub FitsGrade : List (List ℕ) → Files → LinkedChip → Type 0
+FitsGrade words reported chip =
+    (chains : List (List ℕ)) → AreAllChains chip chains → FitsPatterns reported (stil_word words) chip chains
+
 -- the own words of a command on a chip are of the chip
 pub record FitsOwn (words : List (List ℕ)) (reported : Files) (chip : LinkedChip) : Type 0 where
   pub flatten : IsFlatten words → FitsDefect words chip
   pub simulate : IsSimulate words → FitsSimulate words chip
   pub replay : IsReplay words → FitsReplay words reported chip
+  pub grade : IsGrade words → FitsGrade words reported chip
 
 -- the words are those of a command on a chip, the files that they name are there, are no longer than they
 -- may be, and read as what gives a chip with chains, and the command's own words are of the chip

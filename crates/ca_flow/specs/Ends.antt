@@ -5,13 +5,14 @@ use Rattle.ca_scan.specs.ChainFault.{AreAllChains}
 use Rattle.ca_load.specs.Files.{OfFile, ReportsStoreFault}
 use Rattle.ca_flow.specs.declared.finished.Done.{Done}
 use Rattle.ca_flow.specs.declared.finished.Done.TheVariants.{Respond, Pair, Defects, Matrix, Check, Flatten}
-use Rattle.ca_flow.specs.declared.finished.Done.TheVariants.{Simulate, Atpg, Replay, Make, Help, Version}
+use Rattle.ca_flow.specs.declared.finished.Done.TheVariants.{Simulate, Atpg, Replay, Grade, Make, Help}
+use Rattle.ca_flow.specs.declared.finished.Done.TheVariants.{Version}
 use Rattle.ca_flow.specs.declared.finished.Finished.{Finished}
 use Rattle.ca_words.specs.Words.{cells_word, cell_word, vector_word, first_word, last_word, defect_word, dash}
 use Rattle.ca_words.specs.Words.{chip_files, instance_word, chip_defect_word, chip_first_word, chip_last_word}
-use Rattle.ca_words.specs.Words.{budget_word, order_word, number_word}
+use Rattle.ca_words.specs.Words.{stil_word, budget_word, order_word, number_word}
 use Rattle.ca_words.specs.Words.{IsRespond, IsPair, IsDefects, IsMatrix, IsCheck, IsFlatten, IsSimulate}
-use Rattle.ca_words.specs.Words.{IsAtpg, IsReplay, IsMake}
+use Rattle.ca_words.specs.Words.{IsAtpg, IsReplay, IsGrade, IsMake}
 use Rattle.ca_words.specs.Words.{IsHelp, IsVersion}
 use Rattle.ca_on_cell.specs.Outputs.{AreValues}
 use Rattle.ca_flow.specs.Finished.{IsAnswer, Prints, Writes, ReportsSinkFault}
@@ -20,6 +21,7 @@ use Rattle.ca_on_cell.specs.Defects.{AreDefectNames, IsSoundMatrix}
 use Rattle.ca_on_chip.specs.OnChip.{IsChipOfFiles, IsTracedChipOf, IsFlatOf, AreEndsOf, AreTestsOf}
 use Rattle.ca_on_chip.specs.declared.replays.TheConstants.{MAX_ORDER}
 use Rattle.ca_on_chip.specs.Replay.{AreRunEndsOf}
+use Rattle.ca_grading.specs.Grading.{AreGradesByFile}
 use Rattle.ca_on_chip.specs.Making.{AreMadeTests}
 use Rattle.ca_flow.specs.Fault.{Outside, IsCause}
 use Rattle.ca_flow.specs.Complete.{Completes}
@@ -53,6 +55,10 @@ IsAsked words files (Replay chip ends) = IsReplay words × (IsTracedChipOf files
     (AreRunEndsOf (instance_word words) (chip_defect_word words) (chip_first_word words)
     (chip_last_word words)
     chip ends.items))
+IsAsked words files (Grade chip chains pairs grades) = IsGrade words
+    × (AreAllChains chip chains
+    × (IsChipOfFiles files (chip_files words) chip
+    × AreGradesByFile files (stil_word words) chip chains pairs grades))
 IsAsked words files (Make chip pairs aims verdicts) =
     IsMake words × AreMadeTests (number_word words) chip pairs aims verdicts
 IsAsked words files Help = IsHelp words

@@ -8,11 +8,13 @@ use Rattle.ca_store.specs.Writing.{ChangesOnly, MayWrite}
 use Rattle.ca_flat_text.specs.FlatText.{flat_text}
 use Rattle.ca_matrix.specs.Text.{text_of}
 use Rattle.ca_atpg.specs.Atpg.{IsStil, report_of, summary_text}
+use Rattle.ca_chip_grade.specs.Texts.{grades_text, grades_line}
 use Rattle.ca_fault.specs.declared.fault.Fault.{Fault}
 use Rattle.ca_fault.specs.declared.fault.Fault.TheVariants.{StoreFailed, SinkFailed}
 use Rattle.ca_flow.specs.declared.finished.Done.{Done}
 use Rattle.ca_flow.specs.declared.finished.Done.TheVariants.{Respond, Pair, Defects, Matrix, Check, Flatten}
-use Rattle.ca_flow.specs.declared.finished.Done.TheVariants.{Simulate, Atpg, Replay, Make, Help, Version}
+use Rattle.ca_flow.specs.declared.finished.Done.TheVariants.{Simulate, Atpg, Replay, Grade, Make, Help}
+use Rattle.ca_flow.specs.declared.finished.Done.TheVariants.{Version}
 use Rattle.ca_flow.specs.declared.finished.Finished.{Finished}
 use Rattle.ca_fault.specs.FaultLine.{status_of}
 use Rattle.ca_on_cell.specs.Lines.{line_of_pin, line_of_name, IsSummary}
@@ -31,6 +33,7 @@ IsReported (Flatten chip net) text = text ≡ flatten_text net
 IsReported (Simulate chip ends) text = text ≡ simulate_text chip ends.good.items ends.faulty.items
 IsReported (Atpg chip chains pairs aims verdicts) text = text ≡ summary_text verdicts (length pairs)
 IsReported (Replay chip ends) text = text ≡ replay_text chip ends.items
+IsReported (Grade chip chains pairs grades) text = text ≡ grades_line grades (length pairs)
 IsReported (Make chip pairs aims verdicts) text = text ≡ summary_text verdicts (length pairs)
 IsReported Help text = text ≡ usage_text
 IsReported Version text = text ≡ version_text
@@ -100,6 +103,8 @@ LeavesFiles words fault old new (Flatten chip net) =
     LeavesText words fault old new (flat_out_word words) (flat_text net)
 LeavesFiles words fault old new (Atpg chip chains pairs aims verdicts) =
     LeavesBoth words fault old new (IsStil chip chains pairs) (report_of chip verdicts)
+LeavesFiles words fault old new (Grade chip chains pairs grades) =
+    LeavesText words fault old new (report_word words) (grades_text chip grades)
 LeavesFiles words fault old new _ = new ≡ old
 
 -- what a command leaves of the files: where no work is reported they are as they were

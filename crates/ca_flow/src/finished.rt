@@ -10,9 +10,11 @@ use crate::usage::{usage, version};
 use crate::work::{Work, write_out};
 use ca_atpg::summary_text;
 use ca_base::NoMemory;
+use ca_chip_grade::grades_line;
 use ca_credit::Verdicts;
 use ca_fault::Fault;
 use ca_generate::Aims;
+use ca_grade::Grades;
 use ca_lex::{Names, Text};
 use ca_linked::Chip;
 use ca_matrix::Matrix;
@@ -82,6 +84,13 @@ pub enum Done {
         chip: Chip,
         ends: Vec<Trit>,
     },
+    /// A linked chip with its scan chains, the pairs of a file of patterns, and a grade for each defect.
+    Grade {
+        chip: Chip,
+        chains: Chains,
+        pairs: Pairs,
+        grades: Grades,
+    },
     /// A generated chip, the listed pairs, for each the place of the defect for which it was found, and a
     /// verdict for each defect.
     Make {
@@ -119,6 +128,7 @@ impl Done {
                 ..
             } => summary_text(alloc, verdicts, pairs.len()),
             Done::Replay { chip, ends } => replay_lines(alloc, chip, ends),
+            Done::Grade { pairs, grades, .. } => grades_line(alloc, grades, pairs.len()),
             Done::Help => usage(alloc),
             Done::Version => version(alloc),
         }
@@ -146,6 +156,11 @@ fn let_tests_go(pairs: Pairs, aims: Aims, verdicts: Verdicts) {
     let _gone = (pairs, aims, verdicts);
 }
 
+// Lets grades go.
+fn let_grades_go(pairs: Pairs, grades: Grades) {
+    let _gone = (pairs, grades);
+}
+
 // Lets a matrix go.
 fn let_matrix_go(matrix: Matrix) {
     let _gone = matrix;
@@ -170,6 +185,15 @@ fn let_done_go(done: Done) {
             let_tests_go(pairs, aims, verdicts);
         }
         Done::Replay { chip, .. } => let_chip_go(chip),
+        Done::Grade {
+            chip,
+            pairs,
+            grades,
+            ..
+        } => {
+            let_chip_go(chip);
+            let_grades_go(pairs, grades);
+        }
         Done::Make {
             chip,
             pairs,

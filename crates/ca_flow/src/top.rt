@@ -6,7 +6,7 @@ ghost use Rattle.ca_make.specs.declared.gate.TheConstants.{MOST_GATES};
 ghost use Rattle.ca_words.specs.Words.{IsCommand};
 ghost use Rattle.ca_words.specs.Command.{IsSpelled, IsSpelledAtpg, IsSpelledReplay, IsSpelledMake};
 ghost use Rattle.ca_words.specs.code.Command.{NamesBoth};
-ghost use Rattle.ca_words.specs.Command.{IsSpelledFlatten, IsSpelledMatrix};
+ghost use Rattle.ca_words.specs.Command.{IsSpelledFlatten, IsSpelledMatrix, IsSpelledGrade};
 ghost use Rattle.ca_words.specs.code.Command.{IsWhole};
 ghost use Rattle.ca_flow.specs.Fault.{IsWorkCause};
 ghost use Rattle.ca_load.specs.Files.{ReportsStoreFault};
@@ -20,6 +20,7 @@ use ca_atpg::Tested;
 use ca_base::NoMemory;
 use ca_fault::Fault;
 use ca_generate::Watch;
+use ca_grading::{GradedChip, find_grades};
 use ca_lex::Text;
 use ca_load::{Loaded, load};
 use ca_on_cell::{find_matrix, find_names, find_values};
@@ -28,7 +29,7 @@ use ca_on_chip::{
     find_simulation, find_tests,
 };
 use ca_store::{Sink, Store};
-use ca_words::{AtpgWords, Command, FlattenWords, MatrixWords, ReplayWords, parse};
+use ca_words::{AtpgWords, Command, FlattenWords, GradeWords, MatrixWords, ReplayWords, parse};
 use std::alloc::Global;
 
 /// Does one command, whose words come without the program's name. Nothing is written or printed before all
@@ -117,6 +118,7 @@ fn work_of<'a, S: Store, T: Watch>(
         }
         Command::Atpg(request) => tests_work(alloc, request, store, watch),
         Command::Replay(request) => replay_work(alloc, request, store),
+        Command::Grade(request) => grades_work(alloc, request, store, watch),
         Command::Make(number) => make_work(alloc, *number, watch),
         Command::Help => Ok(printed(Done::Help)),
         Command::Version => Ok(printed(Done::Version)),
@@ -282,6 +284,55 @@ fn replay_work<'a, S: Store>(
 {
     let ReplayedChip { chip, ends } = find_replay(alloc, request, store)?;
     Ok(printed(Done::Replay { chip, ends }))
+}
+
+// The work of `grade`.
+#[tactic(auto, using(crate::proofs::CauseLemmas::grade_asked, crate::proofs::CauseLemmas::grade_files, crate::proofs::CauseLemmas::grade_cause, crate::proofs::CauseLemmas::no_grade_sink))]
+fn grades_work<'a, S: Store, T: Watch>(
+    alloc: Global,
+    request: &GradeWords<'a>,
+    store: &mut S,
+    watch: &mut T,
+) -> Result<Work<'a>, Fault>
+    requires closed { S.opened store.old ≡ Nothing }
+
+    ensures asked { IfOk result (λ work. (words : List (List ℕ)) → IsSpelledGrade words request.now
+        → IsAsked words (S.files store.old) work.done) }
+    ensures file { IfOk result (λ work. (words : List (List ℕ)) → IsSpelledGrade words request.now
+        → HasFiles words work.done work.file work.second) }
+    ensures cause { IfErr result (λ fault. (words : List (List ℕ)) → IsSpelledGrade words request.now
+        → IsWorkCause words (S.files store.old) (S.faults store.old) (S.faults store.new) fault) }
+    ensures no_sink { IfErr result (λ fault. fault ≢ Fault.SinkFailed) }
+    ensures quiet { OnOk result (S.faults store.new ≡ S.faults store.old) }
+    ensures reported { IfErr result (λ fault.
+        ReportsStoreFault (Some fault) (S.faults store.old) (S.faults store.new)) }
+    ensures closed { S.opened store.new ≡ Nothing }
+    ensures kept { S.files store.new ≡ S.files store.old }
+{
+    let GradedChip {
+        chip,
+        chains,
+        pairs,
+        grades,
+        report,
+    } = find_grades(alloc, request, store, watch)?;
+    let done = Done::Grade {
+        chip,
+        chains,
+        pairs,
+        grades,
+    };
+    match text_file(alloc, request.report, report) {
+        Ok(file) => Ok(Work {
+            done,
+            file: Some(file),
+            second: None,
+        }),
+        Err(NoMemory) => {
+            drop(done);
+            Err(Fault::NoMemory)
+        }
+    }
 }
 
 // The work of `make`, which touches no file.

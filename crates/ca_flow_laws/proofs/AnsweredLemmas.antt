@@ -1,5 +1,5 @@
 -- A command that did its work could be answered, so that a fault of input that has a cause is reported.
-use Rattle.std.proofs.Common.{ℕ, ◌≡◌, ◌≤◌, ◌⊎◌, ◌∙◌, inl, inr, refl, sym, ap, subst, arith, List, length, Option, Some, None, Ok}
+use Rattle.std.proofs.Common.{ℕ, Bool, ◌≡◌, ◌≤◌, ◌⊎◌, ◌∙◌, inl, inr, refl, sym, ap, subst, arith, List, length, Option, Some, None, Ok}
 use Rattle.std.proofs.Common.{true≢false}
 use Rattle.std.specs.Prelude.{IfSome, IsSome, IsSomeAnd}
 use Rattle.ca_store.specs.Store.{Files}
@@ -18,8 +18,20 @@ use Rattle.ca_chip_replay.specs.ChipRun.{RunOf}
 use Rattle.ca_order.specs.declared.event.Event.{Event}
 use Rattle.ca_simulate.specs.OneRun.{ReadsRun}
 use Rattle.ca_words.specs.Words.{cells_word, cell_word, vector_word, first_word, last_word, defect_word, dash, chip_files, instance_word}
-use Rattle.ca_words.specs.Words.{chip_defect_word, chip_first_word, chip_last_word, order_word}
-use Rattle.ca_words.specs.Words.{IsCheck, IsFlatten, IsSimulate, IsAtpg, IsReplay, IsOnChip}
+use Rattle.ca_words.specs.Words.{chip_defect_word, chip_first_word, chip_last_word, order_word, stil_word}
+use Rattle.ca_words.specs.Words.{IsCheck, IsFlatten, IsSimulate, IsAtpg, IsReplay, IsGrade, IsOnChip}
+use Rattle.ca_scan.specs.ChainFault.{AreAllChains}
+use Rattle.ca_scan.proofs.AnswerLemmas.{one_answer}
+use Rattle.ca_credit.specs.declared.limit.TheConstants.{MOST_PAIRS}
+use Rattle.ca_expected.specs.Expected.{AreExpected}
+use Rattle.ca_stil_pairs.specs.File.{IsFileOf}
+use Rattle.ca_stil.specs.declared.chip.StilChip.{StilChip}
+use Rattle.ca_flat.specs.Chip as flat
+use Rattle.ca_link_laws.proofs.TraceLemmas.{one_trace}
+use Rattle.ca_patterns.specs.declared.patterns.TheConstants.{MAX_STIL}
+use Rattle.ca_patterns.specs.Patterns.{FitsPatterns, IsPatternsOf}
+use Rattle.ca_grading.specs.Grading.{ListsPairs}
+use Rattle.ca_flow_laws.proofs.StilLemmas.{same_stil}
 use Rattle.ca_on_cell.specs.Outputs.{asked_network, AreValues}
 use Rattle.ca_on_cell.specs.Cells.{HasCell, OfCell}
 use Rattle.ca_on_cell.specs.Defects.{AreDefectNames, IsSoundMatrix}
@@ -28,19 +40,20 @@ use Rattle.ca_on_chip.specs.OnChip.{IsChipOfFiles}
 use Rattle.ca_on_chip.specs.Replay.{IsAskedRun, AreRunEndsOf}
 use Rattle.ca_flow.specs.declared.finished.Done.{Done}
 use Rattle.ca_flow.specs.declared.finished.Done.TheVariants.{Respond, Pair, Defects, Matrix, Check, Flatten}
-use Rattle.ca_flow.specs.declared.finished.Done.TheVariants.{Simulate, Atpg, Replay, Make, Help, Version}
+use Rattle.ca_flow.specs.declared.finished.Done.TheVariants.{Simulate, Atpg, Replay, Grade, Make, Help, Version}
 use Rattle.ca_flow.specs.declared.finished.Finished.{Finished}
 use Rattle.ca_flow.specs.Finished.{status_reported}
 use Rattle.ca_flow.specs.Fault.{Outside, IsCause}
-use Rattle.ca_flow.specs.Complete.{FitsCell, FitsFile, FitsDefect, FitsSimulate, HasEvents, FitsReplay, FitsOwn, FitsChip, IsAnswerable}
+use Rattle.ca_flow.specs.Complete.{FitsCell, FitsFile, FitsDefect, FitsSimulate, HasEvents, FitsReplay, FitsGrade, FitsOwn, FitsChip, IsAnswerable}
 use Rattle.ca_flow.specs.Ends.{IsAsked, Ends}
 use Rattle.ca_flow_laws.specs.Same.{IsInputFault, IsCallFault, IsSame}
 use Rattle.ca_flow_laws.specs.Reported.{IsInputFile, ReportsFiles}
 use Rattle.ca_flow_laws.proofs.LinkLemmas.{traced_also}
-use Rattle.ca_flow_laws.proofs.OneLemmas.{AreOne, one_chip, NamesOne, names_one}
+use Rattle.ca_flow_laws.proofs.OneLemmas.{AreOne, one_chip, one_back, NamesOne, names_one}
 use Rattle.ca_flow_laws.proofs.OwnLemmas.{fits_also, asked_also, run_also, one_run}
 use Rattle.ca_flow_laws.proofs.CellLemmas.{respond_or_pair}
 use Rattle.ca_flow_laws.proofs.ChipLemmas.{flatten_or_simulate, flatten_or_replay, simulate_or_replay, atpg_or_flatten, atpg_or_simulate, atpg_or_replay}
+use Rattle.ca_flow_laws.proofs.ChipLemmas.{flatten_or_grade, simulate_or_grade, replay_or_grade, atpg_or_grade}
 use Rattle.ca_flow_laws.proofs.ExactLemmas.{one_cause}
 use Rattle.ca_flow_laws.proofs.PairsLemmas.{kind_of_fault, no_pairs}
 use Rattle.ca_flow_laws.proofs.FitsLemmas.{respond_or_defects, pair_or_defects, pair_or_matrix, respond_or_matrix, no_cause}
@@ -58,6 +71,9 @@ check_or_simulate words one other = let four = one.four in let eight = other.eig
 
 check_or_replay : (words : List (List ℕ)) → IsCheck words → IsReplay words → ⊥
 check_or_replay words one other = let four = one.four in let nine = other.nine in omega (arith, four, nine)
+
+check_or_grade : (words : List (List ℕ)) → IsCheck words → IsGrade words → ⊥
+check_or_grade words one other = let four = one.four in let six = other.six in omega (arith, four, six)
 
 -- what words name of a chip, they name of one that is one with it
 module _ (words : List (List ℕ)) (chip also : LinkedChip) (are : AreOne chip also) (one : NamesOne also) where
@@ -104,6 +120,7 @@ module _ (words : List (List ℕ)) (reported : Files) (chip : LinkedChip) where
     flatten = λ flatten. absurd (check_or_flatten words is flatten);
     simulate = λ simulate. absurd (check_or_simulate words is simulate);
     replay = λ replay. absurd (check_or_replay words is replay);
+    grade = λ grade. absurd (check_or_grade words is grade);
   }
 
   pub flatten_own : IsFlatten words → FitsDefect words chip → FitsOwn words reported chip
@@ -111,6 +128,7 @@ module _ (words : List (List ℕ)) (reported : Files) (chip : LinkedChip) where
     flatten = λ _. fits;
     simulate = λ simulate. absurd (flatten_or_simulate words is simulate);
     replay = λ replay. absurd (flatten_or_replay words is replay);
+    grade = λ grade. absurd (flatten_or_grade words is grade);
   }
 
   pub simulate_own : IsSimulate words → FitsSimulate words chip → FitsOwn words reported chip
@@ -118,6 +136,7 @@ module _ (words : List (List ℕ)) (reported : Files) (chip : LinkedChip) where
     flatten = λ flatten. absurd (flatten_or_simulate words flatten is);
     simulate = λ _. fits;
     replay = λ replay. absurd (simulate_or_replay words is replay);
+    grade = λ grade. absurd (simulate_or_grade words is grade);
   }
 
   pub atpg_own : IsAtpg words → FitsOwn words reported chip
@@ -125,6 +144,7 @@ module _ (words : List (List ℕ)) (reported : Files) (chip : LinkedChip) where
     flatten = λ flatten. absurd (atpg_or_flatten words is flatten);
     simulate = λ simulate. absurd (atpg_or_simulate words is simulate);
     replay = λ replay. absurd (atpg_or_replay words is replay);
+    grade = λ grade. absurd (atpg_or_grade words is grade);
   }
 
   pub replay_own : IsReplay words → FitsReplay words reported chip → FitsOwn words reported chip
@@ -132,7 +152,38 @@ module _ (words : List (List ℕ)) (reported : Files) (chip : LinkedChip) where
     flatten = λ flatten. absurd (flatten_or_replay words flatten is);
     simulate = λ simulate. absurd (simulate_or_replay words simulate is);
     replay = λ _. fits;
+    grade = λ grade. absurd (replay_or_grade words is grade);
   }
+
+  pub grade_own : IsGrade words → FitsGrade words reported chip → FitsOwn words reported chip
+  grade_own is fits = record {
+    flatten = λ flatten. absurd (flatten_or_grade words flatten is);
+    simulate = λ simulate. absurd (simulate_or_grade words simulate is);
+    replay = λ replay. absurd (replay_or_grade words replay is);
+    grade = λ _. fits;
+  }
+
+-- patterns of a chip are those of one that is one with it
+module _ (words : List (List ℕ)) (reported : Files) (chip also : LinkedChip) (are : AreOne chip also) (chains : List (List ℕ))
+    (all : AreAllChains chip chains) where
+  pub fits_grade : FitsPatterns reported (stil_word words) chip chains → FitsGrade words reported also
+  fits_grade fits others also_all = subst (FitsPatterns reported (stil_word words) also) same (record {
+    file = fits.file;
+    few = fits.few;
+    right = subst (λ (core : flat.Chip). AreExpected core fits.file.pairs fits.file.expected) are.core fits.right;
+    there = by (reported (stil_word words)) fits.there;
+  })
+    where
+      back : AreOne also chip
+      back = one_back chip also are
+
+      same : chains ≡ others
+      same = (one_answer chip).one_list chains others all ((one_trace also chip back.alike).chains others also_all)
+
+      by : (file : Option (List ℕ)) → IsSomeAnd file (λ bytes. (length bytes ≤ MAX_STIL) × IsPatternsOf chip chains fits.file bytes)
+          → IsSomeAnd file (λ bytes. (length bytes ≤ MAX_STIL) × IsPatternsOf also chains fits.file bytes)
+      by None held = held
+      by (Some bytes) (within, is) = (within, subst (λ (stil : StilChip). IsFileOf stil bytes fits.file) (same_stil chip also are.alike chains) is)
 
 module _ (words : List (List ℕ)) (files : Option Files) (reported : Files) (are : files ≡ Some reported) where
   -- what holds of the subcircuit, in another's place
@@ -180,6 +231,18 @@ module _ (words : List (List ℕ)) (files : Option Files) (reported : Files) (ar
     events = rw is (within, has_events words chip also same one bytes ends.run ends.asked ends.ends.events ends.ends.reads);
   }
 
+  -- the file lists the pairs
+  lists : (chip : LinkedChip) (chains : List (List ℕ)) (pairs : List (List Bool)) → length pairs ≤ MOST_PAIRS → (file : Option (List ℕ))
+      → reported (stil_word words) ≡ file → IsSomeAnd file (λ bytes. (length bytes ≤ MAX_STIL) × ListsPairs chip chains pairs bytes)
+      → FitsPatterns reported (stil_word words) chip chains
+  lists chip chains pairs few None is held = absurd held
+  lists chip chains pairs few (Some bytes) is (within, held) = record {
+    file = record { pairs = pairs; expected = held.expected };
+    few = few;
+    right = held.right;
+    there = rw is (within, held.is);
+  }
+
   -- work that was asked for is that of words that can be answered
   answered : (done : Done) → IsAsked words files done → IsAnswerable words files
   answered (Respond values) (is, asked) = of_file (weaker (AreValues (vector_word words) (vector_word words) dash values) (λ raw held. record {
@@ -217,8 +280,11 @@ module _ (words : List (List ℕ)) (files : Option Files) (reported : Files) (ar
       simulate_own words reported also is (fits_simulate words chip also same one held.first_fits held.last_fits held.given held.asked))
   answered (Atpg chip chains pairs aims verdicts) (is, (all, (held, tests))) =
       of_chip (inr (inr (inr (inl is)))) chip (chains, all) held (λ also same one. atpg_own words reported also is)
-  answered (Replay chip ends) (is, (traced, held)) = of_chip (inr (inr (inr (inr is)))) chip traced.traced traced.of_files (λ also same one.
+  answered (Replay chip ends) (is, (traced, held)) = of_chip (inr (inr (inr (inr (inl is))))) chip traced.traced traced.of_files (λ also same one.
       replay_own words reported also is (fits_replay chip also same one ends.items (reported (order_word words)) refl (held reported are)))
+  answered (Grade chip chains pairs grades) (is, (all, (held, graded))) = of_chip (inr (inr (inr (inr (inr is))))) chip (chains, all) held
+      (λ also same one. grade_own words reported also is (fits_grade words reported chip also same chains all
+      (lists chip chains pairs graded.few (reported (stil_word words)) refl (graded.of_file reported are))))
   answered (Make chip pairs aims verdicts) (is, asked) = inl (inr (inr is))
   answered Help is = inl (inl is)
   answered Version is = inl (inr (inl is))

@@ -3,14 +3,18 @@ use Rattle.std.proofs.Common.{ap, sym, ◌∙◌, ℕ, ◌≡◌, ◌≤◌, ◌
 use Rattle.std.specs.Prelude.{IsSomeAnd}
 use Rattle.ca_store.specs.Store.{Files}
 use Rattle.ca_linked.specs.Linked.{LinkedChip}
+use Rattle.ca_scan.specs.ChainFault.{AreAllChains}
 use Rattle.ca_fault.specs.declared.fault.Fault.{Fault}
 use Rattle.ca_fault.specs.declared.fault.Fault.TheVariants.{Order, TooManyPairs}
 use Rattle.ca_load.specs.Texts.{Inputs}
 use Rattle.ca_load.specs.Chips.{IsChipOf, IsTraced}
 use Rattle.ca_load.specs.Files.{OfFile}
 use Rattle.ca_load.specs.Causes.{IsLoadCause}
-use Rattle.ca_words.specs.Words.{chip_files, instance_word, chip_defect_word, chip_first_word, chip_last_word, order_word}
-use Rattle.ca_words.specs.Words.{IsFlatten, IsSimulate, IsAtpg, IsReplay, IsOnChip}
+use Rattle.ca_words.specs.Words.{chip_files, instance_word, chip_defect_word, chip_first_word, chip_last_word, order_word, stil_word}
+use Rattle.ca_words.specs.Words.{IsFlatten, IsSimulate, IsAtpg, IsReplay, IsGrade, IsOnChip}
+use Rattle.ca_patterns.specs.declared.patterns.TheConstants.{MAX_STIL}
+use Rattle.ca_patterns.specs.Patterns.{IsStilCause, OfTraced, GiveTraced, IsPatternsCause}
+use Rattle.ca_flow_laws.proofs.StilLemmas.{ReportsStil, AtPatterns, patterns_also, one_patterns}
 use Rattle.ca_on_chip.specs.declared.replays.TheConstants.{MAX_ORDER}
 use Rattle.ca_on_chip.specs.OnChip.{GiveChipWith, OfChip, IsSimulationCause, IsPairsFault}
 use Rattle.ca_on_chip.specs.Replay.{HasFaultyLine, HasRun, IsOrderCause}
@@ -42,14 +46,27 @@ atpg_or_simulate words one other = let seven = one.seven in let eight = other.ei
 pub atpg_or_replay : (words : List (List ℕ)) → IsAtpg words → IsReplay words → ⊥
 atpg_or_replay words one other = let seven = one.seven in let nine = other.nine in omega (arith, seven, nine)
 
+pub flatten_or_grade : (words : List (List ℕ)) → IsFlatten words → IsGrade words → ⊥
+flatten_or_grade words one other = let seven = one.seven in let six = other.six in omega (arith, seven, six)
+
+pub simulate_or_grade : (words : List (List ℕ)) → IsSimulate words → IsGrade words → ⊥
+simulate_or_grade words one other = let eight = one.eight in let six = other.six in omega (arith, eight, six)
+
+pub replay_or_grade : (words : List (List ℕ)) → IsReplay words → IsGrade words → ⊥
+replay_or_grade words one other = let nine = one.nine in let six = other.six in omega (arith, nine, six)
+
+pub atpg_or_grade : (words : List (List ℕ)) → IsAtpg words → IsGrade words → ⊥
+atpg_or_grade words one other = let seven = one.seven in let six = other.six in omega (arith, seven, six)
+
 -- what is reported of the own words of a command, of a chip
 abbrev pub AtOwn : List (List ℕ) → Files → LinkedChip → Fault → Type 0
 AtOwn words given chip fault =
     (IsFlatten words × AtDefect (instance_word words) (chip_defect_word words) chip fault)
     ⊎ ((IsSimulate words
     × AtPair (instance_word words) (chip_defect_word words) (chip_first_word words) (chip_last_word words) chip fault)
-    ⊎ (IsReplay words
-    × AtRun (instance_word words) (chip_defect_word words) (chip_first_word words) (chip_last_word words) (order_word words) given chip fault))
+    ⊎ ((IsReplay words
+    × AtRun (instance_word words) (chip_defect_word words) (chip_first_word words) (chip_last_word words) (order_word words) given chip fault)
+    ⊎ (IsGrade words × AtPatterns (stil_word words) given chip fault)))
 
 -- the inputs give a chip with chains, of which it is reported
 pub record IsOwn (words : List (List ℕ)) (given : Files) (fault : Fault) (inputs : Inputs) : Type 0 where
@@ -69,24 +86,34 @@ module _ (words : List (List ℕ)) (given : Files) where
     pair_also chip also are (instance_word words) (chip_defect_word words)
         (chip_first_word words) (chip_last_word words) fault at,
   ))
-  own_also chip also are fault (inr (inr (is, at))) = inr (inr (
+  own_also chip also are fault (inr (inr (inl (is, at)))) = inr (inr (inl (
     is,
     at_run_also chip also are (instance_word words) (chip_defect_word words)
         (chip_first_word words) (chip_last_word words) (order_word words) given fault at,
-  ))
+  )))
+  own_also chip also are fault (inr (inr (inr (is, at)))) =
+      inr (inr (inr (is, patterns_also chip also are (stil_word words) given fault at)))
 
   one_of_chip : (chip : LinkedChip) → NamesOne chip → (fault other : Fault) → AtOwn words given chip fault → AtOwn words given chip other → fault ≡ other
   one_of_chip chip one fault other (inl (is, here)) (inl (too, there)) =
       one_defect chip (instance_word words) (chip_defect_word words) fault other here there
   one_of_chip chip one fault other (inl (is, here)) (inr (inl (too, there))) = absurd (flatten_or_simulate words is too)
-  one_of_chip chip one fault other (inl (is, here)) (inr (inr (too, there))) = absurd (flatten_or_replay words is too)
+  one_of_chip chip one fault other (inl (is, here)) (inr (inr (inl (too, there)))) = absurd (flatten_or_replay words is too)
+  one_of_chip chip one fault other (inl (is, here)) (inr (inr (inr (too, there)))) = absurd (flatten_or_grade words is too)
   one_of_chip chip one fault other (inr (inl (is, here))) (inl (too, there)) = absurd (flatten_or_simulate words too is)
   one_of_chip chip one fault other (inr (inl (is, here))) (inr (inl (too, there))) =
       one_pair chip (instance_word words) (chip_defect_word words) (chip_first_word words) (chip_last_word words) fault other here there
-  one_of_chip chip one fault other (inr (inl (is, here))) (inr (inr (too, there))) = absurd (simulate_or_replay words is too)
-  one_of_chip chip one fault other (inr (inr (is, here))) (inl (too, there)) = absurd (flatten_or_replay words too is)
-  one_of_chip chip one fault other (inr (inr (is, here))) (inr (inl (too, there))) = absurd (simulate_or_replay words too is)
-  one_of_chip chip one fault other (inr (inr (is, here))) (inr (inr (too, there))) =
+  one_of_chip chip one fault other (inr (inl (is, here))) (inr (inr (inl (too, there)))) = absurd (simulate_or_replay words is too)
+  one_of_chip chip one fault other (inr (inl (is, here))) (inr (inr (inr (too, there)))) = absurd (simulate_or_grade words is too)
+  one_of_chip chip one fault other (inr (inr (inl (is, here)))) (inl (too, there)) = absurd (flatten_or_replay words too is)
+  one_of_chip chip one fault other (inr (inr (inl (is, here)))) (inr (inl (too, there))) = absurd (simulate_or_replay words too is)
+  one_of_chip chip one fault other (inr (inr (inl (is, here)))) (inr (inr (inr (too, there)))) = absurd (replay_or_grade words is too)
+  one_of_chip chip one fault other (inr (inr (inr (is, here)))) (inl (too, there)) = absurd (flatten_or_grade words too is)
+  one_of_chip chip one fault other (inr (inr (inr (is, here)))) (inr (inl (too, there))) = absurd (simulate_or_grade words too is)
+  one_of_chip chip one fault other (inr (inr (inr (is, here)))) (inr (inr (inl (too, there)))) = absurd (replay_or_grade words too is)
+  one_of_chip chip one fault other (inr (inr (inr (is, here)))) (inr (inr (inr (too, there)))) =
+      one_patterns chip (stil_word words) given fault other here there
+  one_of_chip chip one fault other (inr (inr (inl (is, here)))) (inr (inr (inl (too, there)))) =
       one_at_run chip one (instance_word words) (chip_defect_word words) (chip_first_word words) (chip_last_word words) (order_word words) given
       fault other here there
 
@@ -135,10 +162,10 @@ module _ (words : List (List ℕ)) (files : Option Files) (reported : Files) (ar
         (order_word words) files before after fault
         → AreReadAs (chip_files words) given (IsOwn words given fault)
     of_order replay (Order line) is held =
-        own_of _ (Order line) (λ chip there. inr (inr (replay, inr (by chip there)))) held
+        own_of _ (Order line) (λ chip there. inr (inr (inl (replay, inr (by chip there))))) held
       where
         same : reported (order_word words) ≡ given (order_word words)
-        same = agree (order_word words) (inr (inr (replay, refl)))
+        same = agree (order_word words) (inr (inr (inl (replay, refl))))
 
         run_in : (chip : LinkedChip) (file : Option (List ℕ)) → IsSomeAnd file (λ bytes. (length bytes ≤ MAX_ORDER)
             × HasFaultyLine (instance_word words) (chip_defect_word words) (chip_first_word words) (chip_last_word words) line chip bytes)
@@ -159,15 +186,47 @@ module _ (words : List (List ℕ)) (files : Option Files) (reported : Files) (ar
                   (given (order_word words)) P (Order line) (λ bytes faulty. (line, (refl, faulty))) file,
             )
     of_order replay fault is (held, read) = own_of (HasRun (instance_word words) (chip_defect_word words) (chip_first_word words) (chip_last_word words))
-        fault (λ chip run. inr (inr (
+        fault (λ chip run. inr (inr (inl (
           replay,
           inr (
             run,
             of_read files reported are (order_word words) (given (order_word words))
-                (agree (order_word words) (inr (inr (replay, refl)))) MAX_ORDER
+                (agree (order_word words) (inr (inr (inl (replay, refl))))) MAX_ORDER
                 (ReportsLine (instance_word words) (chip_defect_word words) (chip_first_word words) (chip_last_word words) chip) before after fault is read,
           ),
-        ))) held
+        )))) held
+
+    -- what is said of the chip of the files and its chains is said of the given ones
+    own_traced : (Holds : LinkedChip → List (List ℕ) → Type 0) (fault : Fault)
+        → ((chip : LinkedChip) (chains : List (List ℕ)) → AreAllChains chip chains → Holds chip chains → AtOwn words given chip fault)
+        → OfTraced files (chip_files words) Holds → AreReadAs (chip_files words) given (IsOwn words given fault)
+    own_traced Holds fault next held =
+        let found = held reported are in
+        let it = found.1.1 in (
+          found.0,
+          (
+            read_given files reported are (chip_files words) given of_names found.0 found.1.0,
+            record { chip = it.chip; is = it.is; traced = (it.chains, it.all); at = next it.chip it.chains it.all it.holds },
+          ),
+        )
+
+    of_patterns : IsGrade words → (fault : Fault) → IsInputFault fault
+        → IsPatternsCause (chip_files words) (stil_word words) files before after fault
+        → AreReadAs (chip_files words) given (IsOwn words given fault)
+    of_patterns grade fault is (inl (held, read)) = own_traced _ fault (λ chip chains all there. inr (inr (inr (
+      grade,
+      of_read files reported are (stil_word words) (given (stil_word words)) (agree (stil_word words) (inr (inr (inr (grade, refl))))) MAX_STIL
+          (ReportsStil chip) before after fault is read,
+    )))) held
+    of_patterns grade fault is (inr (word, held)) =
+        own_traced (λ chip chains. OfFile files (stil_word words) MAX_STIL (IsStilCause chip chains fault)) fault
+        (λ chip chains all there. inr (inr (inr (
+          grade,
+          of_bytes MAX_STIL (stil_word words) (ReportsStil chip) (given (stil_word words)) (IsStilCause chip chains fault) fault
+              (λ bytes cause. (chains, (all, cause)))
+              (of_file files reported are (stil_word words) (given (stil_word words)) (agree (stil_word words) (inr (inr (inr (grade, refl)))))
+              MAX_STIL (IsStilCause chip chains fault) there),
+        )))) held
 
     of_own : (fault : Fault) → IsInputFault fault → IsOwnCause words files before after fault
         → AreReadAs (chip_files words) given (IsOwn words given fault)
@@ -181,14 +240,15 @@ module _ (words : List (List ℕ)) (files : Option Files) (reported : Files) (ar
               chip fault cause,
         ))) held
     of_own fault is (inr (inr (inl (atpg, cause)))) = absurd (pairs_input fault is cause.many.0)
-    of_own fault is (inr (inr (inr (replay, inl (word, held))))) =
+    of_own fault is (inr (inr (inr (inr (grade, cause))))) = of_patterns grade fault is cause
+    of_own fault is (inr (inr (inr (inl (replay, inl (word, held)))))) =
         own_of (IsSimulationCause (instance_word words) (chip_defect_word words) (chip_first_word words) (chip_last_word words) fault) fault
-        (λ chip cause. inr (inr (
+        (λ chip cause. inr (inr (inl (
           replay,
           inl (of_simulation (instance_word words) (chip_defect_word words) (chip_first_word words) (chip_last_word words)
               chip fault cause),
-        ))) held
-    of_own fault is (inr (inr (inr (replay, inr order)))) = of_order replay fault is order
+        )))) held
+    of_own fault is (inr (inr (inr (inl (replay, inr order))))) = of_order replay fault is order
 
     -- what the store has is reported of the given files
     pub of_work : (fault : Fault) → IsInputFault fault

@@ -22,3 +22,4 @@ pub mod GivenLemmas
 pub mod NeitherLemmas
 pub mod NameLemmas
 pub mod PatternLemmas
+pub mod StilLemmas

@@ -45,7 +45,7 @@ use Rattle.ca_load.specs.Causes.{IsTextCause, IsModuleCause, IsRecordCause, HasL
 use Rattle.ca_request.specs.Asked.{IsDefectCause}
 use Rattle.ca_chip_replay.specs.ChipRun.{RunOf}
 use Rattle.ca_words.specs.Words.{chip_files, instance_word, chip_defect_word, chip_first_word, chip_last_word, order_word}
-use Rattle.ca_words.specs.Words.{IsFlatten, IsSimulate, IsReplay, IsOnChip}
+use Rattle.ca_words.specs.Words.{IsFlatten, IsSimulate, IsReplay, IsGrade, IsOnChip}
 use Rattle.ca_on_chip.specs.declared.replays.TheConstants.{MAX_ORDER}
 use Rattle.ca_on_chip.specs.OnChip.{GiveChipWith, OfChip, IsDefectWord, IsVectorWord, IsSimulationCause}
 use Rattle.ca_on_chip.specs.Replay.{IsAskedRun, HasFaultyLine, HasRun}
@@ -88,7 +88,7 @@ tracing_reported chip (Limit limit.Chains count) cause = (tt, tt)
 tracing_reported chip fault cause = absurd cause
 
 module _ (words : List (List ℕ)) (outside : Outside) (reported : Files) (are : outside.files ≡ Some reported) (on : IsOnChip words)
-    (there : (name : List ℕ) → IsInputFile words name → IsSome (reported name)) (no_answer : IsAnswerable words outside.files → ⊥)
+    (not_grade : ¬ (IsGrade words)) (there : (name : List ℕ) → IsInputFile words name → IsSome (reported name)) (no_answer : IsAnswerable words outside.files → ⊥)
     (no_cause : (fault : Fault) → IsInputFault fault → IsCause words outside outside fault → ⊥) where
   no_load : (fault : Fault) → IsInputFault fault
       → IsLoadCause (chip_files words) outside.files outside.store_faults outside.store_faults fault → ⊥
@@ -311,7 +311,7 @@ module _ (words : List (List ℕ)) (outside : Outside) (reported : Files) (are :
       at_events replay run asked = by (within_or_past (length found.0) MAX_ORDER)
         where
           found : (bytes : List ℕ) × (reported (order_word words) ≡ Some bytes)
-          found = bytes_of (order_word words) (inr (inr (replay, refl)))
+          found = bytes_of (order_word words) (inr (inr (inl (replay, refl))))
 
           by : (length found.0 ≤ MAX_ORDER) ⊎ (MAX_ORDER < length found.0) → ⊥
           by (inl within) = events_or run found.0
@@ -320,33 +320,33 @@ module _ (words : List (List ℕ)) (outside : Outside) (reported : Files) (are :
                 events = file_with (order_word words) found.0 MAX_ORDER found.1 (HasEvents words also) within
                     (has_events words chip also same names found.0 run asked events reads);
               })))
-              (λ line faulty. no_own (Order line) tt (inr (inr (inr (
+              (λ line faulty. no_own (Order line) tt (inr (inr (inr (inl (
                 replay,
                 inr (of_chip (λ chip. OfFile outside.files (order_word words) MAX_ORDER
                     (HasFaultyLine (instance_word words) (chip_defect_word words) (chip_first_word words) (chip_last_word words) line chip))
                     (in_file (order_word words) found.0 MAX_ORDER found.1
                     (HasFaultyLine (instance_word words) (chip_defect_word words) (chip_first_word words) (chip_last_word words) line chip)
                     within (record { run = run; asked = asked; faulty = faulty }))),
-              )))))
-          by (inr past) = no_own (TooLong (order_word words) (MAX_ORDER + 1)) tt (inr (inr (inr (
+              ))))))
+          by (inr past) = no_own (TooLong (order_word words) (MAX_ORDER + 1)) tt (inr (inr (inr (inl (
             replay,
             inr (
               of_chip (HasRun (instance_word words) (chip_defect_word words) (chip_first_word words) (chip_last_word words)) (run, asked),
               too_long (order_word words) found.0 MAX_ORDER found.1 past,
             ),
-          ))))
+          )))))
 
       at_replay : IsReplay words → ⊥
       at_replay replay = simulate_or words chip one (λ fault cause.
           let reports = simulation_reported (instance_word words) (chip_defect_word words) (chip_first_word words) (chip_last_word words) chip fault cause in
-          no_own fault reports.0 (inr (inr (inr (
+          no_own fault reports.0 (inr (inr (inr (inl (
             replay,
             inl (
               reports.1,
               of_chip (IsSimulationCause (instance_word words) (chip_defect_word words)
                   (chip_first_word words) (chip_last_word words) fault) cause,
             ),
-          )))))
+          ))))))
           (λ fits. let run = has_run words chip replay.defect fits in at_events replay run.0 run.1)
 
       at_chip : IsOnChip words → ⊥
@@ -354,7 +354,8 @@ module _ (words : List (List ℕ)) (outside : Outside) (reported : Files) (are :
       at_chip (inr (inl flatten)) = at_flatten flatten
       at_chip (inr (inr (inl simulate))) = at_simulate simulate
       at_chip (inr (inr (inr (inl atpg)))) = own_answer (λ also same names. atpg_own words reported also atpg)
-      at_chip (inr (inr (inr (inr replay)))) = at_replay replay
+      at_chip (inr (inr (inr (inr (inl replay))))) = at_replay replay
+      at_chip (inr (inr (inr (inr (inr grade))))) = not_grade grade
 
     at_inputs : ⊥
     at_inputs = either ((chip : LinkedChip) × IsChipOf inputs chip) (λ found. elim found [
@@ -370,11 +371,11 @@ module _ (words : List (List ℕ)) (outside : Outside) (reported : Files) (are :
 
 -- not neither
 pub never_neither : (words : List (List ℕ)) (outside : Outside) → ReportsAllFiles words outside → IsOnChip words
-    → ¬ (¬ (IsAnswerable words outside.files ⊎ HasInputCause words outside))
-never_neither words outside reports on refutes = by outside.files refl reports
+    → ¬ (IsGrade words) → ¬ (¬ (IsAnswerable words outside.files ⊎ HasInputCause words outside))
+never_neither words outside reports on not_grade refutes = by outside.files refl reports
   where
     by : (files : Option Files) → outside.files ≡ files
         → IsSomeAnd files (λ reported. (name : List ℕ) → IsInputFile words name → IsSome (reported name)) → ⊥
     by None are reports = reports
     by (Some reported) are reports =
-        neither words outside reported are on reports (λ answer. refutes (inl answer)) (λ fault is cause. refutes (inr (fault, (is, cause))))
+        neither words outside reported are on not_grade reports (λ answer. refutes (inl answer)) (λ fault is cause. refutes (inr (fault, (is, cause))))

@@ -16,7 +16,7 @@ use Rattle.ca_flow.specs.Fault.{Outside, IsOwnCause, IsWorkCause, IsCause}
 use Rattle.ca_flow_laws.specs.Same.{IsInputFault, IsCallFault}
 use Rattle.ca_flow_laws.specs.Reported.{IsInputFile, ReportsFiles}
 use Rattle.ca_flow_laws.proofs.LoadLemmas.{read_given, no_load}
-use Rattle.ca_flow_laws.proofs.ChipLemmas.{atpg_or_flatten, atpg_or_simulate, atpg_or_replay, AtOwn}
+use Rattle.ca_flow_laws.proofs.ChipLemmas.{atpg_or_flatten, atpg_or_simulate, atpg_or_replay, atpg_or_grade, AtOwn}
 use Rattle.ca_flow_laws.proofs.ExactLemmas.{AtWords, of_cause}
 
 -- a fault is one of a call or of memory, one of input, or has pairs
@@ -78,9 +78,11 @@ module _ (words : List (List ℕ)) (pairs : _) (aims : _) (files : Option Files)
   of_own (inr (inl (is, (inl word, held)))) = absurd word
   of_own (inr (inl (is, (inr word, held)))) = absurd word
   of_own (inr (inr (inl (is, cause)))) = inl (is, (cause.budget, cause.many.1))
-  of_own (inr (inr (inr (is, inl (inl word, held))))) = absurd word
-  of_own (inr (inr (inr (is, inl (inr word, held))))) = absurd word
-  of_own (inr (inr (inr (is, inr (held, read))))) = absurd read
+  of_own (inr (inr (inr (inl (is, inl (inl word, held)))))) = absurd word
+  of_own (inr (inr (inr (inl (is, inl (inr word, held)))))) = absurd word
+  of_own (inr (inr (inr (inl (is, inr (held, read)))))) = absurd read
+  of_own (inr (inr (inr (inr (is, inl (held, read)))))) = absurd read
+  of_own (inr (inr (inr (inr (is, inr (word, held)))))) = absurd word
 
   of_work : IsWorkCause words files before after (TooManyPairs pairs aims) → IsGenerating words files (TooManyPairs pairs aims)
   of_work (inl (is, cause)) = absurd (no_value (vector_word words) (vector_word words) dash cause)
@@ -104,7 +106,8 @@ generates words before after fault many cause = absurd many
 no_own_words : (words : List (List ℕ)) (given : Files) (chip : _) (fault : Fault) → IsAtpg words → AtOwn words given chip fault → ⊥
 no_own_words words given chip fault is (inl (flatten, at)) = atpg_or_flatten words is flatten
 no_own_words words given chip fault is (inr (inl (simulate, at))) = atpg_or_simulate words is simulate
-no_own_words words given chip fault is (inr (inr (replay, at))) = atpg_or_replay words is replay
+no_own_words words given chip fault is (inr (inr (inl (replay, at)))) = atpg_or_replay words is replay
+no_own_words words given chip fault is (inr (inr (inr (grade, at)))) = atpg_or_grade words is grade
 
 module _ (words : List (List ℕ)) (given : Files) (other : Fault) where
   -- a chip that has too many pairs is one of which nothing is reported

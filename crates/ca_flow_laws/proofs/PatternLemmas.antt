@@ -13,6 +13,8 @@ use Rattle.ca_stil_form.specs.Value.{stil_value}
 use Rattle.ca_stil_laws.specs.Laws.{IsNamedLink, ChipTextIsRead}
 use Rattle.ca_stil_laws.specs.Names.{PortsAreNamed}
 use Rattle.ca_chip_stil.specs.ChipStil.{stil_chip}
+use Rattle.ca_stil_pairs.specs.Laws.{IsReadBack}
+use Rattle.ca_chip_pairs.specs.Laws.{WrittenChipIsReadBack}
 use Rattle.ca_atpg.specs.Atpg.{IsStil}
 use Rattle.ca_atpg.proofs.AtpgLemmas.{task_pairs_fit, are_of_chip}
 use Rattle.ca_load.specs.Texts.{Inputs, ReadAs}
@@ -50,8 +52,8 @@ asked_of : (words : List (List ℕ)) (files : Option Files) (done : Option Done)
     → IfSome done (IsAsked words files) → IsAsked words files it
 asked_of words files done it at held = subst (λ (o : Option Done). IfSome o (IsAsked words files)) at held
 
-pub text_is_read : ChipTextIsRead → PortsAreNamed → AtpgTextIsRead
-text_is_read reads ports words before after end chip chains pairs aims verdicts text some ends at is =
+pub text_is_read : ChipTextIsRead → PortsAreNamed → WrittenChipIsReadBack → AtpgTextIsRead
+text_is_read reads ports written words before after end chip chains pairs aims verdicts text some ends at is =
     let asked = asked_of words before.files end.done (Atpg chip chains pairs aims verdicts) at ends.asked in
     let link = with_inputs before.files words chip ports some asked.1.1.0 in
     let tests = asked.1.1.1 in
@@ -62,4 +64,6 @@ text_is_read reads ports words before after end chip chains pairs aims verdicts 
       are_expected = is.are_expected;
       reads = ap (λ (bytes : List ℕ). whole stil_form (tokens_of bytes)) is.is
           ∙ reads link.0.netlist link.0.library link.0.rows chip chains pairs is.expected link.1 of_chip;
+      back = subst (λ (bytes : List ℕ). IsReadBack (stil_chip chip chains) bytes pairs is.expected) (sym is.is)
+          (written link.0.netlist link.0.library link.0.rows chip chains pairs is.expected link.1 of_chip);
     }

@@ -10,6 +10,7 @@ use Rattle.ca_stil_form.specs.Reading.{whole}
 use Rattle.ca_stil_form.specs.Whole.{stil_form}
 use Rattle.ca_stil_form.specs.Value.{stil_value}
 use Rattle.ca_chip_stil.specs.ChipStil.{stil_chip}
+use Rattle.ca_stil_pairs.specs.Laws.{IsReadBack}
 use Rattle.ca_atpg.specs.Atpg.{IsStil}
 use Rattle.ca_flow.specs.declared.finished.Done.TheVariants.{Atpg}
 use Rattle.ca_flow.specs.declared.finished.Finished.{Finished}
@@ -17,12 +18,14 @@ use Rattle.ca_flow.specs.Fault.{Outside}
 use Rattle.ca_flow.specs.Ends.{Ends}
 
 -- the text reads, by the grammar of the form, as the chip's signals, groups and chains with these pairs and
--- what the good chip ends with under each
+-- what the good chip ends with under each; so a file with this text gives `grade` these pairs and values, and
+-- has no fault
 pub record ReadsBack (chip : LinkedChip) (chains : List (List ℕ)) (pairs : List (List Bool)) (text : List ℕ)
     : Type 0 where
   pub expected : List (List Trit)
   pub are_expected : AreExpected (core_of chip) pairs expected
   pub reads : whole stil_form (tokens_of text) ≡ Ok (stil_value (stil_chip chip chains) pairs expected)
+  pub back : IsReadBack (stil_chip chip chains) text pairs expected
 
 -- where `atpg` does its work, and the store's files are known, the text of the pairs reads back: that is the
 -- text which STIL holds after status 0

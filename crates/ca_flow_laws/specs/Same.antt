@@ -4,8 +4,9 @@ use Rattle.ca_wiring.specs.declared.fault.ChipFault.TheVariants as rule
 use Rattle.ca_fault.specs.declared.fault.Fault.{Fault}
 use Rattle.ca_fault.specs.declared.fault.Fault.TheVariants.{BadWords, Cells, Netlist, Scan, Chip, Chain}
 use Rattle.ca_fault.specs.declared.fault.Fault.TheVariants.{NoCell, Cell, BadVector, NoInstance, NoDefect}
-use Rattle.ca_fault.specs.declared.fault.Fault.TheVariants.{Order, Stil, StilChip, Expected, TooLong, TooManyPairs}
-use Rattle.ca_fault.specs.declared.fault.Fault.TheVariants.{Limit, StoreFailed, SinkFailed, NoMemory}
+use Rattle.ca_fault.specs.declared.fault.Fault.TheVariants.{Order, Stil, StilChip, Expected, TooLong}
+use Rattle.ca_fault.specs.declared.fault.Fault.TheVariants.{TooManyPairs, Limit, StoreFailed, SinkFailed}
+use Rattle.ca_fault.specs.declared.fault.Fault.TheVariants.{NoMemory}
 
 -- the faults of what a command was given: of its words, and of the contents and the size of its files
 abbrev pub IsInputFault : Fault → Type 0

@@ -171,7 +171,7 @@ same_scan f none (Scan nets) (Gate cell inputs outputs) alike = absurd alike
 same_scan f none (Scan nets) (Scan others) alike = ap (λ pins. f (Scan pins)) alike
 
 module _ (chip also : LinkedChip) (alike : AreAlike chip also) where
-  on_path : (net : ℕ) → is_scan_path chip net ≡ is_scan_path also net
+  pub on_path : (net : ℕ) → is_scan_path chip net ≡ is_scan_path also net
   on_path net = any_same (λ part. has (path_nets part.body) net) (λ part. has (path_nets part.body) net) chip.parts also.parts alike.same_parts
       (λ u part other at at_other. ap (λ (nets : List ℕ). has nets net)
       (same_scan path_nets (λ cell inputs outputs. refl) part.body other.body (alike.parts u part other at at_other).body))

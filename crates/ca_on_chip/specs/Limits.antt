@@ -50,3 +50,4 @@ pub record LimitTexts : Type 0 where
   pub outputs : most_text limit.Outputs ≡ codes " outputs, at most " ++ decimal MOST_CHIP_OUTPUTS
   pub defects : most_text limit.Defects ≡ codes " defects, at most " ++ decimal MOST_CHIP_DEFECTS
   pub chains : most_text limit.Chains ≡ codes " chains, at most " ++ decimal MOST_CHAINS
+  pub pairs : most_text limit.Pairs ≡ codes " pairs, at most " ++ decimal MOST_PAIRS

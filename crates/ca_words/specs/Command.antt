@@ -11,16 +11,17 @@ use Rattle.ca_words.specs.declared.words.FlattenWords.{FlattenWords}
 use Rattle.ca_words.specs.declared.words.SimulateWords.{SimulateWords}
 use Rattle.ca_words.specs.declared.words.AtpgWords.{AtpgWords}
 use Rattle.ca_words.specs.declared.words.ReplayWords.{ReplayWords}
+use Rattle.ca_words.specs.declared.words.GradeWords.{GradeWords}
 use Rattle.ca_words.specs.declared.words.Command.{Command}
 use Rattle.ca_words.specs.declared.words.Command.TheVariants.{Respond, Pair, Defects, Matrix, Check, Flatten}
-use Rattle.ca_words.specs.declared.words.Command.TheVariants.{Simulate, Atpg, Replay, Make, Help, Version}
+use Rattle.ca_words.specs.declared.words.Command.TheVariants.{Simulate, Atpg, Replay, Grade, Make, Help, Version}
 use Rattle.ca_words.specs.Words.{cells_word, cell_word, vector_word, first_word, last_word, defect_word}
 use Rattle.ca_words.specs.Words.{out_word, dash}
 use Rattle.ca_words.specs.Words.{chip_files, instance_word, chip_defect_word, flat_out_word, chip_first_word}
 use Rattle.ca_words.specs.Words.{chip_last_word}
 use Rattle.ca_words.specs.Words.{stil_word, report_word, budget_word, order_word, number_word}
 use Rattle.ca_words.specs.Words.{IsRespond, IsPair, IsDefects, IsMatrix, IsCheck, IsFlatten, IsSimulate}
-use Rattle.ca_words.specs.Words.{IsAtpg, IsReplay}
+use Rattle.ca_words.specs.Words.{IsAtpg, IsReplay, IsGrade}
 use Rattle.ca_words.specs.Words.{IsMake, IsHelp, IsVersion}
 
 -- the file and the cell of a command are those of the words
@@ -95,6 +96,13 @@ pub record IsSpelledReplay (words : List (List ℕ)) (request : ReplayWords) : T
   pub last : request.of.last.now ≡ chip_last_word words
   pub order : request.order.now ≡ order_word words
 
+-- the words are these of `grade`
+pub record IsSpelledGrade (words : List (List ℕ)) (request : GradeWords) : Type 0 where
+  pub is : IsGrade words
+  pub files : names_of request.files ≡ chip_files words
+  pub stil : request.stil.now ≡ stil_word words
+  pub report : request.report.now ≡ report_word words
+
 -- the words are these of `make`
 pub record IsSpelledMake (words : List (List ℕ)) (number : ℕ) : Type 0 where
   pub is : IsMake words
@@ -111,6 +119,7 @@ IsSpelled words (Flatten request) = IsSpelledFlatten words request
 IsSpelled words (Simulate request) = IsSpelledSimulate words request
 IsSpelled words (Atpg request) = IsSpelledAtpg words request
 IsSpelled words (Replay request) = IsSpelledReplay words request
+IsSpelled words (Grade request) = IsSpelledGrade words request
 IsSpelled words (Make number) = IsSpelledMake words number
 IsSpelled words Help = IsHelp words
 IsSpelled words Version = IsVersion words

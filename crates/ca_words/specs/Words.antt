@@ -72,11 +72,11 @@ chip_last_word words = word_at words 7
 abbrev pub order_word : List (List ℕ) → List ℕ
 order_word words = word_at words 8
 
--- the file of patterns that `atpg` writes
+-- the file of patterns that `atpg` writes, and `grade` reads
 abbrev pub stil_word : List (List ℕ) → List ℕ
 stil_word words = word_at words 4
 
--- the report that `atpg` writes
+-- the report that `atpg` and `grade` write
 abbrev pub report_word : List (List ℕ) → List ℕ
 report_word words = word_at words 5
 
@@ -205,6 +205,15 @@ pub record IsReplay (words : List (List ℕ)) : Type 0 where
   pub last : IsVector (chip_last_word words)
   pub order : IsOtherFile (order_word words) (cells_word words) (netlist_word words) (scan_word words)
 
+-- the words are `grade CELLS NETLIST SCAN STIL REPORT`
+pub record IsGrade (words : List (List ℕ)) : Type 0 where
+  pub six : length words ≡ 6
+  pub command : word_at words 0 ≡ codes "grade"
+  pub files : HasChipFiles words
+  pub stil : IsOtherFile (stil_word words) (cells_word words) (netlist_word words) (scan_word words)
+  pub report : IsOtherFile (report_word words) (cells_word words) (netlist_word words) (scan_word words)
+  pub others : report_word words ≢ stil_word words
+
 -- the one word is `--help`
 pub record IsHelp (words : List (List ℕ)) : Type 0 where
   pub one : length words ≡ 1
@@ -235,7 +244,8 @@ IsOnCell words = IsRespond words ⊎ (IsPair words ⊎ (IsDefects words ⊎ IsMa
 
 -- the words are those of a command on a chip
 abbrev pub IsOnChip : List (List ℕ) → Type 0
-IsOnChip words = IsCheck words ⊎ (IsFlatten words ⊎ (IsSimulate words ⊎ (IsAtpg words ⊎ IsReplay words)))
+IsOnChip words = IsCheck words
+    ⊎ (IsFlatten words ⊎ (IsSimulate words ⊎ (IsAtpg words ⊎ (IsReplay words ⊎ IsGrade words))))
 
 -- the words are those of a command
 abbrev pub IsCommand : List (List ℕ) → Type 0
@@ -246,4 +256,5 @@ abbrev pub HasOut : List (List ℕ) → List ℕ → Type 0
 HasOut words name =
     (IsMatrix words × (name ≡ out_word words))
     ⊎ ((IsFlatten words × (name ≡ flat_out_word words))
-    ⊎ (IsAtpg words × ((name ≡ stil_word words) ⊎ (name ≡ report_word words))))
+    ⊎ ((IsAtpg words × ((name ≡ stil_word words) ⊎ (name ≡ report_word words)))
+    ⊎ (IsGrade words × (name ≡ report_word words))))

@@ -5,13 +5,13 @@ ghost use Rattle.std.specs.String.{string_bytes};
 ghost use Rattle.ca_load.specs.Texts.{names_of};
 ghost use Rattle.ca_request.specs.Asked.{AreBothOrNeither};
 ghost use Rattle.ca_words.specs.Words.{file_called, AreChipFiles, IsOtherFile};
-ghost use Rattle.ca_words.specs.Words.{IsCheck, IsFlatten, IsSimulate, IsAtpg, IsReplay};
+ghost use Rattle.ca_words.specs.Words.{IsCheck, IsFlatten, IsSimulate, IsAtpg, IsReplay, IsGrade};
 ghost use Rattle.ca_words.specs.Command.{IsSpelledCheck, IsSpelledFlatten, IsSpelledSimulate};
-ghost use Rattle.ca_words.specs.Command.{IsSpelledAtpg, IsSpelledReplay};
+ghost use Rattle.ca_words.specs.Command.{IsSpelledAtpg, IsSpelledReplay, IsSpelledGrade};
 
 use crate::budget::budget_of;
 use crate::checks::{is_file_name, is_vector};
-use crate::words::{AtpgWords, ChipWords, FlattenWords, ReplayWords, SimulateWords};
+use crate::words::{AtpgWords, ChipWords, FlattenWords, GradeWords, ReplayWords, SimulateWords};
 use ca_load::FileNames;
 
 /// The words of `check`, if they spell it.
@@ -148,6 +148,30 @@ pub(crate) fn parse_replay(words: &[String]) -> Option<ReplayWords<'_>>
                 last: last.as_str(),
             },
             order: order.as_str(),
+        })
+    } else {
+        None
+    }
+}
+
+/// Those of `grade`.
+pub(crate) fn parse_grade(words: &[String]) -> Option<GradeWords<'_>>
+    ensures found { IfSome result (IsSpelledGrade (map string_bytes words.now)) }
+    ensures none { IsNone result → ¬ (IsGrade (map string_bytes words.now)) }
+{
+    let [command, cells, netlist, scan, stil, report] = words else {
+        return None;
+    };
+    if command.as_str() == "grade"
+        && are_chip_files(cells, netlist, scan)
+        && is_other_file(stil, cells, netlist, scan)
+        && is_other_file(report, cells, netlist, scan)
+        && report.as_str() != stil.as_str()
+    {
+        Some(GradeWords {
+            files: files_called(cells, netlist, scan),
+            stil: stil.as_str(),
+            report: report.as_str(),
         })
     } else {
         None

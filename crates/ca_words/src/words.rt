@@ -8,7 +8,9 @@ ghost use Rattle.ca_words.specs.Command.{IsSpelledMake, IsSpelled};
 
 use crate::budget::chip_number_of;
 use crate::checks::{is_file_name, is_vector};
-use crate::chip_words::{parse_atpg, parse_check, parse_flatten, parse_replay, parse_simulate};
+use crate::chip_words::{
+    parse_atpg, parse_check, parse_flatten, parse_grade, parse_replay, parse_simulate,
+};
 use ca_load::FileNames;
 
 /// A command, with its words as they were typed.
@@ -32,6 +34,8 @@ pub enum Command<'a> {
     Replay(ReplayWords<'a>),
     /// `atpg CELLS NETLIST SCAN STIL REPORT BUDGET`.
     Atpg(AtpgWords<'a>),
+    /// `grade CELLS NETLIST SCAN STIL REPORT`.
+    Grade(GradeWords<'a>),
     /// `make N`, with the number.
     Make(u32),
     /// `--help`.
@@ -95,6 +99,14 @@ pub struct AtpgWords<'a> {
     pub budget: u32,
 }
 
+/// The words of a command that grades the defects of a chip by the patterns in a file.
+#[derive(Clone, Copy)]
+pub struct GradeWords<'a> {
+    pub files: FileNames<'a>,
+    pub stil: &'a str,
+    pub report: &'a str,
+}
+
 /// The words of a command that replays one run of a chip, whose events are in a file.
 #[derive(Clone, Copy)]
 pub struct ReplayWords<'a> {
@@ -149,6 +161,8 @@ fn parse_on_chip(words: &[String]) -> Option<Command<'_>>
         Some(Command::Atpg(request))
     } else if let Some(request) = parse_replay(words) {
         Some(Command::Replay(request))
+    } else if let Some(request) = parse_grade(words) {
+        Some(Command::Grade(request))
     } else {
         None
     }

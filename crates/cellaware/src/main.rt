@@ -15,6 +15,9 @@ use std::process::ExitCode;
 // The word before a command whose progress is to be reported.
 const PROGRESS: &str = "--progress";
 
+// The command whose progress is counted in pairs; that of the others is in defects.
+const GRADE: &str = "grade";
+
 fn main(rt: HostRuntime) -> ExitCode {
     let mut errors = StdSink::errors(rt.stderr());
     let status = match gather(rt) {
@@ -23,7 +26,12 @@ fn main(rt: HostRuntime) -> ExitCode {
             let command = if is_watched { &words[1..] } else { &words[..] };
             let mut store = FileStore::new(rt);
             let mut output = StdSink::output(rt.stdout());
-            let mut progress = Progress::new(rt, is_watched);
+            let unit = if is_first(command, GRADE) {
+                "pairs"
+            } else {
+                "defects"
+            };
+            let mut progress = Progress::new(rt, is_watched, unit);
             answer(
                 rt.alloc(),
                 command,

@@ -10,8 +10,8 @@ const PAUSE: u64 = 1;
 // As long as a line may be.
 const BLANK: &[u8] = b"                                                            \r";
 
-/// Writes how many defects have had their turn on one line of the standard error, at most once a second, and
-/// clears it at the end. Where it isn't wanted, or the clock or the output fails, it writes nothing.
+/// Writes how many defects, or pairs, have had their turn on one line of the standard error, at most once a
+/// second, and clears it at the end. Where it isn't wanted, or the clock or the output fails, it writes nothing.
 #[derive(Drop)]
 pub(crate) struct Progress {
     rt: HostRuntime,
@@ -19,11 +19,12 @@ pub(crate) struct Progress {
     // when a line was written last, or the work begun
     before: Option<Instant>,
     is_shown: bool,
+    unit: &'static str,
 }
 
 impl Progress {
     /// The work begins now. Nothing is written unless it is wanted.
-    pub(crate) fn new(rt: HostRuntime, is_wanted: bool) -> Self {
+    pub(crate) fn new(rt: HostRuntime, is_wanted: bool, unit: &'static str) -> Self {
         let before = if is_wanted {
             Instant::now(&rt).ok()
         } else {
@@ -34,6 +35,7 @@ impl Progress {
             errors: rt.stderr(),
             before,
             is_shown: false,
+            unit,
         }
     }
 
@@ -62,7 +64,8 @@ impl Watch for Progress {
         if done >= of {
             self.clear();
         } else if self.is_due() {
-            let _written = write!(self.errors, "{done} of {of} defects\r");
+            let unit = self.unit;
+            let _written = write!(self.errors, "{done} of {of} {unit}\r");
             self.is_shown = true;
             self.before = Instant::now(&self.rt).ok();
         }

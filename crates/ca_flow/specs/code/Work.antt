@@ -6,10 +6,11 @@ use Rattle.ca_store.specs.Writing.{ChangesOnly, MayWrite}
 use Rattle.ca_flat_text.specs.FlatText.{flat_text}
 use Rattle.ca_matrix.specs.Text.{text_of}
 use Rattle.ca_atpg.specs.Atpg.{IsStil, report_of}
+use Rattle.ca_chip_grade.specs.Texts.{grades_text}
 use Rattle.ca_fault.specs.declared.fault.Fault.{Fault}
 use Rattle.ca_fault.specs.declared.fault.Fault.TheVariants.{StoreFailed, SinkFailed}
 use Rattle.ca_flow.specs.declared.finished.Done.{Done}
-use Rattle.ca_flow.specs.declared.finished.Done.TheVariants.{Matrix, Flatten, Atpg}
+use Rattle.ca_flow.specs.declared.finished.Done.TheVariants.{Matrix, Flatten, Atpg, Grade}
 use Rattle.ca_flow.specs.declared.finished.Finished.{Finished}
 use Rattle.ca_flow.specs.declared.work.OutFile.{OutFile}
 use Rattle.ca_words.specs.Words.{out_word, flat_out_word, stil_word, report_word}
@@ -35,6 +36,8 @@ HasFile words (Matrix matrix) file = IsSomeAnd file (IsOutFile (out_word words) 
 HasFile words (Flatten chip net) file = IsSomeAnd file (IsOutFile (flat_out_word words) (flat_text net))
 HasFile words (Atpg chip chains pairs aims verdicts) file =
     IsSomeAnd file (IsFileWith (stil_word words) (IsStil chip chains pairs))
+HasFile words (Grade chip chains pairs grades) file =
+    IsSomeAnd file (IsOutFile (report_word words) (grades_text chip grades))
 HasFile words _ file = IsNone file
 
 -- the second

@@ -64,3 +64,6 @@ returns-in-Make-clause-asked g c = ok_then c.make_work.result
     (λ (work : Work). (words : List (List ℕ)) → IsSpelled words c.args.command.now → IsAsked words (g.S.Store.files c.args.store.now) work.done)
     (λ work held words spelled. held words (g.S.Store.files c.args.store.now) (subst (IsSpelled words) c.in-Make.is spelled))
     c.make_work.ensures.asked
+
+pub returns-in-Grade-clause-cause : goal.returns-in-Grade-clause-cause
+returns-in-Grade-clause-cause g c = rw c.in-Grade.is c.grades_work.ensures.cause

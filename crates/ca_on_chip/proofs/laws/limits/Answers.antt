@@ -12,4 +12,5 @@ returns-clause-printed c = record {
   outputs = refl;
   defects = refl;
   chains = refl;
+  pairs = refl;
 }
