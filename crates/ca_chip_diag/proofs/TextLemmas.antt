@@ -1,9 +1,9 @@
 -- The defects of a linked chip, as the writer of the text asks for them.
-use Rattle.std.proofs.Common.{◌≡◌, ◌<◌, ℕ, List, length, ap, subst, sym}
+use Rattle.std.proofs.Common.{◌≡◌, ◌<◌, List, length, subst, sym}
 use Rattle.std.specs.List.{All}
 use Rattle.std.proofs.lemmas.List.Elements.{All-weaker}
 use Rattle.ca_flat.specs.declared.chip_defect.ChipDefect.{ChipDefect}
-use Rattle.ca_linked.specs.Linked.{LinkedChip, IsWired}
+use Rattle.ca_linked.specs.Linked.{IsWired}
 use Rattle.ca_core.specs.Core.{core_of}
 use Rattle.ca_view.specs.Linked.{IsPlacedDefect, place_in}
 use Rattle.ca_view.specs.View.{Viewed, IsViewOf}

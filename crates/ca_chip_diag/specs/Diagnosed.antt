@@ -1,5 +1,5 @@
 -- What the diagnosis of a linked chip asks for.
-use Rattle.std.specs.Prelude.{ℕ, ◌^◌, ◌≡◌, ◌<◌, Bool, List, length}
+use Rattle.std.specs.Prelude.{◌^◌, ◌≡◌, ◌<◌, Bool, List, length}
 use Rattle.std.specs.List.{All}
 use Rattle.ca_flat.specs.Pair.{bit_count}
 use Rattle.ca_linked.specs.Linked.{LinkedChip}

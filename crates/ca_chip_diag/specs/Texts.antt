@@ -1,5 +1,5 @@
 -- The texts that report a diagnosis: a header with a record for each candidate, and the line of the counts.
-use Rattle.std.specs.Prelude.{ℕ, List, [], ◌∷◌, ◌++◌, map, codes, decimal, Option, None, Some, slice_get}
+use Rattle.std.specs.Prelude.{ℕ, List, [], ◌∷◌, ◌++◌, map, codes, decimal, None, Some, slice_get}
 use Rattle.ca_csv.specs.Records.{written}
 use Rattle.ca_defect.specs.Name.{name_of}
 use Rattle.ca_flat.specs.declared.chip_defect.ChipDefect.{ChipDefect}

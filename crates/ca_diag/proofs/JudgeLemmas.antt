@@ -1,8 +1,7 @@
 -- What the ends of the good and the faulty chip say of a log.
-use Rattle.std.proofs.Common.{◌≡◌, ◌≢◌, ◌⊎◌, ℕ, zero, suc, ◌+◌, ◌<◌, ◌≤◌, Bool, true, false, List, [], ◌∷◌, ◌++◌, ◌∙◌}
-use Rattle.std.proofs.Common.{length, take, ap, arith, refl, sym, subst, get_or, inl, inr, IsTrue}
+use Rattle.std.proofs.Common.{◌≡◌, ◌≢◌, ℕ, ◌+◌, ◌<◌, ◌≤◌, List, [], ◌∷◌, ◌++◌, ◌∙◌}
+use Rattle.std.proofs.Common.{length, take, ap, arith, refl, sym, subst, inl, inr}
 use Rattle.std.specs.Prelude.{Option, Some, None, slice_get, slice_index}
-use Rattle.std.specs.List.{All, Contains}
 use Rattle.std.proofs.lemmas.List.{take_more}
 use Rattle.std.proofs.lemmas.Option.{slice_get_within, get_or_from_slice_get}
 use native.Mathlib.Decide.{ℕ_discrete}
@@ -11,11 +10,10 @@ use Rattle.ca_net.specs.declared.trit.Trit.TheVariants.{Zero, One, X}
 use Rattle.ca_defect.specs.Exposes.{opposite_of}
 use Rattle.ca_flat.specs.declared.chip_defect.ChipDefect.{ChipDefect}
 use Rattle.ca_flat.specs.Chip.{Chip}
-use Rattle.ca_flat.specs.Pair.{IsShown}
 use Rattle.ca_credit.specs.Defects.{Task, IsDefectAt}
-use Rattle.ca_credit.specs.Detection.{IsNetEnd, IsAnswer}
+use Rattle.ca_credit.specs.Detection.{IsNetEnd}
 use Rattle.ca_diag.specs.Candidates.{AreSoMany}
-use Rattle.ca_diag.specs.code.Judged.{FailsAt, PassesAt, prediction_of, IsPrediction, IsAgainstAt, IsAgainstSome, IsJudged}
+use Rattle.ca_diag.specs.code.Judged.{FailsAt, PassesAt, prediction_of, IsPrediction, IsJudged}
 
 module _ (chip : Chip) (defect : ChipDefect) (aimed : Option ChipDefect) (bits : List Trit) (output : ℕ) (good faulty : Trit)
     (at : aimed ≡ Some defect) (good_is : IsNetEnd chip None bits (slice_index chip.outputs output) good)

@@ -1,21 +1,19 @@
 -- The cause of a log is a candidate, and there is one list of candidates.
-use Rattle.std.proofs.Common.{◌≡◌, ◌≢◌, ◌⊎◌, ℕ, zero, suc, ◌+◌, ◌-◌, ◌<◌, ◌≤◌, Bool, List, [], ◌∷◌, ◌∙◌, length, ap, arith}
+use Rattle.std.proofs.Common.{◌≡◌, ◌≢◌, ℕ, zero, suc, ◌<◌, Bool, List, [], ◌∷◌, ◌∙◌, ap, arith}
 use Rattle.std.proofs.Common.{refl, sym, subst, get_or, inl, inr}
-use Rattle.std.specs.Prelude.{Option, Some, None, slice_get, slice_index}
-use Rattle.std.specs.List.{All, AllPairs, Contains}
-use Rattle.std.proofs.lemmas.Bool.{cases_lt}
+use Rattle.std.specs.Prelude.{Some, None, slice_get}
+use Rattle.std.specs.List.{All, AllPairs}
 use Rattle.std.proofs.lemmas.List.Elements.{All-head, All-tail}
-use Rattle.std.proofs.lemmas.Option.{slice_get-get_or, slice_get_within, get_or_from_slice_get}
+use Rattle.std.proofs.lemmas.Option.{slice_get_within, get_or_from_slice_get}
 use Rattle.ca_net.specs.declared.trit.Trit.{Trit}
 use Rattle.ca_net.specs.declared.trit.Trit.TheVariants.{Zero, One, X}
-use Rattle.ca_net.specs.State.{value_at}
 use Rattle.ca_defect.specs.Exposes.{opposite_of}
 use Rattle.ca_flat.specs.declared.chip_defect.ChipDefect.{ChipDefect}
 use Rattle.ca_flat.specs.Chip.{Chip}
 use Rattle.ca_credit.specs.Defects.{Task, IsDefectAt}
 use Rattle.ca_log.specs.declared.record.LogRecord.{LogRecord}
 use Rattle.ca_diag.specs.declared.candidate.Candidate.{Candidate}
-use Rattle.ca_diag.specs.Diagnosis.{IsCandidate, IsContradicted, Explains}
+use Rattle.ca_diag.specs.Diagnosis.{IsCandidate, Explains}
 use Rattle.ca_diag.specs.Candidates.{AreSoMany, IsListed, Has, AreCandidates}
 use Rattle.ca_diag.specs.Laws.{AreRuns, IsLogOf}
 

@@ -1,24 +1,22 @@
 -- The open candidates, pair by pair.
-use Rattle.std.proofs.Common.{◌≡◌, ◌≢◌, ◌⊎◌, ℕ, zero, suc, ◌+◌, ◌<◌, ◌≤◌, ◌^◌, ◌==◌, Bool, true, false, List, [], ◌∷◌, ◌++◌, ◌∙◌}
-use Rattle.std.proofs.Common.{length, take, ap, arith, refl, sym, subst, get_or, inl, inr}
-use Rattle.std.specs.Prelude.{Option, Some, None, slice_get, slice_index, if◌then◌else◌}
+use Rattle.std.proofs.Common.{◌≡◌, ◌≢◌, ℕ, zero, suc, ◌+◌, ◌<◌, ◌≤◌, ◌^◌, ◌==◌, Bool, true, false, List, [], ◌∷◌, ◌∙◌}
+use Rattle.std.proofs.Common.{length, ap, arith, refl, sym, subst, get_or, inl, inr}
+use Rattle.std.specs.Prelude.{Some, None, slice_get, if◌then◌else◌}
 use Rattle.std.specs.List.{All, AllPairs, Contains}
 use Rattle.std.proofs.lemmas.Bool.{cases_eq, eqb-true, eqb-false, eq-eqb}
 use Rattle.std.proofs.lemmas.List.Elements.{All-nil, All-cons, All-head, All-tail}
 use Rattle.std.proofs.lemmas.Option.{slice_get-get_or, slice_get_within, get_or_from_slice_get}
-use Rattle.ca_net.specs.declared.trit.Trit.{Trit}
 use Rattle.ca_flat.specs.declared.chip_defect.ChipDefect.{ChipDefect}
-use Rattle.ca_flat.specs.Chip.{Chip}
 use Rattle.ca_flat.specs.Detection.{trits_of}
 use Rattle.ca_credit.specs.Defects.{Task, IsDefectAt}
 use Rattle.ca_log.specs.declared.record.LogRecord.{LogRecord}
 use Rattle.ca_diag.specs.declared.candidate.Candidate.{Candidate}
 use Rattle.ca_diag.specs.Diagnosis.{IsContradicted, IsCandidate, Explains, IsPlaceOf}
-use Rattle.ca_diag.specs.Candidates.{AreSoMany, IsListed, Has, AreCandidates}
+use Rattle.ca_diag.specs.Candidates.{AreSoMany, Has, AreCandidates}
 use Rattle.ca_diag.specs.code.Failing.{outputs_at}
 use Rattle.ca_diag.specs.code.Judged.{FailsAt, IsAgainstSome, IsJudged}
-use Rattle.ca_diag.specs.code.Pass.{IsContradictedBy, ExplainsBy, IsOpen, AreOpen, IsLeft, IsKept, IsPass, AreAll}
-use Rattle.ca_diag.proofs.FailingLemmas.{of_get, at_within}
+use Rattle.ca_diag.specs.code.Pass.{IsContradictedBy, ExplainsBy, IsOpen, AreOpen, IsKept, IsPass, AreAll}
+use Rattle.ca_diag.proofs.FailingLemmas.{at_within}
 use Rattle.ca_diag.proofs.LawLemmas.{before_all, first_or, is_first, is_after}
 
 -- what was logged for a pair

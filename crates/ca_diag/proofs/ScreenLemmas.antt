@@ -1,18 +1,17 @@
 -- What is known of a defect under a pair without waves.
-use Rattle.std.proofs.Common.{◌≡◌, ◌≢◌, ◌⊎◌, ℕ, zero, suc, ◌+◌, ◌<◌, ◌≤◌, Bool, true, false, List, [], ◌∷◌, ◌∙◌}
-use Rattle.std.proofs.Common.{length, ap, arith, refl, sym, subst, get_or, inl, inr, true≢false}
-use Rattle.std.specs.Prelude.{Option, Some, None, slice_get, slice_index, slice_index_or}
-use Rattle.std.specs.List.{All, Contains}
+use Rattle.std.proofs.Common.{◌≡◌, ℕ, zero, suc, ◌<◌, Bool, false, List, [], ◌∷◌, ◌∙◌}
+use Rattle.std.proofs.Common.{length, arith, refl, sym, subst, get_or, inl, inr, true≢false}
+use Rattle.std.specs.Prelude.{slice_index, slice_index_or}
 use Rattle.ca_net.specs.declared.trit.Trit.{Trit}
 use Rattle.ca_flat.specs.declared.chip_defect.ChipDefect.{ChipDefect}
 use Rattle.ca_flat.specs.Chip.{Chip}
 use Rattle.ca_flat.specs.Pair.{IsShown}
 use Rattle.ca_credit.specs.declared.by_lasts.ByLasts.{ByLasts}
 use Rattle.ca_credit.specs.declared.by_lasts.ByLasts.TheVariants as by_lasts
-use Rattle.ca_credit.specs.Detection.{IsDecided, IsAnswer}
+use Rattle.ca_credit.specs.Detection.{IsDecided}
 use Rattle.ca_diag.specs.declared.screen.Screen.TheVariants.{Stays, Leaves}
 use Rattle.ca_diag.specs.code.Failing.{AreMarked}
-use Rattle.ca_diag.specs.code.Judged.{FailsAt, IsAgainstSome, IsJudged, IsScreened, IsWithin}
+use Rattle.ca_diag.specs.code.Judged.{FailsAt, IsAgainstSome, IsScreened, IsWithin}
 
 -- what is read within a list doesn't depend on what is answered past it
 get_or_other : {T : Type 0} (xs : List T) (k : ℕ) (d e : T) → k < length xs → get_or xs k d ≡ get_or xs k e

@@ -1,7 +1,7 @@
 -- A name is found among different names as in the list of all.
-use Rattle.std.proofs.Common.{◌≡◌, ◌≢◌, ℕ, zero, suc, ◌+◌, ◌<◌, ◌≤◌, ◌||◌, Bool, true, false, cond, List, [], ◌∷◌, ◌++◌}
+use Rattle.std.proofs.Common.{◌≡◌, ◌≢◌, ℕ, zero, suc, ◌+◌, ◌<◌, ◌||◌, Bool, true, false, cond, List, [], ◌∷◌, ◌++◌}
 use Rattle.std.proofs.Common.{◌∙◌, length, length-append, take, ap, arith, refl, sym, subst, true≢false, get_or}
-use Rattle.std.specs.Prelude.{Option, Some, None, slice_get, position, if◌then◌else◌}
+use Rattle.std.specs.Prelude.{Option, Some, None, slice_get, if◌then◌else◌}
 use Rattle.std.specs.List.{list_any, position_from}
 use Rattle.std.specs.Str.{bytes_eq}
 use Rattle.std.proofs.lemmas.Iterator.Adapters.{position_from-zero}

@@ -1,6 +1,6 @@
 //! The names of observed outputs, to be looked up.
 
-ghost use Rattle.std.specs.Prelude.{◌≡◌, ◌<◌, ◌^◌, ◌+◌, length, take, IfOk, OnOk, slice_get, Some};
+ghost use Rattle.std.specs.Prelude.{◌≡◌, ◌<◌, ◌^◌, ◌+◌, length, take, IfOk, OnOk};
 ghost use Rattle.ca_names.specs.Names.{place_of};
 ghost use Rattle.ca_log.specs.code.Lookup.{IsLookup};
 

@@ -6,7 +6,6 @@ ghost use Rattle.csv.specs.Records.{fields_of};
 ghost use Rattle.ca_csv.specs.Streams.{HasLeft};
 ghost use Rattle.ca_log.specs.LogText.{may_join, with_fields, log_with, log_of, Reads, IsLog};
 ghost use Rattle.ca_log.specs.code.Into.{Joins, ReadsInto};
-ghost use Rattle.ca_log.specs.code.Lookup.{IsLookup};
 
 use crate::fault::LogFault;
 use crate::fields::{is_expected, is_header, place_in};

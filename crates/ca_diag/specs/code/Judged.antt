@@ -1,8 +1,8 @@
 -- What the code finds of a defect under one pair, of which it knows the outputs that were logged.
-use Rattle.std.specs.Prelude.{ℕ, ◌≡◌, ◌<◌, ◌⊎◌, Bool, List, [], length, slice_index, Option, Some, None}
+use Rattle.std.specs.Prelude.{ℕ, ◌<◌, ◌⊎◌, List, length, slice_index, Option, Some, None}
 use Rattle.std.specs.List.{Contains}
 use Rattle.ca_net.specs.declared.trit.Trit.{Trit}
-use Rattle.ca_net.specs.declared.trit.Trit.TheVariants.{Zero, One, X}
+use Rattle.ca_net.specs.declared.trit.Trit.TheVariants.{Zero, One}
 use Rattle.ca_flat.specs.declared.chip_defect.ChipDefect.{ChipDefect}
 use Rattle.ca_flat.specs.Chip.{Chip}
 use Rattle.ca_flat.specs.Pair.{DetectsAt, EndsAlike}

@@ -1,4 +1,4 @@
-use Rattle.std.proofs.Common.{◌∙◌, ◌++◌, ◌≤◌, [], length, arith}
+use Rattle.std.proofs.Common.{◌∙◌, ◌++◌, []}
 use Rattle.csv.specs.Records.{fields_of}
 use Rattle.csv.specs.Writing.{default_writer, row_text}
 use Rattle.ca_chip_diag.specs.Texts.{candidates_text}

@@ -1,4 +1,4 @@
-use Rattle.std.proofs.Common.{◌≡◌, ◌<◌, ◌+◌, ◌^◌, ◌∙◌, length, ℕ, List, sym, subst, arith}
+use Rattle.std.proofs.Common.{◌≡◌, ◌<◌, ◌+◌, ◌^◌, ◌∙◌, length, ℕ, List, sym, subst}
 use Rattle.std.specs.List.{All}
 use Rattle.ca_credit.specs.Defects.{Task}
 use Rattle.ca_search.specs.Filled.{trits_of}

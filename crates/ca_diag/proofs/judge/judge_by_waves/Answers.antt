@@ -1,4 +1,4 @@
-use Rattle.std.proofs.Common.{◌≡◌, true, false, rules, IsTrue, Some, subst, sym}
+use Rattle.std.proofs.Common.{false, rules, IsTrue, Some, subst}
 use Rattle.ca_diag.proofs.JudgeLemmas.{by_waves}
 use Rattle.ca_diag.proofs.judge.judge_by_waves.Goals as goal
 

@@ -1,8 +1,7 @@
-use Rattle.std.proofs.Common.{rules, ◌≡◌, ◌<◌, ◌≤◌, ◌+◌, ◌^◌, ◌∙◌, length, ℕ, List, Some, None, ap, sym, subst, arith, refl}
+use Rattle.std.proofs.Common.{◌≡◌, ◌<◌, ◌+◌, ◌^◌, ◌∙◌, length, ℕ, List, Some, ap, sym, subst, arith, refl}
 use Rattle.std.specs.Prelude.{slice_get}
-use Rattle.std.specs.List.{All}
 use Rattle.ca_diag.specs.declared.candidate.Candidate.{Candidate}
-use Rattle.ca_diag.specs.code.Pass.{IsPass, IsPassTo}
+use Rattle.ca_diag.specs.code.Pass.{IsPassTo}
 use Rattle.ca_diag.proofs.FailingLemmas.{of_get}
 use Rattle.ca_diag.proofs.PassLemmas.{was_there, left_step, kept_step, left_by, kept_by, adds_few}
 use Rattle.ca_diag.proofs.pass.pass.Goals as goal

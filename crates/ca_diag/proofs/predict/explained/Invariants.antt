@@ -1,4 +1,4 @@
-use Rattle.std.proofs.Common.{◌≡◌, ◌≤◌, ℕ, Some, take}
+use Rattle.std.proofs.Common.{◌≡◌, ◌≤◌, Some, take}
 use Rattle.ca_flat.specs.declared.chip_defect.ChipDefect.{ChipDefect}
 use Rattle.ca_diag.specs.Candidates.{AreSoMany}
 use Rattle.ca_diag.specs.code.Judged.{FailsAt}

@@ -1,4 +1,4 @@
-use Rattle.std.proofs.Common.{◌≤◌, ◌≡◌, true, false, length, arith, rules, IsTrue, subst}
+use Rattle.std.proofs.Common.{false, arith, rules, IsTrue, subst}
 use Rattle.ca_diag.specs.code.Judged.{IsAgainstAt}
 use Rattle.ca_diag.proofs.JudgeLemmas.{none_more}
 use Rattle.ca_diag.proofs.predict.is_contradicted.Goals as goal

@@ -1,4 +1,4 @@
-use Rattle.std.proofs.Common.{rules, IsTrue, ◌≡◌, [], true}
+use Rattle.std.proofs.Common.{rules, IsTrue, true}
 use Rattle.ca_diag.proofs.ScreenLemmas.{ruled_out_stays}
 use Rattle.ca_diag.proofs.screen.may_matter.Goals as goal
 

@@ -1,4 +1,4 @@
-use Rattle.std.proofs.Common.{◌≡◌, ◌∙◌, ℕ, List, [], true, false, ap, sym, rules, Some, None}
+use Rattle.std.proofs.Common.{◌≡◌, ◌∙◌, List, true, false, ap, sym, rules}
 use Rattle.csv.specs.Records.{fields_of}
 use Rattle.ca_csv.proofs.CsvLemmas.{found_none, found_some}
 use Rattle.ca_log.specs.declared.record.LogRecord.{LogRecord}

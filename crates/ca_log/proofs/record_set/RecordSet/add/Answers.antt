@@ -1,4 +1,4 @@
-use Rattle.std.proofs.Common.{◌≡◌, ◌∙◌, ◌++◌, ◌∷◌, [], List, Bool, ap}
+use Rattle.std.proofs.Common.{◌∙◌, ◌++◌, ◌∷◌, [], List, Bool, ap}
 use Rattle.std.specs.Prelude.{if◌then◌else◌}
 use Rattle.ca_log.specs.declared.record.LogRecord.{LogRecord}
 use Rattle.ca_log.specs.LogText.{has_record}
