@@ -8,8 +8,8 @@ use std::alloc::Global;
 // How often an attempt may turn back.
 const MOST_TURNS: u32 = 100;
 
-// How often it may where those before it came to nothing.
-const FEWEST_TURNS: u32 = 4;
+// How many attempts are left out at most after one that came to nothing.
+const MOST_WAITS: u32 = 15;
 
 // A bit that is set, and whether its other value was tried before.
 #[derive(Clone, Copy)]
@@ -25,9 +25,12 @@ pub(crate) struct Tries {
     count: usize,
     // whether the last bit is being taken back
     is_turning: bool,
-    // how often may still be turned back, and at the start of an attempt
+    // how often may still be turned back
     turns: u32,
-    most: u32,
+    // how many attempts came to nothing since the last that didn't, up to a bound, and how many more are left
+    // out
+    fails: u32,
+    waits: u32,
     has_begun: bool,
     is_given_up: bool,
 }
@@ -47,26 +50,36 @@ impl Tries {
             count: 0,
             is_turning: false,
             turns: MOST_TURNS,
-            most: MOST_TURNS,
+            fails: 0,
+            waits: 0,
             has_begun: false,
             is_given_up: false,
         })
     }
 
-    /// Begins an attempt. It may turn back half as often as the last one, if that came to nothing.
+    /// Begins an attempt. The more of those before came to nothing, the less it may turn back.
     pub(crate) fn begin(&mut self) {
         if self.has_begun {
-            self.most = if self.is_given_up {
-                (self.most / 2).max(FEWEST_TURNS)
-            } else {
-                MOST_TURNS
-            };
+            self.note();
         }
         self.count = 0;
         self.is_turning = false;
-        self.turns = self.most;
+        self.turns = MOST_TURNS / self.fails.max(1);
         self.has_begun = false;
         self.is_given_up = false;
+    }
+
+    // Notes how the last attempt ended. After one that came to nothing as many are left out as did so in a
+    // row.
+    fn note(&mut self) {
+        if self.waits > 0 {
+            self.waits -= 1;
+        } else if self.is_given_up {
+            self.fails = self.fails.saturating_add(1).min(MOST_WAITS);
+            self.waits = self.fails;
+        } else {
+            self.fails = 0;
+        }
     }
 
     /// Sets a bit.
@@ -85,8 +98,12 @@ impl Tries {
     }
 
     /// What follows where the last bit was taken back: its other value, or the bit before is taken back too.
+    /// An attempt that is left out is given up.
     pub(crate) fn turned(&mut self) -> Option<Attempt> {
         self.has_begun = true;
+        if self.waits > 0 {
+            return Some(self.give_up());
+        }
         if !self.is_turning || self.count == 0 {
             return None;
         }
