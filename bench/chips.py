@@ -184,7 +184,10 @@ def main(words):
                     record(writer, name, budget, [program, "atpg", cells, netlist, table, *out, str(budget)])
         if "aes" in sets and os.path.isdir(OSU):
             # (yosys would move flip-flops into the tables of the S-boxes without -nordff)
-            netlist, table = netlist_of(folder, "aes", True, "-nordff")
+            mapped_netlist, table = netlist_of(folder, "aes", True, "-nordff")
+            netlist = f"{folder}/aes_plain.v"
+            with open(netlist, "w") as plain:
+                subprocess.run([f"{TOP}/tools/plain_netlist.py", mapped_netlist], stdout=plain, check=True)
             for budget in budgets:
                 record(writer, "aes", budget, [program, "atpg", library(folder), netlist, table, *out, str(budget)])
         if "made" in sets:
