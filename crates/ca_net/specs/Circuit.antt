@@ -1,7 +1,7 @@
 -- Networks of nodes and devices, as their two lists (Bryant 1984, the network model).
-use Rattle.std.specs.Prelude.{ℕ, ◌^◌, ◌≡◌, ◌<◌, ◌⊎◌, List, length, slice_index_or}
+use Rattle.std.specs.Prelude.{ℕ, ◌^◌, ◌≡◌, ◌<◌, ◌≤◌, ◌⊎◌, List, length, slice_index_or}
 use Rattle.std.specs.List.{All}
-use Rattle.ca_net.specs.declared.scale.TheConstants.{INNER_NODE, OUTPUT_NET, WEAK, STRONG, BRIDGE}
+use Rattle.ca_net.specs.declared.scale.TheConstants.{INNER_NODE, OUTPUT_NET, WEAKEST, BRIDGE}
 use Rattle.ca_net.specs.declared.node.NodeKind.{NodeKind}
 use Rattle.ca_net.specs.declared.node.NodeKind.TheVariants.{Input, Storage}
 use Rattle.ca_net.specs.declared.device.DeviceKind.{DeviceKind}
@@ -31,9 +31,9 @@ abbrev pub HasSize : NodeKind → Type 0
 HasSize Input = Unit {0}
 HasSize (Storage size) = (size ≡ INNER_NODE) ⊎ (size ≡ OUTPUT_NET)
 
--- the strength is that of a weak transistor, of another transistor, or of a bridge
+-- the strength is at least that of the weakest transistors and at most that of a bridge
 abbrev pub IsStrength : ℕ → Type 0
-IsStrength strength = (strength ≡ WEAK) ⊎ ((strength ≡ STRONG) ⊎ (strength ≡ BRIDGE))
+IsStrength strength = (WEAKEST ≤ strength) × (strength ≤ BRIDGE)
 
 -- the device has such a strength
 abbrev pub HasStrength : Device → Type 0

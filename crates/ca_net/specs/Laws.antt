@@ -1,6 +1,6 @@
 -- Laws of the definitions. Each is the contract of a public function that does nothing (src/laws.rt).
 use Rattle.std.specs.Prelude.{ℕ, ◌≡◌, ◌<◌, List, length, ◌↔◌, ◌≢◌}
-use Rattle.ca_net.specs.declared.scale.TheConstants.{INNER_NODE, OUTPUT_NET, WEAK, STRONG, BRIDGE, INPUT}
+use Rattle.ca_net.specs.declared.scale.TheConstants.{INNER_NODE, OUTPUT_NET, WEAKEST, STRONGEST, BRIDGE, INPUT}
 use Rattle.ca_net.specs.declared.trit.Trit.{Trit}
 use Rattle.ca_net.specs.declared.trit.Trit.TheVariants.{X}
 use Rattle.ca_net.specs.Circuit.{Circuit, IsWellFormed}
@@ -10,14 +10,14 @@ use Rattle.ca_net.specs.Response.{IsResponse, HasUnblocked}
 use Rattle.ca_net.specs.PairRun.{EndsAt}
 use Rattle.ca_net.specs.Limits.{AreLimits, IsMeet}
 
--- the scale of sizes and strengths is in order, weakest first: inner node, output net, weak transistor, other
--- transistor, bridge, input node; and no size is 0
+-- the scale of sizes and strengths is in order, weakest first: inner node, output net, the weakest
+-- transistors, the strongest ones, bridge, input node; and no size is 0
 pub record ScaleIsOrdered : Type 0 where
   pub some_size : 0 < INNER_NODE
   pub sizes : INNER_NODE < OUTPUT_NET
-  pub devices_above_nodes : OUTPUT_NET < WEAK
-  pub transistors : WEAK < STRONG
-  pub bridge_above_transistors : STRONG < BRIDGE
+  pub devices_above_nodes : OUTPUT_NET < WEAKEST
+  pub transistors : WEAKEST < STRONGEST
+  pub bridge_above_transistors : STRONGEST < BRIDGE
   pub inputs_above_devices : BRIDGE < INPUT
 
 -- the response rises: that of a node in a state is below its response in any state above

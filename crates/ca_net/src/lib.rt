@@ -26,7 +26,7 @@ pub use network::Network;
 pub use node::{NodeId, NodeKind};
 pub use path_kind::PathKind;
 pub use response::response_by_paths;
-pub use scale::{BRIDGE, INNER_NODE, INPUT, OUTPUT_NET, STRONG, WEAK};
+pub use scale::{BRIDGE, INNER_NODE, INPUT, OUTPUT_NET, STRONGEST, WEAKEST};
 pub use state::State;
 pub use trit::{Trit, below, letter, meet};
 pub use wave::Wave;

@@ -8,14 +8,14 @@ pub const INNER_NODE: u8 = 1;
 /// The size of an output net.
 pub const OUTPUT_NET: u8 = 2;
 
-/// The strength of a weak transistor, whose channel is longer than it is wide.
-pub const WEAK: u8 = 3;
+/// The strength of the weakest transistors. Those of all transistors go from here to `STRONGEST`.
+pub const WEAKEST: u8 = 3;
 
-/// The strength of every other transistor.
-pub const STRONG: u8 = 4;
+/// The strength of the strongest transistors.
+pub const STRONGEST: u8 = 8;
 
 /// The strength of a bridge, the device of a short.
-pub const BRIDGE: u8 = 5;
+pub const BRIDGE: u8 = 9;
 
 /// The strength of an input node.
-pub const INPUT: u8 = 6;
+pub const INPUT: u8 = 10;
