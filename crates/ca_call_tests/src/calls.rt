@@ -8,6 +8,7 @@ ghost use Rattle.ca_verilog.specs.IsNetlist.{IsNetlist};
 use crate::described::described;
 use crate::texts::{CHIPS, LIBRARY};
 use ca_base::NoMemory;
+use ca_cell::StrengthTable;
 use ca_lex::Text;
 use ca_link::link;
 use ca_linked::Chip;
@@ -71,7 +72,7 @@ fn linked_by_table(alloc: Global, raw: &RawNetlist, scan: &ScanTable) -> Option<
     requires netlist { IsNetlist raw.now }
     requires rows { IsDistinct bytes_eq (map (λ row. row.cell) scan.now) }
 {
-    let library = read_library(alloc, LIBRARY).ok()?;
+    let library = read_library(alloc, &StrengthTable::default_table(), LIBRARY).ok()?;
     link(alloc, raw, library, scan).ok()
 }
 

@@ -13,6 +13,7 @@ use Rattle.ca_net.specs.declared.node.NodeKind.TheVariants as node
 use Rattle.ca_net.specs.declared.device.DeviceKind.{DeviceKind}
 use Rattle.ca_net.specs.declared.device.DeviceKind.TheVariants as kind
 use Rattle.ca_net.specs.Circuit.{IsWellFormed, HasSize, HasStrength, IsStrength, NamesWithin}
+use Rattle.ca_net.proofs.ScaleLemmas.{transistor_is_strength}
 use Rattle.ca_cell.specs.declared.raw.Role.{Role}
 use Rattle.ca_cell.specs.declared.raw.Role.TheVariants.{Input, Output, Power, Ground}
 use Rattle.ca_cell.specs.declared.raw.RawPin.{RawPin}
@@ -90,10 +91,8 @@ sizes_of raw =
 
 -- a transistor's strength is one of the scale
 transistor_strength : (k : DeviceKind) (strength : ℕ) → IsTransistor k strength → IsStrength strength
-transistor_strength kind.N strength (inl weak) = inl weak
-transistor_strength kind.N strength (inr strong) = inr (inl strong)
-transistor_strength kind.P strength (inl weak) = inl weak
-transistor_strength kind.P strength (inr strong) = inr (inl strong)
+transistor_strength kind.N strength is = transistor_is_strength strength is.0 is.1
+transistor_strength kind.P strength is = transistor_is_strength strength is.0 is.1
 transistor_strength kind.D strength is = absurd is
 
 -- so is its network well formed

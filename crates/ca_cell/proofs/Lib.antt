@@ -5,3 +5,4 @@ pub mod CopyLemmas
 pub mod NodeLemmas
 pub mod OutputNameLemmas
 pub mod BrokenLemmas
+pub mod StrengthLemmas

@@ -1,5 +1,6 @@
 pub mod Raw
 pub mod Transistors
+pub mod Strength
 pub mod Rules
 pub mod Library
 pub mod Nodes

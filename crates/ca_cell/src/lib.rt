@@ -8,9 +8,11 @@ mod laws;
 mod library;
 mod raw;
 mod rule;
+mod strength;
 
 pub use cell::Cell;
 pub use laws::limits;
 pub use library::{Entry, Library, LibraryFault, MOST_CELLS};
 pub use raw::{RawCell, RawDevice, RawDevices, RawPin, RawPins, Role};
 pub use rule::{CellFault, CellRule, MOST_DEVICES, MOST_INPUTS, MOST_NODES, MOST_OUTPUTS};
+pub use strength::{Ratio, StrengthTable};

@@ -4,7 +4,7 @@ ghost use Rattle.std.specs.Prelude.{◌≡◌, ◌<◌, ◌↔◌, length, IsTru
 
 use ca_base::{List, NoMemory};
 use ca_lex::{Length, Names, Text};
-use ca_net::{DeviceKind, STRONG, WEAK};
+use ca_net::{DeviceKind, STRONGEST, WEAKEST};
 use std::alloc::Global;
 
 /// What a pin is for.
@@ -72,12 +72,12 @@ impl RawDevice {
     ghost use Rattle.ca_cell.specs.Transistors.{IsTransistor};
     ghost use Rattle.ca_cell.specs.Rules.{PlacesWithin};
 
-    // Whether it is of a kind that has a gate, and is weak or strong.
+    // Whether it is of a kind that has a gate, and has the strength of some transistor.
     fn is_transistor(&self) -> bool
         ensures { IsTrue result ↔ IsTransistor self.now.kind self.now.strength }
     {
         match self.kind {
-            DeviceKind::N | DeviceKind::P => matches!(self.strength, WEAK | STRONG),
+            DeviceKind::N | DeviceKind::P => WEAKEST <= self.strength && self.strength <= STRONGEST,
             DeviceKind::D => false,
         }
     }
@@ -147,7 +147,7 @@ impl RawCell {
     ghost use Rattle.ca_cell.specs.Raw.{output_names};
     ghost use Rattle.ca_cell.specs.Rules.{IsRaw};
 
-    /// Whether each device is a transistor, weak or strong, whose terminals are places in the list of nets,
+    /// Whether each device is a transistor, of some strength, whose terminals are places in the list of nets,
     /// and there are no more pins than nets.
     pub fn is_raw(&self) -> bool
         ensures { IsTrue result ↔ IsRaw self.now }

@@ -7,10 +7,10 @@ use ca_base::NoMemory;
 use ca_net::{DeviceId, NodeId};
 
 /// The most devices that a used cell has.
-pub const MOST_DEVICES: usize = 96;
+pub const MOST_DEVICES: usize = 192;
 
 /// The most nodes that a used cell has.
-pub const MOST_NODES: usize = 96;
+pub const MOST_NODES: usize = 192;
 
 /// The most input pins that a used cell has.
 pub const MOST_INPUTS: usize = 6;

@@ -5,7 +5,7 @@ use crate::shapes::broken;
 use ca_cell::Role::{Ground, Input, Output, Power};
 use ca_cell::{Cell, CellRule};
 use ca_net::DeviceKind::{N, P};
-use ca_net::{DeviceId, INNER_NODE, Network, NodeId, NodeKind, OUTPUT_NET, STRONG, WEAK};
+use ca_net::{DeviceId, INNER_NODE, Network, NodeId, NodeKind, OUTPUT_NET, STRONGEST, WEAKEST};
 use std::process::Abort;
 
 static NAND2_NODES: [NodeKind; 6] = [
@@ -20,10 +20,10 @@ static NAND2_NODES: [NodeKind; 6] = [
 static NAND2_NAMES: [&[u8]; 6] = [b"VDD", b"VSS", b"A1", b"A2", b"ZN", b"N1"];
 
 static NAND2_PARTS: [Part; 4] = [
-    (P, STRONG, 2, 4, 0),
-    (P, STRONG, 3, 4, 0),
-    (N, STRONG, 2, 4, 5),
-    (N, WEAK, 3, 5, 1),
+    (P, STRONGEST, 2, 4, 0),
+    (P, STRONGEST, 3, 4, 0),
+    (N, STRONGEST, 2, 4, 5),
+    (N, WEAKEST, 3, 5, 1),
 ];
 
 static NAND2_DEVICES: [&[u8]; 4] = [b"MP1", b"MP2", b"MN1", b"MN2"];
@@ -102,9 +102,9 @@ fn the_first_device_on_an_input_pin_is_named_with_its_drain(rt: HostRuntime) {
             pins: NAND2.pins,
             inner: &[],
             cards: &[
-                (b"M1", N, STRONG, 2, 0, 4),
-                (b"M2", N, STRONG, *drain, 1, *source),
-                (b"M3", P, STRONG, 0, 1, 0),
+                (b"M1", N, STRONGEST, 2, 0, 4),
+                (b"M2", N, STRONGEST, *drain, 1, *source),
+                (b"M3", P, STRONGEST, 0, 1, 0),
             ],
         };
         let rule = broken(&rt, rt.alloc(), &raw_of(&rt, rt.alloc(), &example));

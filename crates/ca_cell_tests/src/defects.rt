@@ -7,7 +7,7 @@ use crate::examples::{LOWER_NAND2, Part, cell_of, try_network};
 use ca_cell::Cell;
 use ca_defect::{Defect, DefectList, Overlay, Row, Rows, defects, name, parse};
 use ca_net::DeviceKind::{D, N, P};
-use ca_net::{BRIDGE, DeviceId, INNER_NODE, NodeId, NodeKind, OUTPUT_NET, STRONG};
+use ca_net::{BRIDGE, DeviceId, INNER_NODE, NodeId, NodeKind, OUTPUT_NET, STRONGEST};
 use std::alloc::Global;
 use std::process::Abort;
 
@@ -92,50 +92,50 @@ static CHANGED: [(usize, Defect, &[Part]); 5] = [
         0,
         Defect::OpenDrain(DeviceId(0)),
         &[
-            (P, STRONG, 2, 6, 0),
-            (P, STRONG, 3, 4, 0),
-            (N, STRONG, 2, 4, 5),
-            (N, STRONG, 3, 5, 1),
+            (P, STRONGEST, 2, 6, 0),
+            (P, STRONGEST, 3, 4, 0),
+            (N, STRONGEST, 2, 4, 5),
+            (N, STRONGEST, 3, 5, 1),
         ],
     ),
     (
         7,
         Defect::OpenSource(DeviceId(2)),
         &[
-            (P, STRONG, 2, 4, 0),
-            (P, STRONG, 3, 4, 0),
-            (N, STRONG, 2, 4, 6),
-            (N, STRONG, 3, 5, 1),
+            (P, STRONGEST, 2, 4, 0),
+            (P, STRONGEST, 3, 4, 0),
+            (N, STRONGEST, 2, 4, 6),
+            (N, STRONGEST, 3, 5, 1),
         ],
     ),
     (
         11,
         Defect::OpenGate(DeviceId(3)),
         &[
-            (P, STRONG, 2, 4, 0),
-            (P, STRONG, 3, 4, 0),
-            (N, STRONG, 2, 4, 5),
-            (N, STRONG, 6, 5, 1),
+            (P, STRONGEST, 2, 4, 0),
+            (P, STRONGEST, 3, 4, 0),
+            (N, STRONGEST, 2, 4, 5),
+            (N, STRONGEST, 6, 5, 1),
         ],
     ),
     (
         12,
         Defect::OpenPin(NodeId(2)),
         &[
-            (P, STRONG, 6, 4, 0),
-            (P, STRONG, 3, 4, 0),
-            (N, STRONG, 6, 4, 5),
-            (N, STRONG, 3, 5, 1),
+            (P, STRONGEST, 6, 4, 0),
+            (P, STRONGEST, 3, 4, 0),
+            (N, STRONGEST, 6, 4, 5),
+            (N, STRONGEST, 3, 5, 1),
         ],
     ),
     (
         15,
         Defect::Short(NodeId(0), NodeId(5)),
         &[
-            (P, STRONG, 2, 4, 0),
-            (P, STRONG, 3, 4, 0),
-            (N, STRONG, 2, 4, 5),
-            (N, STRONG, 3, 5, 1),
+            (P, STRONGEST, 2, 4, 0),
+            (P, STRONGEST, 3, 4, 0),
+            (N, STRONGEST, 2, 4, 5),
+            (N, STRONGEST, 3, 5, 1),
             (D, BRIDGE, 0, 0, 5),
         ],
     ),

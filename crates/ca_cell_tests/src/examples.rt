@@ -4,7 +4,7 @@ use ca_cell::Role::{self, Ground, Input, Output, Power};
 use ca_cell::{Cell, RawCell, RawDevice, RawDevices, RawPin, RawPins};
 use ca_lex::{Length, Names, Text};
 use ca_net::DeviceKind::{N, P};
-use ca_net::{Device, DeviceId, DeviceKind, Network, NodeId, NodeKind, STRONG, WEAK};
+use ca_net::{Device, DeviceId, DeviceKind, Network, NodeId, NodeKind, STRONGEST, WEAKEST};
 use std::alloc::Global;
 use std::process::Abort;
 
@@ -32,20 +32,20 @@ pub(crate) const NAND2: Example<'static> = Example {
     ],
     inner: &[b"N1"],
     cards: &[
-        (b"MP1", P, STRONG, 2, 0, 3),
-        (b"MP2", P, STRONG, 2, 1, 3),
-        (b"MN1", N, STRONG, 2, 0, 5),
-        (b"MN2", N, STRONG, 5, 1, 4),
+        (b"MP1", P, STRONGEST, 2, 0, 3),
+        (b"MP2", P, STRONGEST, 2, 1, 3),
+        (b"MN1", N, STRONGEST, 2, 0, 5),
+        (b"MN2", N, STRONGEST, 5, 1, 4),
     ],
 };
 
 // The same with its last transistor weak.
 pub(crate) const WEAK_NAND2: Example<'static> = Example {
     cards: &[
-        (b"MP1", P, STRONG, 2, 0, 3),
-        (b"MP2", P, STRONG, 2, 1, 3),
-        (b"MN1", N, STRONG, 2, 0, 5),
-        (b"MN2", N, WEAK, 5, 1, 4),
+        (b"MP1", P, STRONGEST, 2, 0, 3),
+        (b"MP2", P, STRONGEST, 2, 1, 3),
+        (b"MN1", N, STRONGEST, 2, 0, 5),
+        (b"MN2", N, WEAKEST, 5, 1, 4),
     ],
     ..NAND2
 };
@@ -66,12 +66,12 @@ pub(crate) const AND2: Example<'static> = Example {
     ],
     inner: &[b"NB", b"N1"],
     cards: &[
-        (b"MP1", P, STRONG, 5, 0, 3),
-        (b"MP2", P, STRONG, 5, 1, 3),
-        (b"MN1", N, STRONG, 5, 0, 6),
-        (b"MN2", N, STRONG, 6, 1, 4),
-        (b"MP3", P, STRONG, 2, 5, 3),
-        (b"MN3", N, STRONG, 2, 5, 4),
+        (b"MP1", P, STRONGEST, 5, 0, 3),
+        (b"MP2", P, STRONGEST, 5, 1, 3),
+        (b"MN1", N, STRONGEST, 5, 0, 6),
+        (b"MN2", N, STRONGEST, 6, 1, 4),
+        (b"MP3", P, STRONGEST, 2, 5, 3),
+        (b"MN3", N, STRONGEST, 2, 5, 4),
     ],
 };
 
@@ -86,10 +86,10 @@ pub(crate) const INVERTERS: Example<'static> = Example {
     ],
     inner: &[],
     cards: &[
-        (b"MP1", P, STRONG, 2, 0, 4),
-        (b"MN1", N, STRONG, 2, 0, 5),
-        (b"MP2", P, STRONG, 3, 1, 4),
-        (b"MN2", N, STRONG, 3, 1, 5),
+        (b"MP1", P, STRONGEST, 2, 0, 4),
+        (b"MN1", N, STRONGEST, 2, 0, 5),
+        (b"MP2", P, STRONGEST, 3, 1, 4),
+        (b"MN2", N, STRONGEST, 3, 1, 5),
     ],
 };
 

@@ -4,7 +4,7 @@ use crate::examples::{Example, device_of, raw_of};
 use ca_cell::Role::{self, Ground, Input, Output, Power};
 use ca_cell::{Cell, CellFault, CellRule, RawCell, RawPin};
 use ca_lex::Text;
-use ca_net::{DeviceId, DeviceKind, NodeId, STRONG};
+use ca_net::{DeviceId, DeviceKind, NodeId, STRONGEST};
 use std::alloc::Global;
 use std::process::Abort;
 
@@ -57,7 +57,7 @@ pub(crate) fn shaped(rt: &impl Abort, alloc: Global, shape: Shape) -> RawCell {
     for i in 0..devices {
         let on_pin = drives && i + 1 == devices && first_input < 9;
         let source = if on_pin { first_input as u32 } else { 0 };
-        let card = (b"M".as_slice(), DeviceKind::N, STRONG, 0, 0, source);
+        let card = (b"M".as_slice(), DeviceKind::N, STRONGEST, 0, 0, source);
         raw.devices
             .push(device_of(rt, alloc, &card))
             .expect(rt, "memory");
@@ -82,9 +82,9 @@ const NO_RAIL: Option<CellRule> = Some(CellRule::NoRail);
 
 const NO_OUTPUT: Option<CellRule> = Some(CellRule::NoOutput);
 
-const MANY_DEVICES: Option<CellRule> = Some(CellRule::TooManyDevices { count: 97 });
+const MANY_DEVICES: Option<CellRule> = Some(CellRule::TooManyDevices { count: 193 });
 
-const MANY_NODES: Option<CellRule> = Some(CellRule::TooManyNodes { count: 97 });
+const MANY_NODES: Option<CellRule> = Some(CellRule::TooManyNodes { count: 193 });
 
 const MANY_INPUTS: Option<CellRule> = Some(CellRule::TooManyInputs { count: 7 });
 
@@ -101,11 +101,11 @@ static SHAPES: [([usize; 6], bool, Option<CellRule>); 36] = [
     ([0, 1, 2, 1, 1, 3], false, NO_RAIL),
     ([1, 0, 2, 1, 1, 3], false, NO_RAIL),
     ([2, 3, 2, 1, 1, 3], false, None),
-    ([1, 1, 2, 1, 1, 96], false, None),
-    ([1, 1, 2, 1, 1, 97], false, MANY_DEVICES),
-    ([1, 1, 2, 1, 91, 3], false, None),
-    ([1, 1, 2, 1, 92, 3], false, MANY_NODES),
-    ([2, 1, 2, 1, 91, 3], false, None),
+    ([1, 1, 2, 1, 1, 192], false, None),
+    ([1, 1, 2, 1, 1, 193], false, MANY_DEVICES),
+    ([1, 1, 2, 1, 187, 3], false, None),
+    ([1, 1, 2, 1, 188, 3], false, MANY_NODES),
+    ([2, 1, 2, 1, 187, 3], false, None),
     ([1, 1, 6, 1, 1, 3], false, None),
     ([1, 1, 7, 1, 1, 3], false, MANY_INPUTS),
     ([1, 1, 0, 1, 1, 3], false, None),
@@ -113,21 +113,21 @@ static SHAPES: [([usize; 6], bool, Option<CellRule>); 36] = [
     ([1, 1, 2, 2, 1, 3], false, None),
     ([1, 1, 2, 3, 1, 3], false, MANY_OUTPUTS),
     ([1, 1, 2, 1, 1, 3], true, DRIVES),
-    ([1, 0, 2, 1, 1, 97], false, NO_RAIL),
-    ([1, 0, 2, 1, 93, 3], false, NO_RAIL),
+    ([1, 0, 2, 1, 1, 193], false, NO_RAIL),
+    ([1, 0, 2, 1, 189, 3], false, NO_RAIL),
     ([1, 0, 7, 1, 1, 3], false, NO_RAIL),
     ([1, 0, 2, 0, 1, 3], false, NO_RAIL),
     ([1, 0, 2, 3, 1, 3], false, NO_RAIL),
     ([1, 0, 2, 1, 1, 3], true, NO_RAIL),
-    ([1, 1, 2, 1, 92, 97], false, MANY_DEVICES),
-    ([1, 1, 7, 1, 1, 97], false, MANY_DEVICES),
-    ([1, 1, 2, 0, 1, 97], false, MANY_DEVICES),
-    ([1, 1, 2, 3, 1, 97], false, MANY_DEVICES),
-    ([1, 1, 2, 1, 1, 97], true, MANY_DEVICES),
-    ([1, 1, 7, 1, 87, 3], false, MANY_NODES),
-    ([1, 1, 2, 0, 93, 3], false, MANY_NODES),
-    ([1, 1, 2, 3, 90, 3], false, MANY_NODES),
-    ([1, 1, 2, 1, 92, 3], true, MANY_NODES),
+    ([1, 1, 2, 1, 188, 193], false, MANY_DEVICES),
+    ([1, 1, 7, 1, 1, 193], false, MANY_DEVICES),
+    ([1, 1, 2, 0, 1, 193], false, MANY_DEVICES),
+    ([1, 1, 2, 3, 1, 193], false, MANY_DEVICES),
+    ([1, 1, 2, 1, 1, 193], true, MANY_DEVICES),
+    ([1, 1, 7, 1, 183, 3], false, MANY_NODES),
+    ([1, 1, 2, 0, 189, 3], false, MANY_NODES),
+    ([1, 1, 2, 3, 186, 3], false, MANY_NODES),
+    ([1, 1, 2, 1, 188, 3], true, MANY_NODES),
     ([1, 1, 7, 0, 1, 3], false, MANY_INPUTS),
     ([1, 1, 7, 3, 1, 3], false, MANY_INPUTS),
     ([1, 1, 7, 1, 1, 3], true, MANY_INPUTS),

@@ -6,6 +6,7 @@ ghost use Rattle.ca_flat.specs.Pair.{bit_count};
 ghost use Rattle.ca_verilog.specs.IsNetlist.{IsNetlist};
 
 use crate::chips::{Claimed, LIBRARY, OF_INVERTER, OF_TIED};
+use ca_cell::StrengthTable;
 use ca_cert_text::read_certificate;
 use ca_chip_cert::check_over;
 use ca_chip_defects::chip_defects;
@@ -25,7 +26,7 @@ use std::alloc::Global;
 fn linked_netlist(alloc: Global, raw: &RawNetlist) -> Option<Chip>
     requires { IsNetlist raw.now }
 {
-    let library = read_library(alloc, LIBRARY).ok()?;
+    let library = read_library(alloc, &StrengthTable::default_table(), LIBRARY).ok()?;
     link(alloc, raw, library, &ScanTable::new(alloc)).ok()
 }
 

@@ -1,6 +1,7 @@
 //! An accumulator, and what is written of a pair.
 
 use ca_base::{List, NoMemory};
+use ca_cell::StrengthTable;
 use ca_chip_stil::{are_of_chip, write_chip_stil};
 use ca_lex::Text;
 use ca_link::link;
@@ -70,7 +71,7 @@ fn accumulator(alloc: Global) -> Option<Chip> {
     let Ok(raw) = read_netlist(alloc, ACCUMULATOR) else {
         return None;
     };
-    let Ok(library) = read_library(alloc, LIBRARY) else {
+    let Ok(library) = read_library(alloc, &StrengthTable::default_table(), LIBRARY) else {
         return None;
     };
     link(alloc, &raw, library, &scan).ok()

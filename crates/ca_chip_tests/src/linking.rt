@@ -6,6 +6,7 @@ ghost use Rattle.std.specs.Str.{bytes_eq};
 ghost use Rattle.ca_verilog.specs.IsNetlist.{IsNetlist};
 
 use ca_base::NoMemory;
+use ca_cell::StrengthTable;
 use ca_lex::Text;
 use ca_link::link;
 use ca_spice::read_library;
@@ -115,7 +116,7 @@ fn links_by_table(alloc: Global, raw: &RawNetlist, scan: &ScanTable, linked: Lin
     requires netlist { IsNetlist raw.now }
     requires rows { IsDistinct bytes_eq (map (λ row. row.cell) scan.now) }
 {
-    let Ok(library) = read_library(alloc, LIBRARY) else {
+    let Ok(library) = read_library(alloc, &StrengthTable::default_table(), LIBRARY) else {
         return false;
     };
     let chip = link(alloc, raw, library, scan);

@@ -12,6 +12,7 @@ use Rattle.ca_net.specs.declared.node.NodeKind.{NodeKind}
 use Rattle.ca_net.specs.declared.node.NodeKind.TheVariants.{Storage}
 use Rattle.ca_net.specs.declared.device.Device.{Device}
 use Rattle.ca_net.specs.Circuit.{Circuit, IsWellFormed, HasSize, HasStrength, NamesWithin}
+use Rattle.ca_net.proofs.ScaleLemmas.{bridge_is_strength}
 use Rattle.ca_cell.specs.declared.raw.RawCell.{RawCell}
 use Rattle.ca_cell.specs.Raw.{is_input, role_count, circuit_of, device_of}
 use Rattle.ca_cell.specs.Rules.{KeepsRules}
@@ -126,7 +127,7 @@ new_strength (OpenDrain opened) = All-nil HasStrength
 new_strength (OpenSource opened) = All-nil HasStrength
 new_strength (OpenGate opened) = All-nil HasStrength
 new_strength (OpenPin pin) = All-nil HasStrength
-new_strength (Short low high) = All-cons HasStrength (bridge low high) [] (inr (inr refl)) (All-nil HasStrength)
+new_strength (Short low high) = All-cons HasStrength (bridge low high) [] bridge_is_strength (All-nil HasStrength)
 
 -- the new node has a size of the scale
 new_size : (defect : Defect) → All HasSize (option_to_list (new_node defect))

@@ -13,8 +13,8 @@ use Rattle.ca_flat_tests.specs.Bare.{bare_cell, undriven_cell, BareCellsAreCells
 bare_keeps : KeepsAllBut NoOutput bare_cell
 bare_keeps NoRail other (inl e) = absurd (omega (arith, e))
 bare_keeps NoRail other (inr e) = absurd (omega (arith, e))
-bare_keeps (TooManyDevices count) other h = let a : count ≡ 0 = h.0 in let b : 96 < count = h.1 in omega arith
-bare_keeps (TooManyNodes count) other h = let a : count ≡ 2 = h.0 in let b : 96 < count = h.1 in omega arith
+bare_keeps (TooManyDevices count) other h = let a : count ≡ 0 = h.0 in let b : 192 < count = h.1 in omega arith
+bare_keeps (TooManyNodes count) other h = let a : count ≡ 2 = h.0 in let b : 192 < count = h.1 in omega arith
 bare_keeps (TooManyInputs count) other h = let a : count ≡ 0 = h.0 in let b : 6 < count = h.1 in omega arith
 bare_keeps NoOutput other h = other refl
 bare_keeps (TooManyOutputs count) other h = let a : count ≡ 0 = h.0 in let b : 2 < count = h.1 in omega arith
@@ -23,8 +23,8 @@ bare_keeps (InputDrivesChannel pin device) other h = none-some pin.0 h.on
 undriven_keeps : KeepsAllBut NoOutput undriven_cell
 undriven_keeps NoRail other (inl e) = absurd (omega (arith, e))
 undriven_keeps NoRail other (inr e) = absurd (omega (arith, e))
-undriven_keeps (TooManyDevices count) other h = let a : count ≡ 0 = h.0 in let b : 96 < count = h.1 in omega arith
-undriven_keeps (TooManyNodes count) other h = let a : count ≡ 3 = h.0 in let b : 96 < count = h.1 in omega arith
+undriven_keeps (TooManyDevices count) other h = let a : count ≡ 0 = h.0 in let b : 192 < count = h.1 in omega arith
+undriven_keeps (TooManyNodes count) other h = let a : count ≡ 3 = h.0 in let b : 192 < count = h.1 in omega arith
 undriven_keeps (TooManyInputs count) other h = let a : count ≡ 0 = h.0 in let b : 6 < count = h.1 in omega arith
 undriven_keeps NoOutput other h = other refl
 undriven_keeps (TooManyOutputs count) other h = let a : count ≡ 1 = h.0 in let b : 2 < count = h.1 in omega arith

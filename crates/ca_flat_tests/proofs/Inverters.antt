@@ -29,14 +29,14 @@ raw = record {
   pins = omega arith;
   places = All-cons (PlacesWithin 4) pull_down (pull_up ∷ []) (record { drain = omega arith; gate = omega arith; source = omega arith })
       (All-cons (PlacesWithin 4) pull_up [] (record { drain = omega arith; gate = omega arith; source = omega arith }) (All-nil (PlacesWithin 4)));
-  transistors = All-cons (λ (d : RawDevice). IsTransistor d.kind d.strength) pull_down (pull_up ∷ []) (inr refl) (All-cons (λ (d : RawDevice). IsTransistor d.kind d.strength) pull_up [] (inr refl) (All-nil (λ (d : RawDevice). IsTransistor d.kind d.strength)));
+  transistors = All-cons (λ (d : RawDevice). IsTransistor d.kind d.strength) pull_down (pull_up ∷ []) (omega arith, omega arith) (All-cons (λ (d : RawDevice). IsTransistor d.kind d.strength) pull_up [] (omega arith, omega arith) (All-nil (λ (d : RawDevice). IsTransistor d.kind d.strength)));
 }
 
 keeps : KeepsRules inverter
 keeps NoRail (inl e) = absurd (omega (arith, e))
 keeps NoRail (inr e) = absurd (omega (arith, e))
-keeps (TooManyDevices count) h = let a : count ≡ 2 = h.0 in let b : 96 < count = h.1 in omega arith
-keeps (TooManyNodes count) h = let a : count ≡ 4 = h.0 in let b : 96 < count = h.1 in omega arith
+keeps (TooManyDevices count) h = let a : count ≡ 2 = h.0 in let b : 192 < count = h.1 in omega arith
+keeps (TooManyNodes count) h = let a : count ≡ 4 = h.0 in let b : 192 < count = h.1 in omega arith
 keeps (TooManyInputs count) h = let a : count ≡ 1 = h.0 in let b : 6 < count = h.1 in omega arith
 keeps NoOutput e = absurd (omega (arith, e))
 keeps (TooManyOutputs count) h = let a : count ≡ 1 = h.0 in let b : 2 < count = h.1 in omega arith

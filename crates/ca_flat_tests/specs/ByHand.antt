@@ -1,6 +1,6 @@
 -- Flat networks that were worked out by hand.
 use Rattle.std.specs.Prelude.{ℕ, ◌≡◌, [], ◌∷◌, None, Some}
-use Rattle.ca_net.specs.declared.scale.TheConstants.{INNER_NODE, OUTPUT_NET, STRONG, BRIDGE}
+use Rattle.ca_net.specs.declared.scale.TheConstants.{INNER_NODE, OUTPUT_NET, STRONGEST, BRIDGE}
 use Rattle.ca_net.specs.declared.node.NodeKind.TheVariants.{Input, Storage}
 use Rattle.ca_net.specs.declared.device.Device.{Device}
 use Rattle.ca_net.specs.declared.device.DeviceKind.{DeviceKind}
@@ -15,7 +15,7 @@ use Rattle.ca_flat_tests.specs.Tied.{nand2}
 abbrev pub switch : DeviceKind → ℕ → ℕ → ℕ → Device
 switch kind drain gate source = record {
   kind = kind;
-  strength = STRONG;
+  strength = STRONGEST;
   gate = record { 0 = gate };
   a = record { 0 = drain };
   b = record { 0 = source };

@@ -1,6 +1,6 @@
 -- A chip of one inverter: it keeps what a chip keeps, and so the laws speak of it.
 use Rattle.std.specs.Prelude.{[], ◌∷◌}
-use Rattle.ca_net.specs.declared.scale.TheConstants.{OUTPUT_NET, STRONG}
+use Rattle.ca_net.specs.declared.scale.TheConstants.{OUTPUT_NET, STRONGEST}
 use Rattle.ca_net.specs.declared.node.NodeKind.TheVariants as node
 use Rattle.ca_net.specs.declared.device.DeviceKind.TheVariants.{N, P}
 use Rattle.ca_cell.specs.declared.raw.Role.TheVariants.{Input, Output, Power, Ground}
@@ -16,7 +16,7 @@ abbrev pub pull_down : RawDevice
 pull_down = record {
   name = 110 ∷ [];
   kind = N;
-  strength = STRONG;
+  strength = STRONGEST;
   width = record { 0 = 1 };
   length = record { 0 = 1 };
   drain = 3;
@@ -29,7 +29,7 @@ abbrev pub pull_up : RawDevice
 pull_up = record {
   name = 112 ∷ [];
   kind = P;
-  strength = STRONG;
+  strength = STRONGEST;
   width = record { 0 = 1 };
   length = record { 0 = 1 };
   drain = 3;

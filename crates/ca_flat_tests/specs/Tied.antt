@@ -1,7 +1,7 @@
 -- Codes of a netlist whose one NAND2 has both pins on the port a: bit 0 is a in the first vector, bit 1 is a
 -- in the last one.
 use Rattle.std.specs.Prelude.{ℕ, ◌≡◌, ◌≢◌, true, false, List, [], ◌∷◌, ◌++◌}
-use Rattle.ca_net.specs.declared.scale.TheConstants.{OUTPUT_NET, STRONG}
+use Rattle.ca_net.specs.declared.scale.TheConstants.{OUTPUT_NET, STRONGEST}
 use Rattle.ca_net.specs.declared.trit.Trit.{Trit}
 use Rattle.ca_net.specs.declared.trit.Trit.TheVariants.{Zero, One, X}
 use Rattle.ca_net.specs.declared.node.NodeKind.TheVariants as node
@@ -24,7 +24,7 @@ abbrev pub transistor : DeviceKind → ℕ → ℕ → ℕ → RawDevice
 transistor kind drain gate source = record {
   name = 109 ∷ [];
   kind = kind;
-  strength = STRONG;
+  strength = STRONGEST;
   width = record { 0 = 1 };
   length = record { 0 = 1 };
   drain = drain;

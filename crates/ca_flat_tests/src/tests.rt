@@ -9,7 +9,7 @@ ghost use Rattle.ca_net.specs.Wave.{input_count};
 use ca_base::NoMemory;
 use ca_net::{
     BRIDGE, Device, DeviceKind, DeviceList, FlatNet, INNER_NODE, NetFault, Network, NodeId,
-    NodeKind, NodeList, OUTPUT_NET, STRONG, Trit, Wave,
+    NodeKind, NodeList, OUTPUT_NET, STRONGEST, Trit, Wave,
 };
 use ca_settle::{Work, three_phase};
 use std::alloc::Global;
@@ -76,7 +76,7 @@ fn push_n(devices: &mut DeviceList, gate: u32, a: u32, b: u32) -> Result<(), Net
     devices
         .push(Device {
             kind: DeviceKind::N,
-            strength: STRONG,
+            strength: STRONGEST,
             gate: NodeId(gate),
             a: NodeId(a),
             b: NodeId(b),
@@ -94,7 +94,7 @@ fn push_p(devices: &mut DeviceList, gate: u32, a: u32, b: u32) -> Result<(), Net
     devices
         .push(Device {
             kind: DeviceKind::P,
-            strength: STRONG,
+            strength: STRONGEST,
             gate: NodeId(gate),
             a: NodeId(a),
             b: NodeId(b),

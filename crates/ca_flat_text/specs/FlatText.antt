@@ -1,7 +1,7 @@
 -- The text of a network: its nodes as comments, and its devices as the cards of a subcircuit.
-use Rattle.std.specs.Prelude.{ℕ, ◌+◌, ◌≡◌, ◌⊎◌, ◌==◌, if◌then◌else◌, List, [], ◌∷◌, ◌++◌, flat_map, codes}
+use Rattle.std.specs.Prelude.{ℕ, ◌+◌, ◌≡◌, ◌≤◌, ◌==◌, if◌then◌else◌, List, [], ◌∷◌, ◌++◌, flat_map, codes}
 use Rattle.std.specs.Prelude.{decimal}
-use Rattle.ca_net.specs.declared.scale.TheConstants.{WEAK, STRONG, BRIDGE}
+use Rattle.ca_net.specs.declared.scale.TheConstants.{WEAKEST, STRONGEST, BRIDGE}
 use Rattle.ca_net.specs.declared.node.NodeKind.{NodeKind}
 use Rattle.ca_net.specs.declared.node.NodeKind.TheVariants as node
 use Rattle.ca_net.specs.declared.device.DeviceKind.{DeviceKind}
@@ -35,10 +35,16 @@ abbrev pub lines_from : {X : Type 0} → (ℕ → X → List ℕ) → ℕ → Li
 lines_from line k [] = []
 lines_from line k (x ∷ xs) = line k x ++ lines_from line (k + 1) xs
 
--- the width and the length of a channel: those of a weak transistor have half the width and twice the length
+-- the width and the length of a channel: the ratios 1/4, 1/2, 1, 2, 4 and 8, weakest first, which under the
+-- default strength table are six strengths
 abbrev pub size_words : ℕ → List (List ℕ)
 size_words strength =
-    if strength == WEAK then codes "W=1u" ∷ codes "L=2u" ∷ [] else codes "W=2u" ∷ codes "L=1u" ∷ []
+    if strength == WEAKEST then codes "W=1u" ∷ codes "L=4u" ∷ []
+    else (if strength == WEAKEST + 1 then codes "W=1u" ∷ codes "L=2u" ∷ []
+    else (if strength == WEAKEST + 2 then codes "W=1u" ∷ codes "L=1u" ∷ []
+    else (if strength == WEAKEST + 3 then codes "W=2u" ∷ codes "L=1u" ∷ []
+    else (if strength == WEAKEST + 4 then codes "W=4u" ∷ codes "L=1u" ∷ []
+    else codes "W=8u" ∷ codes "L=1u" ∷ []))))
 
 -- drain, gate, source, bulk and model of a transistor, and the size of its channel
 abbrev pub transistor_words : ℕ → List ℕ → Device → List (List ℕ)
@@ -48,7 +54,8 @@ transistor_words bulk model device =
 
 -- the two ends of a bridge, and its strength
 abbrev pub bridge_words : Device → List (List ℕ)
-bridge_words device = numbered (codes "N") device.a.0 ∷ numbered (codes "N") device.b.0 ∷ codes "5" ∷ []
+bridge_words device = numbered (codes "N") device.a.0 ∷ numbered (codes "N") device.b.0 ∷ decimal device.strength
+    ∷ []
 
 -- the line of the device of this number and kind: the bulk of a p-device is power, that of an n-device ground
 abbrev pub line_by : DeviceKind → ℕ → Device → List ℕ
@@ -66,10 +73,10 @@ flat_text net =
     lines_from node_line 0 net.nodes
     ++ (codes ".SUBCKT FLAT N0 N1\n" ++ (lines_from device_line 0 net.devices ++ codes ".ENDS\n"))
 
--- a device of this kind is a transistor of one of the two sizes, or a bridge, whose gate is its first end
+-- a device of this kind has the strength of some transistor, or is a bridge, whose gate is its first end
 abbrev pub HasLineBy : DeviceKind → Device → Type 0
-HasLineBy kind.P device = (device.strength ≡ WEAK) ⊎ (device.strength ≡ STRONG)
-HasLineBy kind.N device = (device.strength ≡ WEAK) ⊎ (device.strength ≡ STRONG)
+HasLineBy kind.P device = (WEAKEST ≤ device.strength) × (device.strength ≤ STRONGEST)
+HasLineBy kind.N device = (WEAKEST ≤ device.strength) × (device.strength ≤ STRONGEST)
 HasLineBy kind.D device = (device.strength ≡ BRIDGE) × (device.gate ≡ device.a)
 
 -- the line of the device says all of it

@@ -8,7 +8,7 @@ ghost use Rattle.ca_flat_text.specs.FlatText.{flat_text, HasLine};
 
 use ca_base::NoMemory;
 use ca_lex::Text;
-use ca_net::{Device, DeviceId, DeviceKind, FlatNet, Network, NodeId, NodeKind, WEAK};
+use ca_net::{Device, DeviceId, DeviceKind, FlatNet, Network, NodeId, NodeKind, WEAKEST};
 use itoa::Buffer;
 use std::alloc::Global;
 
@@ -81,10 +81,18 @@ fn push_nodes(text: &mut Text, net: &FlatNet) -> Result<(), NoMemory>
 fn push_size(text: &mut Text, strength: u8) -> Result<(), NoMemory>
     ensures { OnOk result (text.new ≡ text.old ++ flat_map spaced (size_words strength)) }
 {
-    if strength == WEAK {
+    if strength == WEAKEST {
+        text.append(b" W=1u L=4u")
+    } else if strength == WEAKEST + 1 {
         text.append(b" W=1u L=2u")
-    } else {
+    } else if strength == WEAKEST + 2 {
+        text.append(b" W=1u L=1u")
+    } else if strength == WEAKEST + 3 {
         text.append(b" W=2u L=1u")
+    } else if strength == WEAKEST + 4 {
+        text.append(b" W=4u L=1u")
+    } else {
+        text.append(b" W=8u L=1u")
     }
 }
 
@@ -106,7 +114,8 @@ fn push_bridge(text: &mut Text, device: Device) -> Result<(), NoMemory>
 {
     push_node(text, device.a)?;
     push_node(text, device.b)?;
-    push_word(text, b"5")
+    text.push(b' ')?;
+    push_decimal(text, u32::from(device.strength))
 }
 
 // Appends the line of a device.

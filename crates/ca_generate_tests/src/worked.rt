@@ -4,6 +4,7 @@ ghost use Rattle.ca_verilog.specs.IsNetlist.{IsNetlist};
 
 use crate::chips::{COUNTED, HAZARD, KEPT_CHARGE, LIBRARY, SPELT};
 use crate::reported::{all, fault, summary, verdict};
+use ca_cell::StrengthTable;
 use ca_engine::generate_chip;
 use ca_generate::{Generated, Unwatched};
 use ca_lex::Text;
@@ -19,7 +20,7 @@ use std::alloc::Global;
 fn linked_netlist(alloc: Global, raw: &RawNetlist) -> Option<Chip>
     requires { IsNetlist raw.now }
 {
-    let library = read_library(alloc, LIBRARY).ok()?;
+    let library = read_library(alloc, &StrengthTable::default_table(), LIBRARY).ok()?;
     link(alloc, raw, library, &ScanTable::new(alloc)).ok()
 }
 

@@ -3,6 +3,7 @@
 ghost use Rattle.ca_scan.specs.ChainFault.{AreAllChains};
 
 use ca_base::NoMemory;
+use ca_cell::StrengthTable;
 use ca_chip_grade::grade_chip;
 use ca_chip_pairs::read_chip_stil;
 use ca_generate::Unwatched;
@@ -180,7 +181,7 @@ fn chip_of(alloc: Global, netlist: &[u8]) -> Option<Chip> {
     let Ok(raw) = read_netlist(alloc, netlist) else {
         return None;
     };
-    let Ok(library) = read_library(alloc, LIBRARY) else {
+    let Ok(library) = read_library(alloc, &StrengthTable::default_table(), LIBRARY) else {
         return None;
     };
     let scan = ScanTable::new(alloc);

@@ -3,6 +3,7 @@
 ghost use Rattle.ca_scan.specs.ChainFault.{AreAllChains};
 
 use ca_base::{List, NoMemory};
+use ca_cell::StrengthTable;
 use ca_chip_pairs::read_chip_stil;
 use ca_chip_stil::{are_of_chip, write_chip_stil};
 use ca_lex::Text;
@@ -62,7 +63,7 @@ fn accumulator(alloc: Global) -> Option<Chip> {
     let Ok(raw) = read_netlist(alloc, ACCUMULATOR) else {
         return None;
     };
-    let Ok(library) = read_library(alloc, LIBRARY) else {
+    let Ok(library) = read_library(alloc, &StrengthTable::default_table(), LIBRARY) else {
         return None;
     };
     link(alloc, &raw, library, &scan).ok()

@@ -2,7 +2,7 @@
 use Rattle.std.specs.Prelude.{ℕ, List, [], ◌∷◌, map, codes}
 use Rattle.ca_net.specs.declared.device.DeviceKind.{DeviceKind}
 use Rattle.ca_net.specs.declared.device.DeviceKind.TheVariants as kind
-use Rattle.ca_net.specs.declared.scale.TheConstants.{STRONG}
+use Rattle.ca_net.specs.declared.scale.TheConstants.{STRONGEST}
 use Rattle.ca_cell.specs.declared.raw.Role.{Role}
 use Rattle.ca_cell.specs.declared.raw.Role.TheVariants as role
 use Rattle.ca_cell.specs.declared.raw.RawPin.{RawPin}
@@ -15,13 +15,13 @@ use Rattle.ca_cell.specs.Library.{Named}
 abbrev pub pin : List ℕ → Role → RawPin
 pin name role = record { name = name; role = role }
 
--- a transistor of a width in units of 10^-18 metre, whose channel is 50 nanometres long: wider than long, and
--- so strong
+-- a transistor of a width in units of 10^-18 metre, whose channel is 50 nanometres long: more than eight times
+-- as wide as long, and so one of the strongest
 abbrev pub transistor : DeviceKind → ℕ → List ℕ → ℕ → ℕ → ℕ → RawDevice
 transistor kind width name drain gate source = record {
   name = name;
   kind = kind;
-  strength = STRONG;
+  strength = STRONGEST;
   width = record { 0 = width };
   length = record { 0 = 50000000000 };
   drain = drain;

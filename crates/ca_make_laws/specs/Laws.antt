@@ -1,5 +1,6 @@
 -- The laws of the texts of generated chips.
 use Rattle.std.specs.Prelude.{ℕ, ◌≡◌, ◌≤◌, map, Ok}
+use Rattle.ca_cell.specs.Strength.{default_table}
 use Rattle.ca_spice.specs.Reading.{library_of}
 use Rattle.ca_spice.specs.Writing.{kept_as}
 use Rattle.ca_verilog.specs.Text.{netlist_of}
@@ -13,7 +14,7 @@ use Rattle.ca_make_laws.specs.ChipTree.{chip_tree}
 
 -- the text of the cells reads as the three cells
 abbrev pub LibraryIsRead : Type 0
-LibraryIsRead = library_of library_text ≡ Ok (map (λ cell. kept_as cell.0 cell.1) cells)
+LibraryIsRead = library_of default_table library_text ≡ Ok (map (λ cell. kept_as cell.0 cell.1) cells)
 
 -- the text of each generated chip reads as its netlist in numbers
 abbrev pub NetlistIsRead : Type 0

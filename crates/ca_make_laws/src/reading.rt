@@ -9,7 +9,7 @@ ghost use Rattle.ca_make_laws.specs.Cells.{sound_library};
 ghost use Rattle.ca_make_laws.specs.ChipNetlist.{chip_netlist};
 
 use ca_base::NoMemory;
-use ca_cell::Library;
+use ca_cell::{Library, StrengthTable};
 use ca_make::{library, netlist};
 use ca_spice::{SpiceFault, read_library};
 use ca_verilog::{RawNetlist, VerilogFault, read_netlist};
@@ -21,7 +21,7 @@ pub fn made_library(alloc: Global) -> Result<Library, NoMemory>
     ensures entries { IfOk result (λ library. All (λ named. IsEntry named.entry) library) }
 {
     let text = library(alloc)?;
-    match read_library(alloc, text.as_bytes()) {
+    match read_library(alloc, &StrengthTable::default_table(), text.as_bytes()) {
         Ok(library) => Ok(library),
         Err(SpiceFault::NoMemory) => Err(NoMemory),
         Err(SpiceFault::At { .. }) => unreachable!(),

@@ -4,7 +4,7 @@ ghost use Rattle.std.specs.Prelude.{◌≤◌, IfSome};
 ghost use Rattle.ca_verilog.specs.IsNetlist.{IsNetlist};
 ghost use Rattle.ca_make.specs.declared.gate.TheConstants.{MOST_GATES};
 
-use ca_cell::Library;
+use ca_cell::{Library, StrengthTable};
 use ca_link::link;
 use ca_make::{library, netlist};
 use ca_make_laws::{made_library, made_netlist};
@@ -91,7 +91,7 @@ const SEVEN: &[u8] = b"module gen(i0, i1, i2, i3, i4, i5, i6, i7, o0, o1, o2, o3
 // The library that is read. Each value is dropped in one place here and below: more places are slow to prove.
 fn library_read(alloc: Global) -> Option<Library> {
     let text = library(alloc).ok()?;
-    let cells = read_library(alloc, text.as_bytes()).ok();
+    let cells = read_library(alloc, &StrengthTable::default_table(), text.as_bytes()).ok();
     drop(text);
     cells
 }

@@ -55,10 +55,10 @@ members_few chip members is gates are =
     omega arith
 
 -- a cell that keeps the rules is small
-pub devices_few : (cell : RawCell) → KeepsRules cell → length cell.devices ≤ 96
+pub devices_few : (cell : RawCell) → KeepsRules cell → length cell.devices ≤ 192
 devices_few cell keeps = few_devices cell keeps
 
-pub inner_few : (cell : RawCell) → KeepsRules cell → raw.inner_count cell ≤ 96
+pub inner_few : (cell : RawCell) → KeepsRules cell → raw.inner_count cell ≤ 192
 inner_few cell keeps = let f = few_nodes cell keeps in omega arith
 
 -- a sum over members, with one more

@@ -8,7 +8,7 @@ ghost use Rattle.ca_verilog.specs.IsNetlist.{IsNetlist};
 
 use crate::chips::{CHIPS, LIBRARY};
 use ca_base::NoMemory;
-use ca_cell::{Cell, CellRule};
+use ca_cell::{Cell, CellRule, StrengthTable};
 use ca_lex::Text;
 use ca_link::link;
 use ca_linked::{Chip, InstanceId, InstanceList};
@@ -24,7 +24,7 @@ fn linked_netlist(alloc: Global, raw: &RawNetlist) -> Option<Chip>
     requires { IsNetlist raw.now }
 {
     let scan = ScanTable::new(alloc);
-    let library = read_library(alloc, LIBRARY).ok()?;
+    let library = read_library(alloc, &StrengthTable::default_table(), LIBRARY).ok()?;
     let chip = link(alloc, raw, library, &scan).ok();
     drop(scan);
     chip

@@ -7,7 +7,7 @@ use Part::{N, P, Short, WeakP};
 use Place::{Ground, Inner, Output, Pin, Power};
 use ca_net::{
     BRIDGE, Device, DeviceKind, DeviceList, FlatNet, INNER_NODE, NetFault, NodeId, NodeKind,
-    NodeList, OUTPUT_NET, STRONG, WEAK,
+    NodeList, OUTPUT_NET, STRONGEST, WEAKEST,
 };
 use std::alloc::Global;
 
@@ -45,9 +45,9 @@ fn device_of(part: Part) -> Device
     ensures gate { GateIsDrain result }
 {
     let (kind, strength, gate, a, b) = match part {
-        N(gate, drain, source) => (DeviceKind::N, STRONG, gate, drain, source),
-        P(gate, drain, source) => (DeviceKind::P, STRONG, gate, drain, source),
-        WeakP(gate, drain, source) => (DeviceKind::P, WEAK, gate, drain, source),
+        N(gate, drain, source) => (DeviceKind::N, STRONGEST, gate, drain, source),
+        P(gate, drain, source) => (DeviceKind::P, STRONGEST, gate, drain, source),
+        WeakP(gate, drain, source) => (DeviceKind::P, WEAKEST, gate, drain, source),
         Short(a, b) => (DeviceKind::D, BRIDGE, a, a, b),
     };
     Device {

@@ -11,7 +11,7 @@ use Place::{Inner, Input, Output};
 use ca_base::{List, NoMemory};
 use ca_net::{
     Device, DeviceKind, DeviceList, FlatNet, INNER_NODE, NetFault, Network, NodeId, NodeKind,
-    NodeList, OUTPUT_NET, STRONG, State, Trit,
+    NodeList, OUTPUT_NET, STRONGEST, State, Trit,
 };
 use std::alloc::Global;
 
@@ -50,7 +50,7 @@ fn device_of(part: Part) -> Device
     };
     Device {
         kind,
-        strength: STRONG,
+        strength: STRONGEST,
         gate: NodeId(gate),
         a: NodeId(a),
         b: NodeId(b),

@@ -3,6 +3,7 @@
 ghost use Rattle.ca_verilog.specs.IsNetlist.{IsNetlist};
 
 use ca_base::NoMemory;
+use ca_cell::StrengthTable;
 use ca_lex::Text;
 use ca_link::link;
 use ca_linked::Chip;
@@ -170,7 +171,10 @@ impl Instances {
 fn linked_netlist(rt: &impl Abort, alloc: Global, raw: &RawNetlist) -> Chip
     requires { IsNetlist raw.now }
 {
-    let library = read_library(alloc, CELLS).expect(rt, "a library");
+    let library = read_library(alloc, &StrengthTable::default_table(), CELLS).expect(
+        rt,
+        "a library",
+    );
     match link(alloc, raw, library, &ScanTable::new(alloc)) {
         Ok(chip) => chip,
         Err(_) => panic!(rt; "no chip"),

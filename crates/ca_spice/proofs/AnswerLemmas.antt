@@ -6,6 +6,7 @@ use Rattle.ca_lex.specs.declared.lines.Line.{Line}
 use Rattle.ca_lex.specs.Lines.{spice_lines}
 use Rattle.ca_lex.specs.FirstFault.{located, IsFirstFault}
 use Rattle.ca_lex.proofs.FirstFaultLemmas as first
+use Rattle.ca_cell.specs.declared.strength.StrengthTable.{StrengthTable}
 use Rattle.ca_cell.specs.declared.library.TheConstants.{MOST_CELLS}
 use Rattle.ca_spice.specs.declared.fault.SpiceKind.TheVariants.{Unended}
 use Rattle.ca_spice.specs.declared.fault.SpiceFault.{SpiceFault}
@@ -27,22 +28,22 @@ not_line : (here : Line) (step : Step)
 not_line here (Ok next) reported = cc
 not_line here (Err kind) reported = cc
 
-not_given : (text : List ℕ) (given : Result Reading SpiceFault) → lines_from nothing (spice_lines text) ≡ given
+not_given : (table : StrengthTable) → (text : List ℕ) (given : Result Reading SpiceFault) → lines_from table nothing (spice_lines text) ≡ given
     → library_from given ≡ Err NoMemory → ⊥
 unfolding library_from
-not_given text (Ok reading) read reported = by reading.current reported
+not_given table text (Ok reading) read reported = by reading.current reported
   where
     by : (current : Option OpenCell)
         → elim current as (λ _. Result (List Subcircuit) SpiceFault) [ None ↦ limited reading.cells | Some cell ↦ Err (At cell.line Unended) ] ≡ Err NoMemory
         → ⊥
     by None reported = not_limited reading.cells reported
     by (Some cell) reported = cc
-not_given text (Err fault) read reported =
+not_given table text (Err fault) read reported =
     let same : fault ≡ NoMemory = cc in
-    let it : IsFirstFault (located at_line line_step) nothing (spice_lines text) NoMemory =
-    first.found (located at_line line_step) nothing (spice_lines text) NoMemory (read ∙ ap (λ (f : SpiceFault). Err f) same) in
-    not_line it.here (line_step it.here it.so_far) it.broken
+    let it : IsFirstFault (located at_line (line_step table)) nothing (spice_lines text) NoMemory =
+    first.found (located at_line (line_step table)) nothing (spice_lines text) NoMemory (read ∙ ap (λ (f : SpiceFault). Err f) same) in
+    not_line it.here (line_step table it.here it.so_far) it.broken
 
 -- the definition of a reading never says that memory ran out
-pub reading_has_memory : (text : List ℕ) → library_of text ≡ Err NoMemory → ⊥
-reading_has_memory text reported = not_given text (lines_from nothing (spice_lines text)) refl reported
+pub reading_has_memory : (table : StrengthTable) → (text : List ℕ) → library_of table text ≡ Err NoMemory → ⊥
+reading_has_memory table text reported = not_given table text (lines_from table nothing (spice_lines text)) refl reported

@@ -4,6 +4,7 @@ use Rattle.std.proofs.Common.{Some, Ok}
 use Rattle.std.specs.Prelude.{option_map}
 use Rattle.std.specs.Str.{bytes_eq}
 use Rattle.ca_lex.specs.Words.{upper_case}
+use Rattle.ca_cell.specs.declared.strength.StrengthTable.{StrengthTable}
 use Rattle.ca_cell.specs.declared.raw.RawCell.{RawCell}
 use Rattle.ca_cell.specs.declared.library.Entry.{Entry}
 use Rattle.ca_cell.specs.Library.{Named, entry_of, raw_of}
@@ -23,6 +24,6 @@ called_in_library (named ∷ more) name =
     chosen (bytes_eq name named.name) named.entry (called_among (map subcircuit_seen more) name) (entry_of more name) (called_in_library more name)
 
 -- what a word names in a text that reads as a library's subcircuits
-pub called_of_library : (bytes word : List ℕ) (library : List Named) → library_of bytes ≡ Ok (map subcircuit_seen library)
-    → cell_called bytes word ≡ option_map raw_of (entry_of library (upper_case word))
-called_of_library bytes word library reads = rw (cell_called, reads) (called_in_library library (upper_case word))
+pub called_of_library : (table : StrengthTable) → (bytes word : List ℕ) (library : List Named) → library_of table bytes ≡ Ok (map subcircuit_seen library)
+    → cell_called table bytes word ≡ option_map raw_of (entry_of library (upper_case word))
+called_of_library table bytes word library reads = rw (cell_called table, reads) (called_in_library library (upper_case word))

@@ -14,6 +14,7 @@ use Rattle.ca_net.specs.declared.device.DeviceKind.TheVariants as kind
 use Rattle.ca_lex.specs.Length.{length_of}
 use Rattle.ca_lex.specs.Reading.{unless}
 use Rattle.ca_lex.proofs.GrammarLemmas.{length_found}
+use Rattle.ca_cell.specs.declared.strength.StrengthTable.{StrengthTable}
 use Rattle.ca_cell.specs.declared.raw.RawDevice.{RawDevice}
 use Rattle.ca_spice.specs.declared.card.Card.TheVariants as card
 use Rattle.ca_spice.specs.declared.fault.SpiceKind.{SpiceKind}
@@ -47,7 +48,7 @@ pub record IsSize (size : ℕ) : Type 0 where
   pub most : size ≤ 10 ^ 24
 
 -- a device that a card describes, whose terminals are among these nets
-pub record IsCard (nets : List (List ℕ)) (device : RawDevice) : Type 0 where
+pub record IsCard (table : StrengthTable) (nets : List (List ℕ)) (device : RawDevice) : Type 0 where
   pub named : IsNameWord device.name
   pub mos : card_of device.name ≡ card.Mos
   pub kind : (device.kind ≡ kind.P) ⊎ (device.kind ≡ kind.N)
@@ -66,8 +67,8 @@ abbrev pub net_more : (nets more : List (List ℕ)) (place : ℕ) → IsNetAt ne
 net_more nets more place it = record { net = it.net; at = get_more nets more place it.net it.at; named = it.named }
 
 -- what is a card among nets is one among more nets
-pub card_more : (nets more : List (List ℕ)) (device : RawDevice) → IsCard nets device → IsCard (nets ++ more) device
-card_more nets more device it = record {
+pub card_more : (table : StrengthTable) → (nets more : List (List ℕ)) (device : RawDevice) → IsCard table nets device → IsCard table (nets ++ more) device
+card_more table nets more device it = record {
   named = it.named;
   mos = it.mos;
   kind = it.kind;
@@ -78,9 +79,9 @@ card_more nets more device it = record {
   source = net_more nets more device.source it.source;
 }
 
-pub cards_more : (nets more : List (List ℕ)) (devices : List RawDevice) → AllByRecursion (IsCard nets) devices → AllByRecursion (IsCard (nets ++ more)) devices
-cards_more nets more [] all = tt
-cards_more nets more (device ∷ devices) all = (card_more nets more device all.0, cards_more nets more devices all.1)
+pub cards_more : (table : StrengthTable) → (nets more : List (List ℕ)) (devices : List RawDevice) → AllByRecursion (IsCard table nets) devices → AllByRecursion (IsCard table (nets ++ more)) devices
+cards_more table nets more [] all = tt
+cards_more table nets more (device ∷ devices) all = (card_more table nets more device all.0, cards_more table nets more devices all.1)
 
 pub net_name-at : (nets : List (List ℕ)) (place : ℕ) (it : IsNetAt nets place) → net_name nets place ≡ it.net
 net_name-at nets place it = ap (λ (found : Option (List ℕ)). unwrap_or found []) it.at
@@ -171,10 +172,10 @@ sound_params : (device : RawDevice) → are_sound (card_params device) ≡ true
 unfolding are_params count_of
 sound_params device = refl
 
-wiring_of-written : (nets : List (List ℕ)) (bulk : List ℕ) (device : RawDevice) → IsCard nets device → IsNameWord bulk
+wiring_of-written : (table : StrengthTable) → (nets : List (List ℕ)) (bulk : List ℕ) (device : RawDevice) → IsCard table nets device → IsNameWord bulk
     → wiring_of device.name (card_words nets bulk device) ≡ Some (written_wiring nets device)
 unfolding wiring_of
-wiring_of-written nets bulk device it bulk_is =
+wiring_of-written table nets bulk device it bulk_is =
     let drain = net_named nets device.drain it.drain in
     let gate = net_named nets device.gate it.gate in
     let source = net_named nets device.source it.source in
@@ -196,20 +197,20 @@ sizes_of-written device width channel =
     (length_of-written device.length.0 channel.least channel.most)
 
 -- a card that was written is read as its device
-pub mos-written : (nets : List (List ℕ)) (bulk : List ℕ) (device : RawDevice) (cell : OpenCell) → IsCard nets device → IsNameWord bulk → has_device device.name cell.devices ≡ false
-    → mos device.name (card_words nets bulk device) cell ≡ Ok (with_device device.name (written_wiring nets device) (written_sizes device) cell)
-mos-written nets bulk device cell it bulk_is new =
-    mos-new device.name (card_words nets bulk device) cell (with_device device.name (written_wiring nets device) (written_sizes device) cell)
-    (written_wiring nets device) (written_sizes device) (wiring_of-written nets bulk device it bulk_is) (sizes_of-written device it.width it.channel) new refl
+pub mos-written : (table : StrengthTable) → (nets : List (List ℕ)) (bulk : List ℕ) (device : RawDevice) (cell : OpenCell) → IsCard table nets device → IsNameWord bulk → has_device device.name cell.devices ≡ false
+    → mos table device.name (card_words nets bulk device) cell ≡ Ok (with_device table device.name (written_wiring nets device) (written_sizes device) cell)
+mos-written table nets bulk device cell it bulk_is new =
+    mos-new table device.name (card_words nets bulk device) cell (with_device table device.name (written_wiring nets device) (written_sizes device) cell)
+    (written_wiring nets device) (written_sizes device) (wiring_of-written table nets bulk device it bulk_is) (sizes_of-written device it.width it.channel) new refl
 
 -- what a card that was read says
-pub record IsMos (name : List ℕ) (words : List (List ℕ)) (cell next : OpenCell) : Type 0 where
+pub record IsMos (table : StrengthTable) (name : List ℕ) (words : List (List ℕ)) (cell next : OpenCell) : Type 0 where
   pub wiring : Wiring
   pub sizes : Sizes
   pub wired : wiring_of name words ≡ Some wiring
   pub sized : sizes_of wiring.params ≡ Some sizes
   pub new : has_device name cell.devices ≡ false
-  pub is : next ≡ with_device name wiring sizes cell
+  pub is : next ≡ with_device table name wiring sizes cell
 
 -- a rule that is kept
 pub kept_rule : {A : Type 0} (broken : Bool) (kind : SpiceKind) (next : Result A SpiceKind) (value : A) → unless broken kind next ≡ Ok value → (broken ≡ false) × (next ≡ Ok value)
@@ -220,20 +221,20 @@ pub kept_value : {A : Type 0} (broken : Bool) (kind : SpiceKind) (value next : A
 kept_value true kind value next is = absurd cc
 kept_value false kind value next is = (refl, cc)
 
-pub mos_found : (name : List ℕ) (words : List (List ℕ)) (cell next : OpenCell) → mos name words cell ≡ Ok next → IsMos name words cell next
+pub mos_found : (table : StrengthTable) → (name : List ℕ) (words : List (List ℕ)) (cell next : OpenCell) → mos table name words cell ≡ Ok next → IsMos table name words cell next
 unfolding mos
-mos_found name words cell next is = by_wiring (wiring_of name words) refl is
+mos_found table name words cell next is = by_wiring (wiring_of name words) refl is
   where
     by_sizes : (wiring : Wiring) → wiring_of name words ≡ Some wiring → (found : Option Sizes) → sizes_of wiring.params ≡ found
-        → elim found as (λ _. Result OpenCell SpiceKind) [ None ↦ Err BadLength | Some sizes ↦ unless (has_device name cell.devices) DoubleName (Ok (with_device name wiring sizes cell)) ] ≡ Ok next
-        → IsMos name words cell next
+        → elim found as (λ _. Result OpenCell SpiceKind) [ None ↦ Err BadLength | Some sizes ↦ unless (has_device name cell.devices) DoubleName (Ok (with_device table name wiring sizes cell)) ] ≡ Ok next
+        → IsMos table name words cell next
     by_sizes wiring wired None sized is = absurd cc
     by_sizes wiring wired (Some sizes) sized is =
-        let rule = kept_value (has_device name cell.devices) DoubleName (with_device name wiring sizes cell) next is in
-        record { wiring = wiring; sizes = sizes; wired = wired; sized = sized; new = rule.0; is = rule.1 }
+        let rule = kept_value (has_device name cell.devices) DoubleName (with_device table name wiring sizes cell) next is in
+        record { wiring = wiring; sizes = sizes; wired = wired table; sized = sized; new = rule.0; is = rule.1 }
 
     by_wiring : (found : Option Wiring) → wiring_of name words ≡ found
-        → elim found as (λ _. Result OpenCell SpiceKind) [ None ↦ Err BadCard | Some wiring ↦ wired name wiring cell ] ≡ Ok next → IsMos name words cell next
+        → elim found as (λ _. Result OpenCell SpiceKind) [ None ↦ Err BadCard | Some wiring ↦ wired table name wiring cell ] ≡ Ok next → IsMos table name words cell next
     by_wiring None wired is = absurd cc
     by_wiring (Some wiring) wired is = by_sizes wiring wired (sizes_of wiring.params) refl is
 

@@ -7,7 +7,7 @@ use Rattle.std.specs.Str.{bytes_eq}
 use Rattle.std.proofs.lemmas.List.{map-append, length-map}
 use Rattle.std.proofs.lemmas.List.Elements.{All-push, All-weaker}
 use Rattle.std.proofs.lemmas.Option.{same_Some}
-use Rattle.ca_net.specs.declared.scale.TheConstants.{WEAK, STRONG}
+use Rattle.ca_net.specs.declared.scale.TheConstants.{WEAKEST, STRONGEST}
 use Rattle.ca_net.specs.declared.device.DeviceKind.{DeviceKind}
 use Rattle.ca_net.specs.declared.device.DeviceKind.TheVariants as kind
 use Rattle.ca_cell.specs.declared.raw.Role.{Role}
@@ -15,15 +15,17 @@ use Rattle.ca_cell.specs.declared.raw.RawPin.{RawPin}
 use Rattle.ca_cell.specs.declared.raw.RawDevice.{RawDevice}
 use Rattle.ca_cell.specs.declared.raw.RawCell.{RawCell}
 use Rattle.ca_cell.specs.Transistors.{IsTransistor}
+use Rattle.ca_cell.specs.declared.strength.StrengthTable.{StrengthTable}
+use Rattle.ca_cell.specs.Strength.{strength_of}
+use Rattle.ca_cell.proofs.StrengthLemmas.{strength_of-least, strength_of-most}
 use Rattle.ca_cell.specs.Rules.{PlacesWithin, IsRaw}
 use Rattle.ca_spice.specs.declared.pin.Pin.{Pin}
 use Rattle.ca_spice.specs.declared.subcircuit.Subcircuit.{Subcircuit}
 use Rattle.ca_names.specs.Names.{has_name, with_name}
-use Rattle.ca_spice.specs.Mos.{strength_of}
 use Rattle.ca_spice.specs.code.Mos.{has_gate}
 use Rattle.ca_spice.specs.OpenCell.{has_device, pins_after}
 use Rattle.ca_spice.specs.Reading.{has_cell}
-use Rattle.ca_spice.specs.code.Kept.{HasOwnStrength, IsPlaced, IsPlacedCell}
+use Rattle.ca_spice.specs.code.Kept.{HasClass, IsPlaced, IsPlacedCell}
 
 -- names never become fewer
 pub with_name-longer : (name : List ℕ) (names : List (List ℕ)) → length names ≤ length (with_name name names)
@@ -36,7 +38,7 @@ with_name-longer name names = by (has_name name names)
 -- what is placed stays so with more nets and one device more
 pub IsPlaced-grown : (pins : ℕ) (nets more : List (List ℕ)) (devices : List RawDevice) (device : RawDevice) → IsPlaced pins nets devices
     → length nets ≤ length more → length more < 2 ^ 32 → length (devices ++ device ∷ []) < 2 ^ 32
-    → PlacesWithin (length more) device → HasOwnStrength device → has_gate device.kind ≡ true
+    → PlacesWithin (length more) device → HasClass device → has_gate device.kind ≡ true
     → IsPlaced pins more (devices ++ device ∷ [])
 IsPlaced-grown pins nets more devices device placed longer few few_devices within own gate = record {
   few_nets = few;
@@ -46,7 +48,7 @@ IsPlaced-grown pins nets more devices device placed longer few few_devices withi
       (All-weaker (PlacesWithin (length nets)) (PlacesWithin (length more))
       (λ other held. record { drain = omega (arith, held.drain); gate = omega (arith, held.gate); source = omega (arith, held.source) })
       devices placed.places) within;
-  strengths = All-push HasOwnStrength devices device placed.strengths own;
+  strengths = All-push HasClass devices device placed.strengths own;
   gated = All-push (λ d. has_gate d.kind ≡ true) devices device placed.gated gate;
 }
 
@@ -75,16 +77,18 @@ pins_after-length done (pin ∷ pins) raw all = by pin.role (λ grown. pins_afte
         let shown : RawPin = record { name = pin.name; role = role } in
         omega (arith, later (done ++ shown ∷ []) is, length-append done (shown ∷ []))
 
--- a device with a gate and the strength of its sizes is a transistor
-transistor : (k : DeviceKind) (width channel : ℕ) → has_gate k ≡ true → IsTransistor k (strength_of width channel)
-transistor k width channel gate = by k (nat_lt width channel) gate
-  where
-    by : (k : DeviceKind) (weak : Bool) → has_gate k ≡ true → IsTransistor k (cond weak WEAK STRONG)
-    by kind.N true gate = inl refl
-    by kind.N false gate = inr refl
-    by kind.P true gate = inl refl
-    by kind.P false gate = inr refl
-    by kind.D weak gate = absurd cc
+-- a device with a gate and the strength of some transistor is a transistor
+transistor : (k : DeviceKind) (strength : ℕ) → has_gate k ≡ true → WEAKEST ≤ strength → strength ≤ STRONGEST → IsTransistor k strength
+transistor kind.N strength gate least most = (least, most)
+transistor kind.P strength gate least most = (least, most)
+transistor kind.D strength gate least most = absurd cc
+
+-- and so is one whose strength a table gave
+pub class_of : (table : StrengthTable) (width channel : ℕ) (device : RawDevice) → device.strength ≡ strength_of table width channel → HasClass device
+class_of table width channel device is =
+    let least = strength_of-least table width channel in
+    let most = strength_of-most table width channel in
+    (omega (arith, is, least), omega (arith, is, most))
 
 -- a placed subcircuit is one from which an entry can be made
 pub IsPlaced-IsRaw : (raw : RawCell) → IsPlacedCell raw → IsRaw raw
@@ -95,8 +99,8 @@ IsPlaced-IsRaw raw placed = record {
   places = placed.places;
   transistors = λ k d within.
       let device = get_or raw.devices k d in
-      subst (IsTransistor device.kind) (sym (placed.strengths k d within))
-      (transistor device.kind device.width.0 device.length.0 (placed.gated k d within));
+      let class = placed.strengths k d within in
+      transistor device.kind device.strength (placed.gated k d within) class.0 class.1;
 }
 
 -- names with one more are not fewer
@@ -124,7 +128,7 @@ named_grown name names more devices grown device named new names_are devices_are
 pub placed_grown : (pins : ℕ) (nets first second third names : List (List ℕ)) (devices grown : List RawDevice) (device : RawDevice) → IsPlaced pins nets devices
     → grown ≡ devices ++ device ∷ [] → names ≡ map (λ device. device.name) grown → length names < 2 ^ 32 → length third < 2 ^ 32
     → length nets ≤ length first → length first ≤ length second → length second ≤ length third
-    → device.drain < length first → device.gate < length second → device.source < length third → HasOwnStrength device
+    → device.drain < length first → device.gate < length second → device.source < length third → HasClass device
     → has_gate device.kind ≡ true → IsPlaced pins third grown
 placed_grown pins nets first second third names devices grown device placed devices_are named few few_nets to_first to_second to_third drain gate source own gated =
     let count : length names ≡ length grown = ap length named ∙ length-map grown (λ (d : RawDevice). d.name) in

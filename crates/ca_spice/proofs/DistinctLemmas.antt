@@ -6,6 +6,7 @@ use Rattle.std.specs.Str.{bytes_eq}
 use Rattle.std.specs.List.{AllByRecursion}
 use Rattle.std.proofs.lemmas.List.{append-nil, map-append}
 use Rattle.std.proofs.lemmas.Slice.Eq.{bytes_eq-Decides}
+use Rattle.ca_cell.specs.declared.strength.StrengthTable.{StrengthTable}
 use Rattle.ca_cell.specs.declared.raw.RawDevice.{RawDevice}
 use Rattle.ca_names.specs.Names.{has_name, with_name, repeats, has_double}
 use Rattle.ca_spice.specs.Mos.{Wiring, Sizes}
@@ -106,9 +107,9 @@ has_device-named name [] = refl
 has_device-named name (device ∷ devices) = ap (λ (more : Bool). bytes_eq name device.name || more) (has_device-named name devices)
 
 -- and with one device more
-pub names_grown : (pins nets : List (List ℕ)) (devices : List RawDevice) (name : List ℕ) (wiring : Wiring) (sizes : Sizes) → AreNames pins nets devices
-    → IsWired name wiring → has_device name devices ≡ false → AreNames pins (with_source wiring nets) (devices ++ device_of name wiring sizes nets ∷ [])
-names_grown pins nets devices name wiring sizes it wired new =
+pub names_grown : (table : StrengthTable) → (pins nets : List (List ℕ)) (devices : List RawDevice) (name : List ℕ) (wiring : Wiring) (sizes : Sizes) → AreNames pins nets devices
+    → IsWired name wiring → has_device name devices ≡ false → AreNames pins (with_source wiring nets) (devices ++ device_of table name wiring sizes nets ∷ [])
+names_grown table pins nets devices name wiring sizes it wired new =
     let with_one : List (List ℕ) = with_drain wiring nets in
     let with_two : List (List ℕ) = with_gate wiring nets in
     record {
@@ -118,6 +119,6 @@ names_grown pins nets devices name wiring sizes it wired new =
       spelled = spelled_with wiring.source with_two wired.source.spelled
           (spelled_with wiring.gate with_one wired.gate.spelled (spelled_with wiring.drain nets wired.drain.spelled it.spelled));
       nets_distinct = distinct_with wiring.source with_two (distinct_with wiring.gate with_one (distinct_with wiring.drain nets it.nets_distinct));
-      devices_distinct = subst AreDistinct (sym (map-append (λ (device : RawDevice). device.name) devices (device_of name wiring sizes nets ∷ [])))
+      devices_distinct = subst AreDistinct (sym (map-append (λ (device : RawDevice). device.name) devices (device_of table name wiring sizes nets ∷ [])))
           (distinct_pushed (names_of devices) name it.devices_distinct (sym (has_device-named name devices) ∙ new));
     }

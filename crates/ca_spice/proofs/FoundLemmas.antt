@@ -5,6 +5,7 @@ use Rattle.std.specs.Prelude.{Contains}
 use Rattle.std.specs.Str.{bytes_eq}
 use Rattle.std.proofs.lemmas.Slice.Eq.{bytes_eq-Decides}
 use Rattle.ca_lex.specs.Words.{upper_case}
+use Rattle.ca_cell.specs.declared.strength.StrengthTable.{StrengthTable}
 use Rattle.ca_cell.specs.declared.library.Entry.TheVariants.{Sound}
 use Rattle.ca_cell.specs.declared.raw.RawCell.{RawCell}
 use Rattle.ca_cell.specs.Library.{Named, raw_of, entry_of}
@@ -31,9 +32,9 @@ found_in name (named ∷ library) raw is = by (bytes_eq name named.name) refl is
         (0, omega arith, λ j. record { name = same_name j; raw = same_raw j })
     by false names is rest = later (subcircuit_seen named) (map subcircuit_seen library) (record { name = name; raw = raw }) (rest is)
 
-pub found : (text name : List ℕ) (library : List Named) (raw : RawCell) → library_of text ≡ Ok (map subcircuit_seen library)
-    → entry_of library (upper_case name) ≡ Some (Sound raw) → IsReadable name raw
-found text name library raw read is = record {
+pub found : (table : StrengthTable) → (text name : List ℕ) (library : List Named) (raw : RawCell) → library_of table text ≡ Ok (map subcircuit_seen library)
+    → entry_of library (upper_case name) ≡ Some (Sound raw) → IsReadable table name raw
+found table text name library raw read is = record {
   text = text;
   cells = map subcircuit_seen library;
   read = read;

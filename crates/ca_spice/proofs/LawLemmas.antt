@@ -6,6 +6,7 @@ use Rattle.ca_lex.specs.declared.lines.Line.{Line}
 use Rattle.ca_lex.specs.Lines.{spice_lines}
 use Rattle.ca_lex.specs.FirstFault.{located, IsFirstFault}
 use Rattle.ca_lex.proofs.FirstFaultLemmas as first
+use Rattle.ca_cell.specs.declared.strength.StrengthTable.{StrengthTable}
 use Rattle.ca_cell.specs.declared.library.TheConstants.{MOST_CELLS}
 use Rattle.ca_spice.specs.declared.fault.SpiceKind.{SpiceKind}
 use Rattle.ca_spice.specs.declared.fault.SpiceKind.TheVariants.{Unended}
@@ -32,24 +33,24 @@ not_limited cells line kind = by (nat_lt MOST_CELLS (length cells))
     by true reported = cc
     by false reported = cc
 
-found_open : (text : List ℕ) (line : ℕ) (kind : SpiceKind) (reading : Reading) → lines_from nothing (spice_lines text) ≡ Ok reading
+found_open : (table : StrengthTable) → (text : List ℕ) (line : ℕ) (kind : SpiceKind) (reading : Reading) → lines_from table nothing (spice_lines text) ≡ Ok reading
     → (current : Option OpenCell) → reading.current ≡ current
     → elim current as (λ _. Result (List Subcircuit) SpiceFault) [ None ↦ limited reading.cells | Some cell ↦ Err (At cell.line Unended) ] ≡ Err (At line kind)
-    → IsFirstFaulty text line kind
-found_open text line kind reading read None is reported = absurd (not_limited reading.cells line kind reported)
-found_open text line kind reading read (Some cell) is reported =
+    → IsFirstFaulty table text line kind
+found_open table text line kind reading read None is reported = absurd (not_limited reading.cells line kind reported)
+found_open table text line kind reading read (Some cell) is reported =
     inr (record { so_far = reading; cell = cell; read = read; is_open = is; number = cc; unended = cc })
 
-found_in : (text : List ℕ) (line : ℕ) (kind : SpiceKind) (given : Result Reading SpiceFault) → lines_from nothing (spice_lines text) ≡ given
-    → library_from given ≡ Err (At line kind) → IsFirstFaulty text line kind
+found_in : (table : StrengthTable) → (text : List ℕ) (line : ℕ) (kind : SpiceKind) (given : Result Reading SpiceFault) → lines_from table nothing (spice_lines text) ≡ given
+    → library_from given ≡ Err (At line kind) → IsFirstFaulty table text line kind
 unfolding library_from
-found_in text line kind (Ok reading) read reported = found_open text line kind reading read reading.current refl reported
-found_in text line kind (Err fault) read reported =
+found_in table text line kind (Ok reading) read reported = found_open table text line kind reading read reading.current refl reported
+found_in table text line kind (Err fault) read reported =
     let same : fault ≡ At line kind = cc in
-    let it : IsFirstFault (located at_line line_step) nothing (spice_lines text) (At line kind) =
-    first.found (located at_line line_step) nothing (spice_lines text) (At line kind) (read ∙ ap (λ (f : SpiceFault). Err f) same) in
-    let at : (line_step it.here it.so_far ≡ Err kind) × (it.here.line ≡ line) =
-    broken_at it.here line kind (line_step it.here it.so_far) it.broken in
+    let it : IsFirstFault (located at_line (line_step table)) nothing (spice_lines text) (At line kind) =
+    first.found (located at_line (line_step table)) nothing (spice_lines text) (At line kind) (read ∙ ap (λ (f : SpiceFault). Err f) same) in
+    let at : (line_step table it.here it.so_far ≡ Err kind) × (it.here.line ≡ line) =
+    broken_at it.here line kind (line_step table it.here it.so_far) it.broken in
     inl (record {
       before = it.before;
       here = it.here;
@@ -62,21 +63,21 @@ found_in text line kind (Err fault) read reported =
     })
 
 -- a fault at a line is that of the first faulty line
-pub found : (text : List ℕ) (line : ℕ) (kind : SpiceKind) → library_of text ≡ Err (At line kind) → IsFirstFaulty text line kind
-found text line kind reported = found_in text line kind (lines_from nothing (spice_lines text)) refl reported
+pub found : (table : StrengthTable) → (text : List ℕ) (line : ℕ) (kind : SpiceKind) → library_of table text ≡ Err (At line kind) → IsFirstFaulty table text line kind
+found table text line kind reported = found_in table text line kind (lines_from table nothing (spice_lines text)) refl reported
 
 -- the first faulty line gives its fault
-pub only : (text : List ℕ) (line : ℕ) (kind : SpiceKind) → IsFirstFaulty text line kind → library_of text ≡ Err (At line kind)
+pub only : (table : StrengthTable) → (text : List ℕ) (line : ℕ) (kind : SpiceKind) → IsFirstFaulty table text line kind → library_of table text ≡ Err (At line kind)
 unfolding library_from
-only text line kind (inl it) =
-    let at : located at_line line_step it.here it.so_far ≡ Err (At line kind) =
+only table text line kind (inl it) =
+    let at : located at_line (line_step table) it.here it.so_far ≡ Err (At line kind) =
     ap (λ (step : Step). elim step as (λ _. Result Reading SpiceFault) [ Ok next ↦ Ok next | Err reported ↦ Err (at_line it.here reported) ]) it.broken
     ∙ ap (λ (n : ℕ). Err (At n kind)) it.number in
-    let read : lines_from nothing (spice_lines text) ≡ Err (At line kind) =
-    first.only (located at_line line_step) nothing (spice_lines text) (At line kind)
+    let read : lines_from table nothing (spice_lines text) ≡ Err (At line kind) =
+    first.only (located at_line (line_step table)) nothing (spice_lines text) (At line kind)
     (record { before = it.before; here = it.here; after = it.after; so_far = it.so_far; whole = it.whole; read = it.read; broken = at }) in
     ap library_from read
-only text line kind (inr it) =
+only table text line kind (inr it) =
     ap library_from it.read
     ∙ ap (λ (current : Option OpenCell). elim current as (λ _. Result (List Subcircuit) SpiceFault) [ None ↦ limited it.so_far.cells | Some cell ↦ Err (At cell.line Unended) ]) it.is_open
     ∙ ap (λ (n : ℕ). Err (At n Unended)) it.number

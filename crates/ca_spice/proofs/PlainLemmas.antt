@@ -10,6 +10,7 @@ use Rattle.std.proofs.lemmas.Bool.Decides.{Decides-eqb}
 use Rattle.std.proofs.lemmas.List.{length-map, length-append}
 use Rattle.std.proofs.lemmas.List.Elements.{All-from_recursion}
 use Rattle.ca_lex.specs.Words.{upper_case}
+use Rattle.ca_cell.specs.declared.strength.StrengthTable.{StrengthTable}
 use Rattle.ca_cell.specs.declared.raw.RawDevice.{RawDevice}
 use Rattle.ca_cell.specs.declared.raw.RawPin.{RawPin}
 use Rattle.ca_cell.specs.declared.raw.RawCell.{RawCell}
@@ -59,10 +60,10 @@ differ words all distinct one other first second there there_too same =
     distinct one other first there (there_too ∙ ap Some equal)
 
 -- the names of devices are words
-spelled_devices : (nets : List (List ℕ)) (devices : List RawDevice) → AllByRecursion (IsCard nets) devices
+spelled_devices : (table : StrengthTable) → (nets : List (List ℕ)) (devices : List RawDevice) → AllByRecursion (IsCard table nets) devices
     → AllByRecursion IsSpelled (map (λ (device : RawDevice). device.name) devices)
-spelled_devices nets [] all = tt
-spelled_devices nets (device ∷ devices) all = (all.0.named.spelled, spelled_devices nets devices all.1)
+spelled_devices table nets [] all = tt
+spelled_devices table nets (device ∷ devices) all = (all.0.named.spelled, spelled_devices table nets devices all.1)
 
 -- the subcircuit that has the name is among them
 held_among : (cells : List Subcircuit) (name : List ℕ) (raw : RawCell) → called_among cells name ≡ Some raw
@@ -80,21 +81,21 @@ held_among (cell ∷ cells) name raw is = by (bytes_eq name cell.name) refl is (
     by false names is rest = later cell cells (record { name = name; raw = raw }) (rest is)
 
 -- a subcircuit that a word names in a text is one that some text reads as
-readable : (bytes word : List ℕ) (raw : RawCell) → cell_called bytes word ≡ Some raw → IsReadable word raw
-readable bytes word raw called = by (library_of bytes) refl called
+readable : (table : StrengthTable) → (bytes word : List ℕ) (raw : RawCell) → cell_called table bytes word ≡ Some raw → IsReadable table word raw
+readable table bytes word raw called = by (library_of table bytes) refl called
   where
-    by : (read : Result (List Subcircuit) SpiceFault) → library_of bytes ≡ read
+    by : (read : Result (List Subcircuit) SpiceFault) → library_of table bytes ≡ read
         → elim read as (λ _. Option RawCell) [ Ok cells ↦ called_among cells (upper_case word) | Err fault ↦ None ] ≡ Some raw
-        → IsReadable word raw
+        → IsReadable table word raw
     by (Ok cells) read called = record { text = bytes; cells = cells; read = read; holds = held_among cells (upper_case word) raw called }
     by (Err fault) read called = absurd cc
 
 -- the names of a subcircuit that a word names in a text are plain
-pub plain_names : (bytes word : List ℕ) (raw : RawCell) → cell_called bytes word ≡ Some raw → HasPlainNames raw
-plain_names bytes word raw called =
-    let writable = readable_writable word raw (readable bytes word raw called) in
+pub plain_names : (table : StrengthTable) → (bytes word : List ℕ) (raw : RawCell) → cell_called table bytes word ≡ Some raw → HasPlainNames raw
+plain_names table bytes word raw called =
+    let writable = readable_writable table word raw (readable table bytes word raw called) in
     let names = writable.names in
-    let devices = spelled_devices raw.nets raw.devices writable.cards in
+    let devices = spelled_devices table raw.nets raw.devices writable.cards in
     record {
       pins =
           let all : length raw.nets ≡ length raw.pins + length names.pins_first.more =

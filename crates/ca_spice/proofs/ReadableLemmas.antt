@@ -9,6 +9,7 @@ use Rattle.ca_lex.specs.Words.{words_of, upper_case}
 use Rattle.ca_lex.specs.Lines.{spice_lines}
 use Rattle.ca_lex.specs.FirstFault.{steps_from, located}
 use Rattle.ca_lex.specs.Reading.{unless}
+use Rattle.ca_cell.specs.declared.strength.StrengthTable.{StrengthTable}
 use Rattle.ca_cell.specs.declared.library.TheConstants.{MOST_CELLS}
 use Rattle.ca_cell.specs.declared.raw.RawPin.{RawPin}
 use Rattle.ca_cell.specs.declared.raw.RawCell.{RawCell}
@@ -38,21 +39,21 @@ use Rattle.ca_spice.proofs.WritableLemmas.{IsWritable, first_step, writable_grow
 use Rattle.ca_spice.proofs.WritableLemmas.{pin_info_names, after_names}
 
 -- a subcircuit that was read can be written
-abbrev pub IsWritableCell : Subcircuit → Type 0
-IsWritableCell cell = IsWritable cell.name (pin_names cell.raw.pins) cell.raw.nets cell.raw.devices
+abbrev pub IsWritableCell : (table : StrengthTable) → Subcircuit → Type 0
+IsWritableCell table cell = IsWritable table cell.name (pin_names cell.raw.pins) cell.raw.nets cell.raw.devices
 
 -- so can one that is being read, once its pins have roles
-abbrev pub IsWritableOpen : Option OpenCell → Type 0
-IsWritableOpen None = Unit {0}
-IsWritableOpen (Some cell) = IsWritable cell.name (names_shown cell.pins) cell.nets cell.devices
+abbrev pub IsWritableOpen : (table : StrengthTable) → Option OpenCell → Type 0
+IsWritableOpen table None = Unit {0}
+IsWritableOpen table (Some cell) = IsWritable table cell.name (names_shown cell.pins) cell.nets cell.devices
 
-pub record IsWritableReading (reading : Reading) : Type 0 where
-  pub cells : AllByRecursion IsWritableCell reading.cells
-  pub current : IsWritableOpen reading.current
+pub record IsWritableReading (table : StrengthTable) (reading : Reading) : Type 0 where
+  pub cells : AllByRecursion (IsWritableCell table) reading.cells
+  pub current : IsWritableOpen table reading.current
 
 -- what was read, with another subcircuit that is being read
-reopened : (reading next : Reading) (cell : OpenCell) → next ≡ with_open reading cell → AllByRecursion IsWritableCell reading.cells → IsWritableOpen (Some cell) → IsWritableReading next
-reopened reading next cell is cells current = subst IsWritableReading (sym is) (record { cells = cells; current = current })
+reopened : (table : StrengthTable) → (reading next : Reading) (cell : OpenCell) → next ≡ with_open reading cell → AllByRecursion (IsWritableCell table) reading.cells → IsWritableOpen table (Some cell) → IsWritableReading table next
+reopened table reading next cell is cells current = subst (IsWritableReading table) (sym is) (record { cells = cells; current = current })
 
 names_given : (names : List (List ℕ)) → names_shown (map pin_of names) ≡ names
 names_given [] = refl
@@ -68,9 +69,9 @@ second_false true second is = absurd cc
 second_false false second is = is
 
 -- a subcircuit without devices
-begun : (name : List ℕ) (pins : List (List ℕ)) → IsSpelled name → is_header (name ∷ pins) ≡ true → AllByRecursion IsSpelled pins → has_double pins ≡ false → IsWritable name pins pins []
+begun : (table : StrengthTable) → (name : List ℕ) (pins : List (List ℕ)) → IsSpelled name → is_header (name ∷ pins) ≡ true → AllByRecursion IsSpelled pins → has_double pins ≡ false → IsWritable table name pins pins []
 unfolding steps_from
-begun name pins name_is header spelled distinct = record {
+begun table name pins name_is header spelled distinct = record {
   named = name_is;
   header = header;
   spelled = spelled;
@@ -80,21 +81,21 @@ begun name pins name_is header spelled distinct = record {
   names = names_begun pins spelled distinct;
 }
 
-named_step : (line : ℕ) (name : List ℕ) (pins : List (List ℕ)) (reading next : Reading) → named line name pins reading ≡ Ok next → IsWritableReading reading
-    → IsSpelled name → is_header (name ∷ pins) ≡ true → AllByRecursion IsSpelled pins → IsWritableReading next
+named_step : (table : StrengthTable) → (line : ℕ) (name : List ℕ) (pins : List (List ℕ)) (reading next : Reading) → named line name pins reading ≡ Ok next → IsWritableReading table reading
+    → IsSpelled name → is_header (name ∷ pins) ≡ true → AllByRecursion IsSpelled pins → IsWritableReading table next
 unfolding named
-named_step line name pins reading next is before name_is header spelled =
+named_step table line name pins reading next is before name_is header spelled =
     let value = kept_value (has_cell name reading.cells || has_double pins) DoubleName (with_open reading (new_cell line name pins)) next is in
-    let cell : IsWritable name pins pins [] = begun name pins name_is header spelled (second_false (has_cell name reading.cells) (has_double pins) value.0) in
-    reopened reading next (new_cell line name pins) value.1 before.cells
-    (subst (λ (names : List (List ℕ)). IsWritable name names pins []) (sym (names_given pins)) cell)
+    let cell : IsWritable table name pins pins [] = begun table name pins name_is header spelled (second_false (has_cell name reading.cells) (has_double pins) value.0) in
+    reopened table reading next (new_cell line name pins) value.1 before.cells
+    (subst (λ (names : List (List ℕ)). IsWritable table name names pins []) (sym (names_given pins)) cell)
 
-subckt_step : (line : ℕ) (words : List (List ℕ)) (reading next : Reading) → subckt line words reading ≡ Ok next → IsWritableReading reading → AllByRecursion IsSpelled words → IsWritableReading next
+subckt_step : (table : StrengthTable) → (line : ℕ) (words : List (List ℕ)) (reading next : Reading) → subckt line words reading ≡ Ok next → IsWritableReading table reading → AllByRecursion IsSpelled words → IsWritableReading table next
 unfolding subckt
-subckt_step line [] reading next is before all = absurd cc
-subckt_step line (name ∷ pins) reading next is before all =
+subckt_step table line [] reading next is before all = absurd cc
+subckt_step table line (name ∷ pins) reading next is before all =
     let rule = kept_rule (not (is_outside reading) || not (is_header (name ∷ pins))) BadCard (named line name pins reading) next is in
-    named_step line name pins reading next rule.1 before all.0 (second_kept (is_outside reading) (is_header (name ∷ pins)) rule.0) all.1
+    named_step table line name pins reading next rule.1 before all.0 (second_kept (is_outside reading) (is_header (name ∷ pins)) rule.0) all.1
 
 -- what a card made of the subcircuit that is being read
 record IsInCell (step : OpenCell → Result OpenCell SpiceKind) (reading next : Reading) : Type 0 where
@@ -116,111 +117,111 @@ in_cell_found step reading next is = by reading.current refl is
     by None is_open is = absurd cc
     by (Some cell) is_open is = by_step cell is_open (step cell) refl is
 
-mos_step : (word : List ℕ) (words : List (List ℕ)) (cell after : OpenCell) → mos word words cell ≡ Ok after → card_of word ≡ card.Mos → IsSpelled word → AllByRecursion IsSpelled words
-    → IsWritableOpen (Some cell) → IsWritableOpen (Some after)
-mos_step word words cell after is card_is word_is all before =
-    let it = mos_found word words cell after is in
+mos_step : (table : StrengthTable) → (word : List ℕ) (words : List (List ℕ)) (cell after : OpenCell) → mos table word words cell ≡ Ok after → card_of word ≡ card.Mos → IsSpelled word → AllByRecursion IsSpelled words
+    → IsWritableOpen table (Some cell) → IsWritableOpen table (Some after)
+mos_step table word words cell after is card_is word_is all before =
+    let it = mos_found table word words cell after is in
     let wired = wiring_found word words it.wiring it.wired all in
-    subst (λ (c : OpenCell). IsWritableOpen (Some c)) (sym it.is)
-    (writable_grown cell.name (names_shown cell.pins) cell.nets cell.devices word it.wiring it.sizes before (record { spelled = word_is; name = wired.name_is }) card_is wired it.sized it.new)
+    subst (λ (c : OpenCell). IsWritableOpen table (Some c)) (sym it.is)
+    (writable_grown table cell.name (names_shown cell.pins) cell.nets cell.devices word it.wiring it.sizes before (record { spelled = word_is; name = wired.name_is }) card_is wired it.sized it.new)
 
-roles_step : (words : List (List ℕ)) (cell after : OpenCell) → pin_info words cell ≡ Ok after → IsWritableOpen (Some cell) → IsWritableOpen (Some after)
+roles_step : (table : StrengthTable) → (words : List (List ℕ)) (cell after : OpenCell) → pin_info words cell ≡ Ok after → IsWritableOpen table (Some cell) → IsWritableOpen table (Some after)
 unfolding pin_info
-roles_step words cell after is before = by (info.pin_info cell.nets words cell.pins) refl is
+roles_step table words cell after is before = by (info.pin_info cell.nets words cell.pins) refl is
   where
-    by : (given : Result (List Pin) SpiceKind) → info.pin_info cell.nets words cell.pins ≡ given → has_roles cell given ≡ Ok after → IsWritableOpen (Some after)
+    by : (given : Result (List Pin) SpiceKind) → info.pin_info cell.nets words cell.pins ≡ given → has_roles cell given ≡ Ok after → IsWritableOpen table (Some after)
     by (Ok pins) read is =
         let same : after ≡ with_pins cell pins = cc in
-        subst (λ (c : OpenCell). IsWritableOpen (Some c)) (sym same)
-        (subst (λ (names : List (List ℕ)). IsWritable cell.name names cell.nets cell.devices) (sym (pin_info_names cell.nets words cell.pins pins read)) before)
+        subst (λ (c : OpenCell). IsWritableOpen table (Some c)) (sym same)
+        (subst (λ (names : List (List ℕ)). IsWritable table cell.name names cell.nets cell.devices) (sym (pin_info_names cell.nets words cell.pins pins read)) before)
     by (Err kind) read is = absurd cc
 
-ended_step : (words : List (List ℕ)) (cell : OpenCell) (made : Subcircuit) → ended words cell ≡ Ok made → IsWritableOpen (Some cell) → IsWritableCell made
+ended_step : (table : StrengthTable) → (words : List (List ℕ)) (cell : OpenCell) (made : Subcircuit) → ended words cell ≡ Ok made → IsWritableOpen table (Some cell) → IsWritableCell table made
 unfolding ended
-ended_step words cell made is before =
+ended_step table words cell made is before =
     by (pins_after [] cell.pins) refl (kept_rule (not (is_ended_by words cell.name)) BadCard (subcircuit_with cell (pins_after [] cell.pins)) made is).1
   where
-    by : (given : Option (List RawPin)) → pins_after [] cell.pins ≡ given → subcircuit_with cell given ≡ Ok made → IsWritableCell made
+    by : (given : Option (List RawPin)) → pins_after [] cell.pins ≡ given → subcircuit_with cell given ≡ Ok made → IsWritableCell table made
     by None found is = absurd cc
     by (Some pins) found is =
         let same : made ≡ record { name = cell.name; raw = record { pins = pins; nets = cell.nets; devices = cell.devices } } = cc in
-        subst IsWritableCell (sym same)
-        (subst (λ (names : List (List ℕ)). IsWritable cell.name names cell.nets cell.devices) (sym (after_names [] cell.pins pins found)) before)
+        subst (IsWritableCell table) (sym same)
+        (subst (λ (names : List (List ℕ)). IsWritable table cell.name names cell.nets cell.devices) (sym (after_names [] cell.pins pins found)) before)
 
-ends_step : (words : List (List ℕ)) (reading next : Reading) → ends words reading ≡ Ok next → IsWritableReading reading → IsWritableReading next
+ends_step : (table : StrengthTable) → (words : List (List ℕ)) (reading next : Reading) → ends words reading ≡ Ok next → IsWritableReading table reading → IsWritableReading table next
 unfolding ends
-ends_step words reading next is before = by reading.current refl is
+ends_step table words reading next is before = by reading.current refl is
   where
-    by_made : (cell : OpenCell) → reading.current ≡ Some cell → (given : Result Subcircuit SpiceKind) → ended words cell ≡ given → with_cell reading given ≡ Ok next → IsWritableReading next
+    by_made : (cell : OpenCell) → reading.current ≡ Some cell → (given : Result Subcircuit SpiceKind) → ended words cell ≡ given → with_cell reading given ≡ Ok next → IsWritableReading table next
     by_made cell is_open (Ok made) found is =
         let same : next ≡ record { cells = reading.cells ++ made ∷ []; current = None } = cc in
-        subst IsWritableReading (sym same) (record {
-          cells = all_append IsWritableCell reading.cells (made ∷ []) before.cells (ended_step words cell made found (subst IsWritableOpen is_open before.current), tt);
+        subst (IsWritableReading table) (sym same) (record {
+          cells = all_append (IsWritableCell table) reading.cells (made ∷ []) before.cells (ended_step table words cell made found (subst (IsWritableOpen table) is_open before.current), tt);
           current = tt;
         })
     by_made cell is_open (Err kind) found is = absurd cc
 
     by : (current : Option OpenCell) → reading.current ≡ current
-        → elim current as (λ _. Step) [ None ↦ Err BadCard | Some cell ↦ with_cell reading (ended words cell) ] ≡ Ok next → IsWritableReading next
+        → elim current as (λ _. Step) [ None ↦ Err BadCard | Some cell ↦ with_cell reading (ended words cell) ] ≡ Ok next → IsWritableReading table next
     by None is_open is = absurd cc
     by (Some cell) is_open is = by_made cell is_open (ended words cell) refl is
 
-card_made : (kind : Card) (line : ℕ) (word : List ℕ) (words : List (List ℕ)) (reading next : Reading) → card_of word ≡ kind → card_step kind line word words reading ≡ Ok next
-    → IsWritableReading reading → IsSpelled word → AllByRecursion IsSpelled words → IsWritableReading next
+card_made : (table : StrengthTable) → (kind : Card) (line : ℕ) (word : List ℕ) (words : List (List ℕ)) (reading next : Reading) → card_of word ≡ kind → card_step table kind line word words reading ≡ Ok next
+    → IsWritableReading table reading → IsSpelled word → AllByRecursion IsSpelled words → IsWritableReading table next
 unfolding card_step
-card_made card.Subckt line word words reading next card_is is before word_is all = subckt_step line words reading next is before all
-card_made card.Ends line word words reading next card_is is before word_is all = ends_step words reading next is before
-card_made card.PinInfo line word words reading next card_is is before word_is all =
+card_made table card.Subckt line word words reading next card_is is before word_is all = subckt_step table line words reading next is before all
+card_made table card.Ends line word words reading next card_is is before word_is all = ends_step table words reading next is before
+card_made table card.PinInfo line word words reading next card_is is before word_is all =
     let it = in_cell_found (pin_info words) reading next is in
-    reopened reading next it.after it.is before.cells (roles_step words it.cell it.after it.stepped (subst IsWritableOpen it.is_open before.current))
-card_made card.Mos line word words reading next card_is is before word_is all =
-    let it = in_cell_found (mos word words) reading next is in
-    reopened reading next it.after it.is before.cells (mos_step word words it.cell it.after it.stepped card_is word_is all (subst IsWritableOpen it.is_open before.current))
-card_made card.Ignored line word words reading next card_is is before word_is all =
+    reopened table reading next it.after it.is before.cells (roles_step table words it.cell it.after it.stepped (subst (IsWritableOpen table) it.is_open before.current))
+card_made table card.Mos line word words reading next card_is is before word_is all =
+    let it = in_cell_found (mos table word words) reading next is in
+    reopened table reading next it.after it.is before.cells (mos_step table word words it.cell it.after it.stepped card_is word_is all (subst (IsWritableOpen table) it.is_open before.current))
+card_made table card.Ignored line word words reading next card_is is before word_is all =
     let same : next ≡ reading = cc in
-    subst IsWritableReading (sym same) before
-card_made card.Stray line word words reading next card_is is before word_is all = absurd cc
-card_made card.Unknown line word words reading next card_is is before word_is all = absurd cc
+    subst (IsWritableReading table) (sym same) before
+card_made table card.Stray line word words reading next card_is is before word_is all = absurd cc
+card_made table card.Unknown line word words reading next card_is is before word_is all = absurd cc
 
 not_false : (x : Bool) → not x ≡ false → x ≡ true
 not_false true is = refl
 not_false false is = absurd cc
 
-words_made : (line : ℕ) (words : List (List ℕ)) (reading next : Reading) → words_step line words reading ≡ Ok next → IsWritableReading reading
-    → (list_all is_text words ≡ true → AllByRecursion IsSpelled words) → IsWritableReading next
+words_made : (table : StrengthTable) → (line : ℕ) (words : List (List ℕ)) (reading next : Reading) → words_step table line words reading ≡ Ok next → IsWritableReading table reading
+    → (list_all is_text words ≡ true → AllByRecursion IsSpelled words) → IsWritableReading table next
 unfolding words_step
-words_made line [] reading next is before spelled =
+words_made table line [] reading next is before spelled =
     let same : next ≡ reading = cc in
-    subst IsWritableReading (sym same) before
-words_made line (word ∷ words) reading next is before spelled = by (is_comment (card_of word) reading) is
+    subst (IsWritableReading table) (sym same) before
+words_made table line (word ∷ words) reading next is before spelled = by (is_comment (card_of word) reading) is
   where
-    by : (comment : Bool) → cond comment (Ok reading) (judged (card_of word) line word words reading) ≡ Ok next → IsWritableReading next
+    by : (comment : Bool) → cond comment (Ok reading) (judged table (card_of word) line word words reading) ≡ Ok next → IsWritableReading table next
     by true is =
         let same : next ≡ reading = cc in
-        subst IsWritableReading (sym same) before
+        subst (IsWritableReading table) (sym same) before
     by false is =
-        let formed = kept_rule (is_stray (card_of word)) BadCard (unless (not (list_all is_text (word ∷ words))) NotText (card_step (card_of word) line word words reading)) next is in
-        let text = kept_rule (not (list_all is_text (word ∷ words))) NotText (card_step (card_of word) line word words reading) next formed.1 in
+        let formed = kept_rule (is_stray (card_of word)) BadCard (unless (not (list_all is_text (word ∷ words))) NotText (card_step table (card_of word) line word words reading)) next is in
+        let text = kept_rule (not (list_all is_text (word ∷ words))) NotText (card_step table (card_of word) line word words reading) next formed.1 in
         let all : AllByRecursion IsSpelled (word ∷ words) = spelled (not_false (list_all is_text (word ∷ words)) text.0) in
-        card_made (card_of word) line word words reading next refl text.1 before all.0 all.1
+        card_made table (card_of word) line word words reading next refl text.1 before all.0 all.1
 
-line_made : (line : Line) (reading next : Reading) → IsShownText line → line_step line reading ≡ Ok next → IsWritableReading reading → IsWritableReading next
+line_made : (table : StrengthTable) → (line : Line) (reading next : Reading) → IsShownText line → line_step table line reading ≡ Ok next → IsWritableReading table reading → IsWritableReading table next
 unfolding line_step
-line_made line reading next shown is before = words_made line.line (words_of (upper_case line.text)) reading next is before (words_spelled line.text shown)
+line_made table line reading next shown is before = words_made table line.line (words_of (upper_case line.text)) reading next is before (words_spelled line.text shown)
 
 stepped_at : (line : Line) (given : Step) (next : Reading) → elim given as (λ _. Result Reading SpiceFault) [ Ok later ↦ Ok later | Err kind ↦ Err (at_line line kind) ] ≡ Ok next → given ≡ Ok next
 stepped_at line (Ok later) next is = cc
 stepped_at line (Err kind) next is = absurd cc
 
-lines_made : (lines : List Line) (reading last : Reading) → AllByRecursion IsShownText lines → lines_from reading lines ≡ Ok last → IsWritableReading reading → IsWritableReading last
+lines_made : (table : StrengthTable) → (lines : List Line) (reading last : Reading) → AllByRecursion IsShownText lines → lines_from table reading lines ≡ Ok last → IsWritableReading table reading → IsWritableReading table last
 unfolding steps_from
-lines_made [] reading last shown is before =
+lines_made table [] reading last shown is before =
     let same : last ≡ reading = cc in
-    subst IsWritableReading (sym same) before
-lines_made (line ∷ lines) reading last shown is before =
-    let first = first_step (located at_line line_step) reading last line lines is in
-    lines_made lines first.next last shown.1 first.rest
-    (line_made line reading first.next shown.0 (stepped_at line (line_step line reading) first.next first.stepped) before)
+    subst (IsWritableReading table) (sym same) before
+lines_made table (line ∷ lines) reading last shown is before =
+    let first = first_step (located at_line (line_step table)) reading last line lines is in
+    lines_made table lines first.next last shown.1 first.rest
+    (line_made table line reading first.next shown.0 (stepped_at line (line_step table line reading) first.next first.stepped) before)
 
 limited_cells : (cells read : List Subcircuit) → limited cells ≡ Ok read → read ≡ cells
 limited_cells cells read is = by (nat_lt MOST_CELLS (length cells)) is
@@ -229,22 +230,22 @@ limited_cells cells read is = by (nat_lt MOST_CELLS (length cells)) is
     by true is = absurd cc
     by false is = cc
 
-library_made : (given : Result Reading SpiceFault) (cells : List Subcircuit) → library_from given ≡ Ok cells → ((reading : Reading) → given ≡ Ok reading → IsWritableReading reading)
-    → AllByRecursion IsWritableCell cells
+library_made : (table : StrengthTable) → (given : Result Reading SpiceFault) (cells : List Subcircuit) → library_from given ≡ Ok cells → ((reading : Reading) → given ≡ Ok reading → IsWritableReading table reading)
+    → AllByRecursion (IsWritableCell table) cells
 unfolding library_from
-library_made (Ok reading) cells is made = by reading.current is
+library_made table (Ok reading) cells is made = by reading.current is
   where
     by : (current : Option OpenCell) → elim current as (λ _. Result (List Subcircuit) SpiceFault) [ None ↦ limited reading.cells | Some cell ↦ Err (At cell.line Unended) ] ≡ Ok cells
-        → AllByRecursion IsWritableCell cells
-    by None is = subst (AllByRecursion IsWritableCell) (sym (limited_cells reading.cells cells is)) (made reading refl).cells
+        → AllByRecursion (IsWritableCell table) cells
+    by None is = subst (AllByRecursion (IsWritableCell table)) (sym (limited_cells reading.cells cells is)) (made reading refl).cells
     by (Some cell) is = absurd cc
-library_made (Err fault) cells is made = absurd cc
+library_made table (Err fault) cells is made = absurd cc
 
 -- what some text reads as can be written
-pub readable_writable : (name : List ℕ) (raw : RawCell) → IsReadable name raw → IsWritable (upper_case name) (pin_names raw.pins) raw.nets raw.devices
-readable_writable name raw it =
-    let all : AllByRecursion IsWritableCell it.cells =
-    library_made (lines_from nothing (spice_lines it.text)) it.cells it.read
-    (λ (reading : Reading) (is : lines_from nothing (spice_lines it.text) ≡ Ok reading).
-    lines_made (spice_lines it.text) nothing reading (lines_shown it.text) is (record { cells = tt; current = tt })) in
-    All-contains IsWritableCell it.cells (kept_as name raw) (All-from_recursion IsWritableCell it.cells all) it.holds
+pub readable_writable : (table : StrengthTable) → (name : List ℕ) (raw : RawCell) → IsReadable table name raw → IsWritable table (upper_case name) (pin_names raw.pins) raw.nets raw.devices
+readable_writable table name raw it =
+    let all : AllByRecursion (IsWritableCell table) it.cells =
+    library_made table (lines_from table nothing (spice_lines it.text)) it.cells it.read
+    (λ (reading : Reading) (is : lines_from table nothing (spice_lines it.text) ≡ Ok reading).
+    lines_made table (spice_lines it.text) nothing reading (lines_shown it.text) is (record { cells = tt; current = tt })) in
+    All-contains (IsWritableCell table) it.cells (kept_as name raw) (All-from_recursion (IsWritableCell table) it.cells all) it.holds

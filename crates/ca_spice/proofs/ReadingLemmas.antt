@@ -7,6 +7,7 @@ use Rattle.std.specs.List.{All}
 use Rattle.std.specs.Prelude.{IsErrAnd}
 use Rattle.std.proofs.lemmas.List.{map-append}
 use Rattle.std.proofs.lemmas.List.Elements.{All-head, All-tail}
+use Rattle.ca_cell.specs.declared.strength.StrengthTable.{StrengthTable}
 use Rattle.ca_cell.specs.declared.raw.RawPin.{RawPin}
 use Rattle.ca_cell.specs.declared.raw.RawDevice.{RawDevice}
 use denote.Bor.{Bor}
@@ -30,29 +31,29 @@ use Rattle.ca_spice.proofs.CellLemmas.{has_name-cells, pins_after-length}
 use Rattle.ca_spice.proofs.PinLemmas.{following, following-cons}
 
 -- an M card whose words say its wiring and its sizes
-pub mos-is : (name : List ℕ) (words : List (List ℕ)) (cell : OpenCell) (wiring : Wiring) (sizes : Sizes) → wiring_of name words ≡ Some wiring
+pub mos-is : (table : StrengthTable) → (name : List ℕ) (words : List (List ℕ)) (cell : OpenCell) (wiring : Wiring) (sizes : Sizes) → wiring_of name words ≡ Some wiring
     → sizes_of wiring.params ≡ Some sizes
-    → mos name words cell ≡ unless (has_device name cell.devices) DoubleName (Ok (with_device name wiring sizes cell))
+    → mos table name words cell ≡ unless (has_device name cell.devices) DoubleName (Ok (with_device table name wiring sizes cell))
 unfolding mos
-mos-is name words cell wiring sizes wiring_is sizes_are =
-    ap (λ (found : Option Wiring). elim found as (λ _. Result OpenCell SpiceKind) [ None ↦ Err BadCard | Some w ↦ wired name w cell ]) wiring_is
+mos-is table name words cell wiring sizes wiring_is sizes_are =
+    ap (λ (found : Option Wiring). elim found as (λ _. Result OpenCell SpiceKind) [ None ↦ Err BadCard | Some w ↦ wired table name w cell ]) wiring_is
     ∙ ap (λ (found : Option Sizes). elim found as (λ _. Result OpenCell SpiceKind) [
       | None ↦ Err BadLength
-      | Some s ↦ unless (has_device name cell.devices) DoubleName (Ok (with_device name wiring s cell))
+      | Some s ↦ unless (has_device name cell.devices) DoubleName (Ok (with_device table name wiring s cell))
     ]) sizes_are
 
-pub mos-double : (name : List ℕ) (words : List (List ℕ)) (cell : OpenCell) (wiring : Wiring) (sizes : Sizes) → wiring_of name words ≡ Some wiring
-    → sizes_of wiring.params ≡ Some sizes → has_device name cell.devices ≡ true → mos name words cell ≡ Err DoubleName
-mos-double name words cell wiring sizes wiring_is sizes_are there =
-    mos-is name words cell wiring sizes wiring_is sizes_are
-    ∙ ap (λ found. unless found DoubleName (Ok (with_device name wiring sizes cell))) there
+pub mos-double : (table : StrengthTable) → (name : List ℕ) (words : List (List ℕ)) (cell : OpenCell) (wiring : Wiring) (sizes : Sizes) → wiring_of name words ≡ Some wiring
+    → sizes_of wiring.params ≡ Some sizes → has_device name cell.devices ≡ true → mos table name words cell ≡ Err DoubleName
+mos-double table name words cell wiring sizes wiring_is sizes_are there =
+    mos-is table name words cell wiring sizes wiring_is sizes_are
+    ∙ ap (λ found. unless found DoubleName (Ok (with_device table name wiring sizes cell))) there
 
-pub mos-new : (name : List ℕ) (words : List (List ℕ)) (cell grown : OpenCell) (wiring : Wiring) (sizes : Sizes) → wiring_of name words ≡ Some wiring
-    → sizes_of wiring.params ≡ Some sizes → has_device name cell.devices ≡ false → grown ≡ with_device name wiring sizes cell
-    → mos name words cell ≡ Ok grown
-mos-new name words cell grown wiring sizes wiring_is sizes_are new is =
-    mos-is name words cell wiring sizes wiring_is sizes_are
-    ∙ ap (λ found. unless found DoubleName (Ok (with_device name wiring sizes cell))) new
+pub mos-new : (table : StrengthTable) → (name : List ℕ) (words : List (List ℕ)) (cell grown : OpenCell) (wiring : Wiring) (sizes : Sizes) → wiring_of name words ≡ Some wiring
+    → sizes_of wiring.params ≡ Some sizes → has_device name cell.devices ≡ false → grown ≡ with_device table name wiring sizes cell
+    → mos table name words cell ≡ Ok grown
+mos-new table name words cell grown wiring sizes wiring_is sizes_are new is =
+    mos-is table name words cell wiring sizes wiring_is sizes_are
+    ∙ ap (λ found. unless found DoubleName (Ok (with_device table name wiring sizes cell))) new
     ∙ ap (λ (c : OpenCell). Ok c) (sym is)
 
 -- outside a subcircuit the names are those of the subcircuits

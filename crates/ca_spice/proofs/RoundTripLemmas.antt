@@ -15,6 +15,7 @@ use Rattle.ca_lex.specs.Physical.{lines_of, physical_of, PinInfo, Card}
 use Rattle.ca_lex.specs.Lines.{continued, logical_from, spice_lines}
 use Rattle.ca_lex.specs.FirstFault.{steps_from}
 use Rattle.ca_lex.specs.Reading.{unless}
+use Rattle.ca_cell.specs.declared.strength.StrengthTable.{StrengthTable}
 use Rattle.ca_cell.specs.declared.raw.Role.{Role}
 use Rattle.ca_cell.specs.declared.raw.RawPin.{RawPin}
 use Rattle.ca_cell.specs.declared.raw.RawDevice.{RawDevice}
@@ -140,8 +141,8 @@ channel_chunk size it = record {
   text = λ j. true && (true && value_text size (codes "e-18") (few size it) refl j);
 }
 
-device_chunks : (nets : List (List ℕ)) (bulk : List ℕ) (device : RawDevice) → IsCard nets device → IsNameWord bulk → AllByRecursion IsChunk (device_words nets bulk device)
-device_chunks nets bulk device it bulk_is = (
+device_chunks : (table : StrengthTable) → (nets : List (List ℕ)) (bulk : List ℕ) (device : RawDevice) → IsCard table nets device → IsNameWord bulk → AllByRecursion IsChunk (device_words nets bulk device)
+device_chunks table nets bulk device it bulk_is = (
   chunk_of _ (net_named nets device.drain it.drain).spelled,
   (
     chunk_of _ (net_named nets device.gate it.gate).spelled,
@@ -153,9 +154,9 @@ device_chunks nets bulk device it bulk_is = (
 )
 
 -- the words of an M card that was written
-device_read : (nets : List (List ℕ)) (bulk : List ℕ) (device : RawDevice) → IsCard nets device → IsNameWord bulk
+device_read : (table : StrengthTable) → (nets : List (List ℕ)) (bulk : List ℕ) (device : RawDevice) → IsCard table nets device → IsNameWord bulk
     → words_of (upper_case (body device.name (device_words nets bulk device))) ≡ device.name ∷ card_words nets bulk device
-device_read nets bulk device it bulk_is =
+device_read table nets bulk device it bulk_is =
     let name = spelled_alone device.name it.named.spelled in
     let drain = spelled_alone _ (net_named nets device.drain it.drain).spelled in
     let gate = spelled_alone _ (net_named nets device.gate it.gate).spelled in
@@ -167,8 +168,8 @@ device_read nets bulk device it bulk_is =
     line_words device.name (device_words nets bulk device)
     ∙ (λ j. name j ++ (drain j ++ (gate j ++ (source j ++ (rail j ++ (model j ++ (width j ++ (channel j ++ []))))))))
 
-device_texts : (nets : List (List ℕ)) (bulk : List ℕ) (device : RawDevice) → IsCard nets device → IsNameWord bulk → list_all is_text (device.name ∷ card_words nets bulk device) ≡ true
-device_texts nets bulk device it bulk_is =
+device_texts : (table : StrengthTable) → (nets : List (List ℕ)) (bulk : List ℕ) (device : RawDevice) → IsCard table nets device → IsNameWord bulk → list_all is_text (device.name ∷ card_words nets bulk device) ≡ true
+device_texts table nets bulk device it bulk_is =
     let drain = (net_named nets device.drain it.drain).spelled.text in
     let gate = (net_named nets device.gate it.gate).spelled.text in
     let source = (net_named nets device.source it.source).spelled.text in
@@ -178,85 +179,85 @@ device_texts nets bulk device it bulk_is =
     λ j. it.named.spelled.text j && (drain j && (gate j && (source j && (bulk_is.spelled.text j && (model j && (true && (true && (width j && (true && (true && (channel j && true)))))))))))
 
 -- the words of an M card make what its step makes
-mos_made : (number : ℕ) (word : List ℕ) (words : List (List ℕ)) (reading : Reading) (cell next : OpenCell) → card_of word ≡ card.Mos → list_all is_text (word ∷ words) ≡ true
-    → mos word words cell ≡ Ok next → words_step number (word ∷ words) (with_open reading cell) ≡ Ok (with_open reading next)
+mos_made : (table : StrengthTable) → (number : ℕ) (word : List ℕ) (words : List (List ℕ)) (reading : Reading) (cell next : OpenCell) → card_of word ≡ card.Mos → list_all is_text (word ∷ words) ≡ true
+    → mos table word words cell ≡ Ok next → words_step table number (word ∷ words) (with_open reading cell) ≡ Ok (with_open reading next)
 unfolding words_step card_step
-mos_made number word words reading cell next is text read =
-    ap (λ (k : cards.Card). cond (is_comment k (with_open reading cell)) (Ok (with_open reading cell)) (judged k number word words (with_open reading cell))) is
-    ∙ ap (λ (x : Bool). unless (not x) NotText (in_cell (mos word words) (with_open reading cell))) text
+mos_made table number word words reading cell next is text read =
+    ap (λ (k : cards.Card). cond (is_comment k (with_open reading cell)) (Ok (with_open reading cell)) (judged table k number word words (with_open reading cell))) is
+    ∙ ap (λ (x : Bool). unless (not x) NotText (in_cell (mos table word words) (with_open reading cell))) text
     ∙ ap (goes_on (with_open reading cell)) read
 
 -- the text of a device's line is its first line
-device_first : (p_bulk n_bulk : List ℕ) (nets : List (List ℕ)) (device : RawDevice) (rest : List ℕ) → IsCard nets device → IsNameWord p_bulk → IsNameWord n_bulk
+device_first : (table : StrengthTable) → (p_bulk n_bulk : List ℕ) (nets : List (List ℕ)) (device : RawDevice) (rest : List ℕ) → IsCard table nets device → IsNameWord p_bulk → IsNameWord n_bulk
     → lines_of (device_line p_bulk n_bulk nets device ++ rest) ≡ body device.name (device_words nets (bulk_of p_bulk n_bulk device.kind) device) ∷ lines_of rest
-device_first p_bulk n_bulk nets device rest it p_is n_is =
+device_first table p_bulk n_bulk nets device rest it p_is n_is =
     let bulk = bulk_named p_bulk n_bulk device.kind it.kind p_is n_is in
     first_line device.name (device_words nets (bulk_of p_bulk n_bulk device.kind) device) rest (chunk_of device.name it.named.spelled)
-    (device_chunks nets (bulk_of p_bulk n_bulk device.kind) device it bulk)
+    (device_chunks table nets (bulk_of p_bulk n_bulk device.kind) device it bulk)
 
-device_physical : (p_bulk n_bulk : List ℕ) (nets : List (List ℕ)) (device : RawDevice) → IsCard nets device → IsNameWord p_bulk → IsNameWord n_bulk
+device_physical : (table : StrengthTable) → (p_bulk n_bulk : List ℕ) (nets : List (List ℕ)) (device : RawDevice) → IsCard table nets device → IsNameWord p_bulk → IsNameWord n_bulk
     → physical_of (body device.name (device_words nets (bulk_of p_bulk n_bulk device.kind) device)) ≡ Card (body device.name (device_words nets (bulk_of p_bulk n_bulk device.kind) device))
-device_physical p_bulk n_bulk nets device it p_is n_is =
+device_physical table p_bulk n_bulk nets device it p_is n_is =
     let bulk = bulk_named p_bulk n_bulk device.kind it.kind p_is n_is in
     mos_line device.name (flat_map spaced (device_words nets (bulk_of p_bulk n_bulk device.kind) device)) it.mos
     (body_shown device.name (device_words nets (bulk_of p_bulk n_bulk device.kind) device) (chunk_of device.name it.named.spelled)
-    (device_chunks nets (bulk_of p_bulk n_bulk device.kind) device it bulk))
+    (device_chunks table nets (bulk_of p_bulk n_bulk device.kind) device it bulk))
 
-devices_anew : (p_bulk n_bulk : List ℕ) (nets : List (List ℕ)) (devices : List RawDevice) (rest : List ℕ) → AllByRecursion (IsCard nets) devices → IsNameWord p_bulk → IsNameWord n_bulk
+devices_anew : (table : StrengthTable) → (p_bulk n_bulk : List ℕ) (nets : List (List ℕ)) (devices : List RawDevice) (rest : List ℕ) → AllByRecursion (IsCard table nets) devices → IsNameWord p_bulk → IsNameWord n_bulk
     → BeginsAnew rest → BeginsAnew (flat_map (device_line p_bulk n_bulk nets) devices ++ rest)
-devices_anew p_bulk n_bulk nets [] rest all p_is n_is anew = anew
-devices_anew p_bulk n_bulk nets (device ∷ devices) rest all p_is n_is anew =
+devices_anew table p_bulk n_bulk nets [] rest all p_is n_is anew = anew
+devices_anew table p_bulk n_bulk nets (device ∷ devices) rest all p_is n_is anew =
     let following : List ℕ = flat_map (device_line p_bulk n_bulk nets) devices ++ rest in
     subst BeginsAnew (sym (append_assoc (device_line p_bulk n_bulk nets device) (flat_map (device_line p_bulk n_bulk nets) devices) rest))
     (anew_at_card (device_line p_bulk n_bulk nets device ++ following) (body device.name (device_words nets (bulk_of p_bulk n_bulk device.kind) device)) (lines_of following)
-    (device_first p_bulk n_bulk nets device following all.0 p_is n_is) (device_physical p_bulk n_bulk nets device all.0 p_is n_is))
+    (device_first table p_bulk n_bulk nets device following all.0 p_is n_is) (device_physical table p_bulk n_bulk nets device all.0 p_is n_is))
 
 -- the lines of devices make what their steps make
-devices_read : (p_bulk n_bulk : List ℕ) (nets : List (List ℕ)) (devices : List RawDevice) (rest : List ℕ) (reading : Reading) (last : OpenCell) (total : Result Reading SpiceFault)
-    → IsNameWord p_bulk → IsNameWord n_bulk → BeginsAnew rest → ((number : ℕ) (follows : Bool) → read_on (with_open reading last) number follows rest ≡ total)
-    → (cell : OpenCell) → steps_from (device_step p_bulk n_bulk nets) cell devices ≡ Ok last → AllByRecursion (IsCard nets) devices
-    → (number : ℕ) (follows : Bool) → read_on (with_open reading cell) number follows (flat_map (device_line p_bulk n_bulk nets) devices ++ rest) ≡ total
+devices_read : (table : StrengthTable) → (p_bulk n_bulk : List ℕ) (nets : List (List ℕ)) (devices : List RawDevice) (rest : List ℕ) (reading : Reading) (last : OpenCell) (total : Result Reading SpiceFault)
+    → IsNameWord p_bulk → IsNameWord n_bulk → BeginsAnew rest → ((number : ℕ) (follows : Bool) → read_on table (with_open reading last) number follows rest ≡ total)
+    → (cell : OpenCell) → steps_from (device_step table p_bulk n_bulk nets) cell devices ≡ Ok last → AllByRecursion (IsCard table nets) devices
+    → (number : ℕ) (follows : Bool) → read_on table (with_open reading cell) number follows (flat_map (device_line p_bulk n_bulk nets) devices ++ rest) ≡ total
 unfolding steps_from
-devices_read p_bulk n_bulk nets [] rest reading last total p_is n_is anew ends_so cell read all number follows =
+devices_read table p_bulk n_bulk nets [] rest reading last total p_is n_is anew ends_so cell read all number follows =
     let same : cell ≡ last = cc in
-    ap (λ (c : OpenCell). read_on (with_open reading c) number follows rest) same ∙ ends_so number follows
-devices_read p_bulk n_bulk nets (device ∷ devices) rest reading last total p_is n_is anew ends_so cell read all number follows =
-    let first = first_step (device_step p_bulk n_bulk nets) cell last device devices read in
+    ap (λ (c : OpenCell). read_on table (with_open reading c) number follows rest) same ∙ ends_so number follows
+devices_read table p_bulk n_bulk nets (device ∷ devices) rest reading last total p_is n_is anew ends_so cell read all number follows =
+    let first = first_step (device_step table p_bulk n_bulk nets) cell last device devices read in
     let bulk = bulk_named p_bulk n_bulk device.kind all.0.kind p_is n_is in
     let chosen : List ℕ = bulk_of p_bulk n_bulk device.kind in
     let following : List ℕ = flat_map (device_line p_bulk n_bulk nets) devices ++ rest in
-    let made : words_step number (words_of (upper_case (body device.name (device_words nets chosen device)))) (with_open reading cell) ≡ Ok (with_open reading first.next) =
-    ap (λ (words : List (List ℕ)). words_step number words (with_open reading cell)) (device_read nets chosen device all.0 bulk)
-    ∙ mos_made number device.name (card_words nets chosen device) reading cell first.next all.0.mos (device_texts nets chosen device all.0 bulk) first.stepped in
-    ap (read_on (with_open reading cell) number follows) (append_assoc (device_line p_bulk n_bulk nets device) (flat_map (device_line p_bulk n_bulk nets) devices) rest)
-    ∙ card_read (with_open reading cell) (with_open reading first.next) number follows (device_line p_bulk n_bulk nets device ++ following)
-    (body device.name (device_words nets chosen device)) following (device_first p_bulk n_bulk nets device following all.0 p_is n_is) (device_physical p_bulk n_bulk nets device all.0 p_is n_is)
-    (devices_anew p_bulk n_bulk nets devices rest all.1 p_is n_is anew) made
-    ∙ devices_read p_bulk n_bulk nets devices rest reading last total p_is n_is anew ends_so first.next first.rest all.1 (number + 1) true
+    let made : words_step table number (words_of (upper_case (body device.name (device_words nets chosen device)))) (with_open reading cell) ≡ Ok (with_open reading first.next) =
+    ap (λ (words : List (List ℕ)). words_step table number words (with_open reading cell)) (device_read table nets chosen device all.0 bulk)
+    ∙ mos_made table number device.name (card_words nets chosen device) reading cell first.next all.0.mos (device_texts table nets chosen device all.0 bulk) first.stepped in
+    ap (read_on table (with_open reading cell) number follows) (append_assoc (device_line p_bulk n_bulk nets device) (flat_map (device_line p_bulk n_bulk nets) devices) rest)
+    ∙ card_read table (with_open reading cell) (with_open reading first.next) number follows (device_line p_bulk n_bulk nets device ++ following)
+    (body device.name (device_words nets chosen device)) following (device_first table p_bulk n_bulk nets device following all.0 p_is n_is) (device_physical table p_bulk n_bulk nets device all.0 p_is n_is)
+    (devices_anew table p_bulk n_bulk nets devices rest all.1 p_is n_is anew) made
+    ∙ devices_read table p_bulk n_bulk nets devices rest reading last total p_is n_is anew ends_so first.next first.rest all.1 (number + 1) true
 
 -- the line that begins a subcircuit
-header_made : (name : List ℕ) (pins : List (List ℕ)) → is_header (name ∷ pins) ≡ true → has_double pins ≡ false → list_all is_text (name ∷ pins) ≡ true
-    → words_step 1 (codes ".SUBCKT" ∷ name ∷ pins) nothing ≡ Ok (with_open nothing (new_cell 1 name pins))
+header_made : (table : StrengthTable) → (name : List ℕ) (pins : List (List ℕ)) → is_header (name ∷ pins) ≡ true → has_double pins ≡ false → list_all is_text (name ∷ pins) ≡ true
+    → words_step table 1 (codes ".SUBCKT" ∷ name ∷ pins) nothing ≡ Ok (with_open nothing (new_cell 1 name pins))
 unfolding words_step card_step subckt named card_of
-header_made name pins header distinct text =
+header_made table name pins header distinct text =
     ap (λ (x : Bool). unless (not (true && x)) NotText (subckt 1 (name ∷ pins) nothing)) text
     ∙ ap (λ (x : Bool). unless (not (is_outside nothing) || not x) BadCard (named 1 name pins nothing)) header
     ∙ ap (λ (x : Bool). unless (false || x) DoubleName (Ok (with_open nothing (new_cell 1 name pins)))) distinct
 
 -- the line of the roles
-roles_made : (cell : OpenCell) (words : List (List ℕ)) (pins : List Pin) (number : ℕ) → list_all is_text words ≡ true → info.pin_info cell.nets words cell.pins ≡ Ok pins
-    → words_step number (codes "*.PININFO" ∷ words) (with_open nothing cell) ≡ Ok (with_open nothing (open_with cell.line cell.name pins cell.nets cell.devices))
+roles_made : (table : StrengthTable) → (cell : OpenCell) (words : List (List ℕ)) (pins : List Pin) (number : ℕ) → list_all is_text words ≡ true → info.pin_info cell.nets words cell.pins ≡ Ok pins
+    → words_step table number (codes "*.PININFO" ∷ words) (with_open nothing cell) ≡ Ok (with_open nothing (open_with cell.line cell.name pins cell.nets cell.devices))
 unfolding words_step card_step card_of pin_info
-roles_made cell words pins number text read =
+roles_made table cell words pins number text read =
     ap (λ (x : Bool). unless (not (true && x)) NotText (in_cell (pin_info words) (with_open nothing cell))) text
     ∙ ap (λ (given : Result (List Pin) SpiceKind). goes_on (with_open nothing cell) (has_roles cell given)) read
 
 -- the line that ends a subcircuit
-ends_made : (number line : ℕ) (name : List ℕ) (pins : List RawPin) (nets : List (List ℕ)) (devices : List RawDevice)
-    → words_step number (codes ".ENDS" ∷ []) (with_open nothing (open_with line name (map with_its_role pins) nets devices))
+ends_made : (table : StrengthTable) → (number line : ℕ) (name : List ℕ) (pins : List RawPin) (nets : List (List ℕ)) (devices : List RawDevice)
+    → words_step table number (codes ".ENDS" ∷ []) (with_open nothing (open_with line name (map with_its_role pins) nets devices))
     ≡ Ok (record { cells = record { name = name; raw = record { pins = pins; nets = nets; devices = devices } } ∷ []; current = None })
 unfolding words_step card_step ends ended card_of
-ends_made number line name pins nets devices =
+ends_made table number line name pins nets devices =
     ap (λ (given : Option (List RawPin)). with_cell (with_open nothing (open_with line name (map with_its_role pins) nets devices))
     (subcircuit_with (open_with line name (map with_its_role pins) nets devices) given)) (pins_again [] pins)
 
@@ -268,9 +269,9 @@ end_words : words_of (upper_case (codes ".ENDS")) ≡ codes ".ENDS" ∷ []
 unfolding words_of
 end_words = refl
 
-read_out : (reading : Reading) (number : ℕ) (follows : Bool) → read_on reading number follows [] ≡ Ok reading
+read_out : (table : StrengthTable) → (reading : Reading) (number : ℕ) (follows : Bool) → read_on table reading number follows [] ≡ Ok reading
 unfolding lines_of logical_from steps_from
-read_out reading number follows = refl
+read_out table reading number follows = refl
 
 anew_at_end : BeginsAnew []
 unfolding lines_of continued
@@ -279,16 +280,16 @@ anew_at_end = refl
 ends_card : physical_of (codes ".ENDS") ≡ Card (codes ".ENDS")
 ends_card = card_line 46 (codes "ENDS") refl refl refl (refl, (refl, (refl, (refl, (refl, tt)))))
 
-ends_read : (number : ℕ) (follows : Bool) (line : ℕ) (name : List ℕ) (pins : List RawPin) (nets : List (List ℕ)) (devices : List RawDevice)
-    → read_on (with_open nothing (open_with line name (map with_its_role pins) nets devices)) number follows (line_of (codes ".ENDS") [])
+ends_read : (table : StrengthTable) → (number : ℕ) (follows : Bool) (line : ℕ) (name : List ℕ) (pins : List RawPin) (nets : List (List ℕ)) (devices : List RawDevice)
+    → read_on table (with_open nothing (open_with line name (map with_its_role pins) nets devices)) number follows (line_of (codes ".ENDS") [])
     ≡ Ok (record { cells = record { name = name; raw = record { pins = pins; nets = nets; devices = devices } } ∷ []; current = None })
-ends_read number follows line name pins nets devices =
+ends_read table number follows line name pins nets devices =
     let last : Reading = record { cells = record { name = name; raw = record { pins = pins; nets = nets; devices = devices } } ∷ []; current = None } in
-    card_read (with_open nothing (open_with line name (map with_its_role pins) nets devices)) last number follows (line_of (codes ".ENDS") []) (codes ".ENDS") []
+    card_read table (with_open nothing (open_with line name (map with_its_role pins) nets devices)) last number follows (line_of (codes ".ENDS") []) (codes ".ENDS") []
     (end_line (line_of (codes ".ENDS") []) refl) ends_card anew_at_end
-    (ap (λ (words : List (List ℕ)). words_step number words (with_open nothing (open_with line name (map with_its_role pins) nets devices))) end_words
-    ∙ ends_made number line name pins nets devices)
-    ∙ read_out last (number + 1) true
+    (ap (λ (words : List (List ℕ)). words_step table number words (with_open nothing (open_with line name (map with_its_role pins) nets devices))) end_words
+    ∙ ends_made table number line name pins nets devices)
+    ∙ read_out table last (number + 1) true
 
 header_chunk : IsChunk (codes ".SUBCKT")
 header_chunk = record { shown = (refl, (refl, (refl, (refl, (refl, (refl, (refl, tt))))))); text = refl }
@@ -305,16 +306,16 @@ unfolding words_of
 roles_words = refl
 
 -- the line that begins a subcircuit, and what it makes
-header_read : (name : List ℕ) (pins : List (List ℕ)) (rest : List ℕ) → IsSpelled name → is_header (name ∷ pins) ≡ true → AllByRecursion IsSpelled pins → has_double pins ≡ false
-    → BeginsAnew rest → read_on nothing 1 false (line_of (codes ".SUBCKT") (name ∷ pins) ++ rest) ≡ read_on (with_open nothing (new_cell 1 name pins)) 2 true rest
-header_read name pins rest name_is header all distinct anew =
+header_read : (table : StrengthTable) → (name : List ℕ) (pins : List (List ℕ)) (rest : List ℕ) → IsSpelled name → is_header (name ∷ pins) ≡ true → AllByRecursion IsSpelled pins → has_double pins ≡ false
+    → BeginsAnew rest → read_on table nothing 1 false (line_of (codes ".SUBCKT") (name ∷ pins) ++ rest) ≡ read_on table (with_open nothing (new_cell 1 name pins)) 2 true rest
+header_read table name pins rest name_is header all distinct anew =
     let chunks : AllByRecursion IsChunk (name ∷ pins) = chunks_of (name ∷ pins) (name_is, all) in
     let words : words_of (upper_case (body (codes ".SUBCKT") (name ∷ pins))) ≡ codes ".SUBCKT" ∷ name ∷ pins =
     line_words (codes ".SUBCKT") (name ∷ pins) ∙ (λ j. header_words j ++ spelled_words (name ∷ pins) (name_is, all) j) in
-    card_read nothing (with_open nothing (new_cell 1 name pins)) 1 false (line_of (codes ".SUBCKT") (name ∷ pins) ++ rest) (body (codes ".SUBCKT") (name ∷ pins)) rest
+    card_read table nothing (with_open nothing (new_cell 1 name pins)) 1 false (line_of (codes ".SUBCKT") (name ∷ pins) ++ rest) (body (codes ".SUBCKT") (name ∷ pins)) rest
     (first_line (codes ".SUBCKT") (name ∷ pins) rest header_chunk chunks)
     (card_line 46 (codes "SUBCKT" ++ flat_map spaced (name ∷ pins)) refl refl refl (body_shown (codes ".SUBCKT") (name ∷ pins) header_chunk chunks)) anew
-    (ap (λ (all : List (List ℕ)). words_step 1 all nothing) words ∙ header_made name pins header distinct (spelled_texts (name ∷ pins) (name_is, all)))
+    (ap (λ (all : List (List ℕ)). words_step table 1 all nothing) words ∙ header_made table name pins header distinct (spelled_texts (name ∷ pins) (name_is, all)))
 
 -- the line of the roles: where it is, and what it makes
 roles_first_line : (pins : List RawPin) (rest : List ℕ) → AllByRecursion IsPinName (pin_names pins)
@@ -325,27 +326,27 @@ roles_physical : (pins : List RawPin) → AllByRecursion IsPinName (pin_names pi
     → physical_of (body (codes "*.PININFO") (map pin_word pins)) ≡ PinInfo (body (codes "*.PININFO") (map pin_word pins))
 roles_physical pins all = roles_line (map pin_word pins) (body_shown (codes "*.PININFO") (map pin_word pins) roles_chunk (pin_chunks pins all))
 
-roles_read_on : (name : List ℕ) (pins : List RawPin) (rest : List ℕ) → 1 ≤ length pins → AllByRecursion IsPinName (pin_names pins) → has_double (pin_names pins) ≡ false
-    → read_on (with_open nothing (new_cell 1 name (pin_names pins))) 2 true (line_of (codes "*.PININFO") (map pin_word pins) ++ rest)
-    ≡ read_on (with_open nothing (open_with 1 name (map with_its_role pins) (pin_names pins) [])) 3 false rest
-roles_read_on name pins rest some all distinct =
+roles_read_on : (table : StrengthTable) → (name : List ℕ) (pins : List RawPin) (rest : List ℕ) → 1 ≤ length pins → AllByRecursion IsPinName (pin_names pins) → has_double (pin_names pins) ≡ false
+    → read_on table (with_open nothing (new_cell 1 name (pin_names pins))) 2 true (line_of (codes "*.PININFO") (map pin_word pins) ++ rest)
+    ≡ read_on table (with_open nothing (open_with 1 name (map with_its_role pins) (pin_names pins) [])) 3 false rest
+roles_read_on table name pins rest some all distinct =
     let words : words_of (upper_case (body (codes "*.PININFO") (map pin_word pins))) ≡ codes "*.PININFO" ∷ map pin_word pins =
     line_words (codes "*.PININFO") (map pin_word pins) ∙ (λ j. roles_words j ++ pin_words pins all j) in
     let cell : OpenCell = new_cell 1 name (pin_names pins) in
-    roles_read (with_open nothing cell) (with_open nothing (open_with 1 name (map with_its_role pins) (pin_names pins) [])) 2 true
+    roles_read table (with_open nothing cell) (with_open nothing (open_with 1 name (map with_its_role pins) (pin_names pins) [])) 2 true
     (line_of (codes "*.PININFO") (map pin_word pins) ++ rest) (body (codes "*.PININFO") (map pin_word pins)) rest (roles_first_line pins rest all) (roles_physical pins all)
-    (ap (λ (all : List (List ℕ)). words_step 2 all (with_open nothing cell)) words
-    ∙ roles_made cell (map pin_word pins) (map with_its_role pins) 2 (pin_texts pins all) (roles_read_again pins some all distinct))
+    (ap (λ (all : List (List ℕ)). words_step table 2 all (with_open nothing cell)) words
+    ∙ roles_made table cell (map pin_word pins) (map with_its_role pins) 2 (pin_texts pins all) (roles_read_again pins some all distinct))
 
 one_cell : (cell : Subcircuit) → library_from (Ok (record { cells = cell ∷ []; current = None })) ≡ Ok (cell ∷ [])
 unfolding library_from
 one_cell cell = refl
 
 -- a subcircuit that can be written is read as it was
-writable_again : (name : List ℕ) (raw : RawCell) → IsWritable name (pin_names raw.pins) raw.nets raw.devices → KeepsRules raw
-    → library_of (cell_text name raw) ≡ Ok (record { name = name; raw = raw } ∷ [])
+writable_again : (table : StrengthTable) → (name : List ℕ) (raw : RawCell) → IsWritable table name (pin_names raw.pins) raw.nets raw.devices → KeepsRules raw
+    → library_of table (cell_text name raw) ≡ Ok (record { name = name; raw = raw } ∷ [])
 unfolding cell_text
-writable_again name raw it keeps =
+writable_again table name raw it keeps =
     let names : AllByRecursion IsPinName (pin_names raw.pins) = pins_of_header name (pin_names raw.pins) it.header it.spelled in
     let p_is : IsNameWord (rail_name is_power raw.pins) = rail_named is_power raw.pins names (λ (none : role_count is_power raw.pins ≡ 0). keeps NoRail (inl none)) in
     let n_is : IsNameWord (rail_name is_ground raw.pins) = rail_named is_ground raw.pins names (λ (none : role_count is_ground raw.pins ≡ 0). keeps NoRail (inr none)) in
@@ -354,26 +355,26 @@ writable_again name raw it keeps =
     let roles : List ℕ = line_of (codes "*.PININFO") (map pin_word raw.pins) ++ devices in
     let last : Reading = record { cells = record { name = name; raw = raw } ∷ []; current = None } in
     let anew : BeginsAnew end = anew_at_card end (codes ".ENDS") (lines_of []) (end_line end refl) ends_card in
-    let steps : steps_from (device_step (rail_name is_power raw.pins) (rail_name is_ground raw.pins) raw.nets) (open_with 1 name (map with_its_role raw.pins) (pin_names raw.pins) []) raw.devices
+    let steps : steps_from (device_step table (rail_name is_power raw.pins) (rail_name is_ground raw.pins) raw.nets) (open_with 1 name (map with_its_role raw.pins) (pin_names raw.pins) []) raw.devices
     ≡ Ok (open_with 1 name (map with_its_role raw.pins) raw.nets raw.devices) =
-    subst (λ (nets : List (List ℕ)). steps_from (device_step (rail_name is_power raw.pins) (rail_name is_ground raw.pins) nets) (open_with 1 name (map with_its_role raw.pins) (pin_names raw.pins) []) raw.devices
+    subst (λ (nets : List (List ℕ)). steps_from (device_step table (rail_name is_power raw.pins) (rail_name is_ground raw.pins) nets) (open_with 1 name (map with_its_role raw.pins) (pin_names raw.pins) []) raw.devices
     ≡ Ok (open_with 1 name (map with_its_role raw.pins) raw.nets raw.devices))
     (append-nil raw.nets) (it.again (rail_name is_power raw.pins) (rail_name is_ground raw.pins) [] 1 (map with_its_role raw.pins) p_is n_is) in
-    let read : lines_from nothing (spice_lines (cell_text name raw)) ≡ Ok last =
-    header_read name (pin_names raw.pins) roles it.named it.header it.spelled it.distinct
+    let read : lines_from table nothing (spice_lines (cell_text name raw)) ≡ Ok last =
+    header_read table name (pin_names raw.pins) roles it.named it.header it.spelled it.distinct
     (anew_at_roles roles (body (codes "*.PININFO") (map pin_word raw.pins)) (lines_of devices) (roles_first_line raw.pins devices names) (roles_physical raw.pins names))
-    ∙ roles_read_on name raw.pins devices (some_pins name raw.pins it.header) names it.distinct
-    ∙ devices_read (rail_name is_power raw.pins) (rail_name is_ground raw.pins) raw.nets raw.devices end nothing (open_with 1 name (map with_its_role raw.pins) raw.nets raw.devices) (Ok last)
-    p_is n_is anew (λ (number : ℕ) (follows : Bool). ends_read number follows 1 name raw.pins raw.nets raw.devices)
+    ∙ roles_read_on table name raw.pins devices (some_pins name raw.pins it.header) names it.distinct
+    ∙ devices_read table (rail_name is_power raw.pins) (rail_name is_ground raw.pins) raw.nets raw.devices end nothing (open_with 1 name (map with_its_role raw.pins) raw.nets raw.devices) (Ok last)
+    p_is n_is anew (λ (number : ℕ) (follows : Bool). ends_read table number follows 1 name raw.pins raw.nets raw.devices)
     (open_with 1 name (map with_its_role raw.pins) (pin_names raw.pins) []) steps it.cards 3 false in
     ap library_from read ∙ one_cell (record { name = name; raw = raw })
 
 -- a cell that some text reads as is read alone, under the same name, from the text that is written
-pub read_again : (name : List ℕ) (raw : RawCell) → IsReadable name raw → KeepsRules raw → library_of (cell_text (upper_case name) raw) ≡ Ok (kept_as name raw ∷ [])
-read_again name raw it keeps = writable_again (upper_case name) raw (readable_writable name raw it) keeps
+pub read_again : (table : StrengthTable) → (name : List ℕ) (raw : RawCell) → IsReadable table name raw → KeepsRules raw → library_of table (cell_text (upper_case name) raw) ≡ Ok (kept_as name raw ∷ [])
+read_again table name raw it keeps = writable_again table (upper_case name) raw (readable_writable table name raw it) keeps
 
 -- so is the text of a call that gives one
-pub read_written : {E : Type 0} (result : Result (List ℕ) E) (name : List ℕ) (raw cell : RawCell) → raw ≡ cell → IfOk result (λ text. text ≡ cell_text (upper_case name) raw)
-    → IsReadable name cell → KeepsRules cell → IfOk result (λ text. library_of text ≡ Ok (kept_as name cell ∷ []))
-read_written (Ok text) name raw cell same is it keeps = ap library_of (is ∙ ap (cell_text (upper_case name)) same) ∙ read_again name cell it keeps
-read_written (Err fault) name raw cell same is it keeps = is
+pub read_written : (table : StrengthTable) → {E : Type 0} (result : Result (List ℕ) E) (name : List ℕ) (raw cell : RawCell) → raw ≡ cell → IfOk result (λ text. text ≡ cell_text (upper_case name) raw)
+    → IsReadable table name cell → KeepsRules cell → IfOk result (λ text. library_of table text ≡ Ok (kept_as name cell ∷ []))
+read_written table (Ok text) name raw cell same is it keeps = ap (library_of table) (is ∙ ap (cell_text (upper_case name)) same) ∙ read_again table name cell it keeps
+read_written table (Err fault) name raw cell same is it keeps = is

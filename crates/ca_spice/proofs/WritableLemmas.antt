@@ -8,6 +8,7 @@ use Rattle.ca_net.specs.declared.device.DeviceKind.{DeviceKind}
 use Rattle.ca_net.specs.declared.device.DeviceKind.TheVariants as kind
 use Rattle.ca_lex.specs.FirstFault.{steps_from}
 use Rattle.ca_lex.proofs.FirstFaultLemmas.{after_step, steps_from-cons}
+use Rattle.ca_cell.specs.declared.strength.StrengthTable.{StrengthTable}
 use Rattle.ca_cell.specs.declared.raw.Role.{Role}
 use Rattle.ca_cell.specs.declared.raw.RawPin.{RawPin}
 use Rattle.ca_cell.specs.declared.raw.RawDevice.{RawDevice}
@@ -35,23 +36,23 @@ abbrev pub open_with : ℕ → List ℕ → List Pin → List (List ℕ) → Lis
 open_with line name pins nets devices = record { line = line; name = name; pins = pins; nets = nets; devices = devices }
 
 -- what the written card of a device makes of a subcircuit that is being read
-abbrev pub device_step : List ℕ → List ℕ → List (List ℕ) → RawDevice → OpenCell → Result OpenCell SpiceKind
-device_step p_bulk n_bulk nets device cell = mos device.name (card_words nets (bulk_of p_bulk n_bulk device.kind) device) cell
+abbrev pub device_step : (table : StrengthTable) → List ℕ → List ℕ → List (List ℕ) → RawDevice → OpenCell → Result OpenCell SpiceKind
+device_step table p_bulk n_bulk nets device cell = mos table device.name (card_words nets (bulk_of p_bulk n_bulk device.kind) device) cell
 
 -- the written cards read as the devices again, with the nets in the same order, also where more nets come
 -- later
-abbrev pub ReadsAgain : List ℕ → List (List ℕ) → List (List ℕ) → List RawDevice → Type 0
-ReadsAgain name pins nets devices = (p_bulk n_bulk : List ℕ) (later : List (List ℕ)) (line : ℕ) (shown : List Pin) → IsNameWord p_bulk → IsNameWord n_bulk
-    → steps_from (device_step p_bulk n_bulk (nets ++ later)) (open_with line name shown pins []) devices ≡ Ok (open_with line name shown nets devices)
+abbrev pub ReadsAgain : (table : StrengthTable) → List ℕ → List (List ℕ) → List (List ℕ) → List RawDevice → Type 0
+ReadsAgain table name pins nets devices = (p_bulk n_bulk : List ℕ) (later : List (List ℕ)) (line : ℕ) (shown : List Pin) → IsNameWord p_bulk → IsNameWord n_bulk
+    → steps_from (device_step table p_bulk n_bulk (nets ++ later)) (open_with line name shown pins []) devices ≡ Ok (open_with line name shown nets devices)
 
 -- a subcircuit that can be written
-pub record IsWritable (name : List ℕ) (pins nets : List (List ℕ)) (devices : List RawDevice) : Type 0 where
+pub record IsWritable (table : StrengthTable) (name : List ℕ) (pins nets : List (List ℕ)) (devices : List RawDevice) : Type 0 where
   pub named : IsSpelled name
   pub header : is_header (name ∷ pins) ≡ true
   pub spelled : AllByRecursion IsSpelled pins
   pub distinct : has_double pins ≡ false
-  pub cards : AllByRecursion (IsCard nets) devices
-  pub again : ReadsAgain name pins nets devices
+  pub cards : AllByRecursion (IsCard table nets) devices
+  pub again : ReadsAgain table name pins nets devices
   pub names : AreNames pins nets devices
 
 -- one step more
@@ -97,14 +98,14 @@ nets_extend wiring nets =
     (with_name-extends wiring.source (with_gate wiring nets)))
 
 -- the device of a card
-abbrev new_card : (name : List ℕ) (wiring : Wiring) (sizes : Sizes) (nets : List (List ℕ)) → IsNameWord name → card_of name ≡ card.Mos → IsWired name wiring → sizes_of wiring.params ≡ Some sizes
-    → IsCard (with_source wiring nets) (device_of name wiring sizes nets)
-new_card name wiring sizes nets named mos wired sized =
+abbrev new_card : (table : StrengthTable) → (name : List ℕ) (wiring : Wiring) (sizes : Sizes) (nets : List (List ℕ)) → IsNameWord name → card_of name ≡ card.Mos → IsWired name wiring → sizes_of wiring.params ≡ Some sizes
+    → IsCard table (with_source wiring nets) (device_of table name wiring sizes nets)
+new_card table name wiring sizes nets named (mos table) wired sized =
     let size = sizes_found wiring.params sizes sized in
     let to_source = with_name-extends wiring.source (with_gate wiring nets) in
     record {
       named = named;
-      mos = mos;
+      mos = mos table;
       kind = wired.kind;
       width = size.0;
       channel = size.1;
@@ -115,49 +116,49 @@ new_card name wiring sizes nets named mos wired sized =
     }
 
 -- the cards of the devices with one more read again
-again_grown : (cell_name : List ℕ) (pins nets : List (List ℕ)) (devices : List RawDevice) (name : List ℕ) (wiring : Wiring) (sizes : Sizes)
-    → ReadsAgain cell_name pins nets devices → IsNameWord name → card_of name ≡ card.Mos → IsWired name wiring → sizes_of wiring.params ≡ Some sizes
-    → has_device name devices ≡ false → ReadsAgain cell_name pins (with_source wiring nets) (devices ++ device_of name wiring sizes nets ∷ [])
-again_grown cell_name pins nets devices name wiring sizes again named mos wired sized new p_bulk n_bulk later line shown p_is n_is =
+again_grown : (table : StrengthTable) → (cell_name : List ℕ) (pins nets : List (List ℕ)) (devices : List RawDevice) (name : List ℕ) (wiring : Wiring) (sizes : Sizes)
+    → ReadsAgain table cell_name pins nets devices → IsNameWord name → card_of name ≡ card.Mos → IsWired name wiring → sizes_of wiring.params ≡ Some sizes
+    → has_device name devices ≡ false → ReadsAgain table cell_name pins (with_source wiring nets) (devices ++ device_of table name wiring sizes nets ∷ [])
+again_grown table cell_name pins nets devices name wiring sizes again named (mos table) wired sized new p_bulk n_bulk later line shown p_is n_is =
     let longer : List (List ℕ) = with_source wiring nets in
     let all : List (List ℕ) = longer ++ later in
-    let device : RawDevice = device_of name wiring sizes nets in
+    let device : RawDevice = device_of table name wiring sizes nets in
     let grown : Extends nets longer = nets_extend wiring nets in
     let split : all ≡ nets ++ (grown.more ++ later) = ap (λ (names : List (List ℕ)). names ++ later) grown.is ∙ append_assoc nets grown.more later in
-    let before : steps_from (device_step p_bulk n_bulk all) (open_with line cell_name shown pins []) devices ≡ Ok (open_with line cell_name shown nets devices) =
-    subst (λ (names : List (List ℕ)). steps_from (device_step p_bulk n_bulk names) (open_with line cell_name shown pins []) devices ≡ Ok (open_with line cell_name shown nets devices))
+    let before : steps_from (device_step table p_bulk n_bulk all) (open_with line cell_name shown pins []) devices ≡ Ok (open_with line cell_name shown nets devices) =
+    subst (λ (names : List (List ℕ)). steps_from (device_step table p_bulk n_bulk names) (open_with line cell_name shown pins []) devices ≡ Ok (open_with line cell_name shown nets devices))
     (sym split) (again p_bulk n_bulk (grown.more ++ later) line shown p_is n_is) in
-    let it : IsCard longer device = new_card name wiring sizes nets named mos wired sized in
-    let read : device_step p_bulk n_bulk all device (open_with line cell_name shown nets devices)
-    ≡ Ok (with_device name (written_wiring all device) (written_sizes device) (open_with line cell_name shown nets devices)) =
-    mos-written all (bulk_of p_bulk n_bulk device.kind) device (open_with line cell_name shown nets devices) (card_more longer later device it)
+    let it : IsCard table longer device = new_card table name wiring sizes nets named (mos table) wired sized in
+    let read : device_step table p_bulk n_bulk all device (open_with line cell_name shown nets devices)
+    ≡ Ok (with_device table name (written_wiring all device) (written_sizes device) (open_with line cell_name shown nets devices)) =
+    mos-written table all (bulk_of p_bulk n_bulk device.kind) device (open_with line cell_name shown nets devices) (card_more table longer later device it)
     (bulk_named p_bulk n_bulk device.kind wired.kind p_is n_is) new in
     let drain = net_name-at all device.drain (net_more longer later device.drain it.drain) in
     let gate = net_name-at all device.gate (net_more longer later device.gate it.gate) in
     let source = net_name-at all device.source (net_more longer later device.source it.source) in
     let wirings : written_wiring all device ≡ record { drain = wiring.drain; gate = wiring.gate; source = wiring.source; kind = wiring.kind; params = card_params device } =
     λ j. record { drain = drain j; gate = gate j; source = source j; kind = wiring.kind; params = card_params device } in
-    let same : with_device name (written_wiring all device) (written_sizes device) (open_with line cell_name shown nets devices) ≡ open_with line cell_name shown longer (devices ++ device ∷ []) =
-    ap (λ (w : Wiring). with_device name w (written_sizes device) (open_with line cell_name shown nets devices)) wirings in
-    steps_push (device_step p_bulk n_bulk all) (open_with line cell_name shown pins []) (open_with line cell_name shown nets devices) (open_with line cell_name shown longer (devices ++ device ∷ []))
+    let same : with_device table name (written_wiring all device) (written_sizes device) (open_with line cell_name shown nets devices) ≡ open_with line cell_name shown longer (devices ++ device ∷ []) =
+    ap (λ (w : Wiring). with_device table name w (written_sizes device) (open_with line cell_name shown nets devices)) wirings in
+    steps_push (device_step table p_bulk n_bulk all) (open_with line cell_name shown pins []) (open_with line cell_name shown nets devices) (open_with line cell_name shown longer (devices ++ device ∷ []))
     devices device before (read ∙ ap (λ (c : OpenCell). Ok c) same)
 
 -- a subcircuit with one device more can be written
-pub writable_grown : (cell_name : List ℕ) (pins nets : List (List ℕ)) (devices : List RawDevice) (name : List ℕ) (wiring : Wiring) (sizes : Sizes)
-    → IsWritable cell_name pins nets devices → IsNameWord name → card_of name ≡ card.Mos → IsWired name wiring → sizes_of wiring.params ≡ Some sizes
-    → has_device name devices ≡ false → IsWritable cell_name pins (with_source wiring nets) (devices ++ device_of name wiring sizes nets ∷ [])
-writable_grown cell_name pins nets devices name wiring sizes it named mos wired sized new =
+pub writable_grown : (table : StrengthTable) → (cell_name : List ℕ) (pins nets : List (List ℕ)) (devices : List RawDevice) (name : List ℕ) (wiring : Wiring) (sizes : Sizes)
+    → IsWritable table cell_name pins nets devices → IsNameWord name → card_of name ≡ card.Mos → IsWired name wiring → sizes_of wiring.params ≡ Some sizes
+    → has_device name devices ≡ false → IsWritable table cell_name pins (with_source wiring nets) (devices ++ device_of table name wiring sizes nets ∷ [])
+writable_grown table cell_name pins nets devices name wiring sizes it named (mos table) wired sized new =
     let grown : Extends nets (with_source wiring nets) = nets_extend wiring nets in
     record {
       named = it.named;
       header = it.header;
       spelled = it.spelled;
       distinct = it.distinct;
-      cards = all_append (IsCard (with_source wiring nets)) devices (device_of name wiring sizes nets ∷ [])
-          (subst (λ (names : List (List ℕ)). AllByRecursion (IsCard names) devices) (sym grown.is) (cards_more nets grown.more devices it.cards))
-          (new_card name wiring sizes nets named mos wired sized, tt);
-      again = again_grown cell_name pins nets devices name wiring sizes it.again named mos wired sized new;
-      names = names_grown pins nets devices name wiring sizes it.names wired new;
+      cards = all_append (IsCard table (with_source wiring nets)) devices (device_of table name wiring sizes nets ∷ [])
+          (subst (λ (names : List (List ℕ)). AllByRecursion (IsCard table names) devices) (sym grown.is) (cards_more table nets grown.more devices it.cards))
+          (new_card table name wiring sizes nets named (mos table) wired sized, tt);
+      again = again_grown table cell_name pins nets devices name wiring sizes it.again named (mos table) wired sized new;
+      names = names_grown table pins nets devices name wiring sizes it.names wired new;
     }
 
 -- the names of pins that are being read

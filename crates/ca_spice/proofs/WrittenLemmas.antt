@@ -17,6 +17,7 @@ use Rattle.ca_spice.specs.Reading.{Reading, Step, words_step, line_step, at_line
 use Rattle.ca_spice.specs.Writing.{spaced, line_of}
 use Rattle.ca_spice.proofs.PinLemmas.{left_true, right_true}
 use Rattle.ca_spice.proofs.SpelledLemmas.{HasNoComment, IsSpelled, alone, all_code, upper-chunks}
+use Rattle.ca_cell.specs.declared.strength.StrengthTable.{StrengthTable}
 use Rattle.ca_spice.proofs.SpelledLemmas.{words_of-chunks, shown_chunks}
 
 -- a piece of a line between two spaces
@@ -132,8 +133,8 @@ roles_line chunks shown =
     ∙ ap PinInfo (all_code (codes "*.PININFO" ++ flat_map spaced chunks) shown)
 
 -- what a text makes of a reading, from this line on
-abbrev pub read_on : Reading → ℕ → Bool → List ℕ → Result Reading SpiceFault
-read_on reading number follows text = lines_from reading (logical_from number follows (map physical_of (lines_of text)))
+abbrev pub read_on : (table : StrengthTable) → Reading → ℕ → Bool → List ℕ → Result Reading SpiceFault
+read_on table reading number follows text = lines_from table reading (logical_from number follows (map physical_of (lines_of text)))
 
 -- the text continues no card
 abbrev pub BeginsAnew : List ℕ → Type 0
@@ -150,12 +151,12 @@ anew_at_roles text line lines first is =
     ap (λ (all : List (List ℕ)). continued (map physical_of all)) first ∙ ap (λ (kind : Physical). continued (kind ∷ map physical_of lines)) is
 
 -- a logical line that is read without a fault
-line_first : (number : ℕ) (line : List ℕ) (lines : List Line) (reading next : Reading) → words_step number (words_of (upper_case line)) reading ≡ Ok next
-    → lines_from reading (record { line = number; text = line } ∷ lines) ≡ lines_from next lines
+line_first : (table : StrengthTable) → (number : ℕ) (line : List ℕ) (lines : List Line) (reading next : Reading) → words_step table number (words_of (upper_case line)) reading ≡ Ok next
+    → lines_from table reading (record { line = number; text = line } ∷ lines) ≡ lines_from table next lines
 unfolding steps_from line_step
-line_first number line lines reading next read =
+line_first table number line lines reading next read =
     ap (λ (step : Step). elim (elim step as (λ _. Result Reading SpiceFault) [ Ok later ↦ Ok later | Err kind ↦ Err (at_line (record { line = number; text = line }) kind) ])
-    as (λ _. Result Reading SpiceFault) [ Ok later ↦ lines_from later lines | Err fault ↦ Err fault ]) read
+    as (λ _. Result Reading SpiceFault) [ Ok later ↦ lines_from table later lines | Err fault ↦ Err fault ]) read
 
 card_first : (number : ℕ) (follows : Bool) (line : List ℕ) (more : List Physical) → continued more ≡ []
     → logical_from number follows (Card line ∷ more) ≡ record { line = number; text = line } ∷ logical_from (number + 1) true more
@@ -172,19 +173,19 @@ roles_first number true line more = refl
 roles_first number false line more = refl
 
 -- a card that is read without a fault
-pub card_read : (reading next : Reading) (number : ℕ) (follows : Bool) (text line rest : List ℕ) → lines_of text ≡ line ∷ lines_of rest → physical_of line ≡ Card line
-    → BeginsAnew rest → words_step number (words_of (upper_case line)) reading ≡ Ok next → read_on reading number follows text ≡ read_on next (number + 1) true rest
-card_read reading next number follows text line rest first is anew read =
-    ap (λ (lines : List (List ℕ)). lines_from reading (logical_from number follows (map physical_of lines))) first
-    ∙ ap (λ (kind : Physical). lines_from reading (logical_from number follows (kind ∷ map physical_of (lines_of rest)))) is
-    ∙ ap (lines_from reading) (card_first number follows line (map physical_of (lines_of rest)) anew)
-    ∙ line_first number line (logical_from (number + 1) true (map physical_of (lines_of rest))) reading next read
+pub card_read : (table : StrengthTable) → (reading next : Reading) (number : ℕ) (follows : Bool) (text line rest : List ℕ) → lines_of text ≡ line ∷ lines_of rest → physical_of line ≡ Card line
+    → BeginsAnew rest → words_step table number (words_of (upper_case line)) reading ≡ Ok next → read_on table reading number follows text ≡ read_on table next (number + 1) true rest
+card_read table reading next number follows text line rest first is anew read =
+    ap (λ (lines : List (List ℕ)). lines_from table reading (logical_from number follows (map physical_of lines))) first
+    ∙ ap (λ (kind : Physical). lines_from table reading (logical_from number follows (kind ∷ map physical_of (lines_of rest)))) is
+    ∙ ap (lines_from table reading) (card_first number follows line (map physical_of (lines_of rest)) anew)
+    ∙ line_first table number line (logical_from (number + 1) true (map physical_of (lines_of rest))) reading next read
 
 -- and a line of roles
-pub roles_read : (reading next : Reading) (number : ℕ) (follows : Bool) (text line rest : List ℕ) → lines_of text ≡ line ∷ lines_of rest → physical_of line ≡ PinInfo line
-    → words_step number (words_of (upper_case line)) reading ≡ Ok next → read_on reading number follows text ≡ read_on next (number + 1) false rest
-roles_read reading next number follows text line rest first is read =
-    ap (λ (lines : List (List ℕ)). lines_from reading (logical_from number follows (map physical_of lines))) first
-    ∙ ap (λ (kind : Physical). lines_from reading (logical_from number follows (kind ∷ map physical_of (lines_of rest)))) is
-    ∙ ap (lines_from reading) (roles_first number follows line (map physical_of (lines_of rest)))
-    ∙ line_first number line (logical_from (number + 1) false (map physical_of (lines_of rest))) reading next read
+pub roles_read : (table : StrengthTable) → (reading next : Reading) (number : ℕ) (follows : Bool) (text line rest : List ℕ) → lines_of text ≡ line ∷ lines_of rest → physical_of line ≡ PinInfo line
+    → words_step table number (words_of (upper_case line)) reading ≡ Ok next → read_on table reading number follows text ≡ read_on table next (number + 1) false rest
+roles_read table reading next number follows text line rest first is read =
+    ap (λ (lines : List (List ℕ)). lines_from table reading (logical_from number follows (map physical_of lines))) first
+    ∙ ap (λ (kind : Physical). lines_from table reading (logical_from number follows (kind ∷ map physical_of (lines_of rest)))) is
+    ∙ ap (lines_from table reading) (roles_first number follows line (map physical_of (lines_of rest)))
+    ∙ line_first table number line (logical_from (number + 1) false (map physical_of (lines_of rest))) reading next read

@@ -6,7 +6,6 @@ use Rattle.std.specs.Str.{bytes_eq}
 use Rattle.ca_lex.specs.Length.{length_of, ◌>>=◌}
 use Rattle.ca_net.specs.declared.device.DeviceKind.{DeviceKind}
 use Rattle.ca_net.specs.declared.device.DeviceKind.TheVariants as kind
-use Rattle.ca_net.specs.declared.scale.TheConstants.{WEAK, STRONG}
 use Rattle.ca_spice.specs.Names.{is_name}
 
 -- the word is `=`
@@ -80,7 +79,3 @@ sizes_of params = do
   width ← length_at (codes "W") params
   length ← length_at (codes "L") params
   Some (record { width = width; length = length })
-
--- a transistor whose channel is longer than it is wide is weak
-abbrev pub strength_of : ℕ → ℕ → ℕ
-strength_of width length = if nat_lt width length then WEAK else STRONG

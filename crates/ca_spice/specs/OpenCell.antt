@@ -6,13 +6,15 @@ use Rattle.std.specs.Str.{bytes_eq}
 use Rattle.ca_lex.specs.Reading.{unless}
 use Rattle.ca_cell.specs.declared.raw.RawPin.{RawPin}
 use Rattle.ca_cell.specs.declared.raw.RawDevice.{RawDevice}
+use Rattle.ca_cell.specs.declared.strength.StrengthTable.{StrengthTable}
+use Rattle.ca_cell.specs.Strength.{strength_of}
 use Rattle.ca_spice.specs.declared.fault.SpiceKind.{SpiceKind}
 use Rattle.ca_spice.specs.declared.fault.SpiceKind.TheVariants.{BadCard, BadLength, DoubleName, NoPinInfo}
 use Rattle.ca_spice.specs.declared.pin.Pin.{Pin}
 use Rattle.ca_spice.specs.declared.subcircuit.Subcircuit.{Subcircuit}
 use Rattle.ca_names.specs.Names.{with_name, place_with}
 use Rattle.ca_spice.specs.PinInfo as info
-use Rattle.ca_spice.specs.Mos.{Wiring, Sizes, wiring_of, sizes_of, strength_of}
+use Rattle.ca_spice.specs.Mos.{Wiring, Sizes, wiring_of, sizes_of}
 
 -- a subcircuit whose .ENDS has not come: the line of its .SUBCKT, its name, its pins, the names of its nets
 -- (the pins and then the inner nets in the order of first mention) and its devices
@@ -55,12 +57,12 @@ with_gate wiring nets = with_name wiring.gate (with_drain wiring nets)
 abbrev pub with_source : Wiring → List (List ℕ) → List (List ℕ)
 with_source wiring nets = with_name wiring.source (with_gate wiring nets)
 
--- the transistor of a card, whose terminals are places among the nets
-abbrev pub device_of : List ℕ → Wiring → Sizes → List (List ℕ) → RawDevice
-device_of name wiring sizes nets = record {
+-- the transistor of a card, whose terminals are places among the nets, and which is as strong as the table says
+abbrev pub device_of : StrengthTable → List ℕ → Wiring → Sizes → List (List ℕ) → RawDevice
+device_of table name wiring sizes nets = record {
   name = name;
   kind = wiring.kind;
-  strength = strength_of sizes.width sizes.length;
+  strength = strength_of table sizes.width sizes.length;
   width = record { 0 = sizes.width };
   length = record { 0 = sizes.length };
   drain = place_with wiring.drain nets;
@@ -69,13 +71,13 @@ device_of name wiring sizes nets = record {
 }
 
 -- the cell with the transistor of a card
-abbrev pub with_device : List ℕ → Wiring → Sizes → OpenCell → OpenCell
-with_device name wiring sizes cell = record {
+abbrev pub with_device : StrengthTable → List ℕ → Wiring → Sizes → OpenCell → OpenCell
+with_device table name wiring sizes cell = record {
   line = cell.line;
   name = cell.name;
   pins = cell.pins;
   nets = with_source wiring cell.nets;
-  devices = cell.devices ++ device_of name wiring sizes cell.nets ∷ [];
+  devices = cell.devices ++ device_of table name wiring sizes cell.nets ∷ [];
 }
 
 -- some device of the cell has the name
@@ -83,17 +85,18 @@ abbrev pub has_device : List ℕ → List RawDevice → Bool
 has_device name devices = list_any (λ device. bytes_eq name device.name) devices
 
 -- an M card whose form is kept
-abbrev pub wired : List ℕ → Wiring → OpenCell → Result OpenCell SpiceKind
-wired name wiring cell = elim (sizes_of wiring.params) [
+abbrev pub wired : StrengthTable → List ℕ → Wiring → OpenCell → Result OpenCell SpiceKind
+wired table name wiring cell = elim (sizes_of wiring.params) [
   | None ↦ Err BadLength
-  | Some sizes ↦ unless (has_device name cell.devices) DoubleName (Ok (with_device name wiring sizes cell))
+  | Some sizes ↦ unless (has_device name cell.devices) DoubleName
+      (Ok (with_device table name wiring sizes cell))
 ]
 
 -- an M card adds a transistor
-unfoldable pub mos : List ℕ → List (List ℕ) → OpenCell → Result OpenCell SpiceKind
-mos name words cell = elim (wiring_of name words) [
+unfoldable pub mos : StrengthTable → List ℕ → List (List ℕ) → OpenCell → Result OpenCell SpiceKind
+mos table name words cell = elim (wiring_of name words) [
   | None ↦ Err BadCard
-  | Some wiring ↦ wired name wiring cell
+  | Some wiring ↦ wired table name wiring cell
 ]
 
 -- these pins and then those with their roles; None where a pin has no role

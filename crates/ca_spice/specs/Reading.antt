@@ -1,4 +1,5 @@
--- What a cell netlist reads as: its logical lines, one after another, and the first rule that a line breaks.
+-- What a cell netlist reads as under a strength table: its logical lines, one after another, and the first rule
+-- that a line breaks.
 use Rattle.std.specs.Prelude.{ℕ, nat_lt, Bool, true, false, not, ◌&&◌, ◌||◌, if◌then◌else◌, List, [], ◌∷◌}
 use Rattle.std.specs.Prelude.{◌++◌, length, Option, Some, None, Result, Ok, Err}
 use Rattle.std.specs.List.{list_all, list_any}
@@ -9,6 +10,7 @@ use Rattle.ca_lex.specs.Words.{words_of, upper_case}
 use Rattle.ca_lex.specs.FirstFault.{steps_from, located}
 use Rattle.ca_lex.specs.Reading.{unless}
 use Rattle.ca_cell.specs.declared.library.TheConstants.{MOST_CELLS}
+use Rattle.ca_cell.specs.declared.strength.StrengthTable.{StrengthTable}
 use Rattle.ca_spice.specs.declared.card.Card.{Card}
 use Rattle.ca_spice.specs.declared.card.Card.TheVariants as card
 use Rattle.ca_spice.specs.declared.fault.SpiceKind.{SpiceKind}
@@ -90,14 +92,14 @@ ends words reading = elim reading.current [
 ]
 
 -- each card, with its first word and those after it
-unfoldable pub card_step : Card → ℕ → List ℕ → List (List ℕ) → Reading → Step
-card_step card.Subckt line word words reading = subckt line words reading
-card_step card.Ends line word words reading = ends words reading
-card_step card.PinInfo line word words reading = in_cell (pin_info words) reading
-card_step card.Mos line word words reading = in_cell (mos word words) reading
-card_step card.Ignored line word words reading = Ok reading
-card_step card.Stray line word words reading = Err BadCard
-card_step card.Unknown line word words reading = Err UnknownCard
+unfoldable pub card_step : StrengthTable → Card → ℕ → List ℕ → List (List ℕ) → Reading → Step
+card_step table card.Subckt line word words reading = subckt line words reading
+card_step table card.Ends line word words reading = ends words reading
+card_step table card.PinInfo line word words reading = in_cell (pin_info words) reading
+card_step table card.Mos line word words reading = in_cell (mos table word words) reading
+card_step table card.Ignored line word words reading = Ok reading
+card_step table card.Stray line word words reading = Err BadCard
+card_step table card.Unknown line word words reading = Err UnknownCard
 
 -- a continuation of nothing, which is reported before its bytes are judged
 abbrev pub is_stray : Card → Bool
@@ -110,28 +112,28 @@ is_comment card.PinInfo reading = is_outside reading
 is_comment _ reading = false
 
 -- a line of a card, which isn't a comment
-abbrev pub judged : Card → ℕ → List ℕ → List (List ℕ) → Reading → Step
-judged card line word words reading = unless (is_stray card) BadCard
+abbrev pub judged : StrengthTable → Card → ℕ → List ℕ → List (List ℕ) → Reading → Step
+judged table card line word words reading = unless (is_stray card) BadCard
     (unless (not (list_all is_text (word ∷ words))) NotText
-    (card_step card line word words reading))
+    (card_step table card line word words reading))
 
 -- a line of these words
-unfoldable pub words_step : ℕ → List (List ℕ) → Reading → Step
-words_step line [] reading = Ok reading
-words_step line (word ∷ words) reading =
-    if is_comment (card_of word) reading then Ok reading else judged (card_of word) line word words reading
+unfoldable pub words_step : StrengthTable → ℕ → List (List ℕ) → Reading → Step
+words_step table line [] reading = Ok reading
+words_step table line (word ∷ words) reading = if is_comment (card_of word) reading then Ok reading
+    else judged table (card_of word) line word words reading
 
 -- what the next logical line makes of what was read; names and keywords are told apart in upper case
-unfoldable pub line_step : Line → Reading → Step
-line_step line reading = words_step line.line (words_of (upper_case line.text)) reading
+unfoldable pub line_step : StrengthTable → Line → Reading → Step
+line_step table line reading = words_step table line.line (words_of (upper_case line.text)) reading
 
 -- the fault of a line
 abbrev pub at_line : Line → SpiceKind → SpiceFault
 at_line line kind = At line.line kind
 
 -- what these lines make of what was read; a fault is reported at the line that has it
-abbrev pub lines_from : Reading → List Line → Result Reading SpiceFault
-lines_from reading lines = steps_from (located at_line line_step) reading lines
+abbrev pub lines_from : StrengthTable → Reading → List Line → Result Reading SpiceFault
+lines_from table reading lines = steps_from (located at_line (line_step table)) reading lines
 
 -- a library has at most 1,024 subcircuits
 abbrev pub limited : List Subcircuit → Result (List Subcircuit) SpiceFault
@@ -145,6 +147,7 @@ library_from (Ok reading) = elim reading.current [
 ]
 library_from (Err fault) = Err fault
 
--- what a text reads as, or else its first faulty line with the first rule that this line breaks
-abbrev pub library_of : List ℕ → Result (List Subcircuit) SpiceFault
-library_of text = library_from (lines_from nothing (spice_lines text))
+-- what a text reads as under a strength table, or else its first faulty line with the first rule that this line
+-- breaks
+abbrev pub library_of : StrengthTable → List ℕ → Result (List Subcircuit) SpiceFault
+library_of table text = library_from (lines_from table nothing (spice_lines text))

@@ -9,6 +9,7 @@ use Rattle.ca_cell.specs.declared.raw.Role.TheVariants as role
 use Rattle.ca_cell.specs.declared.raw.RawPin.{RawPin}
 use Rattle.ca_cell.specs.declared.raw.RawDevice.{RawDevice}
 use Rattle.ca_cell.specs.declared.raw.RawCell.{RawCell}
+use Rattle.ca_cell.specs.declared.strength.StrengthTable.{StrengthTable}
 use Rattle.ca_cell.specs.Raw.{is_power, is_ground}
 use Rattle.ca_spice.specs.declared.subcircuit.Subcircuit.{Subcircuit}
 use Rattle.ca_spice.specs.Reading.{library_of}
@@ -93,9 +94,9 @@ cell_text name raw =
 abbrev pub kept_as : List ℕ → RawCell → Subcircuit
 kept_as name raw = record { name = upper_case name; raw = raw }
 
--- some text reads as a library that holds this subcircuit under this name
-pub record IsReadable (name : List ℕ) (raw : RawCell) : Type 0 where
+-- under this strength table some text reads as a library that holds this subcircuit under this name
+pub record IsReadable (table : StrengthTable) (name : List ℕ) (raw : RawCell) : Type 0 where
   pub text : List ℕ
   pub cells : List Subcircuit
-  pub read : library_of text ≡ Ok cells
+  pub read : library_of table text ≡ Ok cells
   pub holds : Contains cells (kept_as name raw)

@@ -7,7 +7,7 @@ ghost use Rattle.ca_spice.specs.code.Views.{wiring_seen, sizes_seen};
 
 use crate::mos::{Sizes, Wiring};
 use ca_base::NoMemory;
-use ca_cell::{RawDevice, RawDevices};
+use ca_cell::{RawDevice, RawDevices, StrengthTable};
 use ca_lex::Text;
 use ca_names::NameSet;
 use std::alloc::Global;
@@ -16,6 +16,7 @@ use std::alloc::Global;
 /// more places are slow to prove.
 pub(crate) fn add_device(
     alloc: Global,
+    table: &StrengthTable,
     nets: &mut NameSet,
     device_names: &mut NameSet,
     devices: &mut RawDevices,
@@ -30,7 +31,7 @@ pub(crate) fn add_device(
 
     ensures nets { OnOk result (nets.new ≡ with_source (wiring_seen wiring.entry) nets.old) }
     ensures devices { OnOk result (devices.new
-        ≡ devices.old ++ device_of name.now (wiring_seen wiring.entry) (sizes_seen sizes) nets.old ∷ []) }
+        ≡ devices.old ++ device_of table.now name.now (wiring_seen wiring.entry) (sizes_seen sizes) nets.old ∷ []) }
     ensures named { OnOk result (device_names.new ≡ map (λ device. device.name) devices.new) }
     ensures placed { OnOk result (IsPlaced 0 nets.new devices.new) }
     ensures longer { OnOk result (length nets.old ≤ length nets.new) }
@@ -42,7 +43,7 @@ pub(crate) fn add_device(
     devices.push(RawDevice {
         name: Text::from_bytes(alloc, name)?,
         kind: wiring.kind,
-        strength: sizes.strength(),
+        strength: table.strength(sizes.width, sizes.length),
         width: sizes.width,
         length: sizes.length,
         drain,

@@ -6,6 +6,7 @@ ghost use Rattle.ca_spice.specs.Reading.{library_of};
 ghost use Rattle.ca_lex.specs.Words.{upper_case};
 ghost use Rattle.ca_cell.specs.declared.library.Entry.TheVariants.{Sound};
 ghost use Rattle.ca_cell.specs.declared.raw.RawCell.{RawCell};
+ghost use Rattle.ca_cell.specs.declared.strength.StrengthTable.{StrengthTable};
 ghost use Rattle.ca_cell.specs.Library.{Named, entry_of};
 ghost use Rattle.ca_cell.specs.PlainNames.{HasPlainNames};
 ghost use Rattle.ca_spice.specs.Called.{cell_called};
@@ -17,21 +18,22 @@ ghost use Rattle.ca_spice.specs.Writing.{IsReadable};
 /// after the lines before it were read, or the `.SUBCKT` of the subcircuit in which the text ends, where no
 /// line breaks a rule.
 pub fn first_faulty_line()
-    ensures found { (text : List ℕ) (line : ℕ) (kind : SpiceKind) → library_of text ≡ Err (At line kind)
-        → IsFirstFaulty text line kind }
-    ensures only { (text : List ℕ) (line : ℕ) (kind : SpiceKind) → IsFirstFaulty text line kind
-        → library_of text ≡ Err (At line kind) }
+    ensures found { (table : StrengthTable) (text : List ℕ) (line : ℕ) (kind : SpiceKind)
+        → library_of table text ≡ Err (At line kind) → IsFirstFaulty table text line kind }
+    ensures only { (table : StrengthTable) (text : List ℕ) (line : ℕ) (kind : SpiceKind)
+        → IsFirstFaulty table text line kind → library_of table text ≡ Err (At line kind) }
 {}
 
 /// What `write_cell` asks holds of each cell that is found in a library which was read, under each name by
 /// which it is found.
 pub fn found_cell()
-    ensures { (text name : List ℕ) (library : List Named) (raw : RawCell)
-        → library_of text ≡ Ok (map subcircuit_seen library)
-        → entry_of library (upper_case name) ≡ Some (Sound raw) → IsReadable name raw }
+    ensures { (table : StrengthTable) (text name : List ℕ) (library : List Named) (raw : RawCell)
+        → library_of table text ≡ Ok (map subcircuit_seen library)
+        → entry_of library (upper_case name) ≡ Some (Sound raw) → IsReadable table name raw }
 {}
 
 /// The nets and the devices of each cell of a text that was read have names by which they are told apart.
 pub fn plain_names()
-    ensures { (text name : List ℕ) (raw : RawCell) → cell_called text name ≡ Some raw → HasPlainNames raw }
+    ensures { (table : StrengthTable) (text name : List ℕ) (raw : RawCell)
+        → cell_called table text name ≡ Some raw → HasPlainNames raw }
 {}

@@ -14,17 +14,17 @@ use crate::fault::{SpiceFault, SpiceKind};
 use crate::reading::Reading;
 use crate::subcircuit::Subcircuit;
 use ca_base::NoMemory;
-use ca_cell::{Entry, Library, LibraryFault, MOST_CELLS};
+use ca_cell::{Entry, Library, LibraryFault, MOST_CELLS, StrengthTable};
 use ca_lex::{Line, spice_lines};
 use std::alloc::Global;
 
 // What these logical lines read as.
-fn lines_of(alloc: Global, lines: &[Line]) -> Result<Reading, SpiceFault>
-    ensures { Gives fault_reported reading_seen result (lines_from nothing lines.now) }
+fn lines_of(alloc: Global, table: &StrengthTable, lines: &[Line]) -> Result<Reading, SpiceFault>
+    ensures { Gives fault_reported reading_seen result (lines_from table.now nothing lines.now) }
 {
     let mut reading = Reading::new(alloc);
     'lines: for line in lines {
-        match reading.line(alloc, line) {
+        match reading.line(alloc, table, line) {
             Ok(next) => reading = next,
             Err(refusal) => return Err(refusal.at(line.line)),
         }
@@ -97,14 +97,18 @@ fn library_from(alloc: Global, reading: Reading) -> Result<Library, SpiceFault>
     Ok(entries_of(alloc, cells)?)
 }
 
-/// The library that a cell netlist reads as.
+/// The library that a cell netlist reads as under a strength table, which says how strong its transistors are.
 #[tactic(auto, unfolding(crate::specs::Reading::library_from))]
-pub fn read_library(alloc: Global, bytes: &[u8]) -> Result<Library, SpiceFault>
-    ensures exact { Gives fault_reported (map subcircuit_seen) result (library_of bytes.now) }
+pub fn read_library(
+    alloc: Global,
+    table: &StrengthTable,
+    bytes: &[u8],
+) -> Result<Library, SpiceFault>
+    ensures exact { Gives fault_reported (map subcircuit_seen) result (library_of table.now bytes.now) }
     ensures entries { IfOk result (λ library. All (λ named. IsEntry named.entry) library) }
 {
     let lines = spice_lines(alloc, bytes)?;
-    let reading = lines_of(alloc, lines.as_slice());
+    let reading = lines_of(alloc, table, lines.as_slice());
     drop(lines);
     library_from(alloc, reading?)
 }

@@ -1,14 +1,14 @@
 //! The words of an M card.
-ghost use Rattle.std.specs.Prelude.{◌≡◌, ◌+◌, true, option_map, IfSome};
+ghost use Rattle.std.specs.Prelude.{◌≡◌, ◌≤◌, ◌+◌, ◌^◌, true, option_map, IfSome};
 ghost use Rattle.ca_spice.specs.Mos.{is_sign, are_params, count_of, value_of, are_sound, kind_of, wiring_of};
-ghost use Rattle.ca_spice.specs.Mos.{length_at, sizes_of, strength_of};
+ghost use Rattle.ca_spice.specs.Mos.{length_at, sizes_of};
 ghost use Rattle.ca_spice.specs.code.Mos.{has_gate};
 ghost use Rattle.ca_spice.specs.code.Names.{texts};
 ghost use Rattle.ca_spice.specs.code.Views.{wiring_seen, sizes_seen};
 
 use crate::names::all_names;
 use ca_lex::{Length, read_length};
-use ca_net::{DeviceKind, STRONG, WEAK};
+use ca_net::DeviceKind;
 
 /// What the words of an M card say after the device's name.
 #[derive(Clone, Copy)]
@@ -25,6 +25,8 @@ pub(crate) struct Wiring<'a> {
 pub(crate) struct Sizes {
     pub width: Length,
     pub length: Length,
+    ghost width_within: { width.0 ≤ 10 ^ 24 },
+    ghost length_within: { length.0 ≤ 10 ^ 24 },
 }
 
 pub(crate) fn is_sign(word: &[u8]) -> bool
@@ -120,7 +122,8 @@ pub(crate) fn wiring_of<'a>(name: &[u8], words: &'a [&'a [u8]]) -> Option<Wiring
 }
 
 fn length_at(key: &[u8], params: &[&[u8]]) -> Option<Length>
-    ensures { option_map (λ found. found.0) result ≡ length_at key.now (texts params.now) }
+    ensures value { option_map (λ found. found.0) result ≡ length_at key.now (texts params.now) }
+    ensures within { IfSome result (λ found. found.0 ≤ 10 ^ 24) }
 {
     read_length(value_of(key, params)?)
 }
@@ -133,17 +136,4 @@ pub(crate) fn sizes_of(params: &[&[u8]]) -> Option<Sizes>
     let width = length_at(b"W", params)?;
     let length = length_at(b"L", params)?;
     Some(Sizes { width, length })
-}
-
-impl Sizes {
-    /// The strength of a transistor of these sizes.
-    pub(crate) fn strength(self) -> u8
-        ensures { result ≡ strength_of self.width.0 self.length.0 }
-    {
-        if self.width.0 < self.length.0 {
-            WEAK
-        } else {
-            STRONG
-        }
-    }
 }

@@ -13,7 +13,7 @@ use crate::pin::{Pin, pins_of, raw_pins};
 use crate::pin_info::pin_info;
 use crate::subcircuit::Subcircuit;
 use ca_base::NoMemory;
-use ca_cell::{RawCell, RawDevices};
+use ca_cell::{RawCell, RawDevices, StrengthTable};
 use ca_lex::Text;
 use ca_names::NameSet;
 use std::alloc::Global;
@@ -94,6 +94,7 @@ impl OpenCell {
     fn with_device(
         self,
         alloc: Global,
+        table: &StrengthTable,
         name: &[u8],
         wiring: Wiring<'_>,
         sizes: Sizes,
@@ -101,7 +102,7 @@ impl OpenCell {
         requires new { has_device name.now self.devices ≡ false }
         requires gate { has_gate wiring.kind ≡ true }
         ensures { IfOk result (λ cell. cell_seen cell
-            ≡ with_device name.now (wiring_seen wiring.entry) (sizes_seen sizes) (cell_seen self)) }
+            ≡ with_device table.now name.now (wiring_seen wiring.entry) (sizes_seen sizes) (cell_seen self)) }
     {
         let OpenCell {
             line,
@@ -114,6 +115,7 @@ impl OpenCell {
         let places = &mut nets;
         add_device(
             alloc,
+            table,
             places,
             &mut device_names,
             &mut devices,
@@ -133,9 +135,15 @@ impl OpenCell {
 
     /// The subcircuit after an M card with these words.
     #[tactic(auto, unfolding(crate::specs::OpenCell::mos))]
-    pub(crate) fn mos(self, alloc: Global, name: &[u8], words: &[&[u8]]) -> Result<Self, Refusal>
+    pub(crate) fn mos(
+        self,
+        alloc: Global,
+        table: &StrengthTable,
+        name: &[u8],
+        words: &[&[u8]],
+    ) -> Result<Self, Refusal>
         ensures read { Gives kind_reported cell_seen result
-            (mos name.now (texts words.now) (cell_seen self)) }
+            (mos table.now name.now (texts words.now) (cell_seen self)) }
         ensures same_name { IfOk result (λ cell. cell.name ≡ self.name) }
     {
         let Some(wiring) = wiring_of(name, words) else {
@@ -147,7 +155,7 @@ impl OpenCell {
         if self.device_names.has(name) {
             return Err(Refusal::Kind(SpiceKind::DoubleName));
         }
-        Ok(self.with_device(alloc, name, wiring, sizes)?)
+        Ok(self.with_device(alloc, table, name, wiring, sizes)?)
     }
 
     /// The subcircuit that a `.ENDS` with these words ends.

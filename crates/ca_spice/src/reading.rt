@@ -13,6 +13,7 @@ use crate::names::{all_text, is_name};
 use crate::open_cell::OpenCell;
 use crate::opening::opened;
 use crate::subcircuit::Subcircuit;
+use ca_cell::StrengthTable;
 use ca_lex::{Line, fold, spice_words};
 use ca_names::NameSet;
 use std::alloc::Global;
@@ -134,9 +135,15 @@ impl Reading {
         })
     }
 
-    fn mos(self, alloc: Global, name: &[u8], words: &[&[u8]]) -> Result<Self, Refusal>
+    fn mos(
+        self,
+        alloc: Global,
+        table: &StrengthTable,
+        name: &[u8],
+        words: &[&[u8]],
+    ) -> Result<Self, Refusal>
         ensures { Gives kind_reported reading_seen result
-            (in_cell (mos name.now (texts words.now)) (reading_seen self)) }
+            (in_cell (mos table.now name.now (texts words.now)) (reading_seen self)) }
     {
         let Reading {
             names,
@@ -146,7 +153,7 @@ impl Reading {
         let Some(cell) = current else {
             return Err(Refusal::Kind(SpiceKind::BadCard));
         };
-        let cell = cell.mos(alloc, name, words)?;
+        let cell = cell.mos(alloc, table, name, words)?;
         Ok(Reading {
             names,
             cells,
@@ -158,6 +165,7 @@ impl Reading {
     fn card(
         self,
         alloc: Global,
+        table: &StrengthTable,
         card: Card,
         line: usize,
         word: &[u8],
@@ -165,13 +173,13 @@ impl Reading {
     ) -> Result<Self, Refusal>
         requires { All IsUpper (texts words.now) }
         ensures { Gives kind_reported reading_seen result
-            (card_step card line word.now (texts words.now) (reading_seen self)) }
+            (card_step table.now card line word.now (texts words.now) (reading_seen self)) }
     {
         match card {
             Card::Subckt => self.subckt(alloc, line, words),
             Card::Ends => self.ends(alloc, words),
             Card::PinInfo => self.pin_info(words),
-            Card::Mos => self.mos(alloc, word, words),
+            Card::Mos => self.mos(alloc, table, word, words),
             Card::Ignored => Ok(self),
             Card::Stray => {
                 drop(self);
@@ -195,10 +203,16 @@ impl Reading {
     }
 
     #[tactic(auto, unfolding(crate::specs::Reading::words_step))]
-    fn words(self, alloc: Global, line: usize, words: &[&[u8]]) -> Result<Self, Refusal>
+    fn words(
+        self,
+        alloc: Global,
+        table: &StrengthTable,
+        line: usize,
+        words: &[&[u8]],
+    ) -> Result<Self, Refusal>
         requires { All IsUpper (texts words.now) }
         ensures { Gives kind_reported reading_seen result
-            (words_step line (texts words.now) (reading_seen self)) }
+            (words_step table.now line (texts words.now) (reading_seen self)) }
     {
         let [word, more @ ..] = words else {
             return Ok(self);
@@ -217,13 +231,18 @@ impl Reading {
             drop(self);
             return Err(Refusal::Kind(SpiceKind::NotText));
         }
-        self.card(alloc, card, line, word, more)
+        self.card(alloc, table, card, line, word, more)
     }
 
-    /// What the next logical line makes of what was read.
+    /// What the next logical line makes of what was read under a strength table.
     #[tactic(auto, unfolding(crate::specs::Reading::line_step))]
-    pub(crate) fn line(self, alloc: Global, line: &Line) -> Result<Self, Refusal>
-        ensures { Gives kind_reported reading_seen result (line_step line.now (reading_seen self)) }
+    pub(crate) fn line(
+        self,
+        alloc: Global,
+        table: &StrengthTable,
+        line: &Line,
+    ) -> Result<Self, Refusal>
+        ensures { Gives kind_reported reading_seen result (line_step table.now line.now (reading_seen self)) }
     {
         let Ok(text) = fold(alloc, line.text.as_bytes()) else {
             drop(self);
@@ -233,7 +252,7 @@ impl Reading {
             drop(self);
             return Err(Refusal::NoMemory);
         };
-        self.words(alloc, line.line, &words)
+        self.words(alloc, table, line.line, &words)
     }
 }
 

@@ -2,6 +2,7 @@
 ghost use Rattle.std.specs.Prelude.{◌≡◌, ◌∷◌, ◌++◌, ◌<◌, [], length, map, flat_map, IfOk, Ok, OnOk, codes};
 ghost use Rattle.std.specs.List.{All};
 ghost use Rattle.ca_lex.specs.Words.{upper_case};
+ghost use Rattle.ca_cell.specs.declared.strength.StrengthTable.{StrengthTable};
 ghost use Rattle.ca_cell.specs.Raw.{is_power, is_ground};
 ghost use Rattle.ca_cell.specs.Rules.{IsRaw, PlacesWithin};
 ghost use Rattle.ca_spice.specs.Reading.{library_of};
@@ -215,12 +216,14 @@ fn cell_text(alloc: Global, raw: &RawCell, name: &[u8]) -> Result<Text, NoMemory
 
 /// The text of a cell as a cell netlist: one subcircuit, under the name in upper case, which is how a library
 /// keeps it. A cell that is found in a library which was read may be written under each name by which it is
-/// found there (`found_cell`).
+/// found there (`found_cell`). Under each strength table under which a text reads as such a library, the text
+/// that is written reads as this cell.
 #[tactic(auto, using(crate::proofs::RoundTripLemmas::read_written))]
 pub fn write_cell(alloc: Global, cell: &Cell, name: &[u8]) -> Result<Text, NoMemory>
-    requires { IsReadable name.now cell.now }
+    requires { (table : StrengthTable) × IsReadable table name.now cell.now }
     ensures text { IfOk result (λ text. text ≡ cell_text (upper_case name.now) cell.now) }
-    ensures read { IfOk result (λ text. library_of text ≡ Ok (kept_as name.now cell.now ∷ [])) }
+    ensures read { IfOk result (λ text. (table : StrengthTable) → IsReadable table name.now cell.now
+        → library_of table text ≡ Ok (kept_as name.now cell.now ∷ [])) }
 {
     let raw = cell.raw();
     cell_text(alloc, raw, name)

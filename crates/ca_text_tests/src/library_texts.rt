@@ -1,6 +1,6 @@
 //! Cells that are written, and read again.
 
-use ca_cell::Entry;
+use ca_cell::{Entry, StrengthTable};
 use ca_lex::Text;
 use ca_spice::{read_library, write_cell};
 use std::alloc::Global;
@@ -74,7 +74,7 @@ M Z G V G NCH W=1000000000000000000000000e-18 L=1e-18
 /// The text of a cell that is read from a text.
 #[tactic(auto, using(ca_spice::proofs::FoundLemmas::found))]
 pub(crate) fn rewritten(alloc: Global, text: &[u8], name: &[u8]) -> Result<Text, Fail> {
-    let Ok(library) = read_library(alloc, text) else {
+    let Ok(library) = read_library(alloc, &StrengthTable::default_table(), text) else {
         return Err(Fail::from("the text reads"));
     };
     let Some(Entry::Sound(cell)) = library.get(name) else {

@@ -3,9 +3,9 @@
 use crate::library_texts::rewritten;
 use DeviceKind::{N, P};
 use Role::{Ground, Input, Output, Power};
-use ca_cell::{Entry, Library, RawCell, RawDevice, RawPin, Role};
+use ca_cell::{Entry, Library, RawCell, RawDevice, RawPin, Role, StrengthTable};
 use ca_lex::{Length, Text};
-use ca_net::{DeviceKind, STRONG, WEAK};
+use ca_net::{DeviceKind, STRONGEST, WEAKEST};
 use ca_spice::read_library;
 use std::alloc::Global;
 use std::test::Fail;
@@ -112,8 +112,8 @@ const INV: Expected = Expected {
     roles: &[Input, Output, Power, Ground],
     nets: &[b"A", b"ZN", b"VDD", b"VSS"],
     cards: &[
-        (b"MP1", P, STRONG, W630, L50, [1, 0, 2]),
-        (b"MN1", N, STRONG, W415, L50, [1, 0, 3]),
+        (b"MP1", P, STRONGEST, W630, L50, [1, 0, 2]),
+        (b"MN1", N, STRONGEST, W415, L50, [1, 0, 3]),
     ],
 };
 
@@ -122,10 +122,10 @@ const NAND2: Expected = Expected {
     roles: &[Input, Input, Output, Power, Ground],
     nets: &[b"A1", b"A2", b"ZN", b"VDD", b"VSS", b"N1"],
     cards: &[
-        (b"MP1", P, STRONG, W630, L50, [2, 0, 3]),
-        (b"MP2", P, STRONG, W630, L50, [2, 1, 3]),
-        (b"MN1", N, STRONG, W415, L50, [2, 0, 5]),
-        (b"MN2", N, STRONG, W415, L50, [5, 1, 4]),
+        (b"MP1", P, STRONGEST, W630, L50, [2, 0, 3]),
+        (b"MP2", P, STRONGEST, W630, L50, [2, 1, 3]),
+        (b"MN1", N, STRONGEST, W415, L50, [2, 0, 5]),
+        (b"MN2", N, STRONGEST, W415, L50, [5, 1, 4]),
     ],
 };
 
@@ -134,10 +134,10 @@ const NOR2: Expected = Expected {
     roles: &[Input, Input, Output, Power, Ground],
     nets: &[b"A1", b"A2", b"ZN", b"VDD", b"VSS", b"P1"],
     cards: &[
-        (b"MP1", P, STRONG, W630, L50, [5, 0, 3]),
-        (b"MP2", P, STRONG, W630, L50, [2, 1, 5]),
-        (b"MN1", N, STRONG, W415, L50, [2, 0, 4]),
-        (b"MN2", N, STRONG, W415, L50, [2, 1, 4]),
+        (b"MP1", P, STRONGEST, W630, L50, [5, 0, 3]),
+        (b"MP2", P, STRONGEST, W630, L50, [2, 1, 5]),
+        (b"MN1", N, STRONGEST, W415, L50, [2, 0, 4]),
+        (b"MN2", N, STRONGEST, W415, L50, [2, 1, 4]),
     ],
 };
 
@@ -146,12 +146,12 @@ const AND2: Expected = Expected {
     roles: &[Input, Input, Output, Power, Ground],
     nets: &[b"A1", b"A2", b"Z", b"VDD", b"VSS", b"NB", b"N1"],
     cards: &[
-        (b"MP1", P, STRONG, W630, L50, [5, 0, 3]),
-        (b"MP2", P, STRONG, W630, L50, [5, 1, 3]),
-        (b"MN1", N, STRONG, W415, L50, [5, 0, 6]),
-        (b"MN2", N, STRONG, W415, L50, [6, 1, 4]),
-        (b"MP3", P, STRONG, W630, L50, [2, 5, 3]),
-        (b"MN3", N, STRONG, W415, L50, [2, 5, 4]),
+        (b"MP1", P, STRONGEST, W630, L50, [5, 0, 3]),
+        (b"MP2", P, STRONGEST, W630, L50, [5, 1, 3]),
+        (b"MN1", N, STRONGEST, W415, L50, [5, 0, 6]),
+        (b"MN2", N, STRONGEST, W415, L50, [6, 1, 4]),
+        (b"MP3", P, STRONGEST, W630, L50, [2, 5, 3]),
+        (b"MN3", N, STRONGEST, W415, L50, [2, 5, 4]),
     ],
 };
 
@@ -159,7 +159,7 @@ const TG: Expected = Expected {
     name: b"TG",
     roles: &[Input, Input, Output, Power, Ground],
     nets: &[b"A", b"EN", b"Z", b"VDD", b"VSS"],
-    cards: &[(b"M1", N, STRONG, W415, L50, [2, 1, 0])],
+    cards: &[(b"M1", N, STRONGEST, W415, L50, [2, 1, 0])],
 };
 
 const PSN: Expected = Expected {
@@ -167,8 +167,8 @@ const PSN: Expected = Expected {
     roles: &[Input, Output, Power, Ground],
     nets: &[b"A", b"ZN", b"VDD", b"VSS"],
     cards: &[
-        (b"MP1", P, WEAK, W100, L400, [1, 3, 2]),
-        (b"MN1", N, STRONG, W415, L50, [1, 0, 3]),
+        (b"MP1", P, WEAKEST, W100, L400, [1, 3, 2]),
+        (b"MN1", N, STRONGEST, W415, L50, [1, 0, 3]),
     ],
 };
 
@@ -180,34 +180,34 @@ const FA28: Expected = Expected {
         b"P5", b"N1", b"N2", b"N3", b"N4", b"N5",
     ],
     cards: &[
-        (b"MP1", P, STRONG, W415, L50, [7, 0, 5]),
-        (b"MP2", P, STRONG, W415, L50, [7, 1, 5]),
-        (b"MP3", P, STRONG, W415, L50, [8, 2, 7]),
-        (b"MP4", P, STRONG, W415, L50, [9, 0, 5]),
-        (b"MP5", P, STRONG, W415, L50, [8, 1, 9]),
-        (b"MP6", P, STRONG, W415, L50, [10, 0, 5]),
-        (b"MP7", P, STRONG, W415, L50, [10, 1, 5]),
-        (b"MP8", P, STRONG, W415, L50, [10, 2, 5]),
-        (b"MP9", P, STRONG, W415, L50, [11, 8, 10]),
-        (b"MP10", P, STRONG, W415, L50, [12, 0, 5]),
-        (b"MP11", P, STRONG, W415, L50, [13, 1, 12]),
-        (b"MP12", P, STRONG, W415, L50, [11, 2, 13]),
-        (b"MP13", P, STRONG, W415, L50, [3, 8, 5]),
-        (b"MP14", P, STRONG, W415, L50, [4, 11, 5]),
-        (b"MN1", N, STRONG, W415, L50, [14, 0, 6]),
-        (b"MN2", N, STRONG, W415, L50, [14, 1, 6]),
-        (b"MN3", N, STRONG, W415, L50, [8, 2, 14]),
-        (b"MN4", N, STRONG, W415, L50, [15, 0, 6]),
-        (b"MN5", N, STRONG, W415, L50, [8, 1, 15]),
-        (b"MN6", N, STRONG, W415, L50, [16, 0, 6]),
-        (b"MN7", N, STRONG, W415, L50, [16, 1, 6]),
-        (b"MN8", N, STRONG, W415, L50, [16, 2, 6]),
-        (b"MN9", N, STRONG, W415, L50, [11, 8, 16]),
-        (b"MN10", N, STRONG, W415, L50, [17, 0, 6]),
-        (b"MN11", N, STRONG, W415, L50, [18, 1, 17]),
-        (b"MN12", N, STRONG, W415, L50, [11, 2, 18]),
-        (b"MN13", N, STRONG, W415, L50, [3, 8, 6]),
-        (b"MN14", N, STRONG, W415, L50, [4, 11, 6]),
+        (b"MP1", P, STRONGEST, W415, L50, [7, 0, 5]),
+        (b"MP2", P, STRONGEST, W415, L50, [7, 1, 5]),
+        (b"MP3", P, STRONGEST, W415, L50, [8, 2, 7]),
+        (b"MP4", P, STRONGEST, W415, L50, [9, 0, 5]),
+        (b"MP5", P, STRONGEST, W415, L50, [8, 1, 9]),
+        (b"MP6", P, STRONGEST, W415, L50, [10, 0, 5]),
+        (b"MP7", P, STRONGEST, W415, L50, [10, 1, 5]),
+        (b"MP8", P, STRONGEST, W415, L50, [10, 2, 5]),
+        (b"MP9", P, STRONGEST, W415, L50, [11, 8, 10]),
+        (b"MP10", P, STRONGEST, W415, L50, [12, 0, 5]),
+        (b"MP11", P, STRONGEST, W415, L50, [13, 1, 12]),
+        (b"MP12", P, STRONGEST, W415, L50, [11, 2, 13]),
+        (b"MP13", P, STRONGEST, W415, L50, [3, 8, 5]),
+        (b"MP14", P, STRONGEST, W415, L50, [4, 11, 5]),
+        (b"MN1", N, STRONGEST, W415, L50, [14, 0, 6]),
+        (b"MN2", N, STRONGEST, W415, L50, [14, 1, 6]),
+        (b"MN3", N, STRONGEST, W415, L50, [8, 2, 14]),
+        (b"MN4", N, STRONGEST, W415, L50, [15, 0, 6]),
+        (b"MN5", N, STRONGEST, W415, L50, [8, 1, 15]),
+        (b"MN6", N, STRONGEST, W415, L50, [16, 0, 6]),
+        (b"MN7", N, STRONGEST, W415, L50, [16, 1, 6]),
+        (b"MN8", N, STRONGEST, W415, L50, [16, 2, 6]),
+        (b"MN9", N, STRONGEST, W415, L50, [11, 8, 16]),
+        (b"MN10", N, STRONGEST, W415, L50, [17, 0, 6]),
+        (b"MN11", N, STRONGEST, W415, L50, [18, 1, 17]),
+        (b"MN12", N, STRONGEST, W415, L50, [11, 2, 18]),
+        (b"MN13", N, STRONGEST, W415, L50, [3, 8, 6]),
+        (b"MN14", N, STRONGEST, W415, L50, [4, 11, 6]),
     ],
 };
 
@@ -277,7 +277,7 @@ fn has_cell(library: &Library, cell: Expected) -> bool {
 /// Whether the cell's own text reads as a library of this cell alone.
 fn is_read_again(alloc: Global, cell: Expected) -> Result<bool, Fail> {
     let text = rewritten(alloc, ROW_LIBRARY, cell.name)?;
-    let read = read_library(alloc, text.as_bytes());
+    let read = read_library(alloc, &StrengthTable::default_table(), text.as_bytes());
     drop(text);
     let again = read.ok().ok_or("the text reads")?;
     let is_it = again.len() == 1 && has_cell(&again, cell);
@@ -288,7 +288,7 @@ fn is_read_again(alloc: Global, cell: Expected) -> Result<bool, Fail> {
 #[test]
 fn row_library_reads_and_is_written_and_read_again(rt: HostRuntime) -> Result<(), Fail> {
     let alloc = rt.alloc();
-    let library = read_library(alloc, ROW_LIBRARY)
+    let library = read_library(alloc, &StrengthTable::default_table(), ROW_LIBRARY)
         .ok()
         .ok_or("the text reads")?;
     assert_eq!(rt; library.len(), CELLS.len());

@@ -1,5 +1,6 @@
 //! Texts of cell netlists that have a reading.
 
+use ca_cell::StrengthTable;
 use ca_spice::read_library;
 use std::alloc::Global;
 
@@ -46,7 +47,7 @@ static READINGS: [(&[u8], usize); 13] = [
 
 /// The number of cells that a text has, if it has a reading.
 fn cells_of(alloc: Global, text: &[u8]) -> Option<usize> {
-    match read_library(alloc, text) {
+    match read_library(alloc, &StrengthTable::default_table(), text) {
         Ok(library) => Some(library.len()),
         Err(_) => None,
     }

@@ -2,25 +2,25 @@
 use Rattle.std.specs.Prelude.{ℕ, ◌≡◌, ◌<◌, ◌≤◌, ◌^◌, true, List, length, map}
 use Rattle.std.specs.List.{All}
 use Rattle.ca_lex.specs.Words.{upper_case}
+use Rattle.ca_net.specs.declared.scale.TheConstants.{WEAKEST, STRONGEST}
 use Rattle.ca_cell.specs.declared.raw.RawDevice.{RawDevice}
 use Rattle.ca_cell.specs.declared.raw.RawCell.{RawCell}
 use Rattle.ca_cell.specs.Rules.{PlacesWithin}
 use Rattle.ca_spice.specs.declared.subcircuit.Subcircuit.{Subcircuit}
-use Rattle.ca_spice.specs.Mos.{strength_of}
 use Rattle.ca_spice.specs.code.Mos.{has_gate}
 
--- the device has the strength that its width and length give it
-abbrev pub HasOwnStrength : RawDevice → Type 0
-HasOwnStrength device = device.strength ≡ strength_of device.width.0 device.length.0
+-- the device has the strength of some transistor
+abbrev pub HasClass : RawDevice → Type 0
+HasClass device = (WEAKEST ≤ device.strength) × (device.strength ≤ STRONGEST)
 
 -- there are at least as many nets as pins, terminals are places among the nets, and each device has a gate
--- and the strength of its sizes
+-- and the strength of some transistor
 pub record IsPlaced (pins : ℕ) (nets : List (List ℕ)) (devices : List RawDevice) : Type 0 where
   pub few_nets : length nets < 2 ^ 32
   pub few_devices : length devices < 2 ^ 32
   pub pins_within : pins ≤ length nets
   pub places : All (PlacesWithin (length nets)) devices
-  pub strengths : All HasOwnStrength devices
+  pub strengths : All HasClass devices
   pub gated : All (λ device. has_gate device.kind ≡ true) devices
 
 -- the same of a subcircuit

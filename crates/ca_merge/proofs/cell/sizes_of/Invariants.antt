@@ -9,6 +9,6 @@ abbrev pub invariant-loop-k : goal.invariant-loop-k
 invariant-loop-k l = record {
   devices : l.devices ≡ sum_by (λ u. length (cell_at (core_of l.of.chip.now) u).devices) (take l.k l.of.members.now);
   inner : l.inner ≡ sum_by (inner_count (core_of l.of.chip.now)) (take l.k l.of.members.now);
-  few_devices : l.devices ≤ 96 * l.k;
-  few_inner : l.inner ≤ 96 * l.k;
+  few_devices : l.devices ≤ 192 * l.k;
+  few_inner : l.inner ≤ 192 * l.k;
 }

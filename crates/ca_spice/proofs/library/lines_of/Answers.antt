@@ -10,15 +10,15 @@ use Rattle.ca_spice.proofs.library.lines_of.Goals as goal
 
 pub returns-in-Err : goal.returns-in-Err
 returns-in-Err c =
-    subst (λ (reported : Option SpiceFault). IsFault {Reading = Reading} reported (lines_from nothing c.args.lines.now)) (sym c.at.ensures)
-    (refused (located at_line line_step) (reading_seen c.lines.reading) c.args.lines.now c.lines.line-index c.line-item.result _ _ c.lines-test.true c.line-item.is
-    (located_fault at_line line_step c.line-item.result (reading_seen c.lines.reading) (kind_reported c.in-Err.refusal) c.in-Err.ensures) c.lines.invariant)
+    subst (λ (reported : Option SpiceFault). IsFault {Reading = Reading} reported (lines_from c.args.table.now nothing c.args.lines.now)) (sym c.at.ensures)
+    (refused (located at_line (line_step c.args.table.now)) (reading_seen c.lines.reading) c.args.lines.now c.lines.line-index c.line-item.result _ _ c.lines-test.true c.line-item.is
+    (located_fault at_line (line_step c.args.table.now) c.line-item.result (reading_seen c.lines.reading) (kind_reported c.in-Err.refusal) c.in-Err.ensures) c.lines.invariant)
 
 pub lines-preserved : goal.lines-preserved
 lines-preserved c =
-    goes_on (located at_line line_step) (reading_seen c.lines.reading) (reading_seen c.in-Ok.next) c.args.lines.now c.lines.line-index c.line-item.result _
+    goes_on (located at_line (line_step c.args.table.now)) (reading_seen c.lines.reading) (reading_seen c.in-Ok.next) c.args.lines.now c.lines.line-index c.line-item.result _
     c.lines-test.true c.line-item.is
-    (located_value at_line line_step c.line-item.result (reading_seen c.lines.reading) (reading_seen c.in-Ok.next) c.in-Ok.ensures) c.lines.invariant
+    (located_value at_line (line_step c.args.table.now) c.line-item.result (reading_seen c.lines.reading) (reading_seen c.in-Ok.next) c.in-Ok.ensures) c.lines.invariant
 
 pub returns : goal.returns
-returns c = ends (located at_line line_step) (reading_seen c.lines.reading) c.args.lines.now c.lines.line-index _ (omega arith) c.lines.invariant
+returns c = ends (located at_line (line_step c.args.table.now)) (reading_seen c.lines.reading) c.args.lines.now c.lines.line-index _ (omega arith) c.lines.invariant

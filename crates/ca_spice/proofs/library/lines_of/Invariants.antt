@@ -4,4 +4,4 @@ use Rattle.ca_spice.specs.code.Views.{reading_seen}
 use Rattle.ca_spice.proofs.library.lines_of.Given as goal
 
 abbrev pub invariant-lines : goal.invariant-lines
-invariant-lines l = lines_from (reading_seen l.reading) (drop l.line-index l.lines) ≡ lines_from nothing l.lines
+invariant-lines l = lines_from l.table (reading_seen l.reading) (drop l.line-index l.lines) ≡ lines_from l.table nothing l.lines

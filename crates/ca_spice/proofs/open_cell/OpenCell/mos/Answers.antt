@@ -10,7 +10,7 @@ pub returns-then-has-clause-read : goal.returns-then-has-clause-read
 returns-then-has-clause-read c =
     let there : has_device c.args.name.now c.args.self.devices ≡ true =
     known_device c.args.name.now c.args.self.device_names c.args.self.devices c.has.result c.args.self.named c.has.ensures ∙ c.if-has.true in
-    mos-double c.args.name.now (texts c.args.words.now) (cell_seen c.args.self) (wiring_seen c.in-Some.wiring) (sizes_seen c.in-Some-sizes_of.sizes)
+    mos-double c.args.table.now c.args.name.now (texts c.args.words.now) (cell_seen c.args.self) (wiring_seen c.in-Some.wiring) (sizes_seen c.in-Some-sizes_of.sizes)
     (sym c.in-Some.ensures.wiring) (sym c.in-Some-sizes_of.ensures) there
 
 pub with_device-requires-clause-new : goal.with_device-requires-clause-new
@@ -21,5 +21,5 @@ pub returns-clause-read : goal.returns-clause-read
 returns-clause-read c =
     let new : has_device c.args.name.now c.args.self.devices ≡ false =
     known_device c.args.name.now c.args.self.device_names c.args.self.devices c.has.result c.args.self.named c.has.ensures ∙ c.if-has.false in
-    mos-new c.args.name.now (texts c.args.words.now) (cell_seen c.args.self) (cell_seen c.in_ok-with_device.field-0) (wiring_seen c.in-Some.wiring)
+    mos-new c.args.table.now c.args.name.now (texts c.args.words.now) (cell_seen c.args.self) (cell_seen c.in_ok-with_device.field-0) (wiring_seen c.in-Some.wiring)
     (sizes_seen c.in-Some-sizes_of.sizes) (sym c.in-Some.ensures.wiring) (sym c.in-Some-sizes_of.ensures) new c.in_ok-with_device.ensures
