@@ -121,6 +121,7 @@ pub(crate) fn wiring_of<'a>(name: &[u8], words: &'a [&'a [u8]]) -> Option<Wiring
     })
 }
 
+#[tactic(auto, using(crate::proofs::MosLemmas::length_most))]
 fn length_at(key: &[u8], params: &[&[u8]]) -> Option<Length>
     ensures value { option_map (λ found. found.0) result ≡ length_at key.now (texts params.now) }
     ensures within { IfSome result (λ found. found.0 ≤ 10 ^ 24) }
