@@ -21,6 +21,10 @@ use itoa::Buffer;
 pub enum Fault {
     /// The words are those of no command.
     BadWords,
+    /// The strength table breaks its form. Records are counted from 1, and the header is the first.
+    Strengths {
+        row: usize,
+    },
     /// The cell netlist has no reading. Lines are counted from 1.
     Cells {
         line: usize,
@@ -149,7 +153,8 @@ impl Fault {
     {
         match self {
             Fault::BadWords => 1,
-            Fault::Cells { .. }
+            Fault::Strengths { .. }
+            | Fault::Cells { .. }
             | Fault::Netlist { .. }
             | Fault::Scan { .. }
             | Fault::Chip { .. }
@@ -218,7 +223,7 @@ impl Fault {
     {
         match self {
             Fault::Cells { line, .. } | Fault::Netlist { line, .. } => *line,
-            Fault::Scan { row } | Fault::Log { row } => *row,
+            Fault::Strengths { row } | Fault::Scan { row } | Fault::Log { row } => *row,
             Fault::Order { line } | Fault::Stil { line } => *line,
             Fault::Expected { pair, .. } => *pair as usize,
             Fault::Limit { count, .. } => *count,
@@ -261,6 +266,12 @@ impl Fault {
     {
         match self {
             Fault::BadWords => FaultText::plain(b"bad command line"),
+            Fault::Strengths { .. } => FaultText {
+                start: b"strengths: record ",
+                word: number,
+                end: &[],
+                last: &[],
+            },
             Fault::Cells { kind, .. } => FaultText {
                 start: b"cells: line ",
                 word: number,

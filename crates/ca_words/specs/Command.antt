@@ -1,7 +1,7 @@
 -- The command that words spell.
 use Rattle.std.specs.Prelude.{◌≡◌, ℕ, List}
 use Rattle.ca_load.specs.declared.loading.FileNames.{FileNames}
-use Rattle.ca_load.specs.Texts.{names_of}
+use Rattle.ca_load.specs.Texts.{cells_of, names_of}
 use Rattle.ca_words.specs.Budget.{HasBudget, HasChipNumber}
 use Rattle.ca_words.specs.declared.words.CellWords.{CellWords}
 use Rattle.ca_words.specs.declared.words.PairWords.{PairWords}
@@ -17,7 +17,7 @@ use Rattle.ca_words.specs.declared.words.Command.{Command}
 use Rattle.ca_words.specs.declared.words.Command.TheVariants.{Respond, Pair, Defects, Matrix, Check, Flatten}
 use Rattle.ca_words.specs.declared.words.Command.TheVariants.{Simulate, Atpg, Replay, Grade, Diagnose}
 use Rattle.ca_words.specs.declared.words.Command.TheVariants.{Make, Help, Version}
-use Rattle.ca_words.specs.Words.{cells_word, cell_word, vector_word, first_word, last_word, defect_word}
+use Rattle.ca_words.specs.Words.{cell_files, cell_word, vector_word, first_word, last_word, defect_word}
 use Rattle.ca_words.specs.Words.{out_word, dash}
 use Rattle.ca_words.specs.Words.{chip_files, instance_word, chip_defect_word, flat_out_word, chip_first_word}
 use Rattle.ca_words.specs.Words.{chip_last_word}
@@ -27,9 +27,9 @@ use Rattle.ca_words.specs.Words.{IsRespond, IsPair, IsDefects, IsMatrix, IsCheck
 use Rattle.ca_words.specs.Words.{IsAtpg, IsReplay, IsGrade, IsDiagnose}
 use Rattle.ca_words.specs.Words.{IsMake, IsHelp, IsVersion}
 
--- the file and the cell of a command are those of the words
+-- the files and the cell of a command are those of the words
 pub record HasCellWords (words : List (List ℕ)) (request : CellWords) : Type 0 where
-  pub cells : request.cells.now ≡ cells_word words
+  pub files : cells_of request.files ≡ cell_files words
   pub cell : request.cell.now ≡ cell_word words
 
 -- the words are these of `respond`, whose vector is both the first and the last one, without a defect

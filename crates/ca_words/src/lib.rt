@@ -4,6 +4,7 @@
 mod budget;
 mod checks;
 mod chip_words;
+mod prefix;
 mod words;
 
 pub use budget::{MOST_BUDGET, budget_of, chip_number_of};

@@ -1,0 +1,4 @@
+mod NumberLemmas
+mod RatioLemmas
+mod ReadLemmas
+mod AscendingLemmas
