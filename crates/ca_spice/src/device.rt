@@ -1,6 +1,6 @@
 //! A transistor more in a subcircuit.
 ghost use Rattle.std.specs.Prelude.{◌≡◌, ◌≤◌, true, false, [], ◌∷◌, ◌++◌, map, length, OnOk};
-ghost use Rattle.ca_spice.specs.code.Mos.{has_gate};
+ghost use Rattle.ca_spice.specs.code.Mos.{has_gate, AreSizes};
 ghost use Rattle.ca_spice.specs.code.Kept.{IsPlaced};
 ghost use Rattle.ca_spice.specs.OpenCell.{has_device, with_source, device_of};
 ghost use Rattle.ca_spice.specs.code.Views.{wiring_seen, sizes_seen};
@@ -28,6 +28,7 @@ pub(crate) fn add_device(
     requires distinct { has_device name.now devices.old ≡ false }
     requires placed { IsPlaced 0 nets.old devices.old }
     requires gate { has_gate wiring.kind ≡ true }
+    requires sizes { AreSizes sizes.width.0 sizes.length.0 }
 
     ensures nets { OnOk result (nets.new ≡ with_source (wiring_seen wiring.entry) nets.old) }
     ensures devices { OnOk result (devices.new

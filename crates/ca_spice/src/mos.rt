@@ -2,7 +2,7 @@
 ghost use Rattle.std.specs.Prelude.{◌≡◌, ◌≤◌, ◌+◌, ◌^◌, true, option_map, IfSome};
 ghost use Rattle.ca_spice.specs.Mos.{is_sign, are_params, count_of, value_of, are_sound, kind_of, wiring_of};
 ghost use Rattle.ca_spice.specs.Mos.{length_at, sizes_of};
-ghost use Rattle.ca_spice.specs.code.Mos.{has_gate};
+ghost use Rattle.ca_spice.specs.code.Mos.{has_gate, AreSizes};
 ghost use Rattle.ca_spice.specs.code.Names.{texts};
 ghost use Rattle.ca_spice.specs.code.Views.{wiring_seen, sizes_seen};
 
@@ -25,8 +25,6 @@ pub(crate) struct Wiring<'a> {
 pub(crate) struct Sizes {
     pub width: Length,
     pub length: Length,
-    ghost width_within: { width.0 ≤ 10 ^ 24 },
-    ghost length_within: { length.0 ≤ 10 ^ 24 },
 }
 
 pub(crate) fn is_sign(word: &[u8]) -> bool
@@ -132,7 +130,8 @@ fn length_at(key: &[u8], params: &[&[u8]]) -> Option<Length>
 /// W and L, if both are there and are lengths.
 #[tactic(auto, unfolding(crate::specs::Mos::sizes_of))]
 pub(crate) fn sizes_of(params: &[&[u8]]) -> Option<Sizes>
-    ensures { option_map sizes_seen result ≡ sizes_of (texts params.now) }
+    ensures sizes { option_map sizes_seen result ≡ sizes_of (texts params.now) }
+    ensures within { IfSome result (λ sizes. AreSizes sizes.width.0 sizes.length.0) }
 {
     let width = length_at(b"W", params)?;
     let length = length_at(b"L", params)?;

@@ -1,6 +1,6 @@
 //! The subcircuit that is being read.
 ghost use Rattle.std.specs.Prelude.{◌≡◌, true, map, length};
-ghost use Rattle.ca_spice.specs.code.Mos.{has_gate};
+ghost use Rattle.ca_spice.specs.code.Mos.{has_gate, AreSizes};
 ghost use Rattle.ca_spice.specs.code.Kept.{IsPlaced};
 ghost use Rattle.ca_spice.specs.code.Names.{texts};
 ghost use Rattle.ca_spice.specs.OpenCell.{is_ended_by};
@@ -101,6 +101,7 @@ impl OpenCell {
     ) -> Result<Self, NoMemory>
         requires new { has_device name.now self.devices ≡ false }
         requires gate { has_gate wiring.kind ≡ true }
+        requires sizes { AreSizes sizes.width.0 sizes.length.0 }
         ensures { IfOk result (λ cell. cell_seen cell
             ≡ with_device table.now name.now (wiring_seen wiring.entry) (sizes_seen sizes) (cell_seen self)) }
     {

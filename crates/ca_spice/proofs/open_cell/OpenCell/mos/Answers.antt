@@ -11,7 +11,7 @@ returns-then-has-clause-read c =
     let there : has_device c.args.name.now c.args.self.devices ≡ true =
     known_device c.args.name.now c.args.self.device_names c.args.self.devices c.has.result c.args.self.named c.has.ensures ∙ c.if-has.true in
     mos-double c.args.table.now c.args.name.now (texts c.args.words.now) (cell_seen c.args.self) (wiring_seen c.in-Some.wiring) (sizes_seen c.in-Some-sizes_of.sizes)
-    (sym c.in-Some.ensures.wiring) (sym c.in-Some-sizes_of.ensures) there
+    (sym c.in-Some.ensures.wiring) (sym c.in-Some-sizes_of.ensures.sizes) there
 
 pub with_device-requires-clause-new : goal.with_device-requires-clause-new
 with_device-requires-clause-new c =
@@ -22,4 +22,4 @@ returns-clause-read c =
     let new : has_device c.args.name.now c.args.self.devices ≡ false =
     known_device c.args.name.now c.args.self.device_names c.args.self.devices c.has.result c.args.self.named c.has.ensures ∙ c.if-has.false in
     mos-new c.args.table.now c.args.name.now (texts c.args.words.now) (cell_seen c.args.self) (cell_seen c.in_ok-with_device.field-0) (wiring_seen c.in-Some.wiring)
-    (sizes_seen c.in-Some-sizes_of.sizes) (sym c.in-Some.ensures.wiring) (sym c.in-Some-sizes_of.ensures) new c.in_ok-with_device.ensures
+    (sizes_seen c.in-Some-sizes_of.sizes) (sym c.in-Some.ensures.wiring) (sym c.in-Some-sizes_of.ensures.sizes) new c.in_ok-with_device.ensures
