@@ -8,7 +8,7 @@ use Rattle.ca_flow.specs.declared.finished.Done.TheVariants.{Respond, Pair, Defe
 use Rattle.ca_flow.specs.declared.finished.Done.TheVariants.{Simulate, Atpg, Replay, Grade}
 use Rattle.ca_flow.specs.declared.finished.Done.TheVariants.{Diagnose, Make, Help, Version}
 use Rattle.ca_flow.specs.declared.finished.Finished.{Finished}
-use Rattle.ca_words.specs.Words.{cells_word, cell_word, vector_word, first_word, last_word, defect_word, dash}
+use Rattle.ca_words.specs.Words.{cell_files, cell_word, vector_word, first_word, last_word, defect_word, dash}
 use Rattle.ca_words.specs.Words.{chip_files, instance_word, chip_defect_word, chip_first_word, chip_last_word}
 use Rattle.ca_words.specs.Words.{stil_word, log_word, budget_word, order_word, number_word}
 use Rattle.ca_words.specs.Words.{IsRespond, IsPair, IsDefects, IsMatrix, IsCheck, IsFlatten, IsSimulate}
@@ -29,17 +29,17 @@ use Rattle.ca_on_chip.specs.Making.{AreMadeTests}
 use Rattle.ca_flow.specs.Fault.{Outside, IsCause}
 use Rattle.ca_flow.specs.Complete.{Completes}
 
--- the work that is reported is that of the command, on the cell that the words name in the file that they
+-- the work that is reported is that of the command, on the cell that the words name in the files that they
 -- name, or on the chip that their files give
 abbrev pub IsAsked : List (List ℕ) → Option Files → Done → Type 0
-IsAsked words files (Respond values) = IsRespond words × OfCell files (cells_word words) (cell_word words)
+IsAsked words files (Respond values) = IsRespond words × OfCell files (cell_files words) (cell_word words)
     (AreValues (vector_word words) (vector_word words) dash values)
-IsAsked words files (Pair values) = IsPair words × OfCell files (cells_word words) (cell_word words)
+IsAsked words files (Pair values) = IsPair words × OfCell files (cell_files words) (cell_word words)
     (AreValues (first_word words) (last_word words) (defect_word words) values)
 IsAsked words files (Defects names) =
-    IsDefects words × OfCell files (cells_word words) (cell_word words) (AreDefectNames names)
+    IsDefects words × OfCell files (cell_files words) (cell_word words) (AreDefectNames names)
 IsAsked words files (Matrix matrix) =
-    IsMatrix words × OfCell files (cells_word words) (cell_word words) (IsSoundMatrix matrix)
+    IsMatrix words × OfCell files (cell_files words) (cell_word words) (IsSoundMatrix matrix)
 IsAsked words files (Check chip chains) =
     IsCheck words × (AreAllChains chip chains × IsChipOfFiles files (chip_files words) chip)
 IsAsked words files (Flatten chip net) = IsFlatten words

@@ -120,7 +120,7 @@ module _ (files : Option Files) (reported : Files) (are : files ≡ Some reporte
       ]
 
   -- the strength table, where there is one
-  at_strengths : (name : Option (List ℕ)) (table : StrengthTable) → strengths_in name reported ≡ Some table → (fault : Fault)
+  pub at_strengths : (name : Option (List ℕ)) (table : StrengthTable) → strengths_in name reported ≡ Some table → (fault : Fault)
       → IsStrengthsCause name files before after fault → IsOutsideFault fault before after
   at_strengths None table is fault cause = absurd cause
   at_strengths (Some name) table is fault cause =

@@ -1,5 +1,5 @@
 -- What the files of a command on a chip read as.
-use Rattle.std.specs.Prelude.{◌≡◌, ℕ, nat_le, List, [], length, map, Option, Some, None, IsSome, IsSomeAnd}
+use Rattle.std.specs.Prelude.{◌≡◌, ◌⊎◌, ℕ, nat_le, List, [], length, map, Option, Some, None, IsSome, IsSomeAnd}
 use Rattle.std.specs.Prelude.{Result, Ok, Err, if◌then◌else◌}
 use Rattle.std.specs.List.{All}
 use Rattle.std.specs.Option.{ForSome, option_copied}
@@ -27,6 +27,10 @@ use Rattle.ca_load.specs.Files.{IsFileWith, OfFile}
 pub record CellFiles : Type 0 where
   pub table : Option (List ℕ)
   pub name : List ℕ
+
+-- the name is that of one of these files
+abbrev pub IsCellFile : CellFiles → List ℕ → Type 0
+IsCellFile names name = (names.table ≡ Some name) ⊎ (name ≡ names.name)
 
 -- the names, as they were typed
 abbrev pub cells_of : CellNames → CellFiles
