@@ -376,6 +376,6 @@ read_again table name raw it keeps = writable_again table (upper_case name) raw 
 -- so is the text of a call that gives one
 pub read_written : {E : Type 0} (result : Result (List ℕ) E) (name : List ℕ) (raw cell : RawCell) → raw ≡ cell → IfOk result (λ text. text ≡ cell_text (upper_case name) raw)
     → KeepsRules cell → IfOk result (λ text. (table : StrengthTable) → IsReadable table name cell → library_of table text ≡ Ok (kept_as name cell ∷ []))
-read_written (Ok text) name raw cell same is keeps table it =
+read_written (Ok text) name raw cell same is keeps = λ table it.
     ap (library_of table) (is ∙ ap (cell_text (upper_case name)) same) ∙ read_again table name cell it keeps
 read_written (Err fault) name raw cell same is keeps = tt
