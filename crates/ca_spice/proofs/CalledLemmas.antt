@@ -26,4 +26,4 @@ called_in_library (named ∷ more) name =
 -- what a word names in a text that reads as a library's subcircuits
 pub called_of_library : (table : StrengthTable) → (bytes word : List ℕ) (library : List Named) → library_of table bytes ≡ Ok (map subcircuit_seen library)
     → cell_called table bytes word ≡ option_map raw_of (entry_of library (upper_case word))
-called_of_library table bytes word library reads = rw (cell_called table, reads) (called_in_library library (upper_case word))
+called_of_library table bytes word library reads = rw (cell_called, reads) (called_in_library library (upper_case word))

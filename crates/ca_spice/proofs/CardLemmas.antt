@@ -231,7 +231,7 @@ mos_found table name words cell next is = by_wiring (wiring_of name words) refl 
     by_sizes wiring wired None sized is = absurd cc
     by_sizes wiring wired (Some sizes) sized is =
         let rule = kept_value (has_device name cell.devices) DoubleName (with_device table name wiring sizes cell) next is in
-        record { wiring = wiring; sizes = sizes; wired = wired table; sized = sized; new = rule.0; is = rule.1 }
+        record { wiring = wiring; sizes = sizes; wired = wired; sized = sized; new = rule.0; is = rule.1 }
 
     by_wiring : (found : Option Wiring) → wiring_of name words ≡ found
         → elim found as (λ _. Result OpenCell SpiceKind) [ None ↦ Err BadCard | Some wiring ↦ wired table name wiring cell ] ≡ Ok next → IsMos table name words cell next

@@ -84,8 +84,8 @@ transistor kind.P strength gate least most = (least, most)
 transistor kind.D strength gate least most = absurd cc
 
 -- and so is one whose strength a table gave
-pub class_of : (table : StrengthTable) (width channel : ℕ) (device : RawDevice) → device.strength ≡ strength_of table width channel → HasClass device
-class_of table width channel device is =
+pub class_of : (table : StrengthTable) (width channel strength : ℕ) → strength ≡ strength_of table width channel → (WEAKEST ≤ strength) × (strength ≤ STRONGEST)
+class_of table width channel strength is =
     let least = strength_of-least table width channel in
     let most = strength_of-most table width channel in
     (omega (arith, is, least), omega (arith, is, most))

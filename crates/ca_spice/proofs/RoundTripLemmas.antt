@@ -374,7 +374,8 @@ pub read_again : (table : StrengthTable) → (name : List ℕ) (raw : RawCell) �
 read_again table name raw it keeps = writable_again table (upper_case name) raw (readable_writable table name raw it) keeps
 
 -- so is the text of a call that gives one
-pub read_written : (table : StrengthTable) → {E : Type 0} (result : Result (List ℕ) E) (name : List ℕ) (raw cell : RawCell) → raw ≡ cell → IfOk result (λ text. text ≡ cell_text (upper_case name) raw)
-    → IsReadable table name cell → KeepsRules cell → IfOk result (λ text. library_of table text ≡ Ok (kept_as name cell ∷ []))
-read_written table (Ok text) name raw cell same is it keeps = ap (library_of table) (is ∙ ap (cell_text (upper_case name)) same) ∙ read_again table name cell it keeps
-read_written table (Err fault) name raw cell same is it keeps = is
+pub read_written : {E : Type 0} (result : Result (List ℕ) E) (name : List ℕ) (raw cell : RawCell) → raw ≡ cell → IfOk result (λ text. text ≡ cell_text (upper_case name) raw)
+    → KeepsRules cell → IfOk result (λ text. (table : StrengthTable) → IsReadable table name cell → library_of table text ≡ Ok (kept_as name cell ∷ []))
+read_written (Ok text) name raw cell same is keeps = λ table it.
+    ap (library_of table) (is ∙ ap (cell_text (upper_case name)) same) ∙ read_again table name cell it keeps
+read_written (Err fault) name raw cell same is keeps = tt

@@ -100,12 +100,12 @@ nets_extend wiring nets =
 -- the device of a card
 abbrev new_card : (table : StrengthTable) → (name : List ℕ) (wiring : Wiring) (sizes : Sizes) (nets : List (List ℕ)) → IsNameWord name → card_of name ≡ card.Mos → IsWired name wiring → sizes_of wiring.params ≡ Some sizes
     → IsCard table (with_source wiring nets) (device_of table name wiring sizes nets)
-new_card table name wiring sizes nets named (mos table) wired sized =
+new_card table name wiring sizes nets named mos wired sized =
     let size = sizes_found wiring.params sizes sized in
     let to_source = with_name-extends wiring.source (with_gate wiring nets) in
     record {
       named = named;
-      mos = mos table;
+      mos = mos;
       kind = wired.kind;
       width = size.0;
       channel = size.1;
@@ -119,7 +119,7 @@ new_card table name wiring sizes nets named (mos table) wired sized =
 again_grown : (table : StrengthTable) → (cell_name : List ℕ) (pins nets : List (List ℕ)) (devices : List RawDevice) (name : List ℕ) (wiring : Wiring) (sizes : Sizes)
     → ReadsAgain table cell_name pins nets devices → IsNameWord name → card_of name ≡ card.Mos → IsWired name wiring → sizes_of wiring.params ≡ Some sizes
     → has_device name devices ≡ false → ReadsAgain table cell_name pins (with_source wiring nets) (devices ++ device_of table name wiring sizes nets ∷ [])
-again_grown table cell_name pins nets devices name wiring sizes again named (mos table) wired sized new p_bulk n_bulk later line shown p_is n_is =
+again_grown table cell_name pins nets devices name wiring sizes again named mos wired sized new p_bulk n_bulk later line shown p_is n_is =
     let longer : List (List ℕ) = with_source wiring nets in
     let all : List (List ℕ) = longer ++ later in
     let device : RawDevice = device_of table name wiring sizes nets in
@@ -128,7 +128,7 @@ again_grown table cell_name pins nets devices name wiring sizes again named (mos
     let before : steps_from (device_step table p_bulk n_bulk all) (open_with line cell_name shown pins []) devices ≡ Ok (open_with line cell_name shown nets devices) =
     subst (λ (names : List (List ℕ)). steps_from (device_step table p_bulk n_bulk names) (open_with line cell_name shown pins []) devices ≡ Ok (open_with line cell_name shown nets devices))
     (sym split) (again p_bulk n_bulk (grown.more ++ later) line shown p_is n_is) in
-    let it : IsCard table longer device = new_card table name wiring sizes nets named (mos table) wired sized in
+    let it : IsCard table longer device = new_card table name wiring sizes nets named mos wired sized in
     let read : device_step table p_bulk n_bulk all device (open_with line cell_name shown nets devices)
     ≡ Ok (with_device table name (written_wiring all device) (written_sizes device) (open_with line cell_name shown nets devices)) =
     mos-written table all (bulk_of p_bulk n_bulk device.kind) device (open_with line cell_name shown nets devices) (card_more table longer later device it)
@@ -147,7 +147,7 @@ again_grown table cell_name pins nets devices name wiring sizes again named (mos
 pub writable_grown : (table : StrengthTable) → (cell_name : List ℕ) (pins nets : List (List ℕ)) (devices : List RawDevice) (name : List ℕ) (wiring : Wiring) (sizes : Sizes)
     → IsWritable table cell_name pins nets devices → IsNameWord name → card_of name ≡ card.Mos → IsWired name wiring → sizes_of wiring.params ≡ Some sizes
     → has_device name devices ≡ false → IsWritable table cell_name pins (with_source wiring nets) (devices ++ device_of table name wiring sizes nets ∷ [])
-writable_grown table cell_name pins nets devices name wiring sizes it named (mos table) wired sized new =
+writable_grown table cell_name pins nets devices name wiring sizes it named mos wired sized new =
     let grown : Extends nets (with_source wiring nets) = nets_extend wiring nets in
     record {
       named = it.named;
@@ -156,8 +156,8 @@ writable_grown table cell_name pins nets devices name wiring sizes it named (mos
       distinct = it.distinct;
       cards = all_append (IsCard table (with_source wiring nets)) devices (device_of table name wiring sizes nets ∷ [])
           (subst (λ (names : List (List ℕ)). AllByRecursion (IsCard table names) devices) (sym grown.is) (cards_more table nets grown.more devices it.cards))
-          (new_card table name wiring sizes nets named (mos table) wired sized, tt);
-      again = again_grown table cell_name pins nets devices name wiring sizes it.again named (mos table) wired sized new;
+          (new_card table name wiring sizes nets named mos wired sized, tt);
+      again = again_grown table cell_name pins nets devices name wiring sizes it.again named mos wired sized new;
       names = names_grown table pins nets devices name wiring sizes it.names wired new;
     }
 

@@ -15,4 +15,4 @@ returns-clause-placed c =
     placed_grown _ c.args.nets.now c.add.new.self c.add-2.new.self c.add-3.new.self c.add-4.new.self c.args.devices.now c.push.new.self _ c.requires.placed
     c.in_ok-push.ensures.ok named c.in_ok-add.ensures.few c.in_ok-source.ensures.few
     (longer _ _ _ c.in_ok-drain.ensures.names) (longer _ _ _ c.in_ok-gate.ensures.names) (longer _ _ _ c.in_ok-source.ensures.names)
-    c.in_ok-drain.ensures.within c.in_ok-gate.ensures.within c.in_ok-source.ensures.within (class_of _ _ _ _ c.strength.ensures) c.requires.gate
+    c.in_ok-drain.ensures.within c.in_ok-gate.ensures.within c.in_ok-source.ensures.within (class_of c.args.table.now c.args.sizes.width.0 c.args.sizes.length.0 c.strength.result c.strength.ensures) c.requires.gate
