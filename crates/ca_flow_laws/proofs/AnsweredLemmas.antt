@@ -4,6 +4,7 @@ use Rattle.std.proofs.Common.{true≢false}
 use Rattle.std.specs.Prelude.{IfSome, IsSome, IsSomeAnd}
 use Rattle.ca_store.specs.Store.{Files}
 use Rattle.ca_cell.specs.declared.raw.RawCell.{RawCell}
+use Rattle.ca_cell.specs.declared.strength.StrengthTable.{StrengthTable}
 use Rattle.ca_spice.specs.Called.{cell_called}
 use Rattle.ca_net.specs.declared.trit.Trit.{Trit}
 use Rattle.ca_flat.specs.declared.chip_defect.ChipDefect.{ChipDefect}
@@ -12,12 +13,14 @@ use Rattle.ca_linked.specs.Linked.{LinkedChip}
 use Rattle.ca_core.specs.Core.{core_of}
 use Rattle.ca_fault.specs.declared.fault.Fault.{Fault}
 use Rattle.ca_load.specs.declared.cells.TheConstants.{MAX_CELLS}
+use Rattle.ca_load.specs.Files.{IsFileWith}
+use Rattle.ca_load.specs.Texts.{strengths_in}
 use Rattle.ca_load.specs.Chips.{IsTraced}
 use Rattle.ca_request.specs.Asked.{FitsInputs, defect_called, IsAskedDefect}
 use Rattle.ca_chip_replay.specs.ChipRun.{RunOf}
 use Rattle.ca_order.specs.declared.event.Event.{Event}
 use Rattle.ca_simulate.specs.OneRun.{ReadsRun}
-use Rattle.ca_words.specs.Words.{cells_word, cell_word, vector_word, first_word, last_word, defect_word, dash, chip_files, instance_word}
+use Rattle.ca_words.specs.Words.{table_word, cells_word, cell_files, cell_word, vector_word, first_word, last_word, defect_word, dash, chip_files, instance_word}
 use Rattle.ca_words.specs.Words.{chip_defect_word, chip_first_word, chip_last_word, order_word, stil_word, log_word}
 use Rattle.ca_words.specs.Words.{IsCheck, IsFlatten, IsSimulate, IsAtpg, IsReplay, IsGrade, IsDiagnose, IsOnChip}
 use Rattle.ca_scan.specs.ChainFault.{AreAllChains}
@@ -234,17 +237,23 @@ module _ (words : List (List ℕ)) (reported : Files) (chip also : LinkedChip) (
 
 module _ (words : List (List ℕ)) (files : Option Files) (reported : Files) (are : files ≡ Some reported) where
   -- what holds of the subcircuit, in another's place
-  weaker : (P : RawCell → Type 0) → ((raw : RawCell) → P raw → FitsCell words raw) → OfCell files (cells_word words) (cell_word words) P → FitsFile words reported
-  weaker P next held = by (reported (cells_word words)) (held reported are)
+  weaker : (P : RawCell → Type 0) → ((raw : RawCell) → P raw → FitsCell words raw) → OfCell files (cell_files words) (cell_word words) P → FitsFile words reported
+  weaker P next held = by_table (strengths_in (table_word words) reported) (held reported are)
     where
       by_cell : (called : Option RawCell) → IsSomeAnd called P → IsSomeAnd called (FitsCell words)
       by_cell None held = held
       by_cell (Some raw) held = next raw held
 
-      by : (file : Option (List ℕ)) → IsSomeAnd file (λ bytes. (length bytes ≤ MAX_CELLS) × HasCell (cell_word words) P bytes)
-          → IsSomeAnd file (λ bytes. (length bytes ≤ MAX_CELLS) × HasCell (cell_word words) (FitsCell words) bytes)
-      by None held = held
-      by (Some bytes) held = (held.0, by_cell (cell_called bytes (cell_word words)) held.1)
+      by : (table : StrengthTable) (file : Option (List ℕ)) → IsSomeAnd file (λ bytes. (length bytes ≤ MAX_CELLS) × HasCell (cell_word words) P table bytes)
+          → IsSomeAnd file (λ bytes. (length bytes ≤ MAX_CELLS) × HasCell (cell_word words) (FitsCell words) table bytes)
+      by table None held = held
+      by table (Some bytes) held = (held.0, by_cell (cell_called table bytes (cell_word words)) held.1)
+
+      by_table : (under : Option StrengthTable)
+          → IsSomeAnd under (λ table. IsFileWith reported (cells_word words) MAX_CELLS (HasCell (cell_word words) P table))
+          → IsSomeAnd under (λ table. IsFileWith reported (cells_word words) MAX_CELLS (HasCell (cell_word words) (FitsCell words) table))
+      by_table None held = held
+      by_table (Some table) held = by table (reported (cells_word words)) held
 
   of_file : FitsFile words reported → IsAnswerable words files
   of_file fits = inr (subst (λ it. IsSomeAnd it (λ reported. FitsFile words reported ⊎ FitsChip words reported)) (sym are) (inl fits))

@@ -1,6 +1,7 @@
 pub mod CoreLemmas
 pub mod NamedLemmas
 pub mod FileLemmas
+pub mod StrengthsLemmas
 pub mod LinkLemmas
 pub mod OneLemmas
 pub mod LoadLemmas

@@ -8,7 +8,7 @@ use Rattle.ca_fault.specs.declared.fault.Fault.TheVariants.{NoCell, Cell, BadVec
 use Rattle.ca_fault.specs.declared.fault.Fault.TheVariants.{Order, Stil, StilChip, Expected, Log, TooLong, TooManyPairs}
 use Rattle.ca_fault.specs.declared.fault.Fault.TheVariants.{Limit, StoreFailed, SinkFailed, NoMemory}
 use Rattle.ca_load.specs.Causes.{IsScanCause, IsLoadCause}
-use Rattle.ca_words.specs.Words.{cells_word, cell_word, vector_word, first_word, last_word, defect_word, dash, chip_files, IsAtpg, IsMake}
+use Rattle.ca_words.specs.Words.{cell_files, cell_word, vector_word, first_word, last_word, defect_word, dash, chip_files, IsAtpg, IsMake}
 use Rattle.ca_words.proofs.WordLemmas.{no_chip, no_asking_cell, no_asking_chip}
 use Rattle.ca_on_cell.specs.Causes.{IsCellCause, IsValueCause}
 use Rattle.ca_on_chip.specs.OnChip.{OfChip, IsPairsFault, IsPairsCause}
@@ -51,13 +51,22 @@ IsGenerating words files fault =
 
 -- where a fault has pairs
 module _ (words : List (List ℕ)) (pairs : _) (aims : _) (files : Option Files) (before after : ℕ) where
-  no_cell : IsCellCause (cells_word words) (cell_word words) files before after (TooManyPairs pairs aims) → ⊥
-  no_cell (inl (inl read)) = read
-  no_cell (inl (inr text)) = text
+  no_strengths : (table : Option (List ℕ)) → IsStrengthsCause table files before after (TooManyPairs pairs aims) → ⊥
+  no_strengths None cause = cause
+  no_strengths (Some name) (inl read) = read
+  no_strengths (Some name) (inr text) = text
+
+  no_library : (names : CellFiles) → IsLibraryCause names files before after (TooManyPairs pairs aims) → ⊥
+  no_library names (inl table) = no_strengths names.table table
+  no_library names (inr (inl (has, read))) = read
+  no_library names (inr (inr text)) = text
+
+  no_cell : IsCellCause (cell_files words) (cell_word words) files before after (TooManyPairs pairs aims) → ⊥
+  no_cell (inl library) = no_library (cell_files words) library
   no_cell (inr named) = named
 
   no_value : (first last defect : List ℕ)
-      → IsValueCause (cells_word words) (cell_word words) first last defect files before after (TooManyPairs pairs aims) → ⊥
+      → IsValueCause (cell_files words) (cell_word words) first last defect files before after (TooManyPairs pairs aims) → ⊥
   no_value first last defect (inl cell) = no_cell cell
   no_value first last defect (inr own) = own
 
@@ -67,8 +76,7 @@ module _ (words : List (List ℕ)) (pairs : _) (aims : _) (files : Option Files)
   no_scan (Some name) (inr rows) = rows
 
   no_load_cause : IsLoadCause (chip_files words) files before after (TooManyPairs pairs aims) → ⊥
-  no_load_cause (inl (inl (inl read))) = read
-  no_load_cause (inl (inl (inr text))) = text
+  no_load_cause (inl (inl library)) = no_library (cell_files words) library
   no_load_cause (inl (inr (inl (has, inl read)))) = read
   no_load_cause (inl (inr (inl (has, inr text)))) = text
   no_load_cause (inl (inr (inr (has, (too, cause))))) = no_scan (chip_files words).scan cause

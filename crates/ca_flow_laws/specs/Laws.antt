@@ -1,6 +1,7 @@
 -- Laws of causes and of names, each the contract of a function that does nothing (src/laws.rt).
 use Rattle.std.specs.Prelude.{◌≡◌, ◌⊎◌, ℕ, List, Some, IsSomeAnd}
 use Rattle.ca_cell.specs.declared.raw.RawCell.{RawCell}
+use Rattle.ca_cell.specs.declared.strength.StrengthTable.{StrengthTable}
 use Rattle.ca_cell.specs.Rules.{KeepsRules}
 use Rattle.ca_defect.specs.Laws.{DefectsDiffer}
 use Rattle.ca_spice.specs.Called.{cell_called}
@@ -34,7 +35,7 @@ AnswerableHasNoCause =
 abbrev pub HasInputCause : List (List ℕ) → Outside → Type 0
 HasInputCause words outside = (fault : Fault) × (IsInputFault fault × IsCause words outside outside fault)
 
--- a command, but one on a chip, whose file is there can be answered, or a fault of input has a cause
+-- a command, but one on a chip, whose files are there can be answered, or a fault of input has a cause
 abbrev pub SomeCauseOrAnswer : Type 0
 SomeCauseOrAnswer =
     (words : List (List ℕ)) (outside : Outside) → ReportsAllFiles words outside
@@ -56,8 +57,8 @@ CauseIsReported =
     → IsCause words before after fault → IsSomeAnd end.fault
     (λ reported. IsCallFault reported ⊎ IsSame reported fault)
 
--- of each cell that a word names in a text, and that keeps the rules, the defects have names that differ
+-- of each cell that a word names in a text that is read under a table, and that keeps the rules, the defects have names that differ
 abbrev pub NamesMeanOneDefect : Type 0
 NamesMeanOneDefect =
-    (bytes word : List ℕ) (raw : RawCell) → cell_called bytes word ≡ Some raw → KeepsRules raw
-    → DefectsDiffer raw
+    (table : StrengthTable) (bytes word : List ℕ) (raw : RawCell) → cell_called table bytes word ≡ Some raw
+    → KeepsRules raw → DefectsDiffer raw

@@ -16,7 +16,7 @@ pub fn answerable_has_no_cause()
     ensures { AnswerableHasNoCause }
 {}
 
-/// A command, but one on a chip, whose file is there can be answered, or a fault of the contents has a cause.
+/// A command, but one on a chip, whose files are there can be answered, or a fault of the contents has a cause.
 pub fn some_cause_or_answer()
     ensures { SomeCauseOrAnswer }
 {}
