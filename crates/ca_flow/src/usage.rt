@@ -40,6 +40,7 @@ CELLS is a netlist of transistors, in SPICE or CDL; a vector has 0, 1 or X per i
 NETLIST is a netlist of gates, in Verilog; SCAN is a table of scan cells, as CSV, or -.
 INSTANCE is one of a cell, and DEFECT one of its defects, or both are -.
 BUDGET is how many branches each search may have, at most 65536.
+The words strengths TABLE before a command but make read CELLS under a table of five ratios.
 The word --progress before a command tells on the standard error how far atpg, grade,
 diagnose or make is.
 ORDER has the events of one run: settle and blur with nodes, set with a node and a value.
