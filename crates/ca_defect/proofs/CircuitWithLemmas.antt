@@ -101,7 +101,7 @@ named_kept nodes (OpenSource opened) place device named =
     (omega arith, omega arith, omega arith) (omega arith, omega arith, omega arith)
 named_kept nodes (OpenGate opened) place device named =
     let long = length-append nodes (Storage INNER_NODE ∷ []) in
-    either_holds (NamesWithin (length (nodes ++ Storage INNER_NODE ∷ []))) (place == opened.0) (gate_on (length nodes) device) device
+    either_holds (NamesWithin (length (nodes ++ Storage INNER_NODE ∷ []))) (is_gated device && place == opened.0) (gate_on (length nodes) device) device
     (omega arith, omega arith, omega arith) (omega arith, omega arith, omega arith)
 named_kept nodes (OpenPin pin) place device named =
     let long = length-append nodes (Storage INNER_NODE ∷ []) in

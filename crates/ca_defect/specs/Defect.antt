@@ -40,11 +40,12 @@ abbrev pub gate_on : ℕ → Device → Device
 gate_on n device = record device { gate = record { 0 = n } }
 
 -- the device at a place of the list, with the defect: one terminal of one device is on the new node, or each
--- gate of a transistor that was on the pin
+-- gate of a transistor that was on the pin; only transistors have gates
 abbrev pub device_with : Defect → ℕ → ℕ → Device → Device
 device_with (OpenDrain opened) new place device = if place == opened.0 then drain_on new device else device
 device_with (OpenSource opened) new place device = if place == opened.0 then source_on new device else device
-device_with (OpenGate opened) new place device = if place == opened.0 then gate_on new device else device
+device_with (OpenGate opened) new place device =
+    if is_gated device && place == opened.0 then gate_on new device else device
 device_with (OpenPin pin) new place device =
     if is_gated device && device.gate.0 == pin.0 then gate_on new device else device
 device_with (Short low high) new place device = device

@@ -39,7 +39,7 @@ pub fn changed_device(defect: Defect, new: NodeId, place: DeviceId, device: Devi
     match defect {
         Defect::OpenDrain(opened) if place.0 == opened.0 => drain_on(new, device),
         Defect::OpenSource(opened) if place.0 == opened.0 => Device { b: new, ..device },
-        Defect::OpenGate(opened) if place.0 == opened.0 => Device {
+        Defect::OpenGate(opened) if has_gate(device.kind) && place.0 == opened.0 => Device {
             gate: new,
             ..device
         },
