@@ -55,7 +55,7 @@ at_loaded names stil log files before after fault cause = inl cause
 pub no_memory : (names : InputFiles) (stil log : List ℕ) (files : Option Files) (before after : ℕ) (fault : Fault)
     → fault ≡ NoMemory → IsDiagnosedCause names stil log files before after fault
 no_memory names stil log files before after fault memory =
-    subst (IsDiagnosedCause names stil log files before after) (sym memory) (inl (inl (inl (inl (inl tt)))))
+    inl (inl (inl (inl (inl memory))))
 
 -- patterns of the chip of the files that are wrong, or have no log
 pub at_logged : (files mid : Option Files) (names : InputFiles) (stil log : List ℕ) (before between after : ℕ) (chip : LinkedChip)

@@ -71,11 +71,15 @@ at_table_stage None typed files before after cause = absurd cause
 at_table_stage (Some name) typed files before after (inl read) = ap Some (sym read.0)
 at_table_stage (Some name) typed files before after (inr text) = absurd text
 
+store_is_memory : (typed : List ℕ) → StoreFailed typed ≡ NoMemory → ⊥
+store_is_memory typed same = cc
+
 at_library_stage : (names : CellFiles) (typed : List ℕ) (files : Option Files) (before after : ℕ)
     → IsLibraryCause names files before after (StoreFailed typed) → IsCellFile names typed
-at_library_stage names typed files before after (inl table) = inl (at_table_stage names.table typed files before after table)
-at_library_stage names typed files before after (inr (inl (has, read))) = inr read.0
-at_library_stage names typed files before after (inr (inr text)) = absurd text
+at_library_stage names typed files before after (inl memory) = absurd (store_is_memory typed memory)
+at_library_stage names typed files before after (inr (inl table)) = inl (at_table_stage names.table typed files before after table)
+at_library_stage names typed files before after (inr (inr (inl (has, read)))) = inr read.0
+at_library_stage names typed files before after (inr (inr (inr text))) = absurd text
 
 at_cell_stage : (names : CellFiles) (word typed : List ℕ) (files : Option Files) (before after : ℕ)
     → IsCellCause names word files before after (StoreFailed typed) → IsCellFile names typed

@@ -175,9 +175,10 @@ module _ (words : List (List ℕ)) (files : Option Files) (seen : HasSeen words 
   module _ (before after : Outside) (quiet_store : ¬ (Rose before.store_faults after.store_faults))
       (quiet_sink : ¬ (Rose before.sink_faults after.sink_faults)) (fault : Fault) where
     at_cell : IsCellCause (cell_files words) (cell_word words) files before.store_faults after.store_faults fault → fault ≡ NoMemory
-    at_cell (inl (inl table)) = at_table before.store_faults after.store_faults quiet_store fault table
-    at_cell (inl (inr (inl (has, read)))) = at_read before.store_faults after.store_faults quiet_store fault read
-    at_cell (inl (inr (inr text))) = absurd (at_text fault text)
+    at_cell (inl (inl memory)) = memory
+    at_cell (inl (inr (inl table))) = at_table before.store_faults after.store_faults quiet_store fault table
+    at_cell (inl (inr (inr (inl (has, read))))) = at_read before.store_faults after.store_faults quiet_store fault read
+    at_cell (inl (inr (inr (inr text)))) = absurd (at_text fault text)
     at_cell (inr name) = absurd (at_name fault name)
 
     at_value : (first last defect : List ℕ) → Fits seen.raw first → Fits seen.raw last → IsSome (asked_network seen.raw defect)

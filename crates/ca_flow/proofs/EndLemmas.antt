@@ -9,7 +9,7 @@ use Rattle.ca_store.specs.Writing.{ChangesOnly, MayWrite}
 use Rattle.ca_flat_text.specs.FlatText.{flat_text}
 use Rattle.ca_matrix.specs.Text.{text_of}
 use Rattle.ca_fault.specs.declared.fault.Fault.{Fault}
-use Rattle.ca_fault.specs.declared.fault.Fault.TheVariants.{BadWords, Cells, Netlist, Scan, Chip, Chain}
+use Rattle.ca_fault.specs.declared.fault.Fault.TheVariants.{BadWords, Strengths, Cells, Netlist, Scan, Chip, Chain}
 use Rattle.ca_fault.specs.declared.fault.Fault.TheVariants.{NoCell, Cell, BadVector, NoInstance, NoDefect}
 use Rattle.ca_fault.specs.declared.fault.Fault.TheVariants.{Order, Stil, StilChip, Expected, Log, TooLong}
 use Rattle.ca_fault.specs.declared.fault.Fault.TheVariants.{TooManyPairs, Limit, StoreFailed}
@@ -39,6 +39,7 @@ use Rattle.ca_flow.proofs.CauseLemmas.{out_is_unread}
 -- no fault has the status of work that is whole
 status_is_reported : (fault : Fault) → status_of fault ≡ 0 → ⊥
 status_is_reported BadWords zero = cc
+status_is_reported (Strengths row) zero = cc
 status_is_reported (Cells line kind) zero = cc
 status_is_reported (Netlist line kind) zero = cc
 status_is_reported (Scan row) zero = cc

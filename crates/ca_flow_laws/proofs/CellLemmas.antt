@@ -267,11 +267,12 @@ module _ (words : List (List ℕ)) where
 
     module _ (fault : Fault) (is : IsInputFault fault) where
       pub of_cell : IsCellCause (cell_files words) (cell_word words) files before after fault → AtCellFiles words given fault
-      of_cell (inl (inl table)) =
+      of_cell (inl (inl memory)) = absurd (subst IsInputFault memory is)
+      of_cell (inl (inr (inl table))) =
           of_strengths files reported are (cell_files words) given agree (ReportsCell words) fault before after is table
-      of_cell (inl (inr (inl (has, read)))) =
+      of_cell (inl (inr (inr (inl (has, read))))) =
           of_cells_read files reported are (cell_files words) given agree (ReportsCell words) fault before after is has read
-      of_cell (inl (inr (inr text))) = of_text fault text
+      of_cell (inl (inr (inr (inr text)))) = of_text fault text
       of_cell (inr name) = of_name fault name
 
       of_value : (first last defect : List ℕ) → AreAsked words first last defect

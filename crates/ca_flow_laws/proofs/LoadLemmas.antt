@@ -260,10 +260,11 @@ module _ (files : Option Files) (reported : Files) (are : files ≡ Some reporte
     of_lines fault cause = absurd cause
 
     of_library : IsLibraryCause names.cells files before after fault → AtCells names.cells given ReportsCells fault
-    of_library (inl table) = of_strengths files reported are names.cells given agree_cells ReportsCells fault before after input table
-    of_library (inr (inl (has, read))) =
+    of_library (inl memory) = absurd (subst IsInputFault memory input)
+    of_library (inr (inl table)) = of_strengths files reported are names.cells given agree_cells ReportsCells fault before after input table
+    of_library (inr (inr (inl (has, read)))) =
         of_cells_read files reported are names.cells given agree_cells ReportsCells fault before after input has read
-    of_library (inr (inr text)) = of_lines fault text
+    of_library (inr (inr (inr text))) = of_lines fault text
 
     has_cells : HasLibrary files names.cells → HasCells names given
     has_cells = of_cells files reported are names.cells given agree_cells (λ table bytes. IsOk (library_of table bytes))

@@ -187,21 +187,21 @@ module _ (words : List (List ℕ)) (outside : Outside) (reported : Files) (are :
               entries = All-from_recursion (λ named. IsEntry named.entry) made.library made.entries;
             })) (in_cells found.0 (λ table bytes. IsOk (library_of table bytes)) found.1 within (rw is refl))
         read within (Err (spice.At line kind)) is =
-            no_load (Cells line kind) tt (inl (inl (inr (inr (in_cells found.0 (IsTextCause (Cells line kind)) found.1 within is)))))
+            no_load (Cells line kind) tt (inl (inl (inr (inr (inr (in_cells found.0 (IsTextCause (Cells line kind)) found.1 within is))))))
         read within (Err (spice.TooManyCells count)) is =
-            no_load (Limit limit.Cells count) tt (inl (inl (inr (inr (in_cells found.0 (IsTextCause (Limit limit.Cells count)) found.1 within is)))))
+            no_load (Limit limit.Cells count) tt (inl (inl (inr (inr (inr (in_cells found.0 (IsTextCause (Limit limit.Cells count)) found.1 within is))))))
         read within (Err spice.NoMemory) is = reading_has_memory table found.0 is
 
         by : (length found.0 ≤ MAX_CELLS) ⊎ (MAX_CELLS < length found.0) → ⊥
         by (inl within) = read within (library_of table found.0) refl
         by (inr past) = no_load (TooLong (cells_word words) (MAX_CELLS + 1)) tt
-            (inl (inl (inr (inl (has_strengths, too_long (cells_word words) found.0 MAX_CELLS found.1 past)))))
+            (inl (inl (inr (inr (inl (has_strengths, too_long (cells_word words) found.0 MAX_CELLS found.1 past))))))
 
   -- the first files
   cells_or : ((library : List Named) → AreCellsWith reported (cell_files words) (IsLibraryOf library)
       → HasLibrary outside.files (cell_files words) → ⊥) → ⊥
   cells_or refutes = strengths_or (table_word words) (λ name is. inr (inl (on, inl (inl is))))
-      (λ fault is cause. no_load fault is (inl (inl (inl cause)))) (λ table under. under_or table under refutes)
+      (λ fault is cause. no_load fault is (inl (inl (inr (inl cause))))) (λ table under. under_or table under refutes)
 
   -- the second
   netlist_or : HasLibrary outside.files (chip_files words).cells → ((netlist : RawNetlist)

@@ -3,11 +3,12 @@ use Rattle.std.proofs.Common.{ℕ, ◌≡◌, ◌⊎◌, inl, inr, refl, List, O
 use Rattle.std.specs.Prelude.{IsSomeAnd}
 use Rattle.ca_store.specs.Store.{Files}
 use Rattle.ca_fault.specs.declared.fault.Fault.{Fault}
-use Rattle.ca_fault.specs.declared.fault.Fault.TheVariants.{BadWords, Cells, Netlist, Scan, Chip, Chain}
+use Rattle.ca_fault.specs.declared.fault.Fault.TheVariants.{BadWords, Strengths, Cells, Netlist, Scan, Chip, Chain}
 use Rattle.ca_fault.specs.declared.fault.Fault.TheVariants.{NoCell, Cell, BadVector, NoInstance, NoDefect}
 use Rattle.ca_fault.specs.declared.fault.Fault.TheVariants.{Order, Stil, StilChip, Expected, Log, TooLong, TooManyPairs}
 use Rattle.ca_fault.specs.declared.fault.Fault.TheVariants.{Limit, StoreFailed, SinkFailed, NoMemory}
-use Rattle.ca_load.specs.Causes.{IsScanCause, IsLoadCause}
+use Rattle.ca_load.specs.Texts.{CellFiles}
+use Rattle.ca_load.specs.Causes.{IsStrengthsCause, IsLibraryCause, IsScanCause, IsLoadCause}
 use Rattle.ca_words.specs.Words.{cell_files, cell_word, vector_word, first_word, last_word, defect_word, dash, chip_files, IsAtpg, IsMake}
 use Rattle.ca_words.proofs.WordLemmas.{no_chip, no_asking_cell, no_asking_chip}
 use Rattle.ca_on_cell.specs.Causes.{IsCellCause, IsValueCause}
@@ -22,6 +23,7 @@ use Rattle.ca_flow_laws.proofs.ExactLemmas.{AtWords, of_cause}
 -- a fault is one of a call or of memory, one of input, or has pairs
 pub kind_of_fault : (fault : Fault) → IsCallFault fault ⊎ (IsInputFault fault ⊎ IsPairsFault fault)
 kind_of_fault BadWords = inr (inl tt)
+kind_of_fault (Strengths row) = inr (inl tt)
 kind_of_fault (Cells line kind) = inr (inl tt)
 kind_of_fault (Netlist line kind) = inr (inl tt)
 kind_of_fault (Scan row) = inr (inl tt)
@@ -57,9 +59,10 @@ module _ (words : List (List ℕ)) (pairs : _) (aims : _) (files : Option Files)
   no_strengths (Some name) (inr text) = text
 
   no_library : (names : CellFiles) → IsLibraryCause names files before after (TooManyPairs pairs aims) → ⊥
-  no_library names (inl table) = no_strengths names.table table
-  no_library names (inr (inl (has, read))) = read
-  no_library names (inr (inr text)) = text
+  no_library names (inl memory) = cc
+  no_library names (inr (inl table)) = no_strengths names.table table
+  no_library names (inr (inr (inl (has, read)))) = read
+  no_library names (inr (inr (inr text))) = text
 
   no_cell : IsCellCause (cell_files words) (cell_word words) files before after (TooManyPairs pairs aims) → ⊥
   no_cell (inl library) = no_library (cell_files words) library

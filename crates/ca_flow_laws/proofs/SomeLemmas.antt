@@ -106,7 +106,7 @@ module _ (words : List (List ℕ)) (outside : Outside) (reported : Files) (are :
 
     too_long : MAX_CELLS < length bytes → Stands words outside
     too_long past = cell_cause (TooLong (cells_word words) (MAX_CELLS + 1)) tt
-        (inl (inr (inl (has_strengths, read_too_long (cells_word words) bytes MAX_CELLS there past))))
+        (inl (inr (inr (inl (has_strengths, read_too_long (cells_word words) bytes MAX_CELLS there past)))))
 
     module _ (within : length bytes ≤ MAX_CELLS) where
       -- what holds of the table and of the bytes holds of the files
@@ -117,9 +117,9 @@ module _ (words : List (List ℕ)) (outside : Outside) (reported : Files) (are :
 
       at_fault : (fault : SpiceFault) → library_of table bytes ≡ Err fault → Stands words outside
       at_fault (spice.At line kind) reads =
-          cell_cause (Cells line kind) tt (inl (inr (inr (of_bytes (IsTextCause (Cells line kind)) reads))))
+          cell_cause (Cells line kind) tt (inl (inr (inr (inr (of_bytes (IsTextCause (Cells line kind)) reads)))))
       at_fault (spice.TooManyCells count) reads =
-          cell_cause (Limit limit.Cells count) tt (inl (inr (inr (of_bytes (IsTextCause (Limit limit.Cells count)) reads))))
+          cell_cause (Limit limit.Cells count) tt (inl (inr (inr (inr (of_bytes (IsTextCause (Limit limit.Cells count)) reads)))))
       at_fault spice.NoMemory reads = absurd (reading_has_memory table bytes reads)
 
       at_missing : IsOk (library_of table bytes) → cell_called table bytes (cell_word words) ≡ None → Stands words outside
@@ -243,7 +243,7 @@ module _ (words : List (List ℕ)) (outside : Outside) (reported : Files) (are :
 
   stands : ((name : List ℕ) → IsCellFile (cell_files words) name → IsSome (reported name)) → Stands words outside
   stands there = table_or (table_word words) (λ name is. there name (inl is))
-      (λ fault is cause. cell_cause fault is (inl (inl cause)))
+      (λ fault is cause. cell_cause fault is (inl (inr (inl cause))))
       (λ table under. by table under (reported (cells_word words)) refl (there (cells_word words) (inr refl)))
     where
       by : (table : StrengthTable) → strengths_in (table_word words) reported ≡ Some table → (file : Option (List ℕ))

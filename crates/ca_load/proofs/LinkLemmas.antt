@@ -10,7 +10,6 @@ use Rattle.ca_load.specs.Texts.{InputFiles, Inputs, OfInputs}
 use Rattle.ca_load.specs.code.Texts.{AreRead}
 use Rattle.ca_load.specs.Chips.{IsChipOf}
 use Rattle.ca_load.specs.Causes.{IsLoadCause}
-use Rattle.ca_load.proofs.TableLemmas.{memory_at_library}
 use Rattle.ca_load.specs.code.Stages.{IsLinkStage, IsTraceStage, IsLinkedStage}
 
 -- inputs that don't link
@@ -44,7 +43,7 @@ of_read files names inputs Holds read holds = λ reported is. (inputs, (read rep
 pub at_inputs : (names : InputFiles) (files : Option Files) (before after : ℕ) (inputs : Inputs) (fault : Fault)
     → AreRead files names inputs → IsLinkedStage inputs fault → IsLoadCause names files before after fault
 at_inputs names files before after inputs fault read (inl memory) =
-    rw memory (inl (inl (memory_at_library names.cells files before after)))
+    inl (inl (inl memory))
 at_inputs names files before after inputs fault read (inr (is, cause)) =
     inr (is, of_read files names inputs _ read cause)
 

@@ -8,13 +8,13 @@ use Rattle.ca_cell.specs.declared.strength.StrengthTable.{StrengthTable}
 use Rattle.ca_cell.specs.Strength.{default_table}
 use Rattle.ca_strengths.specs.StrengthText.{strengths_of}
 use Rattle.ca_fault.specs.declared.fault.Fault.{Fault}
-use Rattle.ca_fault.specs.declared.fault.Fault.TheVariants.{Cells, Limit, NoMemory}
+use Rattle.ca_fault.specs.declared.fault.Fault.TheVariants.{Cells, Limit}
 use Rattle.ca_fault.specs.declared.fault.LimitKind.TheVariants as limit
 use Rattle.ca_load.specs.declared.cells.TheConstants.{MAX_CELLS}
 use Rattle.ca_load.specs.declared.strengths.TheConstants.{MAX_STRENGTHS}
 use Rattle.ca_load.specs.Files.{OfFile}
 use Rattle.ca_load.specs.Texts.{CellFiles, table_read, table_within, strengths_in, HasStrengths, OfCells}
-use Rattle.ca_load.specs.Causes.{IsTextCause, IsCellsCause, IsLibraryCause}
+use Rattle.ca_load.specs.Causes.{IsTextCause, IsCellsCause, IsStrengthsCause, IsLibraryCause}
 use Rattle.ca_load.specs.code.Texts.{IsTableText, IsStrengthsAt}
 use Rattle.ca_load.specs.code.Stages.{IsFileStage, IsLineStage}
 
@@ -62,6 +62,11 @@ pub named_at : (files : Option Files) (name : List ℕ) (table : StrengthTable) 
 unfolding strengths_in
 named_at files name table read = λ reported is. table_of_file (reported name) table (read reported is)
 
+-- a strength table that wasn't read
+pub at_strengths : (files : Option Files) (names : CellFiles) (before after : ℕ) (fault : Fault)
+    → IsStrengthsCause names.table files before after fault → IsLibraryCause names files before after fault
+at_strengths files names before after fault cause = inr (inl cause)
+
 module _ (files : Option Files) (names : CellFiles) (table : StrengthTable) (under : IsStrengthsAt files names.table table) where
   pub has_strengths : HasStrengths files names.table
   has_strengths = λ reported is. rw (under reported is) refl
@@ -83,13 +88,5 @@ module _ (files : Option Files) (names : CellFiles) (table : StrengthTable) (und
       by here
     where
       by : IsFileStage table names.name files before after fault → IsLibraryCause names files before after fault
-      by (inl read) = inr (inl (has_strengths, read))
-      by (inr line) = inr (inr (line_cause fault line))
-
--- memory may run out at any file
-pub memory_at_library : (names : CellFiles) (files : Option Files) (before after : ℕ) → IsLibraryCause names files before after NoMemory
-memory_at_library names files before after = by names.table refl
-  where
-    by : (table : Option (List ℕ)) → names.table ≡ table → IsLibraryCause names files before after NoMemory
-    by None is = rw is (inr (inl ((λ reported told. rw (default_at files reported told) refl), tt)))
-    by (Some name) is = rw is (inl (inl tt))
+      by (inl read) = inr (inr (inl (has_strengths, read)))
+      by (inr line) = inr (inr (inr (line_cause fault line)))

@@ -136,9 +136,10 @@ module _ (files : Option Files) (reported : Files) (are : files ≡ Some reporte
           → IsSomeAnd under (λ table. IsFileWith reported names.name MAX_CELLS (IsLibraryOf a table)) → IsOutsideFault fault before after
       by None is held = absurd held
       by (Some table) is held = elim cause [
-        | inl strengths ↦ at_strengths names.table table is fault strengths
-        | inr (inl (has, read)) ↦ at_file names.name MAX_CELLS (IsLibraryOf a table) held fault ⊥ (λ bytes there holds none. none) (inl read)
-        | inr (inr text) ↦ at_file names.name MAX_CELLS (IsLibraryOf a table) held fault (IsCellsCause names files fault)
+        | inl memory ↦ inl memory
+        | inr (inl strengths) ↦ at_strengths names.table table is fault strengths
+        | inr (inr (inl (has, read))) ↦ at_file names.name MAX_CELLS (IsLibraryOf a table) held fault ⊥ (λ bytes there holds none. none) (inl read)
+        | inr (inr (inr text)) ↦ at_file names.name MAX_CELLS (IsLibraryOf a table) held fault (IsCellsCause names files fault)
             (λ bytes there holds. at_cells names table is bytes there a holds fault) (inr text)
       ]
 

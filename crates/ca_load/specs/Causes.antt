@@ -11,7 +11,7 @@ use Rattle.ca_scan.specs.Table.{table_of}
 use Rattle.ca_fault.specs.declared.fault.LimitKind.TheVariants as limit
 use Rattle.ca_fault.specs.declared.fault.Fault.{Fault}
 use Rattle.ca_fault.specs.declared.fault.Fault.TheVariants.{Strengths, Cells, Netlist, Scan, Chip}
-use Rattle.ca_fault.specs.declared.fault.Fault.TheVariants.{Chain, Cell, Limit}
+use Rattle.ca_fault.specs.declared.fault.Fault.TheVariants.{Chain, Cell, Limit, NoMemory}
 use Rattle.ca_load.specs.declared.cells.TheConstants.{MAX_CELLS}
 use Rattle.ca_load.specs.declared.netlists.TheConstants.{MAX_NETLIST}
 use Rattle.ca_load.specs.declared.tables.TheConstants.{MAX_SCAN}
@@ -53,13 +53,14 @@ IsCellsCause names files (Cells line kind) = OfCells files names (IsTextCause (C
 IsCellsCause names files (Limit limit.Cells count) = OfCells files names (IsTextCause (Limit limit.Cells count))
 IsCellsCause names files _ = ⊥
 
--- why files give no library: the first gives no strength table; the second could not be read, or its text
--- has no reading under the table
+-- why files give no library: there was no memory; the first gives no strength table; the second could not be
+-- read, or its text has no reading under the table
 abbrev pub IsLibraryCause : CellFiles → Option Files → ℕ → ℕ → Fault → Type 0
 IsLibraryCause names files before after fault =
-    IsStrengthsCause names.table files before after fault
+    (fault ≡ NoMemory)
+    ⊎ (IsStrengthsCause names.table files before after fault
     ⊎ ((HasStrengths files names.table × IsReadCause names.name files MAX_CELLS before after fault)
-    ⊎ IsCellsCause names files fault)
+    ⊎ IsCellsCause names files fault))
 
 -- why the text of a gate netlist has no reading: its first faulty token, or its number of bits where these
 -- are too many

@@ -1,5 +1,5 @@
 -- How the causes of a command on one cell follow from those of its stages.
-use Rattle.std.proofs.Common.{ℕ, ◌≡◌, ◌≢◌, ◌⊎◌, inl, inr, List, Option, Some, true≢false, subst}
+use Rattle.std.proofs.Common.{ℕ, ◌≡◌, ◌≢◌, ◌⊎◌, inl, inr, refl, List, Option, Some, true≢false, subst}
 use Rattle.std.specs.Prelude.{IsNone}
 use Rattle.ca_store.specs.Store.{Files}
 use Rattle.ca_lex.specs.Words.{upper_case}
@@ -11,7 +11,6 @@ use Rattle.ca_fault.specs.declared.fault.Fault.TheVariants.{NoCell, Cell, BadVec
 use Rattle.ca_load.specs.Texts.{CellFiles, OfCells, IsLibraryOf}
 use Rattle.ca_load.specs.Causes.{IsLibraryCause}
 use Rattle.ca_request.specs.Vectors.{dash}
-use Rattle.ca_load.proofs.TableLemmas.{memory_at_library}
 use Rattle.ca_on_cell.specs.Outputs.{asked_network}
 use Rattle.ca_on_cell.specs.Causes.{BreaksAt, IsCellCause, IsFirstUnfit, IsPairCause, IsVectorCause, IsValueCause}
 use Rattle.ca_on_cell.specs.Stages.{IsEntryCause}
@@ -27,11 +26,6 @@ typed_of raw first last typed (inr unfit) = inr unfit.0
 no_dash : (raw : RawCell) (defect : List ℕ) → IsNone (asked_network raw defect) → defect ≢ dash
 no_dash raw defect none = λ same. true≢false (subst (λ word. IsNone (asked_network raw word)) same none)
 
--- memory may run out anywhere
-pub no_memory_at_library : (names : CellFiles) (files : Option Files) (before after : ℕ) (fault : Fault) → fault ≡ NoMemory
-    → IsLibraryCause names files before after fault
-no_memory_at_library names files before after fault is = rw is (memory_at_library names files before after)
-
 module _ (names : CellFiles) (word : List ℕ) (files : Option Files) (library : List Named)
     (read : OfCells files names (IsLibraryOf library)) (before after : ℕ) where
   -- a word that finds no cell in the library that was read finds none in the file
@@ -43,7 +37,7 @@ module _ (names : CellFiles) (word : List ℕ) (files : Option Files) (library :
         of_entry files names word library read (Refused refuses.raw rule) (BreaksAt rule place) refuses.found
             (record { broken = refuses.broken; placed = refuses.placed }),
       )
-  of_entry_cause NoMemory cause = inl (memory_at_library names files before after)
+  of_entry_cause NoMemory cause = inl (inl refl)
   of_entry_cause fault cause = absurd cause
 
   -- a cell of the library without values is one of the file
@@ -61,5 +55,5 @@ module _ (names : CellFiles) (word : List ℕ) (files : Option Files) (library :
 
     pub of_evaluation : (fault : Fault) → IsEvaluationCause first last defect raw fault
         → IsValueCause names word first last defect files before after fault
-    of_evaluation fault (inl none) = rw none (inl (inl (memory_at_library names files before after)))
+    of_evaluation fault (inl none) = inl (inl (inl none))
     of_evaluation fault (inr cause) = inr (at_pair fault cause)

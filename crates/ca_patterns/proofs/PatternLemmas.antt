@@ -104,4 +104,4 @@ at_wrong files names stil before after chip chains file (Expected pair output) h
           (λ bytes is. record { file = file; is = is; few = few; wrong = wrong }) patterns),
     ))
 at_wrong files names stil before after chip chains file fault held all patterns few memory =
-    subst (IsLoadedCause names stil files before after) (sym memory) (inl (inl (inl (inl tt))))
+    inl (inl (inl (inl memory)))
