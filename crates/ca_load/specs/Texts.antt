@@ -1,6 +1,6 @@
 -- What the files of a command on a chip read as.
 use Rattle.std.specs.Prelude.{◌≡◌, ◌⊎◌, ℕ, nat_le, List, [], length, map, Option, Some, None, IsSome, IsSomeAnd}
-use Rattle.std.specs.Prelude.{Result, Ok, Err, if◌then◌else◌}
+use Rattle.std.specs.Prelude.{Result, Ok, Err, if◌then◌else◌, unwrap_or}
 use Rattle.std.specs.List.{All}
 use Rattle.std.specs.Option.{ForSome, option_copied}
 use Rattle.ca_store.specs.Store.{Files}
@@ -16,6 +16,7 @@ use Rattle.ca_wiring.specs.declared.scan_row.ScanRow.{ScanRow}
 use Rattle.ca_scan.specs.Table.{table_of}
 use Rattle.ca_load.specs.declared.loading.FileNames.{FileNames}
 use Rattle.ca_load.specs.declared.cells.CellNames.{CellNames}
+use Rattle.ca_load.specs.declared.cells.TypedCells.{TypedCells}
 use Rattle.ca_load.specs.declared.strengths.TheConstants.{MAX_STRENGTHS}
 use Rattle.ca_load.specs.declared.cells.TheConstants.{MAX_CELLS}
 use Rattle.ca_load.specs.declared.netlists.TheConstants.{MAX_NETLIST}
@@ -35,6 +36,11 @@ IsCellFile names name = (names.table ≡ Some name) ⊎ (name ≡ names.name)
 -- the names, as they were typed
 abbrev pub cells_of : CellNames → CellFiles
 cells_of names = record { table = option_copied names.table; name = names.name.now }
+
+-- the names of a cell netlist's files stand in memory of their own; where none is named it is empty
+pub record AreTypedCells (names : CellFiles) (typed : TypedCells) : Type 0 where
+  pub table_is : typed.table ≡ unwrap_or names.table []
+  pub name_is : typed.name ≡ names.name
 
 -- the table, where a text reads as one
 abbrev pub table_read : Result StrengthTable ℕ → Option StrengthTable

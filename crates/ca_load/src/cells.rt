@@ -3,9 +3,8 @@ ghost use Rattle.std.specs.Prelude.{◌≡◌, Some, map, IfErr, IfOk, OnOk};
 ghost use Rattle.ca_cell.specs.Library.{raw_of};
 ghost use Rattle.ca_store.specs.Store.{Nothing};
 ghost use Rattle.ca_load.specs.Files.{OfFile, ReportsStoreFault};
-ghost use Rattle.ca_load.specs.Texts.{cells_of, OfCells, IsLibraryOf};
+ghost use Rattle.ca_load.specs.Texts.{cells_of, AreTypedCells, OfCells, IsLibraryOf};
 ghost use Rattle.ca_load.specs.Causes.{IsLibraryCause};
-ghost use Rattle.ca_load.specs.code.Texts.{AreTypedCells};
 ghost use Rattle.ca_load.specs.code.Stages.{IsFileStage, IsCellsStage};
 
 use crate::files::read_input;

@@ -6,8 +6,7 @@ use Rattle.ca_cell.specs.declared.rule.CellRule.{CellRule}
 use Rattle.ca_cell.specs.declared.library.Entry.TheVariants.{Refused}
 use Rattle.ca_cell.specs.Library.{Named, entry_of}
 use Rattle.ca_cell.specs.Rules.{IsFirstBroken}
-use Rattle.ca_load.specs.Texts.{CellFiles}
-use Rattle.ca_load.specs.code.Texts.{AreTypedCells}
+use Rattle.ca_load.specs.Texts.{CellFiles, AreTypedCells}
 use Rattle.ca_on_cell.specs.declared.inputs.TypedWords.{TypedWords}
 use Rattle.ca_fault.specs.declared.fault.Fault.{Fault}
 use Rattle.ca_fault.specs.declared.fault.Fault.TheVariants.{NoCell, Cell, NoMemory}

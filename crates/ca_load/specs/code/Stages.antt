@@ -10,8 +10,7 @@ use Rattle.ca_load.specs.declared.cells.TheConstants.{MAX_CELLS}
 use Rattle.ca_load.specs.declared.reading.TypedNames.{TypedNames}
 use Rattle.ca_load.specs.declared.reading.Read.{Read}
 use Rattle.ca_load.specs.Files.{OfFile, IsReadCause}
-use Rattle.ca_load.specs.Texts.{InputFiles, Inputs}
-use Rattle.ca_load.specs.code.Texts.{AreTypedCells}
+use Rattle.ca_load.specs.Texts.{AreTypedCells, InputFiles, Inputs}
 use Rattle.ca_load.specs.Chips.{IsLinkingCause, IsTracingCause, IsChipCause}
 use Rattle.ca_load.specs.Causes.{IsRatioCause, IsTextCause, IsModuleCause, IsRecordCause}
 use Rattle.ca_load.specs.Causes.{IsChipFault}
