@@ -258,16 +258,13 @@ fn files_called<'a>(
     scan: &'a str,
 ) -> FileNames<'a>
     ensures { names_of result ≡ record {
-        cells = record { table = option_copied table; name = cells.now };
-        netlist = netlist.now;
-        scan = file_called scan.now;
+      cells = record { table = option_copied table; name = cells.now };
+      netlist = netlist.now;
+      scan = file_called scan.now;
     } }
 {
     FileNames {
-        cells: CellNames {
-            table,
-            name: cells,
-        },
+        cells: CellNames { table, name: cells },
         netlist,
         scan: file_called(scan),
     }

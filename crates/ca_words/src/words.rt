@@ -235,10 +235,7 @@ fn cell_called<'a>(table: Option<&'a str>, cells: &'a str, cell: &'a str) -> Cel
     ensures cell { result.cell.now ≡ cell.now }
 {
     CellWords {
-        files: CellNames {
-            table,
-            name: cells,
-        },
+        files: CellNames { table, name: cells },
         cell,
     }
 }
@@ -271,7 +268,11 @@ fn parse_pair(words: &[String]) -> Option<PairWords<'_>>
     let [command, cells, cell, first, last, defect] = command_words(words) else {
         return None;
     };
-    if command.as_str() == "pair" && are_cell_files(table, cells) && is_vector(first) && is_vector(last) {
+    if command.as_str() == "pair"
+        && are_cell_files(table, cells)
+        && is_vector(first)
+        && is_vector(last)
+    {
         Some(PairWords {
             of: cell_called(table, cells, cell),
             first: first.as_str(),
