@@ -14,7 +14,7 @@ use Rattle.ca_words.proofs.chip_words.parse_atpg.Goals.{else-eq-via-else-eq}
 pub returns-then-ne-clause-found : goal.returns-then-ne-clause-found
 returns-then-ne-clause-found c =
     let seven : length c.command_words.result.now ≡ 7 = omega (arith, c.in-len7.len_at_least, c.in-len7.len_below) in
-    let table = sym c.table_word.ensures in
+    let table = sym c.table_word-table.ensures in
     let command = word_of string_bytes (map string_bytes c.args.words.now) c.command_words.result.now c.command_words.ensures 0 c.command-item.result (omega (arith, seven)) c.command-item.is in
     let cells = word_of string_bytes (map string_bytes c.args.words.now) c.command_words.result.now c.command_words.ensures 1 c.cells-item.result (omega (arith, seven)) c.cells-item.is in
     let netlist = word_of string_bytes (map string_bytes c.args.words.now) c.command_words.result.now c.command_words.ensures 2 c.netlist-item.result (omega (arith, seven)) c.netlist-item.is in
@@ -48,7 +48,7 @@ returns-in_default-budget_of-clause-none c = λ _ is.
 pub returns-else-eq-clause-none : goal.returns-else-eq-clause-none
 returns-else-eq-clause-none c = λ _ is.
     let seven : length c.command_words.result.now ≡ 7 = omega (arith, c.in-len7.len_at_least, c.in-len7.len_below) in
-    let table_is = sym c.table_word.ensures in
+    let table_is = sym c.table_word-table.ensures in
     let command_is = word_of string_bytes (map string_bytes c.args.words.now) c.command_words.result.now c.command_words.ensures 0 c.command-item.result (omega (arith, seven)) c.command-item.is in
     let cells_is = word_of string_bytes (map string_bytes c.args.words.now) c.command_words.result.now c.command_words.ensures 1 c.cells-item.result (omega (arith, seven)) c.cells-item.is in
     let netlist_is = word_of string_bytes (map string_bytes c.args.words.now) c.command_words.result.now c.command_words.ensures 2 c.netlist-item.result (omega (arith, seven)) c.netlist-item.is in
@@ -56,11 +56,11 @@ returns-else-eq-clause-none c = λ _ is.
     let stil_is = word_of string_bytes (map string_bytes c.args.words.now) c.command_words.result.now c.command_words.ensures 4 c.stil-item.result (omega (arith, seven)) c.stil-item.is in
     let report_is = word_of string_bytes (map string_bytes c.args.words.now) c.command_words.result.now c.command_words.ensures 5 c.report-item.result (omega (arith, seven)) c.report-item.is in
     let command = sym command_is ∙ is.command in
-    let files : AreChipFiles (option_copied c.table_word.result) (string_bytes c.cells-item.result) (string_bytes c.netlist-item.result) (string_bytes c.scan-item.result) =
+    let files : AreChipFiles (option_copied c.table_word-table.result) (string_bytes c.cells-item.result) (string_bytes c.netlist-item.result) (string_bytes c.scan-item.result) =
     rw (table_is, cells_is, netlist_is, scan_is) at is.files in
-    let stil : IsOtherFile (option_copied c.table_word.result) (string_bytes c.stil-item.result) (string_bytes c.cells-item.result) (string_bytes c.netlist-item.result) (string_bytes c.scan-item.result) =
+    let stil : IsOtherFile (option_copied c.table_word-table.result) (string_bytes c.stil-item.result) (string_bytes c.cells-item.result) (string_bytes c.netlist-item.result) (string_bytes c.scan-item.result) =
     rw (table_is, stil_is, cells_is, netlist_is, scan_is) at is.stil in
-    let report : IsOtherFile (option_copied c.table_word.result) (string_bytes c.report-item.result) (string_bytes c.cells-item.result) (string_bytes c.netlist-item.result) (string_bytes c.scan-item.result) =
+    let report : IsOtherFile (option_copied c.table_word-table.result) (string_bytes c.report-item.result) (string_bytes c.cells-item.result) (string_bytes c.netlist-item.result) (string_bytes c.scan-item.result) =
     rw (table_is, report_is, cells_is, netlist_is, scan_is) at is.report in
     let others = subst (λ word. word ≢ string_bytes c.stil-item.result) report_is
     (subst (λ word. report_word (map string_bytes c.args.words.now) ≢ word) stil_is is.others) in

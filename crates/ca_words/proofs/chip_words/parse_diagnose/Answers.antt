@@ -14,7 +14,7 @@ use Rattle.ca_words.proofs.chip_words.parse_diagnose.Goals.{else-eq-via-else-eq}
 pub returns-then-are_different-clause-found : goal.returns-then-are_different-clause-found
 returns-then-are_different-clause-found c =
     let seven : length c.command_words.result.now ≡ 7 = omega (arith, c.in-len7.len_at_least, c.in-len7.len_below) in
-    let table = sym c.table_word.ensures in
+    let table = sym c.table_word-table.ensures in
     let command = word_of string_bytes (map string_bytes c.args.words.now) c.command_words.result.now c.command_words.ensures 0 c.command-item.result (omega (arith, seven)) c.command-item.is in
     let cells = word_of string_bytes (map string_bytes c.args.words.now) c.command_words.result.now c.command_words.ensures 1 c.cells-item.result (omega (arith, seven)) c.cells-item.is in
     let netlist = word_of string_bytes (map string_bytes c.args.words.now) c.command_words.result.now c.command_words.ensures 2 c.netlist-item.result (omega (arith, seven)) c.netlist-item.is in
@@ -43,7 +43,7 @@ returns-then-are_different-clause-found c =
 pub returns-else-eq-clause-none : goal.returns-else-eq-clause-none
 returns-else-eq-clause-none c = λ _ is.
     let seven : length c.command_words.result.now ≡ 7 = omega (arith, c.in-len7.len_at_least, c.in-len7.len_below) in
-    let table_is = sym c.table_word.ensures in
+    let table_is = sym c.table_word-table.ensures in
     let command_is = word_of string_bytes (map string_bytes c.args.words.now) c.command_words.result.now c.command_words.ensures 0 c.command-item.result (omega (arith, seven)) c.command-item.is in
     let cells_is = word_of string_bytes (map string_bytes c.args.words.now) c.command_words.result.now c.command_words.ensures 1 c.cells-item.result (omega (arith, seven)) c.cells-item.is in
     let netlist_is = word_of string_bytes (map string_bytes c.args.words.now) c.command_words.result.now c.command_words.ensures 2 c.netlist-item.result (omega (arith, seven)) c.netlist-item.is in
@@ -52,13 +52,13 @@ returns-else-eq-clause-none c = λ _ is.
     let log_is = word_of string_bytes (map string_bytes c.args.words.now) c.command_words.result.now c.command_words.ensures 5 c.log-item.result (omega (arith, seven)) c.log-item.is in
     let out_is = word_of string_bytes (map string_bytes c.args.words.now) c.command_words.result.now c.command_words.ensures 6 c.out-item.result (omega (arith, seven)) c.out-item.is in
     let command = sym command_is ∙ is.command in
-    let files : AreChipFiles (option_copied c.table_word.result) (string_bytes c.cells-item.result) (string_bytes c.netlist-item.result) (string_bytes c.scan-item.result) =
+    let files : AreChipFiles (option_copied c.table_word-table.result) (string_bytes c.cells-item.result) (string_bytes c.netlist-item.result) (string_bytes c.scan-item.result) =
     rw (table_is, cells_is, netlist_is, scan_is) at is.files in
-    let stil : IsOtherFile (option_copied c.table_word.result) (string_bytes c.stil-item.result) (string_bytes c.cells-item.result) (string_bytes c.netlist-item.result) (string_bytes c.scan-item.result) =
+    let stil : IsOtherFile (option_copied c.table_word-table.result) (string_bytes c.stil-item.result) (string_bytes c.cells-item.result) (string_bytes c.netlist-item.result) (string_bytes c.scan-item.result) =
     rw (table_is, stil_is, cells_is, netlist_is, scan_is) at is.stil in
-    let log : IsOtherFile (option_copied c.table_word.result) (string_bytes c.log-item.result) (string_bytes c.cells-item.result) (string_bytes c.netlist-item.result) (string_bytes c.scan-item.result) =
+    let log : IsOtherFile (option_copied c.table_word-table.result) (string_bytes c.log-item.result) (string_bytes c.cells-item.result) (string_bytes c.netlist-item.result) (string_bytes c.scan-item.result) =
     rw (table_is, log_is, cells_is, netlist_is, scan_is) at is.log in
-    let out : IsOtherFile (option_copied c.table_word.result) (string_bytes c.out-item.result) (string_bytes c.cells-item.result) (string_bytes c.netlist-item.result) (string_bytes c.scan-item.result) =
+    let out : IsOtherFile (option_copied c.table_word-table.result) (string_bytes c.out-item.result) (string_bytes c.cells-item.result) (string_bytes c.netlist-item.result) (string_bytes c.scan-item.result) =
     rw (table_is, out_is, cells_is, netlist_is, scan_is) at is.out in
     let others = subst (λ word. word ≢ string_bytes c.stil-item.result) log_is
     (subst (λ word. log_word (map string_bytes c.args.words.now) ≢ word) stil_is is.others) in

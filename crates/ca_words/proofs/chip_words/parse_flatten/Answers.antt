@@ -6,7 +6,7 @@ use Rattle.ca_words.proofs.chip_words.parse_flatten.Goals as goal
 pub returns-then-is_other_file-clause-found : goal.returns-then-is_other_file-clause-found
 returns-then-is_other_file-clause-found c =
     let seven : length c.command_words.result.now ≡ 7 = omega (arith, c.in-len7.len_at_least, c.in-len7.len_below) in
-    let table = sym c.table_word.ensures in
+    let table = sym c.table_word-table.ensures in
     let command = word_of string_bytes (map string_bytes c.args.words.now) c.command_words.result.now c.command_words.ensures 0 c.command-item.result (omega (arith, seven)) c.command-item.is in
     let cells = word_of string_bytes (map string_bytes c.args.words.now) c.command_words.result.now c.command_words.ensures 1 c.cells-item.result (omega (arith, seven)) c.cells-item.is in
     let netlist = word_of string_bytes (map string_bytes c.args.words.now) c.command_words.result.now c.command_words.ensures 2 c.netlist-item.result (omega (arith, seven)) c.netlist-item.is in

@@ -15,7 +15,7 @@ use Rattle.ca_words.proofs.chip_words.parse_replay.Goals.{else-eq-via-else-eq}
 pub returns-then-is_other_file-clause-found : goal.returns-then-is_other_file-clause-found
 returns-then-is_other_file-clause-found c =
     let nine : length c.command_words.result.now ≡ 9 = omega (arith, c.in-len9.len_at_least, c.in-len9.len_below) in
-    let table = sym c.table_word.ensures in
+    let table = sym c.table_word-table.ensures in
     let command = word_of string_bytes (map string_bytes c.args.words.now) c.command_words.result.now c.command_words.ensures 0 c.command-item.result (omega (arith, nine)) c.command-item.is in
     let cells = word_of string_bytes (map string_bytes c.args.words.now) c.command_words.result.now c.command_words.ensures 1 c.cells-item.result (omega (arith, nine)) c.cells-item.is in
     let netlist = word_of string_bytes (map string_bytes c.args.words.now) c.command_words.result.now c.command_words.ensures 2 c.netlist-item.result (omega (arith, nine)) c.netlist-item.is in
@@ -48,7 +48,7 @@ returns-then-is_other_file-clause-found c =
 pub returns-else-eq-clause-none : goal.returns-else-eq-clause-none
 returns-else-eq-clause-none c = λ _ is.
     let nine : length c.command_words.result.now ≡ 9 = omega (arith, c.in-len9.len_at_least, c.in-len9.len_below) in
-    let table_is = sym c.table_word.ensures in
+    let table_is = sym c.table_word-table.ensures in
     let command_is = word_of string_bytes (map string_bytes c.args.words.now) c.command_words.result.now c.command_words.ensures 0 c.command-item.result (omega (arith, nine)) c.command-item.is in
     let cells_is = word_of string_bytes (map string_bytes c.args.words.now) c.command_words.result.now c.command_words.ensures 1 c.cells-item.result (omega (arith, nine)) c.cells-item.is in
     let netlist_is = word_of string_bytes (map string_bytes c.args.words.now) c.command_words.result.now c.command_words.ensures 2 c.netlist-item.result (omega (arith, nine)) c.netlist-item.is in
@@ -59,13 +59,13 @@ returns-else-eq-clause-none c = λ _ is.
     let last_is = word_of string_bytes (map string_bytes c.args.words.now) c.command_words.result.now c.command_words.ensures 7 c.last-item.result (omega (arith, nine)) c.last-item.is in
     let order_is = word_of string_bytes (map string_bytes c.args.words.now) c.command_words.result.now c.command_words.ensures 8 c.order-item.result (omega (arith, nine)) c.order-item.is in
     let command = sym command_is ∙ is.command in
-    let files : AreChipFiles (option_copied c.table_word.result) (string_bytes c.cells-item.result) (string_bytes c.netlist-item.result) (string_bytes c.scan-item.result) =
+    let files : AreChipFiles (option_copied c.table_word-table.result) (string_bytes c.cells-item.result) (string_bytes c.netlist-item.result) (string_bytes c.scan-item.result) =
     rw (table_is, cells_is, netlist_is, scan_is) at is.files in
     let both : AreBothOrNeither (string_bytes c.instance-item.result) (string_bytes c.defect-item.result) =
     rw (instance_is, defect_is) at is.defect in
     let first = subst IsVector first_is is.first in
     let last = subst IsVector last_is is.last in
-    let order : IsOtherFile (option_copied c.table_word.result) (string_bytes c.order-item.result) (string_bytes c.cells-item.result) (string_bytes c.netlist-item.result)
+    let order : IsOtherFile (option_copied c.table_word-table.result) (string_bytes c.order-item.result) (string_bytes c.cells-item.result) (string_bytes c.netlist-item.result)
     (string_bytes c.scan-item.result) =
     rw (table_is, order_is, cells_is, netlist_is, scan_is) at is.order in
     elim c.else-eq.branch [

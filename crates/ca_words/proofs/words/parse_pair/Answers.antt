@@ -11,7 +11,7 @@ use Rattle.ca_words.proofs.words.parse_pair.Goals.{else-eq-via-then-eq+else-are_
 pub returns-then-is_vector-2-clause-found : goal.returns-then-is_vector-2-clause-found
 returns-then-is_vector-2-clause-found c =
     let six : length c.command_words.result.now ≡ 6 = omega (arith, c.in-len6.len_at_least, c.in-len6.len_below) in
-    let table = sym c.table_word.ensures in
+    let table = sym c.table_word-table.ensures in
     let command = word_of string_bytes (map string_bytes c.args.words.now) c.command_words.result.now c.command_words.ensures 0 c.command-item.result (omega (arith, six)) c.command-item.is in
     let cells = word_of string_bytes (map string_bytes c.args.words.now) c.command_words.result.now c.command_words.ensures 1 c.cells-item.result (omega (arith, six)) c.cells-item.is in
     let cell = word_of string_bytes (map string_bytes c.args.words.now) c.command_words.result.now c.command_words.ensures 2 c.cell-item.result (omega (arith, six)) c.cell-item.is in
@@ -36,9 +36,9 @@ pub returns-else-eq-clause-none : goal.returns-else-eq-clause-none
 returns-else-eq-clause-none c = λ _ is.
     let six : length c.command_words.result.now ≡ 6 = omega (arith, c.in-len6.len_at_least, c.in-len6.len_below) in
     let command = sym (word_of string_bytes (map string_bytes c.args.words.now) c.command_words.result.now c.command_words.ensures 0 c.command-item.result (omega (arith, six)) c.command-item.is) ∙ is.command in
-    let table_is = sym c.table_word.ensures in
+    let table_is = sym c.table_word-table.ensures in
     let cells_is = word_of string_bytes (map string_bytes c.args.words.now) c.command_words.result.now c.command_words.ensures 1 c.cells-item.result (omega (arith, six)) c.cells-item.is in
-    let files : AreCellFiles (option_copied c.table_word.result) (string_bytes c.cells-item.result) = rw (table_is, cells_is) at is.files in
+    let files : AreCellFiles (option_copied c.table_word-table.result) (string_bytes c.cells-item.result) = rw (table_is, cells_is) at is.files in
     let first = subst IsVector (word_of string_bytes (map string_bytes c.args.words.now) c.command_words.result.now c.command_words.ensures 3 c.first-item.result (omega (arith, six)) c.first-item.is) is.first in
     let last = subst IsVector (word_of string_bytes (map string_bytes c.args.words.now) c.command_words.result.now c.command_words.ensures 4 c.last-item.result (omega (arith, six)) c.last-item.is) is.last in
     elim c.else-eq.branch [

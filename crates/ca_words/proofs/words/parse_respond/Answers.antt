@@ -11,7 +11,7 @@ use Rattle.ca_words.proofs.words.parse_respond.Goals.{else-eq-via-else-eq}
 pub returns-then-is_vector-clause-found : goal.returns-then-is_vector-clause-found
 returns-then-is_vector-clause-found c =
     let four : length c.command_words.result.now ≡ 4 = omega (arith, c.in-len4.len_at_least, c.in-len4.len_below) in
-    let table = sym c.table_word.ensures in
+    let table = sym c.table_word-table.ensures in
     let command = word_of string_bytes (map string_bytes c.args.words.now) c.command_words.result.now c.command_words.ensures 0 c.command-item.result (omega (arith, four)) c.command-item.is in
     let cells = word_of string_bytes (map string_bytes c.args.words.now) c.command_words.result.now c.command_words.ensures 1 c.cells-item.result (omega (arith, four)) c.cells-item.is in
     let cell = word_of string_bytes (map string_bytes c.args.words.now) c.command_words.result.now c.command_words.ensures 2 c.cell-item.result (omega (arith, four)) c.cell-item.is in
@@ -33,9 +33,9 @@ pub returns-else-eq-clause-none : goal.returns-else-eq-clause-none
 returns-else-eq-clause-none c = λ _ is.
     let four : length c.command_words.result.now ≡ 4 = omega (arith, c.in-len4.len_at_least, c.in-len4.len_below) in
     let first = sym (word_of string_bytes (map string_bytes c.args.words.now) c.command_words.result.now c.command_words.ensures 0 c.command-item.result (omega (arith, four)) c.command-item.is) ∙ is.command in
-    let table_is = sym c.table_word.ensures in
+    let table_is = sym c.table_word-table.ensures in
     let cells_is = word_of string_bytes (map string_bytes c.args.words.now) c.command_words.result.now c.command_words.ensures 1 c.cells-item.result (omega (arith, four)) c.cells-item.is in
-    let files : AreCellFiles (option_copied c.table_word.result) (string_bytes c.cells-item.result) = rw (table_is, cells_is) at is.files in
+    let files : AreCellFiles (option_copied c.table_word-table.result) (string_bytes c.cells-item.result) = rw (table_is, cells_is) at is.files in
     let vector = subst IsVector (word_of string_bytes (map string_bytes c.args.words.now) c.command_words.result.now c.command_words.ensures 3 c.vector-item.result (omega (arith, four)) c.vector-item.is) is.vector in
     elim c.else-eq.branch [
       | else-eq-via-then-eq+then-are_cell_files+else-is_vector w ↦ search rules
