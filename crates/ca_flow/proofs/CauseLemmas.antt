@@ -365,10 +365,40 @@ no_scan_sink None files before after cause = cause
 no_scan_sink (Some name) files before after (inl read) = read
 no_scan_sink (Some name) files before after (inr text) = text
 
+no_strengths_sink : (table : Option (List ℕ)) (files : Option Files) (before after : ℕ)
+    → IsStrengthsCause table files before after SinkFailed → ⊥
+no_strengths_sink None files before after cause = cause
+no_strengths_sink (Some name) files before after (inl read) = read
+no_strengths_sink (Some name) files before after (inr text) = text
+
+no_library_sink : (names : CellFiles) (files : Option Files) (before after : ℕ)
+    → IsLibraryCause names files before after SinkFailed → ⊥
+no_library_sink names files before after (inl memory) = let both : SinkFailed ≡ NoMemory = memory in cc
+no_library_sink names files before after (inr (inl table)) = no_strengths_sink names.table files before after table
+no_library_sink names files before after (inr (inr (inl (has, read)))) = read
+no_library_sink names files before after (inr (inr (inr text))) = text
+
+-- nor are those of a command on one cell
+pub no_cell_sink : (names : CellFiles) (word : List ℕ) (files : Option Files) (before after : ℕ) (fault : Fault)
+    → IsCellCause names word files before after fault → fault ≢ SinkFailed
+no_cell_sink names word files before after fault cause same = by (subst (IsCellCause names word files before after) same cause)
+  where
+    by : IsCellCause names word files before after SinkFailed → ⊥
+    by (inl library) = no_library_sink names files before after library
+    by (inr named) = named
+
+pub no_values_sink : (names : CellFiles) (word first last defect : List ℕ) (files : Option Files) (before after : ℕ) (fault : Fault)
+    → IsValueCause names word first last defect files before after fault → fault ≢ SinkFailed
+no_values_sink names word first last defect files before after fault cause same =
+    by (subst (IsValueCause names word first last defect files before after) same cause)
+  where
+    by : IsValueCause names word first last defect files before after SinkFailed → ⊥
+    by (inl cell) = no_cell_sink names word files before after SinkFailed cell refl
+    by (inr own) = own
+
 no_load_sink : (names : InputFiles) (files : Option Files) (before after : ℕ)
     → IsLoadCause names files before after SinkFailed → ⊥
-no_load_sink names files before after (inl (inl (inl read))) = read
-no_load_sink names files before after (inl (inl (inr text))) = text
+no_load_sink names files before after (inl (inl library)) = no_library_sink names.cells files before after library
 no_load_sink names files before after (inl (inr (inl (has, inl read)))) = read
 no_load_sink names files before after (inl (inr (inl (has, inr text)))) = text
 no_load_sink names files before after (inl (inr (inr (has, (too, cause))))) =
