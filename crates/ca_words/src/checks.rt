@@ -12,7 +12,7 @@ pub(crate) fn is_file_name(word: &str) -> bool
 
 // Whether no file of a strength table is named, or by a file's name.
 fn is_table(table: Option<&str>) -> bool
-    ensures { IsTrue result ↔ IsTable (option_copied table) }
+    ensures { IsTrue result ↔ IsTable (option_copied table.entry) }
 {
     match table {
         Some(name) => is_file_name(name),
@@ -22,7 +22,7 @@ fn is_table(table: Option<&str>) -> bool
 
 /// Whether the file of a strength table is named so.
 pub(crate) fn is_called(table: Option<&str>, name: &str) -> bool
-    ensures { IsTrue result ↔ (option_copied table ≡ Some name.now) }
+    ensures { IsTrue result ↔ (option_copied table.entry ≡ Some name.now) }
 {
     match table {
         Some(word) => word == name,
@@ -32,7 +32,7 @@ pub(crate) fn is_called(table: Option<&str>, name: &str) -> bool
 
 /// Whether these may be the files of a command on one cell.
 pub(crate) fn are_cell_files(table: Option<&str>, cells: &str) -> bool
-    ensures { IsTrue result ↔ AreCellFiles (option_copied table) cells.now }
+    ensures { IsTrue result ↔ AreCellFiles (option_copied table.entry) cells.now }
 {
     is_table(table) && is_file_name(cells) && !is_called(table, cells)
 }

@@ -218,7 +218,7 @@ pub(crate) fn parse_diagnose(words: &[String]) -> Option<DiagnoseWords<'_>>
 
 // Whether these may be the files of a command on a chip.
 fn are_chip_files(table: Option<&str>, cells: &str, netlist: &str, scan: &str) -> bool
-    ensures { IsTrue result ↔ AreChipFiles (option_copied table) cells.now netlist.now scan.now }
+    ensures { IsTrue result ↔ AreChipFiles (option_copied table.entry) cells.now netlist.now scan.now }
 {
     are_cell_files(table, cells)
         && is_file_name(netlist)
@@ -238,7 +238,7 @@ fn are_different(cells: &str, netlist: &str, scan: &str) -> bool
 
 // Whether this may be a file of its own, beside those of a command on a chip.
 fn is_other_file(out: &str, table: Option<&str>, cells: &str, netlist: &str, scan: &str) -> bool
-    ensures { IsTrue result ↔ IsOtherFile (option_copied table) out.now cells.now netlist.now scan.now }
+    ensures { IsTrue result ↔ IsOtherFile (option_copied table.entry) out.now cells.now netlist.now scan.now }
 {
     is_file_name(out) && !is_called(table, out) && out != cells && out != netlist && out != scan
 }
@@ -258,7 +258,7 @@ fn files_called<'a>(
     scan: &'a str,
 ) -> FileNames<'a>
     ensures { names_of result ≡ record {
-      cells = record { table = option_copied table; name = cells.now };
+      cells = record { table = option_copied table.entry; name = cells.now };
       netlist = netlist.now;
       scan = file_called scan.now;
     } }

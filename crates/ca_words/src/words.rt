@@ -231,7 +231,7 @@ fn parse_make(words: &[String]) -> Option<u32>
 
 // The files and the cell of a command on one cell.
 fn cell_called<'a>(table: Option<&'a str>, cells: &'a str, cell: &'a str) -> CellWords<'a>
-    ensures files { cells_of result.files ≡ record { table = option_copied table; name = cells.now } }
+    ensures files { cells_of result.files ≡ record { table = option_copied table.entry; name = cells.now } }
     ensures cell { result.cell.now ≡ cell.now }
 {
     CellWords {
