@@ -1,6 +1,6 @@
 -- How what is said of a strength table and of a cell netlist that was read under it is said of their files.
 use Rattle.std.proofs.Common.{ℕ, ◌≡◌, ◌≤◌, ◌⊎◌, ◌∙◌, inl, inr, refl, sym, subst, arith, true, false, Bool, List, length, Option, Some}
-use Rattle.std.proofs.Common.{None, Result, Ok, Err, IfErr}
+use Rattle.std.proofs.Common.{None, Result, Ok, Err, IfOk, IfErr}
 use Rattle.std.specs.Prelude.{IsSome, IsSomeAnd, if◌then◌else◌, nat_le}
 use Rattle.std.proofs.lemmas.Bool.{le-leb, leb-true}
 use Rattle.ca_store.specs.Store.{Files}
@@ -20,7 +20,6 @@ use Rattle.ca_load.specs.code.Stages.{IsFileStage, IsLineStage}
 
 -- where no file is named
 pub default_at : (files : Option Files) → IsStrengthsAt files None default_table
-unfolding strengths_in
 default_at files = λ reported is. refl
 
 -- bytes that read as a table
@@ -54,13 +53,17 @@ file_of_table (Some bytes) table is = by (nat_le (length bytes) MAX_STRENGTHS) r
 
 pub named_table : (reported : Files) (name : List ℕ) (table : StrengthTable) → strengths_in (Some name) reported ≡ Some table
     → table_within (reported name) ≡ Some table
-unfolding strengths_in
 named_table reported name table is = is
 
 pub named_at : (files : Option Files) (name : List ℕ) (table : StrengthTable) → OfFile files name MAX_STRENGTHS (IsTableText table)
     → IsStrengthsAt files (Some name) table
-unfolding strengths_in
 named_at files name table read = λ reported is. table_of_file (reported name) table (read reported is)
+
+-- the same of an answer, where a file is named
+pub named_ok : (result : Result StrengthTable Fault) (files : Option Files) (name : List ℕ) (given : Option (List ℕ)) → given ≡ Some name
+    → IfOk result (λ table. OfFile files name MAX_STRENGTHS (IsTableText table)) → IfOk result (IsStrengthsAt files given)
+named_ok (Ok table) files name given is read = subst (λ (g : Option (List ℕ)). IsStrengthsAt files g table) (sym is) (named_at files name table read)
+named_ok (Err fault) files name given is read = tt
 
 -- a strength table that wasn't read
 pub at_strengths : (files : Option Files) (names : CellFiles) (before after : ℕ) (fault : Fault)

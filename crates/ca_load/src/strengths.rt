@@ -20,7 +20,7 @@ pub const MAX_STRENGTHS: usize = 1_048_576;
 
 /// The table in the file of this name, if there is a name, and else the default one. A fault of the file takes
 /// over the name as it was typed.
-#[tactic(auto, using(crate::proofs::TableLemmas::default_at, crate::proofs::TableLemmas::named_at))]
+#[tactic(auto, using(crate::proofs::TableLemmas::default_at))]
 pub(crate) fn open_strengths<S: Store>(
     alloc: Global,
     name: Option<&str>,
