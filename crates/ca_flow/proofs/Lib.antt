@@ -1,6 +1,5 @@
 pub mod WorkLemmas
 pub mod CauseLemmas
-pub mod DiagnoseLemmas
 pub mod CompleteLemmas
 pub mod EndLemmas
 pub mod LineLemmas

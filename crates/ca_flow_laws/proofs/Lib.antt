@@ -1,7 +1,6 @@
 pub mod CoreLemmas
 pub mod NamedLemmas
 pub mod FileLemmas
-pub mod StrengthsLemmas
 pub mod LinkLemmas
 pub mod OneLemmas
 pub mod LoadLemmas
@@ -24,4 +23,3 @@ pub mod NeitherLemmas
 pub mod NameLemmas
 pub mod PatternLemmas
 pub mod StilLemmas
-pub mod LogLemmas

@@ -1,6 +1,5 @@
 pub mod RowLemmas
 pub mod ReadLemmas
-pub mod TableLemmas
 pub mod LinkLemmas
 pub mod RuleLemmas
 pub mod SameLemmas

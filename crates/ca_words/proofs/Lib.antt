@@ -1,3 +1,2 @@
 pub mod BudgetLemmas
-pub mod PrefixLemmas
 pub mod WordLemmas

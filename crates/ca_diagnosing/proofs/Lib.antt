@@ -1,2 +1,0 @@
-pub mod DiagnoseLemmas
-pub mod OneLemmas
