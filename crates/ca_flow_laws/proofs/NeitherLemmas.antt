@@ -151,7 +151,7 @@ module _ (words : List (List ℕ)) (outside : Outside) (reported : Files) (are :
           no_load (Cells line kind) tt (inl (inl (inr (in_file name found.0 MAX_CELLS found.1 (IsTextCause (Cells line kind)) within is))))
       read within (Err (spice.TooManyCells count)) is =
           no_load (Limit limit.Cells count) tt (inl (inl (inr (in_file name found.0 MAX_CELLS found.1 (IsTextCause (Limit limit.Cells count)) within is))))
-      read within (Err spice.NoMemory) is = reading_has_memory found.0 is
+      read within (Err spice.NoMemory) is = reading_has_memory default_table found.0 is
 
       by : (length found.0 ≤ MAX_CELLS) ⊎ (MAX_CELLS < length found.0) → ⊥
       by (inl within) = read within (library_of default_table found.0) refl
