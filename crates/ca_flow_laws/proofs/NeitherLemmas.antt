@@ -46,7 +46,7 @@ use Rattle.ca_load.specs.Causes.{IsTextCause, IsModuleCause, IsRecordCause, HasL
 use Rattle.ca_request.specs.Asked.{IsDefectCause}
 use Rattle.ca_chip_replay.specs.ChipRun.{RunOf}
 use Rattle.ca_words.specs.Words.{chip_files, instance_word, chip_defect_word, chip_first_word, chip_last_word, order_word}
-use Rattle.ca_words.specs.Words.{IsFlatten, IsSimulate, IsReplay, IsGrade, IsOnChip}
+use Rattle.ca_words.specs.Words.{IsFlatten, IsSimulate, IsReplay, IsGrade, IsDiagnose, IsOnChip}
 use Rattle.ca_on_chip.specs.declared.replays.TheConstants.{MAX_ORDER}
 use Rattle.ca_on_chip.specs.OnChip.{GiveChipWith, OfChip, IsDefectWord, IsVectorWord, IsSimulationCause}
 use Rattle.ca_on_chip.specs.Replay.{IsAskedRun, HasFaultyLine, HasRun}
@@ -89,7 +89,7 @@ tracing_reported chip (Limit limit.Chains count) cause = (tt, tt)
 tracing_reported chip fault cause = absurd cause
 
 module _ (words : List (List ℕ)) (outside : Outside) (reported : Files) (are : outside.files ≡ Some reported) (on : IsOnChip words)
-    (not_grade : ¬ (IsGrade words)) (there : (name : List ℕ) → IsInputFile words name → IsSome (reported name)) (no_answer : IsAnswerable words outside.files → ⊥)
+    (not_grade : ¬ (IsGrade words)) (not_diagnose : ¬ (IsDiagnose words)) (there : (name : List ℕ) → IsInputFile words name → IsSome (reported name)) (no_answer : IsAnswerable words outside.files → ⊥)
     (no_cause : (fault : Fault) → IsInputFault fault → IsCause words outside outside fault → ⊥) where
   no_load : (fault : Fault) → IsInputFault fault
       → IsLoadCause (chip_files words) outside.files outside.store_faults outside.store_faults fault → ⊥
@@ -151,7 +151,7 @@ module _ (words : List (List ℕ)) (outside : Outside) (reported : Files) (are :
           no_load (Cells line kind) tt (inl (inl (inr (in_file name found.0 MAX_CELLS found.1 (IsTextCause (Cells line kind)) within is))))
       read within (Err (spice.TooManyCells count)) is =
           no_load (Limit limit.Cells count) tt (inl (inl (inr (in_file name found.0 MAX_CELLS found.1 (IsTextCause (Limit limit.Cells count)) within is))))
-      read within (Err spice.NoMemory) is = reading_has_memory default_table found.0 is
+      read within (Err spice.NoMemory) is = reading_has_memory found.0 is
 
       by : (length found.0 ≤ MAX_CELLS) ⊎ (MAX_CELLS < length found.0) → ⊥
       by (inl within) = read within (library_of default_table found.0) refl
@@ -356,7 +356,8 @@ module _ (words : List (List ℕ)) (outside : Outside) (reported : Files) (are :
       at_chip (inr (inr (inl simulate))) = at_simulate simulate
       at_chip (inr (inr (inr (inl atpg)))) = own_answer (λ also same names. atpg_own words reported also atpg)
       at_chip (inr (inr (inr (inr (inl replay))))) = at_replay replay
-      at_chip (inr (inr (inr (inr (inr grade))))) = not_grade grade
+      at_chip (inr (inr (inr (inr (inr (inl grade)))))) = not_grade grade
+      at_chip (inr (inr (inr (inr (inr (inr diagnose)))))) = not_diagnose diagnose
 
     at_inputs : ⊥
     at_inputs = either ((chip : LinkedChip) × IsChipOf inputs chip) (λ found. elim found [
@@ -372,11 +373,11 @@ module _ (words : List (List ℕ)) (outside : Outside) (reported : Files) (are :
 
 -- not neither
 pub never_neither : (words : List (List ℕ)) (outside : Outside) → ReportsAllFiles words outside → IsOnChip words
-    → ¬ (IsGrade words) → ¬ (¬ (IsAnswerable words outside.files ⊎ HasInputCause words outside))
-never_neither words outside reports on not_grade refutes = by outside.files refl reports
+    → ¬ (IsGrade words) → ¬ (IsDiagnose words) → ¬ (¬ (IsAnswerable words outside.files ⊎ HasInputCause words outside))
+never_neither words outside reports on not_grade not_diagnose refutes = by outside.files refl reports
   where
     by : (files : Option Files) → outside.files ≡ files
         → IsSomeAnd files (λ reported. (name : List ℕ) → IsInputFile words name → IsSome (reported name)) → ⊥
     by None are reports = reports
     by (Some reported) are reports =
-        neither words outside reported are on not_grade reports (λ answer. refutes (inl answer)) (λ fault is cause. refutes (inr (fault, (is, cause))))
+        neither words outside reported are on not_grade not_diagnose reports (λ answer. refutes (inl answer)) (λ fault is cause. refutes (inr (fault, (is, cause))))

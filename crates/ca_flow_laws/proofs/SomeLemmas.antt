@@ -97,7 +97,7 @@ module _ (words : List (List ℕ)) (bytes : List ℕ) (outside : Outside) (repor
         cell_cause (Cells line kind) tt (inl (inr (of_bytes (IsTextCause (Cells line kind)) reads)))
     at_fault (spice.TooManyCells count) reads =
         cell_cause (Limit limit.Cells count) tt (inl (inr (of_bytes (IsTextCause (Limit limit.Cells count)) reads)))
-    at_fault spice.NoMemory reads = absurd (reading_has_memory default_table bytes reads)
+    at_fault spice.NoMemory reads = absurd (reading_has_memory bytes reads)
 
     at_missing : IsOk (library_of default_table bytes) → cell_called default_table bytes (cell_word words) ≡ None → Stands words outside
     at_missing reads missing =
