@@ -14,8 +14,6 @@ use Rattle.ca_net.specs.declared.device.DeviceKind.{DeviceKind}
 use Rattle.ca_net.specs.declared.device.DeviceKind.TheVariants as kind
 use Rattle.ca_net.specs.Circuit.{IsWellFormed, HasSize, HasStrength, IsStrength, NamesWithin}
 use Rattle.ca_net.proofs.ScaleLemmas.{transistor_is_strength}
-use Rattle.ca_net.specs.declared.scale.TheConstants.{WEAKEST, STRONGEST}
-use Rattle.ca_cell.specs.declared.raw.RawDevice.{RawDevice}
 use Rattle.ca_cell.specs.declared.raw.Role.{Role}
 use Rattle.ca_cell.specs.declared.raw.Role.TheVariants.{Input, Output, Power, Ground}
 use Rattle.ca_cell.specs.declared.raw.RawPin.{RawPin}
@@ -25,7 +23,7 @@ use Rattle.ca_cell.specs.declared.rule.CellRule.TheVariants.{TooManyNodes, NoOut
 use Rattle.ca_cell.specs.declared.rule.TheConstants.{MOST_NODES}
 use Rattle.ca_cell.specs.Raw.{is_input, is_output, role_count, inner_count, pin_node, node_at, node_of}
 use Rattle.ca_cell.specs.Raw.{nodes_of, device_of, circuit_of}
-use Rattle.ca_cell.specs.Devices.{IsDevice, IsDeviceBy}
+use Rattle.ca_cell.specs.Transistors.{IsTransistor}
 use Rattle.ca_cell.specs.Rules.{IsRaw, node_count, KeepsRules, KeepsAllBut}
 
 -- fewer pins with a role come before a pin with it than there are in all
@@ -91,14 +89,11 @@ sizes_of raw =
     (All-append HasSize outputs inner (All-replicate HasSize (role_count is_output raw.pins) (node.Storage OUTPUT_NET) (inr refl))
     (All-replicate HasSize (inner_count raw) (node.Storage INNER_NODE) (inl refl)))
 
--- a device's strength is one of the scale
-device_strength : (k : DeviceKind) (d : RawDevice) → IsDeviceBy k d → IsStrength d.strength
-device_strength kind.N d is = transistor_is_strength d.strength is.0 is.1
-device_strength kind.P d is = transistor_is_strength d.strength is.0 is.1
-device_strength kind.D d is = transistor_is_strength d.strength (omega (arith, is.0)) (omega (arith, is.0))
-
-scaled_strength : (d : RawDevice) → IsDevice d → IsStrength d.strength
-scaled_strength d is = device_strength d.kind d is
+-- a transistor's strength is one of the scale
+transistor_strength : (k : DeviceKind) (strength : ℕ) → IsTransistor k strength → IsStrength strength
+transistor_strength kind.N strength is = transistor_is_strength strength is.0 is.1
+transistor_strength kind.P strength is = transistor_is_strength strength is.0 is.1
+transistor_strength kind.D strength is = absurd is
 
 -- so is its network well formed
 pub well_formed_all_but : (raw : RawCell) → IsRaw raw → KeepsAllBut NoOutput raw → IsWellFormed (circuit_of raw)
@@ -110,7 +105,7 @@ well_formed_all_but raw is_raw keeps = record {
       let places = is_raw.places i d within in
       (node_of-within raw _ is_raw places.gate, node_of-within raw _ is_raw places.drain, node_of-within raw _ is_raw places.source)));
   sizes = sizes_of raw;
-  strengths = All-map HasStrength (device_of raw.pins) raw.devices (λ i d within. scaled_strength _ (is_raw.devices i d within));
+  strengths = All-map HasStrength (device_of raw.pins) raw.devices (λ i d within. transistor_strength _ _ (is_raw.transistors i d within));
 }
 
 pub well_formed : (raw : RawCell) → IsRaw raw → KeepsRules raw → IsWellFormed (circuit_of raw)

@@ -1,5 +1,5 @@
 -- Each node of a cell has a net, and no device has its drain or its source on an input pin.
-use Rattle.std.proofs.Common.{◌≡◌, ℕ, zero, suc, ◌+◌, ◌*◌, ◌-◌, ◌<◌, ◌≤◌, ◌⊎◌, List, Bool, true, false, [], ◌∷◌}
+use Rattle.std.proofs.Common.{◌≡◌, ℕ, zero, suc, ◌+◌, ◌-◌, ◌<◌, ◌≤◌, ◌⊎◌, List, Bool, true, false, [], ◌∷◌}
 use Rattle.std.proofs.Common.{length, take, inl, inr, refl, sym, ◌∙◌, ap, subst, arith, true≢false}
 use Rattle.std.specs.Prelude.{cond, Option, Some, None, IsSome, IsSomeAnd, is_some, slice_get}
 use Rattle.std.specs.Prelude.{option_and_then}
@@ -24,8 +24,6 @@ use Rattle.ca_cell.specs.declared.rule.TheConstants.{MOST_DEVICES, MOST_NODES, M
 use Rattle.ca_net.specs.declared.node.NodeKind.{NodeKind}
 use Rattle.ca_cell.specs.Nodes.{IsInputPin, IsOffInputPins, GatesOnly, free_count}
 use Rattle.ca_cell.proofs.CircuitLemmas.{all_but, few_nodes, length-nodes_of}
-use Rattle.std.proofs.lemmas.List.Sums.{count_by-le-length}
-use Rattle.ca_cell.specs.Devices.{has_gate, open_count}
 
 -- a pin with a role, with this many its role before it
 pub record HasPin (is_role : Role → Bool) (pins : List RawPin) (before : ℕ) : Type 0 where
@@ -289,8 +287,3 @@ gates_only_all_but raw keeps = All-map (IsOffInputPins raw) (device_of raw.pins)
 
 pub gates_only : (raw : RawCell) → KeepsRules raw → GatesOnly raw
 gates_only raw keeps = gates_only_all_but raw (all_but NoOutput raw keeps)
-
--- devices have at most three opens each
-pub few_opens : (devices : List RawDevice) → open_count devices ≤ 3 * length devices
-few_opens devices =
-    let gated = count_by-le-length (λ (device : RawDevice). has_gate device.kind) devices in omega (arith, gated)

@@ -1,5 +1,5 @@
 pub mod Raw
-pub mod Devices
+pub mod Transistors
 pub mod Strength
 pub mod Rules
 pub mod Library

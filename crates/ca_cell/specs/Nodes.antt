@@ -5,7 +5,6 @@ use Rattle.std.specs.List.{All}
 use Rattle.ca_net.specs.declared.device.Device.{Device}
 use Rattle.ca_cell.specs.declared.raw.RawCell.{RawCell}
 use Rattle.ca_cell.specs.Raw.{is_input, is_output, role_count, inner_count, node_of, circuit_of}
-use Rattle.ca_cell.specs.Devices.{open_count}
 
 -- the node is that of an input pin
 abbrev pub IsInputPin : RawCell → ℕ → Type 0
@@ -26,7 +25,7 @@ pub record IsNameOf (raw : RawCell) (n : ℕ) (name : List ℕ) : Type 0 where
   pub is_node : node_of raw.pins place ≡ n
   pub none_before : (k : ℕ) → k < place → node_of raw.pins k ≢ n
 
--- the name of a device is that of its card
+-- the name of a device is that of its transistor
 abbrev pub IsDeviceName : RawCell → ℕ → List ℕ → Type 0
 IsDeviceName raw d name = option_map (λ device. device.name) (slice_get raw.devices d) ≡ Some name
 
@@ -38,7 +37,7 @@ free_count raw = 2 + role_count is_output raw.pins + inner_count raw
 abbrev pub pair_count : ℕ → ℕ
 pair_count nodes = nodes * (nodes - 1) / 2
 
--- how many defects there are: the opens of the devices, one open for each input pin, and a short for each pair
+-- how many defects there are: three opens for each device, one for each input pin, and a short for each pair
 -- of nodes that are no input pins, except power with ground
 abbrev pub defect_count : RawCell → ℕ
-defect_count raw = open_count raw.devices + role_count is_input raw.pins + (pair_count (free_count raw) - 1)
+defect_count raw = 3 * length raw.devices + role_count is_input raw.pins + (pair_count (free_count raw) - 1)

@@ -73,7 +73,7 @@ nodes_of raw =
     ++ (replicate (role_count is_output raw.pins) (node.Storage OUTPUT_NET)
     ++ replicate (inner_count raw) (node.Storage INNER_NODE))
 
--- the device of a transistor or of a resistor: its terminals are the nodes of its nets
+-- the device of a transistor: its terminals are the nodes of its nets
 abbrev pub device_of : List RawPin → RawDevice → Device
 device_of pins device = record {
   kind = device.kind;

@@ -16,7 +16,7 @@ use Rattle.ca_cell.specs.declared.rule.CellFault.{CellFault}
 use Rattle.ca_cell.specs.declared.rule.CellFault.TheVariants.{Rule, NoMemory}
 use Rattle.ca_cell.specs.declared.rule.TheConstants.{MOST_DEVICES, MOST_NODES, MOST_INPUTS, MOST_OUTPUTS}
 use Rattle.ca_cell.specs.Raw.{is_input, is_output, is_power, is_ground, role_count, inner_count, node_of}
-use Rattle.ca_cell.specs.Devices.{IsDevice}
+use Rattle.ca_cell.specs.Transistors.{IsTransistor}
 
 -- each terminal of the device is a place among the first `count` nets
 pub record PlacesWithin (count : ℕ) (device : RawDevice) : Type 0 where
@@ -30,7 +30,7 @@ pub record IsRaw (raw : RawCell) : Type 0 where
   pub few_devices : length raw.devices < 2 ^ 32
   pub pins : length raw.pins ≤ length raw.nets
   pub places : All (PlacesWithin (length raw.nets)) raw.devices
-  pub devices : All IsDevice raw.devices
+  pub transistors : All (λ device. IsTransistor device.kind device.strength) raw.devices
 
 -- power, ground, the input pins, the output pins and the inner nets
 abbrev pub node_count : RawCell → ℕ

@@ -8,7 +8,7 @@ ghost use Rattle.ca_cell.specs.Rules.{IsRaw, PlacesWithin, node_count, KeepsRule
 ghost use Rattle.ca_cell.specs.Nodes.{GatesOnly, IsNameOf, IsDeviceName, free_count, defect_count};
 
 use crate::check::{first_broken, input_count, node_of, output_count};
-use crate::raw::{RawCell, RawDevice, open_count};
+use crate::raw::{RawCell, RawDevice};
 use crate::rule::{CellFault, MOST_INPUTS, MOST_NODES, MOST_OUTPUTS};
 use ca_base::NoMemory;
 use ca_lex::Text;
@@ -112,13 +112,13 @@ impl Cell {
         let _raw = self.raw();
     }
 
-    /// The number of defects: three opens for each transistor, two for each resistor, one for each input pin,
-    /// and a short for each two nodes that are no input pins, except power with ground.
+    /// The number of defects: three opens for each device, one for each input pin, and a short for each two
+    /// nodes that are no input pins, except power with ground.
     pub fn defect_count(&self) -> usize
         ensures { result ≡ defect_count self.now }
     {
         let free = self.free_count();
-        open_count(self.raw.devices.as_slice()) + self.inputs + (free * (free - 1) / 2 - 1)
+        3 * self.devices.len() + self.inputs + (free * (free - 1) / 2 - 1)
     }
 
     // The number of nodes that are no input pins.
@@ -206,7 +206,7 @@ fn nodes_of(alloc: Global, raw: &RawCell) -> Result<NodeList, NoMemory>
     Ok(nodes)
 }
 
-// The device of a transistor or of a resistor.
+// The device of a transistor.
 fn device_of(raw: &RawCell, device: &RawDevice) -> Device
     requires raw { IsRaw raw.now }
     requires few { node_count raw.now ≤ MOST_NODES }

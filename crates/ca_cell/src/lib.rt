@@ -13,6 +13,6 @@ mod strength;
 pub use cell::Cell;
 pub use laws::limits;
 pub use library::{Entry, Library, LibraryFault, MOST_CELLS};
-pub use raw::{RawCell, RawDevice, RawDevices, RawPin, RawPins, Role, has_gate};
+pub use raw::{RawCell, RawDevice, RawDevices, RawPin, RawPins, Role};
 pub use rule::{CellFault, CellRule, MOST_DEVICES, MOST_INPUTS, MOST_NODES, MOST_OUTPUTS};
 pub use strength::{Ratio, StrengthTable};

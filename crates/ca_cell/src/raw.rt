@@ -1,7 +1,6 @@
 //! Subcircuits as they were read.
 
-ghost use Rattle.std.specs.Prelude.{◌≡◌, ◌<◌, ◌^◌, ◌↔◌, length, IsTrue, IfOk};
-ghost use Rattle.ca_cell.specs.Devices.{has_gate, open_count};
+ghost use Rattle.std.specs.Prelude.{◌≡◌, ◌<◌, ◌↔◌, length, IsTrue, IfOk};
 
 use ca_base::{List, NoMemory};
 use ca_lex::{Length, Names, Text};
@@ -56,8 +55,7 @@ pub struct RawPin {
     pub role: Role,
 }
 
-/// A transistor or a resistor of a subcircuit. Its drain, gate and source are places in the list of nets. A
-/// resistor is of kind D, its ends are drain and source, and its width and length mean nothing.
+/// A transistor of a subcircuit. Its drain, gate and source are places in the list of nets.
 #[derive(Drop)]
 pub struct RawDevice {
     pub name: Text,
@@ -71,56 +69,35 @@ pub struct RawDevice {
 }
 
 impl RawDevice {
-    ghost use Rattle.ca_cell.specs.Devices.{IsDevice};
+    ghost use Rattle.ca_cell.specs.Transistors.{IsTransistor};
     ghost use Rattle.ca_cell.specs.Rules.{PlacesWithin};
 
-    // Whether it has the strength of some transistor, or is as a resistor is.
-    fn is_device(&self) -> bool
-        ensures { IsTrue result ↔ IsDevice self.now }
+    // Whether it is of a kind that has a gate, and has the strength of some transistor.
+    fn is_transistor(&self) -> bool
+        ensures { IsTrue result ↔ IsTransistor self.now.kind self.now.strength }
     {
         match self.kind {
             DeviceKind::N | DeviceKind::P => WEAKEST <= self.strength && self.strength <= STRONGEST,
-            DeviceKind::D => self.strength == STRONGEST && self.gate == self.drain,
+            DeviceKind::D => false,
         }
     }
 
-    // Whether each terminal is a place among the first `nets` nets, and it is a transistor or a resistor.
+    // Whether each terminal is a place among the first `nets` nets, and the device is a transistor.
     fn is_placed(&self, nets: usize) -> bool
-        ensures { IsTrue result ↔ (PlacesWithin nets self.now × IsDevice self.now) }
+        ensures { IsTrue result ↔ (PlacesWithin nets self.now
+            × IsTransistor self.now.kind self.now.strength) }
     {
         (self.drain as usize) < nets
             && (self.gate as usize) < nets
             && (self.source as usize) < nets
-            && self.is_device()
+            && self.is_transistor()
     }
-}
-
-/// Whether a device of this kind has a gate: it is a transistor.
-pub fn has_gate(kind: DeviceKind) -> bool
-    ensures { result ≡ has_gate kind }
-{
-    match kind {
-        DeviceKind::N | DeviceKind::P => true,
-        DeviceKind::D => false,
-    }
-}
-
-/// The number of opens of devices: two for each, and a third for each transistor.
-pub(crate) fn open_count(devices: &[RawDevice]) -> usize
-    requires { length devices.now < 2 ^ 32 }
-    ensures { result ≡ open_count devices.now }
-{
-    2 * devices.len()
-        + devices
-            .iter()
-            .filter(|device| has_gate(device.kind))
-            .count()
 }
 
 /// The pins of a subcircuit, in order.
 pub type RawPins = List<RawPin>;
 
-/// The transistors and resistors of a subcircuit, in the order of their cards.
+/// The transistors of a subcircuit, in the order of their cards.
 pub type RawDevices = List<RawDevice>;
 
 // A list of its own with the same pins.
@@ -137,7 +114,7 @@ fn copy_pins(alloc: Global, old: &RawPins) -> Result<RawPins, NoMemory>
     Ok(pins)
 }
 
-// A list of its own with the same devices.
+// A list of its own with the same transistors.
 fn copy_devices(alloc: Global, old: &RawDevices) -> Result<RawDevices, NoMemory>
     ensures ok { IfOk result (λ devices. devices ≡ old.now) }
 {
@@ -158,8 +135,7 @@ fn copy_devices(alloc: Global, old: &RawDevices) -> Result<RawDevices, NoMemory>
 }
 
 /// A subcircuit as it was read. `nets` has the names of the pins in pin order and then those of the inner
-/// nets in the order of first mention (in a card: drain, gate, source). A net that resistors join to an input
-/// pin through inner nets alone is written as the pin by who reads a text: here it would be a net of its own.
+/// nets in the order of first mention (in a card: drain, gate, source).
 #[derive(Drop)]
 pub struct RawCell {
     pub pins: RawPins,
@@ -171,8 +147,8 @@ impl RawCell {
     ghost use Rattle.ca_cell.specs.Raw.{output_names};
     ghost use Rattle.ca_cell.specs.Rules.{IsRaw};
 
-    /// Whether each device is a transistor of some strength, or a resistor, whose terminals are places in the
-    /// list of nets, and there are no more pins than nets.
+    /// Whether each device is a transistor, of some strength, whose terminals are places in the list of nets,
+    /// and there are no more pins than nets.
     pub fn is_raw(&self) -> bool
         ensures { IsTrue result ↔ IsRaw self.now }
     {

@@ -23,8 +23,6 @@ use Rattle.std.proofs.lemmas.List.{length-map}
 use Rattle.ca_defect.specs.declared.defect.Defect.{Defect}
 use Rattle.ca_defect.specs.declared.defect.Defect.TheVariants.{OpenDrain, OpenSource, OpenGate, OpenPin}
 use Rattle.ca_defect.specs.declared.defect.Defect.TheVariants.{Short}
-use Rattle.std.specs.Prelude.{◌&&◌}
-use Rattle.ca_defect.specs.Defect.{is_gated}
 use Rattle.ca_defect.specs.Defect.{drain_on, source_on, gate_on, device_with, changed_from, changed_devices}
 use Rattle.ca_defect.specs.Defect.{bridge, new_node, new_device, nodes_with, devices_with, circuit_with}
 use Rattle.ca_defect.specs.Defect.{is_short, IsDefect}
@@ -79,7 +77,7 @@ All-changed_from P Q defect new keeps place (device ∷ more) all =
 
 -- the strength of a device stays
 strength_kept : (defect : Defect) (new place : ℕ) (device : Device) → HasStrength device → HasStrength (device_with defect new place device)
-strength_kept (OpenDrain opened) new place device has = either_holds HasStrength _ _ _ (either_holds HasStrength (is_gated device) _ _ has has) has
+strength_kept (OpenDrain opened) new place device has = either_holds HasStrength _ _ _ has has
 strength_kept (OpenSource opened) new place device has = either_holds HasStrength _ _ _ has has
 strength_kept (OpenGate opened) new place device has = either_holds HasStrength _ _ _ has has
 strength_kept (OpenPin pin) new place device has = either_holds HasStrength _ _ _ has has
@@ -90,22 +88,19 @@ named_kept : (nodes : List NodeKind) (defect : Defect) (place : ℕ) (device : D
     → NamesWithin (length (nodes_with nodes defect)) (device_with defect (length nodes) place device)
 named_kept nodes (OpenDrain opened) place device named =
     let long = length-append nodes (Storage INNER_NODE ∷ []) in
-    let within : NamesWithin (length (nodes ++ Storage INNER_NODE ∷ [])) (drain_on (length nodes) device) =
-    either_holds (NamesWithin (length (nodes ++ Storage INNER_NODE ∷ []))) (is_gated device) _ _
-    (omega arith, omega arith, omega arith) (omega arith, omega arith, omega arith) in
     either_holds (NamesWithin (length (nodes ++ Storage INNER_NODE ∷ []))) (place == opened.0) (drain_on (length nodes) device) device
-    within (omega arith, omega arith, omega arith)
+    (omega arith, omega arith, omega arith) (omega arith, omega arith, omega arith)
 named_kept nodes (OpenSource opened) place device named =
     let long = length-append nodes (Storage INNER_NODE ∷ []) in
     either_holds (NamesWithin (length (nodes ++ Storage INNER_NODE ∷ []))) (place == opened.0) (source_on (length nodes) device) device
     (omega arith, omega arith, omega arith) (omega arith, omega arith, omega arith)
 named_kept nodes (OpenGate opened) place device named =
     let long = length-append nodes (Storage INNER_NODE ∷ []) in
-    either_holds (NamesWithin (length (nodes ++ Storage INNER_NODE ∷ []))) (is_gated device && place == opened.0) (gate_on (length nodes) device) device
+    either_holds (NamesWithin (length (nodes ++ Storage INNER_NODE ∷ []))) (place == opened.0) (gate_on (length nodes) device) device
     (omega arith, omega arith, omega arith) (omega arith, omega arith, omega arith)
 named_kept nodes (OpenPin pin) place device named =
     let long = length-append nodes (Storage INNER_NODE ∷ []) in
-    either_holds (NamesWithin (length (nodes ++ Storage INNER_NODE ∷ []))) (is_gated device && device.gate.0 == pin.0) (gate_on (length nodes) device) device
+    either_holds (NamesWithin (length (nodes ++ Storage INNER_NODE ∷ []))) (device.gate.0 == pin.0) (gate_on (length nodes) device) device
     (omega arith, omega arith, omega arith) (omega arith, omega arith, omega arith)
 named_kept nodes (Short low high) place device named =
     let same = ap length (append-nil nodes) in (omega arith, omega arith, omega arith)

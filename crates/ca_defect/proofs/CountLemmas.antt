@@ -7,20 +7,14 @@ use Rattle.std.proofs.Math.Decide.{dec_le}
 use Rattle.std.proofs.Math.Nat.{add-mul-div_right}
 use Rattle.std.proofs.lemmas.Bool.Decides.{nat_tests}
 use Rattle.std.proofs.lemmas.List.{length-map}
-use Rattle.std.proofs.Common.{map, add-zero, zero-add}
-use Rattle.std.proofs.lemmas.List.Sums.{sum_by-cons}
-use Rattle.ca_net.specs.declared.device.Device.{Device}
-use Rattle.ca_cell.specs.declared.raw.RawPin.{RawPin}
-use Rattle.ca_cell.specs.declared.raw.RawDevice.{RawDevice}
-use Rattle.ca_cell.specs.Devices.{has_gate, open_count}
 use Rattle.ca_cell.specs.declared.raw.RawCell.{RawCell}
 use Rattle.ca_cell.specs.Raw.{is_input, is_output, role_count, inner_count, device_of, nodes_of, circuit_of}
 use Rattle.ca_cell.specs.Nodes.{free_count, pair_count, defect_count}
 use Rattle.ca_cell.proofs.CircuitLemmas.{length-nodes_of}
 use Rattle.ca_defect.specs.declared.defect.Defect.{Defect}
 use Rattle.ca_defect.specs.declared.defect.Defect.TheVariants.{Short}
-use Rattle.ca_defect.specs.Defect.{gated_at, is_short}
-use Rattle.ca_defect.specs.List.{each_from, opens_of, device_opens, pin_open, short_of, shorts_of, defects_of}
+use Rattle.ca_defect.specs.Defect.{is_short}
+use Rattle.ca_defect.specs.List.{each_from, device_opens, pin_open, short_of, shorts_of, defects_of}
 
 -- each place gives as many
 length-each_from : (give : ℕ → List Defect) (size place count : ℕ) → ((k : ℕ) → length (give k) ≡ size) → length (each_from give place count) ≡ size * count
@@ -160,35 +154,13 @@ length-shorts inputs others enough =
     ∙ ap (λ n. length (shorts 0) + n) (length-append (shorts 1) (each_from shorts 2 others))
     ∙ omega (arith, power, ground, rest, free)
 
--- the opens of the devices from a place on are as many as those of their cards
-opens_count : (all : List Device) (pins : List RawPin) (cards : List RawDevice) (place : ℕ)
-    → ((k : ℕ) → gated_at all (place + k) ≡ gated_at (map (device_of pins) cards) k)
-    → length (each_from (device_opens all) place (length cards)) ≡ open_count cards
-opens_count all pins [] place same = refl
-opens_count all pins (card ∷ cards) place same =
-    let rest = opens_count all pins cards (place + 1) (λ k.
-    let next : place + 1 + k ≡ place + suc k = omega arith in ap (gated_at all) next ∙ same (suc k)) in
-    let first : gated_at all place ≡ has_gate card.kind = ap (gated_at all) (sym (add-zero place)) ∙ same 0 in
-    let both = length-append (device_opens all place) (each_from (device_opens all) (place + 1) (length cards)) in
-    let size : length (device_opens all place) ≡ 2 + cond (has_gate card.kind) 1 0 =
-    ap (λ (b : Bool). length (opens_of b place)) first ∙ opens_size place (has_gate card.kind) in
-    let counted : open_count (card ∷ cards) ≡ 2 + cond (has_gate card.kind) 1 0 + open_count cards =
-    let gated = sum_by-cons (λ (d : RawDevice). cond (has_gate d.kind) 1 0) card cards in omega (arith, gated) in
-    both ∙ omega (arith, rest, size, counted)
-  where
-    opens_size : (k : ℕ) (b : Bool) → length (opens_of b k) ≡ 2 + cond b 1 0
-    opens_size k true = refl
-    opens_size k false = refl
-
 -- the list has as many defects as the cell counts
 pub length-defects_of : (raw : RawCell) → length (defects_of raw) ≡ defect_count raw
 length-defects_of raw =
     let inputs : ℕ = role_count is_input raw.pins in
     let free : ℕ = role_count is_output raw.pins + inner_count raw in
     let nodes : ℕ = length (nodes_of raw) in
-    let devices : length (each_from (device_opens (circuit_of raw).devices) 0 (length (circuit_of raw).devices)) ≡ open_count raw.devices =
-    ap (λ (n : ℕ). length (each_from (device_opens (circuit_of raw).devices) 0 n)) (length-map raw.devices (device_of raw.pins))
-    ∙ opens_count (circuit_of raw).devices raw.pins raw.devices 0 (λ k. ap (gated_at (circuit_of raw).devices) (zero-add k)) in
+    let devices = length-each_from device_opens 3 0 (length (circuit_of raw).devices) (λ k. refl) in
     let pins = length-each_from pin_open 1 0 inputs (λ k. refl) in
     let count : nodes ≡ suc (suc (inputs + free)) = length-nodes_of raw ∙ omega arith in
     let without : inputs + free - inputs ≡ free = omega arith in
@@ -198,6 +170,7 @@ length-defects_of raw =
     let one_more = pair_count-suc (suc free) in
     let last_more = pair_count-suc free in
     let last = ap pair_count without in
-    let opens = length-append (each_from (device_opens (circuit_of raw).devices) 0 (length (circuit_of raw).devices)) (each_from pin_open 0 inputs ++ each_from (shorts_of nodes inputs) 0 nodes) in
+    let opens = length-append (each_from device_opens 0 (length (circuit_of raw).devices)) (each_from pin_open 0 inputs ++ each_from (shorts_of nodes inputs) 0 nodes) in
     let others = length-append (each_from pin_open 0 inputs) (each_from (shorts_of nodes inputs) 0 nodes) in
-    opens ∙ omega (arith, devices, pins, shorts, pairs, one_more, last_more, last, others)
+    let cards : length (circuit_of raw).devices ≡ length raw.devices = length-map raw.devices (device_of raw.pins) in
+    opens ∙ omega (arith, devices, pins, shorts, pairs, one_more, last_more, last, others, cards)

@@ -19,11 +19,8 @@ use Rattle.ca_defect.specs.declared.defect.Defect.{Defect}
 use Rattle.ca_defect.specs.declared.defect.Defect.TheVariants.{OpenDrain, OpenSource, OpenGate, OpenPin}
 use Rattle.ca_defect.specs.declared.defect.Defect.TheVariants.{Short}
 use Rattle.ca_defect.specs.List.{IsDefectOf}
-use Rattle.ca_defect.specs.Name.{net_from, node_name, device_name, drain_letter, source_letter}
-use Rattle.ca_defect.specs.Name.{is_transistor, name_of}
-use Rattle.ca_defect.specs.Defect.{gated_at}
+use Rattle.ca_defect.specs.Name.{net_from, node_name, device_name, name_of}
 use Rattle.ca_defect.proofs.CircuitWithLemmas.{short_ordered}
-use Rattle.ca_defect.proofs.MemberLemmas.{gated_within}
 use Rattle.ca_defect.proofs.PlainLemmas.{IsPlainText, upper_plain, one_short, open_or_short, one_open}
 
 -- the net by which a node is called
@@ -157,79 +154,33 @@ module _ (raw : RawCell) (keeps : KeepsRules raw) (plain : HasPlainNames raw) wh
   abbrev node_text : ℕ → List ℕ
   node_text n = upper_case (node_name raw n)
 
-  -- whether the device at a place has a gate, and the letters of its opens
-  abbrev at : ℕ → Bool
-  at place = is_transistor raw place
-
-  abbrev drain : ℕ → ℕ
-  drain place = drain_letter (at place)
-
-  abbrev source : ℕ → ℕ
-  source place = source_letter (at place)
-
-  -- letters of different terminals differ
-  not_source : (b c : Bool) → (drain_letter b == source_letter c) ≡ false
-  not_source true true = refl
-  not_source true false = refl
-  not_source false true = refl
-  not_source false false = refl
-
-  not_drain : (b c : Bool) → (source_letter b == drain_letter c) ≡ false
-  not_drain true true = refl
-  not_drain true false = refl
-  not_drain false true = refl
-  not_drain false false = refl
-
-  drain_is_no : (b : Bool) → ((drain_letter b == 71) ≡ false) × ((71 == drain_letter b) ≡ false)
-  drain_is_no true = (refl, refl)
-  drain_is_no false = (refl, refl)
-
-  source_is_no : (b : Bool) → ((source_letter b == 71) ≡ false) × ((71 == source_letter b) ≡ false)
-  source_is_no true = (refl, refl)
-  source_is_no false = (refl, refl)
-
-  drain_is_no_pin : (b : Bool) → ((drain_letter b == 80) ≡ false) × ((80 == drain_letter b) ≡ false)
-  drain_is_no_pin true = (refl, refl)
-  drain_is_no_pin false = (refl, refl)
-
-  source_is_no_pin : (b : Bool) → ((source_letter b == 80) ≡ false) × ((80 == source_letter b) ≡ false)
-  source_is_no_pin true = (refl, refl)
-  source_is_no_pin false = (refl, refl)
-
-  no_short : (b : Bool) → ((drain_letter b == 61) ≡ false) × ((source_letter b == 61) ≡ false)
-  no_short true = (refl, refl)
-  no_short false = (refl, refl)
-
-  gated_here : (place : ℕ) → gated_at (circuit_of raw).devices place ≡ true → place < length (circuit_of raw).devices
-  gated_here place is = gated_within (circuit_of raw).devices place is
-
   pub one_defect : (defect other : Defect) → IsDefectOf raw defect → IsDefectOf raw other → name_of raw defect ≡ name_of raw other → defect ≡ other
   one_defect (OpenDrain d) (OpenDrain e) is is_too same =
-      let place = one_device d.0 e.0 (few d.0 is) (few e.0 is_too) (one_open (device_text d.0) (device_text e.0) (drain d.0) (drain e.0) same).0 in
+      let place = one_device d.0 e.0 (few d.0 is) (few e.0 is_too) (one_open (device_text d.0) (device_text e.0) 68 68 same).0 in
       λ j. OpenDrain (record { 0 = place j })
-  one_defect (OpenDrain d) (OpenSource e) is is_too same = absurd (marks (device_text d.0) (device_text e.0) (drain d.0) (source e.0) (not_source (at d.0) (at e.0)) same)
-  one_defect (OpenDrain d) (OpenGate e) is is_too same = absurd (marks (device_text d.0) (device_text e.0) (drain d.0) 71 (drain_is_no (at d.0)).0 same)
-  one_defect (OpenDrain d) (OpenPin pin) is is_too same = absurd (marks (device_text d.0) (node_text pin.0) (drain d.0) 80 (drain_is_no_pin (at d.0)).0 same)
+  one_defect (OpenDrain d) (OpenSource e) is is_too same = absurd (marks (device_text d.0) (device_text e.0) 68 83 refl same)
+  one_defect (OpenDrain d) (OpenGate e) is is_too same = absurd (marks (device_text d.0) (device_text e.0) 68 71 refl same)
+  one_defect (OpenDrain d) (OpenPin pin) is is_too same = absurd (marks (device_text d.0) (node_text pin.0) 68 80 refl same)
   one_defect (OpenDrain d) (Short low high) is is_too same =
-      absurd (device_or_short d.0 (drain d.0) low.0 high.0 (apart (drain d.0) 61 (no_short (at d.0)).0) is (low_node low.0 high.0 is_too) same)
-  one_defect (OpenSource d) (OpenDrain e) is is_too same = absurd (marks (device_text d.0) (device_text e.0) (source d.0) (drain e.0) (not_drain (at d.0) (at e.0)) same)
+      absurd (device_or_short d.0 68 low.0 high.0 (apart 68 61 refl) is (low_node low.0 high.0 is_too) same)
+  one_defect (OpenSource d) (OpenDrain e) is is_too same = absurd (marks (device_text d.0) (device_text e.0) 83 68 refl same)
   one_defect (OpenSource d) (OpenSource e) is is_too same =
-      let place = one_device d.0 e.0 (few d.0 is) (few e.0 is_too) (one_open (device_text d.0) (device_text e.0) (source d.0) (source e.0) same).0 in
+      let place = one_device d.0 e.0 (few d.0 is) (few e.0 is_too) (one_open (device_text d.0) (device_text e.0) 83 83 same).0 in
       λ j. OpenSource (record { 0 = place j })
-  one_defect (OpenSource d) (OpenGate e) is is_too same = absurd (marks (device_text d.0) (device_text e.0) (source d.0) 71 (source_is_no (at d.0)).0 same)
-  one_defect (OpenSource d) (OpenPin pin) is is_too same = absurd (marks (device_text d.0) (node_text pin.0) (source d.0) 80 (source_is_no_pin (at d.0)).0 same)
+  one_defect (OpenSource d) (OpenGate e) is is_too same = absurd (marks (device_text d.0) (device_text e.0) 83 71 refl same)
+  one_defect (OpenSource d) (OpenPin pin) is is_too same = absurd (marks (device_text d.0) (node_text pin.0) 83 80 refl same)
   one_defect (OpenSource d) (Short low high) is is_too same =
-      absurd (device_or_short d.0 (source d.0) low.0 high.0 (apart (source d.0) 61 (no_short (at d.0)).1) is (low_node low.0 high.0 is_too) same)
-  one_defect (OpenGate d) (OpenDrain e) is is_too same = absurd (marks (device_text d.0) (device_text e.0) 71 (drain e.0) (drain_is_no (at e.0)).1 same)
-  one_defect (OpenGate d) (OpenSource e) is is_too same = absurd (marks (device_text d.0) (device_text e.0) 71 (source e.0) (source_is_no (at e.0)).1 same)
+      absurd (device_or_short d.0 83 low.0 high.0 (apart 83 61 refl) is (low_node low.0 high.0 is_too) same)
+  one_defect (OpenGate d) (OpenDrain e) is is_too same = absurd (marks (device_text d.0) (device_text e.0) 71 68 refl same)
+  one_defect (OpenGate d) (OpenSource e) is is_too same = absurd (marks (device_text d.0) (device_text e.0) 71 83 refl same)
   one_defect (OpenGate d) (OpenGate e) is is_too same =
-      let place = one_device d.0 e.0 (few d.0 (gated_here d.0 is)) (few e.0 (gated_here e.0 is_too)) (one_open (device_text d.0) (device_text e.0) 71 71 same).0 in
+      let place = one_device d.0 e.0 (few d.0 is) (few e.0 is_too) (one_open (device_text d.0) (device_text e.0) 71 71 same).0 in
       λ j. OpenGate (record { 0 = place j })
   one_defect (OpenGate d) (OpenPin pin) is is_too same = absurd (marks (device_text d.0) (node_text pin.0) 71 80 refl same)
   one_defect (OpenGate d) (Short low high) is is_too same =
-      absurd (device_or_short d.0 71 low.0 high.0 (apart 71 61 refl) (gated_here d.0 is) (low_node low.0 high.0 is_too) same)
-  one_defect (OpenPin pin) (OpenDrain e) is is_too same = absurd (marks (node_text pin.0) (device_text e.0) 80 (drain e.0) (drain_is_no_pin (at e.0)).1 same)
-  one_defect (OpenPin pin) (OpenSource e) is is_too same = absurd (marks (node_text pin.0) (device_text e.0) 80 (source e.0) (source_is_no_pin (at e.0)).1 same)
+      absurd (device_or_short d.0 71 low.0 high.0 (apart 71 61 refl) is (low_node low.0 high.0 is_too) same)
+  one_defect (OpenPin pin) (OpenDrain e) is is_too same = absurd (marks (node_text pin.0) (device_text e.0) 80 68 refl same)
+  one_defect (OpenPin pin) (OpenSource e) is is_too same = absurd (marks (node_text pin.0) (device_text e.0) 80 83 refl same)
   one_defect (OpenPin pin) (OpenGate e) is is_too same = absurd (marks (node_text pin.0) (device_text e.0) 80 71 refl same)
   one_defect (OpenPin pin) (OpenPin other) is is_too same =
       let node = one_node pin.0 other.0 (pin_node pin.0 is.1) (pin_node other.0 is_too.1) (one_open (node_text pin.0) (node_text other.0) 80 80 same).0 in
@@ -237,11 +188,11 @@ module _ (raw : RawCell) (keeps : KeepsRules raw) (plain : HasPlainNames raw) wh
   one_defect (OpenPin pin) (Short low high) is is_too same =
       absurd (pin_or_short pin.0 80 low.0 high.0 (apart 80 61 refl) is.1 (low_node low.0 high.0 is_too) same)
   one_defect (Short low high) (OpenDrain e) is is_too same =
-      absurd (device_or_short e.0 (drain e.0) low.0 high.0 (apart (drain e.0) 61 (no_short (at e.0)).0) is_too (low_node low.0 high.0 is) (sym same))
+      absurd (device_or_short e.0 68 low.0 high.0 (apart 68 61 refl) is_too (low_node low.0 high.0 is) (sym same))
   one_defect (Short low high) (OpenSource e) is is_too same =
-      absurd (device_or_short e.0 (source e.0) low.0 high.0 (apart (source e.0) 61 (no_short (at e.0)).1) is_too (low_node low.0 high.0 is) (sym same))
+      absurd (device_or_short e.0 83 low.0 high.0 (apart 83 61 refl) is_too (low_node low.0 high.0 is) (sym same))
   one_defect (Short low high) (OpenGate e) is is_too same =
-      absurd (device_or_short e.0 71 low.0 high.0 (apart 71 61 refl) (gated_here e.0 is_too) (low_node low.0 high.0 is) (sym same))
+      absurd (device_or_short e.0 71 low.0 high.0 (apart 71 61 refl) is_too (low_node low.0 high.0 is) (sym same))
   one_defect (Short low high) (OpenPin pin) is is_too same =
       absurd (pin_or_short pin.0 80 low.0 high.0 (apart 80 61 refl) is_too.1 (low_node low.0 high.0 is) (sym same))
   one_defect (Short low high) (Short other more) is is_too same =

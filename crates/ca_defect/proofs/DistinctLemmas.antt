@@ -13,9 +13,8 @@ use Rattle.ca_cell.specs.PlainNames.{HasPlainNames}
 use Rattle.ca_defect.specs.declared.defect.Defect.{Defect}
 use Rattle.ca_defect.specs.declared.defect.Defect.TheVariants.{OpenDrain, OpenSource, OpenGate, OpenPin}
 use Rattle.ca_defect.specs.declared.defect.Defect.TheVariants.{Short}
-use Rattle.ca_defect.specs.Defect.{gated_at, is_short}
-use Rattle.ca_net.specs.declared.device.Device.{Device}
-use Rattle.ca_defect.specs.List.{each_from, opens_of, device_opens, pin_open, short_of, shorts_of, listed_defects}
+use Rattle.ca_defect.specs.Defect.{is_short}
+use Rattle.ca_defect.specs.List.{each_from, device_opens, pin_open, short_of, shorts_of, listed_defects}
 use Rattle.ca_defect.specs.List.{defects_of, IsDefectOf}
 use Rattle.ca_defect.specs.Name.{name_of, names_of}
 use Rattle.ca_defect.specs.Laws.{DefectsDiffer}
@@ -106,19 +105,17 @@ high_of (Short low high) = high.0
 high_of _ = 0
 
 -- an entry of a device's opens determines its place in them
-open_place : (b : Bool) (k place : ℕ) (x : Defect) → slice_get (opens_of b k) place ≡ Some x → (key_of x ≡ k) × (kind_of x ≡ place) × (place < 3)
-open_place b k zero x there =
+open_place : (k place : ℕ) (x : Defect) → slice_get (device_opens k) place ≡ Some x → (key_of x ≡ k) × (kind_of x ≡ place) × (place < 3)
+open_place k zero x there =
     let same : OpenDrain (record { 0 = k }) ≡ x = cc in subst (λ d. (key_of d ≡ k) × (kind_of d ≡ 0) × (0 < 3)) same (refl, refl, omega arith)
-open_place b k (suc zero) x there =
+open_place k (suc zero) x there =
     let same : OpenSource (record { 0 = k }) ≡ x = cc in subst (λ d. (key_of d ≡ k) × (kind_of d ≡ 1) × (1 < 3)) same (refl, refl, omega arith)
-open_place false k (suc (suc place)) x there = absurd cc
-open_place true k (suc (suc zero)) x there =
+open_place k (suc (suc zero)) x there =
     let same : OpenGate (record { 0 = k }) ≡ x = cc in subst (λ d. (key_of d ≡ k) × (kind_of d ≡ 2) × (2 < 3)) same (refl, refl, omega arith)
-open_place true k (suc (suc (suc place))) x there = absurd cc
+open_place k (suc (suc (suc place))) x there = absurd cc
 
-opens_distinct : (devices : List Device) (k : ℕ) → AreDistinct (device_opens devices k)
-opens_distinct devices k one other x is is_too =
-    sym (open_place (gated_at devices k) k one x is).1 ∙ (open_place (gated_at devices k) k other x is_too).1
+opens_distinct : (k : ℕ) → AreDistinct (device_opens k)
+opens_distinct k one other x is is_too = sym (open_place k one x is).1 ∙ (open_place k other x is_too).1
 
 -- the open of a pin is alone
 alone : (first : Defect) (place : ℕ) (x : Defect) → slice_get (first ∷ []) place ≡ Some x → (place ≡ 0) × (first ≡ x)
@@ -157,10 +154,10 @@ shorts_place nodes inputs low place x there =
     (ap key_of (sym same), ap kind_of (sym same))
 
 -- the kinds of the three parts of the list
-open_kind : (devices : List Device) (count at : ℕ) (x : Defect) → slice_get (each_from (device_opens devices) 0 count) at ≡ Some x → kind_of x < 3
-open_kind devices count at x there =
-    let it = given (device_opens devices) 0 count at x there in
-    let place = open_place (gated_at devices it.of) it.of it.place x it.there in
+open_kind : (count at : ℕ) (x : Defect) → slice_get (each_from device_opens 0 count) at ≡ Some x → kind_of x < 3
+open_kind count at x there =
+    let it = given device_opens 0 count at x there in
+    let place = open_place it.of it.place x it.there in
     let kind = place.1 in let few = place.2 in omega (arith, kind, few)
 
 pin_kind : (count at : ℕ) (x : Defect) → slice_get (each_from pin_open 0 count) at ≡ Some x → kind_of x ≡ 3
@@ -190,12 +187,11 @@ rest_kind nodes inputs at x there = elim (in_either (each_from pin_open 0 inputs
 listed_distinct : (net : Circuit) (inputs : ℕ) → AreDistinct (listed_defects net inputs)
 listed_distinct net inputs =
     let nodes : ℕ = length net.nodes in
-    distinct-append (each_from (device_opens net.devices) 0 (length net.devices)) (each_from pin_open 0 inputs ++ each_from (shorts_of nodes inputs) 0 nodes)
-    (distinct-each (device_opens net.devices) key_of (λ k place x there. (open_place (gated_at net.devices k) k place x there).0)
-    (opens_distinct net.devices) 0 (length net.devices))
+    distinct-append (each_from device_opens 0 (length net.devices)) (each_from pin_open 0 inputs ++ each_from (shorts_of nodes inputs) 0 nodes)
+    (distinct-each device_opens key_of (λ k place x there. (open_place k place x there).0) opens_distinct 0 (length net.devices))
     (rest_distinct nodes inputs)
     (λ one other x open_there rest_there.
-    let few = open_kind net.devices (length net.devices) one x open_there in
+    let few = open_kind (length net.devices) one x open_there in
     let many = rest_kind nodes inputs other x rest_there in
     omega (arith, few, many))
 

@@ -7,7 +7,7 @@ use Rattle.std.specs.Option.{option_or}
 use Rattle.std.proofs.lemmas.List.Folds.{find-append}
 use Rattle.ca_defect.specs.declared.defect.Defect.{Defect}
 use Rattle.ca_defect.specs.declared.defect.Defect.TheVariants.{OpenDrain, OpenSource, OpenGate}
-use Rattle.ca_defect.specs.List.{each_from, opens_of}
+use Rattle.ca_defect.specs.List.{each_from, device_opens}
 
 -- one more place gives its defects after the others
 each_from-suc : (give : ℕ → List Defect) (place count : ℕ) → each_from give place (suc count) ≡ each_from give place count ++ give (place + count)
@@ -27,19 +27,12 @@ one_more_place give count start list new before more =
 
 -- the opens of a device, one after the other
 pub opens_pushed : (place : ℕ) (list one two three : List Defect) → one ≡ list ++ OpenDrain (record { 0 = place }) ∷ []
-    → two ≡ one ++ OpenSource (record { 0 = place }) ∷ [] → three ≡ two ++ OpenGate (record { 0 = place }) ∷ [] → three ≡ list ++ opens_of true place
+    → two ≡ one ++ OpenSource (record { 0 = place }) ∷ [] → three ≡ two ++ OpenGate (record { 0 = place }) ∷ [] → three ≡ list ++ device_opens place
 opens_pushed place list one two three first second third =
     let drain : List Defect = OpenDrain (record { 0 = place }) ∷ [] in
     let source : List Defect = OpenSource (record { 0 = place }) ∷ [] in
     let gate : List Defect = OpenGate (record { 0 = place }) ∷ [] in
     third ∙ ap (λ l. l ++ gate) (second ∙ ap (λ l. l ++ source) first) ∙ append_assoc (list ++ drain) source gate ∙ append_assoc list drain (source ++ gate)
-
-pub two_opens_pushed : (place : ℕ) (list one two : List Defect) → one ≡ list ++ OpenDrain (record { 0 = place }) ∷ []
-    → two ≡ one ++ OpenSource (record { 0 = place }) ∷ [] → two ≡ list ++ opens_of false place
-two_opens_pushed place list one two first second =
-    let drain : List Defect = OpenDrain (record { 0 = place }) ∷ [] in
-    let source : List Defect = OpenSource (record { 0 = place }) ∷ [] in
-    second ∙ ap (λ l. l ++ source) first ∙ append_assoc list drain source
 
 -- the places from one on are that one and those after it
 each_from-front : (give : ℕ → List Defect) (place end : ℕ) → place < end → each_from give place (end - place) ≡ give place ++ each_from give (place + 1) (end - (place + 1))

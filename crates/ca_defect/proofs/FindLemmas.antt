@@ -83,7 +83,7 @@ find_in_three test opens pins shorts =
 
 -- the first open of a device, the first open of an input pin and the first short that has the name
 abbrev named_open : RawCell → List ℕ → Option Defect
-named_open raw text = find (is_called raw text) (each_from (device_opens (circuit_of raw).devices) 0 (length (circuit_of raw).devices))
+named_open raw text = find (is_called raw text) (each_from device_opens 0 (length (circuit_of raw).devices))
 
 abbrev named_pin : RawCell → List ℕ → Option Defect
 named_pin raw text = find (is_called raw text) (each_from pin_open 0 (role_count is_input raw.pins))

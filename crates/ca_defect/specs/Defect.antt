@@ -1,7 +1,7 @@
 -- Networks with a defect (after Hapke and others 2014). A defect is one of a cell, and names the cell's nodes
 -- and devices.
 use Rattle.std.specs.Prelude.{ℕ, ◌<◌, ◌≤◌, ◌+◌, ◌==◌, ◌&&◌, nat_lt, nat_le, not, Bool, IsTrue, if◌then◌else◌}
-use Rattle.std.specs.Prelude.{List, [], ◌∷◌, ◌++◌, length, false, Option, Some, None, option_to_list, slice_get}
+use Rattle.std.specs.Prelude.{List, [], ◌∷◌, ◌++◌, length, Option, Some, None, option_to_list}
 use Rattle.ca_net.specs.declared.scale.TheConstants.{INNER_NODE, BRIDGE}
 use Rattle.ca_net.specs.declared.node.NodeKind.{NodeKind}
 use Rattle.ca_net.specs.declared.node.NodeKind.TheVariants.{Storage}
@@ -9,27 +9,13 @@ use Rattle.ca_net.specs.declared.node.NodeId.{NodeId}
 use Rattle.ca_net.specs.declared.device.DeviceKind.TheVariants as kind
 use Rattle.ca_net.specs.declared.device.Device.{Device}
 use Rattle.ca_net.specs.Circuit.{Circuit}
-use Rattle.ca_cell.specs.Devices.{has_gate}
 use Rattle.ca_defect.specs.declared.defect.Defect.{Defect}
 use Rattle.ca_defect.specs.declared.defect.Defect.TheVariants.{OpenDrain, OpenSource, OpenGate, OpenPin}
 use Rattle.ca_defect.specs.declared.defect.Defect.TheVariants.{Short}
 
--- the device has a gate
-abbrev pub is_gated : Device → Bool
-is_gated device = has_gate device.kind
-
--- there is a device with a gate at a place
-abbrev pub gated_in : Option Device → Bool
-gated_in None = false
-gated_in (Some device) = is_gated device
-
-abbrev pub gated_at : List Device → ℕ → Bool
-gated_at devices place = gated_in (slice_get devices place)
-
--- the device with its drain on the node n; without a gate, its drain is given as its gate
+-- the device with its drain on the node n
 abbrev pub drain_on : ℕ → Device → Device
-drain_on n device = if is_gated device then record device { a = record { 0 = n } }
-    else record device { a = record { 0 = n }; gate = record { 0 = n } }
+drain_on n device = record device { a = record { 0 = n } }
 
 -- the device with its source on the node n
 abbrev pub source_on : ℕ → Device → Device
@@ -40,14 +26,12 @@ abbrev pub gate_on : ℕ → Device → Device
 gate_on n device = record device { gate = record { 0 = n } }
 
 -- the device at a place of the list, with the defect: one terminal of one device is on the new node, or each
--- gate of a transistor that was on the pin; only transistors have gates
+-- gate that was on the pin
 abbrev pub device_with : Defect → ℕ → ℕ → Device → Device
 device_with (OpenDrain opened) new place device = if place == opened.0 then drain_on new device else device
 device_with (OpenSource opened) new place device = if place == opened.0 then source_on new device else device
-device_with (OpenGate opened) new place device =
-    if is_gated device && place == opened.0 then gate_on new device else device
-device_with (OpenPin pin) new place device =
-    if is_gated device && device.gate.0 == pin.0 then gate_on new device else device
+device_with (OpenGate opened) new place device = if place == opened.0 then gate_on new device else device
+device_with (OpenPin pin) new place device = if device.gate.0 == pin.0 then gate_on new device else device
 device_with (Short low high) new place device = device
 
 -- these devices, the first of which is at a place of the list, with the defect
@@ -110,6 +94,6 @@ is_short inputs low high =
 abbrev pub IsDefect : Circuit → ℕ → Defect → Type 0
 IsDefect net inputs (OpenDrain opened) = opened.0 < length net.devices
 IsDefect net inputs (OpenSource opened) = opened.0 < length net.devices
-IsDefect net inputs (OpenGate opened) = IsTrue (gated_at net.devices opened.0)
+IsDefect net inputs (OpenGate opened) = opened.0 < length net.devices
 IsDefect net inputs (OpenPin pin) = (2 ≤ pin.0) × (pin.0 < 2 + inputs)
 IsDefect net inputs (Short low high) = (high.0 < length net.nodes) × IsTrue (is_short inputs low.0 high.0)

@@ -1,7 +1,6 @@
 -- The list of the defects of a cell.
 use Rattle.std.specs.Prelude.{ℕ, zero, suc, ◌+◌, ◌≡◌, ◌↔◌, if◌then◌else◌, List, [], ◌∷◌, ◌++◌, length}
-use Rattle.std.specs.Prelude.{Bool, Contains}
-use Rattle.ca_net.specs.declared.device.Device.{Device}
+use Rattle.std.specs.Prelude.{Contains}
 use Rattle.ca_net.specs.Circuit.{Circuit}
 use Rattle.ca_cell.specs.declared.raw.RawCell.{RawCell}
 use Rattle.ca_cell.specs.Raw.{is_input, role_count, circuit_of}
@@ -9,20 +8,18 @@ use Rattle.ca_cell.specs.Nodes.{defect_count}
 use Rattle.ca_defect.specs.declared.defect.Defect.{Defect}
 use Rattle.ca_defect.specs.declared.defect.Defect.TheVariants.{OpenDrain, OpenSource, OpenGate, OpenPin}
 use Rattle.ca_defect.specs.declared.defect.Defect.TheVariants.{Short}
-use Rattle.ca_defect.specs.Defect.{gated_at, is_short, IsDefect, circuit_with}
+use Rattle.ca_defect.specs.Defect.{is_short, IsDefect, circuit_with}
 
 -- the defects that each of this many places gives, from a place on, in order
 abbrev pub each_from : (ℕ → List Defect) → ℕ → ℕ → List Defect
 each_from give place zero = []
 each_from give place (suc count) = give place ++ each_from give (place + 1) count
 
--- the opens of a device: at its drain, at its source, and at its gate if it has one
-abbrev pub opens_of : Bool → ℕ → List Defect
-opens_of gated place = OpenDrain (record { 0 = place }) ∷ OpenSource (record { 0 = place })
-    ∷ (if gated then OpenGate (record { 0 = place }) ∷ [] else [])
-
-abbrev pub device_opens : List Device → ℕ → List Defect
-device_opens devices place = opens_of (gated_at devices place) place
+-- the opens of a device: at its drain, at its source, at its gate
+abbrev pub device_opens : ℕ → List Defect
+device_opens place =
+    OpenDrain (record { 0 = place }) ∷ OpenSource (record { 0 = place }) ∷ OpenGate (record { 0 = place })
+    ∷ []
 
 -- the open of an input pin, with this many before it
 abbrev pub pin_open : ℕ → List Defect
@@ -42,7 +39,7 @@ shorts_of nodes inputs low = each_from (short_of inputs low) 0 nodes
 -- nodes.
 abbrev pub listed_defects : Circuit → ℕ → List Defect
 listed_defects net inputs =
-    each_from (device_opens net.devices) 0 (length net.devices)
+    each_from device_opens 0 (length net.devices)
     ++ (each_from pin_open 0 inputs ++ each_from (shorts_of (length net.nodes) inputs) 0 (length net.nodes))
 
 -- the defects of a cell

@@ -1,13 +1,12 @@
 //! The defects of a cell, and what each changes in the cell's network.
 
 ghost use Rattle.std.specs.Prelude.{◌≡◌};
-ghost use Rattle.ca_defect.specs.Defect.{drain_on, device_with, bridge, is_pin, is_short};
+ghost use Rattle.ca_defect.specs.Defect.{device_with, bridge, is_pin, is_short};
 
-use ca_cell::has_gate;
 use ca_net::{BRIDGE, Device, DeviceId, DeviceKind, INNER_NODE, NodeId, NodeKind};
 
 /// One change of a cell's network. An open is at a terminal of a device, or at an input pin, where all gates
-/// on the pin come off together; a short is between two nodes, the lower one first. A resistor has no gate.
+/// on the pin come off together; a short is between two nodes, the lower one first.
 #[derive(Clone, Copy, Debug, PartialEq, Eq)]
 pub enum Defect {
     OpenDrain(DeviceId),
@@ -17,33 +16,18 @@ pub enum Defect {
     Short(NodeId, NodeId),
 }
 
-// The device with its drain on another node. The gate of a resistor is its drain.
-fn drain_on(new: NodeId, device: Device) -> Device
-    ensures { result ≡ drain_on new.0 device }
-{
-    if has_gate(device.kind) {
-        Device { a: new, ..device }
-    } else {
-        Device {
-            a: new,
-            gate: new,
-            ..device
-        }
-    }
-}
-
 /// The device at a place of the cell's list, in the cell with the defect, whose new node is `new`.
 pub fn changed_device(defect: Defect, new: NodeId, place: DeviceId, device: Device) -> Device
     ensures { result ≡ device_with defect new.0 place.0 device }
 {
     match defect {
-        Defect::OpenDrain(opened) if place.0 == opened.0 => drain_on(new, device),
+        Defect::OpenDrain(opened) if place.0 == opened.0 => Device { a: new, ..device },
         Defect::OpenSource(opened) if place.0 == opened.0 => Device { b: new, ..device },
-        Defect::OpenGate(opened) if has_gate(device.kind) && place.0 == opened.0 => Device {
+        Defect::OpenGate(opened) if place.0 == opened.0 => Device {
             gate: new,
             ..device
         },
-        Defect::OpenPin(pin) if has_gate(device.kind) && device.gate.0 == pin.0 => Device {
+        Defect::OpenPin(pin) if device.gate.0 == pin.0 => Device {
             gate: new,
             ..device
         },

@@ -2,21 +2,17 @@
 
 ghost use Rattle.std.specs.Prelude.{◌≡◌, ◌<◌, ◌+◌, ◌^◌, ◌++◌, All, length, IfOk, OnOk};
 ghost use Rattle.ca_cell.specs.Nodes.{defect_count};
-ghost use Rattle.ca_cell.specs.Raw.{circuit_of};
-ghost use Rattle.ca_defect.specs.List.{each_from, opens_of, device_opens, pin_open, short_of, shorts_of};
-ghost use Rattle.ca_defect.specs.List.{defects_of};
-ghost use Rattle.ca_defect.specs.Defect.{gated_at};
+ghost use Rattle.ca_defect.specs.List.{each_from, device_opens, pin_open, short_of, shorts_of, defects_of};
 ghost use Rattle.ca_defect.specs.List.{IsDefectOf};
 
 use crate::defect::{Defect, is_short};
 use crate::list::DefectList;
 use ca_base::NoMemory;
-use ca_cell::{Cell, has_gate};
+use ca_cell::Cell;
 use ca_net::{DeviceId, Network, NodeId};
 use std::alloc::Global;
 
-/// The defects of a cell: for each device in order the opens of its drain, its source and its gate, which a
-/// resistor lacks; the open
+/// The defects of a cell: for each device in order the opens of its drain, its source and its gate; the open
 /// of each input pin in order; and the short of each two nodes that are no input pins, in the order of the
 /// lower and then of the higher node, except power with ground.
 pub fn defects(alloc: Global, cell: &Cell) -> Result<DefectList, NoMemory>
@@ -25,42 +21,30 @@ pub fn defects(alloc: Global, cell: &Cell) -> Result<DefectList, NoMemory>
     ensures count { IfOk result (λ list. length list ≡ defect_count cell.now) }
 {
     let mut list = DefectList::new(alloc);
-    push_device_opens(&mut list, cell)?;
+    push_device_opens(&mut list, cell.device_count())?;
     push_pin_opens(&mut list, cell.inputs())?;
     push_shorts(&mut list, cell.node_count(), cell.inputs())?;
     Ok(list)
 }
 
 // Appends the opens of the devices.
-fn push_device_opens(list: &mut DefectList, cell: &Cell) -> Result<(), NoMemory>
-    ensures ok { OnOk result (list.new ≡ list.old
-        ++ each_from (device_opens (circuit_of cell.now).devices) 0 (length (circuit_of cell.now).devices)) }
+fn push_device_opens(list: &mut DefectList, devices: usize) -> Result<(), NoMemory>
+    requires { devices < 2 ^ 32 }
+    ensures ok { OnOk result (list.new ≡ list.old ++ each_from device_opens 0 devices) }
 {
-    for place in 0..cell.device_count() {
-        let device = DeviceId(place as u32);
-        push_opens_of(list, has_gate_at(cell, device), device)?;
+    for place in 0..devices {
+        push_opens_of(list, DeviceId(place as u32))?;
     }
     Ok(())
-}
-
-/// Whether the device at a place has a gate.
-pub(crate) fn has_gate_at(cell: &Cell, device: DeviceId) -> bool
-    requires { device.0 < length (circuit_of cell.now).devices }
-    ensures { result ≡ gated_at (circuit_of cell.now).devices device.0 }
-{
-    has_gate(cell.device(device).kind)
 }
 
 // Appends the opens of a device.
-fn push_opens_of(list: &mut DefectList, gated: bool, device: DeviceId) -> Result<(), NoMemory>
-    ensures ok { OnOk result (list.new ≡ list.old ++ opens_of gated device.0) }
+fn push_opens_of(list: &mut DefectList, device: DeviceId) -> Result<(), NoMemory>
+    ensures ok { OnOk result (list.new ≡ list.old ++ device_opens device.0) }
 {
     list.push(Defect::OpenDrain(device))?;
     list.push(Defect::OpenSource(device))?;
-    if gated {
-        list.push(Defect::OpenGate(device))?;
-    }
-    Ok(())
+    list.push(Defect::OpenGate(device))
 }
 
 // Appends the opens of the input pins.

@@ -4,11 +4,10 @@ ghost use Rattle.std.specs.Prelude.{◌≡◌, ◌++◌, ◌<◌, All, length, m
 ghost use Rattle.ca_lex.specs.Words.{upper_case};
 ghost use Rattle.ca_cell.specs.Raw.{circuit_of};
 ghost use Rattle.ca_defect.specs.List.{IsDefectOf};
-ghost use Rattle.ca_defect.specs.Name.{node_name, device_name, drain_letter, source_letter, mark_of, name_of};
+ghost use Rattle.ca_defect.specs.Name.{node_name, device_name, name_of};
 
 use crate::defect::Defect;
 use crate::list::DefectList;
-use crate::listing::has_gate_at;
 use ca_base::NoMemory;
 use ca_cell::Cell;
 use ca_lex::{Names, Text, fold};
@@ -56,12 +55,8 @@ pub(crate) fn parts_of(cell: &Cell, defect: Defect) -> Parts<'_>
     ensures mark { upper_case result.mark.now ≡ result.mark.now }
 {
     match defect {
-        Defect::OpenDrain(opened) => of_device(cell, opened, drain_mark(has_gate_at(cell, opened))),
-        Defect::OpenSource(opened) => of_device(
-            cell,
-            opened,
-            source_mark(has_gate_at(cell, opened)),
-        ),
+        Defect::OpenDrain(opened) => of_device(cell, opened, b"(D)"),
+        Defect::OpenSource(opened) => of_device(cell, opened, b"(S)"),
         Defect::OpenGate(opened) => of_device(cell, opened, b"(G)"),
         Defect::OpenPin(pin) => Parts {
             first: node_name(cell, pin),
@@ -74,22 +69,6 @@ pub(crate) fn parts_of(cell: &Cell, defect: Defect) -> Parts<'_>
             second: node_name(cell, high),
         },
     }
-}
-
-// The mark of an open at the drain of a device that has a gate, or of one that has none.
-fn drain_mark(gated: bool) -> &'static [u8]
-    ensures mark { result.now ≡ mark_of (drain_letter gated) }
-    ensures upper { upper_case result.now ≡ result.now }
-{
-    if gated { b"(D)" } else { b"(1)" }
-}
-
-// The same of an open at the source.
-fn source_mark(gated: bool) -> &'static [u8]
-    ensures mark { result.now ≡ mark_of (source_letter gated) }
-    ensures upper { upper_case result.now ≡ result.now }
-{
-    if gated { b"(S)" } else { b"(2)" }
 }
 
 // The parts of the name of an open at a terminal of a device.

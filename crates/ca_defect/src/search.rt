@@ -9,7 +9,6 @@ ghost use Rattle.ca_defect.specs.List.{IsDefectOf};
 ghost use Rattle.ca_defect.specs.Name.{name_of, is_called};
 
 use crate::defect::{Defect, is_short};
-use crate::listing::has_gate_at;
 use crate::names::parts_of;
 use ca_cell::Cell;
 use ca_net::{DeviceId, Network, NodeId};
@@ -44,7 +43,7 @@ fn find_listed(cell: &Cell, text: &[u8]) -> Option<Defect>
 // The first open of a device that has the name.
 fn find_device_open(cell: &Cell, text: &[u8]) -> Option<Defect>
     ensures { result ≡ find (is_called cell.now text.now)
-        (each_from (device_opens (circuit_of cell.now).devices) 0 (length (circuit_of cell.now).devices)) }
+        (each_from device_opens 0 (length (circuit_of cell.now).devices)) }
 {
     for place in 0..cell.device_count() {
         let found = find_open_of(cell, text, DeviceId(place as u32));
@@ -58,14 +57,13 @@ fn find_device_open(cell: &Cell, text: &[u8]) -> Option<Defect>
 // The first open of the device that has the name.
 fn find_open_of(cell: &Cell, text: &[u8], device: DeviceId) -> Option<Defect>
     requires { device.0 < length (circuit_of cell.now).devices }
-    ensures { result ≡ find (is_called cell.now text.now)
-        (device_opens (circuit_of cell.now).devices device.0) }
+    ensures { result ≡ find (is_called cell.now text.now) (device_opens device.0) }
 {
     if is_called(cell, text, Defect::OpenDrain(device)) {
         Some(Defect::OpenDrain(device))
     } else if is_called(cell, text, Defect::OpenSource(device)) {
         Some(Defect::OpenSource(device))
-    } else if has_gate_at(cell, device) && is_called(cell, text, Defect::OpenGate(device)) {
+    } else if is_called(cell, text, Defect::OpenGate(device)) {
         Some(Defect::OpenGate(device))
     } else {
         None

@@ -2,7 +2,7 @@
 use Rattle.std.proofs.Common.{◌≡◌, ◌<◌, inl, inr, refl, arith}
 use Rattle.std.proofs.lemmas.Option.{none-some}
 use Rattle.std.proofs.lemmas.List.Elements.{All-nil}
-use Rattle.ca_cell.specs.Devices.{IsDevice}
+use Rattle.ca_cell.specs.Transistors.{IsTransistor}
 use Rattle.ca_cell.specs.declared.raw.RawDevice.{RawDevice}
 use Rattle.ca_cell.specs.declared.rule.CellRule.TheVariants.{NoRail, TooManyDevices, TooManyNodes}
 use Rattle.ca_cell.specs.declared.rule.CellRule.TheVariants.{TooManyInputs, NoOutput, TooManyOutputs}
@@ -36,7 +36,7 @@ bare_raw = record {
   few_devices = omega arith;
   pins = omega arith;
   places = All-nil (PlacesWithin 2);
-  devices = All-nil IsDevice;
+  transistors = All-nil (λ (d : RawDevice). IsTransistor d.kind d.strength);
 }
 
 undriven_raw : IsRaw undriven_cell
@@ -45,7 +45,7 @@ undriven_raw = record {
   few_devices = omega arith;
   pins = omega arith;
   places = All-nil (PlacesWithin 3);
-  devices = All-nil IsDevice;
+  transistors = All-nil (λ (d : RawDevice). IsTransistor d.kind d.strength);
 }
 
 pub bare_cells_are_cells_lem : BareCellsAreCells

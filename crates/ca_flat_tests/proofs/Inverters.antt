@@ -4,7 +4,7 @@ use Rattle.std.proofs.Common.{◌∙◌, ap, subst, arith, get_or}
 use Rattle.std.proofs.lemmas.List.Elements.{All-nil, All-cons}
 use Rattle.ca_net.specs.declared.scale.TheConstants.{OUTPUT_NET}
 use Rattle.ca_net.specs.declared.node.NodeKind.TheVariants.{Input, Storage}
-use Rattle.ca_cell.specs.Devices.{IsDevice}
+use Rattle.ca_cell.specs.Transistors.{IsTransistor}
 use Rattle.ca_cell.specs.declared.raw.RawDevice.{RawDevice}
 use Rattle.ca_cell.specs.declared.rule.CellRule.TheVariants.{NoRail, TooManyDevices, TooManyNodes}
 use Rattle.ca_cell.specs.declared.rule.CellRule.TheVariants.{TooManyInputs, NoOutput, TooManyOutputs}
@@ -29,7 +29,7 @@ raw = record {
   pins = omega arith;
   places = All-cons (PlacesWithin 4) pull_down (pull_up ∷ []) (record { drain = omega arith; gate = omega arith; source = omega arith })
       (All-cons (PlacesWithin 4) pull_up [] (record { drain = omega arith; gate = omega arith; source = omega arith }) (All-nil (PlacesWithin 4)));
-  devices = All-cons IsDevice pull_down (pull_up ∷ []) (omega arith, omega arith) (All-cons IsDevice pull_up [] (omega arith, omega arith) (All-nil IsDevice));
+  transistors = All-cons (λ (d : RawDevice). IsTransistor d.kind d.strength) pull_down (pull_up ∷ []) (omega arith, omega arith) (All-cons (λ (d : RawDevice). IsTransistor d.kind d.strength) pull_up [] (omega arith, omega arith) (All-nil (λ (d : RawDevice). IsTransistor d.kind d.strength)));
 }
 
 keeps : KeepsRules inverter
@@ -110,7 +110,7 @@ unfolding devices_before
 faulty_devices = refl
 
 listed : IsDefectIn inverter_chip open_gate
-listed = record { known = omega arith; listed = refl }
+listed = record { known = omega arith; listed = omega arith }
 
 pub inverter_is_flat_lem : InverterIsFlat
 inverter_is_flat_lem = record {

@@ -1,5 +1,5 @@
 -- The text of a network: its nodes as comments, and its devices as the cards of a subcircuit.
-use Rattle.std.specs.Prelude.{ℕ, ◌+◌, ◌≡◌, ◌≤◌, ◌⊎◌, ◌==◌, if◌then◌else◌, List, [], ◌∷◌, ◌++◌, flat_map, codes}
+use Rattle.std.specs.Prelude.{ℕ, ◌+◌, ◌≡◌, ◌≤◌, ◌==◌, if◌then◌else◌, List, [], ◌∷◌, ◌++◌, flat_map, codes}
 use Rattle.std.specs.Prelude.{decimal}
 use Rattle.ca_net.specs.declared.scale.TheConstants.{WEAKEST, STRONGEST, BRIDGE}
 use Rattle.ca_net.specs.declared.node.NodeKind.{NodeKind}
@@ -52,16 +52,16 @@ transistor_words bulk model device =
     numbered (codes "N") device.a.0 ∷ numbered (codes "N") device.gate.0 ∷ numbered (codes "N") device.b.0
     ∷ numbered (codes "N") bulk ∷ model ∷ size_words device.strength
 
--- the two ends of a resistor or a bridge, and its strength
-abbrev pub end_words : Device → List (List ℕ)
-end_words device = numbered (codes "N") device.a.0 ∷ numbered (codes "N") device.b.0 ∷ decimal device.strength
+-- the two ends of a bridge, and its strength
+abbrev pub bridge_words : Device → List (List ℕ)
+bridge_words device = numbered (codes "N") device.a.0 ∷ numbered (codes "N") device.b.0 ∷ decimal device.strength
     ∷ []
 
 -- the line of the device of this number and kind: the bulk of a p-device is power, that of an n-device ground
 abbrev pub line_by : DeviceKind → ℕ → Device → List ℕ
 line_by kind.P k device = line_of (numbered (codes "M") k) (transistor_words 0 (codes "PCH") device)
 line_by kind.N k device = line_of (numbered (codes "M") k) (transistor_words 1 (codes "NCH") device)
-line_by kind.D k device = line_of (numbered (codes "R") k) (end_words device)
+line_by kind.D k device = line_of (numbered (codes "R") k) (bridge_words device)
 
 -- the line of the device of this number
 abbrev pub device_line : ℕ → Device → List ℕ
@@ -73,13 +73,11 @@ flat_text net =
     lines_from node_line 0 net.nodes
     ++ (codes ".SUBCKT FLAT N0 N1\n" ++ (lines_from device_line 0 net.devices ++ codes ".ENDS\n"))
 
--- a device of this kind has the strength of some transistor, or is a resistor or a bridge, whose gate is its
--- first end
+-- a device of this kind has the strength of some transistor, or is a bridge, whose gate is its first end
 abbrev pub HasLineBy : DeviceKind → Device → Type 0
 HasLineBy kind.P device = (WEAKEST ≤ device.strength) × (device.strength ≤ STRONGEST)
 HasLineBy kind.N device = (WEAKEST ≤ device.strength) × (device.strength ≤ STRONGEST)
-HasLineBy kind.D device =
-    ((device.strength ≡ STRONGEST) ⊎ (device.strength ≡ BRIDGE)) × (device.gate ≡ device.a)
+HasLineBy kind.D device = (device.strength ≡ BRIDGE) × (device.gate ≡ device.a)
 
 -- the line of the device says all of it
 abbrev pub HasLine : Device → Type 0

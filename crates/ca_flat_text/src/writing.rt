@@ -3,7 +3,7 @@
 ghost use Rattle.std.specs.Prelude.{◌≡◌, ◌<◌, ◌++◌, ◌∷◌, [], length, flat_map, codes, decimal, IfOk, OnOk};
 ghost use Rattle.std.specs.List.{All};
 ghost use Rattle.ca_flat_text.specs.FlatText.{spaced, line_of, numbered, kind_words, node_line, lines_from};
-ghost use Rattle.ca_flat_text.specs.FlatText.{size_words, transistor_words, end_words, device_line};
+ghost use Rattle.ca_flat_text.specs.FlatText.{size_words, transistor_words, bridge_words, device_line};
 ghost use Rattle.ca_flat_text.specs.FlatText.{flat_text, HasLine};
 
 use ca_base::NoMemory;
@@ -108,9 +108,9 @@ fn push_transistor(text: &mut Text, bulk: u32, model: &[u8], device: Device) -> 
     push_size(text, device.strength)
 }
 
-// Appends the ends and the strength of a resistor or a bridge.
-fn push_ends(text: &mut Text, device: Device) -> Result<(), NoMemory>
-    ensures { OnOk result (text.new ≡ text.old ++ flat_map spaced (end_words device)) }
+// Appends the ends and the strength of a bridge.
+fn push_bridge(text: &mut Text, device: Device) -> Result<(), NoMemory>
+    ensures { OnOk result (text.new ≡ text.old ++ flat_map spaced (bridge_words device)) }
 {
     push_node(text, device.a)?;
     push_node(text, device.b)?;
@@ -133,7 +133,7 @@ fn push_device(text: &mut Text, k: u32, device: Device) -> Result<(), NoMemory>
         }
         DeviceKind::D => {
             push_numbered(text, b"R", k)?;
-            push_ends(text, device)?;
+            push_bridge(text, device)?;
         }
     }
     text.push(b'\n')

@@ -54,12 +54,12 @@ core_scan chip u s = core_at chip u s.part s.at ∙ ap (core_instance chip) s.bo
 no_open : (qn : Option ℕ) (defect : Defect) → IsDefectOf (empty_cell qn) defect → length (new_nodes (Some defect)) ≡ 0
 no_open None (OpenDrain d) is = absurd (omega (arith, is))
 no_open None (OpenSource d) is = absurd (omega (arith, is))
-no_open None (OpenGate d) is = absurd (let no : ⊥ = cc in no)
+no_open None (OpenGate d) is = absurd (omega (arith, is))
 no_open None (OpenPin p) is = absurd (omega (arith, is.0, is.1))
 no_open None (Short m n) is = refl
 no_open (Some net) (OpenDrain d) is = absurd (omega (arith, is))
 no_open (Some net) (OpenSource d) is = absurd (omega (arith, is))
-no_open (Some net) (OpenGate d) is = absurd (let no : ⊥ = cc in no)
+no_open (Some net) (OpenGate d) is = absurd (omega (arith, is))
 no_open (Some net) (OpenPin p) is = absurd (omega (arith, is.0, is.1))
 no_open (Some net) (Short m n) is = refl
 

@@ -17,7 +17,6 @@ use Rattle.ca_cell.specs.Library.{Named, raw_of, IsEntry}
 use Rattle.ca_cell.specs.Nodes.{free_count, defect_count}
 use Rattle.ca_cell.specs.Raw.{is_input, is_output, role_count}
 use Rattle.ca_cell.specs.Rules.{KeepsRules, node_count}
-use Rattle.ca_cell.proofs.NodeLemmas.{few_opens}
 use Rattle.ca_wiring.specs.Wiring.{names_with}
 use Rattle.ca_linked.specs.declared.parts.Body.{Body}
 use Rattle.ca_linked.specs.declared.parts.Body.TheVariants.{Gate}
@@ -62,21 +61,20 @@ pub not_refused : (raw : RawCell) (rule : CellRule) → IsEntry (Refused raw rul
 not_refused raw rule is keeps = keeps rule is.1.broken
 
 -- a cell that keeps the rules has few defects
-pub few_defects : (raw : RawCell) → KeepsRules raw → defect_count raw ≤ 32768
+pub few_defects : (raw : RawCell) → KeepsRules raw → defect_count raw ≤ 16384
 few_defects raw keeps =
-    let devices : length raw.devices ≤ 192 = elim (cases_lt 192 (length raw.devices)) [
+    let devices : length raw.devices ≤ 96 = elim (cases_lt 96 (length raw.devices)) [
       | inl many ↦ absurd (keeps (TooManyDevices (length raw.devices)) (refl, many))
       | inr few ↦ few
     ] in
-    let nodes : node_count raw ≤ 192 = elim (cases_lt 192 (node_count raw)) [
+    let nodes : node_count raw ≤ 96 = elim (cases_lt 96 (node_count raw)) [
       | inl many ↦ absurd (keeps (TooManyNodes (node_count raw)) (refl, many))
       | inr few ↦ few
     ] in
-    let free : free_count raw ≤ 192 = omega (arith, nodes) in
-    let inputs : role_count is_input raw.pins ≤ 192 = omega (arith, nodes) in
-    let product = mul-le (free_count raw) (free_count raw - 1) 192 192 free (omega (arith, free)) in
-    let opens = few_opens raw.devices in
-    omega (arith, devices, opens, inputs, product)
+    let free : free_count raw ≤ 96 = omega (arith, nodes) in
+    let inputs : role_count is_input raw.pins ≤ 96 = omega (arith, nodes) in
+    let product = mul-le (free_count raw) (free_count raw - 1) 96 96 free (omega (arith, free)) in
+    omega (arith, devices, inputs, product)
 
 -- the cell of a library instance keeps the rules
 pub gate_keeps : (cells : List RawCell) (body : Body) (cell : ℕ) (inputs outputs : List ℕ) → body ≡ Gate cell inputs outputs → IsBody cells body

@@ -10,6 +10,7 @@ use Rattle.ca_load.specs.Texts.{InputFiles, Inputs, OfInputs}
 use Rattle.ca_load.specs.code.Texts.{AreRead}
 use Rattle.ca_load.specs.Chips.{IsChipOf}
 use Rattle.ca_load.specs.Causes.{IsLoadCause}
+use Rattle.ca_load.proofs.TableLemmas.{memory_at_library}
 use Rattle.ca_load.specs.code.Stages.{IsLinkStage, IsTraceStage, IsLinkedStage}
 
 -- inputs that don't link
@@ -42,7 +43,8 @@ of_read files names inputs Holds read holds = λ reported is. (inputs, (read rep
 -- inputs that give no chip with chains
 pub at_inputs : (names : InputFiles) (files : Option Files) (before after : ℕ) (inputs : Inputs) (fault : Fault)
     → AreRead files names inputs → IsLinkedStage inputs fault → IsLoadCause names files before after fault
-at_inputs names files before after inputs fault read (inl memory) = rw memory (inl (inl (inl tt)))
+at_inputs names files before after inputs fault read (inl memory) =
+    rw memory (inl (inl (memory_at_library names.cells files before after)))
 at_inputs names files before after inputs fault read (inr (is, cause)) =
     inr (is, of_read files names inputs _ read cause)
 

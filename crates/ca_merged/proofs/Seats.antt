@@ -12,9 +12,7 @@ use Rattle.ca_cell.specs.declared.raw.RawDevice.{RawDevice}
 use Rattle.ca_cell.specs.declared.raw.RawCell.{RawCell}
 use Rattle.ca_cell.specs.declared.rule.CellRule.TheVariants.{NoOutput}
 use Rattle.ca_cell.specs.Raw.{is_input, is_output, role_count, node_of, device_of, circuit_of}
-use Rattle.ca_net.specs.declared.device.DeviceKind.{DeviceKind}
-use Rattle.ca_net.specs.declared.device.DeviceKind.TheVariants as kind
-use Rattle.ca_cell.specs.Devices.{IsDevice, IsDeviceBy}
+use Rattle.ca_cell.specs.Transistors.{IsTransistor}
 use Rattle.ca_cell.specs.Rules.{IsRaw, PlacesWithin, KeepsAllBut, node_count}
 use Rattle.ca_cell.proofs.CircuitLemmas.{length-nodes_of, node_of-within, few_nodes_all_but}
 use Rattle.ca_cell.proofs.NodeLemmas.{few_devices_all_but}
@@ -236,13 +234,8 @@ module _ (chip : Chip) (members : List ℕ) where
         let p : PlacesWithin (length (cell_at chip u).nets) d = subst (PlacesWithin (length (cell_at chip u).nets)) h.2 ((is.cells u (known u c)).is_raw.places h.0 d h.1) in
         record { drain = terminal_within u d.drain c p.drain; gate = terminal_within u d.gate c p.gate; source = terminal_within u d.source c p.source }
 
-    device_by : (u : ℕ) (k : DeviceKind) (d : RawDevice) → IsDeviceBy k d → IsDeviceBy k (seated chip members u d)
-    device_by u kind.N d is = is
-    device_by u kind.P d is = is
-    device_by u kind.D d is = (is.0, ap (λ t. seat chip members u (node_of (cell_at chip u).pins t)) is.1)
-
-    device : (u : ℕ) (d : RawDevice) → Contains members u → Contains (cell_at chip u).devices d → IsDevice (seated chip members u d)
-    device u d c h = device_by u d.kind d (subst IsDevice h.2 ((is.cells u (known u c)).is_raw.devices h.0 d h.1))
+    transistor : (u : ℕ) (d : RawDevice) → Contains members u → Contains (cell_at chip u).devices d → IsTransistor d.kind d.strength
+    transistor u d c h = subst (λ x. IsTransistor x.kind x.strength) h.2 ((is.cells u (known u c)).is_raw.transistors h.0 d h.1)
 
     -- the cluster's cell is a subcircuit, where it has few nets and devices
     pub cluster_is_raw : length cluster.nets < 2 ^ 32 → length cluster.devices < 2 ^ 32 → IsRaw cluster
@@ -253,9 +246,9 @@ module _ (chip : Chip) (members : List ℕ) where
       places = λ k d lt.
           let m = member_device (get_or cluster.devices k d) (Contains-get_or cluster.devices k d lt) in
           subst (PlacesWithin (length cluster.nets)) m.2.2 (placed m.0 m.2.0 m.1 m.2.1);
-      devices = λ k d lt.
+      transistors = λ k d lt.
           let m = member_device (get_or cluster.devices k d) (Contains-get_or cluster.devices k d lt) in
-          subst IsDevice m.2.2 (device m.0 m.2.0 m.1 m.2.1);
+          subst (λ x. IsTransistor x.kind x.strength) m.2.2 (transistor m.0 m.2.0 m.1 m.2.1);
     }
 
     -- and a cell, where it breaks no rule but that it may have no output pin

@@ -14,7 +14,7 @@ use Rattle.ca_cell.specs.declared.raw.Role.{Role}
 use Rattle.ca_cell.specs.declared.raw.RawPin.{RawPin}
 use Rattle.ca_cell.specs.declared.raw.RawDevice.{RawDevice}
 use Rattle.ca_cell.specs.declared.raw.RawCell.{RawCell}
-use Rattle.ca_cell.specs.Devices.{IsDeviceBy}
+use Rattle.ca_cell.specs.Transistors.{IsTransistor}
 use Rattle.ca_cell.specs.declared.strength.StrengthTable.{StrengthTable}
 use Rattle.ca_cell.specs.Strength.{strength_of}
 use Rattle.ca_cell.proofs.StrengthLemmas.{strength_of-least, strength_of-most}
@@ -78,10 +78,10 @@ pins_after-length done (pin ∷ pins) raw all = by pin.role (λ grown. pins_afte
         omega (arith, later (done ++ shown ∷ []) is, length-append done (shown ∷ []))
 
 -- a device with a gate and the strength of some transistor is a transistor
-transistor : (k : DeviceKind) (device : RawDevice) → has_gate k ≡ true → HasClass device → IsDeviceBy k device
-transistor kind.N device gate class = class
-transistor kind.P device gate class = class
-transistor kind.D device gate class = absurd cc
+transistor : (k : DeviceKind) (strength : ℕ) → has_gate k ≡ true → WEAKEST ≤ strength → strength ≤ STRONGEST → IsTransistor k strength
+transistor kind.N strength gate least most = (least, most)
+transistor kind.P strength gate least most = (least, most)
+transistor kind.D strength gate least most = absurd cc
 
 -- and so is one whose strength a table gave
 pub class_of : (table : StrengthTable) (width channel strength : ℕ) → strength ≡ strength_of table width channel → (WEAKEST ≤ strength) × (strength ≤ STRONGEST)
@@ -97,9 +97,10 @@ IsPlaced-IsRaw raw placed = record {
   few_devices = placed.few_devices;
   pins = placed.pins_within;
   places = placed.places;
-  devices = λ k d within.
+  transistors = λ k d within.
       let device = get_or raw.devices k d in
-      transistor device.kind device (placed.gated k d within) (placed.strengths k d within);
+      let class = placed.strengths k d within in
+      transistor device.kind device.strength (placed.gated k d within) class.0 class.1;
 }
 
 -- names with one more are not fewer

@@ -7,10 +7,10 @@ use Rattle.ca_defect.proofs.search.find_device_open.Goals as goal
 
 pub returns-then-is_some : goal.returns-then-is_some
 returns-then-is_some c =
-    found_at_place (is_called c.args.cell.now c.args.text.now) (device_opens (circuit_of c.args.cell.now).devices) c.loop-place.place c.device_count-place-end.result (length (circuit_of c.args.cell.now).devices) (omega arith)
+    found_at_place (is_called c.args.cell.now c.args.text.now) device_opens c.loop-place.place c.device_count-place-end.result (length (circuit_of c.args.cell.now).devices) (omega arith)
     c.device_count-place-end.ensures.count c.loop-place.invariant c.find_open_of-found.result c.find_open_of-found.ensures cc
 
 pub loop-place-preserved : goal.loop-place-preserved
 loop-place-preserved c =
-    place_passed (is_called c.args.cell.now c.args.text.now) (device_opens (circuit_of c.args.cell.now).devices) c.loop-place.place c.device_count-place-end.result (omega arith)
+    place_passed (is_called c.args.cell.now c.args.text.now) device_opens c.loop-place.place c.device_count-place-end.result (omega arith)
     c.loop-place.invariant c.find_open_of-found.result c.find_open_of-found.ensures cc
