@@ -25,7 +25,7 @@ pub struct BlockWork {
 }
 
 impl BlockWork {
-    /// Takes the room for a network of this many nodes and devices: 113 bytes a node and 36 a device. No call
+    /// Takes the room for a network of this many nodes and devices: 113 bytes a node and 28 a device. No call
     /// takes memory afterwards.
     pub fn reserve(alloc: Global, nodes: usize, devices: usize) -> Result<Self, NoMemory>
         ensures { IfOk result (HasRoom nodes devices) }

@@ -13,7 +13,7 @@ use native.Mathlib.Decide.{ℕ_discrete}
 use Rattle.ca_net.specs.declared.device.Device.{Device}
 use Rattle.ca_net.specs.Conduction.{Links}
 use Rattle.ca_planes.specs.Plane.{has_lane, lane_at}
-use Rattle.ca_levels.specs.code.Come.{Comes, Onward, Leads, RaisesSome, Raises, IsClosedAt, LeadsNoMore, RaiseBoth}
+use Rattle.ca_levels.specs.code.Come.{Comes, Onward, Leads, RaisesSome, Raises, IsClosedAt}
 
 -- what stands for no device
 abbrev pub no_device : Device
@@ -37,12 +37,6 @@ comes_by false true true false e f g = refl
 comes_by false false c d e f g = cc
 comes_by false true false d e f g = cc
 comes_by false true true true e f g = cc
-
--- a list in which an entry is put where it stands
-pub set_back : (xs : List ℕ) (n : ℕ) → set xs n (get_or xs n 0) ≡ xs
-set_back [] n = refl
-set_back (x ∷ xs) zero = refl
-set_back (x ∷ xs) (suc n) = ap (λ ys. x ∷ ys) (set_back xs n)
 
 module _ (devices : List Device) (links blocked : List ℕ) where
   pub raises_some_none : (old : List ℕ) → RaisesSome devices links blocked old old
@@ -118,6 +112,11 @@ module _ (devices : List Device) (links blocked : List ℕ) where
       rises = λ t. let lt : get_or old to 0 < h.word = h.rises t in let e = more_at in omega (arith, e, lt);
       same = λ f. h.put ∙ ap (set old to) (h.same f) ∙ set_back old to;
     }
+      where
+        set_back : (xs : List ℕ) (n : ℕ) → set xs n (get_or xs n 0) ≡ xs
+        set_back [] n = refl
+        set_back (x ∷ xs) zero = refl
+        set_back (x ∷ xs) (suc n) = ap (λ ys. x ∷ ys) (set_back xs n)
 
     -- where nothing rose, what the link leads to is there
     pub leads_closed : rose ≡ false → (lane : ℕ) → lane_at links i lane ≡ true → lane_at blocked to lane ≡ false → lane_at old from lane ≡ true
@@ -126,49 +125,12 @@ module _ (devices : List Device) (links blocked : List ℕ) where
         sym (ap (λ w. has_lane w lane) (h.same still)) ∙ h.lanes lane
         ∙ comes_by (lane_at old to lane) (lane_at old from lane) (lane_at links i lane) (lane_at blocked to lane) there has free
 
--- two planes of each node rise, or neither has more
-pub pair_raises : (devices : List Device) (links blocked zeros new_zeros ones new_ones : List ℕ) (a b : Bool) (count : ℕ) → length devices ≤ count
-    → Raises devices links blocked zeros new_zeros a → Raises devices links blocked ones new_ones b
-    → ((i : ℕ) → i < count → LeadsNoMore devices links blocked zeros a i) → ((i : ℕ) → i < count → LeadsNoMore devices links blocked ones b i)
-    → RaiseBoth devices links blocked zeros new_zeros ones new_ones (a || b)
-pair_raises devices links blocked zeros new_zeros ones new_ones true b count all z o z_still o_still = record {
-  zeros_raise = z.some;
-  ones_raise = o.some;
-  rises = λ e. let less : sum zeros < sum new_zeros = z.rises refl in let le : sum ones ≤ sum new_ones = o.some.more in omega arith;
-  zeros_closed = λ e. cc;
-  ones_closed = λ e. cc;
-}
-pair_raises devices links blocked zeros new_zeros ones new_ones false true count all z o z_still o_still = record {
-  zeros_raise = z.some;
-  ones_raise = o.some;
-  rises = λ e. let less : sum ones < sum new_ones = o.rises refl in let le : sum zeros ≤ sum new_zeros = z.some.more in omega arith;
-  zeros_closed = λ e. cc;
-  ones_closed = λ e. cc;
-}
-pair_raises devices links blocked zeros new_zeros ones new_ones false false count all z o z_still o_still = record {
-  zeros_raise = z.some;
-  ones_raise = o.some;
-  rises = λ e. cc;
-  zeros_closed = λ e i lt. subst (λ xs. IsClosedAt devices links blocked xs i) (sym (z.same refl)) (z_still i (omega (arith, lt, all)) refl);
-  ones_closed = λ e i lt. subst (λ xs. IsClosedAt devices links blocked xs i) (sym (o.same refl)) (o_still i (omega (arith, lt, all)) refl);
-}
-
 -- what isn't yet reached falls where something rises
 pub slack_falls : (old new : List ℕ) → length new ≡ length old → ((i : ℕ) → get_or new i 0 < 2 ^ 64) → sum old < sum new
     → 2 ^ 64 * length new - sum new < 2 ^ 64 * length old - sum old
 slack_falls old new room below less =
     let le : sum new ≤ length new * 2 ^ 64 =
     sum_by-le (λ x. x) (2 ^ 64) new (All-from_get_or (λ x. x ≤ 2 ^ 64) new 0 (λ i _. let lt : get_or new i 0 < 2 ^ 64 = below i in omega arith)) in
-    omega arith
-
-pub pair_slack_falls : (zeros new_zeros ones new_ones : List ℕ) → length new_zeros ≡ length zeros → length new_ones ≡ length ones
-    → ((i : ℕ) → get_or new_zeros i 0 < 2 ^ 64) → ((i : ℕ) → get_or new_ones i 0 < 2 ^ 64) → sum zeros + sum ones < sum new_zeros + sum new_ones
-    → 2 ^ 64 * (length new_zeros + length new_ones) - (sum new_zeros + sum new_ones) < 2 ^ 64 * (length zeros + length ones) - (sum zeros + sum ones)
-pair_slack_falls zeros new_zeros ones new_ones zero_room one_room zero_below one_below less =
-    let zero_le : sum new_zeros ≤ length new_zeros * 2 ^ 64 =
-    sum_by-le (λ x. x) (2 ^ 64) new_zeros (All-from_get_or (λ x. x ≤ 2 ^ 64) new_zeros 0 (λ i _. let lt : get_or new_zeros i 0 < 2 ^ 64 = zero_below i in omega arith)) in
-    let one_le : sum new_ones ≤ length new_ones * 2 ^ 64 =
-    sum_by-le (λ x. x) (2 ^ 64) new_ones (All-from_get_or (λ x. x ≤ 2 ^ 64) new_ones 0 (λ i _. let lt : get_or new_ones i 0 < 2 ^ 64 = one_below i in omega arith)) in
     omega arith
 
 -- a link that led both ways

@@ -4,7 +4,6 @@ use Rattle.std.proofs.Common.{inl, inr, refl, sym, ◌∙◌, ap, subst, arith, 
 use Rattle.std.proofs.Math.Decide.{dec_le}
 use Rattle.std.proofs.lemmas.List.{get_or-replicate}
 use Rattle.std.proofs.lemmas.Grind.{common_steps}
-use Rattle.std.proofs.lemmas.Option.{slice_get-get_or}
 use Rattle.ca_net.specs.declared.scale.TheConstants.{INPUT}
 use Rattle.ca_net.specs.declared.trit.Trit.{Trit}
 use Rattle.ca_net.specs.declared.trit.Trit.TheVariants.{Zero, One, X}
@@ -25,12 +24,10 @@ use Rattle.ca_planes.specs.Trits.{trit_for, value_in, values_in, state_in, HasNo
 use Rattle.ca_planes.proofs.BitLemmas.{in_none, in_all}
 use Rattle.ca_planes.proofs.ValueLemmas.{length-values_in, value_at-values_in, may_be_one}
 use Rattle.ca_levels.specs.declared.levels.Levels.{Levels}
-use Rattle.ca_levels.specs.code.Come.{AreClosed, AreIdle}
-use Rattle.ca_levels.specs.code.Advance.{IsAdvanced, IsSpread, AreLinked}
+use Rattle.ca_levels.specs.code.Advance.{IsAdvanced}
 use Rattle.ca_levels.specs.code.Way.{IsFree, HasWay, HasOther, AreThose}
-use Rattle.ca_levels.specs.code.Reached.{IsLoaded, IsReachedIn, AreKept, IsSpreadTo}
-use Rattle.ca_levels.proofs.AdvanceLemmas.{linked_unused, linked_none, idle_none, closed_none, closed_more, spread_keeps}
-use Rattle.ca_levels.specs.Given.{IsGivenByNone, IsCarriedByNone}
+use Rattle.ca_levels.specs.code.Reached.{IsLoaded, IsReachedIn, AreKept}
+use Rattle.ca_levels.specs.code.Reached.{IsGivenByNone, IsCarriedByNone}
 use Rattle.std.specs.Prelude.{Some, slice_get}
 use Rattle.ca_relax.proofs.JoinedLemmas.{placed}
 use Rattle.ca_levels.proofs.WayLemmas.{advanced, weaker}
@@ -211,37 +208,15 @@ responses_of net well_formed from own stronger zeros ones new_zeros new_ones lan
       (subst (λ z. (has_lane z lane ≡ true) ↔ HasOther net (state_in from lane) One n 0) (sym zero_is) (reached.not_one n lt))
 
 -- a level's clause in other words for its lists
-pub read_as : {level : ℕ} {devices devices_read : List Device} {own own_read links links_read source source_read blocked blocked_read old old_read new : List ℕ}
-    → devices ≡ devices_read → own ≡ own_read → links ≡ links_read → source ≡ source_read → blocked ≡ blocked_read → old ≡ old_read
-    → IsSpread devices own level links source blocked old new → IsSpread devices_read own_read level links_read source_read blocked_read old_read new
-read_as {level} {devices} {devices_read} {own} {own_read} {links} {links_read} {source} {source_read} {blocked} {blocked_read} {old} {old_read} {new} e f l g h i a =
-    subst (λ x. IsSpread x own_read level links_read source_read blocked_read old_read new) e
-    (subst (λ x. IsSpread devices x level links_read source_read blocked_read old_read new) f
-    (subst (λ x. IsSpread devices own level x source_read blocked_read old_read new) l
-    (subst (λ x. IsSpread devices own level links x blocked_read old_read new) g
-    (subst (λ x. IsSpread devices own level links source x old_read new) h
-    (subst (λ x. IsSpread devices own level links source blocked x new) i a)))))
-
--- and so what it asks of links and of what was reached
-pub linked_as : (from : Block) (kind : PathKind) (level : ℕ) {devices devices_read : List Device} {links links_read : List ℕ} → devices_read ≡ devices → links_read ≡ links
-    → AreLinked (length devices) devices from kind level links → AreLinked (length devices_read) devices_read from kind level links_read
-linked_as from kind level {devices} {devices_read} {links} {links_read} e f a =
-    subst (λ x. AreLinked (length x) x from kind level links_read) (sym e) (subst (AreLinked (length devices) devices from kind level) (sym f) a)
-
-pub closed_as : {devices devices_read : List Device} {links links_read blocked blocked_read reached reached_read : List ℕ} → devices_read ≡ devices → links_read ≡ links
-    → blocked_read ≡ blocked → reached_read ≡ reached → AreClosed devices links blocked reached → AreClosed devices_read links_read blocked_read reached_read
-closed_as {devices} {devices_read} {links} {links_read} {blocked} {blocked_read} {reached} {reached_read} e f g h a =
-    subst (λ x. AreClosed x links_read blocked_read reached_read) (sym e)
-    (subst (λ x. AreClosed devices x blocked_read reached_read) (sym f)
-    (subst (λ x. AreClosed devices links x reached_read) (sym g) (subst (AreClosed devices links blocked) (sym h) a)))
-
-pub idle_as : {devices devices_read : List Device} {links links_read blocked blocked_read : List ℕ} → devices_read ≡ devices → links_read ≡ links → blocked_read ≡ blocked
-    → AreIdle devices links blocked → AreIdle devices_read links_read blocked_read
-idle_as e f g a reached = closed_as e f g refl (a reached)
-
--- an entry that was read and is false
-pub read_false : (xs : List Bool) (i : ℕ) (x : Bool) → i < length xs → x ≡ get_or xs i x → x ≡ false → slice_get xs i ≡ Some false
-read_false xs i x lt read is = slice_get-get_or xs i x lt ∙ ap Some (sym read ∙ is)
+pub read_as : {from : Block} {kind : PathKind} {level : ℕ} {devices devices_read : List Device} {own own_read source source_read blocked blocked_read old old_read new : List ℕ}
+    → devices ≡ devices_read → own ≡ own_read → source ≡ source_read → blocked ≡ blocked_read → old ≡ old_read
+    → IsAdvanced devices own from kind level source blocked old new → IsAdvanced devices_read own_read from kind level source_read blocked_read old_read new
+read_as {from} {kind} {level} {devices} {devices_read} {own} {own_read} {source} {source_read} {blocked} {blocked_read} {old} {old_read} {new} e f g h i a =
+    subst (λ x. IsAdvanced x own_read from kind level source_read blocked_read old_read new) e
+    (subst (λ x. IsAdvanced devices x from kind level source_read blocked_read old_read new) f
+    (subst (λ x. IsAdvanced devices own from kind level x blocked_read old_read new) g
+    (subst (λ x. IsAdvanced devices own from kind level source x old_read new) h
+    (subst (λ x. IsAdvanced devices own from kind level source blocked x new) i a))))
 
 -- and so those that are kept
 pub kept_as : {own own_read from from_read old old_read new : List ℕ} → own ≡ own_read → from ≡ from_read → old ≡ old_read
@@ -287,38 +262,3 @@ module _ (net : Circuit) (own : List ℕ) (devices : List Device) (level : ℕ) 
   } where
     more : (p : Path) → IsPath net p → level - 1 < strength_of net p → level < strength_of net p
     more p is_path lt = let ne : strength_of net p ≢ level = not_as_strong p is_path in omega (arith, some, lt, ne)
-
--- and so do the links
-pub spread_unused : (from : Block) (level : ℕ) (levels : Levels) (out : Block) → 0 < level → IsCarriedByNone levels.devices.items level
-    → IsSpreadTo from level levels out → IsSpreadTo from (level - 1) levels out
-spread_unused from level levels out some none h =
-    let is : level ≡ level - 1 + 1 = omega (arith, some) in
-    let devices = levels.devices.items in
-    let potential = linked_unused devices from Potential level (length devices) levels.potential.items none h.potential in
-    let definite = linked_unused devices from Definite level (length devices) levels.definite.items none h.definite in
-    record {
-      potential = subst (λ k. AreLinked (length devices) devices from Potential k levels.potential.items) is potential;
-      definite = subst (λ k. AreLinked (length devices) devices from Definite k levels.definite.items) is definite;
-      zeros = h.zeros;
-      ones = h.ones;
-      stronger = h.stronger;
-      potential_none = λ le. h.potential_none (omega arith);
-      definite_none = λ le. h.definite_none (omega arith);
-    }
-
--- at first nothing is reached, and over no link anything comes
-pub spread_none : (net : Circuit) → IsWellFormed net → (from : Block) (levels : Levels) (out : Block) → levels.devices.items ≡ net.devices
-    → levels.potential.items ≡ replicate (length net.devices) 0 → levels.definite.items ≡ replicate (length net.devices) 0
-    → levels.stronger.items ≡ replicate (length net.nodes) 0 → out.zeros.items ≡ replicate (length net.nodes) 0 → out.ones.items ≡ replicate (length net.nodes) 0
-    → IsSpreadTo from INPUT levels out
-spread_none net well_formed from levels out same potential definite stronger zeros ones =
-    let devices = levels.devices.items in
-    record {
-      potential = linked_none net well_formed devices from Potential (length devices) levels.potential.items same potential;
-      definite = linked_none net well_formed devices from Definite (length devices) levels.definite.items same definite;
-      zeros = closed_none devices levels.potential.items levels.stronger.items out.zeros.items (length net.nodes) zeros;
-      ones = closed_none devices levels.potential.items levels.stronger.items out.ones.items (length net.nodes) ones;
-      stronger = closed_none devices levels.definite.items levels.none.items levels.stronger.items (length net.nodes) stronger;
-      potential_none = λ le. idle_none devices levels.potential.items (length net.devices) potential;
-      definite_none = λ le. idle_none devices levels.definite.items (length net.devices) definite;
-    }

@@ -187,15 +187,15 @@ advanced net from kind Blocks Starts well_formed k lane level devices own source
     in
     let blocks_next = subst (λ j. AreThose net lane (λ m. Blocks m j) blocked) is blocks in
     let before_next = subst (λ j. AreThose net lane (λ m. HasWay net s kind Blocks Starts m j) old) is before in
-    let begun : AreThose net lane (λ m. (lane_at old m lane ≡ true) ⊎ ((get_or own m 0 ≡ k + 1) × (lane_at source m lane ≡ true) × (lane_at blocked m lane ≡ false))) h.spread.first =
-    λ m lt. subst (λ j. (lane_at h.spread.first m lane ≡ true) ↔ ((lane_at old m lane ≡ true) ⊎ ((get_or own m 0 ≡ j) × (lane_at source m lane ≡ true) × (lane_at blocked m lane ≡ false)))) is
-    (h.spread.begun m lane (omega (arith, lt, count)))
+    let begun : AreThose net lane (λ m. (lane_at old m lane ≡ true) ⊎ ((get_or own m 0 ≡ k + 1) × (lane_at source m lane ≡ true) × (lane_at blocked m lane ≡ false))) h.first =
+    λ m lt. subst (λ j. (lane_at h.first m lane ≡ true) ↔ ((lane_at old m lane ≡ true) ⊎ ((get_or own m 0 ≡ j) × (lane_at source m lane ≡ true) × (lane_at blocked m lane ≡ false)))) is
+    (h.begun m lane (omega (arith, lt, count)))
     in
-    let raises = subst (λ xs. RaisesSome xs h.links blocked h.spread.first new) same h.spread.raises in
-    let closed = subst (λ xs. AreClosed xs h.links blocked new) same h.spread.closed in (
-      λ has. way_of net s kind Blocks Starts well_formed k lane own h.links blocked source old h.spread.first falls owns linked blocks_next sources before_next begun
-          (h.spread.room ∙ count) n (raises.come h.spread.first (λ l m b. Begins b) lane n has),
-      λ w. come_there net.devices h.links blocked h.spread.first new lane n raises closed
-          (come_of net s kind Blocks Starts well_formed k lane own h.links blocked source old h.spread.first falls owns linked blocks_next sources before_next begun
-          (h.spread.room ∙ count) n w),
+    let raises = subst (λ xs. RaisesSome xs h.links blocked h.first new) same h.raises in
+    let closed = subst (λ xs. AreClosed xs h.links blocked new) same h.closed in (
+      λ has. way_of net s kind Blocks Starts well_formed k lane own h.links blocked source old h.first falls owns linked blocks_next sources before_next begun
+          (h.room ∙ count) n (raises.come h.first (λ l m b. Begins b) lane n has),
+      λ w. come_there net.devices h.links blocked h.first new lane n raises closed
+          (come_of net s kind Blocks Starts well_formed k lane own h.links blocked source old h.first falls owns linked blocks_next sources before_next begun
+          (h.room ∙ count) n w),
     )

@@ -3,8 +3,6 @@ use Rattle.std.specs.Prelude.{ℕ, ◌≡◌, ◌-◌, ◌^◌, length, replicat
 use Rattle.ca_net.specs.Circuit.{Circuit}
 use Rattle.ca_relax.specs.Groups.{HaveOwnStrengths}
 use Rattle.ca_levels.specs.declared.levels.Levels.{Levels}
-use Rattle.ca_levels.specs.declared.levels.TheConstants.{STRENGTHS}
-use Rattle.ca_levels.specs.Given.{AreGiven, AreCarried}
 
 -- there is room for networks with this many nodes and devices
 pub record HasRoom (nodes devices : ℕ) (levels : Levels) : Type 0 where
@@ -12,18 +10,12 @@ pub record HasRoom (nodes devices : ℕ) (levels : Levels) : Type 0 where
   pub devices_room : length levels.devices.items ≡ devices
   pub not_ones : length levels.not_ones.items ≡ nodes
   pub stronger : length levels.stronger.items ≡ nodes
-  pub potential : length levels.potential.items ≡ devices
-  pub definite : length levels.definite.items ≡ devices
-  pub given_room : length levels.given.items ≡ STRENGTHS
-  pub carried_room : length levels.carried.items ≡ STRENGTHS
+  pub links : length levels.links.items ≡ devices
   pub all : levels.all.items ≡ replicate nodes (2 ^ 64 - 1)
   pub none : levels.none.items ≡ replicate nodes 0
 
--- there is room for the network, and what its nodes give to paths, its devices and their
--- strengths are there
+-- there is room for the network, and what its nodes give to paths and its devices are there
 pub record HoldsNetwork (net : Circuit) (levels : Levels) : Type 0 where
   pub room : HasRoom (length net.nodes) (length net.devices) levels
   pub own : HaveOwnStrengths net (length net.nodes) levels.own.items
   pub devices : levels.devices.items ≡ net.devices
-  pub given : AreGiven STRENGTHS levels.own.items levels.given.items
-  pub carried : AreCarried STRENGTHS levels.devices.items levels.carried.items

@@ -1,4 +1,3 @@
 -- What the contracts of this crate say, in reading order.
-pub mod Given
 pub mod Levels
 pub mod code

@@ -3,7 +3,7 @@
 ghost use Rattle.std.specs.Prelude.{ℕ, ◌≡◌, ◌<◌, length};
 ghost use Rattle.std.specs.List.{All};
 ghost use Rattle.ca_net.specs.Circuit.{NamesWithin};
-ghost use Rattle.ca_levels.specs.code.Come.{Leads, Raises, RaisesSome, LeadsNoMore, AreClosed, RaiseBoth};
+ghost use Rattle.ca_levels.specs.code.Come.{Leads, Raises, RaisesSome, LeadsNoMore, AreClosed};
 
 use ca_net::Device;
 use ca_planes::{both, either, except};
@@ -71,56 +71,6 @@ pub(crate) fn close(devices: &[Device], links: &[u64], blocked: &[u64], reached:
 {
     'sweeps: loop {
         if !sweep(devices, links, blocked, reached) {
-            return;
-        }
-    }
-}
-
-// Goes once over all devices, in two planes of each node at a time. Whether some node has more lanes in one.
-fn sweep_pair(
-    devices: &[Device],
-    links: &[u64],
-    blocked: &[u64],
-    zeros: &mut [u64],
-    ones: &mut [u64],
-) -> bool
-    requires named { All (NamesWithin (length zeros.old)) devices.now }
-    requires links { length links.now ≡ length devices.now }
-    requires blocked { length blocked.now ≡ length zeros.old }
-    requires ones { length ones.old ≡ length zeros.old }
-    ensures { RaiseBoth
-        devices.now links.now blocked.now zeros.old zeros.new ones.old ones.new result }
-{
-    let mut zeros_rose = false;
-    let mut ones_rose = false;
-    for i in 0..devices.len() {
-        let zero = lead_both(devices, links, blocked, zeros, i);
-        let one = lead_both(devices, links, blocked, ones, i);
-        zeros_rose = zeros_rose || zero;
-        ones_rose = ones_rose || one;
-    }
-    zeros_rose || ones_rose
-}
-
-/// The same as `close` in two planes of each node at a time.
-pub(crate) fn close_pair(
-    devices: &[Device],
-    links: &[u64],
-    blocked: &[u64],
-    zeros: &mut [u64],
-    ones: &mut [u64],
-)
-    requires named { All (NamesWithin (length zeros.old)) devices.now }
-    requires links { length links.now ≡ length devices.now }
-    requires blocked { length blocked.now ≡ length zeros.old }
-    requires ones { length ones.old ≡ length zeros.old }
-    ensures zeros { RaisesSome devices.now links.now blocked.now zeros.old zeros.new }
-    ensures ones { RaisesSome devices.now links.now blocked.now ones.old ones.new }
-    ensures zeros_closed { AreClosed devices.now links.now blocked.now zeros.new }
-    ensures ones_closed { AreClosed devices.now links.now blocked.now ones.new }
-{
-    'sweeps: loop {
-        if !sweep_pair(devices, links, blocked, zeros, ones) {
             return;
         }
     }

@@ -1,12 +1,11 @@
 //! The room of a block's responses.
 
-ghost use Rattle.std.specs.Prelude.{◌≡◌, ◌<◌, ◌≤◌, ◌^◌, false, IfOk, length};
+ghost use Rattle.std.specs.Prelude.{◌≡◌, ◌<◌, IfOk, length};
 ghost use Rattle.ca_relax.specs.Groups.{HaveOwnStrengths};
 ghost use Rattle.ca_levels.specs.Levels.{HasRoom, HoldsNetwork};
-ghost use Rattle.ca_levels.specs.Given.{IsGivenByNone, IsCarriedByNone, AreGiven, AreCarried};
 
 use ca_base::NoMemory;
-use ca_net::{Device, DeviceId, DeviceKind, INPUT, Network, NodeId};
+use ca_net::{Device, DeviceId, DeviceKind, Network, NodeId};
 use ca_planes::ALL_LANES;
 use std::alloc::Global;
 
@@ -16,23 +15,16 @@ pub struct Levels {
     // what each node gives to the paths that begin at it
     pub(crate) own: Vec<u8>,
     pub(crate) devices: Vec<Device>,
-    // whether some node gives each strength, and whether some device has it
-    pub(crate) given: Vec<bool>,
-    pub(crate) carried: Vec<bool>,
     // the lanes in which the value of each node isn't 1
     pub(crate) not_ones: Vec<u64>,
     // the lanes in which a definite path to the node is stronger than the level
     pub(crate) stronger: Vec<u64>,
-    // the lanes in which each device isn't open, and those in which it conducts
-    pub(crate) potential: Vec<u64>,
-    pub(crate) definite: Vec<u64>,
+    // the lanes in which paths may go through each device
+    pub(crate) links: Vec<u64>,
     // all lanes, and none, of each node
     pub(crate) all: Vec<u64>,
     pub(crate) none: Vec<u64>,
 }
-
-/// How many strengths there are, with that of an input node and with 0.
-pub(crate) const STRENGTHS: usize = INPUT as usize + 1;
 
 // What stands for a device before the first network is loaded.
 const NO_DEVICE: Device = Device {
@@ -63,52 +55,8 @@ fn copy_devices<N: Network>(net: &N, devices: &mut [Device])
     }
 }
 
-// Whether some node gives this strength to the paths that begin at it.
-fn is_given(own: &[u8], level: u8) -> bool
-    ensures { result ≡ false → IsGivenByNone own.now level }
-{
-    for node in 0..own.len() {
-        if own[node] == level {
-            return true;
-        }
-    }
-    false
-}
-
-// Whether some device has this strength.
-fn is_carried(devices: &[Device], level: u8) -> bool
-    ensures { result ≡ false → IsCarriedByNone devices.now level }
-{
-    for i in 0..devices.len() {
-        if devices[i].strength == level {
-            return true;
-        }
-    }
-    false
-}
-
-// Finds which strengths nodes give.
-fn find_given(own: &[u8], given: &mut [bool])
-    requires { length given.old ≡ STRENGTHS }
-    ensures { AreGiven STRENGTHS own.now given.new }
-{
-    for level in 0..STRENGTHS {
-        given[level] = is_given(own, level as u8);
-    }
-}
-
-// Finds which strengths devices have.
-fn find_carried(devices: &[Device], carried: &mut [bool])
-    requires { length carried.old ≡ STRENGTHS }
-    ensures { AreCarried STRENGTHS devices.now carried.new }
-{
-    for level in 0..STRENGTHS {
-        carried[level] = is_carried(devices, level as u8);
-    }
-}
-
 impl Levels {
-    /// Takes the room for a network of this many nodes and devices: 33 bytes a node and 36 a device. As yet
+    /// Takes the room for a network of this many nodes and devices: 33 bytes a node and 28 a device. As yet
     /// it holds no network.
     pub fn reserve(alloc: Global, nodes: usize, devices: usize) -> Result<Self, NoMemory>
         ensures { IfOk result (HasRoom nodes devices) }
@@ -116,12 +64,9 @@ impl Levels {
         Ok(Levels {
             own: vec![in alloc; 0u8; nodes]?,
             devices: vec![in alloc; NO_DEVICE; devices]?,
-            given: vec![in alloc; false; STRENGTHS]?,
-            carried: vec![in alloc; false; STRENGTHS]?,
             not_ones: vec![in alloc; 0u64; nodes]?,
             stronger: vec![in alloc; 0u64; nodes]?,
-            potential: vec![in alloc; 0u64; devices]?,
-            definite: vec![in alloc; 0u64; devices]?,
+            links: vec![in alloc; 0u64; devices]?,
             all: vec![in alloc; ALL_LANES; nodes]?,
             none: vec![in alloc; 0u64; nodes]?,
         })
@@ -134,7 +79,5 @@ impl Levels {
     {
         copy_strengths(net, &mut self.own);
         copy_devices(net, &mut self.devices);
-        find_given(&self.own, &mut self.given);
-        find_carried(&self.devices, &mut self.carried);
     }
 }

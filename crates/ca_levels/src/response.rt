@@ -1,15 +1,16 @@
 //! The responses of all nodes in a block of lanes.
 
-ghost use Rattle.std.specs.Prelude.{ℕ, ◌≡◌, ◌<◌, ◌≤◌, ◌-◌, true, false, length};
+ghost use Rattle.std.specs.Prelude.{ℕ, ◌≡◌, ◌<◌, ◌-◌, false, length};
 ghost use Rattle.ca_net.specs.Circuit.{IsWellFormed};
 ghost use Rattle.ca_net.specs.Response.{AreResponses};
 ghost use Rattle.ca_planes.specs.Trits.{HasNodes, state_in};
 ghost use Rattle.ca_levels.specs.Levels.{HoldsNetwork};
-ghost use Rattle.ca_levels.specs.code.Reached.{AreNotOnes, IsLoaded, AreReached, AreKept, IsSpreadTo};
+ghost use Rattle.ca_levels.specs.code.Reached.{AreNotOnes, IsLoaded, AreReached, AreKept};
+ghost use Rattle.ca_levels.specs.code.Reached.{IsGivenByNone, IsCarriedByNone};
 
-use crate::advance::{advance, advance_pair, relink};
+use crate::advance::advance;
 use crate::levels::Levels;
-use ca_net::{INPUT, Network};
+use ca_net::{Device, INPUT, Network, PathKind};
 use ca_planes::{Block, LANES, not_one};
 
 // Finds the lanes in which the value of each node isn't 1.
@@ -23,11 +24,28 @@ fn find_not_ones(from: &Block, not_ones: &mut [u64])
     }
 }
 
-// Whether no link has a lane: so it is at the strength of an input node, which no device has.
-fn is_idle(level: u8, fresh: bool) -> bool
-    ensures { result ≡ true → (INPUT ≤ level) × (fresh ≡ false) }
+// Whether some node gives this strength to the paths that begin at it.
+fn is_given(own: &[u8], level: u8) -> bool
+    ensures { result ≡ false → IsGivenByNone own.now level }
 {
-    level >= INPUT && !fresh
+    for node in 0..own.len() {
+        if own[node] == level {
+            return true;
+        }
+    }
+    false
+}
+
+// Whether some device has this strength.
+fn is_carried(devices: &[Device], level: u8) -> bool
+    ensures { result ≡ false → IsCarriedByNone devices.now level }
+{
+    for i in 0..devices.len() {
+        if devices[i].strength == level {
+            return true;
+        }
+    }
+    false
 }
 
 // From the nodes that paths stronger than the level reach finds those that paths of at least its strength
@@ -36,48 +54,44 @@ fn lower<N: Network>(_net: &N, from: &Block, level: u8, levels: &mut Levels, out
     requires well_formed { IsWellFormed (N.circuit _net.now) }
     requires from { HasNodes (length (N.circuit _net.now).nodes) from.now }
     requires level { 0 < level }
-    requires scale { level ≤ INPUT }
     requires loaded { IsLoaded (N.circuit _net.now) from.now levels.old }
     requires room { HasNodes (length (N.circuit _net.now).nodes) out.old }
     requires above { AreReached (N.circuit _net.now) from.now level levels.old out.old }
-    requires spread { IsSpreadTo from.now level levels.old out.old }
     ensures loaded { IsLoaded (N.circuit _net.now) from.now levels.new }
     ensures room { HasNodes (length (N.circuit _net.now).nodes) out.new }
     ensures reached { AreReached (N.circuit _net.now) from.now (level - 1) levels.new out.new }
-    ensures spread { IsSpreadTo from.now (level - 1) levels.new out.new }
 {
-    let fresh = levels.carried[level as usize];
-    let idle = is_idle(level, fresh);
-    relink(
-        &levels.devices,
-        from,
-        level,
-        fresh,
-        &mut levels.potential,
-        &mut levels.definite,
-    );
-    advance_pair(
+    advance(
         &levels.devices,
         &levels.own,
+        from,
+        PathKind::Potential,
         level,
-        idle,
-        fresh,
-        &levels.potential,
-        &levels.not_ones,
         &from.ones,
         &levels.stronger,
-        &mut out.zeros,
+        &mut levels.links,
         &mut out.ones,
     );
     advance(
         &levels.devices,
         &levels.own,
+        from,
+        PathKind::Potential,
         level,
-        idle,
-        fresh,
-        &levels.definite,
+        &levels.not_ones,
+        &levels.stronger,
+        &mut levels.links,
+        &mut out.zeros,
+    );
+    advance(
+        &levels.devices,
+        &levels.own,
+        from,
+        PathKind::Definite,
+        level,
         &levels.all,
         &levels.none,
+        &mut levels.links,
         &mut levels.stronger,
     );
 }
@@ -87,17 +101,14 @@ fn descend<N: Network>(_net: &N, from: &Block, level: u8, levels: &mut Levels, o
     requires well_formed { IsWellFormed (N.circuit _net.now) }
     requires from { HasNodes (length (N.circuit _net.now).nodes) from.now }
     requires level { 0 < level }
-    requires scale { level ≤ INPUT }
     requires loaded { IsLoaded (N.circuit _net.now) from.now levels.old }
     requires room { HasNodes (length (N.circuit _net.now).nodes) out.old }
     requires above { AreReached (N.circuit _net.now) from.now level levels.old out.old }
-    requires spread { IsSpreadTo from.now level levels.old out.old }
     ensures loaded { IsLoaded (N.circuit _net.now) from.now levels.new }
     ensures room { HasNodes (length (N.circuit _net.now).nodes) out.new }
     ensures reached { AreReached (N.circuit _net.now) from.now (level - 1) levels.new out.new }
-    ensures spread { IsSpreadTo from.now (level - 1) levels.new out.new }
 {
-    if levels.given[level as usize] || levels.carried[level as usize] {
+    if is_given(&levels.own, level) || is_carried(&levels.devices, level) {
         lower(_net, from, level, levels, out);
     }
 }
@@ -127,8 +138,6 @@ pub fn respond<N: Network>(net: &N, from: &Block, levels: &mut Levels, out: &mut
 {
     let _nodes = net.node_count();
     find_not_ones(from, &mut levels.not_ones);
-    levels.potential.fill(0);
-    levels.definite.fill(0);
     levels.stronger.fill(0);
     out.zeros.fill(0);
     out.ones.fill(0);

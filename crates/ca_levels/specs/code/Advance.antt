@@ -31,18 +31,13 @@ HaveBegun count own level source blocked old new =
     (n lane : ℕ) → n < count → (lane_at new n lane ≡ true)
     ↔ IsBegun (slice_index own n) level (lane_at source n lane) (lane_at blocked n lane) (lane_at old n lane)
 
--- paths began, and went on over these links
-pub record IsSpread (devices : List Device) (own : List ℕ) (level : ℕ)
-    (links source blocked old new : List ℕ) : Type 0 where
-  pub first : List ℕ
-  pub room : length first ≡ length own
-  pub begun : HaveBegun (length own) own level source blocked old first
-  pub raises : RaisesSome devices links blocked first new
-  pub closed : AreClosed devices links blocked new
-
 -- paths began, and went on over all links
 pub record IsAdvanced (devices : List Device) (own : List ℕ) (from : Block) (kind : PathKind) (level : ℕ)
     (source blocked old new : List ℕ) : Type 0 where
   pub links : List ℕ
+  pub first : List ℕ
+  pub room : length first ≡ length own
   pub linked : AreLinked (length devices) devices from kind level links
-  pub spread : IsSpread devices own level links source blocked old new
+  pub begun : HaveBegun (length own) own level source blocked old first
+  pub raises : RaisesSome devices links blocked first new
+  pub closed : AreClosed devices links blocked new

@@ -1,6 +1,6 @@
 -- Where the links of devices lead in a lane, and how planes rise to that. Only the proofs of the code cite
 -- this.
-use Rattle.std.specs.Prelude.{ℕ, Bool, true, false, ◌≡◌, ◌+◌, ◌<◌, ◌≤◌, ◌&&◌, ◌||◌, not, List, length, Some}
+use Rattle.std.specs.Prelude.{ℕ, Bool, true, false, ◌≡◌, ◌<◌, ◌≤◌, ◌&&◌, ◌||◌, not, List, length, Some}
 use Rattle.std.specs.Prelude.{slice_get, slice_index, slice_set, sum}
 use Rattle.ca_net.specs.declared.device.Device.{Device}
 use Rattle.ca_net.specs.Conduction.{Links}
@@ -60,16 +60,3 @@ LeadsNoMore devices links blocked reached rose i =
 abbrev pub AreClosed : List Device → List ℕ → List ℕ → List ℕ → Type 0
 AreClosed devices links blocked reached =
     (i : ℕ) → i < length devices → IsClosedAt devices links blocked reached i
-
--- so are two planes of each node, or one has more lanes somewhere
-pub record RaiseBoth (devices : List Device) (links blocked zeros new_zeros ones new_ones : List ℕ)
-    (rose : Bool) : Type 0 where
-  pub zeros_raise : RaisesSome devices links blocked zeros new_zeros
-  pub ones_raise : RaisesSome devices links blocked ones new_ones
-  pub rises : rose ≡ true → sum zeros + sum ones < sum new_zeros + sum new_ones
-  pub zeros_closed : rose ≡ false → AreClosed devices links blocked new_zeros
-  pub ones_closed : rose ≡ false → AreClosed devices links blocked new_ones
-
--- over links none of which has a lane nothing comes
-abbrev pub AreIdle : List Device → List ℕ → List ℕ → Type 0
-AreIdle devices links blocked = (reached : List ℕ) → AreClosed devices links blocked reached

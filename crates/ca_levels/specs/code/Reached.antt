@@ -1,9 +1,9 @@
 -- Which nodes paths of more than some strength reach, as planes. Only the proofs of the code cite this.
-use Rattle.std.specs.Prelude.{ℕ, ◌≡◌, ◌≢◌, ◌+◌, ◌<◌, ◌≤◌, ◌↔◌, true, List, length, slice_index}
+use Rattle.std.specs.Prelude.{ℕ, ◌≡◌, ◌≢◌, ◌<◌, ◌≤◌, ◌↔◌, true, List, length, slice_index, slice_get, Some}
 use Rattle.ca_net.specs.declared.scale.TheConstants.{INPUT}
 use Rattle.ca_net.specs.declared.trit.Trit.{Trit}
 use Rattle.ca_net.specs.declared.trit.Trit.TheVariants.{Zero, One}
-use Rattle.ca_net.specs.declared.path_kind.PathKind.TheVariants.{Definite, Potential}
+use Rattle.ca_net.specs.declared.device.Device.{Device}
 use Rattle.ca_net.specs.Circuit.{Circuit}
 use Rattle.ca_net.specs.State.{value_at}
 use Rattle.ca_net.specs.Response.{HasStronger}
@@ -12,9 +12,7 @@ use Rattle.ca_planes.specs.Plane.{lane_at}
 use Rattle.ca_planes.specs.Trits.{state_in}
 use Rattle.ca_levels.specs.declared.levels.Levels.{Levels}
 use Rattle.ca_levels.specs.Levels.{HoldsNetwork}
-use Rattle.ca_levels.specs.code.Come.{AreClosed, AreIdle}
 use Rattle.ca_levels.specs.code.Way.{HasOther, AreThose}
-use Rattle.ca_levels.specs.code.Advance.{AreLinked}
 
 -- the planes have the lane where the value of a node isn't 1
 abbrev pub AreNotOnes : Block → List ℕ → Type 0
@@ -46,17 +44,10 @@ pub record AreKept (count : ℕ) (own from old new : List ℕ) : Type 0 where
   pub input : (n : ℕ) → n < count → INPUT ≤ slice_index own n → slice_index new n ≡ slice_index from n
   pub storage : (n : ℕ) → n < count → slice_index own n < INPUT → slice_index new n ≡ slice_index old n
 
--- the links are those of the devices that are stronger than k, and nothing more comes over them; there are
--- none at first
-pub record IsSpreadTo (from : Block) (k : ℕ) (levels : Levels) (out : Block) : Type 0 where
-  pub potential : AreLinked (length levels.devices.items) levels.devices.items from Potential (k + 1)
-      levels.potential.items
-  pub definite : AreLinked (length levels.devices.items) levels.devices.items from Definite (k + 1)
-      levels.definite.items
-  pub zeros : AreClosed levels.devices.items levels.potential.items levels.stronger.items out.zeros.items
-  pub ones : AreClosed levels.devices.items levels.potential.items levels.stronger.items out.ones.items
-  pub stronger : AreClosed levels.devices.items levels.definite.items levels.none.items levels.stronger.items
-  pub potential_none : INPUT ≤ k
-      → (blocked : List ℕ) → AreIdle levels.devices.items levels.potential.items blocked
-  pub definite_none : INPUT ≤ k
-      → (blocked : List ℕ) → AreIdle levels.devices.items levels.definite.items blocked
+-- no node gives this strength to paths
+abbrev pub IsGivenByNone : List ℕ → ℕ → Type 0
+IsGivenByNone own level = (n : ℕ) → n < length own → slice_index own n ≢ level
+
+-- no device has this strength
+abbrev pub IsCarriedByNone : List Device → ℕ → Type 0
+IsCarriedByNone devices level = (i : ℕ) (d : Device) → slice_get devices i ≡ Some d → d.strength ≢ level

@@ -1,8 +1,8 @@
 use Rattle.std.proofs.Common.{◌≡◌, ◌∙◌, ◌-◌, length, sym, ap, subst, arith}
 use Rattle.ca_net.specs.declared.scale.TheConstants.{INPUT}
 use Rattle.ca_planes.specs.Trits.{state_in}
-use Rattle.ca_levels.specs.code.Reached.{AreReached, AreNotOnes, IsSpreadTo}
-use Rattle.ca_levels.proofs.ResponseLemmas.{written_back, none_reached, spread_none, responses_of, kept_as, zeros_as}
+use Rattle.ca_levels.specs.code.Reached.{AreReached, AreNotOnes}
+use Rattle.ca_levels.proofs.ResponseLemmas.{written_back, none_reached, responses_of, kept_as, zeros_as}
 use Rattle.std.proofs.lemmas.List.{length-replicate}
 use Rattle.ca_levels.proofs.response.respond.Goals as goal
 
@@ -12,11 +12,9 @@ loop-above-init g c =
     let levels = c.args.levels.now in
     let room = c.requires.levels.room in
     let not_ones = written_back c.find_not_ones.new.not_ones levels.not_ones.items levels.not_ones.len (sym c.deref_mut.ensures.len ∙ sym c.find_not_ones.auto.not_ones) in
-    let potential = c.fill.ensures.items (λ y e. e) ∙ zeros_as _ _ (omega (arith, levels.potential.ok.0, room.potential)) in
-    let definite = c.fill-2.ensures.items (λ y e. e) ∙ zeros_as _ _ (omega (arith, levels.definite.ok.0, room.definite)) in
-    let stronger = c.fill-3.ensures.items (λ y e. e) ∙ zeros_as _ _ (omega (arith, levels.stronger.ok.0, room.stronger)) in
-    let zeros = c.fill-4.ensures.items (λ y e. e) ∙ zeros_as _ _ (omega (arith, c.args.out.now.zeros.ok.0, c.requires.out.zeros)) in
-    let ones = c.fill-5.ensures.items (λ y e. e) ∙ zeros_as _ _ (omega (arith, c.args.out.now.ones.ok.0, c.requires.out.ones)) in
+    let stronger = c.fill.ensures.items (λ y e. e) ∙ zeros_as _ _ (omega (arith, levels.stronger.ok.0, room.stronger)) in
+    let zeros = c.fill-2.ensures.items (λ y e. e) ∙ zeros_as _ _ (omega (arith, c.args.out.now.zeros.ok.0, c.requires.out.zeros)) in
+    let ones = c.fill-3.ensures.items (λ y e. e) ∙ zeros_as _ _ (omega (arith, c.args.out.now.ones.ok.0, c.requires.out.ones)) in
     record {
       loaded = record {
         holds = record {
@@ -25,24 +23,18 @@ loop-above-init g c =
             devices_room = room.devices_room;
             not_ones = ap length not_ones ∙ c.find_not_ones.auto.not_ones ∙ ap length c.deref_mut.ensures.value ∙ room.not_ones;
             stronger = ap length stronger ∙ length-replicate (length net.nodes) 0;
-            potential = ap length potential ∙ length-replicate (length net.devices) 0;
-            definite = ap length definite ∙ length-replicate (length net.devices) 0;
-            given_room = room.given_room;
-            carried_room = room.carried_room;
+            links = room.links;
             all = room.all;
             none = room.none;
           };
           own = c.requires.levels.own;
           devices = c.requires.levels.devices;
-          given = c.requires.levels.given;
-          carried = c.requires.levels.carried;
         };
         not_ones = subst (AreNotOnes c.args.from.now) (sym not_ones) c.find_not_ones.ensures;
       };
       room = record { zeros = ap length zeros ∙ length-replicate (length net.nodes) 0; ones = ap length ones ∙ length-replicate (length net.nodes) 0 };
-      reached = λ lane low. none_reached net c.node_count-nodes.ensures.well_formed (state_in c.args.from.now lane) lane c.fill-3.new.self.items c.fill-4.new.self.items c.fill-5.new.self.items
+      reached = λ lane low. none_reached net c.node_count-nodes.ensures.well_formed (state_in c.args.from.now lane) lane c.fill.new.self.items c.fill-2.new.self.items c.fill-3.new.self.items
           stronger zeros ones;
-      spread = spread_none net c.node_count-nodes.ensures.well_formed c.args.from.now _ _ c.requires.levels.devices potential definite stronger zeros ones;
     }
 
 pub loop-above-preserved : goal.loop-above-preserved
@@ -52,7 +44,6 @@ loop-above-preserved g c =
       loaded = c.descend.ensures.loaded;
       room = c.descend.ensures.room;
       reached = subst (λ k. AreReached net c.args.from.now k c.descend.new.levels c.descend.new.out) (omega (arith, c.loop-above-test.true)) c.descend.ensures.reached;
-      spread = subst (λ k. IsSpreadTo c.args.from.now k c.descend.new.levels c.descend.new.out) (omega (arith, c.loop-above-test.true)) c.descend.ensures.spread;
     }
 
 pub returns-clause-responses : goal.returns-clause-responses

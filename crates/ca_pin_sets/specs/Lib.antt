@@ -1,0 +1,5 @@
+-- What the contracts of this crate say, in reading order.
+pub mod Groups
+pub mod Homes
+pub mod Resolved
+pub mod code
