@@ -36,7 +36,7 @@ empty_is_cell None = record {
     few_devices = omega arith;
     pins = omega arith;
     places = λ k d lt. absurd (omega (arith, lt));
-    devices = λ k d lt. absurd (omega (arith, lt));
+    transistors = λ k d lt. absurd (omega (arith, lt));
   };
   keeps = keeps;
 }
@@ -55,7 +55,7 @@ empty_is_cell (Some net) = record {
     few_devices = omega arith;
     pins = omega arith;
     places = λ k d lt. absurd (omega (arith, lt));
-    devices = λ k d lt. absurd (omega (arith, lt));
+    transistors = λ k d lt. absurd (omega (arith, lt));
   };
   keeps = keeps;
 }

@@ -3,7 +3,7 @@ use Rattle.std.specs.Prelude.{ℕ, List, [], ◌∷◌, ◌++◌, codes, decimal
 use Rattle.ca_fault.specs.declared.fault.Fault.{Fault}
 use Rattle.ca_fault.specs.declared.fault.Fault.TheVariants.{BadWords, Cells, Netlist, Scan, Chip, Chain}
 use Rattle.ca_fault.specs.declared.fault.Fault.TheVariants.{NoCell, Cell, BadVector, NoInstance, NoDefect}
-use Rattle.ca_fault.specs.declared.fault.Fault.TheVariants.{Order, Stil, StilChip, Expected, TooLong}
+use Rattle.ca_fault.specs.declared.fault.Fault.TheVariants.{Order, Stil, StilChip, Expected, Log, TooLong}
 use Rattle.ca_fault.specs.declared.fault.Fault.TheVariants.{TooManyPairs, Limit, StoreFailed, SinkFailed}
 use Rattle.ca_fault.specs.declared.fault.Fault.TheVariants.{NoMemory}
 use Rattle.ca_fault.specs.KindText.{kind_text, netlist_text, rule_text, chip_text, limit_text}
@@ -26,6 +26,7 @@ status_of (Order line) = 2
 status_of (Stil line) = 2
 status_of StilChip = 2
 status_of (Expected pair output) = 2
+status_of (Log row) = 2
 status_of (TooLong name taken) = 3
 status_of (TooManyPairs pairs aims) = 3
 status_of (Limit kind count) = 3
@@ -51,6 +52,7 @@ text_of (Stil line) = codes "stil: line " ++ decimal line
 text_of StilChip = codes "stil: other chip"
 text_of (Expected pair output) =
     codes "expected value: pair " ++ (decimal pair ++ (codes " output " ++ decimal output))
+text_of (Log row) = codes "log: record " ++ decimal row
 text_of (TooLong name taken) = codes "file too long: " ++ name
 text_of (TooManyPairs pairs aims) = codes "too many pairs"
 text_of (Limit kind count) = codes "limit: " ++ (limit_text kind ++ (codes " " ++ decimal count))

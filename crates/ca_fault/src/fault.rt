@@ -87,6 +87,11 @@ pub enum Fault {
         pair: u32,
         output: u32,
     },
+    /// The log of failing outputs has a record that is bad, the first of those. Records are counted from 1, and
+    /// the header is the first.
+    Log {
+        row: usize,
+    },
     /// A file has more bytes than it may have. That many were taken.
     TooLong {
         name: Text,
@@ -157,7 +162,8 @@ impl Fault {
             | Fault::Order { .. }
             | Fault::Stil { .. }
             | Fault::StilChip
-            | Fault::Expected { .. } => 2,
+            | Fault::Expected { .. }
+            | Fault::Log { .. } => 2,
             Fault::TooLong { .. } | Fault::TooManyPairs { .. } | Fault::Limit { .. } => 3,
             Fault::StoreFailed { .. } | Fault::SinkFailed => 4,
             Fault::NoMemory => 5,
@@ -212,7 +218,7 @@ impl Fault {
     {
         match self {
             Fault::Cells { line, .. } | Fault::Netlist { line, .. } => *line,
-            Fault::Scan { row } => *row,
+            Fault::Scan { row } | Fault::Log { row } => *row,
             Fault::Order { line } | Fault::Stil { line } => *line,
             Fault::Expected { pair, .. } => *pair as usize,
             Fault::Limit { count, .. } => *count,
@@ -305,6 +311,12 @@ impl Fault {
                 word: number,
                 end: b" output ",
                 last,
+            },
+            Fault::Log { .. } => FaultText {
+                start: b"log: record ",
+                word: number,
+                end: &[],
+                last: &[],
             },
             Fault::TooLong { name, .. } => FaultText::with_word(b"file too long: ", name),
             Fault::TooManyPairs { .. } => FaultText::plain(b"too many pairs"),

@@ -110,7 +110,7 @@ unfolding devices_before
 faulty_devices = refl
 
 listed : IsDefectIn inverter_chip open_gate
-listed = record { known = omega arith; listed = refl }
+listed = record { known = omega arith; listed = omega arith }
 
 pub inverter_is_flat_lem : InverterIsFlat
 inverter_is_flat_lem = record {

@@ -30,7 +30,7 @@ use Rattle.ca_core.specs.Core.{core_instance, core_of, empty_cell}
 use Rattle.ca_core.proofs.CorePartLemmas.{core_at, part_at}
 use Rattle.ca_core.proofs.CoreIsChip.{body_of}
 
-abbrev node_id : ℕ → NodeId
+node_id : ℕ → NodeId
 node_id n = record { 0 = n }
 
 -- the device is a transistor, or a resistor, whose gate is its drain

@@ -1,5 +1,5 @@
 -- How the causes of a command follow from those of its stages.
-use Rattle.std.proofs.Common.{ℕ, ◌≡◌, ◌≢◌, ◌⊎◌, ◌∙◌, inl, inr, refl, sym, ap, arith, List, Option, Some, None}
+use Rattle.std.proofs.Common.{ℕ, ◌≡◌, ◌≢◌, ◌⊎◌, ◌∙◌, inl, inr, refl, sym, ap, arith, List, length, Option, Some, None}
 use Rattle.std.proofs.Common.{Result, Ok, Err, Bool, true, false, subst}
 use Rattle.std.proofs.lemmas.Option.{same_Some}
 use Rattle.std.specs.Prelude.{Vec, if◌then◌else◌, IfOk}
@@ -14,8 +14,8 @@ use Rattle.ca_words.specs.Words.{cells_word, cell_word, vector_word, first_word,
 use Rattle.ca_words.specs.Words.{scan_word, dash, file_called}
 use Rattle.ca_words.specs.Words.{chip_files, instance_word, chip_defect_word, flat_out_word, chip_first_word}
 use Rattle.ca_words.specs.Words.{chip_last_word}
-use Rattle.ca_words.specs.Words.{netlist_word, stil_word, report_word, order_word}
-use Rattle.ca_words.specs.Words.{IsOtherFile, IsMatrix, IsFlatten, IsAtpg, IsGrade, HasOut}
+use Rattle.ca_words.specs.Words.{netlist_word, stil_word, report_word, candidates_word, order_word}
+use Rattle.ca_words.specs.Words.{IsOtherFile, IsMatrix, IsFlatten, IsAtpg, IsGrade, IsDiagnose, HasOut}
 use Rattle.ca_on_cell.specs.Cells.{OfCell}
 use Rattle.ca_load.specs.Files.{OfFile}
 use Rattle.ca_linked.specs.Linked.{LinkedChip}
@@ -143,8 +143,10 @@ module _ (words : List (List ℕ)) (typed : List ℕ) (files : Option Files) (be
   flatten_reads flatten named (inr (inr (inr (inr (inl (is, inr (inr (inr (inl (own, cause)))))))))) = cause.many.0
   flatten_reads flatten named (inr (inr (inr (inr (inl (is, inr (inr (inr (inr (inl (own, cause))))))))))) =
       let nine = own.nine in let seven = flatten.seven in omega (arith, nine, seven)
-  flatten_reads flatten named (inr (inr (inr (inr (inl (is, inr (inr (inr (inr (inr (own, cause))))))))))) =
+  flatten_reads flatten named (inr (inr (inr (inr (inl (is, inr (inr (inr (inr (inr (inl (own, cause)))))))))))) =
       let six = own.six in let seven = flatten.seven in omega (arith, six, seven)
+  flatten_reads flatten named (inr (inr (inr (inr (inl (is, inr (inr (inr (inr (inr (inr (own, cause)))))))))))) =
+      omega (arith, ap length (sym flatten.command ∙ own.command))
 
   -- nor one of those that `atpg` writes
   atpg_reads : IsAtpg words → IsOtherFile typed (cells_word words) (netlist_word words) (scan_word words)
@@ -168,18 +170,20 @@ module _ (words : List (List ℕ)) (typed : List ℕ) (files : Option Files) (be
   atpg_reads atpg other (inr (inr (inr (inr (inl (is, inr (inr (inr (inl (own, cause)))))))))) = cause.many.0
   atpg_reads atpg other (inr (inr (inr (inr (inl (is, inr (inr (inr (inr (inl (own, cause))))))))))) =
       let nine = own.nine in let seven = atpg.seven in omega (arith, nine, seven)
-  atpg_reads atpg other (inr (inr (inr (inr (inl (is, inr (inr (inr (inr (inr (own, cause))))))))))) =
+  atpg_reads atpg other (inr (inr (inr (inr (inl (is, inr (inr (inr (inr (inr (inl (own, cause)))))))))))) =
       let six = own.six in let seven = atpg.seven in omega (arith, six, seven)
+  atpg_reads atpg other (inr (inr (inr (inr (inl (is, inr (inr (inr (inr (inr (inr (own, cause)))))))))))) =
+      omega (arith, ap length (sym atpg.command ∙ own.command))
 
   -- nor the one that `grade` writes
   grade_reads : IsGrade words → typed ≡ report_word words → IsWorkCause words files before after (StoreFailed typed) → ⊥
   grade_reads graded named (inr (inr (inr (inr (inr (make, cause)))))) =
       let two = make.two in let six = graded.six in omega (arith, two, six)
-  grade_reads graded named (inl (is, cause)) = no_chip words (inl is) (inr (inr (inr (inr (inr graded)))))
-  grade_reads graded named (inr (inl (is, cause))) = no_chip words (inr (inl is)) (inr (inr (inr (inr (inr graded)))))
-  grade_reads graded named (inr (inr (inl (is, cause)))) = no_chip words (inr (inr (inl is))) (inr (inr (inr (inr (inr graded)))))
+  grade_reads graded named (inl (is, cause)) = no_chip words (inl is) (inr (inr (inr (inr (inr (inl graded))))))
+  grade_reads graded named (inr (inl (is, cause))) = no_chip words (inr (inl is)) (inr (inr (inr (inr (inr (inl graded))))))
+  grade_reads graded named (inr (inr (inl (is, cause)))) = no_chip words (inr (inr (inl is))) (inr (inr (inr (inr (inr (inl graded))))))
   grade_reads graded named (inr (inr (inr (inl (is, cause))))) =
-      no_chip words (inr (inr (inr is))) (inr (inr (inr (inr (inr graded)))))
+      no_chip words (inr (inr (inr is))) (inr (inr (inr (inr (inr (inl graded))))))
   grade_reads graded named (inr (inr (inr (inr (inl (is, inl load)))))) =
       elim (at_load_stage (chip_files words) typed files before after load) [
         | inl same ↦ graded.report.not_cells (sym named ∙ same)
@@ -192,9 +196,41 @@ module _ (words : List (List ℕ)) (typed : List ℕ) (files : Option Files) (be
   grade_reads graded named (inr (inr (inr (inr (inl (is, inr (inr (inr (inl (own, cause)))))))))) = cause.many.0
   grade_reads graded named (inr (inr (inr (inr (inl (is, inr (inr (inr (inr (inl (own, cause))))))))))) =
       let nine = own.nine in let six = graded.six in omega (arith, nine, six)
-  grade_reads graded named (inr (inr (inr (inr (inl (is, inr (inr (inr (inr (inr (own, inl (held, read)))))))))))) =
+  grade_reads graded named (inr (inr (inr (inr (inl (is, inr (inr (inr (inr (inr (inl (own, inl (held, read))))))))))))) =
       graded.others (sym named ∙ read.0)
-  grade_reads graded named (inr (inr (inr (inr (inl (is, inr (inr (inr (inr (inr (own, inr (word, held)))))))))))) = word
+  grade_reads graded named (inr (inr (inr (inr (inl (is, inr (inr (inr (inr (inr (inl (own, inr (word, held))))))))))))) = word
+  grade_reads graded named (inr (inr (inr (inr (inl (is, inr (inr (inr (inr (inr (inr (own, cause)))))))))))) =
+      let seven = own.seven in let six = graded.six in omega (arith, seven, six)
+
+  -- nor the one that `diagnose` writes
+  diagnose_reads : IsDiagnose words → typed ≡ candidates_word words → IsWorkCause words files before after (StoreFailed typed) → ⊥
+  diagnose_reads asked named (inr (inr (inr (inr (inr (make, cause)))))) =
+      let two = make.two in let seven = asked.seven in omega (arith, two, seven)
+  diagnose_reads asked named (inl (is, cause)) = no_chip words (inl is) (inr (inr (inr (inr (inr (inr asked))))))
+  diagnose_reads asked named (inr (inl (is, cause))) = no_chip words (inr (inl is)) (inr (inr (inr (inr (inr (inr asked))))))
+  diagnose_reads asked named (inr (inr (inl (is, cause)))) = no_chip words (inr (inr (inl is))) (inr (inr (inr (inr (inr (inr asked))))))
+  diagnose_reads asked named (inr (inr (inr (inl (is, cause))))) =
+      no_chip words (inr (inr (inr is))) (inr (inr (inr (inr (inr (inr asked))))))
+  diagnose_reads asked named (inr (inr (inr (inr (inl (is, inl load)))))) =
+      elim (at_load_stage (chip_files words) typed files before after load) [
+        | inl same ↦ asked.out.not_cells (sym named ∙ same)
+        | inr (inl same) ↦ asked.out.not_netlist (sym named ∙ same)
+        | inr (inr same) ↦ asked.out.not_scan (sym named ∙ sym (called_is (scan_word words) typed same))
+      ]
+  diagnose_reads asked named (inr (inr (inr (inr (inl (is, inr (inl (own, (word, held))))))))) = word
+  diagnose_reads asked named (inr (inr (inr (inr (inl (is, inr (inr (inl (own, (inl word, held)))))))))) = word
+  diagnose_reads asked named (inr (inr (inr (inr (inl (is, inr (inr (inl (own, (inr word, held)))))))))) = word
+  diagnose_reads asked named (inr (inr (inr (inr (inl (is, inr (inr (inr (inl (own, cause)))))))))) = cause.many.0
+  diagnose_reads asked named (inr (inr (inr (inr (inl (is, inr (inr (inr (inr (inl (own, cause))))))))))) =
+      let nine = own.nine in let seven = asked.seven in omega (arith, nine, seven)
+  diagnose_reads asked named (inr (inr (inr (inr (inl (is, inr (inr (inr (inr (inr (inl (own, cause)))))))))))) =
+      let six = own.six in let seven = asked.seven in omega (arith, six, seven)
+  diagnose_reads asked named (inr (inr (inr (inr (inl (is, inr (inr (inr (inr (inr (inr (own, inl (inl (held, read)))))))))))))) =
+      asked.not_stil (sym named ∙ read.0)
+  diagnose_reads asked named (inr (inr (inr (inr (inl (is, inr (inr (inr (inr (inr (inr (own, inl (inr (word, held)))))))))))))) = word
+  diagnose_reads asked named (inr (inr (inr (inr (inl (is, inr (inr (inr (inr (inr (inr (own, inr (inl (held, read)))))))))))))) =
+      asked.not_log (sym named ∙ read.0)
+  diagnose_reads asked named (inr (inr (inr (inr (inl (is, inr (inr (inr (inr (inr (inr (own, inr (inr (word, held)))))))))))))) = word
 
   named_other : (name : List ℕ) → typed ≡ name → IsOtherFile name (cells_word words) (netlist_word words) (scan_word words)
       → IsOtherFile typed (cells_word words) (netlist_word words) (scan_word words)
@@ -204,7 +240,8 @@ module _ (words : List (List ℕ)) (typed : List ℕ) (files : Option Files) (be
   pub out_is_unread : HasOut words typed → IsWorkCause words files before after (StoreFailed typed) → ⊥
   out_is_unread (inl (matrix, named)) cause = matrix.others (sym named ∙ matrix_reads matrix cause)
   out_is_unread (inr (inl (flatten, named))) cause = flatten_reads flatten named cause
-  out_is_unread (inr (inr (inr (graded, named)))) cause = grade_reads graded named cause
+  out_is_unread (inr (inr (inr (inl (graded, named))))) cause = grade_reads graded named cause
+  out_is_unread (inr (inr (inr (inr (asked, named))))) cause = diagnose_reads asked named cause
   out_is_unread (inr (inr (inl (atpg, inl named)))) cause = atpg_reads atpg (named_other (stil_word words) named atpg.stil) cause
   out_is_unread (inr (inr (inl (atpg, inr named)))) cause = atpg_reads atpg (named_other (report_word words) named atpg.report) cause
 
@@ -496,7 +533,7 @@ pub grade_cause : (words : List (List ℕ)) (request : GradeWords) (files : Opti
     → IsSpelledGrade words request → IsLoadedCause (names_of request.files) request.stil.now files before after fault
     → IsWorkCause words files before after fault
 grade_cause words request files before after fault spelled cause = inr (inr (inr (inr (inl (
-  inr (inr (inr (inr (inr spelled.is)))),
+  inr (inr (inr (inr (inr (inl spelled.is))))),
   by (subst (λ name. IsLoadedCause (chip_files words) name files before after fault) spelled.stil
       (subst (λ asked. IsLoadedCause asked request.stil.now files before after fault) spelled.files cause)),
 )))))
@@ -504,7 +541,7 @@ grade_cause words request files before after fault spelled cause = inr (inr (inr
     by : IsLoadedCause (chip_files words) (stil_word words) files before after fault
         → IsLoadCause (chip_files words) files before after fault ⊎ IsOwnCause words files before after fault
     by (inl load) = inl load
-    by (inr own) = inr (inr (inr (inr (inr (spelled.is, own)))))
+    by (inr own) = inr (inr (inr (inr (inr (inl (spelled.is, own))))))
 
 -- the tests of the generated chip that the words of `make` ask for
 pub make_asked : (words : List (List ℕ)) (number : ℕ) (files : Option Files) (chip : LinkedChip) (pairs : List (List Bool))
@@ -541,6 +578,7 @@ is_whole words (command.Simulate request) spelled = rw (spelled.of.instance, spe
 is_whole words (command.Atpg request) spelled = tt
 is_whole words (command.Replay request) spelled = rw (spelled.of.instance, spelled.of.defect) spelled.is.defect
 is_whole words (command.Grade request) spelled = tt
+is_whole words (command.Diagnose request) spelled = tt
 is_whole words (command.Make number) spelled = let said = spelled.number_is in said.few
 is_whole words command.Help spelled = tt
 is_whole words command.Version spelled = tt

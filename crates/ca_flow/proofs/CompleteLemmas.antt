@@ -4,7 +4,6 @@ use Rattle.std.proofs.Common.{Option, Some, None, Err, arith, true≢false}
 use Rattle.std.proofs.lemmas.Option.{same_Some}
 use Rattle.std.specs.Prelude.{IfSome, IsSome, IsNone, IsSomeAnd}
 use Rattle.ca_store.specs.Store.{Files, Rose, MayHave}
-use Rattle.ca_cell.specs.Strength.{default_table}
 use Rattle.ca_cell.specs.declared.raw.RawCell.{RawCell}
 use Rattle.ca_cell.specs.declared.rule.CellRule.{CellRule}
 use Rattle.ca_cell.specs.Rules.{IsFirstBroken}
@@ -30,11 +29,15 @@ use Rattle.ca_flow.specs.declared.finished.Finished.{Finished}
 use Rattle.ca_flow.specs.Finished.{IsAnswer, status_reported}
 use Rattle.ca_words.specs.Words.{cells_word, cell_word, vector_word, first_word, last_word, defect_word, dash}
 use Rattle.ca_words.specs.Words.{chip_files, instance_word, chip_defect_word, chip_first_word, chip_last_word}
-use Rattle.ca_words.specs.Words.{stil_word, order_word, IsReplay, IsGrade, AsksNoFile, GeneratesTests, IsCommand}
+use Rattle.ca_words.specs.Words.{stil_word, log_word, order_word, IsReplay, IsGrade, IsDiagnose, AsksNoFile, GeneratesTests, IsCommand}
 use Rattle.ca_scan.specs.ChainFault.{AreAllChains}
 use Rattle.ca_patterns.specs.declared.patterns.TheConstants.{MAX_STIL}
-use Rattle.ca_patterns.specs.Patterns.{IsStilCause, OfTraced, GiveTraced, IsPatternsCause}
+use Rattle.ca_patterns.specs.Patterns.{IsStilCause, OfTraced, GiveTraced, IsPatternsCause, FitsPatterns}
 use Rattle.ca_patterns.proofs.OneLemmas.{no_file_cause, is_read as is_patterns_read}
+use Rattle.ca_load.specs.Chips.{IsChipOf}
+use Rattle.ca_diagnosing.specs.declared.logs.TheConstants.{MAX_LOG}
+use Rattle.ca_diagnosing.specs.Diagnosing.{IsBadLog, HasRight, IsLogCause, FitsDiagnosis}
+use Rattle.ca_diagnosing.proofs.OneLemmas.{fits_patterns, is_log_read, no_bad_log}
 use Rattle.ca_on_cell.specs.Outputs.{Fits, asked_network}
 use Rattle.ca_on_cell.specs.Cells.{OfFile, HasCell, LacksCell}
 use Rattle.ca_on_chip.specs.OnChip.{GiveChipWith, OfChip, IsSimulationCause, IsPairsFault}
@@ -60,14 +63,14 @@ record HasSeen (words : List (List ℕ)) (files : Option Files) : Type 0 where
   pub there : reported (cells_word words) ≡ Some bytes
   pub within : length bytes ≤ MAX_CELLS
   pub raw : RawCell
-  pub called : cell_called default_table bytes (cell_word words) ≡ Some raw
+  pub called : cell_called bytes (cell_word words) ≡ Some raw
   pub fits : FitsCell words raw
 
 seen_of : (words : List (List ℕ)) (reported : Files) → FitsFile words reported → HasSeen words (Some reported)
 seen_of words reported held = at_file (reported (cells_word words)) refl held
   where
     at_cell : (bytes : List ℕ) → reported (cells_word words) ≡ Some bytes → length bytes ≤ MAX_CELLS → (cell : Option RawCell)
-        → cell_called default_table bytes (cell_word words) ≡ cell → IsSomeAnd cell (FitsCell words) → HasSeen words (Some reported)
+        → cell_called bytes (cell_word words) ≡ cell → IsSomeAnd cell (FitsCell words) → HasSeen words (Some reported)
     at_cell bytes there within None called fits = absurd fits
     at_cell bytes there within (Some raw) called fits = record {
       reported = reported;
@@ -83,7 +86,7 @@ seen_of words reported held = at_file (reported (cells_word words)) refl held
     at_file : (file : Option (List ℕ)) → reported (cells_word words) ≡ file
         → IsSomeAnd file (λ bytes. (length bytes ≤ MAX_CELLS) × HasCell (cell_word words) (FitsCell words) bytes) → HasSeen words (Some reported)
     at_file None there held = absurd held
-    at_file (Some bytes) there (within, has) = at_cell bytes there within (cell_called default_table bytes (cell_word words)) refl has
+    at_file (Some bytes) there (within, has) = at_cell bytes there within (cell_called bytes (cell_word words)) refl has
 
 module _ (words : List (List ℕ)) (files : Option Files) (seen : HasSeen words files) where
   -- what is said of the file holds of its bytes
@@ -111,7 +114,7 @@ module _ (words : List (List ℕ)) (files : Option Files) (seen : HasSeen words 
     at_read fault cause = absurd cause
 
   -- a text that names the cell has a reading
-  has_reading : (fault : SpiceFault) → library_of default_table seen.bytes ≡ Err fault → ⊥
+  has_reading : (fault : SpiceFault) → library_of seen.bytes ≡ Err fault → ⊥
   has_reading fault reads =
       let missing : None ≡ Some seen.raw = rw (cell_called, reads) at seen.called in
       cc
@@ -287,19 +290,36 @@ module _ (words : List (List ℕ)) (files : Option Files) (reported : Files) (ar
       let found = held reported are in
       subst (GiveTraced P) (one_reading (chip_files words) reported found.0 fits.inputs found.1.0 fits.read) found.1.1
 
-  -- the file of `grade` is read, and has right patterns
-  no_patterns : IsGrade words → (before after : ℕ) (fault : Fault)
+  -- the file of patterns is read, and has right ones
+  no_patterns : ((chip : LinkedChip) → IsChipOf fits.inputs chip → (chains : List (List ℕ)) → AreAllChains chip chains
+      → FitsPatterns reported (stil_word words) chip chains) → (before after : ℕ) (fault : Fault)
       → IsPatternsCause (chip_files words) (stil_word words) files before after fault → IsOutsideFault fault before after
-  no_patterns is before after fault (inl (held, read)) =
+  no_patterns right before after fault (inl (held, read)) =
       let found = at_traced _ held in
-      let own = fits.own found.chip found.is in
       is_patterns_read files reported are (stil_word words) found.chip found.chains found.all
-      (own.grade is found.chains found.all) before after fault read
-  no_patterns is before after fault (inr (word, held)) = absurd (
+      (right found.chip found.is found.chains found.all) before after fault read
+  no_patterns right before after fault (inr (word, held)) = absurd (
       let found = at_traced (λ chip chains. reading.OfFile files (stil_word words) MAX_STIL (IsStilCause chip chains fault)) held in
-      let own = fits.own found.chip found.is in
       no_file_cause files reported are (stil_word words) found.chip found.chains found.all
-      (own.grade is found.chains found.all) fault found.holds)
+      (right found.chip found.is found.chains found.all) fault found.holds)
+
+  -- what the files of `diagnose` have
+  diagnosis : IsDiagnose words → (chip : LinkedChip) → IsChipOf fits.inputs chip → (chains : List (List ℕ)) → AreAllChains chip chains
+      → FitsDiagnosis reported (stil_word words) (log_word words) chip chains
+  diagnosis is chip of chains all = let own = fits.own chip of in own.diagnose is chains all
+
+  -- its log is read, and is one
+  no_log : IsDiagnose words → (before after : ℕ) (fault : Fault)
+      → IsLogCause (chip_files words) (stil_word words) (log_word words) files before after fault → IsOutsideFault fault before after
+  no_log is before after fault (inl (held, read)) =
+      let found = at_traced (λ chip chains. reading.OfFile files (stil_word words) MAX_STIL (HasRight chip chains (λ file. Unit {0}))) held in
+      is_log_read files reported are (stil_word words) (log_word words) found.chip found.chains found.all
+      (diagnosis is found.chip found.is found.chains found.all) before after fault read
+  no_log is before after fault (inr (word, held)) = absurd (
+      let found = at_traced (λ chip chains. reading.OfFile files (stil_word words) MAX_STIL
+      (HasRight chip chains (λ file. reading.OfFile files (log_word words) MAX_LOG (IsBadLog chip file.expected fault)))) held in
+      no_bad_log files reported are (stil_word words) (log_word words) found.chip found.chains found.all
+      (diagnosis is found.chip found.is found.chains found.all) fault found.holds)
 
   -- a command's own words are of the chip
   no_own : (before after : ℕ) (fault : Fault) → IsOwnCause words files before after fault
@@ -315,7 +335,12 @@ module _ (words : List (List ℕ)) (files : Option Files) (reported : Files) (ar
       let own = fits.own found.chip found.is in
       no_simulation found.chip fault (own.simulate is) found.holds)
   no_own before after fault (inr (inr (inl (is, cause)))) = inr (inl is, cause.many.0)
-  no_own before after fault (inr (inr (inr (inr (is, cause))))) = inl (no_patterns is before after fault cause)
+  no_own before after fault (inr (inr (inr (inr (inl (is, cause)))))) =
+      inl (no_patterns (λ chip of. let own = fits.own chip of in own.grade is) before after fault cause)
+  no_own before after fault (inr (inr (inr (inr (inr (is, inl cause)))))) =
+      inl (no_patterns (λ chip of chains all. fits_patterns files reported are (stil_word words) (log_word words) chip chains all
+      (diagnosis is chip of chains all)) before after fault cause)
+  no_own before after fault (inr (inr (inr (inr (inr (is, inr cause)))))) = inl (no_log is before after fault cause)
   no_own before after fault (inr (inr (inr (inl (is, inl (word, held)))))) = absurd (
       let found =
       at_inputs (IsSimulationCause (instance_word words) (chip_defect_word words) (chip_first_word words) (chip_last_word words) fault) held in

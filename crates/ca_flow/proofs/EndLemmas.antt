@@ -11,17 +11,17 @@ use Rattle.ca_matrix.specs.Text.{text_of}
 use Rattle.ca_fault.specs.declared.fault.Fault.{Fault}
 use Rattle.ca_fault.specs.declared.fault.Fault.TheVariants.{BadWords, Cells, Netlist, Scan, Chip, Chain}
 use Rattle.ca_fault.specs.declared.fault.Fault.TheVariants.{NoCell, Cell, BadVector, NoInstance, NoDefect}
-use Rattle.ca_fault.specs.declared.fault.Fault.TheVariants.{Order, Stil, StilChip, Expected, TooLong}
+use Rattle.ca_fault.specs.declared.fault.Fault.TheVariants.{Order, Stil, StilChip, Expected, Log, TooLong}
 use Rattle.ca_fault.specs.declared.fault.Fault.TheVariants.{TooManyPairs, Limit, StoreFailed}
 use Rattle.ca_fault.specs.declared.fault.Fault.TheVariants.{SinkFailed, NoMemory}
 use Rattle.ca_flow.specs.declared.finished.Done.{Done}
 use Rattle.ca_flow.specs.declared.finished.Done.TheVariants.{Respond, Pair, Defects, Matrix, Check, Flatten}
-use Rattle.ca_flow.specs.declared.finished.Done.TheVariants.{Simulate, Atpg, Replay, Grade, Make, Help}
-use Rattle.ca_flow.specs.declared.finished.Done.TheVariants.{Version}
+use Rattle.ca_flow.specs.declared.finished.Done.TheVariants.{Simulate, Atpg, Replay, Grade}
+use Rattle.ca_flow.specs.declared.finished.Done.TheVariants.{Diagnose, Make, Help, Version}
 use Rattle.ca_flow.specs.declared.finished.Finished.{Finished}
 use Rattle.ca_flow.specs.declared.work.OutFile.{OutFile}
 use Rattle.ca_fault.specs.FaultLine.{status_of}
-use Rattle.ca_words.specs.Words.{out_word, flat_out_word, stil_word, report_word, IsAtpg, HasOut}
+use Rattle.ca_words.specs.Words.{out_word, flat_out_word, stil_word, report_word, candidates_word, IsAtpg, HasOut}
 use Rattle.ca_flow.specs.Finished.{status_reported, IsReported, IsOutFault, IsAnswer, Prints, LeavesText, LeavesBoth}
 use Rattle.ca_flow.specs.Finished.{LeavesFiles, Writes, ReportsSinkFault}
 use Rattle.ca_flow.specs.Fault.{Outside, IsWorkCause, IsWriteCause, IsPrintCause, IsCause}
@@ -29,6 +29,8 @@ use Rattle.ca_load.specs.Files.{ReportsStoreFault}
 use Rattle.ca_flow.specs.Ends.{IsAsked}
 use Rattle.ca_atpg.specs.Atpg.{IsStil, report_of}
 use Rattle.ca_chip_grade.specs.Texts.{grades_text}
+use Rattle.ca_engine.specs.ChipTask.{task_of}
+use Rattle.ca_chip_diag.specs.Texts.{candidates_text}
 use Rattle.ca_flow.specs.code.Work.{IsOutFile, IsFileWith, HasFiles, HasWritten, FailsToWrite}
 use Rattle.ca_flow.specs.code.Work.{HaveBeenWritten}
 use Rattle.ca_flow.specs.code.Work.{FailToWrite, HasPrinted, FailsToPrint, EndsWork}
@@ -51,6 +53,7 @@ status_is_reported (Order line) zero = cc
 status_is_reported (Stil line) zero = cc
 status_is_reported StilChip zero = cc
 status_is_reported (Expected pair output) zero = cc
+status_is_reported (Log row) zero = cc
 status_is_reported (TooLong typed taken) zero = cc
 status_is_reported (TooManyPairs pairs aims) zero = cc
 status_is_reported (Limit kind count) zero = cc
@@ -165,6 +168,9 @@ leaves_written words fault old new (Flatten chip net) file second asked other fi
     text_written words fault old new (flat_out_word words) (flat_text net) file other fits.first_is (one_file file second old new fits.second_is written)
 leaves_written words fault old new (Grade chip chains pairs grades) file second asked other fits written =
     text_written words fault old new (report_word words) (grades_text chip grades) file other fits.first_is (one_file file second old new fits.second_is written)
+leaves_written words fault old new (Diagnose chip chains pairs log candidates line) file second asked other fits written =
+    text_written words fault old new (candidates_word words) (candidates_text chip (task_of chip 0).defects candidates) file other fits.first_is
+    (one_file file second old new fits.second_is written)
 leaves_written words fault old new (Atpg chip chains pairs aims verdicts) file second asked other fits written =
     both_written words fault old new (IsStil chip chains pairs) (report_of chip verdicts) file second other
     (λ failed. other (stil_word words, (inr (inr (inl (asked.0, inl refl))), failed)))
@@ -291,7 +297,11 @@ failed_writing words before after old new fault (Flatten chip net) file second f
     text_failed words before after old new fault (flat_out_word words) (flat_text net) file (inr (inl (asked.0, refl))) fits.first_is
     (one_failure file second old new before after fault fits.second_is failed)
 failed_writing words before after old new fault (Grade chip chains pairs grades) file second fits asked failed =
-    text_failed words before after old new fault (report_word words) (grades_text chip grades) file (inr (inr (inr (asked.0, refl)))) fits.first_is
+    text_failed words before after old new fault (report_word words) (grades_text chip grades) file (inr (inr (inr (inl (asked.0, refl))))) fits.first_is
+    (one_failure file second old new before after fault fits.second_is failed)
+failed_writing words before after old new fault (Diagnose chip chains pairs log candidates line) file second fits asked failed =
+    text_failed words before after old new fault (candidates_word words) (candidates_text chip (task_of chip 0).defects candidates) file
+    (inr (inr (inr (inr (asked.0, refl))))) fits.first_is
     (one_failure file second old new before after fault fits.second_is failed)
 failed_writing words before after old new fault (Atpg chip chains pairs aims verdicts) file second fits asked failed =
     both_failed words before after old new fault (IsStil chip chains pairs) (report_of chip verdicts) file second asked.0 fits.first_is fits.second_is failed

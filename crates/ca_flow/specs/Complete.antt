@@ -10,14 +10,15 @@ use Rattle.ca_load.specs.Chips.{IsChipOf, GiveChip}
 use Rattle.ca_linked.specs.Linked.{LinkedChip}
 use Rattle.ca_scan.specs.ChainFault.{AreAllChains}
 use Rattle.ca_patterns.specs.Patterns.{FitsPatterns}
+use Rattle.ca_diagnosing.specs.Diagnosing.{FitsDiagnosis}
 use Rattle.ca_linked.specs.Instances.{IsNamedGate}
 use Rattle.ca_flat.specs.Chip.{cell_at}
 use Rattle.ca_core.specs.Core.{core_of}
 use Rattle.ca_request.specs.Asked.{FitsInputs, defect_called}
 use Rattle.ca_words.specs.Words.{cells_word, cell_word, vector_word, first_word, last_word, defect_word, dash}
 use Rattle.ca_words.specs.Words.{chip_files, instance_word, chip_defect_word, chip_first_word, chip_last_word}
-use Rattle.ca_words.specs.Words.{stil_word, order_word}
-use Rattle.ca_words.specs.Words.{IsRespond, IsPair, IsFlatten, IsSimulate, IsReplay, IsGrade}
+use Rattle.ca_words.specs.Words.{stil_word, log_word, order_word}
+use Rattle.ca_words.specs.Words.{IsRespond, IsPair, IsFlatten, IsSimulate, IsReplay, IsGrade, IsDiagnose}
 use Rattle.ca_words.specs.Words.{GeneratesTests, AsksNoFile, IsOnCell, IsOnChip}
 use Rattle.ca_on_chip.specs.OnChip.{IsPairsFault}
 use Rattle.ca_on_chip.specs.declared.replays.TheConstants.{MAX_ORDER}
@@ -85,12 +86,18 @@ abbrev pub FitsGrade : List (List ℕ) → Files → LinkedChip → Type 0
 FitsGrade words reported chip =
     (chains : List (List ℕ)) → AreAllChains chip chains → FitsPatterns reported (stil_word words) chip chains
 
+-- the files of `diagnose` have right patterns of the chip, and a log for them
+abbrev pub FitsDiagnose : List (List ℕ) → Files → LinkedChip → Type 0
+FitsDiagnose words reported chip = (chains : List (List ℕ)) → AreAllChains chip chains
+    → FitsDiagnosis reported (stil_word words) (log_word words) chip chains
+
 -- the own words of a command on a chip are of the chip
 pub record FitsOwn (words : List (List ℕ)) (reported : Files) (chip : LinkedChip) : Type 0 where
   pub flatten : IsFlatten words → FitsDefect words chip
   pub simulate : IsSimulate words → FitsSimulate words chip
   pub replay : IsReplay words → FitsReplay words reported chip
   pub grade : IsGrade words → FitsGrade words reported chip
+  pub diagnose : IsDiagnose words → FitsDiagnose words reported chip
 
 -- the words are those of a command on a chip, the files that they name are there, are no longer than they
 -- may be, and read as what gives a chip with chains, and the command's own words are of the chip

@@ -1,18 +1,18 @@
 -- How a command ends.
-use Rattle.std.specs.Prelude.{ℕ, List, Option, IfSome}
+use Rattle.std.specs.Prelude.{◌≡◌, ℕ, List, length, Option, IfSome}
 use Rattle.ca_store.specs.Store.{Files}
 use Rattle.ca_scan.specs.ChainFault.{AreAllChains}
 use Rattle.ca_load.specs.Files.{OfFile, ReportsStoreFault}
 use Rattle.ca_flow.specs.declared.finished.Done.{Done}
 use Rattle.ca_flow.specs.declared.finished.Done.TheVariants.{Respond, Pair, Defects, Matrix, Check, Flatten}
-use Rattle.ca_flow.specs.declared.finished.Done.TheVariants.{Simulate, Atpg, Replay, Grade, Make, Help}
-use Rattle.ca_flow.specs.declared.finished.Done.TheVariants.{Version}
+use Rattle.ca_flow.specs.declared.finished.Done.TheVariants.{Simulate, Atpg, Replay, Grade}
+use Rattle.ca_flow.specs.declared.finished.Done.TheVariants.{Diagnose, Make, Help, Version}
 use Rattle.ca_flow.specs.declared.finished.Finished.{Finished}
 use Rattle.ca_words.specs.Words.{cells_word, cell_word, vector_word, first_word, last_word, defect_word, dash}
 use Rattle.ca_words.specs.Words.{chip_files, instance_word, chip_defect_word, chip_first_word, chip_last_word}
-use Rattle.ca_words.specs.Words.{stil_word, budget_word, order_word, number_word}
+use Rattle.ca_words.specs.Words.{stil_word, log_word, budget_word, order_word, number_word}
 use Rattle.ca_words.specs.Words.{IsRespond, IsPair, IsDefects, IsMatrix, IsCheck, IsFlatten, IsSimulate}
-use Rattle.ca_words.specs.Words.{IsAtpg, IsReplay, IsGrade, IsMake}
+use Rattle.ca_words.specs.Words.{IsAtpg, IsReplay, IsGrade, IsDiagnose, IsMake}
 use Rattle.ca_words.specs.Words.{IsHelp, IsVersion}
 use Rattle.ca_on_cell.specs.Outputs.{AreValues}
 use Rattle.ca_flow.specs.Finished.{IsAnswer, Prints, Writes, ReportsSinkFault}
@@ -22,6 +22,9 @@ use Rattle.ca_on_chip.specs.OnChip.{IsChipOfFiles, IsTracedChipOf, IsFlatOf, Are
 use Rattle.ca_on_chip.specs.declared.replays.TheConstants.{MAX_ORDER}
 use Rattle.ca_on_chip.specs.Replay.{AreRunEndsOf}
 use Rattle.ca_grading.specs.Grading.{AreGradesByFile}
+use Rattle.ca_engine.specs.ChipTask.{task_of}
+use Rattle.ca_chip_diag.specs.Texts.{diagnosis_line}
+use Rattle.ca_diagnosing.specs.Diagnosing.{AreCandidatesByFiles}
 use Rattle.ca_on_chip.specs.Making.{AreMadeTests}
 use Rattle.ca_flow.specs.Fault.{Outside, IsCause}
 use Rattle.ca_flow.specs.Complete.{Completes}
@@ -59,6 +62,11 @@ IsAsked words files (Grade chip chains pairs grades) = IsGrade words
     × (AreAllChains chip chains
     × (IsChipOfFiles files (chip_files words) chip
     × AreGradesByFile files (stil_word words) chip chains pairs grades))
+IsAsked words files (Diagnose chip chains pairs log candidates line) = IsDiagnose words
+    × (AreAllChains chip chains
+    × (IsChipOfFiles files (chip_files words) chip
+    × (AreCandidatesByFiles files (stil_word words) (log_word words) chip chains pairs log candidates
+    × (line ≡ diagnosis_line (length candidates) (length (task_of chip 0).defects) (length log)))))
 IsAsked words files (Make chip pairs aims verdicts) =
     IsMake words × AreMadeTests (number_word words) chip pairs aims verdicts
 IsAsked words files Help = IsHelp words

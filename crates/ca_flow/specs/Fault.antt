@@ -8,12 +8,13 @@ use Rattle.ca_load.specs.Causes.{IsLoadCause}
 use Rattle.ca_on_cell.specs.Causes.{IsCellCause, IsValueCause}
 use Rattle.ca_words.specs.Words.{cells_word, cell_word, vector_word, first_word, last_word, defect_word, dash}
 use Rattle.ca_words.specs.Words.{chip_files, instance_word, chip_defect_word, chip_first_word, chip_last_word}
-use Rattle.ca_words.specs.Words.{stil_word, budget_word, order_word, number_word}
+use Rattle.ca_words.specs.Words.{stil_word, log_word, budget_word, order_word, number_word}
 use Rattle.ca_words.specs.Words.{IsRespond, IsPair, IsDefects, IsMatrix, IsFlatten, IsSimulate, IsAtpg}
-use Rattle.ca_words.specs.Words.{IsReplay, IsGrade, IsMake}
+use Rattle.ca_words.specs.Words.{IsReplay, IsGrade, IsDiagnose, IsMake}
 use Rattle.ca_words.specs.Words.{IsOnChip, IsCommand, HasOut}
 use Rattle.ca_on_chip.specs.OnChip.{IsFlattenCause, IsSimulateCause, IsAtpgCause}
 use Rattle.ca_patterns.specs.Patterns.{IsPatternsCause}
+use Rattle.ca_diagnosing.specs.Diagnosing.{IsDiagnoseCause}
 use Rattle.ca_on_chip.specs.Replay.{IsReplayCause}
 use Rattle.ca_on_chip.specs.Making.{IsMakeCause}
 
@@ -54,8 +55,10 @@ IsOwnCause words files before after fault =
     ⊎ ((IsReplay words
     × IsReplayCause (chip_files words) (instance_word words) (chip_defect_word words)
     (chip_first_word words) (chip_last_word words) (order_word words) files before after fault)
-    ⊎ (IsGrade words
-    × IsPatternsCause (chip_files words) (stil_word words) files before after fault))))
+    ⊎ ((IsGrade words
+    × IsPatternsCause (chip_files words) (stil_word words) files before after fault)
+    ⊎ (IsDiagnose words
+    × IsDiagnoseCause (chip_files words) (stil_word words) (log_word words) files before after fault)))))
 
 -- why a command on a chip did no work: its files give no chip, or its own words aren't of it
 abbrev pub IsChipWorkCause : List (List ℕ) → Option Files → ℕ → ℕ → Fault → Type 0

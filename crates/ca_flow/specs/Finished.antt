@@ -9,18 +9,20 @@ use Rattle.ca_flat_text.specs.FlatText.{flat_text}
 use Rattle.ca_matrix.specs.Text.{text_of}
 use Rattle.ca_atpg.specs.Atpg.{IsStil, report_of, summary_text}
 use Rattle.ca_chip_grade.specs.Texts.{grades_text, grades_line}
+use Rattle.ca_engine.specs.ChipTask.{task_of}
+use Rattle.ca_chip_diag.specs.Texts.{candidates_text}
 use Rattle.ca_fault.specs.declared.fault.Fault.{Fault}
 use Rattle.ca_fault.specs.declared.fault.Fault.TheVariants.{StoreFailed, SinkFailed}
 use Rattle.ca_flow.specs.declared.finished.Done.{Done}
 use Rattle.ca_flow.specs.declared.finished.Done.TheVariants.{Respond, Pair, Defects, Matrix, Check, Flatten}
-use Rattle.ca_flow.specs.declared.finished.Done.TheVariants.{Simulate, Atpg, Replay, Grade, Make, Help}
-use Rattle.ca_flow.specs.declared.finished.Done.TheVariants.{Version}
+use Rattle.ca_flow.specs.declared.finished.Done.TheVariants.{Simulate, Atpg, Replay, Grade}
+use Rattle.ca_flow.specs.declared.finished.Done.TheVariants.{Diagnose, Make, Help, Version}
 use Rattle.ca_flow.specs.declared.finished.Finished.{Finished}
 use Rattle.ca_fault.specs.FaultLine.{status_of}
 use Rattle.ca_on_cell.specs.Lines.{line_of_pin, line_of_name, IsSummary}
 use Rattle.ca_on_chip.specs.Lines.{check_text, flatten_text, simulate_text, replay_text}
 use Rattle.ca_flow.specs.Usage.{usage_text, version_text}
-use Rattle.ca_words.specs.Words.{out_word, flat_out_word, stil_word, report_word, HasOut}
+use Rattle.ca_words.specs.Words.{out_word, flat_out_word, stil_word, report_word, candidates_word, HasOut}
 
 -- the text reports a command's work
 abbrev pub IsReported : Done → List ℕ → Type 0
@@ -34,6 +36,7 @@ IsReported (Simulate chip ends) text = text ≡ simulate_text chip ends.good.ite
 IsReported (Atpg chip chains pairs aims verdicts) text = text ≡ summary_text verdicts (length pairs)
 IsReported (Replay chip ends) text = text ≡ replay_text chip ends.items
 IsReported (Grade chip chains pairs grades) text = text ≡ grades_line grades (length pairs)
+IsReported (Diagnose chip chains pairs log candidates line) text = text ≡ line
 IsReported (Make chip pairs aims verdicts) text = text ≡ summary_text verdicts (length pairs)
 IsReported Help text = text ≡ usage_text
 IsReported Version text = text ≡ version_text
@@ -105,6 +108,9 @@ LeavesFiles words fault old new (Atpg chip chains pairs aims verdicts) =
     LeavesBoth words fault old new (IsStil chip chains pairs) (report_of chip verdicts)
 LeavesFiles words fault old new (Grade chip chains pairs grades) =
     LeavesText words fault old new (report_word words) (grades_text chip grades)
+LeavesFiles words fault old new (Diagnose chip chains pairs log candidates line) =
+    LeavesText words fault old new (candidates_word words)
+    (candidates_text chip (task_of chip 0).defects candidates)
 LeavesFiles words fault old new _ = new ≡ old
 
 -- what a command leaves of the files: where no work is reported they are as they were

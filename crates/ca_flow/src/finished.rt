@@ -12,11 +12,13 @@ use ca_atpg::summary_text;
 use ca_base::NoMemory;
 use ca_chip_grade::grades_line;
 use ca_credit::Verdicts;
+use ca_diag::Candidates;
 use ca_fault::Fault;
 use ca_generate::Aims;
 use ca_grade::Grades;
 use ca_lex::{Names, Text};
 use ca_linked::Chip;
+use ca_log::Log;
 use ca_matrix::Matrix;
 use ca_net::{FlatNet, Trit};
 use ca_on_cell::{PinValues, lines_of_names, lines_of_values, summary};
@@ -91,6 +93,16 @@ pub enum Done {
         pairs: Pairs,
         grades: Grades,
     },
+    /// A linked chip with its scan chains, the pairs of a file of patterns, a log of failing outputs, the
+    /// defects that it leaves, and the line that reports how many.
+    Diagnose {
+        chip: Chip,
+        chains: Chains,
+        pairs: Pairs,
+        log: Log,
+        candidates: Candidates,
+        line: Text,
+    },
     /// A generated chip, the listed pairs, for each the place of the defect for which it was found, and a
     /// verdict for each defect.
     Make {
@@ -129,6 +141,7 @@ impl Done {
             } => summary_text(alloc, verdicts, pairs.len()),
             Done::Replay { chip, ends } => replay_lines(alloc, chip, ends),
             Done::Grade { pairs, grades, .. } => grades_line(alloc, grades, pairs.len()),
+            Done::Diagnose { line, .. } => Text::from_bytes(alloc, line.as_bytes()),
             Done::Help => usage(alloc),
             Done::Version => version(alloc),
         }
@@ -159,6 +172,11 @@ fn let_tests_go(pairs: Pairs, aims: Aims, verdicts: Verdicts) {
 // Lets grades go.
 fn let_grades_go(pairs: Pairs, grades: Grades) {
     let _gone = (pairs, grades);
+}
+
+// Lets candidates go.
+fn let_candidates_go(pairs: Pairs, log: Log, candidates: Candidates) {
+    let _gone = (pairs, log, candidates);
 }
 
 // Lets a matrix go.
@@ -193,6 +211,16 @@ fn let_done_go(done: Done) {
         } => {
             let_chip_go(chip);
             let_grades_go(pairs, grades);
+        }
+        Done::Diagnose {
+            chip,
+            pairs,
+            log,
+            candidates,
+            ..
+        } => {
+            let_chip_go(chip);
+            let_candidates_go(pairs, log, candidates);
         }
         Done::Make {
             chip,

@@ -7,6 +7,7 @@ ghost use Rattle.ca_words.specs.Words.{IsCommand};
 ghost use Rattle.ca_words.specs.Command.{IsSpelled, IsSpelledAtpg, IsSpelledReplay, IsSpelledMake};
 ghost use Rattle.ca_words.specs.code.Command.{NamesBoth};
 ghost use Rattle.ca_words.specs.Command.{IsSpelledFlatten, IsSpelledMatrix, IsSpelledGrade};
+ghost use Rattle.ca_words.specs.Command.{IsSpelledDiagnose};
 ghost use Rattle.ca_words.specs.code.Command.{IsWhole};
 ghost use Rattle.ca_flow.specs.Fault.{IsWorkCause};
 ghost use Rattle.ca_load.specs.Files.{ReportsStoreFault};
@@ -18,6 +19,7 @@ use crate::finished::{Done, Finished, finish, refused};
 use crate::work::{OutFile, Work};
 use ca_atpg::Tested;
 use ca_base::NoMemory;
+use ca_diagnosing::{DiagnosedChip, find_candidates};
 use ca_fault::Fault;
 use ca_generate::Watch;
 use ca_grading::{GradedChip, find_grades};
@@ -29,7 +31,9 @@ use ca_on_chip::{
     find_simulation, find_tests,
 };
 use ca_store::{Sink, Store};
-use ca_words::{AtpgWords, Command, FlattenWords, GradeWords, MatrixWords, ReplayWords, parse};
+use ca_words::{
+    AtpgWords, Command, DiagnoseWords, FlattenWords, GradeWords, MatrixWords, ReplayWords, parse,
+};
 use std::alloc::Global;
 
 /// Does one command, whose words come without the program's name. Nothing is written or printed before all
@@ -119,6 +123,7 @@ fn work_of<'a, S: Store, T: Watch>(
         Command::Atpg(request) => tests_work(alloc, request, store, watch),
         Command::Replay(request) => replay_work(alloc, request, store),
         Command::Grade(request) => grades_work(alloc, request, store, watch),
+        Command::Diagnose(request) => candidates_work(alloc, request, store, watch),
         Command::Make(number) => make_work(alloc, *number, watch),
         Command::Help => Ok(printed(Done::Help)),
         Command::Version => Ok(printed(Done::Version)),
@@ -323,6 +328,59 @@ fn grades_work<'a, S: Store, T: Watch>(
         grades,
     };
     match text_file(alloc, request.report, report) {
+        Ok(file) => Ok(Work {
+            done,
+            file: Some(file),
+            second: None,
+        }),
+        Err(NoMemory) => {
+            drop(done);
+            Err(Fault::NoMemory)
+        }
+    }
+}
+
+// The work of `diagnose`.
+#[tactic(auto, using(crate::proofs::DiagnoseLemmas::diagnose_asked, crate::proofs::DiagnoseLemmas::diagnose_files, crate::proofs::DiagnoseLemmas::diagnose_cause, crate::proofs::DiagnoseLemmas::no_diagnose_sink))]
+fn candidates_work<'a, S: Store, T: Watch>(
+    alloc: Global,
+    request: &DiagnoseWords<'a>,
+    store: &mut S,
+    watch: &mut T,
+) -> Result<Work<'a>, Fault>
+    requires closed { S.opened store.old ≡ Nothing }
+
+    ensures asked { IfOk result (λ work. (words : List (List ℕ)) → IsSpelledDiagnose words request.now
+        → IsAsked words (S.files store.old) work.done) }
+    ensures file { IfOk result (λ work. (words : List (List ℕ)) → IsSpelledDiagnose words request.now
+        → HasFiles words work.done work.file work.second) }
+    ensures cause { IfErr result (λ fault. (words : List (List ℕ)) → IsSpelledDiagnose words request.now
+        → IsWorkCause words (S.files store.old) (S.faults store.old) (S.faults store.new) fault) }
+    ensures no_sink { IfErr result (λ fault. fault ≢ Fault.SinkFailed) }
+    ensures quiet { OnOk result (S.faults store.new ≡ S.faults store.old) }
+    ensures reported { IfErr result (λ fault.
+        ReportsStoreFault (Some fault) (S.faults store.old) (S.faults store.new)) }
+    ensures closed { S.opened store.new ≡ Nothing }
+    ensures kept { S.files store.new ≡ S.files store.old }
+{
+    let DiagnosedChip {
+        chip,
+        chains,
+        pairs,
+        log,
+        candidates,
+        report,
+        line,
+    } = find_candidates(alloc, request, store, watch)?;
+    let done = Done::Diagnose {
+        chip,
+        chains,
+        pairs,
+        log,
+        candidates,
+        line,
+    };
+    match text_file(alloc, request.out, report) {
         Ok(file) => Ok(Work {
             done,
             file: Some(file),

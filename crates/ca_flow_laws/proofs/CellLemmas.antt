@@ -3,7 +3,6 @@ use Rattle.std.proofs.Common.{ℕ, ◌≡◌, ◌⊎◌, ◌∙◌, inl, inr, re
 use Rattle.std.proofs.Common.{Option, Some, None, Result, Ok, Err, true≢false}
 use Rattle.std.specs.Prelude.{IsNone, IsOk, IsSomeAnd}
 use Rattle.ca_lex.specs.Words.{upper_case}
-use Rattle.ca_cell.specs.Strength.{default_table}
 use Rattle.ca_store.specs.Store.{Files}
 use Rattle.ca_cell.specs.declared.raw.RawCell.{RawCell}
 use Rattle.ca_cell.specs.declared.rule.CellRule.{CellRule}
@@ -149,7 +148,7 @@ AtReading words (Err (spice.TooManyCells count)) called fault = fault ≡ Limit 
 AtReading words (Err spice.NoMemory) called fault = ⊥
 
 abbrev pub AtLibrary : List (List ℕ) → List ℕ → Fault → Type 0
-AtLibrary words bytes fault = AtReading words (library_of default_table bytes) (λ cells. called_among cells (upper_case (cell_word words))) fault
+AtLibrary words bytes fault = AtReading words (library_of bytes) (λ cells. called_among cells (upper_case (cell_word words))) fault
 
 one_at_reading : {S : Type 0} (words : List (List ℕ)) (read : Result S SpiceFault) (called : S → Option RawCell) (fault other : Fault)
     → AtReading words read called fault → AtReading words read called other → fault ≡ other
@@ -161,7 +160,7 @@ one_at_reading words (Err spice.NoMemory) called fault other here there = absurd
 one_at_library : (words : List (List ℕ)) (bytes : List ℕ) (fault other : Fault) → AtLibrary words bytes fault → AtLibrary words bytes other
     → fault ≡ other
 one_at_library words bytes fault other here there =
-    one_at_reading words (library_of default_table bytes) (λ cells. called_among cells (upper_case (cell_word words))) fault other here there
+    one_at_reading words (library_of bytes) (λ cells. called_among cells (upper_case (cell_word words))) fault other here there
 
 -- what is reported of the file of a command on a cell
 abbrev pub ReportsCell : List (List ℕ) → Fault → List ℕ → Type 0
@@ -191,7 +190,7 @@ module _ (words : List (List ℕ)) where
   at_called : (bytes : List ℕ) (P : RawCell → Type 0) (fault : Fault) → ((raw : RawCell) → P raw → AtCell words raw fault)
       → HasCell (cell_word words) P bytes → AtLibrary words bytes fault
   at_called bytes P fault next held =
-      in_reading (library_of default_table bytes) (λ cells. called_among cells (upper_case (cell_word words))) P fault next held
+      in_reading (library_of bytes) (λ cells. called_among cells (upper_case (cell_word words))) P fault next held
 
   none_in_reading : {S : Type 0} (read : Result S SpiceFault) (called : S → Option RawCell) → IsOk read
       → IsNone (elim read as (λ _. Option RawCell) [ Ok cells ↦ called cells | Err broken ↦ None ])
@@ -205,7 +204,7 @@ module _ (words : List (List ℕ)) where
 
   at_missing : (bytes : List ℕ) → LacksCell (cell_word words) bytes → AtLibrary words bytes (NoCell (cell_word words))
   at_missing bytes lacks =
-      none_in_reading (library_of default_table bytes) (λ cells. called_among cells (upper_case (cell_word words))) lacks.0 lacks.1
+      none_in_reading (library_of bytes) (λ cells. called_among cells (upper_case (cell_word words))) lacks.0 lacks.1
 
   module _ (files : Option Files) (reported : Files) (are : files ≡ Some reported) (file : Option (List ℕ)) (same : reported (cells_word words) ≡ file)
       (before after : ℕ) where

@@ -4,7 +4,6 @@ use Rattle.std.proofs.Common.{ℕ, ◌≡◌, ◌≤◌, ◌⊎◌, ◌∙◌, i
 use Rattle.std.proofs.Common.{Option, Some, None, Result, Ok, Err, true≢false}
 use Rattle.std.specs.Prelude.{IsSome, IsNone, IsSomeAnd}
 use Rattle.ca_store.specs.Store.{Files}
-use Rattle.ca_cell.specs.Strength.{default_table}
 use Rattle.ca_lex.specs.Words.{upper_case}
 use Rattle.ca_cell.specs.declared.raw.RawCell.{RawCell}
 use Rattle.ca_spice.specs.declared.fault.SpiceFault.{SpiceFault}
@@ -78,7 +77,7 @@ module _ (words : List (List ℕ)) (fault : Fault) where
   fits_file (Some bytes) fits (inl past) =
       let long = past.0 in let within = fits.0 in omega (arith, long, within)
   fits_file (Some bytes) fits (inr reported) =
-      fits_reading (library_of default_table bytes) (λ cells. called_among cells (upper_case (cell_word words))) fits.1 reported.1
+      fits_reading (library_of bytes) (λ cells. called_among cells (upper_case (cell_word words))) fits.1 reported.1
 
 -- words that ask for no file have no cause of a fault of input
 asking_cause : (words : List (List ℕ)) (before after : Outside) (fault : Fault) → AsksNoFile words → IsInputFault fault
@@ -97,7 +96,7 @@ asking_cause words before after fault asks is (inr (inr (inr cause))) =
 -- a file that fits is that of words of a command on one cell
 file_command : (words : List (List ℕ)) (file : Option (List ℕ)) → FitsBytes words file → IsOnCell words
 file_command words None fits = absurd fits
-file_command words (Some bytes) fits = by (cell_called default_table bytes (cell_word words)) fits.1
+file_command words (Some bytes) fits = by (cell_called bytes (cell_word words)) fits.1
   where
     by : (called : Option RawCell) → IsSomeAnd called (FitsCell words) → IsOnCell words
     by None held = absurd held

@@ -23,3 +23,4 @@ pub mod NeitherLemmas
 pub mod NameLemmas
 pub mod PatternLemmas
 pub mod StilLemmas
+pub mod LogLemmas

@@ -4,7 +4,6 @@ use Rattle.std.proofs.Common.{Result, Ok, Err, true≢false}
 use Rattle.std.specs.Prelude.{IsOk, IsSomeAnd}
 use Rattle.std.proofs.lemmas.Option.{same_Some}
 use Rattle.ca_store.specs.Store.{Files}
-use Rattle.ca_cell.specs.Strength.{default_table}
 use Rattle.ca_spice.specs.declared.fault.SpiceFault.{SpiceFault}
 use Rattle.ca_spice.specs.declared.fault.SpiceFault.TheVariants as spice
 use Rattle.ca_spice.specs.Reading.{library_of}
@@ -81,7 +80,7 @@ read_rows (Ok rows) also fault here ok = here
 read_rows (Err row) also fault here ok = absurd cc
 
 -- the fault of a text
-of_text : (fault : Fault) (bytes : List ℕ) → IsTextCause fault bytes → AtCells (library_of default_table bytes) fault
+of_text : (fault : Fault) (bytes : List ℕ) → IsTextCause fault bytes → AtCells (library_of bytes) fault
 of_text (Cells line kind) bytes is = rw is refl
 of_text (Limit limit.Cells count) bytes is = rw is refl
 of_text fault bytes is = absurd is
@@ -96,7 +95,7 @@ of_record (Scan row) bytes is = rw is refl
 of_record fault bytes is = absurd is
 
 abbrev pub ReportsCells : Fault → List ℕ → Type 0
-ReportsCells fault bytes = AtCells (library_of default_table bytes) fault
+ReportsCells fault bytes = AtCells (library_of bytes) fault
 
 abbrev pub ReportsTokens : Fault → List ℕ → Type 0
 ReportsTokens fault bytes = AtTokens (netlist_of bytes) fault
@@ -111,7 +110,7 @@ AtTable (Some name) given fault = AtFile MAX_SCAN name ReportsRows (given name) 
 
 -- the first two files have a reading
 abbrev pub HasCells : InputFiles → Files → Type 0
-HasCells names given = IsFileWith given names.cells MAX_CELLS (λ bytes. IsOk (library_of default_table bytes))
+HasCells names given = IsFileWith given names.cells MAX_CELLS (λ bytes. IsOk (library_of bytes))
 
 abbrev pub HasTokens : InputFiles → Files → Type 0
 HasTokens names given = IsFileWith given names.netlist MAX_NETLIST (λ bytes. IsOk (netlist_of bytes))
@@ -158,10 +157,10 @@ module _ (names : InputFiles) (given : Files) where
 
   one_input : (fault other : Fault) → AtInput names given fault → AtInput names given other → fault ≡ other
   one_input = one_of ◌≡◌ (AtFile MAX_CELLS names.cells ReportsCells (given names.cells)) (λ fault. HasCells names given × AtLater names given fault)
-      (one_at_file MAX_CELLS names.cells ReportsCells (λ bytes. one_cells (library_of default_table bytes)) (given names.cells))
+      (one_at_file MAX_CELLS names.cells ReportsCells (λ bytes. one_cells (library_of bytes)) (given names.cells))
       (λ fault other here there. one_later fault other here.1 there.1)
-      (λ fault other here there. none_of_read MAX_CELLS names.cells ReportsCells (λ bytes. IsOk (library_of default_table bytes)) (given names.cells) fault
-      (λ bytes. read_cells (library_of default_table bytes) fault) here there.0)
+      (λ fault other here there. none_of_read MAX_CELLS names.cells ReportsCells (λ bytes. IsOk (library_of bytes)) (given names.cells) fault
+      (λ bytes. read_cells (library_of bytes) fault) here there.0)
 
   -- files with a reading have no fault
   module _ (inputs : Inputs) (read : ReadAs names inputs given) where
@@ -172,7 +171,7 @@ module _ (names : InputFiles) (given : Files) where
         (λ bytes. read_rows (table_of bytes) inputs.rows fault) here (reads given refl)
 
     no_library : (fault : Fault) (bytes : List ℕ) → ReportsCells fault bytes → IsLibraryOf inputs.library bytes → ⊥
-    no_library fault bytes here reads = read_cells (library_of default_table bytes) fault here (rw reads.reads refl)
+    no_library fault bytes here reads = read_cells (library_of bytes) fault here (rw reads.reads refl)
 
     no_netlist : (fault : Fault) (bytes : List ℕ) → ReportsTokens fault bytes → IsNetlistOf inputs.netlist bytes → ⊥
     no_netlist fault bytes here reads = read_tokens (netlist_of bytes) fault here (rw reads refl)
@@ -287,9 +286,9 @@ module _ (files : Option Files) (reported : Files) (are : files ≡ Some reporte
     of_input : IsInputCause names files before after fault → AtInput names given fault
     of_input (inl library) = inl (of_library library)
     of_input (inr (inl (has, netlist))) =
-        inr (of_file files reported are names.cells (given names.cells) agree_cells MAX_CELLS (λ bytes. IsOk (library_of default_table bytes)) has, inl (of_netlist netlist))
+        inr (of_file files reported are names.cells (given names.cells) agree_cells MAX_CELLS (λ bytes. IsOk (library_of bytes)) has, inl (of_netlist netlist))
     of_input (inr (inr (has, (too, scan)))) = inr (
-      of_file files reported are names.cells (given names.cells) agree_cells MAX_CELLS (λ bytes. IsOk (library_of default_table bytes)) has,
+      of_file files reported are names.cells (given names.cells) agree_cells MAX_CELLS (λ bytes. IsOk (library_of bytes)) has,
       inr (
         of_file files reported are names.netlist (given names.netlist) agree_netlist MAX_NETLIST (λ bytes. IsOk (netlist_of bytes)) too,
         of_table names.scan (λ name is. agree name (inr (inr is))) scan,

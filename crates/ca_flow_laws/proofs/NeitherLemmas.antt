@@ -7,7 +7,6 @@ use Rattle.std.proofs.Math.Decide.{dec_le}
 use Rattle.std.proofs.lemmas.List.Elements.{All-from_recursion}
 use Rattle.std.proofs.lemmas.Option.{same_Some}
 use Rattle.ca_store.specs.Store.{Files}
-use Rattle.ca_cell.specs.Strength.{default_table}
 use Rattle.ca_lex.specs.Words.{upper_case}
 use Rattle.ca_cell.specs.Library.{Named, IsEntry}
 use Rattle.ca_spice.specs.declared.fault.SpiceFault.{SpiceFault}
@@ -46,7 +45,7 @@ use Rattle.ca_load.specs.Causes.{IsTextCause, IsModuleCause, IsRecordCause, HasL
 use Rattle.ca_request.specs.Asked.{IsDefectCause}
 use Rattle.ca_chip_replay.specs.ChipRun.{RunOf}
 use Rattle.ca_words.specs.Words.{chip_files, instance_word, chip_defect_word, chip_first_word, chip_last_word, order_word}
-use Rattle.ca_words.specs.Words.{IsFlatten, IsSimulate, IsReplay, IsGrade, IsOnChip}
+use Rattle.ca_words.specs.Words.{IsFlatten, IsSimulate, IsReplay, IsGrade, IsDiagnose, IsOnChip}
 use Rattle.ca_on_chip.specs.declared.replays.TheConstants.{MAX_ORDER}
 use Rattle.ca_on_chip.specs.OnChip.{GiveChipWith, OfChip, IsDefectWord, IsVectorWord, IsSimulationCause}
 use Rattle.ca_on_chip.specs.Replay.{IsAskedRun, HasFaultyLine, HasRun}
@@ -89,7 +88,7 @@ tracing_reported chip (Limit limit.Chains count) cause = (tt, tt)
 tracing_reported chip fault cause = absurd cause
 
 module _ (words : List (List ℕ)) (outside : Outside) (reported : Files) (are : outside.files ≡ Some reported) (on : IsOnChip words)
-    (not_grade : ¬ (IsGrade words)) (there : (name : List ℕ) → IsInputFile words name → IsSome (reported name)) (no_answer : IsAnswerable words outside.files → ⊥)
+    (not_grade : ¬ (IsGrade words)) (not_diagnose : ¬ (IsDiagnose words)) (there : (name : List ℕ) → IsInputFile words name → IsSome (reported name)) (no_answer : IsAnswerable words outside.files → ⊥)
     (no_cause : (fault : Fault) → IsInputFault fault → IsCause words outside outside fault → ⊥) where
   no_load : (fault : Fault) → IsInputFault fault
       → IsLoadCause (chip_files words) outside.files outside.store_faults outside.store_faults fault → ⊥
@@ -138,23 +137,23 @@ module _ (words : List (List ℕ)) (outside : Outside) (reported : Files) (are :
       found : (bytes : List ℕ) × (reported (chip_files words).cells ≡ Some bytes)
       found = bytes_of (chip_files words).cells (inr (inl (on, inl refl)))
 
-      read : length found.0 ≤ MAX_CELLS → (given : Result _ SpiceFault) → library_of default_table found.0 ≡ given → ⊥
+      read : length found.0 ≤ MAX_CELLS → (given : Result _ SpiceFault) → library_of found.0 ≡ given → ⊥
       read within (Ok cells) is =
           let reading : Reading = record { cells = cells; current = None } in
-          let made = library_made reading (raw_cells default_table found.0 reading within is) in
-          let reads : library_of default_table found.0 ≡ Ok (map subcircuit_seen made.library) = is ∙ ap (λ it. Ok it) (sym made.seen) in
+          let made = library_made reading (raw_cells found.0 reading within is) in
+          let reads : library_of found.0 ≡ Ok (map subcircuit_seen made.library) = is ∙ ap (λ it. Ok it) (sym made.seen) in
           refutes made.library (file_with name found.0 MAX_CELLS found.1 (IsLibraryOf made.library) within (record {
             reads = reads;
             entries = All-from_recursion (λ named. IsEntry named.entry) made.library made.entries;
-          })) (in_file name found.0 MAX_CELLS found.1 (λ bytes. IsOk (library_of default_table bytes)) within (rw is refl))
+          })) (in_file name found.0 MAX_CELLS found.1 (λ bytes. IsOk (library_of bytes)) within (rw is refl))
       read within (Err (spice.At line kind)) is =
           no_load (Cells line kind) tt (inl (inl (inr (in_file name found.0 MAX_CELLS found.1 (IsTextCause (Cells line kind)) within is))))
       read within (Err (spice.TooManyCells count)) is =
           no_load (Limit limit.Cells count) tt (inl (inl (inr (in_file name found.0 MAX_CELLS found.1 (IsTextCause (Limit limit.Cells count)) within is))))
-      read within (Err spice.NoMemory) is = reading_has_memory default_table found.0 is
+      read within (Err spice.NoMemory) is = reading_has_memory found.0 is
 
       by : (length found.0 ≤ MAX_CELLS) ⊎ (MAX_CELLS < length found.0) → ⊥
-      by (inl within) = read within (library_of default_table found.0) refl
+      by (inl within) = read within (library_of found.0) refl
       by (inr past) = no_load (TooLong name (MAX_CELLS + 1)) tt (inl (inl (inl (too_long name found.0 MAX_CELLS found.1 past))))
 
   -- the second
@@ -356,7 +355,8 @@ module _ (words : List (List ℕ)) (outside : Outside) (reported : Files) (are :
       at_chip (inr (inr (inl simulate))) = at_simulate simulate
       at_chip (inr (inr (inr (inl atpg)))) = own_answer (λ also same names. atpg_own words reported also atpg)
       at_chip (inr (inr (inr (inr (inl replay))))) = at_replay replay
-      at_chip (inr (inr (inr (inr (inr grade))))) = not_grade grade
+      at_chip (inr (inr (inr (inr (inr (inl grade)))))) = not_grade grade
+      at_chip (inr (inr (inr (inr (inr (inr diagnose)))))) = not_diagnose diagnose
 
     at_inputs : ⊥
     at_inputs = either ((chip : LinkedChip) × IsChipOf inputs chip) (λ found. elim found [
@@ -372,11 +372,11 @@ module _ (words : List (List ℕ)) (outside : Outside) (reported : Files) (are :
 
 -- not neither
 pub never_neither : (words : List (List ℕ)) (outside : Outside) → ReportsAllFiles words outside → IsOnChip words
-    → ¬ (IsGrade words) → ¬ (¬ (IsAnswerable words outside.files ⊎ HasInputCause words outside))
-never_neither words outside reports on not_grade refutes = by outside.files refl reports
+    → ¬ (IsGrade words) → ¬ (IsDiagnose words) → ¬ (¬ (IsAnswerable words outside.files ⊎ HasInputCause words outside))
+never_neither words outside reports on not_grade not_diagnose refutes = by outside.files refl reports
   where
     by : (files : Option Files) → outside.files ≡ files
         → IsSomeAnd files (λ reported. (name : List ℕ) → IsInputFile words name → IsSome (reported name)) → ⊥
     by None are reports = reports
     by (Some reported) are reports =
-        neither words outside reported are on not_grade reports (λ answer. refutes (inl answer)) (λ fault is cause. refutes (inr (fault, (is, cause))))
+        neither words outside reported are on not_grade not_diagnose reports (λ answer. refutes (inl answer)) (λ fault is cause. refutes (inr (fault, (is, cause))))

@@ -5,7 +5,7 @@ use Rattle.ca_store.specs.Store.{Files}
 use Rattle.ca_fault.specs.declared.fault.Fault.{Fault}
 use Rattle.ca_fault.specs.declared.fault.Fault.TheVariants.{BadWords, Cells, Netlist, Scan, Chip, Chain}
 use Rattle.ca_fault.specs.declared.fault.Fault.TheVariants.{NoCell, Cell, BadVector, NoInstance, NoDefect}
-use Rattle.ca_fault.specs.declared.fault.Fault.TheVariants.{Order, Stil, StilChip, Expected, TooLong, TooManyPairs}
+use Rattle.ca_fault.specs.declared.fault.Fault.TheVariants.{Order, Stil, StilChip, Expected, Log, TooLong, TooManyPairs}
 use Rattle.ca_fault.specs.declared.fault.Fault.TheVariants.{Limit, StoreFailed, SinkFailed, NoMemory}
 use Rattle.ca_load.specs.Causes.{IsScanCause, IsLoadCause}
 use Rattle.ca_words.specs.Words.{cells_word, cell_word, vector_word, first_word, last_word, defect_word, dash, chip_files, IsAtpg, IsMake}
@@ -16,7 +16,7 @@ use Rattle.ca_flow.specs.Fault.{Outside, IsOwnCause, IsWorkCause, IsCause}
 use Rattle.ca_flow_laws.specs.Same.{IsInputFault, IsCallFault}
 use Rattle.ca_flow_laws.specs.Reported.{IsInputFile, ReportsFiles}
 use Rattle.ca_flow_laws.proofs.LoadLemmas.{read_given, no_load}
-use Rattle.ca_flow_laws.proofs.ChipLemmas.{atpg_or_flatten, atpg_or_simulate, atpg_or_replay, atpg_or_grade, AtOwn}
+use Rattle.ca_flow_laws.proofs.ChipLemmas.{atpg_or_flatten, atpg_or_simulate, atpg_or_replay, atpg_or_grade, atpg_or_diagnose, AtOwn}
 use Rattle.ca_flow_laws.proofs.ExactLemmas.{AtWords, of_cause}
 
 -- a fault is one of a call or of memory, one of input, or has pairs
@@ -36,6 +36,7 @@ kind_of_fault (Order line) = inr (inl tt)
 kind_of_fault (Stil line) = inr (inl tt)
 kind_of_fault StilChip = inr (inl tt)
 kind_of_fault (Expected pair output) = inr (inl tt)
+kind_of_fault (Log row) = inr (inl tt)
 kind_of_fault (TooLong name taken) = inr (inl tt)
 kind_of_fault (TooManyPairs pairs aims) = inr (inr tt)
 kind_of_fault (Limit kind count) = inr (inl tt)
@@ -81,8 +82,12 @@ module _ (words : List (List ℕ)) (pairs : _) (aims : _) (files : Option Files)
   of_own (inr (inr (inr (inl (is, inl (inl word, held)))))) = absurd word
   of_own (inr (inr (inr (inl (is, inl (inr word, held)))))) = absurd word
   of_own (inr (inr (inr (inl (is, inr (held, read)))))) = absurd read
-  of_own (inr (inr (inr (inr (is, inl (held, read)))))) = absurd read
-  of_own (inr (inr (inr (inr (is, inr (word, held)))))) = absurd word
+  of_own (inr (inr (inr (inr (inl (is, inl (held, read))))))) = absurd read
+  of_own (inr (inr (inr (inr (inl (is, inr (word, held))))))) = absurd word
+  of_own (inr (inr (inr (inr (inr (is, inl (inl (held, read)))))))) = absurd read
+  of_own (inr (inr (inr (inr (inr (is, inl (inr (word, held)))))))) = absurd word
+  of_own (inr (inr (inr (inr (inr (is, inr (inl (held, read)))))))) = absurd read
+  of_own (inr (inr (inr (inr (inr (is, inr (inr (word, held)))))))) = absurd word
 
   of_work : IsWorkCause words files before after (TooManyPairs pairs aims) → IsGenerating words files (TooManyPairs pairs aims)
   of_work (inl (is, cause)) = absurd (no_value (vector_word words) (vector_word words) dash cause)
@@ -107,7 +112,8 @@ no_own_words : (words : List (List ℕ)) (given : Files) (chip : _) (fault : Fau
 no_own_words words given chip fault is (inl (flatten, at)) = atpg_or_flatten words is flatten
 no_own_words words given chip fault is (inr (inl (simulate, at))) = atpg_or_simulate words is simulate
 no_own_words words given chip fault is (inr (inr (inl (replay, at)))) = atpg_or_replay words is replay
-no_own_words words given chip fault is (inr (inr (inr (grade, at)))) = atpg_or_grade words is grade
+no_own_words words given chip fault is (inr (inr (inr (inl (grade, at))))) = atpg_or_grade words is grade
+no_own_words words given chip fault is (inr (inr (inr (inr (diagnose, at))))) = atpg_or_diagnose words is diagnose
 
 module _ (words : List (List ℕ)) (given : Files) (other : Fault) where
   -- a chip that has too many pairs is one of which nothing is reported

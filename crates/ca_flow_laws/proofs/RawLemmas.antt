@@ -16,7 +16,6 @@ use Rattle.ca_lex.specs.Reading.{unless}
 use Rattle.ca_names.specs.Names.{has_name, with_name, place_with, has_double}
 use Rattle.ca_net.specs.declared.device.DeviceKind.{DeviceKind}
 use Rattle.ca_net.specs.declared.device.DeviceKind.TheVariants as kind
-use Rattle.ca_cell.specs.declared.strength.StrengthTable.{StrengthTable}
 use Rattle.ca_cell.specs.declared.library.TheConstants.{MOST_CELLS}
 use Rattle.ca_cell.specs.declared.raw.RawPin.{RawPin}
 use Rattle.ca_cell.specs.declared.raw.RawDevice.{RawDevice}
@@ -35,10 +34,10 @@ use Rattle.ca_spice.specs.OpenCell.{mos, pins_after, is_ended_by, subcircuit_wit
 use Rattle.ca_spice.specs.Reading.{Reading, Step, nothing, is_outside, has_cell, with_open, is_header, named, subckt, goes_on, in_cell, with_cell}
 use Rattle.ca_spice.specs.Reading.{ends, card_step, is_stray, is_comment, judged, words_step, line_step, at_line, lines_from, library_from}
 use Rattle.ca_spice.specs.Reading.{library_of}
-use Rattle.ca_spice.specs.code.Kept.{HasClass, IsPlaced, IsPlacedCell}
+use Rattle.ca_spice.specs.code.Kept.{HasOwnStrength, IsPlaced, IsPlacedCell}
 use Rattle.ca_spice.proofs.SpelledLemmas.{all_append}
 use Rattle.ca_spice.proofs.CardLemmas.{kept_rule, kept_value, mos_found, at_its_place}
-use Rattle.ca_spice.proofs.CellLemmas.{class_of, with_name-longer, IsPlaced-grown, IsPlaced-IsRaw}
+use Rattle.ca_spice.proofs.CellLemmas.{with_name-longer, IsPlaced-grown, IsPlaced-IsRaw}
 use Rattle.ca_spice.proofs.WritableLemmas.{first_step, pin_info_names}
 use Rattle.ca_spice.proofs.ReadingLemmas.{placed_ended}
 use Rattle.ca_load.specs.declared.cells.TheConstants.{MAX_CELLS}
@@ -107,7 +106,7 @@ name_most name names = by (has_name name names)
 name_within : (name : List ℕ) (names : List (List ℕ)) → place_with name names < length (with_name name names)
 name_within name names = slice_get_within (with_name name names) (place_with name names) name (at_its_place name names)
 
-module _ (table : StrengthTable) (most more : ℕ) (up : most + 3 ≤ more) (few : more < 2 ^ 32) where
+module _ (most more : ℕ) (up : most + 3 ≤ more) (few : more < 2 ^ 32) where
   held_up : (cell : OpenCell) → IsHeld most cell → IsHeld more cell
   held_up cell held = record {
     few_nets = let is = held.few_nets in omega (arith, is, up);
@@ -120,9 +119,9 @@ module _ (table : StrengthTable) (most more : ℕ) (up : most + 3 ≤ more) (few
   open_up (Some cell) held = held_up cell held
 
   -- a transistor more
-  mos_held : (name : List ℕ) (words : List (List ℕ)) (cell next : OpenCell) → mos table name words cell ≡ Ok next → IsHeld most cell → IsHeld more next
+  mos_held : (name : List ℕ) (words : List (List ℕ)) (cell next : OpenCell) → mos name words cell ≡ Ok next → IsHeld most cell → IsHeld more next
   mos_held name words cell next is held =
-      let found = mos_found table name words cell next is in
+      let found = mos_found name words cell next is in
       let wiring = found.wiring in
       let first = name_most wiring.drain cell.nets in
       let second = name_most wiring.gate (with_drain wiring cell.nets) in
@@ -135,7 +134,7 @@ module _ (table : StrengthTable) (most more : ℕ) (up : most + 3 ≤ more) (few
       let source = name_within wiring.source (with_gate wiring cell.nets) in
       let nets = held.few_nets in
       let devices = held.few_devices in
-      let device : RawDevice = device_of table name wiring found.sizes cell.nets in
+      let device : RawDevice = device_of name wiring found.sizes cell.nets in
       let count : length (cell.devices ++ device ∷ []) ≡ length cell.devices + 1 = length-append cell.devices (device ∷ []) in
       subst (IsHeld more) (sym found.is) (record {
         few_nets = omega (arith, nets, up, first, second, third);
@@ -144,7 +143,7 @@ module _ (table : StrengthTable) (most more : ℕ) (up : most + 3 ≤ more) (few
             (omega (arith, to_first, to_second, to_third)) (omega (arith, nets, up, few, first, second, third))
             (omega (arith, devices, up, few, count))
             (record { drain = omega (arith, drain, to_second, to_third); gate = omega (arith, gate, to_third); source = source })
-            (class_of table found.sizes.width found.sizes.length _ refl) (wiring_gate name words wiring found.wired);
+            refl (wiring_gate name words wiring found.wired);
       })
 
   -- roles leave the number of pins
@@ -203,7 +202,7 @@ module _ (table : StrengthTable) (most more : ℕ) (up : most + 3 ≤ more) (few
           few_devices = omega arith;
           pins_within = omega (arith, count);
           places = All-nil (PlacesWithin (length pins));
-          strengths = All-nil HasClass;
+          strengths = All-nil HasOwnStrength;
           gated = All-nil (λ (device : RawDevice). has_gate device.kind ≡ true);
         };
       })
@@ -244,25 +243,25 @@ module _ (table : StrengthTable) (most more : ℕ) (up : most + 3 ≤ more) (few
       subst (IsHeldReading more) same (record { cells = held.cells; current = open_up reading.current held.current })
 
   card_held : (line : ℕ) (word : List ℕ) (words : List (List ℕ)) (reading next : Reading) → length words ≤ more
-      → card_step table (card_of word) line word words reading ≡ Ok next → IsHeldReading most reading → IsHeldReading more next
+      → card_step (card_of word) line word words reading ≡ Ok next → IsHeldReading most reading → IsHeldReading more next
   unfolding card_step card_of card_by_letter is_ignored
   card_held line word words reading next within is held =
       by (bytes_eq word (codes ".SUBCKT")) (bytes_eq word (codes ".ENDS")) (bytes_eq word (codes "*.PININFO")) (is_ignored word) is
     where
-      by_letter : (word : List ℕ) → card_step table (card_by_letter word) line word words reading ≡ Ok next → IsHeldReading more next
+      by_letter : (word : List ℕ) → card_step (card_by_letter word) line word words reading ≡ Ok next → IsHeldReading more next
       by_letter [] is = absurd cc
       by_letter (letter ∷ rest) is = at (letter == 77) (letter == 67 || letter == 68) (letter == 43) is
         where
           at : (mos_is ignored stray : Bool)
-              → card_step table (cond mos_is (card_by_letter (77 ∷ [])) (cond ignored (card_by_letter (67 ∷ [])) (cond stray (card_by_letter (43 ∷ [])) (card_by_letter []))))
+              → card_step (cond mos_is (card_by_letter (77 ∷ [])) (cond ignored (card_by_letter (67 ∷ [])) (cond stray (card_by_letter (43 ∷ [])) (card_by_letter []))))
               line (letter ∷ rest) words reading ≡ Ok next → IsHeldReading more next
-          at true ignored stray is = in_cell_held (mos table (letter ∷ rest) words) reading next is (mos_held (letter ∷ rest) words) held
+          at true ignored stray is = in_cell_held (mos (letter ∷ rest) words) reading next is (mos_held (letter ∷ rest) words) held
           at false true stray is = reading_up reading next (cc) held
           at false false true is = absurd cc
           at false false false is = absurd cc
 
       by : (subckt_is ends_is info_is ignored : Bool)
-          → card_step table (cond subckt_is (card_of (codes ".SUBCKT")) (cond ends_is (card_of (codes ".ENDS")) (cond info_is (card_of (codes "*.PININFO"))
+          → card_step (cond subckt_is (card_of (codes ".SUBCKT")) (cond ends_is (card_of (codes ".ENDS")) (cond info_is (card_of (codes "*.PININFO"))
           (cond ignored (card_of (codes ".END")) (card_by_letter word))))) line word words reading ≡ Ok next → IsHeldReading more next
       by true ends_is info_is ignored is = subckt_held line words reading next within is held
       by false true info_is ignored is = ends_held words reading next is held
@@ -270,21 +269,21 @@ module _ (table : StrengthTable) (most more : ℕ) (up : most + 3 ≤ more) (few
       by false false false true is = reading_up reading next (cc) held
       by false false false false is = by_letter word is
 
-  words_held : (line : ℕ) (words : List (List ℕ)) (reading next : Reading) → length words ≤ more → words_step table line words reading ≡ Ok next
+  words_held : (line : ℕ) (words : List (List ℕ)) (reading next : Reading) → length words ≤ more → words_step line words reading ≡ Ok next
       → IsHeldReading most reading → IsHeldReading more next
   unfolding words_step
   words_held line [] reading next within is held = reading_up reading next (cc) held
   words_held line (word ∷ words) reading next within is held = by (is_comment (card_of word) reading) is
     where
-      by : (comment : Bool) → cond comment (Ok reading) (judged table (card_of word) line word words reading) ≡ Ok next → IsHeldReading more next
+      by : (comment : Bool) → cond comment (Ok reading) (judged (card_of word) line word words reading) ≡ Ok next → IsHeldReading more next
       by true is = reading_up reading next (cc) held
       by false is =
           let formed = kept_rule (is_stray (card_of word)) BadCard
-          (unless (not (list_all is_text (word ∷ words))) NotText (card_step table (card_of word) line word words reading)) next is in
-          let text = kept_rule (not (list_all is_text (word ∷ words))) NotText (card_step table (card_of word) line word words reading) next formed.1 in
+          (unless (not (list_all is_text (word ∷ words))) NotText (card_step (card_of word) line word words reading)) next is in
+          let text = kept_rule (not (list_all is_text (word ∷ words))) NotText (card_step (card_of word) line word words reading) next formed.1 in
           card_held line word words reading next (omega (arith, within)) text.1 held
 
-  line_held : (line : Line) (reading next : Reading) → length (words_of (upper_case line.text)) ≤ more → line_step table line reading ≡ Ok next
+  line_held : (line : Line) (reading next : Reading) → length (words_of (upper_case line.text)) ≤ more → line_step line reading ≡ Ok next
       → IsHeldReading most reading → IsHeldReading more next
   unfolding line_step
   line_held line reading next within is held = words_held line.line (words_of (upper_case line.text)) reading next within is held
@@ -294,18 +293,18 @@ stepped_at : (line : Line) (given : Step) (next : Reading)
 stepped_at line (Ok later) next is = cc
 stepped_at line (Err kind) next is = absurd cc
 
-lines_held : (table : StrengthTable) (lines : List Line) (most : ℕ) (reading last : Reading) → most + weights_of lines < 2 ^ 32 → lines_from table reading lines ≡ Ok last
+lines_held : (lines : List Line) (most : ℕ) (reading last : Reading) → most + weights_of lines < 2 ^ 32 → lines_from reading lines ≡ Ok last
     → IsHeldReading most reading → IsHeldReading (most + weights_of lines) last
 unfolding steps_from
-lines_held table [] most reading last few is held =
+lines_held [] most reading last few is held =
     let same : reading ≡ last = cc in
     subst (λ n. IsHeldReading n last) (omega arith) (subst (IsHeldReading most) same held)
-lines_held table (line ∷ lines) most reading last few is held =
-    let first = first_step (located at_line (line_step table)) reading last line lines is in
-    let next = line_held table most (most + weight_of line) (omega arith) (omega (arith, few)) line reading first.next (omega arith)
-    (stepped_at line (line_step table line reading) first.next first.stepped) held in
+lines_held (line ∷ lines) most reading last few is held =
+    let first = first_step (located at_line line_step) reading last line lines is in
+    let next = line_held most (most + weight_of line) (omega arith) (omega (arith, few)) line reading first.next (omega arith)
+    (stepped_at line (line_step line reading) first.next first.stepped) held in
     let all : IsHeldReading ((most + weight_of line) + weights_of lines) last =
-    lines_held table lines (most + weight_of line) first.next last (omega (arith, few)) first.rest next in
+    lines_held lines (most + weight_of line) first.next last (omega (arith, few)) first.rest next in
     subst (λ n. IsHeldReading n last) (omega arith) all
 
 all_weaker : {A : Type 0} (P Q : A → Type 0) → ((x : A) → P x → Q x) → (xs : List A) → AllByRecursion P xs → AllByRecursion Q xs
@@ -317,9 +316,9 @@ abbrev pub AreRaw : Reading → Type 0
 AreRaw reading = AllByRecursion (λ cell. IsRaw cell.raw) reading.cells
 
 -- the subcircuits of a text that is no longer than it may be are
-pub raw_cells : (table : StrengthTable) (bytes : List ℕ) (read : Reading) → length bytes ≤ MAX_CELLS → library_of table bytes ≡ Ok read.cells → AreRaw read
+pub raw_cells : (bytes : List ℕ) (read : Reading) → length bytes ≤ MAX_CELLS → library_of bytes ≡ Ok read.cells → AreRaw read
 unfolding library_from
-raw_cells table bytes read within reported = by (lines_from table nothing (spice_lines bytes)) refl reported
+raw_cells bytes read within reported = by (lines_from nothing (spice_lines bytes)) refl reported
   where
     by_limit : (reading : Reading) → ArePlaced reading → (many : Bool)
         → cond many (Err (TooManyCells (length reading.cells))) (Ok reading.cells) ≡ Ok read.cells → AreRaw read
@@ -334,9 +333,9 @@ raw_cells table bytes read within reported = by (lines_from table nothing (spice
     by_current reading held None reported = by_limit reading held (nat_lt MOST_CELLS (length reading.cells)) reported
     by_current reading held (Some cell) reported = absurd cc
 
-    by : (given : Result Reading SpiceFault) → lines_from table nothing (spice_lines bytes) ≡ given → library_from given ≡ Ok read.cells → AreRaw read
+    by : (given : Result Reading SpiceFault) → lines_from nothing (spice_lines bytes) ≡ given → library_from given ≡ Ok read.cells → AreRaw read
     by (Err fault) is reported = absurd cc
     by (Ok reading) is reported =
         let weight = text_weight bytes in
         let few : 0 + weights_of (spice_lines bytes) < 2 ^ 32 = omega (arith, weight, within) in
-        by_current reading (lines_held table (spice_lines bytes) 0 nothing reading few is (record { cells = tt; current = tt })).cells reading.current reported
+        by_current reading (lines_held (spice_lines bytes) 0 nothing reading few is (record { cells = tt; current = tt })).cells reading.current reported

@@ -5,7 +5,6 @@ use Rattle.std.specs.Prelude.{IsSome, IsNone, IsOk, IsSomeAnd}
 use Rattle.std.proofs.Math.Decide.{dec_le}
 use Rattle.std.proofs.lemmas.Option.{same_Some}
 use Rattle.ca_store.specs.Store.{Files}
-use Rattle.ca_cell.specs.Strength.{default_table}
 use Rattle.ca_lex.specs.Words.{upper_case}
 use Rattle.ca_cell.specs.declared.raw.RawCell.{RawCell}
 use Rattle.ca_cell.specs.declared.rule.CellRule.{CellRule}
@@ -92,19 +91,19 @@ module _ (words : List (List ℕ)) (bytes : List ℕ) (outside : Outside) (repor
         let same : other ≡ reported = same_Some other reported (sym is ∙ are) in
         rw (same, there) (within, holds)
 
-    at_fault : (fault : SpiceFault) → library_of default_table bytes ≡ Err fault → Stands words outside
+    at_fault : (fault : SpiceFault) → library_of bytes ≡ Err fault → Stands words outside
     at_fault (spice.At line kind) reads =
         cell_cause (Cells line kind) tt (inl (inr (of_bytes (IsTextCause (Cells line kind)) reads)))
     at_fault (spice.TooManyCells count) reads =
         cell_cause (Limit limit.Cells count) tt (inl (inr (of_bytes (IsTextCause (Limit limit.Cells count)) reads)))
-    at_fault spice.NoMemory reads = absurd (reading_has_memory default_table bytes reads)
+    at_fault spice.NoMemory reads = absurd (reading_has_memory bytes reads)
 
-    at_missing : IsOk (library_of default_table bytes) → cell_called default_table bytes (cell_word words) ≡ None → Stands words outside
+    at_missing : IsOk (library_of bytes) → cell_called bytes (cell_word words) ≡ None → Stands words outside
     at_missing reads missing =
         let lacks : LacksCell (cell_word words) bytes = (reads, rw missing refl) in
         cell_cause (NoCell (cell_word words)) tt (inr (refl, of_bytes (LacksCell (cell_word words)) lacks))
 
-    module _ (raw : RawCell) (called : cell_called default_table bytes (cell_word words) ≡ Some raw) where
+    module _ (raw : RawCell) (called : cell_called bytes (cell_word words) ≡ Some raw) where
       of_cell : (P : RawCell → Type 0) → P raw → OfCell outside.files (cells_word words) (cell_word words) P
       of_cell P holds =
           let has : HasCell (cell_word words) P bytes = rw called holds in
@@ -181,14 +180,14 @@ module _ (words : List (List ℕ)) (bytes : List ℕ) (outside : Outside) (repor
       at_raw = elim (broken_or_kept raw) [ inl found ↦ breaks found.0 found.1 | inr kept ↦ keeps kept ]
 
     at_bytes : Stands words outside
-    at_bytes = by (read_or_fault (library_of default_table bytes))
+    at_bytes = by (read_or_fault (library_of bytes))
       where
-        by_called : IsOk (library_of default_table bytes) → (called : Option RawCell) → cell_called default_table bytes (cell_word words) ≡ called → Stands words outside
+        by_called : IsOk (library_of bytes) → (called : Option RawCell) → cell_called bytes (cell_word words) ≡ called → Stands words outside
         by_called reads None called = at_missing reads called
         by_called reads (Some raw) called = at_raw raw called
 
-        by : IsOk (library_of default_table bytes) ⊎ ((fault : SpiceFault) × (library_of default_table bytes ≡ Err fault)) → Stands words outside
-        by (inl reads) = by_called reads (cell_called default_table bytes (cell_word words)) refl
+        by : IsOk (library_of bytes) ⊎ ((fault : SpiceFault) × (library_of bytes ≡ Err fault)) → Stands words outside
+        by (inl reads) = by_called reads (cell_called bytes (cell_word words)) refl
         by (inr found) = at_fault found.0 found.1
 
   stands : Stands words outside

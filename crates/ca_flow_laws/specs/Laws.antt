@@ -5,9 +5,8 @@ use Rattle.ca_cell.specs.Rules.{KeepsRules}
 use Rattle.ca_defect.specs.Laws.{DefectsDiffer}
 use Rattle.ca_spice.specs.Called.{cell_called}
 use Rattle.ca_store.specs.Store.{Files}
-use Rattle.ca_cell.specs.Strength.{default_table}
 use Rattle.ca_fault.specs.declared.fault.Fault.{Fault}
-use Rattle.ca_words.specs.Words.{IsGrade, IsOnChip, IsCommand}
+use Rattle.ca_words.specs.Words.{IsGrade, IsDiagnose, IsOnChip, IsCommand}
 use Rattle.ca_flow.specs.declared.finished.Finished.{Finished}
 use Rattle.ca_flow.specs.Fault.{Outside, IsCause}
 use Rattle.ca_flow.specs.Complete.{IsAnswerable}
@@ -41,12 +40,12 @@ SomeCauseOrAnswer =
     (words : List (List ℕ)) (outside : Outside) → ReportsAllFiles words outside
     → ¬ (IsOnChip words) → IsCommand words → IsAnswerable words outside.files ⊎ HasInputCause words outside
 
--- of a command on a chip, but `grade`, whose files are there it can't be that neither holds; which of them does
--- isn't decided among the definitions
+-- of a command on a chip, but `grade` and `diagnose`, whose files are there it can't be that neither holds;
+-- which of them does isn't decided among the definitions
 abbrev pub NeverNeitherOnChip : Type 0
 NeverNeitherOnChip =
     (words : List (List ℕ)) (outside : Outside) → ReportsAllFiles words outside → IsOnChip words
-    → ¬ (IsGrade words) → ¬ (¬ (IsAnswerable words outside.files ⊎ HasInputCause words outside))
+    → ¬ (IsGrade words) → ¬ (IsDiagnose words) → ¬ (¬ (IsAnswerable words outside.files ⊎ HasInputCause words outside))
 
 -- a command of whose words and files a fault of input has a cause ends with this fault, or with another loop
 -- where it reports one, or with a fault of the store, the output or memory
@@ -60,5 +59,5 @@ CauseIsReported =
 -- of each cell that a word names in a text, and that keeps the rules, the defects have names that differ
 abbrev pub NamesMeanOneDefect : Type 0
 NamesMeanOneDefect =
-    (bytes word : List ℕ) (raw : RawCell) → cell_called default_table bytes word ≡ Some raw → KeepsRules raw
+    (bytes word : List ℕ) (raw : RawCell) → cell_called bytes word ≡ Some raw → KeepsRules raw
     → DefectsDiffer raw

@@ -2,8 +2,8 @@
 use Rattle.std.specs.Prelude.{◌≡◌, ◌⊎◌, ℕ, List, Some, IsSome, IsSomeAnd}
 use Rattle.ca_store.specs.Store.{Files}
 use Rattle.ca_load.specs.Texts.{InputFiles}
-use Rattle.ca_words.specs.Words.{cells_word, stil_word, order_word, chip_files, IsReplay, IsGrade, IsOnCell}
-use Rattle.ca_words.specs.Words.{IsOnChip}
+use Rattle.ca_words.specs.Words.{cells_word, stil_word, log_word, order_word, chip_files, IsReplay, IsGrade}
+use Rattle.ca_words.specs.Words.{IsDiagnose, IsOnCell, IsOnChip}
 use Rattle.ca_flow.specs.Fault.{Outside}
 
 -- the name is that of one of the files of a chip
@@ -16,7 +16,8 @@ IsInputFile words name =
     (IsOnCell words × (name ≡ cells_word words))
     ⊎ ((IsOnChip words × IsChipFile (chip_files words) name)
     ⊎ ((IsReplay words × (name ≡ order_word words))
-    ⊎ (IsGrade words × (name ≡ stil_word words))))
+    ⊎ ((IsGrade words × (name ≡ stil_word words))
+    ⊎ (IsDiagnose words × ((name ≡ stil_word words) ⊎ (name ≡ log_word words))))))
 
 -- it is known what the store has under the name of each file that the command reads: these bytes, or no file
 abbrev pub ReportsFiles : List (List ℕ) → Files → Outside → Type 0

@@ -4,7 +4,7 @@ use Rattle.ca_wiring.specs.declared.fault.ChipFault.TheVariants as rule
 use Rattle.ca_fault.specs.declared.fault.Fault.{Fault}
 use Rattle.ca_fault.specs.declared.fault.Fault.TheVariants.{BadWords, Cells, Netlist, Scan, Chip, Chain}
 use Rattle.ca_fault.specs.declared.fault.Fault.TheVariants.{NoCell, Cell, BadVector, NoInstance, NoDefect}
-use Rattle.ca_fault.specs.declared.fault.Fault.TheVariants.{Order, Stil, StilChip, Expected, TooLong}
+use Rattle.ca_fault.specs.declared.fault.Fault.TheVariants.{Order, Stil, StilChip, Expected, Log, TooLong}
 use Rattle.ca_fault.specs.declared.fault.Fault.TheVariants.{TooManyPairs, Limit, StoreFailed, SinkFailed}
 use Rattle.ca_fault.specs.declared.fault.Fault.TheVariants.{NoMemory}
 
@@ -25,6 +25,7 @@ IsInputFault (Order line) = ⊤
 IsInputFault (Stil line) = ⊤
 IsInputFault StilChip = ⊤
 IsInputFault (Expected pair output) = ⊤
+IsInputFault (Log row) = ⊤
 IsInputFault (TooLong name taken) = ⊤
 IsInputFault (TooManyPairs pairs aims) = ⊥
 IsInputFault (Limit kind count) = ⊤

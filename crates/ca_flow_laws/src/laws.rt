@@ -21,8 +21,8 @@ pub fn some_cause_or_answer()
     ensures { SomeCauseOrAnswer }
 {}
 
-/// Of a command on a chip, but `grade`, whose files are there it can't be that it can't be answered and that no
-/// fault of the contents has a cause.
+/// Of a command on a chip, but `grade` and `diagnose`, whose files are there it can't be that it can't be
+/// answered and that no fault of the contents has a cause.
 pub fn never_neither_on_chip()
     ensures { NeverNeitherOnChip }
 {}

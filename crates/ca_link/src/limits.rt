@@ -15,7 +15,7 @@ use ca_wiring::{
 fn body_defects(draft: &Draft, body: &Body) -> usize
     requires { IsBody draft.now.cells body.now }
     ensures count { result ≡ limits.body_defects draft.now.cells body.now }
-    ensures few { result ≤ 2 ^ 15 }
+    ensures few { result ≤ 2 ^ 14 }
 {
     match body {
         Body::Gate { cell, .. } => match draft.library.entry(*cell as usize) {

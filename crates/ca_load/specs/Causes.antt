@@ -1,7 +1,6 @@
 -- Why the files of a command give no chip: each stage has its own causes, in the order of the stages.
 use Rattle.std.specs.Prelude.{◌≡◌, ◌⊎◌, ℕ, List, Option, Some, None, Err, IsOk, ⊤}
 use Rattle.ca_store.specs.Store.{Files}
-use Rattle.ca_cell.specs.Strength.{default_table}
 use Rattle.ca_spice.specs.declared.fault.SpiceFault.TheVariants as spice
 use Rattle.ca_spice.specs.Reading.{library_of}
 use Rattle.ca_verilog.specs.declared.fault.VerilogFault.TheVariants as verilog
@@ -20,8 +19,8 @@ use Rattle.ca_load.specs.Chips.{IsPlainRule, IsChipCause}
 -- why the text of a cell netlist has no reading: its first faulty line, or its number of subcircuits where
 -- these are too many
 abbrev pub IsTextCause : Fault → List ℕ → Type 0
-IsTextCause (Cells line kind) bytes = library_of default_table bytes ≡ Err (spice.At line kind)
-IsTextCause (Limit limit.Cells count) bytes = library_of default_table bytes ≡ Err (spice.TooManyCells count)
+IsTextCause (Cells line kind) bytes = library_of bytes ≡ Err (spice.At line kind)
+IsTextCause (Limit limit.Cells count) bytes = library_of bytes ≡ Err (spice.TooManyCells count)
 IsTextCause _ bytes = ⊥
 
 -- the same of a file
@@ -78,7 +77,7 @@ IsScanCause (Some name) files before after fault = IsTableCause name files befor
 
 -- where the files are known, the file of this name is there and reads as a library
 abbrev pub HasLibrary : Option Files → List ℕ → Type 0
-HasLibrary files name = OfFile files name MAX_CELLS (λ bytes. IsOk (library_of default_table bytes))
+HasLibrary files name = OfFile files name MAX_CELLS (λ bytes. IsOk (library_of bytes))
 
 -- the same of a netlist
 abbrev pub HasNetlist : Option Files → List ℕ → Type 0

@@ -3,7 +3,6 @@ use Rattle.std.specs.Prelude.{◌≡◌, ℕ, List, [], map, Option, Some, None,
 use Rattle.std.specs.List.{All}
 use Rattle.std.specs.Option.{ForSome, option_copied}
 use Rattle.ca_store.specs.Store.{Files}
-use Rattle.ca_cell.specs.Strength.{default_table}
 use Rattle.ca_cell.specs.Library.{Named, IsEntry}
 use Rattle.ca_spice.specs.Reading.{library_of}
 use Rattle.ca_spice.specs.Views.{subcircuit_seen}
@@ -20,7 +19,7 @@ use Rattle.ca_load.specs.Files.{IsFileWith, OfFile}
 -- the text reads as the library: as its subcircuits, each a cell where it keeps the rules of a used cell, and
 -- else with the first rule that it breaks
 pub record IsLibraryOf (library : List Named) (bytes : List ℕ) : Type 0 where
-  pub reads : library_of default_table bytes ≡ Ok (map subcircuit_seen library)
+  pub reads : library_of bytes ≡ Ok (map subcircuit_seen library)
   pub entries : All (λ named. IsEntry named.entry) library
 
 -- the text reads as the netlist

@@ -1,12 +1,6 @@
 //! The library in the file of a cell netlist.
 ghost use Rattle.std.specs.Prelude.{◌≡◌, Some, map, IfErr, IfOk, OnOk};
-ghost use Rattle.std.specs.List.{All};
-ghost use Rattle.ca_cell.specs.Library.{raw_of, IsEntry};
-ghost use Rattle.ca_cell.specs.Strength.{default_table};
-ghost use Rattle.ca_lex.specs.Reading.{Gives};
-ghost use Rattle.ca_spice.specs.SpiceFault.{fault_reported};
-ghost use Rattle.ca_spice.specs.Views.{subcircuit_seen};
-ghost use Rattle.ca_spice.specs.Reading.{library_of};
+ghost use Rattle.ca_cell.specs.Library.{raw_of};
 ghost use Rattle.ca_store.specs.Store.{Nothing};
 ghost use Rattle.ca_load.specs.Files.{OfFile, ReportsStoreFault};
 ghost use Rattle.ca_load.specs.Texts.{IsLibraryOf};
@@ -14,7 +8,7 @@ ghost use Rattle.ca_load.specs.Causes.{IsLibraryCause};
 ghost use Rattle.ca_load.specs.code.Stages.{IsCellsStage};
 
 use crate::files::read_input;
-use ca_cell::{Library, StrengthTable};
+use ca_cell::Library;
 use ca_fault::{Fault, LimitKind};
 use ca_lex::Text;
 use ca_spice::{SpiceFault, read_library};
@@ -48,20 +42,12 @@ pub fn open_library<S: Store>(
     library_in(alloc, bytes.as_bytes())
 }
 
-// The library that the bytes read as under the default strength table.
-fn read_by_default(alloc: Global, bytes: &[u8]) -> Result<Library, SpiceFault>
-    ensures exact { Gives fault_reported (map subcircuit_seen) result (library_of default_table bytes.now) }
-    ensures entries { IfOk result (λ library. All (λ named. IsEntry named.entry) library) }
-{
-    read_library(alloc, &StrengthTable::default_table(), bytes)
-}
-
 // The library that the bytes read as.
 fn library_in(alloc: Global, bytes: &[u8]) -> Result<Library, Fault>
     ensures reads { IfOk result (λ library. IsLibraryOf library bytes.now) }
     ensures cause { IfErr result (IsCellsStage bytes.now) }
 {
-    match read_by_default(alloc, bytes) {
+    match read_library(alloc, bytes) {
         Ok(library) => Ok(library),
         Err(SpiceFault::At { line, kind }) => Err(Fault::Cells { line, kind }),
         Err(SpiceFault::TooManyCells { count }) => Err(Fault::Limit {

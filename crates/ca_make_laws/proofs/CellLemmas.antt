@@ -1,8 +1,5 @@
 -- The text of the cells is read, by computation.
-use Rattle.std.proofs.Common.{◌≡◌, refl, ap, ◌∙◌, List, map}
-use Rattle.std.specs.Prelude.{Ok}
-use Rattle.ca_cell.specs.declared.strength.StrengthTable.{StrengthTable}
-use Rattle.ca_cell.specs.Strength.{default_table}
+use Rattle.std.proofs.Common.{refl}
 use Rattle.ca_lex.specs.Physical.{lines_of, is_pin_info, card_of, physical_at}
 use Rattle.ca_lex.specs.Lines.{continued, logical_from}
 use Rattle.ca_lex.specs.Words.{words_of}
@@ -15,10 +12,7 @@ use Rattle.ca_spice.specs.Card as cards
 use Rattle.ca_spice.specs.Mos.{are_params, count_of, value_of, kind_of, wiring_of, sizes_of}
 use Rattle.ca_spice.specs.OpenCell as open_cell
 use Rattle.ca_spice.specs.Reading.{named, subckt, ends, card_step, words_step, line_step, library_from}
-use Rattle.ca_spice.specs.Reading.{library_of}
-use Rattle.ca_spice.specs.Writing.{kept_as}
 use Rattle.ca_make.specs.LibraryText.{library_text}
-use Rattle.ca_make_laws.specs.Cells.{cells}
 use Rattle.ca_make_laws.specs.Laws.{LibraryIsRead}
 
 pub library_read : LibraryIsRead
@@ -30,7 +24,3 @@ unfolding library_text lines_of is_pin_info card_of physical_at continued logica
     open_cell.pin_info open_cell.mos open_cell.pins_after open_cell.ended
     named subckt ends card_step words_step line_step library_from
 library_read = refl
-
--- under a table that is the default one as well
-pub same_table : (table : StrengthTable) → table ≡ default_table → library_of table library_text ≡ Ok (map (λ cell. kept_as cell.0 cell.1) cells)
-same_table table is = ap (λ (t : StrengthTable). library_of t library_text) is ∙ library_read

@@ -7,7 +7,6 @@ use Rattle.ca_cell.specs.declared.raw.RawCell.{RawCell}
 use Rattle.ca_cell.specs.declared.library.Entry.{Entry}
 use Rattle.ca_cell.specs.Library.{Named, entry_of, raw_of}
 use Rattle.ca_spice.proofs.CalledLemmas.{called_of_library}
-use Rattle.ca_cell.specs.Strength.{default_table}
 use Rattle.ca_load.specs.declared.cells.TheConstants.{MAX_CELLS}
 use Rattle.ca_load.specs.Texts.{IsLibraryOf}
 use Rattle.ca_load.proofs.ReadLemmas.{of_file_then}
@@ -19,7 +18,7 @@ module _ (files : Option Files) (name word : List ℕ) (library : List Named)
   pub of_entry : (entry : Entry) (Holds : RawCell → Type 0) → entry_of library (upper_case word) ≡ Some entry → Holds (raw_of entry)
       → OfCell files name word Holds
   of_entry entry Holds found holds = of_file_then files name MAX_CELLS _ (HasCell word Holds)
-      (λ bytes is. rw (called_of_library default_table bytes word library is.reads, found) holds) read
+      (λ bytes is. rw (called_of_library bytes word library is.reads, found) holds) read
 
   -- the same of an answer
   pub of_entry_answer : {T E : Type 0} (r : Result T E) (entry : Entry) (Holds : T → RawCell → Type 0)
@@ -31,4 +30,4 @@ module _ (files : Option Files) (name word : List ℕ) (library : List Named)
   -- a name that the library lacks
   pub of_none : entry_of library (upper_case word) ≡ None → OfFile files name (LacksCell word)
   of_none missing = of_file_then files name MAX_CELLS _ (LacksCell word)
-      (λ bytes is. (rw is.reads refl, rw (called_of_library default_table bytes word library is.reads, missing) refl)) read
+      (λ bytes is. (rw is.reads refl, rw (called_of_library bytes word library is.reads, missing) refl)) read

@@ -1,7 +1,6 @@
 -- What a name finds in the file of a cell netlist.
 use Rattle.std.specs.Prelude.{ℕ, List, Option, IsOk, IsNone, IsSomeAnd}
 use Rattle.ca_store.specs.Store.{Files}
-use Rattle.ca_cell.specs.Strength.{default_table}
 use Rattle.ca_cell.specs.declared.raw.RawCell.{RawCell}
 use Rattle.ca_spice.specs.Reading.{library_of}
 use Rattle.ca_spice.specs.Called.{cell_called}
@@ -18,11 +17,11 @@ OfFile reported name Holds = files.OfFile reported name MAX_CELLS Holds
 
 -- the text has a reading, in which the word names a subcircuit of which this holds
 abbrev pub HasCell : List ℕ → (RawCell → Type 0) → List ℕ → Type 0
-HasCell word Holds bytes = IsSomeAnd (cell_called default_table bytes word) Holds
+HasCell word Holds bytes = IsSomeAnd (cell_called bytes word) Holds
 
 -- the text has a reading, in which the word names no subcircuit
 abbrev pub LacksCell : List ℕ → List ℕ → Type 0
-LacksCell word bytes = IsOk (library_of default_table bytes) × IsNone (cell_called default_table bytes word)
+LacksCell word bytes = IsOk (library_of bytes) × IsNone (cell_called bytes word)
 
 -- where the files are known, the word names a subcircuit of the file, and this holds of it
 abbrev pub OfCell : Option Files → List ℕ → List ℕ → (RawCell → Type 0) → Type 0

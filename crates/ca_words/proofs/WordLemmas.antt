@@ -15,7 +15,8 @@ chip_words words (inr (inl flatten)) = inr (inr (let seven = flatten.seven in om
 chip_words words (inr (inr (inl simulate))) = inr (inr (let eight = simulate.eight in omega (arith, eight)))
 chip_words words (inr (inr (inr (inl atpg)))) = inr (inr (let seven = atpg.seven in omega (arith, seven)))
 chip_words words (inr (inr (inr (inr (inl replay))))) = inr (inr (let nine = replay.nine in omega (arith, nine)))
-chip_words words (inr (inr (inr (inr (inr grade))))) = inr (inl grade)
+chip_words words (inr (inr (inr (inr (inr (inl grade)))))) = inr (inl grade)
+chip_words words (inr (inr (inr (inr (inr (inr diagnose)))))) = inr (inr (let seven = diagnose.seven in omega (arith, seven)))
 
 -- no command on one cell is one on a chip
 pub no_chip : (words : List (List ℕ)) → IsOnCell words → IsOnChip words → ⊥

@@ -72,13 +72,21 @@ chip_last_word words = word_at words 7
 abbrev pub order_word : List (List ℕ) → List ℕ
 order_word words = word_at words 8
 
--- the file of patterns that `atpg` writes, and `grade` reads
+-- the file of patterns that `atpg` writes, and `grade` and `diagnose` read
 abbrev pub stil_word : List (List ℕ) → List ℕ
 stil_word words = word_at words 4
 
 -- the report that `atpg` and `grade` write
 abbrev pub report_word : List (List ℕ) → List ℕ
 report_word words = word_at words 5
+
+-- the log of failing outputs that `diagnose` reads
+abbrev pub log_word : List (List ℕ) → List ℕ
+log_word words = word_at words 5
+
+-- the candidates that `diagnose` writes
+abbrev pub candidates_word : List (List ℕ) → List ℕ
+candidates_word words = word_at words 6
 
 -- the budget of `atpg`
 abbrev pub budget_word : List (List ℕ) → List ℕ
@@ -214,6 +222,18 @@ pub record IsGrade (words : List (List ℕ)) : Type 0 where
   pub report : IsOtherFile (report_word words) (cells_word words) (netlist_word words) (scan_word words)
   pub others : report_word words ≢ stil_word words
 
+-- the words are `diagnose CELLS NETLIST SCAN STIL LOG OUT`
+pub record IsDiagnose (words : List (List ℕ)) : Type 0 where
+  pub seven : length words ≡ 7
+  pub command : word_at words 0 ≡ codes "diagnose"
+  pub files : HasChipFiles words
+  pub stil : IsOtherFile (stil_word words) (cells_word words) (netlist_word words) (scan_word words)
+  pub log : IsOtherFile (log_word words) (cells_word words) (netlist_word words) (scan_word words)
+  pub out : IsOtherFile (candidates_word words) (cells_word words) (netlist_word words) (scan_word words)
+  pub others : log_word words ≢ stil_word words
+  pub not_stil : candidates_word words ≢ stil_word words
+  pub not_log : candidates_word words ≢ log_word words
+
 -- the one word is `--help`
 pub record IsHelp (words : List (List ℕ)) : Type 0 where
   pub one : length words ≡ 1
@@ -245,7 +265,8 @@ IsOnCell words = IsRespond words ⊎ (IsPair words ⊎ (IsDefects words ⊎ IsMa
 -- the words are those of a command on a chip
 abbrev pub IsOnChip : List (List ℕ) → Type 0
 IsOnChip words = IsCheck words
-    ⊎ (IsFlatten words ⊎ (IsSimulate words ⊎ (IsAtpg words ⊎ (IsReplay words ⊎ IsGrade words))))
+    ⊎ (IsFlatten words ⊎ (IsSimulate words ⊎ (IsAtpg words
+    ⊎ (IsReplay words ⊎ (IsGrade words ⊎ IsDiagnose words)))))
 
 -- the words are those of a command
 abbrev pub IsCommand : List (List ℕ) → Type 0
@@ -257,4 +278,5 @@ HasOut words name =
     (IsMatrix words × (name ≡ out_word words))
     ⊎ ((IsFlatten words × (name ≡ flat_out_word words))
     ⊎ ((IsAtpg words × ((name ≡ stil_word words) ⊎ (name ≡ report_word words)))
-    ⊎ (IsGrade words × (name ≡ report_word words))))
+    ⊎ ((IsGrade words × (name ≡ report_word words))
+    ⊎ (IsDiagnose words × (name ≡ candidates_word words)))))

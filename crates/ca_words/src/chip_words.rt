@@ -6,12 +6,16 @@ ghost use Rattle.ca_load.specs.Texts.{names_of};
 ghost use Rattle.ca_request.specs.Asked.{AreBothOrNeither};
 ghost use Rattle.ca_words.specs.Words.{file_called, AreChipFiles, IsOtherFile};
 ghost use Rattle.ca_words.specs.Words.{IsCheck, IsFlatten, IsSimulate, IsAtpg, IsReplay, IsGrade};
+ghost use Rattle.ca_words.specs.Words.{IsDiagnose};
 ghost use Rattle.ca_words.specs.Command.{IsSpelledCheck, IsSpelledFlatten, IsSpelledSimulate};
 ghost use Rattle.ca_words.specs.Command.{IsSpelledAtpg, IsSpelledReplay, IsSpelledGrade};
+ghost use Rattle.ca_words.specs.Command.{IsSpelledDiagnose};
 
 use crate::budget::budget_of;
 use crate::checks::{is_file_name, is_vector};
-use crate::words::{AtpgWords, ChipWords, FlattenWords, GradeWords, ReplayWords, SimulateWords};
+use crate::words::{
+    AtpgWords, ChipWords, DiagnoseWords, FlattenWords, GradeWords, ReplayWords, SimulateWords,
+};
 use ca_load::FileNames;
 
 /// The words of `check`, if they spell it.
@@ -172,6 +176,32 @@ pub(crate) fn parse_grade(words: &[String]) -> Option<GradeWords<'_>>
             files: files_called(cells, netlist, scan),
             stil: stil.as_str(),
             report: report.as_str(),
+        })
+    } else {
+        None
+    }
+}
+
+/// Those of `diagnose`.
+pub(crate) fn parse_diagnose(words: &[String]) -> Option<DiagnoseWords<'_>>
+    ensures found { IfSome result (IsSpelledDiagnose (map string_bytes words.now)) }
+    ensures none { IsNone result → ¬ (IsDiagnose (map string_bytes words.now)) }
+{
+    let [command, cells, netlist, scan, stil, log, out] = words else {
+        return None;
+    };
+    if command.as_str() == "diagnose"
+        && are_chip_files(cells, netlist, scan)
+        && is_other_file(stil, cells, netlist, scan)
+        && is_other_file(log, cells, netlist, scan)
+        && is_other_file(out, cells, netlist, scan)
+        && are_different(stil, log, out)
+    {
+        Some(DiagnoseWords {
+            files: files_called(cells, netlist, scan),
+            stil: stil.as_str(),
+            log: log.as_str(),
+            out: out.as_str(),
         })
     } else {
         None

@@ -8,6 +8,6 @@ mod words;
 
 pub use budget::{MOST_BUDGET, budget_of, chip_number_of};
 pub use words::{
-    AtpgWords, CellWords, ChipWords, Command, FlattenWords, GradeWords, MatrixWords, PairWords,
-    ReplayWords, SimulateWords, parse,
+    AtpgWords, CellWords, ChipWords, Command, DiagnoseWords, FlattenWords, GradeWords, MatrixWords,
+    PairWords, ReplayWords, SimulateWords, parse,
 };

@@ -9,7 +9,8 @@ ghost use Rattle.ca_words.specs.Command.{IsSpelledMake, IsSpelled};
 use crate::budget::chip_number_of;
 use crate::checks::{is_file_name, is_vector};
 use crate::chip_words::{
-    parse_atpg, parse_check, parse_flatten, parse_grade, parse_replay, parse_simulate,
+    parse_atpg, parse_check, parse_diagnose, parse_flatten, parse_grade, parse_replay,
+    parse_simulate,
 };
 use ca_load::FileNames;
 
@@ -36,6 +37,8 @@ pub enum Command<'a> {
     Atpg(AtpgWords<'a>),
     /// `grade CELLS NETLIST SCAN STIL REPORT`.
     Grade(GradeWords<'a>),
+    /// `diagnose CELLS NETLIST SCAN STIL LOG OUT`.
+    Diagnose(DiagnoseWords<'a>),
     /// `make N`, with the number.
     Make(u32),
     /// `--help`.
@@ -107,6 +110,16 @@ pub struct GradeWords<'a> {
     pub report: &'a str,
 }
 
+/// The words of a command that looks for the defects of a chip that a log of failing outputs leaves, under the
+/// patterns in a file.
+#[derive(Clone, Copy)]
+pub struct DiagnoseWords<'a> {
+    pub files: FileNames<'a>,
+    pub stil: &'a str,
+    pub log: &'a str,
+    pub out: &'a str,
+}
+
 /// The words of a command that replays one run of a chip, whose events are in a file.
 #[derive(Clone, Copy)]
 pub struct ReplayWords<'a> {
@@ -163,6 +176,8 @@ fn parse_on_chip(words: &[String]) -> Option<Command<'_>>
         Some(Command::Replay(request))
     } else if let Some(request) = parse_grade(words) {
         Some(Command::Grade(request))
+    } else if let Some(request) = parse_diagnose(words) {
+        Some(Command::Diagnose(request))
     } else {
         None
     }

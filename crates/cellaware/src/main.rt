@@ -15,8 +15,10 @@ use std::process::ExitCode;
 // The word before a command whose progress is to be reported.
 const PROGRESS: &str = "--progress";
 
-// The command whose progress is counted in pairs; that of the others is in defects.
+// The commands whose progress is counted in pairs; that of the others is in defects.
 const GRADE: &str = "grade";
+
+const DIAGNOSE: &str = "diagnose";
 
 fn main(rt: HostRuntime) -> ExitCode {
     let mut errors = StdSink::errors(rt.stderr());
@@ -26,7 +28,7 @@ fn main(rt: HostRuntime) -> ExitCode {
             let command = if is_watched { &words[1..] } else { &words[..] };
             let mut store = FileStore::new(rt);
             let mut output = StdSink::output(rt.stdout());
-            let unit = if is_first(command, GRADE) {
+            let unit = if is_first(command, GRADE) || is_first(command, DIAGNOSE) {
                 "pairs"
             } else {
                 "defects"

@@ -2,7 +2,7 @@
 use Rattle.std.specs.Prelude.{ℕ, List, ◌++◌}
 use Rattle.ca_fault.specs.declared.fault.Fault.{Fault}
 use Rattle.ca_fault.specs.declared.fault.Fault.TheVariants.{Cells, Netlist, Scan}
-use Rattle.ca_fault.specs.declared.fault.Fault.TheVariants.{Order, Stil, Expected, Limit}
+use Rattle.ca_fault.specs.declared.fault.Fault.TheVariants.{Order, Stil, Expected, Log, Limit}
 use Rattle.ca_fault.specs.declared.three.FaultText.{FaultText}
 
 -- the number in the text of a fault, and 0 where it has none
@@ -13,6 +13,7 @@ number_of (Scan row) = row
 number_of (Order line) = line
 number_of (Stil line) = line
 number_of (Expected pair output) = pair
+number_of (Log row) = row
 number_of (Limit kind count) = count
 number_of _ = 0
 

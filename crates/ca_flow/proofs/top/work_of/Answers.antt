@@ -65,5 +65,8 @@ returns-in-Make-clause-asked g c = ok_then c.make_work.result
     (λ work held words spelled. held words (g.S.Store.files c.args.store.now) (subst (IsSpelled words) c.in-Make.is spelled))
     c.make_work.ensures.asked
 
+pub returns-in-Diagnose-clause-cause : goal.returns-in-Diagnose-clause-cause
+returns-in-Diagnose-clause-cause g c = rw c.in-Diagnose.is c.candidates_work.ensures.cause
+
 pub returns-in-Grade-clause-cause : goal.returns-in-Grade-clause-cause
 returns-in-Grade-clause-cause g c = rw c.in-Grade.is c.grades_work.ensures.cause

@@ -7,4 +7,4 @@ use Rattle.ca_link.proofs.limits.defects_of.Given as goal
 abbrev pub invariant-loop-u : goal.invariant-loop-u
 invariant-loop-u l =
     (l.defects ≡ sum_by (λ part. limits.body_defects l.draft.cells part.body) (take l.u l.draft.parts))
-    × (l.defects ≤ l.u * 2 ^ 15)
+    × (l.defects ≤ l.u * 2 ^ 14)

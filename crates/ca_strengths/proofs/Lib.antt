@@ -1,4 +1,0 @@
-mod NumberLemmas
-mod RatioLemmas
-mod ReadLemmas
-mod AscendingLemmas

@@ -1,3 +1,0 @@
--- What the contracts of this crate say, in reading order.
-pub mod StrengthText
-pub mod code
