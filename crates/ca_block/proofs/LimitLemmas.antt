@@ -6,14 +6,14 @@ use Rattle.ca_net.specs.Circuit.{Circuit, IsWellFormed, IsInput}
 use Rattle.ca_net.specs.State.{value_at}
 use Rattle.ca_net.specs.Limits.{IsFixed, IsFirstLimit, IsHeld, IsMiddleLimit, IsLastLimit, IsMeet}
 use Rattle.ca_net.proofs.LastLimit.{last_limit_is_end_lem}
-use Rattle.ca_settle.specs.code.Phase.{IsUnknown, Begins}
+use Rattle.ca_settle.specs.code.Phase.{Begins}
 use Rattle.ca_settle.specs.code.Turns.{IsMetWith, RisesTo, FallsTo}
-use Rattle.ca_settle.proofs.PhaseLemmas.{ArePhases, first_limit, middle_limit, are_limits}
+use Rattle.ca_settle.proofs.PhaseLemmas.{ArePhases, middle_limit, are_limits}
 use Rattle.ca_block.specs.Limits.{AreLimitsIn, EndIn}
 use Rattle.ca_block.proofs.StateLemmas.{met_below}
 
 -- two vectors have the same values at the input nodes
-abbrev SameInputs : Circuit → List Trit → List Trit → Type 0
+abbrev pub SameInputs : Circuit → List Trit → List Trit → Type 0
 SameInputs net v w = (n : ℕ) → IsInput net n → value_at v n ≡ value_at w n
 
 module _ (net : Circuit) where
@@ -26,7 +26,7 @@ module _ (net : Circuit) where
   held_as : (v w first s : List Trit) → SameInputs net v w → IsHeld net v first s → IsHeld net w first s
   held_as v w first s same h = record { is_state = h.is_state; inputs = λ n i. h.inputs n i ∙ same n i; below_first = h.below_first; held = h.held }
 
-  first_as : (v w s : List Trit) → SameInputs net v w → IsFirstLimit net v s → IsFirstLimit net w s
+  pub first_as : (v w s : List Trit) → SameInputs net v w → IsFirstLimit net v s → IsFirstLimit net w s
   first_as v w s same h = record { fixed = fixed_as v w s same h.fixed; least = λ t fix. h.least t (fixed_as w v t (turned v w same) fix) }
 
   middle_as : (v w first s : List Trit) → SameInputs net v w → IsMiddleLimit net v first s → IsMiddleLimit net w first s
@@ -35,11 +35,10 @@ module _ (net : Circuit) where
   last_as : (v w middle s : List Trit) → SameInputs net v w → IsLastLimit net v middle s → IsLastLimit net w middle s
   last_as v w middle s same h = record { fixed = fixed_as v w s same h.fixed; above = h.above; least = λ t fix above. h.least t (fixed_as w v t (turned v w same) fix) above }
 
-  -- the phases of a lane
-  pub phases_in : IsWellFormed net → (from vm to held start first start_middle middle : List Trit) → IsUnknown held → Begins net from held start
-      → RisesTo net start first → IsMetWith to from vm → Begins net vm first start_middle → FallsTo net start_middle middle → ArePhases net from vm to first middle
-  phases_in well_formed from vm to held start first start_middle middle unknown begins rises met begins_middle falls =
-      let is_first = first_limit net from held start begins first unknown rises in
+  -- the phases of a lane, from its first limit on
+  pub phases_from : IsWellFormed net → (from vm to first start_middle middle : List Trit) → IsFirstLimit net from first
+      → IsMetWith to from vm → Begins net vm first start_middle → FallsTo net start_middle middle → ArePhases net from vm to first middle
+  phases_from well_formed from vm to first start_middle middle is_first met begins_middle falls =
       let below = met_below from to vm met in
       record {
         well_formed = well_formed;

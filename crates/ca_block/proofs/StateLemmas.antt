@@ -1,7 +1,7 @@
 -- States that are written one node at a time.
-use Rattle.std.proofs.Common.{◌≡◌, ℕ, ◌+◌, ◌<◌, List, length, inl, inr, refl, sym, ◌∙◌, ap, subst, arith, set}
+use Rattle.std.proofs.Common.{◌≡◌, ℕ, ◌+◌, ◌*◌, ◌/◌, ◌%◌, ◌<◌, List, length, inl, inr, refl, sym, ◌∙◌, ap, subst, arith, set}
 use Rattle.std.specs.Prelude.{Some, slice_get}
-use Rattle.std.proofs.lemmas.Option.{get_or_from_slice_get}
+use Rattle.std.proofs.lemmas.Option.{get_or_from_slice_get, slice_get-get_or}
 use Rattle.ca_net.specs.declared.trit.Trit.{Trit}
 use Rattle.ca_net.specs.declared.trit.Trit.TheVariants.{Zero, One, X}
 use Rattle.ca_net.specs.declared.node.NodeKind.{NodeKind}
@@ -9,7 +9,7 @@ use Rattle.ca_net.specs.declared.node.NodeKind.TheVariants.{Input, Storage}
 use Rattle.ca_net.specs.Circuit.{Circuit, kind_at}
 use Rattle.ca_net.specs.State.{value_at, IsState}
 use Rattle.std.proofs.Math.Decide.{dec_le}
-use Rattle.std.proofs.lemmas.List.{get_or_past}
+use Rattle.std.proofs.lemmas.List.{get_or_past, same_lists}
 use Rattle.ca_net.specs.Trit.{IsBelow, meet_of}
 use Rattle.ca_net.specs.State.{IsStateBelow}
 use Rattle.ca_net.specs.Response.{IsResponse, AreResponses}
@@ -17,6 +17,7 @@ use Rattle.ca_net.proofs.StateLemmas.{storage_within}
 use Rattle.ca_planes.specs.declared.block.Block.{Block}
 use Rattle.ca_planes.specs.Trits.{HasNodes, state_in}
 use Rattle.ca_planes.proofs.ValueLemmas.{length-values_in}
+use Rattle.ca_block.specs.Limits.{source_lane}
 use Rattle.ca_settle.specs.code.Phase.{IsUnknown, Begins}
 use Rattle.ca_settle.specs.code.Turns.{HasSameValues, IsMetWith, AreBlurred, IsHeldUp, RisesTo}
 use Rattle.ca_settle.proofs.TurnLemmas.{Rises, Falls, by_node, unknown_past}
@@ -88,6 +89,19 @@ same_all s t room each n = elim (dec_le (n + 1) (length s)) [
   | yes lt ↦ each n (omega arith)
   | no ge ↦ get_or_past s n X (omega arith) ∙ sym (get_or_past t n X (omega (arith, ge, room)))
 ]
+
+-- and they are one state
+pub same_states : (s t : List Trit) → length s ≡ length t → ((n : ℕ) → n < length s → value_at s n ≡ value_at t n) → s ≡ t
+same_states s t room each = same_lists s t room (λ k d lt.
+    get_or_from_slice_get s k (value_at t k) d (slice_get-get_or s k X lt ∙ ap Some (each k lt))
+    ∙ sym (get_or_from_slice_get t k (value_at t k) d (slice_get-get_or t k X (omega (arith, lt, room)))))
+
+-- a block of 64 pairs with one first vector begins from one lane
+pub one_source : (power block lane : ℕ) → power ≡ 6 → lane < 64 → block % 64 ≡ source_lane power block lane
+one_source power block lane is low = subst (λ p. block % 64 ≡ source_lane p block lane) (sym is) whole
+  where
+    whole : block % 64 ≡ source_lane 6 block lane
+    whole = let lt : block % 64 < 64 = omega arith in let e : (block % 64 * 64 + lane) / 64 % 64 ≡ block % 64 = omega (arith, low, lt) in sym e
 
 -- a turn has not yet been made
 pub rises_begin : (net : Circuit) (b : List Trit) → IsState net b → IsHeldUp net b → Rises net b b

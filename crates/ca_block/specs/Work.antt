@@ -11,6 +11,7 @@ pub record HasStates (nodes : ℕ) (work : BlockWork) : Type 0 where
   pub middle : HasNodes nodes work.middle
   pub last : HasNodes nodes work.last
   pub next : HasNodes nodes work.next
+  pub firsts : HasNodes nodes work.firsts
   pub vector : HasNodes nodes work.vector
 
 -- there is room for networks with this many nodes and devices

@@ -2,9 +2,10 @@
 #![tactic(auto)]
 
 mod limits;
+mod spread;
 mod start;
 mod turns;
 mod work;
 
-pub use limits::settle_block;
+pub use limits::{settle_block, settle_firsts};
 pub use work::BlockWork;

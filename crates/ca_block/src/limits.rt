@@ -1,33 +1,56 @@
 //! The three limits of a network in 64 lanes.
 
-ghost use Rattle.std.specs.Prelude.{ℕ, ◌≡◌, ◌<◌, length};
+ghost use Rattle.std.specs.Prelude.{ℕ, ◌≡◌, ◌<◌, ◌≤◌, length};
 ghost use Rattle.ca_planes.specs.Trits.{HasNodes};
 ghost use Rattle.ca_block.specs.Work.{HoldsNet};
-ghost use Rattle.ca_block.specs.Limits.{HoldsLimits, HoldsEnds};
+ghost use Rattle.ca_block.specs.Limits.{HoldsFirsts, BeginThere, HoldsLimits, HoldsEnds};
 
+use crate::spread::{LANE_DIGITS, spread};
 use crate::start::{begin, forget, meet};
 use crate::turns::{fall, rise};
 use crate::work::BlockWork;
 use ca_net::Network;
 use ca_planes::{Block, LANES};
 
+/// Finds the first limit of a network in each lane, from the values that its input nodes have there, and
+/// keeps it for many pairs of vectors. It takes no memory.
+pub fn settle_firsts<N: Network>(net: &N, from: &Block, work: &mut BlockWork)
+    requires from { HasNodes (length (N.circuit net.now).nodes) from.now }
+    requires work { HoldsNet (N.circuit net.now) work.old }
+    ensures firsts { HoldsFirsts (N.circuit net.now) from.now work.new }
+    ensures kept { HoldsNet (N.circuit net.now) work.new }
+{
+    forget(&mut work.last);
+    begin(net, from, &work.last, &mut work.firsts);
+    rise(net, &mut work.firsts, &mut work.next, &mut work.levels);
+}
+
 /// Computes the three limits of a network in each lane, from the values that its input nodes have there at
-/// first and at last; what the two blocks have at storage nodes isn't looked at. Each phase goes on until a
-/// turn of all nodes changes nothing in any lane. It takes no memory.
-pub fn settle_block<N: Network>(net: &N, from: &Block, to: &Block, work: &mut BlockWork)
+/// first and at last; what the two blocks have at storage nodes isn't looked at. The first limits are those
+/// of the lanes of the kept ones that `source_lane` names. Each phase goes on until a turn of all nodes
+/// changes nothing in any lane. It takes no memory.
+pub fn settle_block<N: Network>(
+    net: &N,
+    from: &Block,
+    to: &Block,
+    power: usize,
+    block: usize,
+    work: &mut BlockWork,
+)
     requires from { HasNodes (length (N.circuit net.now).nodes) from.now }
     requires to { HasNodes (length (N.circuit net.now).nodes) to.now }
     requires work { HoldsNet (N.circuit net.now) work.old }
+    requires power { power ≤ LANE_DIGITS }
+    requires firsts { BeginThere (N.circuit net.now) from.now power block work.old }
 
     ensures limits { (lane : ℕ) → lane < LANES
         → HoldsLimits (N.circuit net.now) from.now to.now lane work.new }
     ensures ends { (lane : ℕ) → lane < LANES
         → HoldsEnds (N.circuit net.now) from.now to.now lane work.new }
     ensures kept { HoldsNet (N.circuit net.now) work.new }
+    ensures same { work.new.firsts ≡ work.old.firsts }
 {
-    forget(&mut work.last);
-    begin(net, from, &work.last, &mut work.first);
-    rise(net, &mut work.first, &mut work.next, &mut work.levels);
+    spread(&work.firsts, power, block, &mut work.first);
     meet(from, to, &mut work.vector);
     begin(net, &work.vector, &work.first, &mut work.middle);
     fall(net, &mut work.middle, &mut work.next, &mut work.levels);

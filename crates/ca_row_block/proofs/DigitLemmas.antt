@@ -1,7 +1,8 @@
 -- Digits of the numbers of rows, and the vectors that they give.
-use Rattle.std.proofs.Common.{◌≡◌, ℕ, zero, suc, ◌+◌, ◌-◌, ◌*◌, ◌/◌, ◌%◌, ◌^◌, ◌<◌, ◌≤◌, ◌==◌, List}
+use Rattle.std.proofs.Common.{◌≡◌, ℕ, zero, suc, ◌+◌, ◌-◌, ◌*◌, ◌/◌, ◌%◌, ◌^◌, ◌<◌, ◌≤◌, ◌==◌, List, ◌∷◌}
 use Rattle.std.proofs.Common.{length, refl, sym, ◌∙◌, ap, arith, set, not-suc-le-zero, le_of_suc-le-suc, get_or-set_same, get_or-set_other, length-set}
 use Rattle.std.specs.Int.{bit_at}
+use Rattle.std.proofs.Math.Decide.{dec_le}
 use Rattle.std.proofs.lemmas.Nat.{shr-shr, shr_split}
 use Rattle.std.proofs.lemmas.Nat.Bits.{bit_at_cat_low, bit_at_cat_high, bit_at-lt}
 use Rattle.ca_net.specs.declared.trit.Trit.{Trit}
@@ -10,6 +11,7 @@ use Rattle.ca_net.specs.State.{value_at}
 use Rattle.ca_defect.specs.Row.{digit_value, vector_of}
 use Rattle.ca_settle.proofs.WriteLemmas.{write_more}
 use Rattle.ca_planes.specs.Plane.{has_lane}
+use Rattle.ca_block.specs.Limits.{source_lane}
 use Rattle.ca_row_block.specs.declared.load.Side.{Side}
 use Rattle.ca_row_block.specs.declared.load.Side.TheVariants.{First, Last}
 use Rattle.ca_row_block.specs.Masks.{has_digit}
@@ -34,6 +36,47 @@ digit_cases (suc (suc r)) h = absurd (not-suc-le-zero (le_of_suc-le-suc (le_of_s
 value_of_digit : (number digit : ℕ) → digit_value (number / 2 ^ digit % 2) ≡ is_value (has_digit number digit)
 unfolding has_lane
 value_of_digit number digit = digit_cases (bit_at number digit) (bit_at-lt number digit)
+
+-- a low digit is one of the rest, and a digit of the quotient is a higher one
+pub rest_digit : (number digits digit : ℕ) → digit < digits → has_digit (number % 2 ^ digits) digit ≡ has_digit number digit
+unfolding has_lane
+rest_digit number digits digit lt =
+    ap (λ n. n == 1) (sym (bit_at_cat_low (number / 2 ^ digits) digits (number % 2 ^ digits) digit lt) ∙ ap (λ n. bit_at n digit) (shr_split number digits))
+
+quotient_digit : (number digits digit : ℕ) → has_digit (number / 2 ^ digits) digit ≡ has_digit number (digits + digit)
+unfolding has_lane
+quotient_digit number digits digit = ap (λ x. x % 2 == 1) (shr-shr number digits digit)
+
+-- numbers with the same low digits have the same vector
+pub same_vector : (inputs a b : ℕ) → ((digit : ℕ) → digit < inputs → has_digit a digit ≡ has_digit b digit) → vector_of inputs a ≡ vector_of inputs b
+same_vector zero a b same = refl
+same_vector (suc after) a b same =
+    let head : digit_value (a / 2 ^ after % 2) ≡ digit_value (b / 2 ^ after % 2) =
+    value_of_digit a after ∙ ap is_value (same after (omega arith)) ∙ sym (value_of_digit b after) in
+    ap (λ v. v ∷ vector_of after a) head ∙ ap (λ vs. digit_value (b / 2 ^ after % 2) ∷ vs) (same_vector after a b (λ digit lt. same digit (omega arith)))
+
+-- the vector of a lane's number is that of its low digits
+pub last_vector : (inputs lane : ℕ) → vector_of inputs (lane % 2 ^ inputs) ≡ vector_of inputs lane
+last_vector inputs lane = same_vector inputs (lane % 2 ^ inputs) lane (λ digit lt. rest_digit lane inputs digit lt)
+
+-- a digit of a row's number, where that of its block is taken without its high digits
+block_digit : (block lane digit : ℕ) → lane < 64 → digit < 12 → has_digit (block % 64 * 64 + lane) digit ≡ has_digit (block * 64 + lane) digit
+block_digit block lane digit low lt = elim (dec_le 6 digit) [
+  | yes le ↦
+      sym (high_digit (block % 64) lane digit low le) ∙ rest_digit block 6 (digit - 6) (omega (arith, lt, le)) ∙ high_digit block lane digit low le
+  | no gt ↦ sym (low_digit (block % 64) lane digit (omega arith)) ∙ low_digit block lane digit (omega arith)
+]
+
+-- the lane from which a row begins has its first vector
+pub source_vector : (inputs block lane : ℕ) → inputs ≤ 6 → lane < 64 → vector_of inputs (source_lane inputs block lane) ≡ vector_of inputs ((block * 64 + lane) / 2 ^ inputs)
+source_vector inputs block lane few low = same_vector inputs (source_lane inputs block lane) ((block * 64 + lane) / 2 ^ inputs) (λ digit lt.
+    rest_digit ((block % 64 * 64 + lane) / 2 ^ inputs) 6 digit (omega (arith, lt, few))
+    ∙ quotient_digit (block % 64 * 64 + lane) inputs digit
+    ∙ block_digit block lane (inputs + digit) low (omega (arith, lt, few))
+    ∙ sym (quotient_digit (block * 64 + lane) inputs digit))
+
+pub source_within : (inputs block lane : ℕ) → source_lane inputs block lane < 64
+source_within inputs block lane = omega arith
 
 -- the value that a vector has at a place
 vector_digit : (inputs number place : ℕ) → place < inputs → value_at (vector_of inputs number) place ≡ digit_value (number / 2 ^ (inputs - 1 - place) % 2)

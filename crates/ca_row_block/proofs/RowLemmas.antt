@@ -8,7 +8,7 @@ use Rattle.ca_net.specs.declared.node.NodeKind.{NodeKind}
 use Rattle.ca_net.specs.declared.node.NodeKind.TheVariants.{Input, Storage}
 use Rattle.ca_net.specs.Circuit.{Circuit}
 use Rattle.ca_net.specs.State.{value_at}
-use Rattle.ca_net.specs.Limits.{HasInputs}
+use Rattle.ca_net.specs.Limits.{HasInputs, IsFirstLimit}
 use Rattle.ca_net.specs.Wave.{input_count, at_inputs}
 use Rattle.ca_cell.specs.declared.raw.RawCell.{RawCell}
 use Rattle.ca_cell.specs.Raw.{is_input, is_output, role_count, inner_count}
@@ -16,6 +16,7 @@ use Rattle.ca_defect.specs.Exposes.{pin_vector}
 use Rattle.ca_response.specs.CellNet.{HasNodesOf}
 use Rattle.ca_response.proofs.NodeLemmas.{pins_of}
 use Rattle.ca_settle.proofs.VectorLemmas.{input_count-lt}
+use Rattle.ca_block.proofs.LimitLemmas.{first_as}
 use Rattle.std.specs.Prelude.{Some, slice_get}
 use Rattle.std.proofs.lemmas.Option.{same_Some, slice_get_within}
 use Rattle.ca_net.specs.declared.wave.Wave.{Wave}
@@ -58,6 +59,21 @@ inputs_loaded raw net vector s has loaded n is =
     let front = count_inputs (2 + inputs) in omega (arith, all, whole, front) in
     let at = inputs_first (2 + inputs) rest (rails_and vector) n none (subst (λ xs. n < length xs) nodes is.0) (subst (λ xs. get_or xs n Input ≡ Input) nodes is.1) in
     loaded n at.0 ∙ sym at.1 ∙ sym (ap (λ xs. value_at (at_inputs xs (rails_and vector)) n) nodes)
+
+-- the first limit for what a lane has at the input nodes is that of its vector, and the other way round
+pub first_of_state : (raw : RawCell) (net : Circuit) (vector s first : List Trit) → HasNodesOf raw net
+    → IsLoadedTo (2 + role_count is_input raw.pins) (rails_and vector) s → IsFirstLimit net s first → IsFirstLimit net (pin_vector net vector) first
+first_of_state raw net vector s first has loaded is =
+    first_as net s (pin_vector net vector) first (λ n i. inputs_loaded raw net vector s has loaded n i) is
+
+pub first_of_vector : (raw : RawCell) (net : Circuit) (vector s first : List Trit) → HasNodesOf raw net
+    → IsLoadedTo (2 + role_count is_input raw.pins) (rails_and vector) s → IsFirstLimit net (pin_vector net vector) first → IsFirstLimit net s first
+first_of_vector raw net vector s first has loaded is =
+    first_as net (pin_vector net vector) s first (λ n i. sym (inputs_loaded raw net vector s has loaded n i)) is
+
+-- the network has as many input nodes as the cell has input pins, and two more
+pub pin_count : (raw : RawCell) (net : Circuit) → HasNodesOf raw net → input_count net.nodes ≡ 2 + role_count is_input raw.pins
+pin_count raw net has = (pins_of raw net has).inputs_are
 
 -- an output pin's node is one of the network's
 pub output_within : (raw : RawCell) (net : Circuit) (output : ℕ) → HasNodesOf raw net → output < role_count is_output raw.pins

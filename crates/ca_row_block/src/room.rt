@@ -6,10 +6,12 @@ ghost use Rattle.ca_row_block.specs.Rows.{end_at};
 ghost use Rattle.ca_row_block.specs.Room.{IsRoomFor, HoldsCellNet};
 
 use crate::digits::{LANE_DIGITS, find_masks};
+use crate::load::{Side, load_rows};
 use ca_base::NoMemory;
-use ca_block::BlockWork;
-use ca_net::{Network, Trit};
+use ca_block::{BlockWork, settle_firsts};
+use ca_net::Trit;
 use ca_planes::{Block, LANES};
+use ca_response::CellNet;
 use std::alloc::Global;
 
 /// Room for the limits of a cell's network in 64 rows, and for the vectors of these rows.
@@ -37,13 +39,17 @@ impl RowRoom {
         })
     }
 
-    /// Leaves in the room what is read of a network, whatever it held: once for all rows. It takes no memory.
-    pub fn load<N: Network>(&mut self, net: &N)
+    /// Leaves in the room what is read of a cell's network, and its first limit for each first vector,
+    /// whatever it held: once for all rows. It takes no memory.
+    pub fn load<N: CellNet>(&mut self, net: &N)
         requires { IsRoomFor
             (length (N.circuit net.now).nodes) (length (N.circuit net.now).devices) self.old }
         ensures { HoldsCellNet (N.circuit net.now) self.new }
     {
         self.work.load(net);
+        let inputs = net.cell().inputs();
+        load_rows(Side::Last, &self.masks, inputs, 0, &mut self.from);
+        settle_firsts(net, &self.from, &mut self.work);
     }
 
     /// The value of a node at the end of the row in a lane.

@@ -23,7 +23,7 @@ pub fn settle_rows<N: CellNet>(net: &N, block: usize, room: &mut RowRoom)
     let inputs = net.cell().inputs();
     load_rows(Side::First, &room.masks, inputs, block, &mut room.from);
     load_rows(Side::Last, &room.masks, inputs, block, &mut room.to);
-    settle_block(net, &room.from, &room.to, &mut room.work);
+    settle_block(net, &room.from, &room.to, inputs, block, &mut room.work);
 }
 
 /// What the output pins end with in a lane, in pin order: the lasts of waves. It takes no memory.

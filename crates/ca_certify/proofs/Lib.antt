@@ -1,0 +1,5 @@
+pub mod CodeLemmas
+pub mod KeptLemmas
+pub mod ProvenLemmas
+pub mod VerdictLemmas
+pub mod ViewLemmas
