@@ -7,13 +7,14 @@ use Rattle.ca_cell.specs.Library.{Named, IsEntry, IsCause}
 use Rattle.ca_cell.specs.declared.library.LibraryFault.{LibraryFault}
 use Rattle.ca_spice.specs.declared.subcircuit.Subcircuit.{Subcircuit}
 use Rattle.ca_spice.specs.code.Kept.{IsPlacedCell}
+use Rattle.ca_spice.specs.Reading.{resolved_cell}
 use Rattle.ca_spice.specs.Views.{subcircuit_seen}
 use Rattle.ca_spice.proofs.CellLemmas.{IsPlaced-IsRaw}
 use Rattle.ca_spice.proofs.LibraryLemmas.{at_turn, upper_at, seen_grown, not_added}
 use Rattle.ca_spice.proofs.library.entries_of.Goals as goal
 
-pub of-requires : goal.of-requires
-of-requires c =
+pub resolved-requires : goal.resolved-requires
+resolved-requires c =
     let all = c.args.cells.items in
     let given = c.into_iter-cell-iterator.ensures.into_iter_gives in
     let turn : (length c.cells.yielded < length all) × (c.in-Some.cell ≡ get_or all (length c.cells.yielded) c.in-Some.cell) =
@@ -42,7 +43,7 @@ cells-preserved c =
     record {
       seen = ap (map subcircuit_seen) c.in-Ok.ensures.ok
           ∙ seen_grown c.cells.library c.cells.yielded c.in-Some.cell c.in_ok-entry.entry c.cells.invariant.seen
-          (upper_at all (length c.cells.yielded) c.in-Some.cell c.requires.upper turn) c.in_ok-entry.ensures.ok;
+          (upper_at all (length c.cells.yielded) c.in-Some.cell c.requires.upper turn) (c.in_ok-entry.ensures.ok ∙ c.in_ok-resolved_raw.ensures.ok);
       entries = subst (All (λ (named : Named). IsEntry named.entry)) (sym c.in-Ok.ensures.ok)
           (All-push (λ (named : Named). IsEntry named.entry) c.cells.library _ c.cells.invariant.entries c.in_ok-entry.ensures.entry);
     }
@@ -52,4 +53,4 @@ returns c =
     let given = c.into_iter-cell-iterator.ensures.into_iter_gives in
     let list = YieldsList-from_vec {s = c.into_iter-cell-iterator.result} c.args.cells.items given.0 (given.1 ∙ c.args.cells.ok.0) in
     let over = YieldsList-end list c.cells.yielded _ c.cells.yielded_by _ c.next.new.self c.in-None.is c.next.ensures.steps in
-    record { cells = c.cells.invariant.seen ∙ sym (map-id c.cells.yielded) ∙ over.0; entries = c.cells.invariant.entries }
+    record { cells = c.cells.invariant.seen ∙ ap (map resolved_cell) (sym (map-id c.cells.yielded) ∙ over.0); entries = c.cells.invariant.entries }
