@@ -10,13 +10,17 @@ use crate::usage::{usage, version};
 use crate::work::{Work, write_out};
 use ca_atpg::summary_text;
 use ca_base::NoMemory;
+use ca_certifying::certified_line;
 use ca_chip_grade::grades_line;
+use ca_claim::{Answer, Certificate};
 use ca_credit::Verdicts;
+use ca_diag::Candidates;
 use ca_fault::Fault;
 use ca_generate::Aims;
 use ca_grade::Grades;
 use ca_lex::{Names, Text};
 use ca_linked::Chip;
+use ca_log::Log;
 use ca_matrix::Matrix;
 use ca_net::{FlatNet, Trit};
 use ca_on_cell::{PinValues, lines_of_names, lines_of_values, summary};
@@ -91,6 +95,35 @@ pub enum Done {
         pairs: Pairs,
         grades: Grades,
     },
+    /// A linked chip with its scan chains, the pairs of a file of patterns, a log of failing outputs, the
+    /// defects that it leaves, and the line that reports how many.
+    Diagnose {
+        chip: Chip,
+        chains: Chains,
+        pairs: Pairs,
+        log: Log,
+        candidates: Candidates,
+        line: Text,
+    },
+    /// A linked chip with its scan chains, the listed pairs, for each the place of the defect for which it
+    /// was found, and a certificate.
+    Certify {
+        chip: Chip,
+        chains: Chains,
+        pairs: Pairs,
+        aims: Aims,
+        certificate: Certificate,
+    },
+    /// A linked chip with its scan chains, the pairs of a file of patterns, a certificate, whether its claims
+    /// stand, and the line that tells it.
+    Verify {
+        chip: Chip,
+        chains: Chains,
+        pairs: Pairs,
+        certificate: Certificate,
+        answer: Answer,
+        line: Text,
+    },
     /// A generated chip, the listed pairs, for each the place of the defect for which it was found, and a
     /// verdict for each defect.
     Make {
@@ -129,6 +162,14 @@ impl Done {
             } => summary_text(alloc, verdicts, pairs.len()),
             Done::Replay { chip, ends } => replay_lines(alloc, chip, ends),
             Done::Grade { pairs, grades, .. } => grades_line(alloc, grades, pairs.len()),
+            Done::Diagnose { line, .. } | Done::Verify { line, .. } => {
+                Text::from_bytes(alloc, line.as_bytes())
+            }
+            Done::Certify {
+                pairs,
+                certificate,
+                ..
+            } => certified_line(alloc, certificate.claims.as_slice(), pairs.len()),
             Done::Help => usage(alloc),
             Done::Version => version(alloc),
         }
@@ -159,6 +200,16 @@ fn let_tests_go(pairs: Pairs, aims: Aims, verdicts: Verdicts) {
 // Lets grades go.
 fn let_grades_go(pairs: Pairs, grades: Grades) {
     let _gone = (pairs, grades);
+}
+
+// Lets candidates go.
+fn let_candidates_go(pairs: Pairs, log: Log, candidates: Candidates) {
+    let _gone = (pairs, log, candidates);
+}
+
+// Lets a certificate go.
+fn let_certificate_go(pairs: Pairs, certificate: Certificate) {
+    let _gone = (pairs, certificate);
 }
 
 // Lets a matrix go.
@@ -193,6 +244,34 @@ fn let_done_go(done: Done) {
         } => {
             let_chip_go(chip);
             let_grades_go(pairs, grades);
+        }
+        Done::Diagnose {
+            chip,
+            pairs,
+            log,
+            candidates,
+            ..
+        } => {
+            let_chip_go(chip);
+            let_candidates_go(pairs, log, candidates);
+        }
+        Done::Certify {
+            chip,
+            pairs,
+            certificate,
+            ..
+        } => {
+            let_chip_go(chip);
+            let_certificate_go(pairs, certificate);
+        }
+        Done::Verify {
+            chip,
+            pairs,
+            certificate,
+            ..
+        } => {
+            let_chip_go(chip);
+            let_certificate_go(pairs, certificate);
         }
         Done::Make {
             chip,

@@ -1,3 +1,4 @@
 -- What the contracts of this crate say, in reading order.
 pub mod Patterns
+pub mod Right
 pub mod code
