@@ -1,10 +1,10 @@
 -- Nets in the order in which devices mention them first, by their places.
 use Rattle.std.proofs.Common.{◌≡◌, ℕ, zero, suc, ◌+◌, ◌<◌, ◌≤◌, ◌⊎◌, inl, inr, Bool, true, false, true≢false, cond}
-use Rattle.std.proofs.Common.{not, ◌||◌, List, [], ◌∷◌, ◌++◌, length, take, get_or, Some, refl, sym, ap, ◌∙◌, subst}
-use Rattle.std.proofs.Common.{arith, append_assoc}
+use Rattle.std.proofs.Common.{not, ◌||◌, List, [], ◌∷◌, ◌++◌, length, take, Some, refl, sym, ap, ◌∙◌, subst}
+use Rattle.std.proofs.Common.{arith}
 use Rattle.std.specs.Prelude.{slice_get}
 use Rattle.std.specs.Str.{bytes_eq}
-use Rattle.std.proofs.Math.Seq.{take-suc, length-take-le}
+use Rattle.std.proofs.Math.Seq.{take-suc}
 use Rattle.std.proofs.lemmas.List.{length-append}
 use Rattle.std.proofs.lemmas.Bool.{or_right}
 use Rattle.std.proofs.lemmas.Slice.Eq.{bytes_eq-Decides}
@@ -14,9 +14,9 @@ use Rattle.ca_cell.specs.declared.raw.RawDevice.{RawDevice}
 use Rattle.ca_names.specs.Names.{has_name, with_name, place_with}
 use Rattle.ca_spice.specs.declared.pin.Pin.{Pin}
 use Rattle.ca_spice.specs.Mos.{Wiring, Sizes}
-use Rattle.ca_spice.specs.OpenCell.{OpenCell, with_drain, with_gate, with_source, device_strength, device_of, with_device}
+use Rattle.ca_spice.specs.OpenCell.{with_drain, with_gate, with_source, device_strength, device_of, with_device}
 use Rattle.ca_spice.specs.Writing.{net_name}
-use Rattle.ca_spice.proofs.CardLemmas.{IsNetAt, HasNets, net_name-at, at_its_place, written_wiring, written_sizes}
+use Rattle.ca_spice.proofs.CardLemmas.{HasNets, net_name-at, at_its_place, written_wiring, written_sizes}
 use Rattle.ca_spice.proofs.DistinctLemmas.{AreDistinct}
 
 -- the net at a place is one of those before, or the next

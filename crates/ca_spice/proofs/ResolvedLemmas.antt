@@ -10,8 +10,6 @@ use Rattle.std.proofs.lemmas.List.{length-map}
 use Rattle.std.proofs.lemmas.List.FromFn.{length-map-range_with_len}
 use Rattle.std.proofs.lemmas.Option.{none-some, same_Some, slice_get-get_or, slice_get_within}
 use Rattle.std.proofs.lemmas.Option.{get_or_from_slice_get}
-use Rattle.ca_net.specs.declared.device.DeviceKind.{DeviceKind}
-use Rattle.ca_net.specs.declared.device.DeviceKind.TheVariants as kind
 use Rattle.ca_cell.specs.declared.strength.StrengthTable.{StrengthTable}
 use Rattle.ca_cell.specs.declared.raw.Role.{Role}
 use Rattle.ca_cell.specs.declared.raw.Role.TheVariants as role
@@ -27,10 +25,10 @@ use Rattle.ca_pin_sets.specs.Groups.{is_resistor, is_inner, group_of, groups_of}
 use Rattle.ca_pin_sets.specs.Homes.{is_input_at, is_input_net, owners_of, home_in, home_of, homes_of}
 use Rattle.ca_pin_sets.specs.Resolved.{is_kept, kept_nets, places_from, place_in, moved, is_dropped, kept_devices}
 use Rattle.ca_pin_sets.specs.Resolved.{resolved}
-use Rattle.ca_pin_sets.proofs.OwnerLemmas.{AllOwn, Claims, GivesOwners, after_own, replicate_none}
+use Rattle.ca_pin_sets.proofs.OwnerLemmas.{AllOwn, after_own, replicate_none}
 use Rattle.ca_spice.specs.Writing.{pin_names}
-use Rattle.ca_spice.proofs.CardLemmas.{IsTransistor, IsResistor, IsCard, Extends}
-use Rattle.ca_spice.proofs.DistinctLemmas.{AreDistinct, AreNames, names_of, IsAmong, NoNames, Keeps, Leaves}
+use Rattle.ca_spice.proofs.CardLemmas.{IsCard, Extends}
+use Rattle.ca_spice.proofs.DistinctLemmas.{names_of, IsAmong, NoNames, Keeps, Leaves}
 use Rattle.ca_spice.proofs.DistinctLemmas.{distinct_among, named_among}
 use Rattle.ca_spice.proofs.OrderLemmas.{Mentions, MentionsAll, AreOrdered, AreWithin, all_mentioned, ordered_most}
 use Rattle.ca_spice.proofs.WritableLemmas.{IsWritable}

@@ -50,7 +50,7 @@ use Rattle.ca_spice.proofs.WrittenLemmas.{IsChunk, chunk_of, chunks_of, body, bo
 use Rattle.ca_spice.proofs.WrittenLemmas.{line_words, spelled_alone, spelled_words, card_line, roles_line}
 use Rattle.ca_spice.proofs.WrittenLemmas.{read_on, BeginsAnew, anew_at_card, anew_at_roles, card_read}
 use Rattle.ca_spice.proofs.WrittenLemmas.{roles_read}
-use Rattle.ca_spice.proofs.CardLemmas.{IsNameWord, net_at, net_named, HasNets, IsSize, IsTransistor, IsResistor}
+use Rattle.ca_spice.proofs.CardLemmas.{IsNameWord, net_at, net_named, HasNets, IsSize, IsTransistor}
 use Rattle.ca_spice.proofs.CardLemmas.{IsCard, card_words, written_wiring, written_sizes, mos-written}
 use Rattle.ca_spice.proofs.CardLemmas.{resistor-written}
 use Rattle.ca_spice.proofs.DistinctLemmas.{AreDistinct, names_of, has_device-named, absent_before}
