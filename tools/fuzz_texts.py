@@ -3,7 +3,7 @@
 
 usage: fuzz_texts.py PROGRAM COUNT [SEED]
 
-Each run takes one of the chips of examples/ (c17 with cells.sp, or acc with fa28.sp and scan.csv), or the text of a run
+Each run takes one of the chips of examples/ (c17 with cells.sp, acc with fa28.sp and scan.csv, or wires with extracted.sp, whose cells have resistors), or the text of a run
 (glitch.v with falls.order, under `replay`), or the patterns that `atpg` writes for either chip (under `grade`), with the log of
 a tester (`diagnose`) or a certificate (`verify`), or c17 under a strength table, and changes one to four places of one of its
 texts: a byte, a token, a line or a piece is put in, left out, doubled or exchanged. The program must end within ten seconds with one of its statuses: 0 and a line of counts or
@@ -24,6 +24,7 @@ CHIPS = [
     (None, "check", ["cells.sp", "c17.v", None], [], []),
     (None, "check", ["fa28.sp", "acc.v", "scan.csv"], [], []),
     ("strengths.csv", "check", ["cells.sp", "c17.v", None], [], []),
+    (None, "check", ["extracted.sp", "wires.v", None], [], []),
     (None, "replay", ["cells.sp", "glitch.v", None, "falls.order"], ["u5", "MP1(D)", "111", "001"], []),
     (None, "grade", ["cells.sp", "c17.v", None, "c17.stil"], [], ["r.csv"]),
     (None, "grade", ["fa28.sp", "acc.v", "scan.csv", "acc.stil"], [], ["r.csv"]),
@@ -35,7 +36,7 @@ LOG = b"pair,output\n0,N22\n1,N23\n2,N22\n"
 STRAY = [b"\x00", b"\xff", b"\r", b"`", b"/*", b"*/", b"//", b"(*", b"*)", b"[", b"]", b"(", b")", b".", b",", b";", b"1'b0", b"1'b1", b"assign ",
          b"input ", b"output ", b"wire ", b"endmodule", b"module ", b"+", b"*", b"$", b".ENDS\n", b".SUBCKT A B\n", b"*.PININFO B:I\n", b"=",
          b"H", b"L", b"'", b"{", b"}", b"V { }", b'"pair 2": ', b"ScanLength 3;", b"[131071:0]", b"[131072:0]", b"99999999999999999999", b"\\a ", b"\"", b"X", b"settle ", b"set ", b"blur ",
-         b"width,length\n", b"1000000", b"1000001", b"0", b"pair,output\n", b"0,N22\n", b"c 0 0\n", b"u .\n", b"a\n", b"x\n", b" +1", b" -8191", b" ."]
+         b"width,length\n", b"1000000", b"1000001", b"0", b"pair,output\n", b"0,N22\n", b"c 0 0\n", b"u .\n", b"R3 A N1 1\n", b"R4 ZN VDD 1\n", b"a\n", b"x\n", b" +1", b" -8191", b" ."]
 
 
 def changed(text, draw):
