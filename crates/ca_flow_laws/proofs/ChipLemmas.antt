@@ -13,14 +13,14 @@ use Rattle.ca_load.specs.Causes.{IsLoadCause}
 use Rattle.ca_words.specs.Words.{chip_files, instance_word, chip_defect_word, chip_first_word, chip_last_word, order_word, stil_word, log_word, cert_word}
 use Rattle.ca_words.specs.Words.{IsFlatten, IsSimulate, IsAtpg, IsReplay, IsGrade, IsDiagnose, IsCertify, IsVerify, IsOnChip}
 use Rattle.ca_patterns.specs.declared.patterns.TheConstants.{MAX_STIL}
-use Rattle.ca_patterns.specs.Patterns.{IsStilCause, OfTraced, GiveTraced, IsPatternsCause}
+use Rattle.ca_patterns.specs.Patterns.{IsStilCause, OfTraced, IsPatternsCause}
 use Rattle.ca_stil_pairs.specs.declared.file.StilFile.{StilFile}
 use Rattle.ca_diagnosing.specs.declared.logs.TheConstants.{MAX_LOG}
 use Rattle.ca_diagnosing.specs.Diagnosing.{IsBadLog, HasRight, IsLogCause}
 use Rattle.ca_verifying.specs.declared.certificates.TheConstants.{MAX_CERT}
 use Rattle.ca_verifying.specs.Verifying.{IsBadCert, IsCertCause}
-use Rattle.ca_flow_laws.proofs.LogLemmas.{AtLog, AtDiagnosis, diagnosis_also, one_diagnosis}
-use Rattle.ca_flow_laws.proofs.CertLemmas.{AtCert, AtVerification, verification_also, one_verification}
+use Rattle.ca_flow_laws.proofs.LogLemmas.{AtDiagnosis, diagnosis_also, one_diagnosis}
+use Rattle.ca_flow_laws.proofs.CertLemmas.{AtVerification, verification_also, one_verification}
 use Rattle.ca_flow_laws.proofs.StilLemmas.{ReportsStil, AtPatterns, patterns_also, one_patterns}
 use Rattle.ca_on_chip.specs.declared.replays.TheConstants.{MAX_ORDER}
 use Rattle.ca_on_chip.specs.OnChip.{GiveChipWith, OfChip, IsSimulationCause, IsPairsFault}

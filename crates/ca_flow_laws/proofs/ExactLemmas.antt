@@ -5,6 +5,7 @@ use Rattle.std.specs.Prelude.{IsSomeAnd}
 use Rattle.ca_store.specs.Store.{Files}
 use Rattle.ca_fault.specs.declared.fault.Fault.{Fault}
 use Rattle.ca_fault.specs.declared.fault.Fault.TheVariants.{BadWords, StoreFailed, SinkFailed, NoMemory}
+use Rattle.ca_load.specs.Texts.{IsCellFile}
 use Rattle.ca_words.specs.Words.{cell_files, IsOnCell, IsOnChip, IsCommand}
 use Rattle.ca_words.proofs.WordLemmas.{no_chip}
 use Rattle.ca_on_chip.specs.Making.{IsMakeStage}

@@ -136,7 +136,6 @@ module _ (words : List (List ℕ)) (outside : Outside) (reported : Files) (are :
   strengths_or : (name : Option (List ℕ)) → ((word : List ℕ) → name ≡ Some word → IsInputFile words word)
       → ((fault : Fault) → IsInputFault fault → IsStrengthsCause name outside.files outside.store_faults outside.store_faults fault → ⊥)
       → ((table : StrengthTable) → strengths_in name reported ≡ Some table → ⊥) → ⊥
-  unfolding strengths_in
   strengths_or None input none refutes = refutes default_table refl
   strengths_or (Some name) input none refutes = by (within_or_past (length found.0) MAX_STRENGTHS)
     where

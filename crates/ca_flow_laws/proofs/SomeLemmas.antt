@@ -222,7 +222,6 @@ module _ (words : List (List ℕ)) (outside : Outside) (reported : Files) (are :
       → ((fault : Fault) → IsInputFault fault → IsStrengthsCause name outside.files outside.store_faults outside.store_faults fault
       → Stands words outside)
       → ((table : StrengthTable) → strengths_in name reported ≡ Some table → Stands words outside) → Stands words outside
-  unfolding strengths_in
   table_or None there cause read = read default_table refl
   table_or (Some name) there cause read = by (reported name) refl (there name refl)
     where

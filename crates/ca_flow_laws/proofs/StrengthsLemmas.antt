@@ -104,7 +104,6 @@ module _ (files : Option Files) (reported : Files) (are : files ≡ Some reporte
 
   -- the table is that of the given files
   pub same_strengths : strengths_in names.table reported ≡ strengths_in names.table given
-  unfolding strengths_in
   same_strengths = by names.table (λ name is. agree name (inl is))
     where
       by : (table : Option (List ℕ)) → ((name : List ℕ) → table ≡ Some name → reported name ≡ given name)
