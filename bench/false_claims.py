@@ -18,7 +18,7 @@ import sys
 import tempfile
 
 TOP = os.path.dirname(os.path.dirname(os.path.abspath(__file__)))
-GATES = {"INV": ["A"], "NAND2": ["A1", "A2"], "NOR2": ["A1", "A2"], "AND2": ["A1", "A2"], "XOR2": ["A1", "A2"]}
+GATES = {"INV": ["A"], "NAND2": ["A1", "A2"], "NOR2": ["A1", "A2"], "AND2": ["A1", "A2"], "XOR2": ["A", "B"]}
 OUT = {"INV": "ZN", "NAND2": "ZN", "NOR2": "ZN", "AND2": "Z", "XOR2": "Z"}
 
 

@@ -1,12 +1,12 @@
 #!/usr/bin/env python3
 """Changes the texts of a chip at random and runs `cellaware check` over them: it must end with a named answer.
 
-usage: fuzz_texts.py PROGRAM COUNT [SEED]
+usage: fuzz_texts.py PROGRAM COUNT [SEED] [sp|v|csv|stil|log|cert|order]
 
 Each run takes one of the chips of examples/ (c17 with cells.sp, acc with fa28.sp and scan.csv, or wires with extracted.sp, whose cells have resistors), or the text of a run
 (glitch.v with falls.order, under `replay`), or the patterns that `atpg` writes for either chip (under `grade`), with the log of
 a tester (`diagnose`) or a certificate (`verify`), or c17 under a strength table, and changes one to four places of one of its
-texts: a byte, a token, a line or a piece is put in, left out, doubled or exchanged. The program must end within ten seconds with one of its statuses: 0 and a line of counts or
+texts, or of its texts of the kind that is named: a byte, a token, a line or a piece is put in, left out, doubled or exchanged. The program must end within ten seconds with one of its statuses: 0 and a line of counts or
 values; 1 to 3 with one line on the standard error that begins with `cellaware: `, or a second one after two blanks.
 Anything else is reported with its texts and counts.
 Python 3.9 or later, no packages.
@@ -72,10 +72,12 @@ def patterns(program, names, folder):
 
 
 def main():
-    if len(sys.argv) not in (3, 4):
+    if len(sys.argv) not in (3, 4, 5):
         sys.exit(__doc__)
     program, count = os.path.abspath(sys.argv[1]), int(sys.argv[2])
-    draw = random.Random(int(sys.argv[3]) if len(sys.argv) == 4 else 1)
+    draw = random.Random(int(sys.argv[3]) if len(sys.argv) > 3 else 1)
+    kind = f".{sys.argv[4]}" if len(sys.argv) == 5 else ""
+    chips = [it for it in CHIPS if any(name and name.endswith(kind) for name in [it[0], *it[2]])]
     texts = {}
     with tempfile.TemporaryDirectory() as folder:
         for _, command, names, _, _ in CHIPS:
@@ -91,9 +93,9 @@ def main():
     with tempfile.TemporaryDirectory() as folder:
         os.chdir(folder)
         for number in range(count):
-            table, command, names, words, last = CHIPS[number % len(CHIPS)]
+            table, command, names, words, last = chips[number % len(chips)]
             given = {name: texts[name] for name in [table, *names] if name}
-            name = draw.choice(list(given))
+            name = draw.choice([it for it in given if it.endswith(kind)])
             for _ in range(draw.randrange(1, 5)):
                 given[name] = changed(given[name], draw)
             for it, text in given.items():
