@@ -1,4 +1,5 @@
--- What is promised of pairs, aims and a certificate of a linked chip, and the line that sums a certificate up.
+-- What is promised of pairs, aims and a certificate of a linked chip, and the line that sums a certificate
+-- up.
 use Rattle.std.specs.Prelude.{ℕ, ◌≡◌, Bool, true, false, List, length}
 use Rattle.std.specs.List.{filter}
 use Rattle.ca_linked.specs.Linked.{LinkedChip}

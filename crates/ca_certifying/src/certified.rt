@@ -24,8 +24,8 @@ use ca_scan::Chains;
 use ca_view::View;
 use std::alloc::Global;
 
-/// The listed pairs, for each the place of the defect for which it was found, the certificate, and the texts of
-/// the patterns and of the certificate.
+/// The listed pairs, for each the place of the defect for which it was found, the certificate, and the texts
+/// of the patterns and of the certificate.
 #[derive(Drop)]
 pub struct CertifiedTests {
     pub pairs: Pairs,

@@ -59,7 +59,8 @@ fn claim_count(claims: &[Claim], kind: ClaimKind) -> usize
     count
 }
 
-// The summary of a chip's claims and of `pairs` pairs. It looks at each claim once for each of the four kinds.
+// The summary of a chip's claims and of `pairs` pairs. It looks at each claim once for each of the four
+// kinds.
 fn claims_summary(claims: &[Claim], pairs: usize) -> Summary
     ensures { result ≡ claims_summary claims.now pairs }
 {

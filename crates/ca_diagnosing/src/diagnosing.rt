@@ -28,8 +28,8 @@ use ca_store::Store;
 use ca_words::DiagnoseWords;
 use std::alloc::Global;
 
-/// A chip with its scan chains, the pairs that a file of patterns lists, a log of failing outputs, the defects
-/// that it leaves, their text, and the line of the counts.
+/// A chip with its scan chains, the pairs that a file of patterns lists, a log of failing outputs, the
+/// defects that it leaves, their text, and the line of the counts.
 #[derive(Drop)]
 pub struct DiagnosedChip {
     pub chip: Chip,
@@ -41,9 +41,9 @@ pub struct DiagnosedChip {
     pub line: Text,
 }
 
-/// The candidates among the defects of the chip that the words name in their files, by the pairs in the file of
-/// patterns and the log. No file is opened after that of the log, and that one not before all expected values
-/// were found to be right. The watch is notified after each pair.
+/// The candidates among the defects of the chip that the words name in their files, by the pairs in the file
+/// of patterns and the log. No file is opened after that of the log, and that one not before all expected
+/// values were found to be right. The watch is notified after each pair.
 #[tactic(auto, using(crate::proofs::DiagnoseLemmas::no_memory, crate::proofs::DiagnoseLemmas::are_candidates))]
 pub fn find_candidates<S: Store, T: Watch>(
     alloc: Global,

@@ -2,7 +2,8 @@
 use Rattle.std.specs.Prelude.{ℕ, List, [], ◌∷◌, ◌++◌, codes, decimal}
 use Rattle.ca_fault.specs.declared.fault.Fault.{Fault}
 use Rattle.ca_fault.specs.declared.fault.Fault.TheVariants.{BadWords, Strengths, Cells, Netlist, Scan}
-use Rattle.ca_fault.specs.declared.fault.Fault.TheVariants.{Chip, Chain, NoCell, Cell, BadVector, NoInstance, NoDefect}
+use Rattle.ca_fault.specs.declared.fault.Fault.TheVariants.{Chip, Chain, NoCell, Cell, BadVector, NoInstance}
+use Rattle.ca_fault.specs.declared.fault.Fault.TheVariants.{NoDefect}
 use Rattle.ca_fault.specs.declared.fault.Fault.TheVariants.{Order, Stil, StilChip, Expected, Log, TooLong}
 use Rattle.ca_fault.specs.declared.fault.Fault.TheVariants.{Cert, CertChip}
 use Rattle.ca_fault.specs.declared.fault.Fault.TheVariants.{TooManyPairs, Limit, StoreFailed, SinkFailed}

@@ -91,8 +91,8 @@ pub enum Fault {
         pair: u32,
         output: u32,
     },
-    /// The log of failing outputs has a record that is bad, the first of those. Records are counted from 1, and
-    /// the header is the first.
+    /// The log of failing outputs has a record that is bad, the first of those. Records are counted from 1,
+    /// and the header is the first.
     Log {
         row: usize,
     },

@@ -179,52 +179,22 @@ impl Done {
 impl Finished {
     /// Drops the end of a command. Where it is dropped otherwise, the prover goes through all that it may
     /// have once more.
-    pub fn let_go(self) {
+    pub fn discard(self) {
         let Finished { done, .. } = self;
         if let Some(done) = done {
-            let_done_go(done);
+            discard_done(done);
         }
     }
 }
 
-// Lets a chip go.
-fn let_chip_go(chip: Chip) {
-    let _gone = chip;
-}
-
-// Lets generated tests go.
-fn let_tests_go(pairs: Pairs, aims: Aims, verdicts: Verdicts) {
-    let _gone = (pairs, aims, verdicts);
-}
-
-// Lets grades go.
-fn let_grades_go(pairs: Pairs, grades: Grades) {
-    let _gone = (pairs, grades);
-}
-
-// Lets candidates go.
-fn let_candidates_go(pairs: Pairs, log: Log, candidates: Candidates) {
-    let _gone = (pairs, log, candidates);
-}
-
-// Lets a certificate go.
-fn let_certificate_go(pairs: Pairs, certificate: Certificate) {
-    let _gone = (pairs, certificate);
-}
-
-// Lets a matrix go.
-fn let_matrix_go(matrix: Matrix) {
-    let _gone = matrix;
-}
-
-// Lets work go. Its larger parts go each in a function of its own, so that the end of each is proved once.
-fn let_done_go(done: Done) {
+// Drops the work. Its larger parts are dropped each by a call, so that the end of each is proved once.
+fn discard_done(done: Done) {
     match done {
         Done::Respond { .. } | Done::Pair { .. } | Done::Defects { .. } => {}
-        Done::Matrix { matrix } => let_matrix_go(matrix),
-        Done::Check { chip, .. } => let_chip_go(chip),
-        Done::Flatten { chip, .. } => let_chip_go(chip),
-        Done::Simulate { chip, .. } => let_chip_go(chip),
+        Done::Matrix { matrix } => drop(matrix),
+        Done::Check { chip, .. } => drop(chip),
+        Done::Flatten { chip, .. } => drop(chip),
+        Done::Simulate { chip, .. } => drop(chip),
         Done::Atpg {
             chip,
             pairs,
@@ -232,18 +202,21 @@ fn let_done_go(done: Done) {
             verdicts,
             ..
         } => {
-            let_chip_go(chip);
-            let_tests_go(pairs, aims, verdicts);
+            drop(chip);
+            drop(pairs);
+            drop(aims);
+            drop(verdicts);
         }
-        Done::Replay { chip, .. } => let_chip_go(chip),
+        Done::Replay { chip, .. } => drop(chip),
         Done::Grade {
             chip,
             pairs,
             grades,
             ..
         } => {
-            let_chip_go(chip);
-            let_grades_go(pairs, grades);
+            drop(chip);
+            drop(pairs);
+            drop(grades);
         }
         Done::Diagnose {
             chip,
@@ -252,8 +225,10 @@ fn let_done_go(done: Done) {
             candidates,
             ..
         } => {
-            let_chip_go(chip);
-            let_candidates_go(pairs, log, candidates);
+            drop(chip);
+            drop(pairs);
+            drop(log);
+            drop(candidates);
         }
         Done::Certify {
             chip,
@@ -261,8 +236,9 @@ fn let_done_go(done: Done) {
             certificate,
             ..
         } => {
-            let_chip_go(chip);
-            let_certificate_go(pairs, certificate);
+            drop(chip);
+            drop(pairs);
+            drop(certificate);
         }
         Done::Verify {
             chip,
@@ -270,8 +246,9 @@ fn let_done_go(done: Done) {
             certificate,
             ..
         } => {
-            let_chip_go(chip);
-            let_certificate_go(pairs, certificate);
+            drop(chip);
+            drop(pairs);
+            drop(certificate);
         }
         Done::Make {
             chip,
@@ -279,8 +256,10 @@ fn let_done_go(done: Done) {
             aims,
             verdicts,
         } => {
-            let_chip_go(chip);
-            let_tests_go(pairs, aims, verdicts);
+            drop(chip);
+            drop(pairs);
+            drop(aims);
+            drop(verdicts);
         }
         Done::Help | Done::Version => {}
     }
@@ -330,7 +309,7 @@ pub(crate) fn finish<S: Store, W: Sink>(
 {
     let Work { done, file, second } = work;
     let Ok(text) = done.lines(alloc) else {
-        let_done_go(done);
+        discard_done(done);
         return refused(Fault::NoMemory);
     };
     match write_out(file, second, store) {

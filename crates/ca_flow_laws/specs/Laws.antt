@@ -41,8 +41,8 @@ SomeCauseOrAnswer =
     (words : List (List ℕ)) (outside : Outside) → ReportsAllFiles words outside
     → ¬ (IsOnChip words) → IsCommand words → IsAnswerable words outside.files ⊎ HasInputCause words outside
 
--- of a command on a chip, but `grade`, `diagnose` and `verify`, whose files are there it can't be that neither holds;
--- which of them does isn't decided among the definitions
+-- of a command on a chip, but `grade`, `diagnose` and `verify`, whose files are there it can't be that
+-- neither holds; which of them does isn't decided among the definitions
 abbrev pub NeverNeitherOnChip : Type 0
 NeverNeitherOnChip =
     (words : List (List ℕ)) (outside : Outside) → ReportsAllFiles words outside → IsOnChip words
@@ -58,7 +58,8 @@ CauseIsReported =
     → IsCause words before after fault → IsSomeAnd end.fault
     (λ reported. IsCallFault reported ⊎ IsSame reported fault)
 
--- of each cell that a word names in a text that is read under a table, and that keeps the rules, the defects have names that differ
+-- of each cell that a word names in a text that is read under a table, and that keeps the rules, the defects
+-- have names that differ
 abbrev pub NamesMeanOneDefect : Type 0
 NamesMeanOneDefect =
     (table : StrengthTable) (bytes word : List ℕ) (raw : RawCell) → cell_called table bytes word ≡ Some raw

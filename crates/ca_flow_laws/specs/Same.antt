@@ -3,9 +3,11 @@ use Rattle.std.specs.Prelude.{◌≡◌, ◌⊎◌, ⊤}
 use Rattle.ca_wiring.specs.declared.fault.ChipFault.TheVariants as rule
 use Rattle.ca_fault.specs.declared.fault.Fault.{Fault}
 use Rattle.ca_fault.specs.declared.fault.Fault.TheVariants.{BadWords, Strengths, Cells, Netlist, Scan}
-use Rattle.ca_fault.specs.declared.fault.Fault.TheVariants.{Chip, Chain, NoCell, Cell, BadVector, NoInstance, NoDefect}
+use Rattle.ca_fault.specs.declared.fault.Fault.TheVariants.{Chip, Chain, NoCell, Cell, BadVector, NoInstance}
+use Rattle.ca_fault.specs.declared.fault.Fault.TheVariants.{NoDefect}
 use Rattle.ca_fault.specs.declared.fault.Fault.TheVariants.{Order, Stil, StilChip, Expected, Log, TooLong}
-use Rattle.ca_fault.specs.declared.fault.Fault.TheVariants.{Cert, CertChip, TooManyPairs, Limit, StoreFailed, SinkFailed}
+use Rattle.ca_fault.specs.declared.fault.Fault.TheVariants.{Cert, CertChip, TooManyPairs, Limit, StoreFailed}
+use Rattle.ca_fault.specs.declared.fault.Fault.TheVariants.{SinkFailed}
 use Rattle.ca_fault.specs.declared.fault.Fault.TheVariants.{NoMemory}
 
 -- the faults of what a command was given: of its words, and of the contents and the size of its files

@@ -50,7 +50,8 @@ IsTextCause _ table bytes = ⊥
 -- the same of a file
 abbrev pub IsCellsCause : CellFiles → Option Files → Fault → Type 0
 IsCellsCause names files (Cells line kind) = OfCells files names (IsTextCause (Cells line kind))
-IsCellsCause names files (Limit limit.Cells count) = OfCells files names (IsTextCause (Limit limit.Cells count))
+IsCellsCause names files (Limit limit.Cells count) =
+    OfCells files names (IsTextCause (Limit limit.Cells count))
 IsCellsCause names files _ = ⊥
 
 -- why files give no library: there was no memory; the first gives no strength table; the second could not be

@@ -18,8 +18,8 @@ use std::alloc::Global;
 /// The greatest number of bytes of a strength table: 1 MiB.
 pub const MAX_STRENGTHS: usize = 1_048_576;
 
-/// The table in the file of this name, if there is a name, and else the default one. A fault of the file takes
-/// over the name as it was typed.
+/// The table in the file of this name, if there is a name, and else the default one. A fault of the file
+/// takes over the name as it was typed.
 #[tactic(auto, using(crate::proofs::TableLemmas::default_at))]
 pub(crate) fn open_strengths<S: Store>(
     alloc: Global,
@@ -55,7 +55,8 @@ fn read_ratios<S: Store>(
     requires closed { S.opened store.old ≡ Nothing }
     requires typed { typed ≡ name.now }
 
-    ensures ok { IfOk result (λ table. OfFile (S.files store.old) name.now MAX_STRENGTHS (IsTableText table)) }
+    ensures ok { IfOk result (λ table.
+        OfFile (S.files store.old) name.now MAX_STRENGTHS (IsTableText table)) }
     ensures cause { IfErr result (IsNamedTableCause name.now (S.files store.old)
         (S.faults store.old) (S.faults store.new)) }
     ensures quiet { OnOk result (S.faults store.new ≡ S.faults store.old) }

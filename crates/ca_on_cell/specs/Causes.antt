@@ -45,8 +45,8 @@ IsPairCause first last defect (NoDefect typed) raw =
     (typed ≡ defect) × (KeepsRules raw × LacksDefect raw first last defect)
 IsPairCause first last defect _ raw = ⊥
 
--- the same of the cell that a word names in the files; the word reported is one of those typed, whatever files
--- the store knows
+-- the same of the cell that a word names in the files; the word reported is one of those typed, whatever
+-- files the store knows
 abbrev pub IsVectorCause : CellFiles → List ℕ → List ℕ → List ℕ → List ℕ → Option Files → Fault → Type 0
 IsVectorCause names word first last defect files (BadVector typed) =
     ((typed ≡ first) ⊎ (typed ≡ last))
@@ -62,6 +62,7 @@ IsCellCause names word files before after fault =
     IsLibraryCause names files before after fault ⊎ IsNameCause names word files fault
 
 -- why `respond` and `pair` found no values
-abbrev pub IsValueCause : CellFiles → List ℕ → List ℕ → List ℕ → List ℕ → Option Files → ℕ → ℕ → Fault → Type 0
+abbrev pub IsValueCause : CellFiles → List ℕ → List ℕ → List ℕ → List ℕ → Option Files → ℕ → ℕ → Fault
+    → Type 0
 IsValueCause names word first last defect files before after fault =
     IsCellCause names word files before after fault ⊎ IsVectorCause names word first last defect files fault

@@ -17,8 +17,8 @@ use Rattle.ca_words.specs.declared.budget.TheConstants.{MOST_BUDGET}
 use Rattle.ca_on_chip.specs.declared.making.TheConstants.{MAKE_BUDGET}
 use Rattle.ca_on_chip.specs.declared.replays.TheConstants.{MAX_ORDER}
 
--- a cell netlist has at most 16 MiB, a gate netlist 64 MiB, a strength table, a table of scan cells and a file
--- of events 1 MiB
+-- a cell netlist has at most 16 MiB, a gate netlist 64 MiB, a strength table, a table of scan cells and a
+-- file of events 1 MiB
 pub record FileLimits : Type 0 where
   pub strengths : MAX_STRENGTHS ≡ 1048576
   pub cells : MAX_CELLS ≡ 16777216

@@ -10,8 +10,8 @@ use Rattle.ca_load.specs.Texts.{InputFiles}
 use Rattle.ca_patterns.specs.declared.patterns.TheConstants.{MAX_STIL}
 use Rattle.ca_patterns.specs.Patterns.{IsPatternsOf, AreFew, OfTraced}
 
--- the text is a file of patterns of the chip with these chains, which has no more pairs than may be listed and
--- right expected values, and of which this holds
+-- the text is a file of patterns of the chip with these chains, which has no more pairs than may be listed
+-- and right expected values, and of which this holds
 pub record HasRight (chip : LinkedChip) (chains : List (List ℕ)) (Holds : StilFile → Type 0) (bytes : List ℕ)
     : Type 0 where
   pub file : StilFile

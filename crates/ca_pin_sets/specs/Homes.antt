@@ -1,5 +1,5 @@
--- Which inner nets belong to input pins: a group belongs to the first input pin, in pin order, that a resistor
--- joins to one of its nets.
+-- Which inner nets belong to input pins: a group belongs to the first input pin, in pin order, that a
+-- resistor joins to one of its nets.
 use Rattle.std.specs.Prelude.{ℕ, min, Bool, false, ◌&&◌, if◌then◌else◌, List, [], ◌∷◌, length, map}
 use Rattle.std.specs.Prelude.{replicate}
 use Rattle.std.specs.List.{range_with_len}
@@ -23,8 +23,8 @@ abbrev pub first_of : ℕ → Option ℕ → ℕ
 first_of pin None = pin
 first_of pin (Some other) = min pin other
 
--- the owners of groups where a resistor joins an input pin to an inner net: the net's group belongs to the pin,
--- if no pin before it has it
+-- the owners of groups where a resistor joins an input pin to an inner net: the net's group belongs to the
+-- pin, if no pin before it has it
 abbrev pub claimed : List RawPin → List ℕ → ℕ → ℕ → List (Option ℕ) → List (Option ℕ)
 claimed pins groups pin net owners = if is_input_net pins pin && is_inner (length pins) net
     then slice_set owners (group_of groups net)
@@ -34,7 +34,8 @@ claimed pins groups pin net owners = if is_input_net pins pin && is_inner (lengt
 -- a resistor may have the pin at either end
 abbrev pub claimed_by : List RawPin → List ℕ → RawDevice → List (Option ℕ) → List (Option ℕ)
 claimed_by pins groups device owners = if is_resistor device
-    then claimed pins groups device.source device.drain (claimed pins groups device.drain device.source owners)
+    then claimed pins groups device.source device.drain
+    (claimed pins groups device.drain device.source owners)
     else owners
 
 -- the owners after these devices

@@ -19,8 +19,8 @@ pub record AreJoined (raw : RawCell) (one other : ℕ) : Type 0 where
   pub gateless : has_gate resistor.kind ≡ false
   pub between : IsBetween resistor one other
 
--- a chain of resistors leads from one net to another: each net that it comes to, the last too, is an inner one,
--- which stands after the pins
+-- a chain of resistors leads from one net to another: each net that it comes to, the last too, is an inner
+-- one, which stands after the pins
 pub data Leads (raw : RawCell) (from : ℕ) : ℕ → Type 0 where
   Begins : {net : ℕ} → AreJoined raw from net → length raw.pins ≤ net → Leads raw from net
   Onward : {net : ℕ} (before : ℕ) → Leads raw from before → AreJoined raw before net → length raw.pins ≤ net

@@ -12,15 +12,15 @@ use Rattle.ca_pin_sets.specs.Homes.{is_input_net, homes_of}
 abbrev pub is_kept : ℕ → ℕ → Bool
 is_kept place home = home == place
 
--- the names of these nets, whose homes are these and the first of which is at a place, without those in a pin's
--- set
+-- the names of these nets, whose homes are these and the first of which is at a place, without those in a
+-- pin's set
 abbrev pub kept_nets : ℕ → List ℕ → List (List ℕ) → List (List ℕ)
 kept_nets place (home ∷ homes) (net ∷ nets) = if is_kept place home
     then net ∷ kept_nets (place + 1) homes nets else kept_nets (place + 1) homes nets
 kept_nets place _ _ = []
 
--- the places to which nets with these homes come, the first of which is at a place, with this many kept before
--- it: a kept net comes after those, and another to its pin, since pins keep their places
+-- the places to which nets with these homes come, the first of which is at a place, with this many kept
+-- before it: a kept net comes after those, and another to its pin, since pins keep their places
 abbrev pub places_from : ℕ → ℕ → List ℕ → List ℕ
 places_from place before [] = []
 places_from place before (home ∷ homes) = if is_kept place home
@@ -40,14 +40,15 @@ moved places device = record device {
 
 -- a resistor with both ends on one input pin is no device
 abbrev pub is_dropped : List RawPin → RawDevice → Bool
-is_dropped pins device = is_resistor device && (device.drain == device.source && is_input_net pins device.drain)
+is_dropped pins device =
+    is_resistor device && (device.drain == device.source && is_input_net pins device.drain)
 
 abbrev pub kept_devices : List RawPin → List ℕ → List RawDevice → List RawDevice
 kept_devices pins places devices =
     filter (λ device. not (is_dropped pins device)) (map (moved places) devices)
 
--- the subcircuit with the nets of each input pin's set written as the pin, and without resistors that have both
--- ends on one input pin
+-- the subcircuit with the nets of each input pin's set written as the pin, and without resistors that have
+-- both ends on one input pin
 abbrev pub resolved : RawCell → RawCell
 resolved raw = record {
   pins = raw.pins;

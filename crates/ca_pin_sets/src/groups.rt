@@ -3,7 +3,8 @@
 ghost use Rattle.std.specs.Prelude.{◌≡◌, ◌≤◌, ◌<◌, ◌^◌, ℕ, List, Some, length, slice_get, IfOk, All};
 ghost use Rattle.ca_cell.specs.declared.raw.RawDevice.{RawDevice};
 ghost use Rattle.ca_cell.specs.Rules.{PlacesWithin};
-ghost use Rattle.ca_pin_sets.specs.Groups.{is_resistor, is_inner, alone, united, group_of, joins, joined, groups_after};
+ghost use Rattle.ca_pin_sets.specs.Groups.{is_resistor, is_inner, alone, united, group_of, joins, joined};
+ghost use Rattle.ca_pin_sets.specs.Groups.{groups_after};
 ghost use Rattle.ca_pin_sets.specs.code.Forest.{IsForest, Realizes};
 
 use ca_base::NoMemory;

@@ -2,7 +2,8 @@
 
 ghost use Rattle.std.specs.Prelude.{◌≡◌, ◌<◌, ℕ, List, length, All, IfOk};
 ghost use Rattle.ca_cell.specs.Rules.{IsRaw, PlacesWithin};
-ghost use Rattle.ca_pin_sets.specs.Homes.{is_input_net, first_of, claimed, claimed_by, owners_after, home_in, homes_of};
+ghost use Rattle.ca_pin_sets.specs.Homes.{is_input_net, first_of, claimed, claimed_by, owners_after, home_in};
+ghost use Rattle.ca_pin_sets.specs.Homes.{homes_of};
 ghost use Rattle.ca_pin_sets.specs.Groups.{groups_of};
 ghost use Rattle.ca_pin_sets.specs.code.Forest.{IsForest, Realizes};
 
@@ -31,8 +32,8 @@ fn first_of(pin: u32, other: Option<u32>) -> u32
     }
 }
 
-// Where a resistor joins an input pin to an inner net, the net's group belongs to the pin, if no pin before it
-// has it.
+// Where a resistor joins an input pin to an inner net, the net's group belongs to the pin, if no pin before
+// it has it.
 fn claim(pins: &[RawPin], parents: &mut Vec<u32>, owners: &mut Vec<Option<u32>>, pin: u32, net: u32)
     requires net { net < length parents.old.items }
     requires count { length owners.old.items ≡ length parents.old.items }
@@ -116,7 +117,8 @@ fn home_in(pins: usize, parents: &mut Vec<u32>, owners: &[Option<u32>], net: u32
     }
 }
 
-/// For each net of a subcircuit the net whose node it is: the input pin to which its group belongs, or itself.
+/// For each net of a subcircuit the net whose node it is: the input pin to which its group belongs, or
+/// itself.
 pub(crate) fn homes_of(alloc: Global, raw: &RawCell) -> Result<Vec<u32>, NoMemory>
     requires { IsRaw raw.now }
     ensures { IfOk result (λ homes. homes.items ≡ homes_of raw.now) }

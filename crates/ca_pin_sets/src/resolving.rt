@@ -2,7 +2,8 @@
 
 ghost use Rattle.std.specs.Prelude.{◌≡◌, ◌<◌, ◌≤◌, ◌^◌, length, IfOk, All};
 ghost use Rattle.ca_cell.specs.Rules.{IsRaw, PlacesWithin};
-ghost use Rattle.ca_pin_sets.specs.Resolved.{kept_nets, places_from, moved, is_dropped, kept_devices, resolved};
+ghost use Rattle.ca_pin_sets.specs.Resolved.{kept_nets, places_from, moved, is_dropped, kept_devices};
+ghost use Rattle.ca_pin_sets.specs.Resolved.{resolved};
 
 use crate::groups::is_resistor;
 use crate::homes::{homes_of, is_input_net};
@@ -103,9 +104,9 @@ fn copy_pins(alloc: Global, old: &[RawPin]) -> Result<RawPins, NoMemory>
     Ok(pins)
 }
 
-/// The subcircuit with the nets of each input pin's set written as the pin, and without resistors that have both
-/// ends on one input pin. The set of a pin is the inner nets that resistors reach from it through inner nets
-/// alone; a net that several pins reach belongs to the first of them in pin order.
+/// The subcircuit with the nets of each input pin's set written as the pin, and without resistors that have
+/// both ends on one input pin. The set of a pin is the inner nets that resistors reach from it through inner
+/// nets alone; a net that several pins reach belongs to the first of them in pin order.
 pub fn resolved(alloc: Global, raw: &RawCell) -> Result<RawCell, NoMemory>
     requires { IsRaw raw.now }
     ensures ok { IfOk result (λ made. made ≡ resolved raw.now) }

@@ -1,5 +1,5 @@
--- What a cell netlist reads as under a strength table: its logical lines, one after another, and the first rule
--- that a line breaks.
+-- What a cell netlist reads as under a strength table: its logical lines, one after another, and the first
+-- rule that a line breaks.
 use Rattle.std.specs.Prelude.{ℕ, nat_lt, Bool, true, false, not, ◌&&◌, ◌||◌, if◌then◌else◌, List, [], ◌∷◌}
 use Rattle.std.specs.Prelude.{◌++◌, length, map, Option, Some, None, Result, Ok, Err}
 use Rattle.std.specs.List.{list_all, list_any}
@@ -154,7 +154,7 @@ library_from (Ok reading) = elim reading.current [
 ]
 library_from (Err fault) = Err fault
 
--- what a text reads as under a strength table, or else its first faulty line with the first rule that this line
--- breaks
+-- what a text reads as under a strength table, or else its first faulty line with the first rule that this
+-- line breaks
 abbrev pub library_of : StrengthTable → List ℕ → Result (List Subcircuit) SpiceFault
 library_of table text = library_from (lines_from table nothing (spice_lines text))

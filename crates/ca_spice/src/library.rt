@@ -100,7 +100,8 @@ fn library_from(alloc: Global, reading: Reading) -> Result<Library, SpiceFault>
     Ok(entries_of(alloc, cells)?)
 }
 
-/// The library that a cell netlist reads as under a strength table, which says how strong its transistors are.
+/// The library that a cell netlist reads as under a strength table, which says how strong its transistors
+/// are.
 #[tactic(auto, unfolding(crate::specs::Reading::library_from))]
 pub fn read_library(
     alloc: Global,

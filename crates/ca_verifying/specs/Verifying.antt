@@ -38,8 +38,8 @@ answer_line (No defect) = codes "no " ++ (decimal defect ++ codes "\n")
 
 -- The answer is yes exactly where every claim of the certificate stands for the pairs, and else no with the
 -- first defect whose claim doesn't; where it is yes, each claim says what is so. There are no more pairs than
--- may be listed, and each expected value is what the good chip ends with. Where the files are known, the pairs
--- and these values are those of the file of patterns, and the certificate is that of its file.
+-- may be listed, and each expected value is what the good chip ends with. Where the files are known, the
+-- pairs and these values are those of the file of patterns, and the certificate is that of its file.
 pub record IsAnswerByFiles (files : Option Files) (stil cert : List ℕ) (chip : LinkedChip)
     (chains : List (List ℕ)) (pairs : List (List Bool)) (certificate : Certificate) (answer : Answer) : Type 0
   where
@@ -90,7 +90,8 @@ abbrev pub IsCertCause : InputFiles → List ℕ → List ℕ → Option Files �
 IsCertCause names stil cert files before after fault =
     IsUnreadCertCause names stil cert files before after fault ⊎ IsBadCertCause names stil cert files fault
 
--- why the chip of the files has no patterns, or wrong ones, or there is no certificate: the patterns come first
+-- why the chip of the files has no patterns, or wrong ones, or there is no certificate: the patterns come
+-- first
 abbrev pub IsVerifyCause : InputFiles → List ℕ → List ℕ → Option Files → ℕ → ℕ → Fault → Type 0
 IsVerifyCause names stil cert files before after fault =
     IsPatternsCause names stil files before after fault ⊎ IsCertCause names stil cert files before after fault

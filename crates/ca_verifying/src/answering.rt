@@ -21,7 +21,7 @@ use std::alloc::Global;
 
 /// An answer, and its line.
 #[derive(Drop)]
-pub(crate) struct ToldAnswer {
+pub(crate) struct ReportedAnswer {
     pub(crate) answer: Answer,
     pub(crate) line: Text,
 }
@@ -50,17 +50,17 @@ pub(crate) fn answer_on(
     chains: &Chains,
     file: &StilFile,
     certificate: &Certificate,
-) -> Result<ToldAnswer, NoMemory>
+) -> Result<ReportedAnswer, NoMemory>
     requires of { AreOfChip chip.now chains.now file.now.pairs file.now.expected }
     requires one_each { HasOneEach chip.now certificate.now }
 
-    ensures answer { IfOk result (λ told. IsAnswer (core_of chip.now) (listed_defects chip.now) file.now.pairs
-        certificate.now.budget certificate.now.claims told.answer) }
-    ensures proves { IfOk result (λ told. IsYesTrue (core_of chip.now) (listed_defects chip.now) file.now.pairs
-        certificate.now.budget certificate.now.claims told.answer) }
-    ensures line { IfOk result (λ told. told.line ≡ answer_line told.answer) }
+    ensures answer { IfOk result (λ reported. IsAnswer (core_of chip.now) (listed_defects chip.now)
+        file.now.pairs certificate.now.budget certificate.now.claims reported.answer) }
+    ensures proves { IfOk result (λ reported. IsYesTrue (core_of chip.now) (listed_defects chip.now)
+        file.now.pairs certificate.now.budget certificate.now.claims reported.answer) }
+    ensures line { IfOk result (λ reported. reported.line ≡ answer_line reported.answer) }
 {
     let answer = check_chip(alloc, chip, &file.pairs, certificate)?;
     let line = answer_line(alloc, answer)?;
-    Ok(ToldAnswer { answer, line })
+    Ok(ReportedAnswer { answer, line })
 }

@@ -7,7 +7,7 @@ ghost use Rattle.ca_load.specs.Chips.{IsChipOf};
 ghost use Rattle.ca_load.specs.Texts.{names_of, OfInputs};
 ghost use Rattle.ca_verifying.specs.Verifying.{IsAnswerByFiles, IsVerifiedCause, answer_line};
 
-use crate::answering::{ToldAnswer, answer_on};
+use crate::answering::{ReportedAnswer, answer_on};
 use crate::claimed::{ClaimedChip, load_claimed};
 use ca_claim::{Answer, Certificate};
 use ca_fault::Fault;
@@ -32,9 +32,9 @@ pub struct VerifiedChip {
     pub line: Text,
 }
 
-/// Whether the claims of a certificate stand on the defects of the chip that the names give in their files, for
-/// the pairs in the file of patterns. No file is opened after that of the certificate, and that one not before
-/// all expected values were found to be right.
+/// Whether the claims of a certificate stand on the defects of the chip that the names give in their files,
+/// for the pairs in the file of patterns. No file is opened after that of the certificate, and that one not
+/// before all expected values were found to be right.
 #[tactic(auto, using(crate::proofs::VerifyLemmas::no_memory, crate::proofs::VerifyLemmas::is_answer))]
 pub fn find_answer<S: Store>(
     alloc: Global,
@@ -66,7 +66,7 @@ pub fn find_answer<S: Store>(
         file,
         certificate,
     } = load_claimed(alloc, names, stil, cert, store)?;
-    let ToldAnswer { answer, line } = answer_on(alloc, &chip, &chains, &file, &certificate)?;
+    let ReportedAnswer { answer, line } = answer_on(alloc, &chip, &chains, &file, &certificate)?;
     let StilFile { pairs, .. } = file;
     Ok(VerifiedChip {
         chip,

@@ -1,5 +1,6 @@
 -- The words of a command.
-use Rattle.std.specs.Prelude.{◌≡◌, ◌≢◌, ◌⊎◌, ℕ, List, [], ◌∷◌, length, codes, slice_index_or, Option, Some, None}
+use Rattle.std.specs.Prelude.{◌≡◌, ◌≢◌, ◌⊎◌, ℕ, List, [], ◌∷◌, length, codes, slice_index_or, Option, Some}
+use Rattle.std.specs.Prelude.{None}
 use Rattle.std.specs.Prelude.{if◌then◌else◌, ⊤}
 use Rattle.std.specs.List.{All}
 use Rattle.std.specs.Str.{bytes_eq}

@@ -117,8 +117,8 @@ pub struct GradeWords<'a> {
     pub report: &'a str,
 }
 
-/// The words of a command that looks for the defects of a chip that a log of failing outputs leaves, under the
-/// patterns in a file.
+/// The words of a command that looks for the defects of a chip that a log of failing outputs leaves, under
+/// the patterns in a file.
 #[derive(Clone, Copy)]
 pub struct DiagnoseWords<'a> {
     pub files: FileNames<'a>,
@@ -127,7 +127,7 @@ pub struct DiagnoseWords<'a> {
     pub out: &'a str,
 }
 
-/// The words of a command that generates tests for a chip with a certificate, for each defect with so many
+/// The words of a command that generates tests for a chip with a certificate, for each defect with this many
 /// branches.
 #[derive(Clone, Copy)]
 pub struct CertifyWords<'a> {

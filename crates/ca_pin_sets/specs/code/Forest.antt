@@ -1,5 +1,5 @@
--- How the code keeps groups: each net has a parent of its group, at most as high as itself, and the lowest net
--- of a group has itself.
+-- How the code keeps groups: each net has a parent of its group, at most as high as itself, and the lowest
+-- net of a group has itself.
 use Rattle.std.specs.Prelude.{ℕ, ◌≡◌, ◌≤◌, List, length, slice_get, Some}
 
 abbrev pub IsForest : List ℕ → Type 0
