@@ -48,7 +48,7 @@ fn link(device: Device, from: &Block, kind: PathKind, level: u8) -> u64
 fn link_all(devices: &[Device], from: &Block, kind: PathKind, level: u8, links: &mut [u64])
     requires named { All (NamesWithin (length from.now.zeros.items)) devices.now }
     requires ones { length from.now.ones.items ≡ length from.now.zeros.items }
-    requires room { length links.old ≡ length devices.now }
+    requires room { length devices.now ≤ length links.old }
     ensures { AreLinked (length devices.now) devices.now from.now kind level links.new }
 {
     for i in 0..devices.len() {
@@ -99,8 +99,8 @@ pub(crate) fn relink(
 )
     requires named { All (NamesWithin (length from.now.zeros.items)) devices.now }
     requires ones { length from.now.ones.items ≡ length from.now.zeros.items }
-    requires potential_room { length potential.old ≡ length devices.now }
-    requires definite_room { length definite.old ≡ length devices.now }
+    requires potential_room { length devices.now ≤ length potential.old }
+    requires definite_room { length devices.now ≤ length definite.old }
     requires unused { fresh ≡ false → IsCarriedByNone devices.now level }
     requires potential { AreLinked
         (length devices.now) devices.now from.now path_kind.Potential (level + 1) potential.old }
@@ -136,7 +136,7 @@ pub(crate) fn advance(
     reached: &mut [u64],
 )
     requires named { All (NamesWithin (length own.now)) devices.now }
-    requires links { length links.now ≡ length devices.now }
+    requires links { length devices.now ≤ length links.now }
     requires source { length source.now ≡ length own.now }
     requires blocked { length blocked.now ≡ length own.now }
     requires reached { length reached.old ≡ length own.now }
@@ -167,7 +167,7 @@ pub(crate) fn advance_pair(
     ones: &mut [u64],
 )
     requires named { All (NamesWithin (length own.now)) devices.now }
-    requires links { length links.now ≡ length devices.now }
+    requires links { length devices.now ≤ length links.now }
     requires not_ones { length not_ones.now ≡ length own.now }
     requires not_zeros { length not_zeros.now ≡ length own.now }
     requires blocked { length blocked.now ≡ length own.now }

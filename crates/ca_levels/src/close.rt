@@ -1,6 +1,6 @@
 //! What planes of links lead on.
 
-ghost use Rattle.std.specs.Prelude.{ℕ, ◌≡◌, ◌<◌, length};
+ghost use Rattle.std.specs.Prelude.{ℕ, ◌≡◌, ◌<◌, ◌≤◌, length};
 ghost use Rattle.std.specs.List.{All};
 ghost use Rattle.ca_net.specs.Circuit.{NamesWithin};
 ghost use Rattle.ca_levels.specs.code.Come.{Leads, Raises, RaisesSome, LeadsNoMore, AreClosed, RaiseBoth};
@@ -32,7 +32,7 @@ fn lead_both(
     i: usize,
 ) -> bool
     requires named { All (NamesWithin (length reached.old)) devices.now }
-    requires links { length links.now ≡ length devices.now }
+    requires links { length devices.now ≤ length links.now }
     requires blocked { length blocked.now ≡ length reached.old }
     requires device { i < length devices.now }
     ensures raises { Raises devices.now links.now blocked.now reached.old reached.new result }
@@ -47,7 +47,7 @@ fn lead_both(
 // Goes once over all devices. Whether some node has more lanes.
 fn sweep(devices: &[Device], links: &[u64], blocked: &[u64], reached: &mut [u64]) -> bool
     requires named { All (NamesWithin (length reached.old)) devices.now }
-    requires links { length links.now ≡ length devices.now }
+    requires links { length devices.now ≤ length links.now }
     requires blocked { length blocked.now ≡ length reached.old }
     ensures raises { Raises devices.now links.now blocked.now reached.old reached.new result }
     ensures settled { (i : ℕ) → i < length devices.now
@@ -64,7 +64,7 @@ fn sweep(devices: &[Device], links: &[u64], blocked: &[u64], reached: &mut [u64]
 /// Adds to the lanes of each node those in which links lead there, through nodes that aren't blocked.
 pub(crate) fn close(devices: &[Device], links: &[u64], blocked: &[u64], reached: &mut [u64])
     requires named { All (NamesWithin (length reached.old)) devices.now }
-    requires links { length links.now ≡ length devices.now }
+    requires links { length devices.now ≤ length links.now }
     requires blocked { length blocked.now ≡ length reached.old }
     ensures raises { RaisesSome devices.now links.now blocked.now reached.old reached.new }
     ensures closed { AreClosed devices.now links.now blocked.now reached.new }
@@ -85,7 +85,7 @@ fn sweep_pair(
     ones: &mut [u64],
 ) -> bool
     requires named { All (NamesWithin (length zeros.old)) devices.now }
-    requires links { length links.now ≡ length devices.now }
+    requires links { length devices.now ≤ length links.now }
     requires blocked { length blocked.now ≡ length zeros.old }
     requires ones { length ones.old ≡ length zeros.old }
     ensures { RaiseBoth
@@ -111,7 +111,7 @@ pub(crate) fn close_pair(
     ones: &mut [u64],
 )
     requires named { All (NamesWithin (length zeros.old)) devices.now }
-    requires links { length links.now ≡ length devices.now }
+    requires links { length devices.now ≤ length links.now }
     requires blocked { length blocked.now ≡ length zeros.old }
     requires ones { length ones.old ≡ length zeros.old }
     ensures zeros { RaisesSome devices.now links.now blocked.now zeros.old zeros.new }

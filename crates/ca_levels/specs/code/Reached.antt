@@ -2,6 +2,7 @@
 use Rattle.std.specs.Prelude.{ℕ, ◌≡◌, ◌≢◌, ◌+◌, ◌<◌, ◌≤◌, ◌↔◌, true, List, length, slice_index}
 use Rattle.ca_net.specs.declared.scale.TheConstants.{INPUT}
 use Rattle.ca_net.specs.declared.trit.Trit.{Trit}
+use Rattle.ca_net.specs.declared.device.Device.{Device}
 use Rattle.ca_net.specs.declared.trit.Trit.TheVariants.{Zero, One}
 use Rattle.ca_net.specs.declared.path_kind.PathKind.TheVariants.{Definite, Potential}
 use Rattle.ca_net.specs.Circuit.{Circuit}
@@ -48,15 +49,15 @@ pub record AreKept (count : ℕ) (own from old new : List ℕ) : Type 0 where
 
 -- the links are those of the devices that are stronger than k, and nothing more comes over them; there are
 -- none at first
-pub record IsSpreadTo (from : Block) (k : ℕ) (levels : Levels) (out : Block) : Type 0 where
-  pub potential : AreLinked (length levels.devices.items) levels.devices.items from Potential (k + 1)
+pub record IsSpreadTo (devices : List Device) (from : Block) (k : ℕ) (levels : Levels) (out : Block) : Type 0 where
+  pub potential : AreLinked (length devices) devices from Potential (k + 1)
       levels.potential.items
-  pub definite : AreLinked (length levels.devices.items) levels.devices.items from Definite (k + 1)
+  pub definite : AreLinked (length devices) devices from Definite (k + 1)
       levels.definite.items
-  pub zeros : AreClosed levels.devices.items levels.potential.items levels.stronger.items out.zeros.items
-  pub ones : AreClosed levels.devices.items levels.potential.items levels.stronger.items out.ones.items
-  pub stronger : AreClosed levels.devices.items levels.definite.items levels.none.items levels.stronger.items
+  pub zeros : AreClosed devices levels.potential.items levels.stronger.items out.zeros.items
+  pub ones : AreClosed devices levels.potential.items levels.stronger.items out.ones.items
+  pub stronger : AreClosed devices levels.definite.items levels.none.items levels.stronger.items
   pub potential_none : INPUT ≤ k
-      → (blocked : List ℕ) → AreIdle levels.devices.items levels.potential.items blocked
+      → (blocked : List ℕ) → AreIdle devices levels.potential.items blocked
   pub definite_none : INPUT ≤ k
-      → (blocked : List ℕ) → AreIdle levels.devices.items levels.definite.items blocked
+      → (blocked : List ℕ) → AreIdle devices levels.definite.items blocked
