@@ -22,7 +22,14 @@ pub fn settle_firsts<N: Network>(net: &N, from: &Block, work: &mut BlockWork)
 {
     forget(&mut work.last);
     begin(net, from, &work.last, &mut work.firsts);
-    rise(net, &mut work.firsts, &mut work.next, &mut work.levels);
+    rise(
+        net,
+        &mut work.firsts,
+        &mut work.next,
+        &work.groups,
+        &mut work.touched,
+        &mut work.levels,
+    );
 }
 
 /// Computes the three limits of a network in each lane, from the values that its input nodes have there at
@@ -53,7 +60,21 @@ pub fn settle_block<N: Network>(
     spread(&work.firsts, power, block, &mut work.first);
     meet(from, to, &mut work.vector);
     begin(net, &work.vector, &work.first, &mut work.middle);
-    fall(net, &mut work.middle, &mut work.next, &mut work.levels);
+    fall(
+        net,
+        &mut work.middle,
+        &mut work.next,
+        &work.groups,
+        &mut work.touched,
+        &mut work.levels,
+    );
     begin(net, to, &work.middle, &mut work.last);
-    rise(net, &mut work.last, &mut work.next, &mut work.levels);
+    rise(
+        net,
+        &mut work.last,
+        &mut work.next,
+        &work.groups,
+        &mut work.touched,
+        &mut work.levels,
+    );
 }

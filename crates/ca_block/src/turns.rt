@@ -4,10 +4,14 @@ ghost use Rattle.std.specs.Prelude.{ℕ, ◌≡◌, ◌<◌, length, IsTrue, ◌
 ghost use Rattle.ca_net.specs.Circuit.{IsWellFormed};
 ghost use Rattle.ca_planes.specs.Trits.{HasNodes, state_in};
 ghost use Rattle.ca_levels.specs.Levels.{HoldsNetwork};
-ghost use Rattle.ca_settle.specs.code.Turns.{HasSameValues, IsMetWith, AreBlurred, IsHeldUp};
-ghost use Rattle.ca_settle.specs.code.Turns.{RisesTo, FallsTo};
+ghost use Rattle.ca_settle.specs.code.Turns.{HasSameValues, IsMetWith, IsHeldUp, RisesTo, FallsTo};
+ghost use Rattle.ca_block.specs.Groups.{HoldsGroups};
+ghost use Rattle.ca_block.specs.Work.{HasTouchedRoom};
+ghost use Rattle.ca_block.specs.code.Touched.{BlursWhere};
 
-use ca_levels::{Levels, respond};
+use crate::groups::Groups;
+use crate::touched::{Touched, mark, respond_touched};
+use ca_levels::Levels;
 use ca_net::Network;
 use ca_planes::{Block, LANES, is_none};
 use std::mem;
@@ -26,17 +30,30 @@ fn meet_with(state: &mut Block, other: &Block)
     }
 }
 
-// Gives each node in `into` its value in `from` where that is its response there, else X.
-fn blur<N: Network>(net: &N, from: &Block, into: &mut Block, levels: &mut Levels)
+// Gives each node of a marked group in `into` its value in `from` where that is its response there, else X,
+// and each other node its value.
+fn blur_touched<N: Network>(
+    net: &N,
+    from: &Block,
+    groups: &Groups,
+    touched: &mut Touched,
+    levels: &mut Levels,
+    into: &mut Block,
+)
+    requires groups { HoldsGroups (N.circuit net.now) groups.now }
     requires from { HasNodes (length (N.circuit net.now).nodes) from.now }
-    requires into { HasNodes (length (N.circuit net.now).nodes) into.old }
+    requires room { HasTouchedRoom
+        (length (N.circuit net.now).nodes) (length (N.circuit net.now).devices) touched.old }
     requires levels { HoldsNetwork (N.circuit net.now) levels.old }
-    ensures blurred { (lane : ℕ) → lane < LANES
-        → AreBlurred (N.circuit net.now) (state_in from.now lane) (state_in into.new lane) }
+    requires into { HasNodes (length (N.circuit net.now).nodes) into.old }
+    ensures blurs { BlursWhere (N.circuit net.now) groups.now.labels.items
+        touched.old.marks.items from.now into.new }
+    ensures room { HasTouchedRoom
+        (length (N.circuit net.now).nodes) (length (N.circuit net.now).devices) touched.new }
     ensures levels { HoldsNetwork (N.circuit net.now) levels.new }
-    ensures room { HasNodes (length (N.circuit net.now).nodes) into.new }
+    ensures into { HasNodes (length (N.circuit net.now).nodes) into.new }
 {
-    respond(net, from, levels, into);
+    respond_touched(net, from, groups, touched, levels, into);
     meet_with(into, from);
 }
 
@@ -56,41 +73,70 @@ fn is_same(state: &Block, other: &Block) -> bool
 }
 
 /// Takes the state of each lane up to where each storage node has its response, from one in which each is at
-/// or below it.
-pub(crate) fn rise<N: Network>(net: &N, at: &mut Block, next: &mut Block, levels: &mut Levels)
+/// or below it. After the first turn only those groups are gone over that the turn before has touched.
+pub(crate) fn rise<N: Network>(
+    net: &N,
+    at: &mut Block,
+    next: &mut Block,
+    groups: &Groups,
+    touched: &mut Touched,
+    levels: &mut Levels,
+)
     requires well_formed { IsWellFormed (N.circuit net.now) }
     requires at { HasNodes (length (N.circuit net.now).nodes) at.old }
     requires next { HasNodes (length (N.circuit net.now).nodes) next.old }
+    requires groups { HoldsGroups (N.circuit net.now) groups.now }
+    requires touched { HasTouchedRoom
+        (length (N.circuit net.now).nodes) (length (N.circuit net.now).devices) touched.old }
     requires levels { HoldsNetwork (N.circuit net.now) levels.old }
     requires held { (lane : ℕ) → lane < LANES → IsHeldUp (N.circuit net.now) (state_in at.old lane) }
     ensures risen { (lane : ℕ) → lane < LANES
         → RisesTo (N.circuit net.now) (state_in at.old lane) (state_in at.new lane) }
     ensures at { HasNodes (length (N.circuit net.now).nodes) at.new }
     ensures next { HasNodes (length (N.circuit net.now).nodes) next.new }
+    ensures touched { HasTouchedRoom
+        (length (N.circuit net.now).nodes) (length (N.circuit net.now).devices) touched.new }
     ensures levels { HoldsNetwork (N.circuit net.now) levels.new }
 {
-    respond(net, at, levels, next);
+    touched.mark_all();
+    respond_touched(net, at, groups, touched, levels, next);
     'rising: while !is_same(at, next) {
+        mark(net, groups, at, next, touched);
         mem::swap(at, next);
-        respond(net, at, levels, next);
+        respond_touched(net, at, groups, touched, levels, next);
     }
 }
 
-/// Takes the state of each lane down to where each storage node is at or below its response.
-pub(crate) fn fall<N: Network>(net: &N, at: &mut Block, next: &mut Block, levels: &mut Levels)
+/// Takes the state of each lane down to where each storage node is at or below its response. After the first
+/// turn only those groups are gone over that the turn before has touched.
+pub(crate) fn fall<N: Network>(
+    net: &N,
+    at: &mut Block,
+    next: &mut Block,
+    groups: &Groups,
+    touched: &mut Touched,
+    levels: &mut Levels,
+)
     requires well_formed { IsWellFormed (N.circuit net.now) }
     requires at { HasNodes (length (N.circuit net.now).nodes) at.old }
     requires next { HasNodes (length (N.circuit net.now).nodes) next.old }
+    requires groups { HoldsGroups (N.circuit net.now) groups.now }
+    requires touched { HasTouchedRoom
+        (length (N.circuit net.now).nodes) (length (N.circuit net.now).devices) touched.old }
     requires levels { HoldsNetwork (N.circuit net.now) levels.old }
     ensures fallen { (lane : ℕ) → lane < LANES
         → FallsTo (N.circuit net.now) (state_in at.old lane) (state_in at.new lane) }
     ensures at { HasNodes (length (N.circuit net.now).nodes) at.new }
     ensures next { HasNodes (length (N.circuit net.now).nodes) next.new }
+    ensures touched { HasTouchedRoom
+        (length (N.circuit net.now).nodes) (length (N.circuit net.now).devices) touched.new }
     ensures levels { HoldsNetwork (N.circuit net.now) levels.new }
 {
-    blur(net, at, next, levels);
+    touched.mark_all();
+    blur_touched(net, at, groups, touched, levels, next);
     'falling: while !is_same(at, next) {
+        mark(net, groups, at, next, touched);
         mem::swap(at, next);
-        blur(net, at, next, levels);
+        blur_touched(net, at, groups, touched, levels, next);
     }
 }

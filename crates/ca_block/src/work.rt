@@ -5,6 +5,8 @@ ghost use Rattle.ca_net.specs.State.{value_at};
 ghost use Rattle.ca_planes.specs.Trits.{state_in, trit_in};
 ghost use Rattle.ca_block.specs.Work.{HasRoom, HoldsNet};
 
+use crate::groups::Groups;
+use crate::touched::Touched;
 use ca_base::NoMemory;
 use ca_levels::Levels;
 use ca_net::Network;
@@ -24,6 +26,9 @@ pub struct BlockWork {
     // the values of the inputs while they change
     pub(crate) vector: Block,
     pub(crate) levels: Levels,
+    pub(crate) groups: Groups,
+    // the groups that the last turn has touched
+    pub(crate) touched: Touched,
 }
 
 impl BlockWork {
@@ -40,6 +45,8 @@ impl BlockWork {
             firsts: Block::reserve(alloc, nodes)?,
             vector: Block::reserve(alloc, nodes)?,
             levels: Levels::reserve(alloc, nodes, devices)?,
+            groups: Groups::reserve(alloc, nodes, devices)?,
+            touched: Touched::reserve(alloc, nodes, devices)?,
         })
     }
 
@@ -49,7 +56,8 @@ impl BlockWork {
         requires { HasRoom (length (N.circuit net.now).nodes) (length (N.circuit net.now).devices) self.old }
         ensures { HoldsNet (N.circuit net.now) self.new }
     {
-        self.levels.load(net);
+        self.groups.load(net);
+        self.levels.load(net, &self.groups.devices);
     }
 
     /// The last limit of a node in each lane.

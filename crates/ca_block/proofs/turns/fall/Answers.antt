@@ -3,6 +3,9 @@ use Rattle.ca_planes.specs.Trits.{state_in, HasNodes}
 use Rattle.ca_settle.proofs.TurnLemmas.{Falls, falls_turn, falls_end}
 use Rattle.ca_block.proofs.StateLemmas.{falls_begin, is_state}
 use Rattle.ca_block.proofs.MeasureLemmas.{falls_smaller}
+use Rattle.ca_settle.specs.code.Turns.{AreBlurred}
+use Rattle.ca_block.specs.code.Touched.{AreMarked}
+use Rattle.ca_block.proofs.GroupLemmas.{blurred_all, blurred_turn}
 use Rattle.ca_block.proofs.turns.fall.Goals as goal
 
 pub falling-init : goal.falling-init
@@ -10,10 +13,13 @@ falling-init g c =
     let net = g.N.Network.circuit c.args.net.now in
     record {
       at = c.requires.at;
-      next = c.blur.ensures.room;
-      levels = c.blur.ensures.levels;
+      next = c.blur_touched.ensures.into;
+      touched = c.blur_touched.ensures.room;
+      levels = c.blur_touched.ensures.levels;
       falls = λ lane low. falls_begin net (state_in c.args.at.now lane) (is_state (length net.nodes) c.args.at.now lane c.requires.at);
-      blurred = λ lane low. c.blur.ensures.blurred lane (omega (arith, low));
+      blurred = λ lane low.
+          blurred_all net c.args.groups.now.labels.items c.mark_all.new.self.marks.items c.args.at.now c.blur_touched.new.into c.mark_all.ensures.all
+          c.blur_touched.ensures.blurs lane low (is_state (length net.nodes) c.blur_touched.new.into lane c.blur_touched.ensures.into);
     }
 
 pub falling-smaller : goal.falling-smaller
@@ -28,12 +34,19 @@ falling-preserved g c =
     let before = c.falling.invariant in
     record {
       at = subst (HasNodes (length net.nodes)) (sym c.swap.ensures.x_after) before.next;
-      next = c.blur-in-falling.ensures.room;
-      levels = c.blur-in-falling.ensures.levels;
+      next = c.blur_touched-in-falling.ensures.into;
+      touched = c.blur_touched-in-falling.ensures.room;
+      levels = c.blur_touched-in-falling.ensures.levels;
       falls = λ lane low.
           subst (λ b. Falls net (state_in c.args.at.now lane) (state_in b lane)) (sym c.swap.ensures.x_after)
           (falls_turn net c.requires.well_formed (state_in c.args.at.now lane) (state_in c.falling.at lane) (state_in c.falling.next lane) (before.falls lane low) (before.blurred lane low));
-      blurred = λ lane low. c.blur-in-falling.ensures.blurred lane (omega (arith, low));
+      blurred = λ lane low.
+          let to = c.swap.new.x in
+          let was = subst (λ b. AreBlurred net (state_in c.falling.at lane) (state_in b lane)) (sym c.swap.ensures.x_after) (before.blurred lane low) in
+          let marked = subst (λ b. AreMarked net c.args.groups.now.labels.items c.args.groups.now.homes.items c.falling.at b c.mark.new.touched.marks.items) (sym c.swap.ensures.x_after) c.mark.ensures.marked in
+          blurred_turn net c.args.groups.now.labels.items c.args.groups.now.homes.items c.requires.groups.homes c.requires.well_formed c.mark.new.touched.marks.items
+          c.falling.at to c.blur_touched-in-falling.new.into marked c.blur_touched-in-falling.ensures.blurs lane low
+          (is_state (length net.nodes) c.blur_touched-in-falling.new.into lane c.blur_touched-in-falling.ensures.into) was;
     }
 
 pub returns-clause-fallen : goal.returns-clause-fallen
