@@ -1,6 +1,6 @@
--- The response of a node hangs on the devices around its channel group alone, on what their gates are, on the
--- values of the group's nodes and on those of input nodes: a path that isn't blocked has no input node but its
--- root, and an input node is stronger than each device.
+-- The response of a node hangs on the devices around its channel group alone, on what their gates are, and on
+-- the values of their ends and of the group's nodes: a path that isn't blocked has no input node but its root,
+-- since an input node is stronger than each device.
 use Rattle.std.proofs.Common.{◌≡◌, ℕ, ◌<◌, ◌≤◌, ◌⊎◌, List, min, inl, inr, refl, sym, ◌∙◌, ap, subst, arith}
 use Rattle.std.specs.List.{Contains}
 use Rattle.ca_net.specs.declared.trit.Trit.{Trit}
@@ -8,7 +8,7 @@ use Rattle.ca_net.specs.declared.trit.Trit.TheVariants.{Zero, One, X}
 use Rattle.ca_net.specs.declared.node.NodeKind.{NodeKind}
 use Rattle.ca_net.specs.declared.node.NodeKind.TheVariants.{Input, Storage}
 use Rattle.ca_net.specs.declared.device.Device.{Device}
-use Rattle.ca_net.specs.Circuit.{Circuit, IsWellFormed, IsInput, IsStorage, kind_at}
+use Rattle.ca_net.specs.Circuit.{Circuit, IsWellFormed, IsStorage, kind_at}
 use Rattle.ca_net.specs.Conduction.{Links, ConductsAt, OpenAt}
 use Rattle.ca_net.specs.State.{value_at}
 use Rattle.ca_net.specs.Path.{Path, Root, Via, root_of, end_of, strength_of, IsPath, IsPotential, IsDefinite}
@@ -16,19 +16,19 @@ use Rattle.ca_net.specs.Response.{HasStronger, IsBlocked, Reaches, AllGive, Stor
 use Rattle.ca_net.specs.code.Walk.{IsInner}
 use Rattle.ca_net.proofs.StateLemmas.{storage_or_input}
 use Rattle.ca_net.proofs.InnerPaths.{unblocked_inner, shortened}
-use Rattle.ca_net.proofs.Strongest.{root_within}
 
 -- the network of these nodes and devices
 abbrev pub net_of : List NodeKind → List Device → Circuit
 net_of nodes devices = record { nodes = nodes; devices = devices }
 
 -- of the devices with an end in a set of storage nodes, each is one of the others and has in both states the
--- same value at its gate, and its other end is in the set too, or is an input node
+-- same values at its gate and at its other end, which is in the set too, or is an input node
 pub record IsCovered (nodes : List NodeKind) (S : ℕ → Type 0) (ds es : List Device) (s t : List Trit) : Type 0 where
   pub storage : (n : ℕ) → S n → IsStorage (net_of nodes ds) n
   pub closed : (d : Device) (m n : ℕ) → Contains ds d → Links d m n → S n → IsStorage (net_of nodes ds) m → S m
   pub has : (d : Device) (m n : ℕ) → Contains ds d → Links d m n → S n → Contains es d
   pub gates : (d : Device) (m n : ℕ) → Contains ds d → Links d m n → S n → value_at s d.gate.0 ≡ value_at t d.gate.0
+  pub ends : (d : Device) (m n : ℕ) → Contains ds d → Links d m n → S n → value_at s m ≡ value_at t m
 
 module _ (nodes : List NodeKind) (S : ℕ → Type 0) (ds es : List Device) (s t : List Trit) (covered : IsCovered nodes S ds es s t) where
   -- the node is in the set, or an input node
@@ -74,10 +74,13 @@ module _ (nodes : List NodeKind) (S : ℕ → Type 0) (ds es : List Device) (s t
         λ opens. potential.1 (subst (OpenAt d.kind) (sym (covered.gates d (end_of p) n is_path.1 is_path.2 is)) opens),
       )
 
-  root_around : (p : Path) → IsPath (net_of nodes ds) p → IsInner (net_of nodes ds) p → IsAround (end_of p) → IsAround (root_of p)
-  root_around (Root r) is_path inner around = around
-  root_around (Via p d n) is_path inner around =
-      root_around p is_path.0 inner.1 (before d (end_of p) n is_path.1 is_path.2 (here n inner.0 around))
+  -- the root has the value that it had, if the end has
+  moved_root : (p : Path) → IsPath (net_of nodes ds) p → IsInner (net_of nodes ds) p → IsAround (end_of p) → value_at s (end_of p) ≡ value_at t (end_of p)
+      → value_at s (root_of p) ≡ value_at t (root_of p)
+  moved_root (Root r) is_path inner around same = same
+  moved_root (Via p d n) is_path inner around same =
+      let is = here n inner.0 around in
+      moved_root p is_path.0 inner.1 (before d (end_of p) n is_path.1 is_path.2 is) (covered.ends d (end_of p) n is_path.1 is_path.2 is)
 
   moved_inner : (p : Path) → IsInner (net_of nodes ds) p → IsInner (net_of nodes es) p
   moved_inner (Root r) inner = tt
@@ -113,7 +116,7 @@ module _ (nodes : List NodeKind) (S : ℕ → Type 0) (ds es : List Device) (s t
 
 module _ (nodes : List NodeKind) (S : ℕ → Type 0) (ds es : List Device) (s t : List Trit) (well_formed : IsWellFormed (net_of nodes ds))
     (well_formed_there : IsWellFormed (net_of nodes es)) (covered : IsCovered nodes S ds es s t) (covered_there : IsCovered nodes S es ds t s)
-    (values : (n : ℕ) → S n → value_at s n ≡ value_at t n) (inputs : (n : ℕ) → IsInput (net_of nodes ds) n → value_at s n ≡ value_at t n) where
+    (values : (n : ℕ) → S n → value_at s n ≡ value_at t n) where
   -- what reaches a node of the set there reaches it here
   reaches_here : (n : ℕ) → S n → (p : Path) → Reaches (net_of nodes es) t n p → Reaches (net_of nodes ds) s n p
   reaches_here n is p r =
@@ -131,10 +134,8 @@ module _ (nodes : List NodeKind) (S : ℕ → Type 0) (ds es : List Device) (s t
   same_root : (n : ℕ) → S n → (p : Path) → Reaches (net_of nodes ds) s n p → value_at s (root_of p) ≡ value_at t (root_of p)
   same_root n is p r =
       let inner = unblocked_inner (net_of nodes ds) s well_formed p r.is_path r.unblocked in
-      elim (root_around nodes S ds es s t covered p r.is_path inner (inl (subst S (sym r.ends) is))) [
-        | inl at ↦ values (root_of p) at
-        | inr e ↦ inputs (root_of p) (root_within (net_of nodes ds) p r.is_path, e)
-      ]
+      let at = subst S (sym r.ends) is in
+      moved_root nodes S ds es s t covered p r.is_path inner (inl at) (values (end_of p) at)
 
   pub gives_there : (n : ℕ) (v : Trit) → S n → AllGive (net_of nodes ds) s n v → AllGive (net_of nodes es) t n v
   gives_there n v is all p r =
@@ -143,12 +144,12 @@ module _ (nodes : List NodeKind) (S : ℕ → Type 0) (ds es : List Device) (s t
 
 module _ (nodes : List NodeKind) (S : ℕ → Type 0) (ds es : List Device) (s t : List Trit) (well_formed : IsWellFormed (net_of nodes ds))
     (well_formed_there : IsWellFormed (net_of nodes es)) (covered : IsCovered nodes S ds es s t) (covered_there : IsCovered nodes S es ds t s)
-    (values : (n : ℕ) → S n → value_at s n ≡ value_at t n) (inputs : (n : ℕ) → IsInput (net_of nodes ds) n → value_at s n ≡ value_at t n) where
+    (values : (n : ℕ) → S n → value_at s n ≡ value_at t n) where
   there : (n : ℕ) (v : Trit) → S n → AllGive (net_of nodes ds) s n v → AllGive (net_of nodes es) t n v
-  there = gives_there nodes S ds es s t well_formed well_formed_there covered covered_there values inputs
+  there = gives_there nodes S ds es s t well_formed well_formed_there covered covered_there values
 
   back : (n : ℕ) (v : Trit) → S n → AllGive (net_of nodes es) t n v → AllGive (net_of nodes ds) s n v
-  back = gives_there nodes S es ds t s well_formed_there well_formed covered_there covered (λ n is. sym (values n is)) (λ n i. sym (inputs n i))
+  back = gives_there nodes S es ds t s well_formed_there well_formed covered_there covered (λ n is. sym (values n is))
 
   storage_there : (n : ℕ) (v : Trit) → S n → StorageResponse (net_of nodes ds) s n v → StorageResponse (net_of nodes es) t n v
   storage_there n Zero is h = there n Zero is h

@@ -13,17 +13,11 @@ use Rattle.ca_net.specs.declared.device.Device.{Device}
 use Rattle.ca_net.specs.State.{value_at}
 use Rattle.ca_planes.specs.declared.block.Block.{Block}
 use Rattle.ca_planes.specs.Trits.{state_in}
-use Rattle.ca_block.specs.code.Touched.{IsUnmarked, StayMarked, IsSameAt, AreGatesMarked, IsAmong, AreChosenTo, AreChosen, KeepsUnmarked}
+use Rattle.ca_block.specs.code.Touched.{IsUnmarked, StayMarked, IsStill, AreDevicesMarked, IsAmong, AreChosenTo, AreChosen, KeepsUnmarked}
 
--- a mark that was read
-read_mark : (marks : List Bool) (k : ℕ) (mark : Bool) → k < length marks → get_or marks k false ≡ mark → get_or marks k true ≡ mark
-read_mark marks k mark lt read = get_or_from_slice_get marks k mark true (slice_get-get_or marks k false lt ∙ ap Some read)
-
-pub read_unmarked : (marks : List Bool) (k : ℕ) → k < length marks → get_or marks k false ≡ false → IsUnmarked marks k
-read_unmarked marks k lt read = read_mark marks k false lt read
-
-pub read_marked : (marks : List Bool) (k : ℕ) → k < length marks → get_or marks k false ≡ true → IsUnmarked marks k → ⊥
-read_marked marks k lt read un = let e : true ≡ false = sym (read_mark marks k true lt read) ∙ un in cc
+-- a marked place isn't unmarked
+pub read_marked : (marks : List Bool) (k : ℕ) → get_or marks k false ≡ true → IsUnmarked marks k → ⊥
+read_marked marks k read un = let e : true ≡ false = sym read ∙ un in cc
 
 -- what was written is what is there
 written : (chosen : List Device) (k : ℕ) (d : Device) → k < length chosen → slice_get (set chosen k d) k ≡ Some d
@@ -121,15 +115,18 @@ keeps_as {count} {count_read} {labels} {labels_read} {marks} {marks_read} from o
 pub put_back : (new old : List Device) (count : ℕ) → count ≡ length new → take count (new ++ drop (length new) old) ≡ new
 put_back new old count same = grind (arith, common_steps, same)
 
--- the gate of one device more
-pub gates_more : (devices : List Device) (homes : List ℕ) (s t : Block) (old new : List Bool) (i : ℕ) (d : Device) → slice_get devices i ≡ Some d
-    → (IsUnmarked new (get_or homes i 0) → IsSameAt s t d.gate.0) → StayMarked old new
-    → AreGatesMarked i devices homes s t old → AreGatesMarked (i + 1) devices homes s t new
-gates_more devices homes s t old new i d is here stay before j other less there un = elim (ℕ_discrete j i) [
+pub put_back_marks : (new old : List Bool) (count : ℕ) → count ≡ length new → take count (new ++ drop (length new) old) ≡ new
+put_back_marks new old count same = grind (arith, common_steps, same)
+
+-- one device more of which neither the gate nor an end has changed, if its home isn't marked
+pub devices_more : (devices : List Device) (homes : List ℕ) (changed old new : List Bool) (i : ℕ) (d : Device) → slice_get devices i ≡ Some d
+    → (IsUnmarked new (get_or homes i 0) → IsStill changed d) → StayMarked old new
+    → AreDevicesMarked i devices homes changed old → AreDevicesMarked (i + 1) devices homes changed new
+devices_more devices homes changed old new i d is here stay before j other less there un = elim (ℕ_discrete j i) [
   | yes e ↦
       let both : ◌≡◌ {A = Option Device} (Some d) (Some other) = sym is ∙ subst (λ x. slice_get devices x ≡ Some other) e there in
       let same : d ≡ other = let f = both in cc in
-      subst (λ (x : Device). IsSameAt s t x.gate.0) same (here (subst (λ x. IsUnmarked new (get_or homes x 0)) e un))
+      subst (IsStill changed) same (here (subst (λ x. IsUnmarked new (get_or homes x 0)) e un))
   | no ne ↦ before j other (omega (arith, ne, less)) there (stay (get_or homes j 0) un)
 ]
 

@@ -24,9 +24,8 @@ pub record HasRoom (nodes devices : ℕ) (groups : Groups) : Type 0 where
 
 -- the devices are the network's, and the storage ends of each of them have one label, which is its home
 pub record HoldsGroups (net : Circuit) (groups : Groups) : Type 0 where
+  pub room : HasRoom (length net.nodes) (length net.devices) groups
   pub devices : groups.devices.items ≡ net.devices
-  pub label_count : length groups.labels.items ≡ length net.nodes
-  pub home_count : length groups.homes.items ≡ length net.devices
   pub labels_within : AreWithin (length net.nodes) (length net.nodes) groups.labels.items
   pub homes_within : AreWithin (length net.devices) (length net.nodes) groups.homes.items
   pub homes : (i : ℕ) (d : Device) → slice_get net.devices i ≡ Some d

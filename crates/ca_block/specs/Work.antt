@@ -13,11 +13,14 @@ pub record HasStates (nodes : ℕ) (work : BlockWork) : Type 0 where
   pub middle : HasNodes nodes work.middle
   pub last : HasNodes nodes work.last
   pub next : HasNodes nodes work.next
+  pub held : HasNodes nodes work.held
+  pub spare : HasNodes nodes work.spare
   pub firsts : HasNodes nodes work.firsts
   pub vector : HasNodes nodes work.vector
 
--- there is room for a mark for each of this many labels, and for this many devices
+-- there is room for a mark for each of this many nodes and labels, and for this many devices
 pub record HasTouchedRoom (nodes devices : ℕ) (touched : Touched) : Type 0 where
+  pub changed : length touched.changed.items ≡ nodes
   pub marks : length touched.marks.items ≡ nodes
   pub chosen : length touched.chosen.items ≡ devices
 

@@ -21,18 +21,21 @@ pub struct BlockWork {
     pub(crate) last: Block,
     // the state to which a turn leads
     pub(crate) next: Block,
+    // the responses of a state, and room for those of the next
+    pub(crate) held: Block,
+    pub(crate) spare: Block,
     // first limits that are kept for many pairs
     pub(crate) firsts: Block,
     // the values of the inputs while they change
     pub(crate) vector: Block,
     pub(crate) levels: Levels,
     pub(crate) groups: Groups,
-    // the groups that the last turn has touched
+    // the groups that a change of values touches
     pub(crate) touched: Touched,
 }
 
 impl BlockWork {
-    /// Takes the room for a network of this many nodes and devices: 129 bytes a node and 36 a device. No call
+    /// Takes the room for a network of this many nodes and devices: 167 bytes a node and 52 a device. No call
     /// takes memory afterwards.
     pub fn reserve(alloc: Global, nodes: usize, devices: usize) -> Result<Self, NoMemory>
         ensures { IfOk result (HasRoom nodes devices) }
@@ -42,6 +45,8 @@ impl BlockWork {
             middle: Block::reserve(alloc, nodes)?,
             last: Block::reserve(alloc, nodes)?,
             next: Block::reserve(alloc, nodes)?,
+            held: Block::reserve(alloc, nodes)?,
+            spare: Block::reserve(alloc, nodes)?,
             firsts: Block::reserve(alloc, nodes)?,
             vector: Block::reserve(alloc, nodes)?,
             levels: Levels::reserve(alloc, nodes, devices)?,

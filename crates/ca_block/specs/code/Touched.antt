@@ -1,19 +1,17 @@
--- Which channel groups a turn has touched, and what a turn does that goes over these alone. Only the proofs of
--- the code cite this.
-use Rattle.std.specs.Prelude.{ℕ, Bool, true, false, ◌≡◌, ◌<◌, ◌≤◌, List, length, Some, slice_get, slice_index}
+-- Which channel groups a change of values touches, and the devices of these. Only the proofs of the code cite
+-- this.
+use Rattle.std.specs.Prelude.{ℕ, Bool, false, ◌≡◌, ◌<◌, ◌≤◌, List, length, Some, slice_get, slice_index}
 use Rattle.std.specs.Prelude.{slice_index_or}
 use Rattle.std.specs.List.{All, Contains}
 use Rattle.ca_net.specs.declared.device.Device.{Device}
 use Rattle.ca_net.specs.Circuit.{Circuit}
 use Rattle.ca_net.specs.State.{value_at}
-use Rattle.ca_net.specs.Response.{IsResponse}
-use Rattle.ca_settle.specs.code.Turns.{IsBlurred}
 use Rattle.ca_planes.specs.declared.block.Block.{Block}
 use Rattle.ca_planes.specs.Trits.{state_in}
 
--- nothing is marked at this place; past the list all is
+-- nothing is marked at this place
 abbrev pub IsUnmarked : List Bool → ℕ → Type 0
-IsUnmarked marks place = slice_index_or marks place true ≡ false
+IsUnmarked marks place = slice_index_or marks place false ≡ false
 
 -- what isn't marked wasn't
 abbrev pub StayMarked : List Bool → List Bool → Type 0
@@ -23,21 +21,38 @@ StayMarked old new = (place : ℕ) → IsUnmarked new place → IsUnmarked old p
 abbrev pub IsSameAt : Block → Block → ℕ → Type 0
 IsSameAt s t n = (lane : ℕ) → lane < 64 → value_at (state_in s lane) n ≡ value_at (state_in t lane) n
 
--- of the first nodes, those whose label isn't marked have the same values in both blocks
-abbrev pub AreNodesMarked : ℕ → List ℕ → Block → Block → List Bool → Type 0
-AreNodesMarked count labels s t marks =
-    (n : ℕ) → n < count → IsUnmarked marks (slice_index labels n) → IsSameAt s t n
+-- of the first nodes, those that aren't marked have the same values in both blocks
+abbrev pub AreChanged : ℕ → Block → Block → List Bool → Type 0
+AreChanged count s t changed = (n : ℕ) → n < count → IsUnmarked changed n → IsSameAt s t n
 
--- and so the gates of the first devices, by their homes
-abbrev pub AreGatesMarked : ℕ → List Device → List ℕ → Block → Block → List Bool → Type 0
-AreGatesMarked count devices homes s t marks =
+-- of the first nodes, those whose label isn't marked haven't changed
+abbrev pub AreNodesMarked : ℕ → List ℕ → List Bool → List Bool → Type 0
+AreNodesMarked count labels changed marks =
+    (n : ℕ) → n < count → IsUnmarked marks (slice_index labels n) → IsUnmarked changed n
+
+-- the device's gate and its ends haven't changed
+pub record IsStill (changed : List Bool) (d : Device) : Type 0 where
+  pub gate : IsUnmarked changed d.gate.0
+  pub a : IsUnmarked changed d.a.0
+  pub b : IsUnmarked changed d.b.0
+
+-- and so of the first devices, by their homes
+abbrev pub AreDevicesMarked : ℕ → List Device → List ℕ → List Bool → List Bool → Type 0
+AreDevicesMarked count devices homes changed marks =
     (i : ℕ) (d : Device) → i < count → slice_get devices i ≡ Some d → IsUnmarked marks (slice_index homes i)
-    → IsSameAt s t d.gate.0
+    → IsStill changed d
 
--- where two blocks differ, the groups of the nodes and of the devices with such a gate are marked
+-- the device's gate and its ends have the same values in both blocks
+pub record IsSameAround (s t : Block) (d : Device) : Type 0 where
+  pub gate : IsSameAt s t d.gate.0
+  pub a : IsSameAt s t d.a.0
+  pub b : IsSameAt s t d.b.0
+
+-- where two blocks differ, the groups are marked of the nodes, and of the devices with such a gate or end
 pub record AreMarked (net : Circuit) (labels homes : List ℕ) (s t : Block) (marks : List Bool) : Type 0 where
-  pub nodes : AreNodesMarked (length net.nodes) labels s t marks
-  pub gates : AreGatesMarked (length net.devices) net.devices homes s t marks
+  pub nodes : (n : ℕ) → n < length net.nodes → IsUnmarked marks (slice_index labels n) → IsSameAt s t n
+  pub devices : (i : ℕ) (d : Device) → slice_get net.devices i ≡ Some d
+      → IsUnmarked marks (slice_index homes i) → IsSameAround s t d
 
 -- the device is among the first of the list
 pub record IsAmong (count : ℕ) (chosen : List Device) (d : Device) : Type 0 where
@@ -69,22 +84,3 @@ pub record KeepsUnmarked (nodes : ℕ) (labels : List ℕ) (marks : List Bool) (
       → value_at (state_in new lane) n ≡ value_at (state_in from lane) n
   pub marked : (lane n : ℕ) → n < nodes → (IsUnmarked marks (slice_index labels n) → ⊥)
       → value_at (state_in new lane) n ≡ value_at (state_in old lane) n
-
--- the nodes whose label is marked have their response in each lane, and others what they had
-pub record RespondsWhere (net : Circuit) (labels : List ℕ) (marks : List Bool) (from new : Block)
-    : Type 0 where
-  pub marked : (lane n : ℕ) → lane < 64 → n < length net.nodes
-      → (IsUnmarked marks (slice_index labels n) → ⊥)
-      → IsResponse net (state_in from lane) n (value_at (state_in new lane) n)
-  pub unmarked : (lane n : ℕ) → n < length net.nodes → IsUnmarked marks (slice_index labels n)
-      → value_at (state_in new lane) n ≡ value_at (state_in from lane) n
-
--- the nodes whose label is marked have in each lane the meet of their response and their value, and others
--- their value
-pub record BlursWhere (net : Circuit) (labels : List ℕ) (marks : List Bool) (from new : Block) : Type 0 where
-  pub marked : (lane n : ℕ) → lane < 64 → n < length net.nodes
-      → (IsUnmarked marks (slice_index labels n) → ⊥)
-      → IsBlurred net (state_in from lane) n (value_at (state_in new lane) n)
-  pub unmarked : (lane n : ℕ) → lane < 64 → n < length net.nodes
-      → IsUnmarked marks (slice_index labels n)
-      → value_at (state_in new lane) n ≡ value_at (state_in from lane) n

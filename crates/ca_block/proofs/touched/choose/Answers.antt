@@ -2,7 +2,7 @@ use Rattle.std.proofs.Common.{◌+◌, ◌<◌, length, sym, subst, arith, get_o
 use Rattle.std.proofs.lemmas.Option.{slice_get-get_or}
 use Rattle.ca_levels.proofs.LeadLemmas.{no_device}
 use Rattle.ca_block.specs.code.Touched.{AreChosenTo}
-use Rattle.ca_block.proofs.TouchedLemmas.{chosen_more, chosen_still, chosen_all, read_unmarked}
+use Rattle.ca_block.proofs.TouchedLemmas.{chosen_more, chosen_still, chosen_all}
 use Rattle.ca_block.proofs.touched.choose.Goals as goal
 use Rattle.ca_block.proofs.touched.choose.Goals.{then-marks-homes, else-marks-homes}
 
@@ -23,7 +23,7 @@ loop-i-preserved c =
       | then-marks-homes w ↦ subst (λ k. AreChosenTo devices homes marks (i + 1) k new) (sym w.count-is)
           (chosen_more devices homes marks i count d c.loop-i.chosen lt is before)
       | else-marks-homes w ↦ subst (λ k. AreChosenTo devices homes marks (i + 1) k new) (sym w.count-is)
-          (chosen_still devices homes marks i count d c.loop-i.chosen lt (read_unmarked marks (get_or homes i 0) within w.if-marks-homes.false) before)
+          (chosen_still devices homes marks i count d c.loop-i.chosen lt w.if-marks-homes.false before)
     ]
 
 pub returns-clause-chosen : goal.returns-clause-chosen

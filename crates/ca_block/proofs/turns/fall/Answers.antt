@@ -1,25 +1,27 @@
-use Rattle.std.proofs.Common.{◌<◌, length, sym, ap, subst, arith, IsTrue}
+use Rattle.std.proofs.Common.{◌<◌, ℕ, length, sym, ap, subst, arith, IsTrue}
+use Rattle.ca_net.specs.Response.{AreResponses}
 use Rattle.ca_planes.specs.Trits.{state_in, HasNodes}
 use Rattle.ca_settle.proofs.TurnLemmas.{Falls, falls_turn, falls_end}
-use Rattle.ca_block.proofs.StateLemmas.{falls_begin, is_state}
+use Rattle.ca_block.proofs.StateLemmas.{falls_begin, is_state, blurred_of}
 use Rattle.ca_block.proofs.MeasureLemmas.{falls_smaller}
-use Rattle.ca_settle.specs.code.Turns.{AreBlurred}
-use Rattle.ca_block.specs.code.Touched.{AreMarked}
-use Rattle.ca_block.proofs.GroupLemmas.{blurred_all, blurred_turn}
 use Rattle.ca_block.proofs.turns.fall.Goals as goal
 
 pub falling-init : goal.falling-init
 falling-init g c =
     let net = g.N.Network.circuit c.args.net.now in
+    let room = subst (λ k. HasNodes k c.meet.new.into) c.requires.held.zeros c.meet.ensures.room in
     record {
       at = c.requires.at;
-      next = c.blur_touched.ensures.into;
-      touched = c.blur_touched.ensures.room;
-      levels = c.blur_touched.ensures.levels;
+      next = room;
+      held = c.requires.held;
+      spare = c.requires.spare;
+      touched = c.requires.touched;
+      levels = c.requires.levels;
       falls = λ lane low. falls_begin net (state_in c.args.at.now lane) (is_state (length net.nodes) c.args.at.now lane c.requires.at);
+      responses = λ lane low. c.requires.responses lane (omega (arith, low));
       blurred = λ lane low.
-          blurred_all net c.args.groups.now.labels.items c.mark_all.new.self.marks.items c.args.at.now c.blur_touched.new.into c.mark_all.ensures.all
-          c.blur_touched.ensures.blurs lane low (is_state (length net.nodes) c.blur_touched.new.into lane c.blur_touched.ensures.into);
+          blurred_of net (state_in c.args.at.now lane) (state_in c.args.held.now lane) (state_in c.meet.new.into lane) (is_state (length net.nodes) c.meet.new.into lane room)
+          (c.requires.responses lane (omega (arith, low))) (c.meet.ensures.meets lane (omega (arith, low)));
     }
 
 pub falling-smaller : goal.falling-smaller
@@ -32,21 +34,26 @@ pub falling-preserved : goal.falling-preserved
 falling-preserved g c =
     let net = g.N.Network.circuit c.args.net.now in
     let before = c.falling.invariant in
+    let held = subst (HasNodes (length net.nodes)) (sym c.swap-in-falling.ensures.x_after) c.respond_again.ensures.out in
+    let room = subst (λ k. HasNodes k c.meet-in-falling.new.into) held.zeros c.meet-in-falling.ensures.room in
+    let responds = λ (lane : ℕ) (low : lane < 64).
+    subst (λ b. AreResponses net (state_in b lane) (state_in c.swap-in-falling.new.x lane)) (sym c.swap.ensures.x_after)
+    (subst (λ b. AreResponses net (state_in c.falling.next lane) (state_in b lane)) (sym c.swap-in-falling.ensures.x_after)
+    (c.respond_again.ensures.responses lane (omega (arith, low)))) in
     record {
       at = subst (HasNodes (length net.nodes)) (sym c.swap.ensures.x_after) before.next;
-      next = c.blur_touched-in-falling.ensures.into;
-      touched = c.blur_touched-in-falling.ensures.room;
-      levels = c.blur_touched-in-falling.ensures.levels;
+      next = room;
+      held = held;
+      spare = subst (HasNodes (length net.nodes)) (sym c.swap-in-falling.ensures.y_after) before.held;
+      touched = c.respond_again.ensures.touched;
+      levels = c.respond_again.ensures.levels;
       falls = λ lane low.
           subst (λ b. Falls net (state_in c.args.at.now lane) (state_in b lane)) (sym c.swap.ensures.x_after)
           (falls_turn net c.requires.well_formed (state_in c.args.at.now lane) (state_in c.falling.at lane) (state_in c.falling.next lane) (before.falls lane low) (before.blurred lane low));
+      responses = responds;
       blurred = λ lane low.
-          let to = c.swap.new.x in
-          let was = subst (λ b. AreBlurred net (state_in c.falling.at lane) (state_in b lane)) (sym c.swap.ensures.x_after) (before.blurred lane low) in
-          let marked = subst (λ b. AreMarked net c.args.groups.now.labels.items c.args.groups.now.homes.items c.falling.at b c.mark.new.touched.marks.items) (sym c.swap.ensures.x_after) c.mark.ensures.marked in
-          blurred_turn net c.args.groups.now.labels.items c.args.groups.now.homes.items c.requires.groups.homes c.requires.well_formed c.mark.new.touched.marks.items
-          c.falling.at to c.blur_touched-in-falling.new.into marked c.blur_touched-in-falling.ensures.blurs lane low
-          (is_state (length net.nodes) c.blur_touched-in-falling.new.into lane c.blur_touched-in-falling.ensures.into) was;
+          blurred_of net (state_in c.swap.new.x lane) (state_in c.swap-in-falling.new.x lane) (state_in c.meet-in-falling.new.into lane)
+          (is_state (length net.nodes) c.meet-in-falling.new.into lane room) (responds lane low) (c.meet-in-falling.ensures.meets lane (omega (arith, low)));
     }
 
 pub returns-clause-fallen : goal.returns-clause-fallen

@@ -1,11 +1,9 @@
-use Rattle.std.proofs.Common.{◌<◌, length, sym, ap, subst, arith, IsTrue}
+use Rattle.std.proofs.Common.{◌<◌, ◌∙◌, length, sym, ap, subst, arith, IsTrue}
+use Rattle.ca_net.specs.Response.{AreResponses}
 use Rattle.ca_planes.specs.Trits.{state_in, HasNodes}
 use Rattle.ca_settle.proofs.TurnLemmas.{Rises, rises_turn}
 use Rattle.ca_block.proofs.StateLemmas.{rises_begin, rises_end, is_state}
 use Rattle.ca_block.proofs.MeasureLemmas.{rises_smaller}
-use Rattle.ca_net.specs.Response.{AreResponses}
-use Rattle.ca_block.specs.code.Touched.{AreMarked}
-use Rattle.ca_block.proofs.GroupLemmas.{responses_all, responses_turn}
 use Rattle.ca_block.proofs.turns.rise.Goals as goal
 
 pub rising-init : goal.rising-init
@@ -13,13 +11,12 @@ rising-init g c =
     let net = g.N.Network.circuit c.args.net.now in
     record {
       at = c.requires.at;
-      next = c.respond_touched.ensures.out;
-      touched = c.respond_touched.ensures.room;
-      levels = c.respond_touched.ensures.levels;
+      next = c.requires.next;
+      spare = c.requires.spare;
+      touched = c.requires.touched;
+      levels = c.requires.levels;
       rises = λ lane low. rises_begin net (state_in c.args.at.now lane) (is_state (length net.nodes) c.args.at.now lane c.requires.at) (c.requires.held lane (omega (arith, low)));
-      responses = λ lane low.
-          responses_all net c.args.groups.now.labels.items c.mark_all.new.self.marks.items c.args.at.now c.respond_touched.new.out c.mark_all.ensures.all
-          c.respond_touched.ensures.responds lane low (is_state (length net.nodes) c.respond_touched.new.out lane c.respond_touched.ensures.out);
+      responses = λ lane low. c.requires.responses lane (omega (arith, low));
     }
 
 pub rising-smaller : goal.rising-smaller
@@ -34,19 +31,17 @@ rising-preserved g c =
     let before = c.rising.invariant in
     record {
       at = subst (HasNodes (length net.nodes)) (sym c.swap.ensures.x_after) before.next;
-      next = c.respond_touched-in-rising.ensures.out;
-      touched = c.respond_touched-in-rising.ensures.room;
-      levels = c.respond_touched-in-rising.ensures.levels;
+      next = subst (HasNodes (length net.nodes)) (sym c.swap-in-rising.ensures.x_after) c.respond_again.ensures.out;
+      spare = subst (HasNodes (length net.nodes)) (sym (c.swap-in-rising.ensures.y_after ∙ c.swap.ensures.y_after)) before.at;
+      touched = c.respond_again.ensures.touched;
+      levels = c.respond_again.ensures.levels;
       rises = λ lane low.
           subst (λ b. Rises net (state_in c.args.at.now lane) (state_in b lane)) (sym c.swap.ensures.x_after)
           (rises_turn net c.requires.well_formed (state_in c.args.at.now lane) (state_in c.rising.at lane) (state_in c.rising.next lane) (before.rises lane low) (before.responses lane low));
       responses = λ lane low.
-          let to = c.swap.new.x in
-          let was = subst (λ b. AreResponses net (state_in c.rising.at lane) (state_in b lane)) (sym c.swap.ensures.x_after) (before.responses lane low) in
-          let marked = subst (λ b. AreMarked net c.args.groups.now.labels.items c.args.groups.now.homes.items c.rising.at b c.mark.new.touched.marks.items) (sym c.swap.ensures.x_after) c.mark.ensures.marked in
-          responses_turn net c.args.groups.now.labels.items c.args.groups.now.homes.items c.requires.groups.homes c.requires.well_formed c.mark.new.touched.marks.items
-          c.rising.at to c.respond_touched-in-rising.new.out marked c.respond_touched-in-rising.ensures.responds lane low
-          (is_state (length net.nodes) c.respond_touched-in-rising.new.out lane c.respond_touched-in-rising.ensures.out) was;
+          subst (λ b. AreResponses net (state_in b lane) (state_in c.swap-in-rising.new.x lane)) (sym c.swap.ensures.x_after)
+          (subst (λ b. AreResponses net (state_in c.rising.next lane) (state_in b lane)) (sym c.swap-in-rising.ensures.x_after)
+          (c.respond_again.ensures.responses lane (omega (arith, low))));
     }
 
 pub returns-clause-risen : goal.returns-clause-risen
