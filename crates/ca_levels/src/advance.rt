@@ -8,7 +8,7 @@ ghost use Rattle.ca_net.specs.Passing.{PassesAt};
 ghost use Rattle.ca_relax.specs.code.Spread.{Passes};
 ghost use Rattle.ca_planes.specs.Plane.{has_lane, lane_at};
 ghost use Rattle.ca_planes.specs.Trits.{HasNodes, state_in, value_in};
-ghost use Rattle.ca_levels.specs.Given.{IsCarriedByNone};
+ghost use Rattle.ca_levels.specs.Given.{IsGivenByNone, IsCarriedByNone};
 ghost use Rattle.ca_levels.specs.code.Come.{AreClosed, AreIdle};
 ghost use Rattle.ca_levels.specs.code.Advance.{IsPassing, AreLinked, IsBegun, HaveBegun, IsSpread};
 
@@ -68,14 +68,26 @@ fn begun(own: u8, level: u8, source: u64, blocked: u64, reached: u64) -> u64
     }
 }
 
-// Adds the lanes in which paths of exactly this strength begin at each node. Whether some node has more.
-fn begin(own: &[u8], level: u8, source: &[u64], blocked: &[u64], reached: &mut [u64]) -> bool
+// Adds the lanes in which paths of exactly this strength begin at each node, if some node gives it. Whether
+// some node has more.
+fn begin(
+    own: &[u8],
+    level: u8,
+    given: bool,
+    source: &[u64],
+    blocked: &[u64],
+    reached: &mut [u64],
+) -> bool
+    requires given { given ≡ false → IsGivenByNone own.now level }
     requires source { length source.now ≡ length own.now }
     requires blocked { length blocked.now ≡ length own.now }
     requires reached { length reached.old ≡ length own.now }
     ensures begun { HaveBegun (length own.now) own.now level source.now blocked.now reached.old reached.new }
     ensures same { result ≡ false → reached.new ≡ reached.old }
 {
+    if !given {
+        return false;
+    }
     let mut more = false;
     for node in 0..own.len() {
         let old = reached[node];
@@ -121,13 +133,14 @@ pub(crate) fn relink(
 }
 
 /// From the lanes in which stronger paths reach each node finds those in which paths of at least this
-/// strength do: paths from nodes of `source`, through nodes that aren't blocked. `idle` says that no link has
-/// a lane, and `fresh` that some device has just this strength: where none has, and no path begins, what was
-/// reached stays.
+/// strength do: paths from nodes of `source`, through nodes that aren't blocked. `given` says that some node
+/// has just this strength, `idle` that no link has a lane, and `fresh` that some device has just this
+/// strength: where none has, and no path begins, what was reached stays.
 pub(crate) fn advance(
     devices: &[Device],
     own: &[u8],
     level: u8,
+    given: bool,
     idle: bool,
     fresh: bool,
     links: &[u64],
@@ -140,12 +153,13 @@ pub(crate) fn advance(
     requires source { length source.now ≡ length own.now }
     requires blocked { length blocked.now ≡ length own.now }
     requires reached { length reached.old ≡ length own.now }
+    requires given { given ≡ false → IsGivenByNone own.now level }
     requires idle { idle ≡ true → AreIdle devices.now links.now blocked.now }
     requires closed { fresh ≡ false → AreClosed devices.now links.now blocked.now reached.old }
     ensures { IsSpread
         devices.now own.now level links.now source.now blocked.now reached.old reached.new }
 {
-    let more = begin(own, level, source, blocked, reached);
+    let more = begin(own, level, given, source, blocked, reached);
     if !idle && (fresh || more) {
         close(devices, links, blocked, reached);
     }
@@ -157,6 +171,7 @@ pub(crate) fn advance_pair(
     devices: &[Device],
     own: &[u8],
     level: u8,
+    given: bool,
     idle: bool,
     fresh: bool,
     links: &[u64],
@@ -173,6 +188,7 @@ pub(crate) fn advance_pair(
     requires blocked { length blocked.now ≡ length own.now }
     requires zeros { length zeros.old ≡ length own.now }
     requires ones { length ones.old ≡ length own.now }
+    requires given { given ≡ false → IsGivenByNone own.now level }
     requires idle { idle ≡ true → AreIdle devices.now links.now blocked.now }
     requires zeros_closed { fresh ≡ false → AreClosed devices.now links.now blocked.now zeros.old }
     requires ones_closed { fresh ≡ false → AreClosed devices.now links.now blocked.now ones.old }
@@ -181,8 +197,8 @@ pub(crate) fn advance_pair(
     ensures ones { IsSpread
         devices.now own.now level links.now not_zeros.now blocked.now ones.old ones.new }
 {
-    let more_zeros = begin(own, level, not_ones, blocked, zeros);
-    let more_ones = begin(own, level, not_zeros, blocked, ones);
+    let more_zeros = begin(own, level, given, not_ones, blocked, zeros);
+    let more_ones = begin(own, level, given, not_zeros, blocked, ones);
     if !idle && (fresh || more_zeros || more_ones) {
         close_pair(devices, links, blocked, zeros, ones);
     }

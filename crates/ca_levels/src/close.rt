@@ -157,7 +157,7 @@ fn sweep_pair_back(
         zeros_rose = zeros_rose || zero;
         ones_rose = ones_rose || one;
     }
-    zeros_rose || ones_rose
+    ones_rose || zeros_rose
 }
 
 // Goes over all devices and back, if some node had more lanes. Whether some node still had on the way back.

@@ -56,6 +56,7 @@ fn lower<N: Network>(
         (with_devices (N.circuit _net.now) devices.now) from.now (level - 1) levels.new out.new }
     ensures spread { IsSpreadTo devices.now from.now (level - 1) levels.new out.new }
 {
+    let given = levels.given[level as usize];
     let fresh = levels.carried[level as usize];
     let idle = is_idle(level, fresh);
     relink(
@@ -70,6 +71,7 @@ fn lower<N: Network>(
         devices,
         &levels.own,
         level,
+        given,
         idle,
         fresh,
         &levels.potential,
@@ -83,6 +85,7 @@ fn lower<N: Network>(
         devices,
         &levels.own,
         level,
+        given,
         idle,
         fresh,
         &levels.definite,

@@ -1,5 +1,6 @@
 use Rattle.std.proofs.Common.{◌≡◌, ◌∙◌, ◌-◌, ◌+◌, refl, sym, subst, arith, length}
 use Rattle.ca_net.specs.declared.path_kind.PathKind.TheVariants.{Definite, Potential}
+use Rattle.ca_levels.specs.Given.{IsGivenByNone}
 use Rattle.ca_levels.specs.code.Advance.{AreLinked}
 use Rattle.ca_levels.proofs.AdvanceLemmas.{closed_more, spread_keeps}
 use Rattle.ca_levels.proofs.ResponseLemmas.{written_back, reached_more, read_as, linked_as, closed_as, idle_as, read_false, some_carried}
@@ -109,3 +110,17 @@ relink-requires-clause-unused g c stale =
     let holds = c.requires.loaded.holds in
     some_carried (g.N.Network.circuit c.args._net.now) c.args.devices.now c.args.level c.requires.some (holds.carried c.args.level (omega (arith, c.requires.scale))
     (read_false levels.carried.items c.args.level c.index-fresh.result.now (omega (arith, holds.room.carried_room, c.requires.scale)) c.index-fresh.ensures stale))
+
+pub advance_pair-requires-clause-given : goal.advance_pair-requires-clause-given
+advance_pair-requires-clause-given g c stale =
+    let levels = c.args.levels.now in
+    let holds = c.requires.loaded.holds in
+    subst (λ xs. IsGivenByNone xs c.args.level) (sym c.deref.ensures.value) (holds.given c.args.level (omega (arith, c.requires.scale))
+    (read_false levels.given.items c.args.level c.index-given.result.now (omega (arith, holds.room.given_room, c.requires.scale)) c.index-given.ensures stale))
+
+pub advance-requires-clause-given : goal.advance-requires-clause-given
+advance-requires-clause-given g c stale =
+    let levels = c.args.levels.now in
+    let holds = c.requires.loaded.holds in
+    subst (λ xs. IsGivenByNone xs c.args.level) (sym c.deref-6.ensures.value) (holds.given c.args.level (omega (arith, c.requires.scale))
+    (read_false levels.given.items c.args.level c.index-given.result.now (omega (arith, holds.room.given_room, c.requires.scale)) c.index-given.ensures stale))
