@@ -124,7 +124,7 @@ module _ (net : Circuit) (well_formed : IsWellFormed net) (s : List Trit) (lane 
   pub none_reached : stronger ≡ replicate (length net.nodes) 0 → zeros ≡ replicate (length net.nodes) 0 → ones ≡ replicate (length net.nodes) 0
       → IsReachedIn net s lane INPUT stronger zeros ones
   none_reached is_stronger is_zeros is_ones = record {
-    stronger_there = λ n lt. (λ has. absurd (no_lane stronger is_stronger n lt has), λ h. absurd (too_strong h.path h.is_path h.stronger));
+    stronger_there = λ pos n lt. (λ has. absurd (no_lane stronger is_stronger n lt has), λ h. absurd (too_strong h.path h.is_path h.stronger));
     not_one = λ n lt. (λ has. absurd (no_lane zeros is_zeros n lt has), λ w. absurd (too_strong w.path w.is_path w.stronger));
     not_zero = λ n lt. (λ has. absurd (no_lane ones is_ones n lt has), λ w. absurd (too_strong w.path w.is_path w.stronger));
   } where
@@ -143,7 +143,7 @@ pub reached_more : (whole : Circuit) (devices : List Device) → IsWellFormed (w
     → IsReachedIn (with_devices whole devices) (state_in from lane) lane level levels.stronger.items zeros ones
     → IsAdvanced devices levels.own.items from Potential level from.ones.items levels.stronger.items ones new_ones
     → IsAdvanced devices levels.own.items from Potential level levels.not_ones.items levels.stronger.items zeros new_zeros
-    → IsAdvanced devices levels.own.items from Definite level levels.all.items levels.none.items levels.stronger.items new_stronger
+    → (0 < level - 1 → IsAdvanced devices levels.own.items from Definite level levels.all.items levels.none.items levels.stronger.items new_stronger)
     → IsReachedIn (with_devices whole devices) (state_in from lane) lane (level - 1) new_stronger new_zeros new_ones
 reached_more whole devices well_formed from levels level lane zeros ones new_stronger new_zeros new_ones some low nodes loaded above by_ones by_zeros by_stronger =
     let net = with_devices whole devices in
@@ -167,17 +167,17 @@ reached_more whole devices well_formed from levels level lane zeros ones new_str
     let zero : get_or levels.none.items n 0 ≡ 0 = ap (λ xs. get_or xs n 0) holds.room.none ∙ get_or-replicate (length net.nodes) n 0 0 lt in
     (λ has. let e : false ≡ true = sym (ap (λ w. has_lane w lane) zero ∙ in_none lane) ∙ has in cc, λ never. absurd never)
     in
-    let strong = advanced net from Definite (λ n k. ⊥) (λ r. Unit {0}) well_formed (level - 1) lane level devices levels.own.items levels.all.items
+    let strong = λ (pos : 0 < level - 1). advanced net from Definite (λ n k. ⊥) (λ r. Unit {0}) well_formed (level - 1) lane level devices levels.own.items levels.all.items
     levels.none.items levels.stronger.items new_stronger is low refl holds.room.own holds.own (λ n i j le never. never) none all
-    (λ n lt. let both = above.stronger_there n lt in (λ has. way_of_stronger net s n level (both.0 has), λ w. both.1 (stronger_of_way net s n level w))) by_stronger in
+    (λ n lt. let both = above.stronger_there some n lt in (λ has. way_of_stronger net s n level (both.0 has), λ w. both.1 (stronger_of_way net s n level w))) (by_stronger pos) in
     record {
-      stronger_there = λ n lt. let both = strong n lt in
+      stronger_there = λ pos n lt. let both = strong pos n lt in
           (λ has. stronger_of_way net s n (level - 1) (both.0 has), λ h. both.1 (way_of_stronger net s n (level - 1) h));
       not_one = advanced net from Potential (HasStronger net s) (λ r. value_at s r ≢ One) well_formed (level - 1) lane level devices levels.own.items
-          levels.not_ones.items levels.stronger.items zeros new_zeros is low refl holds.room.own holds.own (stronger_falls net s) above.stronger_there not_ones
+          levels.not_ones.items levels.stronger.items zeros new_zeros is low refl holds.room.own holds.own (stronger_falls net s) (above.stronger_there some) not_ones
           above.not_one by_zeros;
       not_zero = advanced net from Potential (HasStronger net s) (λ r. value_at s r ≢ Zero) well_formed (level - 1) lane level devices levels.own.items
-          from.ones.items levels.stronger.items ones new_ones is low refl holds.room.own holds.own (stronger_falls net s) above.stronger_there others
+          from.ones.items levels.stronger.items ones new_ones is low refl holds.room.own holds.own (stronger_falls net s) (above.stronger_there some) others
           above.not_zero by_ones;
     }
 
@@ -275,7 +275,7 @@ module _ (net : Circuit) (own : List ℕ) (devices : List Device) (level : ℕ) 
   pub reached_unused : (s : List Trit) (lane : ℕ) (stronger zeros ones : List ℕ) → 0 < level → IsReachedIn net s lane level stronger zeros ones
       → IsReachedIn net s lane (level - 1) stronger zeros ones
   reached_unused s lane stronger zeros ones some h = record {
-    stronger_there = λ n lt. let both = h.stronger_there n lt in (
+    stronger_there = λ pos n lt. let both = h.stronger_there some n lt in (
       λ has. stronger_falls net s n (level - 1) level (omega arith) (both.0 has),
       λ w. both.1 (record { path = w.path; is_path = w.is_path; ends = w.ends; definite = w.definite; stronger = more w.path w.is_path w.stronger }),
     );
@@ -303,7 +303,7 @@ spread_unused devices from level levels out some none h =
       definite = subst (λ k. AreLinked (length devices) devices from Definite k levels.definite.items) is definite;
       zeros = h.zeros;
       ones = h.ones;
-      stronger = h.stronger;
+      stronger = λ pos. h.stronger some;
       potential_none = λ le. h.potential_none (omega arith);
       definite_none = λ le. h.definite_none (omega arith);
     }
@@ -320,7 +320,7 @@ spread_none net well_formed from levels out room potential definite stronger zer
       definite = linked_none net well_formed devices from Definite (length devices) room levels.definite.items refl definite;
       zeros = closed_none devices levels.potential.items levels.stronger.items out.zeros.items (length net.nodes) zeros;
       ones = closed_none devices levels.potential.items levels.stronger.items out.ones.items (length net.nodes) ones;
-      stronger = closed_none devices levels.definite.items levels.none.items levels.stronger.items (length net.nodes) stronger;
+      stronger = λ pos. closed_none devices levels.definite.items levels.none.items levels.stronger.items (length net.nodes) stronger;
       potential_none = λ le. idle_none devices levels.potential.items room potential;
       definite_none = λ le. idle_none devices levels.definite.items room definite;
     }
@@ -346,3 +346,8 @@ some_carried net devices level some none i d is =
     let has = some.among i d lt in
     subst (λ (x : Device). x.strength ≢ level) (get_or_from_slice_get devices i d d is)
     (none has.0 (get_or devices i d) (placed net (get_or devices i d) has))
+
+-- above the lowest strength there is one
+pub not_lowest : (level : ℕ) (last : Bool) → (last ≡ true → level ≡ 1) → 0 < level - 1 → last ≡ false
+not_lowest level true is pos = absurd (let e = is refl in omega (arith, e, pos))
+not_lowest level false is pos = refl

@@ -11,6 +11,7 @@ ghost use Rattle.ca_planes.specs.Trits.{HasNodes, state_in, value_in};
 ghost use Rattle.ca_levels.specs.Given.{IsGivenByNone, IsCarriedByNone};
 ghost use Rattle.ca_levels.specs.code.Come.{AreClosed, AreIdle};
 ghost use Rattle.ca_levels.specs.code.Advance.{IsPassing, AreLinked, IsBegun, HaveBegun, IsSpread};
+ghost use Rattle.ca_levels.specs.code.Advance.{StayReached};
 
 use crate::close::{close, close_pair};
 use ca_net::{Device, DeviceKind, PathKind};
@@ -135,7 +136,8 @@ pub(crate) fn relink(
 /// From the lanes in which stronger paths reach each node finds those in which paths of at least this
 /// strength do: paths from nodes of `source`, through nodes that aren't blocked. `given` says that some node
 /// has just this strength, `idle` that no link has a lane, and `fresh` that some device has just this
-/// strength: where none has, and no path begins, what was reached stays.
+/// strength: where none has, and no path begins, what was reached stays. `last` says that nobody asks for it:
+/// what was reached stays too.
 pub(crate) fn advance(
     devices: &[Device],
     own: &[u8],
@@ -143,6 +145,7 @@ pub(crate) fn advance(
     given: bool,
     idle: bool,
     fresh: bool,
+    last: bool,
     links: &[u64],
     source: &[u64],
     blocked: &[u64],
@@ -156,9 +159,13 @@ pub(crate) fn advance(
     requires given { given ≡ false → IsGivenByNone own.now level }
     requires idle { idle ≡ true → AreIdle devices.now links.now blocked.now }
     requires closed { fresh ≡ false → AreClosed devices.now links.now blocked.now reached.old }
-    ensures { IsSpread
+    ensures spread { last ≡ false → IsSpread
         devices.now own.now level links.now source.now blocked.now reached.old reached.new }
+    ensures kept { StayReached reached.old reached.new }
 {
+    if last {
+        return;
+    }
     let more = begin(own, level, given, source, blocked, reached);
     if !idle && (fresh || more) {
         close(devices, links, blocked, reached);

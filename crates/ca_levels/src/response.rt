@@ -30,6 +30,13 @@ fn is_idle(level: u8, fresh: bool) -> bool
     level >= INPUT && !fresh
 }
 
+// Whether the level is the lowest strength: no path is blocked by a definite one of that strength.
+fn is_lowest(level: u8) -> bool
+    ensures { result ≡ true → level ≡ 1 }
+{
+    level == 1
+}
+
 // From the nodes that paths stronger than the level reach finds those that paths of at least its strength
 // reach.
 fn lower<N: Network>(
@@ -59,6 +66,7 @@ fn lower<N: Network>(
     let given = levels.given[level as usize];
     let fresh = levels.carried[level as usize];
     let idle = is_idle(level, fresh);
+    let last = is_lowest(level);
     relink(
         devices,
         from,
@@ -88,6 +96,7 @@ fn lower<N: Network>(
         given,
         idle,
         fresh,
+        last,
         &levels.definite,
         &levels.all,
         &levels.none,

@@ -28,11 +28,11 @@ pub record IsLoaded (net : Circuit) (from : Block) (levels : Levels) : Type 0 wh
   pub holds : HoldsNetwork net levels
   pub not_ones : AreNotOnes from levels.not_ones.items
 
--- in the lane the planes are of the nodes to which a definite path is stronger than k, and of those that a
--- path of another value than 1, or than 0, reaches that is stronger than k
+-- in the lane the planes are of the nodes to which a definite path is stronger than k, unless that is 0, and
+-- of those that a path of another value than 1, or than 0, reaches that is stronger than k
 pub record IsReachedIn (net : Circuit) (s : List Trit) (lane k : ℕ) (stronger zeros ones : List ℕ)
     : Type 0 where
-  pub stronger_there : AreThose net lane (λ n. HasStronger net s n k) stronger
+  pub stronger_there : 0 < k → AreThose net lane (λ n. HasStronger net s n k) stronger
   pub not_one : AreThose net lane (λ n. HasOther net s One n k) zeros
   pub not_zero : AreThose net lane (λ n. HasOther net s Zero n k) ones
 
@@ -56,7 +56,8 @@ pub record IsSpreadTo (devices : List Device) (from : Block) (k : ℕ) (levels :
       levels.definite.items
   pub zeros : AreClosed devices levels.potential.items levels.stronger.items out.zeros.items
   pub ones : AreClosed devices levels.potential.items levels.stronger.items out.ones.items
-  pub stronger : AreClosed devices levels.definite.items levels.none.items levels.stronger.items
+  pub stronger : 0 < k
+      → AreClosed devices levels.definite.items levels.none.items levels.stronger.items
   pub potential_none : INPUT ≤ k
       → (blocked : List ℕ) → AreIdle devices levels.potential.items blocked
   pub definite_none : INPUT ≤ k

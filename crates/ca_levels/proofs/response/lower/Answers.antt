@@ -1,9 +1,9 @@
-use Rattle.std.proofs.Common.{◌≡◌, ◌∙◌, ◌-◌, ◌+◌, refl, sym, subst, arith, length}
+use Rattle.std.proofs.Common.{◌≡◌, ◌<◌, ◌∙◌, ◌-◌, ◌+◌, refl, sym, subst, arith, length}
 use Rattle.ca_net.specs.declared.path_kind.PathKind.TheVariants.{Definite, Potential}
 use Rattle.ca_levels.specs.Given.{IsGivenByNone}
-use Rattle.ca_levels.specs.code.Advance.{AreLinked}
-use Rattle.ca_levels.proofs.AdvanceLemmas.{closed_more, spread_keeps}
-use Rattle.ca_levels.proofs.ResponseLemmas.{written_back, reached_more, read_as, linked_as, closed_as, idle_as, read_false, some_carried}
+use Rattle.ca_levels.specs.code.Advance.{AreLinked, StayReached}
+use Rattle.ca_levels.proofs.AdvanceLemmas.{closed_more}
+use Rattle.ca_levels.proofs.ResponseLemmas.{not_lowest, written_back, reached_more, read_as, linked_as, closed_as, idle_as, read_false, some_carried}
 use Rattle.ca_levels.proofs.response.lower.Goals as goal
 
 pub relink-requires-clause-potential : goal.relink-requires-clause-potential
@@ -42,7 +42,7 @@ pub advance-requires-clause-closed : goal.advance-requires-clause-closed
 advance-requires-clause-closed g c stale =
     let levels = c.args.levels.now in
     closed_as refl (c.deref-7.ensures.value ∙ (written_back c.relink.new.definite levels.definite.items levels.definite.len (sym c.deref_mut-2.ensures.len ∙ sym c.relink.auto.definite)) ∙ c.relink.ensures.definite_same stale ∙ c.deref_mut-2.ensures.value)
-    c.deref-9.ensures.value c.deref_mut-5.ensures.value c.requires.spread.stronger
+    c.deref-9.ensures.value c.deref_mut-5.ensures.value (c.requires.spread.stronger c.requires.level)
 
 pub returns-clause-reached : goal.returns-clause-reached
 returns-clause-reached g c lane low =
@@ -51,6 +51,7 @@ returns-clause-reached g c lane low =
     let from = c.args.from.now in
     let levels = c.args.levels.now in
     let out = c.args.out.now in
+    let not_last = λ (pos : 0 < c.args.level - 1). not_lowest c.args.level c.is_lowest-last.result c.is_lowest-last.ensures pos in
     rw ((written_back c.advance.new.reached levels.stronger.items levels.stronger.len (sym c.deref_mut-5.ensures.len ∙ sym c.advance.auto.reached)), (written_back c.advance_pair.new.zeros out.zeros.items out.zeros.len (sym c.deref_mut-3.ensures.len ∙ sym c.advance_pair.auto.zeros)), (written_back c.advance_pair.new.ones out.ones.items out.ones.len (sym c.deref_mut-4.ensures.len ∙ sym c.advance_pair.auto.ones)))
     (reached_more whole devices c.requires.well_formed from levels c.args.level lane out.zeros.items out.ones.items c.advance.new.reached c.advance_pair.new.zeros
     c.advance_pair.new.ones c.requires.level low c.requires.from c.requires.loaded (c.requires.above lane low)
@@ -66,11 +67,11 @@ returns-clause-reached g c lane low =
       spread = read_as refl c.deref.ensures.value (c.deref-2.ensures.value ∙ (written_back c.relink.new.potential levels.potential.items levels.potential.len (sym c.deref_mut.ensures.len ∙ sym c.relink.auto.potential))) c.deref-3.ensures.value c.deref-5.ensures.value
           c.deref_mut-3.ensures.value c.advance_pair.ensures.zeros;
     })
-    (record {
+    (λ pos. record {
       links = c.relink.new.definite;
       linked = linked_as c.args.from.now Definite c.args.level refl refl c.relink.ensures.definite;
       spread = read_as refl c.deref-6.ensures.value (c.deref-7.ensures.value ∙ (written_back c.relink.new.definite levels.definite.items levels.definite.len (sym c.deref_mut-2.ensures.len ∙ sym c.relink.auto.definite))) c.deref-8.ensures.value c.deref-9.ensures.value
-          c.deref_mut-5.ensures.value c.advance.ensures;
+          c.deref_mut-5.ensures.value (c.advance.ensures.spread (not_last pos));
     }))
 
 pub returns-clause-spread : goal.returns-clause-spread
@@ -87,11 +88,11 @@ returns-clause-spread g c =
     c.deref_mut-3.ensures.value c.advance_pair.ensures.zeros in
     let ones = read_as refl c.deref.ensures.value (c.deref-2.ensures.value ∙ (written_back c.relink.new.potential levels.potential.items levels.potential.len (sym c.deref_mut.ensures.len ∙ sym c.relink.auto.potential))) c.deref-4.ensures.value c.deref-5.ensures.value
     c.deref_mut-4.ensures.value c.advance_pair.ensures.ones in
-    let strong = read_as refl c.deref-6.ensures.value (c.deref-7.ensures.value ∙ (written_back c.relink.new.definite levels.definite.items levels.definite.len (sym c.deref_mut-2.ensures.len ∙ sym c.relink.auto.definite))) c.deref-8.ensures.value c.deref-9.ensures.value
-    c.deref_mut-5.ensures.value c.advance.ensures in
-    let room = c.requires.loaded.holds.room in
-    let keeps = spread_keeps devices own c.args.level c.relink.new.definite levels.all.items levels.none.items levels.stronger.items c.advance.new.reached
-    (room.stronger ∙ sym room.own) strong in
+    let not_last = λ (pos : 0 < c.args.level - 1). not_lowest c.args.level c.is_lowest-last.result c.is_lowest-last.ensures pos in
+    let strong = λ (pos : 0 < c.args.level - 1). read_as refl c.deref-6.ensures.value (c.deref-7.ensures.value ∙ (written_back c.relink.new.definite levels.definite.items levels.definite.len (sym c.deref_mut-2.ensures.len ∙ sym c.relink.auto.definite))) c.deref-8.ensures.value c.deref-9.ensures.value
+    c.deref_mut-5.ensures.value (c.advance.ensures.spread (not_last pos)) in
+    let keeps : StayReached levels.stronger.items c.advance.new.reached =
+    subst (λ xs. StayReached xs c.advance.new.reached) c.deref_mut-5.ensures.value c.advance.ensures.kept in
     record {
       potential = linked_as from Potential (c.args.level - 1 + 1) refl (written_back c.relink.new.potential levels.potential.items levels.potential.len (sym c.deref_mut.ensures.len ∙ sym c.relink.auto.potential)) (subst (λ k. AreLinked (length devices) devices from Potential k c.relink.new.potential) is potential);
       definite = linked_as from Definite (c.args.level - 1 + 1) refl (written_back c.relink.new.definite levels.definite.items levels.definite.len (sym c.deref_mut-2.ensures.len ∙ sym c.relink.auto.definite)) (subst (λ k. AreLinked (length devices) devices from Definite k c.relink.new.definite) is definite);
@@ -99,7 +100,7 @@ returns-clause-spread g c =
           (closed_more devices c.relink.new.potential levels.stronger.items c.advance.new.reached c.advance_pair.new.zeros keeps zeros.closed);
       ones = closed_as refl (written_back c.relink.new.potential levels.potential.items levels.potential.len (sym c.deref_mut.ensures.len ∙ sym c.relink.auto.potential)) (written_back c.advance.new.reached levels.stronger.items levels.stronger.len (sym c.deref_mut-5.ensures.len ∙ sym c.advance.auto.reached)) (written_back c.advance_pair.new.ones out.ones.items out.ones.len (sym c.deref_mut-4.ensures.len ∙ sym c.advance_pair.auto.ones))
           (closed_more devices c.relink.new.potential levels.stronger.items c.advance.new.reached c.advance_pair.new.ones keeps ones.closed);
-      stronger = closed_as refl (written_back c.relink.new.definite levels.definite.items levels.definite.len (sym c.deref_mut-2.ensures.len ∙ sym c.relink.auto.definite)) refl (written_back c.advance.new.reached levels.stronger.items levels.stronger.len (sym c.deref_mut-5.ensures.len ∙ sym c.advance.auto.reached)) strong.closed;
+      stronger = λ pos. closed_as refl (written_back c.relink.new.definite levels.definite.items levels.definite.len (sym c.deref_mut-2.ensures.len ∙ sym c.relink.auto.definite)) refl (written_back c.advance.new.reached levels.stronger.items levels.stronger.len (sym c.deref_mut-5.ensures.len ∙ sym c.advance.auto.reached)) (strong pos).closed;
       potential_none = λ le. absurd (omega (arith, le, c.requires.scale, c.requires.level));
       definite_none = λ le. absurd (omega (arith, le, c.requires.scale, c.requires.level));
     }
