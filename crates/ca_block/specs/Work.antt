@@ -13,7 +13,7 @@ pub record HasStates (nodes : ℕ) (work : BlockWork) : Type 0 where
   pub middle : HasNodes nodes work.middle
   pub last : HasNodes nodes work.last
   pub next : HasNodes nodes work.next
-  pub held : HasNodes nodes work.held
+  pub known : HasNodes nodes work.known
   pub spare : HasNodes nodes work.spare
   pub firsts : HasNodes nodes work.firsts
   pub vector : HasNodes nodes work.vector

@@ -77,13 +77,13 @@ pub fn settle_block<N: Network>(
         &work.groups,
         &mut work.touched,
         &mut work.levels,
-        &mut work.held,
+        &mut work.known,
     );
     fall(
         net,
         &mut work.middle,
         &mut work.next,
-        &mut work.held,
+        &mut work.known,
         &mut work.spare,
         &work.groups,
         &mut work.touched,
@@ -93,7 +93,7 @@ pub fn settle_block<N: Network>(
     respond_again(
         net,
         &work.middle,
-        &work.held,
+        &work.known,
         &work.last,
         &work.groups,
         &mut work.touched,

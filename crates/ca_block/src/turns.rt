@@ -71,13 +71,13 @@ pub(crate) fn rise<N: Network>(
     }
 }
 
-/// Takes the state of each lane down to where each storage node is at or below its response. In `held` are
-/// the responses of the state, at first and at last.
+/// Takes the state of each lane down to where each storage node is at or below its response. In `known`
+/// are the responses of the state, at first and at last.
 pub(crate) fn fall<N: Network>(
     net: &N,
     at: &mut Block,
     next: &mut Block,
-    held: &mut Block,
+    known: &mut Block,
     spare: &mut Block,
     groups: &Groups,
     touched: &mut Touched,
@@ -86,32 +86,32 @@ pub(crate) fn fall<N: Network>(
     requires well_formed { IsWellFormed (N.circuit net.now) }
     requires at { HasNodes (length (N.circuit net.now).nodes) at.old }
     requires next { HasNodes (length (N.circuit net.now).nodes) next.old }
-    requires held { HasNodes (length (N.circuit net.now).nodes) held.old }
+    requires known { HasNodes (length (N.circuit net.now).nodes) known.old }
     requires spare { HasNodes (length (N.circuit net.now).nodes) spare.old }
     requires groups { HoldsGroups (N.circuit net.now) groups.now }
     requires touched { HasTouchedRoom
         (length (N.circuit net.now).nodes) (length (N.circuit net.now).devices) touched.old }
     requires levels { HoldsNetwork (N.circuit net.now) levels.old }
     requires responses { (lane : ℕ) → lane < LANES → AreResponses (N.circuit net.now)
-        (state_in at.old lane) (state_in held.old lane) }
+        (state_in at.old lane) (state_in known.old lane) }
 
     ensures fallen { (lane : ℕ) → lane < LANES
         → FallsTo (N.circuit net.now) (state_in at.old lane) (state_in at.new lane) }
     ensures responses { (lane : ℕ) → lane < LANES → AreResponses (N.circuit net.now)
-        (state_in at.new lane) (state_in held.new lane) }
+        (state_in at.new lane) (state_in known.new lane) }
     ensures at { HasNodes (length (N.circuit net.now).nodes) at.new }
     ensures next { HasNodes (length (N.circuit net.now).nodes) next.new }
-    ensures held { HasNodes (length (N.circuit net.now).nodes) held.new }
+    ensures known { HasNodes (length (N.circuit net.now).nodes) known.new }
     ensures spare { HasNodes (length (N.circuit net.now).nodes) spare.new }
     ensures touched { HasTouchedRoom
         (length (N.circuit net.now).nodes) (length (N.circuit net.now).devices) touched.new }
     ensures levels { HoldsNetwork (N.circuit net.now) levels.new }
 {
-    meet(held, at, next);
+    meet(known, at, next);
     'falling: while !is_same(at, next) {
-        respond_again(net, at, held, next, groups, touched, levels, spare);
+        respond_again(net, at, known, next, groups, touched, levels, spare);
         mem::swap(at, next);
-        mem::swap(held, spare);
-        meet(held, at, next);
+        mem::swap(known, spare);
+        meet(known, at, next);
     }
 }

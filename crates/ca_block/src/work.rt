@@ -22,7 +22,7 @@ pub struct BlockWork {
     // the state to which a turn leads
     pub(crate) next: Block,
     // the responses of a state, and room for those of the next
-    pub(crate) held: Block,
+    pub(crate) known: Block,
     pub(crate) spare: Block,
     // first limits that are kept for many pairs
     pub(crate) firsts: Block,
@@ -45,7 +45,7 @@ impl BlockWork {
             middle: Block::reserve(alloc, nodes)?,
             last: Block::reserve(alloc, nodes)?,
             next: Block::reserve(alloc, nodes)?,
-            held: Block::reserve(alloc, nodes)?,
+            known: Block::reserve(alloc, nodes)?,
             spare: Block::reserve(alloc, nodes)?,
             firsts: Block::reserve(alloc, nodes)?,
             vector: Block::reserve(alloc, nodes)?,

@@ -9,18 +9,18 @@ use Rattle.ca_block.proofs.turns.fall.Goals as goal
 pub falling-init : goal.falling-init
 falling-init g c =
     let net = g.N.Network.circuit c.args.net.now in
-    let room = subst (λ k. HasNodes k c.meet.new.into) c.requires.held.zeros c.meet.ensures.room in
+    let room = subst (λ k. HasNodes k c.meet.new.into) c.requires.known.zeros c.meet.ensures.room in
     record {
       at = c.requires.at;
       next = room;
-      held = c.requires.held;
+      known = c.requires.known;
       spare = c.requires.spare;
       touched = c.requires.touched;
       levels = c.requires.levels;
       falls = λ lane low. falls_begin net (state_in c.args.at.now lane) (is_state (length net.nodes) c.args.at.now lane c.requires.at);
       responses = λ lane low. c.requires.responses lane (omega (arith, low));
       blurred = λ lane low.
-          blurred_of net (state_in c.args.at.now lane) (state_in c.args.held.now lane) (state_in c.meet.new.into lane) (is_state (length net.nodes) c.meet.new.into lane room)
+          blurred_of net (state_in c.args.at.now lane) (state_in c.args.known.now lane) (state_in c.meet.new.into lane) (is_state (length net.nodes) c.meet.new.into lane room)
           (c.requires.responses lane (omega (arith, low))) (c.meet.ensures.meets lane (omega (arith, low)));
     }
 
@@ -34,8 +34,8 @@ pub falling-preserved : goal.falling-preserved
 falling-preserved g c =
     let net = g.N.Network.circuit c.args.net.now in
     let before = c.falling.invariant in
-    let held = subst (HasNodes (length net.nodes)) (sym c.swap-in-falling.ensures.x_after) c.respond_again.ensures.out in
-    let room = subst (λ k. HasNodes k c.meet-in-falling.new.into) held.zeros c.meet-in-falling.ensures.room in
+    let known = subst (HasNodes (length net.nodes)) (sym c.swap-in-falling.ensures.x_after) c.respond_again.ensures.out in
+    let room = subst (λ k. HasNodes k c.meet-in-falling.new.into) known.zeros c.meet-in-falling.ensures.room in
     let responds = λ (lane : ℕ) (low : lane < 64).
     subst (λ b. AreResponses net (state_in b lane) (state_in c.swap-in-falling.new.x lane)) (sym c.swap.ensures.x_after)
     (subst (λ b. AreResponses net (state_in c.falling.next lane) (state_in b lane)) (sym c.swap-in-falling.ensures.x_after)
@@ -43,8 +43,8 @@ falling-preserved g c =
     record {
       at = subst (HasNodes (length net.nodes)) (sym c.swap.ensures.x_after) before.next;
       next = room;
-      held = held;
-      spare = subst (HasNodes (length net.nodes)) (sym c.swap-in-falling.ensures.y_after) before.held;
+      known = known;
+      spare = subst (HasNodes (length net.nodes)) (sym c.swap-in-falling.ensures.y_after) before.known;
       touched = c.respond_again.ensures.touched;
       levels = c.respond_again.ensures.levels;
       falls = λ lane low.

@@ -13,12 +13,12 @@ abbrev pub invariant-falling : goal.invariant-falling
 invariant-falling g l = record {
   at : HasNodes (length (g.N.Network.circuit l.net).nodes) l.at;
   next : HasNodes (length (g.N.Network.circuit l.net).nodes) l.next;
-  held : HasNodes (length (g.N.Network.circuit l.net).nodes) l.held;
+  known : HasNodes (length (g.N.Network.circuit l.net).nodes) l.known;
   spare : HasNodes (length (g.N.Network.circuit l.net).nodes) l.spare;
   touched : HasTouchedRoom (length (g.N.Network.circuit l.net).nodes) (length (g.N.Network.circuit l.net).devices) l.touched;
   levels : HoldsNetwork (g.N.Network.circuit l.net) l.levels;
   falls : (lane : ℕ) → lane < 64 → Falls (g.N.Network.circuit l.net) (state_in l.fn.at lane) (state_in l.at lane);
-  responses : (lane : ℕ) → lane < 64 → AreResponses (g.N.Network.circuit l.net) (state_in l.at lane) (state_in l.held lane);
+  responses : (lane : ℕ) → lane < 64 → AreResponses (g.N.Network.circuit l.net) (state_in l.at lane) (state_in l.known lane);
   blurred : (lane : ℕ) → lane < 64 → AreBlurred (g.N.Network.circuit l.net) (state_in l.at lane) (state_in l.next lane);
 }
 
