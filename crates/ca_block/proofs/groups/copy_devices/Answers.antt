@@ -1,7 +1,7 @@
 use Rattle.std.proofs.Common.{◌≡◌, ◌≤◌, length, get_or, ◌∙◌, arith}
 use Rattle.std.proofs.lemmas.List.{same_lists}
 use Rattle.std.proofs.lemmas.Option.{slice_get-get_or, get_or_from_slice_get}
-use Rattle.ca_levels.proofs.levels.copy_devices.Goals as goal
+use Rattle.ca_block.proofs.groups.copy_devices.Goals as goal
 
 pub returns : goal.returns
 returns g c =
