@@ -34,7 +34,7 @@ HasAllOver chip u values mask =
     → IsVectorOver chip u values (vector_of (inputs_at chip u) number) → Has mask number
 
 -- of a partial pair: the vectors at or above its first values
-pub record HasFirsts (chip : Chip) (u : ℕ) (mask : ℕ) (partial : List Trit) : Type 0 where
+pub record HasFirsts (chip : Chip) (u mask : ℕ) (partial : List Trit) : Type 0 where
   pub values : List Trit
   pub are_firsts : AreFirstsOf chip partial (value_at values)
   pub has : HasAllOver chip u values mask
@@ -45,16 +45,20 @@ IsUnseen chip u values = (flips : Flips) → IsSeenFrom chip (value_at values) u
 
 -- last values alone say what is seen of flips of the instance u, and these are the vectors at or above the
 -- values of its input nets
-pub record HasClear (chip : Chip) (u : ℕ) (mask : ℕ) (values : List Trit) : Type 0 where
+pub record HasClear (chip : Chip) (u mask : ℕ) (values : List Trit) : Type 0 where
   pub clear : IsClear chip (value_at values) u
   pub has : HasAllOver chip u values mask
 
--- Of a partial pair: the vectors at or above its last values. None need be there where no flip is seen, and
--- all are where last values alone don't say what is seen.
-pub record HasLasts (chip : Chip) (u : ℕ) (mask : ℕ) (partial : List Trit) : Type 0 where
+-- The mask has all vectors at or above the last values that matter: none need be there where no flip is seen,
+-- and all are where last values alone don't say what is seen.
+abbrev pub HasAllSeen : Chip → ℕ → List Trit → ℕ → Type 0
+HasAllSeen chip u values mask = IsUnseen chip u values ⊎ (HasClear chip u mask values ⊎ HasAll chip u mask)
+
+-- of a partial pair: the vectors at or above its last values
+pub record HasLasts (chip : Chip) (u mask : ℕ) (partial : List Trit) : Type 0 where
   pub values : List Trit
   pub are_lasts : AreLastsOf chip partial (value_at values)
-  pub has : IsUnseen chip u values ⊎ (HasClear chip u mask values ⊎ HasAll chip u mask)
+  pub has : HasAllSeen chip u values mask
 
 -- some partial pair at or below the pair has it
 pub record IsOfBelow (has : List Trit → Type 0) (pair : List Trit) : Type 0 where
