@@ -33,38 +33,37 @@ lasts_of_seen seen exact formed good net within =
     sym (get_or-map (λ (wave : Wave). wave.last) seen.good net unknown_wave X (let e = waves.count in omega arith)
     ∙ ap (λ (wave : Wave). wave.last) (waves.exact good net within))
 
-module _ (chip : Chip) (seen : Seen) (pair values : List Trit) (exact : IsExact seen) (chip_is : seen.chip ≡ chip) (pair_is : seen.pair ≡ pair)
-    (formed : IsWellFormed (flat chip None)) where
-  pub firsts_are : values ≡ firsts_in seen.good → AreFirstsOf chip pair (value_at values)
-  firsts_are is = subst (λ list. AreFirstsOf chip pair (value_at list)) (sym is)
+module _ (chip : Chip) (seen : Seen) (pair values : List Trit) (exact : IsExact seen) (chip_is : seen.chip ≡ chip) (pair_is : seen.pair ≡ pair) where
+  pub firsts_are : values ≡ firsts_in seen.good → IsWellFormed (flat chip None) → AreFirstsOf chip pair (value_at values)
+  firsts_are is formed = subst (λ list. AreFirstsOf chip pair (value_at list)) (sym is)
       (subst (λ p. AreFirstsOf chip p (value_at (firsts_in seen.good))) pair_is
       (subst (λ x. AreFirstsOf x seen.pair (value_at (firsts_in seen.good))) chip_is
       (firsts_of_seen seen exact (subst (λ x. IsWellFormed (flat x None)) (sym chip_is) formed))))
 
-  pub lasts_are : values ≡ lasts_in seen.good → AreLastsOf chip pair (value_at values)
-  lasts_are is = subst (λ list. AreLastsOf chip pair (value_at list)) (sym is)
+  pub lasts_are : values ≡ lasts_in seen.good → IsWellFormed (flat chip None) → AreLastsOf chip pair (value_at values)
+  lasts_are is formed = subst (λ list. AreLastsOf chip pair (value_at list)) (sym is)
       (subst (λ p. AreLastsOf chip p (value_at (lasts_in seen.good))) pair_is
       (subst (λ x. AreLastsOf x seen.pair (value_at (lasts_in seen.good))) chip_is
       (lasts_of_seen seen exact (subst (λ x. IsWellFormed (flat x None)) (sym chip_is) formed))))
 
 module _ (chip : Chip) (place_of : ℕ → ℕ) (end : ℕ) (values : List Trit) (old new : List ℕ) (more : AreMore old new) where
-  pub have_firsts_more : AreFirstsOf chip (first_set (length chip.inputs) end) (value_at values) → HaveAllOver chip place_of values (count_of chip) new
+  pub have_firsts_more : (IsWellFormed (flat chip None) → AreFirstsOf chip (first_set (length chip.inputs) end) (value_at values)) → HaveAllOver chip place_of values (count_of chip) new
       → HaveFirsts chip place_of end old → HaveFirsts chip place_of (end + 1) new
-  have_firsts_more are over before number u less placed = elim (cases_eq number end) [
+  have_firsts_more are over before formed number u less placed = elim (cases_eq number end) [
     | inl e ↦ subst (λ n. HasFirsts chip u (mask_at new u) (first_set (length chip.inputs) n)) (sym e)
-        (record { values = values; are_firsts = are; has = over u placed.known placed })
+        (record { values = values; are_firsts = are formed; has = over u placed.known placed })
     | inr other ↦
-        let was = before number u (omega (arith, other)) placed in
+        let was = before formed number u (omega (arith, other)) placed in
         record { values = was.values; are_firsts = was.are_firsts; has = over_more chip u was.values old new more was.has }
   ]
 
-  pub have_lasts_more : AreLastsOf chip (last_set (length chip.inputs) end) (value_at values) → HaveAllSeen chip place_of values (count_of chip) new
+  pub have_lasts_more : (IsWellFormed (flat chip None) → AreLastsOf chip (last_set (length chip.inputs) end) (value_at values)) → HaveAllSeen chip place_of values (count_of chip) new
       → HaveLasts chip place_of end old → HaveLasts chip place_of (end + 1) new
-  have_lasts_more are seen before number u less placed = elim (cases_eq number end) [
+  have_lasts_more are seen before formed number u less placed = elim (cases_eq number end) [
     | inl e ↦ subst (λ n. HasLasts chip u (mask_at new u) (last_set (length chip.inputs) n)) (sym e)
-        (record { values = values; are_lasts = are; has = seen u placed.known placed })
+        (record { values = values; are_lasts = are formed; has = seen u placed.known placed })
     | inr other ↦
-        let was = before number u (omega (arith, other)) placed in
+        let was = before formed number u (omega (arith, other)) placed in
         record { values = was.values; are_lasts = was.are_lasts; has = seen_more chip u was.values old new more was.has }
   ]
 

@@ -105,16 +105,16 @@ module _ (bits : List Bool) (inputs : ℕ) (count : length bits ≡ 2 * inputs) 
 -- masks that have what all vectors give are a table
 pub table_is : (chip : Chip) (place_of : ℕ → ℕ) (firsts lasts : List ℕ) → HaveFirsts chip place_of (2 ^ length chip.inputs) firsts → HaveLasts chip place_of (2 ^ length chip.inputs) lasts
     → IsTable chip place_of firsts lasts
-table_is chip place_of firsts lasts have_firsts have_lasts u placed first_fits last_fits = record {
+table_is chip place_of firsts lasts have_firsts have_lasts formed u placed first_fits last_fits = record {
   firsts_are = λ bits count. record {
     partial = first_set (length chip.inputs) (first_number bits (length chip.inputs) count);
     below = first_below bits (length chip.inputs) count;
-    of = have_firsts (first_number bits (length chip.inputs) count) u (first_known bits (length chip.inputs) count) placed;
+    of = have_firsts formed (first_number bits (length chip.inputs) count) u (first_known bits (length chip.inputs) count) placed;
   };
   lasts_are = λ bits count. record {
     partial = last_set (length chip.inputs) (last_number bits (length chip.inputs) count);
     below = last_below bits (length chip.inputs) count;
-    of = have_lasts (last_number bits (length chip.inputs) count) u (last_known bits (length chip.inputs) count) placed;
+    of = have_lasts formed (last_number bits (length chip.inputs) count) u (last_known bits (length chip.inputs) count) placed;
   };
 }
 

@@ -53,15 +53,11 @@ impl<'a> Model for EveryVector<'a> {
 impl<'a> EveryVector<'a> {
     ghost use Rattle.ca_every_vector.specs.Tried.{IsOfChip};
 
-    /// Tries all vectors of a chip, unless they have too many bits. The nets of the observed outputs come in
-    /// their order.
-    pub fn new(alloc: Global, chip: &'a View<'a>, outputs: Vec<u32>) -> Result<Self, NoMemory>
-        requires outputs { outputs.items ≡ chip.now.core.outputs }
-        requires few { length outputs.items < 2 ^ 32 }
-        requires formed { IsWellFormed (flat chip.now.core None) }
+    /// Tries all vectors of a chip, unless they have too many bits.
+    pub fn new(alloc: Global, chip: &'a View<'a>) -> Result<Self, NoMemory>
         ensures { IfOk result (IsOfChip chip.now.core chip.now.ranks) }
     {
-        if chip.input_count() > MOST_VECTOR_BITS {
+        if chip.input_count() > MOST_VECTOR_BITS || chip.output_count() > u32::MAX as usize {
             return Ok(EveryVector {
                 chip,
                 firsts: Vec::new(alloc),
@@ -69,7 +65,7 @@ impl<'a> EveryVector<'a> {
             });
         }
         let firsts = first_masks(alloc, chip)?;
-        let lasts = last_masks(alloc, chip, outputs)?;
+        let lasts = last_masks(alloc, chip)?;
         Ok(EveryVector {
             chip,
             firsts,
@@ -98,7 +94,6 @@ impl<'a> EveryVector<'a> {
 // For each instance the vectors that come first at its input pins.
 fn first_masks(alloc: Global, chip: &View<'_>) -> Result<Vec<u64>, NoMemory>
     requires few { length chip.now.core.inputs ≤ MOST_VECTOR_BITS }
-    requires formed { IsWellFormed (flat chip.now.core None) }
     ensures { IfOk result (λ masks. HaveFirsts chip.now.core (place_in chip.now.ranks)
         (2 ^ length chip.now.core.inputs) masks.items) }
 {
@@ -110,20 +105,31 @@ fn first_masks(alloc: Global, chip: &View<'_>) -> Result<Vec<u64>, NoMemory>
 }
 
 // For each instance the vectors that come last at its input pins where a flip of its outputs may be seen.
-fn last_masks(alloc: Global, chip: &View<'_>, outputs: Vec<u32>) -> Result<Vec<u64>, NoMemory>
+fn last_masks(alloc: Global, chip: &View<'_>) -> Result<Vec<u64>, NoMemory>
     requires few { length chip.now.core.inputs ≤ MOST_VECTOR_BITS }
-    requires formed { IsWellFormed (flat chip.now.core None) }
-    requires outputs { outputs.items ≡ chip.now.core.outputs }
-    requires few_outputs { length outputs.items < 2 ^ 32 }
+    requires few_outputs { length chip.now.core.outputs < 2 ^ 32 }
     ensures { IfOk result (λ masks. HaveLasts chip.now.core (place_in chip.now.ranks)
         (2 ^ length chip.now.core.inputs) masks.items) }
 {
     let mut masks = vec![in alloc; 0u64; chip.instances()]?;
     let mut values = State::unknown(alloc, chip.nets())?;
+    let outputs = output_nets(alloc, chip)?;
     let mut sim = Sim::reserve(alloc, chip)?;
     let mut sweep = Sweep::reserve(alloc, chip, outputs)?;
     find_lasts(chip, &mut sim, &mut sweep, &mut values, &mut masks);
     Ok(masks)
+}
+
+// The nets of the observed outputs, in their order.
+fn output_nets(alloc: Global, chip: &View<'_>) -> Result<Vec<u32>, NoMemory>
+    ensures { IfOk result (λ nets. nets.items ≡ chip.now.core.outputs) }
+{
+    chip.linked();
+    let mut nets = Vec::new(alloc);
+    for output in 0..chip.output_count() {
+        nets.push(chip.output(output) as u32)?;
+    }
+    Ok(nets)
 }
 
 // Whether the mask has the number.

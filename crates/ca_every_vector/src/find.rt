@@ -1,9 +1,7 @@
 //! The vectors that the pairs of a chip give at the pins of its instances, found vector by vector.
 
 ghost use Rattle.std.specs.Prelude.{◌≡◌, ◌<◌, ◌≤◌, ◌^◌, length, None, IfOk};
-ghost use Rattle.ca_net.specs.Circuit.{IsWellFormed};
 ghost use Rattle.ca_flat.specs.Chip.{count_of};
-ghost use Rattle.ca_flat.specs.Flat.{flat};
 ghost use Rattle.ca_view.specs.Linked.{place_in};
 ghost use Rattle.ca_every_vector.specs.declared.vectors.TheConstants.{MOST_VECTOR_BITS};
 ghost use Rattle.ca_every_vector.specs.code.Masks.{HaveFirsts, HaveLasts};
@@ -21,7 +19,6 @@ use std::alloc::Global;
 /// Finds for each instance the vectors that first vectors give.
 pub(crate) fn find_firsts(chip: &View<'_>, sim: &mut Sim<'_>, values: &mut State, masks: &mut [u64])
     requires few { length chip.now.core.inputs ≤ MOST_VECTOR_BITS }
-    requires formed { IsWellFormed (flat chip.now.core None) }
     requires sim { sim.old.seen.chip ≡ chip.now.core }
     requires nets { length values.old ≡ length chip.now.core.nets }
     requires room { length masks.old ≡ count_of chip.now.core }
@@ -48,7 +45,6 @@ pub(crate) fn find_lasts(
     masks: &mut [u64],
 )
     requires few { length chip.now.core.inputs ≤ MOST_VECTOR_BITS }
-    requires formed { IsWellFormed (flat chip.now.core None) }
     requires sim { sim.old.seen.chip ≡ chip.now.core }
     requires sweep { sweep.old.chip ≡ chip.now.core }
     requires places { sweep.old.places ≡ chip.now.ranks }

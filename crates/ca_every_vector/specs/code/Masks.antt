@@ -1,11 +1,13 @@
 -- Masks of vectors, one for each instance.
-use Rattle.std.specs.Prelude.{ℕ, ◌≡◌, ◌<◌, ◌^◌, List, length, slice_index}
+use Rattle.std.specs.Prelude.{ℕ, ◌≡◌, ◌<◌, ◌^◌, List, length, slice_index, None}
 use Rattle.std.specs.Int.{bit_at}
 use Rattle.ca_net.specs.declared.trit.Trit.{Trit}
+use Rattle.ca_net.specs.Circuit.{IsWellFormed}
 use Rattle.ca_net.specs.State.{value_at}
 use Rattle.ca_defect.specs.Row.{vector_of}
 use Rattle.ca_defect.specs.declared.row.Row.{Row}
 use Rattle.ca_flat.specs.Chip.{Chip, inputs_at, net_of}
+use Rattle.ca_flat.specs.Flat.{flat}
 use Rattle.ca_flat.specs.TwoFrame.{IsVectorOver}
 use Rattle.ca_net.specs.Trit.{IsBelow}
 use Rattle.ca_view.specs.Linked.{IsPlaced}
@@ -45,23 +47,24 @@ abbrev pub HaveAllSeen : Chip → (ℕ → ℕ) → List Trit → ℕ → List �
 HaveAllSeen chip place_of values end masks =
     (u : ℕ) → u < end → IsPlaced chip place_of u → HasAllSeen chip u values (mask_at masks u)
 
--- of each instance the mask has what first vectors with lower numbers give
+-- of each instance the mask has what first vectors with lower numbers give, where the chip's flat network is
+-- a network
 abbrev pub HaveFirsts : Chip → (ℕ → ℕ) → ℕ → List ℕ → Type 0
 HaveFirsts chip place_of end masks =
-    (number u : ℕ) → number < end → IsPlaced chip place_of u
+    IsWellFormed (flat chip None) → (number u : ℕ) → number < end → IsPlaced chip place_of u
     → HasFirsts chip u (mask_at masks u) (first_set (length chip.inputs) number)
 
--- of each instance the mask has what last vectors with lower numbers give
+-- of each instance the mask has what last vectors with lower numbers give, where it is one
 abbrev pub HaveLasts : Chip → (ℕ → ℕ) → ℕ → List ℕ → Type 0
 HaveLasts chip place_of end masks =
-    (number u : ℕ) → number < end → IsPlaced chip place_of u
+    IsWellFormed (flat chip None) → (number u : ℕ) → number < end → IsPlaced chip place_of u
     → HasLasts chip u (mask_at masks u) (last_set (length chip.inputs) number)
 
 -- what masks of all instances are good for: those of each instance that has one have all possible vectors
 abbrev pub IsTable : Chip → (ℕ → ℕ) → List ℕ → List ℕ → Type 0
 IsTable chip place_of firsts lasts =
-    (u : ℕ) → IsPlaced chip place_of u → u < length firsts → u < length lasts
-    → ArePossible chip u (mask_at firsts u) (mask_at lasts u)
+    IsWellFormed (flat chip None) → (u : ℕ) → IsPlaced chip place_of u → u < length firsts
+    → u < length lasts → ArePossible chip u (mask_at firsts u) (mask_at lasts u)
 
 -- the row isn't in the masks
 abbrev pub IsRowOut : ℕ → ℕ → Row → Type 0

@@ -27,7 +27,6 @@ loop-number-preserved c =
       nets = nets;
       room = c.add_over.ensures.more.room ∙ c.loop-number.invariant.room;
       firsts = have_firsts_more c.args.chip.now.core (place_in c.args.chip.now.ranks) c.loop-number.number c.load_firsts.new.values c.loop-number.masks c.add_over.new.masks c.add_over.ensures.more
-          (firsts_are c.args.chip.now.core c.load.new.self.seen (first_set (length c.args.chip.now.core.inputs) c.loop-number.number) c.load_firsts.new.values c.exact-in-loop-number.ensures chip_is pair
-          c.requires.formed c.load_firsts.ensures)
+          (firsts_are c.args.chip.now.core c.load.new.self.seen (first_set (length c.args.chip.now.core.inputs) c.loop-number.number) c.load_firsts.new.values c.exact-in-loop-number.ensures chip_is pair c.load_firsts.ensures)
           c.add_over.ensures.over c.loop-number.invariant.firsts;
     }

@@ -29,7 +29,6 @@ loop-number-preserved c =
       nets = nets;
       room = c.add_seen.ensures.more.room ∙ c.loop-number.invariant.room;
       lasts = have_lasts_more c.args.chip.now.core (place_in c.args.chip.now.ranks) c.loop-number.number c.load_lasts.new.values c.loop-number.masks c.add_seen.new.masks c.add_seen.ensures.more
-          (lasts_are c.args.chip.now.core c.load.new.self.seen (last_set (length c.args.chip.now.core.inputs) c.loop-number.number) c.load_lasts.new.values c.exact-in-loop-number.ensures chip_is pair
-          c.requires.formed c.load_lasts.ensures)
+          (lasts_are c.args.chip.now.core c.load.new.self.seen (last_set (length c.args.chip.now.core.inputs) c.loop-number.number) c.load_lasts.new.values c.exact-in-loop-number.ensures chip_is pair c.load_lasts.ensures)
           c.add_seen.ensures.seen c.loop-number.invariant.lasts;
     }

@@ -39,6 +39,6 @@ returns c =
       good_is = subst (λ x. IsWellFormed (flat x None)) (sym own) c.requires.good_is;
       faulty_is = subst (λ x. IsWellFormed (flat x (Some c.args.defect))) (sym own) c.requires.faulty_is;
     })
-    (c.self.invariant c.args.defect.instance (record { known = defect_is.known; placed = placed }) first_fits last_fits)
+    (c.self.invariant (subst (λ x. IsWellFormed (flat x None)) (sym own) c.requires.good_is) c.args.defect.instance (record { known = defect_is.known; placed = placed }) first_fits last_fits)
     (λ row exposing. All-contains (IsRowOut (mask_at c.self.inside.firsts.items c.args.defect.instance) (mask_at c.self.inside.lasts.items c.args.defect.instance)) c.args.rows.now row out
     ((lists row).1 exposing)))
