@@ -1,5 +1,5 @@
 -- What is found vector by vector.
-use Rattle.std.proofs.Common.{◌≡◌, ◌≢◌, ℕ, ◌+◌, ◌*◌, ◌^◌, ◌<◌, ◌≤◌, List, length, None, inl, inr, refl, sym, ◌∙◌, ap, subst, arith}
+use Rattle.std.proofs.Common.{◌≡◌, ℕ, ◌+◌, ◌*◌, List, length, None, inl, inr, sym, ◌∙◌, ap, subst, arith}
 use Rattle.std.proofs.lemmas.Bool.{cases_eq}
 use Rattle.std.proofs.lemmas.List.{get_or-map}
 use Rattle.ca_net.specs.declared.trit.Trit.{Trit}
@@ -12,7 +12,6 @@ use Rattle.ca_flat.specs.Flat.{flat}
 use Rattle.ca_flat.specs.Pair.{bit_count}
 use Rattle.ca_flips.specs.Flips.{AreLastsOf}
 use Rattle.ca_table.specs.Gives.{unknown_wave}
-use Rattle.ca_view.specs.Linked.{IsPlaced}
 use Rattle.ca_sim.specs.Seen.{Seen, IsExact}
 use Rattle.ca_sweep.specs.Seen.{lasts_in}
 use Rattle.ca_every_vector.specs.Possible.{AreFirstsOf, HasFirsts, HasLasts}
@@ -72,6 +71,3 @@ pub bits_fit : (chip : Chip) (seen : Seen) (inputs long : ℕ) → IsExact seen 
 bits_fit chip seen inputs long exact chip_is inputs_are is =
     let bits : length seen.pair ≡ bit_count chip = exact.whole.bits ∙ ap bit_count chip_is in
     omega arith
-
-pub values_fit : (chip : Chip) (seen : Seen) (long : ℕ) → seen.chip ≡ chip → long ≡ length chip.nets → long ≡ length seen.chip.nets
-values_fit chip seen long chip_is is = is ∙ ap (λ (c : Chip). length c.nets) (sym chip_is)

@@ -1,6 +1,5 @@
 -- Bits of masks.
-use Rattle.std.proofs.Common.{◌≡◌, ◌≢◌, ℕ, ◌+◌, ◌*◌, ◌%◌, ◌^◌, ◌<◌, ◌≤◌, ◌⊎◌, Bool, true, false, List, length, refl, sym, ◌∙◌, ap, subst, arith, inl, inr, get_or, slice_set, bit_or, w64}
-use Rattle.std.specs.Int.{bit_at}
+use Rattle.std.proofs.Common.{◌≡◌, ℕ, ◌+◌, ◌*◌, ◌%◌, ◌^◌, ◌<◌, List, length, refl, sym, ◌∙◌, subst, arith, inl, inr, get_or, slice_set, bit_or, w64}
 use Rattle.std.proofs.lemmas.Bool.{cases_eq}
 use Rattle.std.proofs.lemmas.List.{get_or-set_same, get_or-set_other, length-set}
 use Rattle.std.proofs.lemmas.Nat.Bits.{bit_at-lt, bit_at_or, bit_at_set_same, bit_at_set_other}
@@ -8,8 +7,7 @@ use Rattle.ca_net.specs.declared.trit.Trit.{Trit}
 use Rattle.ca_defect.specs.Row.{vector_of}
 use Rattle.ca_flat.specs.Chip.{Chip, inputs_at}
 use Rattle.ca_flat.specs.TwoFrame.{IsVectorOver}
-use Rattle.ca_sweep.specs.declared.seen.Flips.{Flips}
-use Rattle.ca_every_vector.specs.Possible.{Has, HasAll, HasAllOver, HasAllSeen, HasClear}
+use Rattle.ca_every_vector.specs.Possible.{Has, HasAllOver, HasAllSeen}
 use Rattle.ca_view.specs.Linked.{IsPlaced}
 use Rattle.ca_every_vector.specs.code.Masks.{mask_at, AreMore, IsAdded, HasAllBelow, HaveAllSeen}
 
@@ -56,18 +54,6 @@ module _ (chip : Chip) (u : ℕ) (values : List Trit) (end rows : ℕ) (low : en
     | inl e ↦ absurd (off (subst (λ n. IsVectorOver chip u values (vector_of (inputs_at chip u) n)) e over))
     | inr other ↦ before number (omega (arith, other)) over
   ]
-
--- what holds of flips by their two pins
-by_pins : (P : Flips → Type 0) → P (record { first = false; second = false }) → P (record { first = false; second = true }) → P (record { first = true; second = false })
-    → P (record { first = true; second = true }) → (first second : Bool) → P (record { first = first; second = second })
-by_pins P ff ft tf tt false false = ff
-by_pins P ff ft tf tt false true = ft
-by_pins P ff ft tf tt true false = tf
-by_pins P ff ft tf tt true true = tt
-
-pub all_flips : (P : Flips → Type 0) → P (record { first = false; second = false }) → P (record { first = false; second = true }) → P (record { first = true; second = false })
-    → P (record { first = true; second = true }) → (flips : Flips) → P flips
-all_flips P ff ft tf tt flips = by_pins P ff ft tf tt flips.first flips.second
 
 -- what is over values, or matters, in a mask, is in one with more
 pub over_more : (chip : Chip) (u : ℕ) (values : List Trit) (old new : List ℕ) → AreMore old new → HasAllOver chip u values (mask_at old u) → HasAllOver chip u values (mask_at new u)

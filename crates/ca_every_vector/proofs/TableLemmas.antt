@@ -1,27 +1,23 @@
 -- Each definite pair has its vectors among those that were tried.
-use Rattle.std.proofs.Common.{◌≡◌, ◌≢◌, ℕ, ◌+◌, ◌-◌, ◌*◌, ◌^◌, ◌<◌, ◌≤◌, Bool, true, false, List, length, take, drop, map, inl, inr, refl, sym, ◌∙◌, ap, subst, arith, get_or, ◌++◌, Some, take_all}
+use Rattle.std.proofs.Common.{◌≡◌, ◌≢◌, ℕ, ◌+◌, ◌-◌, ◌*◌, ◌^◌, ◌<◌, ◌≤◌, Bool, true, false, List, length, take, drop, inl, inr, sym, ◌∙◌, ap, subst, arith, get_or, ◌++◌, Some, take_all}
 use Rattle.std.specs.Prelude.{slice_get}
 use Rattle.std.specs.List.{All}
 use Rattle.std.proofs.lemmas.Option.{get_or_from_slice_get, slice_get_within}
 use Rattle.std.proofs.lemmas.List.Elements.{All-more}
 use Rattle.std.proofs.Math.Seq.{take-append_seam}
 use Rattle.std.proofs.lemmas.Bool.{cases_lt}
-use Rattle.std.proofs.lemmas.List.{get_or-map, get_or-take, get_or-drop, get_or_default, length-map, length-take, length-drop}
+use Rattle.std.proofs.lemmas.List.{get_or-map, get_or-take, get_or-drop, length-map, length-take, length-drop}
 use Rattle.ca_net.specs.declared.trit.Trit.{Trit}
-use Rattle.ca_net.specs.declared.trit.Trit.TheVariants.{Zero, One, X}
-use Rattle.ca_net.specs.Trit.{IsBelow}
+use Rattle.ca_net.specs.declared.trit.Trit.TheVariants.{X}
 use Rattle.ca_net.specs.State.{value_at, IsStateBelow}
 use Rattle.ca_defect.specs.Row.{vector_of}
 use Rattle.ca_defect.proofs.NumberLemmas.{number_of, number_within, vector_again}
-use Rattle.ca_flat.specs.Chip.{Chip, count_of}
-use Rattle.ca_flat.specs.Pair.{bit_count}
+use Rattle.ca_flat.specs.Chip.{Chip}
 use Rattle.ca_flat.specs.Codes.{bit_trit}
 use Rattle.ca_flat.specs.Detection.{trits_of}
-use Rattle.ca_view.specs.Linked.{IsPlaced}
-use Rattle.ca_every_vector.specs.Possible.{IsOfBelow, IsOfEach, HasFirsts, HasLasts, ArePossible}
 use Rattle.ca_every_vector.specs.code.Vectors.{first_set, last_set}
-use Rattle.ca_every_vector.specs.code.Masks.{mask_at, HaveFirsts, HaveLasts, IsTable}
-use Rattle.ca_every_vector.proofs.VectorLemmas.{length-vector_of, first_low, first_high, last_low, last_high}
+use Rattle.ca_every_vector.specs.code.Masks.{HaveFirsts, HaveLasts, IsTable}
+use Rattle.ca_every_vector.proofs.VectorLemmas.{first_low, first_high, last_low, last_high}
 
 bit_definite : (bit : Bool) → bit_trit bit ≢ X
 bit_definite true e = cc

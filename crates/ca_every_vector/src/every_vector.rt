@@ -3,10 +3,11 @@
 ghost use Rattle.std.specs.Prelude.{◌≡◌, ◌<◌, ◌≤◌, ◌^◌, ◌↔◌, length, IfOk, IsTrue, None, Some};
 ghost use Rattle.std.specs.List.{All};
 ghost use Rattle.ca_net.specs.Circuit.{IsWellFormed};
+ghost use Rattle.ca_flat.specs.Chip.{IsDefectIn};
 ghost use Rattle.ca_flat.specs.Flat.{flat};
 ghost use Rattle.ca_flat.specs.Rows.{ListsExposingRows};
 ghost use Rattle.ca_flat.specs.Detection.{IsUntestable};
-ghost use Rattle.ca_view.specs.Linked.{IsPlacedDefect, place_in};
+ghost use Rattle.ca_view.specs.Linked.{place_in};
 ghost use Rattle.ca_every_vector.specs.declared.vectors.TheConstants.{MOST_VECTOR_BITS};
 ghost use Rattle.ca_every_vector.specs.Possible.{Has};
 ghost use Rattle.ca_every_vector.specs.code.Masks.{HaveFirsts, HaveLasts, IsRowOut};
@@ -35,27 +36,22 @@ pub struct EveryVector<'a> {
 }
 
 impl<'a> Model for EveryVector<'a> {
+    ghost use Rattle.ca_flat.specs.Chip.{Chip};
     ghost use Rattle.ca_view.specs.Linked.{place_in};
-    ghost use Rattle.ca_every_vector.specs.Tried.{Tried};
     ghost use Rattle.ca_every_vector.specs.code.Masks.{IsTable};
 
-    ghost Value = { Tried };
+    ghost Value = { Chip };
 
-    ghost view = { λ table. record {
-      chip = table.chip.now.core;
-      places = table.chip.now.ranks;
-    } };
+    ghost view = { λ table. table.chip.now.core };
 
     ghost invariant = { λ table. IsTable table.chip.now.core (place_in table.chip.now.ranks)
         table.firsts.items table.lasts.items };
 }
 
 impl<'a> EveryVector<'a> {
-    ghost use Rattle.ca_every_vector.specs.Tried.{IsOfChip};
-
     /// Tries all vectors of a chip, unless they have too many bits.
     pub fn new(alloc: Global, chip: &'a View<'a>) -> Result<Self, NoMemory>
-        ensures { IfOk result (IsOfChip chip.now.core chip.now.ranks) }
+        ensures { IfOk result (λ table. table ≡ chip.now.core) }
     {
         if chip.input_count() > MOST_VECTOR_BITS || chip.output_count() > u32::MAX as usize {
             return Ok(EveryVector {
@@ -75,16 +71,16 @@ impl<'a> EveryVector<'a> {
 
     /// Whether the rows of a defect show that no pair of the chip detects it: none of them is possible.
     pub fn is_untestable(&self, defect: ChipDefect, rows: &Rows) -> bool
-        requires defect { IsPlacedDefect self.now.chip (place_in self.now.places) defect }
-        requires rows { ListsExposingRows self.now.chip defect rows.now }
-        requires good_is { IsWellFormed (flat self.now.chip None) }
-        requires faulty_is { IsWellFormed (flat self.now.chip (Some defect)) }
-        ensures { IsTrue result → IsUntestable self.now.chip defect }
+        requires defect { IsDefectIn self.now defect }
+        requires rows { ListsExposingRows self.now defect rows.now }
+        requires good_is { IsWellFormed (flat self.now None) }
+        requires faulty_is { IsWellFormed (flat self.now (Some defect)) }
+        ensures { IsTrue result → IsUntestable self.now defect }
     {
         impossible_is_untestable();
         self.chip.linked();
         let u = defect.instance as usize;
-        if u >= self.firsts.len() || u >= self.lasts.len() {
+        if u >= self.firsts.len() || u >= self.lasts.len() || self.chip.rank(u) == 0 {
             return false;
         }
         are_all_out(rows, self.firsts[u], self.lasts[u])

@@ -1,4 +1,4 @@
-use Rattle.std.proofs.Common.{◌≡◌, subst, false, true, IsTrue, arith, ◌+◌}
+use Rattle.std.proofs.Common.{◌≡◌, subst, false, true, IsTrue, arith}
 use Rattle.ca_every_vector.specs.code.Masks.{IsRowOut}
 use Rattle.ca_every_vector.proofs.TableLemmas.{all_more, all_taken}
 use Rattle.ca_every_vector.proofs.every_vector.are_all_out.Goals as goal

@@ -1,8 +1,7 @@
-use Rattle.std.proofs.Common.{◌≡◌, ◌<◌, ◌^◌, ◌≤◌, arith, sym, ◌∙◌, false, true, nat_lt, IsTrue}
+use Rattle.std.proofs.Common.{◌≡◌, ◌<◌, arith, sym, ◌∙◌}
 use Rattle.std.specs.Int.{bit_at}
 use Rattle.std.proofs.lemmas.Bool.{ltb-true}
 use Rattle.std.proofs.lemmas.Nat.Bits.{bit_at_above}
-use Rattle.ca_every_vector.specs.Possible.{Has}
 use Rattle.ca_every_vector.proofs.every_vector.has.Goals as goal
 
 pub returns-else-number-lt64 : goal.returns-else-number-lt64

@@ -1,4 +1,4 @@
-use Rattle.std.proofs.Common.{◌≡◌, length, ◌∙◌, ap, sym, subst}
+use Rattle.std.proofs.Common.{◌≡◌, length, ◌∙◌, ap}
 use Rattle.std.proofs.lemmas.List.{length-map}
 use Rattle.ca_net.specs.declared.wave.Wave.{Wave}
 use Rattle.ca_flat.specs.Chip.{Chip}
@@ -6,7 +6,7 @@ use Rattle.ca_view.specs.Linked.{place_in}
 use Rattle.ca_sweep.specs.Seen.{Swept}
 use Rattle.ca_every_vector.specs.code.Vectors.{last_set}
 use Rattle.ca_every_vector.proofs.VectorLemmas.{length-last_set}
-use Rattle.ca_every_vector.proofs.FindLemmas.{bits_fit, values_fit, lasts_are, have_lasts_more}
+use Rattle.ca_every_vector.proofs.FindLemmas.{bits_fit, lasts_are, have_lasts_more}
 use Rattle.ca_every_vector.proofs.find.find_lasts.Goals as goal
 
 pub load-requires : goal.load-requires

@@ -1,5 +1,4 @@
-use Rattle.std.proofs.Common.{◌≡◌, ◌<◌, sym, ◌∙◌, arith}
-use Rattle.ca_flat.specs.Chip.{count_of}
+use Rattle.std.proofs.Common.{◌∙◌, arith}
 use Rattle.ca_view.specs.Linked.{place_in}
 use Rattle.ca_every_vector.proofs.MaskLemmas.{more_then, seen_added, have_seen_more, more_none}
 use Rattle.ca_every_vector.proofs.masks.add_seen.Goals as goal

@@ -1,4 +1,3 @@
-use Rattle.std.proofs.Common.{◌≡◌}
 use Rattle.ca_every_vector.specs.code.Masks.{HasAllBelow}
 use Rattle.ca_every_vector.proofs.rows.rows_over.Given as goal
 

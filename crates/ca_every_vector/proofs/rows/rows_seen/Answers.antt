@@ -1,4 +1,4 @@
-use Rattle.std.proofs.Common.{◌≡◌, ◌<◌, ◌≤◌, ◌^◌, ap, sym, ◌∙◌, inr, arith}
+use Rattle.std.proofs.Common.{◌≡◌, ◌^◌, ap, ◌∙◌, inr, arith}
 use Rattle.std.proofs.lemmas.Nat.Bits.{bit_at_ones}
 use Rattle.ca_cell.specs.Raw.{is_input, role_count}
 use Rattle.ca_cell.specs.declared.raw.RawCell.{RawCell}

@@ -1,14 +1,13 @@
-use Rattle.std.proofs.Common.{◌≡◌, ◌<◌, length, sym, ◌∙◌, ap, subst, arith, Some, None}
+use Rattle.std.proofs.Common.{◌≡◌, ◌<◌, length, sym, subst, arith, Some, None}
 use Rattle.std.specs.List.{All}
 use Rattle.std.proofs.lemmas.List.{get_or_read}
 use Rattle.std.proofs.lemmas.List.Elements.{All-contains}
 use Rattle.ca_net.specs.Circuit.{IsWellFormed}
-use Rattle.ca_flat.specs.Chip.{Chip, IsDefectIn}
+use Rattle.ca_flat.specs.Chip.{IsDefectIn}
 use Rattle.ca_flat.specs.Flat.{flat}
 use Rattle.ca_flat.specs.Rows.{ListsExposingRows}
 use Rattle.ca_flat.specs.Detection.{IsUntestable}
 use Rattle.ca_view.specs.Linked.{place_in}
-use Rattle.ca_every_vector.specs.Tried.{Tried}
 use Rattle.ca_every_vector.specs.code.Masks.{mask_at, IsRowOut}
 use Rattle.ca_every_vector.proofs.every_vector.EveryVector.is_untestable.Goals as goal
 
@@ -16,10 +15,9 @@ pub returns : goal.returns
 returns c =
     let defect = c.args.defect in
     let u = c.args.defect.instance in
-    let own : c.self.inside.chip.now.core ≡ c.args.self.now.chip = ap (λ (t : Tried). t.chip) c.self.view_is in
-    let places : c.self.inside.chip.now.ranks ≡ c.args.self.now.places = ap (λ (t : Tried). t.places) c.self.view_is in
-    let defect_is = subst (λ x. IsDefectIn x c.args.defect) (sym own) c.requires.defect.defect_is in
-    let placed : 0 < place_in c.self.inside.chip.now.ranks c.args.defect.instance = subst (λ list. 0 < place_in list c.args.defect.instance) (sym places) c.requires.defect.placed in
+    let own : c.self.inside.chip.now.core ≡ c.args.self.now = c.self.view_is in
+    let defect_is = subst (λ x. IsDefectIn x c.args.defect) (sym own) c.requires.defect in
+    let placed : 0 < place_in c.self.inside.chip.now.ranks c.args.defect.instance = let rank = c.rank.ensures in let some = c.if-rank-eq0.false in omega arith in
     let lists = subst (λ x. ListsExposingRows x c.args.defect c.args.rows.now) (sym own) c.requires.rows in
     let first_fits : c.args.defect.instance < length c.self.inside.firsts.items = let l = c.len.ensures in let f = c.if-u-len.false in omega arith in
     let last_fits : c.args.defect.instance < length c.self.inside.lasts.items = let l = c.len-else-u-len.ensures in let f = c.if-u-len-2.false in omega arith in
