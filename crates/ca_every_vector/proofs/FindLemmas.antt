@@ -15,7 +15,8 @@ use Rattle.ca_table.specs.Gives.{unknown_wave}
 use Rattle.ca_sim.specs.Seen.{Seen, IsExact}
 use Rattle.ca_sweep.specs.Seen.{lasts_in}
 use Rattle.ca_every_vector.specs.Possible.{AreFirstsOf, HasFirsts, HasLasts}
-use Rattle.ca_every_vector.specs.code.Vectors.{firsts_in, first_set, last_set}
+use Rattle.ca_every_vector.specs.Vectors.{first_set, last_set}
+use Rattle.ca_every_vector.specs.code.Firsts.{firsts_in}
 use Rattle.ca_every_vector.specs.code.Masks.{mask_at, AreMore, HaveAllOver, HaveAllSeen, HaveFirsts, HaveLasts}
 use Rattle.ca_every_vector.proofs.MaskLemmas.{over_more, seen_more}
 

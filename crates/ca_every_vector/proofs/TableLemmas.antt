@@ -15,7 +15,7 @@ use Rattle.ca_defect.proofs.NumberLemmas.{number_of, number_within, vector_again
 use Rattle.ca_flat.specs.Chip.{Chip}
 use Rattle.ca_flat.specs.Codes.{bit_trit}
 use Rattle.ca_flat.specs.Detection.{trits_of}
-use Rattle.ca_every_vector.specs.code.Vectors.{first_set, last_set}
+use Rattle.ca_every_vector.specs.Vectors.{first_set, last_set}
 use Rattle.ca_every_vector.specs.code.Masks.{HaveFirsts, HaveLasts, IsTable}
 use Rattle.ca_every_vector.proofs.VectorLemmas.{first_low, first_high, last_low, last_high}
 

@@ -7,11 +7,9 @@ mod find;
 mod laws;
 mod masks;
 mod rows;
-mod tried_rows;
 mod values;
 mod vectors;
 
 pub use every_vector::EveryVector;
 pub use laws::impossible_is_untestable;
-pub use tried_rows::{TriedRows, UntestableDefects};
 pub use vectors::MOST_VECTOR_BITS;

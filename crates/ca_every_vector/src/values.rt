@@ -2,7 +2,7 @@
 
 ghost use Rattle.std.specs.Prelude.{◌≡◌, ◌<◌, length};
 ghost use Rattle.ca_sweep.specs.Seen.{lasts_in};
-ghost use Rattle.ca_every_vector.specs.code.Vectors.{firsts_in};
+ghost use Rattle.ca_every_vector.specs.code.Firsts.{firsts_in};
 
 use ca_net::State;
 use ca_sim::NetWaves;

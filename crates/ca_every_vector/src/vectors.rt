@@ -19,7 +19,7 @@ pub(crate) struct FirstVector {
 }
 
 impl Bits for FirstVector {
-    ghost use Rattle.ca_every_vector.specs.code.Vectors.{first_set};
+    ghost use Rattle.ca_every_vector.specs.Vectors.{first_set};
 
     ghost bits = { λ vector. first_set vector.inputs vector.number };
 
@@ -41,7 +41,7 @@ pub(crate) struct LastVector {
 }
 
 impl Bits for LastVector {
-    ghost use Rattle.ca_every_vector.specs.code.Vectors.{last_set};
+    ghost use Rattle.ca_every_vector.specs.Vectors.{last_set};
 
     ghost bits = { λ vector. last_set vector.inputs vector.number };
 

@@ -11,7 +11,7 @@ use Rattle.ca_flat.specs.TwoFrame.{IsVectorOver}
 use Rattle.ca_net.specs.Trit.{IsBelow}
 use Rattle.ca_view.specs.Linked.{IsPlaced}
 use Rattle.ca_every_vector.specs.Possible.{Has, HasAllOver, HasAllSeen, HasFirsts, HasLasts, ArePossible}
-use Rattle.ca_every_vector.specs.code.Vectors.{first_set, last_set}
+use Rattle.ca_every_vector.specs.Vectors.{first_set, last_set}
 
 -- the mask of an instance
 abbrev pub mask_at : List ℕ → ℕ → ℕ

@@ -3,7 +3,7 @@ use Rattle.std.proofs.lemmas.List.{length-map}
 use Rattle.ca_net.specs.declared.wave.Wave.{Wave}
 use Rattle.ca_flat.specs.Chip.{Chip}
 use Rattle.ca_view.specs.Linked.{place_in}
-use Rattle.ca_every_vector.specs.code.Vectors.{first_set}
+use Rattle.ca_every_vector.specs.Vectors.{first_set}
 use Rattle.ca_every_vector.proofs.VectorLemmas.{length-first_set}
 use Rattle.ca_every_vector.proofs.FindLemmas.{bits_fit, firsts_are, have_firsts_more}
 use Rattle.ca_every_vector.proofs.find.find_firsts.Goals as goal

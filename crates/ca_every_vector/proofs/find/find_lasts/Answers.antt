@@ -4,7 +4,7 @@ use Rattle.ca_net.specs.declared.wave.Wave.{Wave}
 use Rattle.ca_flat.specs.Chip.{Chip}
 use Rattle.ca_view.specs.Linked.{place_in}
 use Rattle.ca_sweep.specs.Seen.{Swept}
-use Rattle.ca_every_vector.specs.code.Vectors.{last_set}
+use Rattle.ca_every_vector.specs.Vectors.{last_set}
 use Rattle.ca_every_vector.proofs.VectorLemmas.{length-last_set}
 use Rattle.ca_every_vector.proofs.FindLemmas.{bits_fit, lasts_are, have_lasts_more}
 use Rattle.ca_every_vector.proofs.find.find_lasts.Goals as goal

@@ -1,6 +1,6 @@
 use Rattle.std.proofs.Common.{sym, ◌∙◌, ap, arith, ◌≡◌, ◌<◌, ◌+◌, ◌-◌}
 use Rattle.ca_net.specs.State.{value_at}
-use Rattle.ca_every_vector.specs.code.Vectors.{last_set}
+use Rattle.ca_every_vector.specs.Vectors.{last_set}
 use Rattle.ca_every_vector.proofs.VectorLemmas.{digit_at, length-last_set, last_low, last_high}
 use Rattle.ca_every_vector.proofs.vectors.LastVectorBits.value.Goals as goal
 
