@@ -1,5 +1,5 @@
-use Rattle.std.proofs.Common.{◌≡◌, ℕ, subst, sym, ◌∙◌, ap, refl}
-use Rattle.std.specs.Prelude.{Option, IfOk}
+use Rattle.std.proofs.Common.{subst, sym, ◌∙◌, ap}
+use Rattle.std.specs.Prelude.{Option}
 use Rattle.std.specs.List.{All}
 use Rattle.std.proofs.lemmas.Result.{IfOk-weaker}
 use Rattle.ca_linked.specs.Linked as linked
@@ -11,7 +11,6 @@ use Rattle.ca_flatten.specs.Few.{IsFew}
 use Rattle.ca_judge.specs.ChipJudge.{CanBeJudged}
 use Rattle.ca_engine.specs.ChipDefects.{chip_defects}
 use Rattle.ca_engine.specs.ChipTask.{task_of}
-use Rattle.ca_engine.specs.code.Untestable.{AreMarked}
 use Rattle.ca_engine.proofs.CoreLemmas.{core_can_be_judged}
 use Rattle.ca_engine.proofs.UntestableLemmas.{marks_are}
 use Rattle.ca_engine.proofs.untestable.tried_marks.Goals as goal
