@@ -1,7 +1,7 @@
 #!/usr/bin/env python3
 """Measures what docs/FIGURES.md shows, and writes each table into that page.
 
-usage: bench/figures.py PROGRAM [matrices|commands|chips|made|large|hostile].. [--fuzz COUNT]
+usage: bench/figures.py PROGRAM [matrices|commands|chips|made|certificates|diagnosis|large|hostile].. [--fuzz COUNT]
 
 PROGRAM is the built program. A table of the page is between a line `<!-- NAME -->` and the next blank line; the names are those above,
 all of them if none is said. The line `<!-- build -->` is followed by the commit and the size of the program. Run it on a quiet machine, with
@@ -14,6 +14,8 @@ import subprocess
 import sys
 import tempfile
 import time
+
+from chips import OSU, library, netlist_of
 
 HERE = os.path.dirname(os.path.abspath(__file__))
 TOP = os.path.dirname(HERE)
@@ -72,6 +74,31 @@ def made(program):
     return generation(program, ["made"])
 
 
+def certificates(program):
+    rows = [["chip", "untestable by `atpg`", "claimed so", "aborted by `atpg`", "claimed so", "answer", "`atpg`, seconds", "`certify`", "`verify`",
+             "bytes of CERT", "`certify`, MiB", "`verify`, MiB"]]
+    for it in records([f"{HERE}/certify.py", program])[1:]:
+        rows.append([f"`{it[0]}`", it[5], it[7], it[6], it[8], it[9], *it[10:13], f"{int(it[13]):,}", *it[14:16]])
+    return table(rows)
+
+
+def diagnosis(program):
+    rows = [["chip", "injected defect", "records", "candidates", "of which explain more", "user seconds"]]
+    with tempfile.TemporaryDirectory() as folder:
+        for name, cells, netlist, _ in chips_of(folder):
+            found = records([f"{HERE}/diagnose.py", program, cells, netlist, "--budget", "1024", "--defects", "4"])[1:]
+            rows += [[f"`{name}`", f"`{' '.join(it[:2])}`", *it[2:6]] for it in found]
+    return table(rows)
+
+
+def chips_of(folder):
+    """The chips without scan cells for which a log is made."""
+    at = f"{TOP}/examples"
+    yield "c17", f"{at}/cells.sp", f"{at}/c17.v", "-"
+    if os.path.isdir(OSU):
+        yield "mult8", library(folder), *netlist_of(folder, "mult8", False)
+
+
 def large(program):
     rows = [["text", "what `check` says", "user seconds", "MiB"]]
     for it in records([f"{HERE}/chips.py", program, "rows", "large"])[1:]:
@@ -111,7 +138,8 @@ def main(words):
             count = int(rest.pop(0))
         else:
             names.append(word)
-    tables = {"matrices": matrices, "commands": commands, "chips": chips, "made": made, "large": large, "hostile": lambda it: hostile(it, count)}
+    tables = {"matrices": matrices, "commands": commands, "chips": chips, "made": made, "certificates": certificates,
+              "diagnosis": diagnosis, "large": large, "hostile": lambda it: hostile(it, count)}
     commit = printed(["git", "-C", TOP, "log", "-1", "--format=%h", "--", "crates"]).strip()
     found = {"build": [f"The program is that of commit {commit}, {os.path.getsize(program):,} bytes."]}
     found.update({name: tables[name](program) for name in names or tables})

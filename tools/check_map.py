@@ -4,7 +4,9 @@
 usage: tools/check_map.py
 
 The crates are in the same order under the same headings in both; each folder of crates/ has a line in both; what
-a row of the map says that a crate depends on is in its line of crates.txt. Python 3.9 or later, no packages.
+a row of the map says that a crate depends on is in its line of crates.txt; the layers of its diagram, from the
+top down, are headings from the last up, and the crates that a layer shows stand under its heading. Python 3.9 or
+later, no packages.
 """
 import os
 import re
@@ -16,6 +18,22 @@ TOP = os.path.dirname(os.path.dirname(os.path.abspath(__file__)))
 def read(name):
     with open(f"{TOP}/{name}", encoding="utf-8") as file:
         return file.read().split("\n")
+
+
+def diagram(headings, listed):
+    """What in the map's diagram isn't so."""
+    said, layers = [], []
+    for line in read("docs/MAP.md"):
+        layer = re.match(r"    (\w+) +\S.*?((?:ca_\w+ ?)+)(?:  <-.*| *)$", line)
+        if line.startswith("Each layer"):
+            break
+        if layer:
+            heading = layer[1].capitalize()
+            layers.append(heading)
+            said += [f"in the diagram, but not under {heading}: {it}" for it in layer[2].split() if (heading, it) not in listed]
+    if layers != [it for it in reversed(headings) if it in layers] or not layers:
+        said.append("the layers of the diagram are no headings, or stand in another order")
+    return said
 
 
 def main():
@@ -41,6 +59,8 @@ def main():
     said += [f"not in crates.txt, or at another place: {it[1]} ({it[0]})" for it in shown if it not in listed]
     if not said and listed != shown:
         said.append("the crates stand in another order")
+    headings = list(dict.fromkeys(it[0] for it in listed))
+    said += diagram(headings, listed)
     folders = sorted(it for it in os.listdir(f"{TOP}/crates") if os.path.isdir(f"{TOP}/crates/{it}/src"))
     said += [f"no line in crates.txt: {it}" for it in folders if it not in libraries]
     print("\n".join(said) if said else f"{len(listed)} crates agree")

@@ -63,6 +63,24 @@ fn values_for(
     values
 }
 
+/// The text of these pairs, with what the good chip ends with under each, over its view and rows.
+pub fn stil_over(
+    alloc: Global,
+    chains: &Chains,
+    view: &View<'_>,
+    rows: &ChipRows<'_>,
+    pairs: &Pairs,
+) -> Result<Text, NoMemory>
+    requires chains { AreAllChains view.now.chip chains.now }
+    requires rows { rows.now.chip ≡ view.now.chip }
+    requires whole { All (λ pair. length pair ≡ bit_count (core_of view.now.chip)) pairs.now }
+
+    ensures { IfOk result (IsStil view.now.chip chains.now pairs.now) }
+{
+    let values = values_for(alloc, view, rows, pairs)?;
+    stil_of(alloc, view.chip(), chains, pairs, &values)
+}
+
 // Both, over the chip's view and rows.
 #[tactic(auto, using(crate::proofs::AtpgLemmas::task_pairs_fit))]
 fn made_over<T: Watch>(

@@ -4,5 +4,5 @@
 mod generation;
 mod texts;
 
-pub use generation::{Tested, atpg};
+pub use generation::{Tested, atpg, stil_over};
 pub use texts::summary_text;

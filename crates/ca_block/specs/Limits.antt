@@ -23,7 +23,7 @@ HoldsFirsts net from work =
     (lane : ℕ) → lane < 64 → IsFirstLimit net (state_in from lane) (state_in work.firsts lane)
 
 -- the lane of the kept first limits with which a lane begins: 64 pairs of vectors after another are a block,
--- and so many of them as the power says have one first vector
+-- and as many of them as the power says have one first vector
 abbrev pub source_lane : ℕ → ℕ → ℕ → ℕ
 source_lane power block lane = (block % 64 * 64 + lane) / 2 ^ power % 64
 

@@ -7,6 +7,7 @@ ghost use Rattle.ca_block.specs.Limits.{HoldsFirsts, BeginThere, HoldsLimits, Ho
 
 use crate::spread::{LANE_DIGITS, spread};
 use crate::start::{begin, forget, meet};
+use crate::touched::{respond_again, respond_all};
 use crate::turns::{fall, rise};
 use crate::work::BlockWork;
 use ca_net::Network;
@@ -22,7 +23,22 @@ pub fn settle_firsts<N: Network>(net: &N, from: &Block, work: &mut BlockWork)
 {
     forget(&mut work.last);
     begin(net, from, &work.last, &mut work.firsts);
-    rise(net, &mut work.firsts, &mut work.next, &mut work.levels);
+    respond_all(
+        net,
+        &work.firsts,
+        &work.groups,
+        &mut work.levels,
+        &mut work.next,
+    );
+    rise(
+        net,
+        &mut work.firsts,
+        &mut work.next,
+        &mut work.spare,
+        &work.groups,
+        &mut work.touched,
+        &mut work.levels,
+    );
 }
 
 /// Computes the three limits of a network in each lane, from the values that its input nodes have there at
@@ -53,7 +69,44 @@ pub fn settle_block<N: Network>(
     spread(&work.firsts, power, block, &mut work.first);
     meet(from, to, &mut work.vector);
     begin(net, &work.vector, &work.first, &mut work.middle);
-    fall(net, &mut work.middle, &mut work.next, &mut work.levels);
+    respond_again(
+        net,
+        &work.first,
+        &work.first,
+        &work.middle,
+        &work.groups,
+        &mut work.touched,
+        &mut work.levels,
+        &mut work.known,
+    );
+    fall(
+        net,
+        &mut work.middle,
+        &mut work.next,
+        &mut work.known,
+        &mut work.spare,
+        &work.groups,
+        &mut work.touched,
+        &mut work.levels,
+    );
     begin(net, to, &work.middle, &mut work.last);
-    rise(net, &mut work.last, &mut work.next, &mut work.levels);
+    respond_again(
+        net,
+        &work.middle,
+        &work.known,
+        &work.last,
+        &work.groups,
+        &mut work.touched,
+        &mut work.levels,
+        &mut work.next,
+    );
+    rise(
+        net,
+        &mut work.last,
+        &mut work.next,
+        &mut work.spare,
+        &work.groups,
+        &mut work.touched,
+        &mut work.levels,
+    );
 }

@@ -2,43 +2,20 @@
 
 ghost use Rattle.std.specs.Prelude.{ℕ, ◌≡◌, ◌<◌, length, IsTrue, ◌↔◌};
 ghost use Rattle.ca_net.specs.Circuit.{IsWellFormed};
+ghost use Rattle.ca_net.specs.Response.{AreResponses};
 ghost use Rattle.ca_planes.specs.Trits.{HasNodes, state_in};
 ghost use Rattle.ca_levels.specs.Levels.{HoldsNetwork};
-ghost use Rattle.ca_settle.specs.code.Turns.{HasSameValues, IsMetWith, AreBlurred, IsHeldUp};
-ghost use Rattle.ca_settle.specs.code.Turns.{RisesTo, FallsTo};
+ghost use Rattle.ca_settle.specs.code.Turns.{HasSameValues, IsHeldUp, RisesTo, FallsTo};
+ghost use Rattle.ca_block.specs.Groups.{HoldsGroups};
+ghost use Rattle.ca_block.specs.Work.{HasTouchedRoom};
 
-use ca_levels::{Levels, respond};
+use crate::groups::Groups;
+use crate::start::meet;
+use crate::touched::{Touched, respond_again};
+use ca_levels::Levels;
 use ca_net::Network;
 use ca_planes::{Block, LANES, is_none};
 use std::mem;
-
-// Replaces each value by its meet with the other state's.
-fn meet_with(state: &mut Block, other: &Block)
-    requires state { length state.old.ones.items ≡ length state.old.zeros.items }
-    requires other { HasNodes (length state.old.zeros.items) other.now }
-    ensures meets { (lane : ℕ) → lane < LANES
-        → IsMetWith (state_in other.now lane) (state_in state.old lane) (state_in state.new lane) }
-    ensures room { HasNodes (length state.old.zeros.items) state.new }
-{
-    for n in 0..state.len() {
-        let met = state.get(n).meet(other.get(n));
-        state.set(n, met);
-    }
-}
-
-// Gives each node in `into` its value in `from` where that is its response there, else X.
-fn blur<N: Network>(net: &N, from: &Block, into: &mut Block, levels: &mut Levels)
-    requires from { HasNodes (length (N.circuit net.now).nodes) from.now }
-    requires into { HasNodes (length (N.circuit net.now).nodes) into.old }
-    requires levels { HoldsNetwork (N.circuit net.now) levels.old }
-    ensures blurred { (lane : ℕ) → lane < LANES
-        → AreBlurred (N.circuit net.now) (state_in from.now lane) (state_in into.new lane) }
-    ensures levels { HoldsNetwork (N.circuit net.now) levels.new }
-    ensures room { HasNodes (length (N.circuit net.now).nodes) into.new }
-{
-    respond(net, from, levels, into);
-    meet_with(into, from);
-}
 
 // Whether both states have the same values in each lane.
 fn is_same(state: &Block, other: &Block) -> bool
@@ -56,41 +33,85 @@ fn is_same(state: &Block, other: &Block) -> bool
 }
 
 /// Takes the state of each lane up to where each storage node has its response, from one in which each is at
-/// or below it.
-pub(crate) fn rise<N: Network>(net: &N, at: &mut Block, next: &mut Block, levels: &mut Levels)
+/// or below it. In `next` are the responses of the state at first.
+pub(crate) fn rise<N: Network>(
+    net: &N,
+    at: &mut Block,
+    next: &mut Block,
+    spare: &mut Block,
+    groups: &Groups,
+    touched: &mut Touched,
+    levels: &mut Levels,
+)
     requires well_formed { IsWellFormed (N.circuit net.now) }
     requires at { HasNodes (length (N.circuit net.now).nodes) at.old }
     requires next { HasNodes (length (N.circuit net.now).nodes) next.old }
+    requires spare { HasNodes (length (N.circuit net.now).nodes) spare.old }
+    requires groups { HoldsGroups (N.circuit net.now) groups.now }
+    requires touched { HasTouchedRoom
+        (length (N.circuit net.now).nodes) (length (N.circuit net.now).devices) touched.old }
     requires levels { HoldsNetwork (N.circuit net.now) levels.old }
     requires held { (lane : ℕ) → lane < LANES → IsHeldUp (N.circuit net.now) (state_in at.old lane) }
+    requires responses { (lane : ℕ) → lane < LANES → AreResponses (N.circuit net.now)
+        (state_in at.old lane) (state_in next.old lane) }
+
     ensures risen { (lane : ℕ) → lane < LANES
         → RisesTo (N.circuit net.now) (state_in at.old lane) (state_in at.new lane) }
     ensures at { HasNodes (length (N.circuit net.now).nodes) at.new }
     ensures next { HasNodes (length (N.circuit net.now).nodes) next.new }
+    ensures spare { HasNodes (length (N.circuit net.now).nodes) spare.new }
+    ensures touched { HasTouchedRoom
+        (length (N.circuit net.now).nodes) (length (N.circuit net.now).devices) touched.new }
     ensures levels { HoldsNetwork (N.circuit net.now) levels.new }
 {
-    respond(net, at, levels, next);
     'rising: while !is_same(at, next) {
+        respond_again(net, at, next, next, groups, touched, levels, spare);
         mem::swap(at, next);
-        respond(net, at, levels, next);
+        mem::swap(next, spare);
     }
 }
 
-/// Takes the state of each lane down to where each storage node is at or below its response.
-pub(crate) fn fall<N: Network>(net: &N, at: &mut Block, next: &mut Block, levels: &mut Levels)
+/// Takes the state of each lane down to where each storage node is at or below its response. In `known`
+/// are the responses of the state, at first and at last.
+pub(crate) fn fall<N: Network>(
+    net: &N,
+    at: &mut Block,
+    next: &mut Block,
+    known: &mut Block,
+    spare: &mut Block,
+    groups: &Groups,
+    touched: &mut Touched,
+    levels: &mut Levels,
+)
     requires well_formed { IsWellFormed (N.circuit net.now) }
     requires at { HasNodes (length (N.circuit net.now).nodes) at.old }
     requires next { HasNodes (length (N.circuit net.now).nodes) next.old }
+    requires known { HasNodes (length (N.circuit net.now).nodes) known.old }
+    requires spare { HasNodes (length (N.circuit net.now).nodes) spare.old }
+    requires groups { HoldsGroups (N.circuit net.now) groups.now }
+    requires touched { HasTouchedRoom
+        (length (N.circuit net.now).nodes) (length (N.circuit net.now).devices) touched.old }
     requires levels { HoldsNetwork (N.circuit net.now) levels.old }
+    requires responses { (lane : ℕ) → lane < LANES → AreResponses (N.circuit net.now)
+        (state_in at.old lane) (state_in known.old lane) }
+
     ensures fallen { (lane : ℕ) → lane < LANES
         → FallsTo (N.circuit net.now) (state_in at.old lane) (state_in at.new lane) }
+    ensures responses { (lane : ℕ) → lane < LANES → AreResponses (N.circuit net.now)
+        (state_in at.new lane) (state_in known.new lane) }
     ensures at { HasNodes (length (N.circuit net.now).nodes) at.new }
     ensures next { HasNodes (length (N.circuit net.now).nodes) next.new }
+    ensures known { HasNodes (length (N.circuit net.now).nodes) known.new }
+    ensures spare { HasNodes (length (N.circuit net.now).nodes) spare.new }
+    ensures touched { HasTouchedRoom
+        (length (N.circuit net.now).nodes) (length (N.circuit net.now).devices) touched.new }
     ensures levels { HoldsNetwork (N.circuit net.now) levels.new }
 {
-    blur(net, at, next, levels);
+    meet(known, at, next);
     'falling: while !is_same(at, next) {
+        respond_again(net, at, known, next, groups, touched, levels, spare);
         mem::swap(at, next);
-        blur(net, at, next, levels);
+        mem::swap(known, spare);
+        meet(known, at, next);
     }
 }

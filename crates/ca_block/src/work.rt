@@ -5,6 +5,8 @@ ghost use Rattle.ca_net.specs.State.{value_at};
 ghost use Rattle.ca_planes.specs.Trits.{state_in, trit_in};
 ghost use Rattle.ca_block.specs.Work.{HasRoom, HoldsNet};
 
+use crate::groups::Groups;
+use crate::touched::Touched;
 use ca_base::NoMemory;
 use ca_levels::Levels;
 use ca_net::Network;
@@ -19,15 +21,21 @@ pub struct BlockWork {
     pub(crate) last: Block,
     // the state to which a turn leads
     pub(crate) next: Block,
+    // the responses of a state, and room for those of the next
+    pub(crate) known: Block,
+    pub(crate) spare: Block,
     // first limits that are kept for many pairs
     pub(crate) firsts: Block,
     // the values of the inputs while they change
     pub(crate) vector: Block,
     pub(crate) levels: Levels,
+    pub(crate) groups: Groups,
+    // the groups that a change of values touches
+    pub(crate) touched: Touched,
 }
 
 impl BlockWork {
-    /// Takes the room for a network of this many nodes and devices: 129 bytes a node and 36 a device. No call
+    /// Takes the room for a network of this many nodes and devices: 167 bytes a node and 52 a device. No call
     /// takes memory afterwards.
     pub fn reserve(alloc: Global, nodes: usize, devices: usize) -> Result<Self, NoMemory>
         ensures { IfOk result (HasRoom nodes devices) }
@@ -37,9 +45,13 @@ impl BlockWork {
             middle: Block::reserve(alloc, nodes)?,
             last: Block::reserve(alloc, nodes)?,
             next: Block::reserve(alloc, nodes)?,
+            known: Block::reserve(alloc, nodes)?,
+            spare: Block::reserve(alloc, nodes)?,
             firsts: Block::reserve(alloc, nodes)?,
             vector: Block::reserve(alloc, nodes)?,
             levels: Levels::reserve(alloc, nodes, devices)?,
+            groups: Groups::reserve(alloc, nodes, devices)?,
+            touched: Touched::reserve(alloc, nodes, devices)?,
         })
     }
 
@@ -49,7 +61,8 @@ impl BlockWork {
         requires { HasRoom (length (N.circuit net.now).nodes) (length (N.circuit net.now).devices) self.old }
         ensures { HoldsNet (N.circuit net.now) self.new }
     {
-        self.levels.load(net);
+        self.groups.load(net);
+        self.levels.load(net, &self.groups.devices);
     }
 
     /// The last limit of a node in each lane.

@@ -38,7 +38,7 @@ free_count raw = 2 + role_count is_output raw.pins + inner_count raw
 abbrev pub pair_count : ℕ → ℕ
 pair_count nodes = nodes * (nodes - 1) / 2
 
--- how many defects there are: the opens of the devices, one open for each input pin, and a short for each pair
--- of nodes that are no input pins, except power with ground
+-- how many defects there are: the opens of the devices, one open for each input pin, and a short for each
+-- pair of nodes that are no input pins, except power with ground
 abbrev pub defect_count : RawCell → ℕ
 defect_count raw = open_count raw.devices + role_count is_input raw.pins + (pair_count (free_count raw) - 1)

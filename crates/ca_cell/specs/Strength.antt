@@ -12,8 +12,8 @@ abbrev pub one_if : Bool → ℕ
 one_if true = 1
 one_if false = 0
 
--- the strength of a transistor of this width and length: one class more than the weakest for each ratio of the
--- table that it reaches
+-- the strength of a transistor of this width and length: one class more than the weakest for each ratio of
+-- the table that it reaches
 abbrev pub strength_of : StrengthTable → ℕ → ℕ → ℕ
 strength_of table width length = WEAKEST
     + ((one_if (reaches table.first width length) + one_if (reaches table.second width length)

@@ -23,7 +23,8 @@ pub record SearchIsClaimed (chip : Chip) (defect : ChipDefect) (code : List Toke
 
 -- each such code
 abbrev pub SearchCodesAreClaimed : Type 0
-SearchCodesAreClaimed = (chip : Chip) (defect : ChipDefect) (code : List Token) → SearchIsClaimed chip defect code
+SearchCodesAreClaimed =
+    (chip : Chip) (defect : ChipDefect) (code : List Token) → SearchIsClaimed chip defect code
 
 -- claims that give good verdicts stand, where those that a defect is untestable have whole codes
 abbrev pub GoodClaimsStand : Type 0

@@ -8,7 +8,8 @@ use Rattle.ca_flat.specs.declared.chip_defect.ChipDefect.{ChipDefect}
 use Rattle.ca_flat.specs.declared.token.Token.{Token}
 use Rattle.ca_credit.specs.Defects.{Task}
 
--- each claim on a defect of the task stands, for the listed pairs and the task's budget: the check answers yes
+-- each claim on a defect of the task stands, for the listed pairs and the task's budget: the check answers
+-- yes
 abbrev pub AllStand : Task → List (List Bool) → List Claim → Type 0
 AllStand task pairs claims =
     StandBelow task.chip task.defects pairs task.budget claims (length claims)

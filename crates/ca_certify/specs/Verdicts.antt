@@ -20,8 +20,8 @@ verdict_of (claim.Aborted code) = verdict.Aborted code
 abbrev pub verdicts_of : List Claim → List Verdict
 verdicts_of claims = map verdict_of claims
 
--- to search, with at most `budget` branches for each, for pairs that show the defects of the library instances
--- of the chip that is viewed
+-- to search, with at most `budget` branches for each, for pairs that show the defects of the library
+-- instances of the chip that is viewed
 abbrev pub viewed_task : Viewed → ℕ → Task
 viewed_task view budget = record {
   chip = view.core;

@@ -52,7 +52,8 @@ pub fn certify(
     Ok(Certificate { budget, claims })
 }
 
-// The claims, by rows and a choice of any type: so the judge that is dropped here has few parts to the prover.
+// The claims, by rows and a choice of any type: so the judge that is dropped here has few parts to the
+// prover.
 fn claims_by<R: ExposableDefects, P: Choice + Drop>(
     alloc: Global,
     view: &View<'_>,

@@ -18,7 +18,7 @@ header = codes "instance" ∷ codes "cell" ∷ codes "defect" ∷ codes "explain
 abbrev pub defect_name : LinkedChip → ChipDefect → List ℕ
 defect_name chip defect = name_of (cell_at (core_of chip) defect.instance) defect.defect
 
--- the record of a defect that explains so many records of the log
+-- the record of a defect that explains this many records of the log
 abbrev pub record_of : LinkedChip → ChipDefect → ℕ → List (List ℕ)
 record_of chip defect explained =
     instance_name (slice_get chip.parts defect.instance) ∷ cell_name (slice_get chip.parts defect.instance)
@@ -35,7 +35,7 @@ record_at chip defects one = elim (slice_get defects one.defect) [
 unfoldable pub candidates_text : LinkedChip → List ChipDefect → List Candidate → List ℕ
 candidates_text chip defects candidates = written (header ∷ map (record_at chip defects) candidates)
 
--- the line of so many candidates, defects and records
+-- the line of this many candidates, defects and records
 abbrev pub diagnosis_line : ℕ → ℕ → ℕ → List ℕ
 diagnosis_line candidates defects records =
     let first = with_count [] (codes "candidates ") candidates in

@@ -31,7 +31,7 @@ fn add_count(text: &mut Text, label: &[u8], count: usize) -> Result<(), NoMemory
     text.append(Buffer::new().format(count).as_bytes())
 }
 
-// The line of so many candidates, defects and records.
+// The line of this many candidates, defects and records.
 fn line_of(
     alloc: Global,
     candidates: usize,
@@ -72,7 +72,7 @@ fn texts_over(
     })
 }
 
-/// The texts of the candidates of a linked chip, which a log of so many records leaves.
+/// The texts of the candidates of a linked chip, which a log of this many records leaves.
 pub fn texts_of(
     alloc: Global,
     chip: &Chip,

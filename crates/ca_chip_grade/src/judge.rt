@@ -82,8 +82,8 @@ fn judged_over(
     found
 }
 
-/// Judges the values that are expected under the pairs: the first that isn't what the good chip ends with is a
-/// fault. Also answers out of memory for a chip with 2^32 observed outputs, with 2^32 defects or whose flat
+/// Judges the values that are expected under the pairs: the first that isn't what the good chip ends with is
+/// a fault. Also answers out of memory for a chip with 2^32 observed outputs, with 2^32 defects or whose flat
 /// network may have 2^32 nodes or devices.
 #[tactic(auto, using(crate::proofs::FitLemmas::bits_fit, crate::proofs::FitLemmas::values_fit))]
 pub fn judge_chip(

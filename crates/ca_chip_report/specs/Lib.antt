@@ -2,6 +2,7 @@
 pub mod ChipReport
 pub mod Summary
 pub mod Grades
+pub mod Found
 pub mod GradeSummary
 pub mod Laws
 pub mod code

@@ -1,7 +1,8 @@
 //! How many defects of a chip have which grade.
 
 ghost use Rattle.std.specs.Prelude.{◌≡◌, IfOk};
-ghost use Rattle.ca_chip_report.specs.GradeSummary.{is_grade_kind, grade_count, summary_of_grades, grade_line};
+ghost use Rattle.ca_chip_report.specs.GradeSummary.{is_grade_kind, grade_count, summary_of_grades};
+ghost use Rattle.ca_chip_report.specs.GradeSummary.{grade_line};
 
 use crate::summary::{add_count, one_if};
 use ca_base::NoMemory;

@@ -6,7 +6,8 @@ ghost use Rattle.ca_flat.specs.Chip.{cell_at};
 ghost use Rattle.ca_core.specs.Core.{core_of};
 ghost use Rattle.ca_chip_report.specs.ChipReport.{reported_of, instance_name, cell_name, IsGateDefect};
 ghost use Rattle.ca_chip_report.specs.Grades.{reported_grade};
-ghost use Rattle.ca_chip_report.specs.code.Rows.{found_of, AreRows};
+ghost use Rattle.ca_chip_report.specs.Found.{found_of};
+ghost use Rattle.ca_chip_report.specs.code.Rows.{AreRows};
 ghost use Rattle.ca_chip_report.specs.code.Kept.{AreRows-prop};
 
 use ca_base::NoMemory;
@@ -109,7 +110,7 @@ pub(crate) struct ChipRows<'a> {
 
 impl ReportRows for ChipRows<'_> {
     ghost use Rattle.ca_chip_report.specs.ChipReport.{rows_of};
-    ghost use Rattle.ca_chip_report.specs.code.Rows.{found_of};
+    ghost use Rattle.ca_chip_report.specs.Found.{found_of};
 
     ghost rows = { λ rows. rows_of rows.chip.now rows.defects.now (found_of rows.found) };
 

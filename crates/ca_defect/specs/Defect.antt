@@ -1,7 +1,8 @@
 -- Networks with a defect (after Hapke and others 2014). A defect is one of a cell, and names the cell's nodes
 -- and devices.
 use Rattle.std.specs.Prelude.{ℕ, ◌<◌, ◌≤◌, ◌+◌, ◌==◌, ◌&&◌, nat_lt, nat_le, not, Bool, IsTrue, if◌then◌else◌}
-use Rattle.std.specs.Prelude.{List, [], ◌∷◌, ◌++◌, length, false, Option, Some, None, option_to_list, slice_get}
+use Rattle.std.specs.Prelude.{List, [], ◌∷◌, ◌++◌, length, false, Option, Some, None, option_to_list}
+use Rattle.std.specs.Prelude.{slice_get}
 use Rattle.ca_net.specs.declared.scale.TheConstants.{INNER_NODE, BRIDGE}
 use Rattle.ca_net.specs.declared.node.NodeKind.{NodeKind}
 use Rattle.ca_net.specs.declared.node.NodeKind.TheVariants.{Storage}

@@ -7,17 +7,17 @@ use Rattle.ca_log.specs.declared.record.LogRecord.{LogRecord}
 use Rattle.ca_diag.specs.declared.candidate.Candidate.{Candidate}
 use Rattle.ca_diag.specs.Diagnosis.{IsCandidate, Explains}
 
--- each record is of one of so many pairs and outputs
+-- each record is of one of this many pairs and outputs
 abbrev pub AreLoggedWithin : ℕ → ℕ → List LogRecord → Type 0
 AreLoggedWithin pairs outputs log = All (λ here. (here.pair < pairs) × (here.output < outputs)) log
 
--- so many entries of the list have the property
+-- this many entries of the list have the property
 abbrev pub AreSoMany : {T : Type 0} → (T → Type 0) → List T → ℕ → Type 0
 AreSoMany P [] count = count ≡ 0
 AreSoMany P (x ∷ xs) count =
     (P x × (others : ℕ) × (count ≡ suc others) × AreSoMany P xs others) ⊎ (¬ (P x) × AreSoMany P xs count)
 
--- the defect at this place of the chip's list is a candidate, and explains so many records of the log
+-- the defect at this place of the chip's list is a candidate, and explains this many records of the log
 pub record IsListed (task : Task) (pairs : List (List Bool)) (log : List LogRecord) (one : Candidate) : Type 0
   where
     pub defect : ChipDefect

@@ -45,7 +45,7 @@ impl ByPair {
         Ok(self.rows[here.pair as usize].push(here.output)?)
     }
 
-    /// The log of so many pairs.
+    /// The log of this many pairs.
     pub(crate) fn of(alloc: Global, pairs: usize, log: &Log) -> Result<Self, NoMemory>
         requires { All (λ here. here.pair < pairs) log.now }
         ensures { IfOk result (AreByPair pairs log.now) }

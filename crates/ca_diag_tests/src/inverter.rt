@@ -139,7 +139,7 @@ fn row_text(alloc: Global, row: usize) -> Option<Text> {
 }
 
 // The candidates by the patterns and the log of a chip with these chains, and the line after them.
-fn told_in(alloc: Global, chip: &Chip, chains: &Chains, stil: &[u8], bytes: &[u8]) -> Option<Text>
+fn report_in(alloc: Global, chip: &Chip, chains: &Chains, stil: &[u8], bytes: &[u8]) -> Option<Text>
     requires { AreAllChains chip.now chains.now }
 {
     let file = read_chip_stil(alloc, chip, chains, stil).ok()?;
@@ -154,9 +154,9 @@ fn told_in(alloc: Global, chip: &Chip, chains: &Chains, stil: &[u8], bytes: &[u8
     logged_can_be_diagnosed();
     let found = diagnose_chip(alloc, chip, file.pairs.as_slice(), &log, &mut Unwatched).ok()?;
     let texts = texts_of(alloc, chip, found.as_slice(), log.len()).ok()?;
-    let mut told = texts.candidates;
-    told.append(texts.line.as_bytes()).ok()?;
-    Some(told)
+    let mut report = texts.candidates;
+    report.append(texts.line.as_bytes()).ok()?;
+    Some(report)
 }
 
 // The chip of a netlist, if it links.
@@ -174,21 +174,21 @@ fn chip_of(alloc: Global, netlist: &[u8]) -> Option<Chip> {
     }
 }
 
-fn told_of(alloc: Global, row: &Row) -> Option<Text> {
+fn report_of(alloc: Global, row: &Row) -> Option<Text> {
     let chip = chip_of(alloc, INVERTER)?;
     let Ok(chains) = trace(alloc, &chip) else {
         return None;
     };
     let stil = text_of(alloc, row.0).ok()?;
-    told_in(alloc, &chip, &chains, stil.as_bytes(), row.1)
+    report_in(alloc, &chip, &chains, stil.as_bytes(), row.1)
 }
 
 #[test]
 fn candidates_are_as_worked_out(rt: HostRuntime) {
     for row in &ROWS {
-        match told_of(rt.alloc(), row) {
-            Some(told) => assert!(rt; told.is(row.2), "{:?}", told.as_bytes()),
-            None => panic!(rt; "nothing told"),
+        match report_of(rt.alloc(), row) {
+            Some(report) => assert!(rt; report.is(row.2), "{:?}", report.as_bytes()),
+            None => panic!(rt; "nothing reported"),
         }
     }
 }

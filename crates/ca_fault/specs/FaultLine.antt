@@ -1,9 +1,11 @@
 -- The exit status and the line of a fault.
 use Rattle.std.specs.Prelude.{ℕ, List, [], ◌∷◌, ◌++◌, codes, decimal}
 use Rattle.ca_fault.specs.declared.fault.Fault.{Fault}
-use Rattle.ca_fault.specs.declared.fault.Fault.TheVariants.{BadWords, Cells, Netlist, Scan, Chip, Chain}
-use Rattle.ca_fault.specs.declared.fault.Fault.TheVariants.{NoCell, Cell, BadVector, NoInstance, NoDefect}
-use Rattle.ca_fault.specs.declared.fault.Fault.TheVariants.{Order, Stil, StilChip, Expected, TooLong}
+use Rattle.ca_fault.specs.declared.fault.Fault.TheVariants.{BadWords, Strengths, Cells, Netlist, Scan}
+use Rattle.ca_fault.specs.declared.fault.Fault.TheVariants.{Chip, Chain, NoCell, Cell, BadVector, NoInstance}
+use Rattle.ca_fault.specs.declared.fault.Fault.TheVariants.{NoDefect}
+use Rattle.ca_fault.specs.declared.fault.Fault.TheVariants.{Order, Stil, StilChip, Expected, Log, TooLong}
+use Rattle.ca_fault.specs.declared.fault.Fault.TheVariants.{Cert, CertChip}
 use Rattle.ca_fault.specs.declared.fault.Fault.TheVariants.{TooManyPairs, Limit, StoreFailed, SinkFailed}
 use Rattle.ca_fault.specs.declared.fault.Fault.TheVariants.{NoMemory}
 use Rattle.ca_fault.specs.KindText.{kind_text, netlist_text, rule_text, chip_text, limit_text}
@@ -12,6 +14,7 @@ use Rattle.ca_fault.specs.KindText.{most_text}
 -- the exit status that stands for a fault
 abbrev pub status_of : Fault → ℕ
 status_of BadWords = 1
+status_of (Strengths row) = 2
 status_of (Cells line kind) = 2
 status_of (Netlist line kind) = 2
 status_of (Scan row) = 2
@@ -26,6 +29,9 @@ status_of (Order line) = 2
 status_of (Stil line) = 2
 status_of StilChip = 2
 status_of (Expected pair output) = 2
+status_of (Log row) = 2
+status_of (Cert line) = 2
+status_of (CertChip claims) = 2
 status_of (TooLong name taken) = 3
 status_of (TooManyPairs pairs aims) = 3
 status_of (Limit kind count) = 3
@@ -36,6 +42,7 @@ status_of NoMemory = 5
 -- what a fault prints between the program's name and the line's end
 abbrev pub text_of : Fault → List ℕ
 text_of BadWords = codes "bad command line"
+text_of (Strengths row) = codes "strengths: record " ++ decimal row
 text_of (Cells line kind) = codes "cells: line " ++ (decimal line ++ (codes ": " ++ kind_text kind))
 text_of (Netlist line kind) = codes "netlist: line " ++ (decimal line ++ (codes ": " ++ netlist_text kind))
 text_of (Scan row) = codes "scan table: record " ++ decimal row
@@ -51,6 +58,9 @@ text_of (Stil line) = codes "stil: line " ++ decimal line
 text_of StilChip = codes "stil: other chip"
 text_of (Expected pair output) =
     codes "expected value: pair " ++ (decimal pair ++ (codes " output " ++ decimal output))
+text_of (Log row) = codes "log: record " ++ decimal row
+text_of (Cert line) = codes "certificate: line " ++ decimal line
+text_of (CertChip claims) = codes "certificate: " ++ (decimal claims ++ codes " claims")
 text_of (TooLong name taken) = codes "file too long: " ++ name
 text_of (TooManyPairs pairs aims) = codes "too many pairs"
 text_of (Limit kind count) = codes "limit: " ++ (limit_text kind ++ (codes " " ++ decimal count))

@@ -21,6 +21,10 @@ use itoa::Buffer;
 pub enum Fault {
     /// The words are those of no command.
     BadWords,
+    /// The strength table breaks its form. Records are counted from 1, and the header is the first.
+    Strengths {
+        row: usize,
+    },
     /// The cell netlist has no reading. Lines are counted from 1.
     Cells {
         line: usize,
@@ -87,6 +91,19 @@ pub enum Fault {
         pair: u32,
         output: u32,
     },
+    /// The log of failing outputs has a record that is bad, the first of those. Records are counted from 1,
+    /// and the header is the first.
+    Log {
+        row: usize,
+    },
+    /// The certificate isn't of the form. Lines are counted from 1.
+    Cert {
+        line: usize,
+    },
+    /// The certificate is of the form, and has more or fewer claims than the chip has defects.
+    CertChip {
+        claims: usize,
+    },
     /// A file has more bytes than it may have. That many were taken.
     TooLong {
         name: Text,
@@ -144,7 +161,8 @@ impl Fault {
     {
         match self {
             Fault::BadWords => 1,
-            Fault::Cells { .. }
+            Fault::Strengths { .. }
+            | Fault::Cells { .. }
             | Fault::Netlist { .. }
             | Fault::Scan { .. }
             | Fault::Chip { .. }
@@ -157,7 +175,10 @@ impl Fault {
             | Fault::Order { .. }
             | Fault::Stil { .. }
             | Fault::StilChip
-            | Fault::Expected { .. } => 2,
+            | Fault::Expected { .. }
+            | Fault::Log { .. }
+            | Fault::Cert { .. }
+            | Fault::CertChip { .. } => 2,
             Fault::TooLong { .. } | Fault::TooManyPairs { .. } | Fault::Limit { .. } => 3,
             Fault::StoreFailed { .. } | Fault::SinkFailed => 4,
             Fault::NoMemory => 5,
@@ -212,8 +233,9 @@ impl Fault {
     {
         match self {
             Fault::Cells { line, .. } | Fault::Netlist { line, .. } => *line,
-            Fault::Scan { row } => *row,
-            Fault::Order { line } | Fault::Stil { line } => *line,
+            Fault::Strengths { row } | Fault::Scan { row } | Fault::Log { row } => *row,
+            Fault::Order { line } | Fault::Stil { line } | Fault::Cert { line } => *line,
+            Fault::CertChip { claims } => *claims,
             Fault::Expected { pair, .. } => *pair as usize,
             Fault::Limit { count, .. } => *count,
             _ => 0,
@@ -255,6 +277,12 @@ impl Fault {
     {
         match self {
             Fault::BadWords => FaultText::plain(b"bad command line"),
+            Fault::Strengths { .. } => FaultText {
+                start: b"strengths: record ",
+                word: number,
+                end: &[],
+                last: &[],
+            },
             Fault::Cells { kind, .. } => FaultText {
                 start: b"cells: line ",
                 word: number,
@@ -305,6 +333,24 @@ impl Fault {
                 word: number,
                 end: b" output ",
                 last,
+            },
+            Fault::Log { .. } => FaultText {
+                start: b"log: record ",
+                word: number,
+                end: &[],
+                last: &[],
+            },
+            Fault::Cert { .. } => FaultText {
+                start: b"certificate: line ",
+                word: number,
+                end: &[],
+                last: &[],
+            },
+            Fault::CertChip { .. } => FaultText {
+                start: b"certificate: ",
+                word: number,
+                end: b" claims",
+                last: &[],
             },
             Fault::TooLong { name, .. } => FaultText::with_word(b"file too long: ", name),
             Fault::TooManyPairs { .. } => FaultText::plain(b"too many pairs"),

@@ -1,5 +1,6 @@
 -- The text of a network: its nodes as comments, and its devices as the cards of a subcircuit.
-use Rattle.std.specs.Prelude.{ℕ, ◌+◌, ◌≡◌, ◌≤◌, ◌⊎◌, ◌==◌, if◌then◌else◌, List, [], ◌∷◌, ◌++◌, flat_map, codes}
+use Rattle.std.specs.Prelude.{ℕ, ◌+◌, ◌≡◌, ◌≤◌, ◌⊎◌, ◌==◌, if◌then◌else◌, List, [], ◌∷◌, ◌++◌, flat_map}
+use Rattle.std.specs.Prelude.{codes}
 use Rattle.std.specs.Prelude.{decimal}
 use Rattle.ca_net.specs.declared.scale.TheConstants.{WEAKEST, STRONGEST, BRIDGE}
 use Rattle.ca_net.specs.declared.node.NodeKind.{NodeKind}

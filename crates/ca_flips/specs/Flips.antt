@@ -1,4 +1,4 @@
--- Flips: the last values of the nets behind an instance, where those of its output nets are given.
+-- Flips: the last values of the nets after an instance, where those of its output nets are given.
 use Rattle.std.specs.Prelude.{ℕ, ◌+◌, ◌≡◌, ◌≢◌, ◌<◌, ◌⊎◌, List, length, slice_index_or, Option, None}
 use Rattle.ca_net.specs.declared.trit.Trit.{Trit}
 use Rattle.ca_net.specs.declared.trit.Trit.TheVariants.{Zero, One, X}
@@ -26,11 +26,11 @@ pub record IsAfter (chip : Chip) (u w : ℕ) : Type 0 where
   pub within : pin < inputs_at chip w
   pub reached : IsReachedFrom chip u (net_of chip w pin)
 
--- the cell of each instance behind u is static
+-- the cell of each instance after u is static
 abbrev pub AreStaticAfter : Chip → ℕ → Type 0
 AreStaticAfter chip u = (w : ℕ) → IsAfter chip u w → IsStatic (cell_at chip w)
 
--- the values of nets are definite at the output nets of u, and at each net that an instance behind u reads
+-- the values of nets are definite at the output nets of u, and at each net that an instance after u reads
 pub record AreDefiniteAfter (chip : Chip) (u : ℕ) (values : ℕ → Trit) : Type 0 where
   pub outputs : (output : ℕ) → output < outputs_at chip u → values (output_net chip u output) ≢ X
   pub read : (w pin : ℕ) → IsAfter chip u w → pin < inputs_at chip w → values (net_of chip w pin) ≢ X
@@ -40,7 +40,7 @@ abbrev pub vector_at : Chip → ℕ → (ℕ → Trit) → List Trit
 vector_at chip w values = values_from (λ pin. values (net_of chip w pin)) 0 (inputs_at chip w)
 
 -- The values of the nets where the output pins of u have these: each net that u doesn't reach has its good
--- value, and each instance behind u has at its output nets what its cell ends with by the values of its input
+-- value, and each instance after u has at its output nets what its cell ends with by the values of its input
 -- nets alone.
 pub record AreFlipped (chip : Chip) (u : ℕ) (goods outputs values : ℕ → Trit) : Type 0 where
   pub apart : (net : ℕ) → net < length chip.nets → ¬ (IsReachedFrom chip u net) → values net ≡ goods net
@@ -71,7 +71,7 @@ pub record AreSwept (chip : Chip) (u : ℕ) (goods outputs values : ℕ → Trit
       → KeepsGood chip w goods values ⊎ IsEvaluated chip w values
 
 -- The values of nets that are known where the output pins of u have these: a net that u doesn't reach has its
--- good value or X, an output net of u has its output or X, and each output net of an instance behind u has
+-- good value or X, an output net of u has its output or X, and each output net of an instance after u has
 -- what its cell ends with by the values of its input nets alone, be they definite or not, or X.
 pub record AreKnownFlipped (chip : Chip) (u : ℕ) (goods outputs values : ℕ → Trit) : Type 0 where
   pub apart : (net : ℕ) → net < length chip.nets → ¬ (IsReachedFrom chip u net)

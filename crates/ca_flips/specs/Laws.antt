@@ -154,7 +154,7 @@ KnownFlippedIsDetected =
     → AreKnownFlipped chip defect.instance goods known values → net < length chip.nets
     → IsOpposite (goods net) (values net) → DetectsAt chip defect pair net
 
--- where all instances behind that of the defect are static, the good lasts are definite there, and no faulty
+-- where all instances after that of the defect are static, the good lasts are definite there, and no faulty
 -- last of the instance is definite and the opposite of the good one, the defect is detected at no net
 abbrev pub UnflippedIsUndetected : Type 0
 UnflippedIsUndetected =
@@ -167,7 +167,7 @@ UnflippedIsUndetected =
     → ¬ (IsOpposite (goods (output_net chip defect.instance output)) (known output)))
     → net < length chip.nets → DetectsAt chip defect pair net → ⊥
 
--- behind static instances, where the good lasts are definite, values that are found an instance at a time are
+-- after static instances, where the good lasts are definite, values that are found an instance at a time are
 -- the flipped ones
 abbrev pub SweptAreFlipped : Type 0
 SweptAreFlipped =
@@ -183,7 +183,7 @@ FlippedAreUnique =
     → IsChip chip rank → u < count_of chip → AreFlipped chip u goods outputs values
     → AreFlipped chip u goods outputs others → net < length chip.nets → values net ≡ others net
 
--- where all instances behind u are static, and the good values are definite there, there are flipped values
+-- where all instances after u are static, and the good values are definite there, there are flipped values
 -- for all definite outputs; which they are is found by computing, so that all that is said here is that none
 -- can't be
 abbrev pub FlippedAreThere : Type 0
@@ -201,7 +201,7 @@ FlippedAreDefinite =
     → ((output : ℕ) → output < outputs_at chip u → outputs output ≢ X)
     → AreFlipped chip u goods outputs values → IsReachedFrom chip u net → values net ≢ X
 
--- where all instances behind that of the defect are static, the good lasts are definite there, and each
+-- where all instances after that of the defect are static, the good lasts are definite there, and each
 -- faulty last of the instance that leads to a net is definite, the defect is detected at the net exactly
 -- where they force it to the opposite
 abbrev pub DetectedWhereForced : Type 0

@@ -5,7 +5,7 @@ use Rattle.ca_cell.specs.declared.raw.RawCell.{RawCell}
 use Rattle.ca_cell.specs.Raw.{is_input, is_output, role_count, circuit_of}
 use Rattle.ca_defect.specs.Exposes.{IsDefiniteVector, CellEndsAt}
 
--- the node of an output pin of the cell: it is behind power, ground and the input pins
+-- the node of an output pin of the cell: it comes after power, ground and the input pins
 abbrev pub node_of_output : RawCell → ℕ → ℕ
 node_of_output raw output = 2 + role_count is_input raw.pins + output
 

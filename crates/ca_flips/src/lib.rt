@@ -1,4 +1,4 @@
-//! Static cells and flips: what the nets behind an instance end with, by the last values of its output nets
+//! Static cells and flips: what the nets after an instance end with, by the last values of its output nets
 //! alone. There is no code.
 #![tactic(auto)]
 

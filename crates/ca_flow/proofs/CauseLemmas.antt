@@ -1,5 +1,5 @@
 -- How the causes of a command follow from those of its stages.
-use Rattle.std.proofs.Common.{ℕ, ◌≡◌, ◌≢◌, ◌⊎◌, ◌∙◌, inl, inr, refl, sym, ap, arith, List, Option, Some, None}
+use Rattle.std.proofs.Common.{ℕ, ◌≡◌, ◌≢◌, ◌⊎◌, ◌∙◌, inl, inr, refl, sym, ap, arith, List, length, Option, Some, None}
 use Rattle.std.proofs.Common.{Result, Ok, Err, Bool, true, false, subst}
 use Rattle.std.proofs.lemmas.Option.{same_Some}
 use Rattle.std.specs.Prelude.{Vec, if◌then◌else◌, IfOk}
@@ -9,19 +9,19 @@ use Rattle.ca_store.specs.Store.{Files}
 use Rattle.ca_matrix.specs.Matrix.{Entries}
 use Rattle.ca_fault.specs.declared.fault.Fault.{Fault}
 use Rattle.ca_fault.specs.declared.fault.Fault.TheVariants.{StoreFailed, SinkFailed, NoMemory}
-use Rattle.ca_load.specs.Causes.{IsScanCause}
-use Rattle.ca_words.specs.Words.{cells_word, cell_word, vector_word, first_word, last_word, defect_word}
+use Rattle.ca_load.specs.Causes.{IsStrengthsCause, IsLibraryCause, IsScanCause}
+use Rattle.ca_words.specs.Words.{cell_files, cell_word, vector_word, first_word, last_word, defect_word}
 use Rattle.ca_words.specs.Words.{scan_word, dash, file_called}
 use Rattle.ca_words.specs.Words.{chip_files, instance_word, chip_defect_word, flat_out_word, chip_first_word}
 use Rattle.ca_words.specs.Words.{chip_last_word}
-use Rattle.ca_words.specs.Words.{netlist_word, stil_word, report_word, order_word}
-use Rattle.ca_words.specs.Words.{IsOtherFile, IsMatrix, IsFlatten, IsAtpg, IsGrade, HasOut}
+use Rattle.ca_words.specs.Words.{stil_word, report_word, candidates_word, cert_word, order_word}
+use Rattle.ca_words.specs.Words.{IsOther, IsMatrix, IsFlatten, IsAtpg, IsGrade, IsDiagnose, IsCertify, HasOut}
 use Rattle.ca_on_cell.specs.Cells.{OfCell}
 use Rattle.ca_load.specs.Files.{OfFile}
 use Rattle.ca_linked.specs.Linked.{LinkedChip}
 use Rattle.ca_scan.specs.ChainFault.{AreAllChains}
 use Rattle.ca_load.specs.declared.loading.FileNames.{FileNames}
-use Rattle.ca_load.specs.Texts.{InputFiles, names_of}
+use Rattle.ca_load.specs.Texts.{CellFiles, IsCellFile, cells_of, InputFiles, names_of}
 use Rattle.ca_load.specs.Causes.{IsLoadCause}
 use Rattle.ca_flow.specs.declared.finished.Done.TheVariants.{Defects, Matrix, Check, Flatten, Simulate, Atpg}
 use Rattle.ca_flow.specs.declared.finished.Done.TheVariants.{Replay, Grade, Make}
@@ -64,19 +64,34 @@ use Rattle.ca_on_cell.specs.Causes.{IsCellCause, IsValueCause}
 use Rattle.ca_flow.specs.Fault.{IsOwnCause, IsWorkCause}
 use Rattle.ca_words.proofs.WordLemmas.{no_chip}
 
--- a file that could not be read is the cell netlist
-at_cell_stage : (name word typed : List ℕ) (files : Option Files) (before after : ℕ) → IsCellCause name word files before after (StoreFailed typed)
-    → typed ≡ name
-at_cell_stage name word typed files before after (inl (inl read)) = read.0
-at_cell_stage name word typed files before after (inl (inr text)) = absurd text
-at_cell_stage name word typed files before after (inr other) = absurd other
+-- a file that could not be read is the cell netlist, or the strength table under which it is read
+at_table_stage : (name : Option (List ℕ)) (typed : List ℕ) (files : Option Files) (before after : ℕ)
+    → IsStrengthsCause name files before after (StoreFailed typed) → name ≡ Some typed
+at_table_stage None typed files before after cause = absurd cause
+at_table_stage (Some name) typed files before after (inl read) = ap Some (sym read.0)
+at_table_stage (Some name) typed files before after (inr text) = absurd text
 
-at_value_stage : (name word first last defect typed : List ℕ) (files : Option Files) (before after : ℕ)
-    → IsValueCause name word first last defect files before after (StoreFailed typed) → typed ≡ name
-at_value_stage name word first last defect typed files before after (inl cell) = at_cell_stage name word typed files before after cell
-at_value_stage name word first last defect typed files before after (inr own) = absurd own
+store_is_memory : (typed : List ℕ) → StoreFailed typed ≡ NoMemory → ⊥
+store_is_memory typed same = cc
 
--- the name of a file of a command on a chip that could not be read is one of the three
+at_library_stage : (names : CellFiles) (typed : List ℕ) (files : Option Files) (before after : ℕ)
+    → IsLibraryCause names files before after (StoreFailed typed) → IsCellFile names typed
+at_library_stage names typed files before after (inl memory) = absurd (store_is_memory typed memory)
+at_library_stage names typed files before after (inr (inl table)) = inl (at_table_stage names.table typed files before after table)
+at_library_stage names typed files before after (inr (inr (inl (has, read)))) = inr read.0
+at_library_stage names typed files before after (inr (inr (inr text))) = absurd text
+
+at_cell_stage : (names : CellFiles) (word typed : List ℕ) (files : Option Files) (before after : ℕ)
+    → IsCellCause names word files before after (StoreFailed typed) → IsCellFile names typed
+at_cell_stage names word typed files before after (inl library) = at_library_stage names typed files before after library
+at_cell_stage names word typed files before after (inr other) = absurd other
+
+at_value_stage : (names : CellFiles) (word first last defect typed : List ℕ) (files : Option Files) (before after : ℕ)
+    → IsValueCause names word first last defect files before after (StoreFailed typed) → IsCellFile names typed
+at_value_stage names word first last defect typed files before after (inl cell) = at_cell_stage names word typed files before after cell
+at_value_stage names word first last defect typed files before after (inr own) = absurd own
+
+-- the name of a file of a command on a chip that could not be read is one of those
 at_scan_stage : (scan : Option (List ℕ)) (typed : List ℕ) (files : Option Files) (before after : ℕ)
     → IsScanCause scan files before after (StoreFailed typed) → scan ≡ Some typed
 at_scan_stage None typed files before after cause = absurd cause
@@ -85,9 +100,8 @@ at_scan_stage (Some name) typed files before after (inr text) = absurd text
 
 at_load_stage : (names : InputFiles) (typed : List ℕ) (files : Option Files) (before after : ℕ)
     → IsLoadCause names files before after (StoreFailed typed)
-    → (typed ≡ names.cells) ⊎ ((typed ≡ names.netlist) ⊎ (names.scan ≡ Some typed))
-at_load_stage names typed files before after (inl (inl (inl read))) = inl read.0
-at_load_stage names typed files before after (inl (inl (inr text))) = absurd text
+    → IsCellFile names.cells typed ⊎ ((typed ≡ names.netlist) ⊎ (names.scan ≡ Some typed))
+at_load_stage names typed files before after (inl (inl library)) = inl (at_library_stage names.cells typed files before after library)
 at_load_stage names typed files before after (inl (inr (inl (has, inl read)))) = inr (inl read.0)
 at_load_stage names typed files before after (inl (inr (inl (has, inr text)))) = absurd text
 at_load_stage names typed files before after (inl (inr (inr (has, (too, cause))))) =
@@ -107,15 +121,15 @@ called_is word typed is = by (bytes_eq word dash) is
 
 module _ (words : List (List ℕ)) (typed : List ℕ) (files : Option Files) (before after : ℕ) where
   -- a file that could not be read is not the one that `matrix` writes
-  matrix_reads : IsMatrix words → IsWorkCause words files before after (StoreFailed typed) → typed ≡ cells_word words
+  matrix_reads : IsMatrix words → IsWorkCause words files before after (StoreFailed typed) → IsCellFile (cell_files words) typed
   matrix_reads matrix (inl (is, cause)) =
-      at_value_stage (cells_word words) (cell_word words) (vector_word words) (vector_word words) dash typed files before after cause
+      at_value_stage (cell_files words) (cell_word words) (vector_word words) (vector_word words) dash typed files before after cause
   matrix_reads matrix (inr (inl (is, cause))) =
-      at_value_stage (cells_word words) (cell_word words) (first_word words) (last_word words) (defect_word words) typed files before after cause
+      at_value_stage (cell_files words) (cell_word words) (first_word words) (last_word words) (defect_word words) typed files before after cause
   matrix_reads matrix (inr (inr (inl (is, cause)))) =
-      at_cell_stage (cells_word words) (cell_word words) typed files before after cause
+      at_cell_stage (cell_files words) (cell_word words) typed files before after cause
   matrix_reads matrix (inr (inr (inr (inl (is, cause))))) =
-      at_cell_stage (cells_word words) (cell_word words) typed files before after cause
+      at_cell_stage (cell_files words) (cell_word words) typed files before after cause
   matrix_reads matrix (inr (inr (inr (inr (inl (is, cause)))))) =
       absurd (no_chip words (inr (inr (inr matrix))) is)
   matrix_reads matrix (inr (inr (inr (inr (inr (make, cause)))))) =
@@ -133,7 +147,8 @@ module _ (words : List (List ℕ)) (typed : List ℕ) (files : Option Files) (be
       no_chip words (inr (inr (inr is))) (inr (inl flatten))
   flatten_reads flatten named (inr (inr (inr (inr (inl (is, inl load)))))) =
       elim (at_load_stage (chip_files words) typed files before after load) [
-        | inl same ↦ flatten.out.not_cells (sym named ∙ same)
+        | inl (inl table) ↦ flatten.out.not_table (table ∙ ap Some named)
+        | inl (inr same) ↦ flatten.out.not_cells (sym named ∙ same)
         | inr (inl same) ↦ flatten.out.not_netlist (sym named ∙ same)
         | inr (inr same) ↦ flatten.out.not_scan (sym named ∙ sym (called_is (scan_word words) typed same))
       ]
@@ -143,11 +158,16 @@ module _ (words : List (List ℕ)) (typed : List ℕ) (files : Option Files) (be
   flatten_reads flatten named (inr (inr (inr (inr (inl (is, inr (inr (inr (inl (own, cause)))))))))) = cause.many.0
   flatten_reads flatten named (inr (inr (inr (inr (inl (is, inr (inr (inr (inr (inl (own, cause))))))))))) =
       let nine = own.nine in let seven = flatten.seven in omega (arith, nine, seven)
-  flatten_reads flatten named (inr (inr (inr (inr (inl (is, inr (inr (inr (inr (inr (own, cause))))))))))) =
+  flatten_reads flatten named (inr (inr (inr (inr (inl (is, inr (inr (inr (inr (inr (inl (own, cause)))))))))))) =
+      let six = own.six in let seven = flatten.seven in omega (arith, six, seven)
+  flatten_reads flatten named (inr (inr (inr (inr (inl (is, inr (inr (inr (inr (inr (inr (inl (own, cause))))))))))))) =
+      omega (arith, ap length (sym flatten.command ∙ own.command))
+  flatten_reads flatten named (inr (inr (inr (inr (inl (is, inr (inr (inr (inr (inr (inr (inr (inl (own, cause)))))))))))))) = cause.many.0
+  flatten_reads flatten named (inr (inr (inr (inr (inl (is, inr (inr (inr (inr (inr (inr (inr (inr (own, cause)))))))))))))) =
       let six = own.six in let seven = flatten.seven in omega (arith, six, seven)
 
   -- nor one of those that `atpg` writes
-  atpg_reads : IsAtpg words → IsOtherFile typed (cells_word words) (netlist_word words) (scan_word words)
+  atpg_reads : IsAtpg words → IsOther words typed
       → IsWorkCause words files before after (StoreFailed typed) → ⊥
   atpg_reads atpg other (inr (inr (inr (inr (inr (make, cause)))))) =
       let two = make.two in let seven = atpg.seven in omega (arith, two, seven)
@@ -158,7 +178,8 @@ module _ (words : List (List ℕ)) (typed : List ℕ) (files : Option Files) (be
       no_chip words (inr (inr (inr is))) (inr (inr (inr (inl atpg))))
   atpg_reads atpg other (inr (inr (inr (inr (inl (is, inl load)))))) =
       elim (at_load_stage (chip_files words) typed files before after load) [
-        | inl same ↦ other.not_cells same
+        | inl (inl table) ↦ other.not_table table
+        | inl (inr same) ↦ other.not_cells same
         | inr (inl same) ↦ other.not_netlist same
         | inr (inr same) ↦ other.not_scan (sym (called_is (scan_word words) typed same))
       ]
@@ -168,21 +189,27 @@ module _ (words : List (List ℕ)) (typed : List ℕ) (files : Option Files) (be
   atpg_reads atpg other (inr (inr (inr (inr (inl (is, inr (inr (inr (inl (own, cause)))))))))) = cause.many.0
   atpg_reads atpg other (inr (inr (inr (inr (inl (is, inr (inr (inr (inr (inl (own, cause))))))))))) =
       let nine = own.nine in let seven = atpg.seven in omega (arith, nine, seven)
-  atpg_reads atpg other (inr (inr (inr (inr (inl (is, inr (inr (inr (inr (inr (own, cause))))))))))) =
+  atpg_reads atpg other (inr (inr (inr (inr (inl (is, inr (inr (inr (inr (inr (inl (own, cause)))))))))))) =
+      let six = own.six in let seven = atpg.seven in omega (arith, six, seven)
+  atpg_reads atpg other (inr (inr (inr (inr (inl (is, inr (inr (inr (inr (inr (inr (inl (own, cause))))))))))))) =
+      omega (arith, ap length (sym atpg.command ∙ own.command))
+  atpg_reads atpg other (inr (inr (inr (inr (inl (is, inr (inr (inr (inr (inr (inr (inr (inl (own, cause)))))))))))))) = cause.many.0
+  atpg_reads atpg other (inr (inr (inr (inr (inl (is, inr (inr (inr (inr (inr (inr (inr (inr (own, cause)))))))))))))) =
       let six = own.six in let seven = atpg.seven in omega (arith, six, seven)
 
   -- nor the one that `grade` writes
   grade_reads : IsGrade words → typed ≡ report_word words → IsWorkCause words files before after (StoreFailed typed) → ⊥
   grade_reads graded named (inr (inr (inr (inr (inr (make, cause)))))) =
       let two = make.two in let six = graded.six in omega (arith, two, six)
-  grade_reads graded named (inl (is, cause)) = no_chip words (inl is) (inr (inr (inr (inr (inr graded)))))
-  grade_reads graded named (inr (inl (is, cause))) = no_chip words (inr (inl is)) (inr (inr (inr (inr (inr graded)))))
-  grade_reads graded named (inr (inr (inl (is, cause)))) = no_chip words (inr (inr (inl is))) (inr (inr (inr (inr (inr graded)))))
+  grade_reads graded named (inl (is, cause)) = no_chip words (inl is) (inr (inr (inr (inr (inr (inl graded))))))
+  grade_reads graded named (inr (inl (is, cause))) = no_chip words (inr (inl is)) (inr (inr (inr (inr (inr (inl graded))))))
+  grade_reads graded named (inr (inr (inl (is, cause)))) = no_chip words (inr (inr (inl is))) (inr (inr (inr (inr (inr (inl graded))))))
   grade_reads graded named (inr (inr (inr (inl (is, cause))))) =
-      no_chip words (inr (inr (inr is))) (inr (inr (inr (inr (inr graded)))))
+      no_chip words (inr (inr (inr is))) (inr (inr (inr (inr (inr (inl graded))))))
   grade_reads graded named (inr (inr (inr (inr (inl (is, inl load)))))) =
       elim (at_load_stage (chip_files words) typed files before after load) [
-        | inl same ↦ graded.report.not_cells (sym named ∙ same)
+        | inl (inl table) ↦ graded.report.not_table (table ∙ ap Some named)
+        | inl (inr same) ↦ graded.report.not_cells (sym named ∙ same)
         | inr (inl same) ↦ graded.report.not_netlist (sym named ∙ same)
         | inr (inr same) ↦ graded.report.not_scan (sym named ∙ sym (called_is (scan_word words) typed same))
       ]
@@ -192,31 +219,117 @@ module _ (words : List (List ℕ)) (typed : List ℕ) (files : Option Files) (be
   grade_reads graded named (inr (inr (inr (inr (inl (is, inr (inr (inr (inl (own, cause)))))))))) = cause.many.0
   grade_reads graded named (inr (inr (inr (inr (inl (is, inr (inr (inr (inr (inl (own, cause))))))))))) =
       let nine = own.nine in let six = graded.six in omega (arith, nine, six)
-  grade_reads graded named (inr (inr (inr (inr (inl (is, inr (inr (inr (inr (inr (own, inl (held, read)))))))))))) =
+  grade_reads graded named (inr (inr (inr (inr (inl (is, inr (inr (inr (inr (inr (inl (own, inl (held, read))))))))))))) =
       graded.others (sym named ∙ read.0)
-  grade_reads graded named (inr (inr (inr (inr (inl (is, inr (inr (inr (inr (inr (own, inr (word, held)))))))))))) = word
+  grade_reads graded named (inr (inr (inr (inr (inl (is, inr (inr (inr (inr (inr (inl (own, inr (word, held))))))))))))) = word
+  grade_reads graded named (inr (inr (inr (inr (inl (is, inr (inr (inr (inr (inr (inr (inl (own, cause))))))))))))) =
+      let seven = own.seven in let six = graded.six in omega (arith, seven, six)
+  grade_reads graded named (inr (inr (inr (inr (inl (is, inr (inr (inr (inr (inr (inr (inr (inl (own, cause)))))))))))))) = cause.many.0
+  grade_reads graded named (inr (inr (inr (inr (inl (is, inr (inr (inr (inr (inr (inr (inr (inr (own, cause)))))))))))))) =
+      omega (arith, ap length (sym graded.command ∙ own.command))
 
-  named_other : (name : List ℕ) → typed ≡ name → IsOtherFile name (cells_word words) (netlist_word words) (scan_word words)
-      → IsOtherFile typed (cells_word words) (netlist_word words) (scan_word words)
-  named_other name same is = subst (λ (word : List ℕ). IsOtherFile word (cells_word words) (netlist_word words) (scan_word words)) (sym same) is
+  -- nor the one that `diagnose` writes
+  diagnose_reads : IsDiagnose words → typed ≡ candidates_word words → IsWorkCause words files before after (StoreFailed typed) → ⊥
+  diagnose_reads asked named (inr (inr (inr (inr (inr (make, cause)))))) =
+      let two = make.two in let seven = asked.seven in omega (arith, two, seven)
+  diagnose_reads asked named (inl (is, cause)) = no_chip words (inl is) (inr (inr (inr (inr (inr (inr (inl asked)))))))
+  diagnose_reads asked named (inr (inl (is, cause))) = no_chip words (inr (inl is)) (inr (inr (inr (inr (inr (inr (inl asked)))))))
+  diagnose_reads asked named (inr (inr (inl (is, cause)))) = no_chip words (inr (inr (inl is))) (inr (inr (inr (inr (inr (inr (inl asked)))))))
+  diagnose_reads asked named (inr (inr (inr (inl (is, cause))))) =
+      no_chip words (inr (inr (inr is))) (inr (inr (inr (inr (inr (inr (inl asked)))))))
+  diagnose_reads asked named (inr (inr (inr (inr (inl (is, inl load)))))) =
+      elim (at_load_stage (chip_files words) typed files before after load) [
+        | inl (inl table) ↦ asked.out.not_table (table ∙ ap Some named)
+        | inl (inr same) ↦ asked.out.not_cells (sym named ∙ same)
+        | inr (inl same) ↦ asked.out.not_netlist (sym named ∙ same)
+        | inr (inr same) ↦ asked.out.not_scan (sym named ∙ sym (called_is (scan_word words) typed same))
+      ]
+  diagnose_reads asked named (inr (inr (inr (inr (inl (is, inr (inl (own, (word, held))))))))) = word
+  diagnose_reads asked named (inr (inr (inr (inr (inl (is, inr (inr (inl (own, (inl word, held)))))))))) = word
+  diagnose_reads asked named (inr (inr (inr (inr (inl (is, inr (inr (inl (own, (inr word, held)))))))))) = word
+  diagnose_reads asked named (inr (inr (inr (inr (inl (is, inr (inr (inr (inl (own, cause)))))))))) = cause.many.0
+  diagnose_reads asked named (inr (inr (inr (inr (inl (is, inr (inr (inr (inr (inl (own, cause))))))))))) =
+      let nine = own.nine in let seven = asked.seven in omega (arith, nine, seven)
+  diagnose_reads asked named (inr (inr (inr (inr (inl (is, inr (inr (inr (inr (inr (inl (own, cause)))))))))))) =
+      let six = own.six in let seven = asked.seven in omega (arith, six, seven)
+  diagnose_reads asked named (inr (inr (inr (inr (inl (is, inr (inr (inr (inr (inr (inr (inl (own, inl (inl (held, read))))))))))))))) =
+      asked.not_stil (sym named ∙ read.0)
+  diagnose_reads asked named (inr (inr (inr (inr (inl (is, inr (inr (inr (inr (inr (inr (inl (own, inl (inr (word, held))))))))))))))) = word
+  diagnose_reads asked named (inr (inr (inr (inr (inl (is, inr (inr (inr (inr (inr (inr (inl (own, inr (inl (held, read))))))))))))))) =
+      asked.not_log (sym named ∙ read.0)
+  diagnose_reads asked named (inr (inr (inr (inr (inl (is, inr (inr (inr (inr (inr (inr (inl (own, inr (inr (word, held))))))))))))))) = word
+  diagnose_reads asked named (inr (inr (inr (inr (inl (is, inr (inr (inr (inr (inr (inr (inr (inl (own, cause)))))))))))))) = cause.many.0
+  diagnose_reads asked named (inr (inr (inr (inr (inl (is, inr (inr (inr (inr (inr (inr (inr (inr (own, cause)))))))))))))) =
+      let six = own.six in let seven = asked.seven in omega (arith, six, seven)
+
+  -- nor one of those that `certify` writes
+  certify_reads : IsCertify words → IsOther words typed
+      → IsWorkCause words files before after (StoreFailed typed) → ⊥
+  certify_reads certified other (inr (inr (inr (inr (inr (make, cause)))))) =
+      let two = make.two in let seven = certified.seven in omega (arith, two, seven)
+  certify_reads certified other (inl (is, cause)) = no_chip words (inl is) (inr (inr (inr (inr (inr (inr (inr (inl certified))))))))
+  certify_reads certified other (inr (inl (is, cause))) = no_chip words (inr (inl is)) (inr (inr (inr (inr (inr (inr (inr (inl certified))))))))
+  certify_reads certified other (inr (inr (inl (is, cause)))) = no_chip words (inr (inr (inl is))) (inr (inr (inr (inr (inr (inr (inr (inl certified))))))))
+  certify_reads certified other (inr (inr (inr (inl (is, cause))))) =
+      no_chip words (inr (inr (inr is))) (inr (inr (inr (inr (inr (inr (inr (inl certified))))))))
+  certify_reads certified other (inr (inr (inr (inr (inl (is, inl load)))))) =
+      elim (at_load_stage (chip_files words) typed files before after load) [
+        | inl (inl table) ↦ other.not_table table
+        | inl (inr same) ↦ other.not_cells same
+        | inr (inl same) ↦ other.not_netlist same
+        | inr (inr same) ↦ other.not_scan (sym (called_is (scan_word words) typed same))
+      ]
+  certify_reads certified other (inr (inr (inr (inr (inl (is, inr (inl (own, (word, held))))))))) = word
+  certify_reads certified other (inr (inr (inr (inr (inl (is, inr (inr (inl (own, (inl word, held)))))))))) = word
+  certify_reads certified other (inr (inr (inr (inr (inl (is, inr (inr (inl (own, (inr word, held)))))))))) = word
+  certify_reads certified other (inr (inr (inr (inr (inl (is, inr (inr (inr (inl (own, cause)))))))))) = cause.many.0
+  certify_reads certified other (inr (inr (inr (inr (inl (is, inr (inr (inr (inr (inl (own, cause))))))))))) =
+      let nine = own.nine in let seven = certified.seven in omega (arith, nine, seven)
+  certify_reads certified other (inr (inr (inr (inr (inl (is, inr (inr (inr (inr (inr (inl (own, cause)))))))))))) =
+      let six = own.six in let seven = certified.seven in omega (arith, six, seven)
+  certify_reads certified other (inr (inr (inr (inr (inl (is, inr (inr (inr (inr (inr (inr (inl (own, cause))))))))))))) =
+      omega (arith, ap length (sym certified.command ∙ own.command))
+  certify_reads certified other (inr (inr (inr (inr (inl (is, inr (inr (inr (inr (inr (inr (inr (inl (own, cause)))))))))))))) = cause.many.0
+  certify_reads certified other (inr (inr (inr (inr (inl (is, inr (inr (inr (inr (inr (inr (inr (inr (own, cause)))))))))))))) =
+      let six = own.six in let seven = certified.seven in omega (arith, six, seven)
+
+  named_other : (name : List ℕ) → typed ≡ name → IsOther words name
+      → IsOther words typed
+  named_other name same is = subst (λ (word : List ℕ). IsOther words word) (sym same) is
 
   -- a file that could not be read is none that a command writes
   pub out_is_unread : HasOut words typed → IsWorkCause words files before after (StoreFailed typed) → ⊥
-  out_is_unread (inl (matrix, named)) cause = matrix.others (sym named ∙ matrix_reads matrix cause)
+  out_is_unread (inl (matrix, named)) cause = elim (matrix_reads matrix cause) [
+    | inl table ↦ matrix.not_table (table ∙ ap Some named)
+    | inr same ↦ matrix.others (sym named ∙ same)
+  ]
   out_is_unread (inr (inl (flatten, named))) cause = flatten_reads flatten named cause
-  out_is_unread (inr (inr (inr (graded, named)))) cause = grade_reads graded named cause
+  out_is_unread (inr (inr (inr (inl (graded, named))))) cause = grade_reads graded named cause
+  out_is_unread (inr (inr (inr (inr (inl (asked, named)))))) cause = diagnose_reads asked named cause
+  out_is_unread (inr (inr (inr (inr (inr (certified, inl named)))))) cause =
+      certify_reads certified (named_other (stil_word words) named certified.stil) cause
+  out_is_unread (inr (inr (inr (inr (inr (certified, inr named)))))) cause =
+      certify_reads certified (named_other (cert_word words) named certified.cert) cause
   out_is_unread (inr (inr (inl (atpg, inl named)))) cause = atpg_reads atpg (named_other (stil_word words) named atpg.stil) cause
   out_is_unread (inr (inr (inl (atpg, inr named)))) cause = atpg_reads atpg (named_other (report_word words) named atpg.report) cause
 
 -- the names that the words of `defects` ask for
 pub defects_asked : (words : List (List ℕ)) (request : CellWords) (files : Option Files) (names : List (List ℕ)) → IsSpelledDefects words request
-    → OfCell files request.cells.now request.cell.now (AreDefectNames names) → IsAsked words files (Defects names)
-defects_asked words request files names spelled held = (spelled.is, rw (sym spelled.of.cells, sym spelled.of.cell) held)
+    → OfCell files (cells_of request.files) request.cell.now (AreDefectNames names) → IsAsked words files (Defects names)
+defects_asked words request files names spelled held = (
+  spelled.is,
+  subst (λ word. OfCell files (cell_files words) word (AreDefectNames names)) spelled.of.cell
+      (subst (λ cells. OfCell files cells request.cell.now (AreDefectNames names)) spelled.of.files held),
+)
 
 -- the matrix that the words of `matrix` ask for
 pub matrix_asked : (words : List (List ℕ)) (request : MatrixWords) (files : Option Files) (matrix : Entries) → IsSpelledMatrix words request
-    → OfCell files request.of.cells.now request.of.cell.now (IsSoundMatrix matrix) → IsAsked words files (Matrix matrix)
-matrix_asked words request files matrix spelled held = (spelled.is, rw (sym spelled.of.cells, sym spelled.of.cell) held)
+    → OfCell files (cells_of request.of.files) request.of.cell.now (IsSoundMatrix matrix) → IsAsked words files (Matrix matrix)
+matrix_asked words request files matrix spelled held = (
+  spelled.is,
+  subst (λ word. OfCell files (cell_files words) word (IsSoundMatrix matrix)) spelled.of.cell
+      (subst (λ cells. OfCell files cells request.of.cell.now (IsSoundMatrix matrix)) spelled.of.files held),
+)
 
 -- the chip that the words of `check` ask for
 pub check_asked : (words : List (List ℕ)) (names : FileNames) (files : Option Files) (chip : LinkedChip) (chains : List (List ℕ))
@@ -307,10 +420,40 @@ no_scan_sink None files before after cause = cause
 no_scan_sink (Some name) files before after (inl read) = read
 no_scan_sink (Some name) files before after (inr text) = text
 
+no_strengths_sink : (table : Option (List ℕ)) (files : Option Files) (before after : ℕ)
+    → IsStrengthsCause table files before after SinkFailed → ⊥
+no_strengths_sink None files before after cause = cause
+no_strengths_sink (Some name) files before after (inl read) = read
+no_strengths_sink (Some name) files before after (inr text) = text
+
+no_library_sink : (names : CellFiles) (files : Option Files) (before after : ℕ)
+    → IsLibraryCause names files before after SinkFailed → ⊥
+no_library_sink names files before after (inl memory) = let both : SinkFailed ≡ NoMemory = memory in cc
+no_library_sink names files before after (inr (inl table)) = no_strengths_sink names.table files before after table
+no_library_sink names files before after (inr (inr (inl (has, read)))) = read
+no_library_sink names files before after (inr (inr (inr text))) = text
+
+-- nor are those of a command on one cell
+pub no_cell_sink : (names : CellFiles) (word : List ℕ) (files : Option Files) (before after : ℕ) (fault : Fault)
+    → IsCellCause names word files before after fault → fault ≢ SinkFailed
+no_cell_sink names word files before after fault cause same = by (subst (IsCellCause names word files before after) same cause)
+  where
+    by : IsCellCause names word files before after SinkFailed → ⊥
+    by (inl library) = no_library_sink names files before after library
+    by (inr named) = named
+
+pub no_values_sink : (names : CellFiles) (word first last defect : List ℕ) (files : Option Files) (before after : ℕ) (fault : Fault)
+    → IsValueCause names word first last defect files before after fault → fault ≢ SinkFailed
+no_values_sink names word first last defect files before after fault cause same =
+    by (subst (IsValueCause names word first last defect files before after) same cause)
+  where
+    by : IsValueCause names word first last defect files before after SinkFailed → ⊥
+    by (inl cell) = no_cell_sink names word files before after SinkFailed cell refl
+    by (inr own) = own
+
 no_load_sink : (names : InputFiles) (files : Option Files) (before after : ℕ)
     → IsLoadCause names files before after SinkFailed → ⊥
-no_load_sink names files before after (inl (inl (inl read))) = read
-no_load_sink names files before after (inl (inl (inr text))) = text
+no_load_sink names files before after (inl (inl library)) = no_library_sink names.cells files before after library
 no_load_sink names files before after (inl (inr (inl (has, inl read)))) = read
 no_load_sink names files before after (inl (inr (inl (has, inr text)))) = text
 no_load_sink names files before after (inl (inr (inr (has, (too, cause))))) =
@@ -496,7 +639,7 @@ pub grade_cause : (words : List (List ℕ)) (request : GradeWords) (files : Opti
     → IsSpelledGrade words request → IsLoadedCause (names_of request.files) request.stil.now files before after fault
     → IsWorkCause words files before after fault
 grade_cause words request files before after fault spelled cause = inr (inr (inr (inr (inl (
-  inr (inr (inr (inr (inr spelled.is)))),
+  inr (inr (inr (inr (inr (inl spelled.is))))),
   by (subst (λ name. IsLoadedCause (chip_files words) name files before after fault) spelled.stil
       (subst (λ asked. IsLoadedCause asked request.stil.now files before after fault) spelled.files cause)),
 )))))
@@ -504,7 +647,7 @@ grade_cause words request files before after fault spelled cause = inr (inr (inr
     by : IsLoadedCause (chip_files words) (stil_word words) files before after fault
         → IsLoadCause (chip_files words) files before after fault ⊎ IsOwnCause words files before after fault
     by (inl load) = inl load
-    by (inr own) = inr (inr (inr (inr (inr (spelled.is, own)))))
+    by (inr own) = inr (inr (inr (inr (inr (inl (spelled.is, own))))))
 
 -- the tests of the generated chip that the words of `make` ask for
 pub make_asked : (words : List (List ℕ)) (number : ℕ) (files : Option Files) (chip : LinkedChip) (pairs : List (List Bool))
@@ -541,6 +684,9 @@ is_whole words (command.Simulate request) spelled = rw (spelled.of.instance, spe
 is_whole words (command.Atpg request) spelled = tt
 is_whole words (command.Replay request) spelled = rw (spelled.of.instance, spelled.of.defect) spelled.is.defect
 is_whole words (command.Grade request) spelled = tt
+is_whole words (command.Diagnose request) spelled = tt
+is_whole words (command.Certify request) spelled = tt
+is_whole words (command.Verify request) spelled = tt
 is_whole words (command.Make number) spelled = let said = spelled.number_is in said.few
 is_whole words command.Help spelled = tt
 is_whole words command.Version spelled = tt

@@ -4,8 +4,8 @@ use Rattle.std.proofs.Common.{Option, Some, None, Err, arith, true≢false}
 use Rattle.std.proofs.lemmas.Option.{same_Some}
 use Rattle.std.specs.Prelude.{IfSome, IsSome, IsNone, IsSomeAnd}
 use Rattle.ca_store.specs.Store.{Files, Rose, MayHave}
-use Rattle.ca_cell.specs.Strength.{default_table}
 use Rattle.ca_cell.specs.declared.raw.RawCell.{RawCell}
+use Rattle.ca_cell.specs.declared.strength.StrengthTable.{StrengthTable}
 use Rattle.ca_cell.specs.declared.rule.CellRule.{CellRule}
 use Rattle.ca_cell.specs.Rules.{IsFirstBroken}
 use Rattle.ca_spice.specs.declared.fault.SpiceFault.{SpiceFault}
@@ -15,9 +15,10 @@ use Rattle.ca_spice.specs.Called.{cell_called}
 use Rattle.ca_load.specs.declared.cells.TheConstants.{MAX_CELLS}
 use Rattle.ca_load.specs.Files as reading
 use Rattle.ca_load.specs.Files.{IsReadCause}
-use Rattle.ca_load.specs.Causes.{IsTextCause, IsCellsCause}
+use Rattle.ca_load.specs.Texts.{strengths_in, OfCells}
+use Rattle.ca_load.specs.Causes.{IsTextCause, IsCellsCause, IsStrengthsCause}
 use Rattle.ca_load.proofs.SameLemmas.{one_reading}
-use Rattle.ca_load.proofs.WholeLemmas.{IsOutsideFault, at_read as is_read, at_load}
+use Rattle.ca_load.proofs.WholeLemmas.{IsOutsideFault, at_read as is_read, at_strengths, at_load}
 use Rattle.ca_linked.specs.Linked.{LinkedChip}
 use Rattle.ca_request.specs.Asked.{FitsInputs, IsDefectCause, IsVectorsCause}
 use Rattle.ca_fault.specs.declared.fault.LimitKind.TheVariants as limit
@@ -28,15 +29,23 @@ use Rattle.ca_fault.specs.declared.fault.Fault.TheVariants.{SinkFailed, NoMemory
 use Rattle.ca_fault.specs.declared.fault.Fault.TheVariants.{Order}
 use Rattle.ca_flow.specs.declared.finished.Finished.{Finished}
 use Rattle.ca_flow.specs.Finished.{IsAnswer, status_reported}
-use Rattle.ca_words.specs.Words.{cells_word, cell_word, vector_word, first_word, last_word, defect_word, dash}
+use Rattle.ca_words.specs.Words.{table_word, cells_word, cell_files, cell_word, vector_word, first_word, last_word, defect_word, dash}
 use Rattle.ca_words.specs.Words.{chip_files, instance_word, chip_defect_word, chip_first_word, chip_last_word}
-use Rattle.ca_words.specs.Words.{stil_word, order_word, IsReplay, IsGrade, AsksNoFile, GeneratesTests, IsCommand}
+use Rattle.ca_words.specs.Words.{stil_word, log_word, cert_word, order_word, IsReplay, IsGrade, IsDiagnose, IsVerify, AsksNoFile, GeneratesTests, IsCommand}
 use Rattle.ca_scan.specs.ChainFault.{AreAllChains}
 use Rattle.ca_patterns.specs.declared.patterns.TheConstants.{MAX_STIL}
-use Rattle.ca_patterns.specs.Patterns.{IsStilCause, OfTraced, GiveTraced, IsPatternsCause}
+use Rattle.ca_patterns.specs.Patterns.{IsStilCause, OfTraced, GiveTraced, IsPatternsCause, FitsPatterns}
 use Rattle.ca_patterns.proofs.OneLemmas.{no_file_cause, is_read as is_patterns_read}
+use Rattle.ca_load.specs.Chips.{IsChipOf}
+use Rattle.ca_diagnosing.specs.declared.logs.TheConstants.{MAX_LOG}
+use Rattle.ca_diagnosing.specs.Diagnosing.{IsBadLog, HasRight, IsLogCause, FitsDiagnosis}
+use Rattle.ca_diagnosing.proofs.OneLemmas.{fits_patterns, is_log_read, no_bad_log}
+use Rattle.ca_verifying.specs.declared.certificates.TheConstants.{MAX_CERT}
+use Rattle.ca_verifying.specs.Verifying.{IsBadCert, IsCertCause, FitsVerification}
+use Rattle.ca_verifying.proofs.OneLemmas as verify
+use Rattle.ca_verifying.proofs.OneLemmas.{is_cert_read, no_bad_cert}
 use Rattle.ca_on_cell.specs.Outputs.{Fits, asked_network}
-use Rattle.ca_on_cell.specs.Cells.{OfFile, HasCell, LacksCell}
+use Rattle.ca_on_cell.specs.Cells.{HasCell, LacksCell}
 use Rattle.ca_on_chip.specs.OnChip.{GiveChipWith, OfChip, IsSimulationCause, IsPairsFault}
 use Rattle.ca_on_chip.specs.declared.replays.TheConstants.{MAX_ORDER}
 use Rattle.ca_on_chip.specs.Replay.{HasFaultyLine, HasRun, IsOrderCause}
@@ -52,26 +61,30 @@ use Rattle.ca_on_cell.specs.Causes.{BreaksAt, IsNameCause, IsFirstUnfit, IsPairC
 use Rattle.ca_on_cell.specs.Causes.{IsCellCause}
 use Rattle.ca_on_cell.specs.Causes.{IsValueCause}
 
--- the file and the cell that the words name
+-- the table, the file and the cell that the words name
 record HasSeen (words : List (List ℕ)) (files : Option Files) : Type 0 where
   pub reported : Files
   pub reported_are : files ≡ Some reported
+  pub table : StrengthTable
+  pub under : strengths_in (table_word words) reported ≡ Some table
   pub bytes : List ℕ
   pub there : reported (cells_word words) ≡ Some bytes
   pub within : length bytes ≤ MAX_CELLS
   pub raw : RawCell
-  pub called : cell_called default_table bytes (cell_word words) ≡ Some raw
+  pub called : cell_called table bytes (cell_word words) ≡ Some raw
   pub fits : FitsCell words raw
 
 seen_of : (words : List (List ℕ)) (reported : Files) → FitsFile words reported → HasSeen words (Some reported)
-seen_of words reported held = at_file (reported (cells_word words)) refl held
+seen_of words reported held = at_table (strengths_in (table_word words) reported) refl held
   where
-    at_cell : (bytes : List ℕ) → reported (cells_word words) ≡ Some bytes → length bytes ≤ MAX_CELLS → (cell : Option RawCell)
-        → cell_called default_table bytes (cell_word words) ≡ cell → IsSomeAnd cell (FitsCell words) → HasSeen words (Some reported)
-    at_cell bytes there within None called fits = absurd fits
-    at_cell bytes there within (Some raw) called fits = record {
+    at_cell : (table : StrengthTable) → strengths_in (table_word words) reported ≡ Some table → (bytes : List ℕ) → reported (cells_word words) ≡ Some bytes → length bytes ≤ MAX_CELLS → (cell : Option RawCell)
+        → cell_called table bytes (cell_word words) ≡ cell → IsSomeAnd cell (FitsCell words) → HasSeen words (Some reported)
+    at_cell table under bytes there within None called fits = absurd fits
+    at_cell table under bytes there within (Some raw) called fits = record {
       reported = reported;
       reported_are = refl;
+      table = table;
+      under = under;
       bytes = bytes;
       there = there;
       within = within;
@@ -80,20 +93,31 @@ seen_of words reported held = at_file (reported (cells_word words)) refl held
       fits = fits;
     }
 
-    at_file : (file : Option (List ℕ)) → reported (cells_word words) ≡ file
-        → IsSomeAnd file (λ bytes. (length bytes ≤ MAX_CELLS) × HasCell (cell_word words) (FitsCell words) bytes) → HasSeen words (Some reported)
-    at_file None there held = absurd held
-    at_file (Some bytes) there (within, has) = at_cell bytes there within (cell_called default_table bytes (cell_word words)) refl has
+    at_file : (table : StrengthTable) → strengths_in (table_word words) reported ≡ Some table → (file : Option (List ℕ))
+        → reported (cells_word words) ≡ file
+        → IsSomeAnd file (λ bytes. (length bytes ≤ MAX_CELLS) × HasCell (cell_word words) (FitsCell words) table bytes)
+        → HasSeen words (Some reported)
+    at_file table under None there held = absurd held
+    at_file table under (Some bytes) there (within, has) =
+        at_cell table under bytes there within (cell_called table bytes (cell_word words)) refl has
+
+    at_table : (table : Option StrengthTable) → strengths_in (table_word words) reported ≡ table
+        → IsSomeAnd table (λ table. reading.IsFileWith reported (cells_word words) MAX_CELLS (HasCell (cell_word words) (FitsCell words) table))
+        → HasSeen words (Some reported)
+    at_table None under held = absurd held
+    at_table (Some table) under held = at_file table under (reported (cells_word words)) refl held
 
 module _ (words : List (List ℕ)) (files : Option Files) (seen : HasSeen words files) where
-  -- what is said of the file holds of its bytes
-  at_bytes : (P : List ℕ → Type 0) → OfFile files (cells_word words) P → P seen.bytes
+  -- what is said of the file holds of the table and of its bytes
+  at_bytes : (P : StrengthTable → List ℕ → Type 0) → OfCells files (cell_files words) P → P seen.table seen.bytes
   at_bytes P held =
-      let here : IsSomeAnd (Some seen.bytes) (λ bytes. (length bytes ≤ MAX_CELLS) × P bytes) = rw seen.there at (held seen.reported seen.reported_are) in
+      let under : IsSomeAnd (Some seen.table) (λ table. reading.IsFileWith seen.reported (cells_word words) MAX_CELLS (P table)) =
+      rw seen.under at (held seen.reported seen.reported_are) in
+      let here : IsSomeAnd (Some seen.bytes) (λ bytes. (length bytes ≤ MAX_CELLS) × P seen.table bytes) = rw seen.there at under in
       here.1
 
   -- what is said of the cell holds of its subcircuit
-  at_raw : (P : RawCell → Type 0) → OfFile files (cells_word words) (HasCell (cell_word words) P) → P seen.raw
+  at_raw : (P : RawCell → Type 0) → OfCells files (cell_files words) (HasCell (cell_word words) P) → P seen.raw
   at_raw P held =
       let here : IsSomeAnd (Some seen.raw) P = rw seen.called at (at_bytes (HasCell (cell_word words) P) held) in
       here
@@ -110,18 +134,26 @@ module _ (words : List (List ℕ)) (files : Option Files) (seen : HasSeen words 
     at_read NoMemory cause = refl
     at_read fault cause = absurd cause
 
+    at_table : (fault : Fault) → IsStrengthsCause (table_word words) files before after fault → fault ≡ NoMemory
+    at_table fault cause =
+        by (at_strengths files seen.reported seen.reported_are before after (table_word words) seen.table seen.under fault cause)
+      where
+        by : IsOutsideFault fault before after → fault ≡ NoMemory
+        by (inl memory) = memory
+        by (inr (name, (is, rose))) = absurd (quiet rose)
+
   -- a text that names the cell has a reading
-  has_reading : (fault : SpiceFault) → library_of default_table seen.bytes ≡ Err fault → ⊥
+  has_reading : (fault : SpiceFault) → library_of seen.table seen.bytes ≡ Err fault → ⊥
   has_reading fault reads =
       let missing : None ≡ Some seen.raw = rw (cell_called, reads) at seen.called in
       cc
 
-  at_text : (fault : Fault) → IsCellsCause (cells_word words) files fault → ⊥
+  at_text : (fault : Fault) → IsCellsCause (cell_files words) files fault → ⊥
   at_text (Cells line kind) cause = has_reading (spice.At line kind) (at_bytes (IsTextCause (Cells line kind)) cause)
   at_text (Limit limit.Cells count) cause = has_reading (spice.TooManyCells count) (at_bytes (IsTextCause (Limit limit.Cells count)) cause)
   at_text fault cause = cause
 
-  at_name : (fault : Fault) → IsNameCause (cells_word words) (cell_word words) files fault → ⊥
+  at_name : (fault : Fault) → IsNameCause (cell_files words) (cell_word words) files fault → ⊥
   at_name (NoCell typed) (same, lacks) =
       let missing : IsNone (Some seen.raw) = rw seen.called at (at_bytes (LacksCell (cell_word words)) lacks).1 in
       cc
@@ -132,7 +164,7 @@ module _ (words : List (List ℕ)) (files : Option Files) (seen : HasSeen words 
   at_name fault cause = cause
 
   at_vector : (first last defect : List ℕ) → Fits seen.raw first → Fits seen.raw last → IsSome (asked_network seen.raw defect) → (fault : Fault)
-      → IsVectorCause (cells_word words) (cell_word words) first last defect files fault → ⊥
+      → IsVectorCause (cell_files words) (cell_word words) first last defect files fault → ⊥
   at_vector first last defect first_fits last_fits asks (BadVector typed) cause =
       at_unfit (at_raw (IsPairCause first last defect (BadVector typed)) cause.1).1
     where
@@ -146,13 +178,15 @@ module _ (words : List (List ℕ)) (files : Option Files) (seen : HasSeen words 
 
   module _ (before after : Outside) (quiet_store : ¬ (Rose before.store_faults after.store_faults))
       (quiet_sink : ¬ (Rose before.sink_faults after.sink_faults)) (fault : Fault) where
-    at_cell : IsCellCause (cells_word words) (cell_word words) files before.store_faults after.store_faults fault → fault ≡ NoMemory
-    at_cell (inl (inl read)) = at_read before.store_faults after.store_faults quiet_store fault read
-    at_cell (inl (inr text)) = absurd (at_text fault text)
+    at_cell : IsCellCause (cell_files words) (cell_word words) files before.store_faults after.store_faults fault → fault ≡ NoMemory
+    at_cell (inl (inl memory)) = memory
+    at_cell (inl (inr (inl table))) = at_table before.store_faults after.store_faults quiet_store fault table
+    at_cell (inl (inr (inr (inl (has, read))))) = at_read before.store_faults after.store_faults quiet_store fault read
+    at_cell (inl (inr (inr (inr text)))) = absurd (at_text fault text)
     at_cell (inr name) = absurd (at_name fault name)
 
     at_value : (first last defect : List ℕ) → Fits seen.raw first → Fits seen.raw last → IsSome (asked_network seen.raw defect)
-        → IsValueCause (cells_word words) (cell_word words) first last defect files before.store_faults after.store_faults fault → fault ≡ NoMemory
+        → IsValueCause (cell_files words) (cell_word words) first last defect files before.store_faults after.store_faults fault → fault ≡ NoMemory
     at_value first last defect first_fits last_fits asks (inl cell) = at_cell cell
     at_value first last defect first_fits last_fits asks (inr own) = absurd (at_vector first last defect first_fits last_fits asks fault own)
 
@@ -214,7 +248,7 @@ asking_work words files before after fault asks (inr (inr (inr (inr (inr (make, 
   where
     by : IsMakeStage cause.number fault → (fault ≡ NoMemory) ⊎ (GeneratesTests words × IsPairsFault fault)
     by (inl memory) = inl memory
-    by (inr many) = inr (inr make, many.pairs)
+    by (inr many) = inr (inr (inr make), many.pairs)
 
 module _ (words : List (List ℕ)) (files : Option Files) (reported : Files) (are : files ≡ Some reported) (fits : FitsChip words reported) where
   -- what is said of the chip of the files holds of one of the chips that the inputs give
@@ -287,19 +321,54 @@ module _ (words : List (List ℕ)) (files : Option Files) (reported : Files) (ar
       let found = held reported are in
       subst (GiveTraced P) (one_reading (chip_files words) reported found.0 fits.inputs found.1.0 fits.read) found.1.1
 
-  -- the file of `grade` is read, and has right patterns
-  no_patterns : IsGrade words → (before after : ℕ) (fault : Fault)
+  -- the file of patterns is read, and has right ones
+  no_patterns : ((chip : LinkedChip) → IsChipOf fits.inputs chip → (chains : List (List ℕ)) → AreAllChains chip chains
+      → FitsPatterns reported (stil_word words) chip chains) → (before after : ℕ) (fault : Fault)
       → IsPatternsCause (chip_files words) (stil_word words) files before after fault → IsOutsideFault fault before after
-  no_patterns is before after fault (inl (held, read)) =
+  no_patterns right before after fault (inl (held, read)) =
       let found = at_traced _ held in
-      let own = fits.own found.chip found.is in
       is_patterns_read files reported are (stil_word words) found.chip found.chains found.all
-      (own.grade is found.chains found.all) before after fault read
-  no_patterns is before after fault (inr (word, held)) = absurd (
+      (right found.chip found.is found.chains found.all) before after fault read
+  no_patterns right before after fault (inr (word, held)) = absurd (
       let found = at_traced (λ chip chains. reading.OfFile files (stil_word words) MAX_STIL (IsStilCause chip chains fault)) held in
-      let own = fits.own found.chip found.is in
       no_file_cause files reported are (stil_word words) found.chip found.chains found.all
-      (own.grade is found.chains found.all) fault found.holds)
+      (right found.chip found.is found.chains found.all) fault found.holds)
+
+  -- what the files of `diagnose` have
+  diagnosis : IsDiagnose words → (chip : LinkedChip) → IsChipOf fits.inputs chip → (chains : List (List ℕ)) → AreAllChains chip chains
+      → FitsDiagnosis reported (stil_word words) (log_word words) chip chains
+  diagnosis is chip of chains all = let own = fits.own chip of in own.diagnose is chains all
+
+  -- its log is read, and is one
+  no_log : IsDiagnose words → (before after : ℕ) (fault : Fault)
+      → IsLogCause (chip_files words) (stil_word words) (log_word words) files before after fault → IsOutsideFault fault before after
+  no_log is before after fault (inl (held, read)) =
+      let found = at_traced (λ chip chains. reading.OfFile files (stil_word words) MAX_STIL (HasRight chip chains (λ file. Unit {0}))) held in
+      is_log_read files reported are (stil_word words) (log_word words) found.chip found.chains found.all
+      (diagnosis is found.chip found.is found.chains found.all) before after fault read
+  no_log is before after fault (inr (word, held)) = absurd (
+      let found = at_traced (λ chip chains. reading.OfFile files (stil_word words) MAX_STIL
+      (HasRight chip chains (λ file. reading.OfFile files (log_word words) MAX_LOG (IsBadLog chip file.expected fault)))) held in
+      no_bad_log files reported are (stil_word words) (log_word words) found.chip found.chains found.all
+      (diagnosis is found.chip found.is found.chains found.all) fault found.holds)
+
+  -- what the files of `verify` have
+  verification : IsVerify words → (chip : LinkedChip) → IsChipOf fits.inputs chip → (chains : List (List ℕ)) → AreAllChains chip chains
+      → FitsVerification reported (stil_word words) (cert_word words) chip chains
+  verification is chip of chains all = let own = fits.own chip of in own.verify is chains all
+
+  -- its certificate is read, and is one of the chip
+  no_cert : IsVerify words → (before after : ℕ) (fault : Fault)
+      → IsCertCause (chip_files words) (stil_word words) (cert_word words) files before after fault → IsOutsideFault fault before after
+  no_cert is before after fault (inl (held, read)) =
+      let found = at_traced (λ chip chains. reading.OfFile files (stil_word words) MAX_STIL (HasRight chip chains (λ file. Unit {0}))) held in
+      is_cert_read files reported are (stil_word words) (cert_word words) found.chip found.chains found.all
+      (verification is found.chip found.is found.chains found.all) before after fault read
+  no_cert is before after fault (inr (word, held)) = absurd (
+      let found = at_traced (λ chip chains. reading.OfFile files (stil_word words) MAX_STIL
+      (HasRight chip chains (λ file. reading.OfFile files (cert_word words) MAX_CERT (IsBadCert chip fault)))) held in
+      no_bad_cert files reported are (stil_word words) (cert_word words) found.chip found.chains found.all
+      (verification is found.chip found.is found.chains found.all) fault found.holds)
 
   -- a command's own words are of the chip
   no_own : (before after : ℕ) (fault : Fault) → IsOwnCause words files before after fault
@@ -315,7 +384,17 @@ module _ (words : List (List ℕ)) (files : Option Files) (reported : Files) (ar
       let own = fits.own found.chip found.is in
       no_simulation found.chip fault (own.simulate is) found.holds)
   no_own before after fault (inr (inr (inl (is, cause)))) = inr (inl is, cause.many.0)
-  no_own before after fault (inr (inr (inr (inr (is, cause))))) = inl (no_patterns is before after fault cause)
+  no_own before after fault (inr (inr (inr (inr (inl (is, cause)))))) =
+      inl (no_patterns (λ chip of. let own = fits.own chip of in own.grade is) before after fault cause)
+  no_own before after fault (inr (inr (inr (inr (inr (inr (inl (is, cause)))))))) = inr (inr (inl is), cause.many.0)
+  no_own before after fault (inr (inr (inr (inr (inr (inr (inr (is, inl cause)))))))) =
+      inl (no_patterns (λ chip of chains all. verify.fits_patterns files reported are (stil_word words) (cert_word words) chip chains all
+      (verification is chip of chains all)) before after fault cause)
+  no_own before after fault (inr (inr (inr (inr (inr (inr (inr (is, inr cause)))))))) = inl (no_cert is before after fault cause)
+  no_own before after fault (inr (inr (inr (inr (inr (inl (is, inl cause))))))) =
+      inl (no_patterns (λ chip of chains all. fits_patterns files reported are (stil_word words) (log_word words) chip chains all
+      (diagnosis is chip of chains all)) before after fault cause)
+  no_own before after fault (inr (inr (inr (inr (inr (inl (is, inr cause))))))) = inl (no_log is before after fault cause)
   no_own before after fault (inr (inr (inr (inl (is, inl (word, held)))))) = absurd (
       let found =
       at_inputs (IsSimulationCause (instance_word words) (chip_defect_word words) (chip_first_word words) (chip_last_word words) fault) held in

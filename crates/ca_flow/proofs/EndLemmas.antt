@@ -9,19 +9,19 @@ use Rattle.ca_store.specs.Writing.{ChangesOnly, MayWrite}
 use Rattle.ca_flat_text.specs.FlatText.{flat_text}
 use Rattle.ca_matrix.specs.Text.{text_of}
 use Rattle.ca_fault.specs.declared.fault.Fault.{Fault}
-use Rattle.ca_fault.specs.declared.fault.Fault.TheVariants.{BadWords, Cells, Netlist, Scan, Chip, Chain}
+use Rattle.ca_fault.specs.declared.fault.Fault.TheVariants.{BadWords, Strengths, Cells, Netlist, Scan, Chip, Chain}
 use Rattle.ca_fault.specs.declared.fault.Fault.TheVariants.{NoCell, Cell, BadVector, NoInstance, NoDefect}
-use Rattle.ca_fault.specs.declared.fault.Fault.TheVariants.{Order, Stil, StilChip, Expected, TooLong}
-use Rattle.ca_fault.specs.declared.fault.Fault.TheVariants.{TooManyPairs, Limit, StoreFailed}
+use Rattle.ca_fault.specs.declared.fault.Fault.TheVariants.{Order, Stil, StilChip, Expected, Log, TooLong}
+use Rattle.ca_fault.specs.declared.fault.Fault.TheVariants.{Cert, CertChip, TooManyPairs, Limit, StoreFailed}
 use Rattle.ca_fault.specs.declared.fault.Fault.TheVariants.{SinkFailed, NoMemory}
 use Rattle.ca_flow.specs.declared.finished.Done.{Done}
 use Rattle.ca_flow.specs.declared.finished.Done.TheVariants.{Respond, Pair, Defects, Matrix, Check, Flatten}
-use Rattle.ca_flow.specs.declared.finished.Done.TheVariants.{Simulate, Atpg, Replay, Grade, Make, Help}
-use Rattle.ca_flow.specs.declared.finished.Done.TheVariants.{Version}
+use Rattle.ca_flow.specs.declared.finished.Done.TheVariants.{Simulate, Atpg, Replay, Grade}
+use Rattle.ca_flow.specs.declared.finished.Done.TheVariants.{Diagnose, Certify, Verify, Make, Help, Version}
 use Rattle.ca_flow.specs.declared.finished.Finished.{Finished}
 use Rattle.ca_flow.specs.declared.work.OutFile.{OutFile}
 use Rattle.ca_fault.specs.FaultLine.{status_of}
-use Rattle.ca_words.specs.Words.{out_word, flat_out_word, stil_word, report_word, IsAtpg, HasOut}
+use Rattle.ca_words.specs.Words.{out_word, flat_out_word, stil_word, report_word, candidates_word, cert_word, HasOut}
 use Rattle.ca_flow.specs.Finished.{status_reported, IsReported, IsOutFault, IsAnswer, Prints, LeavesText, LeavesBoth}
 use Rattle.ca_flow.specs.Finished.{LeavesFiles, Writes, ReportsSinkFault}
 use Rattle.ca_flow.specs.Fault.{Outside, IsWorkCause, IsWriteCause, IsPrintCause, IsCause}
@@ -29,6 +29,9 @@ use Rattle.ca_load.specs.Files.{ReportsStoreFault}
 use Rattle.ca_flow.specs.Ends.{IsAsked}
 use Rattle.ca_atpg.specs.Atpg.{IsStil, report_of}
 use Rattle.ca_chip_grade.specs.Texts.{grades_text}
+use Rattle.ca_engine.specs.ChipTask.{task_of}
+use Rattle.ca_chip_diag.specs.Texts.{candidates_text}
+use Rattle.ca_cert_text.specs.CertText.{certificate_text}
 use Rattle.ca_flow.specs.code.Work.{IsOutFile, IsFileWith, HasFiles, HasWritten, FailsToWrite}
 use Rattle.ca_flow.specs.code.Work.{HaveBeenWritten}
 use Rattle.ca_flow.specs.code.Work.{FailToWrite, HasPrinted, FailsToPrint, EndsWork}
@@ -37,6 +40,7 @@ use Rattle.ca_flow.proofs.CauseLemmas.{out_is_unread}
 -- no fault has the status of work that is whole
 status_is_reported : (fault : Fault) → status_of fault ≡ 0 → ⊥
 status_is_reported BadWords zero = cc
+status_is_reported (Strengths row) zero = cc
 status_is_reported (Cells line kind) zero = cc
 status_is_reported (Netlist line kind) zero = cc
 status_is_reported (Scan row) zero = cc
@@ -51,6 +55,9 @@ status_is_reported (Order line) zero = cc
 status_is_reported (Stil line) zero = cc
 status_is_reported StilChip zero = cc
 status_is_reported (Expected pair output) zero = cc
+status_is_reported (Log row) zero = cc
+status_is_reported (Cert line) zero = cc
+status_is_reported (CertChip claims) zero = cc
 status_is_reported (TooLong typed taken) zero = cc
 status_is_reported (TooManyPairs pairs aims) zero = cc
 status_is_reported (Limit kind count) zero = cc
@@ -127,21 +134,21 @@ text_written words fault old new name text (Some file) other fits written =
     (λ out. absurd (other out), λ no. rw (fits.name_is, fits.bytes_are) at written)
 
 -- where both were written they have their texts
-both_written : (words : List (List ℕ)) (fault : Option Fault) (old new : Option Files) (IsFirst : List ℕ → Type 0) (text : List ℕ)
+both_written : (words : List (List ℕ)) (fault : Option Fault) (old new : Option Files) (name : List ℕ) (IsFirst : List ℕ → Type 0) (text : List ℕ)
     (file second : Option OutFile) → ¬ (IsOutFault words fault)
-    → (fault ≡ Some (StoreFailed (stil_word words)) → ⊥) → (fault ≡ Some (StoreFailed (report_word words)) → ⊥)
-    → IsSomeAnd file (IsFileWith (stil_word words) IsFirst) → IsSomeAnd second (IsOutFile (report_word words) text)
-    → HaveBeenWritten file second old new → LeavesBoth words fault old new IsFirst text
-both_written words fault old new IsFirst text None second other no_first no_second fits fit written = absurd fits
-both_written words fault old new IsFirst text (Some file) None other no_first no_second fits fit written = absurd fit
-both_written words fault old new IsFirst text (Some file) (Some it) other no_first no_second fits fit written = record {
+    → (fault ≡ Some (StoreFailed (stil_word words)) → ⊥) → (fault ≡ Some (StoreFailed name) → ⊥)
+    → IsSomeAnd file (IsFileWith (stil_word words) IsFirst) → IsSomeAnd second (IsOutFile name text)
+    → HaveBeenWritten file second old new → LeavesBoth words fault old new name IsFirst text
+both_written words fault old new name IsFirst text None second other no_first no_second fits fit written = absurd fits
+both_written words fault old new name IsFirst text (Some file) None other no_first no_second fits fit written = absurd fit
+both_written words fault old new name IsFirst text (Some file) (Some it) other no_first no_second fits fit written = record {
   stil = file.bytes;
   is_stil = fits.holds;
   first_failed = λ failed. absurd (no_first failed);
   second_failed = λ failed. absurd (no_second failed);
   both = λ none. record {
     between = written.between;
-    first_is = subst (λ (name : List ℕ). ChangesOnly old written.between name (Some file.bytes)) fits.name_is written.first_is;
+    first_is = subst (λ (one : List ℕ). ChangesOnly old written.between one (Some file.bytes)) fits.name_is written.first_is;
     second_is = rw (fit.name_is, fit.bytes_are) at written.second_is;
   };
 }
@@ -165,10 +172,20 @@ leaves_written words fault old new (Flatten chip net) file second asked other fi
     text_written words fault old new (flat_out_word words) (flat_text net) file other fits.first_is (one_file file second old new fits.second_is written)
 leaves_written words fault old new (Grade chip chains pairs grades) file second asked other fits written =
     text_written words fault old new (report_word words) (grades_text chip grades) file other fits.first_is (one_file file second old new fits.second_is written)
+leaves_written words fault old new (Diagnose chip chains pairs log candidates line) file second asked other fits written =
+    text_written words fault old new (candidates_word words) (candidates_text chip (task_of chip 0).defects candidates) file other fits.first_is
+    (one_file file second old new fits.second_is written)
 leaves_written words fault old new (Atpg chip chains pairs aims verdicts) file second asked other fits written =
-    both_written words fault old new (IsStil chip chains pairs) (report_of chip verdicts) file second other
+    both_written words fault old new (report_word words) (IsStil chip chains pairs) (report_of chip verdicts) file second other
     (λ failed. other (stil_word words, (inr (inr (inl (asked.0, inl refl))), failed)))
     (λ failed. other (report_word words, (inr (inr (inl (asked.0, inr refl))), failed)))
+    fits.first_is fits.second_is written
+leaves_written words fault old new (Verify chip chains pairs certificate answer line) file second asked other fits written =
+    no_files file second old new fits.first_is fits.second_is written
+leaves_written words fault old new (Certify chip chains pairs aims certificate) file second asked other fits written =
+    both_written words fault old new (cert_word words) (IsStil chip chains pairs) (certificate_text certificate) file second other
+    (λ failed. other (stil_word words, (inr (inr (inr (inr (inr (asked.0, inl refl))))), failed)))
+    (λ failed. other (cert_word words, (inr (inr (inr (inr (inr (asked.0, inr refl))))), failed)))
     fits.first_is fits.second_is written
 
 -- what is known of a writing that failed: the command writes a file of this name, and a part of its text may
@@ -215,19 +232,19 @@ text_failed : (words : List (List ℕ)) (before after : ℕ) (old new : Option F
 text_failed words before after old new fault name text None out fits failed = absurd fits
 text_failed words before after old new fault name text (Some file) out fits failed = failed_text words before after old new fault name text file out fits failed
 
-other_names : (words : List (List ℕ)) → IsAtpg words → StoreFailed (stil_word words) ≡ StoreFailed (report_word words) → ⊥
-other_names words atpg same = let names : stil_word words ≡ report_word words = cc in atpg.others (sym names)
+other_names : (one other : List ℕ) → (other ≡ one → ⊥) → StoreFailed one ≡ StoreFailed other → ⊥
+other_names one other differ same = let names : one ≡ other = cc in differ (sym names)
 
 -- the writing of the first of two files failed, or that of the second
-both_failed : (words : List (List ℕ)) (before after : ℕ) (old new : Option Files) (fault : Fault) (IsFirst : List ℕ → Type 0) (text : List ℕ)
-    (file second : Option OutFile) → IsAtpg words → IsSomeAnd file (IsFileWith (stil_word words) IsFirst)
-    → IsSomeAnd second (IsOutFile (report_word words) text) → FailToWrite old new before after fault file second
-    → HasFailed words before after fault (LeavesBoth words (Some fault) old new IsFirst text)
-both_failed words before after old new fault IsFirst text None second atpg fits fit failed = absurd fits
-both_failed words before after old new fault IsFirst text (Some file) None atpg fits fit failed = absurd fit
-both_failed words before after old new fault IsFirst text (Some file) (Some it) atpg fits fit (inl failed) =
+both_failed : (words : List (List ℕ)) (before after : ℕ) (old new : Option Files) (fault : Fault) (name : List ℕ) (IsFirst : List ℕ → Type 0) (text : List ℕ)
+    (file second : Option OutFile) → HasOut words (stil_word words) → HasOut words name → (name ≡ stil_word words → ⊥)
+    → IsSomeAnd file (IsFileWith (stil_word words) IsFirst)
+    → IsSomeAnd second (IsOutFile name text) → FailToWrite old new before after fault file second
+    → HasFailed words before after fault (LeavesBoth words (Some fault) old new name IsFirst text)
+both_failed words before after old new fault name IsFirst text None second out out_too others fits fit failed = absurd fits
+both_failed words before after old new fault name IsFirst text (Some file) None out out_too others fits fit failed = absurd fit
+both_failed words before after old new fault name IsFirst text (Some file) (Some it) out out_too others fits fit (inl failed) =
     let named : fault ≡ StoreFailed (stil_word words) = failed.fault_is ∙ ap StoreFailed fits.typed_is in
-    let out : HasOut words (stil_word words) = inr (inr (inl (atpg, inl refl))) in
     record {
       name = stil_word words;
       out = out;
@@ -236,30 +253,29 @@ both_failed words before after old new fault IsFirst text (Some file) (Some it) 
       leaves = record {
         stil = file.bytes;
         is_stil = fits.holds;
-        first_failed = λ same. subst (λ (name : List ℕ). MayWrite old new name file.bytes) fits.name_is failed.part;
-        second_failed = λ same. absurd (other_names words atpg (sym named ∙ same_Some fault (StoreFailed (report_word words)) same));
+        first_failed = λ same. subst (λ (one : List ℕ). MayWrite old new one file.bytes) fits.name_is failed.part;
+        second_failed = λ same. absurd (other_names (stil_word words) name others (sym named ∙ same_Some fault (StoreFailed name) same));
         both = λ none. absurd (none (stil_word words, (out, ap Some named)));
       };
     }
-both_failed words before after old new fault IsFirst text (Some file) (Some it) atpg fits fit (inr following) =
+both_failed words before after old new fault name IsFirst text (Some file) (Some it) out out_too others fits fit (inr following) =
     let failed = following.second_is in
-    let named : fault ≡ StoreFailed (report_word words) = failed.fault_is ∙ ap StoreFailed fit.typed_is in
-    let out : HasOut words (report_word words) = inr (inr (inl (atpg, inr refl))) in
+    let named : fault ≡ StoreFailed name = failed.fault_is ∙ ap StoreFailed fit.typed_is in
     record {
-      name = report_word words;
-      out = out;
+      name = name;
+      out = out_too;
       fault_is = named;
       rose = failed.rose;
       leaves = record {
         stil = file.bytes;
         is_stil = fits.holds;
-        first_failed = λ same. absurd (other_names words atpg (sym (same_Some fault (StoreFailed (stil_word words)) same) ∙ named));
+        first_failed = λ same. absurd (other_names (stil_word words) name others (sym (same_Some fault (StoreFailed (stil_word words)) same) ∙ named));
         second_failed = λ same. record {
           between = following.between;
-          first_is = subst (λ (name : List ℕ). ChangesOnly old following.between name (Some file.bytes)) fits.name_is following.first_is;
+          first_is = subst (λ (one : List ℕ). ChangesOnly old following.between one (Some file.bytes)) fits.name_is following.first_is;
           second_is = rw (fit.name_is, fit.bytes_are) at failed.part;
         };
-        both = λ none. absurd (none (report_word words, (out, ap Some named)));
+        both = λ none. absurd (none (name, (out_too, ap Some named)));
       };
     }
 
@@ -291,10 +307,20 @@ failed_writing words before after old new fault (Flatten chip net) file second f
     text_failed words before after old new fault (flat_out_word words) (flat_text net) file (inr (inl (asked.0, refl))) fits.first_is
     (one_failure file second old new before after fault fits.second_is failed)
 failed_writing words before after old new fault (Grade chip chains pairs grades) file second fits asked failed =
-    text_failed words before after old new fault (report_word words) (grades_text chip grades) file (inr (inr (inr (asked.0, refl)))) fits.first_is
+    text_failed words before after old new fault (report_word words) (grades_text chip grades) file (inr (inr (inr (inl (asked.0, refl))))) fits.first_is
+    (one_failure file second old new before after fault fits.second_is failed)
+failed_writing words before after old new fault (Diagnose chip chains pairs log candidates line) file second fits asked failed =
+    text_failed words before after old new fault (candidates_word words) (candidates_text chip (task_of chip 0).defects candidates) file
+    (inr (inr (inr (inr (inl (asked.0, refl)))))) fits.first_is
     (one_failure file second old new before after fault fits.second_is failed)
 failed_writing words before after old new fault (Atpg chip chains pairs aims verdicts) file second fits asked failed =
-    both_failed words before after old new fault (IsStil chip chains pairs) (report_of chip verdicts) file second asked.0 fits.first_is fits.second_is failed
+    both_failed words before after old new fault (report_word words) (IsStil chip chains pairs) (report_of chip verdicts) file second
+    (inr (inr (inl (asked.0, inl refl)))) (inr (inr (inl (asked.0, inr refl)))) asked.0.others fits.first_is fits.second_is failed
+failed_writing words before after old new fault (Verify chip chains pairs certificate answer line) file second fits asked failed =
+    absurd (no_failure file second old new before after fault fits.first_is fits.second_is failed)
+failed_writing words before after old new fault (Certify chip chains pairs aims certificate) file second fits asked failed =
+    both_failed words before after old new fault (cert_word words) (IsStil chip chains pairs) (certificate_text certificate) file second
+    (inr (inr (inr (inr (inr (asked.0, inl refl)))))) (inr (inr (inr (inr (inr (asked.0, inr refl)))))) asked.0.others fits.first_is fits.second_is failed
 
 module _ (words : List (List ℕ)) (before after : Outside) (done : Done) (file second : Option OutFile) (end : Finished)
     (fits : HasFiles words done file second) (asked : IsAsked words before.files done) (reported : end.done ≡ Some done)

@@ -5,19 +5,22 @@ use Rattle.ca_cell.specs.declared.raw.RawCell.{RawCell}
 use Rattle.ca_cell.specs.Rules.{KeepsRules}
 use Rattle.ca_fault.specs.declared.fault.Fault.TheVariants.{NoMemory}
 use Rattle.ca_flow.specs.declared.finished.Finished.{Finished}
-use Rattle.ca_load.specs.Texts.{Inputs, ReadAs}
+use Rattle.ca_load.specs.Texts.{AreCellsWith, Inputs, ReadAs}
 use Rattle.ca_load.specs.Chips.{IsChipOf, GiveChip}
 use Rattle.ca_linked.specs.Linked.{LinkedChip}
 use Rattle.ca_scan.specs.ChainFault.{AreAllChains}
 use Rattle.ca_patterns.specs.Patterns.{FitsPatterns}
+use Rattle.ca_diagnosing.specs.Diagnosing.{FitsDiagnosis}
+use Rattle.ca_verifying.specs.Verifying.{FitsVerification}
 use Rattle.ca_linked.specs.Instances.{IsNamedGate}
 use Rattle.ca_flat.specs.Chip.{cell_at}
 use Rattle.ca_core.specs.Core.{core_of}
 use Rattle.ca_request.specs.Asked.{FitsInputs, defect_called}
-use Rattle.ca_words.specs.Words.{cells_word, cell_word, vector_word, first_word, last_word, defect_word, dash}
+use Rattle.ca_words.specs.Words.{cell_files, cell_word, vector_word, first_word, last_word, defect_word, dash}
 use Rattle.ca_words.specs.Words.{chip_files, instance_word, chip_defect_word, chip_first_word, chip_last_word}
-use Rattle.ca_words.specs.Words.{stil_word, order_word}
-use Rattle.ca_words.specs.Words.{IsRespond, IsPair, IsFlatten, IsSimulate, IsReplay, IsGrade}
+use Rattle.ca_words.specs.Words.{stil_word, log_word, cert_word, order_word}
+use Rattle.ca_words.specs.Words.{IsRespond, IsPair, IsFlatten, IsSimulate, IsReplay, IsGrade, IsDiagnose}
+use Rattle.ca_words.specs.Words.{IsVerify}
 use Rattle.ca_words.specs.Words.{GeneratesTests, AsksNoFile, IsOnCell, IsOnChip}
 use Rattle.ca_on_chip.specs.OnChip.{IsPairsFault}
 use Rattle.ca_on_chip.specs.declared.replays.TheConstants.{MAX_ORDER}
@@ -27,7 +30,7 @@ use Rattle.ca_chip_replay.specs.ChipRun.{RunOf}
 use Rattle.ca_simulate.specs.OneRun.{ReadsRun}
 use Rattle.ca_load.specs.Files as reading
 use Rattle.ca_on_cell.specs.Outputs.{Fits, asked_network}
-use Rattle.ca_on_cell.specs.Cells.{IsFileWith, HasCell}
+use Rattle.ca_on_cell.specs.Cells.{HasCell}
 use Rattle.ca_flow.specs.Fault.{Outside}
 
 -- the vectors of `pair` have one letter per input pin, and its word for the defect asks for a network
@@ -44,10 +47,11 @@ pub record FitsCell (words : List (List ℕ)) (raw : RawCell) : Type 0 where
   pub respond : IsRespond words → Fits raw (vector_word words)
   pub pair : IsPair words → FitsPair words raw
 
--- the file that the words name is there, is no longer than it may be and has a reading, in which they name a
--- subcircuit that they fit
+-- the files that the words name are there, are no longer than they may be and have a reading, in which they
+-- name a subcircuit that they fit
 abbrev pub FitsFile : List (List ℕ) → Files → Type 0
-FitsFile words reported = IsFileWith reported (cells_word words) (HasCell (cell_word words) (FitsCell words))
+FitsFile words reported =
+    AreCellsWith reported (cell_files words) (HasCell (cell_word words) (FitsCell words))
 
 -- a library instance has the name, and each that has it is of a cell with the defect
 pub record HasDefect (chip : LinkedChip) (instance defect : List ℕ) : Type 0 where
@@ -85,12 +89,24 @@ abbrev pub FitsGrade : List (List ℕ) → Files → LinkedChip → Type 0
 FitsGrade words reported chip =
     (chains : List (List ℕ)) → AreAllChains chip chains → FitsPatterns reported (stil_word words) chip chains
 
+-- the files of `diagnose` have right patterns of the chip, and a log for them
+abbrev pub FitsDiagnose : List (List ℕ) → Files → LinkedChip → Type 0
+FitsDiagnose words reported chip = (chains : List (List ℕ)) → AreAllChains chip chains
+    → FitsDiagnosis reported (stil_word words) (log_word words) chip chains
+
+-- the files of `verify` have right patterns of the chip, and a certificate with a claim for each defect
+abbrev pub FitsVerify : List (List ℕ) → Files → LinkedChip → Type 0
+FitsVerify words reported chip = (chains : List (List ℕ)) → AreAllChains chip chains
+    → FitsVerification reported (stil_word words) (cert_word words) chip chains
+
 -- the own words of a command on a chip are of the chip
 pub record FitsOwn (words : List (List ℕ)) (reported : Files) (chip : LinkedChip) : Type 0 where
   pub flatten : IsFlatten words → FitsDefect words chip
   pub simulate : IsSimulate words → FitsSimulate words chip
   pub replay : IsReplay words → FitsReplay words reported chip
   pub grade : IsGrade words → FitsGrade words reported chip
+  pub diagnose : IsDiagnose words → FitsDiagnose words reported chip
+  pub verify : IsVerify words → FitsVerify words reported chip
 
 -- the words are those of a command on a chip, the files that they name are there, are no longer than they
 -- may be, and read as what gives a chip with chains, and the command's own words are of the chip
@@ -106,7 +122,7 @@ abbrev pub IsAnswerable : List (List ℕ) → Option Files → Type 0
 IsAnswerable words files =
     AsksNoFile words ⊎ IsSomeAnd files (λ reported. FitsFile words reported ⊎ FitsChip words reported)
 
--- `atpg` or `make` found one pair more than may be listed
+-- `atpg`, `certify` or `make` found one pair more than may be listed
 abbrev pub HasTooManyPairs : List (List ℕ) → Finished → Type 0
 HasTooManyPairs words end = GeneratesTests words × IsSomeAnd end.fault IsPairsFault
 

@@ -1,18 +1,18 @@
 -- How a command ends.
-use Rattle.std.specs.Prelude.{ℕ, List, Option, IfSome}
+use Rattle.std.specs.Prelude.{◌≡◌, ℕ, List, length, Option, IfSome}
 use Rattle.ca_store.specs.Store.{Files}
 use Rattle.ca_scan.specs.ChainFault.{AreAllChains}
 use Rattle.ca_load.specs.Files.{OfFile, ReportsStoreFault}
 use Rattle.ca_flow.specs.declared.finished.Done.{Done}
 use Rattle.ca_flow.specs.declared.finished.Done.TheVariants.{Respond, Pair, Defects, Matrix, Check, Flatten}
-use Rattle.ca_flow.specs.declared.finished.Done.TheVariants.{Simulate, Atpg, Replay, Grade, Make, Help}
-use Rattle.ca_flow.specs.declared.finished.Done.TheVariants.{Version}
+use Rattle.ca_flow.specs.declared.finished.Done.TheVariants.{Simulate, Atpg, Replay, Grade}
+use Rattle.ca_flow.specs.declared.finished.Done.TheVariants.{Diagnose, Certify, Verify, Make, Help, Version}
 use Rattle.ca_flow.specs.declared.finished.Finished.{Finished}
-use Rattle.ca_words.specs.Words.{cells_word, cell_word, vector_word, first_word, last_word, defect_word, dash}
+use Rattle.ca_words.specs.Words.{cell_files, cell_word, vector_word, first_word, last_word, defect_word, dash}
 use Rattle.ca_words.specs.Words.{chip_files, instance_word, chip_defect_word, chip_first_word, chip_last_word}
-use Rattle.ca_words.specs.Words.{stil_word, budget_word, order_word, number_word}
+use Rattle.ca_words.specs.Words.{stil_word, log_word, cert_word, budget_word, order_word, number_word}
 use Rattle.ca_words.specs.Words.{IsRespond, IsPair, IsDefects, IsMatrix, IsCheck, IsFlatten, IsSimulate}
-use Rattle.ca_words.specs.Words.{IsAtpg, IsReplay, IsGrade, IsMake}
+use Rattle.ca_words.specs.Words.{IsAtpg, IsReplay, IsGrade, IsDiagnose, IsCertify, IsVerify, IsMake}
 use Rattle.ca_words.specs.Words.{IsHelp, IsVersion}
 use Rattle.ca_on_cell.specs.Outputs.{AreValues}
 use Rattle.ca_flow.specs.Finished.{IsAnswer, Prints, Writes, ReportsSinkFault}
@@ -22,21 +22,26 @@ use Rattle.ca_on_chip.specs.OnChip.{IsChipOfFiles, IsTracedChipOf, IsFlatOf, Are
 use Rattle.ca_on_chip.specs.declared.replays.TheConstants.{MAX_ORDER}
 use Rattle.ca_on_chip.specs.Replay.{AreRunEndsOf}
 use Rattle.ca_grading.specs.Grading.{AreGradesByFile}
+use Rattle.ca_engine.specs.ChipTask.{task_of}
+use Rattle.ca_chip_diag.specs.Texts.{diagnosis_line}
+use Rattle.ca_diagnosing.specs.Diagnosing.{AreCandidatesByFiles}
+use Rattle.ca_certifying.specs.Certifying.{IsCertifiedFor}
+use Rattle.ca_verifying.specs.Verifying.{IsAnswerByFiles, answer_line}
 use Rattle.ca_on_chip.specs.Making.{AreMadeTests}
 use Rattle.ca_flow.specs.Fault.{Outside, IsCause}
 use Rattle.ca_flow.specs.Complete.{Completes}
 
--- the work that is reported is that of the command, on the cell that the words name in the file that they
+-- the work that is reported is that of the command, on the cell that the words name in the files that they
 -- name, or on the chip that their files give
 abbrev pub IsAsked : List (List ℕ) → Option Files → Done → Type 0
-IsAsked words files (Respond values) = IsRespond words × OfCell files (cells_word words) (cell_word words)
+IsAsked words files (Respond values) = IsRespond words × OfCell files (cell_files words) (cell_word words)
     (AreValues (vector_word words) (vector_word words) dash values)
-IsAsked words files (Pair values) = IsPair words × OfCell files (cells_word words) (cell_word words)
+IsAsked words files (Pair values) = IsPair words × OfCell files (cell_files words) (cell_word words)
     (AreValues (first_word words) (last_word words) (defect_word words) values)
 IsAsked words files (Defects names) =
-    IsDefects words × OfCell files (cells_word words) (cell_word words) (AreDefectNames names)
+    IsDefects words × OfCell files (cell_files words) (cell_word words) (AreDefectNames names)
 IsAsked words files (Matrix matrix) =
-    IsMatrix words × OfCell files (cells_word words) (cell_word words) (IsSoundMatrix matrix)
+    IsMatrix words × OfCell files (cell_files words) (cell_word words) (IsSoundMatrix matrix)
 IsAsked words files (Check chip chains) =
     IsCheck words × (AreAllChains chip chains × IsChipOfFiles files (chip_files words) chip)
 IsAsked words files (Flatten chip net) = IsFlatten words
@@ -59,6 +64,20 @@ IsAsked words files (Grade chip chains pairs grades) = IsGrade words
     × (AreAllChains chip chains
     × (IsChipOfFiles files (chip_files words) chip
     × AreGradesByFile files (stil_word words) chip chains pairs grades))
+IsAsked words files (Diagnose chip chains pairs log candidates line) = IsDiagnose words
+    × (AreAllChains chip chains
+    × (IsChipOfFiles files (chip_files words) chip
+    × (AreCandidatesByFiles files (stil_word words) (log_word words) chip chains pairs log candidates
+    × (line ≡ diagnosis_line (length candidates) (length (task_of chip 0).defects) (length log)))))
+IsAsked words files (Certify chip chains pairs aims certificate) = IsCertify words
+    × (AreAllChains chip chains
+    × (IsChipOfFiles files (chip_files words) chip
+    × IsCertifiedFor (budget_word words) chip pairs aims certificate))
+IsAsked words files (Verify chip chains pairs certificate answer line) = IsVerify words
+    × (AreAllChains chip chains
+    × (IsChipOfFiles files (chip_files words) chip
+    × (IsAnswerByFiles files (stil_word words) (cert_word words) chip chains pairs certificate answer
+    × (line ≡ answer_line answer))))
 IsAsked words files (Make chip pairs aims verdicts) =
     IsMake words × AreMadeTests (number_word words) chip pairs aims verdicts
 IsAsked words files Help = IsHelp words

@@ -6,14 +6,16 @@ use Rattle.ca_fault.specs.declared.fault.Fault.{Fault}
 use Rattle.ca_fault.specs.declared.fault.Fault.TheVariants.{BadWords, StoreFailed, SinkFailed, NoMemory}
 use Rattle.ca_load.specs.Causes.{IsLoadCause}
 use Rattle.ca_on_cell.specs.Causes.{IsCellCause, IsValueCause}
-use Rattle.ca_words.specs.Words.{cells_word, cell_word, vector_word, first_word, last_word, defect_word, dash}
+use Rattle.ca_words.specs.Words.{cell_files, cell_word, vector_word, first_word, last_word, defect_word, dash}
 use Rattle.ca_words.specs.Words.{chip_files, instance_word, chip_defect_word, chip_first_word, chip_last_word}
-use Rattle.ca_words.specs.Words.{stil_word, budget_word, order_word, number_word}
+use Rattle.ca_words.specs.Words.{stil_word, log_word, cert_word, budget_word, order_word, number_word}
 use Rattle.ca_words.specs.Words.{IsRespond, IsPair, IsDefects, IsMatrix, IsFlatten, IsSimulate, IsAtpg}
-use Rattle.ca_words.specs.Words.{IsReplay, IsGrade, IsMake}
+use Rattle.ca_words.specs.Words.{IsReplay, IsGrade, IsDiagnose, IsCertify, IsVerify, IsMake}
 use Rattle.ca_words.specs.Words.{IsOnChip, IsCommand, HasOut}
 use Rattle.ca_on_chip.specs.OnChip.{IsFlattenCause, IsSimulateCause, IsAtpgCause}
 use Rattle.ca_patterns.specs.Patterns.{IsPatternsCause}
+use Rattle.ca_diagnosing.specs.Diagnosing.{IsDiagnoseCause}
+use Rattle.ca_verifying.specs.Verifying.{IsVerifyCause}
 use Rattle.ca_on_chip.specs.Replay.{IsReplayCause}
 use Rattle.ca_on_chip.specs.Making.{IsMakeCause}
 
@@ -54,8 +56,13 @@ IsOwnCause words files before after fault =
     ⊎ ((IsReplay words
     × IsReplayCause (chip_files words) (instance_word words) (chip_defect_word words)
     (chip_first_word words) (chip_last_word words) (order_word words) files before after fault)
-    ⊎ (IsGrade words
-    × IsPatternsCause (chip_files words) (stil_word words) files before after fault))))
+    ⊎ ((IsGrade words
+    × IsPatternsCause (chip_files words) (stil_word words) files before after fault)
+    ⊎ ((IsDiagnose words
+    × IsDiagnoseCause (chip_files words) (stil_word words) (log_word words) files before after fault)
+    ⊎ ((IsCertify words × IsAtpgCause (chip_files words) (budget_word words) files fault)
+    ⊎ (IsVerify words
+    × IsVerifyCause (chip_files words) (stil_word words) (cert_word words) files before after fault)))))))
 
 -- why a command on a chip did no work: its files give no chip, or its own words aren't of it
 abbrev pub IsChipWorkCause : List (List ℕ) → Option Files → ℕ → ℕ → Fault → Type 0
@@ -66,12 +73,12 @@ IsChipWorkCause words files before after fault =
 -- why the command that the words spell did no work
 abbrev pub IsWorkCause : List (List ℕ) → Option Files → ℕ → ℕ → Fault → Type 0
 IsWorkCause words files before after fault =
-    (IsRespond words × IsValueCause (cells_word words) (cell_word words)
+    (IsRespond words × IsValueCause (cell_files words) (cell_word words)
     (vector_word words) (vector_word words) dash files before after fault)
-    ⊎ ((IsPair words × IsValueCause (cells_word words) (cell_word words)
+    ⊎ ((IsPair words × IsValueCause (cell_files words) (cell_word words)
     (first_word words) (last_word words) (defect_word words) files before after fault)
-    ⊎ ((IsDefects words × IsCellCause (cells_word words) (cell_word words) files before after fault)
-    ⊎ ((IsMatrix words × IsCellCause (cells_word words) (cell_word words) files before after fault)
+    ⊎ ((IsDefects words × IsCellCause (cell_files words) (cell_word words) files before after fault)
+    ⊎ ((IsMatrix words × IsCellCause (cell_files words) (cell_word words) files before after fault)
     ⊎ (IsChipWorkCause words files before after fault
     ⊎ (IsMake words × IsMakeCause (number_word words) fault)))))
 

@@ -19,9 +19,15 @@ command_lines =
     ++ (codes "                                               each output after the events of ORDER between both\n"
     ++ (codes "  cellaware grade CELLS NETLIST SCAN STIL REPORT\n"
     ++ (codes "                                               which defects the patterns in STIL show, to REPORT\n"
+    ++ (codes "  cellaware diagnose CELLS NETLIST SCAN STIL LOG OUT\n"
+    ++ (codes "                                               which defects the failing outputs in LOG leave, to OUT\n"
+    ++ (codes "  cellaware certify CELLS NETLIST SCAN STIL CERT BUDGET\n"
+    ++ (codes "                                               patterns to STIL, and to CERT what proves each verdict\n"
+    ++ (codes "  cellaware verify CELLS NETLIST SCAN STIL CERT\n"
+    ++ (codes "                                               whether each claim in CERT stands for the patterns in STIL\n"
     ++ (codes "  cellaware make N                             test generation on a generated chip of N gates, up to 4096\n"
     ++ (codes "  cellaware --help                             this text\n"
-    ++ codes "  cellaware --version                          the version\n"))))))))))))))))
+    ++ codes "  cellaware --version                          the version\n"))))))))))))))))))))))
 
 -- what the exit statuses mean
 abbrev pub status_lines : List ℕ
@@ -38,10 +44,12 @@ usage_text =
     ++ (codes "NETLIST is a netlist of gates, in Verilog; SCAN is a table of scan cells, as CSV, or -.\n"
     ++ (codes "INSTANCE is one of a cell, and DEFECT one of its defects, or both are -.\n"
     ++ (codes "BUDGET is how many branches each search may have, at most 65536.\n"
-    ++ (codes "The word --progress before a command tells on the standard error how far atpg, grade or make is.\n"
+    ++ (codes "The words strengths TABLE before a command but make read CELLS under a table of five ratios.\n"
+    ++ (codes "The word --progress before a command tells on the standard error how far atpg, grade,\n"
+    ++ (codes "diagnose, certify or make is.\n"
     ++ (codes "ORDER has the events of one run: settle and blur with nodes, set with a node and a value.\n"
     ++ (status_lines
-    ++ codes "Documents in the sources: README.md, docs/TUTORIAL.md, docs/FAULTS.md, docs/cellaware.1.\n"))))))))
+    ++ codes "Documents in the sources: README.md, docs/TUTORIAL.md, docs/FAULTS.md, docs/cellaware.1.\n"))))))))))
 
 -- which version the program is
 abbrev pub version_text : List ℕ

@@ -44,7 +44,7 @@ pub fn answer<S: Store, W: Sink, E: Sink, T: Watch>(
     let end = run(alloc, words, store, out, watch);
     tell_end(&end.fault, err);
     let status = end.status;
-    end.let_go();
+    end.discard();
     status
 }
 

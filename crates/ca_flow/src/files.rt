@@ -52,3 +52,26 @@ pub(crate) fn text_file<'a>(
         bytes,
     })
 }
+
+/// Two files.
+#[derive(Drop)]
+pub(crate) struct TwoFiles<'a> {
+    pub(crate) file: OutFile<'a>,
+    pub(crate) second: OutFile<'a>,
+}
+
+/// The files of these names, to which these texts are to be written.
+pub(crate) fn two_files<'a>(
+    alloc: Global,
+    first_name: &'a str,
+    first: Text,
+    second_name: &'a str,
+    second: Text,
+) -> Result<TwoFiles<'a>, NoMemory>
+    ensures first { IfOk result (λ files. IsOutFile first_name.now first files.file) }
+    ensures second { IfOk result (λ files. IsOutFile second_name.now second files.second) }
+{
+    let file = text_file(alloc, first_name, first)?;
+    let second = text_file(alloc, second_name, second)?;
+    Ok(TwoFiles { file, second })
+}

@@ -10,13 +10,17 @@ use crate::usage::{usage, version};
 use crate::work::{Work, write_out};
 use ca_atpg::summary_text;
 use ca_base::NoMemory;
+use ca_certifying::certified_line;
 use ca_chip_grade::grades_line;
+use ca_claim::{Answer, Certificate};
 use ca_credit::Verdicts;
+use ca_diag::Candidates;
 use ca_fault::Fault;
 use ca_generate::Aims;
 use ca_grade::Grades;
 use ca_lex::{Names, Text};
 use ca_linked::Chip;
+use ca_log::Log;
 use ca_matrix::Matrix;
 use ca_net::{FlatNet, Trit};
 use ca_on_cell::{PinValues, lines_of_names, lines_of_values, summary};
@@ -91,6 +95,35 @@ pub enum Done {
         pairs: Pairs,
         grades: Grades,
     },
+    /// A linked chip with its scan chains, the pairs of a file of patterns, a log of failing outputs, the
+    /// defects that it leaves, and the line that reports how many.
+    Diagnose {
+        chip: Chip,
+        chains: Chains,
+        pairs: Pairs,
+        log: Log,
+        candidates: Candidates,
+        line: Text,
+    },
+    /// A linked chip with its scan chains, the listed pairs, for each the place of the defect for which it
+    /// was found, and a certificate.
+    Certify {
+        chip: Chip,
+        chains: Chains,
+        pairs: Pairs,
+        aims: Aims,
+        certificate: Certificate,
+    },
+    /// A linked chip with its scan chains, the pairs of a file of patterns, a certificate, whether its claims
+    /// stand, and the line that tells it.
+    Verify {
+        chip: Chip,
+        chains: Chains,
+        pairs: Pairs,
+        certificate: Certificate,
+        answer: Answer,
+        line: Text,
+    },
     /// A generated chip, the listed pairs, for each the place of the defect for which it was found, and a
     /// verdict for each defect.
     Make {
@@ -129,6 +162,14 @@ impl Done {
             } => summary_text(alloc, verdicts, pairs.len()),
             Done::Replay { chip, ends } => replay_lines(alloc, chip, ends),
             Done::Grade { pairs, grades, .. } => grades_line(alloc, grades, pairs.len()),
+            Done::Diagnose { line, .. } | Done::Verify { line, .. } => {
+                Text::from_bytes(alloc, line.as_bytes())
+            }
+            Done::Certify {
+                pairs,
+                certificate,
+                ..
+            } => certified_line(alloc, certificate.claims.as_slice(), pairs.len()),
             Done::Help => usage(alloc),
             Done::Version => version(alloc),
         }
@@ -138,42 +179,22 @@ impl Done {
 impl Finished {
     /// Drops the end of a command. Where it is dropped otherwise, the prover goes through all that it may
     /// have once more.
-    pub fn let_go(self) {
+    pub fn discard(self) {
         let Finished { done, .. } = self;
         if let Some(done) = done {
-            let_done_go(done);
+            discard_done(done);
         }
     }
 }
 
-// Lets a chip go.
-fn let_chip_go(chip: Chip) {
-    let _gone = chip;
-}
-
-// Lets generated tests go.
-fn let_tests_go(pairs: Pairs, aims: Aims, verdicts: Verdicts) {
-    let _gone = (pairs, aims, verdicts);
-}
-
-// Lets grades go.
-fn let_grades_go(pairs: Pairs, grades: Grades) {
-    let _gone = (pairs, grades);
-}
-
-// Lets a matrix go.
-fn let_matrix_go(matrix: Matrix) {
-    let _gone = matrix;
-}
-
-// Lets work go. Its larger parts go each in a function of its own, so that the end of each is proved once.
-fn let_done_go(done: Done) {
+// Drops the work. Its larger parts are dropped each by a call, so that the end of each is proved once.
+fn discard_done(done: Done) {
     match done {
         Done::Respond { .. } | Done::Pair { .. } | Done::Defects { .. } => {}
-        Done::Matrix { matrix } => let_matrix_go(matrix),
-        Done::Check { chip, .. } => let_chip_go(chip),
-        Done::Flatten { chip, .. } => let_chip_go(chip),
-        Done::Simulate { chip, .. } => let_chip_go(chip),
+        Done::Matrix { matrix } => drop(matrix),
+        Done::Check { chip, .. } => drop(chip),
+        Done::Flatten { chip, .. } => drop(chip),
+        Done::Simulate { chip, .. } => drop(chip),
         Done::Atpg {
             chip,
             pairs,
@@ -181,18 +202,53 @@ fn let_done_go(done: Done) {
             verdicts,
             ..
         } => {
-            let_chip_go(chip);
-            let_tests_go(pairs, aims, verdicts);
+            drop(chip);
+            drop(pairs);
+            drop(aims);
+            drop(verdicts);
         }
-        Done::Replay { chip, .. } => let_chip_go(chip),
+        Done::Replay { chip, .. } => drop(chip),
         Done::Grade {
             chip,
             pairs,
             grades,
             ..
         } => {
-            let_chip_go(chip);
-            let_grades_go(pairs, grades);
+            drop(chip);
+            drop(pairs);
+            drop(grades);
+        }
+        Done::Diagnose {
+            chip,
+            pairs,
+            log,
+            candidates,
+            ..
+        } => {
+            drop(chip);
+            drop(pairs);
+            drop(log);
+            drop(candidates);
+        }
+        Done::Certify {
+            chip,
+            pairs,
+            certificate,
+            ..
+        } => {
+            drop(chip);
+            drop(pairs);
+            drop(certificate);
+        }
+        Done::Verify {
+            chip,
+            pairs,
+            certificate,
+            ..
+        } => {
+            drop(chip);
+            drop(pairs);
+            drop(certificate);
         }
         Done::Make {
             chip,
@@ -200,8 +256,10 @@ fn let_done_go(done: Done) {
             aims,
             verdicts,
         } => {
-            let_chip_go(chip);
-            let_tests_go(pairs, aims, verdicts);
+            drop(chip);
+            drop(pairs);
+            drop(aims);
+            drop(verdicts);
         }
         Done::Help | Done::Version => {}
     }
@@ -251,7 +309,7 @@ pub(crate) fn finish<S: Store, W: Sink>(
 {
     let Work { done, file, second } = work;
     let Ok(text) = done.lines(alloc) else {
-        let_done_go(done);
+        discard_done(done);
         return refused(Fault::NoMemory);
     };
     match write_out(file, second, store) {

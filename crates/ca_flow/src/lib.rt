@@ -2,6 +2,7 @@
 #![tactic(auto)]
 
 mod answering;
+mod certificates;
 mod files;
 mod finished;
 mod top;

@@ -5,23 +5,24 @@ ghost use Rattle.ca_store.specs.Store.{Nothing, Files};
 ghost use Rattle.ca_make.specs.declared.gate.TheConstants.{MOST_GATES};
 ghost use Rattle.ca_words.specs.Words.{IsCommand};
 ghost use Rattle.ca_words.specs.Command.{IsSpelled, IsSpelledAtpg, IsSpelledReplay, IsSpelledMake};
-ghost use Rattle.ca_words.specs.code.Command.{NamesBoth};
+ghost use Rattle.ca_words.specs.code.Command.{NamesBoth, IsWhole};
 ghost use Rattle.ca_words.specs.Command.{IsSpelledFlatten, IsSpelledMatrix, IsSpelledGrade};
-ghost use Rattle.ca_words.specs.code.Command.{IsWhole};
+ghost use Rattle.ca_words.specs.Command.{IsSpelledDiagnose};
 ghost use Rattle.ca_flow.specs.Fault.{IsWorkCause};
 ghost use Rattle.ca_load.specs.Files.{ReportsStoreFault};
 ghost use Rattle.ca_flow.specs.Ends.{IsAsked, Ends};
-ghost use Rattle.ca_flow.specs.code.Work.{HasFiles, IsOutFile};
+ghost use Rattle.ca_flow.specs.code.Work.{HasFiles};
 
-use crate::files::{flat_file, matrix_file, text_file};
+use crate::certificates::{answer_work, certificate_work};
+use crate::files::{TwoFiles, flat_file, matrix_file, text_file, two_files};
 use crate::finished::{Done, Finished, finish, refused};
-use crate::work::{OutFile, Work};
+use crate::work::{Work, printed};
 use ca_atpg::Tested;
 use ca_base::NoMemory;
+use ca_diagnosing::{DiagnosedChip, find_candidates};
 use ca_fault::Fault;
 use ca_generate::Watch;
 use ca_grading::{GradedChip, find_grades};
-use ca_lex::Text;
 use ca_load::{Loaded, load};
 use ca_on_cell::{find_matrix, find_names, find_values};
 use ca_on_chip::{
@@ -29,7 +30,9 @@ use ca_on_chip::{
     find_simulation, find_tests,
 };
 use ca_store::{Sink, Store};
-use ca_words::{AtpgWords, Command, FlattenWords, GradeWords, MatrixWords, ReplayWords, parse};
+use ca_words::{
+    AtpgWords, Command, DiagnoseWords, FlattenWords, GradeWords, MatrixWords, ReplayWords, parse,
+};
 use std::alloc::Global;
 
 /// Does one command, whose words come without the program's name. Nothing is written or printed before all
@@ -119,6 +122,9 @@ fn work_of<'a, S: Store, T: Watch>(
         Command::Atpg(request) => tests_work(alloc, request, store, watch),
         Command::Replay(request) => replay_work(alloc, request, store),
         Command::Grade(request) => grades_work(alloc, request, store, watch),
+        Command::Diagnose(request) => candidates_work(alloc, request, store, watch),
+        Command::Certify(request) => certificate_work(alloc, request, store, watch),
+        Command::Verify(request) => answer_work(alloc, request, store),
         Command::Make(number) => make_work(alloc, *number, watch),
         Command::Help => Ok(printed(Done::Help)),
         Command::Version => Ok(printed(Done::Version)),
@@ -224,8 +230,8 @@ fn tests_work<'a, S: Store, T: Watch>(
         aims,
         verdicts,
     };
-    match test_files(alloc, request, stil, report) {
-        Ok(TestFiles { file, second }) => Ok(Work {
+    match two_files(alloc, request.stil, stil, request.report, report) {
+        Ok(TwoFiles { file, second }) => Ok(Work {
             done,
             file: Some(file),
             second: Some(second),
@@ -235,28 +241,6 @@ fn tests_work<'a, S: Store, T: Watch>(
             Err(Fault::NoMemory)
         }
     }
-}
-
-// The files of the patterns and of the report.
-#[derive(Drop)]
-struct TestFiles<'a> {
-    file: OutFile<'a>,
-    second: OutFile<'a>,
-}
-
-// The files to which these texts are to be written.
-fn test_files<'a>(
-    alloc: Global,
-    request: &AtpgWords<'a>,
-    stil: Text,
-    report: Text,
-) -> Result<TestFiles<'a>, NoMemory>
-    ensures stil { IfOk result (λ files. IsOutFile request.now.stil.now stil files.file) }
-    ensures report { IfOk result (λ files. IsOutFile request.now.report.now report files.second) }
-{
-    let file = text_file(alloc, request.stil, stil)?;
-    let second = text_file(alloc, request.report, report)?;
-    Ok(TestFiles { file, second })
 }
 
 // The work of `replay`.
@@ -335,6 +319,59 @@ fn grades_work<'a, S: Store, T: Watch>(
     }
 }
 
+// The work of `diagnose`.
+#[tactic(auto, using(crate::proofs::DiagnoseLemmas::diagnose_asked, crate::proofs::DiagnoseLemmas::diagnose_files, crate::proofs::DiagnoseLemmas::diagnose_cause, crate::proofs::DiagnoseLemmas::no_diagnose_sink))]
+fn candidates_work<'a, S: Store, T: Watch>(
+    alloc: Global,
+    request: &DiagnoseWords<'a>,
+    store: &mut S,
+    watch: &mut T,
+) -> Result<Work<'a>, Fault>
+    requires closed { S.opened store.old ≡ Nothing }
+
+    ensures asked { IfOk result (λ work. (words : List (List ℕ)) → IsSpelledDiagnose words request.now
+        → IsAsked words (S.files store.old) work.done) }
+    ensures file { IfOk result (λ work. (words : List (List ℕ)) → IsSpelledDiagnose words request.now
+        → HasFiles words work.done work.file work.second) }
+    ensures cause { IfErr result (λ fault. (words : List (List ℕ)) → IsSpelledDiagnose words request.now
+        → IsWorkCause words (S.files store.old) (S.faults store.old) (S.faults store.new) fault) }
+    ensures no_sink { IfErr result (λ fault. fault ≢ Fault.SinkFailed) }
+    ensures quiet { OnOk result (S.faults store.new ≡ S.faults store.old) }
+    ensures reported { IfErr result (λ fault.
+        ReportsStoreFault (Some fault) (S.faults store.old) (S.faults store.new)) }
+    ensures closed { S.opened store.new ≡ Nothing }
+    ensures kept { S.files store.new ≡ S.files store.old }
+{
+    let DiagnosedChip {
+        chip,
+        chains,
+        pairs,
+        log,
+        candidates,
+        report,
+        line,
+    } = find_candidates(alloc, request, store, watch)?;
+    let done = Done::Diagnose {
+        chip,
+        chains,
+        pairs,
+        log,
+        candidates,
+        line,
+    };
+    match text_file(alloc, request.out, report) {
+        Ok(file) => Ok(Work {
+            done,
+            file: Some(file),
+            second: None,
+        }),
+        Err(NoMemory) => {
+            drop(done);
+            Err(Fault::NoMemory)
+        }
+    }
+}
+
 // The work of `make`, which touches no file.
 #[tactic(auto, using(crate::proofs::CauseLemmas::make_asked, crate::proofs::CauseLemmas::make_cause, crate::proofs::CauseLemmas::no_make_sink))]
 fn make_work<'a, T: Watch>(alloc: Global, number: u32, watch: &mut T) -> Result<Work<'a>, Fault>
@@ -360,17 +397,4 @@ fn make_work<'a, T: Watch>(alloc: Global, number: u32, watch: &mut T) -> Result<
         aims,
         verdicts,
     }))
-}
-
-// Work that is printed alone.
-fn printed<'a>(done: Done) -> Work<'a>
-    ensures done { result.done ≡ done }
-    ensures none { IsNone result.file }
-    ensures no_second { IsNone result.second }
-{
-    Work {
-        done,
-        file: None,
-        second: None,
-    }
 }

@@ -30,6 +30,12 @@ usage: cellaware COMMAND WORDS
                                                each output after the events of ORDER between both
   cellaware grade CELLS NETLIST SCAN STIL REPORT
                                                which defects the patterns in STIL show, to REPORT
+  cellaware diagnose CELLS NETLIST SCAN STIL LOG OUT
+                                               which defects the failing outputs in LOG leave, to OUT
+  cellaware certify CELLS NETLIST SCAN STIL CERT BUDGET
+                                               patterns to STIL, and to CERT what proves each verdict
+  cellaware verify CELLS NETLIST SCAN STIL CERT
+                                               whether each claim in CERT stands for the patterns in STIL
   cellaware make N                             test generation on a generated chip of N gates, up to 4096
   cellaware --help                             this text
   cellaware --version                          the version
@@ -38,7 +44,9 @@ CELLS is a netlist of transistors, in SPICE or CDL; a vector has 0, 1 or X per i
 NETLIST is a netlist of gates, in Verilog; SCAN is a table of scan cells, as CSV, or -.
 INSTANCE is one of a cell, and DEFECT one of its defects, or both are -.
 BUDGET is how many branches each search may have, at most 65536.
-The word --progress before a command tells on the standard error how far atpg, grade or make is.
+The words strengths TABLE before a command but make read CELLS under a table of five ratios.
+The word --progress before a command tells on the standard error how far atpg, grade,
+diagnose, certify or make is.
 ORDER has the events of one run: settle and blur with nodes, set with a node and a value.
 Exit status: 0 done, 1 bad command line, 2 wrong contents, 3 a limit, 4 a file or the output
 failed, 5 out of memory. One line on the standard error says why.

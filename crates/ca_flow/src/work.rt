@@ -1,5 +1,5 @@
 //! The work of a command, before it is written and printed.
-ghost use Rattle.std.specs.Prelude.{◌≡◌, IfErr, IsSomeAnd, OnOk};
+ghost use Rattle.std.specs.Prelude.{◌≡◌, IfErr, IsNone, IsSomeAnd, OnOk};
 ghost use Rattle.ca_store.specs.Store.{Nothing, KeepsCount};
 ghost use Rattle.ca_flow.specs.code.Work.{HasWritten, FailsToWrite, HaveBeenWritten, FailToWrite};
 
@@ -65,5 +65,18 @@ pub(crate) fn write_out<S: Store>(
     match write_one(file, store) {
         Ok(()) => write_one(second, store),
         Err(fault) => Err(fault),
+    }
+}
+
+/// Work that is printed alone.
+pub(crate) fn printed<'a>(done: Done) -> Work<'a>
+    ensures done { result.done ≡ done }
+    ensures none { IsNone result.file }
+    ensures no_second { IsNone result.second }
+{
+    Work {
+        done,
+        file: None,
+        second: None,
     }
 }

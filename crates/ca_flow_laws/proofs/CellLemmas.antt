@@ -3,30 +3,30 @@ use Rattle.std.proofs.Common.{ℕ, ◌≡◌, ◌⊎◌, ◌∙◌, inl, inr, re
 use Rattle.std.proofs.Common.{Option, Some, None, Result, Ok, Err, true≢false}
 use Rattle.std.specs.Prelude.{IsNone, IsOk, IsSomeAnd}
 use Rattle.ca_lex.specs.Words.{upper_case}
-use Rattle.ca_cell.specs.Strength.{default_table}
 use Rattle.ca_store.specs.Store.{Files}
 use Rattle.ca_cell.specs.declared.raw.RawCell.{RawCell}
+use Rattle.ca_cell.specs.declared.strength.StrengthTable.{StrengthTable}
 use Rattle.ca_cell.specs.declared.rule.CellRule.{CellRule}
 use Rattle.ca_cell.specs.Rules.{KeepsRules}
 use Rattle.ca_spice.specs.declared.fault.SpiceFault.{SpiceFault}
 use Rattle.ca_spice.specs.declared.fault.SpiceFault.TheVariants as spice
 use Rattle.ca_spice.specs.Reading.{library_of}
 use Rattle.ca_spice.specs.Called.{called_among}
-use Rattle.ca_load.specs.declared.cells.TheConstants.{MAX_CELLS}
+use Rattle.ca_load.specs.Texts.{IsCellFile, OfCells}
 use Rattle.ca_load.specs.Causes.{IsTextCause, IsCellsCause}
 use Rattle.ca_load.proofs.RuleLemmas.{one_broken}
 use Rattle.ca_fault_place.specs.Place.{rule_text}
 use Rattle.ca_fault.specs.declared.fault.LimitKind.TheVariants as limit
 use Rattle.ca_fault.specs.declared.fault.Fault.{Fault}
 use Rattle.ca_fault.specs.declared.fault.Fault.TheVariants.{Cells, NoCell, Cell, BadVector, NoDefect, Limit}
-use Rattle.ca_words.specs.Words.{cells_word, cell_word, vector_word, first_word, last_word, defect_word, dash}
+use Rattle.ca_words.specs.Words.{cell_files, cell_word, vector_word, first_word, last_word, defect_word, dash}
 use Rattle.ca_words.specs.Words.{IsRespond, IsPair}
-use Rattle.ca_on_cell.specs.Cells.{OfFile, HasCell, LacksCell}
+use Rattle.ca_on_cell.specs.Cells.{HasCell, LacksCell}
 use Rattle.ca_on_cell.specs.Causes.{BreaksAt, IsNameCause, IsFirstUnfit, LacksDefect}
 use Rattle.ca_on_cell.specs.Causes.{IsPairCause, IsVectorCause}
 use Rattle.ca_on_cell.specs.Causes.{IsCellCause, IsValueCause}
 use Rattle.ca_flow_laws.specs.Same.{IsInputFault}
-use Rattle.ca_flow_laws.proofs.FileLemmas.{AtFile, one_at_file, of_bytes, of_file, of_read}
+use Rattle.ca_flow_laws.proofs.StrengthsLemmas.{AtCells, one_at_cells, of_cells_text, of_cells_read, of_table as of_strengths}
 
 -- the words ask for these vectors and this defect
 abbrev pub AreAsked : List (List ℕ) → List ℕ → List ℕ → List ℕ → Type 0
@@ -148,8 +148,8 @@ AtReading words (Err (spice.At line kind)) called fault = fault ≡ Cells line k
 AtReading words (Err (spice.TooManyCells count)) called fault = fault ≡ Limit limit.Cells count
 AtReading words (Err spice.NoMemory) called fault = ⊥
 
-abbrev pub AtLibrary : List (List ℕ) → List ℕ → Fault → Type 0
-AtLibrary words bytes fault = AtReading words (library_of default_table bytes) (λ cells. called_among cells (upper_case (cell_word words))) fault
+abbrev pub AtLibrary : List (List ℕ) → StrengthTable → List ℕ → Fault → Type 0
+AtLibrary words table bytes fault = AtReading words (library_of table bytes) (λ cells. called_among cells (upper_case (cell_word words))) fault
 
 one_at_reading : {S : Type 0} (words : List (List ℕ)) (read : Result S SpiceFault) (called : S → Option RawCell) (fault other : Fault)
     → AtReading words read called fault → AtReading words read called other → fault ≡ other
@@ -158,21 +158,21 @@ one_at_reading words (Err (spice.At line kind)) called fault other here there = 
 one_at_reading words (Err (spice.TooManyCells count)) called fault other here there = here ∙ sym there
 one_at_reading words (Err spice.NoMemory) called fault other here there = absurd here
 
-one_at_library : (words : List (List ℕ)) (bytes : List ℕ) (fault other : Fault) → AtLibrary words bytes fault → AtLibrary words bytes other
-    → fault ≡ other
-one_at_library words bytes fault other here there =
-    one_at_reading words (library_of default_table bytes) (λ cells. called_among cells (upper_case (cell_word words))) fault other here there
+one_at_library : (words : List (List ℕ)) (table : StrengthTable) (bytes : List ℕ) (fault other : Fault) → AtLibrary words table bytes fault
+    → AtLibrary words table bytes other → fault ≡ other
+one_at_library words table bytes fault other here there =
+    one_at_reading words (library_of table bytes) (λ cells. called_among cells (upper_case (cell_word words))) fault other here there
 
--- what is reported of the file of a command on a cell
-abbrev pub ReportsCell : List (List ℕ) → Fault → List ℕ → Type 0
-ReportsCell words fault bytes = AtLibrary words bytes fault
+-- what is reported of the files of a command on a cell
+abbrev pub ReportsCell : List (List ℕ) → StrengthTable → Fault → List ℕ → Type 0
+ReportsCell words table fault bytes = AtLibrary words table bytes fault
 
-abbrev pub AtCellFile : List (List ℕ) → Option (List ℕ) → Fault → Type 0
-AtCellFile words file fault = AtFile MAX_CELLS (cells_word words) (ReportsCell words) file fault
+abbrev pub AtCellFiles : List (List ℕ) → Files → Fault → Type 0
+AtCellFiles words given fault = AtCells (cell_files words) given (ReportsCell words) fault
 
-pub one_at_cell_file : (words : List (List ℕ)) (file : Option (List ℕ)) (fault other : Fault) → AtCellFile words file fault → AtCellFile words file other
-    → fault ≡ other
-one_at_cell_file words = one_at_file MAX_CELLS (cells_word words) (ReportsCell words) (one_at_library words)
+pub one_at_cell_files : (words : List (List ℕ)) (given : Files) (fault other : Fault) → AtCellFiles words given fault
+    → AtCellFiles words given other → fault ≡ other
+one_at_cell_files words given = one_at_cells (cell_files words) given (ReportsCell words) (one_at_library words)
 
 -- the causes of each stage
 module _ (words : List (List ℕ)) where
@@ -188,10 +188,10 @@ module _ (words : List (List ℕ)) where
       by (Some raw) held = next raw held
   in_reading (Err broken) called P fault next held = absurd held
 
-  at_called : (bytes : List ℕ) (P : RawCell → Type 0) (fault : Fault) → ((raw : RawCell) → P raw → AtCell words raw fault)
-      → HasCell (cell_word words) P bytes → AtLibrary words bytes fault
-  at_called bytes P fault next held =
-      in_reading (library_of default_table bytes) (λ cells. called_among cells (upper_case (cell_word words))) P fault next held
+  at_called : (table : StrengthTable) (bytes : List ℕ) (P : RawCell → Type 0) (fault : Fault) → ((raw : RawCell) → P raw → AtCell words raw fault)
+      → HasCell (cell_word words) P table bytes → AtLibrary words table bytes fault
+  at_called table bytes P fault next held =
+      in_reading (library_of table bytes) (λ cells. called_among cells (upper_case (cell_word words))) P fault next held
 
   none_in_reading : {S : Type 0} (read : Result S SpiceFault) (called : S → Option RawCell) → IsOk read
       → IsNone (elim read as (λ _. Option RawCell) [ Ok cells ↦ called cells | Err broken ↦ None ])
@@ -203,42 +203,43 @@ module _ (words : List (List ℕ)) where
       by (Some raw) none = absurd (true≢false none)
   none_in_reading (Err broken) called ok none = absurd (true≢false (sym ok))
 
-  at_missing : (bytes : List ℕ) → LacksCell (cell_word words) bytes → AtLibrary words bytes (NoCell (cell_word words))
-  at_missing bytes lacks =
-      none_in_reading (library_of default_table bytes) (λ cells. called_among cells (upper_case (cell_word words))) lacks.0 lacks.1
+  at_missing : (table : StrengthTable) (bytes : List ℕ) → LacksCell (cell_word words) table bytes
+      → AtLibrary words table bytes (NoCell (cell_word words))
+  at_missing table bytes lacks =
+      none_in_reading (library_of table bytes) (λ cells. called_among cells (upper_case (cell_word words))) lacks.0 lacks.1
 
-  module _ (files : Option Files) (reported : Files) (are : files ≡ Some reported) (file : Option (List ℕ)) (same : reported (cells_word words) ≡ file)
-      (before after : ℕ) where
-    -- what holds of the bytes of the file
-    at_bytes : (P : List ℕ → Type 0) (fault : Fault) → ((bytes : List ℕ) → P bytes → AtLibrary words bytes fault)
-        → OfFile files (cells_word words) P → AtCellFile words file fault
-    at_bytes P fault next held = of_bytes MAX_CELLS (cells_word words) (ReportsCell words) file P fault next
-        (of_file files reported are (cells_word words) file same MAX_CELLS P held)
+  module _ (files : Option Files) (reported : Files) (are : files ≡ Some reported) (given : Files)
+      (agree : (name : List ℕ) → IsCellFile (cell_files words) name → reported name ≡ given name) (before after : ℕ) where
+    -- what holds of the table and of the bytes of the file
+    at_bytes : (P : StrengthTable → List ℕ → Type 0) (fault : Fault)
+        → ((table : StrengthTable) (bytes : List ℕ) → P table bytes → AtLibrary words table bytes fault)
+        → OfCells files (cell_files words) P → AtCellFiles words given fault
+    at_bytes P fault next held = of_cells_text files reported are (cell_files words) given agree (ReportsCell words) fault P next held
 
-    of_text : (fault : Fault) → IsCellsCause (cells_word words) files fault → AtCellFile words file fault
-    of_text (Cells line kind) cause = at_bytes (IsTextCause (Cells line kind)) (Cells line kind) (λ bytes reads. rw reads refl) cause
+    of_text : (fault : Fault) → IsCellsCause (cell_files words) files fault → AtCellFiles words given fault
+    of_text (Cells line kind) cause = at_bytes (IsTextCause (Cells line kind)) (Cells line kind) (λ table bytes reads. rw reads refl) cause
     of_text (Limit limit.Cells count) cause =
-        at_bytes (IsTextCause (Limit limit.Cells count)) (Limit limit.Cells count) (λ bytes reads. rw reads refl) cause
+        at_bytes (IsTextCause (Limit limit.Cells count)) (Limit limit.Cells count) (λ table bytes reads. rw reads refl) cause
     of_text fault cause = absurd cause
 
-    of_name : (fault : Fault) → IsNameCause (cells_word words) (cell_word words) files fault → AtCellFile words file fault
+    of_name : (fault : Fault) → IsNameCause (cell_files words) (cell_word words) files fault → AtCellFiles words given fault
     of_name (NoCell typed) (typed_is, lacks) =
-        subst (λ word. AtCellFile words file (NoCell word)) (sym typed_is)
+        subst (λ word. AtCellFiles words given (NoCell word)) (sym typed_is)
         (at_bytes (LacksCell (cell_word words)) (NoCell (cell_word words)) at_missing lacks)
     of_name (Cell cell rule place) (cell_is, broken) =
         let P : RawCell → Type 0 = BreaksAt rule place in
         at_bytes (HasCell (cell_word words) P) (Cell cell rule place)
-        (λ bytes. at_called bytes P (Cell cell rule place)
+        (λ table bytes. at_called table bytes P (Cell cell rule place)
         (λ raw breaks. inl (record { rule = rule; place = place; breaks = breaks; is = ap (λ word. Cell word rule place) cell_is })))
         broken
     of_name fault cause = absurd cause
 
     of_vector : (first last defect : List ℕ) → AreAsked words first last defect → (fault : Fault)
-        → IsVectorCause (cells_word words) (cell_word words) first last defect files fault → AtCellFile words file fault
+        → IsVectorCause (cell_files words) (cell_word words) first last defect files fault → AtCellFiles words given fault
     of_vector first last defect asked (BadVector typed) cause =
         let P : RawCell → Type 0 = IsPairCause first last defect (BadVector typed) in
         at_bytes (HasCell (cell_word words) P) (BadVector typed)
-        (λ bytes. at_called bytes P (BadVector typed) (λ raw held. inr (inl (record {
+        (λ table bytes. at_called table bytes P (BadVector typed) (λ raw held. inr (inl (record {
           first = first;
           last = last;
           defect = defect;
@@ -252,7 +253,7 @@ module _ (words : List (List ℕ)) where
     of_vector first last defect asked (NoDefect typed) cause =
         let P : RawCell → Type 0 = IsPairCause first last defect (NoDefect typed) in
         at_bytes (HasCell (cell_word words) P) (NoDefect typed)
-        (λ bytes. at_called bytes P (NoDefect typed) (λ raw held. inr (inr (record {
+        (λ table bytes. at_called table bytes P (NoDefect typed) (λ raw held. inr (inr (record {
           first = first;
           last = last;
           defect = defect;
@@ -265,22 +266,26 @@ module _ (words : List (List ℕ)) where
     of_vector first last defect asked fault cause = absurd cause
 
     module _ (fault : Fault) (is : IsInputFault fault) where
-      pub of_cell : IsCellCause (cells_word words) (cell_word words) files before after fault → AtCellFile words file fault
-      of_cell (inl (inl read)) = of_read files reported are (cells_word words) file same MAX_CELLS (ReportsCell words) before after fault is read
-      of_cell (inl (inr text)) = of_text fault text
+      pub of_cell : IsCellCause (cell_files words) (cell_word words) files before after fault → AtCellFiles words given fault
+      of_cell (inl (inl memory)) = absurd (subst IsInputFault memory is)
+      of_cell (inl (inr (inl table))) =
+          of_strengths files reported are (cell_files words) given agree (ReportsCell words) fault before after is table
+      of_cell (inl (inr (inr (inl (has, read))))) =
+          of_cells_read files reported are (cell_files words) given agree (ReportsCell words) fault before after is has read
+      of_cell (inl (inr (inr (inr text)))) = of_text fault text
       of_cell (inr name) = of_name fault name
 
       of_value : (first last defect : List ℕ) → AreAsked words first last defect
-          → IsValueCause (cells_word words) (cell_word words) first last defect files before after fault → AtCellFile words file fault
+          → IsValueCause (cell_files words) (cell_word words) first last defect files before after fault → AtCellFiles words given fault
       of_value first last defect asked (inl cell) = of_cell cell
       of_value first last defect asked (inr own) = of_vector first last defect asked fault own
 
       pub of_respond : IsRespond words
-          → IsValueCause (cells_word words) (cell_word words) (vector_word words) (vector_word words) dash files before after fault
-          → AtCellFile words file fault
+          → IsValueCause (cell_files words) (cell_word words) (vector_word words) (vector_word words) dash files before after fault
+          → AtCellFiles words given fault
       of_respond respond = of_value (vector_word words) (vector_word words) dash (inl (respond, (refl, (refl, refl))))
 
       pub of_pair : IsPair words
-          → IsValueCause (cells_word words) (cell_word words) (first_word words) (last_word words) (defect_word words) files before after fault
-          → AtCellFile words file fault
+          → IsValueCause (cell_files words) (cell_word words) (first_word words) (last_word words) (defect_word words) files before after fault
+          → AtCellFiles words given fault
       of_pair pair = of_value (first_word words) (last_word words) (defect_word words) (inr (pair, (refl, (refl, refl))))

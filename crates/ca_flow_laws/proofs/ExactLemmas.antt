@@ -5,13 +5,14 @@ use Rattle.std.specs.Prelude.{IsSomeAnd}
 use Rattle.ca_store.specs.Store.{Files}
 use Rattle.ca_fault.specs.declared.fault.Fault.{Fault}
 use Rattle.ca_fault.specs.declared.fault.Fault.TheVariants.{BadWords, StoreFailed, SinkFailed, NoMemory}
-use Rattle.ca_words.specs.Words.{cells_word, IsOnCell, IsOnChip, IsCommand}
+use Rattle.ca_load.specs.Texts.{IsCellFile}
+use Rattle.ca_words.specs.Words.{cell_files, IsOnCell, IsOnChip, IsCommand}
 use Rattle.ca_words.proofs.WordLemmas.{no_chip}
 use Rattle.ca_on_chip.specs.Making.{IsMakeStage}
 use Rattle.ca_flow.specs.Fault.{Outside, IsWordsCause, IsWriteCause, IsPrintCause, IsWorkCause, IsCause}
 use Rattle.ca_flow_laws.specs.Same.{IsInputFault, IsSame}
 use Rattle.ca_flow_laws.specs.Reported.{IsInputFile, ReportsFiles}
-use Rattle.ca_flow_laws.proofs.CellLemmas.{AtCellFile, one_at_cell_file, of_cell, of_respond, of_pair}
+use Rattle.ca_flow_laws.proofs.CellLemmas.{AtCellFiles, one_at_cell_files, of_cell, of_respond, of_pair}
 use Rattle.ca_flow_laws.proofs.ChipLemmas.{AtChipWords, one_at_chip, pairs_input, of_work}
 
 -- a fault of a generated chip is none of input
@@ -23,7 +24,7 @@ no_made_input number fault is (inr many) = pairs_input fault is many.pairs
 abbrev pub AtWords : List (List ℕ) → Files → Fault → Type 0
 AtWords words given fault =
     ((¬ (IsCommand words)) × (fault ≡ BadWords))
-    ⊎ ((IsOnCell words × AtCellFile words (given (cells_word words)) fault)
+    ⊎ ((IsOnCell words × AtCellFiles words given fault)
     ⊎ (IsOnChip words × AtChipWords words given fault))
 
 pub one_at_words : (words : List (List ℕ)) (given : Files) (fault other : Fault) → AtWords words given fault → AtWords words given other
@@ -33,7 +34,7 @@ one_at_words words given fault other (inl here) (inr (inl there)) = absurd (here
 one_at_words words given fault other (inl here) (inr (inr there)) = absurd (here.0 (inr (inl there.0)))
 one_at_words words given fault other (inr (inl here)) (inl there) = absurd (there.0 (inl here.0))
 one_at_words words given fault other (inr (inl here)) (inr (inl there)) =
-    inl (one_at_cell_file words (given (cells_word words)) fault other here.1 there.1)
+    inl (one_at_cell_files words given fault other here.1 there.1)
 one_at_words words given fault other (inr (inl here)) (inr (inr there)) = absurd (no_chip words here.0 there.0)
 one_at_words words given fault other (inr (inr here)) (inl there) = absurd (there.0 (inr (inl here.0)))
 one_at_words words given fault other (inr (inr here)) (inr (inl there)) = absurd (no_chip words there.0 here.0)
@@ -56,25 +57,25 @@ module _ (words : List (List ℕ)) where
 
   module _ (files : Option Files) (reported : Files) (are : files ≡ Some reported) (given : Files)
       (agree : (name : List ℕ) → IsInputFile words name → reported name ≡ given name) (before after : ℕ) (fault : Fault) (is : IsInputFault fault) where
-    of_cells : IsOnCell words → reported (cells_word words) ≡ given (cells_word words)
-    of_cells on = agree (cells_word words) (inl (on, refl))
+    of_cells : IsOnCell words → (name : List ℕ) → IsCellFile (cell_files words) name → reported name ≡ given name
+    of_cells on name is = agree name (inl (on, is))
 
     of_work_cause : IsWorkCause words files before after fault → AtWords words given fault
     of_work_cause (inl (respond, cause)) = inr (inl (
       inl respond,
-      of_respond words files reported are (given (cells_word words)) (of_cells (inl respond)) before after fault is respond cause,
+      of_respond words files reported are given (of_cells (inl respond)) before after fault is respond cause,
     ))
     of_work_cause (inr (inl (pair, cause))) = inr (inl (
       inr (inl pair),
-      of_pair words files reported are (given (cells_word words)) (of_cells (inr (inl pair))) before after fault is pair cause,
+      of_pair words files reported are given (of_cells (inr (inl pair))) before after fault is pair cause,
     ))
     of_work_cause (inr (inr (inl (defects, cause)))) = inr (inl (
       inr (inr (inl defects)),
-      of_cell words files reported are (given (cells_word words)) (of_cells (inr (inr (inl defects)))) before after fault is cause,
+      of_cell words files reported are given (of_cells (inr (inr (inl defects)))) before after fault is cause,
     ))
     of_work_cause (inr (inr (inr (inl (matrix, cause))))) = inr (inl (
       inr (inr (inr matrix)),
-      of_cell words files reported are (given (cells_word words)) (of_cells (inr (inr (inr matrix)))) before after fault is cause,
+      of_cell words files reported are given (of_cells (inr (inr (inr matrix)))) before after fault is cause,
     ))
     of_work_cause (inr (inr (inr (inr (inl (chip, cause)))))) =
         inr (inr (chip, of_work words files reported are given agree chip before after fault is cause))

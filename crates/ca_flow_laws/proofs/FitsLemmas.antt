@@ -4,18 +4,20 @@ use Rattle.std.proofs.Common.{ℕ, ◌≡◌, ◌≤◌, ◌⊎◌, ◌∙◌, i
 use Rattle.std.proofs.Common.{Option, Some, None, Result, Ok, Err, true≢false}
 use Rattle.std.specs.Prelude.{IsSome, IsNone, IsSomeAnd}
 use Rattle.ca_store.specs.Store.{Files}
-use Rattle.ca_cell.specs.Strength.{default_table}
 use Rattle.ca_lex.specs.Words.{upper_case}
+use Rattle.ca_cell.specs.declared.strength.StrengthTable.{StrengthTable}
 use Rattle.ca_cell.specs.declared.raw.RawCell.{RawCell}
 use Rattle.ca_spice.specs.declared.fault.SpiceFault.{SpiceFault}
 use Rattle.ca_spice.specs.Reading.{library_of}
 use Rattle.ca_spice.specs.Called.{called_among, cell_called}
 use Rattle.ca_load.specs.declared.cells.TheConstants.{MAX_CELLS}
+use Rattle.ca_load.specs.Files.{IsFileWith}
+use Rattle.ca_load.specs.Texts.{strengths_in}
 use Rattle.ca_load.proofs.WholeLemmas.{IsOutsideFault}
 use Rattle.ca_fault.specs.declared.fault.Fault.{Fault}
 use Rattle.ca_on_chip.specs.OnChip.{IsPairsFault}
 use Rattle.ca_words.specs.Words.{GeneratesTests}
-use Rattle.ca_words.specs.Words.{cells_word, cell_word, defect_word, dash}
+use Rattle.ca_words.specs.Words.{table_word, cells_word, cell_files, cell_word, defect_word, dash}
 use Rattle.ca_words.specs.Words.{IsRespond, IsPair, IsDefects, IsMatrix, AsksNoFile, IsOnCell}
 use Rattle.ca_words.proofs.WordLemmas.{no_chip}
 use Rattle.ca_on_cell.specs.Outputs.{asked_network}
@@ -26,13 +28,10 @@ use Rattle.ca_flow.specs.Complete.{FitsCell, FitsFile, FitsChip, IsAnswerable}
 use Rattle.ca_flow.proofs.CompleteLemmas.{at_words, asking_work, at_chip}
 use Rattle.ca_flow_laws.specs.Same.{IsInputFault}
 use Rattle.ca_flow_laws.specs.Reported.{IsInputFile}
-use Rattle.ca_flow_laws.proofs.CellLemmas.{AreAsked, AtCell, AtCalled, AtReading, AtCellFile}
+use Rattle.ca_flow_laws.proofs.CellLemmas.{AreAsked, AtCell, AtCalled, AtReading, AtLibrary, ReportsCell, AtCellFiles}
+use Rattle.ca_flow_laws.proofs.StrengthsLemmas.{none_of_cells}
 use Rattle.ca_flow_laws.proofs.ChipLemmas.{pairs_input}
 use Rattle.ca_flow_laws.proofs.ExactLemmas.{no_write, no_print, of_cause}
-
--- the file is there and no longer than it may be, and in it the words name a subcircuit that they fit
-abbrev FitsBytes : List (List ℕ) → Option (List ℕ) → Type 0
-FitsBytes words file = IsSomeAnd file (λ bytes. (length bytes ≤ MAX_CELLS) × HasCell (cell_word words) (FitsCell words) bytes)
 
 some_or_none : {A : Type 0} (reported : Option A) → IsSome reported → IsNone reported → ⊥
 some_or_none reported some none = true≢false (sym some ∙ none)
@@ -73,12 +72,14 @@ module _ (words : List (List ℕ)) (fault : Fault) where
   fits_reading (Ok cells) called fits reported = fits_called (called cells) fits reported
   fits_reading (Err broken) called fits reported = fits
 
-  fits_file : (file : Option (List ℕ)) → FitsBytes words file → AtCellFile words file fault → ⊥
-  fits_file None fits reported = fits
-  fits_file (Some bytes) fits (inl past) =
-      let long = past.0 in let within = fits.0 in omega (arith, long, within)
-  fits_file (Some bytes) fits (inr reported) =
-      fits_reading (library_of default_table bytes) (λ cells. called_among cells (upper_case (cell_word words))) fits.1 reported.1
+  fits_bytes : (table : StrengthTable) (bytes : List ℕ) → AtLibrary words table bytes fault
+      → HasCell (cell_word words) (FitsCell words) table bytes → ⊥
+  fits_bytes table bytes reported fits =
+      fits_reading (library_of table bytes) (λ cells. called_among cells (upper_case (cell_word words))) fits reported
+
+  fits_files : (given : Files) → FitsFile words given → AtCellFiles words given fault → ⊥
+  fits_files given fits reported =
+      none_of_cells (cell_files words) given (ReportsCell words) (HasCell (cell_word words) (FitsCell words)) fault fits_bytes reported fits
 
 -- words that ask for no file have no cause of a fault of input
 asking_cause : (words : List (List ℕ)) (before after : Outside) (fault : Fault) → AsksNoFile words → IsInputFault fault
@@ -94,14 +95,24 @@ asking_cause words before after fault asks is (inr (inr (inl cause))) =
 asking_cause words before after fault asks is (inr (inr (inr cause))) =
     no_print words before.sink_faults after.sink_faults fault is cause
 
--- a file that fits is that of words of a command on one cell
-file_command : (words : List (List ℕ)) (file : Option (List ℕ)) → FitsBytes words file → IsOnCell words
-file_command words None fits = absurd fits
-file_command words (Some bytes) fits = by (cell_called default_table bytes (cell_word words)) fits.1
+-- files that fit are those of words of a command on one cell
+files_command : (words : List (List ℕ)) (reported : Files) → FitsFile words reported → IsOnCell words
+files_command words reported fits = by (strengths_in (table_word words) reported) fits
   where
-    by : (called : Option RawCell) → IsSomeAnd called (FitsCell words) → IsOnCell words
+    by_cell : (called : Option RawCell) → IsSomeAnd called (FitsCell words) → IsOnCell words
+    by_cell None held = absurd held
+    by_cell (Some raw) held = held.is
+
+    by_file : (table : StrengthTable) (file : Option (List ℕ))
+        → IsSomeAnd file (λ bytes. (length bytes ≤ MAX_CELLS) × HasCell (cell_word words) (FitsCell words) table bytes) → IsOnCell words
+    by_file table None held = absurd held
+    by_file table (Some bytes) held = by_cell (cell_called table bytes (cell_word words)) held.1
+
+    by : (under : Option StrengthTable)
+        → IsSomeAnd under (λ table. IsFileWith reported (cells_word words) MAX_CELLS (HasCell (cell_word words) (FitsCell words) table))
+        → IsOnCell words
     by None held = absurd held
-    by (Some raw) held = held.is
+    by (Some table) held = by_file table (reported (cells_word words)) held
 
 -- a fault of the store or memory is none of input
 outside_input : (fault : Fault) (before after : ℕ) → IsInputFault fault → IsOutsideFault fault before after → ⊥
@@ -135,10 +146,10 @@ no_cause words before after fault (inr answerable) is cause = by before.files an
     by None held same = held
     by (Some reported) (inl fits) same =
         let reports : IsSomeAnd before.files (λ it. (name : List ℕ) → IsInputFile words name → it name ≡ reported name) = rw same (λ name is. refl) in
-        let on = file_command words (reported (cells_word words)) fits in
+        let on = files_command words reported fits in
         elim (of_cause words reported before after fault reports is cause) [
           | inl bad ↦ bad.0 (inl on)
-          | inr (inl cell) ↦ fits_file words fault (reported (cells_word words)) fits cell.1
+          | inr (inl cell) ↦ fits_files words fault reported fits cell.1
           | inr (inr chip) ↦ no_chip words on chip.0
         ]
     by (Some reported) (inr chip) same = chip_cause words before after fault reported same chip is cause

@@ -1,6 +1,7 @@
 pub mod CoreLemmas
 pub mod NamedLemmas
 pub mod FileLemmas
+pub mod StrengthsLemmas
 pub mod LinkLemmas
 pub mod OneLemmas
 pub mod LoadLemmas
@@ -23,3 +24,5 @@ pub mod NeitherLemmas
 pub mod NameLemmas
 pub mod PatternLemmas
 pub mod StilLemmas
+pub mod LogLemmas
+pub mod CertLemmas

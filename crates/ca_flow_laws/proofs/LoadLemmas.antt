@@ -4,7 +4,7 @@ use Rattle.std.proofs.Common.{Result, Ok, Err, true≢false}
 use Rattle.std.specs.Prelude.{IsOk, IsSomeAnd}
 use Rattle.std.proofs.lemmas.Option.{same_Some}
 use Rattle.ca_store.specs.Store.{Files}
-use Rattle.ca_cell.specs.Strength.{default_table}
+use Rattle.ca_cell.specs.declared.strength.StrengthTable.{StrengthTable}
 use Rattle.ca_spice.specs.declared.fault.SpiceFault.{SpiceFault}
 use Rattle.ca_spice.specs.declared.fault.SpiceFault.TheVariants as spice
 use Rattle.ca_spice.specs.Reading.{library_of}
@@ -16,28 +16,30 @@ use Rattle.ca_scan.specs.Table.{table_of}
 use Rattle.ca_fault.specs.declared.fault.LimitKind.TheVariants as limit
 use Rattle.ca_fault.specs.declared.fault.Fault.{Fault}
 use Rattle.ca_fault.specs.declared.fault.Fault.TheVariants.{Cells, Netlist, Scan, Limit}
-use Rattle.ca_load.specs.declared.cells.TheConstants.{MAX_CELLS}
 use Rattle.ca_load.specs.declared.netlists.TheConstants.{MAX_NETLIST}
 use Rattle.ca_load.specs.declared.tables.TheConstants.{MAX_SCAN}
 use Rattle.ca_load.specs.Files.{IsFileWith}
+use Rattle.ca_load.specs.Texts.{IsCellFile, AreCellsWith}
 use Rattle.ca_load.specs.Texts.{IsLibraryOf, IsNetlistOf, IsTableOf, IsTableAt, InputFiles, Inputs, ReadAs}
 use Rattle.ca_load.specs.Chips.{IsChipOf, IsChipCause, IsTraced}
-use Rattle.ca_load.specs.Causes.{IsTextCause, IsCellsCause, IsLibraryCause, IsModuleCause, IsTokensCause, IsNetlistCause, IsRecordCause}
+use Rattle.ca_load.specs.Causes.{HasLibrary, IsTextCause, IsCellsCause, IsLibraryCause, IsModuleCause, IsTokensCause, IsNetlistCause, IsRecordCause}
 use Rattle.ca_load.specs.Causes.{IsRowsCause, IsScanCause, IsInputCause, IsLoadCause}
 use Rattle.ca_load.proofs.SameLemmas.{one_reading}
 use Rattle.ca_flow_laws.specs.Same.{IsInputFault, IsSame}
 use Rattle.ca_flow_laws.specs.Reported.{IsChipFile}
 use Rattle.ca_flow_laws.proofs.FileLemmas.{one_of, AtFile, one_at_file, none_of_read, of_bytes, of_file, of_read}
+use Rattle.ca_flow_laws.proofs.StrengthsLemmas.{AtCells, one_at_cells, none_of_cells, cells_given, of_cells, of_cells_text, of_cells_read}
+use Rattle.ca_flow_laws.proofs.StrengthsLemmas.{of_table as of_strengths}
 use Rattle.ca_flow_laws.proofs.LinkLemmas.{AtLink, of_link, one_link, AtTrace, of_trace, trace_alike, one_at_trace, none_of_traced}
 use Rattle.ca_flow_laws.proofs.LinkLemmas.{traced_also}
 use Rattle.ca_flow_laws.proofs.OneLemmas.{one_chip}
 
 -- what is reported of a reading of a cell netlist
-abbrev pub AtCells : {S : Type 0} → Result S SpiceFault → Fault → Type 0
-AtCells (Ok cells) fault = ⊥
-AtCells (Err (spice.At line kind)) fault = fault ≡ Cells line kind
-AtCells (Err (spice.TooManyCells count)) fault = fault ≡ Limit limit.Cells count
-AtCells (Err spice.NoMemory) fault = ⊥
+abbrev pub AtReading : {S : Type 0} → Result S SpiceFault → Fault → Type 0
+AtReading (Ok cells) fault = ⊥
+AtReading (Err (spice.At line kind)) fault = fault ≡ Cells line kind
+AtReading (Err (spice.TooManyCells count)) fault = fault ≡ Limit limit.Cells count
+AtReading (Err spice.NoMemory) fault = ⊥
 
 -- of a gate netlist
 abbrev pub AtTokens : {S : Type 0} → Result S VerilogFault → Fault → Type 0
@@ -51,7 +53,7 @@ abbrev pub AtRows : {S : Type 0} → Result S ℕ → Fault → Type 0
 AtRows (Ok rows) fault = ⊥
 AtRows (Err row) fault = fault ≡ Scan row
 
-one_cells : {S : Type 0} (read : Result S SpiceFault) (fault other : Fault) → AtCells read fault → AtCells read other → fault ≡ other
+one_cells : {S : Type 0} (read : Result S SpiceFault) (fault other : Fault) → AtReading read fault → AtReading read other → fault ≡ other
 one_cells (Ok cells) fault other here there = absurd here
 one_cells (Err (spice.At line kind)) fault other here there = here ∙ sym there
 one_cells (Err (spice.TooManyCells count)) fault other here there = here ∙ sym there
@@ -68,7 +70,7 @@ one_rows (Ok rows) fault other here there = absurd here
 one_rows (Err row) fault other here there = here ∙ sym there
 
 -- a reading has no fault
-read_cells : {S : Type 0} (read : Result S SpiceFault) (fault : Fault) → AtCells read fault → IsOk read → ⊥
+read_cells : {S : Type 0} (read : Result S SpiceFault) (fault : Fault) → AtReading read fault → IsOk read → ⊥
 read_cells (Ok cells) fault here ok = here
 read_cells (Err broken) fault here ok = true≢false (sym ok)
 
@@ -81,10 +83,10 @@ read_rows (Ok rows) also fault here ok = here
 read_rows (Err row) also fault here ok = absurd cc
 
 -- the fault of a text
-of_text : (fault : Fault) (bytes : List ℕ) → IsTextCause fault bytes → AtCells (library_of default_table bytes) fault
-of_text (Cells line kind) bytes is = rw is refl
-of_text (Limit limit.Cells count) bytes is = rw is refl
-of_text fault bytes is = absurd is
+of_text : (table : StrengthTable) (fault : Fault) (bytes : List ℕ) → IsTextCause fault table bytes → AtReading (library_of table bytes) fault
+of_text table (Cells line kind) bytes is = rw is refl
+of_text table (Limit limit.Cells count) bytes is = rw is refl
+of_text table fault bytes is = absurd is
 
 of_module : (fault : Fault) (bytes : List ℕ) → IsModuleCause fault bytes → AtTokens (netlist_of bytes) fault
 of_module (Netlist line kind) bytes is = rw is refl
@@ -95,8 +97,8 @@ of_record : (fault : Fault) (bytes : List ℕ) → IsRecordCause fault bytes →
 of_record (Scan row) bytes is = rw is refl
 of_record fault bytes is = absurd is
 
-abbrev pub ReportsCells : Fault → List ℕ → Type 0
-ReportsCells fault bytes = AtCells (library_of default_table bytes) fault
+abbrev pub ReportsCells : StrengthTable → Fault → List ℕ → Type 0
+ReportsCells table fault bytes = AtReading (library_of table bytes) fault
 
 abbrev pub ReportsTokens : Fault → List ℕ → Type 0
 ReportsTokens fault bytes = AtTokens (netlist_of bytes) fault
@@ -111,7 +113,7 @@ AtTable (Some name) given fault = AtFile MAX_SCAN name ReportsRows (given name) 
 
 -- the first two files have a reading
 abbrev pub HasCells : InputFiles → Files → Type 0
-HasCells names given = IsFileWith given names.cells MAX_CELLS (λ bytes. IsOk (library_of default_table bytes))
+HasCells names given = AreCellsWith given names.cells (λ table bytes. IsOk (library_of table bytes))
 
 abbrev pub HasTokens : InputFiles → Files → Type 0
 HasTokens names given = IsFileWith given names.netlist MAX_NETLIST (λ bytes. IsOk (netlist_of bytes))
@@ -123,7 +125,7 @@ AtLater names given fault =
 
 -- what is reported of the files, one after another
 abbrev pub AtInput : InputFiles → Files → Fault → Type 0
-AtInput names given fault = AtFile MAX_CELLS names.cells ReportsCells (given names.cells) fault ⊎ (HasCells names given × AtLater names given fault)
+AtInput names given fault = AtCells names.cells given ReportsCells fault ⊎ (HasCells names given × AtLater names given fault)
 
 -- the chip of the inputs has no chains
 pub record LacksChains (inputs : Inputs) (fault : Fault) : Type 0 where
@@ -157,11 +159,11 @@ module _ (names : InputFiles) (given : Files) where
       (λ bytes. read_tokens (netlist_of bytes) fault) here there.0)
 
   one_input : (fault other : Fault) → AtInput names given fault → AtInput names given other → fault ≡ other
-  one_input = one_of ◌≡◌ (AtFile MAX_CELLS names.cells ReportsCells (given names.cells)) (λ fault. HasCells names given × AtLater names given fault)
-      (one_at_file MAX_CELLS names.cells ReportsCells (λ bytes. one_cells (library_of default_table bytes)) (given names.cells))
+  one_input = one_of ◌≡◌ (AtCells names.cells given ReportsCells) (λ fault. HasCells names given × AtLater names given fault)
+      (one_at_cells names.cells given ReportsCells (λ table bytes. one_cells (library_of table bytes)))
       (λ fault other here there. one_later fault other here.1 there.1)
-      (λ fault other here there. none_of_read MAX_CELLS names.cells ReportsCells (λ bytes. IsOk (library_of default_table bytes)) (given names.cells) fault
-      (λ bytes. read_cells (library_of default_table bytes) fault) here there.0)
+      (λ fault other here there. none_of_cells names.cells given ReportsCells (λ table bytes. IsOk (library_of table bytes)) fault
+      (λ table bytes. read_cells (library_of table bytes) fault) here there.0)
 
   -- files with a reading have no fault
   module _ (inputs : Inputs) (read : ReadAs names inputs given) where
@@ -171,15 +173,15 @@ module _ (names : InputFiles) (given : Files) where
         none_of_read MAX_SCAN name ReportsRows (IsTableOf inputs.rows) (given name) fault
         (λ bytes. read_rows (table_of bytes) inputs.rows fault) here (reads given refl)
 
-    no_library : (fault : Fault) (bytes : List ℕ) → ReportsCells fault bytes → IsLibraryOf inputs.library bytes → ⊥
-    no_library fault bytes here reads = read_cells (library_of default_table bytes) fault here (rw reads.reads refl)
+    no_library : (fault : Fault) (table : StrengthTable) (bytes : List ℕ) → ReportsCells table fault bytes → IsLibraryOf inputs.library table bytes → ⊥
+    no_library fault table bytes here reads = read_cells (library_of table bytes) fault here (rw reads.reads refl)
 
     no_netlist : (fault : Fault) (bytes : List ℕ) → ReportsTokens fault bytes → IsNetlistOf inputs.netlist bytes → ⊥
     no_netlist fault bytes here reads = read_tokens (netlist_of bytes) fault here (rw reads refl)
 
     pub no_input : (fault : Fault) → AtInput names given fault → ⊥
     no_input fault (inl here) =
-        none_of_read MAX_CELLS names.cells ReportsCells (IsLibraryOf inputs.library) (given names.cells) fault (no_library fault) here read.library
+        none_of_cells names.cells given ReportsCells (IsLibraryOf inputs.library) fault (no_library fault) here read.library
     no_input fault (inr (has, inl here)) =
         none_of_read MAX_NETLIST names.netlist ReportsTokens (IsNetlistOf inputs.netlist) (given names.netlist) fault (no_netlist fault) here read.netlist
     no_input fault (inr (has, inr (too, here))) = no_table names.scan read.rows fault here
@@ -225,8 +227,8 @@ module _ (names : InputFiles) (given : Files) where
 -- what is known of the store, where it has the given files
 module _ (files : Option Files) (reported : Files) (are : files ≡ Some reported) (names : InputFiles) (given : Files)
     (agree : (name : List ℕ) → IsChipFile names name → reported name ≡ given name) where
-  agree_cells : reported names.cells ≡ given names.cells
-  agree_cells = agree names.cells (inl refl)
+  agree_cells : (name : List ℕ) → IsCellFile names.cells name → reported name ≡ given name
+  agree_cells name is = agree name (inl is)
 
   agree_netlist : reported names.netlist ≡ given names.netlist
   agree_netlist = agree names.netlist (inr (inl refl))
@@ -234,7 +236,7 @@ module _ (files : Option Files) (reported : Files) (are : files ≡ Some reporte
   -- the files read as what the given ones do
   pub read_given : (inputs : Inputs) → ReadAs names inputs reported → ReadAs names inputs given
   read_given inputs read = record {
-    library = subst (λ there. IsSomeAnd there (λ bytes. (length bytes ≤ MAX_CELLS) × IsLibraryOf inputs.library bytes)) agree_cells read.library;
+    library = cells_given files reported are names.cells given agree_cells (IsLibraryOf inputs.library) read.library;
     netlist = subst (λ there. IsSomeAnd there (λ bytes. (length bytes ≤ MAX_NETLIST) × IsNetlistOf inputs.netlist bytes)) agree_netlist read.netlist;
     rows = by names.scan (λ name is. agree name (inr (inr is))) read.rows;
   }
@@ -248,16 +250,24 @@ module _ (files : Option Files) (reported : Files) (are : files ≡ Some reporte
           (subst (λ there. IsSomeAnd there (λ bytes. (length bytes ≤ MAX_SCAN) × IsTableOf inputs.rows bytes)) (same name refl) (reads reported refl))
 
   module _ (before after : ℕ) (fault : Fault) (input : IsInputFault fault) where
-    of_cells : (fault : Fault) → IsCellsCause names.cells files fault
-        → IsSomeAnd (given names.cells) (λ bytes. (length bytes ≤ MAX_CELLS) × IsTextCause fault bytes)
-    of_cells (Cells line kind) cause = of_file files reported are names.cells (given names.cells) agree_cells MAX_CELLS (IsTextCause (Cells line kind)) cause
-    of_cells (Limit limit.Cells count) cause =
-        of_file files reported are names.cells (given names.cells) agree_cells MAX_CELLS (IsTextCause (Limit limit.Cells count)) cause
-    of_cells fault cause = absurd cause
+    of_lines : (fault : Fault) → IsCellsCause names.cells files fault → AtCells names.cells given ReportsCells fault
+    of_lines (Cells line kind) cause =
+        of_cells_text files reported are names.cells given agree_cells ReportsCells (Cells line kind) (IsTextCause (Cells line kind))
+        (λ table. of_text table (Cells line kind)) cause
+    of_lines (Limit limit.Cells count) cause =
+        of_cells_text files reported are names.cells given agree_cells ReportsCells (Limit limit.Cells count) (IsTextCause (Limit limit.Cells count))
+        (λ table. of_text table (Limit limit.Cells count)) cause
+    of_lines fault cause = absurd cause
 
-    of_library : IsLibraryCause names.cells files before after fault → AtFile MAX_CELLS names.cells ReportsCells (given names.cells) fault
-    of_library (inl read) = of_read files reported are names.cells (given names.cells) agree_cells MAX_CELLS ReportsCells before after fault input read
-    of_library (inr text) = of_bytes MAX_CELLS names.cells ReportsCells (given names.cells) (IsTextCause fault) fault (of_text fault) (of_cells fault text)
+    of_library : IsLibraryCause names.cells files before after fault → AtCells names.cells given ReportsCells fault
+    of_library (inl memory) = absurd (subst IsInputFault memory input)
+    of_library (inr (inl table)) = of_strengths files reported are names.cells given agree_cells ReportsCells fault before after input table
+    of_library (inr (inr (inl (has, read)))) =
+        of_cells_read files reported are names.cells given agree_cells ReportsCells fault before after input has read
+    of_library (inr (inr (inr text))) = of_lines fault text
+
+    has_cells : HasLibrary files names.cells → HasCells names given
+    has_cells = of_cells files reported are names.cells given agree_cells (λ table bytes. IsOk (library_of table bytes))
 
     of_tokens : (fault : Fault) → IsTokensCause names.netlist files fault
         → IsSomeAnd (given names.netlist) (λ bytes. (length bytes ≤ MAX_NETLIST) × IsModuleCause fault bytes)
@@ -287,9 +297,9 @@ module _ (files : Option Files) (reported : Files) (are : files ≡ Some reporte
     of_input : IsInputCause names files before after fault → AtInput names given fault
     of_input (inl library) = inl (of_library library)
     of_input (inr (inl (has, netlist))) =
-        inr (of_file files reported are names.cells (given names.cells) agree_cells MAX_CELLS (λ bytes. IsOk (library_of default_table bytes)) has, inl (of_netlist netlist))
+        inr (has_cells has, inl (of_netlist netlist))
     of_input (inr (inr (has, (too, scan)))) = inr (
-      of_file files reported are names.cells (given names.cells) agree_cells MAX_CELLS (λ bytes. IsOk (library_of default_table bytes)) has,
+      has_cells has,
       inr (
         of_file files reported are names.netlist (given names.netlist) agree_netlist MAX_NETLIST (λ bytes. IsOk (netlist_of bytes)) too,
         of_table names.scan (λ name is. agree name (inr (inr is))) scan,

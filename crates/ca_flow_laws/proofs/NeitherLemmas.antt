@@ -7,9 +7,11 @@ use Rattle.std.proofs.Math.Decide.{dec_le}
 use Rattle.std.proofs.lemmas.List.Elements.{All-from_recursion}
 use Rattle.std.proofs.lemmas.Option.{same_Some}
 use Rattle.ca_store.specs.Store.{Files}
-use Rattle.ca_cell.specs.Strength.{default_table}
 use Rattle.ca_lex.specs.Words.{upper_case}
+use Rattle.ca_cell.specs.declared.strength.StrengthTable.{StrengthTable}
+use Rattle.ca_cell.specs.Strength.{default_table}
 use Rattle.ca_cell.specs.Library.{Named, IsEntry}
+use Rattle.ca_strengths.specs.StrengthText.{strengths_of}
 use Rattle.ca_spice.specs.declared.fault.SpiceFault.{SpiceFault}
 use Rattle.ca_spice.specs.declared.fault.SpiceFault.TheVariants as spice
 use Rattle.ca_spice.specs.Reading.{Reading, library_of}
@@ -34,19 +36,22 @@ use Rattle.ca_fault_place.specs.Place.{cell_text, pin_text, refused_text, double
 use Rattle.ca_fault.specs.declared.fault.LimitKind.TheVariants as limit
 use Rattle.ca_fault.specs.declared.fault.Fault.{Fault}
 use Rattle.ca_fault.specs.declared.fault.Fault.TheVariants.{Cells, Netlist, Scan, Chain, Cell, BadVector, NoInstance}
-use Rattle.ca_fault.specs.declared.fault.Fault.TheVariants.{NoDefect, Order, TooLong, Limit}
+use Rattle.ca_fault.specs.declared.fault.Fault.TheVariants.{NoDefect, Order, TooLong, Limit, Strengths}
 use Rattle.ca_fault.specs.declared.fault.Fault.TheVariants as fault_
 use Rattle.ca_load.specs.declared.cells.TheConstants.{MAX_CELLS}
 use Rattle.ca_load.specs.declared.netlists.TheConstants.{MAX_NETLIST}
 use Rattle.ca_load.specs.declared.tables.TheConstants.{MAX_SCAN}
 use Rattle.ca_load.specs.Files.{IsFileWith, OfFile, IsReadCause}
+use Rattle.ca_load.specs.declared.strengths.TheConstants.{MAX_STRENGTHS}
+use Rattle.ca_load.specs.Texts.{table_within, strengths_in, HasStrengths, AreCellsWith, OfCells}
 use Rattle.ca_load.specs.Texts.{IsLibraryOf, IsNetlistOf, IsTableOf, IsTableAt, Inputs, ReadAs, OfInputs}
 use Rattle.ca_load.specs.Chips.{IsChipOf, BreakFirst, IsPlainRule, IsOfCell, IsPlaceOf, IsTracingCause, IsChipCause, IsTraced}
-use Rattle.ca_load.specs.Causes.{IsTextCause, IsModuleCause, IsRecordCause, HasLibrary, HasNetlist, IsScanCause, IsChipFault, IsLoadCause}
+use Rattle.ca_load.specs.Causes.{IsRatioCause, IsStrengthsCause, IsTextCause, IsModuleCause, IsRecordCause, HasLibrary, HasNetlist, IsScanCause, IsChipFault, IsLoadCause}
+use Rattle.ca_load.proofs.TableLemmas.{table_of_bytes}
 use Rattle.ca_request.specs.Asked.{IsDefectCause}
 use Rattle.ca_chip_replay.specs.ChipRun.{RunOf}
-use Rattle.ca_words.specs.Words.{chip_files, instance_word, chip_defect_word, chip_first_word, chip_last_word, order_word}
-use Rattle.ca_words.specs.Words.{IsFlatten, IsSimulate, IsReplay, IsGrade, IsOnChip}
+use Rattle.ca_words.specs.Words.{table_word, cells_word, cell_files, chip_files, instance_word, chip_defect_word, chip_first_word, chip_last_word, order_word}
+use Rattle.ca_words.specs.Words.{IsFlatten, IsSimulate, IsReplay, IsGrade, IsDiagnose, IsVerify, IsOnChip}
 use Rattle.ca_on_chip.specs.declared.replays.TheConstants.{MAX_ORDER}
 use Rattle.ca_on_chip.specs.OnChip.{GiveChipWith, OfChip, IsDefectWord, IsVectorWord, IsSimulationCause}
 use Rattle.ca_on_chip.specs.Replay.{IsAskedRun, HasFaultyLine, HasRun}
@@ -63,7 +68,7 @@ use Rattle.ca_flow_laws.proofs.FirstLemmas.{either, none_broken, no_loop}
 use Rattle.ca_flow_laws.proofs.ChainLemmas.{traced_or}
 use Rattle.ca_flow_laws.proofs.GivenLemmas.{defect_or, simulate_or, asked_given, has_run, events_or}
 use Rattle.ca_flow_laws.proofs.AnsweredLemmas.{fits_defect, fits_simulate, fits_run, has_events, check_own, flatten_own, simulate_own}
-use Rattle.ca_flow_laws.proofs.AnsweredLemmas.{atpg_own, replay_own}
+use Rattle.ca_flow_laws.proofs.AnsweredLemmas.{atpg_own, certify_own, replay_own}
 
 within_or_past : (n most : ℕ) → (n ≤ most) ⊎ (most < n)
 within_or_past n most = elim (dec_le n most) [ yes within ↦ inl within | no past ↦ inr (omega (arith, past)) ]
@@ -89,7 +94,7 @@ tracing_reported chip (Limit limit.Chains count) cause = (tt, tt)
 tracing_reported chip fault cause = absurd cause
 
 module _ (words : List (List ℕ)) (outside : Outside) (reported : Files) (are : outside.files ≡ Some reported) (on : IsOnChip words)
-    (not_grade : ¬ (IsGrade words)) (there : (name : List ℕ) → IsInputFile words name → IsSome (reported name)) (no_answer : IsAnswerable words outside.files → ⊥)
+    (not_grade : ¬ (IsGrade words)) (not_diagnose : ¬ (IsDiagnose words)) (not_verify : ¬ (IsVerify words)) (there : (name : List ℕ) → IsInputFile words name → IsSome (reported name)) (no_answer : IsAnswerable words outside.files → ⊥)
     (no_cause : (fault : Fault) → IsInputFault fault → IsCause words outside outside fault → ⊥) where
   no_load : (fault : Fault) → IsInputFault fault
       → IsLoadCause (chip_files words) outside.files outside.store_faults outside.store_faults fault → ⊥
@@ -127,35 +132,75 @@ module _ (words : List (List ℕ)) (outside : Outside) (reported : Files) (are :
         let one : other ≡ reported = same_Some other reported (sym same ∙ are) in
         subst (λ (it : Files). IsFileWith it name most P) (sym one) (file_with P within held)
 
-  -- the first file
-  cells_or : ((library : List Named) → IsFileWith reported (chip_files words).cells MAX_CELLS (IsLibraryOf library)
-      → HasLibrary outside.files (chip_files words).cells → ⊥) → ⊥
-  cells_or refutes = by (within_or_past (length found.0) MAX_CELLS)
+  -- the strength table, where the words name one
+  strengths_or : (name : Option (List ℕ)) → ((word : List ℕ) → name ≡ Some word → IsInputFile words word)
+      → ((fault : Fault) → IsInputFault fault → IsStrengthsCause name outside.files outside.store_faults outside.store_faults fault → ⊥)
+      → ((table : StrengthTable) → strengths_in name reported ≡ Some table → ⊥) → ⊥
+  strengths_or None input none refutes = refutes default_table refl
+  strengths_or (Some name) input none refutes = by (within_or_past (length found.0) MAX_STRENGTHS)
     where
-      name : List ℕ
-      name = (chip_files words).cells
+      found : (bytes : List ℕ) × (reported name ≡ Some bytes)
+      found = bytes_of name (input name refl)
 
-      found : (bytes : List ℕ) × (reported (chip_files words).cells ≡ Some bytes)
-      found = bytes_of (chip_files words).cells (inr (inl (on, inl refl)))
+      read : length found.0 ≤ MAX_STRENGTHS → (given : Result StrengthTable ℕ) → strengths_of found.0 ≡ given → ⊥
+      read within (Ok table) is = refutes table (ap table_within found.1 ∙ table_of_bytes found.0 table within is)
+      read within (Err row) is =
+          none (Strengths row) tt (inr (in_file name found.0 MAX_STRENGTHS found.1 (IsRatioCause (Strengths row)) within is))
 
-      read : length found.0 ≤ MAX_CELLS → (given : Result _ SpiceFault) → library_of default_table found.0 ≡ given → ⊥
-      read within (Ok cells) is =
-          let reading : Reading = record { cells = cells; current = None } in
-          let made = library_made reading (raw_cells default_table found.0 reading within is) in
-          let reads : library_of default_table found.0 ≡ Ok (map subcircuit_seen made.library) = is ∙ ap (λ it. Ok it) (sym made.seen) in
-          refutes made.library (file_with name found.0 MAX_CELLS found.1 (IsLibraryOf made.library) within (record {
-            reads = reads;
-            entries = All-from_recursion (λ named. IsEntry named.entry) made.library made.entries;
-          })) (in_file name found.0 MAX_CELLS found.1 (λ bytes. IsOk (library_of default_table bytes)) within (rw is refl))
-      read within (Err (spice.At line kind)) is =
-          no_load (Cells line kind) tt (inl (inl (inr (in_file name found.0 MAX_CELLS found.1 (IsTextCause (Cells line kind)) within is))))
-      read within (Err (spice.TooManyCells count)) is =
-          no_load (Limit limit.Cells count) tt (inl (inl (inr (in_file name found.0 MAX_CELLS found.1 (IsTextCause (Limit limit.Cells count)) within is))))
-      read within (Err spice.NoMemory) is = reading_has_memory default_table found.0 is
+      by : (length found.0 ≤ MAX_STRENGTHS) ⊎ (MAX_STRENGTHS < length found.0) → ⊥
+      by (inl within) = read within (strengths_of found.0) refl
+      by (inr past) = none (TooLong name (MAX_STRENGTHS + 1)) tt (inl (too_long name found.0 MAX_STRENGTHS found.1 past))
 
-      by : (length found.0 ≤ MAX_CELLS) ⊎ (MAX_CELLS < length found.0) → ⊥
-      by (inl within) = read within (library_of default_table found.0) refl
-      by (inr past) = no_load (TooLong name (MAX_CELLS + 1)) tt (inl (inl (inl (too_long name found.0 MAX_CELLS found.1 past))))
+  -- the cell netlist under the table
+  module _ (table : StrengthTable) (under : strengths_in (table_word words) reported ≡ Some table) where
+    has_strengths : HasStrengths outside.files (table_word words)
+    has_strengths = λ other same.
+        let one : other ≡ reported = same_Some other reported (sym same ∙ are) in
+        subst (λ (it : Files). IsSome (strengths_in (table_word words) it)) (sym one) (subst IsSome (sym under) refl)
+
+    cells_with : (bytes : List ℕ) (P : StrengthTable → List ℕ → Type 0) → reported (cells_word words) ≡ Some bytes → length bytes ≤ MAX_CELLS
+        → P table bytes → AreCellsWith reported (cell_files words) P
+    cells_with bytes P is within held = subst (λ it. IsSomeAnd it (λ table. IsFileWith reported (cells_word words) MAX_CELLS (P table))) (sym under)
+        (file_with (cells_word words) bytes MAX_CELLS is (P table) within held)
+
+    in_cells : (bytes : List ℕ) (P : StrengthTable → List ℕ → Type 0) → reported (cells_word words) ≡ Some bytes → length bytes ≤ MAX_CELLS
+        → P table bytes → OfCells outside.files (cell_files words) P
+    in_cells bytes P is within held = λ other same.
+        let one : other ≡ reported = same_Some other reported (sym same ∙ are) in
+        subst (λ (it : Files). AreCellsWith it (cell_files words) P) (sym one) (cells_with bytes P is within held)
+
+    under_or : ((library : List Named) → AreCellsWith reported (cell_files words) (IsLibraryOf library)
+        → HasLibrary outside.files (cell_files words) → ⊥) → ⊥
+    under_or refutes = by (within_or_past (length found.0) MAX_CELLS)
+      where
+        found : (bytes : List ℕ) × (reported (cells_word words) ≡ Some bytes)
+        found = bytes_of (cells_word words) (inr (inl (on, inl (inr refl))))
+
+        read : length found.0 ≤ MAX_CELLS → (given : Result _ SpiceFault) → library_of table found.0 ≡ given → ⊥
+        read within (Ok cells) is =
+            let reading : Reading = record { cells = cells; current = None } in
+            let made = library_made reading (raw_cells table found.0 reading within is) in
+            let reads : library_of table found.0 ≡ Ok (map subcircuit_seen made.library) = is ∙ ap (λ it. Ok it) (sym made.seen) in
+            refutes made.library (cells_with found.0 (IsLibraryOf made.library) found.1 within (record {
+              reads = reads;
+              entries = All-from_recursion (λ named. IsEntry named.entry) made.library made.entries;
+            })) (in_cells found.0 (λ table bytes. IsOk (library_of table bytes)) found.1 within (rw is refl))
+        read within (Err (spice.At line kind)) is =
+            no_load (Cells line kind) tt (inl (inl (inr (inr (inr (in_cells found.0 (IsTextCause (Cells line kind)) found.1 within is))))))
+        read within (Err (spice.TooManyCells count)) is =
+            no_load (Limit limit.Cells count) tt (inl (inl (inr (inr (inr (in_cells found.0 (IsTextCause (Limit limit.Cells count)) found.1 within is))))))
+        read within (Err spice.NoMemory) is = reading_has_memory table found.0 is
+
+        by : (length found.0 ≤ MAX_CELLS) ⊎ (MAX_CELLS < length found.0) → ⊥
+        by (inl within) = read within (library_of table found.0) refl
+        by (inr past) = no_load (TooLong (cells_word words) (MAX_CELLS + 1)) tt
+            (inl (inl (inr (inr (inl (has_strengths, too_long (cells_word words) found.0 MAX_CELLS found.1 past))))))
+
+  -- the first files
+  cells_or : ((library : List Named) → AreCellsWith reported (cell_files words) (IsLibraryOf library)
+      → HasLibrary outside.files (cell_files words) → ⊥) → ⊥
+  cells_or refutes = strengths_or (table_word words) (λ name is. inr (inl (on, inl (inl is))))
+      (λ fault is cause. no_load fault is (inl (inl (inr (inl cause))))) (λ table under. under_or table under refutes)
 
   -- the second
   netlist_or : HasLibrary outside.files (chip_files words).cells → ((netlist : RawNetlist)
@@ -356,7 +401,10 @@ module _ (words : List (List ℕ)) (outside : Outside) (reported : Files) (are :
       at_chip (inr (inr (inl simulate))) = at_simulate simulate
       at_chip (inr (inr (inr (inl atpg)))) = own_answer (λ also same names. atpg_own words reported also atpg)
       at_chip (inr (inr (inr (inr (inl replay))))) = at_replay replay
-      at_chip (inr (inr (inr (inr (inr grade))))) = not_grade grade
+      at_chip (inr (inr (inr (inr (inr (inl grade)))))) = not_grade grade
+      at_chip (inr (inr (inr (inr (inr (inr (inl diagnose))))))) = not_diagnose diagnose
+      at_chip (inr (inr (inr (inr (inr (inr (inr (inl certify)))))))) = own_answer (λ also same names. certify_own words reported also certify)
+      at_chip (inr (inr (inr (inr (inr (inr (inr (inr verify)))))))) = not_verify verify
 
     at_inputs : ⊥
     at_inputs = either ((chip : LinkedChip) × IsChipOf inputs chip) (λ found. elim found [
@@ -372,11 +420,11 @@ module _ (words : List (List ℕ)) (outside : Outside) (reported : Files) (are :
 
 -- not neither
 pub never_neither : (words : List (List ℕ)) (outside : Outside) → ReportsAllFiles words outside → IsOnChip words
-    → ¬ (IsGrade words) → ¬ (¬ (IsAnswerable words outside.files ⊎ HasInputCause words outside))
-never_neither words outside reports on not_grade refutes = by outside.files refl reports
+    → ¬ (IsGrade words) → ¬ (IsDiagnose words) → ¬ (IsVerify words) → ¬ (¬ (IsAnswerable words outside.files ⊎ HasInputCause words outside))
+never_neither words outside reports on not_grade not_diagnose not_verify refutes = by outside.files refl reports
   where
     by : (files : Option Files) → outside.files ≡ files
         → IsSomeAnd files (λ reported. (name : List ℕ) → IsInputFile words name → IsSome (reported name)) → ⊥
     by None are reports = reports
     by (Some reported) are reports =
-        neither words outside reported are on not_grade reports (λ answer. refutes (inl answer)) (λ fault is cause. refutes (inr (fault, (is, cause))))
+        neither words outside reported are on not_grade not_diagnose not_verify reports (λ answer. refutes (inl answer)) (λ fault is cause. refutes (inr (fault, (is, cause))))

@@ -1,30 +1,26 @@
 -- The text of the pairs of an answer of `atpg` reads back.
-use Rattle.std.proofs.Common.{ℕ, ◌≡◌, ◌∙◌, ◌≤◌, Bool, true, List, length, Option, Some, None, refl, sym, ap, subst}
+use Rattle.std.proofs.Common.{ℕ, ◌≡◌, ◌∙◌, ◌≤◌, List, length, Option, Some, None, refl, sym, ap, subst}
 use Rattle.std.specs.Prelude.{IfSome, IsSome, IsSomeAnd, Ok}
 use Rattle.ca_store.specs.Store.{Files}
 use Rattle.ca_linked.specs.Linked.{LinkedChip}
 use Rattle.ca_verilog.specs.Text.{netlist_of}
-use Rattle.ca_scan.specs.ChainFault.{AreAllChains}
-use Rattle.ca_credit.specs.declared.verdict.Verdict.{Verdict}
 use Rattle.ca_stil_form.specs.Tokens.{tokens_of}
 use Rattle.ca_stil_form.specs.Reading.{whole}
 use Rattle.ca_stil_form.specs.Whole.{stil_form}
-use Rattle.ca_stil_form.specs.Value.{stil_value}
 use Rattle.ca_stil_laws.specs.Laws.{IsNamedLink, ChipTextIsRead}
 use Rattle.ca_stil_laws.specs.Names.{PortsAreNamed}
 use Rattle.ca_chip_stil.specs.ChipStil.{stil_chip}
 use Rattle.ca_stil_pairs.specs.Laws.{IsReadBack}
 use Rattle.ca_chip_pairs.specs.Laws.{WrittenChipIsReadBack}
-use Rattle.ca_atpg.specs.Atpg.{IsStil}
 use Rattle.ca_atpg.proofs.AtpgLemmas.{task_pairs_fit, are_of_chip}
-use Rattle.ca_load.specs.Texts.{Inputs, ReadAs}
+use Rattle.ca_load.specs.Texts.{Inputs}
 use Rattle.ca_load.specs.Chips.{IsChipOf}
-use Rattle.ca_words.specs.Words.{chip_files, budget_word}
-use Rattle.ca_on_chip.specs.OnChip.{IsChipOfFiles, AreTestsOf}
+use Rattle.ca_words.specs.Words.{chip_files}
+use Rattle.ca_on_chip.specs.OnChip.{IsChipOfFiles}
 use Rattle.ca_flow.specs.declared.finished.Done.{Done}
 use Rattle.ca_flow.specs.declared.finished.Done.TheVariants.{Atpg}
-use Rattle.ca_flow.specs.Ends.{Ends, IsAsked}
-use Rattle.ca_flow_laws.specs.Patterns.{ReadsBack, AtpgTextIsRead}
+use Rattle.ca_flow.specs.Ends.{IsAsked}
+use Rattle.ca_flow_laws.specs.Patterns.{AtpgTextIsRead}
 
 -- the netlist of the inputs is what some text reads as, so the ports of their chip have names of the form
 named : PortsAreNamed → (inputs : Inputs) (chip : LinkedChip) → IsChipOf inputs chip → (there : Option (List ℕ)) (most : ℕ)

@@ -1,6 +1,6 @@
 -- The subcircuits of a text that is no longer than it may be keep what each entry of a library keeps.
 use Rattle.std.proofs.Common.{◌≡◌, ℕ, ◌+◌, ◌<◌, ◌≤◌, ◌^◌, Bool, true, false, ◌||◌, not, cond, List, [], ◌∷◌, ◌++◌, length, map, Option, Some, None}
-use Rattle.std.proofs.Common.{Result, Ok, Err, refl, sym, ap, subst, ◌∙◌, arith, length-append}
+use Rattle.std.proofs.Common.{Result, Ok, Err, refl, sym, ap, subst, ◌∙◌, arith, length-append, true≢false}
 use Rattle.std.specs.Prelude.{nat_lt, eqb, ◌&&◌, option_and_then}
 use Rattle.std.specs.Prelude.{◌==◌, codes}
 use Rattle.std.specs.Str.{bytes_eq}
@@ -28,17 +28,19 @@ use Rattle.ca_spice.specs.declared.fault.SpiceFault.TheVariants.{TooManyCells}
 use Rattle.ca_spice.specs.Card.{card_by_letter, is_ignored, card_of}
 use Rattle.ca_spice.specs.Names.{is_text, is_name}
 use Rattle.ca_spice.specs.PinInfo as info
-use Rattle.ca_spice.specs.Mos.{Wiring, kind_of, wiring_with, wiring_of, are_sound}
-use Rattle.ca_spice.specs.code.Mos.{has_gate}
+use Rattle.ca_cell.specs.Devices.{has_gate}
+use Rattle.ca_pin_sets.proofs.RawLemmas.{resolved_is_raw}
+use Rattle.ca_spice.specs.Mos.{Wiring, Sizes, kind_of, wiring_with, wiring_of, ends_of, resistor_wiring, are_sound, resistor_sizes}
+use Rattle.ca_spice.specs.code.Mos.{IsWiring}
 use Rattle.ca_spice.specs.OpenCell.{OpenCell, pin_of, new_cell, with_pins, has_roles, pin_info, with_drain, with_gate, with_source, device_of}
-use Rattle.ca_spice.specs.OpenCell.{mos, pins_after, is_ended_by, subcircuit_with, ended}
+use Rattle.ca_spice.specs.OpenCell.{mos, resistor, with_device, pins_after, is_ended_by, subcircuit_with, ended}
 use Rattle.ca_spice.specs.Reading.{Reading, Step, nothing, is_outside, has_cell, with_open, is_header, named, subckt, goes_on, in_cell, with_cell}
 use Rattle.ca_spice.specs.Reading.{ends, card_step, is_stray, is_comment, judged, words_step, line_step, at_line, lines_from, library_from}
-use Rattle.ca_spice.specs.Reading.{library_of}
-use Rattle.ca_spice.specs.code.Kept.{HasClass, IsPlaced, IsPlacedCell}
+use Rattle.ca_spice.specs.Reading.{resolved_cell, library_of}
+use Rattle.ca_spice.specs.code.Kept.{IsSound, IsPlaced, IsPlacedCell}
 use Rattle.ca_spice.proofs.SpelledLemmas.{all_append}
-use Rattle.ca_spice.proofs.CardLemmas.{kept_rule, kept_value, mos_found, at_its_place}
-use Rattle.ca_spice.proofs.CellLemmas.{class_of, with_name-longer, IsPlaced-grown, IsPlaced-IsRaw}
+use Rattle.ca_spice.proofs.CardLemmas.{kept_rule, kept_value, mos_found, resistor_found, at_its_place}
+use Rattle.ca_spice.proofs.CellLemmas.{sound_device, with_name-longer, IsPlaced-grown, IsPlaced-IsRaw}
 use Rattle.ca_spice.proofs.WritableLemmas.{first_step, pin_info_names}
 use Rattle.ca_spice.proofs.ReadingLemmas.{placed_ended}
 use Rattle.ca_load.specs.declared.cells.TheConstants.{MAX_CELLS}
@@ -95,6 +97,20 @@ wiring_gate name (drain ∷ gate ∷ source ∷ bulk ∷ model ∷ params) wirin
     by true is = by_kind (kind_of model) refl is
     by false is = absurd cc
 
+-- the wiring of an R card has its drain as its gate
+ends_gate : (name : List ℕ) (words : List (List ℕ)) (wiring : Wiring) → ends_of name words ≡ Some wiring → wiring.gate ≡ wiring.drain
+unfolding ends_of
+ends_gate name [] wiring is = absurd cc
+ends_gate name (a ∷ []) wiring is = absurd cc
+ends_gate name (a ∷ b ∷ []) wiring is = absurd cc
+ends_gate name (drain ∷ source ∷ word ∷ more) wiring is = by (list_all is_name (name ∷ drain ∷ source ∷ [])) is
+  where
+    by : (sound : Bool) → cond sound (Some (resistor_wiring drain source)) None ≡ Some wiring → wiring.gate ≡ wiring.drain
+    by true is =
+        let same : resistor_wiring drain source ≡ wiring = cc in
+        subst (λ (it : Wiring). it.gate ≡ it.drain) same refl
+    by false is = absurd cc
+
 -- a name makes at most one more
 name_most : (name : List ℕ) (names : List (List ℕ)) → length (with_name name names) ≤ 1 + length names
 name_most name names = by (has_name name names)
@@ -119,11 +135,10 @@ module _ (table : StrengthTable) (most more : ℕ) (up : most + 3 ≤ more) (few
   open_up None held = held
   open_up (Some cell) held = held_up cell held
 
-  -- a transistor more
-  mos_held : (name : List ℕ) (words : List (List ℕ)) (cell next : OpenCell) → mos table name words cell ≡ Ok next → IsHeld most cell → IsHeld more next
-  mos_held name words cell next is held =
-      let found = mos_found table name words cell next is in
-      let wiring = found.wiring in
+  -- a device more
+  device_held : (name : List ℕ) (wiring : Wiring) (sizes : Sizes) (cell next : OpenCell) → next ≡ with_device table name wiring sizes cell → IsWiring wiring
+      → IsHeld most cell → IsHeld more next
+  device_held name wiring sizes cell next is wired held =
       let first = name_most wiring.drain cell.nets in
       let second = name_most wiring.gate (with_drain wiring cell.nets) in
       let third = name_most wiring.source (with_gate wiring cell.nets) in
@@ -135,17 +150,30 @@ module _ (table : StrengthTable) (most more : ℕ) (up : most + 3 ≤ more) (few
       let source = name_within wiring.source (with_gate wiring cell.nets) in
       let nets = held.few_nets in
       let devices = held.few_devices in
-      let device : RawDevice = device_of table name wiring found.sizes cell.nets in
+      let device : RawDevice = device_of table name wiring sizes cell.nets in
       let count : length (cell.devices ++ device ∷ []) ≡ length cell.devices + 1 = length-append cell.devices (device ∷ []) in
-      subst (IsHeld more) (sym found.is) (record {
+      subst (IsHeld more) (sym is) (record {
         few_nets = omega (arith, nets, up, first, second, third);
         few_devices = omega (arith, devices, up, count);
         placed = IsPlaced-grown (length cell.pins) cell.nets (with_source wiring cell.nets) cell.devices device held.placed
             (omega (arith, to_first, to_second, to_third)) (omega (arith, nets, up, few, first, second, third))
             (omega (arith, devices, up, few, count))
             (record { drain = omega (arith, drain, to_second, to_third); gate = omega (arith, gate, to_third); source = source })
-            (class_of table found.sizes.width found.sizes.length _ refl) (wiring_gate name words wiring found.wired);
+            (sound_device table sizes wiring device cell.nets (with_drain wiring cell.nets) refl wired refl refl refl refl);
       })
+
+  -- a transistor
+  mos_held : (name : List ℕ) (words : List (List ℕ)) (cell next : OpenCell) → mos table name words cell ≡ Ok next → IsHeld most cell → IsHeld more next
+  mos_held name words cell next is held =
+      let found = mos_found table name words cell next is in
+      device_held name found.wiring found.sizes cell next found.is
+      (λ gateless. absurd (true≢false (sym (wiring_gate name words found.wiring found.wired) ∙ gateless))) held
+
+  -- a resistor
+  resistor_held : (name : List ℕ) (words : List (List ℕ)) (cell next : OpenCell) → resistor table name words cell ≡ Ok next → IsHeld most cell → IsHeld more next
+  resistor_held name words cell next is held =
+      let found = resistor_found table name words cell next is in
+      device_held name found.wiring resistor_sizes cell next found.is (λ gateless. ends_gate name words found.wiring found.wired) held
 
   -- roles leave the number of pins
   role_held : (words : List (List ℕ)) (cell next : OpenCell) → pin_info words cell ≡ Ok next → IsHeld most cell → IsHeld more next
@@ -203,8 +231,7 @@ module _ (table : StrengthTable) (most more : ℕ) (up : most + 3 ≤ more) (few
           few_devices = omega arith;
           pins_within = omega (arith, count);
           places = All-nil (PlacesWithin (length pins));
-          strengths = All-nil HasClass;
-          gated = All-nil (λ (device : RawDevice). has_gate device.kind ≡ true);
+          sound = All-nil IsSound;
         };
       })
 
@@ -251,15 +278,18 @@ module _ (table : StrengthTable) (most more : ℕ) (up : most + 3 ≤ more) (few
     where
       by_letter : (word : List ℕ) → card_step table (card_by_letter word) line word words reading ≡ Ok next → IsHeldReading more next
       by_letter [] is = absurd cc
-      by_letter (letter ∷ rest) is = at (letter == 77) (letter == 67 || letter == 68) (letter == 43) is
+      by_letter (letter ∷ rest) is = at (letter == 77) (letter == 82) (letter == 67 || letter == 68) (letter == 43) is
         where
-          at : (mos_is ignored stray : Bool)
-              → card_step table (cond mos_is (card_by_letter (77 ∷ [])) (cond ignored (card_by_letter (67 ∷ [])) (cond stray (card_by_letter (43 ∷ [])) (card_by_letter []))))
+          at : (mos_is resistor_is ignored stray : Bool)
+              → card_step table (cond mos_is (card_by_letter (77 ∷ [])) (cond resistor_is (card_by_letter (82 ∷ []))
+              (cond ignored (card_by_letter (67 ∷ [])) (cond stray (card_by_letter (43 ∷ [])) (card_by_letter [])))))
               line (letter ∷ rest) words reading ≡ Ok next → IsHeldReading more next
-          at true ignored stray is = in_cell_held (mos table (letter ∷ rest) words) reading next is (mos_held (letter ∷ rest) words) held
-          at false true stray is = reading_up reading next (cc) held
-          at false false true is = absurd cc
-          at false false false is = absurd cc
+          at true resistor_is ignored stray is = in_cell_held (mos table (letter ∷ rest) words) reading next is (mos_held (letter ∷ rest) words) held
+          at false true ignored stray is =
+              in_cell_held (resistor table (letter ∷ rest) words) reading next is (resistor_held (letter ∷ rest) words) held
+          at false false true stray is = reading_up reading next (cc) held
+          at false false false true is = absurd cc
+          at false false false false is = absurd cc
 
       by : (subckt_is ends_is info_is ignored : Bool)
           → card_step table (cond subckt_is (card_of (codes ".SUBCKT")) (cond ends_is (card_of (codes ".ENDS")) (cond info_is (card_of (codes "*.PININFO"))
@@ -308,13 +338,14 @@ lines_held table (line ∷ lines) most reading last few is held =
     lines_held table lines (most + weight_of line) first.next last (omega (arith, few)) first.rest next in
     subst (λ n. IsHeldReading n last) (omega arith) all
 
-all_weaker : {A : Type 0} (P Q : A → Type 0) → ((x : A) → P x → Q x) → (xs : List A) → AllByRecursion P xs → AllByRecursion Q xs
-all_weaker P Q next [] all = tt
-all_weaker P Q next (x ∷ xs) all = (next x all.0, all_weaker P Q next xs all.1)
-
 -- each subcircuit is one from which an entry can be made
 abbrev pub AreRaw : Reading → Type 0
 AreRaw reading = AllByRecursion (λ cell. IsRaw cell.raw) reading.cells
+
+-- with the nets of input pins' sets written as the pins too
+resolved_raw : (cells : List _) → ArePlaced (record { cells = cells; current = None }) → AreRaw (record { cells = map resolved_cell cells; current = None })
+resolved_raw [] placed = tt
+resolved_raw (cell ∷ cells) placed = (resolved_is_raw cell.raw (IsPlaced-IsRaw cell.raw placed.0), resolved_raw cells placed.1)
 
 -- the subcircuits of a text that is no longer than it may be are
 pub raw_cells : (table : StrengthTable) (bytes : List ℕ) (read : Reading) → length bytes ≤ MAX_CELLS → library_of table bytes ≡ Ok read.cells → AreRaw read
@@ -322,12 +353,11 @@ unfolding library_from
 raw_cells table bytes read within reported = by (lines_from table nothing (spice_lines bytes)) refl reported
   where
     by_limit : (reading : Reading) → ArePlaced reading → (many : Bool)
-        → cond many (Err (TooManyCells (length reading.cells))) (Ok reading.cells) ≡ Ok read.cells → AreRaw read
+        → cond many (Err (TooManyCells (length reading.cells))) (Ok (map resolved_cell reading.cells)) ≡ Ok read.cells → AreRaw read
     by_limit reading held true reported = absurd cc
     by_limit reading held false reported =
-        let same : reading.cells ≡ read.cells = cc in
-        let placed : ArePlaced read = subst (AllByRecursion (λ cell. IsPlacedCell cell.raw)) same held in
-        all_weaker (λ cell. IsPlacedCell cell.raw) (λ cell. IsRaw cell.raw) (λ cell. IsPlaced-IsRaw cell.raw) read.cells placed
+        let same : map resolved_cell reading.cells ≡ read.cells = cc in
+        subst (λ cells. AreRaw (record { cells = cells; current = None })) same (resolved_raw reading.cells held)
 
     by_current : (reading : Reading) → ArePlaced reading → (current : Option OpenCell)
         → library_from (Ok (record { cells = reading.cells; current = current })) ≡ Ok read.cells → AreRaw read

@@ -1,6 +1,6 @@
 -- Chips that are alike have one STIL chip, so that a text is the same to both; and what is reported of a file of
 -- patterns is one fault.
-use Rattle.std.proofs.Common.{◌≡◌, ℕ, zero, suc, ◌+◌, ◌∙◌, Bool, true, false, List, [], ◌∷◌, ◌++◌, length, map, refl}
+use Rattle.std.proofs.Common.{◌≡◌, ℕ, suc, ◌+◌, ◌∙◌, Bool, true, false, List, [], ◌∷◌, ◌++◌, length, map, refl}
 use Rattle.std.proofs.Common.{sym, ap, ap₂, subst, arith, inl, inr}
 use Rattle.std.specs.Prelude.{Option, Some, None, slice_get, slice_index, eqb, ◌-◌, ◌&&◌, not, if◌then◌else◌}
 use Rattle.std.specs.List.{flat_map, position_or_len}
@@ -10,17 +10,15 @@ use Rattle.ca_linked.specs.declared.parts.Body.{Body}
 use Rattle.ca_linked.specs.declared.parts.Body.TheVariants.{Gate, Scan}
 use Rattle.ca_linked.specs.declared.parts.Part.{Part}
 use Rattle.ca_linked.specs.declared.parts.PortBit.{PortBit}
-use Rattle.ca_linked.specs.Linked.{LinkedChip, is_scan_path}
+use Rattle.ca_linked.specs.Linked.{LinkedChip}
 use Rattle.ca_linked.specs.Instances.{net_of_pin, if_scan, scans_from, scans_of}
-use Rattle.ca_stil.specs.declared.chip.StilChain.{StilChain}
 use Rattle.ca_chip_stil.specs.Sites.{is_directed, data_ports}
 use Rattle.ca_chip_stil.specs.ChipStil.{signal_of, names_of, port_on, name_of, name_at_body, name_at_part, name_at, controls_of, place_of, chain_of, stil_chip}
-use Rattle.ca_link_laws.specs.Alike.{AreBodiesAlike, ArePartsAlike, AreAlike}
+use Rattle.ca_link_laws.specs.Alike.{AreBodiesAlike, AreAlike}
 use Rattle.ca_link_laws.proofs.AlikeLemmas.{item_at}
-use Rattle.ca_link_laws.proofs.TraceLemmas.{alike_back, on_path, one_trace}
+use Rattle.ca_link_laws.proofs.TraceLemmas.{on_path, one_trace}
 use Rattle.ca_store.specs.Store.{Files}
 use Rattle.ca_flat.specs.Chip as flat
-use Rattle.ca_core.specs.Core.{core_of}
 use Rattle.ca_scan.specs.ChainFault.{AreAllChains}
 use Rattle.ca_scan.proofs.AnswerLemmas.{one_answer}
 use Rattle.ca_expected.specs.Wrong.{IsFirstWrong}

@@ -1,13 +1,13 @@
 -- Laws of causes and of names, each the contract of a function that does nothing (src/laws.rt).
 use Rattle.std.specs.Prelude.{◌≡◌, ◌⊎◌, ℕ, List, Some, IsSomeAnd}
 use Rattle.ca_cell.specs.declared.raw.RawCell.{RawCell}
+use Rattle.ca_cell.specs.declared.strength.StrengthTable.{StrengthTable}
 use Rattle.ca_cell.specs.Rules.{KeepsRules}
 use Rattle.ca_defect.specs.Laws.{DefectsDiffer}
 use Rattle.ca_spice.specs.Called.{cell_called}
 use Rattle.ca_store.specs.Store.{Files}
-use Rattle.ca_cell.specs.Strength.{default_table}
 use Rattle.ca_fault.specs.declared.fault.Fault.{Fault}
-use Rattle.ca_words.specs.Words.{IsGrade, IsOnChip, IsCommand}
+use Rattle.ca_words.specs.Words.{IsGrade, IsDiagnose, IsVerify, IsOnChip, IsCommand}
 use Rattle.ca_flow.specs.declared.finished.Finished.{Finished}
 use Rattle.ca_flow.specs.Fault.{Outside, IsCause}
 use Rattle.ca_flow.specs.Complete.{IsAnswerable}
@@ -35,18 +35,19 @@ AnswerableHasNoCause =
 abbrev pub HasInputCause : List (List ℕ) → Outside → Type 0
 HasInputCause words outside = (fault : Fault) × (IsInputFault fault × IsCause words outside outside fault)
 
--- a command, but one on a chip, whose file is there can be answered, or a fault of input has a cause
+-- a command, but one on a chip, whose files are there can be answered, or a fault of input has a cause
 abbrev pub SomeCauseOrAnswer : Type 0
 SomeCauseOrAnswer =
     (words : List (List ℕ)) (outside : Outside) → ReportsAllFiles words outside
     → ¬ (IsOnChip words) → IsCommand words → IsAnswerable words outside.files ⊎ HasInputCause words outside
 
--- of a command on a chip, but `grade`, whose files are there it can't be that neither holds; which of them does
--- isn't decided among the definitions
+-- of a command on a chip, but `grade`, `diagnose` and `verify`, whose files are there it can't be that
+-- neither holds; which of them does isn't decided among the definitions
 abbrev pub NeverNeitherOnChip : Type 0
 NeverNeitherOnChip =
     (words : List (List ℕ)) (outside : Outside) → ReportsAllFiles words outside → IsOnChip words
-    → ¬ (IsGrade words) → ¬ (¬ (IsAnswerable words outside.files ⊎ HasInputCause words outside))
+    → ¬ (IsGrade words) → ¬ (IsDiagnose words) → ¬ (IsVerify words)
+    → ¬ (¬ (IsAnswerable words outside.files ⊎ HasInputCause words outside))
 
 -- a command of whose words and files a fault of input has a cause ends with this fault, or with another loop
 -- where it reports one, or with a fault of the store, the output or memory
@@ -57,8 +58,9 @@ CauseIsReported =
     → IsCause words before after fault → IsSomeAnd end.fault
     (λ reported. IsCallFault reported ⊎ IsSame reported fault)
 
--- of each cell that a word names in a text, and that keeps the rules, the defects have names that differ
+-- of each cell that a word names in a text that is read under a table, and that keeps the rules, the defects
+-- have names that differ
 abbrev pub NamesMeanOneDefect : Type 0
 NamesMeanOneDefect =
-    (bytes word : List ℕ) (raw : RawCell) → cell_called default_table bytes word ≡ Some raw → KeepsRules raw
-    → DefectsDiffer raw
+    (table : StrengthTable) (bytes word : List ℕ) (raw : RawCell) → cell_called table bytes word ≡ Some raw
+    → KeepsRules raw → DefectsDiffer raw

@@ -18,8 +18,8 @@ use Rattle.ca_flow.specs.Fault.{Outside}
 use Rattle.ca_flow.specs.Ends.{Ends}
 
 -- the text reads, by the grammar of the form, as the chip's signals, groups and chains with these pairs and
--- what the good chip ends with under each; so a file with this text gives `grade` these pairs and values, and
--- has no fault
+-- what the good chip ends with under each; so a file with this text gives `grade`, `diagnose` and `verify`
+-- these pairs and values, and has no fault
 pub record ReadsBack (chip : LinkedChip) (chains : List (List ℕ)) (pairs : List (List Bool)) (text : List ℕ)
     : Type 0 where
   pub expected : List (List Trit)

@@ -2,15 +2,18 @@
 use Rattle.std.specs.Prelude.{◌≡◌, ◌⊎◌, ⊤}
 use Rattle.ca_wiring.specs.declared.fault.ChipFault.TheVariants as rule
 use Rattle.ca_fault.specs.declared.fault.Fault.{Fault}
-use Rattle.ca_fault.specs.declared.fault.Fault.TheVariants.{BadWords, Cells, Netlist, Scan, Chip, Chain}
-use Rattle.ca_fault.specs.declared.fault.Fault.TheVariants.{NoCell, Cell, BadVector, NoInstance, NoDefect}
-use Rattle.ca_fault.specs.declared.fault.Fault.TheVariants.{Order, Stil, StilChip, Expected, TooLong}
-use Rattle.ca_fault.specs.declared.fault.Fault.TheVariants.{TooManyPairs, Limit, StoreFailed, SinkFailed}
+use Rattle.ca_fault.specs.declared.fault.Fault.TheVariants.{BadWords, Strengths, Cells, Netlist, Scan}
+use Rattle.ca_fault.specs.declared.fault.Fault.TheVariants.{Chip, Chain, NoCell, Cell, BadVector, NoInstance}
+use Rattle.ca_fault.specs.declared.fault.Fault.TheVariants.{NoDefect}
+use Rattle.ca_fault.specs.declared.fault.Fault.TheVariants.{Order, Stil, StilChip, Expected, Log, TooLong}
+use Rattle.ca_fault.specs.declared.fault.Fault.TheVariants.{Cert, CertChip, TooManyPairs, Limit, StoreFailed}
+use Rattle.ca_fault.specs.declared.fault.Fault.TheVariants.{SinkFailed}
 use Rattle.ca_fault.specs.declared.fault.Fault.TheVariants.{NoMemory}
 
 -- the faults of what a command was given: of its words, and of the contents and the size of its files
 abbrev pub IsInputFault : Fault → Type 0
 IsInputFault BadWords = ⊤
+IsInputFault (Strengths row) = ⊤
 IsInputFault (Cells line kind) = ⊤
 IsInputFault (Netlist line kind) = ⊤
 IsInputFault (Scan row) = ⊤
@@ -25,6 +28,9 @@ IsInputFault (Order line) = ⊤
 IsInputFault (Stil line) = ⊤
 IsInputFault StilChip = ⊤
 IsInputFault (Expected pair output) = ⊤
+IsInputFault (Log row) = ⊤
+IsInputFault (Cert line) = ⊤
+IsInputFault (CertChip claims) = ⊤
 IsInputFault (TooLong name taken) = ⊤
 IsInputFault (TooManyPairs pairs aims) = ⊥
 IsInputFault (Limit kind count) = ⊤

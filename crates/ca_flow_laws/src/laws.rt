@@ -16,13 +16,14 @@ pub fn answerable_has_no_cause()
     ensures { AnswerableHasNoCause }
 {}
 
-/// A command, but one on a chip, whose file is there can be answered, or a fault of the contents has a cause.
+/// A command, but one on a chip, whose files are there can be answered, or a fault of the contents has a
+/// cause.
 pub fn some_cause_or_answer()
     ensures { SomeCauseOrAnswer }
 {}
 
-/// Of a command on a chip, but `grade`, whose files are there it can't be that it can't be answered and that no
-/// fault of the contents has a cause.
+/// Of a command on a chip, but `grade`, `diagnose` and `verify`, whose files are there it can't be that it
+/// can't be answered and that no fault of the contents has a cause.
 pub fn never_neither_on_chip()
     ensures { NeverNeitherOnChip }
 {}

@@ -98,7 +98,7 @@ fn work_left(
         Some(done) => Some(work_of(done)),
         None => None,
     };
-    end.let_go();
+    end.discard();
     Ok(work)
 }
 

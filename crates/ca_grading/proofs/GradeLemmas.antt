@@ -1,24 +1,17 @@
--- What `grade` finds, and why it finds nothing, from what its stages find.
-use Rattle.std.proofs.Common.{ℕ, ◌≡◌, ◌≤◌, ◌<◌, ◌^◌, inl, inr, Bool, List, length, Option, subst, sym, arith}
+-- What `grade` finds, from what its stages find.
+use Rattle.std.proofs.Common.{ℕ, ◌<◌, ◌^◌, List, length, Option, arith}
 use Rattle.ca_store.specs.Store.{Files}
 use Rattle.ca_linked.specs.Linked.{LinkedChip}
 use Rattle.ca_core.specs.Core.{core_of}
-use Rattle.ca_scan.specs.ChainFault.{AreAllChains}
 use Rattle.ca_expected.specs.Expected.{AreExpected}
 use Rattle.ca_grade.specs.declared.grade.Grade.{Grade}
 use Rattle.ca_grade.specs.Graded.{AreGraded}
 use Rattle.ca_engine.specs.ChipTask.{task_of}
 use Rattle.ca_stil_pairs.specs.declared.file.StilFile.{StilFile}
-use Rattle.ca_fault.specs.declared.fault.Fault.{Fault}
-use Rattle.ca_fault.specs.declared.fault.Fault.TheVariants.{Expected}
 use Rattle.ca_load.specs.Files.{OfFile}
-use Rattle.ca_load.specs.Texts.{InputFiles, OfInputs}
 use Rattle.ca_load.proofs.ReadLemmas.{of_file_then}
 use Rattle.ca_patterns.specs.declared.patterns.TheConstants.{MAX_STIL}
-use Rattle.ca_patterns.specs.Patterns.{IsPatternsOf, AreFew, IsLoadedCause, IsStilCause}
-use Rattle.ca_patterns.specs.code.Stages.{IsValueStage}
-use Rattle.ca_patterns.proofs.PatternLemmas.{of_traced}
-use Rattle.ca_load.specs.Chips.{IsChipOf}
+use Rattle.ca_patterns.specs.Patterns.{IsPatternsOf, AreFew}
 use Rattle.ca_grading.specs.Grading.{ListsPairs, AreGradesByFile}
 
 -- pairs that are listed have numbers of 32 bits
@@ -36,19 +29,3 @@ are_grades files stil chip chains file grades held few graded right = record {
   of_file = of_file_then files stil MAX_STIL (IsPatternsOf chip chains file) (ListsPairs chip chains file.pairs)
       (λ bytes is. record { expected = file.expected; is = is; right = right }) held;
 }
-
--- patterns of the chip of the files with a wrong value
-pub at_grades : (files : Option Files) (names : InputFiles) (stil : List ℕ) (before after : ℕ) (chip : LinkedChip)
-    (chains : List (List ℕ)) (file : StilFile) (fault : Fault) → OfInputs files names (λ inputs. IsChipOf inputs chip) → AreAllChains chip chains
-    → OfFile files stil MAX_STIL (IsPatternsOf chip chains file) → AreFew file → IsValueStage chip file fault
-    → IsLoadedCause names stil files before after fault
-at_grades files names stil before after chip chains file (Expected pair output) held all patterns few wrong =
-    inr (inr (
-      tt,
-      of_traced files names chip chains
-          (λ chip chains. OfFile files stil MAX_STIL (IsStilCause chip chains (Expected pair output))) held all
-          (of_file_then files stil MAX_STIL (IsPatternsOf chip chains file) (IsStilCause chip chains (Expected pair output))
-          (λ bytes is. record { file = file; is = is; few = few; wrong = wrong }) patterns),
-    ))
-at_grades files names stil before after chip chains file fault held all patterns few memory =
-    subst (IsLoadedCause names stil files before after) (sym memory) (inl (inl (inl (inl tt))))

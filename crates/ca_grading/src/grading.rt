@@ -12,7 +12,7 @@ ghost use Rattle.ca_load.specs.Files.{ReportsStoreFault};
 ghost use Rattle.ca_load.specs.Chips.{IsChipOf};
 ghost use Rattle.ca_load.specs.Texts.{names_of, OfInputs};
 ghost use Rattle.ca_patterns.specs.Patterns.{AreFew, IsLoadedCause};
-ghost use Rattle.ca_patterns.specs.code.Stages.{IsValueStage};
+ghost use Rattle.ca_patterns.specs.Stages.{IsValueStage};
 ghost use Rattle.ca_grading.specs.Grading.{AreGradesByFile};
 
 use ca_chip_grade::{grade_chip, grade_report};
@@ -43,7 +43,7 @@ pub struct GradedChip {
 /// The grades of the defects of the chip that the words name in their files, by the pairs in the file of
 /// patterns. That file is read last, and no pair is credited before all of its expected values were found to
 /// be right. The watch is notified after each block of pairs.
-#[tactic(auto, using(crate::proofs::GradeLemmas::at_grades, crate::proofs::GradeLemmas::are_grades))]
+#[tactic(auto, using(ca_patterns::proofs::PatternLemmas::at_wrong, crate::proofs::GradeLemmas::are_grades))]
 pub fn find_grades<S: Store, T: Watch>(
     alloc: Global,
     request: &GradeWords<'_>,

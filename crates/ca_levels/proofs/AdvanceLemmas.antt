@@ -69,10 +69,10 @@ linked_unused devices from kind level count links none linked i d lane lt low is
     )
 
 -- no device is stronger than an input node, so links that no device has are theirs
-pub linked_none : (net : Circuit) → IsWellFormed net → (devices : List Device) (from : Block) (kind : PathKind) (count : ℕ) (links : List ℕ)
-    → devices ≡ net.devices → links ≡ replicate (length net.devices) 0 → AreLinked count devices from kind (INPUT + 1) links
-linked_none net well_formed devices from kind count links same are i d lane lt low is = (
-  λ has. absurd (no_lane links (length net.devices) are i lane has),
+pub linked_none : (net : Circuit) → IsWellFormed net → (devices : List Device) (from : Block) (kind : PathKind) (count room : ℕ) (links : List ℕ)
+    → devices ≡ net.devices → links ≡ replicate room 0 → AreLinked count devices from kind (INPUT + 1) links
+linked_none net well_formed devices from kind count room links same are i d lane lt low is = (
+  λ has. absurd (no_lane links room are i lane has),
   λ p.
       let le : INPUT + 1 ≤ d.strength = p.0 in
       let there : slice_get net.devices i ≡ Some d = subst (λ xs. slice_get xs i ≡ Some d) same is in

@@ -13,7 +13,7 @@ use native.Mathlib.Decide.{ℕ_discrete}
 use Rattle.ca_net.specs.declared.device.Device.{Device}
 use Rattle.ca_net.specs.Conduction.{Links}
 use Rattle.ca_planes.specs.Plane.{has_lane, lane_at}
-use Rattle.ca_levels.specs.code.Come.{Comes, Onward, Leads, RaisesSome, Raises, IsClosedAt, LeadsNoMore, RaiseBoth}
+use Rattle.ca_levels.specs.code.Come.{Comes, Onward, Leads, RaisesSome, Raises, IsClosedAt, LeadsNoMore, IsRound, RaiseBoth}
 
 -- what stands for no device
 abbrev pub no_device : Device
@@ -151,6 +151,38 @@ pair_raises devices links blocked zeros new_zeros ones new_ones false false coun
   rises = λ e. cc;
   zeros_closed = λ e i lt. subst (λ xs. IsClosedAt devices links blocked xs i) (sym (z.same refl)) (z_still i (omega (arith, lt, all)) refl);
   ones_closed = λ e i lt. subst (λ xs. IsClosedAt devices links blocked xs i) (sym (o.same refl)) (o_still i (omega (arith, lt, all)) refl);
+}
+
+-- a sweep that raised nothing
+pub round_still : (devices : List Device) (links blocked old new : List ℕ) (rose : Bool) → rose ≡ false → Raises devices links blocked old new rose
+    → ((i : ℕ) → i < length devices → LeadsNoMore devices links blocked old rose i) → IsRound devices links blocked old new false
+round_still devices links blocked old new rose still h settled = record {
+  some = h.some;
+  rises = λ e. cc;
+  closed = λ e i lt. subst (λ xs. IsClosedAt devices links blocked xs i) (sym (h.same still)) (settled i lt still);
+}
+
+-- one that raised something, and one back
+pub round_back : (devices : List Device) (links blocked old mid new : List ℕ) (rose again : Bool) → rose ≡ true → Raises devices links blocked old mid rose
+    → Raises devices links blocked mid new again → ((i : ℕ) → i < length devices → LeadsNoMore devices links blocked mid again i)
+    → IsRound devices links blocked old new again
+round_back devices links blocked old mid new rose again risen h q settled = record {
+  some = raises_some_more devices links blocked old mid new h.some q.some;
+  rises = λ e. let first : sum old < sum mid = h.rises risen in let second : sum mid < sum new = q.rises e in omega arith;
+  closed = λ e i lt. subst (λ xs. IsClosedAt devices links blocked xs i) (sym (q.same e)) (settled i lt e);
+}
+
+-- the same of two planes
+pub round_pair_back : (devices : List Device) (links blocked zeros mid_zeros new_zeros ones mid_ones new_ones : List ℕ) (rose again : Bool) → rose ≡ true
+    → RaiseBoth devices links blocked zeros mid_zeros ones mid_ones rose → RaiseBoth devices links blocked mid_zeros new_zeros mid_ones new_ones again
+    → RaiseBoth devices links blocked zeros new_zeros ones new_ones again
+round_pair_back devices links blocked zeros mid_zeros new_zeros ones mid_ones new_ones rose again risen h q = record {
+  zeros_raise = raises_some_more devices links blocked zeros mid_zeros new_zeros h.zeros_raise q.zeros_raise;
+  ones_raise = raises_some_more devices links blocked ones mid_ones new_ones h.ones_raise q.ones_raise;
+  rises = λ e. let first : sum zeros + sum ones < sum mid_zeros + sum mid_ones = h.rises risen in
+      let second : sum mid_zeros + sum mid_ones < sum new_zeros + sum new_ones = q.rises e in omega arith;
+  zeros_closed = q.zeros_closed;
+  ones_closed = q.ones_closed;
 }
 
 -- what isn't yet reached falls where something rises

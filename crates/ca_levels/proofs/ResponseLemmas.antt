@@ -4,7 +4,7 @@ use Rattle.std.proofs.Common.{inl, inr, refl, sym, ◌∙◌, ap, subst, arith, 
 use Rattle.std.proofs.Math.Decide.{dec_le}
 use Rattle.std.proofs.lemmas.List.{get_or-replicate}
 use Rattle.std.proofs.lemmas.Grind.{common_steps}
-use Rattle.std.proofs.lemmas.Option.{slice_get-get_or}
+use Rattle.std.proofs.lemmas.Option.{slice_get-get_or, slice_get_within, get_or_from_slice_get}
 use Rattle.ca_net.specs.declared.scale.TheConstants.{INPUT}
 use Rattle.ca_net.specs.declared.trit.Trit.{Trit}
 use Rattle.ca_net.specs.declared.trit.Trit.TheVariants.{Zero, One, X}
@@ -13,7 +13,7 @@ use Rattle.ca_net.specs.declared.node.NodeKind.TheVariants.{Input, Storage}
 use Rattle.ca_net.specs.declared.device.Device.{Device}
 use Rattle.ca_net.specs.declared.path_kind.PathKind.{PathKind}
 use Rattle.ca_net.specs.declared.path_kind.PathKind.TheVariants.{Definite, Potential}
-use Rattle.ca_net.specs.Circuit.{Circuit, IsWellFormed, HasSize, kind_at}
+use Rattle.ca_net.specs.Circuit.{Circuit, IsWellFormed, HasSize, HasStrength, NamesWithin, kind_at}
 use Rattle.ca_net.specs.State.{value_at}
 use Rattle.ca_net.specs.Path.{Path, Root, Via, root_of, IsPath, strength_of, root_strength, IsPotential, IsDefinite}
 use Rattle.ca_net.specs.Response.{HasStronger, IsBlocked, AllGive, StorageResponse, ResponseAt, IsResponse, AreResponses}
@@ -25,13 +25,15 @@ use Rattle.ca_planes.specs.Trits.{trit_for, value_in, values_in, state_in, HasNo
 use Rattle.ca_planes.proofs.BitLemmas.{in_none, in_all}
 use Rattle.ca_planes.proofs.ValueLemmas.{length-values_in, value_at-values_in, may_be_one}
 use Rattle.ca_levels.specs.declared.levels.Levels.{Levels}
+use Rattle.ca_levels.specs.Levels.{with_devices, AreSomeOf}
 use Rattle.ca_levels.specs.code.Come.{AreClosed, AreIdle}
 use Rattle.ca_levels.specs.code.Advance.{IsAdvanced, IsSpread, AreLinked}
 use Rattle.ca_levels.specs.code.Way.{IsFree, HasWay, HasOther, AreThose}
 use Rattle.ca_levels.specs.code.Reached.{IsLoaded, IsReachedIn, AreKept, IsSpreadTo}
-use Rattle.ca_levels.proofs.AdvanceLemmas.{linked_unused, linked_none, idle_none, closed_none, closed_more, spread_keeps}
+use Rattle.ca_levels.proofs.AdvanceLemmas.{linked_unused, linked_none, idle_none, closed_none}
 use Rattle.ca_levels.specs.Given.{IsGivenByNone, IsCarriedByNone}
 use Rattle.std.specs.Prelude.{Some, slice_get}
+use Rattle.std.specs.List.{All}
 use Rattle.ca_relax.proofs.JoinedLemmas.{placed}
 use Rattle.ca_levels.proofs.WayLemmas.{advanced, weaker}
 
@@ -122,7 +124,7 @@ module _ (net : Circuit) (well_formed : IsWellFormed net) (s : List Trit) (lane 
   pub none_reached : stronger ≡ replicate (length net.nodes) 0 → zeros ≡ replicate (length net.nodes) 0 → ones ≡ replicate (length net.nodes) 0
       → IsReachedIn net s lane INPUT stronger zeros ones
   none_reached is_stronger is_zeros is_ones = record {
-    stronger_there = λ n lt. (λ has. absurd (no_lane stronger is_stronger n lt has), λ h. absurd (too_strong h.path h.is_path h.stronger));
+    stronger_there = λ pos n lt. (λ has. absurd (no_lane stronger is_stronger n lt has), λ h. absurd (too_strong h.path h.is_path h.stronger));
     not_one = λ n lt. (λ has. absurd (no_lane zeros is_zeros n lt has), λ w. absurd (too_strong w.path w.is_path w.stronger));
     not_zero = λ n lt. (λ has. absurd (no_lane ones is_ones n lt has), λ w. absurd (too_strong w.path w.is_path w.stronger));
   } where
@@ -136,14 +138,15 @@ module _ (net : Circuit) (well_formed : IsWellFormed net) (s : List Trit) (lane 
     too_strong p is_path lt = let le : strength_of net p ≤ INPUT = at_most_input net well_formed p is_path in omega arith
 
 -- one level more
-pub reached_more : (net : Circuit) → IsWellFormed net → (from : Block) (levels : Levels) (level lane : ℕ) (zeros ones new_stronger new_zeros new_ones : List ℕ)
-    → 0 < level → lane < 64 → HasNodes (length net.nodes) from → IsLoaded net from levels
-    → IsReachedIn net (state_in from lane) lane level levels.stronger.items zeros ones
-    → IsAdvanced levels.devices.items levels.own.items from Potential level from.ones.items levels.stronger.items ones new_ones
-    → IsAdvanced levels.devices.items levels.own.items from Potential level levels.not_ones.items levels.stronger.items zeros new_zeros
-    → IsAdvanced levels.devices.items levels.own.items from Definite level levels.all.items levels.none.items levels.stronger.items new_stronger
-    → IsReachedIn net (state_in from lane) lane (level - 1) new_stronger new_zeros new_ones
-reached_more net well_formed from levels level lane zeros ones new_stronger new_zeros new_ones some low nodes loaded above by_ones by_zeros by_stronger =
+pub reached_more : (whole : Circuit) (devices : List Device) → IsWellFormed (with_devices whole devices) → (from : Block) (levels : Levels) (level lane : ℕ) (zeros ones new_stronger new_zeros new_ones : List ℕ)
+    → 0 < level → lane < 64 → HasNodes (length whole.nodes) from → IsLoaded whole from levels
+    → IsReachedIn (with_devices whole devices) (state_in from lane) lane level levels.stronger.items zeros ones
+    → IsAdvanced devices levels.own.items from Potential level from.ones.items levels.stronger.items ones new_ones
+    → IsAdvanced devices levels.own.items from Potential level levels.not_ones.items levels.stronger.items zeros new_zeros
+    → (0 < level - 1 → IsAdvanced devices levels.own.items from Definite level levels.all.items levels.none.items levels.stronger.items new_stronger)
+    → IsReachedIn (with_devices whole devices) (state_in from lane) lane (level - 1) new_stronger new_zeros new_ones
+reached_more whole devices well_formed from levels level lane zeros ones new_stronger new_zeros new_ones some low nodes loaded above by_ones by_zeros by_stronger =
+    let net = with_devices whole devices in
     let s = state_in from lane in
     let holds = loaded.holds in
     let is : level ≡ level - 1 + 1 = omega (arith, some) in
@@ -164,17 +167,17 @@ reached_more net well_formed from levels level lane zeros ones new_stronger new_
     let zero : get_or levels.none.items n 0 ≡ 0 = ap (λ xs. get_or xs n 0) holds.room.none ∙ get_or-replicate (length net.nodes) n 0 0 lt in
     (λ has. let e : false ≡ true = sym (ap (λ w. has_lane w lane) zero ∙ in_none lane) ∙ has in cc, λ never. absurd never)
     in
-    let strong = advanced net from Definite (λ n k. ⊥) (λ r. Unit {0}) well_formed (level - 1) lane level levels.devices.items levels.own.items levels.all.items
-    levels.none.items levels.stronger.items new_stronger is low holds.devices holds.room.own holds.own (λ n i j le never. never) none all
-    (λ n lt. let both = above.stronger_there n lt in (λ has. way_of_stronger net s n level (both.0 has), λ w. both.1 (stronger_of_way net s n level w))) by_stronger in
+    let strong = λ (pos : 0 < level - 1). advanced net from Definite (λ n k. ⊥) (λ r. Unit {0}) well_formed (level - 1) lane level devices levels.own.items levels.all.items
+    levels.none.items levels.stronger.items new_stronger is low refl holds.room.own holds.own (λ n i j le never. never) none all
+    (λ n lt. let both = above.stronger_there some n lt in (λ has. way_of_stronger net s n level (both.0 has), λ w. both.1 (stronger_of_way net s n level w))) (by_stronger pos) in
     record {
-      stronger_there = λ n lt. let both = strong n lt in
+      stronger_there = λ pos n lt. let both = strong pos n lt in
           (λ has. stronger_of_way net s n (level - 1) (both.0 has), λ h. both.1 (way_of_stronger net s n (level - 1) h));
-      not_one = advanced net from Potential (HasStronger net s) (λ r. value_at s r ≢ One) well_formed (level - 1) lane level levels.devices.items levels.own.items
-          levels.not_ones.items levels.stronger.items zeros new_zeros is low holds.devices holds.room.own holds.own (stronger_falls net s) above.stronger_there not_ones
+      not_one = advanced net from Potential (HasStronger net s) (λ r. value_at s r ≢ One) well_formed (level - 1) lane level devices levels.own.items
+          levels.not_ones.items levels.stronger.items zeros new_zeros is low refl holds.room.own holds.own (stronger_falls net s) (above.stronger_there some) not_ones
           above.not_one by_zeros;
-      not_zero = advanced net from Potential (HasStronger net s) (λ r. value_at s r ≢ Zero) well_formed (level - 1) lane level levels.devices.items levels.own.items
-          from.ones.items levels.stronger.items ones new_ones is low holds.devices holds.room.own holds.own (stronger_falls net s) above.stronger_there others
+      not_zero = advanced net from Potential (HasStronger net s) (λ r. value_at s r ≢ Zero) well_formed (level - 1) lane level devices levels.own.items
+          from.ones.items levels.stronger.items ones new_ones is low refl holds.room.own holds.own (stronger_falls net s) (above.stronger_there some) others
           above.not_zero by_ones;
     }
 
@@ -272,7 +275,7 @@ module _ (net : Circuit) (own : List ℕ) (devices : List Device) (level : ℕ) 
   pub reached_unused : (s : List Trit) (lane : ℕ) (stronger zeros ones : List ℕ) → 0 < level → IsReachedIn net s lane level stronger zeros ones
       → IsReachedIn net s lane (level - 1) stronger zeros ones
   reached_unused s lane stronger zeros ones some h = record {
-    stronger_there = λ n lt. let both = h.stronger_there n lt in (
+    stronger_there = λ pos n lt. let both = h.stronger_there some n lt in (
       λ has. stronger_falls net s n (level - 1) level (omega arith) (both.0 has),
       λ w. both.1 (record { path = w.path; is_path = w.is_path; ends = w.ends; definite = w.definite; stronger = more w.path w.is_path w.stronger }),
     );
@@ -289,11 +292,10 @@ module _ (net : Circuit) (own : List ℕ) (devices : List Device) (level : ℕ) 
     more p is_path lt = let ne : strength_of net p ≢ level = not_as_strong p is_path in omega (arith, some, lt, ne)
 
 -- and so do the links
-pub spread_unused : (from : Block) (level : ℕ) (levels : Levels) (out : Block) → 0 < level → IsCarriedByNone levels.devices.items level
-    → IsSpreadTo from level levels out → IsSpreadTo from (level - 1) levels out
-spread_unused from level levels out some none h =
+pub spread_unused : (devices : List Device) (from : Block) (level : ℕ) (levels : Levels) (out : Block) → 0 < level → IsCarriedByNone devices level
+    → IsSpreadTo devices from level levels out → IsSpreadTo devices from (level - 1) levels out
+spread_unused devices from level levels out some none h =
     let is : level ≡ level - 1 + 1 = omega (arith, some) in
-    let devices = levels.devices.items in
     let potential = linked_unused devices from Potential level (length devices) levels.potential.items none h.potential in
     let definite = linked_unused devices from Definite level (length devices) levels.definite.items none h.definite in
     record {
@@ -301,24 +303,51 @@ spread_unused from level levels out some none h =
       definite = subst (λ k. AreLinked (length devices) devices from Definite k levels.definite.items) is definite;
       zeros = h.zeros;
       ones = h.ones;
-      stronger = h.stronger;
+      stronger = λ pos. h.stronger some;
       potential_none = λ le. h.potential_none (omega arith);
       definite_none = λ le. h.definite_none (omega arith);
     }
 
 -- at first nothing is reached, and over no link anything comes
-pub spread_none : (net : Circuit) → IsWellFormed net → (from : Block) (levels : Levels) (out : Block) → levels.devices.items ≡ net.devices
-    → levels.potential.items ≡ replicate (length net.devices) 0 → levels.definite.items ≡ replicate (length net.devices) 0
+pub spread_none : (net : Circuit) → IsWellFormed net → (from : Block) (levels : Levels) (out : Block) (room : ℕ)
+    → levels.potential.items ≡ replicate room 0 → levels.definite.items ≡ replicate room 0
     → levels.stronger.items ≡ replicate (length net.nodes) 0 → out.zeros.items ≡ replicate (length net.nodes) 0 → out.ones.items ≡ replicate (length net.nodes) 0
-    → IsSpreadTo from INPUT levels out
-spread_none net well_formed from levels out same potential definite stronger zeros ones =
-    let devices = levels.devices.items in
+    → IsSpreadTo net.devices from INPUT levels out
+spread_none net well_formed from levels out room potential definite stronger zeros ones =
+    let devices = net.devices in
     record {
-      potential = linked_none net well_formed devices from Potential (length devices) levels.potential.items same potential;
-      definite = linked_none net well_formed devices from Definite (length devices) levels.definite.items same definite;
+      potential = linked_none net well_formed devices from Potential (length devices) room levels.potential.items refl potential;
+      definite = linked_none net well_formed devices from Definite (length devices) room levels.definite.items refl definite;
       zeros = closed_none devices levels.potential.items levels.stronger.items out.zeros.items (length net.nodes) zeros;
       ones = closed_none devices levels.potential.items levels.stronger.items out.ones.items (length net.nodes) ones;
-      stronger = closed_none devices levels.definite.items levels.none.items levels.stronger.items (length net.nodes) stronger;
-      potential_none = λ le. idle_none devices levels.potential.items (length net.devices) potential;
-      definite_none = λ le. idle_none devices levels.definite.items (length net.devices) definite;
+      stronger = λ pos. closed_none devices levels.definite.items levels.none.items levels.stronger.items (length net.nodes) stronger;
+      potential_none = λ le. idle_none devices levels.potential.items room potential;
+      definite_none = λ le. idle_none devices levels.definite.items room definite;
     }
+
+-- some devices of a well-formed network, with its nodes, are one
+pub some_well_formed : (net : Circuit) (devices : List Device) → IsWellFormed net → AreSomeOf net devices → IsWellFormed (with_devices net devices)
+some_well_formed net devices well_formed some = record {
+  few_nodes = well_formed.few_nodes;
+  few_devices = let few = some.few in let most = well_formed.few_devices in omega (arith, few, most);
+  named = λ i d lt. at i d lt (NamesWithin (length net.nodes)) well_formed.named;
+  sizes = well_formed.sizes;
+  strengths = λ i d lt. at i d lt HasStrength well_formed.strengths;
+} where
+  at : (i : ℕ) (d : Device) → i < length devices → (P : Device → Type 0) → All P net.devices → P (get_or devices i d)
+  at i d lt P all =
+      let has = some.among i d lt in
+      subst P has.2 (all has.0 (get_or devices i d) has.1)
+
+-- a strength that no device of the network has, none of some of them has
+pub some_carried : (net : Circuit) (devices : List Device) (level : ℕ) → AreSomeOf net devices → IsCarriedByNone net.devices level → IsCarriedByNone devices level
+some_carried net devices level some none i d is =
+    let lt = slice_get_within devices i d is in
+    let has = some.among i d lt in
+    subst (λ (x : Device). x.strength ≢ level) (get_or_from_slice_get devices i d d is)
+    (none has.0 (get_or devices i d) (placed net (get_or devices i d) has))
+
+-- above the lowest strength there is one
+pub not_lowest : (level : ℕ) (last : Bool) → (last ≡ true → level ≡ 1) → 0 < level - 1 → last ≡ false
+not_lowest level true is pos = absurd (let e = is refl in omega (arith, e, pos))
+not_lowest level false is pos = refl

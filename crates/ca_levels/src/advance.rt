@@ -8,9 +8,10 @@ ghost use Rattle.ca_net.specs.Passing.{PassesAt};
 ghost use Rattle.ca_relax.specs.code.Spread.{Passes};
 ghost use Rattle.ca_planes.specs.Plane.{has_lane, lane_at};
 ghost use Rattle.ca_planes.specs.Trits.{HasNodes, state_in, value_in};
-ghost use Rattle.ca_levels.specs.Given.{IsCarriedByNone};
+ghost use Rattle.ca_levels.specs.Given.{IsGivenByNone, IsCarriedByNone};
 ghost use Rattle.ca_levels.specs.code.Come.{AreClosed, AreIdle};
 ghost use Rattle.ca_levels.specs.code.Advance.{IsPassing, AreLinked, IsBegun, HaveBegun, IsSpread};
+ghost use Rattle.ca_levels.specs.code.Advance.{StayReached};
 
 use crate::close::{close, close_pair};
 use ca_net::{Device, DeviceKind, PathKind};
@@ -48,7 +49,7 @@ fn link(device: Device, from: &Block, kind: PathKind, level: u8) -> u64
 fn link_all(devices: &[Device], from: &Block, kind: PathKind, level: u8, links: &mut [u64])
     requires named { All (NamesWithin (length from.now.zeros.items)) devices.now }
     requires ones { length from.now.ones.items ≡ length from.now.zeros.items }
-    requires room { length links.old ≡ length devices.now }
+    requires room { length devices.now ≤ length links.old }
     ensures { AreLinked (length devices.now) devices.now from.now kind level links.new }
 {
     for i in 0..devices.len() {
@@ -68,14 +69,26 @@ fn begun(own: u8, level: u8, source: u64, blocked: u64, reached: u64) -> u64
     }
 }
 
-// Adds the lanes in which paths of exactly this strength begin at each node. Whether some node has more.
-fn begin(own: &[u8], level: u8, source: &[u64], blocked: &[u64], reached: &mut [u64]) -> bool
+// Adds the lanes in which paths of exactly this strength begin at each node, if some node gives it. Whether
+// some node has more.
+fn begin(
+    own: &[u8],
+    level: u8,
+    given: bool,
+    source: &[u64],
+    blocked: &[u64],
+    reached: &mut [u64],
+) -> bool
+    requires given { given ≡ false → IsGivenByNone own.now level }
     requires source { length source.now ≡ length own.now }
     requires blocked { length blocked.now ≡ length own.now }
     requires reached { length reached.old ≡ length own.now }
     ensures begun { HaveBegun (length own.now) own.now level source.now blocked.now reached.old reached.new }
     ensures same { result ≡ false → reached.new ≡ reached.old }
 {
+    if !given {
+        return false;
+    }
     let mut more = false;
     for node in 0..own.len() {
         let old = reached[node];
@@ -99,8 +112,8 @@ pub(crate) fn relink(
 )
     requires named { All (NamesWithin (length from.now.zeros.items)) devices.now }
     requires ones { length from.now.ones.items ≡ length from.now.zeros.items }
-    requires potential_room { length potential.old ≡ length devices.now }
-    requires definite_room { length definite.old ≡ length devices.now }
+    requires potential_room { length devices.now ≤ length potential.old }
+    requires definite_room { length devices.now ≤ length definite.old }
     requires unused { fresh ≡ false → IsCarriedByNone devices.now level }
     requires potential { AreLinked
         (length devices.now) devices.now from.now path_kind.Potential (level + 1) potential.old }
@@ -121,31 +134,39 @@ pub(crate) fn relink(
 }
 
 /// From the lanes in which stronger paths reach each node finds those in which paths of at least this
-/// strength do: paths from nodes of `source`, through nodes that aren't blocked. `idle` says that no link has
-/// a lane, and `fresh` that some device has just this strength: where none has, and no path begins, what was
-/// reached stays.
+/// strength do: paths from nodes of `source`, through nodes that aren't blocked. `given` says that some node
+/// has just this strength, `idle` that no link has a lane, and `fresh` that some device has just this
+/// strength: where none has, and no path begins, what was reached stays. `last` says that nobody asks for it:
+/// what was reached stays too.
 pub(crate) fn advance(
     devices: &[Device],
     own: &[u8],
     level: u8,
+    given: bool,
     idle: bool,
     fresh: bool,
+    last: bool,
     links: &[u64],
     source: &[u64],
     blocked: &[u64],
     reached: &mut [u64],
 )
     requires named { All (NamesWithin (length own.now)) devices.now }
-    requires links { length links.now ≡ length devices.now }
+    requires links { length devices.now ≤ length links.now }
     requires source { length source.now ≡ length own.now }
     requires blocked { length blocked.now ≡ length own.now }
     requires reached { length reached.old ≡ length own.now }
+    requires given { given ≡ false → IsGivenByNone own.now level }
     requires idle { idle ≡ true → AreIdle devices.now links.now blocked.now }
     requires closed { fresh ≡ false → AreClosed devices.now links.now blocked.now reached.old }
-    ensures { IsSpread
+    ensures spread { last ≡ false → IsSpread
         devices.now own.now level links.now source.now blocked.now reached.old reached.new }
+    ensures kept { StayReached reached.old reached.new }
 {
-    let more = begin(own, level, source, blocked, reached);
+    if last {
+        return;
+    }
+    let more = begin(own, level, given, source, blocked, reached);
     if !idle && (fresh || more) {
         close(devices, links, blocked, reached);
     }
@@ -157,6 +178,7 @@ pub(crate) fn advance_pair(
     devices: &[Device],
     own: &[u8],
     level: u8,
+    given: bool,
     idle: bool,
     fresh: bool,
     links: &[u64],
@@ -167,12 +189,13 @@ pub(crate) fn advance_pair(
     ones: &mut [u64],
 )
     requires named { All (NamesWithin (length own.now)) devices.now }
-    requires links { length links.now ≡ length devices.now }
+    requires links { length devices.now ≤ length links.now }
     requires not_ones { length not_ones.now ≡ length own.now }
     requires not_zeros { length not_zeros.now ≡ length own.now }
     requires blocked { length blocked.now ≡ length own.now }
     requires zeros { length zeros.old ≡ length own.now }
     requires ones { length ones.old ≡ length own.now }
+    requires given { given ≡ false → IsGivenByNone own.now level }
     requires idle { idle ≡ true → AreIdle devices.now links.now blocked.now }
     requires zeros_closed { fresh ≡ false → AreClosed devices.now links.now blocked.now zeros.old }
     requires ones_closed { fresh ≡ false → AreClosed devices.now links.now blocked.now ones.old }
@@ -181,8 +204,8 @@ pub(crate) fn advance_pair(
     ensures ones { IsSpread
         devices.now own.now level links.now not_zeros.now blocked.now ones.old ones.new }
 {
-    let more_zeros = begin(own, level, not_ones, blocked, zeros);
-    let more_ones = begin(own, level, not_zeros, blocked, ones);
+    let more_zeros = begin(own, level, given, not_ones, blocked, zeros);
+    let more_ones = begin(own, level, given, not_zeros, blocked, ones);
     if !idle && (fresh || more_zeros || more_ones) {
         close_pair(devices, links, blocked, zeros, ones);
     }

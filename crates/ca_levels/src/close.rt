@@ -1,9 +1,9 @@
 //! What planes of links lead on.
 
-ghost use Rattle.std.specs.Prelude.{ℕ, ◌≡◌, ◌<◌, length};
+ghost use Rattle.std.specs.Prelude.{ℕ, ◌≡◌, ◌<◌, ◌≤◌, length};
 ghost use Rattle.std.specs.List.{All};
 ghost use Rattle.ca_net.specs.Circuit.{NamesWithin};
-ghost use Rattle.ca_levels.specs.code.Come.{Leads, Raises, RaisesSome, LeadsNoMore, AreClosed, RaiseBoth};
+ghost use Rattle.ca_levels.specs.code.Come.{Leads, Raises, RaisesSome, LeadsNoMore, AreClosed, IsRound, RaiseBoth};
 
 use ca_net::Device;
 use ca_planes::{both, either, except};
@@ -32,7 +32,7 @@ fn lead_both(
     i: usize,
 ) -> bool
     requires named { All (NamesWithin (length reached.old)) devices.now }
-    requires links { length links.now ≡ length devices.now }
+    requires links { length devices.now ≤ length links.now }
     requires blocked { length blocked.now ≡ length reached.old }
     requires device { i < length devices.now }
     ensures raises { Raises devices.now links.now blocked.now reached.old reached.new result }
@@ -47,7 +47,7 @@ fn lead_both(
 // Goes once over all devices. Whether some node has more lanes.
 fn sweep(devices: &[Device], links: &[u64], blocked: &[u64], reached: &mut [u64]) -> bool
     requires named { All (NamesWithin (length reached.old)) devices.now }
-    requires links { length links.now ≡ length devices.now }
+    requires links { length devices.now ≤ length links.now }
     requires blocked { length blocked.now ≡ length reached.old }
     ensures raises { Raises devices.now links.now blocked.now reached.old reached.new result }
     ensures settled { (i : ℕ) → i < length devices.now
@@ -61,16 +61,47 @@ fn sweep(devices: &[Device], links: &[u64], blocked: &[u64], reached: &mut [u64]
     rose
 }
 
+// The same from the last device to the first.
+fn sweep_back(devices: &[Device], links: &[u64], blocked: &[u64], reached: &mut [u64]) -> bool
+    requires named { All (NamesWithin (length reached.old)) devices.now }
+    requires links { length devices.now ≤ length links.now }
+    requires blocked { length blocked.now ≡ length reached.old }
+    ensures raises { Raises devices.now links.now blocked.now reached.old reached.new result }
+    ensures settled { (i : ℕ) → i < length devices.now
+        → LeadsNoMore devices.now links.now blocked.now reached.old result i }
+{
+    let mut rose = false;
+    for done in 0..devices.len() {
+        let here = lead_both(devices, links, blocked, reached, devices.len() - 1 - done);
+        rose = rose || here;
+    }
+    rose
+}
+
+// Goes over all devices and back, if some node had more lanes. Whether some node still had on the way back.
+// Devices in series mostly stand in their order along the series, or against it.
+fn round(devices: &[Device], links: &[u64], blocked: &[u64], reached: &mut [u64]) -> bool
+    requires named { All (NamesWithin (length reached.old)) devices.now }
+    requires links { length devices.now ≤ length links.now }
+    requires blocked { length blocked.now ≡ length reached.old }
+    ensures { IsRound devices.now links.now blocked.now reached.old reached.new result }
+{
+    if !sweep(devices, links, blocked, reached) {
+        return false;
+    }
+    sweep_back(devices, links, blocked, reached)
+}
+
 /// Adds to the lanes of each node those in which links lead there, through nodes that aren't blocked.
 pub(crate) fn close(devices: &[Device], links: &[u64], blocked: &[u64], reached: &mut [u64])
     requires named { All (NamesWithin (length reached.old)) devices.now }
-    requires links { length links.now ≡ length devices.now }
+    requires links { length devices.now ≤ length links.now }
     requires blocked { length blocked.now ≡ length reached.old }
     ensures raises { RaisesSome devices.now links.now blocked.now reached.old reached.new }
     ensures closed { AreClosed devices.now links.now blocked.now reached.new }
 {
     'sweeps: loop {
-        if !sweep(devices, links, blocked, reached) {
+        if !round(devices, links, blocked, reached) {
             return;
         }
     }
@@ -85,7 +116,7 @@ fn sweep_pair(
     ones: &mut [u64],
 ) -> bool
     requires named { All (NamesWithin (length zeros.old)) devices.now }
-    requires links { length links.now ≡ length devices.now }
+    requires links { length devices.now ≤ length links.now }
     requires blocked { length blocked.now ≡ length zeros.old }
     requires ones { length ones.old ≡ length zeros.old }
     ensures { RaiseBoth
@@ -102,6 +133,54 @@ fn sweep_pair(
     zeros_rose || ones_rose
 }
 
+// The same from the last device to the first.
+fn sweep_pair_back(
+    devices: &[Device],
+    links: &[u64],
+    blocked: &[u64],
+    zeros: &mut [u64],
+    ones: &mut [u64],
+) -> bool
+    requires named { All (NamesWithin (length zeros.old)) devices.now }
+    requires links { length devices.now ≤ length links.now }
+    requires blocked { length blocked.now ≡ length zeros.old }
+    requires ones { length ones.old ≡ length zeros.old }
+    ensures { RaiseBoth
+        devices.now links.now blocked.now zeros.old zeros.new ones.old ones.new result }
+{
+    let mut zeros_rose = false;
+    let mut ones_rose = false;
+    for done in 0..devices.len() {
+        let i = devices.len() - 1 - done;
+        let zero = lead_both(devices, links, blocked, zeros, i);
+        let one = lead_both(devices, links, blocked, ones, i);
+        zeros_rose = zeros_rose || zero;
+        ones_rose = ones_rose || one;
+    }
+    ones_rose || zeros_rose
+}
+
+// Goes over all devices and back, if some node had more lanes. Whether some node still had on the way back.
+fn round_pair(
+    devices: &[Device],
+    links: &[u64],
+    blocked: &[u64],
+    zeros: &mut [u64],
+    ones: &mut [u64],
+) -> bool
+    requires named { All (NamesWithin (length zeros.old)) devices.now }
+    requires links { length devices.now ≤ length links.now }
+    requires blocked { length blocked.now ≡ length zeros.old }
+    requires ones { length ones.old ≡ length zeros.old }
+    ensures { RaiseBoth
+        devices.now links.now blocked.now zeros.old zeros.new ones.old ones.new result }
+{
+    if !sweep_pair(devices, links, blocked, zeros, ones) {
+        return false;
+    }
+    sweep_pair_back(devices, links, blocked, zeros, ones)
+}
+
 /// The same as `close` in two planes of each node at a time.
 pub(crate) fn close_pair(
     devices: &[Device],
@@ -111,7 +190,7 @@ pub(crate) fn close_pair(
     ones: &mut [u64],
 )
     requires named { All (NamesWithin (length zeros.old)) devices.now }
-    requires links { length links.now ≡ length devices.now }
+    requires links { length devices.now ≤ length links.now }
     requires blocked { length blocked.now ≡ length zeros.old }
     requires ones { length ones.old ≡ length zeros.old }
     ensures zeros { RaisesSome devices.now links.now blocked.now zeros.old zeros.new }
@@ -120,7 +199,7 @@ pub(crate) fn close_pair(
     ensures ones_closed { AreClosed devices.now links.now blocked.now ones.new }
 {
     'sweeps: loop {
-        if !sweep_pair(devices, links, blocked, zeros, ones) {
+        if !round_pair(devices, links, blocked, zeros, ones) {
             return;
         }
     }

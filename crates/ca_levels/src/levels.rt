@@ -6,16 +6,15 @@ ghost use Rattle.ca_levels.specs.Levels.{HasRoom, HoldsNetwork};
 ghost use Rattle.ca_levels.specs.Given.{IsGivenByNone, IsCarriedByNone, AreGiven, AreCarried};
 
 use ca_base::NoMemory;
-use ca_net::{Device, DeviceId, DeviceKind, INPUT, Network, NodeId};
+use ca_net::{Device, INPUT, Network, NodeId};
 use ca_planes::ALL_LANES;
 use std::alloc::Global;
 
-/// Room for the responses of the nodes of a network in a block of lanes, and what is read of the network.
+/// Room for the responses of the nodes of a network in a block of lanes, and what is read of its strengths.
 #[derive(Drop, Debug)]
 pub struct Levels {
     // what each node gives to the paths that begin at it
     pub(crate) own: Vec<u8>,
-    pub(crate) devices: Vec<Device>,
     // whether some node gives each strength, and whether some device has it
     pub(crate) given: Vec<bool>,
     pub(crate) carried: Vec<bool>,
@@ -34,15 +33,6 @@ pub struct Levels {
 /// How many strengths there are, with that of an input node and with 0.
 pub(crate) const STRENGTHS: usize = INPUT as usize + 1;
 
-// What stands for a device before the first network is loaded.
-const NO_DEVICE: Device = Device {
-    kind: DeviceKind::D,
-    strength: 0,
-    gate: NodeId(0),
-    a: NodeId(0),
-    b: NodeId(0),
-};
-
 // Copies what the nodes of the network give to paths.
 fn copy_strengths<N: Network>(net: &N, own: &mut [u8])
     requires { length own.old ≡ length (N.circuit net.now).nodes }
@@ -50,16 +40,6 @@ fn copy_strengths<N: Network>(net: &N, own: &mut [u8])
 {
     for node in 0..net.node_count() {
         own[node] = net.kind(NodeId(node as u32)).root_strength();
-    }
-}
-
-// Copies the devices of the network.
-fn copy_devices<N: Network>(net: &N, devices: &mut [Device])
-    requires { length devices.old ≡ length (N.circuit net.now).devices }
-    ensures { devices.new ≡ (N.circuit net.now).devices }
-{
-    for i in 0..net.device_count() {
-        devices[i] = net.device(DeviceId(i as u32));
     }
 }
 
@@ -108,14 +88,13 @@ fn find_carried(devices: &[Device], carried: &mut [bool])
 }
 
 impl Levels {
-    /// Takes the room for a network of this many nodes and devices: 33 bytes a node and 36 a device. As yet
+    /// Takes the room for a network of this many nodes and devices: 33 bytes a node and 16 a device. As yet
     /// it holds no network.
     pub fn reserve(alloc: Global, nodes: usize, devices: usize) -> Result<Self, NoMemory>
         ensures { IfOk result (HasRoom nodes devices) }
     {
         Ok(Levels {
             own: vec![in alloc; 0u8; nodes]?,
-            devices: vec![in alloc; NO_DEVICE; devices]?,
             given: vec![in alloc; false; STRENGTHS]?,
             carried: vec![in alloc; false; STRENGTHS]?,
             not_ones: vec![in alloc; 0u64; nodes]?,
@@ -128,13 +107,14 @@ impl Levels {
     }
 
     /// Leaves in the room what is read of the network, whatever it held. It takes no memory.
-    pub fn load<N: Network>(&mut self, net: &N)
-        requires { HasRoom (length (N.circuit net.now).nodes) (length (N.circuit net.now).devices) self.old }
+    pub fn load<N: Network>(&mut self, net: &N, devices: &[Device])
+        requires room { HasRoom
+            (length (N.circuit net.now).nodes) (length (N.circuit net.now).devices) self.old }
+        requires devices { devices.now ≡ (N.circuit net.now).devices }
         ensures { HoldsNetwork (N.circuit net.now) self.new }
     {
         copy_strengths(net, &mut self.own);
-        copy_devices(net, &mut self.devices);
         find_given(&self.own, &mut self.given);
-        find_carried(&self.devices, &mut self.carried);
+        find_carried(devices, &mut self.carried);
     }
 }

@@ -1,5 +1,6 @@
 pub mod RowLemmas
 pub mod ReadLemmas
+pub mod TableLemmas
 pub mod LinkLemmas
 pub mod RuleLemmas
 pub mod SameLemmas

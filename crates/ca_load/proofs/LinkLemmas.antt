@@ -42,7 +42,8 @@ of_read files names inputs Holds read holds = λ reported is. (inputs, (read rep
 -- inputs that give no chip with chains
 pub at_inputs : (names : InputFiles) (files : Option Files) (before after : ℕ) (inputs : Inputs) (fault : Fault)
     → AreRead files names inputs → IsLinkedStage inputs fault → IsLoadCause names files before after fault
-at_inputs names files before after inputs fault read (inl memory) = rw memory (inl (inl (inl tt)))
+at_inputs names files before after inputs fault read (inl memory) =
+    inl (inl (inl memory))
 at_inputs names files before after inputs fault read (inr (is, cause)) =
     inr (is, of_read files names inputs _ read cause)
 

@@ -7,6 +7,7 @@ use Rattle.std.proofs.lemmas.List.Elements.{All-head, All-tail}
 use Rattle.std.proofs.lemmas.Option.{same_Some}
 use Rattle.ca_store.specs.Store.{Files}
 use Rattle.ca_cell.specs.declared.raw.RawCell.{RawCell}
+use Rattle.ca_cell.specs.declared.strength.StrengthTable.{StrengthTable}
 use Rattle.ca_cell.specs.declared.library.Entry.{Entry}
 use Rattle.ca_cell.specs.declared.library.Entry.TheVariants.{Sound, Refused}
 use Rattle.ca_cell.specs.Library.{Named, raw_of, IsEntry}
@@ -18,6 +19,8 @@ use Rattle.ca_verilog.specs.Text.{netlist_of}
 use Rattle.ca_wiring.specs.declared.scan_row.ScanRow.{ScanRow}
 use Rattle.ca_scan.specs.Table.{table_of}
 use Rattle.ca_load.specs.Files.{IsFileWith}
+use Rattle.ca_load.specs.declared.cells.TheConstants.{MAX_CELLS}
+use Rattle.ca_load.specs.Texts.{CellFiles, strengths_in, AreCellsWith}
 use Rattle.ca_load.specs.Texts.{IsLibraryOf, IsNetlistOf, IsTableOf, IsTableAt, InputFiles, Inputs, ReadAs}
 use Rattle.ca_load.proofs.RuleLemmas.{one_broken}
 
@@ -58,9 +61,10 @@ same_library (x ∷ xs) (y ∷ ys) same one other =
     (All-tail (λ (named : Named). IsEntry named.entry) y ys other) in
     λ j. heads j ∷ tails j
 
--- a text reads as one library
-one_library : (bytes : List ℕ) (a b : List Named) → IsLibraryOf a bytes → IsLibraryOf b bytes → a ≡ b
-one_library bytes a b one other =
+-- a text reads as one library under a table
+one_library : (table : StrengthTable) (bytes : List ℕ) (a b : List Named) → IsLibraryOf a table bytes → IsLibraryOf b table bytes
+    → a ≡ b
+one_library table bytes a b one other =
     let seen : map subcircuit_seen a ≡ map subcircuit_seen b =
     (let both = sym one.reads ∙ other.reads in cc) in
     same_library a b seen one.entries other.entries
@@ -84,6 +88,17 @@ module _ {A : Type 0} (reported : Files) (name : List ℕ) (limit : ℕ) (Reads 
       by None one other = absurd one
       by (Some bytes) one other = one_of bytes a b one.1 other.1
 
+-- what holds of the bytes of a cell netlist's file under its table, both of them
+one_in_cells : (reported : Files) (names : CellFiles) (a b : List Named) → AreCellsWith reported names (IsLibraryOf a)
+    → AreCellsWith reported names (IsLibraryOf b) → a ≡ b
+one_in_cells reported names a b one other = by (strengths_in names.table reported) one other
+  where
+    by : (under : Option StrengthTable) → IsSomeAnd under (λ table. IsFileWith reported names.name MAX_CELLS (IsLibraryOf a table))
+        → IsSomeAnd under (λ table. IsFileWith reported names.name MAX_CELLS (IsLibraryOf b table)) → a ≡ b
+    by None one other = absurd one
+    by (Some table) one other =
+        one_in_file reported names.name MAX_CELLS (λ library. IsLibraryOf library table) (one_library table) a b one other
+
 one_at_table : (reported : Files) (scan : Option (List ℕ)) (a b : List ScanRow) → IsTableAt (Some reported) scan a
     → IsTableAt (Some reported) scan b → a ≡ b
 one_at_table reported None a b one other = one ∙ sym other
@@ -95,7 +110,7 @@ pub one_reading : (names : InputFiles) (reported : Files) (a b : Inputs) → Rea
     → a ≡ b
 one_reading names reported a b one other =
     let library : a.library ≡ b.library =
-    one_in_file reported names.cells _ IsLibraryOf one_library a.library b.library one.library other.library in
+    one_in_cells reported names.cells a.library b.library one.library other.library in
     let netlist : a.netlist ≡ b.netlist =
     one_in_file reported names.netlist _ IsNetlistOf one_netlist a.netlist b.netlist one.netlist other.netlist in
     let rows : a.rows ≡ b.rows = one_at_table reported names.scan a.rows b.rows one.rows other.rows in

@@ -4,6 +4,7 @@ use Rattle.std.proofs.Common.{Option, Some, None, Result, Ok, Err}
 use Rattle.std.specs.Prelude.{IsSome, IsSomeAnd}
 use Rattle.std.proofs.lemmas.Option.{same_Some}
 use Rattle.ca_store.specs.Store.{Files, Rose, MayHave}
+use Rattle.ca_cell.specs.declared.strength.StrengthTable.{StrengthTable}
 use Rattle.ca_spice.specs.declared.fault.SpiceFault.TheVariants as spice
 use Rattle.ca_spice.specs.Reading.{library_of}
 use Rattle.ca_verilog.specs.declared.fault.VerilogFault.TheVariants as verilog
@@ -17,20 +18,24 @@ use Rattle.ca_scan.specs.ChainFault.{AreAllChains, IsChainCause}
 use Rattle.ca_scan.proofs.AnswerLemmas.{one_answer}
 use Rattle.ca_fault.specs.declared.fault.LimitKind.TheVariants as limit
 use Rattle.ca_fault.specs.declared.fault.Fault.{Fault}
-use Rattle.ca_fault.specs.declared.fault.Fault.TheVariants.{Cells, Netlist, Scan, Cell, Chain, TooLong, Limit}
-use Rattle.ca_fault.specs.declared.fault.Fault.TheVariants.{StoreFailed, NoMemory}
+use Rattle.ca_fault.specs.declared.fault.Fault.TheVariants.{Strengths, Cells, Netlist, Scan, Cell, Chain, TooLong}
+use Rattle.ca_fault.specs.declared.fault.Fault.TheVariants.{Limit, StoreFailed, NoMemory}
 use Rattle.ca_fault.specs.declared.fault.Fault.TheVariants as fault_
 use Rattle.ca_load.specs.declared.cells.TheConstants.{MAX_CELLS}
 use Rattle.ca_load.specs.declared.netlists.TheConstants.{MAX_NETLIST}
 use Rattle.ca_load.specs.declared.tables.TheConstants.{MAX_SCAN}
 use Rattle.ca_load.specs.Files.{IsFileWith, OfFile, IsReadCause}
-use Rattle.ca_load.specs.Texts.{IsLibraryOf, IsNetlistOf, IsTableOf, IsTableAt, InputFiles, Inputs, ReadAs}
-use Rattle.ca_load.specs.Texts.{OfInputs}
+use Rattle.ca_load.specs.declared.strengths.TheConstants.{MAX_STRENGTHS}
+use Rattle.ca_load.specs.Texts.{CellFiles, strengths_in, AreCellsWith, OfCells, IsLibraryOf, IsNetlistOf, IsTableOf}
+use Rattle.ca_load.specs.Texts.{IsTableAt, InputFiles, Inputs, ReadAs, OfInputs}
+use Rattle.ca_load.specs.code.Texts.{IsTableText}
 use Rattle.ca_load.specs.Chips.{IsChipOf, BreakFirst, IsLinkingCause, IsTracingCause, LackChains, IsChipCause}
 use Rattle.ca_load.specs.Chips.{GiveChip}
+use Rattle.ca_load.specs.Causes.{IsRatioCause, IsRatiosCause, IsStrengthsCause, IsLibraryCause}
 use Rattle.ca_load.specs.Causes.{IsTextCause, IsCellsCause, IsModuleCause, IsTokensCause, IsRecordCause}
 use Rattle.ca_load.specs.Causes.{IsRowsCause, IsScanCause, IsInputCause, IsLinkedCause, IsLoadCause}
 use Rattle.ca_load.proofs.SameLemmas.{one_reading}
+use Rattle.ca_load.proofs.TableLemmas.{named_table, file_of_table}
 
 -- the fault is that of a call of the store, or out of memory
 abbrev pub IsOutsideFault : Fault → ℕ → ℕ → Type 0
@@ -56,15 +61,32 @@ module _ (files : Option Files) (reported : Files) (are : files ≡ Some reporte
   at_read name bytes most there within NoMemory cause = inl refl
   at_read name bytes most there within fault cause = absurd cause
 
-  at_cells : (name bytes : List ℕ) → reported name ≡ Some bytes → (a : List _) → IsLibraryOf a bytes → (fault : Fault)
-      → IsCellsCause name files fault → ⊥
-  at_cells name bytes there a reads (Cells line kind) cause =
-      let broken = at_bytes name bytes MAX_CELLS (IsTextCause (Cells line kind)) there cause in
+  -- what is said of a cell netlist holds of its bytes, under the table that its table's file is
+  pub under : (names : CellFiles) (table : StrengthTable) (P : StrengthTable → List ℕ → Type 0)
+      → strengths_in names.table reported ≡ Some table → OfCells files names P → OfFile files names.name MAX_CELLS (P table)
+  under names table P is held = λ other told.
+      let here : IsSomeAnd (Some table) (λ table. IsFileWith reported names.name MAX_CELLS (P table)) = rw is at (held reported are) in
+      subst (λ (it : Files). IsFileWith it names.name MAX_CELLS (P table)) (same_Some reported other (sym are ∙ told)) here
+
+  at_cells : (names : CellFiles) (table : StrengthTable) → strengths_in names.table reported ≡ Some table → (bytes : List ℕ)
+      → reported names.name ≡ Some bytes → (a : List _) → IsLibraryOf a table bytes → (fault : Fault)
+      → IsCellsCause names files fault → ⊥
+  at_cells names table is bytes there a reads (Cells line kind) cause =
+      let broken = at_bytes names.name bytes MAX_CELLS (IsTextCause (Cells line kind) table) there
+      (under names table (IsTextCause (Cells line kind)) is cause) in
       let both = sym reads.reads ∙ broken in cc
-  at_cells name bytes there a reads (Limit limit.Cells count) cause =
-      let broken = at_bytes name bytes MAX_CELLS (IsTextCause (Limit limit.Cells count)) there cause in
+  at_cells names table is bytes there a reads (Limit limit.Cells count) cause =
+      let broken = at_bytes names.name bytes MAX_CELLS (IsTextCause (Limit limit.Cells count) table) there
+      (under names table (IsTextCause (Limit limit.Cells count)) is cause) in
       let both = sym reads.reads ∙ broken in cc
-  at_cells name bytes there a reads fault cause = cause
+  at_cells names table is bytes there a reads fault cause = cause
+
+  at_ratios : (name bytes : List ℕ) → reported name ≡ Some bytes → (table : StrengthTable) → IsTableText table bytes → (fault : Fault)
+      → IsRatiosCause name files fault → ⊥
+  at_ratios name bytes there table reads (Strengths row) cause =
+      let broken = at_bytes name bytes MAX_STRENGTHS (IsRatioCause (Strengths row)) there cause in
+      let both = sym reads ∙ broken in cc
+  at_ratios name bytes there table reads fault cause = cause
 
   at_tokens : (name bytes : List ℕ) → reported name ≡ Some bytes → (a : _) → IsNetlistOf a bytes → (fault : Fault)
       → IsTokensCause name files fault → ⊥
@@ -97,6 +119,30 @@ module _ (files : Option Files) (reported : Files) (are : files ≡ Some reporte
         | inr text ↦ absurd (none bytes is held.1 text)
       ]
 
+  -- the strength table, where there is one
+  pub at_strengths : (name : Option (List ℕ)) (table : StrengthTable) → strengths_in name reported ≡ Some table → (fault : Fault)
+      → IsStrengthsCause name files before after fault → IsOutsideFault fault before after
+  at_strengths None table is fault cause = absurd cause
+  at_strengths (Some name) table is fault cause =
+      at_file name MAX_STRENGTHS (IsTableText table) (file_of_table (reported name) table (named_table reported name table is)) fault
+      (IsRatiosCause name files fault) (λ bytes there held. at_ratios name bytes there table held fault) cause
+
+  -- files that read as a library
+  pub at_library : (names : CellFiles) (a : List _) → AreCellsWith reported names (IsLibraryOf a) → (fault : Fault)
+      → IsLibraryCause names files before after fault → IsOutsideFault fault before after
+  at_library names a reads fault cause = by (strengths_in names.table reported) refl reads
+    where
+      by : (under : Option StrengthTable) → strengths_in names.table reported ≡ under
+          → IsSomeAnd under (λ table. IsFileWith reported names.name MAX_CELLS (IsLibraryOf a table)) → IsOutsideFault fault before after
+      by None is held = absurd held
+      by (Some table) is held = elim cause [
+        | inl memory ↦ inl memory
+        | inr (inl strengths) ↦ at_strengths names.table table is fault strengths
+        | inr (inr (inl (has, read))) ↦ at_file names.name MAX_CELLS (IsLibraryOf a table) held fault ⊥ (λ bytes there holds none. none) (inl read)
+        | inr (inr (inr text)) ↦ at_file names.name MAX_CELLS (IsLibraryOf a table) held fault (IsCellsCause names files fault)
+            (λ bytes there holds. at_cells names table is bytes there a holds fault) (inr text)
+      ]
+
   at_scan : (scan : Option (List ℕ)) (rows : _) → IsTableAt (Some reported) scan rows → (fault : Fault)
       → IsScanCause scan files before after fault → IsOutsideFault fault before after
   at_scan None rows reads fault cause = absurd cause
@@ -106,9 +152,7 @@ module _ (files : Option Files) (reported : Files) (are : files ≡ Some reporte
 
   module _ (names : InputFiles) (inputs : Inputs) (read : ReadAs names inputs reported) (gives : GiveChip inputs) where
     at_input : (fault : Fault) → IsInputCause names files before after fault → IsOutsideFault fault before after
-    at_input fault (inl cause) =
-        at_file names.cells MAX_CELLS (IsLibraryOf inputs.library) read.library fault (IsCellsCause names.cells files fault)
-        (λ bytes is held. at_cells names.cells bytes is inputs.library held fault) cause
+    at_input fault (inl cause) = at_library names.cells inputs.library read.library fault cause
     at_input fault (inr (inl (has, cause))) =
         at_file names.netlist MAX_NETLIST (IsNetlistOf inputs.netlist) read.netlist fault
         (IsTokensCause names.netlist files fault)

@@ -8,10 +8,12 @@ mod linking;
 mod loading;
 mod netlists;
 mod reading;
+mod strengths;
 mod tables;
 
-pub use cells::{MAX_CELLS, open_library};
+pub use cells::{CellNames, MAX_CELLS, TypedCells, open_library, typed_cells};
 pub use files::read_input;
 pub use loading::{FileNames, Loaded, load};
 pub use netlists::MAX_NETLIST;
+pub use strengths::MAX_STRENGTHS;
 pub use tables::MAX_SCAN;

@@ -7,6 +7,7 @@ ghost use Rattle.ca_load.specs.Texts.{names_of, OfInputs};
 ghost use Rattle.ca_load.specs.Chips.{IsChipOf};
 ghost use Rattle.ca_load.specs.Causes.{IsLoadCause};
 
+use crate::cells::CellNames;
 use crate::linking::link_all;
 use crate::reading::read_all;
 use ca_fault::Fault;
@@ -18,7 +19,7 @@ use std::alloc::Global;
 /// The names of the files of a command on a chip. One without scan cells may have no file for their table.
 #[derive(Clone, Copy)]
 pub struct FileNames<'a> {
-    pub cells: &'a str,
+    pub cells: CellNames<'a>,
     pub netlist: &'a str,
     pub scan: Option<&'a str>,
 }

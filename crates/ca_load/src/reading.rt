@@ -11,7 +11,7 @@ ghost use Rattle.ca_load.specs.code.Texts.{AreRead};
 ghost use Rattle.ca_load.specs.Causes.{IsInputCause};
 ghost use Rattle.ca_load.specs.code.Stages.{inputs_of, AreTyped};
 
-use crate::cells::open_library;
+use crate::cells::{TypedCells, open_library, typed_cells};
 use crate::loading::FileNames;
 use crate::netlists::open_netlist;
 use crate::tables::open_table;
@@ -36,7 +36,7 @@ pub(crate) struct Read {
 /// fault of a file is reported as out of memory.
 #[derive(Drop)]
 pub(crate) struct TypedNames {
-    pub cells: Text,
+    pub cells: TypedCells,
     pub netlist: Text,
     pub scan: Text,
 }
@@ -50,7 +50,7 @@ fn typed_names(alloc: Global, names: &FileNames<'_>) -> Result<TypedNames, NoMem
         None => Text::new(alloc),
     };
     Ok(TypedNames {
-        cells: Text::from_bytes(alloc, names.cells.as_bytes())?,
+        cells: typed_cells(alloc, &names.cells)?,
         netlist: Text::from_bytes(alloc, names.netlist.as_bytes())?,
         scan,
     })
@@ -77,7 +77,7 @@ pub(crate) fn read_all<S: Store>(
     ensures kept { S.files store.new ≡ S.files store.old }
 {
     let typed = typed_names(alloc, names)?;
-    let library = open_library(alloc, names.cells, typed.cells, store)?;
+    let library = open_library(alloc, &names.cells, typed.cells, store)?;
     let netlist = open_netlist(alloc, names.netlist, typed.netlist, store)?;
     let scan = open_table(alloc, names.scan, typed.scan, store)?;
     Ok(Read {

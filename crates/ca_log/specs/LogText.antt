@@ -52,7 +52,7 @@ place_with pairs names pair output = elim (number_below pairs pair) [
   | Some number ↦ option_map (λ place. record { pair = number; output = place }) (place_of output names)
 ]
 
--- the place that a record names: one of so many pairs, and an output; or none, where it hasn't two fields
+-- the place that a record names: one of this many pairs, and an output; or none, where it hasn't two fields
 unfoldable pub place_in : ℕ → List (List ℕ) → List (List ℕ) → Option LogRecord
 place_in pairs names [] = None
 place_in pairs names (pair ∷ []) = None

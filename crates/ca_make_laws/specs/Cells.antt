@@ -15,8 +15,8 @@ use Rattle.ca_cell.specs.Library.{Named}
 abbrev pub pin : List ℕ → Role → RawPin
 pin name role = record { name = name; role = role }
 
--- a transistor of a width in units of 10^-18 metre, whose channel is 50 nanometres long: more than eight times
--- as wide as long, and so one of the strongest
+-- a transistor of a width in units of 10^-18 metre, whose channel is 50 nanometres long: more than eight
+-- times as wide as long, and so one of the strongest
 abbrev pub transistor : DeviceKind → ℕ → List ℕ → ℕ → ℕ → ℕ → RawDevice
 transistor kind width name drain gate source = record {
   name = name;

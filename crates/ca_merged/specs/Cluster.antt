@@ -73,7 +73,7 @@ seat chip members u n =
 abbrev pub bare_pin : Role → RawPin
 bare_pin role = record { name = []; role = role }
 
--- power, ground, and so many input and output pins
+-- power, ground, and this many input and output pins
 abbrev pub pins_of : ℕ → ℕ → List RawPin
 pins_of inputs outputs =
     bare_pin Power ∷ bare_pin Ground ∷ (replicate inputs (bare_pin Input) ++ replicate outputs

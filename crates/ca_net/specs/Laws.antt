@@ -1,6 +1,7 @@
 -- Laws of the definitions. Each is the contract of a public function that does nothing (src/laws.rt).
 use Rattle.std.specs.Prelude.{ℕ, ◌≡◌, ◌<◌, List, length, ◌↔◌, ◌≢◌}
-use Rattle.ca_net.specs.declared.scale.TheConstants.{INNER_NODE, OUTPUT_NET, WEAKEST, STRONGEST, BRIDGE, INPUT}
+use Rattle.ca_net.specs.declared.scale.TheConstants.{INNER_NODE, OUTPUT_NET, WEAKEST, STRONGEST, BRIDGE}
+use Rattle.ca_net.specs.declared.scale.TheConstants.{INPUT}
 use Rattle.ca_net.specs.declared.trit.Trit.{Trit}
 use Rattle.ca_net.specs.declared.trit.Trit.TheVariants.{X}
 use Rattle.ca_net.specs.Circuit.{Circuit, IsWellFormed}

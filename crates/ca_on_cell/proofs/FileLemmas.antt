@@ -7,28 +7,26 @@ use Rattle.ca_cell.specs.declared.raw.RawCell.{RawCell}
 use Rattle.ca_cell.specs.declared.library.Entry.{Entry}
 use Rattle.ca_cell.specs.Library.{Named, entry_of, raw_of}
 use Rattle.ca_spice.proofs.CalledLemmas.{called_of_library}
-use Rattle.ca_cell.specs.Strength.{default_table}
-use Rattle.ca_load.specs.declared.cells.TheConstants.{MAX_CELLS}
-use Rattle.ca_load.specs.Texts.{IsLibraryOf}
-use Rattle.ca_load.proofs.ReadLemmas.{of_file_then}
-use Rattle.ca_on_cell.specs.Cells.{OfFile, HasCell, LacksCell, OfCell}
+use Rattle.ca_load.specs.Texts.{CellFiles, OfCells, IsLibraryOf}
+use Rattle.ca_load.proofs.ReadLemmas.{of_cells_then}
+use Rattle.ca_on_cell.specs.Cells.{HasCell, LacksCell, OfCell}
 
-module _ (files : Option Files) (name word : List ℕ) (library : List Named)
-    (read : OfFile files name (IsLibraryOf library)) where
+module _ (files : Option Files) (names : CellFiles) (word : List ℕ) (library : List Named)
+    (read : OfCells files names (IsLibraryOf library)) where
   -- what holds of an entry's subcircuit holds of the cell in the file
   pub of_entry : (entry : Entry) (Holds : RawCell → Type 0) → entry_of library (upper_case word) ≡ Some entry → Holds (raw_of entry)
-      → OfCell files name word Holds
-  of_entry entry Holds found holds = of_file_then files name MAX_CELLS _ (HasCell word Holds)
-      (λ bytes is. rw (called_of_library default_table bytes word library is.reads, found) holds) read
+      → OfCell files names word Holds
+  of_entry entry Holds found holds = of_cells_then files names (IsLibraryOf library) (HasCell word Holds)
+      (λ table bytes is. rw (called_of_library table bytes word library is.reads, found) holds) read
 
   -- the same of an answer
   pub of_entry_answer : {T E : Type 0} (r : Result T E) (entry : Entry) (Holds : T → RawCell → Type 0)
       → entry_of library (upper_case word) ≡ Some entry → IfOk r (λ value. Holds value (raw_of entry))
-      → IfOk r (λ value. OfCell files name word (Holds value))
+      → IfOk r (λ value. OfCell files names word (Holds value))
   of_entry_answer (Ok value) entry Holds found holds = of_entry entry (Holds value) found holds
   of_entry_answer (Err error) entry Holds found holds = tt
 
   -- a name that the library lacks
-  pub of_none : entry_of library (upper_case word) ≡ None → OfFile files name (LacksCell word)
-  of_none missing = of_file_then files name MAX_CELLS _ (LacksCell word)
-      (λ bytes is. (rw is.reads refl, rw (called_of_library default_table bytes word library is.reads, missing) refl)) read
+  pub of_none : entry_of library (upper_case word) ≡ None → OfCells files names (LacksCell word)
+  of_none missing = of_cells_then files names (IsLibraryOf library) (LacksCell word)
+      (λ table bytes is. (rw is.reads refl, rw (called_of_library table bytes word library is.reads, missing) refl)) read

@@ -9,9 +9,10 @@ use Rattle.ca_cell.specs.Rules.{KeepsRules, IsFirstBroken}
 use Rattle.ca_fault_place.specs.Place.{rule_text}
 use Rattle.ca_fault.specs.declared.fault.Fault.{Fault}
 use Rattle.ca_fault.specs.declared.fault.Fault.TheVariants.{NoCell, Cell, BadVector, NoDefect}
+use Rattle.ca_load.specs.Texts.{CellFiles, OfCells}
 use Rattle.ca_load.specs.Causes.{IsLibraryCause}
 use Rattle.ca_request.specs.Vectors.{dash}
-use Rattle.ca_on_cell.specs.Cells.{OfFile, OfCell, LacksCell}
+use Rattle.ca_on_cell.specs.Cells.{OfCell, LacksCell}
 use Rattle.ca_on_cell.specs.Outputs.{Fits, asked_network}
 
 -- the rule is the first that the cell breaks, with its place
@@ -19,13 +20,13 @@ pub record BreaksAt (rule : CellRule) (place : List ℕ) (raw : RawCell) : Type 
   pub broken : IsFirstBroken raw rule
   pub placed : place ≡ rule_text raw rule
 
--- why a word finds no cell in a file: it names none, or one that breaks a rule, the first of those that it
+-- why a word finds no cell in the files: it names none, or one that breaks a rule, the first of those that it
 -- breaks
-abbrev pub IsNameCause : List ℕ → List ℕ → Option Files → Fault → Type 0
-IsNameCause name word files (NoCell typed) = (typed ≡ word) × OfFile files name (LacksCell word)
-IsNameCause name word files (Cell cell rule place) =
-    (cell ≡ upper_case word) × OfCell files name word (BreaksAt rule place)
-IsNameCause name word files _ = ⊥
+abbrev pub IsNameCause : CellFiles → List ℕ → Option Files → Fault → Type 0
+IsNameCause names word files (NoCell typed) = (typed ≡ word) × OfCells files names (LacksCell word)
+IsNameCause names word files (Cell cell rule place) =
+    (cell ≡ upper_case word) × OfCell files names word (BreaksAt rule place)
+IsNameCause names word files _ = ⊥
 
 -- the first of the two vectors that has more or fewer letters than the cell has input pins
 abbrev pub IsFirstUnfit : RawCell → List ℕ → List ℕ → List ℕ → Type 0
@@ -44,23 +45,24 @@ IsPairCause first last defect (NoDefect typed) raw =
     (typed ≡ defect) × (KeepsRules raw × LacksDefect raw first last defect)
 IsPairCause first last defect _ raw = ⊥
 
--- the same of the cell that a word names in a file; the word reported is one of those typed, whatever files
--- the store knows
-abbrev pub IsVectorCause : List ℕ → List ℕ → List ℕ → List ℕ → List ℕ → Option Files → Fault → Type 0
-IsVectorCause name word first last defect files (BadVector typed) =
+-- the same of the cell that a word names in the files; the word reported is one of those typed, whatever
+-- files the store knows
+abbrev pub IsVectorCause : CellFiles → List ℕ → List ℕ → List ℕ → List ℕ → Option Files → Fault → Type 0
+IsVectorCause names word first last defect files (BadVector typed) =
     ((typed ≡ first) ⊎ (typed ≡ last))
-    × OfCell files name word (IsPairCause first last defect (BadVector typed))
-IsVectorCause name word first last defect files (NoDefect typed) =
+    × OfCell files names word (IsPairCause first last defect (BadVector typed))
+IsVectorCause names word first last defect files (NoDefect typed) =
     (typed ≡ defect)
-    × ((defect ≢ dash) × OfCell files name word (IsPairCause first last defect (NoDefect typed)))
-IsVectorCause name word first last defect files _ = ⊥
+    × ((defect ≢ dash) × OfCell files names word (IsPairCause first last defect (NoDefect typed)))
+IsVectorCause names word first last defect files _ = ⊥
 
 -- why a command on one cell found no cell
-abbrev pub IsCellCause : List ℕ → List ℕ → Option Files → ℕ → ℕ → Fault → Type 0
-IsCellCause name word files before after fault =
-    IsLibraryCause name files before after fault ⊎ IsNameCause name word files fault
+abbrev pub IsCellCause : CellFiles → List ℕ → Option Files → ℕ → ℕ → Fault → Type 0
+IsCellCause names word files before after fault =
+    IsLibraryCause names files before after fault ⊎ IsNameCause names word files fault
 
 -- why `respond` and `pair` found no values
-abbrev pub IsValueCause : List ℕ → List ℕ → List ℕ → List ℕ → List ℕ → Option Files → ℕ → ℕ → Fault → Type 0
-IsValueCause name word first last defect files before after fault =
-    IsCellCause name word files before after fault ⊎ IsVectorCause name word first last defect files fault
+abbrev pub IsValueCause : CellFiles → List ℕ → List ℕ → List ℕ → List ℕ → Option Files → ℕ → ℕ → Fault
+    → Type 0
+IsValueCause names word first last defect files before after fault =
+    IsCellCause names word files before after fault ⊎ IsVectorCause names word first last defect files fault

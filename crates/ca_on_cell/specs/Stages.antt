@@ -6,14 +6,15 @@ use Rattle.ca_cell.specs.declared.rule.CellRule.{CellRule}
 use Rattle.ca_cell.specs.declared.library.Entry.TheVariants.{Refused}
 use Rattle.ca_cell.specs.Library.{Named, entry_of}
 use Rattle.ca_cell.specs.Rules.{IsFirstBroken}
+use Rattle.ca_load.specs.Texts.{CellFiles, AreTypedCells}
 use Rattle.ca_on_cell.specs.declared.inputs.TypedWords.{TypedWords}
 use Rattle.ca_fault.specs.declared.fault.Fault.{Fault}
 use Rattle.ca_fault.specs.declared.fault.Fault.TheVariants.{NoCell, Cell, NoMemory}
 use Rattle.ca_fault_place.specs.Place.{rule_text}
 
--- the words of a file and a cell as they were typed, and the cell's also in upper case
-pub record AreTyped (cells cell : List ℕ) (typed : TypedWords) : Type 0 where
-  pub cells_is : typed.cells ≡ cells
+-- the names of the files and of a cell as they were typed, and the cell's also in upper case
+pub record AreTyped (cells : CellFiles) (cell : List ℕ) (typed : TypedWords) : Type 0 where
+  pub cells_are : AreTypedCells cells typed.cells
   pub cell_is : typed.cell ≡ cell
   pub upper_is : typed.upper_cell ≡ upper_case cell
 

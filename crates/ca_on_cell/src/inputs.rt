@@ -4,6 +4,7 @@ ghost use Rattle.ca_lex.specs.Words.{upper_case};
 ghost use Rattle.ca_cell.specs.Library.{entry_of};
 ghost use Rattle.ca_cell.specs.Rules.{KeepsRules};
 ghost use Rattle.ca_cell.specs.declared.library.Entry.TheVariants as entry;
+ghost use Rattle.ca_load.specs.Texts.{cells_of};
 ghost use Rattle.ca_on_cell.specs.Stages.{AreTyped, IsEntryCause};
 
 use ca_base::NoMemory;
@@ -11,24 +12,25 @@ use ca_cell::{Cell, Entry, Library};
 use ca_fault::Fault;
 use ca_fault_place::rule_place;
 use ca_lex::{Text, fold};
+use ca_load::{TypedCells, typed_cells};
 use ca_words::CellWords;
 use std::alloc::Global;
 
-/// What a fault says of the file and the cell of a command. It is in memory of its own before the file is
-/// opened, so that no fault of the file or of the cell's name is reported as out of memory.
+/// What a fault says of the files and the cell of a command. It is in memory of its own before the first file
+/// is opened, so that no fault of a file or of the cell's name is reported as out of memory.
 #[derive(Drop)]
 pub struct TypedWords {
-    pub cells: Text,
+    pub cells: TypedCells,
     pub cell: Text,
     pub upper_cell: Text,
 }
 
-/// The words that faults of the file and the cell's name are reported with.
+/// The words that faults of the files and the cell's name are reported with.
 pub fn typed_words(alloc: Global, words: &CellWords<'_>) -> Result<TypedWords, NoMemory>
-    ensures { IfOk result (AreTyped words.now.cells.now words.now.cell.now) }
+    ensures { IfOk result (AreTyped (cells_of words.now.files) words.now.cell.now) }
 {
     Ok(TypedWords {
-        cells: Text::from_bytes(alloc, words.cells.as_bytes())?,
+        cells: typed_cells(alloc, &words.files)?,
         cell: Text::from_bytes(alloc, words.cell.as_bytes())?,
         upper_cell: fold(alloc, words.cell.as_bytes())?,
     })

@@ -2,6 +2,7 @@
 ghost use Rattle.std.specs.Prelude.{◌≡◌, Some, IfErr, IfOk, OnOk};
 ghost use Rattle.ca_store.specs.Store.{Nothing};
 ghost use Rattle.ca_defect.specs.Name.{names_of};
+ghost use Rattle.ca_load.specs.Texts.{cells_of};
 ghost use Rattle.ca_on_cell.specs.Cells.{OfCell};
 ghost use Rattle.ca_on_cell.specs.Causes.{IsCellCause};
 ghost use Rattle.ca_load.specs.Files.{ReportsStoreFault};
@@ -18,7 +19,7 @@ use ca_store::Store;
 use ca_words::CellWords;
 use std::alloc::Global;
 
-/// The names of the defects of the cell that the words name in their file.
+/// The names of the defects of the cell that the words name in their files.
 #[tactic(auto, using(crate::proofs::FileLemmas::of_entry, crate::proofs::StageLemmas::of_entry_cause))]
 pub fn find_names<S: Store>(
     alloc: Global,
@@ -28,8 +29,8 @@ pub fn find_names<S: Store>(
     requires closed { S.opened store.old ≡ Nothing }
 
     ensures names { IfOk result (λ names.
-        OfCell (S.files store.old) request.now.cells.now request.now.cell.now (AreDefectNames names)) }
-    ensures cause { IfErr result (IsCellCause request.now.cells.now request.now.cell.now
+        OfCell (S.files store.old) (cells_of request.now.files) request.now.cell.now (AreDefectNames names)) }
+    ensures cause { IfErr result (IsCellCause (cells_of request.now.files) request.now.cell.now
         (S.files store.old) (S.faults store.old) (S.faults store.new)) }
     ensures quiet { OnOk result (S.faults store.new ≡ S.faults store.old) }
     ensures reported { IfErr result (λ fault.
@@ -38,7 +39,7 @@ pub fn find_names<S: Store>(
     ensures kept { S.files store.new ≡ S.files store.old }
 {
     let typed = typed_words(alloc, request)?;
-    let library = open_library(alloc, request.cells, typed.cells, store)?;
+    let library = open_library(alloc, &request.files, typed.cells, store)?;
     let cell = find_cell(alloc, &library, request.cell, typed.cell, typed.upper_cell)?;
     Ok(names_of(alloc, cell)?)
 }

@@ -1,6 +1,7 @@
 //! The matrix that `matrix` asks for.
 ghost use Rattle.std.specs.Prelude.{◌≡◌, Some, IfErr, IfOk, OnOk};
 ghost use Rattle.ca_store.specs.Store.{Nothing};
+ghost use Rattle.ca_load.specs.Texts.{cells_of};
 ghost use Rattle.ca_on_cell.specs.Cells.{OfCell};
 ghost use Rattle.ca_on_cell.specs.Causes.{IsCellCause};
 ghost use Rattle.ca_load.specs.Files.{ReportsStoreFault};
@@ -14,7 +15,7 @@ use ca_store::Store;
 use ca_words::CellWords;
 use std::alloc::Global;
 
-/// The matrix of the cell that the words name in their file.
+/// The matrix of the cell that the words name in their files.
 #[tactic(auto, using(crate::proofs::FileLemmas::of_entry, crate::proofs::StageLemmas::of_entry_cause))]
 pub fn find_matrix<S: Store>(
     alloc: Global,
@@ -24,8 +25,8 @@ pub fn find_matrix<S: Store>(
     requires closed { S.opened store.old ≡ Nothing }
 
     ensures matrix { IfOk result (λ matrix.
-        OfCell (S.files store.old) request.now.cells.now request.now.cell.now (IsSoundMatrix matrix)) }
-    ensures cause { IfErr result (IsCellCause request.now.cells.now request.now.cell.now
+        OfCell (S.files store.old) (cells_of request.now.files) request.now.cell.now (IsSoundMatrix matrix)) }
+    ensures cause { IfErr result (IsCellCause (cells_of request.now.files) request.now.cell.now
         (S.files store.old) (S.faults store.old) (S.faults store.new)) }
     ensures quiet { OnOk result (S.faults store.new ≡ S.faults store.old) }
     ensures reported { IfErr result (λ fault.
@@ -34,7 +35,7 @@ pub fn find_matrix<S: Store>(
     ensures kept { S.files store.new ≡ S.files store.old }
 {
     let typed = typed_words(alloc, request)?;
-    let library = open_library(alloc, request.cells, typed.cells, store)?;
+    let library = open_library(alloc, &request.files, typed.cells, store)?;
     let cell = find_cell(alloc, &library, request.cell, typed.cell, typed.upper_cell)?;
     Ok(Matrix::build(alloc, cell)?)
 }

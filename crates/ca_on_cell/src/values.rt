@@ -2,6 +2,7 @@
 ghost use Rattle.std.specs.Prelude.{◌≡◌, Some, IfErr, IfOk, OnOk};
 ghost use Rattle.ca_store.specs.Store.{Nothing};
 ghost use Rattle.ca_cell.specs.Rules.{KeepsRules};
+ghost use Rattle.ca_load.specs.Texts.{cells_of};
 ghost use Rattle.ca_on_cell.specs.Cells.{OfCell};
 ghost use Rattle.ca_on_cell.specs.Outputs.{letters_of, Fits, AreValues};
 ghost use Rattle.ca_on_cell.specs.Causes.{IsValueCause};
@@ -21,7 +22,7 @@ use ca_store::Store;
 use ca_words::PairWords;
 use std::alloc::Global;
 
-/// The values of the output pins of the cell that the words name in their file.
+/// The values of the output pins of the cell that the words name in their files.
 #[tactic(auto, using(crate::proofs::FileLemmas::of_entry, crate::proofs::StageLemmas::of_entry_cause, crate::proofs::StageLemmas::of_evaluation))]
 pub fn find_values<S: Store>(
     alloc: Global,
@@ -31,9 +32,9 @@ pub fn find_values<S: Store>(
     requires closed { S.opened store.old ≡ Nothing }
 
     ensures values { IfOk result (λ values.
-        OfCell (S.files store.old) request.now.of.cells.now request.now.of.cell.now
+        OfCell (S.files store.old) (cells_of request.now.of.files) request.now.of.cell.now
         (AreValues request.now.first.now request.now.last.now request.now.defect.now values)) }
-    ensures cause { IfErr result (IsValueCause request.now.of.cells.now request.now.of.cell.now
+    ensures cause { IfErr result (IsValueCause (cells_of request.now.of.files) request.now.of.cell.now
         request.now.first.now request.now.last.now request.now.defect.now
         (S.files store.old) (S.faults store.old) (S.faults store.new)) }
     ensures quiet { OnOk result (S.faults store.new ≡ S.faults store.old) }
@@ -43,7 +44,7 @@ pub fn find_values<S: Store>(
     ensures kept { S.files store.new ≡ S.files store.old }
 {
     let typed = typed_words(alloc, &request.of)?;
-    let library = open_library(alloc, request.of.cells, typed.cells, store)?;
+    let library = open_library(alloc, &request.of.files, typed.cells, store)?;
     let cell = find_cell(
         alloc,
         &library,

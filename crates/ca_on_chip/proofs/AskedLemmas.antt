@@ -63,7 +63,7 @@ own_word instance defect first last fault chip (inr (fits, (fit, cause))) =
 pub at_flat : (files : Option Files) (names : InputFiles) (before after : ℕ) (chip : LinkedChip)
     (instance defect : List ℕ) (fault : Fault) → IsTracedChipOf files names chip
     → IsDefectStage chip instance defect fault → IsFlatCause names instance defect files before after fault
-at_flat files names before after chip instance defect fault held (inl memory) = rw memory (inl (inl (inl (inl tt))))
+at_flat files names before after chip instance defect fault held (inl memory) = inl (inl (inl (inl memory)))
 at_flat files names before after chip instance defect fault held (inr cause) = inr (
   defect_word chip instance defect fault cause,
   of_chip files names chip (λ chip. IsDefectCause chip instance defect fault) held cause,
@@ -75,7 +75,7 @@ pub at_ends : (files : Option Files) (names : InputFiles) (before after : ℕ) (
     → IsSimulationStage instance defect first last chip fault
     → IsEndsCause names instance defect first last files before after fault
 at_ends files names before after chip instance defect first last fault held (inl memory) =
-    rw memory (inl (inl (inl (inl tt))))
+    inl (inl (inl (inl memory)))
 at_ends files names before after chip instance defect first last fault held (inr cause) = inr (
   own_word instance defect first last fault chip cause,
   of_chip files names chip (IsSimulationCause instance defect first last fault) held cause,
@@ -89,7 +89,7 @@ pairs_fault budget chip fault cause = absurd cause
 -- why a chip of the files has no tests
 pub at_tests : (files : Option Files) (names : InputFiles) (before after : ℕ) (chip : LinkedChip) (budget : ℕ) (fault : Fault)
     → IsTracedChipOf files names chip → IsTestsStage budget chip fault → IsTestsCause names budget files before after fault
-at_tests files names before after chip budget fault held (inl memory) = rw memory (inl (inl (inl (inl tt))))
+at_tests files names before after chip budget fault held (inl memory) = inl (inl (inl (inl memory)))
 at_tests files names before after chip budget fault held (inr cause) =
     inr (pairs_fault budget chip fault cause, of_chip files names chip (IsPairsCause budget fault) held cause)
 

@@ -96,7 +96,7 @@ at_run names files mid before between after chip instance defect first last orde
   where
     by : (fault : Fault) → IsRunStage instance defect first last order chip files before after fault
         → IsRunCause names instance defect first last order files before after fault
-    by fault (inl (inl memory)) = rw memory (inl (inl (inl (inl tt))))
+    by fault (inl (inl memory)) = inl (inl (inl (inl memory)))
     by fault (inl (inr cause)) = inr (inl (
       own_word instance defect first last fault chip cause,
       of_chip files names chip (IsSimulationCause instance defect first last fault) held cause,

@@ -11,13 +11,16 @@ use Rattle.ca_fault.specs.declared.fault.LimitKind.TheVariants as limit
 use Rattle.ca_fault.specs.KindText.{most_text}
 use Rattle.ca_load.specs.declared.cells.TheConstants.{MAX_CELLS}
 use Rattle.ca_load.specs.declared.netlists.TheConstants.{MAX_NETLIST}
+use Rattle.ca_load.specs.declared.strengths.TheConstants.{MAX_STRENGTHS}
 use Rattle.ca_load.specs.declared.tables.TheConstants.{MAX_SCAN}
 use Rattle.ca_words.specs.declared.budget.TheConstants.{MOST_BUDGET}
 use Rattle.ca_on_chip.specs.declared.making.TheConstants.{MAKE_BUDGET}
 use Rattle.ca_on_chip.specs.declared.replays.TheConstants.{MAX_ORDER}
 
--- a cell netlist has at most 16 MiB, a gate netlist 64 MiB, a table of scan cells and a file of events 1 MiB
+-- a cell netlist has at most 16 MiB, a gate netlist 64 MiB, a strength table, a table of scan cells and a
+-- file of events 1 MiB
 pub record FileLimits : Type 0 where
+  pub strengths : MAX_STRENGTHS ≡ 1048576
   pub cells : MAX_CELLS ≡ 16777216
   pub netlist : MAX_NETLIST ≡ 67108864
   pub scan : MAX_SCAN ≡ 1048576

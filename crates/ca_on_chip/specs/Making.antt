@@ -1,5 +1,6 @@
 -- What `make` asks for, and why it asks for nothing.
 use Rattle.std.specs.Prelude.{◌≡◌, ◌⊎◌, ℕ, Bool, List, []}
+use Rattle.ca_cell.specs.Strength.{default_table}
 use Rattle.ca_cell.specs.Library.{Named}
 use Rattle.ca_verilog.specs.declared.raw.RawNetlist.{RawNetlist}
 use Rattle.ca_linked.specs.Linked.{LinkedChip}
@@ -16,11 +17,12 @@ use Rattle.ca_words.specs.Budget.{HasChipNumber}
 use Rattle.ca_on_chip.specs.declared.making.TheConstants.{MAKE_BUDGET}
 use Rattle.ca_on_chip.specs.OnChip.{IsPairsFault, IsPairsCause}
 
--- the chip is the one that the two texts of the generated chip of this number read as, without scan cells
+-- the chip is the one that the two texts of the generated chip of this number read as, without scan cells and
+-- under the table that holds where none is named
 pub record IsMadeChip (number : ℕ) (chip : LinkedChip) : Type 0 where
   pub library : List Named
   pub netlist : RawNetlist
-  pub cells_read : IsLibraryOf library library_text
+  pub cells_read : IsLibraryOf library default_table library_text
   pub netlist_read : IsNetlistOf netlist (netlist_text number)
   pub is : IsChipOf (record { library = library; netlist = netlist; rows = [] }) chip
 

@@ -22,7 +22,8 @@ use Rattle.ca_load.proofs.ReadLemmas.{of_whole, of_file_then}
 use Rattle.ca_patterns.specs.declared.patterns.TheConstants.{MAX_STIL}
 use Rattle.ca_patterns.specs.Patterns.{IsPatternsOf, AreFew, IsStilFault, IsStilCause, OfTraced, GiveTraced}
 use Rattle.ca_patterns.specs.Patterns.{IsLoadedCause, IsPatternsCause, fault_of_value, IsSmall}
-use Rattle.ca_patterns.specs.code.Stages.{IsTextStage, IsPatternsStage, IsValueStage}
+use Rattle.ca_patterns.specs.Stages.{IsPatternsStage, IsValueStage}
+use Rattle.ca_patterns.specs.code.Stages.{IsTextStage}
 
 module _ (chip : LinkedChip) (chains : List (List ℕ)) (name : List ℕ) (files : Option Files) (before after : ℕ) (fault : Fault) where
   -- a file that wasn't read
@@ -89,3 +90,19 @@ pub value_cause : (chip : LinkedChip) (chains : List (List ℕ)) (file : StilFil
 value_cause chip chains file bytes (Expected pair output) few is wrong =
     inr (tt, record { file = file; is = is; few = few; wrong = wrong })
 value_cause chip chains file bytes fault few is stage = inl stage
+
+-- patterns of the chip of the files with a wrong value
+pub at_wrong : (files : Option Files) (names : InputFiles) (stil : List ℕ) (before after : ℕ) (chip : LinkedChip)
+    (chains : List (List ℕ)) (file : StilFile) (fault : Fault) → OfInputs files names (λ inputs. IsChipOf inputs chip) → AreAllChains chip chains
+    → OfFile files stil MAX_STIL (IsPatternsOf chip chains file) → AreFew file → IsValueStage chip file fault
+    → IsLoadedCause names stil files before after fault
+at_wrong files names stil before after chip chains file (Expected pair output) held all patterns few wrong =
+    inr (inr (
+      tt,
+      of_traced files names chip chains
+          (λ chip chains. OfFile files stil MAX_STIL (IsStilCause chip chains (Expected pair output))) held all
+          (of_file_then files stil MAX_STIL (IsPatternsOf chip chains file) (IsStilCause chip chains (Expected pair output))
+          (λ bytes is. record { file = file; is = is; few = few; wrong = wrong }) patterns),
+    ))
+at_wrong files names stil before after chip chains file fault held all patterns few memory =
+    inl (inl (inl (inl memory)))

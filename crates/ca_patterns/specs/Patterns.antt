@@ -75,8 +75,8 @@ abbrev pub IsSmall : GradeFault → Type 0
 IsSmall (grade.Expected wrong) = wrong.pair < 2 ^ 32
 IsSmall grade.NoMemory = ⊤
 
--- the file of this name is there, is no longer than it may be, and has patterns of the chip with these chains:
--- no more pairs than may be listed, and each expected value is what the good chip ends with
+-- the file of this name is there, is no longer than it may be, and has patterns of the chip with these
+-- chains: no more pairs than may be listed, and each expected value is what the good chip ends with
 pub record FitsPatterns (reported : Files) (name : List ℕ) (chip : LinkedChip) (chains : List (List ℕ))
     : Type 0 where
   pub file : StilFile

@@ -4,7 +4,7 @@ ghost use Rattle.ca_core.specs.Core.{core_of};
 ghost use Rattle.ca_chip_stil.specs.ChipStil.{AreOfChip};
 ghost use Rattle.ca_expected.specs.Expected.{AreExpected};
 ghost use Rattle.ca_patterns.specs.Patterns.{AreFew, fault_of_value, IsSmall};
-ghost use Rattle.ca_patterns.specs.code.Stages.{IsValueStage};
+ghost use Rattle.ca_patterns.specs.Stages.{IsValueStage};
 
 use ca_chip_grade::judge_chip;
 use ca_fault::Fault;

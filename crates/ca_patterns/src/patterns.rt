@@ -7,7 +7,8 @@ ghost use Rattle.ca_chip_stil.specs.ChipStil.{AreOfChip};
 ghost use Rattle.ca_load.specs.Files.{OfFile, ReportsStoreFault};
 ghost use Rattle.ca_fault.specs.declared.fault.LimitKind.TheVariants as limit;
 ghost use Rattle.ca_patterns.specs.Patterns.{IsPatternsOf, AreFew};
-ghost use Rattle.ca_patterns.specs.code.Stages.{IsTextStage, IsPatternsStage};
+ghost use Rattle.ca_patterns.specs.Stages.{IsPatternsStage};
+ghost use Rattle.ca_patterns.specs.code.Stages.{IsTextStage};
 
 use ca_chip_pairs::read_chip_stil;
 use ca_credit::MOST_PAIRS;

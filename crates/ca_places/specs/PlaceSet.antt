@@ -16,7 +16,7 @@ Has set place = HasBit set.words.items place
 abbrev pub HoldsUpTo : PlaceSet → ℕ → Type 0
 HoldsUpTo set count = count ≤ 64 * length set.words.items
 
--- the set was made for so many places
+-- the set was made for this many places
 abbrev pub HasRoomFor : PlaceSet → ℕ → Type 0
 HasRoomFor set count = length set.words.items ≡ count / 64 + 1
 

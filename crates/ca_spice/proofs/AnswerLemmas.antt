@@ -1,6 +1,6 @@
 -- A text has a reading, or a line or the number of its subcircuits is at fault.
 use Rattle.std.proofs.Common.{◌≡◌, ℕ, List, Bool, true, false, cond, Option, Some, None, Result, Ok, Err}
-use Rattle.std.proofs.Common.{refl, ap, ◌∙◌, length}
+use Rattle.std.proofs.Common.{refl, ap, ◌∙◌, length, map}
 use Rattle.std.specs.Prelude.{nat_lt}
 use Rattle.ca_lex.specs.declared.lines.Line.{Line}
 use Rattle.ca_lex.specs.Lines.{spice_lines}
@@ -13,13 +13,13 @@ use Rattle.ca_spice.specs.declared.fault.SpiceFault.{SpiceFault}
 use Rattle.ca_spice.specs.declared.fault.SpiceFault.TheVariants.{At, TooManyCells, NoMemory}
 use Rattle.ca_spice.specs.declared.subcircuit.Subcircuit.{Subcircuit}
 use Rattle.ca_spice.specs.OpenCell.{OpenCell}
-use Rattle.ca_spice.specs.Reading.{Reading, Step, nothing, line_step, at_line, lines_from, limited}
+use Rattle.ca_spice.specs.Reading.{Reading, Step, nothing, line_step, at_line, lines_from, resolved_cell, limited}
 use Rattle.ca_spice.specs.Reading.{library_from, library_of}
 
 not_limited : (cells : List Subcircuit) → limited cells ≡ Err NoMemory → ⊥
 not_limited cells = by (nat_lt MOST_CELLS (length cells))
   where
-    by : (many : Bool) → cond many (Err (TooManyCells (length cells))) (Ok cells) ≡ Err NoMemory → ⊥
+    by : (many : Bool) → cond many (Err (TooManyCells (length cells))) (Ok (map resolved_cell cells)) ≡ Err NoMemory → ⊥
     by true reported = cc
     by false reported = cc
 

@@ -1,7 +1,7 @@
--- M cards as they are read, and as they are read again.
-use Rattle.std.proofs.Common.{◌≡◌, ℕ, suc, zero, ◌+◌, ◌^◌, ◌≤◌, ◌⊎◌, inl, inr, Bool, true, false, ◌&&◌, ◌||◌}
-use Rattle.std.proofs.Common.{not, cond, eqb, List, [], ◌∷◌, ◌++◌, Option, Some, None, Result, Ok, Err, refl}
-use Rattle.std.proofs.Common.{sym, ap, ◌∙◌, subst, codes, append_assoc}
+-- M cards and R cards as they are read, and as they are read again.
+use Rattle.std.proofs.Common.{◌≡◌, ℕ, suc, zero, ◌+◌, ◌^◌, ◌<◌, ◌≤◌, ◌⊎◌, inl, inr, Bool, true, false, ◌&&◌, ◌||◌}
+use Rattle.std.proofs.Common.{not, cond, eqb, List, [], ◌∷◌, ◌++◌, length, Option, Some, None, Result, Ok, Err, refl}
+use Rattle.std.proofs.Common.{sym, ap, ◌∙◌, subst, codes, append_assoc, arith}
 use Rattle.std.specs.Prelude.{slice_get, unwrap_or, option_and_then}
 use Rattle.std.specs.Fmt.{decimal}
 use Rattle.std.specs.List.{AllByRecursion, list_all}
@@ -23,11 +23,11 @@ use Rattle.ca_spice.specs.Card.{card_of}
 use Rattle.ca_names.specs.Names.{has_name, with_name, place_with}
 use Rattle.ca_spice.specs.Names.{is_name}
 use Rattle.ca_spice.specs.Mos.{Wiring, Sizes, are_params, count_of, value_of, are_sound, kind_of, wiring_with}
-use Rattle.ca_spice.specs.Mos.{wiring_of, length_at, sizes_of}
-use Rattle.ca_spice.specs.OpenCell.{OpenCell, has_device, with_device, wired, mos}
-use Rattle.ca_spice.specs.Writing.{net_name, model_of}
+use Rattle.ca_spice.specs.Mos.{wiring_of, length_at, sizes_of, resistor_wiring, ends_of, resistor_sizes}
+use Rattle.ca_spice.specs.OpenCell.{OpenCell, has_device, with_device, device_strength, wired, mos, resistor}
+use Rattle.ca_spice.specs.Writing.{net_name, model_of, resistor_words}
 use Rattle.ca_spice.proofs.PinLemmas.{left_true, right_true}
-use Rattle.ca_spice.proofs.ReadingLemmas.{mos-new}
+use Rattle.ca_spice.proofs.ReadingLemmas.{mos-new, resistor-new}
 use Rattle.ca_spice.proofs.SpelledLemmas.{IsSpelled}
 use Rattle.ca_spice.proofs.SizeLemmas.{length_of-written}
 
@@ -47,41 +47,43 @@ pub record IsSize (size : ℕ) : Type 0 where
   pub least : 1 ≤ size
   pub most : size ≤ 10 ^ 24
 
--- a device that a card describes, whose terminals are among these nets
-pub record IsCard (table : StrengthTable) (nets : List (List ℕ)) (device : RawDevice) : Type 0 where
-  pub named : IsNameWord device.name
-  pub mos : card_of device.name ≡ card.Mos
-  pub kind : (device.kind ≡ kind.P) ⊎ (device.kind ≡ kind.N)
-  pub width : IsSize device.width.0
-  pub channel : IsSize device.length.0
+-- names with a name at each place
+pub net_at : (nets : List (List ℕ)) (place : ℕ) → AllByRecursion IsNameWord nets → place < length nets → IsNetAt nets place
+net_at [] place all within = absurd (omega (arith, within))
+net_at (net ∷ nets) zero all within = record { net = net; at = refl; named = all.0 }
+net_at (net ∷ nets) (suc place) all within =
+    let it = net_at nets place all.1 (omega (arith, within)) in
+    record { net = it.net; at = it.at; named = it.named }
+
+-- the terminals of a device are nets with names
+pub record HasNets (nets : List (List ℕ)) (device : RawDevice) : Type 0 where
   pub drain : IsNetAt nets device.drain
   pub gate : IsNetAt nets device.gate
   pub source : IsNetAt nets device.source
 
-pub get_more : (nets more : List (List ℕ)) (place : ℕ) (net : List ℕ) → slice_get nets place ≡ Some net → slice_get (nets ++ more) place ≡ Some net
-get_more [] more place net is = absurd cc
-get_more (first ∷ nets) more zero net is = is
-get_more (first ∷ nets) more (suc place) net is = get_more nets more place net is
+-- a transistor that an M card describes
+pub record IsTransistor (device : RawDevice) : Type 0 where
+  pub kind : (device.kind ≡ kind.P) ⊎ (device.kind ≡ kind.N)
+  pub mos : card_of device.name ≡ card.Mos
+  pub width : IsSize device.width.0
+  pub channel : IsSize device.length.0
 
-abbrev pub net_more : (nets more : List (List ℕ)) (place : ℕ) → IsNetAt nets place → IsNetAt (nets ++ more) place
-net_more nets more place it = record { net = it.net; at = get_more nets more place it.net it.at; named = it.named }
+-- a resistor that an R card describes
+pub record IsResistor (device : RawDevice) : Type 0 where
+  pub kind : device.kind ≡ kind.D
+  pub resistor : card_of device.name ≡ card.Resistor
+  pub width : device.width.0 ≡ 1
+  pub channel : device.length.0 ≡ 1
+  pub gate : device.gate ≡ device.drain
 
--- what is a card among nets is one among more nets
-pub card_more : (table : StrengthTable) → (nets more : List (List ℕ)) (device : RawDevice) → IsCard table nets device → IsCard table (nets ++ more) device
-card_more table nets more device it = record {
-  named = it.named;
-  mos = it.mos;
-  kind = it.kind;
-  width = it.width;
-  channel = it.channel;
-  drain = net_more nets more device.drain it.drain;
-  gate = net_more nets more device.gate it.gate;
-  source = net_more nets more device.source it.source;
-}
+abbrev pub written_sizes : RawDevice → Sizes
+written_sizes device = record { width = device.width.0; length = device.length.0 }
 
-pub cards_more : (table : StrengthTable) → (nets more : List (List ℕ)) (devices : List RawDevice) → AllByRecursion (IsCard table nets) devices → AllByRecursion (IsCard table (nets ++ more)) devices
-cards_more table nets more [] all = tt
-cards_more table nets more (device ∷ devices) all = (card_more table nets more device all.0, cards_more table nets more devices all.1)
+-- a device that a card describes
+pub record IsCard (table : StrengthTable) (device : RawDevice) : Type 0 where
+  pub named : IsNameWord device.name
+  pub kept : IsTransistor device ⊎ IsResistor device
+  pub strong : device.strength ≡ device_strength table device.kind (written_sizes device)
 
 pub net_name-at : (nets : List (List ℕ)) (place : ℕ) (it : IsNetAt nets place) → net_name nets place ≡ it.net
 net_name-at nets place it = ap (λ (found : Option (List ℕ)). unwrap_or found []) it.at
@@ -122,14 +124,6 @@ at_its_place name (first ∷ names) = by (bytes_eq name first) refl (at_its_plac
     by true is rest = ap (λ (x : List ℕ). Some x) (sym ((bytes_eq-Decides name first).0 is))
     by false is rest = later (has_name name names) (place_with name names) rest
 
-abbrev pub net_placed : (name : List ℕ) (names longer : List (List ℕ)) → IsNameWord name → Extends (with_name name names) longer → IsNetAt longer (place_with name names)
-net_placed name names longer named it = record {
-  net = name;
-  at = subst (λ (all : List (List ℕ)). slice_get all (place_with name names) ≡ Some name) (sym it.is)
-      (get_more (with_name name names) it.more (place_with name names) name (at_its_place name names));
-  named = named;
-}
-
 -- the value of W or L
 abbrev pub value_word : ℕ → List ℕ
 value_word size = decimal size ++ codes "E-18"
@@ -152,9 +146,6 @@ written_wiring nets device = record {
   params = card_params device;
 }
 
-abbrev pub written_sizes : RawDevice → Sizes
-written_sizes device = record { width = device.width.0; length = device.length.0 }
-
 -- each of these tests is passed
 all_six : (a b c d e f : Bool) → a ≡ true → b ≡ true → c ≡ true → d ≡ true → e ≡ true → f ≡ true → (a && (b && (c && (d && (e && (f && true)))))) ≡ true
 all_six a b c d e f a_is b_is c_is d_is e_is f_is = λ j. a_is j && (b_is j && (c_is j && (d_is j && (e_is j && (f_is j && true)))))
@@ -172,15 +163,15 @@ sound_params : (device : RawDevice) → are_sound (card_params device) ≡ true
 unfolding are_params count_of
 sound_params device = refl
 
-wiring_of-written : (table : StrengthTable) → (nets : List (List ℕ)) (bulk : List ℕ) (device : RawDevice) → IsCard table nets device → IsNameWord bulk
-    → wiring_of device.name (card_words nets bulk device) ≡ Some (written_wiring nets device)
+wiring_of-written : (nets : List (List ℕ)) (bulk : List ℕ) (device : RawDevice) → IsNameWord device.name → IsTransistor device → HasNets nets device
+    → IsNameWord bulk → wiring_of device.name (card_words nets bulk device) ≡ Some (written_wiring nets device)
 unfolding wiring_of
-wiring_of-written table nets bulk device it bulk_is =
-    let drain = net_named nets device.drain it.drain in
-    let gate = net_named nets device.gate it.gate in
-    let source = net_named nets device.source it.source in
+wiring_of-written nets bulk device name it on bulk_is =
+    let drain = net_named nets device.drain on.drain in
+    let gate = net_named nets device.gate on.gate in
+    let source = net_named nets device.source on.source in
     let names : list_all is_name (device.name ∷ net_name nets device.drain ∷ net_name nets device.gate ∷ net_name nets device.source ∷ bulk ∷ model_of device.kind ∷ []) ≡ true =
-    all_six _ _ _ _ _ _ it.named.name drain.name gate.name source.name bulk_is.name (model_name device.kind it.kind) in
+    all_six _ _ _ _ _ _ name.name drain.name gate.name source.name bulk_is.name (model_name device.kind it.kind) in
     let found : option_and_then (wiring_with (net_name nets device.drain) (net_name nets device.gate) (net_name nets device.source) (card_params device)) (kind_of (model_of device.kind))
     ≡ Some (written_wiring nets device) =
     ap (option_and_then (wiring_with (net_name nets device.drain) (net_name nets device.gate) (net_name nets device.source) (card_params device))) (model_kind device.kind it.kind) in
@@ -196,12 +187,38 @@ sizes_of-written device width channel =
     ∙ ap (λ (found : Option ℕ). option_and_then (λ (channel : ℕ). Some (record { width = device.width.0; length = channel })) found)
     (length_of-written device.length.0 channel.least channel.most)
 
--- a card that was written is read as its device
-pub mos-written : (table : StrengthTable) → (nets : List (List ℕ)) (bulk : List ℕ) (device : RawDevice) (cell : OpenCell) → IsCard table nets device → IsNameWord bulk → has_device device.name cell.devices ≡ false
+-- an M card that was written is read as its device
+pub mos-written : (table : StrengthTable) → (nets : List (List ℕ)) (bulk : List ℕ) (device : RawDevice) (cell : OpenCell) → IsNameWord device.name → IsTransistor device
+    → HasNets nets device → IsNameWord bulk → has_device device.name cell.devices ≡ false
     → mos table device.name (card_words nets bulk device) cell ≡ Ok (with_device table device.name (written_wiring nets device) (written_sizes device) cell)
-mos-written table nets bulk device cell it bulk_is new =
+mos-written table nets bulk device cell name it on bulk_is new =
     mos-new table device.name (card_words nets bulk device) cell (with_device table device.name (written_wiring nets device) (written_sizes device) cell)
-    (written_wiring nets device) (written_sizes device) (wiring_of-written table nets bulk device it bulk_is) (sizes_of-written device it.width it.channel) new refl
+    (written_wiring nets device) (written_sizes device) (wiring_of-written nets bulk device name it on bulk_is) (sizes_of-written device it.width it.channel) new refl
+
+ends_of-written : (nets : List (List ℕ)) (device : RawDevice) → IsNameWord device.name → HasNets nets device
+    → ends_of device.name (resistor_words nets device) ≡ Some (resistor_wiring (net_name nets device.drain) (net_name nets device.source))
+unfolding ends_of
+ends_of-written nets device name on =
+    let drain = net_named nets device.drain on.drain in
+    let source = net_named nets device.source on.source in
+    λ j. cond (name.name j && (drain.name j && (source.name j && true))) (Some (resistor_wiring (net_name nets device.drain) (net_name nets device.source))) None
+
+-- an R card that was written is read as its device
+pub resistor-written : (table : StrengthTable) → (nets : List (List ℕ)) (device : RawDevice) (cell : OpenCell) → IsNameWord device.name → IsResistor device
+    → HasNets nets device → has_device device.name cell.devices ≡ false
+    → resistor table device.name (resistor_words nets device) cell ≡ Ok (with_device table device.name (written_wiring nets device) (written_sizes device) cell)
+resistor-written table nets device cell name it on new =
+    resistor-new table device.name (resistor_words nets device) cell (resistor_wiring (net_name nets device.drain) (net_name nets device.source))
+    (ends_of-written nets device name on) new
+    ∙ (λ j. Ok (with_device table device.name
+    (record {
+      drain = net_name nets device.drain;
+      gate = net_name nets (sym it.gate j);
+      source = net_name nets device.source;
+      kind = sym it.kind j;
+      params = [];
+    })
+    (record { width = sym it.width j; length = sym it.channel j }) cell))
 
 -- what a card that was read says
 pub record IsMos (table : StrengthTable) (name : List ℕ) (words : List (List ℕ)) (cell next : OpenCell) : Type 0 where
@@ -238,13 +255,43 @@ mos_found table name words cell next is = by_wiring (wiring_of name words) refl 
     by_wiring None wired is = absurd cc
     by_wiring (Some wiring) wired is = by_sizes wiring wired (sizes_of wiring.params) refl is
 
+-- what an R card that was read says
+pub record IsEnds (table : StrengthTable) (name : List ℕ) (words : List (List ℕ)) (cell next : OpenCell) : Type 0 where
+  pub wiring : Wiring
+  pub wired : ends_of name words ≡ Some wiring
+  pub new : has_device name cell.devices ≡ false
+  pub is : next ≡ with_device table name wiring resistor_sizes cell
+
+pub resistor_found : (table : StrengthTable) → (name : List ℕ) (words : List (List ℕ)) (cell next : OpenCell) → resistor table name words cell ≡ Ok next
+    → IsEnds table name words cell next
+unfolding resistor
+resistor_found table name words cell next is = by_wiring (ends_of name words) refl is
+  where
+    by_wiring : (found : Option Wiring) → ends_of name words ≡ found
+        → elim found as (λ _. Result OpenCell SpiceKind) [ None ↦ Err BadCard | Some wiring ↦ unless (has_device name cell.devices) DoubleName (Ok (with_device table name wiring resistor_sizes cell)) ] ≡ Ok next
+        → IsEnds table name words cell next
+    by_wiring None wired is = absurd cc
+    by_wiring (Some wiring) wired is =
+        let rule = kept_value (has_device name cell.devices) DoubleName (with_device table name wiring resistor_sizes cell) next is in
+        record { wiring = wiring; wired = wired; new = rule.0; is = rule.1 }
+
 -- what the words of a card say of its wiring
 pub record IsWired (name : List ℕ) (wiring : Wiring) : Type 0 where
   pub name_is : is_name name ≡ true
   pub drain : IsNameWord wiring.drain
   pub gate : IsNameWord wiring.gate
   pub source : IsNameWord wiring.source
+
+-- an M card's device is a transistor
+pub record IsWiredMos (name : List ℕ) (wiring : Wiring) : Type 0 where
+  pub wired : IsWired name wiring
   pub kind : (wiring.kind ≡ kind.P) ⊎ (wiring.kind ≡ kind.N)
+
+-- an R card's device is a resistor
+pub record IsWiredEnds (name : List ℕ) (wiring : Wiring) : Type 0 where
+  pub wired : IsWired name wiring
+  pub kind : wiring.kind ≡ kind.D
+  pub gate : wiring.gate ≡ wiring.drain
 
 kind_found : (model : List ℕ) (k : DeviceKind) → kind_of model ≡ Some k → (k ≡ kind.P) ⊎ (k ≡ kind.N)
 unfolding kind_of
@@ -256,7 +303,7 @@ kind_found (letter ∷ model) k is = by (eqb letter 78) (eqb letter 80) is
     by false true is = inl cc
     by false false is = absurd cc
 
-pub wiring_found : (name : List ℕ) (words : List (List ℕ)) (wiring : Wiring) → wiring_of name words ≡ Some wiring → AllByRecursion IsSpelled words → IsWired name wiring
+pub wiring_found : (name : List ℕ) (words : List (List ℕ)) (wiring : Wiring) → wiring_of name words ≡ Some wiring → AllByRecursion IsSpelled words → IsWiredMos name wiring
 unfolding wiring_of
 wiring_found name [] wiring is all = absurd cc
 wiring_found name (a ∷ []) wiring is all = absurd cc
@@ -267,26 +314,54 @@ wiring_found name (drain ∷ gate ∷ source ∷ bulk ∷ model ∷ params) wiri
     by (list_all is_name (name ∷ drain ∷ gate ∷ source ∷ bulk ∷ model ∷ [])) (are_sound params) refl is
   where
     by_kind : (found : Option DeviceKind) → kind_of model ≡ found → option_and_then (wiring_with drain gate source params) found ≡ Some wiring
-        → list_all is_name (name ∷ drain ∷ gate ∷ source ∷ bulk ∷ model ∷ []) ≡ true → IsWired name wiring
+        → list_all is_name (name ∷ drain ∷ gate ∷ source ∷ bulk ∷ model ∷ []) ≡ true → IsWiredMos name wiring
     by_kind None found is names = absurd cc
     by_kind (Some k) found is names =
         let same : wiring ≡ record { drain = drain; gate = gate; source = source; kind = k; params = params } = cc in
         let after_name = right_true (is_name name) _ names in
         let after_drain = right_true (is_name drain) _ after_name in
         let after_gate = right_true (is_name gate) _ after_drain in
-        subst (IsWired name) (sym same) (record {
-          name_is = left_true (is_name name) _ names;
-          drain = record { spelled = all.0; name = left_true (is_name drain) _ after_name };
-          gate = record { spelled = all.1.0; name = left_true (is_name gate) _ after_drain };
-          source = record { spelled = all.1.1.0; name = left_true (is_name source) _ after_gate };
+        subst (IsWiredMos name) (sym same) (record {
+          wired = record {
+            name_is = left_true (is_name name) _ names;
+            drain = record { spelled = all.0; name = left_true (is_name drain) _ after_name };
+            gate = record { spelled = all.1.0; name = left_true (is_name gate) _ after_drain };
+            source = record { spelled = all.1.1.0; name = left_true (is_name source) _ after_gate };
+          };
           kind = kind_found model k found;
         })
 
     by : (names sound : Bool) → list_all is_name (name ∷ drain ∷ gate ∷ source ∷ bulk ∷ model ∷ []) ≡ names
-        → cond (names && sound) (option_and_then (wiring_with drain gate source params) (kind_of model)) None ≡ Some wiring → IsWired name wiring
+        → cond (names && sound) (option_and_then (wiring_with drain gate source params) (kind_of model)) None ≡ Some wiring → IsWiredMos name wiring
     by true true names is = by_kind (kind_of model) refl is names
     by true false names is = absurd cc
     by false sound names is = absurd cc
+
+pub ends_found : (name : List ℕ) (words : List (List ℕ)) (wiring : Wiring) → ends_of name words ≡ Some wiring → AllByRecursion IsSpelled words → IsWiredEnds name wiring
+unfolding ends_of
+ends_found name [] wiring is all = absurd cc
+ends_found name (a ∷ []) wiring is all = absurd cc
+ends_found name (a ∷ b ∷ []) wiring is all = absurd cc
+ends_found name (drain ∷ source ∷ word ∷ more) wiring is all = by (list_all is_name (name ∷ drain ∷ source ∷ [])) refl is
+  where
+    by : (names : Bool) → list_all is_name (name ∷ drain ∷ source ∷ []) ≡ names
+        → cond names (Some (resistor_wiring drain source)) None ≡ Some wiring → IsWiredEnds name wiring
+    by true names is =
+        let same : wiring ≡ resistor_wiring drain source = cc in
+        let after_name = right_true (is_name name) _ names in
+        let after_drain = right_true (is_name drain) _ after_name in
+        let drain_is : IsNameWord drain = record { spelled = all.0; name = left_true (is_name drain) _ after_name } in
+        subst (IsWiredEnds name) (sym same) (record {
+          wired = record {
+            name_is = left_true (is_name name) _ names;
+            drain = drain_is;
+            gate = drain_is;
+            source = record { spelled = all.1.0; name = left_true (is_name source) _ after_drain };
+          };
+          kind = refl;
+          gate = refl;
+        })
+    by false names is = absurd cc
 
 size_found : (value : Option (List ℕ)) (size : ℕ) → option_and_then length_of value ≡ Some size → IsSize size
 size_found None size is = absurd cc

@@ -1,6 +1,6 @@
 -- The first faulty line.
 use Rattle.std.proofs.Common.{◌≡◌, ℕ, List, Bool, true, false, cond, Option, Some, None, Result, Ok, Err}
-use Rattle.std.proofs.Common.{refl, sym, ap, ◌∙◌, inl, inr, length}
+use Rattle.std.proofs.Common.{refl, sym, ap, ◌∙◌, inl, inr, length, map}
 use Rattle.std.specs.Prelude.{nat_lt}
 use Rattle.ca_lex.specs.declared.lines.Line.{Line}
 use Rattle.ca_lex.specs.Lines.{spice_lines}
@@ -14,7 +14,7 @@ use Rattle.ca_spice.specs.declared.fault.SpiceFault.{SpiceFault}
 use Rattle.ca_spice.specs.declared.fault.SpiceFault.TheVariants.{At, TooManyCells}
 use Rattle.ca_spice.specs.declared.subcircuit.Subcircuit.{Subcircuit}
 use Rattle.ca_spice.specs.OpenCell.{OpenCell}
-use Rattle.ca_spice.specs.Reading.{Reading, Step, nothing, line_step, at_line, lines_from, limited}
+use Rattle.ca_spice.specs.Reading.{Reading, Step, nothing, line_step, at_line, lines_from, resolved_cell, limited}
 use Rattle.ca_spice.specs.Reading.{library_from, library_of}
 use Rattle.ca_spice.specs.Laws.{IsFirstFaulty}
 
@@ -29,7 +29,7 @@ broken_at here line kind (Err other) reported = (cc, cc)
 not_limited : (cells : List Subcircuit) (line : ℕ) (kind : SpiceKind) → limited cells ≡ Err (At line kind) → ⊥
 not_limited cells line kind = by (nat_lt MOST_CELLS (length cells))
   where
-    by : (many : Bool) → cond many (Err (TooManyCells (length cells))) (Ok cells) ≡ Err (At line kind) → ⊥
+    by : (many : Bool) → cond many (Err (TooManyCells (length cells))) (Ok (map resolved_cell cells)) ≡ Err (At line kind) → ⊥
     by true reported = cc
     by false reported = cc
 

@@ -12,7 +12,9 @@ pub mod SizeLemmas
 pub mod WrittenLemmas
 pub mod CardLemmas
 pub mod DistinctLemmas
+pub mod OrderLemmas
 pub mod WritableLemmas
+pub mod ResolvedLemmas
 pub mod ReadableLemmas
 pub mod RoleLemmas
 pub mod RoundTripLemmas

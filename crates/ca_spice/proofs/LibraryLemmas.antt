@@ -1,5 +1,5 @@
 -- Subcircuits of different names make a library.
-use Rattle.std.proofs.Common.{◌≡◌, ℕ, suc, zero, ◌<◌, List, Bool, true, false, cond, [], ◌∷◌, ◌++◌, length}
+use Rattle.std.proofs.Common.{◌≡◌, ℕ, suc, zero, ◌<◌, ◌≤◌, List, Bool, true, false, cond, [], ◌∷◌, ◌++◌, length}
 use Rattle.std.proofs.Common.{map, take, get_or, Some, None, refl, sym, ◌∙◌, ap, subst, arith, true≢false}
 use Rattle.std.proofs.Common.{◌||◌}
 use Rattle.std.specs.Prelude.{Option, IsSome}
@@ -14,6 +14,8 @@ use Rattle.ca_spice.specs.declared.subcircuit.Subcircuit.{Subcircuit}
 use Rattle.ca_names.specs.Names.{has_name}
 use Rattle.ca_spice.specs.code.Kept.{IsUpper, names_of}
 use Rattle.ca_spice.specs.Views.{subcircuit_seen}
+use Rattle.ca_spice.specs.Reading.{resolved_cell}
+use Rattle.ca_pin_sets.specs.Resolved.{resolved}
 
 -- names differ whichever is compared with the other
 other_way : (left right : List ℕ) → bytes_eq left right ≡ false → bytes_eq right left ≡ false
@@ -52,15 +54,16 @@ entry_of-none (named ∷ library) name lacks = by (bytes_eq name named.name) lac
     by true none later = absurd (true≢false none)
     by false none later = later none
 
--- an added entry is seen as its subcircuit
-pub seen_grown : (library : List Named) (cells : List Subcircuit) (cell : Subcircuit) (entry : Entry) → map subcircuit_seen library ≡ cells
-    → IsUpper cell.name → raw_of entry ≡ cell.raw
-    → map subcircuit_seen (library ++ record { name = upper_case cell.name; entry = entry } ∷ []) ≡ cells ++ cell ∷ []
+-- an added entry is seen as its subcircuit with the nets of input pins' sets written as the pins
+pub seen_grown : (library : List Named) (cells : List Subcircuit) (cell : Subcircuit) (entry : Entry) → map subcircuit_seen library ≡ map resolved_cell cells
+    → IsUpper cell.name → raw_of entry ≡ resolved cell.raw
+    → map subcircuit_seen (library ++ record { name = upper_case cell.name; entry = entry } ∷ []) ≡ map resolved_cell (cells ++ cell ∷ [])
 seen_grown library cells cell entry seen upper raw =
     map-append subcircuit_seen library (record { name = upper_case cell.name; entry = entry } ∷ [])
     ∙ ap (λ (all : List Subcircuit). all ++ record { name = upper_case cell.name; raw = raw_of entry } ∷ []) seen
-    ∙ ap (λ (name : List ℕ). cells ++ record { name = name; raw = raw_of entry } ∷ []) upper
-    ∙ ap (λ raw. cells ++ record { name = cell.name; raw = raw } ∷ []) raw
+    ∙ ap (λ (name : List ℕ). map resolved_cell cells ++ record { name = name; raw = raw_of entry } ∷ []) upper
+    ∙ ap (λ raw. map resolved_cell cells ++ record { name = cell.name; raw = raw } ∷ []) raw
+    ∙ sym (map-append resolved_cell cells (cell ∷ []))
 
 -- what holds of all subcircuits holds of one of them
 pub at_turn : (P : Subcircuit → Type 0) (all : List Subcircuit) (place : ℕ) (cell : Subcircuit) → All P all
@@ -87,16 +90,29 @@ names_seen : (library : List Named) → map (λ named. named.name) library ≡ n
 names_seen [] = refl
 names_seen (named ∷ library) = ap (λ (names : List (List ℕ)). named.name ∷ names) (names_seen library)
 
+-- names stay where nets are written as pins
+names_resolved : (cells : List Subcircuit) → names_of (map resolved_cell cells) ≡ names_of cells
+names_resolved [] = refl
+names_resolved (cell ∷ cells) = ap (λ (names : List (List ℕ)). cell.name ∷ names) (names_resolved cells)
+
 -- the name of the next subcircuit isn't in a library of those before it
-pub not_added : (library : List Named) (before all : List Subcircuit) (cell : Subcircuit) → map subcircuit_seen library ≡ before
+pub not_added : (library : List Named) (before all : List Subcircuit) (cell : Subcircuit) → map subcircuit_seen library ≡ map resolved_cell before
     → before ≡ take (length before) all → IsDistinct bytes_eq (names_of all) → All IsUpper (names_of all)
     → (length before < length all) × (cell ≡ get_or all (length before) cell) → IsSome (entry_of library (upper_case cell.name)) → ⊥
 not_added library before all cell seen so_far distinct upper turn there =
     let named : (length before < length (names_of all)) × (cell.name ≡ get_or (names_of all) (length before) cell.name) = name_at all (length before) cell turn in
     let names : map (λ named. named.name) library ≡ take (length before) (names_of all) =
-    names_seen library ∙ ap names_of (seen ∙ so_far) ∙ sym (take-map (λ (c : Subcircuit). c.name) (length before) all) in
+    names_seen library ∙ ap names_of seen ∙ names_resolved before ∙ ap names_of so_far ∙ sym (take-map (λ (c : Subcircuit). c.name) (length before) all) in
     let lacks : has_name cell.name (map (λ named. named.name) library) ≡ false =
     ap (has_name cell.name) names ∙ none_before (names_of all) (length before) cell.name distinct named.0 named.1 in
     let none : entry_of library (upper_case cell.name) ≡ None =
     ap (entry_of library) (upper_at all (length before) cell upper turn) ∙ entry_of-none library cell.name lacks in
     true≢false (sym (subst (λ (found : Option Entry). IsSome found) none there))
+
+-- nor has that library the most cells yet
+pub not_full : (library : List Named) (before : List Subcircuit) (most here : ℕ) → map subcircuit_seen library ≡ map resolved_cell before
+    → length before < here → here ≤ most → most ≤ length library → ⊥
+not_full library before most here seen within few full =
+    let count : length library ≡ length before =
+    sym (length-map library subcircuit_seen) ∙ ap length seen ∙ length-map before resolved_cell in
+    omega (arith, count, within, few, full)

@@ -21,7 +21,7 @@ use Rattle.ca_spice.specs.Reading.{library_of}
 use Rattle.ca_spice.specs.Called.{called_among, cell_called}
 use Rattle.ca_spice.specs.Writing.{pin_names, IsReadable}
 use Rattle.ca_spice.proofs.SpelledLemmas.{IsInside, IsOneWord, IsSpelled, not_sign}
-use Rattle.ca_spice.proofs.CardLemmas.{IsCard}
+use Rattle.ca_spice.proofs.CardLemmas.{IsNameWord, IsCard}
 use Rattle.ca_spice.proofs.DistinctLemmas.{AreDistinct}
 use Rattle.ca_spice.proofs.FoundLemmas.{later}
 use Rattle.ca_spice.proofs.ReadableLemmas.{readable_writable}
@@ -60,10 +60,14 @@ differ words all distinct one other first second there there_too same =
     distinct one other first there (there_too ∙ ap Some equal)
 
 -- the names of devices are words
-spelled_devices : (table : StrengthTable) → (nets : List (List ℕ)) (devices : List RawDevice) → AllByRecursion (IsCard table nets) devices
+spelled_devices : (table : StrengthTable) → (devices : List RawDevice) → AllByRecursion (IsCard table) devices
     → AllByRecursion IsSpelled (map (λ (device : RawDevice). device.name) devices)
-spelled_devices table nets [] all = tt
-spelled_devices table nets (device ∷ devices) all = (all.0.named.spelled, spelled_devices table nets devices all.1)
+spelled_devices table [] all = tt
+spelled_devices table (device ∷ devices) all = (all.0.named.spelled, spelled_devices table devices all.1)
+
+spelled_nets : (nets : List (List ℕ)) → AllByRecursion IsNameWord nets → AllByRecursion IsSpelled nets
+spelled_nets [] all = tt
+spelled_nets (net ∷ nets) all = (all.0.spelled, spelled_nets nets all.1)
 
 -- the subcircuit that has the name is among them
 held_among : (cells : List Subcircuit) (name : List ℕ) (raw : RawCell) → called_among cells name ≡ Some raw
@@ -95,15 +99,16 @@ pub plain_names : (table : StrengthTable) → (bytes word : List ℕ) (raw : Raw
 plain_names table bytes word raw called =
     let writable = readable_writable table word raw (readable table bytes word raw called) in
     let names = writable.names in
-    let devices = spelled_devices table raw.nets raw.devices writable.cards in
+    let devices = spelled_devices table raw.devices writable.cards in
+    let nets = spelled_nets raw.nets names.named in
     record {
       pins =
           let all : length raw.nets ≡ length raw.pins + length names.pins_first.more =
           ap length names.pins_first.is ∙ length-append (pin_names raw.pins) names.pins_first.more
           ∙ ap (λ (n : ℕ). n + length names.pins_first.more) (length-map raw.pins (λ (pin : RawPin). pin.name)) in
           omega (arith, all);
-      nets = All-from_recursion IsPlain raw.nets (plain_words raw.nets names.spelled);
-      nets_differ = differ raw.nets names.spelled names.nets_distinct;
+      nets = All-from_recursion IsPlain raw.nets (plain_words raw.nets nets);
+      nets_differ = differ raw.nets nets names.nets_distinct;
       devices = All-from_recursion IsPlain (device_names raw) (plain_words (device_names raw) devices);
       devices_differ = differ (device_names raw) devices names.devices_distinct;
     }

@@ -1,5 +1,5 @@
 -- Each subcircuit that a text reads as can be written.
-use Rattle.std.proofs.Common.{◌≡◌, ℕ, Bool, true, false, ◌||◌, not, cond, List, [], ◌∷◌, ◌++◌, length, map}
+use Rattle.std.proofs.Common.{◌≡◌, ℕ, Bool, true, false, inl, inr, ◌||◌, not, cond, List, [], ◌∷◌, ◌++◌, length, map}
 use Rattle.std.proofs.Common.{Option, Some, None, Result, Ok, Err, refl, sym, ap, subst}
 use Rattle.std.specs.Prelude.{nat_lt}
 use Rattle.std.specs.List.{AllByRecursion, list_all}
@@ -22,21 +22,25 @@ use Rattle.ca_spice.specs.declared.fault.SpiceFault.TheVariants.{At, TooManyCell
 use Rattle.ca_spice.specs.declared.pin.Pin.{Pin}
 use Rattle.ca_spice.specs.declared.subcircuit.Subcircuit.{Subcircuit}
 use Rattle.ca_names.specs.Names.{has_double}
-use Rattle.ca_spice.specs.Names.{is_text}
+use Rattle.ca_spice.specs.Names.{is_text, is_name}
+use Rattle.ca_spice.specs.Mos.{is_sign, resistor_sizes}
 use Rattle.ca_spice.specs.Card.{card_of}
 use Rattle.ca_spice.specs.PinInfo as info
-use Rattle.ca_spice.specs.OpenCell.{OpenCell, pin_of, new_cell, with_pins, has_roles, pin_info, mos}
+use Rattle.ca_spice.specs.OpenCell.{OpenCell, pin_of, new_cell, with_pins, has_roles, pin_info, mos, resistor}
 use Rattle.ca_spice.specs.OpenCell.{pins_after, is_ended_by, subcircuit_with, ended}
-use Rattle.ca_spice.specs.Reading.{Reading, Step, nothing, is_outside, has_cell, with_open, is_header, named}
+use Rattle.ca_spice.specs.Reading.{Reading, Step, nothing, is_outside, has_cell, with_open, is_header_word, is_header, named}
 use Rattle.ca_spice.specs.Reading.{subckt, goes_on, in_cell, with_cell, ends, card_step, is_stray, is_comment}
-use Rattle.ca_spice.specs.Reading.{judged, words_step, line_step, at_line, lines_from, limited, library_from}
+use Rattle.ca_spice.specs.Reading.{judged, words_step, line_step, at_line, lines_from, resolved_cell, limited, library_from}
 use Rattle.ca_spice.specs.Writing.{pin_names, kept_as, IsReadable}
 use Rattle.ca_spice.proofs.SpelledLemmas.{IsSpelled, all_append}
 use Rattle.ca_spice.proofs.ShownLemmas.{IsShownText, words_spelled, lines_shown}
-use Rattle.ca_spice.proofs.CardLemmas.{kept_rule, kept_value, mos_found, wiring_found}
+use Rattle.ca_spice.proofs.PinLemmas.{left_true, right_true}
+use Rattle.ca_spice.proofs.CardLemmas.{IsNameWord, kept_rule, kept_value, mos_found, wiring_found, resistor_found}
+use Rattle.ca_spice.proofs.CardLemmas.{ends_found}
 use Rattle.ca_spice.proofs.DistinctLemmas.{names_begun}
-use Rattle.ca_spice.proofs.WritableLemmas.{IsWritable, first_step, writable_grown, names_shown}
-use Rattle.ca_spice.proofs.WritableLemmas.{pin_info_names, after_names}
+use Rattle.ca_spice.proofs.WritableLemmas.{IsWritable, first_step, transistor_of, resistor_of, writable_grown}
+use Rattle.ca_spice.proofs.WritableLemmas.{names_shown, pin_info_names, after_names}
+use Rattle.ca_spice.proofs.ResolvedLemmas.{writable_resolved}
 
 -- a subcircuit that was read can be written
 abbrev pub IsWritableCell : (table : StrengthTable) → Subcircuit → Type 0
@@ -68,17 +72,28 @@ second_false : (first second : Bool) → (first || second) ≡ false → second 
 second_false true second is = absurd cc
 second_false false second is = is
 
+-- the words of a header are names
+words_named : (words : List (List ℕ)) → AllByRecursion IsSpelled words → list_all is_header_word words ≡ true → AllByRecursion IsNameWord words
+words_named [] all header = tt
+words_named (word ∷ words) all header = (
+  record { spelled = all.0; name = left_true (is_name word) (not (is_sign word)) (left_true (is_header_word word) (list_all is_header_word words) header) },
+  words_named words all.1 (right_true (is_header_word word) (list_all is_header_word words) header),
+)
+
+header_named : (name : List ℕ) (pins : List (List ℕ)) → is_header (name ∷ pins) ≡ true → AllByRecursion IsSpelled pins → AllByRecursion IsNameWord pins
+header_named name [] header all = tt
+header_named name (pin ∷ pins) header all = words_named (pin ∷ pins) all (right_true (is_header_word name) (list_all is_header_word (pin ∷ pins)) header)
+
 -- a subcircuit without devices
 begun : (table : StrengthTable) → (name : List ℕ) (pins : List (List ℕ)) → IsSpelled name → is_header (name ∷ pins) ≡ true → AllByRecursion IsSpelled pins → has_double pins ≡ false → IsWritable table name pins pins []
-unfolding steps_from
 begun table name pins name_is header spelled distinct = record {
   named = name_is;
   header = header;
   spelled = spelled;
   distinct = distinct;
   cards = tt;
-  again = λ p_bulk n_bulk later line shown p_is n_is. refl;
-  names = names_begun pins spelled distinct;
+  order = refl;
+  names = names_begun pins (header_named name pins header spelled) distinct;
 }
 
 named_step : (table : StrengthTable) → (line : ℕ) (name : List ℕ) (pins : List (List ℕ)) (reading next : Reading) → named line name pins reading ≡ Ok next → IsWritableReading table reading
@@ -123,7 +138,17 @@ mos_step table word words cell after is card_is word_is all before =
     let it = mos_found table word words cell after is in
     let wired = wiring_found word words it.wiring it.wired all in
     subst (λ (c : OpenCell). IsWritableOpen table (Some c)) (sym it.is)
-    (writable_grown table cell.name (names_shown cell.pins) cell.nets cell.devices word it.wiring it.sizes before (record { spelled = word_is; name = wired.name_is }) card_is wired it.sized it.new)
+    (writable_grown table cell.name (names_shown cell.pins) cell.nets cell.devices word it.wiring it.sizes before (record { spelled = word_is; name = wired.wired.name_is })
+    wired.wired (inl (transistor_of table word it.wiring it.sizes cell.nets card_is wired.kind it.sized)) it.new)
+
+resistor_step : (table : StrengthTable) → (word : List ℕ) (words : List (List ℕ)) (cell after : OpenCell) → resistor table word words cell ≡ Ok after → card_of word ≡ card.Resistor → IsSpelled word
+    → AllByRecursion IsSpelled words → IsWritableOpen table (Some cell) → IsWritableOpen table (Some after)
+resistor_step table word words cell after is card_is word_is all before =
+    let it = resistor_found table word words cell after is in
+    let wired = ends_found word words it.wiring it.wired all in
+    subst (λ (c : OpenCell). IsWritableOpen table (Some c)) (sym it.is)
+    (writable_grown table cell.name (names_shown cell.pins) cell.nets cell.devices word it.wiring resistor_sizes before (record { spelled = word_is; name = wired.wired.name_is })
+    wired.wired (inr (resistor_of table word it.wiring cell.nets card_is wired.kind wired.gate)) it.new)
 
 roles_step : (table : StrengthTable) → (words : List (List ℕ)) (cell after : OpenCell) → pin_info words cell ≡ Ok after → IsWritableOpen table (Some cell) → IsWritableOpen table (Some after)
 unfolding pin_info
@@ -177,6 +202,9 @@ card_made table card.PinInfo line word words reading next card_is is before word
 card_made table card.Mos line word words reading next card_is is before word_is all =
     let it = in_cell_found (mos table word words) reading next is in
     reopened table reading next it.after it.is before.cells (mos_step table word words it.cell it.after it.stepped card_is word_is all (subst (IsWritableOpen table) it.is_open before.current))
+card_made table card.Resistor line word words reading next card_is is before word_is all =
+    let it = in_cell_found (resistor table word words) reading next is in
+    reopened table reading next it.after it.is before.cells (resistor_step table word words it.cell it.after it.stepped card_is word_is all (subst (IsWritableOpen table) it.is_open before.current))
 card_made table card.Ignored line word words reading next card_is is before word_is all =
     let same : next ≡ reading = cc in
     subst (IsWritableReading table) (sym same) before
@@ -223,12 +251,17 @@ lines_made table (line ∷ lines) reading last shown is before =
     lines_made table lines first.next last shown.1 first.rest
     (line_made table line reading first.next shown.0 (stepped_at line (line_step table line reading) first.next first.stepped) before)
 
-limited_cells : (cells read : List Subcircuit) → limited cells ≡ Ok read → read ≡ cells
+limited_cells : (cells read : List Subcircuit) → limited cells ≡ Ok read → read ≡ map resolved_cell cells
 limited_cells cells read is = by (nat_lt MOST_CELLS (length cells)) is
   where
-    by : (many : Bool) → cond many (Err (TooManyCells (length cells))) (Ok cells) ≡ Ok read → read ≡ cells
+    by : (many : Bool) → cond many (Err (TooManyCells (length cells))) (Ok (map resolved_cell cells)) ≡ Ok read → read ≡ map resolved_cell cells
     by true is = absurd cc
     by false is = cc
+
+-- with the nets of input pins' sets written as the pins, subcircuits can be written too
+all_resolved : (table : StrengthTable) → (cells : List Subcircuit) → AllByRecursion (IsWritableCell table) cells → AllByRecursion (IsWritableCell table) (map resolved_cell cells)
+all_resolved table [] all = tt
+all_resolved table (cell ∷ cells) all = (writable_resolved table cell.name cell.raw all.0, all_resolved table cells all.1)
 
 library_made : (table : StrengthTable) → (given : Result Reading SpiceFault) (cells : List Subcircuit) → library_from given ≡ Ok cells → ((reading : Reading) → given ≡ Ok reading → IsWritableReading table reading)
     → AllByRecursion (IsWritableCell table) cells
@@ -237,7 +270,7 @@ library_made table (Ok reading) cells is made = by reading.current is
   where
     by : (current : Option OpenCell) → elim current as (λ _. Result (List Subcircuit) SpiceFault) [ None ↦ limited reading.cells | Some cell ↦ Err (At cell.line Unended) ] ≡ Ok cells
         → AllByRecursion (IsWritableCell table) cells
-    by None is = subst (AllByRecursion (IsWritableCell table)) (sym (limited_cells reading.cells cells is)) (made reading refl).cells
+    by None is = subst (AllByRecursion (IsWritableCell table)) (sym (limited_cells reading.cells cells is)) (all_resolved table reading.cells (made reading refl).cells)
     by (Some cell) is = absurd cc
 library_made table (Err fault) cells is made = absurd cc
 

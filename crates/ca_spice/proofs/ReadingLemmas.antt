@@ -20,8 +20,8 @@ use Rattle.ca_spice.specs.declared.pin.Pin.{Pin}
 use Rattle.ca_spice.specs.declared.subcircuit.Subcircuit.{Subcircuit}
 use Rattle.ca_names.specs.Names.{has_name, with_name, has_double}
 use Rattle.ca_spice.specs.code.Names.{texts}
-use Rattle.ca_spice.specs.Mos.{Wiring, Sizes, wiring_of, sizes_of}
-use Rattle.ca_spice.specs.OpenCell.{OpenCell, new_cell, has_device, with_device, wired, mos, pins_after}
+use Rattle.ca_spice.specs.Mos.{Wiring, Sizes, wiring_of, sizes_of, ends_of, resistor_sizes}
+use Rattle.ca_spice.specs.OpenCell.{OpenCell, new_cell, has_device, with_device, wired, mos, resistor, pins_after}
 use Rattle.ca_spice.specs.code.SpiceFault.{kind_reported}
 use Rattle.ca_spice.specs.Reading.{Reading, is_outside, has_cell, with_open, named}
 use Rattle.ca_spice.specs.code.Kept.{IsPlaced, IsUpper, names_of}
@@ -55,6 +55,34 @@ mos-new table name words cell grown wiring sizes wiring_is sizes_are new is =
     mos-is table name words cell wiring sizes wiring_is sizes_are
     ∙ ap (λ found. unless found DoubleName (Ok (with_device table name wiring sizes cell))) new
     ∙ ap (λ (c : OpenCell). Ok c) (sym is)
+
+-- an R card whose words say its wiring
+pub resistor-is : (table : StrengthTable) → (name : List ℕ) (words : List (List ℕ)) (cell : OpenCell) (wiring : Wiring) → ends_of name words ≡ Some wiring
+    → resistor table name words cell ≡ unless (has_device name cell.devices) DoubleName (Ok (with_device table name wiring resistor_sizes cell))
+unfolding resistor
+resistor-is table name words cell wiring wiring_is =
+    ap (λ (found : Option Wiring). elim found as (λ _. Result OpenCell SpiceKind) [
+      | None ↦ Err BadCard
+      | Some w ↦ unless (has_device name cell.devices) DoubleName (Ok (with_device table name w resistor_sizes cell))
+    ]) wiring_is
+
+pub resistor-double : (table : StrengthTable) → (name : List ℕ) (words : List (List ℕ)) (cell : OpenCell) (wiring : Wiring) → ends_of name words ≡ Some wiring
+    → has_device name cell.devices ≡ true → resistor table name words cell ≡ Err DoubleName
+resistor-double table name words cell wiring wiring_is there =
+    resistor-is table name words cell wiring wiring_is
+    ∙ ap (λ found. unless found DoubleName (Ok (with_device table name wiring resistor_sizes cell))) there
+
+pub resistor-new : (table : StrengthTable) → (name : List ℕ) (words : List (List ℕ)) (cell : OpenCell) (wiring : Wiring) → ends_of name words ≡ Some wiring
+    → has_device name cell.devices ≡ false → resistor table name words cell ≡ Ok (with_device table name wiring resistor_sizes cell)
+resistor-new table name words cell wiring wiring_is new =
+    resistor-is table name words cell wiring wiring_is
+    ∙ ap (λ found. unless found DoubleName (Ok (with_device table name wiring resistor_sizes cell))) new
+
+pub resistor-grown : (table : StrengthTable) → (name : List ℕ) (words : List (List ℕ)) (cell grown : OpenCell) (wiring : Wiring) (sizes : Sizes) → ends_of name words ≡ Some wiring
+    → has_device name cell.devices ≡ false → sizes ≡ resistor_sizes → grown ≡ with_device table name wiring sizes cell → resistor table name words cell ≡ Ok grown
+resistor-grown table name words cell grown wiring sizes wiring_is new sizes_are is =
+    resistor-new table name words cell wiring wiring_is new
+    ∙ ap (λ (s : Sizes). Ok (with_device table name wiring s cell)) (sym sizes_are) ∙ ap (λ (c : OpenCell). Ok c) (sym is)
 
 -- outside a subcircuit the names are those of the subcircuits
 pub outside_names : (names : List (List ℕ)) (cells : List Subcircuit) (current : Option code.OpenCell) → names ≡ names_of cells ++ open_names current

@@ -1,5 +1,5 @@
 -- What is read can be written: each subcircuit that a text reads as has cards that read as its devices again.
-use Rattle.std.proofs.Common.{◌≡◌, ℕ, suc, zero, ◌⊎◌, inl, inr, true, false, not, List, [], ◌∷◌, ◌++◌, map}
+use Rattle.std.proofs.Common.{◌≡◌, ℕ, suc, zero, ◌⊎◌, inl, inr, true, false, not, List, [], ◌∷◌, ◌++◌, length, map}
 use Rattle.std.proofs.Common.{Option, Some, None, Result, Ok, Err, refl, sym, ap, ◌∙◌, subst, append_assoc}
 use Rattle.std.specs.Prelude.{slice_get, slice_set, is_some}
 use Rattle.std.specs.List.{AllByRecursion}
@@ -16,61 +16,33 @@ use Rattle.ca_spice.specs.declared.card.Card.TheVariants as card
 use Rattle.ca_spice.specs.declared.fault.SpiceKind.{SpiceKind}
 use Rattle.ca_spice.specs.declared.fault.SpiceKind.TheVariants.{BadCard, BadRole}
 use Rattle.ca_spice.specs.declared.pin.Pin.{Pin}
-use Rattle.ca_names.specs.Names.{place_of, has_double}
+use Rattle.ca_names.specs.Names.{place_of, place_with, with_name, has_double}
 use Rattle.ca_spice.specs.Card.{card_of}
-use Rattle.ca_spice.specs.Mos.{Wiring, Sizes, sizes_of}
+use Rattle.ca_spice.specs.Mos.{Wiring, Sizes, sizes_of, resistor_sizes}
 use Rattle.ca_spice.specs.PinInfo as info
-use Rattle.ca_spice.specs.OpenCell.{OpenCell, with_drain, with_gate, with_source, device_of, with_device}
-use Rattle.ca_spice.specs.OpenCell.{has_device, mos, pins_after}
-use Rattle.ca_spice.specs.Reading.{is_header, named}
+use Rattle.ca_spice.specs.OpenCell.{OpenCell, with_source, device_of, has_device, pins_after}
+use Rattle.ca_spice.specs.Reading.{is_header}
 use Rattle.ca_spice.specs.Writing.{pin_names, bulk_of}
+use Rattle.ca_spice.proofs.CellLemmas.{placed_again}
 use Rattle.ca_spice.proofs.SpelledLemmas.{IsSpelled, all_append}
+use Rattle.ca_spice.proofs.CardLemmas.{IsNameWord, IsTransistor, IsResistor, IsCard, IsWired, kept_rule, kept_value}
+use Rattle.ca_spice.proofs.CardLemmas.{sizes_found}
 use Rattle.ca_spice.proofs.DistinctLemmas.{AreNames, names_grown}
-use Rattle.ca_spice.proofs.CardLemmas.{IsNameWord, IsCard, Extends, net_more, card_more, cards_more}
-use Rattle.ca_spice.proofs.CardLemmas.{net_name-at, with_name-extends, extends_further, net_placed}
-use Rattle.ca_spice.proofs.CardLemmas.{card_words, card_params, written_wiring, written_sizes, mos-written}
-use Rattle.ca_spice.proofs.CardLemmas.{IsWired, kept_rule, kept_value, sizes_found}
+use Rattle.ca_spice.proofs.OrderLemmas.{AreOrdered, ordered_push, device_mentions}
 
 -- a subcircuit that is being read
 abbrev pub open_with : ℕ → List ℕ → List Pin → List (List ℕ) → List RawDevice → OpenCell
 open_with line name pins nets devices = record { line = line; name = name; pins = pins; nets = nets; devices = devices }
 
--- what the written card of a device makes of a subcircuit that is being read
-abbrev pub device_step : (table : StrengthTable) → List ℕ → List ℕ → List (List ℕ) → RawDevice → OpenCell → Result OpenCell SpiceKind
-device_step table p_bulk n_bulk nets device cell = mos table device.name (card_words nets (bulk_of p_bulk n_bulk device.kind) device) cell
-
--- the written cards read as the devices again, with the nets in the same order, also where more nets come
--- later
-abbrev pub ReadsAgain : (table : StrengthTable) → List ℕ → List (List ℕ) → List (List ℕ) → List RawDevice → Type 0
-ReadsAgain table name pins nets devices = (p_bulk n_bulk : List ℕ) (later : List (List ℕ)) (line : ℕ) (shown : List Pin) → IsNameWord p_bulk → IsNameWord n_bulk
-    → steps_from (device_step table p_bulk n_bulk (nets ++ later)) (open_with line name shown pins []) devices ≡ Ok (open_with line name shown nets devices)
-
--- a subcircuit that can be written
+-- a subcircuit that can be written: a header and cards can spell it, and its devices mention its nets in order
 pub record IsWritable (table : StrengthTable) (name : List ℕ) (pins nets : List (List ℕ)) (devices : List RawDevice) : Type 0 where
   pub named : IsSpelled name
   pub header : is_header (name ∷ pins) ≡ true
   pub spelled : AllByRecursion IsSpelled pins
   pub distinct : has_double pins ≡ false
-  pub cards : AllByRecursion (IsCard table nets) devices
-  pub again : ReadsAgain table name pins nets devices
+  pub cards : AllByRecursion (IsCard table) devices
+  pub order : AreOrdered (length pins) devices (length nets)
   pub names : AreNames pins nets devices
-
--- one step more
-steps_push : {State Item Fault : Type 0} (step : Item → State → Result State Fault) (start middle last : State) (items : List Item) (item : Item)
-    → steps_from step start items ≡ Ok middle → step item middle ≡ Ok last → steps_from step start (items ++ item ∷ []) ≡ Ok last
-unfolding steps_from
-steps_push {State} {Item} {Fault} step start middle last [] item read next =
-    let same : start ≡ middle = cc in
-    steps_from-cons step start item [] ∙ ap (λ (given : Result State Fault). after_step step given []) (ap (step item) same ∙ next)
-steps_push {State} {Item} {Fault} step start middle last (first ∷ items) item read next =
-    steps_from-cons step start first (items ++ item ∷ [])
-    ∙ by (step first start) (λ (following : State). steps_push step following middle last items item) (sym (steps_from-cons step start first items) ∙ read)
-  where
-    by : (given : Result State Fault)
-        → ((following : State) → steps_from step following items ≡ Ok middle → step item middle ≡ Ok last → steps_from step following (items ++ item ∷ []) ≡ Ok last)
-        → after_step step given items ≡ Ok middle → after_step step given (items ++ item ∷ []) ≡ Ok last
-    by (Ok following) later is = later following is next
-    by (Err fault) later is = absurd cc
 
 -- the first step of some
 pub record IsFirstStep {State Item Fault : Type 0} (step : Item → State → Result State Fault) (start last : State) (item : Item) (items : List Item) : Type 0 where
@@ -90,76 +62,39 @@ pub bulk_named : (p_bulk n_bulk : List ℕ) (k : DeviceKind) → (k ≡ kind.P) 
 bulk_named p_bulk n_bulk k (inl is) p_is n_is = subst (λ (k : DeviceKind). IsNameWord (bulk_of p_bulk n_bulk k)) (sym is) p_is
 bulk_named p_bulk n_bulk k (inr is) p_is n_is = subst (λ (k : DeviceKind). IsNameWord (bulk_of p_bulk n_bulk k)) (sym is) n_is
 
--- the nets with those of a card are more
-nets_extend : (wiring : Wiring) (nets : List (List ℕ)) → Extends nets (with_source wiring nets)
-nets_extend wiring nets =
-    extends_further nets (with_drain wiring nets) (with_source wiring nets) (with_name-extends wiring.drain nets)
-    (extends_further (with_drain wiring nets) (with_gate wiring nets) (with_source wiring nets) (with_name-extends wiring.gate (with_drain wiring nets))
-    (with_name-extends wiring.source (with_gate wiring nets)))
-
--- the device of a card
-abbrev new_card : (table : StrengthTable) → (name : List ℕ) (wiring : Wiring) (sizes : Sizes) (nets : List (List ℕ)) → IsNameWord name → card_of name ≡ card.Mos → IsWired name wiring → sizes_of wiring.params ≡ Some sizes
-    → IsCard table (with_source wiring nets) (device_of table name wiring sizes nets)
-new_card table name wiring sizes nets named mos wired sized =
+-- the device of an M card
+pub transistor_of : (table : StrengthTable) → (name : List ℕ) (wiring : Wiring) (sizes : Sizes) (nets : List (List ℕ)) → card_of name ≡ card.Mos
+    → (wiring.kind ≡ kind.P) ⊎ (wiring.kind ≡ kind.N) → sizes_of wiring.params ≡ Some sizes → IsTransistor (device_of table name wiring sizes nets)
+transistor_of table name wiring sizes nets mos kinds sized =
     let size = sizes_found wiring.params sizes sized in
-    let to_source = with_name-extends wiring.source (with_gate wiring nets) in
-    record {
-      named = named;
-      mos = mos;
-      kind = wired.kind;
-      width = size.0;
-      channel = size.1;
-      drain = net_placed wiring.drain nets (with_source wiring nets) wired.drain
-          (extends_further (with_drain wiring nets) (with_gate wiring nets) (with_source wiring nets) (with_name-extends wiring.gate (with_drain wiring nets)) to_source);
-      gate = net_placed wiring.gate (with_drain wiring nets) (with_source wiring nets) wired.gate to_source;
-      source = net_placed wiring.source (with_gate wiring nets) (with_source wiring nets) wired.source (record { more = []; is = sym (append-nil (with_source wiring nets)) });
-    }
+    record { kind = kinds; mos = mos; width = size.0; channel = size.1 }
 
--- the cards of the devices with one more read again
-again_grown : (table : StrengthTable) → (cell_name : List ℕ) (pins nets : List (List ℕ)) (devices : List RawDevice) (name : List ℕ) (wiring : Wiring) (sizes : Sizes)
-    → ReadsAgain table cell_name pins nets devices → IsNameWord name → card_of name ≡ card.Mos → IsWired name wiring → sizes_of wiring.params ≡ Some sizes
-    → has_device name devices ≡ false → ReadsAgain table cell_name pins (with_source wiring nets) (devices ++ device_of table name wiring sizes nets ∷ [])
-again_grown table cell_name pins nets devices name wiring sizes again named mos wired sized new p_bulk n_bulk later line shown p_is n_is =
-    let longer : List (List ℕ) = with_source wiring nets in
-    let all : List (List ℕ) = longer ++ later in
-    let device : RawDevice = device_of table name wiring sizes nets in
-    let grown : Extends nets longer = nets_extend wiring nets in
-    let split : all ≡ nets ++ (grown.more ++ later) = ap (λ (names : List (List ℕ)). names ++ later) grown.is ∙ append_assoc nets grown.more later in
-    let before : steps_from (device_step table p_bulk n_bulk all) (open_with line cell_name shown pins []) devices ≡ Ok (open_with line cell_name shown nets devices) =
-    subst (λ (names : List (List ℕ)). steps_from (device_step table p_bulk n_bulk names) (open_with line cell_name shown pins []) devices ≡ Ok (open_with line cell_name shown nets devices))
-    (sym split) (again p_bulk n_bulk (grown.more ++ later) line shown p_is n_is) in
-    let it : IsCard table longer device = new_card table name wiring sizes nets named mos wired sized in
-    let read : device_step table p_bulk n_bulk all device (open_with line cell_name shown nets devices)
-    ≡ Ok (with_device table name (written_wiring all device) (written_sizes device) (open_with line cell_name shown nets devices)) =
-    mos-written table all (bulk_of p_bulk n_bulk device.kind) device (open_with line cell_name shown nets devices) (card_more table longer later device it)
-    (bulk_named p_bulk n_bulk device.kind wired.kind p_is n_is) new in
-    let drain = net_name-at all device.drain (net_more longer later device.drain it.drain) in
-    let gate = net_name-at all device.gate (net_more longer later device.gate it.gate) in
-    let source = net_name-at all device.source (net_more longer later device.source it.source) in
-    let wirings : written_wiring all device ≡ record { drain = wiring.drain; gate = wiring.gate; source = wiring.source; kind = wiring.kind; params = card_params device } =
-    λ j. record { drain = drain j; gate = gate j; source = source j; kind = wiring.kind; params = card_params device } in
-    let same : with_device table name (written_wiring all device) (written_sizes device) (open_with line cell_name shown nets devices) ≡ open_with line cell_name shown longer (devices ++ device ∷ []) =
-    ap (λ (w : Wiring). with_device table name w (written_sizes device) (open_with line cell_name shown nets devices)) wirings in
-    steps_push (device_step table p_bulk n_bulk all) (open_with line cell_name shown pins []) (open_with line cell_name shown nets devices) (open_with line cell_name shown longer (devices ++ device ∷ []))
-    devices device before (read ∙ ap (λ (c : OpenCell). Ok c) same)
+-- the device of an R card
+pub resistor_of : (table : StrengthTable) → (name : List ℕ) (wiring : Wiring) (nets : List (List ℕ)) → card_of name ≡ card.Resistor
+    → wiring.kind ≡ kind.D → wiring.gate ≡ wiring.drain → IsResistor (device_of table name wiring resistor_sizes nets)
+resistor_of table name wiring nets resistor is gate = record {
+  kind = is;
+  resistor = resistor;
+  width = refl;
+  channel = refl;
+  gate = ap (λ (net : List ℕ). place_with net (with_name wiring.drain nets)) gate ∙ placed_again wiring.drain nets;
+}
 
 -- a subcircuit with one device more can be written
 pub writable_grown : (table : StrengthTable) → (cell_name : List ℕ) (pins nets : List (List ℕ)) (devices : List RawDevice) (name : List ℕ) (wiring : Wiring) (sizes : Sizes)
-    → IsWritable table cell_name pins nets devices → IsNameWord name → card_of name ≡ card.Mos → IsWired name wiring → sizes_of wiring.params ≡ Some sizes
+    → IsWritable table cell_name pins nets devices → IsNameWord name → IsWired name wiring
+    → IsTransistor (device_of table name wiring sizes nets) ⊎ IsResistor (device_of table name wiring sizes nets)
     → has_device name devices ≡ false → IsWritable table cell_name pins (with_source wiring nets) (devices ++ device_of table name wiring sizes nets ∷ [])
-writable_grown table cell_name pins nets devices name wiring sizes it named mos wired sized new =
-    let grown : Extends nets (with_source wiring nets) = nets_extend wiring nets in
-    record {
-      named = it.named;
-      header = it.header;
-      spelled = it.spelled;
-      distinct = it.distinct;
-      cards = all_append (IsCard table (with_source wiring nets)) devices (device_of table name wiring sizes nets ∷ [])
-          (subst (λ (names : List (List ℕ)). AllByRecursion (IsCard table names) devices) (sym grown.is) (cards_more table nets grown.more devices it.cards))
-          (new_card table name wiring sizes nets named mos wired sized, tt);
-      again = again_grown table cell_name pins nets devices name wiring sizes it.again named mos wired sized new;
-      names = names_grown table pins nets devices name wiring sizes it.names wired new;
-    }
+writable_grown table cell_name pins nets devices name wiring sizes it named wired kept new = record {
+  named = it.named;
+  header = it.header;
+  spelled = it.spelled;
+  distinct = it.distinct;
+  cards = all_append (IsCard table) devices (device_of table name wiring sizes nets ∷ []) it.cards (record { named = named; kept = kept; strong = refl }, tt);
+  order = ordered_push (length pins) devices (device_of table name wiring sizes nets) (length nets) (length (with_source wiring nets)) it.order
+      (device_mentions table name wiring sizes nets);
+  names = names_grown table pins nets devices name wiring sizes it.names wired new;
+}
 
 -- the names of pins that are being read
 abbrev pub names_shown : List Pin → List (List ℕ)

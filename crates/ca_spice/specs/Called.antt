@@ -12,8 +12,8 @@ abbrev pub called_among : List Subcircuit → List ℕ → Option RawCell
 called_among [] name = None
 called_among (cell ∷ more) name = if bytes_eq name cell.name then Some cell.raw else called_among more name
 
--- the subcircuit that a word names, in any case, where the text has a reading under the strength table and its
--- subcircuits are not too many
+-- the subcircuit that a word names, in any case, where the text has a reading under the strength table and
+-- its subcircuits are not too many
 abbrev pub cell_called : StrengthTable → List ℕ → List ℕ → Option RawCell
 cell_called table bytes word = elim (library_of table bytes) [
   | Ok cells ↦ called_among cells (upper_case word)

@@ -4,13 +4,14 @@ use Rattle.std.specs.Str.{bytes_eq}
 use Rattle.ca_spice.specs.declared.card.Card.{Card}
 use Rattle.ca_spice.specs.declared.card.Card.TheVariants as card
 
--- the card that a word's first letter gives: M is a device, C and D are ignored, and `+` is a continuation of
--- nothing
+-- the card that a word's first letter gives: M is a transistor, R a resistor, C and D are ignored, and `+` is
+-- a continuation of nothing
 unfoldable pub card_by_letter : List ℕ → Card
 card_by_letter [] = card.Unknown
 card_by_letter (letter ∷ word) = if letter == 77 then card.Mos
+    else (if letter == 82 then card.Resistor
     else (if letter == 67 || letter == 68 then card.Ignored
-    else (if letter == 43 then card.Stray else card.Unknown))
+    else (if letter == 43 then card.Stray else card.Unknown)))
 
 -- the word begins a card that is ignored, whatever its words are
 unfoldable pub is_ignored : List ℕ → Bool

@@ -1,4 +1,4 @@
--- The M card: a transistor.
+-- The M card and the R card: a transistor, and a resistor.
 use Rattle.std.specs.Prelude.{ℕ, ◌+◌, ◌==◌, nat_lt, Bool, true, false, not, ◌&&◌, if◌then◌else◌, List, []}
 use Rattle.std.specs.Prelude.{◌∷◌, codes, Option, Some, None, option_and_then}
 use Rattle.std.specs.List.{list_all}
@@ -64,10 +64,25 @@ wiring_of name (drain ∷ gate ∷ source ∷ bulk ∷ model ∷ params) =
     else None
 wiring_of name _ = None
 
--- width and length of a transistor, in units of 10^-18 metre
+-- what an R card says: a resistor's drain is given as its gate
+abbrev pub resistor_wiring : List ℕ → List ℕ → Wiring
+resistor_wiring drain source =
+    record { drain = drain; gate = drain; source = source; kind = kind.D; params = [] }
+
+-- the form of an R card: the names of device, drain and source, and then one or more words
+unfoldable pub ends_of : List ℕ → List (List ℕ) → Option Wiring
+ends_of name (drain ∷ source ∷ word ∷ more) =
+    if list_all is_name (name ∷ drain ∷ source ∷ []) then Some (resistor_wiring drain source) else None
+ends_of name _ = None
+
+-- width and length of a device, in units of 10^-18 metre
 pub record Sizes : Type 0 where
   pub width : ℕ
   pub length : ℕ
+
+-- width and length of a resistor, which mean nothing
+abbrev pub resistor_sizes : Sizes
+resistor_sizes = record { width = 1; length = 1 }
 
 -- the length that is the value of a parameter
 abbrev pub length_at : List ℕ → List (List ℕ) → Option ℕ

@@ -1,6 +1,5 @@
 -- Which words may be in a text, and which are names.
 use Rattle.std.specs.Prelude.{ℕ, ◌==◌, nat_le, Bool, not, ◌&&◌, ◌||◌, List}
-use denote.Bor.{Bor}
 use Rattle.std.specs.List.{list_all}
 
 -- a byte that may be in a word: from 33 to 126

@@ -8,13 +8,16 @@ use Rattle.ca_cell.specs.declared.raw.RawPin.{RawPin}
 use Rattle.ca_cell.specs.declared.raw.RawDevice.{RawDevice}
 use Rattle.ca_cell.specs.declared.strength.StrengthTable.{StrengthTable}
 use Rattle.ca_cell.specs.Strength.{strength_of}
+use Rattle.ca_net.specs.declared.scale.TheConstants.{STRONGEST}
+use Rattle.ca_net.specs.declared.device.DeviceKind.{DeviceKind}
+use Rattle.ca_net.specs.declared.device.DeviceKind.TheVariants as kind
 use Rattle.ca_spice.specs.declared.fault.SpiceKind.{SpiceKind}
 use Rattle.ca_spice.specs.declared.fault.SpiceKind.TheVariants.{BadCard, BadLength, DoubleName, NoPinInfo}
 use Rattle.ca_spice.specs.declared.pin.Pin.{Pin}
 use Rattle.ca_spice.specs.declared.subcircuit.Subcircuit.{Subcircuit}
 use Rattle.ca_names.specs.Names.{with_name, place_with}
 use Rattle.ca_spice.specs.PinInfo as info
-use Rattle.ca_spice.specs.Mos.{Wiring, Sizes, wiring_of, sizes_of}
+use Rattle.ca_spice.specs.Mos.{Wiring, Sizes, wiring_of, sizes_of, ends_of, resistor_sizes}
 
 -- a subcircuit whose .ENDS has not come: the line of its .SUBCKT, its name, its pins, the names of its nets
 -- (the pins and then the inner nets in the order of first mention) and its devices
@@ -47,7 +50,7 @@ has_roles cell (Err kind) = Err kind
 unfoldable pub pin_info : List (List ℕ) → OpenCell → Result OpenCell SpiceKind
 pin_info words cell = has_roles cell (info.pin_info cell.nets words cell.pins)
 
--- the nets with those of a transistor, in the order drain, gate, source
+-- the nets with those of a device, in the order drain, gate, source
 abbrev pub with_drain : Wiring → List (List ℕ) → List (List ℕ)
 with_drain wiring nets = with_name wiring.drain nets
 
@@ -57,12 +60,18 @@ with_gate wiring nets = with_name wiring.gate (with_drain wiring nets)
 abbrev pub with_source : Wiring → List (List ℕ) → List (List ℕ)
 with_source wiring nets = with_name wiring.source (with_gate wiring nets)
 
--- the transistor of a card, whose terminals are places among the nets, and which is as strong as the table says
+-- a transistor is as strong as the table says, and a resistor as the strongest transistors
+abbrev pub device_strength : StrengthTable → DeviceKind → Sizes → ℕ
+device_strength table kind.N sizes = strength_of table sizes.width sizes.length
+device_strength table kind.P sizes = strength_of table sizes.width sizes.length
+device_strength table kind.D sizes = STRONGEST
+
+-- the device of a card, whose terminals are places among the nets
 abbrev pub device_of : StrengthTable → List ℕ → Wiring → Sizes → List (List ℕ) → RawDevice
 device_of table name wiring sizes nets = record {
   name = name;
   kind = wiring.kind;
-  strength = strength_of table sizes.width sizes.length;
+  strength = device_strength table wiring.kind sizes;
   width = record { 0 = sizes.width };
   length = record { 0 = sizes.length };
   drain = place_with wiring.drain nets;
@@ -70,7 +79,7 @@ device_of table name wiring sizes nets = record {
   source = place_with wiring.source (with_gate wiring nets);
 }
 
--- the cell with the transistor of a card
+-- the cell with the device of a card
 abbrev pub with_device : StrengthTable → List ℕ → Wiring → Sizes → OpenCell → OpenCell
 with_device table name wiring sizes cell = record {
   line = cell.line;
@@ -97,6 +106,14 @@ unfoldable pub mos : StrengthTable → List ℕ → List (List ℕ) → OpenCell
 mos table name words cell = elim (wiring_of name words) [
   | None ↦ Err BadCard
   | Some wiring ↦ wired table name wiring cell
+]
+
+-- an R card adds a resistor
+unfoldable pub resistor : StrengthTable → List ℕ → List (List ℕ) → OpenCell → Result OpenCell SpiceKind
+resistor table name words cell = elim (ends_of name words) [
+  | None ↦ Err BadCard
+  | Some wiring ↦ unless (has_device name cell.devices) DoubleName
+      (Ok (with_device table name wiring resistor_sizes cell))
 ]
 
 -- these pins and then those with their roles; None where a pin has no role

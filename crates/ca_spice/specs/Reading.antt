@@ -1,7 +1,7 @@
--- What a cell netlist reads as under a strength table: its logical lines, one after another, and the first rule
--- that a line breaks.
+-- What a cell netlist reads as under a strength table: its logical lines, one after another, and the first
+-- rule that a line breaks.
 use Rattle.std.specs.Prelude.{ℕ, nat_lt, Bool, true, false, not, ◌&&◌, ◌||◌, if◌then◌else◌, List, [], ◌∷◌}
-use Rattle.std.specs.Prelude.{◌++◌, length, Option, Some, None, Result, Ok, Err}
+use Rattle.std.specs.Prelude.{◌++◌, length, map, Option, Some, None, Result, Ok, Err}
 use Rattle.std.specs.List.{list_all, list_any}
 use Rattle.std.specs.Str.{bytes_eq}
 use Rattle.ca_lex.specs.declared.lines.Line.{Line}
@@ -19,11 +19,12 @@ use Rattle.ca_spice.specs.declared.fault.SpiceKind.TheVariants.{Unended}
 use Rattle.ca_spice.specs.declared.fault.SpiceFault.{SpiceFault}
 use Rattle.ca_spice.specs.declared.fault.SpiceFault.TheVariants.{At, TooManyCells}
 use Rattle.ca_spice.specs.declared.subcircuit.Subcircuit.{Subcircuit}
+use Rattle.ca_pin_sets.specs.Resolved.{resolved}
 use Rattle.ca_names.specs.Names.{has_double}
 use Rattle.ca_spice.specs.Names.{is_text, is_name}
 use Rattle.ca_spice.specs.Card.{card_of}
 use Rattle.ca_spice.specs.Mos.{is_sign}
-use Rattle.ca_spice.specs.OpenCell.{OpenCell, new_cell, pin_info, mos, ended}
+use Rattle.ca_spice.specs.OpenCell.{OpenCell, new_cell, pin_info, mos, resistor, ended}
 
 -- what was read so far: the subcircuits, and the one whose .ENDS has not come
 pub record Reading : Type 0 where
@@ -97,6 +98,7 @@ card_step table card.Subckt line word words reading = subckt line words reading
 card_step table card.Ends line word words reading = ends words reading
 card_step table card.PinInfo line word words reading = in_cell (pin_info words) reading
 card_step table card.Mos line word words reading = in_cell (mos table word words) reading
+card_step table card.Resistor line word words reading = in_cell (resistor table word words) reading
 card_step table card.Ignored line word words reading = Ok reading
 card_step table card.Stray line word words reading = Err BadCard
 card_step table card.Unknown line word words reading = Err UnknownCard
@@ -135,9 +137,14 @@ at_line line kind = At line.line kind
 abbrev pub lines_from : StrengthTable → Reading → List Line → Result Reading SpiceFault
 lines_from table reading lines = steps_from (located at_line (line_step table)) reading lines
 
+-- a subcircuit with the nets of each input pin's set written as the pin
+abbrev pub resolved_cell : Subcircuit → Subcircuit
+resolved_cell cell = record { name = cell.name; raw = resolved cell.raw }
+
 -- a library has at most 1,024 subcircuits
 abbrev pub limited : List Subcircuit → Result (List Subcircuit) SpiceFault
-limited cells = if nat_lt MOST_CELLS (length cells) then Err (TooManyCells (length cells)) else Ok cells
+limited cells = if nat_lt MOST_CELLS (length cells) then Err (TooManyCells (length cells))
+    else Ok (map resolved_cell cells)
 
 -- the text may not end inside a subcircuit
 unfoldable pub library_from : Result Reading SpiceFault → Result (List Subcircuit) SpiceFault
@@ -147,7 +154,7 @@ library_from (Ok reading) = elim reading.current [
 ]
 library_from (Err fault) = Err fault
 
--- what a text reads as under a strength table, or else its first faulty line with the first rule that this line
--- breaks
+-- what a text reads as under a strength table, or else its first faulty line with the first rule that this
+-- line breaks
 abbrev pub library_of : StrengthTable → List ℕ → Result (List Subcircuit) SpiceFault
 library_of table text = library_from (lines_from table nothing (spice_lines text))

@@ -41,13 +41,13 @@ pin_word pin = pin.name ++ (58 ∷ role_letter pin.role ∷ [])
 abbrev pub rail_name : (Role → Bool) → List RawPin → List ℕ
 rail_name is_role pins = unwrap_or (option_map (λ pin. pin.name) (find (λ pin. is_role pin.role) pins)) []
 
--- the bulk of a device, which its kind chooses; no card reads as a d-device
+-- the bulk of a transistor, which its kind chooses; a resistor has none
 abbrev pub bulk_of : List ℕ → List ℕ → DeviceKind → List ℕ
 bulk_of p_bulk n_bulk kind.P = p_bulk
 bulk_of p_bulk n_bulk kind.N = n_bulk
 bulk_of p_bulk n_bulk kind.D = []
 
--- the model of a device
+-- the model of a transistor
 abbrev pub model_of : DeviceKind → List ℕ
 model_of kind.P = codes "PCH"
 model_of kind.N = codes "NCH"
@@ -73,10 +73,23 @@ body_words bulk device =
     ∷ size_word (codes "L=") device.length.0 ∷ []
 
 -- the words of an M card after the device's name
-abbrev pub device_words : List (List ℕ) → List ℕ → RawDevice → List (List ℕ)
-device_words nets bulk device = terminal_words nets device ++ body_words bulk device
+abbrev pub mos_words : List (List ℕ) → List ℕ → RawDevice → List (List ℕ)
+mos_words nets bulk device = terminal_words nets device ++ body_words bulk device
 
--- the M card of a device
+-- the words of an R card after the device's name
+abbrev pub resistor_words : List (List ℕ) → RawDevice → List (List ℕ)
+resistor_words nets device = net_name nets device.drain ∷ net_name nets device.source ∷ codes "1" ∷ []
+
+-- the words of a device's card after its name
+abbrev pub words_by : DeviceKind → List (List ℕ) → List ℕ → RawDevice → List (List ℕ)
+words_by kind.P nets bulk device = mos_words nets bulk device
+words_by kind.N nets bulk device = mos_words nets bulk device
+words_by kind.D nets bulk device = resistor_words nets device
+
+abbrev pub device_words : List (List ℕ) → List ℕ → RawDevice → List (List ℕ)
+device_words nets bulk device = words_by device.kind nets bulk device
+
+-- the card of a device
 abbrev pub device_line : List ℕ → List ℕ → List (List ℕ) → RawDevice → List ℕ
 device_line p_bulk n_bulk nets device = line_of device.name
     (device_words nets (bulk_of p_bulk n_bulk device.kind) device)

@@ -9,6 +9,7 @@ pub(crate) enum Card {
     Ends,
     PinInfo,
     Mos,
+    Resistor,
     Ignored,
     /// A continuation that continues nothing.
     Stray,
@@ -21,6 +22,7 @@ fn card_by_letter(word: &[u8]) -> Card
 {
     match word {
         [b'M', ..] => Card::Mos,
+        [b'R', ..] => Card::Resistor,
         [b'C' | b'D', ..] => Card::Ignored,
         [b'+', ..] => Card::Stray,
         _ => Card::Unknown,

@@ -6,7 +6,7 @@ ghost use Rattle.ca_lex.specs.Reading.{Gives};
 ghost use Rattle.ca_cell.specs.Library.{IsEntry};
 ghost use Rattle.ca_spice.specs.SpiceFault.{fault_reported};
 ghost use Rattle.ca_spice.specs.code.Kept.{IsPlacedCell, IsUpper, names_of};
-ghost use Rattle.ca_spice.specs.Reading.{nothing, lines_from, library_from, library_of};
+ghost use Rattle.ca_spice.specs.Reading.{nothing, lines_from, resolved_cell, library_from, library_of};
 ghost use Rattle.ca_spice.specs.Views.{subcircuit_seen};
 ghost use Rattle.ca_spice.specs.code.Views.{reading_seen};
 
@@ -16,6 +16,7 @@ use crate::subcircuit::Subcircuit;
 use ca_base::NoMemory;
 use ca_cell::{Entry, Library, LibraryFault, MOST_CELLS, StrengthTable};
 use ca_lex::{Line, spice_lines};
+use ca_pin_sets::resolved;
 use std::alloc::Global;
 
 // What these logical lines read as.
@@ -38,13 +39,15 @@ fn entries_of(alloc: Global, cells: Vec<Subcircuit>) -> Result<Library, NoMemory
     requires placed { All (λ cell. IsPlacedCell cell.raw) cells.items }
     requires upper { All IsUpper (names_of cells.items) }
     requires distinct { IsDistinct bytes_eq (names_of cells.items) }
-    ensures cells { IfOk result (λ library. map subcircuit_seen library ≡ cells.items) }
+    ensures cells { IfOk result (λ library. map subcircuit_seen library ≡ map resolved_cell cells.items) }
     ensures entries { IfOk result (λ library. All (λ named. IsEntry named.entry) library) }
 {
     let mut library = Library::new(alloc)?;
     'cells: for cell in cells {
         let Subcircuit { name, raw } = cell;
-        let entry = Entry::of(alloc, raw)?;
+        let resolved_raw = resolved(alloc, &raw)?;
+        drop(raw);
+        let entry = Entry::of(alloc, resolved_raw)?;
         match library.add(name, entry) {
             Ok(()) => {}
             Err(LibraryFault::NoMemory) => return Err(NoMemory),
@@ -59,7 +62,7 @@ fn entries_of(alloc: Global, cells: Vec<Subcircuit>) -> Result<Library, NoMemory
 // Whether a text may end with this reading.
 #[tactic(auto, unfolding(crate::specs::Reading::library_from))]
 fn judge_end(reading: &Reading) -> Result<(), SpiceFault>
-    ensures judged { Gives fault_reported (λ done. reading.now.cells.items) result
+    ensures judged { Gives fault_reported (λ done. map resolved_cell reading.now.cells.items) result
         (library_from (Ok (reading_seen reading.now))) }
     ensures few { IfOk result (λ done. length reading.now.cells.items ≤ MOST_CELLS) }
     ensures named { IfOk result (λ done. reading.now.names ≡ names_of reading.now.cells.items) }
@@ -97,7 +100,8 @@ fn library_from(alloc: Global, reading: Reading) -> Result<Library, SpiceFault>
     Ok(entries_of(alloc, cells)?)
 }
 
-/// The library that a cell netlist reads as under a strength table, which says how strong its transistors are.
+/// The library that a cell netlist reads as under a strength table, which says how strong its transistors
+/// are.
 #[tactic(auto, unfolding(crate::specs::Reading::library_from))]
 pub fn read_library(
     alloc: Global,

@@ -1,8 +1,10 @@
-//! The words of an M card.
+//! The words of an M card and of an R card.
 ghost use Rattle.std.specs.Prelude.{◌≡◌, ◌≤◌, ◌+◌, ◌^◌, true, option_map, IfSome};
 ghost use Rattle.ca_spice.specs.Mos.{is_sign, are_params, count_of, value_of, are_sound, kind_of, wiring_of};
 ghost use Rattle.ca_spice.specs.Mos.{length_at, sizes_of};
-ghost use Rattle.ca_spice.specs.code.Mos.{has_gate, AreSizes};
+ghost use Rattle.ca_cell.specs.Devices.{has_gate};
+ghost use Rattle.ca_spice.specs.Mos.{ends_of, resistor_sizes};
+ghost use Rattle.ca_spice.specs.code.Mos.{AreSizes};
 ghost use Rattle.ca_spice.specs.code.Names.{texts};
 ghost use Rattle.ca_spice.specs.code.Views.{wiring_seen, sizes_seen};
 
@@ -10,7 +12,7 @@ use crate::names::all_names;
 use ca_lex::{Length, read_length};
 use ca_net::DeviceKind;
 
-/// What the words of an M card say after the device's name.
+/// What the words of a card say after the device's name.
 #[derive(Clone, Copy)]
 pub(crate) struct Wiring<'a> {
     pub drain: &'a [u8],
@@ -20,7 +22,7 @@ pub(crate) struct Wiring<'a> {
     pub params: &'a [&'a [u8]],
 }
 
-/// Width and length of a transistor.
+/// Width and length of a device.
 #[derive(Clone, Copy)]
 pub(crate) struct Sizes {
     pub width: Length,
@@ -117,6 +119,38 @@ pub(crate) fn wiring_of<'a>(name: &[u8], words: &'a [&'a [u8]]) -> Option<Wiring
         kind,
         params,
     })
+}
+
+/// What the words after the device's name say, if the card has the form of an R card.
+#[tactic(auto, unfolding(crate::specs::Mos::ends_of))]
+pub(crate) fn ends_of<'a>(name: &[u8], words: &'a [&'a [u8]]) -> Option<Wiring<'a>>
+    ensures wiring { option_map wiring_seen result ≡ ends_of name.now (texts words.now) }
+    ensures gate { IfSome result (λ wiring. wiring.gate.now ≡ wiring.drain.now) }
+{
+    let [drain, source, _, ..] = words else {
+        return None;
+    };
+    if !all_names(&[name, *drain, *source]) {
+        return None;
+    }
+    Some(Wiring {
+        drain,
+        gate: drain,
+        source,
+        kind: DeviceKind::D,
+        params: &words[..0],
+    })
+}
+
+/// Width and length of a resistor, which mean nothing.
+pub(crate) fn resistor_sizes() -> Sizes
+    ensures sizes { sizes_seen result ≡ resistor_sizes }
+    ensures within { AreSizes result.width.0 result.length.0 }
+{
+    Sizes {
+        width: Length(1),
+        length: Length(1),
+    }
 }
 
 #[tactic(auto, using(crate::proofs::MosLemmas::length_most))]

@@ -1,13 +1,13 @@
 //! The subcircuit that is being read.
 ghost use Rattle.std.specs.Prelude.{◌≡◌, true, map, length};
-ghost use Rattle.ca_spice.specs.code.Mos.{has_gate, AreSizes};
+ghost use Rattle.ca_spice.specs.code.Mos.{IsWiring, AreSizes};
 ghost use Rattle.ca_spice.specs.code.Kept.{IsPlaced};
 ghost use Rattle.ca_spice.specs.code.Names.{texts};
 ghost use Rattle.ca_spice.specs.OpenCell.{is_ended_by};
 
 use crate::device::add_device;
 use crate::fault::{Refusal, SpiceKind};
-use crate::mos::{Sizes, Wiring, sizes_of, wiring_of};
+use crate::mos::{Sizes, Wiring, ends_of, resistor_sizes, sizes_of, wiring_of};
 use crate::names::set_of;
 use crate::pin::{Pin, pins_of, raw_pins};
 use crate::pin_info::pin_info;
@@ -39,7 +39,8 @@ impl OpenCell {
     ghost use Rattle.ca_spice.specs.code.SpiceFault.{kind_reported};
     ghost use Rattle.ca_names.specs.Names.{has_double};
     ghost use Rattle.ca_spice.specs.code.Names.{texts};
-    ghost use Rattle.ca_spice.specs.OpenCell.{new_cell, pin_info, has_device, with_device, wired, mos, ended};
+    ghost use Rattle.ca_spice.specs.OpenCell.{new_cell, pin_info, has_device, with_device, wired, mos};
+    ghost use Rattle.ca_spice.specs.OpenCell.{resistor, ended};
     ghost use Rattle.ca_spice.specs.code.Kept.{IsPlacedCell};
     ghost use Rattle.ca_spice.specs.code.Views.{cell_seen, wiring_seen, sizes_seen};
 
@@ -90,7 +91,7 @@ impl OpenCell {
         })
     }
 
-    // The subcircuit with one transistor more, whose name is new.
+    // The subcircuit with one device more, whose name is new.
     fn with_device(
         self,
         alloc: Global,
@@ -100,7 +101,7 @@ impl OpenCell {
         sizes: Sizes,
     ) -> Result<Self, NoMemory>
         requires new { has_device name.now self.devices ≡ false }
-        requires gate { has_gate wiring.kind ≡ true }
+        requires gate { IsWiring (wiring_seen wiring) }
         requires sizes { AreSizes sizes.width.0 sizes.length.0 }
         ensures { IfOk result (λ cell. cell_seen cell
             ≡ with_device table.now name.now (wiring_seen wiring.entry) (sizes_seen sizes) (cell_seen self)) }
@@ -134,6 +135,13 @@ impl OpenCell {
         })
     }
 
+    // Some device has the name.
+    fn has_device(&self, name: &[u8]) -> bool
+        ensures { result ≡ has_device name.now self.now.devices }
+    {
+        self.device_names.has(name)
+    }
+
     /// The subcircuit after an M card with these words.
     #[tactic(auto, unfolding(crate::specs::OpenCell::mos))]
     pub(crate) fn mos(
@@ -153,10 +161,32 @@ impl OpenCell {
         let Some(sizes) = sizes_of(wiring.params) else {
             return Err(Refusal::Kind(SpiceKind::BadLength));
         };
-        if self.device_names.has(name) {
+        if self.has_device(name) {
             return Err(Refusal::Kind(SpiceKind::DoubleName));
         }
         Ok(self.with_device(alloc, table, name, wiring, sizes)?)
+    }
+
+    /// The subcircuit after an R card with these words.
+    #[tactic(auto, unfolding(crate::specs::OpenCell::resistor))]
+    pub(crate) fn resistor(
+        self,
+        alloc: Global,
+        table: &StrengthTable,
+        name: &[u8],
+        words: &[&[u8]],
+    ) -> Result<Self, Refusal>
+        ensures read { Gives kind_reported cell_seen result
+            (resistor table.now name.now (texts words.now) (cell_seen self)) }
+        ensures same_name { IfOk result (λ cell. cell.name ≡ self.name) }
+    {
+        let Some(wiring) = ends_of(name, words) else {
+            return Err(Refusal::Kind(SpiceKind::BadCard));
+        };
+        if self.has_device(name) {
+            return Err(Refusal::Kind(SpiceKind::DoubleName));
+        }
+        Ok(self.with_device(alloc, table, name, wiring, resistor_sizes())?)
     }
 
     /// The subcircuit that a `.ENDS` with these words ends.

@@ -33,7 +33,7 @@ impl Reading {
     ghost use Rattle.std.specs.Prelude.{IsTrue};
     ghost use Rattle.ca_lex.specs.Reading.{Gives};
     ghost use Rattle.ca_spice.specs.code.SpiceFault.{kind_reported};
-    ghost use Rattle.ca_spice.specs.OpenCell.{pin_info, mos};
+    ghost use Rattle.ca_spice.specs.OpenCell.{pin_info, mos, resistor};
     ghost use Rattle.ca_spice.specs.Reading.{nothing, is_outside, named, subckt, ends, in_cell, card_step};
     ghost use Rattle.ca_spice.specs.Reading.{is_comment, words_step, line_step};
     ghost use Rattle.ca_spice.specs.code.Views.{reading_seen};
@@ -161,6 +161,32 @@ impl Reading {
         })
     }
 
+    fn resistor(
+        self,
+        alloc: Global,
+        table: &StrengthTable,
+        name: &[u8],
+        words: &[&[u8]],
+    ) -> Result<Self, Refusal>
+        ensures { Gives kind_reported reading_seen result
+            (in_cell (resistor table.now name.now (texts words.now)) (reading_seen self)) }
+    {
+        let Reading {
+            names,
+            cells,
+            current,
+        } = self;
+        let Some(cell) = current else {
+            return Err(Refusal::Kind(SpiceKind::BadCard));
+        };
+        let cell = cell.resistor(alloc, table, name, words)?;
+        Ok(Reading {
+            names,
+            cells,
+            current: Some(cell),
+        })
+    }
+
     #[tactic(auto, unfolding(crate::specs::Reading::card_step))]
     fn card(
         self,
@@ -180,6 +206,7 @@ impl Reading {
             Card::Ends => self.ends(alloc, words),
             Card::PinInfo => self.pin_info(words),
             Card::Mos => self.mos(alloc, table, word, words),
+            Card::Resistor => self.resistor(alloc, table, word, words),
             Card::Ignored => Ok(self),
             Card::Stray => {
                 drop(self);

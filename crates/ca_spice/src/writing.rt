@@ -8,7 +8,8 @@ ghost use Rattle.ca_cell.specs.Rules.{IsRaw, PlacesWithin};
 ghost use Rattle.ca_spice.specs.Reading.{library_of};
 ghost use Rattle.ca_spice.specs.Writing.{spaced, line_of, pin_names, role_letter, pin_word, rail_name};
 ghost use Rattle.ca_spice.specs.Writing.{bulk_of, model_of, net_name, size_word, terminal_words, body_words};
-ghost use Rattle.ca_spice.specs.Writing.{device_words, device_line, cell_text, kept_as, IsReadable};
+ghost use Rattle.ca_spice.specs.Writing.{mos_words, resistor_words, device_words, device_line, cell_text};
+ghost use Rattle.ca_spice.specs.Writing.{kept_as, IsReadable};
 
 use ca_base::NoMemory;
 use ca_cell::{Cell, RawCell, RawDevice, RawPin, Role};
@@ -157,7 +158,26 @@ fn push_body(text: &mut Text, bulk: &[u8], device: &RawDevice) -> Result<(), NoM
     push_size(text, b"L=", device.length)
 }
 
-// Appends the M card of a device.
+// Appends the words of an M card after the device's name.
+fn push_mos(text: &mut Text, nets: &Names, bulk: &[u8], device: &RawDevice) -> Result<(), NoMemory>
+    requires { PlacesWithin (length nets.now) device.now }
+    ensures { OnOk result (text.new ≡ text.old ++ flat_map spaced (mos_words nets.now bulk.now device.now)) }
+{
+    push_terminals(text, nets, device)?;
+    push_body(text, bulk, device)
+}
+
+// Appends the words of an R card after the device's name.
+fn push_resistor(text: &mut Text, nets: &Names, device: &RawDevice) -> Result<(), NoMemory>
+    requires { PlacesWithin (length nets.now) device.now }
+    ensures { OnOk result (text.new ≡ text.old ++ flat_map spaced (resistor_words nets.now device.now)) }
+{
+    push_net(text, nets, device.drain)?;
+    push_net(text, nets, device.source)?;
+    push_word(text, b"1")
+}
+
+// Appends the card of a device.
 fn push_device(
     text: &mut Text,
     nets: &Names,
@@ -169,12 +189,14 @@ fn push_device(
         ++ line_of device.now.name (device_words nets.now bulk.now device.now)) }
 {
     text.append(device.name.as_bytes())?;
-    push_terminals(text, nets, device)?;
-    push_body(text, bulk, device)?;
+    match device.kind {
+        DeviceKind::N | DeviceKind::P => push_mos(text, nets, bulk, device)?,
+        DeviceKind::D => push_resistor(text, nets, device)?,
+    }
     text.push(b'\n')
 }
 
-// Appends the M cards of the devices.
+// Appends the cards of the devices.
 fn push_devices(
     text: &mut Text,
     p_bulk: &[u8],

@@ -50,7 +50,7 @@ fn are_definite(waves: &[Wave]) -> bool
     waves.iter().all(|wave| wave.last != Trit::X)
 }
 
-// Waves of so many input pins, of which the lasts alone are known: they are the vector of a number.
+// Waves of this many input pins, of which the lasts alone are known: they are the vector of a number.
 pub(crate) fn waves_to(inputs: usize, number: usize) -> PinWaves
     requires { inputs ≤ MOST_INPUTS }
     ensures same { result.items ≡ waves_to inputs number }
@@ -65,7 +65,7 @@ pub(crate) fn waves_to(inputs: usize, number: usize) -> PinWaves
     waves
 }
 
-// The digit of a number behind which so many stand.
+// The digit of a number after which this many stand.
 fn digit(number: usize, after: usize) -> Trit
     requires { after < MOST_INPUTS }
     ensures { result ≡ digit_value (number / 2 ^ after % 2) }

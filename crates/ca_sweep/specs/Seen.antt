@@ -40,7 +40,7 @@ abbrev pub flipped_outputs : Chip → ℕ → (ℕ → Trit) → Flips → ℕ �
 flipped_outputs chip u goods flips output =
     flipped_if (is_flipped flips output) (goods (output_net chip u output))
 
--- the instances behind u are static, and the good values are definite there
+-- the instances after u are static, and the good values are definite there
 pub record IsClear (chip : Chip) (goods : ℕ → Trit) (u : ℕ) : Type 0 where
   pub all_static : AreStaticAfter chip u
   pub definite : AreDefiniteAfter chip u goods

@@ -1,4 +1,4 @@
-//! Which instances are clear: those behind them are static, and the good last values are definite there.
+//! Which instances are clear: those after them are static, and the good last values are definite there.
 
 ghost use Rattle.std.specs.Prelude.{ℕ, ◌≡◌, ◌<◌, length, true, IsTrue};
 ghost use Rattle.ca_net.specs.State.{value_at};

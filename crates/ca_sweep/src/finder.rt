@@ -31,7 +31,7 @@ use ca_view::View;
 use std::alloc::Global;
 use std::marker::Model;
 
-/// Finds where a pair detects defects, by the last values of the nets behind their instances. All memory is
+/// Finds where a pair detects defects, by the last values of the nets after their instances. All memory is
 /// taken by `reserve`.
 #[derive(Drop)]
 pub struct Finder<'a> {
@@ -131,7 +131,7 @@ impl<'a> Finder<'a> {
     }
 
     /// Where the pair of these waves first detects a defect. The last values are those of the pair. It is
-    /// undecided where an instance behind that of the defect isn't static, a good last value isn't definite
+    /// undecided where an instance after that of the defect isn't static, a good last value isn't definite
     /// there, or only waves show what unknown values of the instance's outputs do. It takes no memory.
     pub fn find<V: NetWaves>(&mut self, waves: &V, defect: ChipDefect) -> Seen
         requires chip { (V.seen waves.now).chip ≡ self.old.chip }
@@ -163,7 +163,7 @@ impl<'a> Finder<'a> {
 ghost use Rattle.ca_sweep.specs.code.Faulty.{IsFlippedAt};
 ghost use Rattle.ca_sweep.specs.code.Found.{reported};
 
-// What is told where flips are seen so, and all last values of the instance's outputs are known or not.
+// What is answered where flips are seen so, and all last values of the instance's outputs are known or not.
 fn reported(seen: Seen, is_known: bool) -> Seen
     ensures { result ≡ reported is_known seen }
 {

@@ -1,4 +1,4 @@
-//! Sweeps: the last values of the nets behind an instance some of whose output pins are flipped, the first
+//! Sweeps: the last values of the nets after an instance some of whose output pins are flipped, the first
 //! observed output at which that is seen, and where a pair so detects a defect.
 #![tactic(auto)]
 

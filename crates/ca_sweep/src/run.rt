@@ -1,4 +1,4 @@
-//! One sweep: the values of the nets behind an instance some of whose output pins are flipped.
+//! One sweep: the values of the nets after an instance some of whose output pins are flipped.
 
 ghost use Rattle.std.specs.Prelude.{◌≡◌, ◌<◌, ◌+◌, ◌^◌, length, false, None, IsTrue, IfSome};
 ghost use Rattle.ca_net.specs.State.{value_at};

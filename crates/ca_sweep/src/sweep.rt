@@ -21,7 +21,7 @@ use ca_view::View;
 use std::alloc::Global;
 use std::marker::Model;
 
-/// The good last values of the nets of a chip, and values behind an instance whose output pins are flipped,
+/// The good last values of the nets of a chip, and values after an instance whose output pins are flipped,
 /// which are the good ones between two calls. All memory is taken by `reserve`.
 #[derive(Drop)]
 pub struct Sweep<'a> {
@@ -190,7 +190,7 @@ impl<'a> Sweep<'a> {
     }
 
     /// Where it is first seen that some output pins of an instance are flipped. It is undecided where an
-    /// instance behind it isn't static, or a good last value isn't definite there.
+    /// instance after it isn't static, or a good last value isn't definite there.
     pub fn see(&mut self, u: usize, flips: Flips) -> Seen
         requires { IsPlaced self.old.chip (place_in self.old.places) u }
         ensures seen { IsSeen self.old.chip (value_at self.old.lasts) u flips result }

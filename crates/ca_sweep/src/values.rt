@@ -1,4 +1,4 @@
-//! Last values of the nets behind an instance, found in the order of the instances.
+//! Last values of the nets after an instance, found in the order of the instances.
 
 ghost use Rattle.std.specs.Prelude.{◌+◌, ◌≡◌, ◌<◌, length, replicate, false, IsTrue, IfOk, IfSome};
 ghost use Rattle.ca_net.specs.declared.trit.Trit.TheVariants.{X};

@@ -7,7 +7,7 @@ use std::alloc::Global;
 use std::test::Fail;
 
 /// Each text with a name of one of its cells, and the text of that cell as it is written.
-static WRITTEN: [(&[u8], &[u8], &[u8]); 4] = [
+static WRITTEN: [(&[u8], &[u8], &[u8]); 6] = [
     // Lower case, lengths in other units, and an inner net.
     (
         b".subckt nand2 a1 a2 zn vdd vss
@@ -68,6 +68,52 @@ M Z G V G NCH W=1000000000000000000000000e-18 L=1e-18
         b".SUBCKT A$ Z+ V* G$.1\n*.PININFO Z+:O V*:P G$.1:G\n.ENDS A$\n",
         b"a$",
         b".SUBCKT A$ Z+ V* G$.1\n*.PININFO Z+:O V*:P G$.1:G\n.ENDS\n",
+    ),
+    // Resistors in front of an input pin, and one at the output.
+    (
+        b".SUBCKT RINV A ZN VDD VSS
+*.PININFO A:I ZN:O VDD:P VSS:G
+R1 A A:1 12.5
+MP1 ZN:1 A:1 VDD VDD pch W=0.63u L=0.05u
+MN1 ZN:1 A:1 VSS VSS nch W=0.415u L=0.05u
+R2 ZN:1 ZN 40
+.ENDS
+",
+        b"RINV",
+        b".SUBCKT RINV A ZN VDD VSS
+*.PININFO A:I ZN:O VDD:P VSS:G
+MP1 ZN:1 A VDD VDD PCH W=630000000000e-18 L=50000000000e-18
+MN1 ZN:1 A VSS VSS NCH W=415000000000e-18 L=50000000000e-18
+R2 ZN:1 ZN 1
+.ENDS
+",
+    ),
+    // Nets that are reached in two steps, by cards in another order; a resistor on one pin; two rails that
+    // resistors join to inner nets of their own; words that are not judged.
+    (
+        b".SUBCKT C A B ZN VDD VSS
+*.PININFO A:I B:I ZN:O VDD:P VSS:G
+M1 ZN N3 N5 VSS N W=1U L=1U
+R1 N3 N2 = ( \"
+R2 N1 N2 1
+R3 N1 A 1
+R4 N6 N5 1
+M2 N6 N4 VSS VSS N W=1U L=1U
+R5 B N4 1
+R6 N4 B 1
+R7 B B 1
+R8 VDD VDD 1
+.ENDS
+",
+        b"C",
+        b".SUBCKT C A B ZN VDD VSS
+*.PININFO A:I B:I ZN:O VDD:P VSS:G
+M1 ZN A N5 VSS NCH W=1000000000000e-18 L=1000000000000e-18
+R4 N6 N5 1
+M2 N6 B VSS VSS NCH W=1000000000000e-18 L=1000000000000e-18
+R8 VDD VDD 1
+.ENDS
+",
     ),
 ];
 

@@ -80,7 +80,7 @@ fn count_status(
         _ => {
             text.append(b"status ")?;
             push_number(text, usize::from(status))?;
-            text.append(b" for so many bytes: ")?;
+            text.append(b" for this many bytes: ")?;
             push_number(text, length)?;
             text.push(b'\n')?;
             Ok(counts)

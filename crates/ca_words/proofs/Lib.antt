@@ -1,2 +1,3 @@
 pub mod BudgetLemmas
+pub mod PrefixLemmas
 pub mod WordLemmas

@@ -1,7 +1,7 @@
 -- The command that words spell.
 use Rattle.std.specs.Prelude.{◌≡◌, ℕ, List}
 use Rattle.ca_load.specs.declared.loading.FileNames.{FileNames}
-use Rattle.ca_load.specs.Texts.{names_of}
+use Rattle.ca_load.specs.Texts.{cells_of, names_of}
 use Rattle.ca_words.specs.Budget.{HasBudget, HasChipNumber}
 use Rattle.ca_words.specs.declared.words.CellWords.{CellWords}
 use Rattle.ca_words.specs.declared.words.PairWords.{PairWords}
@@ -12,21 +12,26 @@ use Rattle.ca_words.specs.declared.words.SimulateWords.{SimulateWords}
 use Rattle.ca_words.specs.declared.words.AtpgWords.{AtpgWords}
 use Rattle.ca_words.specs.declared.words.ReplayWords.{ReplayWords}
 use Rattle.ca_words.specs.declared.words.GradeWords.{GradeWords}
+use Rattle.ca_words.specs.declared.words.DiagnoseWords.{DiagnoseWords}
+use Rattle.ca_words.specs.declared.words.CertifyWords.{CertifyWords}
+use Rattle.ca_words.specs.declared.words.VerifyWords.{VerifyWords}
 use Rattle.ca_words.specs.declared.words.Command.{Command}
 use Rattle.ca_words.specs.declared.words.Command.TheVariants.{Respond, Pair, Defects, Matrix, Check, Flatten}
-use Rattle.ca_words.specs.declared.words.Command.TheVariants.{Simulate, Atpg, Replay, Grade, Make, Help, Version}
-use Rattle.ca_words.specs.Words.{cells_word, cell_word, vector_word, first_word, last_word, defect_word}
+use Rattle.ca_words.specs.declared.words.Command.TheVariants.{Simulate, Atpg, Replay, Grade, Diagnose}
+use Rattle.ca_words.specs.declared.words.Command.TheVariants.{Certify, Verify, Make, Help, Version}
+use Rattle.ca_words.specs.Words.{cell_files, cell_word, vector_word, first_word, last_word, defect_word}
 use Rattle.ca_words.specs.Words.{out_word, dash}
 use Rattle.ca_words.specs.Words.{chip_files, instance_word, chip_defect_word, flat_out_word, chip_first_word}
 use Rattle.ca_words.specs.Words.{chip_last_word}
-use Rattle.ca_words.specs.Words.{stil_word, report_word, budget_word, order_word, number_word}
+use Rattle.ca_words.specs.Words.{stil_word, report_word, log_word, candidates_word, budget_word, order_word}
+use Rattle.ca_words.specs.Words.{cert_word, number_word}
 use Rattle.ca_words.specs.Words.{IsRespond, IsPair, IsDefects, IsMatrix, IsCheck, IsFlatten, IsSimulate}
-use Rattle.ca_words.specs.Words.{IsAtpg, IsReplay, IsGrade}
+use Rattle.ca_words.specs.Words.{IsAtpg, IsReplay, IsGrade, IsDiagnose, IsCertify, IsVerify}
 use Rattle.ca_words.specs.Words.{IsMake, IsHelp, IsVersion}
 
--- the file and the cell of a command are those of the words
+-- the files and the cell of a command are those of the words
 pub record HasCellWords (words : List (List ℕ)) (request : CellWords) : Type 0 where
-  pub cells : request.cells.now ≡ cells_word words
+  pub files : cells_of request.files ≡ cell_files words
   pub cell : request.cell.now ≡ cell_word words
 
 -- the words are these of `respond`, whose vector is both the first and the last one, without a defect
@@ -103,6 +108,29 @@ pub record IsSpelledGrade (words : List (List ℕ)) (request : GradeWords) : Typ
   pub stil : request.stil.now ≡ stil_word words
   pub report : request.report.now ≡ report_word words
 
+-- the words are these of `diagnose`
+pub record IsSpelledDiagnose (words : List (List ℕ)) (request : DiagnoseWords) : Type 0 where
+  pub is : IsDiagnose words
+  pub files : names_of request.files ≡ chip_files words
+  pub stil : request.stil.now ≡ stil_word words
+  pub log : request.log.now ≡ log_word words
+  pub out : request.out.now ≡ candidates_word words
+
+-- the words are these of `certify`
+pub record IsSpelledCertify (words : List (List ℕ)) (request : CertifyWords) : Type 0 where
+  pub is : IsCertify words
+  pub files : names_of request.files ≡ chip_files words
+  pub stil : request.stil.now ≡ stil_word words
+  pub cert : request.cert.now ≡ cert_word words
+  pub budget : HasBudget (budget_word words) request.budget
+
+-- the words are these of `verify`
+pub record IsSpelledVerify (words : List (List ℕ)) (request : VerifyWords) : Type 0 where
+  pub is : IsVerify words
+  pub files : names_of request.files ≡ chip_files words
+  pub stil : request.stil.now ≡ stil_word words
+  pub cert : request.cert.now ≡ cert_word words
+
 -- the words are these of `make`
 pub record IsSpelledMake (words : List (List ℕ)) (number : ℕ) : Type 0 where
   pub is : IsMake words
@@ -120,6 +148,9 @@ IsSpelled words (Simulate request) = IsSpelledSimulate words request
 IsSpelled words (Atpg request) = IsSpelledAtpg words request
 IsSpelled words (Replay request) = IsSpelledReplay words request
 IsSpelled words (Grade request) = IsSpelledGrade words request
+IsSpelled words (Diagnose request) = IsSpelledDiagnose words request
+IsSpelled words (Certify request) = IsSpelledCertify words request
+IsSpelled words (Verify request) = IsSpelledVerify words request
 IsSpelled words (Make number) = IsSpelledMake words number
 IsSpelled words Help = IsHelp words
 IsSpelled words Version = IsVersion words

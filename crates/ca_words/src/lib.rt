@@ -4,10 +4,11 @@
 mod budget;
 mod checks;
 mod chip_words;
+mod prefix;
 mod words;
 
 pub use budget::{MOST_BUDGET, budget_of, chip_number_of};
 pub use words::{
-    AtpgWords, CellWords, ChipWords, Command, FlattenWords, GradeWords, MatrixWords, PairWords,
-    ReplayWords, SimulateWords, parse,
+    AtpgWords, CellWords, CertifyWords, ChipWords, Command, DiagnoseWords, FlattenWords,
+    GradeWords, MatrixWords, PairWords, ReplayWords, SimulateWords, VerifyWords, parse,
 };

@@ -1,17 +1,21 @@
 //! The words of a command.
 ghost use Rattle.std.specs.Prelude.{◌≡◌, ℕ, List, map, IfSome, IsNone};
+ghost use Rattle.std.specs.Option.{option_copied};
 ghost use Rattle.std.specs.String.{string_bytes};
+ghost use Rattle.ca_load.specs.Texts.{cells_of};
 ghost use Rattle.ca_words.specs.Words.{IsRespond, IsPair, IsDefects, IsMatrix, IsMake};
 ghost use Rattle.ca_words.specs.Words.{IsOnCell, IsOnChip, AsksNoFile, IsCommand};
 ghost use Rattle.ca_words.specs.Command.{IsSpelledRespond, IsSpelledPair, IsSpelledDefects, IsSpelledMatrix};
 ghost use Rattle.ca_words.specs.Command.{IsSpelledMake, IsSpelled};
 
 use crate::budget::chip_number_of;
-use crate::checks::{is_file_name, is_vector};
+use crate::checks::{are_cell_files, is_called, is_file_name, is_vector};
 use crate::chip_words::{
-    parse_atpg, parse_check, parse_flatten, parse_grade, parse_replay, parse_simulate,
+    parse_atpg, parse_certify, parse_check, parse_diagnose, parse_flatten, parse_grade,
+    parse_replay, parse_simulate, parse_verify,
 };
-use ca_load::FileNames;
+use crate::prefix::{command_words, table_word};
+use ca_load::{CellNames, FileNames};
 
 /// A command, with its words as they were typed.
 #[derive(Clone, Copy)]
@@ -36,6 +40,12 @@ pub enum Command<'a> {
     Atpg(AtpgWords<'a>),
     /// `grade CELLS NETLIST SCAN STIL REPORT`.
     Grade(GradeWords<'a>),
+    /// `diagnose CELLS NETLIST SCAN STIL LOG OUT`.
+    Diagnose(DiagnoseWords<'a>),
+    /// `certify CELLS NETLIST SCAN STIL CERT BUDGET`.
+    Certify(CertifyWords<'a>),
+    /// `verify CELLS NETLIST SCAN STIL CERT`.
+    Verify(VerifyWords<'a>),
     /// `make N`, with the number.
     Make(u32),
     /// `--help`.
@@ -44,10 +54,10 @@ pub enum Command<'a> {
     Version,
 }
 
-/// The file and the cell of a command on one cell.
+/// The files and the cell of a command on one cell.
 #[derive(Clone, Copy)]
 pub struct CellWords<'a> {
-    pub cells: &'a str,
+    pub files: CellNames<'a>,
     pub cell: &'a str,
 }
 
@@ -107,6 +117,34 @@ pub struct GradeWords<'a> {
     pub report: &'a str,
 }
 
+/// The words of a command that looks for the defects of a chip that a log of failing outputs leaves, under
+/// the patterns in a file.
+#[derive(Clone, Copy)]
+pub struct DiagnoseWords<'a> {
+    pub files: FileNames<'a>,
+    pub stil: &'a str,
+    pub log: &'a str,
+    pub out: &'a str,
+}
+
+/// The words of a command that generates tests for a chip with a certificate, for each defect with this many
+/// branches.
+#[derive(Clone, Copy)]
+pub struct CertifyWords<'a> {
+    pub files: FileNames<'a>,
+    pub stil: &'a str,
+    pub cert: &'a str,
+    pub budget: u32,
+}
+
+/// The words of a command that checks the certificate in a file, for the patterns in another.
+#[derive(Clone, Copy)]
+pub struct VerifyWords<'a> {
+    pub files: FileNames<'a>,
+    pub stil: &'a str,
+    pub cert: &'a str,
+}
+
 /// The words of a command that replays one run of a chip, whose events are in a file.
 #[derive(Clone, Copy)]
 pub struct ReplayWords<'a> {
@@ -163,6 +201,12 @@ fn parse_on_chip(words: &[String]) -> Option<Command<'_>>
         Some(Command::Replay(request))
     } else if let Some(request) = parse_grade(words) {
         Some(Command::Grade(request))
+    } else if let Some(request) = parse_diagnose(words) {
+        Some(Command::Diagnose(request))
+    } else if let Some(request) = parse_certify(words) {
+        Some(Command::Certify(request))
+    } else if let Some(request) = parse_verify(words) {
+        Some(Command::Verify(request))
     } else {
         None
     }
@@ -176,7 +220,10 @@ fn parse_asking(words: &[String]) -> Option<Command<'_>>
     if let Some(number) = parse_make(words) {
         return Some(Command::Make(number));
     }
-    let [word] = words else {
+    let None = table_word(words) else {
+        return None;
+    };
+    let [word] = command_words(words) else {
         return None;
     };
     if word.as_str() == "--help" {
@@ -192,7 +239,10 @@ fn parse_make(words: &[String]) -> Option<u32>
     ensures found { IfSome result (IsSpelledMake (map string_bytes words.now)) }
     ensures none { IsNone result → ¬ (IsMake (map string_bytes words.now)) }
 {
-    let [command, word] = words else {
+    let None = table_word(words) else {
+        return None;
+    };
+    let [command, word] = command_words(words) else {
         return None;
     };
     let Some(number) = chip_number_of(word) else {
@@ -205,19 +255,28 @@ fn parse_make(words: &[String]) -> Option<u32>
     }
 }
 
+// The files and the cell of a command on one cell.
+fn cell_called<'a>(table: Option<&'a str>, cells: &'a str, cell: &'a str) -> CellWords<'a>
+    ensures files { cells_of result.files ≡ record { table = option_copied table.entry; name = cells.now } }
+    ensures cell { result.cell.now ≡ cell.now }
+{
+    CellWords {
+        files: CellNames { table, name: cells },
+        cell,
+    }
+}
+
 fn parse_respond(words: &[String]) -> Option<PairWords<'_>>
     ensures found { IfSome result (IsSpelledRespond (map string_bytes words.now)) }
     ensures none { IsNone result → ¬ (IsRespond (map string_bytes words.now)) }
 {
-    let [command, cells, cell, vector] = words else {
+    let table = table_word(words);
+    let [command, cells, cell, vector] = command_words(words) else {
         return None;
     };
-    if command.as_str() == "respond" && is_file_name(cells) && is_vector(vector) {
+    if command.as_str() == "respond" && are_cell_files(table, cells) && is_vector(vector) {
         Some(PairWords {
-            of: CellWords {
-                cells: cells.as_str(),
-                cell: cell.as_str(),
-            },
+            of: cell_called(table, cells, cell),
             first: vector.as_str(),
             last: vector.as_str(),
             defect: "-",
@@ -231,15 +290,17 @@ fn parse_pair(words: &[String]) -> Option<PairWords<'_>>
     ensures found { IfSome result (IsSpelledPair (map string_bytes words.now)) }
     ensures none { IsNone result → ¬ (IsPair (map string_bytes words.now)) }
 {
-    let [command, cells, cell, first, last, defect] = words else {
+    let table = table_word(words);
+    let [command, cells, cell, first, last, defect] = command_words(words) else {
         return None;
     };
-    if command.as_str() == "pair" && is_file_name(cells) && is_vector(first) && is_vector(last) {
+    if command.as_str() == "pair"
+        && are_cell_files(table, cells)
+        && is_vector(first)
+        && is_vector(last)
+    {
         Some(PairWords {
-            of: CellWords {
-                cells: cells.as_str(),
-                cell: cell.as_str(),
-            },
+            of: cell_called(table, cells, cell),
             first: first.as_str(),
             last: last.as_str(),
             defect: defect.as_str(),
@@ -253,14 +314,12 @@ fn parse_defects(words: &[String]) -> Option<CellWords<'_>>
     ensures found { IfSome result (IsSpelledDefects (map string_bytes words.now)) }
     ensures none { IsNone result → ¬ (IsDefects (map string_bytes words.now)) }
 {
-    let [command, cells, cell] = words else {
+    let table = table_word(words);
+    let [command, cells, cell] = command_words(words) else {
         return None;
     };
-    if command.as_str() == "defects" && is_file_name(cells) {
-        Some(CellWords {
-            cells: cells.as_str(),
-            cell: cell.as_str(),
-        })
+    if command.as_str() == "defects" && are_cell_files(table, cells) {
+        Some(cell_called(table, cells, cell))
     } else {
         None
     }
@@ -270,19 +329,18 @@ fn parse_matrix(words: &[String]) -> Option<MatrixWords<'_>>
     ensures found { IfSome result (IsSpelledMatrix (map string_bytes words.now)) }
     ensures none { IsNone result → ¬ (IsMatrix (map string_bytes words.now)) }
 {
-    let [command, cells, cell, out] = words else {
+    let table = table_word(words);
+    let [command, cells, cell, out] = command_words(words) else {
         return None;
     };
     if command.as_str() == "matrix"
-        && is_file_name(cells)
+        && are_cell_files(table, cells)
         && is_file_name(out)
         && out.as_str() != cells.as_str()
+        && !is_called(table, out)
     {
         Some(MatrixWords {
-            of: CellWords {
-                cells: cells.as_str(),
-                cell: cell.as_str(),
-            },
+            of: cell_called(table, cells, cell),
             out: out.as_str(),
         })
     } else {

@@ -15,8 +15,13 @@ use std::process::ExitCode;
 // The word before a command whose progress is to be reported.
 const PROGRESS: &str = "--progress";
 
-// The command whose progress is counted in pairs; that of the others is in defects.
+// The word before a table and a command.
+const STRENGTHS: &str = "strengths";
+
+// The commands whose progress is counted in pairs; that of the others is in defects.
 const GRADE: &str = "grade";
+
+const DIAGNOSE: &str = "diagnose";
 
 fn main(rt: HostRuntime) -> ExitCode {
     let mut errors = StdSink::errors(rt.stderr());
@@ -26,11 +31,7 @@ fn main(rt: HostRuntime) -> ExitCode {
             let command = if is_watched { &words[1..] } else { &words[..] };
             let mut store = FileStore::new(rt);
             let mut output = StdSink::output(rt.stdout());
-            let unit = if is_first(command, GRADE) {
-                "pairs"
-            } else {
-                "defects"
-            };
+            let unit = unit_of(after_table(command));
             let mut progress = Progress::new(rt, is_watched, unit);
             answer(
                 rt.alloc(),
@@ -44,6 +45,24 @@ fn main(rt: HostRuntime) -> ExitCode {
         Err(fault) => tell(&fault, &mut errors),
     };
     ExitCode::from(status)
+}
+
+// The words after those that name a strength table.
+fn after_table(words: &[String]) -> &[String] {
+    if words.len() >= 2 && is_first(words, STRENGTHS) {
+        &words[2..]
+    } else {
+        words
+    }
+}
+
+// What the progress of a command is counted in.
+fn unit_of(command: &[String]) -> &'static str {
+    if is_first(command, GRADE) || is_first(command, DIAGNOSE) {
+        "pairs"
+    } else {
+        "defects"
+    }
 }
 
 // Whether this word is the first.

@@ -11,7 +11,8 @@ const PAUSE: u64 = 1;
 const BLANK: &[u8] = b"                                                            \r";
 
 /// Writes how many defects, or pairs, have had their turn on one line of the standard error, at most once a
-/// second, and clears it at the end. Where it isn't wanted, or the clock or the output fails, it writes nothing.
+/// second, and clears it at the end. Where it isn't wanted, or the clock or the output fails, it writes
+/// nothing.
 #[derive(Drop)]
 pub(crate) struct Progress {
     rt: HostRuntime,

@@ -65,7 +65,7 @@ IsScreened chip bits outputs defect Stays = IsJudged chip bits outputs defect (S
 IsScreened chip bits outputs defect Leaves = IsJudged chip bits outputs defect None
 IsScreened chip bits outputs defect Undecided = Unit {0}
 
--- the output, if there is one, is one of so many
+-- the output, if there is one, is one of this many
 abbrev pub IsWithin : ℕ → ByLasts → Type 0
 IsWithin outputs by_lasts.Undecided = Unit {0}
 IsWithin outputs by_lasts.Nowhere = Unit {0}

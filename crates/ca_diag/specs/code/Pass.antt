@@ -22,7 +22,7 @@ pub record IsContradictedBy (count : ℕ) (chip : Chip) (pairs : List (List Bool
 abbrev pub ExplainsBy : ℕ → Chip → List (List Bool) → ChipDefect → LogRecord → Type 0
 ExplainsBy count chip pairs defect here = (here.pair < count) × Explains chip pairs defect here
 
--- none of the first pairs contradicts the defect at this place, and so many of their records it explains
+-- none of the first pairs contradicts the defect at this place, and this many of their records it explains
 pub record IsOpen (count : ℕ) (task : Task) (pairs : List (List Bool)) (log : List LogRecord)
     (one : Candidate) : Type 0 where
   pub defect : ChipDefect

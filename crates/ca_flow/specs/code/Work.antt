@@ -7,13 +7,16 @@ use Rattle.ca_flat_text.specs.FlatText.{flat_text}
 use Rattle.ca_matrix.specs.Text.{text_of}
 use Rattle.ca_atpg.specs.Atpg.{IsStil, report_of}
 use Rattle.ca_chip_grade.specs.Texts.{grades_text}
+use Rattle.ca_engine.specs.ChipTask.{task_of}
+use Rattle.ca_chip_diag.specs.Texts.{candidates_text}
+use Rattle.ca_cert_text.specs.CertText.{certificate_text}
 use Rattle.ca_fault.specs.declared.fault.Fault.{Fault}
 use Rattle.ca_fault.specs.declared.fault.Fault.TheVariants.{StoreFailed, SinkFailed}
 use Rattle.ca_flow.specs.declared.finished.Done.{Done}
-use Rattle.ca_flow.specs.declared.finished.Done.TheVariants.{Matrix, Flatten, Atpg, Grade}
+use Rattle.ca_flow.specs.declared.finished.Done.TheVariants.{Matrix, Flatten, Atpg, Grade, Diagnose, Certify}
 use Rattle.ca_flow.specs.declared.finished.Finished.{Finished}
 use Rattle.ca_flow.specs.declared.work.OutFile.{OutFile}
-use Rattle.ca_words.specs.Words.{out_word, flat_out_word, stil_word, report_word}
+use Rattle.ca_words.specs.Words.{out_word, flat_out_word, stil_word, report_word, candidates_word, cert_word}
 use Rattle.ca_flow.specs.Finished.{IsAnswer, Prints, Writes, ReportsSinkFault}
 use Rattle.ca_flow.specs.Fault.{Outside, IsWriteCause, IsPrintCause}
 use Rattle.ca_load.specs.Files.{ReportsStoreFault}
@@ -38,12 +41,18 @@ HasFile words (Atpg chip chains pairs aims verdicts) file =
     IsSomeAnd file (IsFileWith (stil_word words) (IsStil chip chains pairs))
 HasFile words (Grade chip chains pairs grades) file =
     IsSomeAnd file (IsOutFile (report_word words) (grades_text chip grades))
+HasFile words (Diagnose chip chains pairs log candidates line) file = IsSomeAnd file
+    (IsOutFile (candidates_word words) (candidates_text chip (task_of chip 0).defects candidates))
+HasFile words (Certify chip chains pairs aims certificate) file =
+    IsSomeAnd file (IsFileWith (stil_word words) (IsStil chip chains pairs))
 HasFile words _ file = IsNone file
 
 -- the second
 abbrev pub HasSecond : List (List ℕ) → Done → Option OutFile → Type 0
 HasSecond words (Atpg chip chains pairs aims verdicts) second =
     IsSomeAnd second (IsOutFile (report_word words) (report_of chip verdicts))
+HasSecond words (Certify chip chains pairs aims certificate) second =
+    IsSomeAnd second (IsOutFile (cert_word words) (certificate_text certificate))
 HasSecond words _ second = IsNone second
 
 -- both

@@ -31,6 +31,10 @@ HaveBegun count own level source blocked old new =
     (n lane : ℕ) → n < count → (lane_at new n lane ≡ true)
     ↔ IsBegun (slice_index own n) level (lane_at source n lane) (lane_at blocked n lane) (lane_at old n lane)
 
+-- what was reached is
+abbrev pub StayReached : List ℕ → List ℕ → Type 0
+StayReached old new = (n lane : ℕ) → lane_at old n lane ≡ true → lane_at new n lane ≡ true
+
 -- paths began, and went on over these links
 pub record IsSpread (devices : List Device) (own : List ℕ) (level : ℕ)
     (links source blocked old new : List ℕ) : Type 0 where

@@ -61,6 +61,12 @@ abbrev pub AreClosed : List Device → List ℕ → List ℕ → List ℕ → Ty
 AreClosed devices links blocked reached =
     (i : ℕ) → i < length devices → IsClosedAt devices links blocked reached i
 
+-- nodes may have more lanes; where none has, nothing more comes
+pub record IsRound (devices : List Device) (links blocked old new : List ℕ) (rose : Bool) : Type 0 where
+  pub some : RaisesSome devices links blocked old new
+  pub rises : rose ≡ true → sum old < sum new
+  pub closed : rose ≡ false → AreClosed devices links blocked new
+
 -- so are two planes of each node, or one has more lanes somewhere
 pub record RaiseBoth (devices : List Device) (links blocked zeros new_zeros ones new_ones : List ℕ)
     (rose : Bool) : Type 0 where

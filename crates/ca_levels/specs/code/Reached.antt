@@ -2,6 +2,7 @@
 use Rattle.std.specs.Prelude.{ℕ, ◌≡◌, ◌≢◌, ◌+◌, ◌<◌, ◌≤◌, ◌↔◌, true, List, length, slice_index}
 use Rattle.ca_net.specs.declared.scale.TheConstants.{INPUT}
 use Rattle.ca_net.specs.declared.trit.Trit.{Trit}
+use Rattle.ca_net.specs.declared.device.Device.{Device}
 use Rattle.ca_net.specs.declared.trit.Trit.TheVariants.{Zero, One}
 use Rattle.ca_net.specs.declared.path_kind.PathKind.TheVariants.{Definite, Potential}
 use Rattle.ca_net.specs.Circuit.{Circuit}
@@ -27,11 +28,11 @@ pub record IsLoaded (net : Circuit) (from : Block) (levels : Levels) : Type 0 wh
   pub holds : HoldsNetwork net levels
   pub not_ones : AreNotOnes from levels.not_ones.items
 
--- in the lane the planes are of the nodes to which a definite path is stronger than k, and of those that a
--- path of another value than 1, or than 0, reaches that is stronger than k
+-- in the lane the planes are of the nodes to which a definite path is stronger than k, unless that is 0, and
+-- of those that a path of another value than 1, or than 0, reaches that is stronger than k
 pub record IsReachedIn (net : Circuit) (s : List Trit) (lane k : ℕ) (stronger zeros ones : List ℕ)
     : Type 0 where
-  pub stronger_there : AreThose net lane (λ n. HasStronger net s n k) stronger
+  pub stronger_there : 0 < k → AreThose net lane (λ n. HasStronger net s n k) stronger
   pub not_one : AreThose net lane (λ n. HasOther net s One n k) zeros
   pub not_zero : AreThose net lane (λ n. HasOther net s Zero n k) ones
 
@@ -48,15 +49,16 @@ pub record AreKept (count : ℕ) (own from old new : List ℕ) : Type 0 where
 
 -- the links are those of the devices that are stronger than k, and nothing more comes over them; there are
 -- none at first
-pub record IsSpreadTo (from : Block) (k : ℕ) (levels : Levels) (out : Block) : Type 0 where
-  pub potential : AreLinked (length levels.devices.items) levels.devices.items from Potential (k + 1)
+pub record IsSpreadTo (devices : List Device) (from : Block) (k : ℕ) (levels : Levels) (out : Block) : Type 0 where
+  pub potential : AreLinked (length devices) devices from Potential (k + 1)
       levels.potential.items
-  pub definite : AreLinked (length levels.devices.items) levels.devices.items from Definite (k + 1)
+  pub definite : AreLinked (length devices) devices from Definite (k + 1)
       levels.definite.items
-  pub zeros : AreClosed levels.devices.items levels.potential.items levels.stronger.items out.zeros.items
-  pub ones : AreClosed levels.devices.items levels.potential.items levels.stronger.items out.ones.items
-  pub stronger : AreClosed levels.devices.items levels.definite.items levels.none.items levels.stronger.items
+  pub zeros : AreClosed devices levels.potential.items levels.stronger.items out.zeros.items
+  pub ones : AreClosed devices levels.potential.items levels.stronger.items out.ones.items
+  pub stronger : 0 < k
+      → AreClosed devices levels.definite.items levels.none.items levels.stronger.items
   pub potential_none : INPUT ≤ k
-      → (blocked : List ℕ) → AreIdle levels.devices.items levels.potential.items blocked
+      → (blocked : List ℕ) → AreIdle devices levels.potential.items blocked
   pub definite_none : INPUT ≤ k
-      → (blocked : List ℕ) → AreIdle levels.devices.items levels.definite.items blocked
+      → (blocked : List ℕ) → AreIdle devices levels.definite.items blocked

@@ -34,7 +34,7 @@ pub record AreSeated (chip : LinkedChip) (members : List ℕ) (nets : ClusterNet
   pub tables : AreClusterNets chip members nets
   pub few : node_count (cluster_cell (core_of chip) members) ≤ MOST_NODES
 
--- u is one of them, and so many inner nodes are those of members before it
+-- u is one of them, and this many inner nodes are those of members before it
 pub record IsInHand (chip : LinkedChip) (members : List ℕ) (nets : ClusterNets) (u start : ℕ) : Type 0 where
   pub seated : AreSeated chip members nets
   pub member : Contains members u

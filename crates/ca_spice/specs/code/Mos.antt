@@ -1,13 +1,11 @@
 -- Words of the code beside those of `specs/Mos.antt`. Private functions and proofs cite them.
-use Rattle.std.specs.Prelude.{ℕ, ◌≤◌, ◌^◌, Bool, true, false}
-use Rattle.ca_net.specs.declared.device.DeviceKind.{DeviceKind}
-use Rattle.ca_net.specs.declared.device.DeviceKind.TheVariants as kind
+use Rattle.std.specs.Prelude.{ℕ, ◌≡◌, ◌≤◌, ◌^◌, false}
+use Rattle.ca_cell.specs.Devices.{has_gate}
+use Rattle.ca_spice.specs.Mos.{Wiring}
 
--- a device of this kind has a gate
-abbrev pub has_gate : DeviceKind → Bool
-has_gate kind.N = true
-has_gate kind.P = true
-has_gate kind.D = false
+-- a wiring without a gate has its drain as its gate
+abbrev pub IsWiring : Wiring → Type 0
+IsWiring wiring = has_gate wiring.kind ≡ false → wiring.gate ≡ wiring.drain
 
 -- a width and a length that were read
 abbrev pub AreSizes : ℕ → ℕ → Type 0

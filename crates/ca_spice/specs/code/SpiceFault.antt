@@ -1,7 +1,6 @@
 -- Words of the code beside those of `specs/SpiceFault.antt`. Private functions and proofs cite them.
 use Rattle.std.specs.Prelude.{Option, Some, None}
 use Rattle.ca_spice.specs.declared.fault.SpiceKind.{SpiceKind}
-use Rattle.ca_spice.specs.declared.fault.SpiceFault.TheVariants.{NoMemory}
 use Rattle.ca_spice.specs.declared.fault.Refusal.{Refusal}
 use Rattle.ca_spice.specs.declared.fault.Refusal.TheVariants as refusal
 

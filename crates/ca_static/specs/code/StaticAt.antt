@@ -14,6 +14,6 @@ IsStaticAt raw number =
     (output : ℕ) → output < role_count is_output raw.pins
     → LastEnd raw (vector_of (role_count is_input raw.pins) number) output
 
--- waves of so many input pins, of which the lasts alone are known: they are the vector of a number
+-- waves of this many input pins, of which the lasts alone are known: they are the vector of a number
 abbrev pub waves_to : ℕ → ℕ → List Wave
 waves_to inputs number = pairs_of (replicate inputs X) (vector_of inputs number)

@@ -92,7 +92,7 @@ pub record IsTouched (chip : Chip) (place_of : ℕ → ℕ) (due : PlaceSet) (ne
 
 -- Values that are found an instance at a time, in the order, where the output pins of u have these: before
 -- this place each instance keeps good values or is evaluated. From there on the output nets have good values,
--- and so have the input nets unless the instance is due. What is due is behind u. Only output nets of u and
+-- and so have the input nets unless the instance is due. What is due is after u. Only output nets of u and
 -- of instances that are due have other values than the good ones.
 pub record IsSweptTo (chip : Chip) (place_of : ℕ → ℕ) (u : ℕ) (goods outputs : ℕ → Trit) (place : ℕ)
     (values : Values) : Type 0 where

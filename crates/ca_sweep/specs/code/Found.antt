@@ -3,8 +3,8 @@ use Rattle.std.specs.Prelude.{Bool, true, false}
 use Rattle.ca_sweep.specs.declared.seen.Seen.{Seen}
 use Rattle.ca_sweep.specs.declared.seen.Seen.TheVariants.{Undecided, Nowhere, At}
 
--- what is told where flips are seen so: that a detection was found only where all last values of the outputs
--- of the defect's instance are known
+-- what is answered where flips are seen so: that a detection was found only where all last values of the
+-- outputs of the defect's instance are known
 abbrev pub reported : Bool → Seen → Seen
 reported known Undecided = Undecided
 reported known Nowhere = Nowhere

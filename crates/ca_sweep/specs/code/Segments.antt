@@ -93,7 +93,8 @@ IsPartTo chip place_of goods u flips number (Some cut) =
     IsCutAt chip place_of goods u flips number cut.instance cut.flips
 
 abbrev pub IsSegment : Chip → (ℕ → ℕ) → (ℕ → Trit) → ℕ → Flips → Segment → Type 0
-IsSegment chip place_of goods u flips segment = IsPartTo chip place_of goods u flips segment.first segment.next
+IsSegment chip place_of goods u flips segment =
+    IsPartTo chip place_of goods u flips segment.first segment.next
 
 -- the parts that are kept say what is so
 pub record AreSegments (chip : Chip) (place_of : ℕ → ℕ) (goods : ℕ → Trit) (slots : List (Option Segment))

@@ -6,7 +6,6 @@ use Rattle.ca_words.specs.declared.words.ChipWords.{ChipWords}
 use Rattle.ca_words.specs.declared.words.Command.{Command}
 use Rattle.ca_words.specs.declared.words.Command.TheVariants.{Flatten}
 use Rattle.ca_words.specs.declared.words.Command.TheVariants.{Simulate, Replay, Make}
-use Rattle.ca_words.specs.Words.{dash}
 
 -- both the instance and the defect of a command on a chip are a dash, or neither is
 abbrev pub NamesBoth : ChipWords → Type 0

@@ -1,6 +1,8 @@
-use Rattle.std.proofs.Common.{rules, map, inl, inr, List, ℕ, ◌≡◌, refl, sym, subst}
+use Rattle.std.proofs.Common.{rules, map, inl, inr, List, ℕ, ◌≡◌, ◌∙◌, Some, refl, sym, subst}
 use Rattle.std.specs.Prelude.{IfSome}
 use Rattle.std.specs.String.{string_bytes}
+use Rattle.std.proofs.lemmas.Option.{same_Some}
+use Rattle.ca_fault.specs.declared.fault.Fault.TheVariants.{BadWords}
 use Rattle.ca_flow.specs.Fault.{Outside, IsWorkCause, IsCause}
 use Rattle.ca_flow.specs.Finished.{Writes}
 use Rattle.ca_flow.specs.Ends.{IsAsked}
@@ -8,6 +10,7 @@ use Rattle.ca_flow.specs.code.Work.{EndsWork}
 use Rattle.ca_flow.proofs.CompleteLemmas.{completes}
 use Rattle.ca_flow.proofs.EndLemmas.{refused_answer, refused_asked, refused_prints, refused_writes}
 use Rattle.ca_flow.proofs.EndLemmas.{read_is_not_written, work_asked, work_cause, work_has_words}
+use Rattle.ca_flow.proofs.WordsLemmas.{no_words_work}
 use Rattle.ca_flow.proofs.top.run.Goals as goal
 
 pub returns-in-Err-clause-ends : goal.returns-in-Err-clause-ends
@@ -108,3 +111,11 @@ returns-in-Ok-clause-uncalled g c = λ bad.
     c.finish.ensures.ends words ((c.in-Ok.ensures).file words (c.in-Some.ensures).found)
     (subst (λ files. IsAsked words files work.done) (sym (c.in-Ok.ensures).kept) asked) in
     absurd (work_has_words words mid after c.finish.result.fault whole.cause bad)
+
+pub returns-in-Err-clause-uncalled : goal.returns-in-Err-clause-uncalled
+returns-in-Err-clause-uncalled g c = λ bad.
+    let words : List (List ℕ) = map string_bytes c.args.words.now in
+    let is : Some c.in-Err.fault ≡ Some BadWords = sym c.refused-in-Err.ensures.fault ∙ bad in
+    absurd (no_words_work words (g.S.Store.files c.args.store.now) (g.S.Store.faults c.args.store.now)
+    (g.S.Store.faults c.work_of.new.store) c.in-Err.fault ((c.in-Err.ensures).cause words (c.in-Some.ensures).found)
+    (same_Some c.in-Err.fault BadWords is))

@@ -65,5 +65,14 @@ returns-in-Make-clause-asked g c = ok_then c.make_work.result
     (λ work held words spelled. held words (g.S.Store.files c.args.store.now) (subst (IsSpelled words) c.in-Make.is spelled))
     c.make_work.ensures.asked
 
+pub returns-in-Diagnose-clause-cause : goal.returns-in-Diagnose-clause-cause
+returns-in-Diagnose-clause-cause g c = rw c.in-Diagnose.is c.candidates_work.ensures.cause
+
 pub returns-in-Grade-clause-cause : goal.returns-in-Grade-clause-cause
 returns-in-Grade-clause-cause g c = rw c.in-Grade.is c.grades_work.ensures.cause
+
+pub returns-in-Certify-clause-cause : goal.returns-in-Certify-clause-cause
+returns-in-Certify-clause-cause g c = rw c.in-Certify.is c.certificate_work.ensures.cause
+
+pub returns-in-Verify-clause-cause : goal.returns-in-Verify-clause-cause
+returns-in-Verify-clause-cause g c = rw c.in-Verify.is c.answer_work.ensures.cause

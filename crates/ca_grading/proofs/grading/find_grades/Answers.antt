@@ -1,7 +1,8 @@
 use Rattle.ca_load.specs.Texts.{names_of}
 use Rattle.ca_load.proofs.LinkLemmas.{handed_on}
 use Rattle.ca_patterns.specs.Patterns.{IsLoadedCause}
-use Rattle.ca_grading.proofs.GradeLemmas.{are_grades, at_grades}
+use Rattle.ca_patterns.proofs.PatternLemmas.{at_wrong}
+use Rattle.ca_grading.proofs.GradeLemmas.{are_grades}
 use Rattle.ca_grading.proofs.grading.find_grades.Goals as goal
 
 pub returns-in_err-made-clause-cause : goal.returns-in_err-made-clause-cause
@@ -16,7 +17,7 @@ returns-in_err-made-clause-cause g c =
     let read = c.in_ok-chip.ensures in
     handed_on c.from_residual-in_err-made.result fault (IsLoadedCause names request.stil.now files before after)
     c.from_residual-in_err-made.ensures.1
-    (at_grades files names request.stil.now before after found.chip found.chains found.file fault
+    (at_wrong files names request.stil.now before after found.chip found.chains found.file fault
     read.chip read.chains read.patterns read.few (c.in_err-made.ensures).cause)
 
 pub returns-clause-grades : goal.returns-clause-grades

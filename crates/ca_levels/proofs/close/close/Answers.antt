@@ -4,5 +4,5 @@ use Rattle.ca_levels.proofs.close.close.Goals as goal
 
 pub sweeps-smaller : goal.sweeps-smaller
 sweeps-smaller c =
-    let rose : c.sweep.result ≡ true = c.if-not-sweep.false in
-    slack_falls c.sweeps.reached c.sweep.new.reached c.sweep.ensures.raises.some.room (λ i. omega (arith, c.type_inv.reached i)) (c.sweep.ensures.raises.rises rose)
+    let rose : c.round.result ≡ true = c.if-not-round.false in
+    slack_falls c.sweeps.reached c.round.new.reached c.round.ensures.some.room (λ i. omega (arith, c.type_inv.reached i)) (c.round.ensures.rises rose)

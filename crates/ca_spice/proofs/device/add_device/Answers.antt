@@ -1,5 +1,6 @@
-use Rattle.std.proofs.Common.{◌≡◌, map}
-use Rattle.ca_spice.proofs.CellLemmas.{class_of, longer, named_grown, placed_grown}
+use Rattle.std.proofs.Common.{◌≡◌, map, refl}
+use Rattle.ca_spice.specs.code.Views.{wiring_seen, sizes_seen}
+use Rattle.ca_spice.proofs.CellLemmas.{sound_device, longer, named_grown, placed_grown}
 use Rattle.ca_spice.proofs.device.add_device.Goals as goal
 
 pub returns-clause-named : goal.returns-clause-named
@@ -15,4 +16,6 @@ returns-clause-placed c =
     placed_grown _ c.args.nets.now c.add.new.self c.add-2.new.self c.add-3.new.self c.add-4.new.self c.args.devices.now c.push.new.self _ c.requires.placed
     c.in_ok-push.ensures.ok named c.in_ok-add.ensures.few c.in_ok-source.ensures.few
     (longer _ _ _ c.in_ok-drain.ensures.names) (longer _ _ _ c.in_ok-gate.ensures.names) (longer _ _ _ c.in_ok-source.ensures.names)
-    c.in_ok-drain.ensures.within c.in_ok-gate.ensures.within c.in_ok-source.ensures.within (class_of c.args.table.now c.args.sizes.width.0 c.args.sizes.length.0 c.strength.result c.strength.ensures) c.requires.gate
+    c.in_ok-drain.ensures.within c.in_ok-gate.ensures.within c.in_ok-source.ensures.within
+    (sound_device c.args.table.now (sizes_seen c.args.sizes) (wiring_seen c.args.wiring) _ c.args.nets.now c.add.new.self refl c.requires.gate c.device_strength.ensures
+    c.in_ok-drain.ensures.place c.in_ok-gate.ensures.place c.in_ok-drain.ensures.names)

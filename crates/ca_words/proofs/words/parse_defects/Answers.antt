@@ -1,20 +1,20 @@
-use Rattle.std.proofs.Common.{rules, arith, ◌≡◌, length, ◌∙◌}
-use Rattle.std.proofs.lemmas.List.{length-map}
+use Rattle.std.proofs.Common.{rules, arith, ◌≡◌, length, map, sym}
 use Rattle.std.specs.String.{string_bytes}
-use Rattle.ca_words.proofs.WordLemmas.{word_of}
+use Rattle.ca_words.proofs.WordLemmas.{word_of, count_is}
 use Rattle.ca_words.proofs.words.parse_defects.Goals as goal
 
-pub returns-then-is_file_name-clause-found : goal.returns-then-is_file_name-clause-found
-returns-then-is_file_name-clause-found c =
-    let three : length c.args.words.now ≡ 3 = omega (arith, c.in-len3.len_at_least, c.in-len3.len_below) in
-    let first = word_of string_bytes c.args.words.now 0 c.command-item.result (omega (arith, three)) c.command-item.is in
-    let second = word_of string_bytes c.args.words.now 1 c.cells-item.result (omega (arith, three)) c.cells-item.is in
-    let third = word_of string_bytes c.args.words.now 2 c.cell-item.result (omega (arith, three)) c.cell-item.is in
+pub returns-then-are_cell_files-clause-found : goal.returns-then-are_cell_files-clause-found
+returns-then-are_cell_files-clause-found c =
+    let three : length c.command_words.result.now ≡ 3 = omega (arith, c.in-len3.len_at_least, c.in-len3.len_below) in
+    let table = sym c.table_word-table.ensures in
+    let command = word_of string_bytes (map string_bytes c.args.words.now) c.command_words.result.now c.command_words.ensures 0 c.command-item.result (omega (arith, three)) c.command-item.is in
+    let cells = word_of string_bytes (map string_bytes c.args.words.now) c.command_words.result.now c.command_words.ensures 1 c.cells-item.result (omega (arith, three)) c.cells-item.is in
+    let cell = word_of string_bytes (map string_bytes c.args.words.now) c.command_words.result.now c.command_words.ensures 2 c.cell-item.result (omega (arith, three)) c.cell-item.is in
     record {
       is = record {
-        three = length-map c.args.words.now string_bytes ∙ three;
-        command = rw first (search rules);
-        file = rw second (search rules);
+        three = count_is string_bytes (map string_bytes c.args.words.now) c.command_words.result.now c.command_words.ensures _ three;
+        command = rw command (search rules);
+        files = rw (table, cells) (search rules);
       };
-      of = record { cells = rw second (search rules); cell = rw third (search rules) };
+      of = record { files = rw (table, cells) (search rules); cell = rw cell (search rules) };
     }

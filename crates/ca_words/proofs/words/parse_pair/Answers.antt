@@ -1,31 +1,32 @@
-use Rattle.std.proofs.Common.{rules, arith, ◌≡◌, length, sym, ◌∙◌, subst}
-use Rattle.std.proofs.lemmas.List.{length-map}
+use Rattle.std.proofs.Common.{rules, arith, ◌≡◌, length, sym, ◌∙◌, subst, map}
+use Rattle.std.specs.Option.{option_copied}
 use Rattle.std.specs.String.{string_bytes}
-use Rattle.ca_words.specs.Words.{IsFileName, IsVector}
-use Rattle.ca_words.proofs.WordLemmas.{word_of}
+use Rattle.ca_words.specs.Words.{AreCellFiles, IsVector}
+use Rattle.ca_words.proofs.WordLemmas.{word_of, count_is}
 use Rattle.ca_words.proofs.words.parse_pair.Goals as goal
-use Rattle.ca_words.proofs.words.parse_pair.Goals.{else-eq-via-then-eq+then-is_file_name+then-is_vector+else-is_vector-2}
-use Rattle.ca_words.proofs.words.parse_pair.Goals.{else-eq-via-then-eq+then-is_file_name+else-is_vector}
-use Rattle.ca_words.proofs.words.parse_pair.Goals.{else-eq-via-then-eq+else-is_file_name, else-eq-via-else-eq}
+use Rattle.ca_words.proofs.words.parse_pair.Goals.{else-eq-via-then-eq+then-are_cell_files+then-is_vector+else-is_vector-2}
+use Rattle.ca_words.proofs.words.parse_pair.Goals.{else-eq-via-then-eq+then-are_cell_files+else-is_vector}
+use Rattle.ca_words.proofs.words.parse_pair.Goals.{else-eq-via-then-eq+else-are_cell_files, else-eq-via-else-eq}
 
 pub returns-then-is_vector-2-clause-found : goal.returns-then-is_vector-2-clause-found
 returns-then-is_vector-2-clause-found c =
-    let six : length c.args.words.now ≡ 6 = omega (arith, c.in-len6.len_at_least, c.in-len6.len_below) in
-    let command = word_of string_bytes c.args.words.now 0 c.command-item.result (omega (arith, six)) c.command-item.is in
-    let cells = word_of string_bytes c.args.words.now 1 c.cells-item.result (omega (arith, six)) c.cells-item.is in
-    let cell = word_of string_bytes c.args.words.now 2 c.cell-item.result (omega (arith, six)) c.cell-item.is in
-    let first = word_of string_bytes c.args.words.now 3 c.first-item.result (omega (arith, six)) c.first-item.is in
-    let last = word_of string_bytes c.args.words.now 4 c.last-item.result (omega (arith, six)) c.last-item.is in
-    let defect = word_of string_bytes c.args.words.now 5 c.defect-item.result (omega (arith, six)) c.defect-item.is in
+    let six : length c.command_words.result.now ≡ 6 = omega (arith, c.in-len6.len_at_least, c.in-len6.len_below) in
+    let table = sym c.table_word-table.ensures in
+    let command = word_of string_bytes (map string_bytes c.args.words.now) c.command_words.result.now c.command_words.ensures 0 c.command-item.result (omega (arith, six)) c.command-item.is in
+    let cells = word_of string_bytes (map string_bytes c.args.words.now) c.command_words.result.now c.command_words.ensures 1 c.cells-item.result (omega (arith, six)) c.cells-item.is in
+    let cell = word_of string_bytes (map string_bytes c.args.words.now) c.command_words.result.now c.command_words.ensures 2 c.cell-item.result (omega (arith, six)) c.cell-item.is in
+    let first = word_of string_bytes (map string_bytes c.args.words.now) c.command_words.result.now c.command_words.ensures 3 c.first-item.result (omega (arith, six)) c.first-item.is in
+    let last = word_of string_bytes (map string_bytes c.args.words.now) c.command_words.result.now c.command_words.ensures 4 c.last-item.result (omega (arith, six)) c.last-item.is in
+    let defect = word_of string_bytes (map string_bytes c.args.words.now) c.command_words.result.now c.command_words.ensures 5 c.defect-item.result (omega (arith, six)) c.defect-item.is in
     record {
       is = record {
-        six = length-map c.args.words.now string_bytes ∙ six;
+        six = count_is string_bytes (map string_bytes c.args.words.now) c.command_words.result.now c.command_words.ensures _ six;
         command = rw command (search rules);
-        file = rw cells (search rules);
+        files = rw (table, cells) (search rules);
         first = rw first (search rules);
         last = rw last (search rules);
       };
-      of = record { cells = rw cells (search rules); cell = rw cell (search rules) };
+      of = record { files = rw (table, cells) (search rules); cell = rw cell (search rules) };
       first = rw first (search rules);
       last = rw last (search rules);
       defect = rw defect (search rules);
@@ -33,14 +34,16 @@ returns-then-is_vector-2-clause-found c =
 
 pub returns-else-eq-clause-none : goal.returns-else-eq-clause-none
 returns-else-eq-clause-none c = λ _ is.
-    let six : length c.args.words.now ≡ 6 = omega (arith, c.in-len6.len_at_least, c.in-len6.len_below) in
-    let command = sym (word_of string_bytes c.args.words.now 0 c.command-item.result (omega (arith, six)) c.command-item.is) ∙ is.command in
-    let file = subst IsFileName (word_of string_bytes c.args.words.now 1 c.cells-item.result (omega (arith, six)) c.cells-item.is) is.file in
-    let first = subst IsVector (word_of string_bytes c.args.words.now 3 c.first-item.result (omega (arith, six)) c.first-item.is) is.first in
-    let last = subst IsVector (word_of string_bytes c.args.words.now 4 c.last-item.result (omega (arith, six)) c.last-item.is) is.last in
+    let six : length c.command_words.result.now ≡ 6 = omega (arith, c.in-len6.len_at_least, c.in-len6.len_below) in
+    let command = sym (word_of string_bytes (map string_bytes c.args.words.now) c.command_words.result.now c.command_words.ensures 0 c.command-item.result (omega (arith, six)) c.command-item.is) ∙ is.command in
+    let table_is = sym c.table_word-table.ensures in
+    let cells_is = word_of string_bytes (map string_bytes c.args.words.now) c.command_words.result.now c.command_words.ensures 1 c.cells-item.result (omega (arith, six)) c.cells-item.is in
+    let files : AreCellFiles (option_copied c.table_word-table.result) (string_bytes c.cells-item.result) = rw (table_is, cells_is) at is.files in
+    let first = subst IsVector (word_of string_bytes (map string_bytes c.args.words.now) c.command_words.result.now c.command_words.ensures 3 c.first-item.result (omega (arith, six)) c.first-item.is) is.first in
+    let last = subst IsVector (word_of string_bytes (map string_bytes c.args.words.now) c.command_words.result.now c.command_words.ensures 4 c.last-item.result (omega (arith, six)) c.last-item.is) is.last in
     elim c.else-eq.branch [
-      | else-eq-via-then-eq+then-is_file_name+then-is_vector+else-is_vector-2 w ↦ search rules
-      | else-eq-via-then-eq+then-is_file_name+else-is_vector w ↦ search rules
-      | else-eq-via-then-eq+else-is_file_name w ↦ search rules
+      | else-eq-via-then-eq+then-are_cell_files+then-is_vector+else-is_vector-2 w ↦ search rules
+      | else-eq-via-then-eq+then-are_cell_files+else-is_vector w ↦ search rules
+      | else-eq-via-then-eq+else-are_cell_files w ↦ search rules
       | else-eq-via-else-eq w ↦ search rules
     ]

@@ -1,6 +1,6 @@
 use Rattle.std.proofs.Common.{◌≡◌}
 use Rattle.ca_chip_report.proofs.RowLemmas.{row_within, row_reported, gate_at}
-use Rattle.ca_chip_report.specs.code.Rows.{found_of}
+use Rattle.ca_chip_report.specs.Found.{found_of}
 use Rattle.ca_chip_report.proofs.rows.ChipRowsReportRows.defect.Goals as goal
 
 pub defect_at-requires : goal.defect_at-requires

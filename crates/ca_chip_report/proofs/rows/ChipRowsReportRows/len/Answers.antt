@@ -1,5 +1,5 @@
 use Rattle.ca_chip_report.proofs.RowLemmas.{row_count}
-use Rattle.ca_chip_report.specs.code.Rows.{found_of}
+use Rattle.ca_chip_report.specs.Found.{found_of}
 use Rattle.ca_chip_report.proofs.rows.ChipRowsReportRows.len.Goals as goal
 
 pub returns : goal.returns

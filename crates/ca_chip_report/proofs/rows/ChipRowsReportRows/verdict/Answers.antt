@@ -1,6 +1,6 @@
 use Rattle.std.proofs.Common.{arith}
 use Rattle.ca_chip_report.proofs.RowLemmas.{row_within, verdict_reported}
-use Rattle.ca_chip_report.specs.code.Rows.{found_of}
+use Rattle.ca_chip_report.specs.Found.{found_of}
 use Rattle.ca_chip_report.proofs.rows.ChipRowsReportRows.verdict.Goals as goal
 
 pub found_at-requires : goal.found_at-requires

@@ -1,0 +1,7 @@
+use Rattle.ca_engine.specs.ChipTask.{task_of}
+use Rattle.ca_expected.proofs.WholeLemmas.{pairs_whole}
+use Rattle.ca_certifying.proofs.certified.proved_over.Goals as goal
+
+pub stil_over-requires-clause-whole : goal.stil_over-requires-clause-whole
+stil_over-requires-clause-whole c =
+    pairs_whole (task_of c.args.view.now.chip c.args.budget) c.args.made.now.pairs c.args.made.now.aims c.requires.good.aims_are

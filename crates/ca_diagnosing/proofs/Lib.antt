@@ -1,0 +1,2 @@
+pub mod DiagnoseLemmas
+pub mod OneLemmas

@@ -1,0 +1,12 @@
+use Rattle.std.proofs.Common.{◌≡◌, ℕ, List, length, take}
+use Rattle.ca_pin_sets.specs.Homes.{owners_after}
+use Rattle.ca_pin_sets.specs.code.Forest.{IsForest, Realizes}
+use Rattle.ca_pin_sets.proofs.homes.claim_all.Given as goal
+
+abbrev pub invariant-loop-device : goal.invariant-loop-device
+invariant-loop-device l =
+    IsForest l.parents.items × (length l.parents.items ≡ length l.initial.parents.items)
+    × (length l.owners.items ≡ length l.initial.owners.items)
+    × ((groups : List ℕ) → Realizes l.initial.parents.items groups
+    → Realizes l.parents.items groups
+    × (l.owners.items ≡ owners_after l.pins groups l.initial.owners.items (take l.device-index l.devices)))

@@ -1,0 +1,2 @@
+pub mod VerifyLemmas
+pub mod OneLemmas
