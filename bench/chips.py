@@ -6,7 +6,7 @@ usage: bench/chips.py PROGRAM [examples|mapped|aes|made|rows|large].. [--budgets
 examples  the chips of examples/
 mapped    bench/rtl mapped to OSU's library for 0.35 micrometres, where Debian's yosys and qflow-tech-osu035 are installed
 aes       an AES core of bench/rtl, mapped in the same way: some 12,000 instances; not among the sets that run by themselves
-made      `make N`, for N from 64 to --most (1,024 if it isn't said)
+made      `make N`, for N from 64 to --most (4,096 if it isn't said)
 rows      `check` of rows of inverters up to 32,768, and one more, which is refused
 large     `check` of a gate netlist of nearly 64 MiB, which has too many instances, and of one with a million `assign`s
 """
@@ -158,7 +158,7 @@ def joined_netlist(folder):
 
 def main(words):
     program = os.path.abspath(words[0])
-    budgets, most, sets, rest = [64, 1024], 1024, [], list(words[1:])
+    budgets, most, sets, rest = [64, 1024], 4096, [], list(words[1:])
     while rest:
         word = rest.pop(0)
         if word == "--budgets":

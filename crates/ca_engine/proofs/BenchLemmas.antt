@@ -18,7 +18,6 @@ use Rattle.ca_sim.specs.Seen.{Seen, IsExact, aimed_anew}
 use Rattle.ca_sim.specs.Laws.{DefiniteLastIsEnd}
 use Rattle.ca_view.specs.Linked.{IsLinked, IsPlacedDefect, place_in}
 use Rattle.ca_sim.specs.Simulator.{Simulator, IsFresh, KeepsAim, KeepsPair}
-use Rattle.ca_view.specs.NetLists.{NetLists}
 use Rattle.ca_search.specs.declared.trail.Outcome.{Outcome}
 use Rattle.ca_search.specs.Judged.{IsSameAim}
 use Rattle.ca_search.specs.Outcome.{IsOutcome}

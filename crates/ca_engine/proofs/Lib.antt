@@ -2,3 +2,4 @@ pub mod CoreLemmas
 pub mod BenchLemmas
 pub mod PairLemmas
 pub mod FlipLemmas
+pub mod UntestableLemmas

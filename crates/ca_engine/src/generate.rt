@@ -3,11 +3,13 @@
 ghost use Rattle.std.specs.Prelude.{◌≡◌, IfOk, IfErr};
 ghost use Rattle.ca_credit.specs.Good.{IsGood};
 ghost use Rattle.ca_generate.specs.GenerateFault.{IsCause};
+ghost use Rattle.ca_generate.specs.Known.{AreUntestable};
 ghost use Rattle.ca_engine.specs.ChipTask.{task_of};
 
 use crate::chip_bench::ChipBench;
+use crate::untestable::untestable_marks;
 use ca_choice::CheapestWay;
-use ca_generate::{GenerateFault, Generated, Watch, generate};
+use ca_generate::{GenerateFault, Generated, Watch, generate_knowing};
 use ca_guide::Choice;
 use ca_linked::Chip;
 use ca_rows::{ChipRows, ExposableDefects};
@@ -52,7 +54,8 @@ fn generate_viewed<T: Watch>(
     made
 }
 
-/// The same over the chip's view and rows.
+/// The same over the chip's view and rows. Before any search all vectors of the chip are tried, unless they
+/// have too many bits.
 pub fn generate_over<T: Watch>(
     alloc: Global,
     view: &View<'_>,
@@ -67,8 +70,30 @@ pub fn generate_over<T: Watch>(
     ensures cause { IfErr result (IsCause (task_of view.now.chip budget)) }
 {
     view.viewed();
+    let untestable = untestable_marks(alloc, view, rows)?;
+    let made = generate_marked(alloc, view, rows, &untestable, budget, watch);
+    drop(untestable);
+    made
+}
+
+// The same where some defects are known to be untestable.
+fn generate_marked<R: ExposableDefects, T: Watch>(
+    alloc: Global,
+    view: &View<'_>,
+    rows: &R,
+    untestable: &[bool],
+    budget: u32,
+    watch: &mut T,
+) -> Result<Generated, GenerateFault>
+    requires rows { R.chip rows.now ≡ view.now.core }
+    requires untestable { AreUntestable (task_of view.now.chip budget) untestable.now }
+
+    ensures good { IfOk result
+        (λ made. IsGood (task_of view.now.chip budget) made.pairs made.aims made.verdicts) }
+    ensures cause { IfErr result (IsCause (task_of view.now.chip budget)) }
+{
     let choice = CheapestWay::reserve(alloc, view)?;
-    generate_by(alloc, view, rows, choice, budget, watch)
+    generate_by(alloc, view, rows, choice, untestable, budget, watch)
 }
 
 // The same by rows and a choice of any type: so the bench that is dropped here has few parts to the prover.
@@ -77,17 +102,19 @@ fn generate_by<R: ExposableDefects, P: Choice + Drop, T: Watch>(
     view: &View<'_>,
     rows: &R,
     choice: P,
+    untestable: &[bool],
     budget: u32,
     watch: &mut T,
 ) -> Result<Generated, GenerateFault>
-    requires { R.chip rows.now ≡ view.now.core }
+    requires rows { R.chip rows.now ≡ view.now.core }
+    requires untestable { AreUntestable (task_of view.now.chip budget) untestable.now }
 
     ensures good { IfOk result
         (λ made. IsGood (task_of view.now.chip budget) made.pairs made.aims made.verdicts) }
     ensures cause { IfErr result (IsCause (task_of view.now.chip budget)) }
 {
     let mut bench = ChipBench::reserve(alloc, view, rows, choice, budget)?;
-    let made = generate(alloc, &mut bench, watch);
+    let made = generate_knowing(alloc, &mut bench, untestable, watch);
     drop(bench);
     made
 }

@@ -14,6 +14,7 @@ use Rattle.ca_credit.specs.declared.verdict.Verdict.{Verdict}
 use Rattle.ca_credit.specs.declared.verdict.Verdict.TheVariants.{Credited, Unexposable, Untestable, Aborted}
 use Rattle.ca_credit.specs.Defects.{Task, IsDefectAt, IsExposableIn}
 use Rattle.ca_credit.specs.Detection.{Detects, NoneDetects, IsFirstOutput, IsFirstDetection}
+use Rattle.ca_credit.specs.Detection.{IsUntestable}
 use Rattle.ca_credit.specs.Listed.{IsFoundAt, IsAim, AreAims}
 use Rattle.ca_credit.specs.Good.{IsAmple, IsCheckedSpent}
 use Rattle.ca_credit.specs.Table.{verdict_at, IsCredit, IsAfterPair, CreditsPair}
@@ -84,14 +85,21 @@ turn_settled task place table pairs aims defect verdict stands is_defect entry =
           record { output = credit.output; credited = verdict_at-other table place aim (Some verdict) differ ∙ credit.credited };
     }
 
+-- the turn of a defect that is known to be untestable
+pub turn_untestable : (task : Task) (place : ℕ) (table : List (Option Verdict)) (pairs : List (List Bool)) (aims : List ℕ) (defect : ChipDefect)
+    → StandsAfter task place table pairs aims → verdict_at table place ≡ None → IsDefectAt task place defect → IsUntestable task.chip defect
+    → StandsAfter task (place + 1) (slice_set table place (Some Untestable)) pairs aims
+turn_untestable task place table pairs aims defect stands none is untestable =
+    let waiting = waiting_of task place table pairs aims place defect stands none is in
+    turn_settled task place table pairs aims defect Untestable stands is
+    (record { exposable = waiting.exposable; untestable = untestable })
+
 -- the turn of a defect for which the search was exhausted
 pub turn_exhausted : (task : Task) (place : ℕ) (table : List (Option Verdict)) (pairs : List (List Bool)) (aims : List ℕ) (defect : ChipDefect) (code : List Token)
     → StandsAfter task place table pairs aims → verdict_at table place ≡ None → IsDefectAt task place defect → IsWholeCode task.chip defect code
     → StandsAfter task (place + 1) (slice_set table place (Some Untestable)) pairs aims
 turn_exhausted task place table pairs aims defect code stands none is whole =
-    let waiting = waiting_of task place table pairs aims place defect stands none is in
-    turn_settled task place table pairs aims defect Untestable stands is
-    (record { exposable = waiting.exposable; untestable = whole_is_untestable task.chip defect code whole })
+    turn_untestable task place table pairs aims defect stands none is (whole_is_untestable task.chip defect code whole)
 
 -- the turn of a defect for which the search spent its budget
 pub turn_spent : (task : Task) (place : ℕ) (table : List (Option Verdict)) (pairs : List (List Bool)) (aims : List ℕ) (defect : ChipDefect) (code : List Token)

@@ -1,8 +1,9 @@
 //! A verdict for each defect of a chip.
 
-ghost use Rattle.std.specs.Prelude.{◌≡◌, ◌<◌, ◌^◌, length, IfOk, IfErr};
+ghost use Rattle.std.specs.Prelude.{◌≡◌, ◌<◌, ◌^◌, length, IfOk, IfErr, false, slice_index_or};
 ghost use Rattle.ca_credit.specs.Good.{IsGood};
 ghost use Rattle.ca_generate.specs.GenerateFault.{IsCause};
+ghost use Rattle.ca_generate.specs.Known.{AreUntestable};
 
 use crate::bench::Bench;
 use crate::fault::{Aims, GenerateFault};
@@ -33,10 +34,29 @@ pub fn generate<B: Bench, T: Watch>(
     ensures cause { IfErr result (IsCause (B.task bench.old)) }
     ensures task { B.task bench.new ≡ B.task bench.old }
 {
+    generate_knowing(alloc, bench, &[], watch)
+}
+
+/// The same without a search for those defects whose places are marked, since no pair of the chip detects
+/// them. There may be fewer marks than defects.
+pub fn generate_knowing<B: Bench, T: Watch>(
+    alloc: Global,
+    bench: &mut B,
+    untestable: &[bool],
+    watch: &mut T,
+) -> Result<Generated, GenerateFault>
+    requires few { length (B.task bench.old).defects < 2 ^ 32 }
+    requires untestable { AreUntestable (B.task bench.old) untestable.now }
+
+    ensures good { IfOk result (λ made. IsGood (B.task bench.old) made.pairs made.aims made.verdicts) }
+    ensures cause { IfErr result (IsCause (B.task bench.old)) }
+    ensures task { B.task bench.new ≡ B.task bench.old }
+{
     let mut work = Work::begin(alloc, bench)?;
     let count = bench.defect_count();
     for place in 0..count {
-        work = work.take_turn(alloc, bench, place)?;
+        let is_untestable = is_marked(untestable, place);
+        work = work.take_turn(alloc, bench, place, is_untestable)?;
         watch.reported(place + 1, count);
     }
     Ok(Generated {
@@ -44,4 +64,11 @@ pub fn generate<B: Bench, T: Watch>(
         aims: work.aims,
         verdicts: work.credits.verdicts(),
     })
+}
+
+// Whether a place is marked; past the marks none is.
+fn is_marked(marks: &[bool], place: usize) -> bool
+    ensures { result ≡ slice_index_or marks.now place false }
+{
+    place < marks.len() && marks[place]
 }

@@ -11,6 +11,6 @@ mod work;
 
 pub use bench::Bench;
 pub use fault::{Aims, GenerateFault};
-pub use generated::{Generated, generate};
+pub use generated::{Generated, generate, generate_knowing};
 pub use laws::{outcome_is_search, too_many_needs_exposable};
 pub use watch::{Unwatched, Watch};

@@ -1,9 +1,10 @@
-//! The turn of a defect: it is searched for, unless it has a verdict.
+//! The turn of a defect: it is searched for, unless it has a verdict or is known to be untestable.
 
-ghost use Rattle.std.specs.Prelude.{◌≡◌, ◌<◌, ◌^◌, ◌+◌, length, IfOk, IfErr, None};
+ghost use Rattle.std.specs.Prelude.{◌≡◌, ◌<◌, ◌^◌, ◌+◌, length, IfOk, IfErr, None, true};
 ghost use Rattle.ca_credit.specs.Listed.{IsFoundAt};
 ghost use Rattle.ca_credit.specs.Table.{verdict_at};
 ghost use Rattle.ca_generate.specs.GenerateFault.{IsCause};
+ghost use Rattle.ca_generate.specs.Known.{IsUntestableAt};
 ghost use Rattle.ca_generate.specs.code.Progress.{WorkStands, IsScreened};
 
 use crate::bench::Bench;
@@ -35,16 +36,18 @@ impl Work {
         })
     }
 
-    /// The turn of the defect at a place.
+    /// The turn of the defect at a place, of which may be known that it is untestable.
     pub(crate) fn take_turn<B: Bench>(
         self,
         alloc: Global,
         bench: &mut B,
         place: usize,
+        is_untestable: bool,
     ) -> Result<Self, GenerateFault>
         requires within { place < length (B.task bench.old).defects }
         requires few { length (B.task bench.old).defects < 2 ^ 32 }
         requires stands { WorkStands (B.task bench.old) place self }
+        requires known { is_untestable ≡ true → IsUntestableAt (B.task bench.old) place }
 
         ensures ok { IfOk result (WorkStands (B.task bench.old) (place + 1)) }
         ensures cause { IfErr result (IsCause (B.task bench.old)) }
@@ -53,8 +56,12 @@ impl Work {
         if !self.credits.is_waiting(place) {
             return Ok(self);
         }
-        bench.aim(place);
         let mut work = self;
+        if is_untestable {
+            work.credits.settle(place, Verdict::Untestable);
+            return Ok(work);
+        }
+        bench.aim(place);
         match bench.find() {
             Outcome::Found => {
                 let pair = keep_pair(alloc, bench)?;

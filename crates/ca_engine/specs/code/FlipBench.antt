@@ -1,5 +1,5 @@
 -- What only proofs of code cite: a judge beside a finder, which works by last values alone.
-use Rattle.std.specs.Prelude.{ℕ, ◌≡◌, Bool, true}
+use Rattle.std.specs.Prelude.{◌≡◌, Bool, true}
 use Rattle.ca_net.specs.State.{value_at}
 use Rattle.ca_flips.specs.Flips.{AreLastsOf}
 use Rattle.ca_sim.specs.Simulator.{Simulator}

@@ -1,23 +1,5 @@
-use Rattle.std.proofs.Common.{◌≡◌, ℕ, List, arith, length, subst, sym}
-use Rattle.ca_credit.specs.declared.verdict.Verdict.{Verdict}
-use Rattle.ca_credit.specs.Good.{IsGood}
-use Rattle.ca_generate.specs.code.Progress.{WorkStands}
-use Rattle.ca_generate.proofs.GoodLemmas.{all_known_at_end, good_at_end}
+use Rattle.std.proofs.Common.{◌≡◌, true, false}
 use Rattle.ca_generate.proofs.generated.generate.Goals as goal
 
-pub verdicts-requires : goal.verdicts-requires
-verdicts-requires g c =
-    let task = g.B.Simulator.task c.args.bench.now in
-    let work = c.loop-place.work in
-    let all : c.loop-place.place ≡ length task.defects = omega arith in
-    all_known_at_end task work.credits work.pairs work.aims
-    (subst (λ (turns : ℕ). WorkStands task turns work) all c.loop-place.invariant.0)
-
-pub returns-clause-good : goal.returns-clause-good
-returns-clause-good g c =
-    let task = g.B.Simulator.task c.args.bench.now in
-    let work = c.loop-place.work in
-    let all : c.loop-place.place ≡ length task.defects = omega arith in
-    subst (λ (verdicts : List Verdict). IsGood task work.pairs work.aims verdicts) (sym c.verdicts.ensures)
-    (good_at_end task work.credits work.pairs work.aims
-    (subst (λ (turns : ℕ). WorkStands task turns work) all c.loop-place.invariant.0))
+pub generate_knowing-requires-clause-untestable : goal.generate_knowing-requires-clause-untestable
+generate_knowing-requires-clause-untestable g c = λ place marked. let e : false ≡ true = marked in cc

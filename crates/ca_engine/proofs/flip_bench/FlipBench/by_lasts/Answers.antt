@@ -1,4 +1,4 @@
-use Rattle.std.proofs.Common.{◌≡◌, None, true, subst, sym, ap, ◌∙◌}
+use Rattle.std.proofs.Common.{None, true, subst, sym, ◌∙◌}
 use Rattle.ca_net.specs.Circuit.{IsWellFormed}
 use Rattle.ca_net.specs.State.{value_at}
 use Rattle.ca_flat.specs.Flat.{flat}

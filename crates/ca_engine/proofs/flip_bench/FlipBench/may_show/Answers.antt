@@ -1,4 +1,4 @@
-use Rattle.std.proofs.Common.{◌≡◌, None, subst}
+use Rattle.std.proofs.Common.{None, subst}
 use Rattle.ca_flat.specs.RuleOut.{RowsRuleOut}
 use Rattle.ca_flat.specs.Waves.{FlatWaves}
 use Rattle.ca_sim.specs.Simulator.{Simulator}

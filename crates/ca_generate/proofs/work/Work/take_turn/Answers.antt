@@ -8,7 +8,7 @@ use Rattle.ca_generate.specs.Outcome.{IsSearch}
 use Rattle.ca_generate.specs.code.Progress.{StandsAfter}
 use Rattle.ca_credit.specs.Listed.{IsFoundAt}
 use Rattle.ca_generate.proofs.ScreenLemmas.{found_for}
-use Rattle.ca_generate.proofs.TurnLemmas.{turn_exhausted, turn_spent}
+use Rattle.ca_generate.proofs.TurnLemmas.{turn_untestable, turn_exhausted, turn_spent}
 use Rattle.ca_generate.proofs.work.Work.take_turn.Goals as goal
 
 pub list-requires-clause-found : goal.list-requires-clause-found
@@ -25,6 +25,16 @@ list-requires-clause-found g c =
           c.in_ok-pair-in-Found.ensures;
     })
 
+pub returns-then-is_untestable-clause-ok : goal.returns-then-is_untestable-clause-ok
+returns-then-is_untestable-clause-ok g c =
+    let task = g.B.Simulator.task c.args.bench.now in
+    let listed = some_within task.defects c.args.place c.requires.within in
+    let waiting : verdict_at c.args.self.credits c.args.place ≡ None = search rules in
+    subst (λ table. StandsAfter task (c.args.place + 1) table c.args.self.pairs c.args.self.aims)
+    (sym c.settle.ensures)
+    (turn_untestable task c.args.place c.args.self.credits c.args.self.pairs c.args.self.aims listed.0
+    c.requires.stands waiting listed.1 (c.requires.known c.if-is_untestable.true listed.0 listed.1))
+
 pub returns-in-Exhausted-clause-ok : goal.returns-in-Exhausted-clause-ok
 returns-in-Exhausted-clause-ok g c =
     let task = g.B.Simulator.task c.args.bench.now in
@@ -34,7 +44,7 @@ returns-in-Exhausted-clause-ok g c =
     (g.B.Simulator.bits c.find.new.self) Exhausted) c.aim.ensures.task
     (c.in-Exhausted.ensures.searched listed.0 (c.aim.ensures.aimed ∙ listed.1)) in
     subst (λ table. StandsAfter task (c.args.place + 1) table c.args.self.pairs c.args.self.aims)
-    (sym c.settle.ensures)
+    (sym c.settle-in-Exhausted.ensures)
     (turn_exhausted task c.args.place c.args.self.credits c.args.self.pairs c.args.self.aims listed.0
     (g.B.Bench.code c.find.new.self) c.requires.stands waiting listed.1 search.ends)
 

@@ -1,6 +1,6 @@
 use Rattle.std.proofs.Common.{◌≡◌}
 use Rattle.ca_generate.specs.code.Progress.{WorkStands}
-use Rattle.ca_generate.proofs.generated.generate.Given as goal
+use Rattle.ca_generate.proofs.generated.generate_knowing.Given as goal
 
 abbrev pub invariant-loop-place : goal.invariant-loop-place
 invariant-loop-place g l =

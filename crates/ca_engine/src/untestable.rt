@@ -1,0 +1,72 @@
+//! Defects of a linked chip of which is known, before any search, that no pair detects them.
+
+ghost use Rattle.std.specs.Prelude.{ℕ, ◌≡◌, IfOk};
+ghost use Rattle.std.specs.List.{All};
+ghost use Rattle.ca_flat.specs.Chip.{IsDefectIn};
+ghost use Rattle.ca_judge.specs.ChipJudge.{CanBeJudged};
+ghost use Rattle.ca_generate.specs.Known.{AreUntestable};
+ghost use Rattle.ca_engine.specs.ChipTask.{task_of};
+ghost use Rattle.ca_engine.specs.code.Untestable.{AreMarked};
+
+use ca_base::NoMemory;
+use ca_chip_defects::{ChipDefects, chip_defects};
+use ca_every_vector::{EveryVector, MOST_VECTOR_BITS};
+use ca_flat::ExposingRows;
+use ca_flatten::{flat_is_well_formed, judge_size};
+use ca_view::View;
+use std::alloc::Global;
+
+/// For each defect of a chip's library instances whether it is known that no pair of the chip detects it: all
+/// vectors of the chip are tried. No marks where they have too many bits.
+pub(crate) fn untestable_marks<R: ExposingRows>(
+    alloc: Global,
+    view: &View<'_>,
+    rows: &R,
+) -> Result<Vec<bool>, NoMemory>
+    requires { R.chip rows.now ≡ view.now.core }
+    ensures { IfOk result (λ marks. (budget : ℕ)
+        → AreUntestable (task_of view.now.chip budget) marks.items) }
+{
+    if view.input_count() > MOST_VECTOR_BITS {
+        return Ok(Vec::new(alloc));
+    }
+    tried_marks(alloc, view, rows)
+}
+
+// The same, one mark for each defect.
+fn tried_marks<R: ExposingRows>(
+    alloc: Global,
+    view: &View<'_>,
+    rows: &R,
+) -> Result<Vec<bool>, NoMemory>
+    requires { R.chip rows.now ≡ view.now.core }
+    ensures { IfOk result (λ marks. (budget : ℕ)
+        → AreUntestable (task_of view.now.chip budget) marks.items) }
+{
+    view.viewed();
+    flat_is_well_formed();
+    judge_size(alloc, view.chip())?;
+    let defects = chip_defects(alloc, view)?;
+    let table = EveryVector::new(alloc, view)?;
+    marks_of(alloc, &table, rows, &defects)
+}
+
+// For each defect of a list whether the table shows that no pair detects it.
+fn marks_of<R: ExposingRows>(
+    alloc: Global,
+    table: &EveryVector<'_>,
+    rows: &R,
+    defects: &ChipDefects,
+) -> Result<Vec<bool>, NoMemory>
+    requires table { table.now ≡ R.chip rows.now }
+    requires defects { All (IsDefectIn (R.chip rows.now)) defects.now }
+    requires judged { CanBeJudged (R.chip rows.now) }
+    ensures { IfOk result (λ marks. AreMarked (R.chip rows.now) defects.now marks.items) }
+{
+    let mut marks = Vec::new(alloc);
+    for place in 0..defects.len() {
+        let defect = defects.get(place);
+        marks.push(table.is_untestable(defect, rows.rows(defect)))?;
+    }
+    Ok(marks)
+}

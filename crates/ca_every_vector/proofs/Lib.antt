@@ -1,0 +1,6 @@
+pub mod SeenLemmas
+pub mod LawLemmas
+pub mod MaskLemmas
+pub mod VectorLemmas
+pub mod FindLemmas
+pub mod TableLemmas

@@ -1,0 +1,5 @@
+-- What the contracts of this crate say, in reading order.
+pub mod Possible
+pub mod Laws
+pub mod Vectors
+pub mod code

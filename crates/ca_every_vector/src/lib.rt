@@ -1,0 +1,15 @@
+//! Which vectors all pairs of a small chip give at the pins of its instances, and the defects that no pair
+//! detects since none of their exposing rows is among them.
+#![tactic(auto)]
+
+mod every_vector;
+mod find;
+mod laws;
+mod masks;
+mod rows;
+mod values;
+mod vectors;
+
+pub use every_vector::EveryVector;
+pub use laws::impossible_is_untestable;
+pub use vectors::MOST_VECTOR_BITS;
