@@ -4,5 +4,5 @@
 mod laws;
 mod read;
 
-pub use laws::{chains_cover, written_chip_is_read_back};
+pub use laws::{chains_cover, text_of_linked_chip_is_file, written_chip_is_read_back};
 pub use read::read_chip_stil;

@@ -58,7 +58,7 @@ of_text set seen chip chains pairs expected of = record {
   counted = of.counted;
 }
 
-short : (netlist : RawNetlist) (library : List Named) (scan : List ScanRow) (chip : LinkedChip) (chains : List (List ℕ))
+pub short : (netlist : RawNetlist) (library : List Named) (scan : List ScanRow) (chip : LinkedChip) (chains : List (List ℕ))
     → IsNamedLink netlist library scan chip → AreAllChains chip chains → longest (map (chain_of chip) chains) < 2 ^ 64
 short netlist library scan chip chains from all =
     let up_to = chains_short chip chains all in

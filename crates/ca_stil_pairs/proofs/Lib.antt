@@ -5,5 +5,6 @@ pub mod OrderLemmas
 pub mod ShapeLemmas
 pub mod PairLemmas
 pub mod WholeLemmas
+pub mod FileLemmas
 pub mod UniqueLemmas
 pub mod BackLemmas

@@ -7,6 +7,7 @@ use Rattle.std.proofs.lemmas.List.{length-map}
 use Rattle.ca_net.specs.declared.trit.Trit.{Trit}
 use Rattle.ca_stil.specs.declared.chip.StilChip.{StilChip}
 use Rattle.ca_stil.specs.Chip.{IsPairOf, AreValuesOf, IsStilChip}
+use Rattle.ca_stil.specs.Chip as model
 use Rattle.ca_stil_form.specs.Form.{all_allowed, all_each, allowed_maybe}
 use Rattle.ca_stil_form.specs.Frame.{Frame, longest}
 use Rattle.ca_stil_form.specs.Pattern.{PairValues, pair_form}
@@ -44,7 +45,7 @@ maybe_second possible first second (Some value) rest is =
 abbrev frame_in : ChipPart → Frame
 frame_in part = frame_of part.1.0 part.1.1.0 part.1.1.1.0 part.1.1.1.1
 
-abbrev pairs_in : Stil → List PairValues
+abbrev pub pairs_in : Stil → List PairValues
 pairs_in value = value.1.1.1.1.1
 
 -- the pairs of an allowed value are allowed
@@ -59,23 +60,29 @@ pairs_allowed value is =
     right_true (all_each (λ ports. (chain_form ports).allowed) (ports_of value.1.1.1.0) value.1.1.1.1.0)
     (all_allowed (λ number. (pair_form (frame_in (chip_part value)) number).allowed) 0 (pairs_in value)) after_scan
 
--- the frame of a chip
-chip_frame : (chip : StilChip) → length (order_of chip.chains) < 2 ^ 64 → frame_in (part_of chip) ≡ frame_seen chip
-chip_frame chip small =
+-- no chain has more cells than all together
+few_cells : (chip : StilChip) → length (order_of chip.chains) < 2 ^ 64 → model.longest chip.chains < 2 ^ 64
+few_cells chip small =
     let is = longest_same chip.chains in
     let within = longest_within chip.chains in
+    omega (arith, is, within, small)
+
+-- the frame of a chip
+chip_frame : (chip : StilChip) → model.longest chip.chains < 2 ^ 64 → frame_in (part_of chip) ≡ frame_seen chip
+chip_frame chip small =
+    let is = longest_same chip.chains in
     let below = all_up_to chip.chains (longest (map chain_seen chip.chains)) (omega (arith, is)) in
-    frame_same chip (longest (map chain_seen chip.chains)) below (omega (arith, within, small))
+    frame_same chip (longest (map chain_seen chip.chains)) below (omega (arith, is, small))
 
 -- the pairs of a text of the chip
-chip_pairs_allowed : (chip : StilChip) (value : Stil) → length (order_of chip.chains) < 2 ^ 64 → stil_form.allowed value ≡ true
+pub chip_pairs_allowed : (chip : StilChip) (value : Stil) → model.longest chip.chains < 2 ^ 64 → stil_form.allowed value ≡ true
     → chip_part value ≡ part_of chip
     → all_allowed (λ number. (pair_form (frame_seen chip) number).allowed) 0 (pairs_in value) ≡ true
 chip_pairs_allowed chip value small is same =
     subst (λ (frame : Frame). all_allowed (λ number. (pair_form frame number).allowed) 0 (pairs_in value) ≡ true)
     (ap frame_in same ∙ chip_frame chip small) (pairs_allowed value is)
 
-pairs_for : (chip : StilChip) (number : ℕ) (values : List PairValues) (pairs : List TextPair)
+pub pairs_for : (chip : StilChip) (number : ℕ) (values : List PairValues) (pairs : List TextPair)
     → all_allowed (λ number. (pair_form (frame_seen chip) number).allowed) number values ≡ true
     → map flat_pair values ≡ map pair_seen pairs → AllByRecursion (IsPairFor chip) pairs
 unfolding all_allowed
@@ -90,7 +97,7 @@ pairs_for chip number (value ∷ values) (pair ∷ pairs) is same =
       pairs_for chip (number + 1) values pairs later cc,
     )
 
-pairs_are : (chip : StilChip) (sites : List ℕ) (number : ℕ) (values : List PairValues) (pairs : List TextPair) → IsCovered chip
+pub pairs_are : (chip : StilChip) (sites : List ℕ) (number : ℕ) (values : List PairValues) (pairs : List TextPair) → IsCovered chip
     → AreSites (order_of chip.chains) chip.scan_count sites
     → all_allowed (λ number. (pair_form (frame_seen chip) number).allowed) number values ≡ true
     → map flat_pair values ≡ map pair_seen pairs
@@ -108,12 +115,12 @@ pairs_are chip sites number (value ∷ values) (pair ∷ pairs) covered are is s
     λ j. first j ∷ more j
 
 -- the pairs and the expected values are of the chip
-all_bits : (chip : StilChip) (sites : List ℕ) (pairs : List TextPair) → AreSites (order_of chip.chains) chip.scan_count sites
+pub all_bits : (chip : StilChip) (sites : List ℕ) (pairs : List TextPair) → AreSites (order_of chip.chains) chip.scan_count sites
     → AllByRecursion (IsPairFor chip) pairs → AllByRecursion (IsPairOf chip) (map (chip_bits chip sites) pairs)
 all_bits chip sites [] are for = tt
 all_bits chip sites (pair ∷ pairs) are for = (bits_of_chip chip sites pair are for.0, all_bits chip sites pairs are for.1)
 
-all_levels : (chip : StilChip) (sites : List ℕ) (pairs : List TextPair) → AreSites (order_of chip.chains) chip.scan_count sites
+pub all_levels : (chip : StilChip) (sites : List ℕ) (pairs : List TextPair) → AreSites (order_of chip.chains) chip.scan_count sites
     → AllByRecursion (IsPairFor chip) pairs → AllByRecursion (AreValuesOf chip) (map (chip_levels chip sites) pairs)
 all_levels chip sites [] are for = tt
 all_levels chip sites (pair ∷ pairs) are for = (levels_of_chip chip sites pair are for.0, all_levels chip sites pairs are for.1)
@@ -140,7 +147,7 @@ allowed_in : (chip : StilChip) (bytes : List ℕ) (text : StilText) (reads : Rea
     → text_eq text chip ≡ true → length (order_of chip.chains) < 2 ^ 64
     → all_allowed (λ number. (pair_form (frame_seen chip) number).allowed) 0 (pairs_in reads.value) ≡ true
 allowed_in chip bytes text reads is same small =
-    chip_pairs_allowed chip reads.value small is (sym (part_seen bytes text reads) ∙ part_true text chip same)
+    chip_pairs_allowed chip reads.value (few_cells chip small) is (sym (part_seen bytes text reads) ∙ part_true text chip same)
 
 pub text_pairs_for : (chip : StilChip) (bytes : List ℕ) (text : StilText) (reads : ReadsAs bytes text)
     → stil_form.allowed reads.value ≡ true → text_eq text chip ≡ true → length (order_of chip.chains) < 2 ^ 64
@@ -149,7 +156,7 @@ text_pairs_for chip bytes text reads is same small =
     all_of (IsPairFor chip) text.pairs
     (pairs_for chip 0 (pairs_in reads.value) text.pairs (allowed_in chip bytes text reads is same small) (pairs_seen bytes text reads))
 
-value_is : (chip : StilChip) (value : Stil) (pairs : List (List Bool)) (expected : List (List Trit)) → chip_part value ≡ part_of chip
+pub value_is : (chip : StilChip) (value : Stil) (pairs : List (List Bool)) (expected : List (List Trit)) → chip_part value ≡ part_of chip
     → pairs_in value ≡ all_values chip pairs expected → value ≡ stil_value chip pairs expected
 value_is chip value pairs expected part all =
     λ j. ((part j).0, ((part j).1.0, ((part j).1.1.0, ((part j).1.1.1.0, ((part j).1.1.1.1, all j)))))

@@ -1,15 +1,17 @@
 -- What was written of a chip is read back.
-use Rattle.std.specs.Prelude.{ℕ, ◌≡◌, ◌^◌, ◌<◌, Bool, true, List}
+use Rattle.std.specs.Prelude.{ℕ, ◌≡◌, ◌^◌, ◌<◌, Bool, true, List, Ok}
 use Rattle.ca_net.specs.declared.trit.Trit.{Trit}
 use Rattle.ca_stil.specs.declared.chip.StilChip.{StilChip}
 use Rattle.ca_stil.specs.Chip.{longest, AreOf}
 use Rattle.ca_stil.specs.Text.{stil_text}
+use Rattle.ca_stil_form.specs.Reading.{whole}
+use Rattle.ca_stil_form.specs.Tokens.{tokens_of}
 use Rattle.ca_stil_form.specs.Value.{stil_value}
-use Rattle.ca_stil_form.specs.Whole.{stil_form}
+use Rattle.ca_stil_form.specs.Whole.{Stil, stil_form}
 use Rattle.ca_stil_pairs.specs.declared.file.StilFile.{StilFile}
 use Rattle.ca_stil_pairs.specs.declared.read.StilFault.{StilFault}
 use Rattle.ca_stil_pairs.specs.declared.read.StilFault.TheVariants.{NoMemory}
-use Rattle.ca_stil_pairs.specs.Chip.{IsCovered}
+use Rattle.ca_stil_pairs.specs.Chip.{chip_part, part_of, IsCovered}
 use Rattle.ca_stil_pairs.specs.File.{IsFileOf, IsCause}
 
 -- the file has these pairs and expected values
@@ -35,3 +37,14 @@ WrittenIsReadBack = (chip : StilChip) (pairs : List (List Bool)) (expected : Lis
     → longest chip.chains < 2 ^ 64 → AreOf chip pairs expected
     → stil_form.allowed (stil_value chip pairs expected) ≡ true
     → IsReadBack chip (stil_text chip pairs expected) pairs expected
+
+-- the text is a file of the chip
+pub record HasFile (chip : StilChip) (bytes : List ℕ) : Type 0 where
+  pub file : StilFile
+  pub is : IsFileOf chip bytes file
+
+-- a text of the form whose signals, groups and chains are those of a chip is a file of the chip
+abbrev pub TextOfChipIsFile : Type 0
+TextOfChipIsFile = (chip : StilChip) (bytes : List ℕ) (value : Stil) → IsCovered chip
+    → longest chip.chains < 2 ^ 64 → whole stil_form (tokens_of bytes) ≡ Ok value
+    → chip_part value ≡ part_of chip → HasFile chip bytes

@@ -1,6 +1,6 @@
 //! What the definitions imply.
 
-ghost use Rattle.ca_stil_pairs.specs.Laws.{HasOneFile, WrittenIsReadBack};
+ghost use Rattle.ca_stil_pairs.specs.Laws.{HasOneFile, WrittenIsReadBack, TextOfChipIsFile};
 
 use ca_stil_form::chip_text_is_of_the_form;
 
@@ -16,3 +16,8 @@ pub fn written_is_read_back()
     chip_text_is_of_the_form();
     text_is_one_file();
 }
+
+/// A text of the form whose signals, groups and chains are those of a chip is a file of the chip.
+pub fn text_of_chip_is_file()
+    ensures { TextOfChipIsFile }
+{}

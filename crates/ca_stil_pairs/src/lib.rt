@@ -10,5 +10,5 @@ mod places;
 mod read;
 
 pub use file::StilFile;
-pub use laws::{text_is_one_file, written_is_read_back};
+pub use laws::{text_is_one_file, text_of_chip_is_file, written_is_read_back};
 pub use read::{StilFault, read_stil};
