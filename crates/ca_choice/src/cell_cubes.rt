@@ -126,8 +126,8 @@ fn all_passing(
     Ok(cubes)
 }
 
-// The cubes under which the output follows the pin of this place, with the same value or with the opposite
-// one. Where only that depends on another pin the cube leaves it free.
+// The cubes under which the output follows the pin of this place: with the same value, and with the opposite
+// one. So each other pin on which depends which of both it is has a value in them.
 fn passing(
     alloc: Global,
     points: &mut Points,
@@ -135,18 +135,32 @@ fn passing(
     output: usize,
     place: usize,
 ) -> Result<Vec<Cube>, NoMemory> {
+    let mut cubes = Vec::new(alloc);
+    add_following(&mut cubes, points, table, output, place, Trit::One)?;
+    add_following(&mut cubes, points, table, output, place, Trit::Zero)?;
+    Ok(cubes)
+}
+
+// Appends the cubes under which the output has this value where the pin is 1, and the opposite one where it
+// is 0.
+fn add_following(
+    cubes: &mut Vec<Cube>,
+    points: &mut Points,
+    table: &CellTable,
+    output: usize,
+    place: usize,
+    value: Trit,
+) -> Result<(), NoMemory> {
     points.begin(first_places(table.inputs));
     let pin = vector_count(place);
     for vector in 0..vector_count(table.inputs) {
         let low = table.value(output, vector & !pin);
         let high = table.value(output, vector | pin);
-        if are_opposite(low, high) {
+        if high == value && are_opposite(low, high) {
             points.insert(vector);
         }
     }
-    let mut cubes = Vec::new(alloc);
-    add_widest_cubes(&mut cubes, points)?;
-    Ok(cubes)
+    add_widest_cubes(cubes, points)
 }
 
 /// Whether one value is 0 and the other is 1.

@@ -1,5 +1,7 @@
 //! Cubes: values of some places.
 
+use ca_net::Trit;
+
 // How many places a cube may speak of.
 const MOST_PLACES: usize = 16;
 
@@ -44,6 +46,18 @@ impl Cube {
         Cube::new(self.held & other.held & !differing, self.ones)
     }
 
+    /// Whether all its values are among the known ones.
+    pub(crate) fn is_met(self, known: Cube) -> bool {
+        let differing = self.ones ^ known.ones;
+        self.held & !known.held == 0 && self.held & differing == 0
+    }
+
+    /// Whether one of its values is the opposite of a known one.
+    pub(crate) fn is_opposed(self, known: Cube) -> bool {
+        let differing = self.ones ^ known.ones;
+        self.held & known.held & differing != 0
+    }
+
     /// The set of the places that have a value.
     pub(crate) fn held(self) -> u16 {
         self.held
@@ -53,6 +67,39 @@ impl Cube {
     pub(crate) fn ones(self) -> u16 {
         self.ones
     }
+}
+
+/// The known values of pins, which are met one after another, the first pin first: the place of a pin is how
+/// many follow it.
+#[derive(Clone, Copy, Debug)]
+pub(crate) struct Known {
+    cube: Cube,
+}
+
+impl Known {
+    /// No pin was met.
+    pub(crate) fn new() -> Self {
+        Known { cube: Cube::FREE }
+    }
+
+    /// One pin more, with this value.
+    pub(crate) fn with(self, value: Trit) -> Self {
+        let held = (self.cube.held << 1) | bit(value != Trit::X);
+        let ones = (self.cube.ones << 1) | bit(value == Trit::One);
+        Known {
+            cube: Cube { held, ones },
+        }
+    }
+
+    /// The values.
+    pub(crate) fn cube(self) -> Cube {
+        self.cube
+    }
+}
+
+// 1 for yes.
+fn bit(is_set: bool) -> u16 {
+    if is_set { 1 } else { 0 }
 }
 
 // Whether the place is in the set.

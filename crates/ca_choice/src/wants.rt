@@ -1,7 +1,7 @@
 //! The values that the goals of a plan imply.
 
 use crate::cell_cubes::are_opposite;
-use crate::cube::Cube;
+use crate::cube::{Cube, Known};
 use crate::goal::{Frame, Goal, trit_of};
 use crate::goals::Goals;
 use crate::plan::Source;
@@ -211,16 +211,29 @@ impl Wants {
     // Looks at the instance that drives a net: what its pins give, or what they have to be.
     fn look<S: Sight>(&mut self, scene: &Scene<'_, S>, place: Place) -> bool {
         match scene.plan.source(place.net) {
-            Source::Output { part, output } => match self.value(scene, place) {
-                Trit::X => self.look_forward(scene, place, part, output),
-                now => {
-                    let value = now == Trit::One;
-                    !self.is_given(scene, place, part, output, !value)
-                        && self.look_back(scene, place, part, output, value)
+            Source::Output { part, output } => {
+                let known = self.known(scene, place.is_last, part);
+                match self.value(scene, place) {
+                    Trit::X => self.look_forward(scene, place, part, output, known),
+                    now => {
+                        let value = now == Trit::One;
+                        !is_given(scene, part, output, !value, known)
+                            && self.look_back(scene, place, part, output, value, known)
+                    }
                 }
-            },
+            }
             _ => true,
         }
+    }
+
+    // The values that an instance's pins have, or that are wanted of them.
+    fn known<S: Sight>(&self, scene: &Scene<'_, S>, is_last: bool, part: u32) -> Cube {
+        let mut known = Known::new();
+        for net in scene.plan.inputs(part) {
+            let net = *net;
+            known = known.with(self.value(scene, Place { net, is_last }));
+        }
+        known.cube()
     }
 
     // Wants what the instance's pins give.
@@ -230,10 +243,11 @@ impl Wants {
         place: Place,
         part: u32,
         output: usize,
+        known: Cube,
     ) -> bool {
-        if self.is_given(scene, place, part, output, false) {
+        if is_given(scene, part, output, false, known) {
             self.note(scene, place, false)
-        } else if self.is_given(scene, place, part, output, true) {
+        } else if is_given(scene, part, output, true, known) {
             self.note(scene, place, true)
         } else {
             true
@@ -248,17 +262,9 @@ impl Wants {
         part: u32,
         output: usize,
         value: bool,
+        known: Cube,
     ) -> bool {
-        let mut common = None;
-        for cube in scene.plan.bringing(part, output, value) {
-            if self.can_be(scene, place.is_last, part, *cube) {
-                common = match common {
-                    Some(before) => Some(cube.common(before)),
-                    None => Some(*cube),
-                };
-            }
-        }
-        match common {
+        match common_cube(scene, part, output, value, known) {
             Some(cube) => self.note_cube(scene, place.is_last, part, cube),
             None => false,
         }
@@ -282,47 +288,40 @@ impl Wants {
         }
         true
     }
+}
 
-    // Whether the instance's pins have the values of a cube that brings the value.
-    fn is_given<S: Sight>(
-        &self,
-        scene: &Scene<'_, S>,
-        place: Place,
-        part: u32,
-        output: usize,
-        value: bool,
-    ) -> bool {
-        for cube in scene.plan.bringing(part, output, value) {
-            if self.is_met(scene, place.is_last, part, *cube) {
-                return true;
-            }
+// Whether known values of an instance's pins bring the value to its output.
+fn is_given<S: Sight>(
+    scene: &Scene<'_, S>,
+    part: u32,
+    output: usize,
+    value: bool,
+    known: Cube,
+) -> bool {
+    for cube in scene.plan.bringing(part, output, value) {
+        if cube.is_met(known) {
+            return true;
         }
-        false
     }
+    false
+}
 
-    // Whether the instance's pins have the values of a cube.
-    fn is_met<S: Sight>(&self, scene: &Scene<'_, S>, is_last: bool, part: u32, cube: Cube) -> bool {
-        for (pin, net) in scene.plan.inputs(part).iter().enumerate() {
-            if let Some(value) = scene.plan.literal(part, cube, pin) {
-                let net = *net;
-                if self.value(scene, Place { net, is_last }) != trit_of(value) {
-                    return false;
-                }
-            }
+// What all cubes that bring the value and that no known value opposes have in common, if there are some.
+fn common_cube<S: Sight>(
+    scene: &Scene<'_, S>,
+    part: u32,
+    output: usize,
+    value: bool,
+    known: Cube,
+) -> Option<Cube> {
+    let mut common = None;
+    for cube in scene.plan.bringing(part, output, value) {
+        if !cube.is_opposed(known) {
+            common = match common {
+                Some(before) => Some(cube.common(before)),
+                None => Some(*cube),
+            };
         }
-        true
     }
-
-    // Whether no pin of the instance has the opposite of what a cube wants.
-    fn can_be<S: Sight>(&self, scene: &Scene<'_, S>, is_last: bool, part: u32, cube: Cube) -> bool {
-        for (pin, net) in scene.plan.inputs(part).iter().enumerate() {
-            if let Some(value) = scene.plan.literal(part, cube, pin) {
-                let net = *net;
-                if are_opposite(self.value(scene, Place { net, is_last }), trit_of(value)) {
-                    return false;
-                }
-            }
-        }
-        true
-    }
+    common
 }

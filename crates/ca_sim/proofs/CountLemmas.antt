@@ -1,5 +1,5 @@
 -- How far evaluations are counted.
-use Rattle.std.proofs.Common.{◌≡◌, ◌≢◌, ◌⊎◌, ℕ, ◌+◌, ◌<◌, ◌≤◌, ◌∙◌, List, length, Option, None, inl, inr, refl, sym, ap, subst, arith}
+use Rattle.std.proofs.Common.{◌≡◌, ◌≢◌, ◌⊎◌, ℕ, ◌+◌, ◌<◌, ◌≤◌, ◌∙◌, List, length, None, inl, inr, sym, ap, subst, arith}
 use Rattle.std.proofs.Common.{slice_set, ◌-◌, ◌^◌, cond, nat_lt}
 use Rattle.std.specs.Prelude.{slice_index}
 use Rattle.std.proofs.lemmas.Bool.{cases_lt, cond-true, cond-false, lt-ltb, le-ltb}
@@ -9,7 +9,7 @@ use Rattle.ca_net.specs.declared.wave.Wave.{Wave}
 use Rattle.ca_net.specs.State.{value_at}
 use Rattle.ca_net.specs.Wave.{pair_of}
 use Rattle.ca_table.specs.Gives.{wave_at}
-use Rattle.ca_flat.specs.Chip.{Chip, net_of}
+use Rattle.ca_flat.specs.Chip.{Chip}
 use Rattle.ca_flat.specs.Chain.{IsBitOf}
 use Rattle.ca_flat.specs.Pair.{bit_count}
 use Rattle.ca_view.specs.Linked.{Reads, IsLinked, IsPinned}

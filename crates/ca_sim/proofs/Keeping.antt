@@ -1,5 +1,6 @@
 -- What a simulator keeps gives the waves of the flat networks.
 use Rattle.std.proofs.Common.{ℕ, List, Option, None, Some}
+use Rattle.ca_net.specs.declared.wave.Wave.{Wave}
 use Rattle.ca_flat.specs.declared.chip_defect.ChipDefect.{ChipDefect}
 use Rattle.ca_flat.specs.Chip.{Chip, IsChipDefect}
 use Rattle.ca_view.specs.Linked.{IsAim}
@@ -15,10 +16,10 @@ aim_listed chip place_of None is = tt
 aim_listed chip place_of (Some defect) is = is.defect_is
 
 -- the waves are exact
-pub kept_is_exact : (chip : Chip) (places : List ℕ) (place_of number_of : ℕ → ℕ) (aim : Option ChipDefect) (nets : Networks) (cells : Cells)
-    → IsKept chip place_of number_of aim nets cells
+pub kept_is_exact : (chip : Chip) (places : List ℕ) (place_of number_of : ℕ → ℕ) (aim : Option ChipDefect) (nets : Networks) (unset : List Wave) (cells : Cells)
+    → IsKept chip place_of number_of aim nets unset cells
     → IsExact (record { chip = chip; places = places; aim = aim; pair = nets.bits; good = nets.good.waves; faulty = nets.faulty.waves })
-kept_is_exact chip places place_of number_of aim nets cells kept = record {
+kept_is_exact chip places place_of number_of aim nets unset cells kept = record {
   whole = record { bits = kept.rest.bits; good = kept.rest.good.ready.count; faulty = kept.rest.faulty.ready.count };
   good = λ formed. waves_are_exact_lem chip place_of None nets.bits nets.good.waves
       (record { chip_is = kept.linked.is_chip; defect_is = tt; formed = formed }) kept.rest.good.simulated;

@@ -26,20 +26,3 @@ impl Bits for State {
         self.get(bit)
     }
 }
-
-/// `count` bits, none of which is set.
-#[derive(Clone, Copy, Debug)]
-pub(crate) struct Unset {
-    pub(crate) count: usize,
-}
-
-impl Bits for Unset {
-    ghost use Rattle.std.specs.Prelude.{replicate};
-    ghost use Rattle.ca_net.specs.declared.trit.Trit.TheVariants.{X};
-
-    ghost bits = { λ unset. replicate unset.count X };
-
-    fn value(&self, _bit: usize) -> Trit {
-        Trit::X
-    }
-}

@@ -8,6 +8,7 @@ ghost use Rattle.ca_flat.specs.declared.chip_defect.ChipDefect.{ChipDefect};
 use crate::bits::Bits;
 use crate::cells::Cells;
 use crate::network::Network;
+use crate::waves::Waves;
 use ca_flat::ChipDefect;
 use ca_net::{State, Trit};
 use ca_view::View;
@@ -27,6 +28,8 @@ impl Networks {
     ghost use Rattle.ca_sim.specs.code.Cells.{AreCells};
     ghost use Rattle.ca_sim.specs.code.Network.{CountsDue};
     ghost use Rattle.ca_sim.specs.code.Networks.{AreUnderway, AreAtRest, AreReady, MakesReadersDue};
+    ghost use Rattle.ca_sim.specs.code.Current.{AreUnset};
+    ghost use Rattle.ca_flat.specs.Codes.{unset_pair};
 
     /// Gives a chip input two bits.
     pub(crate) fn change(&mut self, chip: &View, input: usize, first: Trit, last: Trit)
@@ -64,6 +67,22 @@ impl Networks {
         for input in 0..inputs {
             self.change(chip, input, bits.value(input), bits.value(inputs + input));
         }
+    }
+
+    /// Unsets all bits. The waves of the good network without any are there, and the faulty one takes them
+    /// over too, but for its defect.
+    pub(crate) fn unset(&mut self, chip: &View, aim: Option<ChipDefect>, unset: &Waves)
+        requires aim { IsAim chip.now.core (place_in chip.now.ranks) aim }
+        requires rest { AreAtRest chip.now.core (place_in chip.now.ranks) aim self.old }
+        requires unset { AreUnset chip.now.core unset.now }
+
+        ensures bits { self.new.bits ≡ unset_pair chip.now.core }
+        ensures underway { AreUnderway chip.now.core (place_in chip.now.ranks) aim self.new }
+    {
+        forget(&mut self.bits);
+        self.good.waves.take_over(unset);
+        self.faulty.waves.take_over(unset);
+        self.faulty.turn(chip, aim);
     }
 
     /// Evaluates the instances that are due, in the order, until none is.
@@ -132,5 +151,16 @@ impl Networks {
         }
         self.faulty
             .is_current(chip, new.instance as usize, Some(new), cells)
+    }
+}
+
+ghost use Rattle.std.specs.Prelude.{replicate};
+
+// Makes all values unknown.
+fn forget(bits: &mut State)
+    ensures { bits.new ≡ replicate (length bits.old) Trit.X }
+{
+    for bit in 0..bits.len() {
+        bits.set(bit, Trit::X);
     }
 }

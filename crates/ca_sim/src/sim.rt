@@ -4,11 +4,12 @@ ghost use Rattle.std.specs.Prelude.{◌+◌, ◌*◌, ◌^◌, ◌≡◌, ◌≢
 ghost use Rattle.ca_net.specs.State.{value_at};
 ghost use Rattle.ca_sim.specs.Seen.{value_of};
 
-use crate::bits::{Bits, Unset};
+use crate::bits::Bits;
 use crate::cells::Cells;
 use crate::net_waves::NetWaves;
 use crate::network::Network;
 use crate::networks::Networks;
+use crate::waves::Waves;
 use ca_base::NoMemory;
 use ca_flat::ChipDefect;
 use ca_net::{State, Trit, Wave};
@@ -23,6 +24,8 @@ pub struct Sim<'a> {
     chip: &'a View<'a>,
     aim: Option<ChipDefect>,
     networks: Networks,
+    // the waves of the good network while no bit is set
+    unset: Waves,
     cells: Cells,
     aimed: u64,
 }
@@ -49,7 +52,7 @@ impl<'a> Model for Sim<'a> {
     } };
 
     ghost invariant = { λ sim. IsKept sim.chip.now.core (place_in sim.chip.now.ranks)
-        (cell_number sim.chip.now.chip) sim.aim sim.networks sim.cells };
+        (cell_number sim.chip.now.chip) sim.aim sim.networks sim.unset sim.cells };
 }
 
 impl<'a> Sim<'a> {
@@ -70,11 +73,13 @@ impl<'a> Sim<'a> {
         let mut cells = Cells::reserve(alloc, chip)?;
         let mut good = Network::reserve(alloc, chip)?;
         good.settle(chip, None, None, &mut cells);
+        let unset = good.waves.copy(alloc)?;
         let faulty = good.copy(alloc, chip)?;
         Ok(Sim {
             chip,
             aim: None,
             networks: Networks { bits, good, faulty },
+            unset,
             cells: cells.counted_anew(),
             aimed: 0,
         })
@@ -127,11 +132,8 @@ impl<'a> Sim<'a> {
         ensures kept { KeepsAim self.old self.new }
     {
         let chip = self.chip;
-        chip.linked();
-        let unset = Unset {
-            count: 2 * chip.input_count(),
-        };
-        self.load(&unset);
+        self.networks.unset(chip, self.aim, &self.unset);
+        self.networks.settle(chip, self.aim, &mut self.cells);
     }
 
     /// Aims at a defect, or at none. The bits stay.

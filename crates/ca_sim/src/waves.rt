@@ -42,6 +42,14 @@ impl Waves {
         Ok(Waves { waves })
     }
 
+    /// Takes over the waves of a list that is as long.
+    pub(crate) fn take_over(&mut self, other: &Waves)
+        requires { length self.old ≡ length other.now }
+        ensures { self.new ≡ other.now }
+    {
+        self.waves.copy_from_slice(&other.waves);
+    }
+
     /// The wave of a net.
     pub fn get(&self, net: usize) -> Wave
         requires { net < length self.now }

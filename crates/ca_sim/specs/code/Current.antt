@@ -1,5 +1,5 @@
 -- What only proofs of code cite: instances that are current, and those that are due.
-use Rattle.std.specs.Prelude.{ℕ, zero, suc, ◌+◌, ◌≡◌, ◌<◌, List, [], ◌∷◌, length, Option}
+use Rattle.std.specs.Prelude.{ℕ, zero, suc, ◌+◌, ◌≡◌, ◌<◌, List, [], ◌∷◌, length, Option, None}
 use Rattle.ca_net.specs.declared.trit.Trit.{Trit}
 use Rattle.ca_net.specs.declared.wave.Wave.{Wave}
 use Rattle.ca_net.specs.declared.node.NodeKind.TheVariants.{Input}
@@ -9,6 +9,7 @@ use Rattle.ca_flat.specs.declared.chip_defect.ChipDefect.{ChipDefect}
 use Rattle.ca_flat.specs.Chip.{Chip, cell_at, inputs_at, outputs_at, net_of, output_net, count_of, net_kind}
 use Rattle.ca_flat.specs.Flat.{circuit_in}
 use Rattle.ca_flat.specs.Pair.{net_value}
+use Rattle.ca_flat.specs.Codes.{unset_pair}
 
 -- the waves of the nets that this many pins are on, from a pin on
 unfoldable pub waves_from : (ℕ → ℕ) → List Wave → ℕ → ℕ → List Wave
@@ -44,3 +45,7 @@ pub record IsSimulated (chip : Chip) (given : Option ChipDefect) (pair : List Tr
 -- nothing is due
 abbrev pub none_due : ℕ → Type 0
 none_due u = ⊥
+
+-- the waves of the good network while no bit is set
+abbrev pub AreUnset : Chip → List Wave → Type 0
+AreUnset chip waves = IsSimulated chip None (unset_pair chip) none_due waves

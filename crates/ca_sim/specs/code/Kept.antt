@@ -1,5 +1,6 @@
 -- What only proofs of code cite: what the fields of a simulator keep.
-use Rattle.std.specs.Prelude.{ℕ, Option}
+use Rattle.std.specs.Prelude.{ℕ, List, Option}
+use Rattle.ca_net.specs.declared.wave.Wave.{Wave}
 use Rattle.ca_flat.specs.declared.chip_defect.ChipDefect.{ChipDefect}
 use Rattle.ca_flat.specs.Chip.{Chip}
 use Rattle.ca_view.specs.Linked.{IsLinked, IsAim}
@@ -7,11 +8,14 @@ use Rattle.ca_sim.specs.declared.cells.Cells.{Cells}
 use Rattle.ca_sim.specs.code.Cells.{AreCells}
 use Rattle.ca_sim.specs.declared.networks.Networks.{Networks}
 use Rattle.ca_sim.specs.code.Networks.{AreAtRest}
+use Rattle.ca_sim.specs.code.Current.{AreUnset}
 
--- both networks have the waves of the bits, and the rooms are those of the chip's cells
+-- both networks have the waves of the bits, those without any are kept, and the rooms are those of the chip's
+-- cells
 pub record IsKept (chip : Chip) (place_of number_of : ℕ → ℕ) (aim : Option ChipDefect) (nets : Networks)
-    (cells : Cells) : Type 0 where
+    (unset : List Wave) (cells : Cells) : Type 0 where
   pub linked : IsLinked chip place_of number_of
   pub aim_is : IsAim chip place_of aim
   pub rest : AreAtRest chip place_of aim nets
+  pub unset_are : AreUnset chip unset
   pub rooms : AreCells chip place_of number_of cells

@@ -1,5 +1,5 @@
 -- Words of the code beside those of `specs/Simulator.antt`. Private functions and proofs cite them.
-use Rattle.std.specs.Prelude.{ℕ, ◌-◌, ◌≡◌, ◌≤◌}
+use Rattle.std.specs.Prelude.{ℕ, ◌≡◌, ◌≤◌}
 use Rattle.ca_sim.specs.Simulator.{counted_up}
 
 -- one more was counted, and so it never falls

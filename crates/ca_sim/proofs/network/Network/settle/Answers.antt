@@ -1,4 +1,4 @@
-use Rattle.std.proofs.Common.{◌≡◌, ◌≤◌, length, ◌∙◌, ap, sym, subst, arith, inl, inr}
+use Rattle.std.proofs.Common.{◌≡◌, length, ◌∙◌, ap, sym, subst, arith, inl, inr}
 use Rattle.std.specs.List.{All}
 use Rattle.ca_net.specs.Wave.{IsWave}
 use Rattle.ca_flat.specs.Chip.{cell_at, net_of, inputs_at}

@@ -6,6 +6,7 @@ use Rattle.ca_flat.specs.Pair.{bit_count}
 use Rattle.ca_flat.specs.Codes.{unset_pair}
 use Rattle.ca_view.specs.Linked.{place_in}
 use Rattle.ca_sim.specs.code.Network.{IsAtRest}
+use Rattle.ca_sim.specs.code.Current.{IsSimulated, none_due}
 use Rattle.ca_sim.specs.code.Cells.{AreCellRooms}
 use Rattle.ca_sim.specs.code.Cache.{HoldTrue}
 use Rattle.ca_sim.specs.declared.cache.Cache.{Cache}
@@ -29,6 +30,7 @@ invariant_of-result c =
         faulty = subst (λ bits. IsAtRest core place_of None bits c.in_ok-faulty.faulty) (sym unset)
             (copy_at_rest core place_of None (unset_pair core) c.settle.new.self c.in_ok-faulty.faulty good c.in_ok-faulty.ensures);
       };
+      unset_are = subst (IsSimulated core None (unset_pair core) none_due) (sym c.in_ok-unset.ensures) good.simulated;
       rooms = record {
         rooms = subst (AreCellRooms core place_of (cell_number c.args.chip.now.chip)) (sym c.counted_anew.ensures.rooms) c.settle.ensures.cells.rooms;
         slots = subst (λ (cache : Cache). HoldTrue core place_of (cell_number c.args.chip.now.chip) cache.slots.items) (sym c.counted_anew.ensures.cache) c.settle.ensures.cells.slots;
