@@ -83,12 +83,7 @@ fn put_cluster(text: &mut Text, clustered: &Clustered) -> Result<(), NoMemory> {
 }
 
 // Appends a bridge, and what its cluster is.
-fn put_bridge(
-    alloc: Global,
-    text: &mut Text,
-    chip: &Chip,
-    bridge: Bridge,
-) -> Result<(), NoMemory>
+fn put_bridge(alloc: Global, text: &mut Text, chip: &Chip, bridge: Bridge) -> Result<(), NoMemory>
     requires { IsKnown chip.now bridge }
 {
     let name = bridge_name(alloc, chip, bridge)?;
@@ -102,12 +97,7 @@ fn put_bridge(
 }
 
 // Appends the bridges of an instance.
-fn put_bridges(
-    alloc: Global,
-    text: &mut Text,
-    chip: &Chip,
-    u: InstanceId,
-) -> Result<(), NoMemory>
+fn put_bridges(alloc: Global, text: &mut Text, chip: &Chip, u: InstanceId) -> Result<(), NoMemory>
     requires { IsLibrary chip.now u.0 }
 {
     let list = bridges(alloc, chip, u)?;
@@ -120,6 +110,9 @@ fn put_bridges(
 // The bridges of the instance of this name, as a text.
 fn told(alloc: Global, chip: &Chip, name: &[u8]) -> Option<Text> {
     let u = chip.find_instance(name)?;
+    if (u.0 as usize) >= chip.parts() || !chip.is_library(u) {
+        return None;
+    }
     let mut text = Text::new(alloc);
     match put_bridges(alloc, &mut text, chip, u) {
         Ok(()) => Some(text),
