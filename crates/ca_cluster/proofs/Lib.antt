@@ -1,0 +1,9 @@
+pub mod PairLemmas
+pub mod FeedLemmas
+pub mod MarkLemmas
+pub mod EndLemmas
+pub mod MemberLemmas
+pub mod CountLemmas
+pub mod ShortLemmas
+pub mod ClusterLemmas
+pub mod SpreadLemmas

@@ -1,0 +1,32 @@
+use Rattle.std.proofs.Common.{◌≡◌, ◌-◌, ap, ◌∙◌, arith}
+use Rattle.ca_cell.specs.declared.raw.RawCell.{RawCell}
+use Rattle.ca_cell.specs.Raw.{is_input, role_count}
+use Rattle.ca_flat.specs.Chip.{inputs_at}
+use Rattle.ca_core.specs.Core.{core_of}
+use Rattle.ca_view.proofs.PartFacts.{pin_within, pin_on_net}
+use Rattle.ca_cluster.proofs.EndLemmas.{rail_makes, pin_makes, past_makes}
+use Rattle.ca_cluster.proofs.ends.end_member.Goals as goal
+
+pub pin_net-requires : goal.pin_net-requires
+pin_net-requires c =
+    let count : c.inputs-past.result ≡ inputs_at (core_of c.args.chip.now) c.args.u.0 = c.inputs-past.ensures.count ∙ ap (λ (r : RawCell). role_count is_input r.pins) c.cell_at.ensures in
+    let lt = c.if-n-past.true in let ge = c.if-n-lt2.false in
+    pin_within c.args.chip.now c.wired.ensures c.args.u.0 c.requires.library (c.args.n.0 - 2) (omega arith)
+
+pub gate_on-requires : goal.gate_on-requires
+gate_on-requires c = pin_on_net c.args.chip.now c.wired.ensures c.args.u.0 c.requires.library (c.args.n.0 - 2) c.pin_net.result.0 c.pin_net.ensures
+
+pub returns-then-n-lt2 : goal.returns-then-n-lt2
+returns-then-n-lt2 c = rail_makes c.args.chip.now c.wired.ensures c.args.u.0 c.requires.library c.args.n.0 c.if-n-lt2.true
+
+pub returns-then-n-past : goal.returns-then-n-past
+returns-then-n-past c =
+    let count : c.inputs-past.result ≡ inputs_at (core_of c.args.chip.now) c.args.u.0 = c.inputs-past.ensures.count ∙ ap (λ (r : RawCell). role_count is_input r.pins) c.cell_at.ensures in
+    let lt = c.if-n-past.true in let ge = c.if-n-lt2.false in
+    pin_makes c.args.chip.now c.wired.ensures c.args.u.0 c.requires.library c.args.n.0 c.pin_net.result.0 (ge, omega arith) c.pin_net.ensures c.gate_on.result c.gate_on.ensures
+
+pub returns-else-n-past : goal.returns-else-n-past
+returns-else-n-past c =
+    let count : c.inputs-past.result ≡ inputs_at (core_of c.args.chip.now) c.args.u.0 = c.inputs-past.ensures.count ∙ ap (λ (r : RawCell). role_count is_input r.pins) c.cell_at.ensures in
+    let past = c.if-n-past.false in
+    past_makes c.args.chip.now c.wired.ensures c.args.u.0 c.requires.library c.args.n.0 (omega arith)

@@ -1,0 +1,4 @@
+pub mod Bridges
+pub mod Clusters
+pub mod Laws
+pub mod code
