@@ -9,3 +9,6 @@ pub mod SeenLemmas
 pub mod FaultyLemmas
 pub mod FoundLemmas
 pub mod SegmentLemmas
+pub mod RowLemmas
+pub mod CodedLemmas
+pub mod NoneLemmas

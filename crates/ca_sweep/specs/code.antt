@@ -7,3 +7,5 @@ pub mod Firsts
 pub mod Kept
 pub mod Faulty
 pub mod Segments
+pub mod Rows
+pub mod Coded

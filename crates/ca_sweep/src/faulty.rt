@@ -24,9 +24,9 @@ use std::alloc::Global;
 // The least and the greatest number of slots, and how many there are for an instance in between.
 const FEWEST_SLOTS: usize = 4_096;
 
-const MOST_SLOTS: usize = 524_288;
+const MOST_SLOTS: usize = 16_384;
 
-const SLOTS_EACH: usize = 32;
+const SLOTS_EACH: usize = 4;
 
 // An odd number with many digits, by which slots are spread.
 const MIX: usize = 0x9E37_79B9_7F4A_7C15;
@@ -60,8 +60,8 @@ impl Faulty {
         })
     }
 
-    // What the cell of a defect's instance gives with it, computed.
-    fn compute(&mut self, chip: &View<'_>, defect: ChipDefect, pins: &[Wave]) -> OutWaves
+    /// What the cell of a defect's instance gives with it, computed.
+    pub(crate) fn compute(&mut self, chip: &View<'_>, defect: ChipDefect, pins: &[Wave]) -> OutWaves
         requires defect { IsPlacedDefect chip.now.core (place_in chip.now.ranks) defect }
         requires pins { length pins.now ≡ inputs_at chip.now.core defect.instance }
         requires waves { All IsWave pins.now }
@@ -211,8 +211,8 @@ fn same_wave(a: Wave, b: Wave) -> bool
     a == b
 }
 
-// Whether the lists have the same waves.
-fn same_waves(a: &[Wave], b: &[Wave]) -> bool
+/// Whether the lists have the same waves.
+pub(crate) fn same_waves(a: &[Wave], b: &[Wave]) -> bool
     ensures { IsTrue result → a.now ≡ b.now }
 {
     if a.len() != b.len() {

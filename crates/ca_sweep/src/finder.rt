@@ -1,13 +1,16 @@
 //! Where a pair detects a defect, by last values alone.
 
-ghost use Rattle.std.specs.Prelude.{◌≡◌, ◌≢◌, ◌<◌, ◌^◌, ◌↔◌, length, IfOk, IfSome, IsTrue, None, Some};
+ghost use Rattle.std.specs.Prelude.{◌≡◌, ◌≢◌, ◌<◌, ◌^◌, ◌↔◌, length, IfOk, IfSome};
+ghost use Rattle.std.specs.Prelude.{IsTrue, None, Some};
 ghost use Rattle.std.specs.List.{All};
 ghost use Rattle.ca_net.specs.declared.trit.Trit.TheVariants.{X};
 ghost use Rattle.ca_net.specs.declared.wave.Wave.{Wave};
 ghost use Rattle.ca_net.specs.Wave.{IsWave};
 ghost use Rattle.ca_net.specs.Circuit.{IsWellFormed};
 ghost use Rattle.ca_net.specs.State.{value_at};
-ghost use Rattle.ca_flat.specs.Chip.{outputs_at};
+ghost use Rattle.ca_flat.specs.Chip.{outputs_at, inputs_at, cell_at};
+ghost use Rattle.ca_sweep.specs.code.Rows.{IsCoded};
+ghost use Rattle.ca_sweep.specs.code.Coded.{IsSeenCoded};
 ghost use Rattle.ca_flat.specs.Flat.{flat};
 ghost use Rattle.ca_flips.specs.Flips.{AreLastsOf};
 ghost use Rattle.ca_view.specs.Linked.{IsPlaced, IsPlacedDefect, place_in};
@@ -16,9 +19,11 @@ ghost use Rattle.ca_sweep.specs.Seen.{IsSeen, IsOfChip, lasts_in};
 ghost use Rattle.ca_sweep.specs.Found.{IsFound};
 ghost use Rattle.ca_sweep.specs.code.Faulty.{AreWavesAt, AreFlipsOf};
 
+use crate::codes::{flips_of_code, goods_at, is_known};
 use crate::faulty::Faulty;
 use crate::firsts::are_opposite;
 use crate::memo::Memo;
+use crate::rows::Rows;
 use crate::seen::{Flips, Seen};
 use crate::sweep::Sweep;
 use ca_base::NoMemory;
@@ -38,6 +43,7 @@ pub struct Finder<'a> {
     chip: &'a View<'a>,
     sweep: Sweep<'a>,
     faulty: Faulty,
+    rows: Rows,
     memo: Memo,
 }
 
@@ -53,7 +59,7 @@ impl<'a> Model for Finder<'a> {
 
     ghost invariant = { λ finder. IsFinder finder.chip.now.core finder.chip.now.ranks
         (place_in finder.chip.now.ranks) (cell_number finder.chip.now.chip) finder.sweep finder.faulty
-        finder.memo };
+        finder.rows finder.memo };
 }
 
 impl<'a> Finder<'a> {
@@ -64,12 +70,14 @@ impl<'a> Finder<'a> {
         ensures { IfOk result (IsOfChip chip.now.core chip.now.ranks) }
     {
         let faulty = Faulty::reserve(alloc, chip)?;
+        let rows = Rows::reserve(alloc, chip)?;
         let memo = Memo::reserve(alloc)?;
         let sweep = Sweep::reserve(alloc, chip, outputs)?;
         Ok(Finder {
             chip,
             sweep,
             faulty,
+            rows,
             memo,
         })
     }
@@ -130,10 +138,70 @@ impl<'a> Finder<'a> {
         are_opposite(self.sweep.last(net), outputs[output].last)
     }
 
+    // The code of what the cell of a defect's instance ends with, if a row has it.
+    fn code_of(&mut self, defect: ChipDefect, pins: PinWaves) -> Option<u8>
+        requires placed { IsPlaced self.old.chip (place_in self.old.places) defect.instance }
+        requires pins { length pins.items ≡ inputs_at self.old.chip defect.instance }
+        requires waves { All IsWave pins.items }
+
+        ensures code { IfSome result
+            (IsCoded (cell_at self.old.chip defect.instance) defect.defect pins.items) }
+        ensures kept { self.new ≡ self.old }
+    {
+        self.chip.linked();
+        let u = defect.instance as usize;
+        let slot = self.rows.find(self.chip, &mut self.faulty, u, pins);
+        self.rows.code(slot, self.chip.number(u), defect.defect)
+    }
+
+    // What is found of a defect of an instance that ends with what a code says.
+    fn find_coded(&mut self, u: usize, code: u8) -> Seen
+        requires placed { IsPlaced self.old.chip (place_in self.old.places) u }
+        ensures found { IsSeenCoded self.old.chip (value_at self.old.lasts) u code result }
+        ensures kept { self.new ≡ self.old }
+    {
+        self.chip.linked();
+        let goods = goods_at(self.chip, &self.sweep, u);
+        let outputs = self.chip.cell(u).outputs();
+        let flips = flips_of_code(goods, code);
+        let seen = self.see(u, flips);
+        reported(seen, is_known(code, outputs))
+    }
+
     /// Where the pair of these waves first detects a defect. The last values are those of the pair. It is
     /// undecided where an instance after that of the defect isn't static, a good last value isn't definite
     /// there, or only waves show what unknown values of the instance's outputs do. It takes no memory.
     pub fn find<V: NetWaves>(&mut self, waves: &V, defect: ChipDefect) -> Seen
+        requires chip { (V.seen waves.now).chip ≡ self.old.chip }
+        requires defect { IsPlacedDefect self.old.chip (place_in self.old.places) defect }
+        requires lasts { AreLastsOf self.old.chip (V.seen waves.now).pair (value_at self.old.lasts) }
+        requires good_is { IsWellFormed (flat self.old.chip None) }
+        requires faulty_is { IsWellFormed (flat self.old.chip (Some defect)) }
+
+        ensures found { IsFound self.old.chip defect (V.seen waves.now).pair result }
+        ensures kept { self.new ≡ self.old }
+    {
+        swept_are_flipped();
+        detected_is_filled_in();
+        detected_is_flipped();
+        waves.exact();
+        self.chip.linked();
+        let u = defect.instance as usize;
+        if !self.sweep.is_clear(u) {
+            return Seen::Undecided;
+        }
+        let pins = match pin_waves(self.chip, waves, u) {
+            Some(pins) => pins,
+            None => return Seen::Undecided,
+        };
+        match self.code_of(defect, pins) {
+            Some(code) => self.find_coded(u, code),
+            None => self.find_computed(waves, defect),
+        }
+    }
+
+    // The same, where what the cell gives with the defect isn't in a row.
+    fn find_computed<V: NetWaves>(&mut self, waves: &V, defect: ChipDefect) -> Seen
         requires chip { (V.seen waves.now).chip ≡ self.old.chip }
         requires defect { IsPlacedDefect self.old.chip (place_in self.old.places) defect }
         requires lasts { AreLastsOf self.old.chip (V.seen waves.now).pair (value_at self.old.lasts) }

@@ -4,10 +4,12 @@
 
 mod cells;
 mod clear;
+mod codes;
 mod faulty;
 mod finder;
 mod firsts;
 mod memo;
+mod rows;
 mod run;
 mod seen;
 mod segments;

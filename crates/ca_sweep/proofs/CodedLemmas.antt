@@ -1,0 +1,50 @@
+-- A defect whose code is known is found by it.
+use Rattle.std.proofs.Common.{◌≡◌, ◌≢◌, ℕ, zero, suc, ◌<◌, ◌≤◌, true, List, length, sym, ◌∙◌, ap, subst, arith}
+use Rattle.std.specs.Prelude.{slice_get, Option, None, Some, IfSome}
+use Rattle.ca_net.specs.declared.trit.Trit.{Trit}
+use Rattle.ca_net.specs.declared.trit.Trit.TheVariants.{X}
+use Rattle.ca_net.specs.declared.wave.Wave.{Wave}
+use Rattle.ca_cell.specs.declared.raw.RawCell.{RawCell}
+use Rattle.ca_defect.specs.declared.defect.Defect.{Defect}
+use Rattle.ca_flat.specs.declared.chip_defect.ChipDefect.{ChipDefect}
+use Rattle.ca_flat.specs.Chip.{Chip, cell_at, outputs_at}
+use Rattle.ca_flat.specs.Waves.{IsFlatChip}
+use Rattle.ca_flips.specs.Flips.{AreGoodLasts}
+use Rattle.ca_flips.specs.Laws.{SweptAreFlipped, DetectedIsFilledIn, DetectedIsFlipped}
+use Rattle.ca_table.specs.Gives.{wave_at}
+use Rattle.ca_sweep.specs.declared.rows.Row.{Row}
+use Rattle.ca_sweep.specs.declared.seen.Seen.{Seen}
+use Rattle.ca_sweep.specs.Found.{IsFound}
+use Rattle.ca_sweep.specs.code.Rows.{trit_of, code_of_lasts, IsCoded, IsListOf, IsRowOf, IsCodeIn, IsKnownCode}
+use Rattle.ca_sweep.specs.code.Coded.{IsSeenCoded}
+use Rattle.ca_sweep.proofs.FoundLemmas.{found_by, faulty_lasts}
+use Rattle.ca_sweep.proofs.RowLemmas.{flips_of_code, first_of_code, second_of_code}
+
+-- the code in a slot is that of what the cell gives with the defect
+pub coded_in : (raw : RawCell) (pins : List Wave) (slot : Option Row) (list : List Defect) (defect : Defect) (code : ℕ) → IsListOf raw list
+    → IsRowOf raw pins slot → IsCodeIn slot list defect code → IsCoded raw defect pins code
+coded_in raw pins None list defect code is_list row is = absurd is
+coded_in raw pins (Some row) list defect code is_list codes is =
+    subst (IsCoded raw defect pins) (sym is.is) (codes is.place defect is.within (ap (λ l. slice_get l is.place) (sym is_list.is) ∙ is.at))
+
+-- the last values are definite where the code says so
+known_of_code : (outputs : List Wave) (code count : ℕ) → count ≤ 2 → code ≡ code_of_lasts outputs → IsKnownCode code count
+    → (output : ℕ) → output < count → (wave_at outputs output).last ≢ X
+known_of_code outputs code count few is known zero within = subst (λ v. v ≢ X) (first_of_code outputs code is) (known.first within)
+known_of_code outputs code count few is known (suc zero) within = subst (λ v. v ≢ X) (second_of_code outputs code is) (known.second within)
+known_of_code outputs code count few is known (suc (suc more)) within = absurd (omega arith)
+
+pub coded_found : SweptAreFlipped → DetectedIsFilledIn → DetectedIsFlipped
+    → (chip : Chip) (rank : ℕ → ℕ) (defect : ChipDefect) (pair : List Trit) (pins : List Wave) (goods : ℕ → Trit) (code : ℕ) (answer : Seen)
+    → IsFlatChip chip rank defect → AreGoodLasts chip pair defect.instance pins goods → IsCoded (cell_at chip defect.instance) defect.defect pins code
+    → IsSeenCoded chip goods defect.instance code answer → IsFound chip defect pair answer
+coded_found swept filled flipped chip rank defect pair pins goods code answer is lasts coded seen =
+    subst (IsFound chip defect pair) (sym seen.is)
+    (found_by swept filled flipped chip rank defect pair pins goods coded.outputs seen.flips is lasts (faulty_lasts chip defect pins coded.outputs coded.gives)
+    (flips_of_code chip goods defect.instance seen.ends coded.outputs code seen.flips seen.few seen.goods_are coded.code_is seen.flips_are) seen.known seen.seen
+    (λ on output within. known_of_code coded.outputs code (outputs_at chip defect.instance) seen.few coded.code_is (seen.known_is on) output within) seen.seen_is)
+
+pub if_coded : (raw : RawCell) (pins : List Wave) (slot : Option Row) (list : List Defect) (defect : Defect) (result : Option ℕ) → IsListOf raw list
+    → IsRowOf raw pins slot → IfSome result (IsCodeIn slot list defect) → IfSome result (IsCoded raw defect pins)
+if_coded raw pins slot list defect None is_list row is = tt
+if_coded raw pins slot list defect (Some code) is_list row is = coded_in raw pins slot list defect code is_list row is
