@@ -22,7 +22,8 @@ use Rattle.ca_credit.specs.code.Round.{IsOpenAt, AreOpen, IsRound, IsWithout, Is
 use Rattle.ca_places.specs.declared.place_set.PlaceSet.{PlaceSet}
 use Rattle.ca_places.specs.PlaceSet.{Has, IsAsRoomy}
 use Rattle.std.proofs.lemmas.List.Elements.{Contains-get_or}
-use Rattle.std.proofs.Common.{◌↔◌, ◌/◌, slice_index}
+use Rattle.std.proofs.Common.{◌↔◌, ◌/◌, ◌%◌, ◌⊎◌, slice_index}
+use Rattle.std.specs.Int.{bit_at}
 use Rattle.ca_credit.proofs.DetectionLemmas.{first_by, not_shown_by, shown_by_first}
 use Rattle.ca_credit.proofs.TableLemmas.{some_within, of_open, verdict_at-set, verdict_at-other, credit_count-set}
 
@@ -255,11 +256,25 @@ tried_begin task pair number open_places left table is count same = record {
     some_before (x ∷ xs) zero y e = omega arith
     some_before (x ∷ xs) (suc k) y e = let l = some_before xs k y e in omega arith
 
--- where none is left, this is what the pair makes of the table
-pub tried_all : (task : Task) (pair : List Bool) (number : ℕ) (left : PlaceSet) (old new : List (Option Verdict))
-    → ((place : ℕ) → Has left place → ⊥) → IsTried task pair number left old new → CreditsPair task pair number old new
-tried_all task pair number left old new none is = record {
+-- where the pair detects none that is left, this is what it makes of the table
+pub tried_all : (task : Task) (pair : List Bool) (number : ℕ) (round : Round) (old : List (Option Verdict)) → IsRound round
+    → ((place : ℕ) → Has round.left place → (defect : ChipDefect) → IsDefectAt task place defect → IsAnswer task.chip defect (trits_of pair) None)
+    → ((place : ℕ) → Has round.left place ⊎ (Has round.left place → ⊥))
+    → IsTried task pair number round.left old round.verdicts.items → CreditsPair task pair number old round.verdicts.items
+tried_all task pair number round old stands none decide is = record {
   as_many = is.as_many;
-  each = λ place defect below at. is.done place defect (none place) at;
-  others = λ place from. past new place None (let e = is.as_many in omega arith) ∙ sym (past old place None from);
+  each = λ place defect below at. elim (decide place) [
+    | inl has ↦ subst (λ (v : Option Verdict). IsAfterPair task.chip pair number defect v (verdict_at round.verdicts.items place))
+        (is.others place has)
+        ((gives_none task pair number place round.verdicts.items (open_left round place stands has).1 (none place has)).here defect at)
+    | inr gone ↦ is.done place defect gone at
+  ];
+  others = λ place from. past round.verdicts.items place None (let e = is.as_many in omega arith) ∙ sym (past old place None from);
 }
+
+-- a place is in a set or not
+pub has_or_not : (set : PlaceSet) (place : ℕ) → Has set place ⊎ (Has set place → ⊥)
+has_or_not set place = elim (ℕ_discrete (bit_at (slice_index set.words.items (place / 64)) (place % 64)) 1) [
+  | yes e ↦ inl e
+  | no differ ↦ inr differ
+]

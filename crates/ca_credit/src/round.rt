@@ -299,8 +299,8 @@ impl Round {
         }
     }
 
-    /// Tries the pair in hand on all defects with which a pair may yet be credited. Answers how many it is
-    /// credited with. Its time is that of these defects, and a look at the words of their set.
+    /// Tries the pair in hand on all defects with which a pair may yet be credited, but for those of which the
+    /// simulator knows at once that it doesn't detect them. Answers how many it is credited with.
     pub(crate) fn try_all<S: Simulator>(&mut self, sim: &mut S, pair: &Pair, number: u32) -> u32
         requires same { length self.old.verdicts.items ≡ length (S.task sim.old).defects }
         requires few { length self.old.verdicts.items < 2 ^ 32 }
@@ -321,8 +321,11 @@ impl Round {
         let mut credited = 0;
         let mut from = 0;
         'places: while let Some(place) = self.left.next(from) {
-            credited += self.take_turn(sim, pair, number, place);
-            from = place + 1;
+            from = sim.pass_over(place);
+            if from == place {
+                credited += self.take_turn(sim, pair, number, place);
+                from = place + 1;
+            }
         }
         credited
     }

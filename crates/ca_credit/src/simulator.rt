@@ -15,7 +15,7 @@ pub trait Simulator {
     ghost use Rattle.ca_credit.specs.Defects.{Task, IsDefectAt};
     ghost use Rattle.ca_search.specs.Filled.{trits_of};
     ghost use Rattle.ca_credit.specs.Detection.{IsNetEnd, IsAllowedByRows, AreDetectedAlike};
-    ghost use Rattle.ca_credit.specs.Detection.{IsDecided};
+    ghost use Rattle.ca_credit.specs.Detection.{IsAnswer, IsDecided};
 
     /// The chip, the list of its defects, and how many branches each search may have.
     ghost task: { Self → Task };
@@ -62,6 +62,21 @@ pub trait Simulator {
 
         ensures decided { (defect : ChipDefect) → IsDefectAt (task self.old) place defect
             → IsDecided (task self.old).chip defect (bits self.old) result }
+        ensures aimed { aimed self.new ≡ aimed self.old }
+        ensures task { task self.new ≡ task self.old }
+        ensures bits { bits self.new ≡ bits self.old }
+        ensures aims { aims self.new ≡ aims self.old };
+
+    /// A place of the list at or past this one, or its end: the bits detect none of the defects from this
+    /// place up to that one. The bits and the aim stay.
+    fn pass_over(&mut self, place: usize) -> usize
+        requires { place < length (task self.old).defects }
+
+        ensures onward { place ≤ result }
+        ensures within { result ≤ length (task self.old).defects }
+        ensures undetected { (other : ℕ) (defect : ChipDefect) → place ≤ other → other < result
+            → IsDefectAt (task self.old) other defect
+            → IsAnswer (task self.old).chip defect (bits self.old) None }
         ensures aimed { aimed self.new ≡ aimed self.old }
         ensures task { task self.new ≡ task self.old }
         ensures bits { bits self.new ≡ bits self.old }

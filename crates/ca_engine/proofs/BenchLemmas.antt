@@ -27,7 +27,9 @@ use Rattle.ca_credit.specs.Defects.{IsSearchable}
 use Rattle.ca_credit.specs.Detection.{IsNetEnd, AreDetectedAlike}
 use Rattle.ca_generate.specs.Outcome.{IsSearch}
 use Rattle.ca_generate.specs.Laws.{OutcomeIsSearch}
+use Rattle.ca_engine.specs.declared.groups.Group.{Group}
 use Rattle.ca_engine.specs.code.ChipBench.{IsChipBench}
+use Rattle.ca_engine.specs.code.Groups.{AreGroups}
 
 -- a defect at a place of the list may be aimed at
 pub placed_at : (chip : Chip) (place_of : ℕ → ℕ) (defects : List ChipDefect) (place : ℕ) (defect : ChipDefect)
@@ -44,14 +46,14 @@ same_entry defects place one other is also = let e : Some one ≡ Some other = s
 
 -- the bench of a chip begins without a defect
 pub bench_begins : (core : Chip) (places : List ℕ) (number_of : ℕ → ℕ) (sim : Simulator)
-    (rows_chip : Chip) (defects : List ChipDefect) (outputs : List ℕ)
+    (rows_chip : Chip) (defects : List ChipDefect) (outputs : List ℕ) (groups : List (Option Group))
     → IsFresh core places sim → IsLinked core (place_in places) number_of → judge.CanBeJudged core
     → rows_chip ≡ core → All (IsPlacedDefect core (place_in places)) defects → outputs ≡ core.outputs
-    → length outputs < 2 ^ 32
-    → IsChipBench sim.seen.chip sim.seen.places sim.seen.aim rows_chip defects outputs None
-bench_begins core places number_of sim rows_chip defects outputs fresh linked judged same placed are few =
-    subst (λ c. IsChipBench c sim.seen.places sim.seen.aim rows_chip defects outputs None) (sym fresh.chip_is)
-    (subst (λ p. IsChipBench core p sim.seen.aim rows_chip defects outputs None) (sym fresh.places_are) (record {
+    → length outputs < 2 ^ 32 → AreGroups core defects groups
+    → IsChipBench sim.seen.chip sim.seen.places sim.seen.aim rows_chip defects outputs groups None
+bench_begins core places number_of sim rows_chip defects outputs groups fresh linked judged same placed are few grouped =
+    subst (λ c. IsChipBench c sim.seen.places sim.seen.aim rows_chip defects outputs groups None) (sym fresh.chip_is)
+    (subst (λ p. IsChipBench core p sim.seen.aim rows_chip defects outputs groups None) (sym fresh.places_are) (record {
       rank = place_in places;
       chip_is = linked.is_chip;
       good_is = judged.good_is;
@@ -60,48 +62,49 @@ bench_begins core places number_of sim rows_chip defects outputs fresh linked ju
       outputs_are = are;
       few = few;
       rows_are = same;
+      groups_are = grouped;
       aim_is = fresh.aim;
       aimed = tt;
     }))
 
 -- it is kept where the chip and the defect are the same
 same_bench : (chip new_chip : Chip) (places new_places : List ℕ) (aim new_aim : Option ChipDefect)
-    (rows_chip : Chip) (defects : List ChipDefect) (outputs : List ℕ) (defect : Option ChipDefect)
+    (rows_chip : Chip) (defects : List ChipDefect) (outputs : List ℕ) (groups : List (Option Group)) (defect : Option ChipDefect)
     → new_chip ≡ chip → new_places ≡ places → new_aim ≡ aim
-    → IsChipBench chip places aim rows_chip defects outputs defect
-    → IsChipBench new_chip new_places new_aim rows_chip defects outputs defect
-same_bench chip new_chip places new_places aim new_aim rows_chip defects outputs defect chip_is places_are aim_is is =
-    subst (λ c. IsChipBench c new_places new_aim rows_chip defects outputs defect) (sym chip_is)
-    (subst (λ p. IsChipBench chip p new_aim rows_chip defects outputs defect) (sym places_are)
-    (subst (λ a. IsChipBench chip places a rows_chip defects outputs defect) (sym aim_is) is))
+    → IsChipBench chip places aim rows_chip defects outputs groups defect
+    → IsChipBench new_chip new_places new_aim rows_chip defects outputs groups defect
+same_bench chip new_chip places new_places aim new_aim rows_chip defects outputs groups defect chip_is places_are aim_is is =
+    subst (λ c. IsChipBench c new_places new_aim rows_chip defects outputs groups defect) (sym chip_is)
+    (subst (λ p. IsChipBench chip p new_aim rows_chip defects outputs groups defect) (sym places_are)
+    (subst (λ a. IsChipBench chip places a rows_chip defects outputs groups defect) (sym aim_is) is))
 
 -- so where other bits are loaded
-pub bench_loads : (old new : Simulator) (rows_chip : Chip) (defects : List ChipDefect) (outputs : List ℕ)
+pub bench_loads : (old new : Simulator) (rows_chip : Chip) (defects : List ChipDefect) (outputs : List ℕ) (groups : List (Option Group))
     (defect : Option ChipDefect) → KeepsAim old new
-    → IsChipBench old.seen.chip old.seen.places old.seen.aim rows_chip defects outputs defect
-    → IsChipBench new.seen.chip new.seen.places new.seen.aim rows_chip defects outputs defect
-bench_loads old new rows_chip defects outputs defect keeps is =
+    → IsChipBench old.seen.chip old.seen.places old.seen.aim rows_chip defects outputs groups defect
+    → IsChipBench new.seen.chip new.seen.places new.seen.aim rows_chip defects outputs groups defect
+bench_loads old new rows_chip defects outputs groups defect keeps is =
     same_bench old.seen.chip new.seen.chip old.seen.places new.seen.places old.seen.aim new.seen.aim
-    rows_chip defects outputs defect keeps.chip.chip keeps.chip.places keeps.aim is
+    rows_chip defects outputs groups defect keeps.chip.chip keeps.chip.places keeps.aim is
 
 -- and where a search has ended
-pub bench_searches : (old new : Seen) (rows_chip : Chip) (defects : List ChipDefect) (outputs : List ℕ)
+pub bench_searches : (old new : Seen) (rows_chip : Chip) (defects : List ChipDefect) (outputs : List ℕ) (groups : List (Option Group))
     (defect : Option ChipDefect) → IsSameAim (judged_of old) (judged_of new)
-    → IsChipBench old.chip old.places old.aim rows_chip defects outputs defect
-    → IsChipBench new.chip new.places new.aim rows_chip defects outputs defect
-bench_searches old new rows_chip defects outputs defect same is =
-    same_bench old.chip new.chip old.places new.places old.aim new.aim rows_chip defects outputs defect
+    → IsChipBench old.chip old.places old.aim rows_chip defects outputs groups defect
+    → IsChipBench new.chip new.places new.aim rows_chip defects outputs groups defect
+bench_searches old new rows_chip defects outputs groups defect same is =
+    same_bench old.chip new.chip old.places new.places old.aim new.aim rows_chip defects outputs groups defect
     (ap (λ judged. judged.chip) same) (ap (λ judged. judged.places) same) (ap (λ judged. judged.aim) same) is
 
 -- another defect of the chip is aimed at, or none
-pub bench_aims : (old new : Simulator) (rows_chip : Chip) (defects : List ChipDefect) (outputs : List ℕ)
+pub bench_aims : (old new : Simulator) (rows_chip : Chip) (defects : List ChipDefect) (outputs : List ℕ) (groups : List (Option Group))
     (before defect : Option ChipDefect) → KeepsPair old new → new.seen.aim ≡ defect
     → IsChipDefect old.seen.chip defect
-    → IsChipBench old.seen.chip old.seen.places old.seen.aim rows_chip defects outputs before
-    → IsChipBench new.seen.chip new.seen.places new.seen.aim rows_chip defects outputs defect
-bench_aims old new rows_chip defects outputs before defect keeps aimed in_chip is =
+    → IsChipBench old.seen.chip old.seen.places old.seen.aim rows_chip defects outputs groups before
+    → IsChipBench new.seen.chip new.seen.places new.seen.aim rows_chip defects outputs groups defect
+bench_aims old new rows_chip defects outputs groups before defect keeps aimed in_chip is =
     same_bench old.seen.chip new.seen.chip old.seen.places new.seen.places defect new.seen.aim
-    rows_chip defects outputs defect keeps.chip.chip keeps.chip.places aimed (record {
+    rows_chip defects outputs groups defect keeps.chip.chip keeps.chip.places aimed (record {
       rank = is.rank;
       chip_is = is.chip_is;
       good_is = is.good_is;
@@ -110,13 +113,14 @@ bench_aims old new rows_chip defects outputs before defect keeps aimed in_chip i
       outputs_are = is.outputs_are;
       few = is.few;
       rows_are = is.rows_are;
+      groups_are = is.groups_are;
       aim_is = refl;
       aimed = in_chip;
     })
 
-module _ (seen : Seen) (rows_chip : Chip) (defects : List ChipDefect) (outputs : List ℕ)
+module _ (seen : Seen) (rows_chip : Chip) (defects : List ChipDefect) (outputs : List ℕ) (groups : List (Option Group))
     (defect : Option ChipDefect)
-    (is : IsChipBench seen.chip seen.places seen.aim rows_chip defects outputs defect) where
+    (is : IsChipBench seen.chip seen.places seen.aim rows_chip defects outputs groups defect) where
   -- the defect that is aimed at is one of the chip
   in_chip : IsChipDefect seen.chip seen.aim
   in_chip = subst (IsChipDefect seen.chip) (sym is.aim_is) is.aimed
@@ -183,12 +187,12 @@ module _ (seen : Seen) (rows_chip : Chip) (defects : List ChipDefect) (outputs :
       (subst (λ a. IsOutcome (record { chip = seen.chip; places = seen.places; aim = a; pair = new.pair }) budget
       code outcome) aimed (subst (λ judged. IsOutcome judged budget code outcome) same ends))
 
-module _ (seen : Seen) (rows_chip : Chip) (defects : List ChipDefect) (outputs : List ℕ)
+module _ (seen : Seen) (rows_chip : Chip) (defects : List ChipDefect) (outputs : List ℕ) (groups : List (Option Group))
     (defect : Option ChipDefect)
-    (is : IsChipBench seen.chip seen.places seen.aim rows_chip defects outputs defect) (other : ChipDefect)
+    (is : IsChipBench seen.chip seen.places seen.aim rows_chip defects outputs groups defect) (other : ChipDefect)
     (in_chip_too : IsDefectIn seen.chip other) where
   -- the same bench, aimed at another defect
-  other_bench : IsChipBench seen.chip seen.places (Some other) rows_chip defects outputs (Some other)
+  other_bench : IsChipBench seen.chip seen.places (Some other) rows_chip defects outputs groups (Some other)
   other_bench = record {
     rank = is.rank;
     chip_is = is.chip_is;
@@ -198,6 +202,7 @@ module _ (seen : Seen) (rows_chip : Chip) (defects : List ChipDefect) (outputs :
     outputs_are = is.outputs_are;
     few = is.few;
     rows_are = is.rows_are;
+    groups_are = is.groups_are;
     aim_is = refl;
     aimed = in_chip_too;
   }
@@ -211,9 +216,9 @@ module _ (seen : Seen) (rows_chip : Chip) (defects : List ChipDefect) (outputs :
       let value = (wave_at seen.faulty (slice_index outputs output)).last in
       let one_ends : IsNetEnd seen.chip (Some one) seen.pair net value =
       subst (λ aim. IsNetEnd seen.chip aim seen.pair net value) aimed
-      (faulty_ends seen rows_chip defects outputs defect is law exact output within) in
+      (faulty_ends seen rows_chip defects outputs groups defect is law exact output within) in
       let other_ends : IsNetEnd seen.chip (Some other) seen.pair net value =
-      faulty_ends (aimed_anew seen other) rows_chip defects outputs (Some other) other_bench law alike output within in (
+      faulty_ends (aimed_anew seen other) rows_chip defects outputs groups (Some other) other_bench law alike output within in (
         λ detects. record {
           value = detects.value;
           good = detects.good;

@@ -3,3 +3,4 @@ pub mod BenchLemmas
 pub mod PairLemmas
 pub mod FlipLemmas
 pub mod UntestableLemmas
+pub mod GroupLemmas

@@ -4,6 +4,7 @@ ghost use Rattle.std.specs.Prelude.{◌≡◌, ◌<◌, ◌^◌, length, IfOk};
 ghost use Rattle.ca_engine.specs.ChipTask.{task_of};
 
 use crate::flip_bench::FlipBench;
+use crate::groups::{Group, groups_of};
 use crate::outputs::output_nets;
 use crate::pair_bits::PairBits;
 use ca_base::NoMemory;
@@ -32,6 +33,7 @@ pub struct ChipBench<'a, R: ExposableDefects, P: Choice + Drop> {
     judge: FlipBench<'a, R, P>,
     rows: &'a R,
     defects: ChipDefects,
+    groups: Vec<Option<Group>>,
     search: Search,
     aim: Option<ChipDefect>,
 }
@@ -57,7 +59,7 @@ impl<'a, R: ExposableDefects, P: Choice + Drop> Model for ChipBench<'a, R, P> {
 
     ghost invariant = { λ bench. IsChipBench bench.judge.seen.chip bench.judge.seen.places
         bench.judge.seen.aim (R.chip bench.rows.now) bench.defects
-        bench.view.now.core.outputs bench.aim };
+        bench.view.now.core.outputs bench.groups.items bench.aim };
 }
 
 impl<'a, R: ExposableDefects, P: Choice + Drop> ChipBench<'a, R, P> {
@@ -89,6 +91,7 @@ impl<'a, R: ExposableDefects, P: Choice + Drop> ChipBench<'a, R, P> {
         if view.output_count() > u32::MAX as usize || defects.len() > u32::MAX as usize {
             return Err(NoMemory);
         }
+        let groups = groups_of(alloc, view, &defects)?;
         let outputs = output_nets(alloc, view)?;
         let search = Search::reserve(alloc, budget)?;
         let judge = FlipBench::reserve(alloc, view, rows, choice, outputs)?;
@@ -97,6 +100,7 @@ impl<'a, R: ExposableDefects, P: Choice + Drop> ChipBench<'a, R, P> {
             judge,
             rows,
             defects,
+            groups,
             search,
             aim: None,
         })
@@ -145,6 +149,17 @@ impl<R: ExposableDefects, P: Choice + Drop> Simulator for ChipBench<'_, R, P> {
             Seen::Undecided => ByLasts::Undecided,
             Seen::Nowhere => ByLasts::Nowhere,
             Seen::At(output) => ByLasts::At(output),
+        }
+    }
+
+    fn pass_over(&mut self, place: usize) -> usize {
+        let u = self.defects.get(place).instance as usize;
+        match self.groups[u] {
+            Some(group) if group.start <= place && place < group.end => {
+                let passed = self.judge.pass(u, place - group.start);
+                group.start + passed.min(group.end - group.start)
+            }
+            Some(_) | None => place,
         }
     }
 

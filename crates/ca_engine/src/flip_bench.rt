@@ -47,6 +47,12 @@ impl<'a, R: ExposingRows, P: Choice + Drop> FlipBench<'a, R, P> {
     ghost use Rattle.ca_sim.specs.Simulator.{IsFresh, KeepsAim, KeepsPair, KeepsSeen, counted_up};
     ghost use Rattle.ca_judge.specs.ChipJudge.{CanBeJudged};
     ghost use Rattle.ca_sweep.specs.Found.{IsFound};
+    ghost use Rattle.std.specs.Prelude.{ℕ, ◌≤◌, slice_get};
+    ghost use Rattle.ca_flat.specs.declared.chip_defect.ChipDefect.{ChipDefect};
+    ghost use Rattle.ca_flat.specs.Chip.{cell_at};
+    ghost use Rattle.ca_defect.specs.List.{defects_of};
+    ghost use Rattle.ca_view.specs.Linked.{IsPlaced};
+    ghost use Rattle.ca_sweep.specs.declared.seen.Seen.TheVariants.{Nowhere};
 
     /// Takes all memory. No bit is set, and no defect is aimed at.
     pub(crate) fn reserve(
@@ -107,6 +113,27 @@ impl<'a, R: ExposingRows, P: Choice + Drop> FlipBench<'a, R, P> {
         self.finder.load(&self.judge);
         self.is_loaded = true;
         self.finder.find(&self.judge, defect)
+    }
+
+    /// Passes over defects of an instance's cell, in the order of its list and from a place on, as long as last
+    /// values alone say that the bits don't detect them.
+    pub(crate) fn pass(&mut self, u: usize, from: usize) -> usize
+        requires placed { IsPlaced self.old.seen.chip (place_in self.old.seen.places) u }
+        requires good_is { IsWellFormed (flat self.old.seen.chip None) }
+        ensures onward { from ≤ result }
+        ensures passed { (k : ℕ) (defect : ChipDefect) → from ≤ k → k < result → defect.instance ≡ u
+            → slice_get (defects_of (cell_at self.old.seen.chip u)) k ≡ Some defect.defect
+            → IsWellFormed (flat self.old.seen.chip (Some defect)) → IsDefectIn self.old.seen.chip defect
+            → IsFound self.old.seen.chip defect self.old.seen.pair Nowhere }
+        ensures kept { self.new ≡ self.old }
+    {
+        if self.is_loaded {
+            return self.finder.pass(&self.judge, u, from);
+        }
+        self.judge.exact();
+        self.finder.load(&self.judge);
+        self.is_loaded = true;
+        self.finder.pass(&self.judge, u, from)
     }
 
     /// Whether the instance of the defect that is aimed at gives the same with this other one of its defects.

@@ -4,6 +4,7 @@
 mod chip_bench;
 mod flip_bench;
 mod generate;
+mod groups;
 mod outputs;
 mod pair_bits;
 mod untestable;

@@ -1,6 +1,6 @@
 -- Values that are right up to some output, and the first that isn't.
 use Rattle.std.proofs.Common.{◌≡◌, ◌≢◌, ℕ, ◌+◌, ◌<◌, Bool, List, [], length, None, inl, inr}
-use Rattle.std.proofs.Common.{refl, sym, ◌∙◌, subst, arith, get_or}
+use Rattle.std.proofs.Common.{refl, sym, ◌∙◌, ap, subst, arith, get_or}
 use Rattle.std.specs.Prelude.{Option, Some, slice_get, slice_index}
 use Rattle.std.proofs.lemmas.Bool.{cases_lt}
 use Rattle.std.proofs.lemmas.Option.{get_or_from_slice_get}
@@ -65,3 +65,12 @@ row_right chip pairs rows count before here place below = elim (cases_lt place c
       let same : count ≡ place = omega (arith, below, late) in
       subst (λ k. AreGoodEnds chip (trits_of (get_or pairs k [])) (get_or rows k [])) same here
 ]
+
+-- so where they are under bits that are those of the pair
+pub row_right_by : (chip : Chip) (pairs : List (List Bool)) (rows : List (List Trit)) (count : ℕ) (pair : List Bool) (bits values : List Trit)
+    → AreRightRows chip pairs rows count → bits ≡ trits_of pair → pair ≡ get_or pairs count [] → values ≡ get_or rows count []
+    → AreGoodEnds chip bits values → AreRightRows chip pairs rows (count + 1)
+row_right_by chip pairs rows count pair bits values before bits_are pair_is values_are here =
+    row_right chip pairs rows count before
+    (subst (AreGoodEnds chip (trits_of (get_or pairs count []))) values_are
+    (subst (λ (set : List Trit). AreGoodEnds chip set values) (bits_are ∙ ap trits_of pair_is) here))

@@ -7,4 +7,4 @@ mod wrong;
 
 pub use laws::aimed_pairs_are_whole;
 pub use values::{Expected, expected};
-pub use wrong::{WrongValue, first_wrong};
+pub use wrong::{WrongValue, first_wrong, wrong_output};

@@ -24,8 +24,9 @@ fn is_same(one: Trit, other: Trit) -> bool
     one == other
 }
 
-// The first observed output at which the good chip doesn't end with the value, under the bits that are set.
-fn wrong_output<S: Simulator>(sim: &S, values: &List<Trit>) -> Option<u32>
+/// The first observed output at which the good chip doesn't end with the value, under the bits that are set;
+/// none where it ends with each.
+pub fn wrong_output<S: Simulator>(sim: &S, values: &List<Trit>) -> Option<u32>
     requires { length values.now ≡ length (S.task sim.now).chip.outputs }
     ensures { MatchOption result (AreGoodEnds (S.task sim.now).chip (S.bits sim.now) values.now)
         (IsWrongFrom (S.task sim.now).chip (S.bits sim.now) values.now) }

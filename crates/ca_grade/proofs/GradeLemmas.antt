@@ -55,7 +55,7 @@ step chip pairs n pair defect (Some verdict.Untestable) new at before after = ab
 step chip pairs n pair defect (Some (verdict.Aborted code)) new at before after = absurd before
 
 -- what one more pair makes of the table, and what a block does
-after_pair : (task : Task) (pairs : List (List Bool)) (n : ℕ) (pair : List Bool) (old new : List (Option Verdict))
+pub after_pair : (task : Task) (pairs : List (List Bool)) (n : ℕ) (pair : List Bool) (old new : List (Option Verdict))
     → slice_get pairs n ≡ Some pair → AreVerdictsAfter task pairs n old → CreditsPair task pair n old new
     → AreVerdictsAfter task pairs (n + 1) new
 after_pair task pairs n pair old new at before credits = record {

@@ -24,8 +24,8 @@ fn mark<B: Bench>(credits: &mut Credits, bench: &B, place: usize)
     }
 }
 
-// The table in which the defects that can't be exposed are marked.
-fn marked<B: Bench>(alloc: Global, bench: &B) -> Result<Credits, NoMemory>
+/// The table in which the defects that can't be exposed are marked.
+pub(crate) fn marked<B: Bench>(alloc: Global, bench: &B) -> Result<Credits, NoMemory>
     ensures { IfOk result (AreMarkedUpTo (B.task bench.now) (length (B.task bench.now).defects)) }
 {
     let count = bench.defect_count();

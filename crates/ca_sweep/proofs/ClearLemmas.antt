@@ -1,15 +1,16 @@
 -- An instance is clear where its output nets are definite, and all that read one pass flips on.
-use Rattle.std.proofs.Common.{◌≡◌, ℕ, ◌<◌, Bool, true, false, List, [], ◌∷◌, length, get_or, set, replicate, sym, ◌∙◌, ap, subst, arith, inl, inr}
+use Rattle.std.proofs.Common.{◌≡◌, ◌≢◌, ℕ, ◌+◌, ◌<◌, Bool, true, false, List, [], ◌∷◌, length, get_or, set, replicate, sym, ◌∙◌, ap, subst, arith, inl, inr}
 use Rattle.std.proofs.lemmas.Bool.{cases_eq, cases_lt}
 use Rattle.std.proofs.lemmas.List.{get_or-set_same, get_or-set_other, length-set, get_or-replicate, get_or_past, length-replicate}
 use Rattle.ca_net.specs.declared.trit.Trit.{Trit}
-use Rattle.ca_flat.specs.Chip.{Chip, cell_at, inputs_at, outputs_at, net_of, count_of}
+use Rattle.ca_net.specs.declared.trit.Trit.TheVariants.{X}
+use Rattle.ca_flat.specs.Chip.{Chip, cell_at, inputs_at, outputs_at, net_of, output_net, count_of}
 use Rattle.ca_flat.specs.Chain.{IsChain}
 use Rattle.ca_flips.specs.Static.{IsStatic}
 use Rattle.ca_flips.specs.Flips.{IsAfter}
-use Rattle.ca_view.specs.Linked.{Reads}
+use Rattle.ca_view.specs.Linked.{Reads, IsLinked, IsPlaced}
 use Rattle.ca_sweep.specs.Seen.{IsClear}
-use Rattle.ca_sweep.specs.code.Kept.{IsPassing, AreDefinitePins, AreOutputsClear, AreMarks, is_marked}
+use Rattle.ca_sweep.specs.code.Kept.{IsPassing, AreDefinitePins, AreOutputsClear, AreMarks, AreAllStatic, is_marked}
 
 module _ (chip : Chip) (goods : ℕ → Trit) where
   -- what holds of an instance that a chain from the net leads to, where all that read the net pass flips on
@@ -78,3 +79,30 @@ marks_new chip P marks count counted is = record {
       | inl low ↦ get_or-replicate count u false false low
       | inr high ↦ get_or_past (replicate count false) u false (let l = length-replicate count false in omega arith)
     ]
+
+-- where all cells are static and all values are definite, each instance is clear
+pub all_clear : (chip : Chip) (place_of number_of : ℕ → ℕ) (goods : ℕ → Trit) → IsLinked chip place_of number_of → AreAllStatic chip place_of
+    → ((net : ℕ) → net < length chip.nets → goods net ≢ X) → (u : ℕ) → u < count_of chip → IsClear chip goods u
+all_clear chip place_of number_of goods linked static definite u known = record {
+  all_static = λ w following. static w (record {
+    known = following.known;
+    placed = elim (cases_lt 0 (place_of w)) [
+      | inl some ↦ some
+      | inr none ↦ let bare = (linked.bare w following.known (omega arith)).no_pin in let pin = following.within in absurd (omega arith)
+    ];
+  });
+  definite = record {
+    outputs = λ output within. definite (output_net chip u output) (linked.is_chip.on_nets u (inputs_at chip u + output) known (omega arith));
+    read = λ w pin following within. definite (net_of chip w pin) (linked.is_chip.on_nets w pin following.known (omega arith));
+  };
+}
+
+-- where all instances have the property, any marks stand
+pub marks_any : (chip : Chip) (P : ℕ → Type 0) (marks : List Bool) → length marks ≡ count_of chip → ((u : ℕ) → u < count_of chip → P u) → AreMarks chip P marks
+marks_any chip P marks room all = record {
+  room = room;
+  each = λ u marked. elim (cases_lt u (length marks)) [
+    | inl less ↦ all u (omega arith)
+    | inr past ↦ let none : get_or marks u false ≡ false = get_or_past marks u false past in let e : false ≡ true = sym none ∙ marked in absurd cc
+  ];
+}

@@ -9,3 +9,5 @@ pub mod SeenLemmas
 pub mod FaultyLemmas
 pub mod FoundLemmas
 pub mod SegmentLemmas
+pub mod RowLemmas
+pub mod PassLemmas

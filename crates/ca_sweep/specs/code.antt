@@ -7,3 +7,4 @@ pub mod Firsts
 pub mod Kept
 pub mod Faulty
 pub mod Segments
+pub mod Rows

@@ -87,15 +87,59 @@ fn unmark(marks: &mut Vec<bool>)
 
 ghost use Rattle.ca_sweep.specs.code.Kept.{is_marked};
 
-/// Finds the clear instances, the last ones first, and marks those that pass flips on.
+/// Whether the cells of all instances with a place are static.
+pub(crate) fn are_all_static(chip: &View<'_>, tables: &Tables) -> bool
+    requires { AreTables chip.now.core (place_in chip.now.ranks) (cell_number chip.now.chip)
+        tables.now.items }
+    ensures { IsTrue result → AreAllStatic chip.now.core (place_in chip.now.ranks) }
+{
+    chip.linked();
+    for u in 0..chip.instances() {
+        if chip.rank(u) > 0 && tables[chip.number(u)].is_none() {
+            return false;
+        }
+    }
+    true
+}
+
+ghost use Rattle.std.specs.Prelude.{◌≢◌};
+ghost use Rattle.ca_net.specs.declared.trit.Trit.TheVariants.{X};
+ghost use Rattle.ca_sweep.specs.code.Kept.{AreAllStatic};
+
+// Whether all values are definite.
+fn are_all_definite(lasts: &State) -> bool
+    ensures { IsTrue result → (net : ℕ) → net < length lasts.now → value_at lasts.now net ≢ X }
+{
+    for net in 0..lasts.len() {
+        if lasts.get(net) == Trit::X {
+            return false;
+        }
+    }
+    true
+}
+
+// All instances are marked.
+fn mark_all(marks: &mut Vec<bool>)
+    ensures { length marks.new.items ≡ length marks.old.items }
+{
+    for u in 0..marks.len() {
+        marks[u] = true;
+    }
+}
+
+/// Finds the clear instances, and marks those that pass flips on. Where the cells of all instances are static
+/// and all values are definite, all are clear, and none is marked as passing. Else the last ones are looked at
+/// first.
 pub(crate) fn find_clear(
     chip: &View<'_>,
     tables: &Tables,
+    is_static: bool,
     order: &[Option<usize>],
     lasts: &State,
     clear: &mut Vec<bool>,
     passing: &mut Vec<bool>,
 )
+    requires all_static { IsTrue is_static → AreAllStatic chip.now.core (place_in chip.now.ranks) }
     requires tables { AreTables chip.now.core (place_in chip.now.ranks) (cell_number chip.now.chip)
         tables.now.items }
     requires order { IsOrder chip.now.core (place_in chip.now.ranks) order.now }
@@ -108,8 +152,13 @@ pub(crate) fn find_clear(
     ensures passing { AreMarks chip.now.core (IsPassing chip.now.core (value_at lasts.now))
         passing.new.items }
 {
+    chip.linked();
     unmark(clear);
     unmark(passing);
+    if is_static && are_all_definite(lasts) {
+        mark_all(clear);
+        return;
+    }
     let places = order.len();
     for before in 0..places {
         if let Some(u) = order[places - 1 - before] {

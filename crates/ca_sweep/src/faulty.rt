@@ -60,8 +60,8 @@ impl Faulty {
         })
     }
 
-    // What the cell of a defect's instance gives with it, computed.
-    fn compute(&mut self, chip: &View<'_>, defect: ChipDefect, pins: &[Wave]) -> OutWaves
+    /// What the cell of a defect's instance gives with it, computed.
+    pub(crate) fn compute(&mut self, chip: &View<'_>, defect: ChipDefect, pins: &[Wave]) -> OutWaves
         requires defect { IsPlacedDefect chip.now.core (place_in chip.now.ranks) defect }
         requires pins { length pins.now ≡ inputs_at chip.now.core defect.instance }
         requires waves { All IsWave pins.now }
@@ -211,8 +211,8 @@ fn same_wave(a: Wave, b: Wave) -> bool
     a == b
 }
 
-// Whether the lists have the same waves.
-fn same_waves(a: &[Wave], b: &[Wave]) -> bool
+/// Whether the lists have the same waves.
+pub(crate) fn same_waves(a: &[Wave], b: &[Wave]) -> bool
     ensures { IsTrue result → a.now ≡ b.now }
 {
     if a.len() != b.len() {

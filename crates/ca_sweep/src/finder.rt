@@ -1,13 +1,17 @@
 //! Where a pair detects a defect, by last values alone.
 
-ghost use Rattle.std.specs.Prelude.{◌≡◌, ◌≢◌, ◌<◌, ◌^◌, ◌↔◌, length, IfOk, IfSome, IsTrue, None, Some};
+ghost use Rattle.std.specs.Prelude.{ℕ, ◌≡◌, ◌≢◌, ◌<◌, ◌≤◌, ◌^◌, ◌↔◌, length, slice_get, IfOk, IfSome};
+ghost use Rattle.std.specs.Prelude.{IsTrue, None, Some};
 ghost use Rattle.std.specs.List.{All};
 ghost use Rattle.ca_net.specs.declared.trit.Trit.TheVariants.{X};
 ghost use Rattle.ca_net.specs.declared.wave.Wave.{Wave};
 ghost use Rattle.ca_net.specs.Wave.{IsWave};
 ghost use Rattle.ca_net.specs.Circuit.{IsWellFormed};
 ghost use Rattle.ca_net.specs.State.{value_at};
-ghost use Rattle.ca_flat.specs.Chip.{outputs_at};
+ghost use Rattle.ca_flat.specs.declared.chip_defect.ChipDefect.{ChipDefect};
+ghost use Rattle.ca_flat.specs.Chip.{outputs_at, cell_at, IsDefectIn};
+ghost use Rattle.ca_defect.specs.List.{defects_of};
+ghost use Rattle.ca_sweep.specs.declared.seen.Seen.TheVariants.{Nowhere};
 ghost use Rattle.ca_flat.specs.Flat.{flat};
 ghost use Rattle.ca_flips.specs.Flips.{AreLastsOf};
 ghost use Rattle.ca_view.specs.Linked.{IsPlaced, IsPlacedDefect, place_in};
@@ -19,11 +23,15 @@ ghost use Rattle.ca_sweep.specs.code.Faulty.{AreWavesAt, AreFlipsOf};
 use crate::faulty::Faulty;
 use crate::firsts::are_opposite;
 use crate::memo::Memo;
+use crate::passing::{goods_at, pass_codes};
+use crate::rows::Rows;
 use crate::seen::{Flips, Seen};
 use crate::sweep::Sweep;
 use ca_base::NoMemory;
 use ca_flat::ChipDefect;
-use ca_flips::{detected_is_filled_in, detected_is_flipped, swept_are_flipped};
+use ca_flips::{
+    detected_is_filled_in, detected_is_flipped, swept_are_flipped, unflipped_is_undetected,
+};
 use ca_net::{Trit, Wave};
 use ca_response::PinWaves;
 use ca_sim::NetWaves;
@@ -38,6 +46,7 @@ pub struct Finder<'a> {
     chip: &'a View<'a>,
     sweep: Sweep<'a>,
     faulty: Faulty,
+    rows: Rows,
     memo: Memo,
 }
 
@@ -53,7 +62,7 @@ impl<'a> Model for Finder<'a> {
 
     ghost invariant = { λ finder. IsFinder finder.chip.now.core finder.chip.now.ranks
         (place_in finder.chip.now.ranks) (cell_number finder.chip.now.chip) finder.sweep finder.faulty
-        finder.memo };
+        finder.rows finder.memo };
 }
 
 impl<'a> Finder<'a> {
@@ -64,12 +73,14 @@ impl<'a> Finder<'a> {
         ensures { IfOk result (IsOfChip chip.now.core chip.now.ranks) }
     {
         let faulty = Faulty::reserve(alloc, chip)?;
+        let rows = Rows::reserve(alloc, chip)?;
         let memo = Memo::reserve(alloc)?;
         let sweep = Sweep::reserve(alloc, chip, outputs)?;
         Ok(Finder {
             chip,
             sweep,
             faulty,
+            rows,
             memo,
         })
     }
@@ -157,6 +168,48 @@ impl<'a> Finder<'a> {
         let flips = self.flips_of(u, outputs.as_slice());
         let seen = self.see(u, flips);
         reported(seen, are_definite(outputs.as_slice()))
+    }
+
+    /// Passes over defects of an instance's cell, in the order of its list and from a place on, as long as it
+    /// is known that the pair of these waves doesn't detect them. The last values are those of the pair. It
+    /// takes no memory.
+    pub fn pass<V: NetWaves>(&mut self, waves: &V, u: usize, from: usize) -> usize
+        requires chip { (V.seen waves.now).chip ≡ self.old.chip }
+        requires placed { IsPlaced self.old.chip (place_in self.old.places) u }
+        requires lasts { AreLastsOf self.old.chip (V.seen waves.now).pair (value_at self.old.lasts) }
+        requires good_is { IsWellFormed (flat self.old.chip None) }
+
+        ensures onward { from ≤ result }
+        ensures passed { (k : ℕ) (defect : ChipDefect) → from ≤ k → k < result → defect.instance ≡ u
+            → slice_get (defects_of (cell_at self.old.chip u)) k ≡ Some defect.defect
+            → IsWellFormed (flat self.old.chip (Some defect)) → IsDefectIn self.old.chip defect
+            → IsFound self.old.chip defect (V.seen waves.now).pair Nowhere }
+        ensures kept { self.new ≡ self.old }
+    {
+        swept_are_flipped();
+        detected_is_filled_in();
+        detected_is_flipped();
+        unflipped_is_undetected();
+        waves.exact();
+        self.chip.linked();
+        if !self.sweep.is_clear(u) {
+            return from;
+        }
+        let pins = match pin_waves(self.chip, waves, u) {
+            Some(pins) => pins,
+            None => return from,
+        };
+        let _outputs = self.chip.cell(u).outputs();
+        let slot = self.rows.find(self.chip, &mut self.faulty, u, pins);
+        let goods = goods_at(self.chip, &self.sweep, u);
+        pass_codes(
+            &mut self.memo,
+            &mut self.sweep,
+            u,
+            goods,
+            self.rows.codes(slot),
+            from,
+        )
     }
 }
 

@@ -8,6 +8,8 @@ mod faulty;
 mod finder;
 mod firsts;
 mod memo;
+mod passing;
+mod rows;
 mod run;
 mod seen;
 mod segments;

@@ -1,14 +1,14 @@
 //! Where flips of an instance's outputs are seen.
 
-ghost use Rattle.std.specs.Prelude.{◌≡◌, ◌<◌, ◌^◌, length, map, replicate, IfOk, IfSome};
+ghost use Rattle.std.specs.Prelude.{◌≡◌, ◌<◌, ◌^◌, length, map, replicate, IfOk, IfSome, IsTrue};
 ghost use Rattle.ca_net.specs.State.{value_at};
 ghost use Rattle.ca_view.specs.Linked.{IsPlaced, place_in};
 ghost use Rattle.ca_view.specs.Places.{cell_number};
-ghost use Rattle.ca_sweep.specs.Seen.{IsSeen, IsOfChip, lasts_in};
+ghost use Rattle.ca_sweep.specs.Seen.{IsSeen, IsClear, IsOfChip, lasts_in};
 ghost use Rattle.ca_sweep.specs.code.Segments.{IsSegment, IsSweptFrom};
 
 use crate::cells::{Tables, order_of, tables_of};
-use crate::clear::find_clear;
+use crate::clear::{are_all_static, find_clear};
 use crate::firsts::{first_opposite, firsts_of};
 use crate::run::{Halt, sweep};
 use crate::seen::{Flips, Seen};
@@ -29,6 +29,7 @@ pub struct Sweep<'a> {
     outputs: Vec<u32>,
     firsts: Vec<usize>,
     tables: Tables,
+    is_static: bool,
     order: Vec<Option<usize>>,
     lasts: State,
     clear: Vec<bool>,
@@ -53,7 +54,7 @@ impl<'a> Model for Sweep<'a> {
 
     ghost invariant = { λ sweep. IsKept sweep.chip.now.core (place_in sweep.chip.now.ranks)
         (cell_number sweep.chip.now.chip) sweep.outputs.items sweep.firsts.items sweep.tables.items
-        sweep.order.items sweep.lasts sweep.clear.items sweep.passing.items sweep.values
+        sweep.is_static sweep.order.items sweep.lasts sweep.clear.items sweep.passing.items sweep.values
         sweep.segments.slots.items };
 }
 
@@ -66,11 +67,14 @@ impl<'a> Sweep<'a> {
     {
         chip.linked();
         let firsts = firsts_of(alloc, chip.nets(), &outputs)?;
+        let tables = tables_of(alloc, chip)?;
+        let is_static = are_all_static(chip, &tables);
         Ok(Sweep {
             chip,
             outputs,
             firsts,
-            tables: tables_of(alloc, chip)?,
+            tables,
+            is_static,
             order: order_of(alloc, chip)?,
             lasts: State::unknown(alloc, chip.nets())?,
             clear: vec![in alloc; false; chip.instances()]?,
@@ -93,6 +97,7 @@ impl<'a> Sweep<'a> {
         find_clear(
             self.chip,
             &self.tables,
+            self.is_static,
             &self.order,
             &self.lasts,
             &mut self.clear,
@@ -107,6 +112,15 @@ impl<'a> Sweep<'a> {
         ensures { result ≡ value_at self.now.lasts net }
     {
         self.lasts.get(net)
+    }
+
+    /// Whether the instances after this one are static, and the good last values are definite there.
+    pub(crate) fn is_clear(&self, u: usize) -> bool
+        requires { IsPlaced self.now.chip (place_in self.now.places) u }
+        ensures { IsTrue result → IsClear self.now.chip (value_at self.now.lasts) u }
+    {
+        self.chip.linked();
+        self.clear[u]
     }
 
     // A part of a sweep, found by evaluating.

@@ -6,11 +6,14 @@ use Rattle.ca_flat.specs.declared.chip_defect.ChipDefect.{ChipDefect}
 use Rattle.ca_flat.specs.Chip.{Chip, IsChip, IsDefectIn, IsChipDefect}
 use Rattle.ca_flat.specs.Flat.{flat}
 use Rattle.ca_view.specs.Linked.{IsPlacedDefect, place_in}
+use Rattle.ca_engine.specs.declared.groups.Group.{Group}
+use Rattle.ca_engine.specs.code.Groups.{AreGroups}
 
 -- The chip's flat networks are networks, the listed defects may be aimed at, the nets are those of the
 -- observed outputs, the rows are the chip's, and what is aimed at is a defect of it.
 pub record IsChipBench (chip : Chip) (places : List ℕ) (aim : Option ChipDefect) (rows_chip : Chip)
-    (defects : List ChipDefect) (outputs : List ℕ) (defect : Option ChipDefect) : Type 0 where
+    (defects : List ChipDefect) (outputs : List ℕ) (groups : List (Option Group)) (defect : Option ChipDefect)
+    : Type 0 where
   pub rank : ℕ → ℕ
   pub chip_is : IsChip chip rank
   pub good_is : IsWellFormed (flat chip None)
@@ -19,5 +22,6 @@ pub record IsChipBench (chip : Chip) (places : List ℕ) (aim : Option ChipDefec
   pub outputs_are : outputs ≡ chip.outputs
   pub few : length outputs < 2 ^ 32
   pub rows_are : rows_chip ≡ chip
+  pub groups_are : AreGroups chip defects groups
   pub aim_is : aim ≡ defect
   pub aimed : IsChipDefect chip defect

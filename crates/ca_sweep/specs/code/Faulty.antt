@@ -16,9 +16,11 @@ use Rattle.ca_sim.specs.code.Cells.{AreCellRooms}
 use Rattle.ca_sweep.specs.declared.faulty.Entry.{Entry}
 use Rattle.ca_sweep.specs.declared.faulty.Faulty.{Faulty}
 use Rattle.ca_sweep.specs.declared.memo.Memo.{Memo}
+use Rattle.ca_sweep.specs.declared.rows.Rows.{Rows}
 use Rattle.ca_sweep.specs.declared.seen.Flips.{Flips}
 use Rattle.ca_sweep.specs.declared.seen.Seen.{Seen}
 use Rattle.ca_sweep.specs.Seen.{Swept, is_flipped, IsSeen}
+use Rattle.ca_sweep.specs.code.Rows.{AreRows}
 
 -- an entry has what its cell with its defect gives, at each instance with a cell of that number
 abbrev pub HoldsTrue : Chip → (ℕ → ℕ) → (ℕ → ℕ) → Option Entry → Type 0
@@ -80,8 +82,9 @@ IsFlippedAt chip goods u outputs output flipped =
 
 -- what a finder keeps: its sweep is of the chip, and what is kept is true
 pub record IsFinder (chip : Chip) (places : List ℕ) (place_of number_of : ℕ → ℕ) (swept : Swept)
-    (faulty : Faulty) (memo : Memo) : Type 0 where
+    (faulty : Faulty) (rows : Rows) (memo : Memo) : Type 0 where
   pub chip_is : swept.chip ≡ chip
   pub places_are : swept.places ≡ places
   pub faulty_are : AreFaulty chip place_of number_of faulty
+  pub rows_are : AreRows chip place_of number_of rows
   pub memo_is : IsMemo swept.chip (value_at swept.lasts) memo

@@ -6,7 +6,7 @@ use Rattle.ca_net.specs.declared.wave.Wave.{Wave}
 use Rattle.ca_net.specs.State.{value_at}
 use Rattle.ca_flat.specs.Chip.{Chip, cell_at, inputs_at, net_of, output_net, count_of}
 use Rattle.ca_flips.specs.Static.{IsStatic}
-use Rattle.ca_view.specs.Linked.{Reads}
+use Rattle.ca_view.specs.Linked.{Reads, IsPlaced}
 use Rattle.ca_sweep.specs.declared.values.Values.{Values}
 use Rattle.ca_sweep.specs.declared.segments.Segment.{Segment}
 use Rattle.ca_sweep.specs.Seen.{IsClear}
@@ -25,6 +25,10 @@ pub record IsPassing (chip : Chip) (goods : ℕ → Trit) (w : ℕ) : Type 0 whe
   pub cell_static : IsStatic (cell_at chip w)
   pub pins : AreDefinitePins chip goods w
   pub clear : IsClear chip goods w
+
+-- the cell of each instance with a place is static
+abbrev pub AreAllStatic : Chip → (ℕ → ℕ) → Type 0
+AreAllStatic chip place_of = (u : ℕ) → IsPlaced chip place_of u → IsStatic (cell_at chip u)
 
 -- whether the instance is marked
 abbrev pub is_marked : List Bool → ℕ → Bool
@@ -49,12 +53,13 @@ pub record AreMarks (chip : Chip) (P : ℕ → Type 0) (marks : List Bool) : Typ
 -- their places, a value for each net, which instances are clear, and parts of sweeps. Between two sweeps the
 -- values are the good ones.
 pub record IsKept (chip : Chip) (place_of number_of : ℕ → ℕ) (outputs firsts : List ℕ)
-    (tables : List (Option (List (List Wave)))) (order : List (Option ℕ)) (lasts : List Trit)
+    (tables : List (Option (List (List Wave)))) (is_static : Bool) (order : List (Option ℕ)) (lasts : List Trit)
     (clear passing : List Bool) (values : Values) (segments : List (Option Segment)) : Type 0 where
   pub outputs_are : outputs ≡ chip.outputs
   pub few : length outputs < 2 ^ 32
   pub firsts_are : AreFirsts outputs (length chip.nets) firsts
   pub tables_are : AreTables chip place_of number_of tables
+  pub all_static : is_static ≡ true → AreAllStatic chip place_of
   pub order_is : IsOrder chip place_of order
   pub nets : length lasts ≡ length chip.nets
   pub clear_are : AreMarks chip (IsClear chip (value_at lasts)) clear

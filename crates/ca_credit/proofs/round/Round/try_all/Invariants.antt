@@ -1,6 +1,10 @@
 use Rattle.std.proofs.Common.{◌≡◌, ◌<◌, ◌≤◌, ◌+◌, ◌-◌, ℕ, length}
 use Rattle.ca_search.specs.Filled.{trits_of}
 use Rattle.ca_places.specs.PlaceSet.{Has}
+use Rattle.std.specs.Prelude.{None}
+use Rattle.ca_flat.specs.declared.chip_defect.ChipDefect.{ChipDefect}
+use Rattle.ca_credit.specs.Defects.{IsDefectAt}
+use Rattle.ca_credit.specs.Detection.{IsAnswer}
 use Rattle.ca_credit.specs.code.Round.{IsRound, IsTried}
 use Rattle.ca_credit.specs.Table.{credit_count}
 use Rattle.ca_credit.specs.code.Aims.{AimsUpTo}
@@ -9,7 +13,9 @@ use Rattle.ca_credit.proofs.round.Round.try_all.Given as goal
 abbrev pub invariant-places : goal.invariant-places
 invariant-places g l = record {
   tried : IsTried (g.S.Simulator.task l.fn.sim) l.pair l.number l.self.left l.fn.self.verdicts.items l.self.verdicts.items;
-  none : (place : ℕ) → place < l.from → ¬ (Has l.self.left place);
+  none : (place : ℕ) → place < l.from → Has l.self.left place → (defect : ChipDefect)
+      → IsDefectAt (g.S.Simulator.task l.fn.sim) place defect
+      → IsAnswer (g.S.Simulator.task l.fn.sim).chip defect (trits_of l.pair) None;
   within : l.from ≤ length l.fn.self.verdicts.items;
   stands : IsRound l.self;
   counted : credit_count l.self.verdicts.items ≡ credit_count l.fn.self.verdicts.items + l.credited;

@@ -22,12 +22,13 @@ reserve-requires-2-clause-judged g c =
 pub invariant_of-result : goal.invariant_of-result
 invariant_of-result g c =
     let view = c.args.view.now in
-    bench_begins view.core view.ranks (cell_number view.chip) c.in_ok-judge.judge _ c.in_ok-defects.defects view.core.outputs
+    bench_begins view.core view.ranks (cell_number view.chip) c.in_ok-judge.judge _ c.in_ok-defects.defects view.core.outputs c.in_ok-groups.groups.items
     (c.in_ok-judge.ensures {u = tt}) c.linked.ensures.linked
     (core_can_be_judged view c.viewed.ensures.wired c.flat_is_well_formed.ensures
     (subst (λ (chip : linked.LinkedChip). (given : Option ChipDefect) → IsFew (core_of chip) given) c.chip.ensures (c.in_ok-judge_size.ensures {u = tt}))
     c.viewed.ensures.is_view)
     c.requires c.in_ok-defects.ensures.placed refl (let count = c.output_count.ensures in let few = c.if-output_count.false in omega arith)
+    (c.in_ok-groups.ensures {u = tt})
 
 pub returns-clause-task : goal.returns-clause-task
 returns-clause-task g c =

@@ -5,5 +5,5 @@ use Rattle.ca_engine.proofs.chip_bench.ChipBenchSimulator.aim_at_none.Goals as g
 pub invariant_of-self : goal.invariant_of-self
 invariant_of-self g c =
     let inside = c.self.inside in
-    bench_aims inside.judge c.aim.new.self _ inside.defects inside.view.now.core.outputs inside.aim None
+    bench_aims inside.judge c.aim.new.self _ inside.defects inside.view.now.core.outputs inside.groups.items inside.aim None
     c.aim.ensures.kept c.aim.ensures.aim tt c.self.invariant

@@ -20,7 +20,7 @@ faulty-requires g c =
     let within = subst (λ nets. c.args.output < length nets) (sym c.self.invariant.outputs_are) listed in
     subst (λ net. net < length inside.judge.seen.chip.nets)
     (sym c.output.ensures.net)
-    (output_within inside.judge.seen _ inside.defects inside.view.now.core.outputs inside.aim c.self.invariant
+    (output_within inside.judge.seen _ inside.defects inside.view.now.core.outputs inside.groups.items inside.aim c.self.invariant
     c.args.output within)
 
 pub returns : goal.returns
@@ -35,5 +35,5 @@ returns g c =
     subst (λ (bench : Benched). IsNetEnd bench.task.chip bench.aimed bench.bits
     (slice_index bench.task.chip.outputs c.args.output) c.faulty.result.last) c.self.view_is
     (subst (IsNetEnd seen.chip seen.aim seen.pair (slice_index seen.chip.outputs c.args.output)) (sym value_is)
-    (faulty_ends seen _ inside.defects inside.view.now.core.outputs inside.aim c.self.invariant
+    (faulty_ends seen _ inside.defects inside.view.now.core.outputs inside.groups.items inside.aim c.self.invariant
     c.definite_last_is_end.ensures c.exact.ensures c.args.output within))

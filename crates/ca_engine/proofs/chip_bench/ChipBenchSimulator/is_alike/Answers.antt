@@ -22,5 +22,5 @@ returns-clause-alike g c one other aimed at granted =
     let placed = placed_at seen.chip (place_in seen.places) inside.defects c.args.place other c.self.invariant.placed within at_inside in
     let alike = subst (λ d. IsExact (aimed_anew seen d)) same (c.is_alike.ensures.alike granted) in
     subst (λ (bench : Benched). AreDetectedAlike bench.task.chip one other bench.bits) c.self.view_is
-    (alike_detects seen _ inside.defects inside.view.now.core.outputs inside.aim c.self.invariant other placed.defect_is
+    (alike_detects seen _ inside.defects inside.view.now.core.outputs inside.groups.items inside.aim c.self.invariant other placed.defect_is
     c.definite_last_is_end.ensures c.exact.ensures alike one aimed_inside)

@@ -14,6 +14,7 @@ invariant_of-self c = record {
   chip_is = c.self.invariant.chip_is;
   places_are = c.self.invariant.places_are;
   faulty_are = c.self.invariant.faulty_are;
+  rows_are = c.self.invariant.rows_are;
   memo_is = c.turn_to.ensures.memo _ _ c.self.invariant.memo_is;
 }
 
@@ -25,11 +26,12 @@ invariant_of-self-in-None c =
     let chip = c.self.inside.sweep.chip in
     let lasts = c.self.inside.sweep.lasts in
     subst (λ (s : Swept). IsFinder c.self.inside.chip.now.core c.self.inside.chip.now.ranks
-    (place_in c.self.inside.chip.now.ranks) (cell_number c.self.inside.chip.now.chip) s c.self.inside.faulty c.put.new.self) (sym c.see-seen.ensures.kept)
+    (place_in c.self.inside.chip.now.ranks) (cell_number c.self.inside.chip.now.chip) s c.self.inside.faulty c.self.inside.rows c.put.new.self) (sym c.see-seen.ensures.kept)
     (record {
       chip_is = c.self.invariant.chip_is;
       places_are = c.self.invariant.places_are;
       faulty_are = c.self.invariant.faulty_are;
+      rows_are = c.self.invariant.rows_are;
       memo_is = c.put.ensures.memo c.self.inside.sweep.chip (value_at c.self.inside.sweep.lasts) (c.turn_to.ensures.memo _ _ c.self.invariant.memo_is)
           (subst (λ u. IsSeen c.self.inside.sweep.chip (value_at c.self.inside.sweep.lasts) u c.args.flips c.see-seen.result) (sym c.turn_to.ensures.instance) c.see-seen.ensures.seen);
     })

@@ -20,6 +20,7 @@ invariant_of-self g c =
       few = kept.few;
       firsts_are = kept.firsts_are;
       tables_are = kept.tables_are;
+      all_static = kept.all_static;
       order_is = kept.order_is;
       nets = nets;
       clear_are = c.find_clear.ensures.clear;

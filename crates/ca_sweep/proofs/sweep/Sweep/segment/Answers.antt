@@ -14,6 +14,7 @@ invariant_of-self c =
       few = kept.few;
       firsts_are = kept.firsts_are;
       tables_are = kept.tables_are;
+      all_static = kept.all_static;
       order_is = kept.order_is;
       nets = kept.nets;
       clear_are = kept.clear_are;

@@ -1,0 +1,257 @@
+//! Rows of a cell: what each of its defects ends with, for waves of its input pins that occurred.
+
+ghost use Rattle.std.specs.Prelude.{◌≡◌, ◌<◌, length, slice_index_or, IfOk, IsTrue, None};
+ghost use Rattle.std.specs.List.{All};
+ghost use Rattle.std.specs.Option.{ForSome};
+ghost use Rattle.ca_net.specs.Wave.{IsWave};
+ghost use Rattle.ca_flat.specs.Chip.{cell_at, inputs_at};
+ghost use Rattle.ca_view.specs.Linked.{IsPlaced, place_in};
+ghost use Rattle.ca_view.specs.Places.{cell_number};
+ghost use Rattle.ca_sweep.specs.code.Faulty.{AreFaulty};
+ghost use Rattle.ca_sweep.specs.code.Rows.{AreRows, AreCodes, AreLists, FitsList, IsListOf, IsRowOf, HoldsRow};
+ghost use Rattle.ca_sweep.specs.code.Rows.{code_of_lasts, digit_of};
+
+use crate::cells::instance_with;
+use crate::faulty::{Faulty, same_waves};
+use arrayvec::ArrayVec;
+use ca_base::NoMemory;
+use ca_defect::{DefectList, defects};
+use ca_flat::ChipDefect;
+use ca_net::{Trit, Wave};
+use ca_response::PinWaves;
+use ca_view::View;
+use std::alloc::Global;
+
+/// For how many defects of a cell a row has codes.
+pub(crate) const MOST_CODES: usize = 256;
+
+// The least and the greatest number of slots, and how many there are for an instance in between.
+const FEWEST_SLOTS: usize = 1_024;
+
+const MOST_SLOTS: usize = 16_384;
+
+const SLOTS_EACH: usize = 8;
+
+// An odd number with many digits, by which slots are spread.
+const MIX: usize = 0x9E37_79B9_7F4A_7C15;
+
+/// A number for each defect of a cell, or for the first ones: the last values that it gives.
+pub type Codes = ArrayVec<u8, MOST_CODES>;
+
+/// A cell's number, waves of its input pins, and the codes of its defects for these.
+#[derive(Drop, Debug)]
+pub struct Row {
+    pub(crate) number: usize,
+    pub(crate) pins: PinWaves,
+    pub(crate) codes: Codes,
+}
+
+/// The defects of the cells, by their numbers, and slots, each empty or with a row.
+#[derive(Drop)]
+pub struct Rows {
+    pub(crate) lists: Vec<DefectList>,
+    pub(crate) slots: Vec<Option<Row>>,
+}
+
+impl Rows {
+    /// Lists the defects of the cells of all instances with a place. No row is kept yet.
+    pub(crate) fn reserve(alloc: Global, chip: &View<'_>) -> Result<Self, NoMemory>
+        ensures { IfOk result (AreRows chip.now.core (place_in chip.now.ranks)
+            (cell_number chip.now.chip)) }
+    {
+        let lists = lists_of(alloc, chip)?;
+        Ok(Rows {
+            lists,
+            slots: empty_slots(alloc, slot_count(chip.instances()))?,
+        })
+    }
+
+    // Whether the slot has the row of the cell of this number for these waves.
+    fn is_there(&self, slot: usize, number: usize, pins: &[Wave]) -> bool
+        requires { slot < length self.now.slots.items }
+        ensures { IsTrue result → ForSome (slice_index_or self.now.slots.items slot None)
+            (IsRowFor number pins.now) }
+    {
+        match &self.slots[slot] {
+            Some(row) => row.number == number && same_waves(row.pins.as_slice(), pins),
+            None => false,
+        }
+    }
+
+    /// The slot with the row of an instance's cell for these waves of its input pins, found if it isn't there.
+    /// It takes no memory.
+    pub(crate) fn find(
+        &mut self,
+        chip: &View<'_>,
+        faulty: &mut Faulty,
+        u: usize,
+        pins: PinWaves,
+    ) -> usize
+        requires placed { IsPlaced chip.now.core (place_in chip.now.ranks) u }
+        requires pins { length pins.items ≡ inputs_at chip.now.core u }
+        requires waves { All IsWave pins.items }
+        requires rows { AreRows chip.now.core (place_in chip.now.ranks) (cell_number chip.now.chip)
+            self.old }
+        requires faulty { AreFaulty chip.now.core (place_in chip.now.ranks) (cell_number chip.now.chip)
+            faulty.old }
+
+        ensures row { IsRowOf (cell_at chip.now.core u) pins.items
+            (slice_index_or self.new.slots.items result None) }
+        ensures within { result < length self.new.slots.items }
+        ensures rows { AreRows chip.now.core (place_in chip.now.ranks) (cell_number chip.now.chip)
+            self.new }
+        ensures faulty { AreFaulty chip.now.core (place_in chip.now.ranks) (cell_number chip.now.chip)
+            faulty.new }
+    {
+        chip.linked();
+        let number = chip.number(u);
+        let slot = slot_of(number, pins.as_slice(), self.slots.len());
+        if self.is_there(slot, number, pins.as_slice()) {
+            return slot;
+        }
+        let codes = codes_of(chip, faulty, u, &self.lists[number], pins.as_slice());
+        self.slots[slot] = Some(Row {
+            number,
+            pins,
+            codes,
+        });
+        slot
+    }
+
+    /// The codes of the row in a slot.
+    pub(crate) fn codes(&self, slot: usize) -> &[u8]
+        requires { slot < length self.now.slots.items }
+        ensures { AreCodesIn (slice_index_or self.now.slots.items slot None) result.now }
+    {
+        match &self.slots[slot] {
+            Some(row) => row.codes.as_slice(),
+            None => &[],
+        }
+    }
+}
+
+ghost use Rattle.ca_sweep.specs.code.Rows.{IsRowFor, AreCodesIn};
+
+// The codes of the defects of an instance's cell, for these waves of its input pins.
+fn codes_of(
+    chip: &View<'_>,
+    faulty: &mut Faulty,
+    u: usize,
+    list: &DefectList,
+    pins: &[Wave],
+) -> Codes
+    requires placed { IsPlaced chip.now.core (place_in chip.now.ranks) u }
+    requires list { IsListOf (cell_at chip.now.core u) list.now }
+    requires pins { length pins.now ≡ inputs_at chip.now.core u }
+    requires waves { All IsWave pins.now }
+    requires faulty { AreFaulty chip.now.core (place_in chip.now.ranks) (cell_number chip.now.chip)
+        faulty.old }
+
+    ensures codes { AreCodes (cell_at chip.now.core u) pins.now result.items }
+    ensures faulty { AreFaulty chip.now.core (place_in chip.now.ranks) (cell_number chip.now.chip)
+        faulty.new }
+{
+    chip.linked();
+    let mut codes = Codes::new();
+    let count = list.len().min(MOST_CODES);
+    for place in 0..count {
+        let defect = ChipDefect {
+            instance: u as u32,
+            defect: list.get(place),
+        };
+        let outputs = faulty.compute(chip, defect, pins);
+        codes.push(code_of_lasts(outputs.as_slice()));
+    }
+    codes
+}
+
+// The last values of the first two waves as a number.
+fn code_of_lasts(outputs: &[Wave]) -> u8
+    ensures { result ≡ code_of_lasts outputs.now }
+{
+    digit_of(last_at(outputs, 0)) + 4 * digit_of(last_at(outputs, 1))
+}
+
+ghost use Rattle.ca_table.specs.Gives.{wave_at};
+
+// The last value of a wave, X where there is none.
+fn last_at(outputs: &[Wave], output: usize) -> Trit
+    ensures { result ≡ (wave_at outputs.now output).last }
+{
+    if output < outputs.len() {
+        outputs[output].last
+    } else {
+        Trit::X
+    }
+}
+
+// A value as a number.
+fn digit_of(value: Trit) -> u8
+    ensures same { result ≡ digit_of value }
+    ensures few { result < 3 }
+{
+    match value {
+        Trit::Zero => 0,
+        Trit::One => 1,
+        Trit::X => 2,
+    }
+}
+
+// The defects of the cells, by their numbers.
+fn lists_of(alloc: Global, chip: &View<'_>) -> Result<Vec<DefectList>, NoMemory>
+    ensures { IfOk result (λ lists. AreLists chip.now.core (place_in chip.now.ranks)
+        (cell_number chip.now.chip) lists.items) }
+{
+    let mut lists = Vec::new(alloc);
+    for number in 0..chip.numbers() {
+        lists.push(list_for(alloc, chip, number)?)?;
+    }
+    Ok(lists)
+}
+
+// The defects of the cell of a number, if some instance has it.
+fn list_for(alloc: Global, chip: &View<'_>, number: usize) -> Result<DefectList, NoMemory>
+    ensures { IfOk result
+        (FitsList chip.now.core (place_in chip.now.ranks) (cell_number chip.now.chip) number) }
+{
+    chip.linked();
+    match instance_with(chip, number) {
+        Some(u) => defects(alloc, chip.cell(u)),
+        None => Ok(DefectList::new(alloc)),
+    }
+}
+
+// How many slots there are for this many instances.
+fn slot_count(instances: usize) -> usize
+    ensures { 0 < result }
+{
+    instances
+        .saturating_mul(SLOTS_EACH)
+        .max(FEWEST_SLOTS)
+        .min(MOST_SLOTS)
+}
+
+// Empty slots.
+fn empty_slots(alloc: Global, count: usize) -> Result<Vec<Option<Row>>, NoMemory>
+    ensures count { IfOk result (λ slots. length slots.items ≡ count) }
+    ensures empty { IfOk result (λ slots. All (λ slot. slot ≡ None) slots.items) }
+{
+    let mut slots = Vec::with_capacity(alloc, count)?;
+    for _slot in 0..count {
+        slots.push(None)?;
+    }
+    Ok(slots)
+}
+
+// The slot of a question: a mix of the cell's number and the waves.
+fn slot_of(number: usize, pins: &[Wave], slots: usize) -> usize
+    requires { 0 < slots }
+    ensures { result < slots }
+{
+    let mut mix = number.wrapping_mul(MIX);
+    for pin in pins {
+        let wave = 9 * digit_of(pin.first) + 3 * digit_of(pin.mid) + digit_of(pin.last);
+        mix = mix.wrapping_mul(31).wrapping_add(wave as usize);
+    }
+    (mix.wrapping_mul(MIX) >> 32) % slots
+}
