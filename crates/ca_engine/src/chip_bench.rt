@@ -45,6 +45,7 @@ impl<'a, R: ExposableDefects, P: Choice + Drop> Model for ChipBench<'a, R, P> {
     ghost view = { λ bench. record {
       task = record {
         chip = bench.judge.seen.chip;
+        chip_of = λ place. bench.judge.seen.chip;
         defects = bench.defects;
         budget = bench.search.budget;
       };
@@ -123,6 +124,8 @@ impl<R: ExposableDefects, P: Choice + Drop> Simulator for ChipBench<'_, R, P> {
     ghost bits = { λ bench. bench.bits };
 
     ghost aimed = { λ bench. bench.aimed };
+
+    ghost aimed_in = { λ bench. bench.task.chip };
 
     ghost aims = { λ bench. bench.aims };
 

@@ -1,4 +1,4 @@
-use Rattle.std.proofs.Common.{◌≡◌, ◌<◌, length, Some, sym, subst}
+use Rattle.std.proofs.Common.{◌≡◌, ◌<◌, length, Some, refl, sym, subst}
 use Rattle.std.specs.Prelude.{slice_get}
 use Rattle.ca_view.specs.Linked.{place_in}
 use Rattle.ca_sim.specs.Seen.{IsExact, aimed_anew}
@@ -7,6 +7,9 @@ use Rattle.ca_credit.specs.Detection.{AreDetectedAlike}
 use Rattle.ca_engine.specs.ChipBench.{Benched}
 use Rattle.ca_engine.proofs.BenchLemmas.{same_entry, placed_at, alike_detects}
 use Rattle.ca_engine.proofs.chip_bench.ChipBenchSimulator.is_alike.Goals as goal
+
+pub returns-clause-same_chip : goal.returns-clause-same_chip
+returns-clause-same_chip g c = λ granted. subst (λ (bench : Benched). bench.task.chip_of c.args.place ≡ bench.task.chip) c.self.view_is refl
 
 pub returns-clause-alike : goal.returns-clause-alike
 returns-clause-alike g c one other aimed at granted =

@@ -13,7 +13,7 @@ returns-clause-undetected g c defect at denied =
     let at_inside : slice_get inside.defects c.args.place ≡ Some defect =
     subst (λ (bench : Benched). IsDefectAt bench.task c.args.place defect) (sym c.self.view_is) at in
     let same = same_entry inside.defects c.args.place c.get.result defect c.get.ensures at_inside in
-    subst (λ (bench : Benched). IsShown bench.task.chip defect bench.bits → ⊥) c.self.view_is
+    subst (λ (bench : Benched). IsShown (bench.task.chip_of c.args.place) defect bench.bits → ⊥) c.self.view_is
     (subst (λ d. IsShown inside.judge.seen.chip d inside.judge.seen.pair → ⊥) same
     (c.may_show.ensures.not_shown denied))
 
@@ -23,6 +23,6 @@ returns-clause-allowed g c defect at granted =
     let at_inside : slice_get inside.defects c.args.place ≡ Some defect =
     subst (λ (bench : Benched). IsDefectAt bench.task c.args.place defect) (sym c.self.view_is) at in
     let same = same_entry inside.defects c.args.place c.get.result defect c.get.ensures at_inside in
-    subst (λ (bench : Benched). IsAllowedByRows bench.task.chip defect bench.bits) c.self.view_is
+    subst (λ (bench : Benched). IsAllowedByRows (bench.task.chip_of c.args.place) defect bench.bits) c.self.view_is
     (subst (λ d. IsAllowedByRows inside.judge.seen.chip d inside.judge.seen.pair) same
     (c.may_show.ensures.allowed granted))
