@@ -81,8 +81,8 @@ places-preserved g c =
         | inl low ↦ was.none other low has defect at
         | inr high ↦ elim (cases_lt other c.in-Some.place) [
           | inl low ↦ absurd (next.2 other high low has)
-          | inr past ↦ subst (λ (t : Task). IsAnswer t.chip defect (trits_of c.args.pair.now) None) was.task
-              (subst (λ (b : List Trit). IsAnswer (g.S.Simulator.task c.places.sim).chip defect b None) was.bits
+          | inr past ↦ subst (λ (t : Task). IsAnswer (t.chip_of other) defect (trits_of c.args.pair.now) None) was.task
+              (subst (λ (b : List Trit). IsAnswer ((g.S.Simulator.task c.places.sim).chip_of other) defect b None) was.bits
               (over.undetected other defect past below (subst (λ (t : Task). IsDefectAt t other defect) (sym was.task) at)))
         ]
       ];

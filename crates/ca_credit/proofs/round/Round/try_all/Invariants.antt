@@ -15,7 +15,7 @@ invariant-places g l = record {
   tried : IsTried (g.S.Simulator.task l.fn.sim) l.pair l.number l.self.left l.fn.self.verdicts.items l.self.verdicts.items;
   none : (place : ℕ) → place < l.from → Has l.self.left place → (defect : ChipDefect)
       → IsDefectAt (g.S.Simulator.task l.fn.sim) place defect
-      → IsAnswer (g.S.Simulator.task l.fn.sim).chip defect (trits_of l.pair) None;
+      → IsAnswer ((g.S.Simulator.task l.fn.sim).chip_of place) defect (trits_of l.pair) None;
   within : l.from ≤ length l.fn.self.verdicts.items;
   stands : IsRound l.self;
   counted : credit_count l.self.verdicts.items ≡ credit_count l.fn.self.verdicts.items + l.credited;
