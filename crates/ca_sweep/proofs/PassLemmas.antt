@@ -45,7 +45,7 @@ passed_is_undetected swept filled flipped unflipped chip rank defect pair pins g
 
 -- the codes of the row in a slot are those of the cell
 pub codes_in : (raw : RawCell) (pins : List Wave) (slot : Option Row) (codes : List ℕ) → IsRowOf raw pins slot → AreCodesIn slot codes → AreCodes raw pins codes
-codes_in raw pins None codes is are k defect within at = let none : length codes ≡ 0 = ap (λ (l : List ℕ). length l) are in absurd (omega arith)
+codes_in raw pins None codes is are = λ k defect within at. let none : length codes ≡ 0 = ap (λ (l : List ℕ). length l) are in absurd (omega arith)
 codes_in raw pins (Some row) codes is are = subst (AreCodes raw pins) (sym are) is
 
 -- so is a defect of this instance

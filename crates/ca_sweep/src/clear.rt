@@ -87,6 +87,21 @@ fn unmark(marks: &mut Vec<bool>)
 
 ghost use Rattle.ca_sweep.specs.code.Kept.{is_marked};
 
+// Whether the cell of an instance is static, if it has a place.
+fn is_static_at(chip: &View<'_>, tables: &Tables, u: usize) -> bool
+    requires known { u < count_of chip.now.core }
+    requires tables { AreTables chip.now.core (place_in chip.now.ranks) (cell_number chip.now.chip)
+        tables.now.items }
+    ensures { IsTrue result → IsPlaced chip.now.core (place_in chip.now.ranks) u
+        → IsStatic (cell_at chip.now.core u) }
+{
+    chip.linked();
+    if chip.rank(u) == 0 {
+        return true;
+    }
+    tables[chip.number(u)].is_some()
+}
+
 /// Whether the cells of all instances with a place are static.
 pub(crate) fn are_all_static(chip: &View<'_>, tables: &Tables) -> bool
     requires { AreTables chip.now.core (place_in chip.now.ranks) (cell_number chip.now.chip)
@@ -95,13 +110,15 @@ pub(crate) fn are_all_static(chip: &View<'_>, tables: &Tables) -> bool
 {
     chip.linked();
     for u in 0..chip.instances() {
-        if chip.rank(u) > 0 && tables[chip.number(u)].is_none() {
+        if !is_static_at(chip, tables, u) {
             return false;
         }
     }
     true
 }
 
+ghost use Rattle.ca_flat.specs.Chip.{cell_at};
+ghost use Rattle.ca_flips.specs.Static.{IsStatic};
 ghost use Rattle.std.specs.Prelude.{◌≢◌};
 ghost use Rattle.ca_net.specs.declared.trit.Trit.TheVariants.{X};
 ghost use Rattle.ca_sweep.specs.code.Kept.{AreAllStatic};

@@ -21,7 +21,7 @@ invariant_of-result c = record {
   firsts_are = subst (λ n. AreFirsts c.args.outputs.items n c.in_ok-firsts.firsts.items) c.nets.ensures
       (subst (λ list. AreFirsts list c.nets.result c.in_ok-firsts.firsts.items) c.deref.ensures.value c.in_ok-firsts.ensures);
   tables_are = c.in_ok-tables.ensures;
-  all_static = c.are_all_static.ensures;
+  all_static = c.are_all_static-is_static.ensures;
   order_is = c.in_ok-order_of.ensures;
   nets = search rules;
   clear_are = marks_new c.args.chip.now.core (IsClear c.args.chip.now.core (value_at c.in_ok-unknown.field-0)) c.in_ok-vec.field-0.items c.instances.result
