@@ -1,0 +1,76 @@
+//! Test generation on a chip: the counts, the report with numbers of outputs, and the pairs.
+use ca_credit::Verdict;
+use rstd::Global;
+use std::io::Write;
+
+fn bytes(text: Result<ca_lex::Text, ca_base::NoMemory>) -> std::vec::Vec<u8> {
+    text.ok().unwrap().as_bytes().to_vec()
+}
+
+fn main() {
+    let words: std::vec::Vec<String> = std::env::args().collect();
+    let alloc = Global;
+    let (cells, netlist) = if words[1] == "make" {
+        let number = words[2].parse().unwrap();
+        (bytes(ca_make::library(alloc)), bytes(ca_make::netlist(alloc, number)))
+    } else {
+        (std::fs::read(&words[1]).unwrap(), std::fs::read(&words[2]).unwrap())
+    };
+    let table = ca_cell::StrengthTable::default_table();
+    let library = ca_spice::read_library(alloc, &table, &cells).ok().expect("cells");
+    let read = ca_verilog::read_netlist(alloc, &netlist).ok().expect("netlist");
+    let mut scan = ca_base::List::new(alloc);
+    if words[1] != "make" && words[3] != "-" {
+        let text = |name: &str| ca_lex::Text::from_bytes(alloc, name.as_bytes()).ok().unwrap();
+        let row = ca_wiring::ScanRow {
+            cell: text("SFF"),
+            d: text("D"),
+            q: text("Q"),
+            qn: text("QN"),
+            si: text("SI"),
+            so: text("SO"),
+            se: text("SE"),
+            ck: text("CK"),
+            hold: text("HOLD"),
+        };
+        scan.push(row).ok().unwrap();
+    }
+    let chip = ca_link::link(alloc, &read, library, &scan).ok().expect("link");
+    let budget = words[4].parse().unwrap();
+    let start = std::time::Instant::now();
+    let made = ca_engine::generate_chip(alloc, &chip, budget, &mut ca_generate::Unwatched);
+    let made = made.ok().expect("generate");
+    let seconds = start.elapsed().as_secs_f64();
+    let view = ca_view::View::new(alloc, &chip).ok().unwrap();
+    let defects = ca_chip_defects::chip_defects(alloc, &view).ok().unwrap();
+    let file = std::fs::File::create(words.get(5).map_or("/dev/null", |it| it)).unwrap();
+    let mut report = std::io::BufWriter::new(file);
+    let mut counts = [0usize; 4];
+    for place in 0..made.verdicts.len() {
+        let defect = defects.get(place);
+        let cell = view.cell(defect.instance as usize);
+        let name = bytes(ca_defect::name(alloc, cell, defect.defect));
+        let u = ca_linked::InstanceId(defect.instance);
+        let (kind, said) = match made.verdicts.get(place) {
+            Verdict::Credited { pair, output } => (0, format!("credited,{pair},{output}")),
+            Verdict::Unexposable => (1, "unexposable,,".into()),
+            Verdict::Untestable => (2, "untestable,,".into()),
+            Verdict::Aborted { .. } => (3, "aborted,,".into()),
+        };
+        counts[kind] += 1;
+        let text = |name: &[u8]| String::from_utf8_lossy(name).into_owned();
+        let instance = text(chip.instance_name(u).as_bytes());
+        let of = text(chip.cell_name(u).as_bytes());
+        writeln!(report, "{instance},{of},{},{said}", text(&name)).unwrap();
+    }
+    println!(
+        "defects {}, credited {}, unexposable {}, untestable {}, aborted {}, pairs {}, seconds {seconds:.2}",
+        made.verdicts.len(), counts[0], counts[1], counts[2], counts[3], made.pairs.as_slice().len()
+    );
+    if words.get(6).is_some() {
+        for pair in made.pairs.as_slice() {
+            let bits: String = (0..pair.len()).map(|bit| if pair.get(bit) { '1' } else { '0' }).collect();
+            println!("{bits}");
+        }
+    }
+}
