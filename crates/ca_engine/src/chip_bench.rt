@@ -43,11 +43,9 @@ impl<'a, R: ExposableDefects, P: Choice + Drop> Model for ChipBench<'a, R, P> {
     ghost Value = { Benched };
 
     ghost view = { λ bench. record {
-      task = record {
-        chip = bench.judge.seen.chip;
-        defects = bench.defects;
-        budget = bench.search.budget;
-      };
+      chip = bench.judge.seen.chip;
+      defects = bench.defects;
+      budget = bench.search.budget;
       bits = bench.judge.seen.pair;
       aimed = bench.judge.seen.aim;
       code = bench.search.code;
@@ -61,7 +59,7 @@ impl<'a, R: ExposableDefects, P: Choice + Drop> Model for ChipBench<'a, R, P> {
 }
 
 impl<'a, R: ExposableDefects, P: Choice + Drop> ChipBench<'a, R, P> {
-    ghost use Rattle.ca_engine.specs.ChipBench.{IsUnused};
+    ghost use Rattle.ca_engine.specs.ChipBench.{IsUnused, task_in};
 
     /// The bench of a linked chip. Its task is to search for each defect of a library instance, with at most
     /// `budget` branches. No bit is set, and no defect is aimed at. Also answers out of memory for a
@@ -76,8 +74,8 @@ impl<'a, R: ExposableDefects, P: Choice + Drop> ChipBench<'a, R, P> {
         budget: u32,
     ) -> Result<Self, NoMemory>
         requires { R.chip rows.now ≡ view.now.core }
-        ensures task { IfOk result (λ bench. bench.task ≡ task_of view.now.chip budget) }
-        ensures few { IfOk result (λ bench. length bench.task.defects < 2 ^ 32) }
+        ensures task { IfOk result (λ bench. task_in bench ≡ task_of view.now.chip budget) }
+        ensures few { IfOk result (λ bench. length bench.defects < 2 ^ 32) }
         ensures unused { IfOk result IsUnused }
     {
         view.viewed();
@@ -118,11 +116,15 @@ impl<'a, R: ExposableDefects, P: Choice + Drop> ChipBench<'a, R, P> {
 }
 
 impl<R: ExposableDefects, P: Choice + Drop> Simulator for ChipBench<'_, R, P> {
-    ghost task = { λ bench. bench.task };
+    ghost use Rattle.ca_engine.specs.ChipBench.{task_in};
+
+    ghost task = { λ bench. task_in bench };
 
     ghost bits = { λ bench. bench.bits };
 
     ghost aimed = { λ bench. bench.aimed };
+
+    ghost aimed_in = { λ bench. bench.chip };
 
     ghost aims = { λ bench. bench.aims };
 

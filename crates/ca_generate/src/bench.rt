@@ -22,13 +22,14 @@ pub trait Bench: Simulator {
     fn is_exposable(&self, place: usize) -> bool
         requires { place < length (Self.task self.now).defects }
         ensures { (defect : ChipDefect) → IsDefectAt (Self.task self.now) place defect
-            → IsTrue result ↔ IsExposableIn (Self.task self.now).chip defect };
+            → IsTrue result ↔ IsExposableIn ((Self.task self.now).chip_of place) defect };
 
     /// Searches for a partial pair that shows the defect that is aimed at. Afterwards the bits are those of
     /// the partial pair at which the search has ended.
     fn find(&mut self) -> Outcome
         ensures searched { (defect : ChipDefect) → Self.aimed self.old ≡ Some defect
-            → IsSearch (Self.task self.old) defect (code self.new) (Self.bits self.new) result }
+            → IsSearch (Self.aimed_in self.old) (Self.task self.old).budget defect (code self.new)
+            (Self.bits self.new) result }
         ensures task { Self.task self.new ≡ Self.task self.old };
 
     /// The number of pattern bits.

@@ -1,4 +1,4 @@
-use Rattle.std.proofs.Common.{refl, ◌∙◌, ap, subst, arith}
+use Rattle.std.proofs.Common.{ℕ, refl, ◌∙◌, ap, subst, arith}
 use Rattle.std.specs.Prelude.{Option}
 use Rattle.ca_linked.specs.Linked as linked
 use Rattle.ca_linked.specs.Instances.{gates_of}
@@ -34,7 +34,7 @@ returns-clause-task g c =
     let view = c.args.view.now in
     let core_is = c.viewed.ensures.is_view.core_is in
     let fresh = c.in_ok-judge.ensures {u = tt} in
-    task_ext _ (task_of view.chip c.args.budget) (fresh.chip_is ∙ core_is)
+    task_ext _ (task_of view.chip c.args.budget) (fresh.chip_is ∙ core_is) (ap {B = ℕ → Chip} (λ core place. core) (fresh.chip_is ∙ core_is))
     (c.in_ok-defects.ensures.exact ∙ ap (λ (core : Chip). chip_defects core (gates_of view.chip)) core_is)
     (c.in_ok-search.ensures {u = tt})
 
