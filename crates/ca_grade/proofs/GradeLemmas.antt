@@ -12,8 +12,7 @@ use Rattle.ca_credit.specs.declared.verdict.Verdict.{Verdict}
 use Rattle.ca_credit.specs.declared.verdict.Verdict.TheVariants as verdict
 use Rattle.ca_credit.specs.Defects.{Task}
 use Rattle.ca_credit.specs.Detection.{Detects, NoneDetects, IsFirstOutput}
-use Rattle.ca_credit.specs.Table.{verdict_at, IsAfterPair, CreditsPair, CreditsBlock}
-use Rattle.ca_credit.specs.Table.CreditsBlock.{Begins, Credits}
+use Rattle.ca_credit.specs.Table.{verdict_at, IsAfterPair, CreditsPair}
 use Rattle.ca_grade.specs.declared.grade.Grade.{Grade}
 use Rattle.ca_grade.specs.Graded.{IsGrade, AreGraded}
 use Rattle.ca_grade.specs.code.Table.{grade_of, IsVerdictAfter, AreVerdictsAfter, AreMarkedUpTo}
@@ -54,7 +53,7 @@ step chip pairs n pair defect (Some verdict.Unexposable) new at before after =
 step chip pairs n pair defect (Some verdict.Untestable) new at before after = absurd before
 step chip pairs n pair defect (Some (verdict.Aborted code)) new at before after = absurd before
 
--- what one more pair makes of the table, and what a block does
+-- what one more pair makes of the table
 pub after_pair : (task : Task) (pairs : List (List Bool)) (n : ℕ) (pair : List Bool) (old new : List (Option Verdict))
     → slice_get pairs n ≡ Some pair → AreVerdictsAfter task pairs n old → CreditsPair task pair n old new
     → AreVerdictsAfter task pairs (n + 1) new
@@ -66,16 +65,6 @@ after_pair task pairs n pair old new at before credits = record {
       step (task.chip_of place) pairs n pair defect (verdict_at old place) (verdict_at new place) at (before.each place defect is)
       (credits.each place defect below is);
 }
-
-pub after_block : (task : Task) (pairs : List (List Bool)) (from : ℕ) (old : List (Option Verdict)) (count : ℕ)
-    (new : List (Option Verdict)) → AreVerdictsAfter task pairs from old → CreditsBlock task pairs from old count new
-    → AreVerdictsAfter task pairs (from + count) new
-after_block task pairs from old _ _ before Begins =
-    let same : from ≡ from + 0 = omega arith in subst (λ n. AreVerdictsAfter task pairs n old) same before
-after_block task pairs from old _ new before (Credits count pair middle _ block at credits) =
-    let so_far = after_block task pairs from old count middle before block in
-    let same : from + count + 1 ≡ from + (count + 1) = omega arith in
-    subst (λ n. AreVerdictsAfter task pairs n new) same (after_pair task pairs (from + count) pair middle new at so_far credits)
 
 -- no pair was credited yet
 pub at_first : (task : Task) (pairs : List (List Bool)) (count : ℕ) (table : List (Option Verdict)) → length task.defects ≤ count
