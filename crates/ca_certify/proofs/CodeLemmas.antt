@@ -1,9 +1,8 @@
 -- What the codes of searches are to claims, and that a search for an untestable defect finds nothing.
-use Rattle.std.proofs.Common.{◌≡◌, ℕ, ◌+◌, ◌<◌, ◌≤◌, ◌⊎◌, List, [], ◌∷◌, ◌++◌, length, take, Option, Some, None, inl, inr, refl, sym, ◌∙◌, ap, subst, arith, add-one}
-use Rattle.std.proofs.Math.Seq.{take-suc}
+use Rattle.std.proofs.Common.{◌≡◌, ℕ, ◌+◌, ◌<◌, ◌≤◌, ◌⊎◌, List, [], ◌∷◌, ◌++◌, length, Option, Some, None, inl, inr, refl, sym, ◌∙◌, ap, subst, arith}
 use Rattle.std.specs.Prelude.{All, slice_get, IsSomeAnd}
 use Rattle.std.proofs.lemmas.List.Elements.{All-nil, All-cons}
-use Rattle.std.proofs.lemmas.Option.{slice_get_within, get_or_from_slice_get}
+use Rattle.std.proofs.lemmas.Option.{slice_get_within}
 use Rattle.ca_code.specs.declared.token.TheConstants.{MOST_PATTERN_BITS}
 use Rattle.ca_code.specs.Tokens.{IsNarrow}
 use Rattle.ca_flat.specs.declared.chip_defect.ChipDefect.{ChipDefect}
@@ -43,16 +42,6 @@ search_codes_are_claimed_lem chip defect code = record {
     goes_on = spent.goes_on.may;
   };
 }
-
--- a code that is the same so far is so with the next token
-pub copied_next : (copy old code : List Token) (place : ℕ) (token : Token) → old ≡ take place code → slice_get code place ≡ Some token
-    → copy ≡ old ++ token ∷ [] → copy ≡ take (place + 1) code
-copied_next copy old code place token so_far at grown =
-    let below = slice_get_within code place token at in
-    let here = get_or_from_slice_get code place token token at in
-    grown ∙ ap (λ (front : List Token). front ++ token ∷ []) so_far
-    ∙ ap (λ (last : Token). take place code ++ last ∷ []) (sym here)
-    ∙ sym (take-suc code place token below) ∙ ap (λ (n : ℕ). take n code) (sym (add-one place))
 
 -- a bit of the support is one of the chip
 support_within : (chip : Chip) (defect : ChipDefect) (bit : ℕ) → IsSupportBit chip defect bit → bit < bit_count chip
