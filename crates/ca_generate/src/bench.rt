@@ -58,7 +58,7 @@ pub trait PartialBench: Bench {
         requires { bit < length (Self.bits self.now) }
         ensures { result ≡ value_at (Self.bits self.now) bit };
 
-    /// Sets the bits that aren't X, and no other. The aim stays.
+    /// Sets the bits that aren't X, and no other. The aim stays, and so does the code of the last search.
     fn load_partial(&mut self, bits: &State)
         requires { length bits.now ≡ bit_count (Self.task self.old).chip }
 
@@ -66,5 +66,6 @@ pub trait PartialBench: Bench {
         ensures bits { Self.bits self.new ≡ bits.now }
         ensures aimed { Self.aimed self.new ≡ Self.aimed self.old }
         ensures aimed_in { Self.aimed_in self.new ≡ Self.aimed_in self.old }
-        ensures aims { Self.aims self.new ≡ Self.aims self.old };
+        ensures aims { Self.aims self.new ≡ Self.aims self.old }
+        ensures code { Self.code self.new ≡ Self.code self.old };
 }
