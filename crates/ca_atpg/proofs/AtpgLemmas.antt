@@ -19,9 +19,9 @@ use Rattle.ca_scan.specs.ChainFault.{AreAllChains}
 use Rattle.ca_search.specs.Filled.{trits_of}
 use Rattle.ca_credit.specs.declared.verdict.Verdict.{Verdict}
 use Rattle.ca_credit.specs.declared.verdict.Verdict.TheVariants.{Credited, Unexposable, Untestable, Aborted}
-use Rattle.ca_credit.specs.Defects.{Task}
 use Rattle.ca_credit.specs.Detection.{IsFirstOutput}
 use Rattle.ca_credit.specs.Good.{IsGood}
+use Rattle.ca_credit.proofs.DetectionLemmas.{own_targets}
 use Rattle.ca_view.specs.View.{Viewed, IsViewOf}
 use Rattle.ca_view.proofs.LinkedLemmas.{placed_is_library}
 use Rattle.ca_expected.specs.Expected.{AreExpected}
@@ -39,14 +39,9 @@ on_ok (Ok x) P Q h is = h x is
 on_ok (Err e) P Q h is = tt
 
 -- the pairs of good work have all pattern bits of the chip
-pub pairs_fit : (task : Task) (pairs : List (List Bool)) (aims : List ℕ) (verdicts : List Verdict) → IsGood task pairs aims verdicts
-    → All (λ pair. length pair ≡ bit_count task.chip) pairs
-pairs_fit task pairs aims verdicts good = pairs_whole task pairs aims good.aims_are
-
--- so have those of the chip's
 pub task_pairs_fit : (chip : LinkedChip) (budget : ℕ) (pairs : List (List Bool)) (aims : List ℕ) (verdicts : List Verdict)
     → IsGood (task_of chip budget) pairs aims verdicts → All (λ pair. length pair ≡ bit_count (core_of chip)) pairs
-task_pairs_fit chip budget pairs aims verdicts good = pairs_whole (task_of chip budget) pairs aims good.aims_are
+task_pairs_fit chip budget pairs aims verdicts good = pairs_whole (task_of chip budget) pairs aims (own_targets (task_of chip budget) refl) good.aims_are
 
 -- there is a verdict for each defect
 pub one_verdict_each : (chip : LinkedChip) (budget : ℕ) (pairs : List (List Bool)) (aims : List ℕ) (verdicts : List Verdict)

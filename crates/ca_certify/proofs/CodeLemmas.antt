@@ -1,10 +1,8 @@
 -- What the codes of searches are to claims, and that a search for an untestable defect finds nothing.
-use Rattle.std.proofs.Common.{◌≡◌, ℕ, ◌+◌, ◌*◌, ◌<◌, ◌≤◌, ◌⊎◌, List, [], ◌∷◌, ◌++◌, length, take, get_or, Option, Some, None, inl, inr, refl, sym, ◌∙◌, ap, subst, arith, add-one}
-use Rattle.std.proofs.Math.Seq.{take-suc}
+use Rattle.std.proofs.Common.{◌≡◌, ℕ, ◌+◌, ◌<◌, ◌≤◌, ◌⊎◌, List, [], ◌∷◌, ◌++◌, length, Option, Some, None, inl, inr, refl, sym, ◌∙◌, ap, subst, arith}
 use Rattle.std.specs.Prelude.{All, slice_get, IsSomeAnd}
 use Rattle.std.proofs.lemmas.List.Elements.{All-nil, All-cons}
-use Rattle.std.proofs.lemmas.Option.{slice_get_within, get_or_from_slice_get}
-use Rattle.ca_net.specs.declared.trit.Trit.{Trit}
+use Rattle.std.proofs.lemmas.Option.{slice_get_within}
 use Rattle.ca_code.specs.declared.token.TheConstants.{MOST_PATTERN_BITS}
 use Rattle.ca_code.specs.Tokens.{IsNarrow}
 use Rattle.ca_flat.specs.declared.chip_defect.ChipDefect.{ChipDefect}
@@ -21,7 +19,7 @@ use Rattle.ca_search.specs.Judged.{Judged, IsSameAim, with_pair}
 use Rattle.ca_search.specs.Outcome.{IsOutcome}
 use Rattle.ca_search.specs.Filled.{filled}
 use Rattle.ca_search.proofs.RuleLemmas.{search_codes_are_codes_lem}
-use Rattle.ca_credit.specs.Defects.{Task, IsSearchable}
+use Rattle.ca_credit.specs.Defects.{IsSearchable}
 use Rattle.ca_generate.specs.Laws.{judged_for}
 use Rattle.ca_generate.proofs.SearchLemmas.{outcome_is_search_lem}
 use Rattle.ca_generate.proofs.FoundLemmas.{found_detects, length-found, found_pair}
@@ -44,16 +42,6 @@ search_codes_are_claimed_lem chip defect code = record {
     goes_on = spent.goes_on.may;
   };
 }
-
--- a code that is the same so far is so with the next token
-pub copied_next : (copy old code : List Token) (place : ℕ) (token : Token) → old ≡ take place code → slice_get code place ≡ Some token
-    → copy ≡ old ++ token ∷ [] → copy ≡ take (place + 1) code
-copied_next copy old code place token so_far at grown =
-    let below = slice_get_within code place token at in
-    let here = get_or_from_slice_get code place token token at in
-    grown ∙ ap (λ (front : List Token). front ++ token ∷ []) so_far
-    ∙ ap (λ (last : Token). take place code ++ last ∷ []) (sym here)
-    ∙ sym (take-suc code place token below) ∙ ap (λ (n : ℕ). take n code) (sym (add-one place))
 
 -- a bit of the support is one of the chip
 support_within : (chip : Chip) (defect : ChipDefect) (bit : ℕ) → IsSupportBit chip defect bit → bit < bit_count chip
@@ -82,14 +70,14 @@ narrow_tokens chip defect (Branch bit first ∷ code) (At pair later) to few rea
 pub nothing_found : (judged : Judged) (budget : ℕ) (code : List Token) (defect : ChipDefect) → judged.aim ≡ Some defect
     → IsHopeless judged.chip defect → branch_count code ≤ budget → IsOutcome judged budget code Found → ⊥
 nothing_found judged budget code defect aimed known within outcome =
-    let task : Task = record { chip = judged.chip; defects = []; budget = budget } in
-    let here : IsOutcome (judged_for task judged.places defect judged.pair) budget code Found =
+    let chip = judged.chip in
+    let here : IsOutcome (judged_for chip judged.places defect judged.pair) budget code Found =
     subst (λ (aim : Option ChipDefect). IsOutcome (record { chip = judged.chip; places = judged.places; aim = aim; pair = judged.pair })
     budget code Found) aimed outcome in
-    let search = outcome_is_search_lem task judged.places defect code judged.pair Found known.searchable within here in
-    let found = found_pair task defect code judged.pair (filled judged.pair) search refl in
-    known.untestable (filled judged.pair) (length-found task defect (filled judged.pair) found)
-    (found_detects task defect (filled judged.pair) found)
+    let search = outcome_is_search_lem chip budget judged.places defect code judged.pair Found known.searchable within here in
+    let found = found_pair chip budget defect code judged.pair (filled judged.pair) search refl in
+    known.untestable (filled judged.pair) (length-found chip budget defect (filled judged.pair) found)
+    (found_detects chip budget defect (filled judged.pair) found)
 
 module _ (judged : Judged) (budget : ℕ) (code : List Token) (defect : ChipDefect) (aimed : judged.aim ≡ Some defect) where
   -- a search that came to an end proves its claim

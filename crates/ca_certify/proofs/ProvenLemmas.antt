@@ -3,7 +3,7 @@ use Rattle.std.proofs.Common.{◌≡◌, ℕ, Option, Some, sym, ◌∙◌, ap, 
 use Rattle.std.specs.Prelude.{IsSomeAnd, Result, IfOk}
 use Rattle.std.proofs.lemmas.Result.{IfOk-weaker}
 use Rattle.ca_flat.specs.declared.chip_defect.ChipDefect.{ChipDefect}
-use Rattle.ca_flat.specs.Chip.{Chip, IsDefectIn}
+use Rattle.ca_flat.specs.Chip.{Chip}
 use Rattle.ca_sim.specs.Simulator.{Simulator, KeepsChip}
 use Rattle.ca_search.specs.Judged.{Judged, IsSameAim}
 use Rattle.ca_judge.specs.ChipJudge.{judged_of}

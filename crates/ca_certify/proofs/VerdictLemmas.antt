@@ -1,28 +1,25 @@
 -- What good verdicts make of claims.
-use Rattle.std.proofs.Common.{◌≡◌, ℕ, zero, suc, ◌<◌, ◌≤◌, ◌⊎◌, Bool, List, [], ◌∷◌, ◌++◌, length, length-append, map, Option, Some, None, inl, inr, refl, sym, ◌∙◌, ap, subst, arith, get_or}
-use Rattle.std.specs.Prelude.{All, slice_get, option_map}
+use Rattle.std.proofs.Common.{◌≡◌, ℕ, zero, suc, ◌<◌, ◌≤◌, ◌⊎◌, Bool, List, [], ◌∷◌, ◌++◌, length, length-append, Option, Some, inl, inr, refl, sym, ◌∙◌, ap, subst, arith, get_or}
+use Rattle.std.specs.Prelude.{slice_get, option_map}
 use Rattle.std.proofs.lemmas.List.{length-map}
 use Rattle.std.proofs.lemmas.List.Elements.{All-get_or, All-from_get_or}
-use Rattle.std.proofs.lemmas.Option.{slice_get-map, slice_get_within, slice_get-get_or}
+use Rattle.std.proofs.lemmas.Option.{slice_get-map, slice_get_within}
 use Rattle.ca_code.specs.declared.token.TheConstants.{MOST_PATTERN_BITS}
 use Rattle.ca_flat.specs.declared.chip_defect.ChipDefect.{ChipDefect}
 use Rattle.ca_flat.specs.declared.token.Token.{Token}
 use Rattle.ca_flat.specs.Chip.{Chip}
 use Rattle.ca_flat.specs.Pair.{bit_count}
-use Rattle.ca_flat.specs.Codes.{IsSpentBy, At, unset_pair}
-use Rattle.ca_search.specs.SearchRules.{search_rules}
-use Rattle.ca_search.proofs.RuleLemmas.{search_codes_are_codes_lem}
+use Rattle.ca_flat.specs.Codes.{At, unset_pair}
 use Rattle.ca_credit.specs.declared.verdict.Verdict.{Verdict}
 use Rattle.ca_credit.specs.declared.verdict.Verdict.TheVariants as verdict
-use Rattle.ca_credit.specs.Defects.{Task, IsDefectAt, IsExposableIn, IsSearchable}
+use Rattle.ca_credit.specs.Defects.{Task, IsOfOneChip, IsDefectAt, IsExposableIn}
 use Rattle.ca_credit.specs.Detection.{Detects, NoneDetects, IsUntestable}
-use Rattle.ca_credit.specs.Good.{HasVerdict, IsGood, IsNeeded, IsCreditedTo, IsAmple}
+use Rattle.ca_credit.specs.Good.{HasVerdict, IsGood, IsCreditedTo}
+use Rattle.ca_credit.proofs.DetectionLemmas.{own_targets}
 use Rattle.ca_expected.proofs.WholeLemmas.{pairs_whole}
 use Rattle.ca_claim.specs.declared.claim.Claim.{Claim}
 use Rattle.ca_claim.specs.declared.claim.Claim.TheVariants.{Credited, Unexposable, Untestable, Aborted}
-use Rattle.ca_claim.specs.declared.certificate.Answer.{Answer}
 use Rattle.ca_claim.specs.declared.certificate.Answer.TheVariants.{Yes, No}
-use Rattle.ca_claim.specs.Laws.{HasClaim}
 use Rattle.ca_claim.specs.Stands.{Stands, IsProvenUntestable}
 use Rattle.ca_claim.proofs.TrueLemmas.{one_entry}
 use Rattle.ca_certify.specs.Verdicts.{verdict_of, verdicts_of}
@@ -47,12 +44,22 @@ pub standing_is_yes_lem : StandingIsYes
 standing_is_yes_lem chip defects pairs budget claims Yes stand is = refl
 standing_is_yes_lem chip defects pairs budget claims (No defect) stand is = absurd (is.falls (stand defect is.within))
 
-pub good_claims_stand_lem : GoodClaimsStand
-good_claims_stand_lem task pairs aims claims good proven place within =
+-- a task of one chip
+abbrev pub own_task : Chip → List ChipDefect → ℕ → Task
+own_task chip defects budget = record { chip = chip; chip_of = λ place. chip; defects = defects; budget = budget }
+
+one_task : (task : Task) → IsOfOneChip task → task ≡ own_task task.chip task.defects task.budget
+one_task task one =
+    ap (λ (of : ℕ → Chip). let made : Task = record { chip = task.chip; chip_of = of; defects = task.defects; budget = task.budget } in made) one
+
+own_claims_stand : (chip : Chip) (defects : List ChipDefect) (budget : ℕ) (pairs : List (List Bool)) (aims : List ℕ) (claims : List Claim)
+    → IsGood (own_task chip defects budget) pairs aims (verdicts_of claims) → AreProven (own_task chip defects budget) claims
+    → AllStand (own_task chip defects budget) pairs claims
+own_claims_stand chip defects budget pairs aims claims good proven place within =
     let claim = some_at claims place within in
     let counted = length-map claims verdict_of in
     let one_each = good.one_each in
-    let defect = some_at task.defects place (omega (arith, counted, one_each, within)) in
+    let defect = some_at defects place (omega (arith, counted, one_each, within)) in
     record {
       defect = defect.0;
       is_defect = defect.1;
@@ -61,22 +68,27 @@ good_claims_stand_lem task pairs aims claims good proven place within =
       stands = by claim.0 defect.0 defect.1 claim.1;
     }
   where
-    by : (claim : Claim) (defect : ChipDefect) → IsDefectAt task place defect → slice_get claims place ≡ Some claim
-        → Stands task.chip pairs task.budget defect claim
+    by : (claim : Claim) (defect : ChipDefect) → slice_get defects place ≡ Some defect → slice_get claims place ≡ Some claim
+        → Stands chip pairs budget defect claim
     by (Credited pair output) defect at is = good.credited place pair output defect
         (record { is_defect = at; is_verdict = verdict_there claims place (Credited pair output) is })
     by Unexposable defect at is = good.unexposable place defect
         (record { is_defect = at; is_verdict = verdict_there claims place Unexposable is })
     by (Untestable code) defect at is = proven place defect code (record { is_defect = at; is_claim = is })
     by (Aborted code) defect at is =
-        let has : HasVerdict task (verdicts_of claims) place defect (verdict.Aborted code) =
+        let has : HasVerdict (own_task chip defects budget) (verdicts_of claims) place defect (verdict.Aborted code) =
         record { is_defect = at; is_verdict = verdict_there claims place (Aborted code) is } in
         let rightly = good.aborted place defect code has in
         record {
           exposable = rightly.exposable;
           undetected = rightly.undetected;
-          spent = (search_codes_are_claimed_lem task.chip defect code).spent task.budget (good.checked place defect code has);
+          spent = (search_codes_are_claimed_lem chip defect code).spent budget (good.checked place defect code has);
         }
+
+pub good_claims_stand_lem : GoodClaimsStand
+good_claims_stand_lem task pairs aims claims one good proven =
+    own_claims_stand task.chip task.defects task.budget pairs aims claims
+    (subst (λ (t : Task). IsGood t pairs aims (verdicts_of claims)) (one_task task one) good) proven
 
 -- the defect was called untestable, and the search for its code spent the budget
 record IsNowAborted (task : Task) (verdicts : List Verdict) (place : ℕ) (defect : ChipDefect) (now : Verdict) : Type 0 where
@@ -86,9 +98,12 @@ record IsNowAborted (task : Task) (verdicts : List Verdict) (place : ℕ) (defec
   pub exposable : IsExposableIn task.chip defect
   pub spent : IsSpentSearch task.chip task.budget defect code
 
-module _ (task : Task) (pairs : List (List Bool)) (aims : List ℕ) (verdicts : List Verdict) (claims : List Claim)
-    (good : IsGood task pairs aims verdicts) (counted : length claims ≡ length verdicts)
-    (are : AreClaimsOn task.chip task.budget task.defects verdicts claims) where
+module _ (chip : Chip) (defects : List ChipDefect) (budget : ℕ) (pairs : List (List Bool)) (aims : List ℕ) (verdicts : List Verdict) (claims : List Claim)
+    (good : IsGood (own_task chip defects budget) pairs aims verdicts) (counted : length claims ≡ length verdicts)
+    (are : AreClaimsOn chip budget defects verdicts claims) where
+  abbrev task : Task
+  task = own_task chip defects budget
+
   -- what the verdict was, of which a claim gives this one
   claim_was : (place : ℕ) (defect : ChipDefect) (old : Verdict) (claim : Claim) → IsDefectAt task place defect
       → slice_get verdicts place ≡ Some old → IsClaimOn task.chip task.budget defect old claim
@@ -165,7 +180,7 @@ module _ (task : Task) (pairs : List (List Bool)) (aims : List ℕ) (verdicts : 
 
   undetected : (defect : ChipDefect) → IsUntestable task.chip defect → NoneDetects task.chip defect pairs
   undetected defect none = All-from_get_or (λ pair. ¬ (Detects task.chip defect pair)) pairs [] (λ k within.
-      none (get_or pairs k []) (All-get_or (λ pair. length pair ≡ bit_count task.chip) pairs k [] within (pairs_whole task pairs aims good.aims_are)))
+      none (get_or pairs k []) (All-get_or (λ pair. length pair ≡ bit_count task.chip) pairs k [] within (pairs_whole task pairs aims (own_targets task refl) good.aims_are)))
 
   -- the verdicts that the claims give are good
   pub claimed_good : IsGood task pairs aims (verdicts_of claims)
@@ -228,22 +243,22 @@ module _ (task : Task) (pairs : List (List Bool)) (aims : List ℕ) (verdicts : 
       }
 
   pub claimed_stand : AllStand task pairs claims
-  claimed_stand = good_claims_stand_lem task pairs aims claims claimed_good claimed_proven
+  claimed_stand = own_claims_stand chip defects budget pairs aims claims claimed_good claimed_proven
 
 -- what good verdicts say of each defect
-pub good_are_known : (task : Task) (pairs : List (List Bool)) (aims : List ℕ) (verdicts : List Verdict) → bit_count task.chip ≤ MOST_PATTERN_BITS
-    → IsGood task pairs aims verdicts → AreKnown task.chip task.defects verdicts
-good_are_known task pairs aims verdicts few good place defect (verdict.Credited pair output) at is = tt
-good_are_known task pairs aims verdicts few good place defect verdict.Unexposable at is = tt
-good_are_known task pairs aims verdicts few good place defect verdict.Untestable at is = record {
+pub good_are_known : (chip : Chip) (defects : List ChipDefect) (budget : ℕ) (pairs : List (List Bool)) (aims : List ℕ) (verdicts : List Verdict)
+    → bit_count chip ≤ MOST_PATTERN_BITS → IsGood (own_task chip defects budget) pairs aims verdicts → AreKnown chip defects verdicts
+good_are_known chip defects budget pairs aims verdicts few good place defect (verdict.Credited pair output) at is = tt
+good_are_known chip defects budget pairs aims verdicts few good place defect verdict.Unexposable at is = tt
+good_are_known chip defects budget pairs aims verdicts few good place defect verdict.Untestable at is = record {
   exposable = λ none.
       let e : ◌≡◌ {A = Option Verdict} (Some verdict.Untestable) (Some verdict.Unexposable) = sym is ∙ (good.named_unexposable place defect at none).is_verdict in
       cc;
   untestable = good.untestable place defect (record { is_defect = at; is_verdict = is });
 }
-good_are_known task pairs aims verdicts few good place defect (verdict.Aborted code) at is =
+good_are_known chip defects budget pairs aims verdicts few good place defect (verdict.Aborted code) at is =
     let spent = good.checked place defect code (record { is_defect = at; is_verdict = is }) in
-    narrow_tokens task.chip defect code (At (unset_pair task.chip) []) (At spent.pair spent.front.later) few spent.front.reads
+    narrow_tokens chip defect code (At (unset_pair chip) []) (At spent.pair spent.front.later) few spent.front.reads
 
 -- one claim more
 pub claims_more : (chip : Chip) (budget : ℕ) (defects : List ChipDefect) (verdicts : List Verdict) (claims : List Claim) (place : ℕ)

@@ -1,5 +1,5 @@
 -- The chip that is viewed can be judged, and its defects searched for.
-use Rattle.std.proofs.Common.{◌≡◌, ℕ, List, length, Option, None, Some, sym, ap, ◌∙◌, subst, arith}
+use Rattle.std.proofs.Common.{◌≡◌, ℕ, List, Option, None, Some, sym, subst, arith}
 use Rattle.std.specs.List.{All}
 use Rattle.std.proofs.lemmas.List.Elements.{All-weaker}
 use Rattle.ca_flat.specs.declared.chip_defect.ChipDefect.{ChipDefect}
@@ -14,7 +14,7 @@ use Rattle.ca_sim.specs.Simulator.{Simulator, IsFresh}
 use Rattle.ca_judge.specs.ChipJudge.{CanBeJudged}
 use Rattle.ca_credit.specs.declared.verdict.Verdict.{Verdict}
 use Rattle.ca_credit.specs.Defects.{IsSearchable}
-use Rattle.ca_certify.specs.code.Claimed.{AreKnown, AreClaimsOn}
+use Rattle.ca_certify.specs.code.Claimed.{AreKnown}
 
 -- its flat networks are networks where they are small enough
 pub core_can_be_judged : (view : Viewed) → IsWired view.chip → FlatIsWellFormed

@@ -6,7 +6,7 @@ use Rattle.ca_flat.specs.Chip.{Chip}
 use Rattle.ca_flat.specs.Codes.{IsWholeBy, IsSpentBy}
 use Rattle.ca_read_code.specs.ClaimedCode.{claim_rules}
 use Rattle.ca_search.specs.SearchRules.{search_rules}
-use Rattle.ca_credit.specs.Defects.{Task}
+use Rattle.ca_credit.specs.Defects.{Task, IsOfOneChip}
 use Rattle.ca_credit.specs.Good.{IsGood}
 use Rattle.ca_claim.specs.declared.claim.Claim.{Claim}
 use Rattle.ca_claim.specs.declared.certificate.Answer.{Answer}
@@ -30,7 +30,8 @@ SearchCodesAreClaimed =
 abbrev pub GoodClaimsStand : Type 0
 GoodClaimsStand =
     (task : Task) (pairs : List (List Bool)) (aims : List ℕ) (claims : List Claim)
-    → IsGood task pairs aims (verdicts_of claims) → AreProven task claims → AllStand task pairs claims
+    → IsOfOneChip task → IsGood task pairs aims (verdicts_of claims) → AreProven task claims
+    → AllStand task pairs claims
 
 -- where every claim stands, no answer but yes is right
 abbrev pub StandingIsYes : Type 0

@@ -25,6 +25,7 @@ verdicts_of claims = map verdict_of claims
 abbrev pub viewed_task : Viewed → ℕ → Task
 viewed_task view budget = record {
   chip = view.core;
+  chip_of = λ place. view.core;
   defects = chip_defects view.core (gates_of view.chip);
   budget = budget;
 }

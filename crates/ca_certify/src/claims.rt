@@ -1,7 +1,6 @@
 //! A claim on each defect of a list with verdicts.
 
 ghost use Rattle.std.specs.Prelude.{◌≡◌, length, IfOk, All};
-ghost use Rattle.ca_code.specs.Tokens.{IsNarrow};
 ghost use Rattle.ca_flat.specs.Chip.{IsDefectIn};
 ghost use Rattle.ca_view.specs.Linked.{IsPlacedDefect, place_in};
 ghost use Rattle.ca_sim.specs.Simulator.{KeepsChip};
@@ -12,25 +11,12 @@ ghost use Rattle.ca_certify.specs.code.Claimed.{AreClaimsOn, IsProvenClaim};
 use crate::searched::searched_claim;
 use ca_base::{List, NoMemory};
 use ca_claim::Claim;
-use ca_code::Code;
 use ca_credit::{Verdict, Verdicts};
 use ca_flat::{ChipDefect, ExposableDefects};
 use ca_guide::Choice;
 use ca_judge::ChipJudge;
 use ca_search::Search;
 use std::alloc::Global;
-
-// The same code once more.
-fn copied(alloc: Global, code: &Code) -> Result<Code, NoMemory>
-    requires { All IsNarrow code.now }
-    ensures { IfOk result (λ copy. copy ≡ code.now) }
-{
-    let mut copy = Code::new(alloc);
-    for place in 0..code.len() {
-        copy.push(code.get(place))?;
-    }
-    Ok(copy)
-}
 
 // The claim on an untestable defect.
 fn proven_claim<R: ExposableDefects, P: Choice + Drop>(
@@ -81,7 +67,7 @@ fn claim_on<R: ExposableDefects, P: Choice + Drop>(
         Verdict::Unexposable => Ok(Claim::Unexposable),
         Verdict::Untestable => proven_claim(alloc, judge, search, rows, defect),
         Verdict::Aborted { code } => {
-            let code = copied(alloc, code)?;
+            let code = code.copy(alloc)?;
             Ok(Claim::Aborted { code })
         }
     }

@@ -24,7 +24,7 @@ module _ (view : Viewed) (are : IsViewOf view.chip view) (list : List ChipDefect
       → AreGradesOf view.chip list grades
   are_grades_of law wired placed pairs grades graded =
       subst (λ defects. AreGradesOf view.chip defects grades) (sym is)
-      (law view.chip (task_of view.chip 0) pairs grades refl (subst (All (IsGateDefect view.chip)) is gates) graded)
+      (law view.chip (task_of view.chip 0) pairs grades refl refl (subst (All (IsGateDefect view.chip)) is gates) graded)
     where
       gates : All (IsGateDefect view.chip) list
       gates = All-weaker (IsPlacedDefect (core_of view.chip) (place_in view.ranks)) (IsGateDefect view.chip) (λ defect one. record {

@@ -17,9 +17,10 @@ use Rattle.ca_linked.specs.Linked.{LinkedChip, outputs_of, IsGate, IsLibrary}
 use Rattle.ca_core.specs.Core.{core_net, core_of, body_rank, rank_in, rank_of}
 use Rattle.ca_credit.specs.declared.verdict.Verdict.{Verdict}
 use Rattle.ca_credit.specs.declared.verdict.Verdict.TheVariants.{Credited, Unexposable, Untestable, Aborted}
-use Rattle.ca_credit.specs.Defects.{Task}
+use Rattle.ca_credit.specs.Defects.{Task, IsOfOneChip}
 use Rattle.ca_credit.specs.Detection.{IsFirstOutput, IsFirstDetection}
 use Rattle.ca_credit.specs.Good.{IsGood}
+use Rattle.ca_credit.proofs.DetectionLemmas.{in_chip}
 use Rattle.ca_grade.specs.declared.grade.Grade.{Grade}
 use Rattle.ca_grade.specs.declared.grade.Grade.TheVariants as grade
 use Rattle.ca_grade.specs.Graded.{AreGraded}
@@ -48,9 +49,9 @@ output_within core defect pairs pair output first = by (slice_get pairs pair) fi
     by (Some bits) is = some_within (DetectsAt core defect (trits_of bits)) core.outputs output is.here
 
 pub good_reported : (chip : LinkedChip) (task : Task) (pairs : List (List Bool)) (aims : List ℕ) (verdicts : List Verdict)
-    → task.chip ≡ core_of chip → All (IsGateDefect chip) task.defects → IsGood task pairs aims verdicts
+    → task.chip ≡ core_of chip → IsOfOneChip task → All (IsGateDefect chip) task.defects → IsGood task pairs aims verdicts
     → AreReported chip task.defects verdicts
-good_reported chip task pairs aims verdicts is_core gates good = record {
+good_reported chip task pairs aims verdicts is_core one gates good = record {
   defects_are = gates;
   one_each = good.one_each;
   outputs = λ k d lt. within k (get_or verdicts k d) (slice_get-get_or verdicts k d lt) lt;
@@ -68,7 +69,8 @@ good_reported chip task pairs aims verdicts is_core gates good = record {
         by (Some defect) there =
             subst (λ count. output < count) outputs
             (output_within task.chip defect pairs pair output
-            (good.credited k pair output defect (record { is_defect = there; is_verdict = at })))
+            (in_chip task (λ core. IsFirstDetection core defect pairs pair output) k one
+            (good.credited k pair output defect (record { is_defect = there; is_verdict = at }))))
     within k Unexposable at lt = tt
     within k Untestable at lt = tt
     within k (Aborted code) at lt = tt
@@ -129,9 +131,9 @@ counted_more is_of entries k count one entry passed at is reports before =
 
 -- grades that are so are on the chip's defects, with observed outputs
 pub graded_reported : (chip : LinkedChip) (task : Task) (pairs : List (List Bool)) (grades : List Grade)
-    → task.chip ≡ core_of chip → All (IsGateDefect chip) task.defects → AreGraded task pairs grades
+    → task.chip ≡ core_of chip → IsOfOneChip task → All (IsGateDefect chip) task.defects → AreGraded task pairs grades
     → AreGradesOf chip task.defects grades
-graded_reported chip task pairs grades is_core gates graded = record {
+graded_reported chip task pairs grades is_core one gates graded = record {
   defects_are = gates;
   one_each = graded.one_each;
   outputs = λ k d lt. within k (get_or grades k d) (slice_get-get_or grades k d lt) lt;
@@ -149,6 +151,7 @@ graded_reported chip task pairs grades is_core gates graded = record {
         by (Some defect) there =
             subst (λ count. output < count) outputs
             (output_within task.chip defect pairs pair output
-            (graded.each k defect (grade.Credited pair output) there at).first)
+            (in_chip task (λ core. IsFirstDetection core defect pairs pair output) k one
+            (graded.each k defect (grade.Credited pair output) there at).first))
     within k grade.Unexposable at lt = tt
     within k grade.Uncredited at lt = tt

@@ -45,6 +45,15 @@ impl Code {
         })
     }
 
+    /// The same code once more.
+    pub fn copy(&self, alloc: Global) -> Result<Self, NoMemory>
+        ensures { IfOk result (λ code. code ≡ self.now) }
+    {
+        Ok(Code {
+            numbers: self.numbers.to_vec(alloc)?,
+        })
+    }
+
     /// Appends a token.
     #[tactic(auto, using(crate::proofs::TokenLemmas::tokens_push))]
     pub fn push(&mut self, token: Token) -> Result<(), NoMemory>

@@ -70,11 +70,11 @@ aims_end task pair table before between after upto once =
 -- a defect of which the simulator said that it may be shown is suspect
 pub is_suspect : (task : Task) (pair : List Bool) (bits : List Trit) (table : List (Option Verdict)) (place : ℕ)
     → bits ≡ trits_of pair → is_open (verdict_at table place) ≡ true
-    → ((defect : ChipDefect) → IsDefectAt task place defect → IsAllowedByRows task.chip defect bits)
+    → ((defect : ChipDefect) → IsDefectAt task place defect → IsAllowedByRows (task.chip_of place) defect bits)
     → IsSuspectAt task pair table place
 is_suspect task pair bits table place bits_are waits allowed = record {
   waits = waits;
-  allowed = λ defect at. subst (IsAllowedByRows task.chip defect) bits_are (allowed defect at);
+  allowed = λ defect at. subst (IsAllowedByRows (task.chip_of place) defect) bits_are (allowed defect at);
 }
 
 -- before the first pair of a block

@@ -13,22 +13,63 @@ use Rattle.ca_defect.specs.Exposes.{opposite_of}
 use Rattle.ca_flat.specs.declared.chip_defect.ChipDefect.{ChipDefect}
 use Rattle.ca_flat.specs.Chip.{Chip}
 use Rattle.ca_flat.specs.Pair.{DetectsAt, IsShown}
-use Rattle.ca_credit.specs.Detection.{IsNetEnd}
+use Rattle.ca_credit.specs.Defects.{Task, StandsIn, AreTargets, IsOfOneChip}
+use Rattle.ca_credit.specs.Detection.{IsNetEnd, IsAnswer}
+
+-- the answer for these outputs
+abbrev pub IsAnswerOver : List ℕ → Chip → ChipDefect → List Trit → Option ℕ → Type 0
+IsAnswerOver outputs chip defect pair None = (output : ℕ) → output < length outputs
+    → ¬ (DetectsAt chip defect pair (slice_index outputs output))
+IsAnswerOver outputs chip defect pair (Some output) = (output < length outputs)
+    × DetectsAt chip defect pair (slice_index outputs output)
+    × ((before : ℕ) → before < output → ¬ (DetectsAt chip defect pair (slice_index outputs before)))
+
+over_own : (chip : Chip) (defect : ChipDefect) (pair : List Trit) (answer : Option ℕ)
+    → IsAnswerOver chip.outputs chip defect pair answer → IsAnswer chip defect pair answer
+over_own chip defect pair None is = is
+over_own chip defect pair (Some output) is = record { within = is.0; here = is.1; none_before = is.2 }
+
+-- a chip stands in for itself
+pub stands_in_itself : (chip : Chip) → StandsIn chip chip
+stands_in_itself chip = record { inputs = refl; outputs = refl; good = λ pair net v observed. ((λ ends. ends), (λ ends. ends)) }
+
+-- so the defects of one chip are targets
+pub own_targets : (task : Task) → IsOfOneChip task → AreTargets task
+own_targets task one place within = subst (λ (of : ℕ → Chip). StandsIn task.chip (of place)) (sym one) (stands_in_itself task.chip)
+
+-- what is so of the chip of a defect, of that chip
+pub in_chip : (task : Task) (P : Chip → Type 0) (place : ℕ) → IsOfOneChip task → P (task.chip_of place) → P task.chip
+in_chip task P place one holds = subst (λ (of : ℕ → Chip). P (of place)) one holds
+
+-- the outputs of a chip that stands in for another are its own
+pub answer_stands_in : (chip other : Chip) (defect : ChipDefect) (pair : List Trit) (answer : Option ℕ) → StandsIn chip other
+    → IsAnswerOver chip.outputs other defect pair answer → IsAnswer other defect pair answer
+answer_stands_in chip other defect pair answer stands is =
+    over_own other defect pair answer (subst (λ outputs. IsAnswerOver outputs other defect pair answer) (sym stands.outputs) is)
 
 -- where the good end is definite, the faulty one decides
-pub detects_by : (chip : Chip) (defect : ChipDefect) (aimed : Option ChipDefect) (pair : List Trit) (net : ℕ) (good faulty : Trit) (b : Bool)
-    → aimed ≡ Some defect → IsNetEnd chip None pair net good → IsNetEnd chip aimed pair net faulty → (good ≢ X) → (opposite_of good ≢ X)
+pub detects_by : (chip other : Chip) (defect : ChipDefect) (aimed : Option ChipDefect) (pair : List Trit) (net : ℕ) (good faulty : Trit) (b : Bool)
+    → StandsIn chip other → Contains chip.outputs net
+    → aimed ≡ Some defect → IsNetEnd chip None pair net good → IsNetEnd other aimed pair net faulty → (good ≢ X) → (opposite_of good ≢ X)
     → (IsTrue b → faulty ≡ opposite_of good) → (faulty ≡ opposite_of good → IsTrue b)
-    → (IsTrue b → DetectsAt chip defect pair net) × (DetectsAt chip defect pair net → IsTrue b)
-detects_by chip defect aimed pair net good faulty b at good_is faulty_is known other there back =
-    let faulty_here : IsNetEnd chip (Some defect) pair net faulty = subst (λ (o : Option ChipDefect). IsNetEnd chip o pair net faulty) at faulty_is in (
-      λ t. record { value = good; good = (good_is good).0 (known, refl); faulty = (faulty_here (opposite_of good)).0 (other, there t) },
-      λ d. let g = (good_is d.value).1 d.good in back (((faulty_here (opposite_of d.value)).1 d.faulty).1 ∙ ap opposite_of (sym g.1)),
+    → (IsTrue b → DetectsAt other defect pair net) × (DetectsAt other defect pair net → IsTrue b)
+detects_by chip other defect aimed pair net good faulty b stands observed at good_is faulty_is known opposite there back =
+    let faulty_here : IsNetEnd other (Some defect) pair net faulty = subst (λ (o : Option ChipDefect). IsNetEnd other o pair net faulty) at faulty_is in (
+      λ t. record {
+        value = good;
+        good = (stands.good pair net good observed).0 ((good_is good).0 (known, refl));
+        faulty = (faulty_here (opposite_of good)).0 (opposite, there t);
+      },
+      λ d.
+          let g = (good_is d.value).1 ((stands.good pair net d.value observed).1 d.good) in
+          back (((faulty_here (opposite_of d.value)).1 d.faulty).1 ∙ ap opposite_of (sym g.1)),
     )
 
 -- where the good end isn't known there is no detection
-pub nothing_detected : (chip : Chip) (defect : ChipDefect) (pair : List Trit) (net : ℕ) → IsNetEnd chip None pair net X → DetectsAt chip defect pair net → ⊥
-nothing_detected chip defect pair net is detects = let g = (is detects.value).1 detects.good in g.0 (sym g.1)
+pub nothing_detected : (chip other : Chip) (defect : ChipDefect) (pair : List Trit) (net : ℕ) → StandsIn chip other → Contains chip.outputs net
+    → IsNetEnd chip None pair net X → DetectsAt other defect pair net → ⊥
+nothing_detected chip other defect pair net stands observed is detects =
+    let g = (is detects.value).1 ((stands.good pair net detects.value observed).1 detects.good) in g.0 (sym g.1)
 
 -- what is read within a list doesn't depend on what is answered past it
 pub get_or-other : {T : Type 0} (xs : List T) (k : ℕ) (d e : T) → k < length xs → get_or xs k d ≡ get_or xs k e

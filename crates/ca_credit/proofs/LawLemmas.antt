@@ -14,10 +14,10 @@ use Rattle.ca_credit.specs.Laws.{SuspectIsAllowedByRows}
 
 -- where the budget is ample no code is spent
 pub not_ample : (task : Task) (place : ℕ) (defect : ChipDefect) (code : List Token)
-    → IsDefectAt task place defect → IsSpentCode task.chip defect task.budget code → IsAmple task → ⊥
+    → IsDefectAt task place defect → IsSpentCode (task.chip_of place) defect task.budget code → IsAmple task → ⊥
 not_ample task place defect code is spent ample =
     let support = ample place defect is in
-    no_code_is_spent_lem task.chip defect support.1.bits task.budget code support.1.all
+    no_code_is_spent_lem (task.chip_of place) defect support.1.bits task.budget code support.1.all
     (subst (λ (n : ℕ). 2 ^ n ≤ task.budget + 1) (sym support.1.counted) support.2) spent
 
 pub ample_is_never_aborted_lem : AmpleIsNeverAborted
@@ -31,7 +31,7 @@ unexposable_is_undetected_lem chip defect pair searchable not_exposable shown =
 
 pub pattern_bits_are_never_aborted_lem : PatternBitsAreNeverAborted
 pattern_bits_are_never_aborted_lem task pairs aims verdicts place defect code good much has =
-    pattern_bits_are_enough_lem task.chip defect task.budget code much
+    pattern_bits_are_enough_lem (task.chip_of place) defect task.budget code much
     (good.aborted place defect code has).spent
 
 pub suspect_is_allowed_by_rows_lem : SuspectIsAllowedByRows

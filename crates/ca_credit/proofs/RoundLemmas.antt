@@ -52,7 +52,7 @@ open_left round place is has = (is.are place).0 (is.some place has)
 -- the pair is credited with the defect at a place where it detects it
 pub gives_some : (task : Task) (pair : List Bool) (number place output : ℕ) (table : List (Option Verdict))
     → place < length table → is_open (verdict_at table place) ≡ true
-    → ((defect : ChipDefect) → IsDefectAt task place defect → IsAnswer task.chip defect (trits_of pair) (Some output))
+    → ((defect : ChipDefect) → IsDefectAt task place defect → IsAnswer (task.chip_of place) defect (trits_of pair) (Some output))
     → CreditsOne task pair number place true table (slice_set table place (Some (Credited number output)))
 gives_some task pair number place output table within waits answers =
     let new = slice_set table place (Some (Credited number output)) in
@@ -60,10 +60,10 @@ gives_some task pair number place output table within waits answers =
       as_many = length-set table place (Some (Credited number output));
       here = λ defect at.
           let is = answers defect at in
-          let first : IsFirstOutput task.chip defect output pair =
-          first_by (DetectsAt task.chip defect (trits_of pair)) task.chip.outputs 0 output is.within is.here is.none_before in
-          of_open task.chip pair number defect (verdict_at table place) (verdict_at new place) waits (inl (record {
-            detects = shown_by_first task.chip defect (trits_of pair) output first;
+          let first : IsFirstOutput (task.chip_of place) defect output pair =
+          first_by (DetectsAt (task.chip_of place) defect (trits_of pair)) (task.chip_of place).outputs 0 output is.within is.here is.none_before in
+          of_open (task.chip_of place) pair number defect (verdict_at table place) (verdict_at new place) waits (inl (record {
+            detects = shown_by_first (task.chip_of place) defect (trits_of pair) output first;
             output = output;
             first = first;
             credited = verdict_at-set table place (Some (Credited number output)) within;
@@ -74,12 +74,12 @@ gives_some task pair number place output table within waits answers =
 
 pub gives_none : (task : Task) (pair : List Bool) (number place : ℕ) (table : List (Option Verdict))
     → is_open (verdict_at table place) ≡ true
-    → ((defect : ChipDefect) → IsDefectAt task place defect → IsAnswer task.chip defect (trits_of pair) None)
+    → ((defect : ChipDefect) → IsDefectAt task place defect → IsAnswer (task.chip_of place) defect (trits_of pair) None)
     → CreditsOne task pair number place false table table
 gives_none task pair number place table waits answers = record {
   as_many = refl;
-  here = λ defect at. of_open task.chip pair number defect (verdict_at table place) (verdict_at table place) waits
-      (inr (record { undetected = not_shown_by task.chip defect (trits_of pair) (answers defect at); same = refl }));
+  here = λ defect at. of_open (task.chip_of place) pair number defect (verdict_at table place) (verdict_at table place) waits
+      (inr (record { undetected = not_shown_by (task.chip_of place) defect (trits_of pair) (answers defect at); same = refl }));
   others = λ other differ. refl;
   counted = omega arith;
 }
@@ -202,10 +202,10 @@ tries_one task pair number place given old new was without stands one = record {
   tried = λ table before. record {
     as_many = one.as_many ∙ before.as_many;
     done = λ k defect gone at. elim (ℕ_discrete k place) [
-      | yes e ↦ subst (λ (j : ℕ). IsAfterPair task.chip pair number defect (verdict_at table j) (verdict_at new.verdicts.items j)) (sym e)
-          (subst (λ (v : Option Verdict). IsAfterPair task.chip pair number defect v (verdict_at new.verdicts.items place))
+      | yes e ↦ subst (λ (j : ℕ). IsAfterPair (task.chip_of j) pair number defect (verdict_at table j) (verdict_at new.verdicts.items j)) (sym e)
+          (subst (λ (v : Option Verdict). IsAfterPair (task.chip_of place) pair number defect v (verdict_at new.verdicts.items place))
           (before.others place was) (one.here defect (subst (λ (j : ℕ). IsDefectAt task j defect) e at)))
-      | no differ ↦ subst (λ (v : Option Verdict). IsAfterPair task.chip pair number defect (verdict_at table k) v)
+      | no differ ↦ subst (λ (v : Option Verdict). IsAfterPair (task.chip_of k) pair number defect (verdict_at table k) v)
           (sym (one.others k differ)) (before.done k defect (λ has. gone ((without.others k differ).1 has)) at)
     ];
     others = λ k has.
@@ -226,13 +226,13 @@ pub aimed_some : (task : Task) (place : ℕ) (aimed : Option ChipDefect) → aim
 aimed_some task place aimed is within = let some = some_within task.defects place within in subst IsSome (sym (is ∙ some.1)) refl
 
 -- the answer for the defect that was aimed at is that for the one at its place
-pub answer_here : (task same : Task) (pair : List Bool) (bits : List Trit) (aimed : Option ChipDefect) (place : ℕ)
-    (answer : Option ℕ) → same ≡ task → bits ≡ trits_of pair → aimed ≡ slice_get task.defects place
-    → ((defect : ChipDefect) → aimed ≡ Some defect → IsAnswer same.chip defect bits answer)
-    → (defect : ChipDefect) → IsDefectAt task place defect → IsAnswer task.chip defect (trits_of pair) answer
-answer_here task same pair bits aimed place answer same_is bits_are aimed_is answers defect at =
-    subst (λ (t : Task). IsAnswer t.chip defect (trits_of pair) answer) same_is
-    (subst (λ (b : List Trit). IsAnswer same.chip defect b answer) bits_are (answers defect (aimed_is ∙ at)))
+pub answer_here : (task : Task) (aimed_in : Chip) (pair : List Bool) (bits : List Trit) (aimed : Option ChipDefect) (place : ℕ)
+    (answer : Option ℕ) → aimed_in ≡ task.chip_of place → bits ≡ trits_of pair → aimed ≡ slice_get task.defects place
+    → ((defect : ChipDefect) → aimed ≡ Some defect → IsAnswer aimed_in defect bits answer)
+    → (defect : ChipDefect) → IsDefectAt task place defect → IsAnswer (task.chip_of place) defect (trits_of pair) answer
+answer_here task aimed_in pair bits aimed place answer chip_is bits_are aimed_is answers defect at =
+    subst (λ (x : Chip). IsAnswer x defect (trits_of pair) answer) chip_is
+    (subst (λ (b : List Trit). IsAnswer aimed_in defect b answer) bits_are (answers defect (aimed_is ∙ at)))
 
 past : {T : Type 0} (xs : List T) (k : ℕ) (d : T) → length xs ≤ k → get_or xs k d ≡ d
 past [] k d le = refl
@@ -245,7 +245,7 @@ pub tried_begin : (task : Task) (pair : List Bool) (number : ℕ) (open_places l
     → IsTried task pair number left table table
 tried_begin task pair number open_places left table is count same = record {
   as_many = refl;
-  done = λ place defect gone at. stays_closed task.chip pair number defect (verdict_at table place)
+  done = λ place defect gone at. stays_closed (task.chip_of place) pair number defect (verdict_at table place)
       (λ may. gone ((same place).1 ((is.are place).1 (subst (λ n. place < n) (sym count) (some_before task.defects place defect at), may))));
   others = λ place has. refl;
 }

@@ -1,25 +1,19 @@
 -- The table of verdicts: what is known, and what a pair makes of it.
-use Rattle.std.proofs.Common.{◌≡◌, ℕ, zero, suc, ◌+◌, ◌<◌, ◌≤◌, List, [], ◌∷◌, length, Bool, true, inl, refl, sym}
+use Rattle.std.proofs.Common.{◌≡◌, ℕ, zero, suc, ◌+◌, ◌<◌, ◌≤◌, List, [], ◌∷◌, length, Bool, true, refl, sym}
 use Rattle.std.proofs.Common.{◌∙◌, ap, subst, arith, Some, None, Option, get_or, get_or-set_same}
 use Rattle.std.proofs.Common.{get_or-set_other}
 use native.Mathlib.Decide.{ℕ_discrete}
-use Rattle.std.proofs.lemmas.List.{length-set}
 use Rattle.std.specs.Prelude.{slice_get, slice_set}
-use Rattle.ca_base.specs.First.{IsFirst}
-use Rattle.ca_net.specs.declared.trit.Trit.{Trit}
 use Rattle.ca_flat.specs.declared.chip_defect.ChipDefect.{ChipDefect}
 use Rattle.ca_flat.specs.Chip.{Chip}
-use Rattle.ca_flat.specs.Pair.{DetectsAt}
 use Rattle.ca_credit.specs.declared.verdict.Verdict.{Verdict}
 use Rattle.ca_credit.specs.declared.verdict.Verdict.TheVariants.{Credited, Unexposable, Untestable, Aborted}
 use Rattle.ca_credit.specs.Defects.{Task, IsDefectAt}
-use Rattle.ca_search.specs.Filled.{trits_of}
-use Rattle.ca_credit.specs.Detection.{IsFirstOutput}
-use Rattle.ca_credit.specs.Table.{known_verdicts, AreAllKnown, verdict_at, is_open, credit_count, IsCredit}
+use Rattle.ca_credit.specs.Table.{known_verdicts, AreAllKnown, verdict_at, is_open, credit_count}
 use Rattle.ca_credit.specs.Table.{IsCreditOrKept, IsAfterPair, CreditsUpTo}
 use Rattle.ca_credit.specs.code.Table.{CreditsOne}
 use Rattle.ca_credit.specs.Table.{CreditsPair, CreditsBlock, Credits}
-use Rattle.ca_credit.proofs.DetectionLemmas.{shown_by_first, get_or-other}
+use Rattle.ca_credit.proofs.DetectionLemmas.{get_or-other}
 
 -- what is known at a place is what is there
 pub known_at : (table : List (Option Verdict)) (k : ℕ) → AreAllKnown table → slice_get (known_verdicts table) k ≡ verdict_at table k
@@ -77,31 +71,6 @@ pub verdict_at-other : (table : List (Option Verdict)) (place other : ℕ) (new 
     → verdict_at (slice_set table place new) other ≡ verdict_at table other
 verdict_at-other table place other new differ = get_or-set_other table place other new None differ
 
--- a pair that detects the defect at a place is credited with it
-pub credits_here : (task same : Task) (pair : List Bool) (bits : List Trit) (number place output : ℕ)
-    (defect : ChipDefect) (table : List (Option Verdict)) → same ≡ task → bits ≡ trits_of pair
-    → place < length table → is_open (verdict_at table place) ≡ true → IsDefectAt task place defect
-    → IsFirst (DetectsAt same.chip defect bits) same.chip.outputs output
-    → CreditsOne task pair number place true table (slice_set table place (Some (Credited number output)))
-credits_here task same pair bits number place output defect table same_is bits_are within may is_defect first =
-    let new = slice_set table place (Some (Credited number output)) in
-    let here : IsFirstOutput task.chip defect output pair =
-    subst (λ (x : Task). IsFirst (DetectsAt x.chip defect (trits_of pair)) x.chip.outputs output) same_is
-    (subst (λ (b : List Trit). IsFirst (DetectsAt same.chip defect b) same.chip.outputs output) bits_are first) in
-    record {
-      as_many = length-set table place (Some (Credited number output));
-      here = λ other is. of_open task.chip pair number other _ _ may
-          (inl (let e : defect ≡ other = same_defect task place defect other is_defect is in
-          subst (λ (d : ChipDefect). IsCredit task.chip pair number d (verdict_at new place)) e (record {
-            detects = shown_by_first task.chip defect (trits_of pair) output here;
-            output = output;
-            first = here;
-            credited = verdict_at-set table place (Some (Credited number output)) within;
-          })));
-      others = λ other differ. verdict_at-other table place other _ differ;
-      counted = credit_count-set table place number output within may;
-    }
-
 -- within a list there is an entry
 pub some_within : {T : Type 0} (xs : List T) (k : ℕ) → k < length xs → (x : T) × (slice_get xs k ≡ Some x)
 some_within [] k within = absurd (omega arith)
@@ -146,10 +115,10 @@ credits_more task same pair number count given old middle new same_is before one
     record {
       as_many = one.as_many ∙ before.as_many;
       each = λ place defect below is. elim (ℕ_discrete place count) [
-        | yes e ↦ subst (λ (k : ℕ). IsAfterPair task.chip pair number defect (verdict_at old k) (verdict_at new k)) (sym e)
-            (subst (λ (v : Option Verdict). IsAfterPair task.chip pair number defect v (verdict_at new count)) (before.others count (omega arith))
+        | yes e ↦ subst (λ (k : ℕ). IsAfterPair (task.chip_of k) pair number defect (verdict_at old k) (verdict_at new k)) (sym e)
+            (subst (λ (v : Option Verdict). IsAfterPair (task.chip_of count) pair number defect v (verdict_at new count)) (before.others count (omega arith))
             (one.here defect (subst (λ (k : ℕ). IsDefectAt task k defect) e is)))
-        | no differ ↦ subst (λ (v : Option Verdict). IsAfterPair task.chip pair number defect (verdict_at old place) v) (sym (one.others place differ))
+        | no differ ↦ subst (λ (v : Option Verdict). IsAfterPair (task.chip_of place) pair number defect (verdict_at old place) v) (sym (one.others place differ))
             (before.each place defect (let far : ¬ (place ≡ count) = differ in omega arith) is)
       ];
       others = λ place from. one.others place (λ e. absurd (omega arith)) ∙ before.others place (omega arith);

@@ -20,7 +20,7 @@ pub record IsSuspectAt (task : Task) (pair : List Bool) (table : List (Option Ve
   where
     pub waits : is_open (verdict_at table place) ≡ true
     pub allowed : (defect : ChipDefect) → IsDefectAt task place defect
-        → IsAllowedByRows task.chip defect (trits_of pair)
+        → IsAllowedByRows (task.chip_of place) defect (trits_of pair)
 
 -- one was aimed at most once more often than there are suspect defects
 pub record AimsAtSuspects (task : Task) (pair : List Bool) (table : List (Option Verdict)) (before after : ℕ)

@@ -30,14 +30,14 @@ pub record HasSupport (chip : Chip) (defect : ChipDefect) (count : ℕ) : Type 0
 abbrev pub IsAmple : Task → Type 0
 IsAmple task =
     (place : ℕ) (defect : ChipDefect) → IsDefectAt task place defect
-    → (s : ℕ) × HasSupport task.chip defect s × (2 ^ s ≤ task.budget + 1)
+    → (s : ℕ) × HasSupport (task.chip_of place) defect s × (2 ^ s ≤ task.budget + 1)
 
 -- the defect can be exposed, no listed pair detects it, and the code is spent
-pub record IsRightlyAborted (task : Task) (pairs : List (List Bool)) (defect : ChipDefect)
+pub record IsRightlyAborted (chip : Chip) (budget : ℕ) (pairs : List (List Bool)) (defect : ChipDefect)
     (code : List Token) : Type 0 where
-  pub exposable : IsExposableIn task.chip defect
-  pub undetected : NoneDetects task.chip defect pairs
-  pub spent : IsSpentCode task.chip defect task.budget code
+  pub exposable : IsExposableIn chip defect
+  pub undetected : NoneDetects chip defect pairs
+  pub spent : IsSpentCode chip defect budget code
 
 -- a spent code of which each leaf is at a settled or a plainly ruled out pair, and no branch, nor its next
 -- partial pair, at a plainly ruled out one
@@ -62,18 +62,19 @@ pub record IsGood (task : Task) (pairs : List (List Bool)) (aims : List ℕ) (ve
     -- a credit names the first pair that detects the defect, and the first output at which it does
     pub credited : (place pair output : ℕ) (defect : ChipDefect)
         → HasVerdict task verdicts place defect (Credited pair output)
-        → IsFirstDetection task.chip defect pairs pair output
+        → IsFirstDetection (task.chip_of place) defect pairs pair output
     -- unexposable exactly where no pair of vectors exposes the defect in its cell
     pub unexposable : (place : ℕ) (defect : ChipDefect) → HasVerdict task verdicts place defect Unexposable
-        → ¬ (IsExposableIn task.chip defect)
+        → ¬ (IsExposableIn (task.chip_of place) defect)
     pub named_unexposable : (place : ℕ) (defect : ChipDefect) → IsDefectAt task place defect
-        → ¬ (IsExposableIn task.chip defect) → HasVerdict task verdicts place defect Unexposable
+        → ¬ (IsExposableIn (task.chip_of place) defect) → HasVerdict task verdicts place defect Unexposable
     -- untestable only where no definite pair detects the defect
     pub untestable : (place : ℕ) (defect : ChipDefect) → HasVerdict task verdicts place defect Untestable
-        → IsUntestable task.chip defect
+        → IsUntestable (task.chip_of place) defect
     -- aborted only where no listed pair detects the defect, and the whole budget was spent
     pub aborted : (place : ℕ) (defect : ChipDefect) (code : List Token)
-        → HasVerdict task verdicts place defect (Aborted code) → IsRightlyAborted task pairs defect code
+        → HasVerdict task verdicts place defect (Aborted code)
+        → IsRightlyAborted (task.chip_of place) task.budget pairs defect code
     -- no more pairs are listed than may be
     pub few : length pairs ≤ MOST_PAIRS
     -- no pair is listed in vain
@@ -87,4 +88,4 @@ pub record IsGood (task : Task) (pairs : List (List Bool)) (aims : List ℕ) (ve
     -- the code of an aborted search can be checked
     pub checked : (place : ℕ) (defect : ChipDefect) (code : List Token)
         → HasVerdict task verdicts place defect (Aborted code)
-        → IsCheckedSpent task.chip defect task.budget code
+        → IsCheckedSpent (task.chip_of place) defect task.budget code

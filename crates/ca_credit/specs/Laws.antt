@@ -30,7 +30,7 @@ abbrev pub PatternBitsAreNeverAborted : Type 0
 PatternBitsAreNeverAborted =
     (task : Task) (pairs : List (List Bool)) (aims : List ℕ) (verdicts : List Verdict) (place : ℕ)
     (defect : ChipDefect) (code : List Token) → IsGood task pairs aims verdicts
-    → 2 ^ bit_count task.chip ≤ task.budget + 1
+    → 2 ^ bit_count (task.chip_of place) ≤ task.budget + 1
     → ¬ (HasVerdict task verdicts place defect (Aborted code))
 
 -- a pair that is suspect for a defect by its plain two-frame values is one that the waves allow

@@ -25,14 +25,14 @@ pub record IsFoundFor (chip : Chip) (budget : ℕ) (defect : ChipDefect) (pair :
 pub record IsFoundAt (task : Task) (place : ℕ) (pair : List Bool) : Type 0 where
   pub defect : ChipDefect
   pub is_defect : IsDefectAt task place defect
-  pub found : IsFoundFor task.chip task.budget defect pair
+  pub found : IsFoundFor (task.chip_of place) task.budget defect pair
 
 -- the pair with this number was found for the defect at the place `aim`, and is the first that detects it
 pub record IsAim (task : Task) (pairs : List (List Bool)) (number aim : ℕ) : Type 0 where
   pub pair : List Bool
   pub is_pair : slice_get pairs number ≡ Some pair
   pub found_at : IsFoundAt task aim pair
-  pub first : IsFirst (Detects task.chip found_at.defect) pairs number
+  pub first : IsFirst (Detects (task.chip_of aim) found_at.defect) pairs number
 
 -- each number is above all before it
 abbrev pub IsAscending : List ℕ → Type 0

@@ -65,7 +65,7 @@ pub record CreditsUpTo (task : Task) (pair : List Bool) (number count : ℕ)
     (old new : List (Option Verdict)) : Type 0 where
   pub as_many : length new ≡ length old
   pub each : (place : ℕ) (defect : ChipDefect) → place < count → IsDefectAt task place defect
-      → IsAfterPair task.chip pair number defect (verdict_at old place) (verdict_at new place)
+      → IsAfterPair (task.chip_of place) pair number defect (verdict_at old place) (verdict_at new place)
   pub others : (place : ℕ) → count ≤ place → verdict_at new place ≡ verdict_at old place
 
 -- what a pair makes of the table

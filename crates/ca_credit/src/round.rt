@@ -118,7 +118,7 @@ impl Round {
 
         ensures tries { (task : Task) (pair : List Bool) (number : ℕ)
             → ((defect : ChipDefect) → IsDefectAt task place defect
-            → IsAnswer task.chip defect (trits_of pair) None)
+            → IsAnswer (task.chip_of place) defect (trits_of pair) None)
             → TriesMore task pair number 0 self.old self.new }
         ensures here { ¬ (Has self.new.left place) }
         ensures stands { IsRound self.new }
@@ -133,7 +133,7 @@ impl Round {
 
         ensures tries { (task : Task) (pair : List Bool)
             → ((defect : ChipDefect) → IsDefectAt task place defect
-            → IsAnswer task.chip defect (trits_of pair) (Some output))
+            → IsAnswer (task.chip_of place) defect (trits_of pair) (Some output))
             → TriesMore task pair number 1 self.old self.new }
         ensures here { ¬ (Has self.new.left place) }
         ensures stands { IsRound self.new }
@@ -155,7 +155,7 @@ impl Round {
 
         ensures tries { (task : Task) (pair : List Bool)
             → ((defect : ChipDefect) → IsDefectAt task place defect
-            → IsAnswer task.chip defect (trits_of pair) answer)
+            → IsAnswer (task.chip_of place) defect (trits_of pair) answer)
             → TriesMore task pair number result self.old self.new }
         ensures here { ¬ (Has self.new.left place) }
         ensures stands { IsRound self.new }
@@ -188,11 +188,12 @@ impl Round {
         requires stands { IsRound self.old }
         requires bits { S.bits sim.old ≡ trits_of pair.now }
         requires answer { (one : ChipDefect) → S.aimed sim.old ≡ Some one
-            → IsAnswer (S.task sim.old).chip one (S.bits sim.old) answer }
+            → IsAnswer (S.aimed_in sim.old) one (S.bits sim.old) answer }
         requires aimed { IsSome (S.aimed sim.old) }
 
         ensures tries { TriesMore (S.task sim.old) pair.now number result self.old self.new }
         ensures aimed { S.aimed sim.new ≡ S.aimed sim.old }
+        ensures aimed_in { S.aimed_in sim.new ≡ S.aimed_in sim.old }
         ensures task { S.task sim.new ≡ S.task sim.old }
         ensures bits { S.bits sim.new ≡ S.bits sim.old }
         ensures aims { S.aims sim.new ≡ S.aims sim.old }
@@ -218,7 +219,7 @@ impl Round {
         requires stands { IsRound self.old }
         requires bits { S.bits sim.old ≡ trits_of pair.now }
         requires answer { (one : ChipDefect) → S.aimed sim.old ≡ Some one
-            → IsAnswer (S.task sim.old).chip one (S.bits sim.old) answer }
+            → IsAnswer (S.aimed_in sim.old) one (S.bits sim.old) answer }
         requires aimed { IsSome (S.aimed sim.old) }
 
         ensures tries { TriesMore (S.task sim.old) pair.now number result self.old self.new }

@@ -11,13 +11,14 @@ pub trait Simulator {
     ghost use Rattle.std.specs.Prelude.{◌↔◌, Some, length, slice_get, slice_index};
     ghost use Rattle.ca_net.specs.declared.trit.Trit.{Trit};
     ghost use Rattle.ca_flat.specs.declared.chip_defect.ChipDefect.{ChipDefect};
+    ghost use Rattle.ca_flat.specs.Chip.{Chip};
     ghost use Rattle.ca_flat.specs.Pair.{bit_count, IsShown};
-    ghost use Rattle.ca_credit.specs.Defects.{Task, IsDefectAt};
+    ghost use Rattle.ca_credit.specs.Defects.{Task, StandsIn, IsDefectAt};
     ghost use Rattle.ca_search.specs.Filled.{trits_of};
     ghost use Rattle.ca_credit.specs.Detection.{IsNetEnd, IsAllowedByRows, AreDetectedAlike};
     ghost use Rattle.ca_credit.specs.Detection.{IsDecided};
 
-    /// The chip, the list of its defects, and how many branches each search may have.
+    /// The chip, the list of defects with the chip of each, and how many branches each search may have.
     ghost task: { Self → Task };
 
     /// The pattern bits, X where one is unset.
@@ -25,6 +26,9 @@ pub trait Simulator {
 
     /// The defect that is aimed at.
     ghost aimed: { Self → Option ChipDefect };
+
+    /// The chip of which it is one.
+    ghost aimed_in: { Self → Chip };
 
     /// How often was aimed at a defect or at none.
     ghost aims: { Self → ℕ };
@@ -44,6 +48,7 @@ pub trait Simulator {
         ensures task { task self.new ≡ task self.old }
         ensures bits { bits self.new ≡ trits_of pair.now }
         ensures aimed { aimed self.new ≡ aimed self.old }
+        ensures aimed_in { aimed_in self.new ≡ aimed_in self.old }
         ensures aims { aims self.new ≡ aims self.old };
 
     /// Whether the bits that are set may detect the defect at this place of the list, by the rows that expose
@@ -51,9 +56,9 @@ pub trait Simulator {
     fn may_detect(&self, place: usize) -> bool
         requires { place < length (task self.now).defects }
         ensures undetected { (defect : ChipDefect) → IsDefectAt (task self.now) place defect
-            → IsFalse result → ¬ (IsShown (task self.now).chip defect (bits self.now)) }
+            → IsFalse result → ¬ (IsShown ((task self.now).chip_of place) defect (bits self.now)) }
         ensures allowed { (defect : ChipDefect) → IsDefectAt (task self.now) place defect
-            → IsTrue result → IsAllowedByRows (task self.now).chip defect (bits self.now) };
+            → IsTrue result → IsAllowedByRows ((task self.now).chip_of place) defect (bits self.now) };
 
     /// What last values alone say of the defect at this place of the list, under the bits that are set. Where
     /// it is undecided the defect has to be aimed at. The bits and the aim stay.
@@ -61,8 +66,9 @@ pub trait Simulator {
         requires { place < length (task self.old).defects }
 
         ensures decided { (defect : ChipDefect) → IsDefectAt (task self.old) place defect
-            → IsDecided (task self.old).chip defect (bits self.old) result }
+            → IsDecided ((task self.old).chip_of place) defect (bits self.old) result }
         ensures aimed { aimed self.new ≡ aimed self.old }
+        ensures aimed_in { aimed_in self.new ≡ aimed_in self.old }
         ensures task { task self.new ≡ task self.old }
         ensures bits { bits self.new ≡ bits self.old }
         ensures aims { aims self.new ≡ aims self.old };
@@ -72,6 +78,8 @@ pub trait Simulator {
         requires { place < length (task self.old).defects }
 
         ensures aimed { aimed self.new ≡ slice_get (task self.old).defects place }
+        ensures aimed_in { aimed_in self.new ≡ (task self.old).chip_of place }
+        ensures stands_in { StandsIn (task self.old).chip ((task self.old).chip_of place) }
         ensures task { task self.new ≡ task self.old }
         ensures bits { bits self.new ≡ bits self.old }
         ensures aims { aims self.new ≤ aims self.old + 1 };
@@ -88,10 +96,12 @@ pub trait Simulator {
     fn is_alike(&mut self, place: usize) -> bool
         requires { place < length (task self.old).defects }
 
+        ensures same_chip { IsTrue result → (task self.old).chip_of place ≡ aimed_in self.old }
         ensures alike { (one other : ChipDefect) → aimed self.old ≡ Some one
             → IsDefectAt (task self.old) place other → IsTrue result
-            → AreDetectedAlike (task self.old).chip one other (bits self.old) }
+            → AreDetectedAlike (aimed_in self.old) one other (bits self.old) }
         ensures aimed { aimed self.new ≡ aimed self.old }
+        ensures aimed_in { aimed_in self.new ≡ aimed_in self.old }
         ensures task { task self.new ≡ task self.old }
         ensures bits { bits self.new ≡ bits self.old }
         ensures aims { aims self.new ≡ aims self.old };
@@ -109,9 +119,9 @@ pub trait Simulator {
         ensures { IsNetEnd (task self.now).chip None (bits self.now)
             (slice_index (task self.now).chip.outputs output) result };
 
-    /// What the chip with the defect that is aimed at ends with at an observed output, X where runs differ.
+    /// What its chip with the defect that is aimed at ends with at an observed output, X where runs differ.
     fn faulty_end(&self, output: u32) -> Trit
         requires { output < length (task self.now).chip.outputs }
-        ensures { IsNetEnd (task self.now).chip (aimed self.now) (bits self.now)
+        ensures { IsNetEnd (aimed_in self.now) (aimed self.now) (bits self.now)
             (slice_index (task self.now).chip.outputs output) result };
 }

@@ -3,6 +3,7 @@
 ghost use Rattle.std.specs.Prelude.{◌≡◌, ◌<◌, ◌+◌, ◌^◌, length, slice_get, Some, IfOk};
 ghost use Rattle.std.specs.List.{All};
 ghost use Rattle.ca_flat.specs.Pair.{bit_count};
+ghost use Rattle.ca_credit.specs.Defects.{IsOfOneChip};
 ghost use Rattle.ca_search.specs.Filled.{trits_of};
 ghost use Rattle.ca_diag.specs.Candidates.{AreCandidates, AreLoggedWithin};
 ghost use Rattle.ca_diag.specs.code.Failing.{AreByPair};
@@ -60,6 +61,7 @@ fn pass_with<S: Simulator>(
     pair: &Pair,
     outputs: &List<u32>,
 )
+    requires one_chip { IsOfOneChip (S.task sim.old) }
     requires bits { length pair.now ≡ bit_count (S.task sim.old).chip }
     requires within { All (λ one. one.defect < length (S.task sim.old).defects) list.old.items }
     requires few { All (λ one. one.explained + length outputs.now < 2 ^ 32) list.old.items }
@@ -84,6 +86,7 @@ fn pass_all<S: Simulator, T: Watch>(
     by: &ByPair,
     watch: &mut T,
 )
+    requires one_chip { IsOfOneChip (S.task sim.old) }
     requires bits { All (λ pair. length pair ≡ bit_count (S.task sim.old).chip) pairs.now }
     requires log { AreLoggedWithin (length pairs.now) (length (S.task sim.old).chip.outputs) log.now }
     requires few { length log.now < 2 ^ 32 }
@@ -110,6 +113,7 @@ pub fn diagnose<S: Simulator, T: Watch>(
     log: &Log,
     watch: &mut T,
 ) -> Result<Candidates, NoMemory>
+    requires one_chip { IsOfOneChip (S.task sim.old) }
     requires few { length (S.task sim.old).defects < 2 ^ 32 }
     requires records { length log.now < 2 ^ 32 }
     requires bits { All (λ pair. length pair ≡ bit_count (S.task sim.old).chip) pairs.now }

@@ -3,7 +3,7 @@
 ghost use Rattle.std.specs.Prelude.{◌≡◌, ◌<◌, ◌^◌, length};
 ghost use Rattle.std.specs.List.{All};
 ghost use Rattle.ca_flat.specs.declared.chip_defect.ChipDefect.{ChipDefect};
-ghost use Rattle.ca_credit.specs.Defects.{IsDefectAt};
+ghost use Rattle.ca_credit.specs.Defects.{IsDefectAt, IsOfOneChip};
 ghost use Rattle.ca_diag.specs.code.Failing.{AreMarked};
 ghost use Rattle.ca_diag.specs.code.Judged.{IsJudged};
 
@@ -15,6 +15,7 @@ use ca_credit::Simulator;
 // The same by waves alone.
 fn judge_by_waves<S: Simulator>(sim: &mut S, failing: &Failing<'_>, place: usize) -> Option<u32>
     requires within { place < length (S.task sim.old).defects }
+    requires one_chip { IsOfOneChip (S.task sim.old) }
     requires few { length failing.now.outputs.now < 2 ^ 32 }
     requires outputs { All (λ output. output < length (S.task sim.old).chip.outputs) failing.now.outputs.now }
     requires room { length failing.now.marks.now ≡ length (S.task sim.old).chip.outputs }
@@ -36,6 +37,7 @@ fn judge_by_waves<S: Simulator>(sim: &mut S, failing: &Failing<'_>, place: usize
 /// alone don't say so.
 pub(crate) fn judge<S: Simulator>(sim: &mut S, failing: &Failing<'_>, place: usize) -> Option<u32>
     requires within { place < length (S.task sim.old).defects }
+    requires one_chip { IsOfOneChip (S.task sim.old) }
     requires few { length failing.now.outputs.now < 2 ^ 32 }
     requires outputs { All (λ output. output < length (S.task sim.old).chip.outputs) failing.now.outputs.now }
     requires room { length failing.now.marks.now ≡ length (S.task sim.old).chip.outputs }

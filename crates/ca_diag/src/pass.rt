@@ -2,6 +2,7 @@
 
 ghost use Rattle.std.specs.Prelude.{◌≡◌, ◌<◌, ◌+◌, ◌^◌, length, slice_get, Some};
 ghost use Rattle.std.specs.List.{All};
+ghost use Rattle.ca_credit.specs.Defects.{IsOfOneChip};
 ghost use Rattle.ca_diag.specs.code.Failing.{AreMarked};
 ghost use Rattle.ca_diag.specs.code.Pass.{IsPass};
 
@@ -21,6 +22,7 @@ fn candidate_at(list: &[Candidate], k: usize) -> Candidate
 /// Leaves out each candidate that the bits which are set are against, and adds to the others what they
 /// explain. The list shrinks where it is.
 pub(crate) fn pass<S: Simulator>(list: &mut Vec<Candidate>, sim: &mut S, failing: &Failing<'_>)
+    requires one_chip { IsOfOneChip (S.task sim.old) }
     requires within { All (λ one. one.defect < length (S.task sim.old).defects) list.old.items }
     requires few { All (λ one. one.explained + length failing.now.outputs.now < 2 ^ 32) list.old.items }
     requires outputs { All (λ output. output < length (S.task sim.old).chip.outputs) failing.now.outputs.now }

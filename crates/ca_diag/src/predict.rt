@@ -32,7 +32,8 @@ fn prediction_of(good: Trit, faulty: Trit) -> Prediction
 
 // What the defect predicts at an observed output, under the bits that are set.
 fn predicted<S: Simulator>(sim: &S, output: u32) -> Prediction
-    requires { output < length (S.task sim.now).chip.outputs }
+    requires within { output < length (S.task sim.now).chip.outputs }
+    requires own { S.aimed_in sim.now ≡ (S.task sim.now).chip }
     ensures { (defect : ChipDefect) → S.aimed sim.now ≡ Some defect
         → IsPrediction (S.task sim.now).chip defect (S.bits sim.now) output result }
 {
@@ -42,6 +43,7 @@ fn predicted<S: Simulator>(sim: &S, output: u32) -> Prediction
 // Whether this is against the defect.
 fn is_against<S: Simulator>(sim: &S, failing: &Failing<'_>, output: u32) -> bool
     requires within { output < length (S.task sim.now).chip.outputs }
+    requires own { S.aimed_in sim.now ≡ (S.task sim.now).chip }
     requires room { length failing.now.marks.now ≡ length (S.task sim.now).chip.outputs }
     requires marked { AreMarked failing.now.outputs.now failing.now.marks.now }
     ensures { (defect : ChipDefect) → S.aimed sim.now ≡ Some defect → IsTrue result
@@ -56,6 +58,7 @@ fn is_against<S: Simulator>(sim: &S, failing: &Failing<'_>, output: u32) -> bool
 
 /// Whether some observed output is against the defect.
 pub(crate) fn is_contradicted<S: Simulator>(sim: &S, failing: &Failing<'_>) -> bool
+    requires own { S.aimed_in sim.now ≡ (S.task sim.now).chip }
     requires room { length failing.now.marks.now ≡ length (S.task sim.now).chip.outputs }
     requires marked { AreMarked failing.now.outputs.now failing.now.marks.now }
     ensures { (defect : ChipDefect) → S.aimed sim.now ≡ Some defect → IsTrue result
@@ -71,7 +74,8 @@ pub(crate) fn is_contradicted<S: Simulator>(sim: &S, failing: &Failing<'_>) -> b
 
 // One where the defect predicts a fail.
 fn one_if_fail<S: Simulator>(sim: &S, output: u32) -> u32
-    requires { output < length (S.task sim.now).chip.outputs }
+    requires within { output < length (S.task sim.now).chip.outputs }
+    requires own { S.aimed_in sim.now ≡ (S.task sim.now).chip }
     ensures one { (defect : ChipDefect) → S.aimed sim.now ≡ Some defect
         → AreSoMany (FailsAt (S.task sim.now).chip defect (S.bits sim.now)) (output ∷ []) result }
     ensures few { result ≤ 1 }
@@ -86,6 +90,7 @@ fn one_if_fail<S: Simulator>(sim: &S, output: u32) -> u32
 pub(crate) fn explained<S: Simulator>(sim: &S, failing: &Failing<'_>) -> u32
     requires few { length failing.now.outputs.now < 2 ^ 32 }
     requires within { All (λ output. output < length (S.task sim.now).chip.outputs) failing.now.outputs.now }
+    requires own { S.aimed_in sim.now ≡ (S.task sim.now).chip }
     ensures { (defect : ChipDefect) → S.aimed sim.now ≡ Some defect
         → AreSoMany (FailsAt (S.task sim.now).chip defect (S.bits sim.now)) failing.now.outputs.now result }
 {

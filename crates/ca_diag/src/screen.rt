@@ -4,7 +4,7 @@ ghost use Rattle.std.specs.Prelude.{◌≡◌, ◌<◌, List, length, IsFalse};
 ghost use Rattle.ca_net.specs.declared.trit.Trit.{Trit};
 ghost use Rattle.ca_flat.specs.declared.chip_defect.ChipDefect.{ChipDefect};
 ghost use Rattle.ca_flat.specs.Chip.{Chip};
-ghost use Rattle.ca_credit.specs.Defects.{IsDefectAt};
+ghost use Rattle.ca_credit.specs.Defects.{IsDefectAt, IsOfOneChip};
 ghost use Rattle.ca_credit.specs.Detection.{IsDecided};
 ghost use Rattle.ca_diag.specs.code.Failing.{AreMarked};
 ghost use Rattle.ca_diag.specs.code.Judged.{IsScreened, IsWithin};
@@ -28,7 +28,8 @@ pub(crate) enum Screen {
 // the rows that expose the defect rule it out.
 #[tactic(auto, using(crate::proofs::ScreenLemmas::ruled_out_stays))]
 fn may_matter<S: Simulator>(sim: &S, failing: &Failing<'_>, place: usize) -> bool
-    requires { place < length (S.task sim.now).defects }
+    requires within { place < length (S.task sim.now).defects }
+    requires one_chip { IsOfOneChip (S.task sim.now) }
     ensures { (defect : ChipDefect) → IsDefectAt (S.task sim.now) place defect → IsFalse result
         → IsScreened (S.task sim.now).chip (S.bits sim.now) failing.now.outputs.now defect Stays }
 {
@@ -68,6 +69,7 @@ fn screened_by(lasts: ByLasts, failing: &Failing<'_>) -> Screen
 /// What the rows that expose a defect, and last values alone, say of it.
 pub(crate) fn screened<S: Simulator>(sim: &mut S, failing: &Failing<'_>, place: usize) -> Screen
     requires within { place < length (S.task sim.old).defects }
+    requires one_chip { IsOfOneChip (S.task sim.old) }
     requires room { length failing.now.marks.now ≡ length (S.task sim.old).chip.outputs }
     requires marked { AreMarked failing.now.outputs.now failing.now.marks.now }
     ensures screened { (defect : ChipDefect) → IsDefectAt (S.task sim.old) place defect

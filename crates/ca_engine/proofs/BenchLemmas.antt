@@ -176,9 +176,9 @@ module _ (seen : Seen) (rows_chip : Chip) (defects : List ChipDefect) (outputs :
   pub search_ends : OutcomeIsSearch → (new : Seen) (budget : ℕ) (code : List Token) (outcome : Outcome)
       → IsSameAim (judged_of seen) (judged_of new) → branch_count code ≤ budget
       → IsOutcome (judged_of new) budget code outcome → (d : ChipDefect) → seen.aim ≡ Some d
-      → IsSearch (record { chip = seen.chip; defects = defects; budget = budget }) d code new.pair outcome
+      → IsSearch seen.chip budget d code new.pair outcome
   search_ends law new budget code outcome same within ends d aimed =
-      law (record { chip = seen.chip; defects = defects; budget = budget }) seen.places d code new.pair outcome
+      law seen.chip budget seen.places d code new.pair outcome
       (searchable d aimed) within
       (subst (λ a. IsOutcome (record { chip = seen.chip; places = seen.places; aim = a; pair = new.pair }) budget
       code outcome) aimed (subst (λ judged. IsOutcome judged budget code outcome) same ends))

@@ -19,9 +19,11 @@ core_can_be_judged view wired law few are = subst CanBeJudged (sym are.core_is) 
   faulty_are = λ defect one. law view.chip (Some defect) wired one (few (Some defect));
 })
 
--- tasks of the same chip, defects and budget are one
-pub task_ext : (one other : Task) → one.chip ≡ other.chip → one.defects ≡ other.defects → one.budget ≡ other.budget → one ≡ other
-task_ext one other chip defects budget =
-    ap (λ (c : Chip). let made : Task = record { chip = c; defects = one.defects; budget = one.budget } in made) chip
-    ∙ ap (λ (l : List ChipDefect). let made : Task = record { chip = other.chip; defects = l; budget = one.budget } in made) defects
-    ∙ ap (λ (n : ℕ). let made : Task = record { chip = other.chip; defects = other.defects; budget = n } in made) budget
+-- tasks of the same chips, defects and budget are one
+pub task_ext : (one other : Task) → one.chip ≡ other.chip → one.chip_of ≡ other.chip_of → one.defects ≡ other.defects → one.budget ≡ other.budget
+    → one ≡ other
+task_ext one other chip chip_of defects budget =
+    ap (λ (c : Chip). let made : Task = record { chip = c; chip_of = one.chip_of; defects = one.defects; budget = one.budget } in made) chip
+    ∙ ap (λ (of : ℕ → Chip). let made : Task = record { chip = other.chip; chip_of = of; defects = one.defects; budget = one.budget } in made) chip_of
+    ∙ ap (λ (l : List ChipDefect). let made : Task = record { chip = other.chip; chip_of = other.chip_of; defects = l; budget = one.budget } in made) defects
+    ∙ ap (λ (n : ℕ). let made : Task = record { chip = other.chip; chip_of = other.chip_of; defects = other.defects; budget = n } in made) budget

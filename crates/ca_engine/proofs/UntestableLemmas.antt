@@ -1,5 +1,5 @@
 -- Marks of defects that no pair detects.
-use Rattle.std.proofs.Common.{◌≡◌, Bool, true, false, List, [], ◌∷◌, ◌++◌, length, inl, inr, sym, ◌∙◌, ap, subst, arith, Some}
+use Rattle.std.proofs.Common.{◌≡◌, ℕ, Bool, true, false, List, [], ◌∷◌, ◌++◌, length, inl, inr, sym, ◌∙◌, ap, subst, arith, Some}
 use Rattle.std.specs.Prelude.{slice_get}
 use Rattle.std.proofs.lemmas.Bool.{cases_lt}
 use Rattle.std.proofs.lemmas.List.{get_or_append_left, get_or_push, get_or_past, length_push}
@@ -28,7 +28,7 @@ one_more chip defects marks mark defect here is before place other at marked = e
 ]
 
 -- marks on the list of a task
-pub marks_are : (core : Chip) (task : Task) (defects : List ChipDefect) (marks : List Bool) → core ≡ task.chip → defects ≡ task.defects → AreMarked core defects marks
+pub marks_are : (core : Chip) (task : Task) (defects : List ChipDefect) (marks : List Bool) → ((place : ℕ) → core ≡ task.chip_of place) → defects ≡ task.defects → AreMarked core defects marks
     → AreUntestable task marks
 marks_are core task defects marks chip_is defects_are are = λ place marked defect at.
-    subst (λ x. IsUntestable x defect) chip_is (are place defect (subst (λ list. slice_get list place ≡ Some defect) (sym defects_are) at) marked)
+    subst (λ x. IsUntestable x defect) (chip_is place) (are place defect (subst (λ list. slice_get list place ≡ Some defect) (sym defects_are) at) marked)

@@ -11,6 +11,7 @@ use Rattle.ca_core.specs.Core.{core_of}
 abbrev pub task_of : LinkedChip → ℕ → Task
 task_of chip budget = record {
   chip = core_of chip;
+  chip_of = λ place. core_of chip;
   defects = chip_defects (core_of chip) (gates_of chip);
   budget = budget;
 }

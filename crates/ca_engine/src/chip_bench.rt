@@ -11,9 +11,9 @@ use ca_chip_defects::{ChipDefects, chip_defects};
 use ca_credit::{ByLasts, Simulator};
 use ca_flat::ChipDefect;
 use ca_flatten::{flat_is_well_formed, judge_size};
-use ca_generate::{Bench, outcome_is_search};
+use ca_generate::{Bench, PartialBench, outcome_is_search};
 use ca_guide::Choice;
-use ca_net::Trit;
+use ca_net::{State, Trit};
 use ca_pair::Pair;
 use ca_rows::ExposableDefects;
 use ca_search::{Code, Judge, Outcome, Search};
@@ -43,11 +43,9 @@ impl<'a, R: ExposableDefects, P: Choice + Drop> Model for ChipBench<'a, R, P> {
     ghost Value = { Benched };
 
     ghost view = { λ bench. record {
-      task = record {
-        chip = bench.judge.seen.chip;
-        defects = bench.defects;
-        budget = bench.search.budget;
-      };
+      chip = bench.judge.seen.chip;
+      defects = bench.defects;
+      budget = bench.search.budget;
       bits = bench.judge.seen.pair;
       aimed = bench.judge.seen.aim;
       code = bench.search.code;
@@ -61,13 +59,14 @@ impl<'a, R: ExposableDefects, P: Choice + Drop> Model for ChipBench<'a, R, P> {
 }
 
 impl<'a, R: ExposableDefects, P: Choice + Drop> ChipBench<'a, R, P> {
-    ghost use Rattle.ca_engine.specs.ChipBench.{IsUnused};
+    ghost use Rattle.std.specs.List.{All};
+    ghost use Rattle.ca_view.specs.Linked.{IsPlacedDefect, place_in};
+    ghost use Rattle.ca_engine.specs.ChipBench.{IsUnused, task_in};
 
     /// The bench of a linked chip. Its task is to search for each defect of a library instance, with at most
     /// `budget` branches. No bit is set, and no defect is aimed at. Also answers out of memory for a
     /// chip with 2^32 observed outputs, with 2^32 defects or whose flat network may have 2^32 nodes or
     /// devices.
-    #[tactic(auto, using(crate::proofs::CoreLemmas::core_can_be_judged))]
     pub fn reserve(
         alloc: Global,
         view: &'a View<'a>,
@@ -76,8 +75,33 @@ impl<'a, R: ExposableDefects, P: Choice + Drop> ChipBench<'a, R, P> {
         budget: u32,
     ) -> Result<Self, NoMemory>
         requires { R.chip rows.now ≡ view.now.core }
-        ensures task { IfOk result (λ bench. bench.task ≡ task_of view.now.chip budget) }
-        ensures few { IfOk result (λ bench. length bench.task.defects < 2 ^ 32) }
+        ensures task { IfOk result (λ bench. task_in bench ≡ task_of view.now.chip budget) }
+        ensures few { IfOk result (λ bench. length bench.defects < 2 ^ 32) }
+        ensures unused { IfOk result IsUnused }
+    {
+        view.viewed();
+        let defects = chip_defects(alloc, view)?;
+        let bench = ChipBench::reserve_for(alloc, view, rows, choice, defects, budget)?;
+        Ok(bench)
+    }
+
+    /// The same for these defects of library instances alone, in this order.
+    #[tactic(auto, using(crate::proofs::CoreLemmas::core_can_be_judged))]
+    pub fn reserve_for(
+        alloc: Global,
+        view: &'a View<'a>,
+        rows: &'a R,
+        choice: P,
+        defects: ChipDefects,
+        budget: u32,
+    ) -> Result<Self, NoMemory>
+        requires rows { R.chip rows.now ≡ view.now.core }
+        requires placed { All (IsPlacedDefect view.now.core (place_in view.now.ranks)) defects }
+
+        ensures chip { IfOk result (λ bench. bench.chip ≡ view.now.core) }
+        ensures defects { IfOk result (λ bench. bench.defects ≡ defects) }
+        ensures budget { IfOk result (λ bench. bench.budget ≡ budget) }
+        ensures few { IfOk result (λ bench. length bench.defects < 2 ^ 32) }
         ensures unused { IfOk result IsUnused }
     {
         view.viewed();
@@ -85,7 +109,6 @@ impl<'a, R: ExposableDefects, P: Choice + Drop> ChipBench<'a, R, P> {
         flat_is_well_formed();
         judge_size(alloc, view.chip())?;
         // The largest comes last: each that is there when memory runs out is dropped once more.
-        let defects = chip_defects(alloc, view)?;
         if view.output_count() > u32::MAX as usize || defects.len() > u32::MAX as usize {
             return Err(NoMemory);
         }
@@ -118,11 +141,15 @@ impl<'a, R: ExposableDefects, P: Choice + Drop> ChipBench<'a, R, P> {
 }
 
 impl<R: ExposableDefects, P: Choice + Drop> Simulator for ChipBench<'_, R, P> {
-    ghost task = { λ bench. bench.task };
+    ghost use Rattle.ca_engine.specs.ChipBench.{task_in};
+
+    ghost task = { λ bench. task_in bench };
 
     ghost bits = { λ bench. bench.bits };
 
     ghost aimed = { λ bench. bench.aimed };
+
+    ghost aimed_in = { λ bench. bench.chip };
 
     ghost aims = { λ bench. bench.aims };
 
@@ -220,5 +247,21 @@ impl<R: ExposableDefects, P: Choice + Drop> Bench for ChipBench<'_, R, P> {
 
     fn keep_code(&self, alloc: Global) -> Result<Code, NoMemory> {
         self.search.keep_code(alloc)
+    }
+}
+
+impl<R: ExposableDefects, P: Choice + Drop> PartialBench for ChipBench<'_, R, P> {
+    fn bit_at(&self, bit: usize) -> Trit {
+        match self.judge.bit(bit) {
+            Some(true) => Trit::One,
+            Some(false) => Trit::Zero,
+            None => Trit::X,
+        }
+    }
+
+    #[tactic(auto, using(crate::proofs::BenchLemmas::bench_loads))]
+    fn load_partial(&mut self, bits: &State) {
+        self.judge.exact();
+        self.judge.load(bits);
     }
 }

@@ -2,7 +2,7 @@
 
 ghost use Rattle.ca_expected.specs.Laws.{AimedPairsAreWhole};
 
-/// Pairs that were found for defects of a chip have all its pattern bits.
+/// Pairs that were found for targets have all pattern bits of the chip.
 pub fn aimed_pairs_are_whole()
     ensures { AimedPairsAreWhole }
 {}

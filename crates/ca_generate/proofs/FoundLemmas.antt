@@ -15,7 +15,6 @@ use Rattle.ca_flat.specs.Pair.{bit_count}
 use Rattle.ca_flat.specs.Codes.{Reading, At, Ended, unset_pair, bit_trit, following, Rules, Reads, IsFrontBy}
 use Rattle.ca_flat.specs.Codes.{IsWholeCode}
 use Rattle.ca_flat.proofs.Codes.{whole_is_ruled_out_lem}
-use Rattle.ca_credit.specs.Defects.{Task}
 use Rattle.ca_search.specs.Filled.{trits_of, filled_bit, filled}
 use Rattle.ca_search.proofs.FilledLemmas.{filled_is_shown_lem}
 use Rattle.ca_credit.specs.Detection.{Detects, IsUntestable}
@@ -60,18 +59,18 @@ known_bits (false ∷ pair) zero within = λ e. cc
 known_bits (value ∷ pair) (suc bit) within = known_bits pair bit (omega arith)
 
 -- the pair that was found detects the defect
-pub found_detects : (task : Task) (defect : ChipDefect) (pair : List Bool)
-    → IsFoundFor task.chip task.budget defect pair → Detects task.chip defect pair
-found_detects task defect pair found =
-    subst (Detects task.chip defect) (sym found.fills) (filled_is_shown_lem task.chip defect found.partial
-    (length-front _ task.chip found.code found.partial found.front) found.shown)
+pub found_detects : (chip : Chip) (budget : ℕ) (defect : ChipDefect) (pair : List Bool)
+    → IsFoundFor chip budget defect pair → Detects chip defect pair
+found_detects chip budget defect pair found =
+    subst (Detects chip defect) (sym found.fills) (filled_is_shown_lem chip defect found.partial
+    (length-front _ chip found.code found.partial found.front) found.shown)
 
 -- it has a value for each bit
-pub length-found : (task : Task) (defect : ChipDefect) (pair : List Bool)
-    → IsFoundFor task.chip task.budget defect pair → length pair ≡ bit_count task.chip
-length-found task defect pair found =
+pub length-found : (chip : Chip) (budget : ℕ) (defect : ChipDefect) (pair : List Bool)
+    → IsFoundFor chip budget defect pair → length pair ≡ bit_count chip
+length-found chip budget defect pair found =
     ap length found.fills ∙ length-map found.partial filled_bit
-    ∙ length-front _ task.chip found.code found.partial found.front
+    ∙ length-front _ chip found.code found.partial found.front
 
 unset_below : (count : ℕ) (whole : List Trit) (n : ℕ) → IsBelow (value_at (replicate count X) n) (value_at whole n)
 unset_below count whole n = inl (unset_at count n)
@@ -89,10 +88,10 @@ whole_is_untestable chip defect code whole pair sized = whole_is_ruled_out_lem c
 })
 
 -- the pair that a search has found
-pub found_pair : (task : Task) (defect : ChipDefect) (code : List Token) (partial : List Trit)
-    (pair : List Bool) → IsSearch task defect code partial Found → pair ≡ filled partial
-    → IsFoundFor task.chip task.budget defect pair
-found_pair task defect code partial pair search fills = record {
+pub found_pair : (chip : Chip) (budget : ℕ) (defect : ChipDefect) (code : List Token) (partial : List Trit)
+    (pair : List Bool) → IsSearch chip budget defect code partial Found → pair ≡ filled partial
+    → IsFoundFor chip budget defect pair
+found_pair chip budget defect code partial pair search fills = record {
   partial = partial;
   code = code;
   front = search.ends.front;

@@ -36,7 +36,7 @@ entry_of_verdict task turns table pairs aims place defect verdict stands known h
 
 -- a defect that can't be exposed can only be unexposable
 only_unexposable : (task : Task) (turns : ℕ) (pairs : List (List Bool)) (aims : List ℕ) (place : ℕ) (defect : ChipDefect) (verdict : Option Verdict)
-    → IsEntry task turns pairs aims place defect verdict → ¬ (IsExposableIn task.chip defect) → verdict ≡ Some Unexposable
+    → IsEntry task turns pairs aims place defect verdict → ¬ (IsExposableIn (task.chip_of place) defect) → verdict ≡ Some Unexposable
 only_unexposable task turns pairs aims place defect None is not = absurd (not is.exposable)
 only_unexposable task turns pairs aims place defect (Some (Credited pair output)) is not = absurd (not is.exposable)
 only_unexposable task turns pairs aims place defect (Some Unexposable) is not = refl

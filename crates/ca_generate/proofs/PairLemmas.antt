@@ -31,15 +31,15 @@ ascend_distinct numbers ascending = IsDistinct-from_apart eqb numbers apart
         by true e = let same = eqb-true (get_or numbers i d) (get_or numbers j d) e in absurd (omega (arith, low, same))
 
 module _ (task : Task) (pairs : List (List Bool)) (aims places : List ℕ)
-    (searchable : (place : ℕ) (defect : ChipDefect) → IsDefectAt task place defect → IsSearchable task.chip defect)
+    (searchable : (place : ℕ) (defect : ChipDefect) → IsDefectAt task place defect → IsSearchable (task.chip_of place) defect)
     (has : HasExposable task places) (are : AreAims task pairs aims) where
   -- an aim whose place isn't listed can't be exposed, but its pair detects it
   unlisted : (number aim : ℕ) → slice_get aims number ≡ Some aim → (Contains places aim → ⊥) → ⊥
   unlisted number aim at none =
       let is : IsAim task pairs number aim = are.each number aim at in
       let defect = is.found_at.defect in
-      let detects = subst (λ found. IsSomeAnd found (Detects task.chip defect)) is.is_pair is.first.here in
-      unexposable_is_undetected_lem task.chip defect is.pair (searchable aim defect is.found_at.is_defect)
+      let detects = subst (λ found. IsSomeAnd found (Detects (task.chip_of aim) defect)) is.is_pair is.first.here in
+      unexposable_is_undetected_lem (task.chip_of aim) defect is.pair (searchable aim defect is.found_at.is_defect)
       (λ exposed. none (has aim defect is.found_at.is_defect exposed)) detects
 
   listed : (aim : ℕ) → list_any (eqb aim) aims ≡ true → list_any (eqb aim) places ≡ true

@@ -6,6 +6,8 @@ use Rattle.std.specs.Prelude.{slice_set}
 use Rattle.ca_net.specs.declared.trit.Trit.{Trit}
 use Rattle.ca_flat.specs.declared.chip_defect.ChipDefect.{ChipDefect}
 use Rattle.ca_flat.specs.declared.token.Token.{Token}
+use Rattle.ca_flat.specs.Chip.{Chip}
+use Rattle.ca_search.specs.declared.trail.Outcome.{Outcome}
 use Rattle.ca_search.specs.declared.trail.Outcome.TheVariants.{Found}
 use Rattle.ca_search.specs.Filled.{filled}
 use Rattle.ca_credit.specs.declared.verdict.Verdict.{Verdict}
@@ -19,12 +21,12 @@ use Rattle.ca_generate.specs.code.Progress.{IsScreened, IsScreenedEntry}
 
 -- one more that can be exposed
 pub screened_open : (task : Task) (count : ℕ) (table : List (Option Verdict)) → IsScreened task count table
-    → ((defect : ChipDefect) → IsDefectAt task count defect → IsExposableIn task.chip defect) → IsScreened task (count + 1) table
+    → ((defect : ChipDefect) → IsDefectAt task count defect → IsExposableIn (task.chip_of count) defect) → IsScreened task (count + 1) table
 screened_open task count table is exposable = record {
   as_many = is.as_many;
   entries = λ place defect below at. elim (ℕ_discrete place count) [
-    | yes e ↦ subst (λ verdict. IsScreenedEntry task defect verdict) (sym (is.others place (omega arith)))
-        (exposable defect (subst (λ k. IsDefectAt task k defect) e at))
+    | yes e ↦ subst (λ verdict. IsScreenedEntry (task.chip_of place) defect verdict) (sym (is.others place (omega arith)))
+        (subst (λ k. IsExposableIn (task.chip_of k) defect) (sym e) (exposable defect (subst (λ k. IsDefectAt task k defect) e at)))
     | no differ ↦ is.entries place defect (let far : place ≡ count → ⊥ = differ in omega arith) at
   ];
   others = λ place from. is.others place (omega arith);
@@ -33,14 +35,15 @@ screened_open task count table is exposable = record {
 -- one more that can't
 pub screened_closed : (task : Task) (count : ℕ) (table new : List (Option Verdict)) → IsScreened task count table → count < length table
     → new ≡ slice_set table count (Some Unexposable)
-    → ((defect : ChipDefect) → IsDefectAt task count defect → IsExposableIn task.chip defect → ⊥) → IsScreened task (count + 1) new
+    → ((defect : ChipDefect) → IsDefectAt task count defect → IsExposableIn (task.chip_of count) defect → ⊥) → IsScreened task (count + 1) new
 screened_closed task count table new is within new_is closed = record {
   as_many = ap length new_is ∙ length-set table count (Some Unexposable) ∙ is.as_many;
   entries = λ place defect below at. elim (ℕ_discrete place count) [
-    | yes e ↦ subst (λ verdict. IsScreenedEntry task defect verdict)
+    | yes e ↦ subst (λ verdict. IsScreenedEntry (task.chip_of place) defect verdict)
         (sym (ap (verdict_at new) e ∙ ap (λ list. verdict_at list count) new_is ∙ verdict_at-set table count (Some Unexposable) within))
-        (closed defect (subst (λ k. IsDefectAt task k defect) e at))
-    | no differ ↦ subst (λ verdict. IsScreenedEntry task defect verdict)
+        (λ exposed. closed defect (subst (λ k. IsDefectAt task k defect) e at)
+        (subst (λ k. IsExposableIn (task.chip_of k) defect) e exposed))
+    | no differ ↦ subst (λ verdict. IsScreenedEntry (task.chip_of place) defect verdict)
         (sym (ap (λ list. verdict_at list place) new_is ∙ verdict_at-other table count place (Some Unexposable) differ))
         (is.entries place defect (let far : place ≡ count → ⊥ = differ in omega arith) at)
   ];
@@ -48,9 +51,17 @@ screened_closed task count table new is within new_is closed = record {
       ∙ verdict_at-other table count place (Some Unexposable) (λ e. absurd (omega arith)) ∙ is.others place (omega arith);
 }
 
+-- the end of a search for what was aimed at is that for the defect at its place
+pub searched_here : (task same : Task) (aimed_in : Chip) (place : ℕ) (defect : ChipDefect) (code : List Token) (partial : List Trit) (outcome : Outcome)
+    → aimed_in ≡ task.chip_of place → same ≡ task → IsSearch aimed_in same.budget defect code partial outcome
+    → IsSearch (task.chip_of place) task.budget defect code partial outcome
+searched_here task same aimed_in place defect code partial outcome chip_is same_is is =
+    subst (λ (t : Task). IsSearch (task.chip_of place) t.budget defect code partial outcome) same_is
+    (subst (λ (x : Chip). IsSearch x same.budget defect code partial outcome) chip_is is)
+
 -- the pair that a search has found
-pub found_for : (task : Task) (defect : ChipDefect) (code : List Token) (partial : List Trit) (pair : List Bool) → IsSearch task defect code partial Found
-    → pair ≡ filled partial → IsFoundFor task.chip task.budget defect pair
-found_for task defect code partial pair is fills =
+pub found_for : (chip : Chip) (budget : ℕ) (defect : ChipDefect) (code : List Token) (partial : List Trit) (pair : List Bool)
+    → IsSearch chip budget defect code partial Found → pair ≡ filled partial → IsFoundFor chip budget defect pair
+found_for chip budget defect code partial pair is fills =
     let ends = is.ends in
     record { partial = partial; code = code; front = ends.front; within = is.within; shown = ends.shown; fills = fills }

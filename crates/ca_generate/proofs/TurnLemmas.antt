@@ -87,7 +87,7 @@ turn_settled task place table pairs aims defect verdict stands is_defect entry =
 
 -- the turn of a defect that is known to be untestable
 pub turn_untestable : (task : Task) (place : ℕ) (table : List (Option Verdict)) (pairs : List (List Bool)) (aims : List ℕ) (defect : ChipDefect)
-    → StandsAfter task place table pairs aims → verdict_at table place ≡ None → IsDefectAt task place defect → IsUntestable task.chip defect
+    → StandsAfter task place table pairs aims → verdict_at table place ≡ None → IsDefectAt task place defect → IsUntestable (task.chip_of place) defect
     → StandsAfter task (place + 1) (slice_set table place (Some Untestable)) pairs aims
 turn_untestable task place table pairs aims defect stands none is untestable =
     let waiting = waiting_of task place table pairs aims place defect stands none is in
@@ -96,14 +96,14 @@ turn_untestable task place table pairs aims defect stands none is untestable =
 
 -- the turn of a defect for which the search was exhausted
 pub turn_exhausted : (task : Task) (place : ℕ) (table : List (Option Verdict)) (pairs : List (List Bool)) (aims : List ℕ) (defect : ChipDefect) (code : List Token)
-    → StandsAfter task place table pairs aims → verdict_at table place ≡ None → IsDefectAt task place defect → IsWholeCode task.chip defect code
+    → StandsAfter task place table pairs aims → verdict_at table place ≡ None → IsDefectAt task place defect → IsWholeCode (task.chip_of place) defect code
     → StandsAfter task (place + 1) (slice_set table place (Some Untestable)) pairs aims
 turn_exhausted task place table pairs aims defect code stands none is whole =
-    turn_untestable task place table pairs aims defect stands none is (whole_is_untestable task.chip defect code whole)
+    turn_untestable task place table pairs aims defect stands none is (whole_is_untestable (task.chip_of place) defect code whole)
 
 -- the turn of a defect for which the search spent its budget
 pub turn_spent : (task : Task) (place : ℕ) (table : List (Option Verdict)) (pairs : List (List Bool)) (aims : List ℕ) (defect : ChipDefect) (code : List Token)
-    → StandsAfter task place table pairs aims → verdict_at table place ≡ None → IsDefectAt task place defect → IsSpentCode task.chip defect task.budget code → IsCheckedSpent task.chip defect task.budget code
+    → StandsAfter task place table pairs aims → verdict_at table place ≡ None → IsDefectAt task place defect → IsSpentCode (task.chip_of place) defect task.budget code → IsCheckedSpent (task.chip_of place) defect task.budget code
     → StandsAfter task (place + 1) (slice_set table place (Some (Aborted code))) pairs aims
 turn_spent task place table pairs aims defect code stands none is spent checked =
     let waiting = waiting_of task place table pairs aims place defect stands none is in
@@ -123,15 +123,15 @@ detection_stays chip defect pairs more pair output first = record {
 
 -- one to the new pair, where no earlier one detected the defect
 credited_new : (task : Task) (place : ℕ) (pairs : List (List Bool)) (aims : List ℕ) (pair : List Bool) (other : ℕ) (defect : ChipDefect) (new : Option Verdict)
-    → length aims ≡ length pairs → IsExposableIn task.chip defect → NoneDetects task.chip defect pairs → (IsAmple task → place ≤ other)
-    → IsCredit task.chip pair (length pairs) defect new
+    → length aims ≡ length pairs → IsExposableIn (task.chip_of other) defect → NoneDetects (task.chip_of other) defect pairs → (IsAmple task → place ≤ other)
+    → IsCredit (task.chip_of other) pair (length pairs) defect new
     → IsEntry task (place + 1) (pairs ++ pair ∷ []) (aims ++ place ∷ []) other defect new
 credited_new task place pairs aims pair other defect new one_each exposable none from credit =
     subst (IsEntry task (place + 1) (pairs ++ pair ∷ []) (aims ++ place ∷ []) other defect) (sym credit.credited) (record {
       exposable = exposable;
       first = record {
-        first_pair = first_new (Detects task.chip defect) pairs pair none credit.detects;
-        first_output = some_new pairs pair (IsFirstOutput task.chip defect credit.output) credit.first;
+        first_pair = first_new (Detects (task.chip_of other) defect) pairs pair none credit.detects;
+        first_output = some_new pairs pair (IsFirstOutput (task.chip_of other) defect credit.output) credit.first;
       };
       least = λ ample aim is. elim (entry_is aims place (length pairs) aim is) [
         | inl old ↦ let lt = slice_get_within aims (length pairs) aim old in absurd (omega arith)
@@ -141,21 +141,21 @@ credited_new task place pairs aims pair other defect new one_each exposable none
 
 -- what the new pair makes of each entry
 entry_found : (task : Task) (place : ℕ) (pairs : List (List Bool)) (aims : List ℕ) (pair : List Bool) (other : ℕ) (defect : ChipDefect) (old new : Option Verdict)
-    → length aims ≡ length pairs → IsDefectAt task other defect → (other ≡ place → Detects task.chip defect pair)
-    → IsEntry task place pairs aims other defect old → IsAfterPair task.chip pair (length pairs) defect old new
+    → length aims ≡ length pairs → IsDefectAt task other defect → (other ≡ place → Detects (task.chip_of other) defect pair)
+    → IsEntry task place pairs aims other defect old → IsAfterPair (task.chip_of other) pair (length pairs) defect old new
     → IsEntry task (place + 1) (pairs ++ pair ∷ []) (aims ++ place ∷ []) other defect new
 entry_found task place pairs aims pair other defect None new one_each is here entry after = elim after [
   | inl credit ↦ credited_new task place pairs aims pair other defect new one_each entry.exposable entry.undetected (λ ample. entry.to_come) credit
   | inr kept ↦ subst (IsEntry task (place + 1) (pairs ++ pair ∷ []) (aims ++ place ∷ []) other defect) (sym kept.same) (record {
     to_come = (let far : other ≡ place → ⊥ = λ e. kept.undetected (here e) in let from = entry.to_come in omega arith);
     exposable = entry.exposable;
-    undetected = All-push (λ x. ¬ (Detects task.chip defect x)) pairs pair entry.undetected kept.undetected;
+    undetected = All-push (λ x. ¬ (Detects (task.chip_of other) defect x)) pairs pair entry.undetected kept.undetected;
   })
 ]
 entry_found task place pairs aims pair other defect (Some (Credited before output)) new one_each is here entry after =
     subst (IsEntry task (place + 1) (pairs ++ pair ∷ []) (aims ++ place ∷ []) other defect) (sym after) (record {
       exposable = entry.exposable;
-      first = detection_stays task.chip defect pairs (pair ∷ []) before output entry.first;
+      first = detection_stays (task.chip_of other) defect pairs (pair ∷ []) before output entry.first;
       least = λ ample aim is_aim. elim (entry_is aims place before aim is_aim) [
         | inl old ↦ entry.least ample aim old
         | inr past ↦ absurd (let lt = some_within pairs _ before entry.first.first_output in let e : before ≡ length aims = past.0 in omega arith)
@@ -171,7 +171,7 @@ entry_found task place pairs aims pair other defect (Some (Aborted code)) new on
   | inr kept ↦ subst (IsEntry task (place + 1) (pairs ++ pair ∷ []) (aims ++ place ∷ []) other defect) (sym kept.same) (record {
     rightly = record {
       exposable = entry.rightly.exposable;
-      undetected = All-push (λ x. ¬ (Detects task.chip defect x)) pairs pair entry.rightly.undetected kept.undetected;
+      undetected = All-push (λ x. ¬ (Detects (task.chip_of other) defect x)) pairs pair entry.rightly.undetected kept.undetected;
       spent = entry.rightly.spent;
     };
     checked = entry.checked;
@@ -184,7 +184,7 @@ pub aims_found : (task : Task) (place : ℕ) (table : List (Option Verdict)) (pa
     → AreAims task (pairs ++ pair ∷ []) (aims ++ place ∷ [])
 aims_found task place table pairs aims pair stands none found =
     let waiting = waiting_of task place table pairs aims place found.defect stands none found.is_defect in
-    let detects = found_detects task found.defect pair found.found in
+    let detects = found_detects (task.chip_of place) task.budget found.defect pair found.found in
     let before = stands.aims_are in
     let one_each : length aims ≡ length pairs = before.one_each in
     record {
@@ -208,7 +208,7 @@ aims_found task place table pairs aims pair stands none found =
               pair = aimed.pair;
               is_pair = entry_stays pairs (pair ∷ []) number aimed.pair aimed.is_pair;
               found_at = aimed.found_at;
-              first = first_stays (Detects task.chip aimed.found_at.defect) pairs (pair ∷ []) number aimed.first;
+              first = first_stays (Detects (task.chip_of aim) aimed.found_at.defect) pairs (pair ∷ []) number aimed.first;
             }
         | inr new ↦
             subst (λ (n : ℕ). IsAim task (pairs ++ pair ∷ []) n aim) (sym (new.0 ∙ one_each))
@@ -216,7 +216,7 @@ aims_found task place table pairs aims pair stands none found =
               pair = pair;
               is_pair = entry_new pairs pair;
               found_at = found;
-              first = first_new (Detects task.chip found.defect) pairs pair waiting.undetected detects;
+              first = first_new (Detects (task.chip_of place) found.defect) pairs pair waiting.undetected detects;
             }))
       ];
     }
@@ -227,7 +227,7 @@ pub turn_found : (task : Task) (place : ℕ) (table new : List (Option Verdict))
     → length pairs < MOST_PAIRS → CreditsPair task pair (length pairs) table new
     → StandsAfter task (place + 1) new (pairs ++ pair ∷ []) (aims ++ place ∷ [])
 turn_found task place table new pairs aims pair stands none found few credits =
-    let detects = found_detects task found.defect pair found.found in
+    let detects = found_detects (task.chip_of place) task.budget found.defect pair found.found in
     let one_each : length aims ≡ length pairs = stands.aims_are.one_each in
     let count : length table ≡ length (task.defects) = stands.as_many in
     let below = λ (other : ℕ) (d : ChipDefect) (is : IsDefectAt task other d).
@@ -235,8 +235,8 @@ turn_found task place table new pairs aims pair stands none found few credits =
     record {
       as_many = credits.as_many ∙ stands.as_many;
       entries = λ other d is. entry_found task place pairs aims pair other d (verdict_at table other) (verdict_at new other) one_each is
-          (λ e. subst (λ (x : ChipDefect). Detects task.chip x pair)
-          (same_defect task place found.defect d found.is_defect (subst (λ (k : ℕ). IsDefectAt task k d) e is)) detects)
+          (λ e. subst (λ (k : ℕ). Detects (task.chip_of k) d pair) (sym e) (subst (λ (x : ChipDefect). Detects (task.chip_of place) x pair)
+          (same_defect task place found.defect d found.is_defect (subst (λ (k : ℕ). IsDefectAt task k d) e is)) detects))
           (stands.entries other d is) (credits.each other d (below other d is) is);
       within = (let l = length-append pairs (pair ∷ []) in omega arith);
       aims_are = aims_found task place table pairs aims pair stands none found;
@@ -250,11 +250,11 @@ turn_found task place table new pairs aims pair stands none found few credits =
             let aimed = (stands.aims_are.each number aim old).found_at in
             record {
               output = credit.output;
-              credited = subst (λ (v : Option Verdict). IsAfterPair task.chip pair (length pairs) aimed.defect v (verdict_at new aim)) credit.credited
+              credited = subst (λ (v : Option Verdict). IsAfterPair (task.chip_of aim) pair (length pairs) aimed.defect v (verdict_at new aim)) credit.credited
                   (credits.each aim aimed.defect (below aim aimed.defect aimed.is_defect) aimed.is_defect);
             }
         | inr past ↦
-            let after = subst (λ (v : Option Verdict). IsAfterPair task.chip pair (length pairs) found.defect v (verdict_at new place)) none
+            let after = subst (λ (v : Option Verdict). IsAfterPair (task.chip_of place) pair (length pairs) found.defect v (verdict_at new place)) none
             (credits.each place found.defect (below place found.defect found.is_defect) found.is_defect) in
             subst (λ (n : ℕ). IsCreditAt new n aim) (sym (past.0 ∙ one_each))
             (subst (λ (a : ℕ). IsCreditAt new (length pairs) a) (sym past.1)
@@ -266,7 +266,7 @@ turn_found task place table new pairs aims pair stands none found few credits =
     }
 
 -- before the first turn
-screened_entry : (task : Task) (place : ℕ) (defect : ChipDefect) (verdict : Option Verdict) → IsScreenedEntry task defect verdict
+screened_entry : (task : Task) (place : ℕ) (defect : ChipDefect) (verdict : Option Verdict) → IsScreenedEntry (task.chip_of place) defect verdict
     → IsEntry task 0 [] [] place defect verdict
 screened_entry task place defect None is = record { to_come = omega arith; exposable = is; undetected = All-nil _ }
 screened_entry task place defect (Some (Credited pair output)) is = absurd is

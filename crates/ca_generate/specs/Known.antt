@@ -7,7 +7,7 @@ use Rattle.ca_credit.specs.Detection.{IsUntestable}
 -- no pair of the chip detects the defect at the place of the list
 abbrev pub IsUntestableAt : Task → ℕ → Type 0
 IsUntestableAt task place =
-    (defect : ChipDefect) → IsDefectAt task place defect → IsUntestable task.chip defect
+    (defect : ChipDefect) → IsDefectAt task place defect → IsUntestable (task.chip_of place) defect
 
 -- so it is at each marked place; past the marks none is marked
 abbrev pub AreUntestable : Task → List Bool → Type 0

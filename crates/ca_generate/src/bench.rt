@@ -2,6 +2,7 @@
 
 use ca_base::NoMemory;
 use ca_credit::Simulator;
+use ca_net::{State, Trit};
 use ca_search::{Code, Outcome};
 use std::alloc::Global;
 
@@ -22,13 +23,14 @@ pub trait Bench: Simulator {
     fn is_exposable(&self, place: usize) -> bool
         requires { place < length (Self.task self.now).defects }
         ensures { (defect : ChipDefect) → IsDefectAt (Self.task self.now) place defect
-            → IsTrue result ↔ IsExposableIn (Self.task self.now).chip defect };
+            → IsTrue result ↔ IsExposableIn ((Self.task self.now).chip_of place) defect };
 
     /// Searches for a partial pair that shows the defect that is aimed at. Afterwards the bits are those of
     /// the partial pair at which the search has ended.
     fn find(&mut self) -> Outcome
         ensures searched { (defect : ChipDefect) → Self.aimed self.old ≡ Some defect
-            → IsSearch (Self.task self.old) defect (code self.new) (Self.bits self.new) result }
+            → IsSearch (Self.aimed_in self.old) (Self.task self.old).budget defect (code self.new)
+            (Self.bits self.new) result }
         ensures task { Self.task self.new ≡ Self.task self.old };
 
     /// The number of pattern bits.
@@ -43,4 +45,27 @@ pub trait Bench: Simulator {
     /// The code that the last search wrote.
     fn keep_code(&self, alloc: Global) -> Result<Code, NoMemory>
         ensures { IfOk result (λ kept. kept ≡ code self.now) };
+}
+
+/// A bench that takes over the bits of another one, which may be those of a partial pair.
+pub trait PartialBench: Bench {
+    ghost use Rattle.std.specs.Prelude.{◌≡◌, ◌<◌, length};
+    ghost use Rattle.ca_net.specs.State.{value_at};
+    ghost use Rattle.ca_flat.specs.Pair.{bit_count};
+
+    /// What a bit is set to, X where it is unset.
+    fn bit_at(&self, bit: usize) -> Trit
+        requires { bit < length (Self.bits self.now) }
+        ensures { result ≡ value_at (Self.bits self.now) bit };
+
+    /// Sets the bits that aren't X, and no other. The aim stays, and so does the code of the last search.
+    fn load_partial(&mut self, bits: &State)
+        requires { length bits.now ≡ bit_count (Self.task self.old).chip }
+
+        ensures task { Self.task self.new ≡ Self.task self.old }
+        ensures bits { Self.bits self.new ≡ bits.now }
+        ensures aimed { Self.aimed self.new ≡ Self.aimed self.old }
+        ensures aimed_in { Self.aimed_in self.new ≡ Self.aimed_in self.old }
+        ensures aims { Self.aims self.new ≡ Self.aims self.old }
+        ensures code { Self.code self.new ≡ Self.code self.old };
 }

@@ -1,6 +1,7 @@
 //! The turn of a defect: it is searched for, unless it has a verdict or is known to be untestable.
 
 ghost use Rattle.std.specs.Prelude.{◌≡◌, ◌<◌, ◌^◌, ◌+◌, length, IfOk, IfErr, None, true};
+ghost use Rattle.ca_credit.specs.Defects.{StandsIn};
 ghost use Rattle.ca_credit.specs.Listed.{IsFoundAt};
 ghost use Rattle.ca_credit.specs.Table.{verdict_at};
 ghost use Rattle.ca_generate.specs.GenerateFault.{IsCause};
@@ -85,6 +86,7 @@ impl Work {
         requires stands { WorkStands (B.task bench.old) place self }
         requires waiting { verdict_at self.credits place ≡ None }
         requires found { IsFoundAt (B.task bench.old) place pair }
+        requires stands_in { StandsIn (B.task bench.old).chip ((B.task bench.old).chip_of place) }
 
         ensures ok { IfOk result (WorkStands (B.task bench.old) (place + 1)) }
         ensures cause { IfErr result (IsCause (B.task bench.old)) }

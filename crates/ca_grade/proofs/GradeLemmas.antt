@@ -12,8 +12,7 @@ use Rattle.ca_credit.specs.declared.verdict.Verdict.{Verdict}
 use Rattle.ca_credit.specs.declared.verdict.Verdict.TheVariants as verdict
 use Rattle.ca_credit.specs.Defects.{Task}
 use Rattle.ca_credit.specs.Detection.{Detects, NoneDetects, IsFirstOutput}
-use Rattle.ca_credit.specs.Table.{verdict_at, IsAfterPair, CreditsPair, CreditsBlock}
-use Rattle.ca_credit.specs.Table.CreditsBlock.{Begins, Credits}
+use Rattle.ca_credit.specs.Table.{verdict_at, IsAfterPair, CreditsPair}
 use Rattle.ca_grade.specs.declared.grade.Grade.{Grade}
 use Rattle.ca_grade.specs.Graded.{IsGrade, AreGraded}
 use Rattle.ca_grade.specs.code.Table.{grade_of, IsVerdictAfter, AreVerdictsAfter, AreMarkedUpTo}
@@ -54,7 +53,7 @@ step chip pairs n pair defect (Some verdict.Unexposable) new at before after =
 step chip pairs n pair defect (Some verdict.Untestable) new at before after = absurd before
 step chip pairs n pair defect (Some (verdict.Aborted code)) new at before after = absurd before
 
--- what one more pair makes of the table, and what a block does
+-- what one more pair makes of the table
 pub after_pair : (task : Task) (pairs : List (List Bool)) (n : ℕ) (pair : List Bool) (old new : List (Option Verdict))
     → slice_get pairs n ≡ Some pair → AreVerdictsAfter task pairs n old → CreditsPair task pair n old new
     → AreVerdictsAfter task pairs (n + 1) new
@@ -63,19 +62,9 @@ after_pair task pairs n pair old new at before credits = record {
   each = λ place defect is.
       let within = slice_get_within task.defects place defect is in
       let below : place < length old = let many = before.as_many in omega (arith, within, many) in
-      step task.chip pairs n pair defect (verdict_at old place) (verdict_at new place) at (before.each place defect is)
+      step (task.chip_of place) pairs n pair defect (verdict_at old place) (verdict_at new place) at (before.each place defect is)
       (credits.each place defect below is);
 }
-
-pub after_block : (task : Task) (pairs : List (List Bool)) (from : ℕ) (old : List (Option Verdict)) (count : ℕ)
-    (new : List (Option Verdict)) → AreVerdictsAfter task pairs from old → CreditsBlock task pairs from old count new
-    → AreVerdictsAfter task pairs (from + count) new
-after_block task pairs from old _ _ before Begins =
-    let same : from ≡ from + 0 = omega arith in subst (λ n. AreVerdictsAfter task pairs n old) same before
-after_block task pairs from old _ new before (Credits count pair middle _ block at credits) =
-    let so_far = after_block task pairs from old count middle before block in
-    let same : from + count + 1 ≡ from + (count + 1) = omega arith in
-    subst (λ n. AreVerdictsAfter task pairs n new) same (after_pair task pairs (from + count) pair middle new at so_far credits)
 
 -- no pair was credited yet
 pub at_first : (task : Task) (pairs : List (List Bool)) (count : ℕ) (table : List (Option Verdict)) → length task.defects ≤ count
@@ -84,16 +73,16 @@ at_first task pairs count table all marked = record {
   as_many = marked.as_many;
   each = λ place defect is.
       let within = slice_get_within task.defects place defect is in
-      of defect (verdict_at table place) (marked.each place defect (omega (arith, within, all)) is);
+      of (task.chip_of place) defect (verdict_at table place) (marked.each place defect (omega (arith, within, all)) is);
 }
   where
-    of : (defect : ChipDefect) (given : Option Verdict) → IsVerdictAfter task.chip [] 0 defect given
-        → IsVerdictAfter task.chip pairs 0 defect given
-    of defect None is = is
-    of defect (Some (verdict.Credited pair output)) is = absurd is.first.first_pair.here
-    of defect (Some verdict.Unexposable) is = is
-    of defect (Some verdict.Untestable) is = is
-    of defect (Some (verdict.Aborted code)) is = is
+    of : (chip : Chip) (defect : ChipDefect) (given : Option Verdict) → IsVerdictAfter chip [] 0 defect given
+        → IsVerdictAfter chip pairs 0 defect given
+    of chip defect None is = is
+    of chip defect (Some (verdict.Credited pair output)) is = absurd is.first.first_pair.here
+    of chip defect (Some verdict.Unexposable) is = is
+    of chip defect (Some verdict.Untestable) is = is
+    of chip defect (Some (verdict.Aborted code)) is = is
 
 -- the grades after all pairs
 pub graded : (task : Task) (pairs : List (List Bool)) (table : List (Option Verdict)) (grades : List Grade)
@@ -101,27 +90,27 @@ pub graded : (task : Task) (pairs : List (List Bool)) (table : List (Option Verd
 graded task pairs table grades after is = record {
   one_each = ap length is ∙ length-map table grade_of ∙ after.as_many;
   each = λ place defect grade at found.
-      by place defect grade (slice_get table place) refl
+      by (task.chip_of place) place defect grade (slice_get table place) refl
       (sym (slice_get-map grade_of table place) ∙ ap (λ (list : List Grade). slice_get list place) (sym is) ∙ found)
       (after.each place defect at);
 }
   where
-    of : (defect : ChipDefect) (given : Option Verdict) → IsVerdictAfter task.chip pairs (length pairs) defect given
-        → IsGrade task.chip pairs defect (grade_of given)
-    of defect None said = record {
+    of : (chip : Chip) (defect : ChipDefect) (given : Option Verdict) → IsVerdictAfter chip pairs (length pairs) defect given
+        → IsGrade chip pairs defect (grade_of given)
+    of chip defect None said = record {
       exposable = said.exposable;
-      undetected = subst (NoneDetects task.chip defect) (take-length pairs) said.undetected;
+      undetected = subst (NoneDetects chip defect) (take-length pairs) said.undetected;
     }
-    of defect (Some (verdict.Credited pair output)) said = said
-    of defect (Some verdict.Unexposable) said = said
-    of defect (Some verdict.Untestable) said = absurd said
-    of defect (Some (verdict.Aborted code)) said = absurd said
+    of chip defect (Some (verdict.Credited pair output)) said = said
+    of chip defect (Some verdict.Unexposable) said = said
+    of chip defect (Some verdict.Untestable) said = absurd said
+    of chip defect (Some (verdict.Aborted code)) said = absurd said
 
-    by : (place : ℕ) (defect : ChipDefect) (grade : Grade) (o : Option (Option Verdict)) → slice_get table place ≡ o
-        → option_map grade_of o ≡ Some grade → IsVerdictAfter task.chip pairs (length pairs) defect (verdict_at table place)
-        → IsGrade task.chip pairs defect grade
-    by place defect grade None at found said = absurd (let clash : None ≡ Some grade = found in cc)
-    by place defect grade (Some given) at found said =
+    by : (chip : Chip) (place : ℕ) (defect : ChipDefect) (grade : Grade) (o : Option (Option Verdict)) → slice_get table place ≡ o
+        → option_map grade_of o ≡ Some grade → IsVerdictAfter chip pairs (length pairs) defect (verdict_at table place)
+        → IsGrade chip pairs defect grade
+    by chip place defect grade None at found said = absurd (let clash : None ≡ Some grade = found in cc)
+    by chip place defect grade (Some given) at found said =
         let same : grade_of given ≡ grade = cc in
-        subst (IsGrade task.chip pairs defect) same
-        (of defect given (subst (IsVerdictAfter task.chip pairs (length pairs) defect) (get_or_from_slice_get table place given None at) said))
+        subst (IsGrade chip pairs defect) same
+        (of chip defect given (subst (IsVerdictAfter chip pairs (length pairs) defect) (get_or_from_slice_get table place given None at) said))

@@ -30,4 +30,4 @@ IsGrade chip pairs defect Uncredited = IsUncredited chip pairs defect
 pub record AreGraded (task : Task) (pairs : List (List Bool)) (grades : List Grade) : Type 0 where
   pub one_each : length grades ≡ length task.defects
   pub each : (place : ℕ) (defect : ChipDefect) (grade : Grade) → IsDefectAt task place defect
-      → slice_get grades place ≡ Some grade → IsGrade task.chip pairs defect grade
+      → slice_get grades place ≡ Some grade → IsGrade (task.chip_of place) pairs defect grade

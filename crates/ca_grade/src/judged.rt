@@ -11,7 +11,7 @@ ghost use Rattle.ca_grade.specs.Graded.{AreGraded};
 ghost use Rattle.ca_grade.specs.declared.judged.GradeFault.TheVariants as fault;
 
 use crate::grade::{Grades, grades_of};
-use crate::grades::marked;
+use crate::marks::marked;
 use ca_base::{List, NoMemory};
 use ca_credit::Credits;
 use ca_expected::{WrongValue, wrong_output};

@@ -2,9 +2,8 @@
 #![tactic(auto)]
 
 mod grade;
-mod grades;
 mod judged;
+mod marks;
 
 pub use grade::{Grade, Grades};
-pub use grades::grade_pairs;
 pub use judged::{GradeFault, grade_judged};

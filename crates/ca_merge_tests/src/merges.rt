@@ -80,8 +80,16 @@ fn put_device(text: &mut Text, cell: &Cell, d: usize) -> Result<(), NoMemory>
     put_node(text, b'-', device.b)
 }
 
-// The devices of a cell.
+// Appends a number of one digit.
+fn put_count(text: &mut Text, count: usize) -> Result<(), NoMemory> {
+    text.push(b'0' + (count % 10) as u8)
+}
+
+// How many input pins, output pins and nodes a cell has, and its devices.
 fn put_cell(text: &mut Text, cell: &Cell) -> Result<(), NoMemory> {
+    put_count(text, cell.inputs())?;
+    put_count(text, cell.outputs())?;
+    put_count(text, cell.node_count())?;
     for d in 0..cell.device_count() {
         put_device(text, cell, d)?;
     }

@@ -145,8 +145,8 @@ fn mark_all(marks: &mut Vec<bool>)
 }
 
 /// Finds the clear instances, and marks those that pass flips on. Where the cells of all instances are static
-/// and all values are definite, all are clear, and none is marked as passing. Else the last ones are looked at
-/// first.
+/// and all values are definite, all are clear, and none is marked as passing. Else the last ones are looked
+/// at first.
 pub(crate) fn find_clear(
     chip: &View<'_>,
     tables: &Tables,

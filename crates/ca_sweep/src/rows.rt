@@ -8,7 +8,8 @@ ghost use Rattle.ca_flat.specs.Chip.{cell_at, inputs_at};
 ghost use Rattle.ca_view.specs.Linked.{IsPlaced, place_in};
 ghost use Rattle.ca_view.specs.Places.{cell_number};
 ghost use Rattle.ca_sweep.specs.code.Faulty.{AreFaulty};
-ghost use Rattle.ca_sweep.specs.code.Rows.{AreRows, AreCodes, AreLists, FitsList, IsListOf, IsRowOf, HoldsRow};
+ghost use Rattle.ca_sweep.specs.code.Rows.{AreRows, AreCodes, AreLists, FitsList, IsListOf};
+ghost use Rattle.ca_sweep.specs.code.Rows.{IsRowOf, HoldsRow};
 ghost use Rattle.ca_sweep.specs.code.Rows.{code_of_lasts, digit_of};
 
 use crate::cells::instance_with;
@@ -100,8 +101,8 @@ impl Rows {
         first
     }
 
-    /// The slot with the row of an instance's cell for these waves of its input pins, found if it isn't there.
-    /// It takes no memory.
+    /// The slot with the row of an instance's cell for these waves of its input pins; the row is found if it
+    /// isn't there. Takes no memory.
     pub(crate) fn find(
         &mut self,
         chip: &View<'_>,

@@ -35,7 +35,7 @@ pub record IsTried (task : Task) (pair : List Bool) (number : ℕ) (left : Place
     (old new : List (Option Verdict)) : Type 0 where
   pub as_many : length new ≡ length old
   pub done : (place : ℕ) (defect : ChipDefect) → ¬ (Has left place) → IsDefectAt task place defect
-      → IsAfterPair task.chip pair number defect (verdict_at old place) (verdict_at new place)
+      → IsAfterPair (task.chip_of place) pair number defect (verdict_at old place) (verdict_at new place)
   pub others : (place : ℕ) → Has left place → verdict_at new place ≡ verdict_at old place
 
 -- more defects were tried, and `credited` were credited

@@ -16,6 +16,6 @@ pub record CreditsOne (task : Task) (pair : List Bool) (number place : ℕ) (giv
     (old new : List (Option Verdict)) : Type 0 where
   pub as_many : length new ≡ length old
   pub here : (defect : ChipDefect) → IsDefectAt task place defect
-      → IsAfterPair task.chip pair number defect (verdict_at old place) (verdict_at new place)
+      → IsAfterPair (task.chip_of place) pair number defect (verdict_at old place) (verdict_at new place)
   pub others : (other : ℕ) → ¬ (other ≡ place) → verdict_at new other ≡ verdict_at old other
   pub counted : credit_count new ≡ credit_count old + one_if given

@@ -2,6 +2,7 @@
 use Rattle.std.specs.Prelude.{ℕ, ◌≡◌, ◌<◌, ◌≤◌, Bool, List, length, slice_get, Option, Some, None}
 use Rattle.ca_flat.specs.declared.chip_defect.ChipDefect.{ChipDefect}
 use Rattle.ca_flat.specs.declared.token.Token.{Token}
+use Rattle.ca_flat.specs.Chip.{Chip}
 use Rattle.ca_credit.specs.declared.verdict.Verdict.{Verdict}
 use Rattle.ca_credit.specs.declared.verdict.Verdict.TheVariants.{Credited, Unexposable, Untestable, Aborted}
 use Rattle.ca_credit.specs.Defects.{Task, IsDefectAt, IsExposableIn}
@@ -16,36 +17,38 @@ use Rattle.ca_generate.specs.declared.work.Work.{Work}
 pub record IsWaiting (task : Task) (turns : ℕ) (pairs : List (List Bool)) (place : ℕ) (defect : ChipDefect)
     : Type 0 where
   pub to_come : turns ≤ place
-  pub exposable : IsExposableIn task.chip defect
-  pub undetected : NoneDetects task.chip defect pairs
+  pub exposable : IsExposableIn (task.chip_of place) defect
+  pub undetected : NoneDetects (task.chip_of place) defect pairs
 
 -- a credit to the first listed pair that detects the defect; where the budget is ample, the pair's aim isn't
 -- a later defect
 pub record IsRightlyCredited (task : Task) (pairs : List (List Bool)) (aims : List ℕ) (place : ℕ)
     (defect : ChipDefect) (pair output : ℕ) : Type 0 where
-  pub exposable : IsExposableIn task.chip defect
-  pub first : IsFirstDetection task.chip defect pairs pair output
+  pub exposable : IsExposableIn (task.chip_of place) defect
+  pub first : IsFirstDetection (task.chip_of place) defect pairs pair output
   pub least : IsAmple task → (aim : ℕ) → slice_get aims pair ≡ Some aim → aim ≤ place
 
 -- the defect can be exposed in its cell, and no definite pair of the chip detects it
-pub record IsRightlyUntestable (task : Task) (defect : ChipDefect) : Type 0 where
-  pub exposable : IsExposableIn task.chip defect
-  pub untestable : IsUntestable task.chip defect
+pub record IsRightlyUntestable (chip : Chip) (defect : ChipDefect) : Type 0 where
+  pub exposable : IsExposableIn chip defect
+  pub untestable : IsUntestable chip defect
 
 -- an aborted search that can be checked
-pub record IsAbortedSearch (task : Task) (pairs : List (List Bool)) (defect : ChipDefect) (code : List Token)
-    : Type 0 where
-  pub rightly : IsRightlyAborted task pairs defect code
-  pub checked : IsCheckedSpent task.chip defect task.budget code
+pub record IsAbortedSearch (chip : Chip) (budget : ℕ) (pairs : List (List Bool)) (defect : ChipDefect)
+    (code : List Token) : Type 0 where
+  pub rightly : IsRightlyAborted chip budget pairs defect code
+  pub checked : IsCheckedSpent chip defect budget code
 
 -- what is true of the defect at a place, by its verdict, after the first `turns` defects had their turns
 abbrev pub IsEntry : Task → ℕ → List (List Bool) → List ℕ → ℕ → ChipDefect → Option Verdict → Type 0
 IsEntry task turns pairs aims place defect None = IsWaiting task turns pairs place defect
 IsEntry task turns pairs aims place defect (Some (Credited pair output)) =
     IsRightlyCredited task pairs aims place defect pair output
-IsEntry task turns pairs aims place defect (Some Unexposable) = ¬ (IsExposableIn task.chip defect)
-IsEntry task turns pairs aims place defect (Some Untestable) = IsRightlyUntestable task defect
-IsEntry task turns pairs aims place defect (Some (Aborted code)) = IsAbortedSearch task pairs defect code
+IsEntry task turns pairs aims place defect (Some Unexposable) = ¬ (IsExposableIn (task.chip_of place) defect)
+IsEntry task turns pairs aims place defect (Some Untestable) =
+    IsRightlyUntestable (task.chip_of place) defect
+IsEntry task turns pairs aims place defect (Some (Aborted code)) =
+    IsAbortedSearch (task.chip_of place) task.budget pairs defect code
 
 -- the defect at the place is credited to the pair
 pub record IsCreditAt (table : List (Option Verdict)) (pair place : ℕ) : Type 0 where
@@ -69,16 +72,16 @@ abbrev pub WorkStands : Task → ℕ → Work → Type 0
 WorkStands task turns work = StandsAfter task turns work.credits work.pairs work.aims
 
 -- whether the defect can be exposed is known: where it can, it has no verdict yet, and else it is unexposable
-abbrev pub IsScreenedEntry : Task → ChipDefect → Option Verdict → Type 0
-IsScreenedEntry task defect None = IsExposableIn task.chip defect
-IsScreenedEntry task defect (Some (Credited pair output)) = ⊥
-IsScreenedEntry task defect (Some Unexposable) = ¬ (IsExposableIn task.chip defect)
-IsScreenedEntry task defect (Some Untestable) = ⊥
-IsScreenedEntry task defect (Some (Aborted code)) = ⊥
+abbrev pub IsScreenedEntry : Chip → ChipDefect → Option Verdict → Type 0
+IsScreenedEntry chip defect None = IsExposableIn chip defect
+IsScreenedEntry chip defect (Some (Credited pair output)) = ⊥
+IsScreenedEntry chip defect (Some Unexposable) = ¬ (IsExposableIn chip defect)
+IsScreenedEntry chip defect (Some Untestable) = ⊥
+IsScreenedEntry chip defect (Some (Aborted code)) = ⊥
 
 -- of the first `count` defects that is known, and the others have no verdict yet
 pub record IsScreened (task : Task) (count : ℕ) (table : List (Option Verdict)) : Type 0 where
   pub as_many : length table ≡ length task.defects
   pub entries : (place : ℕ) (defect : ChipDefect) → place < count → IsDefectAt task place defect
-      → IsScreenedEntry task defect (verdict_at table place)
+      → IsScreenedEntry (task.chip_of place) defect (verdict_at table place)
   pub others : (place : ℕ) → count ≤ place → verdict_at table place ≡ None

@@ -32,11 +32,11 @@ pub record AreVerdictsAfter (task : Task) (pairs : List (List Bool)) (count : �
     (table : List (Option Verdict)) : Type 0 where
   pub as_many : length table ≡ length task.defects
   pub each : (place : ℕ) (defect : ChipDefect) → IsDefectAt task place defect
-      → IsVerdictAfter task.chip pairs count defect (verdict_at table place)
+      → IsVerdictAfter (task.chip_of place) pairs count defect (verdict_at table place)
 
 -- of the first `marked` defects those that can't be exposed are marked, and nothing else is
 pub record AreMarkedUpTo (task : Task) (marked : ℕ) (table : List (Option Verdict)) : Type 0 where
   pub as_many : length table ≡ length task.defects
   pub each : (place : ℕ) (defect : ChipDefect) → place < marked → IsDefectAt task place defect
-      → IsVerdictAfter task.chip [] 0 defect (verdict_at table place)
+      → IsVerdictAfter (task.chip_of place) [] 0 defect (verdict_at table place)
   pub others : (place : ℕ) → marked ≤ place → verdict_at table place ≡ None

@@ -20,15 +20,15 @@ claims_by-requires-clause-known c =
     let judged : CanBeJudged c.args.view.now.core = core_can_be_judged c.args.view.now c.viewed.ensures.wired c.flat_is_well_formed.ensures
     (subst (λ (chip : LinkedChip). (given : Option ChipDefect) → IsFew (core_of chip) given) c.chip.ensures c.in_ok-judge_size.ensures)
     c.viewed.ensures.is_view in
-    good_are_known (viewed_task c.args.view.now c.args.budget) c.args.made.now.pairs c.args.made.now.aims c.args.made.now.verdicts
+    good_are_known c.args.view.now.core (viewed_task c.args.view.now c.args.budget).defects c.args.budget c.args.made.now.pairs c.args.made.now.aims c.args.made.now.verdicts
     judged.few c.requires.good
 
 pub returns-clause-good : goal.returns-clause-good
 returns-clause-good c =
-    claimed_good (viewed_task c.args.view.now c.args.budget) c.args.made.now.pairs c.args.made.now.aims c.args.made.now.verdicts
+    claimed_good c.args.view.now.core (viewed_task c.args.view.now c.args.budget).defects c.args.budget c.args.made.now.pairs c.args.made.now.aims c.args.made.now.verdicts
     c.in_ok-claims.claims c.requires.good (c.in_ok-claims.ensures).counted (c.in_ok-claims.ensures).claims
 
 pub returns-clause-stands : goal.returns-clause-stands
 returns-clause-stands c =
-    claimed_stand (viewed_task c.args.view.now c.args.budget) c.args.made.now.pairs c.args.made.now.aims c.args.made.now.verdicts
+    claimed_stand c.args.view.now.core (viewed_task c.args.view.now c.args.budget).defects c.args.budget c.args.made.now.pairs c.args.made.now.aims c.args.made.now.verdicts
     c.in_ok-claims.claims c.requires.good (c.in_ok-claims.ensures).counted (c.in_ok-claims.ensures).claims

@@ -7,5 +7,5 @@ use Rattle.ca_credit.proofs.credit.detecting_output.Given as goal
 abbrev pub invariant-loop-output : goal.invariant-loop-output
 invariant-loop-output g l =
     (defect : ChipDefect) (k : ℕ) → g.S.Simulator.aimed l.sim ≡ Some defect → k < l.output
-    → ¬ (DetectsAt (g.S.Simulator.task l.sim).chip defect (g.S.Simulator.bits l.sim)
+    → ¬ (DetectsAt (g.S.Simulator.aimed_in l.sim) defect (g.S.Simulator.bits l.sim)
     (slice_index (g.S.Simulator.task l.sim).chip.outputs k))

@@ -1,6 +1,6 @@
 use Rattle.std.proofs.Common.{◌≡◌, ◌<◌, ◌+◌, ◌^◌, ◌∙◌, length, ℕ, List, sym, subst}
 use Rattle.std.specs.List.{All}
-use Rattle.ca_credit.specs.Defects.{Task}
+use Rattle.ca_credit.specs.Defects.{Task, IsOfOneChip}
 use Rattle.ca_search.specs.Filled.{trits_of}
 use Rattle.ca_diag.specs.declared.candidate.Candidate.{Candidate}
 use Rattle.ca_diag.specs.code.Failing.{outputs_at}
@@ -8,6 +8,9 @@ use Rattle.ca_diag.specs.code.Pass.{IsPass}
 use Rattle.ca_diag.proofs.FailingLemmas.{outputs_within}
 use Rattle.ca_diag.proofs.OpenLemmas.{open_few, pass_open}
 use Rattle.ca_diag.proofs.diagnosed.pass_all.Goals as goal
+
+pub pass_with-requires-clause-one_chip : goal.pass_with-requires-clause-one_chip
+pass_with-requires-clause-one_chip g c = subst IsOfOneChip (sym c.loop-place.invariant.task) c.requires.one_chip
 
 pub pass_with-requires-clause-few : goal.pass_with-requires-clause-few
 pass_with-requires-clause-few g c =

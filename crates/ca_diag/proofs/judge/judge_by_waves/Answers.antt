@@ -1,6 +1,15 @@
-use Rattle.std.proofs.Common.{false, rules, IsTrue, Some, subst}
+use Rattle.std.proofs.Common.{ℕ, false, rules, IsTrue, Some, ◌∙◌, ap, sym, subst}
+use Rattle.ca_flat.specs.Chip.{Chip}
 use Rattle.ca_diag.proofs.JudgeLemmas.{by_waves}
 use Rattle.ca_diag.proofs.judge.judge_by_waves.Goals as goal
+
+pub is_contradicted-requires-clause-own : goal.is_contradicted-requires-clause-own
+is_contradicted-requires-clause-own g c =
+    c.aim.ensures.aimed_in ∙ ap (λ (of : ℕ → Chip). of c.args.place) c.requires.one_chip ∙ ap (λ task. task.chip) (sym c.aim.ensures.task)
+
+pub explained-requires-clause-own : goal.explained-requires-clause-own
+explained-requires-clause-own g c =
+    c.aim.ensures.aimed_in ∙ ap (λ (of : ℕ → Chip). of c.args.place) c.requires.one_chip ∙ ap (λ task. task.chip) (sym c.aim.ensures.task)
 
 pub returns-clause-judged : goal.returns-clause-judged
 returns-clause-judged g c =

@@ -1,5 +1,6 @@
 use Rattle.std.proofs.Common.{◌≡◌, ◌<◌, ◌+◌, ◌^◌, ◌∙◌, length, ℕ, List, Some, ap, sym, subst, arith, refl}
 use Rattle.std.specs.Prelude.{slice_get}
+use Rattle.ca_credit.specs.Defects.{IsOfOneChip}
 use Rattle.ca_diag.specs.declared.candidate.Candidate.{Candidate}
 use Rattle.ca_diag.specs.code.Pass.{IsPassTo}
 use Rattle.ca_diag.proofs.FailingLemmas.{of_get}
@@ -59,3 +60,6 @@ loop-k-preserved g c =
             c.loop-k.invariant.bits within (w.in_default.ensures {u = tt}).judged)));
       }
     ]
+
+pub judge-requires-clause-one_chip : goal.judge-requires-clause-one_chip
+judge-requires-clause-one_chip g c = subst IsOfOneChip (sym c.loop-k.invariant.task) c.requires.one_chip

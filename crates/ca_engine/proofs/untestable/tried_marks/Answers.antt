@@ -33,5 +33,5 @@ returns g c =
     let view = c.args.view.now in
     let core_is = c.viewed.ensures.is_view.core_is in
     IfOk-weaker c.marks_of.result _ _
-    (λ marks are budget. marks_are (g.R.ExposingRows.chip c.args.rows.now) (task_of c.args.view.now.chip budget) c.in_ok-defects.defects marks.items (c.requires ∙ core_is)
+    (λ marks are budget. marks_are (g.R.ExposingRows.chip c.args.rows.now) (task_of c.args.view.now.chip budget) c.in_ok-defects.defects marks.items (λ place. c.requires ∙ core_is)
     (c.in_ok-defects.ensures.exact ∙ ap (λ (core : Chip). chip_defects core (gates_of c.args.view.now.chip)) core_is) are) c.marks_of.ensures

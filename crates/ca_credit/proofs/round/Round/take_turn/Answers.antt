@@ -10,20 +10,20 @@ pub returns-then-not-may_detect-clause-tries : goal.returns-then-not-may_detect-
 returns-then-not-may_detect-clause-tries g c =
     let task = g.S.Simulator.task c.args.sim.now in
     c.pass.ensures.tries task c.args.pair.now c.args.number (λ defect at.
-    subst (λ (b : List Trit). IsAnswer task.chip defect b None) c.requires.bits
-    (undetected_answer task.chip defect (g.S.Simulator.bits c.args.sim.now) (c.may_detect.ensures.undetected defect at c.if-not-may_detect.true)))
+    subst (λ (b : List Trit). IsAnswer (task.chip_of c.args.place) defect b None) c.requires.bits
+    (undetected_answer (task.chip_of c.args.place) defect (g.S.Simulator.bits c.args.sim.now) (c.may_detect.ensures.undetected defect at c.if-not-may_detect.true)))
 
 pub returns-in-At-clause-tries : goal.returns-in-At-clause-tries
 returns-in-At-clause-tries g c =
     let task = g.S.Simulator.task c.args.sim.now in
     c.credit.ensures.tries task c.args.pair.now (λ defect at.
-    subst (λ (b : List Trit). IsDecided task.chip defect b (At c.in-At.output)) c.requires.bits (c.in-At.ensures.decided defect at))
+    subst (λ (b : List Trit). IsDecided (task.chip_of c.args.place) defect b (At c.in-At.output)) c.requires.bits (c.in-At.ensures.decided defect at))
 
 pub returns-in-Nowhere-clause-tries : goal.returns-in-Nowhere-clause-tries
 returns-in-Nowhere-clause-tries g c =
     let task = g.S.Simulator.task c.args.sim.now in
     c.pass-in-Nowhere.ensures.tries task c.args.pair.now c.args.number (λ defect at.
-    subst (λ (b : List Trit). IsDecided task.chip defect b Nowhere) c.requires.bits (c.in-Nowhere.ensures.decided defect at))
+    subst (λ (b : List Trit). IsDecided (task.chip_of c.args.place) defect b Nowhere) c.requires.bits (c.in-Nowhere.ensures.decided defect at))
 
 pub returns-in-Undecided-clause-aims : goal.returns-in-Undecided-clause-aims
 returns-in-Undecided-clause-aims g c =

@@ -24,6 +24,7 @@ places-preserved g c =
       tries = tries_then task c.args.pair.now c.args.number c.places.credited c.try_alike-credited.result c.args.self.now c.places.self c.try_alike-credited.new.self was.tries
           (tries_same task (g.S.Simulator.task c.places.sim) c.args.pair.now c.args.number c.try_alike-credited.result c.places.self c.try_alike-credited.new.self was.task turn.tries);
       stands = turn.tries.stands was.stands;
+      aimed_in = turn.aimed_in ∙ was.aimed_in;
       aimed = turn.aimed ∙ was.aimed;
       task = turn.task ∙ was.task;
       bits = turn.bits ∙ was.bits;

@@ -6,6 +6,7 @@ abbrev pub invariant-places : goal.invariant-places
 invariant-places g l = record {
   tries : TriesMore (g.S.Simulator.task l.fn.sim) l.pair l.number l.credited l.fn.self l.self;
   stands : IsRound l.self;
+  aimed_in : g.S.Simulator.aimed_in l.sim ≡ g.S.Simulator.aimed_in l.fn.sim;
   aimed : g.S.Simulator.aimed l.sim ≡ g.S.Simulator.aimed l.fn.sim;
   task : g.S.Simulator.task l.sim ≡ g.S.Simulator.task l.fn.sim;
   bits : g.S.Simulator.bits l.sim ≡ g.S.Simulator.bits l.fn.sim;

@@ -13,7 +13,7 @@ returns-clause-searched g c =
     let inside = c.self.inside in
     let ends = c.find.ensures in
     subst (λ (bench : Benched). (defect : ChipDefect) → bench.aimed ≡ Some defect
-    → IsSearch bench.task defect c.find.new.self.code c.find.new.judge.seen.pair c.find.result) c.self.view_is
+    → IsSearch bench.chip bench.budget defect c.find.new.self.code c.find.new.judge.seen.pair c.find.result) c.self.view_is
     (search_ends inside.judge.seen _ inside.defects inside.view.now.core.outputs inside.aim c.self.invariant
     c.outcome_is_search.ensures c.find.new.judge.seen inside.search.budget c.find.new.self.code c.find.result
     ends.aim (subst (λ budget. branch_count c.find.new.self.code ≤ budget) ends.budget ends.within)

@@ -8,14 +8,14 @@ use Rattle.ca_engine.proofs.chip_bench.ChipBenchSimulator.faulty_end.Goals as go
 
 pub output-requires : goal.output-requires
 output-requires g c =
-    let listed = subst (λ (bench : Benched). c.args.output < length bench.task.chip.outputs) (sym c.self.view_is)
+    let listed = subst (λ (bench : Benched). c.args.output < length bench.chip.outputs) (sym c.self.view_is)
     c.requires in
     subst (λ nets. c.args.output < length nets) (sym c.self.invariant.outputs_are) listed
 
 pub faulty-requires : goal.faulty-requires
 faulty-requires g c =
     let inside = c.self.inside in
-    let listed = subst (λ (bench : Benched). c.args.output < length bench.task.chip.outputs) (sym c.self.view_is)
+    let listed = subst (λ (bench : Benched). c.args.output < length bench.chip.outputs) (sym c.self.view_is)
     c.requires in
     let within = subst (λ nets. c.args.output < length nets) (sym c.self.invariant.outputs_are) listed in
     subst (λ net. net < length inside.judge.seen.chip.nets)
@@ -27,13 +27,13 @@ pub returns : goal.returns
 returns g c =
     let inside = c.self.inside in
     let seen = inside.judge.seen in
-    let listed = subst (λ (bench : Benched). c.args.output < length bench.task.chip.outputs) (sym c.self.view_is)
+    let listed = subst (λ (bench : Benched). c.args.output < length bench.chip.outputs) (sym c.self.view_is)
     c.requires in
     let within = subst (λ nets. c.args.output < length nets) (sym c.self.invariant.outputs_are) listed in
     let net_is = c.output.ensures.net in
     let value_is = ap (λ (wave : Wave). wave.last) (c.faulty.ensures ∙ ap (wave_at seen.faulty) net_is) in
-    subst (λ (bench : Benched). IsNetEnd bench.task.chip bench.aimed bench.bits
-    (slice_index bench.task.chip.outputs c.args.output) c.faulty.result.last) c.self.view_is
+    subst (λ (bench : Benched). IsNetEnd bench.chip bench.aimed bench.bits
+    (slice_index bench.chip.outputs c.args.output) c.faulty.result.last) c.self.view_is
     (subst (IsNetEnd seen.chip seen.aim seen.pair (slice_index seen.chip.outputs c.args.output)) (sym value_is)
     (faulty_ends seen _ inside.defects inside.view.now.core.outputs inside.aim c.self.invariant
     c.definite_last_is_end.ensures c.exact.ensures c.args.output within))

@@ -1,5 +1,5 @@
 use Rattle.std.proofs.Common.{◌≡◌, ℕ, ◌+◌, ◌<◌, sym, ap, subst, arith, length, length-append, List, [], ◌∷◌}
-use Rattle.std.proofs.Common.{◌++◌, Bool}
+use Rattle.std.proofs.Common.{◌++◌, ◌∙◌, ◌*◌, Bool}
 use Rattle.std.proofs.lemmas.Option.{slice_get_within}
 use Rattle.ca_credit.specs.Listed.{AreAims}
 use Rattle.ca_credit.specs.Table.{CreditsPair}
@@ -27,8 +27,9 @@ returns-then-number-eq-MOST_PAIRS-clause-cause g c =
 
 pub credit_pair-requires-clause-bits : goal.credit_pair-requires-clause-bits
 credit_pair-requires-clause-bits g c =
-    length-found (g.B.Simulator.task c.args.bench.now) c.requires.found.defect c.args.pair
-    c.requires.found.found
+    let task = g.B.Simulator.task c.args.bench.now in
+    length-found (task.chip_of c.args.place) task.budget c.requires.found.defect c.args.pair c.requires.found.found
+    ∙ ap (λ (inputs : List ℕ). 2 * length inputs) c.requires.stands_in.inputs
 
 pub overflow_cast-place-2 : goal.overflow_cast-place-2
 overflow_cast-place-2 g c =
