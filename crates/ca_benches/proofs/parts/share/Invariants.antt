@@ -1,0 +1,11 @@
+use Rattle.std.proofs.Common.{◌≡◌, length, take, map}
+use Rattle.std.specs.List.{All}
+use Rattle.ca_benches.proofs.parts.share.Given as goal
+
+abbrev pub invariant-loop-k : goal.invariant-loop-k
+invariant-loop-k g l = record {
+  room : length l.parts.items ≡ length l.fn.parts.items;
+  tasks : map g.B.Simulator.task l.parts.items ≡ map g.B.Simulator.task l.fn.parts.items;
+  bits : All (λ own. own ≡ l.bits) (take l.k (map g.B.Simulator.bits l.parts.items));
+  codes : map g.B.Bench.code l.parts.items ≡ map g.B.Bench.code l.fn.parts.items;
+}

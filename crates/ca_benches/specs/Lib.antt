@@ -1,0 +1,3 @@
+-- What the contracts of this crate say, in reading order.
+pub mod Benches
+pub mod code

@@ -1,0 +1,10 @@
+//! One bench made of several, each for some of the defects of a task.
+#![tactic(auto)]
+
+mod benches;
+mod bits;
+mod parts;
+mod station;
+
+pub use benches::Benches;
+pub use station::{Station, Stations};

@@ -1,0 +1,4 @@
+pub mod TargetLemmas
+pub mod NumberLemmas
+pub mod PutLemmas
+pub mod JudgedLemmas

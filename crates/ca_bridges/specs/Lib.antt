@@ -1,0 +1,4 @@
+pub mod Judged
+pub mod Numbers
+pub mod Laws
+pub mod code

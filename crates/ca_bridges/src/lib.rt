@@ -1,0 +1,12 @@
+//! What is promised of verdicts on pin bridges, and how verdicts on the shorts of merged chips give them.
+#![tactic(auto)]
+
+mod laws;
+mod numbers;
+mod put;
+mod verdict;
+
+pub use laws::shorts_judge_bridges;
+pub use numbers::{Numbered, aims_at, number_shorts};
+pub use put::put_verdicts;
+pub use verdict::{BridgeVerdict, BridgeVerdicts};

@@ -1,0 +1,3 @@
+pub mod Targets
+pub mod Laws
+pub mod code
