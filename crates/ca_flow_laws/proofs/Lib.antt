@@ -20,9 +20,11 @@ pub mod MadeLemmas
 pub mod FirstLemmas
 pub mod ChainLemmas
 pub mod GivenLemmas
+pub mod PatternLemmas
+pub mod RightLemmas
+pub mod WholeCertLemmas
 pub mod NeitherLemmas
 pub mod NameLemmas
-pub mod PatternLemmas
 pub mod StilLemmas
 pub mod LogLemmas
 pub mod CertLemmas

@@ -2,7 +2,7 @@
 -- has a cause.
 use Rattle.std.proofs.Common.{ℕ, ◌+◌, ◌≡◌, ◌≤◌, ◌<◌, ◌⊎◌, ◌∙◌, inl, inr, refl, sym, ap, subst, arith, List, [], length, map}
 use Rattle.std.proofs.Common.{Option, Some, None, Result, Ok, Err, true≢false}
-use Rattle.std.specs.Prelude.{IsOk, IsSome, IsSomeAnd, slice_get}
+use Rattle.std.specs.Prelude.{IsOk, IsSome, IsSomeAnd, slice_get, ⊤, ◌≢◌}
 use Rattle.std.proofs.Math.Decide.{dec_le}
 use Rattle.std.proofs.lemmas.List.Elements.{All-from_recursion}
 use Rattle.std.proofs.lemmas.Option.{same_Some}
@@ -36,7 +36,7 @@ use Rattle.ca_fault_place.specs.Place.{cell_text, pin_text, refused_text, double
 use Rattle.ca_fault.specs.declared.fault.LimitKind.TheVariants as limit
 use Rattle.ca_fault.specs.declared.fault.Fault.{Fault}
 use Rattle.ca_fault.specs.declared.fault.Fault.TheVariants.{Cells, Netlist, Scan, Chain, Cell, BadVector, NoInstance}
-use Rattle.ca_fault.specs.declared.fault.Fault.TheVariants.{NoDefect, Order, TooLong, Limit, Strengths}
+use Rattle.ca_fault.specs.declared.fault.Fault.TheVariants.{NoDefect, Order, TooLong, Limit, Strengths, Log, Cert, CertChip}
 use Rattle.ca_fault.specs.declared.fault.Fault.TheVariants as fault_
 use Rattle.ca_load.specs.declared.cells.TheConstants.{MAX_CELLS}
 use Rattle.ca_load.specs.declared.netlists.TheConstants.{MAX_NETLIST}
@@ -49,8 +49,27 @@ use Rattle.ca_load.specs.Chips.{IsChipOf, BreakFirst, IsPlainRule, IsOfCell, IsP
 use Rattle.ca_load.specs.Causes.{IsRatioCause, IsStrengthsCause, IsTextCause, IsModuleCause, IsRecordCause, HasLibrary, HasNetlist, IsScanCause, IsChipFault, IsLoadCause}
 use Rattle.ca_load.proofs.TableLemmas.{table_of_bytes}
 use Rattle.ca_request.specs.Asked.{IsDefectCause}
+use Rattle.ca_core.specs.Core.{core_of}
+use Rattle.ca_outputs.specs.Outputs.{output_names}
+use Rattle.ca_expected.specs.Expected.{AreExpected}
+use Rattle.ca_log.specs.declared.record.LogRecord.{LogRecord}
+use Rattle.ca_log.specs.LogText.{log_of}
+use Rattle.ca_claim.specs.declared.certificate.Certificate.{Certificate}
+use Rattle.ca_cert_text.specs.CertFault.{IsTextOf}
+use Rattle.ca_chip_cert.specs.Listed.{listed_defects}
+use Rattle.ca_stil_laws.specs.Names.{PortsAreNamed}
+use Rattle.ca_stil_pairs.specs.declared.file.StilFile.{StilFile}
+use Rattle.ca_chip_pairs.specs.Laws.{TextOfLinkedChipIsFile}
+use Rattle.ca_patterns.specs.declared.patterns.TheConstants.{MAX_STIL}
+use Rattle.ca_patterns.specs.Patterns.{IsPatternsOf, AreFew, IsStilCause, GiveTraced, OfTraced, IsPatternsCause}
+use Rattle.ca_patterns.specs.Right.{HasRight, OfRight}
+use Rattle.ca_diagnosing.specs.declared.logs.TheConstants.{MAX_LOG}
+use Rattle.ca_diagnosing.specs.Diagnosing.{IsLogIn, IsBadLog}
+use Rattle.ca_verifying.specs.declared.certificates.TheConstants.{MAX_CERT}
+use Rattle.ca_verifying.specs.Verifying.{IsCertificateIn, IsBadCert, IsCertFault}
 use Rattle.ca_chip_replay.specs.ChipRun.{RunOf}
 use Rattle.ca_words.specs.Words.{table_word, cells_word, cell_files, chip_files, instance_word, chip_defect_word, chip_first_word, chip_last_word, order_word}
+use Rattle.ca_words.specs.Words.{stil_word, log_word, cert_word}
 use Rattle.ca_words.specs.Words.{IsFlatten, IsSimulate, IsReplay, IsGrade, IsDiagnose, IsVerify, IsOnChip}
 use Rattle.ca_on_chip.specs.declared.replays.TheConstants.{MAX_ORDER}
 use Rattle.ca_on_chip.specs.OnChip.{GiveChipWith, OfChip, IsDefectWord, IsVectorWord, IsSimulationCause}
@@ -59,7 +78,7 @@ use Rattle.ca_flow.specs.Fault.{Outside, IsOwnCause, IsCause}
 use Rattle.ca_flow.specs.Complete.{FitsFile, HasEvents, FitsOwn, FitsChip, IsAnswerable}
 use Rattle.ca_flow_laws.specs.Same.{IsInputFault}
 use Rattle.ca_flow_laws.specs.Reported.{IsInputFile, ReportsAllFiles}
-use Rattle.ca_flow_laws.specs.Laws.{HasInputCause}
+use Rattle.ca_flow_laws.specs.Laws.{HasInputCause, NeverNeitherOnChip}
 use Rattle.ca_flow_laws.proofs.LinkLemmas.{traced_also}
 use Rattle.ca_flow_laws.proofs.OneLemmas.{AreOne, one_chip, NamesOne, names_one}
 use Rattle.ca_flow_laws.proofs.RawLemmas.{raw_cells}
@@ -68,10 +87,23 @@ use Rattle.ca_flow_laws.proofs.FirstLemmas.{either, none_broken, no_loop}
 use Rattle.ca_flow_laws.proofs.ChainLemmas.{traced_or}
 use Rattle.ca_flow_laws.proofs.GivenLemmas.{defect_or, simulate_or, asked_given, has_run, events_or}
 use Rattle.ca_flow_laws.proofs.AnsweredLemmas.{fits_defect, fits_simulate, fits_run, has_events, check_own, flatten_own, simulate_own}
-use Rattle.ca_flow_laws.proofs.AnsweredLemmas.{atpg_own, certify_own, replay_own}
+use Rattle.ca_flow_laws.proofs.AnsweredLemmas.{atpg_own, certify_own, replay_own, grade_own, diagnose_own, verify_own}
+use Rattle.ca_flow_laws.proofs.AnsweredLemmas.{fits_grade, fits_diagnose, fits_verify}
+use Rattle.ca_flow_laws.proofs.PatternLemmas.{named}
+use Rattle.ca_flow_laws.proofs.RightLemmas.{stil_reported, patterns_or}
+use Rattle.ca_flow_laws.proofs.WholeCertLemmas.{cert_or}
 
 within_or_past : (n most : ℕ) → (n ≤ most) ⊎ (most < n)
 within_or_past n most = elim (dec_le n most) [ yes within ↦ inl within | no past ↦ inr (omega (arith, past)) ]
+
+same_or_other : (n m : ℕ) → (n ≡ m) ⊎ (n ≢ m)
+same_or_other n m = elim (dec_le n m) [
+  | no past ↦ inr (λ same. omega (arith, past, same))
+  | yes within ↦ elim (dec_le m n) [
+    | no below ↦ inr (λ same. omega (arith, below, same))
+    | yes back ↦ inl (omega (arith, within, back))
+  ]
+]
 
 -- what a fault reports that has a cause
 defect_reported : (instance defect : List ℕ) (chip : LinkedChip) (fault : Fault) → IsDefectCause chip instance defect fault
@@ -94,7 +126,8 @@ tracing_reported chip (Limit limit.Chains count) cause = (tt, tt)
 tracing_reported chip fault cause = absurd cause
 
 module _ (words : List (List ℕ)) (outside : Outside) (reported : Files) (are : outside.files ≡ Some reported) (on : IsOnChip words)
-    (not_grade : ¬ (IsGrade words)) (not_diagnose : ¬ (IsDiagnose words)) (not_verify : ¬ (IsVerify words)) (there : (name : List ℕ) → IsInputFile words name → IsSome (reported name)) (no_answer : IsAnswerable words outside.files → ⊥)
+    (ports : PortsAreNamed) (law : TextOfLinkedChipIsFile)
+    (there : (name : List ℕ) → IsInputFile words name → IsSome (reported name)) (no_answer : IsAnswerable words outside.files → ⊥)
     (no_cause : (fault : Fault) → IsInputFault fault → IsCause words outside outside fault → ⊥) where
   no_load : (fault : Fault) → IsInputFault fault
       → IsLoadCause (chip_files words) outside.files outside.store_faults outside.store_faults fault → ⊥
@@ -395,16 +428,148 @@ module _ (words : List (List ℕ)) (outside : Outside) (reported : Files) (are :
           ))))))
           (λ fits. let run = has_run words chip replay.defect fits in at_events replay run.0 run.1)
 
+      of_traced : (Holds : LinkedChip → List (List ℕ) → Type 0) → Holds chip traced.0 → OfTraced outside.files (chip_files words) Holds
+      of_traced Holds held = of_inputs (GiveTraced Holds)
+          (record { chip = chip; chains = traced.0; is = is; all = traced.1; holds = held })
+
+      module _ (input : IsInputFile words (stil_word words)) (no_patterns : (fault : Fault) → IsInputFault fault
+          → IsPatternsCause (chip_files words) (stil_word words) outside.files outside.store_faults outside.store_faults fault → ⊥) where
+        -- the file of patterns
+        right_or : ((file : StilFile) (bytes : List ℕ) → reported (stil_word words) ≡ Some bytes → length bytes ≤ MAX_STIL
+            → IsPatternsOf chip traced.0 file bytes → AreFew file → AreExpected (core_of chip) file.pairs file.expected → ⊥) → ⊥
+        right_or refutes = by (within_or_past (length found.0) MAX_STIL)
+          where
+            found : (bytes : List ℕ) × (reported (stil_word words) ≡ Some bytes)
+            found = bytes_of (stil_word words) input
+
+            by : (length found.0 ≤ MAX_STIL) ⊎ (MAX_STIL < length found.0) → ⊥
+            by (inl within) = patterns_or law inputs.netlist inputs.library inputs.rows chip traced.0
+                (named ports inputs chip is (reported (chip_files words).netlist) MAX_NETLIST read.netlist) traced.1 found.0
+                (λ fault fault_is cause. no_patterns fault (stil_reported fault fault_is) (inr (
+                  fault_is,
+                  of_traced (λ chip chains. OfFile outside.files (stil_word words) MAX_STIL (IsStilCause chip chains fault))
+                      (in_file (stil_word words) found.0 MAX_STIL found.1 (IsStilCause chip traced.0 fault) within cause),
+                )))
+                (λ file is few right. refutes file found.0 found.1 within is few right)
+            by (inr past) = no_patterns (TooLong (stil_word words) (MAX_STIL + 1)) tt
+                (inl (of_traced (λ chip chains. ⊤) tt, too_long (stil_word words) found.0 MAX_STIL found.1 past))
+
+      module _ (file : StilFile) (bytes : List ℕ) (found : reported (stil_word words) ≡ Some bytes) (within : length bytes ≤ MAX_STIL)
+          (patterns : IsPatternsOf chip traced.0 file bytes) (few : AreFew file) (right : AreExpected (core_of chip) file.pairs file.expected) where
+        stil_there : IsFileWith reported (stil_word words) MAX_STIL (IsPatternsOf chip traced.0 file)
+        stil_there = file_with (stil_word words) bytes MAX_STIL found (IsPatternsOf chip traced.0 file) within patterns
+
+        of_right : (Holds : LinkedChip → StilFile → Type 0) → Holds chip file → OfRight outside.files (chip_files words) (stil_word words) Holds
+        of_right Holds held = of_traced (λ chip chains. OfFile outside.files (stil_word words) MAX_STIL (HasRight chip chains (Holds chip)))
+            (in_file (stil_word words) bytes MAX_STIL found (HasRight chip traced.0 (Holds chip)) within
+            (record { file = file; is = patterns; few = few; right = right; holds = held }))
+
+        at_log : IsDiagnose words → ⊥
+        at_log diagnose = by (within_or_past (length logged.0) MAX_LOG)
+          where
+            logged : (bytes : List ℕ) × (reported (log_word words) ≡ Some bytes)
+            logged = bytes_of (log_word words) (inr (inr (inr (inr (inl (diagnose, inr refl))))))
+
+            of_log : length logged.0 ≤ MAX_LOG → (given : Result (List LogRecord) ℕ)
+                → log_of (output_names chip) file.expected logged.0 ≡ given → ⊥
+            of_log short (Ok log) same = own_answer (λ also one_is names. diagnose_own words reported also diagnose
+                (fits_diagnose words reported chip also one_is traced.0 traced.1 (record {
+                  file = file;
+                  few = few;
+                  right = right;
+                  there = stil_there;
+                  logged = log;
+                  log_there = file_with (log_word words) logged.0 MAX_LOG logged.1 (IsLogIn chip file.expected log) short same;
+                })))
+            of_log short (Err row) same = no_own (Log row) tt (inr (inr (inr (inr (inr (inl (
+              diagnose,
+              inr (inr (
+                tt,
+                of_right (λ chip file. OfFile outside.files (log_word words) MAX_LOG (IsBadLog chip file.expected (Log row)))
+                    (in_file (log_word words) logged.0 MAX_LOG logged.1 (IsBadLog chip file.expected (Log row)) short same),
+              )),
+            )))))))
+
+            by : (length logged.0 ≤ MAX_LOG) ⊎ (MAX_LOG < length logged.0) → ⊥
+            by (inl short) = of_log short (log_of (output_names chip) file.expected logged.0) refl
+            by (inr past) = no_own (TooLong (log_word words) (MAX_LOG + 1)) tt (inr (inr (inr (inr (inr (inl (
+              diagnose,
+              inr (inl (of_right (λ chip file. ⊤) tt, too_long (log_word words) logged.0 MAX_LOG logged.1 past)),
+            )))))))
+
+        at_cert : IsVerify words → ⊥
+        at_cert verify = by (within_or_past (length claimed.0) MAX_CERT)
+          where
+            claimed : (bytes : List ℕ) × (reported (cert_word words) ≡ Some bytes)
+            claimed = bytes_of (cert_word words) (inr (inr (inr (inr (inr (verify, inr refl))))))
+
+            no_cert : length claimed.0 ≤ MAX_CERT → (fault : Fault) → IsInputFault fault → IsCertFault fault → IsBadCert chip fault claimed.0 → ⊥
+            no_cert short fault fault_is of_cert bad = no_own fault fault_is (inr (inr (inr (inr (inr (inr (inr (
+              verify,
+              inr (inr (
+                of_cert,
+                of_right (λ chip file. OfFile outside.files (cert_word words) MAX_CERT (IsBadCert chip fault))
+                    (in_file (cert_word words) claimed.0 MAX_CERT claimed.1 (IsBadCert chip fault) short bad),
+              )),
+            ))))))))
+
+            counted : length claimed.0 ≤ MAX_CERT → (certificate : Certificate) → IsTextOf claimed.0 certificate → ⊥
+            counted short certificate text = elim (same_or_other (length certificate.claims) (length (listed_defects chip))) [
+              | inl same ↦ own_answer (λ also one_is names. verify_own words reported also verify
+                  (fits_verify words reported chip also one_is traced.0 traced.1 (record {
+                    file = file;
+                    few = few;
+                    right = right;
+                    there = stil_there;
+                    certificate = certificate;
+                    one_each = same;
+                    cert_there = file_with (cert_word words) claimed.0 MAX_CERT claimed.1 (IsCertificateIn certificate) short text;
+                  })))
+              | inr other ↦ no_cert short (CertChip (length certificate.claims)) tt tt
+                  (record { certificate = certificate; is = text; counted = refl; other = other })
+            ]
+
+            by : (length claimed.0 ≤ MAX_CERT) ⊎ (MAX_CERT < length claimed.0) → ⊥
+            by (inl short) = cert_or claimed.0 (λ line faulty. no_cert short (Cert line) tt tt faulty) (counted short)
+            by (inr past) = no_own (TooLong (cert_word words) (MAX_CERT + 1)) tt (inr (inr (inr (inr (inr (inr (inr (
+              verify,
+              inr (inl (
+                of_right (λ chip file. ⊤) tt,
+                too_long (cert_word words) claimed.0 MAX_CERT claimed.1 past,
+              )),
+            ))))))))
+
+      at_grade : IsGrade words → ⊥
+      at_grade grade = right_or (inr (inr (inr (inl (grade, refl)))))
+          (λ fault is cause. no_own fault is (inr (inr (inr (inr (inl (grade, cause)))))))
+          (λ file bytes found within patterns few right. own_answer (λ also one_is names. grade_own words reported also grade
+          (fits_grade words reported chip also one_is traced.0 traced.1 (record {
+            file = file;
+            few = few;
+            right = right;
+            there = stil_there file bytes found within patterns few right;
+          }))))
+
+      at_diagnose : IsDiagnose words → ⊥
+      at_diagnose diagnose = right_or (inr (inr (inr (inr (inl (diagnose, inl refl))))))
+          (λ fault is cause. no_own fault is (inr (inr (inr (inr (inr (inl (diagnose, inl cause))))))))
+          (λ file bytes found within patterns few right. at_log file bytes found within patterns few right diagnose)
+
+      at_verify : IsVerify words → ⊥
+      at_verify verify = right_or (inr (inr (inr (inr (inr (verify, inl refl))))))
+          (λ fault is cause. no_own fault is (inr (inr (inr (inr (inr (inr (inr (verify, inl cause)))))))))
+          (λ file bytes found within patterns few right. at_cert file bytes found within patterns few right verify)
+
       at_chip : IsOnChip words → ⊥
       at_chip (inl check) = own_answer (λ also same names. check_own words reported also check)
       at_chip (inr (inl flatten)) = at_flatten flatten
       at_chip (inr (inr (inl simulate))) = at_simulate simulate
       at_chip (inr (inr (inr (inl atpg)))) = own_answer (λ also same names. atpg_own words reported also atpg)
       at_chip (inr (inr (inr (inr (inl replay))))) = at_replay replay
-      at_chip (inr (inr (inr (inr (inr (inl grade)))))) = not_grade grade
-      at_chip (inr (inr (inr (inr (inr (inr (inl diagnose))))))) = not_diagnose diagnose
+      at_chip (inr (inr (inr (inr (inr (inl grade)))))) = at_grade grade
+      at_chip (inr (inr (inr (inr (inr (inr (inl diagnose))))))) = at_diagnose diagnose
       at_chip (inr (inr (inr (inr (inr (inr (inr (inl certify)))))))) = own_answer (λ also same names. certify_own words reported also certify)
-      at_chip (inr (inr (inr (inr (inr (inr (inr (inr verify)))))))) = not_verify verify
+      at_chip (inr (inr (inr (inr (inr (inr (inr (inr verify)))))))) = at_verify verify
 
     at_inputs : ⊥
     at_inputs = either ((chip : LinkedChip) × IsChipOf inputs chip) (λ found. elim found [
@@ -419,12 +584,11 @@ module _ (words : List (List ℕ)) (outside : Outside) (reported : Files) (are :
   neither = inputs_or at_inputs
 
 -- not neither
-pub never_neither : (words : List (List ℕ)) (outside : Outside) → ReportsAllFiles words outside → IsOnChip words
-    → ¬ (IsGrade words) → ¬ (IsDiagnose words) → ¬ (IsVerify words) → ¬ (¬ (IsAnswerable words outside.files ⊎ HasInputCause words outside))
-never_neither words outside reports on not_grade not_diagnose not_verify refutes = by outside.files refl reports
+pub never_neither : PortsAreNamed → TextOfLinkedChipIsFile → NeverNeitherOnChip
+never_neither ports law words outside reports on refutes = by outside.files refl reports
   where
     by : (files : Option Files) → outside.files ≡ files
         → IsSomeAnd files (λ reported. (name : List ℕ) → IsInputFile words name → IsSome (reported name)) → ⊥
     by None are reports = reports
-    by (Some reported) are reports =
-        neither words outside reported are on not_grade not_diagnose not_verify reports (λ answer. refutes (inl answer)) (λ fault is cause. refutes (inr (fault, (is, cause))))
+    by (Some reported) are reports = neither words outside reported are on ports law reports (λ answer. refutes (inl answer))
+        (λ fault is cause. refutes (inr (fault, (is, cause))))

@@ -23,7 +23,7 @@ use Rattle.ca_flow.specs.Ends.{IsAsked}
 use Rattle.ca_flow_laws.specs.Patterns.{AtpgTextIsRead}
 
 -- the netlist of the inputs is what some text reads as, so the ports of their chip have names of the form
-named : PortsAreNamed → (inputs : Inputs) (chip : LinkedChip) → IsChipOf inputs chip → (there : Option (List ℕ)) (most : ℕ)
+pub named : PortsAreNamed → (inputs : Inputs) (chip : LinkedChip) → IsChipOf inputs chip → (there : Option (List ℕ)) (most : ℕ)
     → IsSomeAnd there (λ bytes. (length bytes ≤ most) × (netlist_of bytes ≡ Ok inputs.netlist))
     → IsNamedLink inputs.netlist inputs.library inputs.rows chip
 named ports inputs chip is None most held = absurd held

@@ -7,7 +7,7 @@ use Rattle.ca_defect.specs.Laws.{DefectsDiffer}
 use Rattle.ca_spice.specs.Called.{cell_called}
 use Rattle.ca_store.specs.Store.{Files}
 use Rattle.ca_fault.specs.declared.fault.Fault.{Fault}
-use Rattle.ca_words.specs.Words.{IsGrade, IsDiagnose, IsVerify, IsOnChip, IsCommand}
+use Rattle.ca_words.specs.Words.{IsOnChip, IsCommand}
 use Rattle.ca_flow.specs.declared.finished.Finished.{Finished}
 use Rattle.ca_flow.specs.Fault.{Outside, IsCause}
 use Rattle.ca_flow.specs.Complete.{IsAnswerable}
@@ -41,12 +41,11 @@ SomeCauseOrAnswer =
     (words : List (List ℕ)) (outside : Outside) → ReportsAllFiles words outside
     → ¬ (IsOnChip words) → IsCommand words → IsAnswerable words outside.files ⊎ HasInputCause words outside
 
--- of a command on a chip, but `grade`, `diagnose` and `verify`, whose files are there it can't be that
--- neither holds; which of them does isn't decided among the definitions
+-- of a command on a chip whose files are there it can't be that neither holds; which of them does isn't
+-- decided among the definitions
 abbrev pub NeverNeitherOnChip : Type 0
 NeverNeitherOnChip =
     (words : List (List ℕ)) (outside : Outside) → ReportsAllFiles words outside → IsOnChip words
-    → ¬ (IsGrade words) → ¬ (IsDiagnose words) → ¬ (IsVerify words)
     → ¬ (¬ (IsAnswerable words outside.files ⊎ HasInputCause words outside))
 
 -- a command of whose words and files a fault of input has a cause ends with this fault, or with another loop

@@ -5,6 +5,9 @@ ghost use Rattle.ca_store.specs.Store.{Files};
 ghost use Rattle.ca_flow_laws.specs.Laws.{HasOneCause, AnswerableHasNoCause, SomeCauseOrAnswer};
 ghost use Rattle.ca_flow_laws.specs.Laws.{CauseIsReported, NamesMeanOneDefect, NeverNeitherOnChip};
 
+use ca_chip_pairs::text_of_linked_chip_is_file;
+use ca_stil_laws::ports_are_named;
+
 /// Of one list of words and one set of files at most one fault of the words or of the contents has a cause;
 /// of several loops each has.
 pub fn one_cause()
@@ -22,11 +25,14 @@ pub fn some_cause_or_answer()
     ensures { SomeCauseOrAnswer }
 {}
 
-/// Of a command on a chip, but `grade`, `diagnose` and `verify`, whose files are there it can't be that it
-/// can't be answered and that no fault of the contents has a cause.
+/// Of a command on a chip whose files are there it can't be that it can't be answered and that no fault of
+/// the contents has a cause.
 pub fn never_neither_on_chip()
     ensures { NeverNeitherOnChip }
-{}
+{
+    ports_are_named();
+    text_of_linked_chip_is_file();
+}
 
 /// Where a fault of the words or of the contents has a cause, a command doesn't end well, and reports no
 /// other such fault; of several loops it may report any.
