@@ -16,9 +16,9 @@ MN2 N1 A2 VSS VSS nch W=1u L=0.1u
 .ENDS
 ";
 
-/// A netlist, an instance of it, and what each of its bridges is as a target: `port`, `one`, the output pins of
-/// a cell that has too many, or the number of a cluster and the place of the short there, the input and output
-/// pins of the cluster's cell and the two nodes of the short.
+/// A netlist, an instance of it, and what each of its bridges is as a target: `port`, `one`, the output pins
+/// of a cell that has too many, or the number of a cluster and the place of the short there, the input and
+/// output pins of the cluster's cell and the two nodes of the short.
 pub(crate) struct Case {
     pub(crate) netlist: &'static [u8],
     pub(crate) instance: &'static [u8],
