@@ -4,7 +4,7 @@ ghost use Rattle.std.specs.Prelude.{◌≡◌, length, map, IfOk};
 ghost use Rattle.std.specs.List.{All};
 ghost use Rattle.ca_flat.specs.Pair.{bit_count};
 
-use crate::bits::take_pair;
+use crate::bits::{load_bits, take_pair};
 use crate::parts::{
     aim_at, alike_at, code_at, faulty_at, is_exposable_at, lasts_at, leave, load_all,
     may_detect_at, search_at, share, take_found,
@@ -12,7 +12,7 @@ use crate::parts::{
 use crate::station::{Station, Stations};
 use ca_base::NoMemory;
 use ca_credit::{ByLasts, Simulator};
-use ca_generate::{Bench, PartialBench};
+use ca_generate::{Bench, PartialBits};
 use ca_net::{State, Trit};
 use ca_pair::Pair;
 use ca_search::{Code, Outcome};
@@ -23,7 +23,7 @@ use std::marker::Model;
 /// All of them have the same bits. That of the chip itself is for the values of the good chip; its list of
 /// defects is no part of the task. Of the others at most the current one aims at a defect.
 #[derive(Drop)]
-pub struct Benches<B: PartialBench + Drop> {
+pub struct Benches<B: Bench + PartialBits + Drop> {
     good: B,
     parts: Vec<B>,
     stations: Stations,
@@ -33,10 +33,11 @@ pub struct Benches<B: PartialBench + Drop> {
     aims: u64,
 }
 
-impl<B: PartialBench + Drop> Model for Benches<B> {
+impl<B: Bench + PartialBits + Drop> Model for Benches<B> {
     ghost use Rattle.std.specs.Prelude.{[], map, slice_index_or};
     ghost use Rattle.ca_benches.specs.Benches.{Joined, chip_of_station, defect_of};
     ghost use Rattle.ca_benches.specs.code.Parts.{aimed_of, aimed_chip};
+    ghost use Rattle.ca_generate.specs.BenchState.{AreOfOne};
     ghost use Rattle.ca_benches.specs.code.Benches.{AreBenches};
 
     ghost Value = { Joined };
@@ -55,15 +56,18 @@ impl<B: PartialBench + Drop> Model for Benches<B> {
 
     ghost invariant = { λ benches. AreBenches (B.task benches.good) (map B.task benches.parts.items)
         benches.stations benches.bits (B.bits benches.good) (map B.bits benches.parts.items)
-        benches.aim (map B.aimed benches.parts.items) (map B.aimed_in benches.parts.items) };
+        benches.aim (map B.aimed benches.parts.items) (map B.aimed_in benches.parts.items)
+        × AreOfOne B.state B.task B.bits B.aimed B.aimed_in B.code };
 }
 
-impl<B: PartialBench + Drop> Benches<B> {
+impl<B: Bench + PartialBits + Drop> Benches<B> {
+    ghost use Rattle.ca_generate.specs.BenchState.{AreOfOne};
     ghost use Rattle.ca_benches.specs.Benches.{task_in, task_of, IsPart, IsStationed, IsUnused};
 
     /// A bench of a chip, benches of chips that stand in for it, and for each defect its station among these.
     /// No bit is set, and no defect is aimed at.
     pub fn new(alloc: Global, good: B, parts: Vec<B>, stations: Stations) -> Result<Self, NoMemory>
+        requires one { AreOfOne B.state B.task B.bits B.aimed B.aimed_in B.code }
         requires sized { length (B.bits good) ≡ bit_count (B.task good).chip }
         requires parts { All (IsPart (B.task good)) (map B.task parts.items) }
         requires stations { All (IsStationed (map B.task parts.items)) stations }
@@ -75,7 +79,7 @@ impl<B: PartialBench + Drop> Benches<B> {
         let bits = State::unknown(alloc, good.bit_count())?;
         let mut good = good;
         let mut parts = parts;
-        good.load_partial(&bits);
+        load_bits(&mut good, &bits);
         share(&mut parts, &bits);
         Ok(Benches {
             good,
@@ -96,7 +100,7 @@ impl<B: PartialBench + Drop> Benches<B> {
     }
 }
 
-impl<B: PartialBench + Drop> Simulator for Benches<B> {
+impl<B: Bench + PartialBits + Drop> Simulator for Benches<B> {
     ghost use Rattle.ca_benches.specs.Benches.{task_in};
 
     ghost task = { λ benches. task_in benches };
@@ -178,7 +182,7 @@ impl<B: PartialBench + Drop> Simulator for Benches<B> {
     }
 }
 
-impl<B: PartialBench + Drop> Bench for Benches<B> {
+impl<B: Bench + PartialBits + Drop> Bench for Benches<B> {
     ghost code = { λ benches. benches.code };
 
     fn is_exposable(&self, place: usize) -> bool {
@@ -192,7 +196,7 @@ impl<B: PartialBench + Drop> Bench for Benches<B> {
         let outcome = search_at(&mut self.parts, aim.part);
         take_found(&mut self.bits, &self.parts, aim.part, outcome);
         share(&mut self.parts, &self.bits);
-        self.good.load_partial(&self.bits);
+        load_bits(&mut self.good, &self.bits);
         self.aim = None;
         self.current = aim.part;
         outcome

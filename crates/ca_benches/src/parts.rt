@@ -9,21 +9,22 @@ ghost use Rattle.ca_search.specs.Filled.{trits_of};
 ghost use Rattle.ca_credit.specs.Defects.{IsExposableIn};
 ghost use Rattle.ca_credit.specs.Detection.{IsNetEnd, IsAllowedByRows, AreDetectedAlike, IsDecided};
 ghost use Rattle.ca_generate.specs.Outcome.{IsSearch};
+ghost use Rattle.ca_generate.specs.BenchState.{AreOfOne};
 ghost use Rattle.ca_benches.specs.Benches.{task_at, chip_of_station, IsStationed};
 ghost use Rattle.ca_benches.specs.code.Parts.{bits_at, aimed_at, aimed_in_at, IsAimedAt};
 
-use crate::bits::take_bits;
+use crate::bits::{load_bits, take_bits};
 use crate::station::Station;
 use ca_base::NoMemory;
 use ca_credit::ByLasts;
-use ca_generate::PartialBench;
+use ca_generate::{Bench, PartialBits};
 use ca_net::{State, Trit};
 use ca_pair::Pair;
 use ca_search::{Code, Outcome};
 use std::alloc::Global;
 
 /// Gives all benches the bits of a pair.
-pub(crate) fn load_all<B: PartialBench>(parts: &mut Vec<B>, pair: &Pair)
+pub(crate) fn load_all<B: Bench>(parts: &mut Vec<B>, pair: &Pair)
     requires { All (λ task. length pair.now ≡ bit_count task.chip) (map B.task parts.old.items) }
 
     ensures tasks { map B.task parts.new.items ≡ map B.task parts.old.items }
@@ -37,20 +38,23 @@ pub(crate) fn load_all<B: PartialBench>(parts: &mut Vec<B>, pair: &Pair)
 }
 
 /// Gives all benches these bits. What their searches wrote stays.
-pub(crate) fn share<B: PartialBench>(parts: &mut Vec<B>, bits: &State)
-    requires { All (λ task. length bits.now ≡ bit_count task.chip) (map B.task parts.old.items) }
+pub(crate) fn share<B: Bench + PartialBits>(parts: &mut Vec<B>, bits: &State)
+    requires one { AreOfOne B.state B.task B.bits B.aimed B.aimed_in B.code }
+    requires sized { All (λ task. length bits.now ≡ bit_count task.chip) (map B.task parts.old.items) }
 
     ensures tasks { map B.task parts.new.items ≡ map B.task parts.old.items }
     ensures bits { All (λ own. own ≡ bits.now) (map B.bits parts.new.items) }
+    ensures aimed { map B.aimed parts.new.items ≡ map B.aimed parts.old.items }
+    ensures aimed_in { map B.aimed_in parts.new.items ≡ map B.aimed_in parts.old.items }
     ensures codes { map B.code parts.new.items ≡ map B.code parts.old.items }
 {
     for k in 0..parts.len() {
-        parts[k].load_partial(bits);
+        load_bits(&mut parts[k], bits);
     }
 }
 
 /// Whether the bits may detect the defect in a station.
-pub(crate) fn may_detect_at<B: PartialBench>(parts: &Vec<B>, station: Station) -> bool
+pub(crate) fn may_detect_at<B: Bench>(parts: &Vec<B>, station: Station) -> bool
     requires { IsStationed (map B.task parts.now.items) station }
     ensures undetected { IsFalse result → ¬ (IsShown (chip_of_station (map B.task parts.now.items) station)
         station.defect (bits_at (map B.bits parts.now.items) station.part)) }
@@ -61,7 +65,7 @@ pub(crate) fn may_detect_at<B: PartialBench>(parts: &Vec<B>, station: Station) -
 }
 
 /// Whether the defect in a station can be exposed.
-pub(crate) fn is_exposable_at<B: PartialBench>(parts: &Vec<B>, station: Station) -> bool
+pub(crate) fn is_exposable_at<B: Bench>(parts: &Vec<B>, station: Station) -> bool
     requires { IsStationed (map B.task parts.now.items) station }
     ensures { IsTrue result
         ↔ IsExposableIn (chip_of_station (map B.task parts.now.items) station) station.defect }
@@ -70,7 +74,7 @@ pub(crate) fn is_exposable_at<B: PartialBench>(parts: &Vec<B>, station: Station)
 }
 
 /// What last values alone say of the defect in a station.
-pub(crate) fn lasts_at<B: PartialBench>(parts: &mut Vec<B>, station: Station) -> ByLasts
+pub(crate) fn lasts_at<B: Bench>(parts: &mut Vec<B>, station: Station) -> ByLasts
     requires { IsStationed (map B.task parts.old.items) station }
 
     ensures decided { IsDecided (chip_of_station (map B.task parts.old.items) station) station.defect
@@ -84,7 +88,7 @@ pub(crate) fn lasts_at<B: PartialBench>(parts: &mut Vec<B>, station: Station) ->
 }
 
 /// Whether the defect in a station gives what that gives at which its bench is aimed.
-pub(crate) fn alike_at<B: PartialBench>(parts: &mut Vec<B>, station: Station) -> bool
+pub(crate) fn alike_at<B: Bench>(parts: &mut Vec<B>, station: Station) -> bool
     requires { IsStationed (map B.task parts.old.items) station }
 
     ensures same_chip { IsTrue result → chip_of_station (map B.task parts.old.items) station
@@ -101,7 +105,7 @@ pub(crate) fn alike_at<B: PartialBench>(parts: &mut Vec<B>, station: Station) ->
 }
 
 /// Aims at the defect in a station.
-pub(crate) fn aim_at<B: PartialBench>(parts: &mut Vec<B>, station: Station)
+pub(crate) fn aim_at<B: Bench>(parts: &mut Vec<B>, station: Station)
     requires { IsStationed (map B.task parts.old.items) station }
 
     ensures aimed { IsAimedAt (map B.task parts.old.items) (map B.aimed parts.new.items)
@@ -113,7 +117,7 @@ pub(crate) fn aim_at<B: PartialBench>(parts: &mut Vec<B>, station: Station)
 }
 
 // A bench aims at no defect.
-fn rest<B: PartialBench>(parts: &mut Vec<B>, part: usize)
+fn rest<B: Bench>(parts: &mut Vec<B>, part: usize)
     requires { part < length parts.old.items }
     ensures tasks { map B.task parts.new.items ≡ map B.task parts.old.items }
     ensures bits { map B.bits parts.new.items ≡ map B.bits parts.old.items }
@@ -122,7 +126,7 @@ fn rest<B: PartialBench>(parts: &mut Vec<B>, part: usize)
 }
 
 /// The bench of a number aims at no defect, unless it comes next. At rest it takes over bits in less time.
-pub(crate) fn leave<B: PartialBench>(parts: &mut Vec<B>, last: usize, next: usize)
+pub(crate) fn leave<B: Bench>(parts: &mut Vec<B>, last: usize, next: usize)
     ensures tasks { map B.task parts.new.items ≡ map B.task parts.old.items }
     ensures bits { map B.bits parts.new.items ≡ map B.bits parts.old.items }
 {
@@ -132,7 +136,7 @@ pub(crate) fn leave<B: PartialBench>(parts: &mut Vec<B>, last: usize, next: usiz
 }
 
 /// What the chip of the defect at which the bench of a station is aimed ends with at an output.
-pub(crate) fn faulty_at<B: PartialBench>(parts: &Vec<B>, station: Station, output: u32) -> Trit
+pub(crate) fn faulty_at<B: Bench>(parts: &Vec<B>, station: Station, output: u32) -> Trit
     requires stationed { IsStationed (map B.task parts.now.items) station }
     requires output { output < length (task_at (map B.task parts.now.items) station.part).chip.outputs }
     ensures { IsNetEnd (aimed_in_at (map B.aimed_in parts.now.items) station.part)
@@ -144,7 +148,7 @@ pub(crate) fn faulty_at<B: PartialBench>(parts: &Vec<B>, station: Station, outpu
 }
 
 /// Searches with a bench.
-pub(crate) fn search_at<B: PartialBench>(parts: &mut Vec<B>, part: usize) -> Outcome
+pub(crate) fn search_at<B: Bench>(parts: &mut Vec<B>, part: usize) -> Outcome
     requires { part < length parts.old.items }
 
     ensures searched { (defect : ChipDefect) → aimed_at (map B.aimed parts.old.items) part ≡ Some defect
@@ -158,12 +162,13 @@ pub(crate) fn search_at<B: PartialBench>(parts: &mut Vec<B>, part: usize) -> Out
 }
 
 /// Takes over the bits of a bench whose search has found a pair. Else the bits stay.
-pub(crate) fn take_found<B: PartialBench>(
+pub(crate) fn take_found<B: Bench + PartialBits>(
     bits: &mut State,
     parts: &Vec<B>,
     part: usize,
     outcome: Outcome,
 )
+    requires one { AreOfOne B.state B.task B.bits B.aimed B.aimed_in B.code }
     requires within { part < length parts.now.items }
     requires sized { outcome ≡ Outcome.Found
         → length (bits_at (map B.bits parts.now.items) part) ≡ length bits.old }
@@ -178,7 +183,7 @@ pub(crate) fn take_found<B: PartialBench>(
 }
 
 /// The code that the last search of a bench wrote; that of no tokens where there is no such bench.
-pub(crate) fn code_at<B: PartialBench>(
+pub(crate) fn code_at<B: Bench>(
     parts: &Vec<B>,
     part: usize,
     alloc: Global,

@@ -1,4 +1,5 @@
-//! What is promised of the shorts of merged chips is so of the bridges for which they stand. There is no code.
+//! What is promised of the shorts of merged chips is so of the bridges for which they stand. There is no
+//! code.
 #![tactic(auto)]
 
 mod laws;

@@ -15,8 +15,8 @@ use Rattle.ca_bridges.specs.Numbers.{AreNumbers, IsTaskOf, ArePut, AreAimsAt}
 use Rattle.ca_bridges.specs.Judged.{AreGoodVerdicts}
 
 -- Of bridges that are these targets: where the promise of test generation is kept for their shorts, each of
--- its cluster's chip, and the verdicts and the aims are put among those of all bridges, the promise of bridges
--- is kept.
+-- its cluster's chip, and the verdicts and the aims are put among those of all bridges, the promise of
+-- bridges is kept.
 abbrev pub ShortsJudgeBridges : Type 0
 ShortsJudgeBridges =
     (chip : LinkedChip) (rank : ℕ → ℕ) (budget : ℕ) (bridges : List Bridge) (targets : List Target)

@@ -1,11 +1,11 @@
 //! How many claims of a certificate are of which kind.
 
-ghost use Rattle.std.specs.Prelude.{◌≡◌, ◌≤◌, ◌<◌, Some, cond, length, slice_get, IfOk};
+ghost use Rattle.std.specs.Prelude.{◌≡◌, ◌<◌, Some, length, slice_get, IfOk};
 ghost use Rattle.ca_certifying.specs.Certified.{is_claim_of, claim_count, claims_summary};
 ghost use Rattle.ca_certifying.specs.Certified.{certified_line};
 
 use ca_base::NoMemory;
-use ca_chip_report::{Summary, summary_line};
+use ca_chip_report::{Summary, one_if, summary_line};
 use ca_claim::Claim;
 use ca_lex::Text;
 use std::alloc::Global;
@@ -30,14 +30,6 @@ fn is_claim_of(claim: &Claim, kind: ClaimKind) -> bool
         (ClaimKind::Aborted, Claim::Aborted { .. }) => true,
         _ => false,
     }
-}
-
-// One where the test is passed, and else none.
-fn one_if(passed: bool) -> usize
-    ensures is { result ≡ cond passed 1 0 }
-    ensures few { result ≤ 1 }
-{
-    if passed { 1 } else { 0 }
 }
 
 // The claim at a place.

@@ -32,7 +32,7 @@ use Rattle.ca_chip_report.specs.Summary.{is_kind, count_of}
 use Rattle.ca_chip_report.proofs.RowLemmas.{none_past}
 
 -- a place that has something is within
-some_within : {X : Type 0} (P : X → Type 0) (xs : List X) (k : ℕ) → IsSomeAnd (slice_get xs k) P → k < length xs
+pub some_within : {X : Type 0} (P : X → Type 0) (xs : List X) (k : ℕ) → IsSomeAnd (slice_get xs k) P → k < length xs
 some_within {X} P xs k there = by (slice_get xs k) refl there
   where
     by : (o : Option X) → slice_get xs k ≡ o → IsSomeAnd o P → k < length xs

@@ -43,7 +43,7 @@ fn is_kind(verdict: &Verdict, kind: Kind) -> bool
 }
 
 /// One where the test is passed, and else none.
-pub(crate) fn one_if(passed: bool) -> usize
+pub fn one_if(passed: bool) -> usize
     ensures is { result ≡ cond passed 1 0 }
     ensures few { result ≤ 1 }
 {
@@ -77,7 +77,7 @@ pub fn summary_of(verdicts: &Verdicts, pairs: usize) -> Summary
 }
 
 /// Appends a label and a number's digits.
-pub(crate) fn add_count(text: &mut Text, label: &[u8], count: usize) -> Result<(), NoMemory>
+pub fn add_count(text: &mut Text, label: &[u8], count: usize) -> Result<(), NoMemory>
     ensures { OnOk result (text.new ≡ with_count text.old label.now count) }
 {
     text.append(label)?;

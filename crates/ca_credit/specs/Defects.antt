@@ -8,8 +8,8 @@ use Rattle.ca_flat.specs.Pair.{NetEndsAt}
 use Rattle.ca_flat.specs.Waves.{IsFlatChip}
 pub use Rattle.ca_flat.specs.Detection.{IsExposableIn}
 
--- what is to be done: each of these defects is searched for with at most `budget` branches. That at a place of
--- the list is a defect of the chip, or of one that stands in for it: of `chip_of` the place
+-- what is to be done: each of these defects is searched for with at most `budget` branches. That at a place
+-- of the list is a defect of the chip, or of one that stands in for it: of `chip_of` the place
 pub record Task : Type 0 where
   pub chip : Chip
   pub chip_of : ℕ → Chip

@@ -261,9 +261,8 @@ impl Round {
         here + following
     }
 
-    // Tries the pair on the defect at a place. The rows are asked first, then last values, and waves where
-    // these alone say nothing.
-    fn take_turn<S: Simulator>(
+    // Tries the pair by waves on the defect at a place, if its rows allow that the pair detects it.
+    fn try_allowed<S: Simulator>(
         &mut self,
         sim: &mut S,
         pair: &Pair,
@@ -287,6 +286,31 @@ impl Round {
             self.pass(place);
             return 0;
         }
+        self.try_from(sim, pair, number, place)
+    }
+
+    // Tries the pair on the defect at a place. Last values are asked first, which takes least time, and then
+    // the rows, and waves where neither says that the pair doesn't detect it.
+    fn take_turn<S: Simulator>(
+        &mut self,
+        sim: &mut S,
+        pair: &Pair,
+        number: u32,
+        place: usize,
+    ) -> u32
+        requires left { Has self.old.left place }
+        requires same { length self.old.verdicts.items ≡ length (S.task sim.old).defects }
+        requires few { length self.old.verdicts.items < 2 ^ 32 }
+        requires stands { IsRound self.old }
+        requires bits { S.bits sim.old ≡ trits_of pair.now }
+
+        ensures tries { TriesMore (S.task sim.old) pair.now number result self.old self.new }
+        ensures here { ¬ (Has self.new.left place) }
+        ensures task { S.task sim.new ≡ S.task sim.old }
+        ensures bits { S.bits sim.new ≡ S.bits sim.old }
+        ensures aims { AimsAtSuspect (S.task sim.old) pair.now self.old.verdicts.items place
+            (S.aims sim.old) (S.aims sim.new) }
+    {
         match sim.by_lasts(place) {
             ByLasts::At(output) => {
                 self.credit(number, place, output);
@@ -296,7 +320,7 @@ impl Round {
                 self.pass(place);
                 0
             }
-            ByLasts::Undecided => self.try_from(sim, pair, number, place),
+            ByLasts::Undecided => self.try_allowed(sim, pair, number, place),
         }
     }
 

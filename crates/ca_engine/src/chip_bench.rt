@@ -11,7 +11,7 @@ use ca_chip_defects::{ChipDefects, chip_defects};
 use ca_credit::{ByLasts, Simulator};
 use ca_flat::ChipDefect;
 use ca_flatten::{flat_is_well_formed, judge_size};
-use ca_generate::{Bench, PartialBench, outcome_is_search};
+use ca_generate::{Bench, PartialBits, outcome_is_search};
 use ca_guide::Choice;
 use ca_net::{State, Trit};
 use ca_pair::Pair;
@@ -250,7 +250,18 @@ impl<R: ExposableDefects, P: Choice + Drop> Bench for ChipBench<'_, R, P> {
     }
 }
 
-impl<R: ExposableDefects, P: Choice + Drop> PartialBench for ChipBench<'_, R, P> {
+impl<R: ExposableDefects, P: Choice + Drop> PartialBits for ChipBench<'_, R, P> {
+    ghost use Rattle.ca_engine.specs.ChipBench.{task_in};
+
+    ghost state = { λ bench. record {
+      task = task_in bench;
+      bits = bench.bits;
+      aimed = bench.aimed;
+      aimed_in = bench.chip;
+      aims = bench.aims;
+      code = bench.code;
+    } };
+
     fn bit_at(&self, bit: usize) -> Trit {
         match self.judge.bit(bit) {
             Some(true) => Trit::One,

@@ -47,25 +47,31 @@ pub trait Bench: Simulator {
         ensures { IfOk result (λ kept. kept ≡ code self.now) };
 }
 
-/// A bench that takes over the bits of another one, which may be those of a partial pair.
-pub trait PartialBench: Bench {
+/// The bits of a bench, which may be those of a partial pair: it takes over those of another one. It is no
+/// `Bench` itself, so that a call over both traits stays within the prover's limits: who needs both asks that
+/// they are of one bench (`AreOfOne`).
+pub trait PartialBits {
     ghost use Rattle.std.specs.Prelude.{◌≡◌, ◌<◌, length};
     ghost use Rattle.ca_net.specs.State.{value_at};
     ghost use Rattle.ca_flat.specs.Pair.{bit_count};
+    ghost use Rattle.ca_generate.specs.BenchState.{BenchState};
+
+    /// What a bench has: its task, its bits, its aim, how often was aimed, and the code of its last search.
+    ghost state: { Self → BenchState };
 
     /// What a bit is set to, X where it is unset.
     fn bit_at(&self, bit: usize) -> Trit
-        requires { bit < length (Self.bits self.now) }
-        ensures { result ≡ value_at (Self.bits self.now) bit };
+        requires { bit < length (state self.now).bits }
+        ensures { result ≡ value_at (state self.now).bits bit };
 
-    /// Sets the bits that aren't X, and no other. The aim stays, and so does the code of the last search.
+    /// Sets the bits that aren't X, and no other. All else stays.
     fn load_partial(&mut self, bits: &State)
-        requires { length bits.now ≡ bit_count (Self.task self.old).chip }
+        requires { length bits.now ≡ bit_count (state self.old).task.chip }
 
-        ensures task { Self.task self.new ≡ Self.task self.old }
-        ensures bits { Self.bits self.new ≡ bits.now }
-        ensures aimed { Self.aimed self.new ≡ Self.aimed self.old }
-        ensures aimed_in { Self.aimed_in self.new ≡ Self.aimed_in self.old }
-        ensures aims { Self.aims self.new ≡ Self.aims self.old }
-        ensures code { Self.code self.new ≡ Self.code self.old };
+        ensures task { (state self.new).task ≡ (state self.old).task }
+        ensures bits { (state self.new).bits ≡ bits.now }
+        ensures aimed { (state self.new).aimed ≡ (state self.old).aimed }
+        ensures aimed_in { (state self.new).aimed_in ≡ (state self.old).aimed_in }
+        ensures aims { (state self.new).aims ≡ (state self.old).aims }
+        ensures code { (state self.new).code ≡ (state self.old).code };
 }

@@ -9,7 +9,7 @@ mod laws;
 mod watch;
 mod work;
 
-pub use bench::{Bench, PartialBench};
+pub use bench::{Bench, PartialBits};
 pub use fault::{Aims, GenerateFault};
 pub use generated::{Generated, generate, generate_knowing};
 pub use laws::{outcome_is_search, too_many_needs_exposable};

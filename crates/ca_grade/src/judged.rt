@@ -69,8 +69,8 @@ fn credit_judged<B: Bench, T: Watch>(
     None
 }
 
-/// A grade for each defect by the pairs, where all expected values are right. The watch is notified after each
-/// pair.
+/// A grade for each defect by the pairs, where all expected values are right. The watch is notified after
+/// each pair.
 pub fn grade_judged<B: Bench, T: Watch>(
     alloc: Global,
     bench: &mut B,

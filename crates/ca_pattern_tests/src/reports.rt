@@ -2,7 +2,7 @@
 
 use ca_base::{List, NoMemory};
 use ca_lex::{Names, Text};
-use ca_report::{ReportRow, Verdict, are_of, write_report};
+use ca_report::{ReportRow, Verdict, are_of, write_bridges, write_report};
 use std::alloc::Global;
 
 // A defect: its instance, its cell, its name, and the verdict.
@@ -111,6 +111,33 @@ fn reports_are_the_texts(rt: HostRuntime) {
         };
         assert!(rt; text.is(row.2), "{:?}", text.as_bytes());
     }
+}
+
+#[test]
+fn bridges_are_reported(rt: HostRuntime) {
+    let lines: [Line; 3] = [
+        (b"g4", b"NAND2", b"VDD=A1", FIRST),
+        (b"g4", b"NAND2", b"A1=A2", Verdict::Port),
+        (b"g4", b"NAND2", b"A1=ZN", Verdict::Wide),
+    ];
+    let Ok(text) = bridges_of(rt.alloc(), &lines) else {
+        panic!(rt; "no report");
+    };
+    let wanted: &[u8] = b"instance,cell,bridge,verdict,pair,output\n\
+        g4,NAND2,VDD=A1,credited,0,z\n\
+        g4,NAND2,A1=A2,port,,\n\
+        g4,NAND2,A1=ZN,wide,,\n";
+    assert!(rt; text.is(wanted), "{:?}", text.as_bytes());
+}
+
+// The report of bridges on a chip with one output.
+fn bridges_of(alloc: Global, lines: &[Line]) -> Result<Text, NoMemory> {
+    let outputs = names_of(alloc, &[b"z"])?;
+    let rows = rows_of(alloc, lines)?;
+    if !are_of(&outputs, &rows) {
+        return Ok(Text::new(alloc));
+    }
+    write_bridges(alloc, &outputs, &rows)
 }
 
 #[test]

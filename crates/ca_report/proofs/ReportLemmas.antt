@@ -8,7 +8,7 @@ use Rattle.csv.specs.Writing.{default_writer, row_text}
 use Rattle.ca_csv.specs.Records.{written}
 use Rattle.ca_report.specs.declared.rows.ReportRow.{ReportRow}
 use Rattle.ca_report.proofs.RowLemmas.{reported}
-use Rattle.ca_report.specs.Report.{header, record_of, report_text}
+use Rattle.ca_report.specs.Report.{header_of, record_of, text_of}
 
 -- one record more was written
 pub one_more : (outputs : List (List ℕ)) (k : ℕ) (rows : List ReportRow) (text all : List ℕ) (fields : List (List ℕ))
@@ -28,10 +28,10 @@ one_more outputs k rows text all fields filled before =
     ∙ (ap (λ (left : List ReportRow). text ++ written (map (record_of outputs) left)) (sym step) ∙ before))
 
 -- the header was written
-pub header_first : (outputs : List (List ℕ)) (rows : List ReportRow) (fields : List (List ℕ)) → fields ≡ header
-    → row_text default_writer fields ++ written (map (record_of outputs) rows) ≡ report_text outputs rows
-unfolding report_text
-header_first outputs rows fields filled =
+pub header_first : (what : List ℕ) (outputs : List (List ℕ)) (rows : List ReportRow) (fields : List (List ℕ)) → fields ≡ header_of what
+    → row_text default_writer fields ++ written (map (record_of outputs) rows) ≡ text_of what outputs rows
+unfolding text_of
+header_first what outputs rows fields filled =
     ap (λ (one : List (List ℕ)). row_text default_writer one ++ written (map (record_of outputs) rows)) filled
 
 -- all was written

@@ -13,7 +13,12 @@ fn is_verdict_of(verdict: Verdict, outputs: usize) -> bool
 {
     match verdict {
         Verdict::Credited { output, .. } => (output as usize) < outputs,
-        Verdict::Unexposable | Verdict::Untestable | Verdict::Aborted | Verdict::Uncredited => true,
+        Verdict::Unexposable
+        | Verdict::Untestable
+        | Verdict::Aborted
+        | Verdict::Uncredited
+        | Verdict::Port
+        | Verdict::Wide => true,
     }
 }
 

@@ -1,4 +1,4 @@
-//! The report of a run: a CSV text with the verdict on each defect.
+//! The report of a run: a CSV text with the verdict on each defect, or on each pin bridge.
 #![tactic(auto)]
 
 mod fits;
@@ -9,4 +9,4 @@ mod write;
 pub use fits::are_of;
 pub use rows::{ReportRow, ReportRows};
 pub use verdict::Verdict;
-pub use write::write_report;
+pub use write::{write_bridges, write_report};

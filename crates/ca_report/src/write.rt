@@ -6,8 +6,8 @@ ghost use Rattle.std.specs.List.{All};
 ghost use Rattle.csv.specs.Records.{fields_of};
 ghost use Rattle.csv.specs.Writing.{default_writer, row_text};
 ghost use Rattle.ca_csv.specs.Streams.{HasWritten};
-ghost use Rattle.ca_report.specs.Report.{header, word_of, pair_field, output_field, record_of, report_text};
-ghost use Rattle.ca_report.specs.Report.{IsVerdictOf, IsRowOf};
+ghost use Rattle.ca_report.specs.Report.{header_of, word_of, pair_field, output_field, record_of, text_of};
+ghost use Rattle.ca_report.specs.Report.{IsVerdictOf, IsRowOf, report_text, bridges_text};
 
 use crate::rows::ReportRows;
 use crate::verdict::Verdict;
@@ -27,17 +27,19 @@ fn word_of(verdict: Verdict) -> &'static [u8]
         Verdict::Untestable => b"untestable",
         Verdict::Aborted => b"aborted",
         Verdict::Uncredited => b"uncredited",
+        Verdict::Port => b"port",
+        Verdict::Wide => b"wide",
     }
 }
 
-// Makes a record the header.
-fn fill_header(fields: &mut ByteRecord) -> Result<(), NoMemory>
-    ensures { OnOk result (fields_of fields.new ≡ header) }
+// Makes a record the header of a report of what a word says.
+fn fill_header(fields: &mut ByteRecord, what: &[u8]) -> Result<(), NoMemory>
+    ensures { OnOk result (fields_of fields.new ≡ header_of what.now) }
 {
     fields.clear();
     fields.push_field(b"instance")?;
     fields.push_field(b"cell")?;
-    fields.push_field(b"defect")?;
+    fields.push_field(what)?;
     fields.push_field(b"verdict")?;
     fields.push_field(b"pair")?;
     fields.push_field(b"output")?;
@@ -51,7 +53,12 @@ fn output_of(outputs: &Names, verdict: Verdict) -> &[u8]
 {
     match verdict {
         Verdict::Credited { output, .. } => outputs.get(output as usize).as_bytes(),
-        Verdict::Unexposable | Verdict::Untestable | Verdict::Aborted | Verdict::Uncredited => &[],
+        Verdict::Unexposable
+        | Verdict::Untestable
+        | Verdict::Aborted
+        | Verdict::Uncredited
+        | Verdict::Port
+        | Verdict::Wide => &[],
     }
 }
 
@@ -61,7 +68,12 @@ fn pair_of(buffer: &mut Buffer, verdict: Verdict) -> &[u8]
 {
     match verdict {
         Verdict::Credited { pair, .. } => buffer.format(pair).as_bytes(),
-        Verdict::Unexposable | Verdict::Untestable | Verdict::Aborted | Verdict::Uncredited => &[],
+        Verdict::Unexposable
+        | Verdict::Untestable
+        | Verdict::Aborted
+        | Verdict::Uncredited
+        | Verdict::Port
+        | Verdict::Wide => &[],
     }
 }
 
@@ -90,6 +102,28 @@ fn fill_record<R: ReportRows>(
     Ok(())
 }
 
+// The report of what a word says.
+fn write_with<R: ReportRows>(
+    alloc: Global,
+    what: &[u8],
+    outputs: &Names,
+    rows: &R,
+) -> Result<Text, NoMemory>
+    requires { All (IsRowOf (length outputs.now)) (R.rows rows.now) }
+    ensures ok { IfOk result (λ text. text ≡ text_of what.now outputs.now (R.rows rows.now)) }
+{
+    let mut writer = writer_of(alloc);
+    let mut fields = ByteRecord::new(alloc);
+    fill_header(&mut fields, what)?;
+    append(&mut writer, &fields)?;
+    for k in 0..rows.len() {
+        let defect = rows.defect(alloc, k)?;
+        fill_record(&mut fields, outputs, rows, k, defect.as_bytes())?;
+        append(&mut writer, &fields)?;
+    }
+    Ok(Text::from_vec(finish(writer)?))
+}
+
 /// The report of a chip's defects; `outputs` are the names of the observed outputs.
 pub fn write_report<R: ReportRows>(
     alloc: Global,
@@ -99,14 +133,17 @@ pub fn write_report<R: ReportRows>(
     requires { All (IsRowOf (length outputs.now)) (R.rows rows.now) }
     ensures ok { IfOk result (λ text. text ≡ report_text outputs.now (R.rows rows.now)) }
 {
-    let mut writer = writer_of(alloc);
-    let mut fields = ByteRecord::new(alloc);
-    fill_header(&mut fields)?;
-    append(&mut writer, &fields)?;
-    for k in 0..rows.len() {
-        let defect = rows.defect(alloc, k)?;
-        fill_record(&mut fields, outputs, rows, k, defect.as_bytes())?;
-        append(&mut writer, &fields)?;
-    }
-    Ok(Text::from_vec(finish(writer)?))
+    write_with(alloc, b"defect", outputs, rows)
+}
+
+/// The report of pin bridges, each a row with the bridge's name in place of a defect's.
+pub fn write_bridges<R: ReportRows>(
+    alloc: Global,
+    outputs: &Names,
+    rows: &R,
+) -> Result<Text, NoMemory>
+    requires { All (IsRowOf (length outputs.now)) (R.rows rows.now) }
+    ensures ok { IfOk result (λ text. text ≡ bridges_text outputs.now (R.rows rows.now)) }
+{
+    write_with(alloc, b"bridge", outputs, rows)
 }

@@ -3,7 +3,7 @@ use Rattle.std.proofs.Common.{◌≡◌, ◌∙◌, ℕ, List, [], ◌∷◌, ma
 use Rattle.csv.specs.Reading.{records, default_config, strip_bom}
 use Rattle.ca_csv.proofs.CsvLemmas.{AreNotEmpty, records_written}
 use Rattle.ca_report.specs.declared.rows.ReportRow.{ReportRow}
-use Rattle.ca_report.specs.Report.{header, record_of, report_text}
+use Rattle.ca_report.specs.Report.{header_of, record_of, text_of}
 use Rattle.ca_report_laws.specs.Laws.{ReportIsReadBack}
 
 -- each record has a field
@@ -12,12 +12,12 @@ rows_not_empty outputs [] = tt
 rows_not_empty outputs (row ∷ rows) = rows_not_empty outputs rows
 
 -- the text begins with a letter, and so with no byte order mark
-no_mark : (outputs : List (List ℕ)) (rows : List ReportRow) → strip_bom (report_text outputs rows) ≡ report_text outputs rows
-unfolding strip_bom report_text
-no_mark outputs rows = refl
+no_mark : (what : List ℕ) (outputs : List (List ℕ)) (rows : List ReportRow) → strip_bom (text_of what outputs rows) ≡ text_of what outputs rows
+unfolding strip_bom text_of
+no_mark what outputs rows = refl
 
 pub reads_back : ReportIsReadBack
-unfolding report_text
-reads_back outputs rows =
-    ap (records default_config) (no_mark outputs rows)
-    ∙ records_written (header ∷ map (record_of outputs) rows) (rows_not_empty outputs rows)
+unfolding text_of
+reads_back what outputs rows =
+    ap (records default_config) (no_mark what outputs rows)
+    ∙ records_written (header_of what ∷ map (record_of outputs) rows) (rows_not_empty outputs rows)

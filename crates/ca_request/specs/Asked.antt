@@ -57,6 +57,12 @@ IsDefectCause chip instance defect (NoDefect typed) =
     (typed ≡ defect) × ((instance ≢ dash) × LacksDefect chip instance defect)
 IsDefectCause chip instance defect _ = ⊥
 
+-- why a word names no library instance of the chip: none has the name
+abbrev pub IsInstanceCause : LinkedChip → List ℕ → Fault → Type 0
+IsInstanceCause chip instance (NoInstance typed) =
+    (typed ≡ instance) × ((u : ℕ) → IsNamedGate chip instance u → ⊥)
+IsInstanceCause chip instance _ = ⊥
+
 -- why two vectors aren't of the chip: the first of them that has more or fewer letters than it has inputs
 abbrev pub IsVectorsCause : LinkedChip → List ℕ → List ℕ → Fault → Type 0
 IsVectorsCause chip first last (BadVector typed) =
@@ -67,6 +73,9 @@ IsVectorsCause chip first last _ = ⊥
 -- the same, or there was no memory
 abbrev pub IsDefectStage : LinkedChip → List ℕ → List ℕ → Fault → Type 0
 IsDefectStage chip instance defect fault = (fault ≡ NoMemory) ⊎ IsDefectCause chip instance defect fault
+
+abbrev pub IsInstanceStage : LinkedChip → List ℕ → Fault → Type 0
+IsInstanceStage chip instance fault = (fault ≡ NoMemory) ⊎ IsInstanceCause chip instance fault
 
 abbrev pub IsVectorsStage : LinkedChip → List ℕ → List ℕ → Fault → Type 0
 IsVectorsStage chip first last fault = (fault ≡ NoMemory) ⊎ IsVectorsCause chip first last fault

@@ -1,10 +1,11 @@
-//! The defect of a chip that words name.
+//! The instance and the defect of a chip that words name.
 
 ghost use Rattle.std.specs.Prelude.{◌≡◌, ◌≢◌, IfErr, IfOk};
 ghost use Rattle.ca_linked.specs.Linked.{IsLibrary};
 ghost use Rattle.ca_linked.specs.Instances.{IsNamedGate};
 ghost use Rattle.ca_request.specs.Vectors.{dash};
 ghost use Rattle.ca_request.specs.Asked.{AreBothOrNeither, IsAskedDefect, IsLibraryDefect, IsDefectStage};
+ghost use Rattle.ca_request.specs.Asked.{IsInstanceStage};
 
 use ca_defect::parse;
 use ca_fault::Fault;
@@ -39,8 +40,22 @@ fn defect_of(
     }
 }
 
+/// The library instance that a word names. It looks through all library instances.
+pub fn find_named(alloc: Global, chip: &Chip, instance: &str) -> Result<InstanceId, Fault>
+    ensures named { IfOk result (λ u. IsNamedGate chip.now instance.now u.0) }
+    ensures cause { IfErr result (IsInstanceStage chip.now instance.now) }
+{
+    match chip.find_instance(instance.as_bytes()) {
+        Some(u) => Ok(u),
+        None => Err(Fault::NoInstance {
+            word: Text::from_bytes(alloc, instance.as_bytes())?,
+        }),
+    }
+}
+
 /// The defect that the words ask for; none where both are a dash. The instance is judged before the defect.
 /// It looks through all library instances.
+#[tactic(auto, using(crate::proofs::DefectLemmas::unnamed))]
 pub fn find_defect(
     alloc: Global,
     chip: &Chip,
@@ -55,10 +70,8 @@ pub fn find_defect(
     if instance == "-" {
         return Ok(None);
     }
-    match chip.find_instance(instance.as_bytes()) {
-        Some(u) => defect_of(alloc, chip, u, instance, defect),
-        None => Err(Fault::NoInstance {
-            word: Text::from_bytes(alloc, instance.as_bytes())?,
-        }),
+    match find_named(alloc, chip, instance) {
+        Ok(u) => defect_of(alloc, chip, u, instance, defect),
+        Err(fault) => Err(fault),
     }
 }

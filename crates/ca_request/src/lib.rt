@@ -4,5 +4,5 @@
 mod defects;
 mod vectors;
 
-pub use defects::find_defect;
+pub use defects::{find_defect, find_named};
 pub use vectors::{Vectors, find_vectors, letters_of, trit};

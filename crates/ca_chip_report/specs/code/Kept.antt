@@ -12,7 +12,7 @@ use Rattle.ca_linked.specs.declared.parts.Body.TheVariants.{Gate, Scan}
 use Rattle.ca_linked.specs.Linked.{LinkedChip, IsGate}
 use Rattle.ca_report.specs.declared.verdict.Verdict as report
 use Rattle.ca_report.specs.declared.verdict.Verdict.TheVariants.{Credited, Unexposable, Untestable, Aborted}
-use Rattle.ca_report.specs.declared.verdict.Verdict.TheVariants.{Uncredited}
+use Rattle.ca_report.specs.declared.verdict.Verdict.TheVariants.{Uncredited, Port, Wide}
 use Rattle.ca_report.specs.Report.{IsVerdictOf}
 use Rattle.ca_chip_report.specs.code.Rows.{AreRows}
 
@@ -33,6 +33,8 @@ IsVerdictOf-prop outputs Unexposable = Prim.hlevel props
 IsVerdictOf-prop outputs Untestable = Prim.hlevel props
 IsVerdictOf-prop outputs Aborted = Prim.hlevel props
 IsVerdictOf-prop outputs Uncredited = Prim.hlevel props
+IsVerdictOf-prop outputs Port = Prim.hlevel props
+IsVerdictOf-prop outputs Wide = Prim.hlevel props
 
 pub ruleset reported_props = (IsDefect-prop, IsGate-prop, IsVerdictOf-prop, props)
 

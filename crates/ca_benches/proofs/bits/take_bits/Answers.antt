@@ -12,8 +12,8 @@ loop-bit-preserved g c =
     let below = c.loop-bit-test.true in
     let count = c.len-bit-end.ensures in
     record {
-      room = ap length c.set.ensures ∙ length-set bits c.loop-bit.bit c.bit_at.result ∙ was.room;
-      taken = ap (λ (now : List Trit). take (c.loop-bit.bit + 1) now) c.set.ensures ∙ bit_more bits whole c.loop-bit.bit c.bit_at.result (omega arith) (omega arith) was.taken c.bit_at.ensures;
+      room = ap length c.set.ensures ∙ length-set bits c.loop-bit.bit c.bit_of.result ∙ was.room;
+      taken = ap (λ (now : List Trit). take (c.loop-bit.bit + 1) now) c.set.ensures ∙ bit_more bits whole c.loop-bit.bit c.bit_of.result (omega arith) (omega arith) was.taken c.bit_of.ensures;
     }
 
 pub returns : goal.returns

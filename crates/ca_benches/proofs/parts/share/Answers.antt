@@ -6,27 +6,29 @@ use Rattle.ca_flat.specs.Pair.{bit_count}
 use Rattle.ca_benches.proofs.ListLemmas.{map_same, firsts_more, firsts_all, at_each}
 use Rattle.ca_benches.proofs.parts.share.Goals as goal
 
-pub load_partial-requires : goal.load_partial-requires
-load_partial-requires g c =
+pub load_bits-requires-clause-sized : goal.load_bits-requires-clause-sized
+load_bits-requires-clause-sized g c =
     let parts = c.loop-k.parts.items in
     let within : c.loop-k.k < length parts = let below = c.loop-k-test.true in let count = c.len-k-end.ensures in let room = c.loop-k.invariant.room in omega arith in
     at_each (λ (task : Task). length c.args.bits.now ≡ bit_count task.chip) g.B.Simulator.task parts c.loop-k.k c.index_mut.result.now within
     c.index_mut.ensures.value
-    (subst (All (λ (task : Task). length c.args.bits.now ≡ bit_count task.chip)) (sym c.loop-k.invariant.tasks) c.requires)
+    (subst (All (λ (task : Task). length c.args.bits.now ≡ bit_count task.chip)) (sym c.loop-k.invariant.tasks) c.requires.sized)
 
 pub loop-k-preserved : goal.loop-k-preserved
 loop-k-preserved g c =
     let parts = c.loop-k.parts.items in
     let k = c.loop-k.k in
     let x = c.index_mut.result.now in
-    let y = c.load_partial.new.self in
+    let y = c.load_bits.new.bench in
     let was = c.loop-k.invariant in
     let within : k < length parts = let below = c.loop-k-test.true in let count = c.len-k-end.ensures in let room = was.room in omega arith in
     record {
       room = length-set parts k y ∙ was.room;
-      tasks = map_same g.B.Simulator.task parts k x y c.index_mut.ensures.value c.load_partial.ensures.task ∙ was.tasks;
-      bits = firsts_more g.B.Simulator.bits parts k y c.args.bits.now within c.load_partial.ensures.bits was.bits;
-      codes = map_same g.B.Bench.code parts k x y c.index_mut.ensures.value c.load_partial.ensures.code ∙ was.codes;
+      tasks = map_same g.B.Simulator.task parts k x y c.index_mut.ensures.value c.load_bits.ensures.task ∙ was.tasks;
+      bits = firsts_more g.B.Simulator.bits parts k y c.args.bits.now within c.load_bits.ensures.bits was.bits;
+      aimed = map_same g.B.Simulator.aimed parts k x y c.index_mut.ensures.value c.load_bits.ensures.aimed ∙ was.aimed;
+      aimed_in = map_same g.B.Simulator.aimed_in parts k x y c.index_mut.ensures.value c.load_bits.ensures.aimed_in ∙ was.aimed_in;
+      codes = map_same g.B.Bench.code parts k x y c.index_mut.ensures.value c.load_bits.ensures.code ∙ was.codes;
     }
 
 pub returns-clause-bits : goal.returns-clause-bits

@@ -7,5 +7,7 @@ invariant-loop-k g l = record {
   room : length l.parts.items ≡ length l.fn.parts.items;
   tasks : map g.B.Simulator.task l.parts.items ≡ map g.B.Simulator.task l.fn.parts.items;
   bits : All (λ own. own ≡ l.bits) (take l.k (map g.B.Simulator.bits l.parts.items));
+  aimed : map g.B.Simulator.aimed l.parts.items ≡ map g.B.Simulator.aimed l.fn.parts.items;
+  aimed_in : map g.B.Simulator.aimed_in l.parts.items ≡ map g.B.Simulator.aimed_in l.fn.parts.items;
   codes : map g.B.Bench.code l.parts.items ≡ map g.B.Bench.code l.fn.parts.items;
 }

@@ -16,35 +16,37 @@ use Rattle.ca_benches.proofs.benches.BenchesBench.find.Goals as goal
 pub search_at-outcome-requires : goal.search_at-outcome-requires
 search_at-outcome-requires g c =
     subst (λ (n : ℕ). c.in-Some.aim.part < n) (length-map c.self.inside.parts.items g.B.Simulator.task)
-    (aim_stationed _ _ _ _ _ _ _ _ _ c.self.invariant c.in-Some.aim c.in-Some.is).within
+    (aim_stationed _ _ _ _ _ _ _ _ _ c.self.invariant.0 c.in-Some.aim c.in-Some.is).within
 
 pub take_found-requires-clause-within : goal.take_found-requires-clause-within
 take_found-requires-clause-within g c =
     let new = c.search_at-outcome.new.parts.items in
     subst (λ (n : ℕ). c.in-Some.aim.part < n)
     (sym (ap (λ (tasks : List Task). length tasks) c.search_at-outcome.ensures.tasks) ∙ length-map new g.B.Simulator.task)
-    (aim_stationed _ _ _ _ _ _ _ _ _ c.self.invariant c.in-Some.aim c.in-Some.is).within
+    (aim_stationed _ _ _ _ _ _ _ _ _ c.self.invariant.0 c.in-Some.aim c.in-Some.is).within
 
 pub take_found-requires-clause-sized : goal.take_found-requires-clause-sized
 take_found-requires-clause-sized g c found =
-    search_sized _ _ _ _ _ _ _ _ _ c.self.invariant c.in-Some.aim c.in-Some.is _ _ c.search_at-outcome.result
+    search_sized _ _ _ _ _ _ _ _ _ c.self.invariant.0 c.in-Some.aim c.in-Some.is _ _ c.search_at-outcome.result
     c.search_at-outcome.ensures.searched found
 
-pub share-requires : goal.share-requires
-share-requires g c =
+pub share-requires-clause-sized : goal.share-requires-clause-sized
+share-requires-clause-sized g c =
     let bits = c.take_found.new.bits in
     subst (All (λ (task : Task). length bits ≡ bit_count task.chip)) (sym c.search_at-outcome.ensures.tasks)
-    (sized_for_all (g.B.Simulator.task c.self.inside.good) _ (length bits) c.self.invariant.parts
-    (c.take_found.ensures.sized ∙ c.self.invariant.sized))
+    (sized_for_all (g.B.Simulator.task c.self.inside.good) _ (length bits) c.self.invariant.0.parts
+    (c.take_found.ensures.sized ∙ c.self.invariant.0.sized))
 
-pub load_partial-requires : goal.load_partial-requires
-load_partial-requires g c = c.take_found.ensures.sized ∙ c.self.invariant.sized
+pub load_bits-requires-clause-sized : goal.load_bits-requires-clause-sized
+load_bits-requires-clause-sized g c = c.take_found.ensures.sized ∙ c.self.invariant.0.sized
 
 pub invariant_of-self : goal.invariant_of-self
-invariant_of-self g c =
-    renewed _ _ _ _ _ _ _ _ _ c.self.invariant _ _ _ _ _ _ _ _ c.load_partial.ensures.task
-    (c.share.ensures.tasks ∙ c.search_at-outcome.ensures.tasks) c.take_found.ensures.sized c.load_partial.ensures.bits
-    c.share.ensures.bits tt
+invariant_of-self g c = (
+  renewed _ _ _ _ _ _ _ _ _ c.self.invariant.0 _ _ _ _ _ _ _ _ c.load_bits.ensures.task
+      (c.share.ensures.tasks ∙ c.search_at-outcome.ensures.tasks) c.take_found.ensures.sized c.load_bits.ensures.bits
+      c.share.ensures.bits tt,
+  c.self.invariant.1,
+)
 
 pub returns-clause-searched : goal.returns-clause-searched
 returns-clause-searched g c defect aimed =
@@ -58,11 +60,11 @@ returns-clause-searched g c defect aimed =
     (subst (λ (a : Option Station). IsSearch (aimed_chip (g.B.Simulator.task inside.good).chip tasks a) (g.B.Simulator.task inside.good).budget defect code bits outcome)
     (sym c.in-Some.is)
     (subst (λ (codes : List (List Token)). IsSearch (chip_of_station tasks aim) (g.B.Simulator.task inside.good).budget defect (slice_index_or codes aim.part []) bits outcome) (sym c.share.ensures.codes)
-    (searched _ _ _ _ _ _ _ _ _ c.self.invariant aim c.in-Some.is _ _ bits outcome defect c.search_at-outcome.ensures.searched
+    (searched _ _ _ _ _ _ _ _ _ c.self.invariant.0 aim c.in-Some.is _ _ bits outcome defect c.search_at-outcome.ensures.searched
     c.take_found.ensures.found
     (sym (ap aimed_of c.in-Some.is) ∙ ap (λ (v : Joined). v.aimed) c.self.view_is ∙ aimed))))
 
 pub returns-clause-task : goal.returns-clause-task
 returns-clause-task g c =
-    same_task (g.B.Simulator.task c.self.inside.good) _ (map g.B.Simulator.task c.self.inside.parts.items) _ c.self.inside.stations c.load_partial.ensures.task (c.share.ensures.tasks ∙ c.search_at-outcome.ensures.tasks)
+    same_task (g.B.Simulator.task c.self.inside.good) _ (map g.B.Simulator.task c.self.inside.parts.items) _ c.self.inside.stations c.load_bits.ensures.task (c.share.ensures.tasks ∙ c.search_at-outcome.ensures.tasks)
     ∙ ap task_in c.self.view_is

@@ -13,4 +13,4 @@ returns g c =
     subst (λ (v : Joined). IsNetEnd v.chip None v.bits (slice_index v.chip.outputs c.args.output) c.good_end.result) c.self.view_is
     (let chip = (g.B.Simulator.task c.self.inside.good).chip in
     subst (λ (bits : List Trit). IsNetEnd chip None bits (slice_index chip.outputs c.args.output) c.good_end.result)
-    c.self.invariant.good_has c.good_end.ensures)
+    c.self.invariant.0.good_has c.good_end.ensures)

@@ -1,17 +1,8 @@
-use Rattle.std.proofs.Common.{subst, arith, inr, List, None}
+use Rattle.std.proofs.Common.{subst, List}
 use Rattle.ca_net.specs.declared.trit.Trit.{Trit}
-use Rattle.ca_credit.specs.Detection.{IsAnswer, IsDecided}
+use Rattle.ca_credit.specs.Detection.{IsDecided}
 use Rattle.ca_credit.specs.declared.by_lasts.ByLasts.TheVariants.{At, Nowhere}
-use Rattle.ca_credit.proofs.AimLemmas.{is_suspect}
-use Rattle.ca_credit.proofs.RoundLemmas.{open_left, undetected_answer}
 use Rattle.ca_credit.proofs.round.Round.take_turn.Goals as goal
-
-pub returns-then-not-may_detect-clause-tries : goal.returns-then-not-may_detect-clause-tries
-returns-then-not-may_detect-clause-tries g c =
-    let task = g.S.Simulator.task c.args.sim.now in
-    c.pass.ensures.tries task c.args.pair.now c.args.number (λ defect at.
-    subst (λ (b : List Trit). IsAnswer (task.chip_of c.args.place) defect b None) c.requires.bits
-    (undetected_answer (task.chip_of c.args.place) defect (g.S.Simulator.bits c.args.sim.now) (c.may_detect.ensures.undetected defect at c.if-not-may_detect.true)))
 
 pub returns-in-At-clause-tries : goal.returns-in-At-clause-tries
 returns-in-At-clause-tries g c =
@@ -22,14 +13,5 @@ returns-in-At-clause-tries g c =
 pub returns-in-Nowhere-clause-tries : goal.returns-in-Nowhere-clause-tries
 returns-in-Nowhere-clause-tries g c =
     let task = g.S.Simulator.task c.args.sim.now in
-    c.pass-in-Nowhere.ensures.tries task c.args.pair.now c.args.number (λ defect at.
+    c.pass.ensures.tries task c.args.pair.now c.args.number (λ defect at.
     subst (λ (b : List Trit). IsDecided (task.chip_of c.args.place) defect b Nowhere) c.requires.bits (c.in-Nowhere.ensures.decided defect at))
-
-pub returns-in-Undecided-clause-aims : goal.returns-in-Undecided-clause-aims
-returns-in-Undecided-clause-aims g c =
-    inr (
-      is_suspect (g.S.Simulator.task c.args.sim.now) c.args.pair.now (g.S.Simulator.bits c.args.sim.now)
-          c.args.self.now.verdicts.items c.args.place c.requires.bits (open_left c.args.self.now c.args.place c.requires.stands c.requires.left).1
-          (λ defect at. c.may_detect.ensures.allowed defect at c.if-not-may_detect.false),
-      (let same = c.in-Undecided.ensures.aims in let once = c.try_from.ensures.aims in omega arith),
-    )
