@@ -1,21 +1,18 @@
 -- What benches that work as one keep, and what each of them says of the task of all.
 use Rattle.std.proofs.Common.{◌≡◌, ℕ, ◌*◌, List, [], length, map, Option, Some, None, ◌∙◌, refl, sym, ap, subst}
-use Rattle.std.specs.Prelude.{slice_get, slice_index, slice_index_or, option_map}
+use Rattle.std.specs.Prelude.{slice_get, slice_index, slice_index_or, option_map, Bool, IfOk, Result}
 use Rattle.std.specs.List.{All, Contains}
 use Rattle.std.proofs.lemmas.List.{get_or-map}
 use Rattle.std.proofs.lemmas.List.Elements.{All-get_or, All-nil}
 use Rattle.std.proofs.lemmas.Option.{slice_get-map, slice_get_within, get_or_from_slice_get}
 use Rattle.ca_net.specs.declared.trit.Trit.{Trit}
 use Rattle.ca_flat.specs.declared.chip_defect.ChipDefect.{ChipDefect}
-use Rattle.ca_flat.specs.declared.token.Token.{Token}
 use Rattle.ca_flat.specs.Chip.{Chip}
 use Rattle.ca_flat.specs.Pair.{bit_count}
-use Rattle.ca_search.specs.declared.trail.Outcome.{Outcome}
-use Rattle.ca_search.specs.declared.trail.Outcome.TheVariants.{Found, Exhausted, Spent}
 use Rattle.ca_credit.specs.Defects.{Task, StandsIn, IsDefectAt}
 use Rattle.ca_credit.specs.Detection.{IsNetEnd, AreDetectedAlike}
-use Rattle.ca_generate.specs.Outcome.{IsSearch}
-use Rattle.ca_generate.proofs.FoundLemmas.{length-front}
+use Rattle.ca_generate.specs.declared.search_end.SearchEnd.{SearchEnd}
+use Rattle.ca_generate.specs.Outcome.{IsSearchEnd}
 use Rattle.ca_benches.specs.declared.station.Station.{Station}
 use Rattle.ca_benches.specs.Benches.{no_task, task_at, chip_of_station, defect_of, IsStationed, IsPart, task_of, Joined, task_in}
 use Rattle.ca_benches.specs.code.Parts.{bits_at, aimed_at, aimed_in_at, IsAimedAt, IsAimed, aimed_of, aimed_chip}
@@ -73,22 +70,6 @@ same_entry : (defects : List ChipDefect) (place : ℕ) (one other : ChipDefect)
     → slice_get defects place ≡ Some one → slice_get defects place ≡ Some other → one ≡ other
 same_entry defects place one other is also = let e : Some one ≡ Some other = sym is ∙ also in cc
 
--- how a search has ended that found nothing doesn't depend on the bits
-pub search_with : (chip : Chip) (budget : ℕ) (defect : ChipDefect) (code : List Token) (old new : List Trit) (outcome : Outcome)
-    → (outcome ≡ Found → new ≡ old) → IsSearch chip budget defect code old outcome → IsSearch chip budget defect code new outcome
-search_with chip budget defect code old new Found same search =
-    subst (λ (bits : List Trit). IsSearch chip budget defect code bits Found) (sym (same refl)) search
-search_with chip budget defect code old new Exhausted same search = record { within = search.within; ends = search.ends }
-search_with chip budget defect code old new Spent same search = record { within = search.within; ends = search.ends }
-
--- the partial pair that was found has a value for each pattern bit
-pub found_sized : (chip : Chip) (budget : ℕ) (defect : ChipDefect) (code : List Token) (bits : List Trit) (outcome : Outcome)
-    → outcome ≡ Found → IsSearch chip budget defect code bits outcome → length bits ≡ bit_count chip
-found_sized chip budget defect code bits outcome found search =
-    let ended : IsSearch chip budget defect code bits Found =
-    subst (λ (how : Outcome). IsSearch chip budget defect code bits how) found search in
-    length-front _ chip code bits ended.ends.front
-
 -- the aim stays
 pub aim_stays : (tasks : List Task) (aimeds new_aimeds : List (Option ChipDefect)) (chips new_chips : List Chip) (aim : Option Station)
     → new_aimeds ≡ aimeds → new_chips ≡ chips → IsAimed tasks aimeds chips aim → IsAimed tasks new_aimeds new_chips aim
@@ -96,23 +77,22 @@ aim_stays tasks aimeds new_aimeds chips new_chips aim aimeds_are chips_are aimed
     subst (λ (now : List (Option ChipDefect)). IsAimed tasks now new_chips aim) (sym aimeds_are)
     (subst (λ (now : List Chip). IsAimed tasks aimeds now aim) (sym chips_are) aimed)
 
-module _ (whole : Task) (tasks : List Task) (stations : List Station) (bits good_bits : List Trit) (part_bits : List (List Trit))
+module _ (whole : Task) (tasks : List Task) (stations : List Station) (bits : List Trit) (rest : List Bool) (part_bits : List (List Trit))
     (aim : Option Station) (aimeds : List (Option ChipDefect)) (chips : List Chip)
-    (are : AreBenches whole tasks stations bits good_bits part_bits aim aimeds chips) where
+    (are : AreBenches whole tasks stations bits rest part_bits aim aimeds chips) where
   -- the tasks stay, all benches have the bits, and the aim is there
-  pub renewed : (new_whole : Task) (new_tasks : List Task) (new_bits new_good_bits : List Trit)
-      (new_part_bits : List (List Trit)) (new_aim : Option Station) (new_aimeds : List (Option ChipDefect)) (new_chips : List Chip)
-      → new_whole ≡ whole → new_tasks ≡ tasks → length new_bits ≡ length bits → new_good_bits ≡ new_bits
-      → All (λ (own : List Trit). own ≡ new_bits) new_part_bits → IsAimed tasks new_aimeds new_chips new_aim
-      → AreBenches new_whole new_tasks stations new_bits new_good_bits new_part_bits new_aim new_aimeds new_chips
-  renewed new_whole new_tasks new_bits new_good_bits new_part_bits new_aim new_aimeds new_chips whole_is tasks_are sized good all aimed =
-      subst (λ (w : Task). AreBenches w new_tasks stations new_bits new_good_bits new_part_bits new_aim new_aimeds new_chips) (sym whole_is)
-      (subst (λ (ts : List Task). AreBenches whole ts stations new_bits new_good_bits new_part_bits new_aim new_aimeds new_chips)
+  pub renewed : (new_whole : Task) (new_tasks : List Task) (new_bits : List Trit) (new_part_bits : List (List Trit))
+      (new_aim : Option Station) (new_aimeds : List (Option ChipDefect)) (new_chips : List Chip)
+      → new_whole ≡ whole → new_tasks ≡ tasks → All (λ (own : List Trit). own ≡ new_bits) new_part_bits
+      → IsAimed tasks new_aimeds new_chips new_aim
+      → AreBenches new_whole new_tasks stations new_bits rest new_part_bits new_aim new_aimeds new_chips
+  renewed new_whole new_tasks new_bits new_part_bits new_aim new_aimeds new_chips whole_is tasks_are all aimed =
+      subst (λ (w : Task). AreBenches w new_tasks stations new_bits rest new_part_bits new_aim new_aimeds new_chips) (sym whole_is)
+      (subst (λ (ts : List Task). AreBenches whole ts stations new_bits rest new_part_bits new_aim new_aimeds new_chips)
       (sym tasks_are) (record {
         parts = are.parts;
         stationed = are.stationed;
-        sized = sized ∙ are.sized;
-        good_has = good;
+        sized = are.sized;
         parts_have = all;
         aimed = aimed;
       }))
@@ -120,9 +100,9 @@ module _ (whole : Task) (tasks : List Task) (stations : List Station) (bits good
   -- nothing changes but what isn't seen
   pub stays : (new_tasks : List Task) (new_part_bits : List (List Trit)) (new_aimeds : List (Option ChipDefect)) (new_chips : List Chip)
       → new_tasks ≡ tasks → new_part_bits ≡ part_bits → new_aimeds ≡ aimeds → new_chips ≡ chips
-      → AreBenches whole new_tasks stations bits good_bits new_part_bits aim new_aimeds new_chips
+      → AreBenches whole new_tasks stations bits rest new_part_bits aim new_aimeds new_chips
   stays new_tasks new_part_bits new_aimeds new_chips tasks_are part_bits_are aimeds_are chips_are =
-      renewed whole new_tasks bits good_bits new_part_bits aim new_aimeds new_chips refl tasks_are refl are.good_has
+      renewed whole new_tasks bits new_part_bits aim new_aimeds new_chips refl tasks_are
       (subst (All (λ (own : List Trit). own ≡ bits)) (sym part_bits_are) are.parts_have)
       (aim_stays tasks aimeds new_aimeds chips new_chips aim aimeds_are chips_are are.aimed)
 
@@ -143,50 +123,38 @@ module _ (whole : Task) (tasks : List Task) (stations : List Station) (bits good
     aim_stands_in = stands_in_twice _ _ _ (part_of aimed aim_stationed).stands_in aim_at.stands_in
 
     -- what a search for its defect has ended with
-    pub searched : (code : List Token) (own new : List Trit) (outcome : Outcome) (defect : ChipDefect)
+    pub searched : {E : Type 0} (result : Result SearchEnd E) (defect : ChipDefect)
         → ((one : ChipDefect) → aimed_at aimeds aimed.part ≡ Some one
-        → IsSearch (aimed_in_at chips aimed.part) (task_at tasks aimed.part).budget one code own outcome)
-        → (outcome ≡ Found → new ≡ own) → Some aimed.defect ≡ Some defect
-        → IsSearch (chip_of_station tasks aimed) whole.budget defect code new outcome
-    searched code own new outcome defect ended same is =
-        subst (λ (one : ChipDefect). IsSearch (chip_of_station tasks aimed) whole.budget one code new outcome)
+        → IfOk result (IsSearchEnd (aimed_in_at chips aimed.part) (task_at tasks aimed.part).budget one))
+        → Some aimed.defect ≡ Some defect
+        → IfOk result (IsSearchEnd (chip_of_station tasks aimed) whole.budget defect)
+    searched result defect ended is =
+        subst (λ (one : ChipDefect). IfOk result (IsSearchEnd (chip_of_station tasks aimed) whole.budget one))
         (let e : Some aimed.defect ≡ Some defect = is in cc)
-        (search_with (chip_of_station tasks aimed) whole.budget aimed.defect code own new outcome same
-        (subst (λ (chip : Chip). IsSearch chip whole.budget aimed.defect code own outcome) aim_at.aimed_in
-        (subst (λ (budget : ℕ). IsSearch (aimed_in_at chips aimed.part) budget aimed.defect code own outcome)
-        (part_of aimed aim_stationed).budget (ended aimed.defect aim_at.aimed))))
-
-    -- and how many bits it leaves set or unset, where it has found a pair
-    pub search_sized : (code : List Token) (own : List Trit) (outcome : Outcome)
-        → ((one : ChipDefect) → aimed_at aimeds aimed.part ≡ Some one
-        → IsSearch (aimed_in_at chips aimed.part) (task_at tasks aimed.part).budget one code own outcome)
-        → outcome ≡ Found → length own ≡ length bits
-    search_sized code own outcome ended found =
-        found_sized (chip_of_station tasks aimed) whole.budget aimed.defect code own outcome found
-        (searched code own own outcome aimed.defect ended (λ same. refl) refl)
-        ∙ as_many_bits whole.chip (chip_of_station tasks aimed) aim_stands_in ∙ sym are.sized
+        (subst (λ (chip : Chip). IfOk result (IsSearchEnd chip whole.budget aimed.defect)) aim_at.aimed_in
+        (subst (λ (budget : ℕ). IfOk result (IsSearchEnd (aimed_in_at chips aimed.part) budget aimed.defect))
+        (part_of aimed aim_stationed).budget (ended aimed.defect aim_at.aimed)))
 
 -- so it is before anything was asked
-pub begun : (whole new_whole : Task) (tasks new_tasks : List Task) (stations : List Station) (bits good_bits : List Trit)
+pub begun : (whole new_whole : Task) (tasks new_tasks : List Task) (stations : List Station) (bits : List Trit) (rest : List Bool)
     (part_bits : List (List Trit)) (aimeds : List (Option ChipDefect)) (chips : List Chip)
     → All (IsPart whole) tasks → All (IsStationed tasks) stations → new_whole ≡ whole → new_tasks ≡ tasks
-    → length bits ≡ bit_count whole.chip → good_bits ≡ bits → All (λ (own : List Trit). own ≡ bits) part_bits
-    → AreBenches new_whole new_tasks stations bits good_bits part_bits None aimeds chips
-begun whole new_whole tasks new_tasks stations bits good_bits part_bits aimeds chips parts stationed whole_is tasks_are sized good all =
-    let old : AreBenches whole tasks stations bits bits [] None [] [] = record {
+    → length rest ≡ bit_count whole.chip → All (λ (own : List Trit). own ≡ bits) part_bits
+    → AreBenches new_whole new_tasks stations bits rest part_bits None aimeds chips
+begun whole new_whole tasks new_tasks stations bits rest part_bits aimeds chips parts stationed whole_is tasks_are sized all =
+    let old : AreBenches whole tasks stations bits rest [] None [] [] = record {
       parts = parts;
       stationed = stationed;
       sized = sized;
-      good_has = refl;
       parts_have = All-nil (λ (own : List Trit). own ≡ bits);
       aimed = tt;
     } in
-    renewed whole tasks stations bits bits [] None [] [] old new_whole new_tasks bits good_bits part_bits None aimeds chips
-    whole_is tasks_are refl good all tt
+    renewed whole tasks stations bits rest [] None [] [] old new_whole new_tasks bits part_bits None aimeds chips
+    whole_is tasks_are all tt
 
 module _ {B : Type 0} (task : B → Task) (bits_of : B → List Trit) (good : B) (parts : List B) (stations : List Station) (bits : List Trit)
-    (aim : Option Station) (aimeds : List (Option ChipDefect)) (chips : List Chip)
-    (are : AreBenches (task good) (map task parts) stations bits (bits_of good) (map bits_of parts) aim aimeds chips) where
+    (rest : List Bool) (aim : Option Station) (aimeds : List (Option ChipDefect)) (chips : List Chip)
+    (are : AreBenches (task good) (map task parts) stations bits rest (map bits_of parts) aim aimeds chips) where
   module _ (v : Joined) (task_is : task_of (task good) (map task parts) stations ≡ task_in v) (bits_are : bits ≡ v.bits)
       (place : ℕ) (station : Station) (at : slice_get stations place ≡ Some station) where
     stationed : IsStationed (map task parts) station

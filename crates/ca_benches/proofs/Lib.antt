@@ -1,4 +1,3 @@
 pub mod ListLemmas
-pub mod BitLemmas
 pub mod PartLemmas
 pub mod BenchLemmas

@@ -1,10 +1,9 @@
 -- What contracts see of benches that work as one, and what is to be done by them.
-use Rattle.std.specs.Prelude.{ℕ, ◌≡◌, ◌<◌, List, [], length, map, slice_index_or, Option, None}
+use Rattle.std.specs.Prelude.{ℕ, ◌≡◌, ◌<◌, Bool, List, [], length, map, slice_index_or, Option, None}
 use Rattle.ca_net.specs.declared.trit.Trit.{Trit}
 use Rattle.ca_flat.specs.declared.chip_defect.ChipDefect.{ChipDefect}
-use Rattle.ca_flat.specs.declared.token.Token.{Token}
 use Rattle.ca_flat.specs.Chip.{Chip}
-use Rattle.ca_flat.specs.Codes.{unset_pair}
+use Rattle.ca_search.specs.Filled.{trits_of}
 use Rattle.ca_credit.specs.Defects.{Task, StandsIn, IsDefectAt}
 use Rattle.ca_benches.specs.declared.station.Station.{Station}
 
@@ -49,7 +48,7 @@ task_of whole tasks stations = record {
 }
 
 -- the chip, the chip of each defect, the defects and how many branches a search may have, the bits that are
--- set, the defect that is aimed at and its chip, the code of the last search, and how often was aimed
+-- set, the defect that is aimed at and its chip, and how often was aimed
 pub record Joined : Type 0 where
   pub chip : Chip
   pub chips : List Chip
@@ -58,7 +57,6 @@ pub record Joined : Type 0 where
   pub bits : List Trit
   pub aimed : Option ChipDefect
   pub aimed_in : Chip
-  pub code : List Token
   pub aims : ℕ
 
 -- what is to be done by them
@@ -70,8 +68,9 @@ task_in benches = record {
   budget = benches.budget;
 }
 
--- nothing was asked of the benches yet: no bit is set, no defect is aimed at, and nothing is counted
-pub record IsUnused (benches : Joined) : Type 0 where
-  pub bits : benches.bits ≡ unset_pair benches.chip
+-- nothing was asked of the benches yet: they have the bits of the pair at rest, no defect is aimed at, and
+-- nothing is counted
+pub record IsUnused (rest : List Bool) (benches : Joined) : Type 0 where
+  pub bits : benches.bits ≡ trits_of rest
   pub aimed : benches.aimed ≡ None
   pub aims : benches.aims ≡ 0

@@ -2,7 +2,6 @@
 #![tactic(auto)]
 
 mod benches;
-mod bits;
 mod parts;
 mod station;
 

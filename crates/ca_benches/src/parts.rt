@@ -1,6 +1,6 @@
 //! The benches of a list: what one of them is asked, and what all are given.
 
-ghost use Rattle.std.specs.Prelude.{◌≡◌, ◌<◌, ◌↔◌, [], length, map, slice_index, slice_index_or};
+ghost use Rattle.std.specs.Prelude.{◌≡◌, ◌<◌, ◌↔◌, length, map, slice_index};
 ghost use Rattle.std.specs.Prelude.{Some, IsTrue, IsFalse, IfOk};
 ghost use Rattle.std.specs.List.{All};
 ghost use Rattle.ca_flat.specs.declared.chip_defect.ChipDefect.{ChipDefect};
@@ -8,19 +8,16 @@ ghost use Rattle.ca_flat.specs.Pair.{bit_count, IsShown};
 ghost use Rattle.ca_search.specs.Filled.{trits_of};
 ghost use Rattle.ca_credit.specs.Defects.{IsExposableIn};
 ghost use Rattle.ca_credit.specs.Detection.{IsNetEnd, IsAllowedByRows, AreDetectedAlike, IsDecided};
-ghost use Rattle.ca_generate.specs.Outcome.{IsSearch};
-ghost use Rattle.ca_generate.specs.BenchState.{AreOfOne};
+ghost use Rattle.ca_generate.specs.Outcome.{IsSearchEnd};
 ghost use Rattle.ca_benches.specs.Benches.{task_at, chip_of_station, IsStationed};
 ghost use Rattle.ca_benches.specs.code.Parts.{bits_at, aimed_at, aimed_in_at, IsAimedAt};
 
-use crate::bits::{load_bits, take_bits};
 use crate::station::Station;
 use ca_base::NoMemory;
 use ca_credit::ByLasts;
-use ca_generate::{Bench, PartialBits};
-use ca_net::{State, Trit};
+use ca_generate::{Bench, SearchEnd};
+use ca_net::Trit;
 use ca_pair::Pair;
-use ca_search::{Code, Outcome};
 use std::alloc::Global;
 
 /// Gives all benches the bits of a pair.
@@ -34,22 +31,6 @@ pub(crate) fn load_all<B: Bench>(parts: &mut Vec<B>, pair: &Pair)
 {
     for k in 0..parts.len() {
         parts[k].load(pair);
-    }
-}
-
-/// Gives all benches these bits. What their searches wrote stays.
-pub(crate) fn share<B: Bench + PartialBits>(parts: &mut Vec<B>, bits: &State)
-    requires one { AreOfOne B.state B.task B.bits B.aimed B.aimed_in B.code }
-    requires sized { All (λ task. length bits.now ≡ bit_count task.chip) (map B.task parts.old.items) }
-
-    ensures tasks { map B.task parts.new.items ≡ map B.task parts.old.items }
-    ensures bits { All (λ own. own ≡ bits.now) (map B.bits parts.new.items) }
-    ensures aimed { map B.aimed parts.new.items ≡ map B.aimed parts.old.items }
-    ensures aimed_in { map B.aimed_in parts.new.items ≡ map B.aimed_in parts.old.items }
-    ensures codes { map B.code parts.new.items ≡ map B.code parts.old.items }
-{
-    for k in 0..parts.len() {
-        load_bits(&mut parts[k], bits);
     }
 }
 
@@ -148,50 +129,17 @@ pub(crate) fn faulty_at<B: Bench>(parts: &Vec<B>, station: Station, output: u32)
 }
 
 /// Searches with a bench.
-pub(crate) fn search_at<B: Bench>(parts: &mut Vec<B>, part: usize) -> Outcome
+pub(crate) fn search_at<B: Bench>(
+    parts: &mut Vec<B>,
+    part: usize,
+    alloc: Global,
+) -> Result<SearchEnd, NoMemory>
     requires { part < length parts.old.items }
 
     ensures searched { (defect : ChipDefect) → aimed_at (map B.aimed parts.old.items) part ≡ Some defect
-        → IsSearch (aimed_in_at (map B.aimed_in parts.old.items) part)
-        (task_at (map B.task parts.old.items) part).budget defect
-        (slice_index_or (map B.code parts.new.items) part [])
-        (bits_at (map B.bits parts.new.items) part) result }
+        → IfOk result (IsSearchEnd (aimed_in_at (map B.aimed_in parts.old.items) part)
+        (task_at (map B.task parts.old.items) part).budget defect) }
     ensures tasks { map B.task parts.new.items ≡ map B.task parts.old.items }
 {
-    parts[part].find()
-}
-
-/// Takes over the bits of a bench whose search has found a pair. Else the bits stay.
-pub(crate) fn take_found<B: Bench + PartialBits>(
-    bits: &mut State,
-    parts: &Vec<B>,
-    part: usize,
-    outcome: Outcome,
-)
-    requires one { AreOfOne B.state B.task B.bits B.aimed B.aimed_in B.code }
-    requires within { part < length parts.now.items }
-    requires sized { outcome ≡ Outcome.Found
-        → length (bits_at (map B.bits parts.now.items) part) ≡ length bits.old }
-
-    ensures found { outcome ≡ Outcome.Found → bits.new ≡ bits_at (map B.bits parts.now.items) part }
-    ensures sized { length bits.new ≡ length bits.old }
-{
-    match outcome {
-        Outcome::Found => take_bits(bits, &parts[part]),
-        Outcome::Exhausted | Outcome::Spent => {}
-    }
-}
-
-/// The code that the last search of a bench wrote; that of no tokens where there is no such bench.
-pub(crate) fn code_at<B: Bench>(
-    parts: &Vec<B>,
-    part: usize,
-    alloc: Global,
-) -> Result<Code, NoMemory>
-    ensures { IfOk result (λ kept. kept ≡ slice_index_or (map B.code parts.now.items) part []) }
-{
-    if part >= parts.len() {
-        return Ok(Code::new(alloc));
-    }
-    parts[part].keep_code(alloc)
+    parts[part].find(alloc)
 }

@@ -1,6 +1,6 @@
 -- What the fields of a bench keep.
 use Rattle.std.proofs.Common.{◌≡◌, ◌<◌, ◌≤◌, ◌^◌, ℕ, List, length, Option, None, Some, ◌∙◌, sym, refl, ap, subst}
-use Rattle.std.specs.Prelude.{slice_get, slice_index}
+use Rattle.std.specs.Prelude.{slice_get, slice_index, IfOk, Result, Ok, Err}
 use Rattle.std.specs.List.{All}
 use Rattle.std.proofs.lemmas.Option.{get_or_from_slice_get}
 use Rattle.std.proofs.lemmas.List.Elements.{All-get_or, Contains-get_or}
@@ -25,9 +25,13 @@ use Rattle.ca_judge.specs.ChipJudge.{judged_of}
 use Rattle.ca_judge.specs.ChipJudge as judge
 use Rattle.ca_credit.specs.Defects.{IsSearchable}
 use Rattle.ca_credit.specs.Detection.{IsNetEnd, AreDetectedAlike}
-use Rattle.ca_generate.specs.Outcome.{IsSearch}
+use Rattle.ca_search.specs.declared.trail.Outcome.TheVariants.{Found, Exhausted, Spent}
+use Rattle.ca_generate.specs.declared.search_end.SearchEnd.{SearchEnd}
+use Rattle.ca_generate.specs.declared.search_end.SearchEnd.TheVariants as end
+use Rattle.ca_generate.specs.Outcome.{IsSearch, IsSearchEnd, IsSpentSearch}
 use Rattle.ca_generate.specs.Laws.{OutcomeIsSearch}
 use Rattle.ca_engine.specs.code.ChipBench.{IsChipBench}
+use Rattle.ca_engine.specs.code.SearchEnd.{IsKept}
 
 -- a defect at a place of the list may be aimed at
 pub placed_at : (chip : Chip) (place_of : ℕ → ℕ) (defects : List ChipDefect) (place : ℕ) (defect : ChipDefect)
@@ -182,6 +186,35 @@ module _ (seen : Seen) (rows_chip : Chip) (defects : List ChipDefect) (outputs :
       (searchable d aimed) within
       (subst (λ a. IsOutcome (record { chip = seen.chip; places = seen.places; aim = a; pair = new.pair }) budget
       code outcome) aimed (subst (λ judged. IsOutcome judged budget code outcome) same ends))
+
+-- what is kept of a search is its end
+pub kept_ends : (chip : Chip) (budget : ℕ) (defect : ChipDefect) (code : List Token) (partial : List Trit) (outcome : Outcome)
+    (last : SearchEnd) → IsSearch chip budget defect code partial outcome → IsKept partial code outcome last
+    → IsSearchEnd chip budget defect last
+kept_ends chip budget defect code partial Found (end.Found pair) is kept = record {
+  partial = partial;
+  code = code;
+  front = is.ends.front;
+  within = is.within;
+  shown = is.ends.shown;
+  fills = kept;
+}
+kept_ends chip budget defect code partial Found end.Exhausted is kept = absurd kept
+kept_ends chip budget defect code partial Found (end.Spent other) is kept = absurd kept
+kept_ends chip budget defect code partial Exhausted (end.Found pair) is kept = absurd kept
+kept_ends chip budget defect code partial Exhausted end.Exhausted is kept = (code, is.ends)
+kept_ends chip budget defect code partial Exhausted (end.Spent other) is kept = absurd kept
+kept_ends chip budget defect code partial Spent (end.Found pair) is kept = absurd kept
+kept_ends chip budget defect code partial Spent end.Exhausted is kept = absurd kept
+kept_ends chip budget defect code partial Spent (end.Spent other) is kept =
+    subst (IsSpentSearch chip budget defect) (sym kept) is.ends
+
+pub kept_end_is : {E : Type 0} (chip : Chip) (budget : ℕ) (defect : ChipDefect) (code : List Token) (partial : List Trit)
+    (outcome : Outcome) (result : Result SearchEnd E) → IsSearch chip budget defect code partial outcome
+    → IfOk result (IsKept partial code outcome) → IfOk result (IsSearchEnd chip budget defect)
+kept_end_is chip budget defect code partial outcome (Ok last) is kept =
+    kept_ends chip budget defect code partial outcome last is kept
+kept_end_is chip budget defect code partial outcome (Err fault) is kept = tt
 
 module _ (seen : Seen) (rows_chip : Chip) (defects : List ChipDefect) (outputs : List ℕ)
     (defect : Option ChipDefect)

@@ -2,3 +2,4 @@
 pub mod ChipBench
 pub mod FlipBench
 pub mod Untestable
+pub mod SearchEnd

@@ -6,17 +6,18 @@ ghost use Rattle.ca_engine.specs.ChipTask.{task_of};
 use crate::flip_bench::FlipBench;
 use crate::outputs::output_nets;
 use crate::pair_bits::PairBits;
+use crate::search_end::end_of;
 use ca_base::NoMemory;
 use ca_chip_defects::{ChipDefects, chip_defects};
 use ca_credit::{ByLasts, Simulator};
 use ca_flat::ChipDefect;
 use ca_flatten::{flat_is_well_formed, judge_size};
-use ca_generate::{Bench, PartialBits, outcome_is_search};
+use ca_generate::{Bench, SearchEnd, outcome_is_search};
 use ca_guide::Choice;
-use ca_net::{State, Trit};
+use ca_net::Trit;
 use ca_pair::Pair;
 use ca_rows::ExposableDefects;
-use ca_search::{Code, Judge, Outcome, Search};
+use ca_search::Search;
 use ca_sim::{NetWaves, definite_last_is_end};
 use ca_sweep::Seen;
 use ca_view::View;
@@ -219,60 +220,16 @@ impl<R: ExposableDefects, P: Choice + Drop> Simulator for ChipBench<'_, R, P> {
 }
 
 impl<R: ExposableDefects, P: Choice + Drop> Bench for ChipBench<'_, R, P> {
-    ghost code = { λ bench. bench.code };
-
     fn is_exposable(&self, place: usize) -> bool {
         self.rows.is_exposable(self.defects.get(place))
     }
 
-    fn find(&mut self) -> Outcome {
+    fn find(&mut self, alloc: Global) -> Result<SearchEnd, NoMemory> {
         outcome_is_search();
         if self.aim.is_none() {
-            return Outcome::Spent;
+            return Ok(SearchEnd::Exhausted);
         }
-        self.search.find(&mut self.judge)
-    }
-
-    fn bit_count(&self) -> usize {
-        self.judge.exact();
-        self.judge.bit_count()
-    }
-
-    fn is_one(&self, bit: usize) -> bool {
-        match self.judge.bit(bit) {
-            Some(value) => value,
-            None => false,
-        }
-    }
-
-    fn keep_code(&self, alloc: Global) -> Result<Code, NoMemory> {
-        self.search.keep_code(alloc)
-    }
-}
-
-impl<R: ExposableDefects, P: Choice + Drop> PartialBits for ChipBench<'_, R, P> {
-    ghost use Rattle.ca_engine.specs.ChipBench.{task_in};
-
-    ghost state = { λ bench. record {
-      task = task_in bench;
-      bits = bench.bits;
-      aimed = bench.aimed;
-      aimed_in = bench.chip;
-      aims = bench.aims;
-      code = bench.code;
-    } };
-
-    fn bit_at(&self, bit: usize) -> Trit {
-        match self.judge.bit(bit) {
-            Some(true) => Trit::One,
-            Some(false) => Trit::Zero,
-            None => Trit::X,
-        }
-    }
-
-    #[tactic(auto, using(crate::proofs::BenchLemmas::bench_loads))]
-    fn load_partial(&mut self, bits: &State) {
-        self.judge.exact();
-        self.judge.load(bits);
+        let outcome = self.search.find(&mut self.judge);
+        end_of(alloc, &self.judge, &self.search, outcome)
     }
 }

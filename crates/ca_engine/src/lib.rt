@@ -6,6 +6,7 @@ mod flip_bench;
 mod generate;
 mod outputs;
 mod pair_bits;
+mod search_end;
 mod untestable;
 
 pub use ca_chip_defects::{ChipDefects, chip_defects};

@@ -1,22 +1,17 @@
 -- The first defects of which it is known whether they can be exposed, and one more; and the pair of a search.
-use Rattle.std.proofs.Common.{ℕ, ◌≡◌, ◌<◌, ◌+◌, ◌∙◌, List, Bool, Option, Some, length, sym, ap, subst, arith}
+use Rattle.std.proofs.Common.{ℕ, ◌≡◌, ◌<◌, ◌+◌, ◌∙◌, List, Option, Some, length, sym, ap, subst, arith}
 use native.Mathlib.Decide.{ℕ_discrete}
 use Rattle.std.proofs.lemmas.List.{length-set}
 use Rattle.std.specs.Prelude.{slice_set}
-use Rattle.ca_net.specs.declared.trit.Trit.{Trit}
 use Rattle.ca_flat.specs.declared.chip_defect.ChipDefect.{ChipDefect}
-use Rattle.ca_flat.specs.declared.token.Token.{Token}
 use Rattle.ca_flat.specs.Chip.{Chip}
-use Rattle.ca_search.specs.declared.trail.Outcome.{Outcome}
-use Rattle.ca_search.specs.declared.trail.Outcome.TheVariants.{Found}
-use Rattle.ca_search.specs.Filled.{filled}
 use Rattle.ca_credit.specs.declared.verdict.Verdict.{Verdict}
 use Rattle.ca_credit.specs.declared.verdict.Verdict.TheVariants.{Unexposable}
 use Rattle.ca_credit.specs.Defects.{Task, IsDefectAt, IsExposableIn}
-use Rattle.ca_credit.specs.Listed.{IsFoundFor}
 use Rattle.ca_credit.specs.Table.{verdict_at}
 use Rattle.ca_credit.proofs.TableLemmas.{verdict_at-set, verdict_at-other}
-use Rattle.ca_generate.specs.Outcome.{IsSearch}
+use Rattle.ca_generate.specs.declared.search_end.SearchEnd.{SearchEnd}
+use Rattle.ca_generate.specs.Outcome.{IsSearchEnd}
 use Rattle.ca_generate.specs.code.Progress.{IsScreened, IsScreenedEntry}
 
 -- one more that can be exposed
@@ -52,16 +47,10 @@ screened_closed task count table new is within new_is closed = record {
 }
 
 -- the end of a search for what was aimed at is that for the defect at its place
-pub searched_here : (task same : Task) (aimed_in : Chip) (place : ℕ) (defect : ChipDefect) (code : List Token) (partial : List Trit) (outcome : Outcome)
-    → aimed_in ≡ task.chip_of place → same ≡ task → IsSearch aimed_in same.budget defect code partial outcome
-    → IsSearch (task.chip_of place) task.budget defect code partial outcome
-searched_here task same aimed_in place defect code partial outcome chip_is same_is is =
-    subst (λ (t : Task). IsSearch (task.chip_of place) t.budget defect code partial outcome) same_is
-    (subst (λ (x : Chip). IsSearch x same.budget defect code partial outcome) chip_is is)
-
--- the pair that a search has found
-pub found_for : (chip : Chip) (budget : ℕ) (defect : ChipDefect) (code : List Token) (partial : List Trit) (pair : List Bool)
-    → IsSearch chip budget defect code partial Found → pair ≡ filled partial → IsFoundFor chip budget defect pair
-found_for chip budget defect code partial pair is fills =
-    let ends = is.ends in
-    record { partial = partial; code = code; front = ends.front; within = is.within; shown = ends.shown; fills = fills }
+pub ended_here : (task same : Task) (aimed_in : Chip) (place : ℕ) (defect : ChipDefect) (given last : SearchEnd)
+    → aimed_in ≡ task.chip_of place → same ≡ task → given ≡ last → IsSearchEnd aimed_in same.budget defect given
+    → IsSearchEnd (task.chip_of place) task.budget defect last
+ended_here task same aimed_in place defect given last chip_is same_is last_is is =
+    subst (IsSearchEnd (task.chip_of place) task.budget defect) last_is
+    (subst (λ (t : Task). IsSearchEnd (task.chip_of place) t.budget defect given) same_is
+    (subst (λ (x : Chip). IsSearchEnd x same.budget defect given) chip_is is))

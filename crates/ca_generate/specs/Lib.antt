@@ -1,6 +1,5 @@
 -- What the contracts of this crate say, in reading order.
 pub mod Outcome
-pub mod BenchState
 pub mod Known
 pub mod GenerateFault
 pub mod Laws

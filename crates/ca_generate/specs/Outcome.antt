@@ -7,8 +7,11 @@ use Rattle.ca_flat.specs.Chip.{Chip}
 use Rattle.ca_flat.specs.Pair.{IsShown}
 use Rattle.ca_flat.specs.Codes.{branch_count, IsFront, IsWholeCode, IsSpentCode}
 use Rattle.ca_credit.specs.Good.{IsCheckedSpent}
+use Rattle.ca_credit.specs.Listed.{IsFoundFor}
 use Rattle.ca_search.specs.declared.trail.Outcome.{Outcome}
 use Rattle.ca_search.specs.declared.trail.Outcome.TheVariants.{Found, Exhausted, Spent}
+use Rattle.ca_generate.specs.declared.search_end.SearchEnd.{SearchEnd}
+use Rattle.ca_generate.specs.declared.search_end.SearchEnd.TheVariants as end
 
 -- the code is a front, and the partial pair of its reading is shown
 pub record IsShownFront (chip : Chip) (defect : ChipDefect) (code : List Token) (partial : List Trit) : Type 0
@@ -33,3 +36,10 @@ pub record IsSearch (chip : Chip) (budget : ℕ) (defect : ChipDefect) (code : L
     (outcome : Outcome) : Type 0 where
   pub within : branch_count code ≤ budget
   pub ends : EndsSo chip budget defect code partial outcome
+
+-- A search for the chip's defect, with no more branches than the budget, has ended so: it has found the pair,
+-- some whole code shows that there is none, or the code is spent.
+abbrev pub IsSearchEnd : Chip → ℕ → ChipDefect → SearchEnd → Type 0
+IsSearchEnd chip budget defect (end.Found pair) = IsFoundFor chip budget defect pair
+IsSearchEnd chip budget defect end.Exhausted = (code : List Token) × IsWholeCode chip defect code
+IsSearchEnd chip budget defect (end.Spent code) = IsSpentSearch chip budget defect code

@@ -4,13 +4,14 @@
 mod bench;
 mod fault;
 mod generated;
-mod keep;
 mod laws;
+mod search_end;
 mod watch;
 mod work;
 
-pub use bench::{Bench, PartialBits};
+pub use bench::Bench;
 pub use fault::{Aims, GenerateFault};
 pub use generated::{Generated, generate, generate_knowing};
 pub use laws::{outcome_is_search, too_many_needs_exposable};
+pub use search_end::SearchEnd;
 pub use watch::{Unwatched, Watch};

@@ -10,11 +10,10 @@ ghost use Rattle.ca_generate.specs.code.Progress.{WorkStands, IsScreened};
 
 use crate::bench::Bench;
 use crate::fault::{Aims, GenerateFault};
-use crate::keep::keep_pair;
+use crate::search_end::SearchEnd;
 use ca_base::NoMemory;
 use ca_credit::{Credits, MOST_PAIRS, Verdict};
 use ca_pair::{Pair, Pairs};
-use ca_search::Outcome;
 use std::alloc::Global;
 
 /// The verdicts so far, the pairs that are listed, and the aim of each.
@@ -63,17 +62,14 @@ impl Work {
             return Ok(work);
         }
         bench.aim(place);
-        match bench.find() {
-            Outcome::Found => {
-                let pair = keep_pair(alloc, bench)?;
-                work.list(bench, place, pair)
-            }
-            Outcome::Exhausted => {
+        let end = bench.find(alloc)?;
+        match end {
+            SearchEnd::Found { pair } => work.list(bench, place, pair),
+            SearchEnd::Exhausted => {
                 work.credits.settle(place, Verdict::Untestable);
                 Ok(work)
             }
-            Outcome::Spent => {
-                let code = bench.keep_code(alloc)?;
+            SearchEnd::Spent { code } => {
                 work.credits.settle(place, Verdict::Aborted { code });
                 Ok(work)
             }

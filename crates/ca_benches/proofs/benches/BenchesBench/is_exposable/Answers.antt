@@ -15,13 +15,13 @@ get-requires g c =
     (subst (λ (v : Joined). c.args.place < length v.defects) (sym c.self.view_is) c.requires)
 
 pub is_exposable_at-requires : goal.is_exposable_at-requires
-is_exposable_at-requires g c = station_of _ c.self.inside.stations c.args.place c.get.result c.self.invariant.0.stationed c.get.ensures
+is_exposable_at-requires g c = station_of _ c.self.inside.stations c.args.place c.get.result c.self.invariant.stationed c.get.ensures
 
 pub returns : goal.returns
 returns g c defect at =
     let inside = c.self.inside in
-    told g.B.Simulator.task g.B.Simulator.bits inside.good inside.parts.items inside.stations inside.bits inside.aim _ _
-    c.self.invariant.0 c.args.self.now (ap task_in c.self.view_is) (ap (λ (v : Joined). v.bits) c.self.view_is) c.args.place
+    told g.B.Simulator.task g.B.Simulator.bits inside.good inside.parts.items inside.stations (g.B.Simulator.bits inside.good) _ inside.aim _ _
+    c.self.invariant c.args.self.now (ap task_in c.self.view_is) (ap (λ (v : Joined). v.bits) c.self.view_is) c.args.place
     c.get.result c.get.ensures
     (λ (chip : Chip) (d : ChipDefect) (bits : List Trit). IsTrue c.is_exposable_at.result ↔ IsExposableIn chip d) defect
     c.is_exposable_at.ensures at

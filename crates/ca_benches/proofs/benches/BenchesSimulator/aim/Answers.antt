@@ -18,47 +18,44 @@ get-station-requires g c =
 pub aim_at-requires : goal.aim_at-requires
 aim_at-requires g c =
     subst (λ (tasks : List Task). IsStationed tasks c.get-station.result) (sym c.leave.ensures.tasks)
-    (station_of _ c.self.inside.stations c.args.place c.get-station.result c.self.invariant.0.stationed c.get-station.ensures)
+    (station_of _ c.self.inside.stations c.args.place c.get-station.result c.self.invariant.stationed c.get-station.ensures)
 
 pub invariant_of-self : goal.invariant_of-self
 invariant_of-self g c =
     let inside = c.self.inside in
-    let station = c.get-station.result in (
-      renewed _ _ _ _ _ _ _ _ _ c.self.invariant.0 _ _ _ _ _ _ _ _ refl (c.aim_at.ensures.tasks ∙ c.leave.ensures.tasks) refl
-          c.self.invariant.0.good_has
-          (subst (All (λ (own : List Trit). own ≡ inside.bits)) (sym (c.aim_at.ensures.bits ∙ c.leave.ensures.bits)) c.self.invariant.0.parts_have) (
-            station_of _ inside.stations c.args.place station c.self.invariant.0.stationed c.get-station.ensures,
-            subst (λ (tasks : List Task). IsAimedAt tasks (map g.B.Simulator.aimed c.aim_at.new.parts.items) (map g.B.Simulator.aimed_in c.aim_at.new.parts.items) station) c.leave.ensures.tasks c.aim_at.ensures.aimed,
-          ),
-      c.self.invariant.1,
+    let station = c.get-station.result in
+    renewed _ _ _ _ _ _ _ _ _ c.self.invariant _ _ _ _ _ _ _ refl (c.aim_at.ensures.tasks ∙ c.leave.ensures.tasks)
+    (subst (All (λ (own : List Trit). own ≡ (g.B.Simulator.bits inside.good))) (sym (c.aim_at.ensures.bits ∙ c.leave.ensures.bits)) c.self.invariant.parts_have) (
+      station_of _ inside.stations c.args.place station c.self.invariant.stationed c.get-station.ensures,
+      subst (λ (tasks : List Task). IsAimedAt tasks (map g.B.Simulator.aimed c.aim_at.new.parts.items) (map g.B.Simulator.aimed_in c.aim_at.new.parts.items) station) c.leave.ensures.tasks c.aim_at.ensures.aimed,
     )
 
 pub returns-clause-aimed : goal.returns-clause-aimed
 returns-clause-aimed g c =
     let inside = c.self.inside in
-    defect_told g.B.Simulator.task g.B.Simulator.bits inside.good inside.parts.items inside.stations inside.bits inside.aim _ _
-    c.self.invariant.0 c.args.self.now (ap task_in c.self.view_is) (ap (λ (v : Joined). v.bits) c.self.view_is) c.args.place
+    defect_told g.B.Simulator.task g.B.Simulator.bits inside.good inside.parts.items inside.stations (g.B.Simulator.bits inside.good) _ inside.aim _ _
+    c.self.invariant c.args.self.now (ap task_in c.self.view_is) (ap (λ (v : Joined). v.bits) c.self.view_is) c.args.place
     c.get-station.result c.get-station.ensures
 
 pub returns-clause-aimed_in : goal.returns-clause-aimed_in
 returns-clause-aimed_in g c =
     let inside = c.self.inside in
     ap (λ (tasks : List Task). chip_of_station tasks c.get-station.result) (c.aim_at.ensures.tasks ∙ c.leave.ensures.tasks)
-    ∙ chip_told g.B.Simulator.task g.B.Simulator.bits inside.good inside.parts.items inside.stations inside.bits inside.aim _ _
-    c.self.invariant.0 c.args.self.now (ap task_in c.self.view_is) (ap (λ (v : Joined). v.bits) c.self.view_is) c.args.place
+    ∙ chip_told g.B.Simulator.task g.B.Simulator.bits inside.good inside.parts.items inside.stations (g.B.Simulator.bits inside.good) _ inside.aim _ _
+    c.self.invariant c.args.self.now (ap task_in c.self.view_is) (ap (λ (v : Joined). v.bits) c.self.view_is) c.args.place
     c.get-station.result c.get-station.ensures
 
 pub returns-clause-stands_in : goal.returns-clause-stands_in
 returns-clause-stands_in g c =
     let inside = c.self.inside in
     let station = c.get-station.result in
-    let stationed = station_of _ inside.stations c.args.place station c.self.invariant.0.stationed c.get-station.ensures in
+    let stationed = station_of _ inside.stations c.args.place station c.self.invariant.stationed c.get-station.ensures in
     let there = subst (λ (tasks : List Task). IsAimedAt tasks (map g.B.Simulator.aimed c.aim_at.new.parts.items) (map g.B.Simulator.aimed_in c.aim_at.new.parts.items) station) c.leave.ensures.tasks c.aim_at.ensures.aimed in
     subst (λ (chip : Chip). StandsIn c.args.self.now.chip chip)
-    (chip_told g.B.Simulator.task g.B.Simulator.bits inside.good inside.parts.items inside.stations inside.bits inside.aim _ _
-    c.self.invariant.0 c.args.self.now (ap task_in c.self.view_is) (ap (λ (v : Joined). v.bits) c.self.view_is) c.args.place station c.get-station.ensures)
+    (chip_told g.B.Simulator.task g.B.Simulator.bits inside.good inside.parts.items inside.stations (g.B.Simulator.bits inside.good) _ inside.aim _ _
+    c.self.invariant c.args.self.now (ap task_in c.self.view_is) (ap (λ (v : Joined). v.bits) c.self.view_is) c.args.place station c.get-station.ensures)
     (subst (λ (v : Joined). StandsIn v.chip (chip_of_station (map g.B.Simulator.task inside.parts.items) station)) c.self.view_is
-    (stands_in_twice _ _ _ (part_of _ _ _ _ _ _ _ _ _ c.self.invariant.0 station stationed).stands_in there.stands_in))
+    (stands_in_twice _ _ _ (part_of _ _ _ _ _ _ _ _ _ c.self.invariant station stationed).stands_in there.stands_in))
 
 pub returns-clause-task : goal.returns-clause-task
 returns-clause-task g c =

@@ -16,22 +16,20 @@ get-station-requires g c =
     (subst (λ (v : Joined). c.args.place < length v.defects) (sym c.self.view_is) c.requires)
 
 pub lasts_at-requires : goal.lasts_at-requires
-lasts_at-requires g c = station_of _ c.self.inside.stations c.args.place c.get-station.result c.self.invariant.0.stationed c.get-station.ensures
+lasts_at-requires g c = station_of _ c.self.inside.stations c.args.place c.get-station.result c.self.invariant.stationed c.get-station.ensures
 
 pub returns-clause-decided : goal.returns-clause-decided
 returns-clause-decided g c defect at =
     let inside = c.self.inside in
-    told g.B.Simulator.task g.B.Simulator.bits inside.good inside.parts.items inside.stations inside.bits inside.aim _ _
-    c.self.invariant.0 c.args.self.now (ap task_in c.self.view_is) (ap (λ (v : Joined). v.bits) c.self.view_is) c.args.place
+    told g.B.Simulator.task g.B.Simulator.bits inside.good inside.parts.items inside.stations (g.B.Simulator.bits inside.good) _ inside.aim _ _
+    c.self.invariant c.args.self.now (ap task_in c.self.view_is) (ap (λ (v : Joined). v.bits) c.self.view_is) c.args.place
     c.get-station.result c.get-station.ensures (λ (chip : Chip) (d : ChipDefect) (bits : List Trit). IsDecided chip d bits c.lasts_at.result)
     defect c.lasts_at.ensures.decided at
 
 pub invariant_of-self : goal.invariant_of-self
-invariant_of-self g c = (
-  stays _ _ _ _ _ _ _ _ _ c.self.invariant.0 _ _ _ _ c.lasts_at.ensures.tasks c.lasts_at.ensures.bits c.lasts_at.ensures.aimed
-      c.lasts_at.ensures.aimed_in,
-  c.self.invariant.1,
-)
+invariant_of-self g c =
+    stays _ _ _ _ _ _ _ _ _ c.self.invariant _ _ _ _ c.lasts_at.ensures.tasks c.lasts_at.ensures.bits c.lasts_at.ensures.aimed
+    c.lasts_at.ensures.aimed_in
 
 pub returns-clause-aimed_in : goal.returns-clause-aimed_in
 returns-clause-aimed_in g c =

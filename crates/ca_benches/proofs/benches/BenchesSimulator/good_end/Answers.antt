@@ -11,6 +11,4 @@ good_end-requires g c = subst (λ (v : Joined). c.args.output < length v.chip.ou
 pub returns : goal.returns
 returns g c =
     subst (λ (v : Joined). IsNetEnd v.chip None v.bits (slice_index v.chip.outputs c.args.output) c.good_end.result) c.self.view_is
-    (let chip = (g.B.Simulator.task c.self.inside.good).chip in
-    subst (λ (bits : List Trit). IsNetEnd chip None bits (slice_index chip.outputs c.args.output) c.good_end.result)
-    c.self.invariant.0.good_has c.good_end.ensures)
+    c.good_end.ensures

@@ -15,19 +15,19 @@ get-requires g c =
     (subst (λ (v : Joined). c.args.place < length v.defects) (sym c.self.view_is) c.requires)
 
 pub may_detect_at-requires : goal.may_detect_at-requires
-may_detect_at-requires g c = station_of _ c.self.inside.stations c.args.place c.get.result c.self.invariant.0.stationed c.get.ensures
+may_detect_at-requires g c = station_of _ c.self.inside.stations c.args.place c.get.result c.self.invariant.stationed c.get.ensures
 
 pub returns-clause-undetected : goal.returns-clause-undetected
 returns-clause-undetected g c defect at denied =
     let inside = c.self.inside in
-    told g.B.Simulator.task g.B.Simulator.bits inside.good inside.parts.items inside.stations inside.bits inside.aim _ _
-    c.self.invariant.0 c.args.self.now (ap task_in c.self.view_is) (ap (λ (v : Joined). v.bits) c.self.view_is) c.args.place
+    told g.B.Simulator.task g.B.Simulator.bits inside.good inside.parts.items inside.stations (g.B.Simulator.bits inside.good) _ inside.aim _ _
+    c.self.invariant c.args.self.now (ap task_in c.self.view_is) (ap (λ (v : Joined). v.bits) c.self.view_is) c.args.place
     c.get.result c.get.ensures (λ (chip : Chip) (d : ChipDefect) (bits : List Trit). IsShown chip d bits → ⊥) defect
     (c.may_detect_at.ensures.undetected denied) at
 
 pub returns-clause-allowed : goal.returns-clause-allowed
 returns-clause-allowed g c defect at granted =
     let inside = c.self.inside in
-    told g.B.Simulator.task g.B.Simulator.bits inside.good inside.parts.items inside.stations inside.bits inside.aim _ _
-    c.self.invariant.0 c.args.self.now (ap task_in c.self.view_is) (ap (λ (v : Joined). v.bits) c.self.view_is) c.args.place
+    told g.B.Simulator.task g.B.Simulator.bits inside.good inside.parts.items inside.stations (g.B.Simulator.bits inside.good) _ inside.aim _ _
+    c.self.invariant c.args.self.now (ap task_in c.self.view_is) (ap (λ (v : Joined). v.bits) c.self.view_is) c.args.place
     c.get.result c.get.ensures IsAllowedByRows defect (c.may_detect_at.ensures.allowed granted) at
