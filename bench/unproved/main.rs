@@ -1,5 +1,6 @@
 //! Test generation on a chip: the counts, the report with numbers of outputs, and the pairs.
-use ca_credit::Verdict;
+use ca_credit::{Simulator, Verdict};
+use ca_generate::Bench;
 use rstd::Global;
 use std::io::Write;
 
@@ -37,6 +38,9 @@ fn main() {
     }
     let chip = ca_link::link(alloc, &read, library, &scan).ok().expect("link");
     let budget = words[4].parse().unwrap();
+    if words.get(6).is_some_and(|it| it == "grade") {
+        return graded(&chip, &words[7]);
+    }
     let start = std::time::Instant::now();
     let made = ca_engine::generate_chip(alloc, &chip, budget, &mut ca_generate::Unwatched);
     let made = made.ok().expect("generate");
@@ -73,4 +77,31 @@ fn main() {
             println!("{bits}");
         }
     }
+}
+
+// Credits pairs of a file, one in each line of bits, one after another, as `grade` does.
+fn graded(chip: &ca_linked::Chip, file: &str) {
+    let alloc = Global;
+    let text = std::fs::read_to_string(file).unwrap();
+    let view = ca_view::View::new(alloc, chip).ok().unwrap();
+    let rows = ca_rows::ChipRows::new(alloc, chip).ok().unwrap();
+    let mut bench = ca_engine::ChipBench::reserve(alloc, &view, &rows, ca_guide::LowestUnset, 0).ok().unwrap();
+    let start = std::time::Instant::now();
+    let count = bench.defect_count();
+    let mut credits = ca_credit::Credits::reserve(alloc, count).ok().unwrap();
+    for place in 0..count {
+        if !bench.is_exposable(place) {
+            credits.settle(place, Verdict::Unexposable);
+        }
+    }
+    let (mut number, mut credited) = (0, 0);
+    for line in text.lines().filter(|it| it.starts_with(['0', '1'])) {
+        let mut pair = ca_pair::Pair::new(alloc);
+        for bit in line.bytes() {
+            pair.push(bit == b'1').ok().unwrap();
+        }
+        credited += credits.credit_pair(&mut bench, &pair, number);
+        number += 1;
+    }
+    println!("pairs {number}, credited {credited}, seconds {:.2}", start.elapsed().as_secs_f64());
 }
