@@ -1,4 +1,5 @@
 pub mod TargetLemmas
 pub mod NumberLemmas
 pub mod PutLemmas
+pub mod PartLemmas
 pub mod JudgedLemmas

@@ -1,5 +1,5 @@
 -- The shorts among the first targets, and one target more.
-use Rattle.std.proofs.Common.{◌≡◌, ℕ, ◌+◌, ◌∙◌, List, [], ◌∷◌, ◌++◌, length, length-append, refl, sym, ap, subst, arith, Some, inl, inr, ◌⊎◌}
+use Rattle.std.proofs.Common.{◌≤◌, ◌≡◌, ℕ, ◌+◌, ◌∙◌, List, [], ◌∷◌, ◌++◌, length, length-append, refl, sym, ap, subst, arith, Some, inl, inr, ◌⊎◌, zero, suc, ◌<◌}
 use Rattle.std.specs.Prelude.{slice_get}
 use Rattle.std.specs.List.{All}
 use Rattle.std.proofs.Math.Decide.{dec_lt}
@@ -163,3 +163,24 @@ aims_more numbers aims places count aim place are here is = record {
         (entry_new places place ∙ sym is ∙ ap (λ (n : ℕ). slice_get numbers n) (sym e))
   ];
 }
+
+-- the k-th of numbers that ascend is at least k
+at_least : (numbers : List ℕ) → IsAscending numbers → (k n : ℕ) → slice_get numbers k ≡ Some n → k ≤ n
+at_least numbers ascending zero n at = omega arith
+at_least numbers ascending (suc k) n at =
+    let within = slice_get_within numbers (suc k) n at in
+    let m = some_at numbers k (omega (arith, within)) in
+    let below = ascending k (suc k) m.0 n (omega arith) m.1 at in
+    let low = at_least numbers ascending k m.0 m.1 in
+    omega (arith, below, low)
+
+-- so there are no more of them than targets
+pub few_numbers : (targets : List Target) (count : ℕ) (numbers : List ℕ) → AreNumbers targets count numbers → length numbers ≤ count
+few_numbers targets count numbers are = elim (dec_lt count (length numbers)) [
+  | yes more ↦
+      let last = some_at numbers count more in
+      let low = at_least numbers are.ascending count last.0 last.1 in
+      let below = are.below count last.0 last.1 in
+      absurd (omega (arith, low, below))
+  | no not ↦ omega (arith, not)
+]

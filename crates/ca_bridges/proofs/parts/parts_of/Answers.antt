@@ -1,0 +1,28 @@
+use Rattle.std.proofs.Common.{rules, arith, ℕ, ◌≡◌, ◌∙◌, ◌++◌, ◌∷◌, [], List, ap, subst}
+use Rattle.ca_flat.specs.declared.chip_defect.ChipDefect.{ChipDefect}
+use Rattle.ca_engine.specs.ChipBench.{Benched}
+use Rattle.ca_bridges.specs.code.Parts.{IsPartOf, AreParts}
+use Rattle.ca_bridges.proofs.PartLemmas.{parts_begin, parts_more}
+use Rattle.ca_bridges.proofs.parts.parts_of.Goals as goal
+
+pub loop-k-init : goal.loop-k-init
+loop-k-init g c = record {
+  are = parts_begin c.args.own.now.core c.args.budget c.args.clusters.now c.in_ok-good.good c.push.new.self.items
+      (subst (λ (shorts : List ChipDefect). IsPartOf c.args.own.now.core shorts c.args.budget c.in_ok-good.good) c.new-none.ensures
+      c.in_ok-good.ensures) (c.in_ok-push.ensures.items ∙ ap (λ (front : List Benched). front ++ c.in_ok-good.good ∷ []) c.new-parts.ensures.items);
+  left = search rules;
+}
+
+pub loop-k-preserved : goal.loop-k-preserved
+loop-k-preserved g c = record {
+  are = parts_more c.args.own.now.core c.args.budget c.args.clusters.now c.loop-k.k c.loop-k.parts.items
+      c.push-in-loop-k.new.self.items c.in_ok-part.part c.loop-k.invariant.are c.in_ok-part.ensures c.in_ok-push-2.ensures.items;
+  left = search rules;
+}
+
+pub returns : goal.returns
+returns g c =
+    let past = c.loop-k-test.false in
+    let left = c.loop-k.invariant.left in
+    subst (λ (n : ℕ). AreParts c.args.own.now.core c.args.budget c.args.clusters.now n c.loop-k.parts.items) (omega arith)
+    c.loop-k.invariant.are

@@ -1,0 +1,184 @@
+//! The benches of a chip and of those in which a cluster is one instance: the chip's own is the first.
+
+ghost use Rattle.std.specs.Prelude.{◌≡◌, ◌<◌, ◌+◌, length, slice_get, Some, IsSomeAnd, IfOk};
+ghost use Rattle.std.specs.List.{All};
+ghost use Rattle.ca_core.specs.Core.{core_of};
+ghost use Rattle.ca_view.specs.View.{IsViewOf};
+ghost use Rattle.ca_targets.specs.Targets.{IsLibraryDefect};
+ghost use Rattle.ca_bridges.specs.code.Parts.{AreEach, IsPartOf, AreParts};
+
+use ca_base::NoMemory;
+use ca_choice::CheapestWay;
+use ca_engine::{ChipBench, ChipDefects};
+use ca_flat::ExposableDefects;
+use ca_guide::Choice;
+use ca_rows::ChipRows;
+use ca_targets::{Cluster, ShortList, library_defects_are_placed};
+use ca_view::View;
+use std::alloc::Global;
+
+// The cluster at a place.
+fn cluster_at(clusters: &[Cluster], k: usize) -> &Cluster
+    requires { k < length clusters.now }
+    ensures { slice_get clusters.now k ≡ Some result.now }
+{
+    &clusters[k]
+}
+
+/// The views of the chips of clusters.
+pub(crate) fn views_of<'a>(
+    alloc: Global,
+    clusters: &'a [Cluster],
+) -> Result<Vec<View<'a>>, NoMemory>
+    ensures { IfOk result (λ views. AreEach (λ cluster view. IsViewOf cluster.chip view)
+        clusters.now (length clusters.now) views.items) }
+{
+    let mut views = Vec::new(alloc);
+    for k in 0..clusters.len() {
+        let cluster = cluster_at(clusters, k);
+        let view = View::new(alloc, &cluster.chip)?;
+        views.push(view)?;
+    }
+    Ok(views)
+}
+
+/// The rows of the defects of these chips.
+pub(crate) fn rows_of<'a>(
+    alloc: Global,
+    clusters: &'a [Cluster],
+) -> Result<Vec<ChipRows<'a>>, NoMemory>
+    ensures { IfOk result (λ rows. AreEach (λ cluster of. core_of of.chip ≡ core_of cluster.chip)
+        clusters.now (length clusters.now) rows.items) }
+{
+    let mut rows = Vec::new(alloc);
+    for k in 0..clusters.len() {
+        rows.push(ChipRows::new(alloc, &clusters[k].chip)?)?;
+    }
+    Ok(rows)
+}
+
+/// A choice of bits for a chip, the first, and for each of these.
+pub(crate) fn choices_of<'a>(
+    alloc: Global,
+    own: &'a View<'a>,
+    views: &'a [View<'a>],
+) -> Result<Vec<CheapestWay<'a>>, NoMemory>
+    ensures { IfOk result (λ choices. length choices.items ≡ length views.now + 1) }
+{
+    let mut choices = Vec::new(alloc);
+    choices.push(CheapestWay::reserve(alloc, own)?)?;
+    for k in 0..views.len() {
+        choices.push(CheapestWay::reserve(alloc, &views[k])?)?;
+    }
+    Ok(choices)
+}
+
+// The same shorts once more.
+fn copied(alloc: Global, shorts: &ShortList) -> Result<ChipDefects, NoMemory>
+    ensures { IfOk result (λ copy. copy ≡ shorts.now) }
+{
+    let mut copy = ChipDefects::new(alloc);
+    for place in 0..shorts.len() {
+        copy.push(shorts.get(place))?;
+    }
+    Ok(copy)
+}
+
+// The bench of a chip for some defects of its library instances. It is for rows and a choice of any type, so
+// that it has few parts to the prover.
+fn part_of<'a, R: ExposableDefects, P: Choice + Drop>(
+    alloc: Global,
+    view: &'a View<'a>,
+    rows: &'a R,
+    choice: P,
+    shorts: &ShortList,
+    budget: u32,
+) -> Result<ChipBench<'a, R, P>, NoMemory>
+    requires rows { R.chip rows.now ≡ view.now.core }
+    requires shorts { All (IsLibraryDefect view.now.chip) shorts.now }
+    ensures { IfOk result (IsPartOf view.now.core shorts.now budget) }
+{
+    view.viewed();
+    library_defects_are_placed();
+    let defects = copied(alloc, shorts)?;
+    let part = ChipBench::reserve_for(alloc, view, rows, choice, defects, budget)?;
+    Ok(part)
+}
+
+// The view at a place.
+fn view_at<'a>(views: &'a [View<'a>], k: usize) -> &'a View<'a>
+    requires { k < length views.now }
+    ensures { slice_get views.now k ≡ Some result.now }
+{
+    &views[k]
+}
+
+// The rows at a place.
+fn row_at<R>(rows: &[R], k: usize) -> &R
+    requires { k < length rows.now }
+    ensures { slice_get rows.now k ≡ Some result.now }
+{
+    &rows[k]
+}
+
+// The bench of the cluster at a place.
+fn cluster_part<'a, R: ExposableDefects, P: Choice + Drop>(
+    alloc: Global,
+    clusters: &'a [Cluster],
+    views: &'a [View<'a>],
+    rows: &'a [R],
+    k: usize,
+    choice: P,
+    budget: u32,
+) -> Result<ChipBench<'a, R, P>, NoMemory>
+    requires within { k < length clusters.now }
+    requires views { AreEach (λ cluster view. IsViewOf cluster.chip view)
+        clusters.now (length clusters.now) views.now }
+    requires rows { AreEach (λ cluster one. R.chip one ≡ core_of cluster.chip)
+        clusters.now (length clusters.now) rows.now }
+    requires shorts { All (λ cluster. All (IsLibraryDefect cluster.chip) cluster.shorts) clusters.now }
+    ensures { IfOk result (λ part. IsSomeAnd (slice_get clusters.now k)
+        (λ cluster. IsPartOf (core_of cluster.chip) cluster.shorts budget part)) }
+{
+    let cluster = cluster_at(clusters, k);
+    let view = view_at(views, k);
+    let row = row_at(rows, k);
+    let part = part_of(alloc, view, row, choice, &cluster.shorts, budget)?;
+    Ok(part)
+}
+
+/// The bench of a chip for no defects, and those of clusters, each for its shorts. The first of the choices is
+/// the chip's own.
+pub(crate) fn parts_of<'a, R: ExposableDefects, P: Choice + Drop>(
+    alloc: Global,
+    own: &'a View<'a>,
+    own_rows: &'a R,
+    clusters: &'a [Cluster],
+    views: &'a [View<'a>],
+    rows: &'a [R],
+    choices: Vec<P>,
+    budget: u32,
+) -> Result<Vec<ChipBench<'a, R, P>>, NoMemory>
+    requires own { R.chip own_rows.now ≡ own.now.core }
+    requires views { AreEach (λ cluster view. IsViewOf cluster.chip view)
+        clusters.now (length clusters.now) views.now }
+    requires rows { AreEach (λ cluster one. R.chip one ≡ core_of cluster.chip)
+        clusters.now (length clusters.now) rows.now }
+    requires choices { length choices.items ≡ length clusters.now + 1 }
+    requires shorts { All (λ cluster. All (IsLibraryDefect cluster.chip) cluster.shorts) clusters.now }
+    ensures { IfOk result (λ parts. AreParts own.now.core budget clusters.now
+        (length clusters.now) parts.items) }
+{
+    let mut choices = choices;
+    let mut parts = Vec::new(alloc);
+    let none = ShortList::new(alloc);
+    let own_choice = choices.remove(0);
+    let good = part_of(alloc, own, own_rows, own_choice, &none, budget)?;
+    parts.push(good)?;
+    for k in 0..clusters.len() {
+        let choice = choices.remove(0);
+        let part = cluster_part(alloc, clusters, views, rows, k, choice, budget)?;
+        parts.push(part)?;
+    }
+    Ok(parts)
+}
