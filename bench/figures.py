@@ -1,7 +1,7 @@
 #!/usr/bin/env python3
 """Measures what docs/FIGURES.md shows, and writes each table into that page.
 
-usage: bench/figures.py PROGRAM [matrices|commands|chips|made|certificates|diagnosis|large|hostile].. [--fuzz COUNT]
+usage: bench/figures.py PROGRAM [matrices|commands|chips|made|certificates|diagnosis|bridges|large|hostile].. [--fuzz COUNT]
 
 PROGRAM is the built program. A table of the page is between a line `<!-- NAME -->` and the next blank line; the names are those above,
 all of them if none is said. The line `<!-- build -->` is followed by the commit and the size of the program. Run it on a quiet machine, with
@@ -91,6 +91,13 @@ def diagnosis(program):
     return table(rows)
 
 
+def bridges(program):
+    rows = [["chip", "budget", "instances", "bridges", "credited", "unexposable", "untestable", "aborted", "port", "wide", "pairs", "user seconds", "longest"]]
+    for it in records([f"{HERE}/bridges.py", program])[1:]:
+        rows.append([f"`{it[0]}`", *[f"{int(field):,}" for field in it[1:11]], *it[11:13]])
+    return table(rows)
+
+
 def chips_of(folder):
     """The chips without scan cells for which a log is made."""
     at = f"{TOP}/examples"
@@ -139,7 +146,7 @@ def main(words):
         else:
             names.append(word)
     tables = {"matrices": matrices, "commands": commands, "chips": chips, "made": made, "certificates": certificates,
-              "diagnosis": diagnosis, "large": large, "hostile": lambda it: hostile(it, count)}
+              "diagnosis": diagnosis, "bridges": bridges, "large": large, "hostile": lambda it: hostile(it, count)}
     commit = printed(["git", "-C", TOP, "log", "-1", "--format=%h", "--", "crates"]).strip()
     found = {"build": [f"The program is that of commit {commit}, {os.path.getsize(program):,} bytes."]}
     found.update({name: tables[name](program) for name in names or tables})

@@ -64,9 +64,10 @@ no_own_words words files before after (inr (inr (inr (inr (inr (inl (is, inl cau
 no_own_words words files before after (inr (inr (inr (inr (inr (inl (is, inr (inl (held, read))))))))) = read
 no_own_words words files before after (inr (inr (inr (inr (inr (inl (is, inr (inr (word, held))))))))) = word
 no_own_words words files before after (inr (inr (inr (inr (inr (inr (inl (is, cause)))))))) = cause.many.0
-no_own_words words files before after (inr (inr (inr (inr (inr (inr (inr (is, inl cause)))))))) = no_patterns_words (chip_files words) (stil_word words) files before after cause
-no_own_words words files before after (inr (inr (inr (inr (inr (inr (inr (is, inr (inl (held, read)))))))))) = read
-no_own_words words files before after (inr (inr (inr (inr (inr (inr (inr (is, inr (inr (word, held)))))))))) = word
+no_own_words words files before after (inr (inr (inr (inr (inr (inr (inr (inl (is, inl cause))))))))) = no_patterns_words (chip_files words) (stil_word words) files before after cause
+no_own_words words files before after (inr (inr (inr (inr (inr (inr (inr (inl (is, inr (inl (held, read))))))))))) = read
+no_own_words words files before after (inr (inr (inr (inr (inr (inr (inr (inl (is, inr (inr (word, held))))))))))) = word
+no_own_words words files before after (inr (inr (inr (inr (inr (inr (inr (inr (is, (word, held)))))))))) = word
 
 no_make_words : (word : List ℕ) → IsMakeCause word BadWords → ⊥
 no_make_words word cause = elim cause.stage [
