@@ -47,8 +47,8 @@ abbrev pub IsWithin : ℕ → BridgeVerdict → Type 0
 IsWithin outputs (Credited pair output) = output < outputs
 IsWithin outputs _ = Unit {0}
 
--- the bridges are those of library instances of the chip, there is a verdict for each, and each output that is
--- credited is an observed one
+-- the bridges are those of library instances of the chip, there is a verdict for each, and each output that
+-- is credited is an observed one
 pub record AreReported (chip : LinkedChip) (bridges : List Bridge) (verdicts : List BridgeVerdict) : Type 0
   where
     pub known : AreKnown chip bridges

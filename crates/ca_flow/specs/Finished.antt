@@ -45,7 +45,8 @@ IsReported (Diagnose chip chains pairs log candidates line) text = text ≡ line
 IsReported (Certify chip chains pairs aims certificate) text =
     text ≡ certified_line certificate.claims (length pairs)
 IsReported (Verify chip chains pairs certificate answer line) text = text ≡ line
-IsReported (Bridges chip chains bridges pairs aims verdicts) text = text ≡ bridges_line verdicts (length pairs)
+IsReported (Bridges chip chains bridges pairs aims verdicts) text =
+    text ≡ bridges_line verdicts (length pairs)
 IsReported (Make chip pairs aims verdicts) text = text ≡ summary_text verdicts (length pairs)
 IsReported Help text = text ≡ usage_text
 IsReported Version text = text ≡ version_text
