@@ -119,21 +119,37 @@ def timed(words, **how):
     return last, f"{time.time() - began:.0f}"
 
 
+# What `fuzz_texts.py` changes, by its kinds.
+KINDS = {"sp": "cells, with resistors too", "v": "netlists", "csv": "tables of scan cells and of strengths", "order": "events of a run",
+         "stil": "patterns", "log": "logs of failing outputs", "cert": "certificates"}
+
+
 def hostile(program, count):
     tools, examples = f"{TOP}/tools", f"{TOP}/examples"
     rows = [["what", "command", "result", "seconds"]]
     with tempfile.TemporaryDirectory() as folder:
         refuse = [f"{tools}/refuse_memory.sh", program]
-        for out, words in [("p.stil,r.csv", ["atpg", f"{examples}/cells.sp", f"{examples}/inv.v", "-", "p.stil", "r.csv", "3"]),
-                           ("-", ["make", "3"]), ("m.csv", ["matrix", f"{examples}/nand2.sp", "NAND2", "m.csv"])]:
+        chip = [f"{examples}/cells.sp", f"{examples}/inv.v", "-"]
+        subprocess.run([program, "certify", *chip, "in.stil", "in.cert", "3"], cwd=folder, stdout=subprocess.DEVNULL, check=True)
+        with open(f"{folder}/in.log", "w") as log:
+            log.write("pair,output\n0,z\n")
+        for out, words in [("m.csv", ["matrix", f"{examples}/nand2.sp", "NAND2", "m.csv"]), ("f.sp", ["flatten", *chip, "-", "-", "f.sp"]),
+                           ("p.stil,r.csv", ["atpg", *chip, "p.stil", "r.csv", "3"]), ("g.csv", ["grade", *chip, "in.stil", "g.csv"]),
+                           ("c.csv", ["diagnose", *chip, "in.stil", "in.log", "c.csv"]),
+                           ("p.stil,c.cert", ["certify", *chip, "p.stil", "c.cert", "3"]), ("-", ["verify", *chip, "in.stil", "in.cert"]),
+                           ("p.stil,b.csv", ["bridges", f"{examples}/cells.sp", f"{examples}/c17.v", "-", "g4", "p.stil", "b.csv", "3"]),
+                           ("-", ["make", "3"])]:
             shown = " ".join(["refuse_memory.sh PROGRAM", out, *[os.path.basename(it) for it in words]])
             rows.append(["one request for memory refused, each in a run of its own", f"`{shown}`", *timed([*refuse, out, *words], cwd=folder)])
     rows.append(["real faults of files and outputs", "`real_faults.sh PROGRAM`", *timed([f"{tools}/real_faults.sh", program])])
-    began = time.time()
-    runs = [subprocess.Popen([f"{tools}/fuzz_texts.py", program, str(count), str(seed)], stdout=subprocess.PIPE, text=True) for seed in range(1, 5)]
-    for seed, run in enumerate(runs, 1):
-        last = run.communicate()[0].strip().splitlines()[-1]
-        rows.append(["texts of chips and of a run, changed at random", f"`fuzz_texts.py PROGRAM {count} {seed}`", last, f"{time.time() - began:.0f}"])
+    for kind, what in KINDS.items():
+        began = time.time()
+        runs = [subprocess.Popen([f"{tools}/fuzz_texts.py", program, str(count // 4), str(seed), kind], stdout=subprocess.PIPE, text=True)
+                for seed in range(1, 5)]
+        last = [run.communicate()[0].strip().splitlines()[-1] for run in runs]
+        texts, lacking = (sum(int(it.split()[place]) for it in last) for place in (0, 2))
+        rows.append([f"{what}, changed at random", f"`fuzz_texts.py PROGRAM {count // 4} SEED {kind}`, seeds 1 to 4",
+                     f"{texts:,} texts, {lacking} without a named answer", f"{time.time() - began:.0f}"])
     return table(rows)
 
 
