@@ -1,23 +1,21 @@
 -- What is promised of verdicts on bridges is enough to report them.
-use Rattle.std.proofs.Common.{◌≡◌, ℕ, ◌<◌, Bool, List, length, get_or, refl, subst, arith}
+use Rattle.std.proofs.Common.{◌≡◌, ℕ, ◌<◌, Bool, List, length, get_or, subst, arith}
 use Rattle.std.specs.Prelude.{Option, Some, None, IsSomeAnd, slice_get}
 use Rattle.std.proofs.lemmas.List.{length-map}
 use Rattle.std.proofs.lemmas.Option.{slice_get-get_or}
 use Rattle.ca_flat.specs.Chip.{Chip}
 use Rattle.ca_flat.specs.Detection.{trits_of}
 use Rattle.ca_merged.specs.Bridge.{BridgeDetectsAt}
-use Rattle.ca_linked.specs.Linked.{LinkedChip, outputs_of}
+use Rattle.ca_linked.specs.Linked.{outputs_of}
 use Rattle.ca_core.specs.Core.{core_net, core_of}
-use Rattle.ca_cluster.specs.declared.bridge.Bridge.{Bridge}
-use Rattle.ca_targets.specs.Targets.{AreKnown}
 use Rattle.ca_bridge_laws.specs.Bridges.{Ends}
 use Rattle.ca_bridge_laws.specs.Good.{IsFirstBridgeOutput, IsFirstBridgeDetection}
 use Rattle.ca_bridges.specs.declared.verdict.BridgeVerdict.{BridgeVerdict}
 use Rattle.ca_bridges.specs.declared.verdict.BridgeVerdict.TheVariants.{Credited, Unexposable, Untestable, Aborted, Port, Wide}
-use Rattle.ca_bridges.specs.Judged.{AreGoodVerdicts, ends_of}
+use Rattle.ca_bridges.specs.Judged.{ends_of}
 use Rattle.ca_bridges.proofs.TargetLemmas.{some_at}
 use Rattle.ca_chip_report.proofs.LawLemmas.{some_within}
-use Rattle.ca_bridge_report.specs.BridgeReport.{IsWithin, AreReported}
+use Rattle.ca_bridge_report.specs.BridgeReport.{IsWithin}
 use Rattle.ca_bridge_report.specs.Laws.{GoodBridgesAreReported}
 
 -- the output of a first detection is an observed one

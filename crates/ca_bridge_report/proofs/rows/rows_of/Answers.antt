@@ -1,8 +1,12 @@
 use Rattle.std.proofs.Common.{◌∙◌, ◌++◌, ◌∷◌, [], List, ap, take, arith}
+use Rattle.ca_targets.proofs.ListLemmas.{contains_at}
 use Rattle.ca_report.specs.declared.rows.ReportRow.{ReportRow}
 use Rattle.ca_bridge_report.specs.BridgeReport.{bridge_rows}
 use Rattle.ca_bridge_report.proofs.RowLemmas.{rows_more, rows_all}
 use Rattle.ca_bridge_report.proofs.rows.rows_of.Goals as goal
+
+pub row_of-requires : goal.row_of-requires
+row_of-requires c = c.requires.known c.get.result (contains_at c.args.bridges.now c.loop-k.k c.get.result c.get.ensures)
 
 pub loop-k-preserved : goal.loop-k-preserved
 loop-k-preserved c =
