@@ -1,7 +1,6 @@
 -- Why there are no tests for bridges, from what the stages find.
-use Rattle.std.proofs.Common.{ℕ, ◌≡◌, inl, inr, Bool, List, Option, Some, ap, sym, subst}
-use Rattle.std.specs.Prelude.{IsSomeAnd, slice_get}
-use Rattle.std.specs.List.{Contains}
+use Rattle.std.proofs.Common.{ℕ, inl, inr, List, Option, sym, subst}
+use Rattle.std.specs.Prelude.{IsSomeAnd}
 use Rattle.ca_store.specs.Store.{Files}
 use Rattle.ca_linked.specs.declared.parts.Part.{Part}
 use Rattle.ca_linked.specs.Linked.{LinkedChip, IsGate, IsLibrary}
