@@ -2,13 +2,14 @@
 
 ghost use Rattle.ca_linked.specs.Linked.{IsLibrary};
 ghost use Rattle.ca_cluster.specs.Bridges.{IsKnown};
+ghost use Rattle.ca_targets.specs.Targets.{AreKnown};
 ghost use Rattle.ca_verilog.specs.IsNetlist.{IsNetlist};
 
 use crate::chips::{CASES, LIBRARY};
 use ca_base::NoMemory;
-use ca_bridges::{BridgeVerdict, judge};
+use ca_bridges::{BridgeVerdict, Judged, judge};
 use ca_cell::StrengthTable;
-use ca_cluster::{Bridge, bridge_name, bridges};
+use ca_cluster::{Bridge, BridgeList, bridge_name, bridges};
 use ca_generate::Unwatched;
 use ca_lex::Text;
 use ca_link::link;
@@ -38,7 +39,7 @@ fn linked(alloc: Global, netlist: &[u8]) -> Option<Chip> {
 }
 
 // Appends a number of one digit.
-fn put_digit(text: &mut Text, number: u32) -> Result<(), NoMemory> {
+fn put_digit(text: &mut Text, number: usize) -> Result<(), NoMemory> {
     text.push(b' ')?;
     text.push(b'0' + (number % 10) as u8)
 }
@@ -48,8 +49,8 @@ fn put_verdict(text: &mut Text, verdict: &BridgeVerdict) -> Result<(), NoMemory>
     match verdict {
         BridgeVerdict::Credited { pair, output } => {
             text.append(b" credited")?;
-            put_digit(text, *pair)?;
-            put_digit(text, *output)
+            put_digit(text, *pair as usize)?;
+            put_digit(text, *output as usize)
         }
         BridgeVerdict::Unexposable => text.append(b" unexposable"),
         BridgeVerdict::Untestable => text.append(b" untestable"),
@@ -57,6 +58,49 @@ fn put_verdict(text: &mut Text, verdict: &BridgeVerdict) -> Result<(), NoMemory>
         BridgeVerdict::Port => text.append(b" port"),
         BridgeVerdict::Wide { .. } => text.append(b" wide"),
     }
+}
+
+// Appends a bridge with its verdict.
+fn put_bridge(
+    alloc: Global,
+    text: &mut Text,
+    chip: &Chip,
+    bridge: Bridge,
+    verdict: &BridgeVerdict,
+) -> Result<(), NoMemory>
+    requires { IsKnown chip.now bridge }
+{
+    let name = bridge_name(alloc, chip, bridge)?;
+    text.append(name.as_bytes())?;
+    drop(name);
+    put_verdict(text, verdict)?;
+    text.push(b'\n')
+}
+
+// Appends the bridges with their verdicts, and how many pairs there are.
+fn put_all(
+    alloc: Global,
+    text: &mut Text,
+    chip: &Chip,
+    list: &BridgeList,
+    judged: &Judged,
+) -> Result<(), NoMemory>
+    requires { AreKnown chip.now list.now }
+{
+    for k in 0..list.len() {
+        if k < judged.verdicts.len() {
+            put_bridge(
+                alloc,
+                text,
+                chip,
+                list.get(k),
+                &judged.verdicts.as_slice()[k],
+            )?;
+        }
+    }
+    text.append(b"pairs")?;
+    put_digit(text, judged.pairs.len())?;
+    text.push(b'\n')
 }
 
 // Appends the bridges of an instance with their verdicts.
@@ -71,17 +115,9 @@ fn put_bridges(
 {
     let list = bridges(alloc, chip, u)?;
     let judged = judge(alloc, chip, &list, budget, &mut Unwatched)?;
-    for k in 0..list.len() {
-        let name = bridge_name(alloc, chip, list.get(k))?;
-        text.append(name.as_bytes())?;
-        if k < judged.verdicts.len() {
-            put_verdict(text, &judged.verdicts.as_slice()[k])?;
-        }
-        text.push(b'\n')?;
-    }
-    text.append(b"pairs")?;
-    put_digit(text, judged.pairs.len() as u32)?;
-    text.push(b'\n')
+    let put = put_all(alloc, text, chip, &list, &judged);
+    drop(judged);
+    put
 }
 
 // The bridges of the instance of this name with their verdicts, as a text.
