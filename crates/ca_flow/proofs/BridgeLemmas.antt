@@ -11,7 +11,7 @@ use Rattle.ca_bridges.specs.declared.verdict.BridgeVerdict.{BridgeVerdict}
 use Rattle.ca_bridge_report.specs.BridgeReport.{bridges_report}
 use Rattle.ca_load.specs.Texts.{InputFiles, names_of}
 use Rattle.ca_load.specs.Causes.{IsLoadCause}
-use Rattle.ca_words.specs.Words.{chip_files, instance_word, bridges_budget_word}
+use Rattle.ca_words.specs.Words.{chip_files, instance_word}
 use Rattle.ca_words.specs.declared.words.BridgesWords.{BridgesWords}
 use Rattle.ca_words.specs.Command.{IsSpelledBridges}
 use Rattle.ca_on_chip.specs.OnChip.{IsChipOfFiles}

@@ -37,7 +37,7 @@ use Rattle.ca_words.specs.declared.words.ReplayWords.{ReplayWords}
 use Rattle.ca_words.specs.declared.words.GradeWords.{GradeWords}
 use Rattle.ca_grade.specs.declared.grade.Grade as grade
 use Rattle.ca_chip_grade.specs.Texts.{grades_text}
-use Rattle.ca_patterns.specs.Patterns.{IsPatternsCause, IsLoadedCause}
+use Rattle.ca_patterns.specs.Patterns.{IsLoadedCause}
 use Rattle.ca_grading.specs.Grading.{AreGradesByFile}
 use Rattle.ca_net.specs.declared.trit.Trit.{Trit}
 use Rattle.ca_on_chip.specs.declared.replays.TheConstants.{MAX_ORDER}

@@ -31,7 +31,7 @@ use Rattle.ca_flow.specs.declared.finished.Finished.{Finished}
 use Rattle.ca_flow.specs.Finished.{IsAnswer, status_reported}
 use Rattle.ca_words.specs.Words.{table_word, cells_word, cell_files, cell_word, vector_word, first_word, last_word, defect_word, dash}
 use Rattle.ca_words.specs.Words.{chip_files, instance_word, chip_defect_word, chip_first_word, chip_last_word}
-use Rattle.ca_words.specs.Words.{stil_word, log_word, cert_word, order_word, IsReplay, IsGrade, IsDiagnose, IsVerify, AsksNoFile, GeneratesTests, IsCommand}
+use Rattle.ca_words.specs.Words.{stil_word, log_word, cert_word, order_word, IsReplay, IsDiagnose, IsVerify, AsksNoFile, GeneratesTests, IsCommand}
 use Rattle.ca_scan.specs.ChainFault.{AreAllChains}
 use Rattle.ca_patterns.specs.declared.patterns.TheConstants.{MAX_STIL}
 use Rattle.ca_patterns.specs.Patterns.{IsStilCause, OfTraced, GiveTraced, IsPatternsCause, FitsPatterns}
