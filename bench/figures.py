@@ -1,7 +1,7 @@
 #!/usr/bin/env python3
 """Measures what docs/FIGURES.md shows, and writes each table into that page.
 
-usage: bench/figures.py PROGRAM [matrices|commands|chips|made|certificates|diagnosis|large|hostile].. [--fuzz COUNT]
+usage: bench/figures.py PROGRAM [matrices|commands|chips|made|certificates|diagnosis|bridges|large|hostile].. [--fuzz COUNT]
 
 PROGRAM is the built program. A table of the page is between a line `<!-- NAME -->` and the next blank line; the names are those above,
 all of them if none is said. The line `<!-- build -->` is followed by the commit and the size of the program. Run it on a quiet machine, with
@@ -67,7 +67,7 @@ def generation(program, sets, more=()):
 
 
 def chips(program):
-    return generation(program, ["examples", "mapped"])
+    return generation(program, ["examples", "mapped"]) + generation(program, ["aes"], ["--budgets", "64"])[2:]
 
 
 def made(program):
@@ -88,6 +88,13 @@ def diagnosis(program):
         for name, cells, netlist, _ in chips_of(folder):
             found = records([f"{HERE}/diagnose.py", program, cells, netlist, "--budget", "1024", "--defects", "4"])[1:]
             rows += [[f"`{name}`", f"`{' '.join(it[:2])}`", *it[2:6]] for it in found]
+    return table(rows)
+
+
+def bridges(program):
+    rows = [["chip", "budget", "instances", "bridges", "credited", "unexposable", "untestable", "aborted", "port", "wide", "pairs", "user seconds", "longest"]]
+    for it in records([f"{HERE}/bridges.py", program])[1:]:
+        rows.append([f"`{it[0]}`", *[f"{int(field):,}" for field in it[1:11]], *it[11:13]])
     return table(rows)
 
 
@@ -112,21 +119,37 @@ def timed(words, **how):
     return last, f"{time.time() - began:.0f}"
 
 
+# What `fuzz_texts.py` changes, by its kinds.
+KINDS = {"sp": "cells, with resistors too", "v": "netlists", "csv": "tables of scan cells and of strengths", "order": "events of a run",
+         "stil": "patterns", "log": "logs of failing outputs", "cert": "certificates"}
+
+
 def hostile(program, count):
     tools, examples = f"{TOP}/tools", f"{TOP}/examples"
     rows = [["what", "command", "result", "seconds"]]
     with tempfile.TemporaryDirectory() as folder:
         refuse = [f"{tools}/refuse_memory.sh", program]
-        for out, words in [("p.stil,r.csv", ["atpg", f"{examples}/cells.sp", f"{examples}/inv.v", "-", "p.stil", "r.csv", "3"]),
-                           ("-", ["make", "3"]), ("m.csv", ["matrix", f"{examples}/nand2.sp", "NAND2", "m.csv"])]:
+        chip = [f"{examples}/cells.sp", f"{examples}/inv.v", "-"]
+        subprocess.run([program, "certify", *chip, "in.stil", "in.cert", "3"], cwd=folder, stdout=subprocess.DEVNULL, check=True)
+        with open(f"{folder}/in.log", "w") as log:
+            log.write("pair,output\n0,z\n")
+        for out, words in [("m.csv", ["matrix", f"{examples}/nand2.sp", "NAND2", "m.csv"]), ("f.sp", ["flatten", *chip, "-", "-", "f.sp"]),
+                           ("p.stil,r.csv", ["atpg", *chip, "p.stil", "r.csv", "3"]), ("g.csv", ["grade", *chip, "in.stil", "g.csv"]),
+                           ("c.csv", ["diagnose", *chip, "in.stil", "in.log", "c.csv"]),
+                           ("p.stil,c.cert", ["certify", *chip, "p.stil", "c.cert", "3"]), ("-", ["verify", *chip, "in.stil", "in.cert"]),
+                           ("p.stil,b.csv", ["bridges", f"{examples}/cells.sp", f"{examples}/c17.v", "-", "g4", "p.stil", "b.csv", "3"]),
+                           ("-", ["make", "3"])]:
             shown = " ".join(["refuse_memory.sh PROGRAM", out, *[os.path.basename(it) for it in words]])
             rows.append(["one request for memory refused, each in a run of its own", f"`{shown}`", *timed([*refuse, out, *words], cwd=folder)])
     rows.append(["real faults of files and outputs", "`real_faults.sh PROGRAM`", *timed([f"{tools}/real_faults.sh", program])])
-    began = time.time()
-    runs = [subprocess.Popen([f"{tools}/fuzz_texts.py", program, str(count), str(seed)], stdout=subprocess.PIPE, text=True) for seed in range(1, 5)]
-    for seed, run in enumerate(runs, 1):
-        last = run.communicate()[0].strip().splitlines()[-1]
-        rows.append(["texts of chips and of a run, changed at random", f"`fuzz_texts.py PROGRAM {count} {seed}`", last, f"{time.time() - began:.0f}"])
+    for kind, what in KINDS.items():
+        began = time.time()
+        runs = [subprocess.Popen([f"{tools}/fuzz_texts.py", program, str(count // 4), str(seed), kind], stdout=subprocess.PIPE, text=True)
+                for seed in range(1, 5)]
+        last = [run.communicate()[0].strip().splitlines()[-1] for run in runs]
+        texts, lacking = (sum(int(it.split()[place]) for it in last) for place in (0, 2))
+        rows.append([f"{what}, changed at random", f"`fuzz_texts.py PROGRAM {count // 4} SEED {kind}`, seeds 1 to 4",
+                     f"{texts:,} texts, {lacking} without a named answer", f"{time.time() - began:.0f}"])
     return table(rows)
 
 
@@ -139,7 +162,7 @@ def main(words):
         else:
             names.append(word)
     tables = {"matrices": matrices, "commands": commands, "chips": chips, "made": made, "certificates": certificates,
-              "diagnosis": diagnosis, "large": large, "hostile": lambda it: hostile(it, count)}
+              "diagnosis": diagnosis, "bridges": bridges, "large": large, "hostile": lambda it: hostile(it, count)}
     commit = printed(["git", "-C", TOP, "log", "-1", "--format=%h", "--", "crates"]).strip()
     found = {"build": [f"The program is that of commit {commit}, {os.path.getsize(program):,} bytes."]}
     found.update({name: tables[name](program) for name in names or tables})

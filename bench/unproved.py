@@ -5,6 +5,7 @@ usage: bench/unproved.py FOLDER                               # writes a workspa
        FOLDER/target/release/app CELLS NETLIST scan|- BUDGET REPORT [pairs]
        FOLDER/target/release/app make NUMBER - BUDGET REPORT [pairs]
        FOLDER/target/release/app CELLS NETLIST scan|- 0 - grade PAIRS
+       FOLDER/target/release/app CELLS NETLIST scan|- BUDGET - bridges [INSTANCE]
 
 The crates below ca_engine, and what links a chip of its texts, lose their contracts, ghost items and models by plain
 text; bench/unproved has what they use of the toolchain's libraries, over Rust's. Counts, pairs and verdicts are those
@@ -18,9 +19,9 @@ import subprocess
 import sys
 
 TOP = os.path.dirname(os.path.dirname(os.path.abspath(__file__)))
-ROOTS = ["ca_engine", "ca_link", "ca_spice", "ca_verilog", "ca_make"]
+ROOTS = ["ca_engine", "ca_bridges", "ca_link", "ca_spice", "ca_verilog", "ca_make"]
 OUTSIDE = ["csv", "itoa", "indexmap", "arrayvec"]
-USED = "ca_base ca_lex ca_cell ca_net ca_spice ca_verilog ca_make ca_wiring ca_link ca_linked ca_view ca_defect ca_chip_defects ca_credit ca_generate ca_engine ca_pair ca_rows ca_guide".split()
+USED = "ca_base ca_lex ca_cell ca_net ca_spice ca_verilog ca_make ca_wiring ca_link ca_linked ca_view ca_defect ca_chip_defects ca_credit ca_generate ca_engine ca_pair ca_rows ca_guide ca_cluster ca_targets ca_bridges".split()
 
 
 def libraries():

@@ -12,6 +12,7 @@ Anything else is reported with its texts and counts.
 Python 3.9 or later, no packages.
 """
 import collections
+import functools
 import os
 import random
 import re
@@ -39,11 +40,18 @@ STRAY = [b"\x00", b"\xff", b"\r", b"`", b"/*", b"*/", b"//", b"(*", b"*)", b"[",
          b"width,length\n", b"1000000", b"1000001", b"0", b"pair,output\n", b"0,N22\n", b"c 0 0\n", b"u .\n", b"R3 A N1 1\n", b"R4 ZN VDD 1\n", b"a\n", b"x\n", b" +1", b" -8191", b" ."]
 
 
-def changed(text, draw):
-    """The text with one place changed."""
+@functools.lru_cache(64)
+def spans_of(text):
+    """Where the tokens of a text stand, its lines and its bytes."""
     tokens = [(m.start(), m.end()) for m in re.finditer(rb"[A-Za-z0-9_.]+|\s+|.", text, re.S)]
     lines = [(m.start(), m.end()) for m in re.finditer(rb"[^\n]*\n|[^\n]+$", text)]
-    spans = draw.choice([tokens, tokens, lines, [(k, k + 1) for k in range(len(text))]])
+    return tokens, lines, [(k, k + 1) for k in range(len(text))]
+
+
+def changed(text, draw):
+    """The text with one place changed."""
+    tokens, lines, each = spans_of(text)
+    spans = draw.choice([tokens, tokens, lines, each])
     if not spans:
         return draw.choice(STRAY)
     start, end = draw.choice(spans)

@@ -63,6 +63,38 @@ ln -s cells.sp link.stil
 "$program" atpg cells.sp inv.v - link.stil r.csv 3 > out 2> err; status=$?
 expect "STIL is a link to a file that was read" 4 "cellaware: file fault: link.stil"
 holds "the library stands" cmp -s cells.sp "$examples/cells.sp"
+# the commands that read patterns, and those that write other files
+rm -f p.stil r.csv
+"$program" certify cells.sp inv.v - p.stil i.cert 3 > out 2> err
+printf 'pair,output\n0,z\n' > i.log
+for command in "grade cells.sp inv.v - p.stil OUT" "diagnose cells.sp inv.v - p.stil i.log OUT" "flatten cells.sp inv.v - - - OUT" \
+    "matrix cells.sp INV OUT" "certify cells.sp inv.v - q.stil OUT 3" "bridges cells.sp c17.v - g4 q.stil OUT 3"; do
+    name=${command%% *}
+    "$program" ${command/OUT/w.out} > out 2> err; status=$?
+    expect "$name" 0 ""
+    cp w.out whole.out
+    "$program" ${command/OUT/w.out} > /dev/full 2> err; status=$?
+    expect "full output of $name" 4 "cellaware: output fault"
+    holds "the file of $name is whole after a full output" cmp -s w.out whole.out
+    "$program" ${command/OUT/w.out} >&- 2> err; status=$?
+    expect "closed output of $name" 4 "cellaware: output fault"
+    "$program" ${command/OUT/dir} > out 2> err; status=$?
+    expect "folder in place of the file of $name" 4 "cellaware: file fault: dir"
+    holds "nothing printed by $name" test ! -s out
+    "$program" ${command/OUT//dev/full} > out 2> err; status=$?
+    expect "full disk of $name" 4 "cellaware: file fault: /dev/full"
+    holds "nothing printed by $name" test ! -s out
+    "$program" ${command/OUT/none/w.out} > out 2> err; status=$?
+    expect "no folder for the file of $name" 4 "cellaware: file fault: none/w.out"
+done
+for command in "grade cells.sp inv.v - OUT r.csv" "diagnose cells.sp inv.v - OUT i.log r.csv" "verify cells.sp inv.v - OUT i.cert"; do
+    name=${command%% *}
+    "$program" ${command/OUT/missing} > out 2> err; status=$?
+    expect "missing patterns of $name" 4 "cellaware: file fault: missing"
+    "$program" ${command/OUT/dir} > out 2> err; status=$?
+    expect "folder in place of the patterns of $name" 4 "cellaware: file fault: dir"
+    holds "no report of $name" test ! -e r.csv
+done
 if [ "$(id -u)" != 0 ]; then
     mkdir closed && chmod a-w closed
     "$program" atpg cells.sp inv.v - closed/p.stil r.csv 3 > out 2> err; status=$?

@@ -3,9 +3,10 @@
 
 usage: report_page.py REPORT.csv [--title TEXT] > report.html
 
-The page has the verdicts in all, by cell and by instance, and a table of the defects that no pair shows though they can be
-exposed in their cell: the aborted, untestable and uncredited ones. A click on a column's head sorts by it, and a word in the
-field above a table keeps the records that have it. Python 3.9 or later, no packages.
+The report is one of `atpg`, `grade` or `bridges`. The page has the verdicts in all, by cell and by instance, and a table of the
+defects that no pair shows though they can be exposed in their cell (the aborted, untestable and uncredited ones), or of the
+bridges for which a search found nothing or wasn't made (aborted, untestable, wide). A click on a column's head sorts by it, and
+a word in the field above a table keeps the records that have it. Python 3.9 or later, no packages.
 """
 import argparse
 import collections
@@ -16,6 +17,7 @@ import sys
 ORDER = ["credited", "unexposable", "untestable", "aborted", "uncredited", "port", "wide"]
 COLOURS = {"credited": "#3a8f4d", "unexposable": "#b9bec4", "untestable": "#6f8fb8", "aborted": "#d08a2e",
            "uncredited": "#c2504a", "port": "#8a7fb0", "wide": "#55565a"}
+MISSED = {"defect": "Exposable defects that no pair shows", "bridge": "Bridges that no pair was found for, or that are too wide to search"}
 STYLE = """
 body { font: 15px/1.45 system-ui, sans-serif; margin: 2rem auto; max-width: 72rem; padding: 0 1rem; color: #1d1f21; }
 h1 { font-size: 1.4rem } h2 { font-size: 1.1rem; margin-top: 2rem }
@@ -51,8 +53,8 @@ def bar(counts, verdicts):
 
 
 def share(counts):
-    """How much of what can be exposed is credited, in percent."""
-    exposable = sum(counts.values()) - counts["unexposable"]
+    """How much of what can be exposed is credited, in percent. Of a bridge between ports and of a wide one it isn't known."""
+    exposable = sum(counts.values()) - counts["unexposable"] - counts["port"] - counts["wide"]
     return f"{100 * counts['credited'] / exposable:.1f}" if exposable else ""
 
 
@@ -65,9 +67,9 @@ def table(heads, rows):
     return f"<table><thead><tr>{head}</tr></thead><tbody>\n{body}</tbody></table>"
 
 
-def counted(found, verdicts, first):
+def counted(found, verdicts, first, what):
     """A table of counts by cell or instance."""
-    heads = first + ["defects", *verdicts, "% credited of exposable", ""]
+    heads = first + [what, *verdicts, "% credited of exposable", ""]
     rows = []
     for key, counts in found.items():
         names = [(html.escape(it), False) for it in key]
@@ -83,9 +85,9 @@ def main():
     asked = parser.parse_args()
     with open(asked.report, newline="", encoding="utf-8") as file:
         records = list(csv.reader(file))
-    if not records or len(records[0]) != 6 or records[0][3] != "verdict":
+    if not records or len(records[0]) != 6 or records[0][3] != "verdict" or records[0][2] not in MISSED:
         sys.exit(f"{asked.report}: no report of cellaware")
-    records = records[1:]
+    kind, records = records[0][2], records[1:]
     cells, instances, all_of = {}, {}, collections.Counter()
     for instance, cell, _, verdict, _, _ in records:
         cells.setdefault((cell,), collections.Counter())[verdict] += 1
@@ -93,16 +95,17 @@ def main():
         all_of[verdict] += 1
     verdicts = [it for it in ORDER if all_of[it]]
     missed = [[(html.escape(it), False) for it in record[:4]] for record in records
-              if record[3] in ("aborted", "untestable", "uncredited")]
+              if record[3] in ("aborted", "untestable", "uncredited", "wide")]
     title = html.escape(asked.title or asked.report)
     key = "".join(f'<span><b style="background:{COLOURS[it]}"></b>{it} {all_of[it]:,}</span>' for it in verdicts)
     print(f"<!doctype html><html lang=en><meta charset=utf-8><title>{title}</title><style>{STYLE}</style>")
-    print(f"<h1>{title}</h1><p>{len(records):,} defects, {share(all_of)} % of the exposable ones credited.</p><p class=key>{key}</p>")
-    print(f"<section><h2>By cell</h2>{counted(dict(sorted(cells.items())), verdicts, ['cell'])}</section>")
+    credited = f", {share(all_of)} % of the exposable ones credited" if share(all_of) else ""
+    print(f"<h1>{title}</h1><p>{len(records):,} {kind}s{credited}.</p><p class=key>{key}</p>")
+    print(f"<section><h2>By cell</h2>{counted(dict(sorted(cells.items())), verdicts, ['cell'], kind + 's')}</section>")
     print(f"<section><h2>By instance</h2><input placeholder='part of a name'><div class=box>"
-          f"{counted(instances, verdicts, ['instance', 'cell'])}</div></section>")
-    print(f"<section><h2>Exposable defects that no pair shows</h2><input placeholder='part of a name'><div class=box>"
-          f"{table(['instance', 'cell', 'defect', 'verdict'], missed)}</div></section>")
+          f"{counted(instances, verdicts, ['instance', 'cell'], kind + 's')}</div></section>")
+    print(f"<section><h2>{MISSED[kind]}</h2><input placeholder='part of a name'><div class=box>"
+          f"{table(['instance', 'cell', kind, 'verdict'], missed)}</div></section>")
     print(f"<script>{SCRIPT}</script></html>")
 
 

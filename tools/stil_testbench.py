@@ -1,7 +1,8 @@
 #!/usr/bin/env python3
 """Makes a Verilog testbench that plays the patterns which `cellaware atpg` wrote.
 
-usage: stil_testbench.py PATTERNS.stil NETLIST.v --data PATTERNS.dat [--replace INSTANCE=MODEL --netlist OUT.v] > bench.v
+usage: stil_testbench.py PATTERNS.stil NETLIST.v --data PATTERNS.dat [--replace INSTANCE=MODEL --netlist OUT.v]
+                         [--log LOG.csv [--scan SCAN.csv]] [--seen SEEN.txt] > bench.v
 
 The bench has one size, however many patterns there are: it reads their statements from PATTERNS.dat, which this tool
 writes. It plays each statement in a period of its own, compares each strobed output that is L or H, prints a line for
@@ -12,9 +13,13 @@ many didn't match. With Icarus Verilog, in the folder that has PATTERNS.dat:
 
 CELLS.v has the models of the library's cells, and of the scan cells, if there are some (`tools/scan_cell.v` has one).
 With --replace, OUT.v is the netlist in which one instance is of another model, for example of one that behaves as the
-cell does with a defect; compile OUT.v in the place of NETLIST.v. Python 3.9 or later, no packages.
+cell does with a defect; compile OUT.v in the place of NETLIST.v. With --log, the bench writes each mismatch to LOG.csv, in the form
+that `cellaware diagnose` reads; where there are scan chains, SCAN.csv is the table of scan cells, which tells their pins.
+With --seen, it writes to SEEN.txt what it sees at the outputs, a line for each statement (`tools/random_patterns.py`).
+Python 3.9 or later, no packages.
 """
 import argparse
+import csv
 import re
 import sys
 
@@ -41,6 +46,27 @@ def module_of(netlist):
         for port in re.findall(r"[\w$]+", re.sub(r"\b(input|output|wire)\b.*", " ", names, flags=re.S)):
             ranges[port] = bounds
     return name, ranges
+
+
+def cells_of_chains(netlist, table, scan_outs):
+    """For each chain, from its scan output to its scan input, the names of its cells' data pins as `simulate` gives them."""
+    with open(table, newline="", encoding="utf-8") as file:
+        pins = {it["cell"].upper(): it for it in csv.DictReader(file)}
+    text = re.sub(r"//[^\n]*|/\*.*?\*/", " ", netlist, flags=re.S)
+    behind = {}
+    for cell, name, inside in re.findall(r"(?:^|;)\s*([\w$]+)\s+(\\\S+\s|[\w$]+)\s*\((\s*\..*?\))\s*\)(?=\s*;)", text, re.S):
+        if cell.upper() in pins:
+            row = pins[cell.upper()]
+            nets = {pin.upper(): net.strip().lstrip("\\").strip() for pin, net in re.findall(r"\.\s*([\w$]+)\s*\(([^)]*)\)", inside)}
+            behind[nets[row["so"].upper()]] = (f"{name.strip().lstrip(chr(92))}/{row['d'].upper()}", nets[row["si"].upper()])
+    chains = []
+    for net in scan_outs:
+        chain = []
+        while net in behind:
+            name, net = behind[net]
+            chain.append(name)
+        chains.append(chain)
+    return chains
 
 
 class Bits:
@@ -118,16 +144,18 @@ module bench;
 {declared}  reg [{ins}:0] in, driven, high, pulse;
   wire [{outs}:0] out;
   reg [{outs}:0] compared, wanted;
-  reg [{scanned}:0] loaded, kept, shifted;
+  reg [{scanned}:0] loaded, kept, shifted, taken;
   reg [{chains}:0] scan_in, scan_out;
   reg [8*{width}-1:0] names [0:{outs}];
-  integer file, kind, found, count, place, k, strobes, mismatches, pair;
+  reg [8*{width}-1:0] cells [0:{scanned}];
+  integer log, seen, file, kind, found, count, place, k, strobes, mismatches, pair;
 {joined}  {module} chip({ports});
 
-  task report(input integer at, input value, input want);
+  task report(input [8*{width}-1:0] name, input value, input want);
     begin
       mismatches = mismatches + 1;
-      if (mismatches <= 20) $display("pair %0d: %0s is %b, not %b", pair, names[at], value, want);
+      if (mismatches <= 20) $display("pair %0d: %0s is %b, not %b", pair, name, value, want);
+      if (log != 0) $fdisplay(log, "%0d,%0s", pair, name);
     end
   endtask
 
@@ -135,7 +163,7 @@ module bench;
     for (k = 0; k <= {outs}; k = k + 1)
       if (compared[k]) begin
         strobes = strobes + 1;
-        if (out[k] !== wanted[k]) report(k, out[k], wanted[k]);
+        if (out[k] !== wanted[k]) report(names[k], out[k], wanted[k]);
       end
   endtask
 
@@ -145,6 +173,7 @@ module bench;
       #45 in = in | pulse;
       #10 in = in & ~pulse;
       #35 if (|compared) compare;
+      if (seen != 0) $fdisplay(seen, "%b", out);
       #10;
     end
   endtask
@@ -159,8 +188,8 @@ module bench;
   endtask
 
   initial begin
-    strobes = 0; mismatches = 0; in = 0; pair = 0;
-{naming}    file = $fopen("{data}", "r");
+    strobes = 0; mismatches = 0; in = 0; pair = 0; log = 0; seen = 0;
+{logging}{naming}    file = $fopen("{data}", "r");
     if (file == 0) begin
       $display("{data} can't be opened");
       $finish;
@@ -177,19 +206,23 @@ module bench;
       end else begin
         found = $fscanf(file, " %h %h %h %h %h", count, loaded, pulse, kept, shifted);
         pulse = {clock};
+        taken = 0;
         for (place = 0; place < count; place = place + 1) shift_one;
+        if (seen != 0) $fdisplay(seen, "%b", taken);
       end
       found = $fscanf(file, "%d", kind);
     end
     $display("%0d strobes compared, %0d mismatches", strobes, mismatches);
+    if (log != 0) $fclose(log);
+    if (seen != 0) $fclose(seen);
     $finish;
   end
 endmodule
 """
 
 
-def bench_of(made, signals, module, ranges, data):
-    """The text of the bench."""
+def bench_of(made, signals, module, ranges, data, log, seen, chains):
+    """The text of the bench. The names of the data pins of scan cells are known where a log is written."""
     whole = {}
     for name, direction in signals:
         whole.setdefault(name.split("[")[0], direction)
@@ -204,13 +237,20 @@ def bench_of(made, signals, module, ranges, data):
             f"      in[{made.ins.place[it]}] = loaded[place * {len(made.scan_ins)} + {k}];\n" for k, it in enumerate(made.scan_ins))
         for k, it in enumerate(made.scan_outs):
             at, place = f"place * {len(made.scan_outs)} + {k}", made.outs.place[it]
+            name = f"cells[{at}]" if log else f"names[{place}]"
+            comparing += f"      taken[{at}] = out[{place}];\n" if seen else ""
             comparing += (f"      if (kept[{at}]) begin\n        strobes = strobes + 1;\n"
-                          f"        if (out[{place}] !== shifted[{at}]) report({place}, out[{place}], shifted[{at}]);\n      end\n")
+                          f"        if (out[{place}] !== shifted[{at}]) report({name}, out[{place}], shifted[{at}]);\n      end\n")
+    for k, chain in enumerate(chains):
+        naming += "".join(f'    cells[{place * len(chains) + k}] = "{name}";\n' for place, name in enumerate(chain))
+    logging = f'    log = $fopen("{log}", "w");\n    $fdisplay(log, "pair,output");\n' if log else ""
+    logging += f'    seen = $fopen("{seen}", "w");\n' if seen else ""
+    longest = max([len(it) for it in made.outs.place] + [len(it) for chain in chains for it in chain] + [1])
     bits = max(1, made.length * max(1, len(made.scan_ins)))
     clock = f"1 << {made.ins.place[made.groups['_ctl_'][1]]}" if made.scan_ins else "0"
     return BENCH.format(declared=declared, joined=joined, naming=naming, shifting=shifting, comparing=comparing, module=module,
                         ports=", ".join(f".{it}({it})" for it in whole), ins=made.ins.count - 1, outs=made.outs.count - 1,
-                        scanned=bits - 1, chains=max(1, len(made.scan_ins)) - 1, width=max([len(it) for it in made.outs.place] + [1]),
+                        scanned=bits - 1, chains=max(1, len(made.scan_ins)) - 1, width=longest, logging=logging,
                         data=data, clock=clock, kind_pair=PAIR, kind_vector=VECTOR)
 
 
@@ -231,6 +271,9 @@ def main():
     parser.add_argument("--data", required=True)
     parser.add_argument("--replace")
     parser.add_argument("--netlist")
+    parser.add_argument("--log")
+    parser.add_argument("--scan")
+    parser.add_argument("--seen")
     asked = parser.parse_args()
     with open(asked.patterns, encoding="utf-8") as file:
         text = file.read()
@@ -240,7 +283,15 @@ def main():
     signals, groups = groups_of(text)
     with open(asked.data, "w", encoding="utf-8") as out:
         made = write_statements(out, text, signals, groups)
-    sys.stdout.write(bench_of(made, signals, module, ranges, asked.data))
+    chains = []
+    if asked.log and made.scan_outs:
+        if not asked.scan:
+            sys.exit("a log of a chip with scan chains needs --scan SCAN.csv")
+        chains = cells_of_chains(netlist, asked.scan, made.scan_outs)
+        lengths = [int(it) for it in re.findall(r"ScanLength (\d+);", text)]
+        if [len(it) for it in chains] != lengths:
+            sys.exit(f"the chains of the netlist have {[len(it) for it in chains]} cells, and those of the patterns {lengths}")
+    sys.stdout.write(bench_of(made, signals, module, ranges, asked.data, asked.log, asked.seen, chains))
     if asked.replace and asked.netlist:
         with open(asked.netlist, "w", encoding="utf-8") as out:
             out.write(replaced(netlist, asked.replace))

@@ -38,8 +38,10 @@ fn main() {
     }
     let chip = ca_link::link(alloc, &read, library, &scan).ok().expect("link");
     let budget = words[4].parse().unwrap();
-    if words.get(6).is_some_and(|it| it == "grade") {
-        return graded(&chip, &words[7]);
+    match words.get(6).map(|it| it.as_str()) {
+        Some("grade") => return graded(&chip, &words[7]),
+        Some("bridges") => return bridges(&chip, budget, words.get(7)),
+        _ => {}
     }
     let start = std::time::Instant::now();
     let made = ca_engine::generate_chip(alloc, &chip, budget, &mut ca_generate::Unwatched);
@@ -104,4 +106,36 @@ fn graded(chip: &ca_linked::Chip, file: &str) {
         number += 1;
     }
     println!("pairs {number}, credited {credited}, seconds {:.2}", start.elapsed().as_secs_f64());
+}
+
+// The verdicts on the bridges of the instance of a name, or of each library instance.
+fn bridges(chip: &ca_linked::Chip, budget: u32, name: Option<&String>) {
+    let alloc = Global;
+    let mut sums = [0usize; 8];
+    for u in 0..chip.instances() as u32 {
+        let id = ca_linked::InstanceId(u);
+        let instance = String::from_utf8_lossy(chip.instance_name(id).as_bytes()).into_owned();
+        if name.is_some_and(|it| *it != instance) || !chip.is_library(id) {
+            continue;
+        }
+        let start = std::time::Instant::now();
+        let list = ca_cluster::bridges(alloc, chip, id).ok().unwrap();
+        let judged = ca_bridges::judge(alloc, chip, &list, budget, &mut ca_generate::Unwatched).ok().unwrap();
+        let mut counts = [list.len(), 0, 0, 0, 0, 0, 0, judged.pairs.as_slice().len()];
+        for verdict in judged.verdicts.as_slice() {
+            counts[match verdict {
+                ca_bridges::BridgeVerdict::Credited { .. } => 1,
+                ca_bridges::BridgeVerdict::Unexposable => 2,
+                ca_bridges::BridgeVerdict::Untestable => 3,
+                ca_bridges::BridgeVerdict::Aborted { .. } => 4,
+                ca_bridges::BridgeVerdict::Port => 5,
+                ca_bridges::BridgeVerdict::Wide { .. } => 6,
+            }] += 1;
+        }
+        println!("{instance} {counts:?} {:.2}", start.elapsed().as_secs_f64());
+        for (sum, count) in sums.iter_mut().zip(counts) {
+            *sum += count;
+        }
+    }
+    println!("bridges, credited, unexposable, untestable, aborted, port, wide, pairs: {sums:?}");
 }

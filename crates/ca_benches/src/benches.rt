@@ -18,9 +18,9 @@ use std::alloc::Global;
 use std::marker::Model;
 
 /// A bench of a chip, and benches of chips that stand in for it, each for some of the defects of one task.
-/// All of them have the same bits: after a search, those of one pair that is always the same. That of the chip
-/// itself is for the values of the good chip; its list of defects is no part of the task. Of the others at
-/// most the current one aims at a defect.
+/// All of them have the same bits: after a search, those of one pair that is always the same. That of the
+/// chip itself is for the values of the good chip; its list of defects is no part of the task. Of the others
+/// at most the current one aims at a defect.
 #[derive(Drop)]
 pub struct Benches<B: Bench + Drop> {
     good: B,

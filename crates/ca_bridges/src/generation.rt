@@ -76,8 +76,8 @@ fn no_memory(fault: GenerateFault) -> NoMemory {
     }
 }
 
-// The same with what the benches are made of, and a choice of bits for each. It is for rows and a choice of any
-// type, so that the benches have few parts to the prover.
+// The same with what the benches are made of, and a choice of bits for each. It is for rows and a choice of
+// any type, so that the benches have few parts to the prover.
 fn generated_over<R: ExposableDefects, P: Choice + Drop, T: Watch>(
     alloc: Global,
     own: &View<'_>,

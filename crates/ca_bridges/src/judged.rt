@@ -69,8 +69,8 @@ fn judge_targets<T: Watch>(
 }
 
 /// Judges these bridges of library instances: which of them some pair of vectors shows, with at most `budget`
-/// branches for each search. Those of one instance have at most 27 clusters, each of which is one instance of a
-/// chip of its own; the simulators of all these chips are kept until the last bridge has its verdict. Also
+/// branches for each search. Those of one instance have at most 27 clusters, each of which is one instance of
+/// a chip of its own; the simulators of all these chips are kept until the last bridge has its verdict. Also
 /// answers out of memory for more than 65,536 bridges, and as test generation does for a chip that is too
 /// large. The watch is notified after the turn of each bridge that is a short of such a chip.
 pub fn judge<T: Watch>(

@@ -147,8 +147,8 @@ fn cluster_part<'a, R: ExposableDefects, P: Choice + Drop>(
     Ok(part)
 }
 
-/// The bench of a chip for no defects, and those of clusters, each for its shorts. The first of the choices is
-/// the chip's own.
+/// The bench of a chip for no defects, and those of clusters, each for its shorts. The first of the choices
+/// is the chip's own.
 pub(crate) fn parts_of<'a, R: ExposableDefects, P: Choice + Drop>(
     alloc: Global,
     own: &'a View<'a>,

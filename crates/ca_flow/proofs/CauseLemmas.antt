@@ -15,6 +15,7 @@ use Rattle.ca_words.specs.Words.{scan_word, dash, file_called}
 use Rattle.ca_words.specs.Words.{chip_files, instance_word, chip_defect_word, flat_out_word, chip_first_word}
 use Rattle.ca_words.specs.Words.{chip_last_word}
 use Rattle.ca_words.specs.Words.{stil_word, report_word, candidates_word, cert_word, order_word}
+use Rattle.ca_words.specs.Words.{bridges_stil_word, bridges_report_word, IsBridges}
 use Rattle.ca_words.specs.Words.{IsOther, IsMatrix, IsFlatten, IsAtpg, IsGrade, IsDiagnose, IsCertify, HasOut}
 use Rattle.ca_on_cell.specs.Cells.{OfCell}
 use Rattle.ca_load.specs.Files.{OfFile}
@@ -36,7 +37,7 @@ use Rattle.ca_words.specs.declared.words.ReplayWords.{ReplayWords}
 use Rattle.ca_words.specs.declared.words.GradeWords.{GradeWords}
 use Rattle.ca_grade.specs.declared.grade.Grade as grade
 use Rattle.ca_chip_grade.specs.Texts.{grades_text}
-use Rattle.ca_patterns.specs.Patterns.{IsPatternsCause, IsLoadedCause}
+use Rattle.ca_patterns.specs.Patterns.{IsLoadedCause}
 use Rattle.ca_grading.specs.Grading.{AreGradesByFile}
 use Rattle.ca_net.specs.declared.trit.Trit.{Trit}
 use Rattle.ca_on_chip.specs.declared.replays.TheConstants.{MAX_ORDER}
@@ -163,7 +164,8 @@ module _ (words : List (List ℕ)) (typed : List ℕ) (files : Option Files) (be
   flatten_reads flatten named (inr (inr (inr (inr (inl (is, inr (inr (inr (inr (inr (inr (inl (own, cause))))))))))))) =
       omega (arith, ap length (sym flatten.command ∙ own.command))
   flatten_reads flatten named (inr (inr (inr (inr (inl (is, inr (inr (inr (inr (inr (inr (inr (inl (own, cause)))))))))))))) = cause.many.0
-  flatten_reads flatten named (inr (inr (inr (inr (inl (is, inr (inr (inr (inr (inr (inr (inr (inr (own, cause)))))))))))))) =
+  flatten_reads flatten named (inr (inr (inr (inr (inl (is, inr (inr (inr (inr (inr (inr (inr (inr (inr (own, (word, held)))))))))))))))) = word
+  flatten_reads flatten named (inr (inr (inr (inr (inl (is, inr (inr (inr (inr (inr (inr (inr (inr (inl (own, cause))))))))))))))) =
       let six = own.six in let seven = flatten.seven in omega (arith, six, seven)
 
   -- nor one of those that `atpg` writes
@@ -194,7 +196,8 @@ module _ (words : List (List ℕ)) (typed : List ℕ) (files : Option Files) (be
   atpg_reads atpg other (inr (inr (inr (inr (inl (is, inr (inr (inr (inr (inr (inr (inl (own, cause))))))))))))) =
       omega (arith, ap length (sym atpg.command ∙ own.command))
   atpg_reads atpg other (inr (inr (inr (inr (inl (is, inr (inr (inr (inr (inr (inr (inr (inl (own, cause)))))))))))))) = cause.many.0
-  atpg_reads atpg other (inr (inr (inr (inr (inl (is, inr (inr (inr (inr (inr (inr (inr (inr (own, cause)))))))))))))) =
+  atpg_reads atpg other (inr (inr (inr (inr (inl (is, inr (inr (inr (inr (inr (inr (inr (inr (inr (own, (word, held)))))))))))))))) = word
+  atpg_reads atpg other (inr (inr (inr (inr (inl (is, inr (inr (inr (inr (inr (inr (inr (inr (inl (own, cause))))))))))))))) =
       let six = own.six in let seven = atpg.seven in omega (arith, six, seven)
 
   -- nor the one that `grade` writes
@@ -225,7 +228,8 @@ module _ (words : List (List ℕ)) (typed : List ℕ) (files : Option Files) (be
   grade_reads graded named (inr (inr (inr (inr (inl (is, inr (inr (inr (inr (inr (inr (inl (own, cause))))))))))))) =
       let seven = own.seven in let six = graded.six in omega (arith, seven, six)
   grade_reads graded named (inr (inr (inr (inr (inl (is, inr (inr (inr (inr (inr (inr (inr (inl (own, cause)))))))))))))) = cause.many.0
-  grade_reads graded named (inr (inr (inr (inr (inl (is, inr (inr (inr (inr (inr (inr (inr (inr (own, cause)))))))))))))) =
+  grade_reads graded named (inr (inr (inr (inr (inl (is, inr (inr (inr (inr (inr (inr (inr (inr (inr (own, (word, held)))))))))))))))) = word
+  grade_reads graded named (inr (inr (inr (inr (inl (is, inr (inr (inr (inr (inr (inr (inr (inr (inl (own, cause))))))))))))))) =
       omega (arith, ap length (sym graded.command ∙ own.command))
 
   -- nor the one that `diagnose` writes
@@ -259,7 +263,8 @@ module _ (words : List (List ℕ)) (typed : List ℕ) (files : Option Files) (be
       asked.not_log (sym named ∙ read.0)
   diagnose_reads asked named (inr (inr (inr (inr (inl (is, inr (inr (inr (inr (inr (inr (inl (own, inr (inr (word, held))))))))))))))) = word
   diagnose_reads asked named (inr (inr (inr (inr (inl (is, inr (inr (inr (inr (inr (inr (inr (inl (own, cause)))))))))))))) = cause.many.0
-  diagnose_reads asked named (inr (inr (inr (inr (inl (is, inr (inr (inr (inr (inr (inr (inr (inr (own, cause)))))))))))))) =
+  diagnose_reads asked named (inr (inr (inr (inr (inl (is, inr (inr (inr (inr (inr (inr (inr (inr (inr (own, (word, held)))))))))))))))) = word
+  diagnose_reads asked named (inr (inr (inr (inr (inl (is, inr (inr (inr (inr (inr (inr (inr (inr (inl (own, cause))))))))))))))) =
       let six = own.six in let seven = asked.seven in omega (arith, six, seven)
 
   -- nor one of those that `certify` writes
@@ -290,8 +295,41 @@ module _ (words : List (List ℕ)) (typed : List ℕ) (files : Option Files) (be
   certify_reads certified other (inr (inr (inr (inr (inl (is, inr (inr (inr (inr (inr (inr (inl (own, cause))))))))))))) =
       omega (arith, ap length (sym certified.command ∙ own.command))
   certify_reads certified other (inr (inr (inr (inr (inl (is, inr (inr (inr (inr (inr (inr (inr (inl (own, cause)))))))))))))) = cause.many.0
-  certify_reads certified other (inr (inr (inr (inr (inl (is, inr (inr (inr (inr (inr (inr (inr (inr (own, cause)))))))))))))) =
+  certify_reads certified other (inr (inr (inr (inr (inl (is, inr (inr (inr (inr (inr (inr (inr (inr (inr (own, (word, held)))))))))))))))) = word
+  certify_reads certified other (inr (inr (inr (inr (inl (is, inr (inr (inr (inr (inr (inr (inr (inr (inl (own, cause))))))))))))))) =
       let six = own.six in let seven = certified.seven in omega (arith, six, seven)
+
+  -- nor one of those that `bridges` writes
+  bridges_reads : IsBridges words → IsOther words typed
+      → IsWorkCause words files before after (StoreFailed typed) → ⊥
+  bridges_reads judged other (inr (inr (inr (inr (inr (make, cause)))))) =
+      let two = make.two in let eight = judged.eight in omega (arith, two, eight)
+  bridges_reads judged other (inl (is, cause)) = no_chip words (inl is) (inr (inr (inr (inr (inr (inr (inr (inr (inr judged)))))))))
+  bridges_reads judged other (inr (inl (is, cause))) = no_chip words (inr (inl is)) (inr (inr (inr (inr (inr (inr (inr (inr (inr judged)))))))))
+  bridges_reads judged other (inr (inr (inl (is, cause)))) = no_chip words (inr (inr (inl is))) (inr (inr (inr (inr (inr (inr (inr (inr (inr judged)))))))))
+  bridges_reads judged other (inr (inr (inr (inl (is, cause))))) =
+      no_chip words (inr (inr (inr is))) (inr (inr (inr (inr (inr (inr (inr (inr (inr judged)))))))))
+  bridges_reads judged other (inr (inr (inr (inr (inl (is, inl load)))))) =
+      elim (at_load_stage (chip_files words) typed files before after load) [
+        | inl (inl table) ↦ other.not_table table
+        | inl (inr same) ↦ other.not_cells same
+        | inr (inl same) ↦ other.not_netlist same
+        | inr (inr same) ↦ other.not_scan (sym (called_is (scan_word words) typed same))
+      ]
+  bridges_reads judged other (inr (inr (inr (inr (inl (is, inr (inl (own, (word, held))))))))) = word
+  bridges_reads judged other (inr (inr (inr (inr (inl (is, inr (inr (inl (own, (inl word, held)))))))))) = word
+  bridges_reads judged other (inr (inr (inr (inr (inl (is, inr (inr (inl (own, (inr word, held)))))))))) = word
+  bridges_reads judged other (inr (inr (inr (inr (inl (is, inr (inr (inr (inl (own, cause)))))))))) = cause.many.0
+  bridges_reads judged other (inr (inr (inr (inr (inl (is, inr (inr (inr (inr (inl (own, cause))))))))))) =
+      let nine = own.nine in let eight = judged.eight in omega (arith, nine, eight)
+  bridges_reads judged other (inr (inr (inr (inr (inl (is, inr (inr (inr (inr (inr (inl (own, cause)))))))))))) =
+      let six = own.six in let eight = judged.eight in omega (arith, six, eight)
+  bridges_reads judged other (inr (inr (inr (inr (inl (is, inr (inr (inr (inr (inr (inr (inl (own, cause))))))))))))) =
+      let seven = own.seven in let eight = judged.eight in omega (arith, seven, eight)
+  bridges_reads judged other (inr (inr (inr (inr (inl (is, inr (inr (inr (inr (inr (inr (inr (inl (own, cause)))))))))))))) = cause.many.0
+  bridges_reads judged other (inr (inr (inr (inr (inl (is, inr (inr (inr (inr (inr (inr (inr (inr (inr (own, (word, held)))))))))))))))) = word
+  bridges_reads judged other (inr (inr (inr (inr (inl (is, inr (inr (inr (inr (inr (inr (inr (inr (inl (own, cause))))))))))))))) =
+      let six = own.six in let eight = judged.eight in omega (arith, six, eight)
 
   named_other : (name : List ℕ) → typed ≡ name → IsOther words name
       → IsOther words typed
@@ -306,9 +344,13 @@ module _ (words : List (List ℕ)) (typed : List ℕ) (files : Option Files) (be
   out_is_unread (inr (inl (flatten, named))) cause = flatten_reads flatten named cause
   out_is_unread (inr (inr (inr (inl (graded, named))))) cause = grade_reads graded named cause
   out_is_unread (inr (inr (inr (inr (inl (asked, named)))))) cause = diagnose_reads asked named cause
-  out_is_unread (inr (inr (inr (inr (inr (certified, inl named)))))) cause =
+  out_is_unread (inr (inr (inr (inr (inr (inl (certified, inl named))))))) cause =
       certify_reads certified (named_other (stil_word words) named certified.stil) cause
-  out_is_unread (inr (inr (inr (inr (inr (certified, inr named)))))) cause =
+  out_is_unread (inr (inr (inr (inr (inr (inr (judged, inl named))))))) cause =
+      bridges_reads judged (named_other (bridges_stil_word words) named judged.stil) cause
+  out_is_unread (inr (inr (inr (inr (inr (inr (judged, inr named))))))) cause =
+      bridges_reads judged (named_other (bridges_report_word words) named judged.report) cause
+  out_is_unread (inr (inr (inr (inr (inr (inl (certified, inr named))))))) cause =
       certify_reads certified (named_other (cert_word words) named certified.cert) cause
   out_is_unread (inr (inr (inl (atpg, inl named)))) cause = atpg_reads atpg (named_other (stil_word words) named atpg.stil) cause
   out_is_unread (inr (inr (inl (atpg, inr named)))) cause = atpg_reads atpg (named_other (report_word words) named atpg.report) cause
@@ -687,6 +729,7 @@ is_whole words (command.Grade request) spelled = tt
 is_whole words (command.Diagnose request) spelled = tt
 is_whole words (command.Certify request) spelled = tt
 is_whole words (command.Verify request) spelled = tt
+is_whole words (command.Bridges request) spelled = tt
 is_whole words (command.Make number) spelled = let said = spelled.number_is in said.few
 is_whole words command.Help spelled = tt
 is_whole words command.Version spelled = tt

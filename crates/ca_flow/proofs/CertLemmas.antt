@@ -1,5 +1,5 @@
 -- How what `certify` and `verify` end with follows from what they find.
-use Rattle.std.proofs.Common.{ℕ, ◌≡◌, ◌≢◌, ◌⊎◌, ◌∙◌, inl, inr, refl, sym, subst, Bool, List, length, Option, Some, None}
+use Rattle.std.proofs.Common.{ℕ, ◌≡◌, ◌≢◌, ◌⊎◌, ◌∙◌, inl, inr, refl, sym, subst, Bool, List, Option, Some}
 use Rattle.ca_store.specs.Store.{Files}
 use Rattle.ca_fault.specs.declared.fault.Fault.{Fault}
 use Rattle.ca_fault.specs.declared.fault.Fault.TheVariants.{SinkFailed}
@@ -117,7 +117,7 @@ pub verify_cause : (words : List (List ℕ)) (request : VerifyWords) (files : Op
     → IsVerifiedCause (names_of request.files) request.stil.now request.cert.now files before after fault
     → IsWorkCause words files before after fault
 verify_cause words request files before after fault spelled cause = inr (inr (inr (inr (inl (
-  inr (inr (inr (inr (inr (inr (inr (inr spelled.is))))))),
+  inr (inr (inr (inr (inr (inr (inr (inr (inl spelled.is)))))))),
   by (subst (λ name. IsVerifiedCause (chip_files words) (stil_word words) name files before after fault) spelled.cert
       (subst (λ name. IsVerifiedCause (chip_files words) name request.cert.now files before after fault) spelled.stil
       (subst (λ asked. IsVerifiedCause asked request.stil.now request.cert.now files before after fault) spelled.files cause))),
@@ -126,5 +126,5 @@ verify_cause words request files before after fault spelled cause = inr (inr (in
     by : IsVerifiedCause (chip_files words) (stil_word words) (cert_word words) files before after fault
         → IsLoadCause (chip_files words) files before after fault ⊎ IsOwnCause words files before after fault
     by (inl (inl load)) = inl load
-    by (inl (inr patterns)) = inr (inr (inr (inr (inr (inr (inr (inr (spelled.is, inl patterns))))))))
-    by (inr cert) = inr (inr (inr (inr (inr (inr (inr (inr (spelled.is, inr cert))))))))
+    by (inl (inr patterns)) = inr (inr (inr (inr (inr (inr (inr (inr (inl (spelled.is, inl patterns)))))))))
+    by (inr cert) = inr (inr (inr (inr (inr (inr (inr (inr (inl (spelled.is, inr cert)))))))))

@@ -20,7 +20,7 @@ use Rattle.ca_load.specs.Causes.{IsTextCause, IsCellsCause, IsStrengthsCause}
 use Rattle.ca_load.proofs.SameLemmas.{one_reading}
 use Rattle.ca_load.proofs.WholeLemmas.{IsOutsideFault, at_read as is_read, at_strengths, at_load}
 use Rattle.ca_linked.specs.Linked.{LinkedChip}
-use Rattle.ca_request.specs.Asked.{FitsInputs, IsDefectCause, IsVectorsCause}
+use Rattle.ca_request.specs.Asked.{FitsInputs, IsDefectCause, IsInstanceCause, IsVectorsCause}
 use Rattle.ca_fault.specs.declared.fault.LimitKind.TheVariants as limit
 use Rattle.ca_fault.specs.declared.fault.Fault.{Fault}
 use Rattle.ca_fault.specs.declared.fault.Fault.TheVariants.{BadWords, Cells, NoCell, Cell, BadVector}
@@ -31,7 +31,7 @@ use Rattle.ca_flow.specs.declared.finished.Finished.{Finished}
 use Rattle.ca_flow.specs.Finished.{IsAnswer, status_reported}
 use Rattle.ca_words.specs.Words.{table_word, cells_word, cell_files, cell_word, vector_word, first_word, last_word, defect_word, dash}
 use Rattle.ca_words.specs.Words.{chip_files, instance_word, chip_defect_word, chip_first_word, chip_last_word}
-use Rattle.ca_words.specs.Words.{stil_word, log_word, cert_word, order_word, IsReplay, IsGrade, IsDiagnose, IsVerify, AsksNoFile, GeneratesTests, IsCommand}
+use Rattle.ca_words.specs.Words.{stil_word, log_word, cert_word, order_word, IsReplay, IsDiagnose, IsVerify, AsksNoFile, GeneratesTests, IsCommand}
 use Rattle.ca_scan.specs.ChainFault.{AreAllChains}
 use Rattle.ca_patterns.specs.declared.patterns.TheConstants.{MAX_STIL}
 use Rattle.ca_patterns.specs.Patterns.{IsStilCause, OfTraced, GiveTraced, IsPatternsCause, FitsPatterns}
@@ -52,7 +52,7 @@ use Rattle.ca_on_chip.specs.Replay.{HasFaultyLine, HasRun, IsOrderCause}
 use Rattle.ca_on_chip.specs.Making.{IsMakeStage}
 use Rattle.ca_simulate.proofs.RunLemmas.{read_or_faulty}
 use Rattle.ca_flow.specs.Complete.{FitsCell, FitsFile, FitsDefect, FitsSimulate, HasEvents, FitsReplay}
-use Rattle.ca_flow.specs.Complete.{FitsChip}
+use Rattle.ca_flow.specs.Complete.{FitsBridges, FitsChip}
 use Rattle.ca_flow.specs.Complete.{IsAnswerable, HasTooManyPairs, Completes}
 use Rattle.ca_words.proofs.WordLemmas.{no_chip, no_asking_cell, no_asking_chip}
 use Rattle.ca_flow.specs.Fault.{Outside, IsWordsCause, IsWriteCause, IsPrintCause, IsOwnCause, IsWorkCause}
@@ -266,6 +266,11 @@ module _ (words : List (List ℕ)) (files : Option Files) (reported : Files) (ar
       true≢false (sym (has.called lacks.u lacks.named) ∙ lacks.lacks)
   no_defect chip fault own cause = cause
 
+  no_instance : (chip : LinkedChip) (fault : Fault) → FitsBridges words chip
+      → IsInstanceCause chip (instance_word words) fault → ⊥
+  no_instance chip (NoInstance typed) own (same, lacks) = lacks own.0 own.1
+  no_instance chip fault own cause = cause
+
   no_vectors : (chip : LinkedChip) (first last : List ℕ) (fault : Fault) → FitsInputs chip first → FitsInputs chip last
       → IsVectorsCause chip first last fault → ⊥
   no_vectors chip first last (BadVector typed) first_fits last_fits (inl (same, unfit)) = unfit first_fits
@@ -387,10 +392,14 @@ module _ (words : List (List ℕ)) (files : Option Files) (reported : Files) (ar
   no_own before after fault (inr (inr (inr (inr (inl (is, cause)))))) =
       inl (no_patterns (λ chip of. let own = fits.own chip of in own.grade is) before after fault cause)
   no_own before after fault (inr (inr (inr (inr (inr (inr (inl (is, cause)))))))) = inr (inr (inl is), cause.many.0)
-  no_own before after fault (inr (inr (inr (inr (inr (inr (inr (is, inl cause)))))))) =
+  no_own before after fault (inr (inr (inr (inr (inr (inr (inr (inl (is, inl cause))))))))) =
       inl (no_patterns (λ chip of chains all. verify.fits_patterns files reported are (stil_word words) (cert_word words) chip chains all
       (verification is chip of chains all)) before after fault cause)
-  no_own before after fault (inr (inr (inr (inr (inr (inr (inr (is, inr cause)))))))) = inl (no_cert is before after fault cause)
+  no_own before after fault (inr (inr (inr (inr (inr (inr (inr (inl (is, inr cause))))))))) = inl (no_cert is before after fault cause)
+  no_own before after fault (inr (inr (inr (inr (inr (inr (inr (inr (is, (word, held)))))))))) = absurd (
+      let found = at_inputs (λ chip. IsInstanceCause chip (instance_word words) fault) held in
+      let own = fits.own found.chip found.is in
+      no_instance found.chip fault (own.bridges is) found.holds)
   no_own before after fault (inr (inr (inr (inr (inr (inl (is, inl cause))))))) =
       inl (no_patterns (λ chip of chains all. fits_patterns files reported are (stil_word words) (log_word words) chip chains all
       (diagnosis is chip of chains all)) before after fault cause)

@@ -17,11 +17,12 @@ use Rattle.ca_fault.specs.declared.fault.Fault.TheVariants.{SinkFailed, NoMemory
 use Rattle.ca_flow.specs.declared.finished.Done.{Done}
 use Rattle.ca_flow.specs.declared.finished.Done.TheVariants.{Respond, Pair, Defects, Matrix, Check, Flatten}
 use Rattle.ca_flow.specs.declared.finished.Done.TheVariants.{Simulate, Atpg, Replay, Grade}
-use Rattle.ca_flow.specs.declared.finished.Done.TheVariants.{Diagnose, Certify, Verify, Make, Help, Version}
+use Rattle.ca_flow.specs.declared.finished.Done.TheVariants.{Diagnose, Certify, Verify, Bridges, Make, Help, Version}
 use Rattle.ca_flow.specs.declared.finished.Finished.{Finished}
 use Rattle.ca_flow.specs.declared.work.OutFile.{OutFile}
 use Rattle.ca_fault.specs.FaultLine.{status_of}
 use Rattle.ca_words.specs.Words.{out_word, flat_out_word, stil_word, report_word, candidates_word, cert_word, HasOut}
+use Rattle.ca_words.specs.Words.{bridges_stil_word, bridges_report_word}
 use Rattle.ca_flow.specs.Finished.{status_reported, IsReported, IsOutFault, IsAnswer, Prints, LeavesText, LeavesBoth}
 use Rattle.ca_flow.specs.Finished.{LeavesFiles, Writes, ReportsSinkFault}
 use Rattle.ca_flow.specs.Fault.{Outside, IsWorkCause, IsWriteCause, IsPrintCause, IsCause}
@@ -32,6 +33,7 @@ use Rattle.ca_chip_grade.specs.Texts.{grades_text}
 use Rattle.ca_engine.specs.ChipTask.{task_of}
 use Rattle.ca_chip_diag.specs.Texts.{candidates_text}
 use Rattle.ca_cert_text.specs.CertText.{certificate_text}
+use Rattle.ca_bridge_report.specs.BridgeReport.{bridges_report}
 use Rattle.ca_flow.specs.code.Work.{IsOutFile, IsFileWith, HasFiles, HasWritten, FailsToWrite}
 use Rattle.ca_flow.specs.code.Work.{HaveBeenWritten}
 use Rattle.ca_flow.specs.code.Work.{FailToWrite, HasPrinted, FailsToPrint, EndsWork}
@@ -134,21 +136,21 @@ text_written words fault old new name text (Some file) other fits written =
     (λ out. absurd (other out), λ no. rw (fits.name_is, fits.bytes_are) at written)
 
 -- where both were written they have their texts
-both_written : (words : List (List ℕ)) (fault : Option Fault) (old new : Option Files) (name : List ℕ) (IsFirst : List ℕ → Type 0) (text : List ℕ)
+both_written : (words : List (List ℕ)) (fault : Option Fault) (old new : Option Files) (one name : List ℕ) (IsFirst : List ℕ → Type 0) (text : List ℕ)
     (file second : Option OutFile) → ¬ (IsOutFault words fault)
-    → (fault ≡ Some (StoreFailed (stil_word words)) → ⊥) → (fault ≡ Some (StoreFailed name) → ⊥)
-    → IsSomeAnd file (IsFileWith (stil_word words) IsFirst) → IsSomeAnd second (IsOutFile name text)
-    → HaveBeenWritten file second old new → LeavesBoth words fault old new name IsFirst text
-both_written words fault old new name IsFirst text None second other no_first no_second fits fit written = absurd fits
-both_written words fault old new name IsFirst text (Some file) None other no_first no_second fits fit written = absurd fit
-both_written words fault old new name IsFirst text (Some file) (Some it) other no_first no_second fits fit written = record {
+    → (fault ≡ Some (StoreFailed one) → ⊥) → (fault ≡ Some (StoreFailed name) → ⊥)
+    → IsSomeAnd file (IsFileWith one IsFirst) → IsSomeAnd second (IsOutFile name text)
+    → HaveBeenWritten file second old new → LeavesBoth words fault old new one name IsFirst text
+both_written words fault old new one name IsFirst text None second other no_first no_second fits fit written = absurd fits
+both_written words fault old new one name IsFirst text (Some file) None other no_first no_second fits fit written = absurd fit
+both_written words fault old new one name IsFirst text (Some file) (Some it) other no_first no_second fits fit written = record {
   stil = file.bytes;
   is_stil = fits.holds;
   first_failed = λ failed. absurd (no_first failed);
   second_failed = λ failed. absurd (no_second failed);
   both = λ none. record {
     between = written.between;
-    first_is = subst (λ (one : List ℕ). ChangesOnly old written.between one (Some file.bytes)) fits.name_is written.first_is;
+    first_is = subst (λ (named : List ℕ). ChangesOnly old written.between named (Some file.bytes)) fits.name_is written.first_is;
     second_is = rw (fit.name_is, fit.bytes_are) at written.second_is;
   };
 }
@@ -176,16 +178,22 @@ leaves_written words fault old new (Diagnose chip chains pairs log candidates li
     text_written words fault old new (candidates_word words) (candidates_text chip (task_of chip 0).defects candidates) file other fits.first_is
     (one_file file second old new fits.second_is written)
 leaves_written words fault old new (Atpg chip chains pairs aims verdicts) file second asked other fits written =
-    both_written words fault old new (report_word words) (IsStil chip chains pairs) (report_of chip verdicts) file second other
+    both_written words fault old new (stil_word words) (report_word words) (IsStil chip chains pairs) (report_of chip verdicts) file second other
     (λ failed. other (stil_word words, (inr (inr (inl (asked.0, inl refl))), failed)))
     (λ failed. other (report_word words, (inr (inr (inl (asked.0, inr refl))), failed)))
     fits.first_is fits.second_is written
 leaves_written words fault old new (Verify chip chains pairs certificate answer line) file second asked other fits written =
     no_files file second old new fits.first_is fits.second_is written
 leaves_written words fault old new (Certify chip chains pairs aims certificate) file second asked other fits written =
-    both_written words fault old new (cert_word words) (IsStil chip chains pairs) (certificate_text certificate) file second other
-    (λ failed. other (stil_word words, (inr (inr (inr (inr (inr (asked.0, inl refl))))), failed)))
-    (λ failed. other (cert_word words, (inr (inr (inr (inr (inr (asked.0, inr refl))))), failed)))
+    both_written words fault old new (stil_word words) (cert_word words) (IsStil chip chains pairs) (certificate_text certificate) file second other
+    (λ failed. other (stil_word words, (inr (inr (inr (inr (inr (inl (asked.0, inl refl)))))), failed)))
+    (λ failed. other (cert_word words, (inr (inr (inr (inr (inr (inl (asked.0, inr refl)))))), failed)))
+    fits.first_is fits.second_is written
+leaves_written words fault old new (Bridges chip chains bridges pairs aims verdicts) file second asked other fits written =
+    both_written words fault old new (bridges_stil_word words) (bridges_report_word words) (IsStil chip chains pairs)
+    (bridges_report chip bridges verdicts) file second other
+    (λ failed. other (bridges_stil_word words, (inr (inr (inr (inr (inr (inr (asked.0, inl refl)))))), failed)))
+    (λ failed. other (bridges_report_word words, (inr (inr (inr (inr (inr (inr (asked.0, inr refl)))))), failed)))
     fits.first_is fits.second_is written
 
 -- what is known of a writing that failed: the command writes a file of this name, and a part of its text may
@@ -236,29 +244,29 @@ other_names : (one other : List ℕ) → (other ≡ one → ⊥) → StoreFailed
 other_names one other differ same = let names : one ≡ other = cc in differ (sym names)
 
 -- the writing of the first of two files failed, or that of the second
-both_failed : (words : List (List ℕ)) (before after : ℕ) (old new : Option Files) (fault : Fault) (name : List ℕ) (IsFirst : List ℕ → Type 0) (text : List ℕ)
-    (file second : Option OutFile) → HasOut words (stil_word words) → HasOut words name → (name ≡ stil_word words → ⊥)
-    → IsSomeAnd file (IsFileWith (stil_word words) IsFirst)
+both_failed : (words : List (List ℕ)) (before after : ℕ) (old new : Option Files) (fault : Fault) (one name : List ℕ) (IsFirst : List ℕ → Type 0) (text : List ℕ)
+    (file second : Option OutFile) → HasOut words one → HasOut words name → (name ≡ one → ⊥)
+    → IsSomeAnd file (IsFileWith one IsFirst)
     → IsSomeAnd second (IsOutFile name text) → FailToWrite old new before after fault file second
-    → HasFailed words before after fault (LeavesBoth words (Some fault) old new name IsFirst text)
-both_failed words before after old new fault name IsFirst text None second out out_too others fits fit failed = absurd fits
-both_failed words before after old new fault name IsFirst text (Some file) None out out_too others fits fit failed = absurd fit
-both_failed words before after old new fault name IsFirst text (Some file) (Some it) out out_too others fits fit (inl failed) =
-    let named : fault ≡ StoreFailed (stil_word words) = failed.fault_is ∙ ap StoreFailed fits.typed_is in
+    → HasFailed words before after fault (LeavesBoth words (Some fault) old new one name IsFirst text)
+both_failed words before after old new fault one name IsFirst text None second out out_too others fits fit failed = absurd fits
+both_failed words before after old new fault one name IsFirst text (Some file) None out out_too others fits fit failed = absurd fit
+both_failed words before after old new fault one name IsFirst text (Some file) (Some it) out out_too others fits fit (inl failed) =
+    let named : fault ≡ StoreFailed one = failed.fault_is ∙ ap StoreFailed fits.typed_is in
     record {
-      name = stil_word words;
+      name = one;
       out = out;
       fault_is = named;
       rose = failed.rose;
       leaves = record {
         stil = file.bytes;
         is_stil = fits.holds;
-        first_failed = λ same. subst (λ (one : List ℕ). MayWrite old new one file.bytes) fits.name_is failed.part;
-        second_failed = λ same. absurd (other_names (stil_word words) name others (sym named ∙ same_Some fault (StoreFailed name) same));
-        both = λ none. absurd (none (stil_word words, (out, ap Some named)));
+        first_failed = λ same. subst (λ (word : List ℕ). MayWrite old new word file.bytes) fits.name_is failed.part;
+        second_failed = λ same. absurd (other_names one name others (sym named ∙ same_Some fault (StoreFailed name) same));
+        both = λ none. absurd (none (one, (out, ap Some named)));
       };
     }
-both_failed words before after old new fault name IsFirst text (Some file) (Some it) out out_too others fits fit (inr following) =
+both_failed words before after old new fault one name IsFirst text (Some file) (Some it) out out_too others fits fit (inr following) =
     let failed = following.second_is in
     let named : fault ≡ StoreFailed name = failed.fault_is ∙ ap StoreFailed fit.typed_is in
     record {
@@ -269,10 +277,10 @@ both_failed words before after old new fault name IsFirst text (Some file) (Some
       leaves = record {
         stil = file.bytes;
         is_stil = fits.holds;
-        first_failed = λ same. absurd (other_names (stil_word words) name others (sym (same_Some fault (StoreFailed (stil_word words)) same) ∙ named));
+        first_failed = λ same. absurd (other_names one name others (sym (same_Some fault (StoreFailed one) same) ∙ named));
         second_failed = λ same. record {
           between = following.between;
-          first_is = subst (λ (one : List ℕ). ChangesOnly old following.between one (Some file.bytes)) fits.name_is following.first_is;
+          first_is = subst (λ (word : List ℕ). ChangesOnly old following.between word (Some file.bytes)) fits.name_is following.first_is;
           second_is = rw (fit.name_is, fit.bytes_are) at failed.part;
         };
         both = λ none. absurd (none (name, (out_too, ap Some named)));
@@ -314,13 +322,17 @@ failed_writing words before after old new fault (Diagnose chip chains pairs log 
     (inr (inr (inr (inr (inl (asked.0, refl)))))) fits.first_is
     (one_failure file second old new before after fault fits.second_is failed)
 failed_writing words before after old new fault (Atpg chip chains pairs aims verdicts) file second fits asked failed =
-    both_failed words before after old new fault (report_word words) (IsStil chip chains pairs) (report_of chip verdicts) file second
+    both_failed words before after old new fault (stil_word words) (report_word words) (IsStil chip chains pairs) (report_of chip verdicts) file second
     (inr (inr (inl (asked.0, inl refl)))) (inr (inr (inl (asked.0, inr refl)))) asked.0.others fits.first_is fits.second_is failed
 failed_writing words before after old new fault (Verify chip chains pairs certificate answer line) file second fits asked failed =
     absurd (no_failure file second old new before after fault fits.first_is fits.second_is failed)
 failed_writing words before after old new fault (Certify chip chains pairs aims certificate) file second fits asked failed =
-    both_failed words before after old new fault (cert_word words) (IsStil chip chains pairs) (certificate_text certificate) file second
-    (inr (inr (inr (inr (inr (asked.0, inl refl)))))) (inr (inr (inr (inr (inr (asked.0, inr refl)))))) asked.0.others fits.first_is fits.second_is failed
+    both_failed words before after old new fault (stil_word words) (cert_word words) (IsStil chip chains pairs) (certificate_text certificate) file second
+    (inr (inr (inr (inr (inr (inl (asked.0, inl refl))))))) (inr (inr (inr (inr (inr (inl (asked.0, inr refl))))))) asked.0.others fits.first_is fits.second_is failed
+failed_writing words before after old new fault (Bridges chip chains bridges pairs aims verdicts) file second fits asked failed =
+    both_failed words before after old new fault (bridges_stil_word words) (bridges_report_word words) (IsStil chip chains pairs)
+    (bridges_report chip bridges verdicts) file second
+    (inr (inr (inr (inr (inr (inr (asked.0, inl refl))))))) (inr (inr (inr (inr (inr (inr (asked.0, inr refl))))))) asked.0.others fits.first_is fits.second_is failed
 
 module _ (words : List (List ℕ)) (before after : Outside) (done : Done) (file second : Option OutFile) (end : Finished)
     (fits : HasFiles words done file second) (asked : IsAsked words before.files done) (reported : end.done ≡ Some done)

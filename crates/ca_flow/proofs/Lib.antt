@@ -2,6 +2,7 @@ pub mod WorkLemmas
 pub mod CauseLemmas
 pub mod DiagnoseLemmas
 pub mod CertLemmas
+pub mod BridgeLemmas
 pub mod CompleteLemmas
 pub mod EndLemmas
 pub mod LineLemmas

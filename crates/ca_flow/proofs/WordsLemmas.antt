@@ -1,5 +1,5 @@
 -- No work is refused for the words of the command line, which were judged before.
-use Rattle.std.proofs.Common.{ℕ, ◌≡◌, ◌⊎◌, inl, inr, subst, List, Option, Some, None}
+use Rattle.std.proofs.Common.{ℕ, ◌≡◌, inl, inr, subst, List, Option, Some, None}
 use Rattle.ca_store.specs.Store.{Files}
 use Rattle.ca_fault.specs.declared.fault.Fault.{Fault}
 use Rattle.ca_fault.specs.declared.fault.Fault.TheVariants.{BadWords, NoMemory}
@@ -64,9 +64,10 @@ no_own_words words files before after (inr (inr (inr (inr (inr (inl (is, inl cau
 no_own_words words files before after (inr (inr (inr (inr (inr (inl (is, inr (inl (held, read))))))))) = read
 no_own_words words files before after (inr (inr (inr (inr (inr (inl (is, inr (inr (word, held))))))))) = word
 no_own_words words files before after (inr (inr (inr (inr (inr (inr (inl (is, cause)))))))) = cause.many.0
-no_own_words words files before after (inr (inr (inr (inr (inr (inr (inr (is, inl cause)))))))) = no_patterns_words (chip_files words) (stil_word words) files before after cause
-no_own_words words files before after (inr (inr (inr (inr (inr (inr (inr (is, inr (inl (held, read)))))))))) = read
-no_own_words words files before after (inr (inr (inr (inr (inr (inr (inr (is, inr (inr (word, held)))))))))) = word
+no_own_words words files before after (inr (inr (inr (inr (inr (inr (inr (inl (is, inl cause))))))))) = no_patterns_words (chip_files words) (stil_word words) files before after cause
+no_own_words words files before after (inr (inr (inr (inr (inr (inr (inr (inl (is, inr (inl (held, read))))))))))) = read
+no_own_words words files before after (inr (inr (inr (inr (inr (inr (inr (inl (is, inr (inr (word, held))))))))))) = word
+no_own_words words files before after (inr (inr (inr (inr (inr (inr (inr (inr (is, (word, held)))))))))) = word
 
 no_make_words : (word : List ℕ) → IsMakeCause word BadWords → ⊥
 no_make_words word cause = elim cause.stage [

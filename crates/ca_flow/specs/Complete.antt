@@ -20,7 +20,7 @@ use Rattle.ca_words.specs.Words.{cell_files, cell_word, vector_word, first_word,
 use Rattle.ca_words.specs.Words.{chip_files, instance_word, chip_defect_word, chip_first_word, chip_last_word}
 use Rattle.ca_words.specs.Words.{stil_word, log_word, cert_word, order_word}
 use Rattle.ca_words.specs.Words.{IsRespond, IsPair, IsFlatten, IsSimulate, IsReplay, IsGrade, IsDiagnose}
-use Rattle.ca_words.specs.Words.{IsVerify}
+use Rattle.ca_words.specs.Words.{IsVerify, IsBridges}
 use Rattle.ca_words.specs.Words.{GeneratesTests, AsksNoFile, IsOnCell, IsOnChip}
 use Rattle.ca_on_chip.specs.OnChip.{IsPairsFault}
 use Rattle.ca_on_chip.specs.declared.replays.TheConstants.{MAX_ORDER}
@@ -99,6 +99,10 @@ abbrev pub FitsVerify : List (List ℕ) → Files → LinkedChip → Type 0
 FitsVerify words reported chip = (chains : List (List ℕ)) → AreAllChains chip chains
     → FitsVerification reported (stil_word words) (cert_word words) chip chains
 
+-- a library instance has the name that the words of `bridges` say
+abbrev pub FitsBridges : List (List ℕ) → LinkedChip → Type 0
+FitsBridges words chip = (u : ℕ) × IsNamedGate chip (instance_word words) u
+
 -- the own words of a command on a chip are of the chip
 pub record FitsOwn (words : List (List ℕ)) (reported : Files) (chip : LinkedChip) : Type 0 where
   pub flatten : IsFlatten words → FitsDefect words chip
@@ -107,6 +111,7 @@ pub record FitsOwn (words : List (List ℕ)) (reported : Files) (chip : LinkedCh
   pub grade : IsGrade words → FitsGrade words reported chip
   pub diagnose : IsDiagnose words → FitsDiagnose words reported chip
   pub verify : IsVerify words → FitsVerify words reported chip
+  pub bridges : IsBridges words → FitsBridges words chip
 
 -- the words are those of a command on a chip, the files that they name are there, are no longer than they
 -- may be, and read as what gives a chip with chains, and the command's own words are of the chip

@@ -6,14 +6,14 @@ use Rattle.ca_load.specs.Files.{OfFile, ReportsStoreFault}
 use Rattle.ca_flow.specs.declared.finished.Done.{Done}
 use Rattle.ca_flow.specs.declared.finished.Done.TheVariants.{Respond, Pair, Defects, Matrix, Check, Flatten}
 use Rattle.ca_flow.specs.declared.finished.Done.TheVariants.{Simulate, Atpg, Replay, Grade}
-use Rattle.ca_flow.specs.declared.finished.Done.TheVariants.{Diagnose, Certify, Verify, Make, Help, Version}
+use Rattle.ca_flow.specs.declared.finished.Done.TheVariants.{Diagnose, Certify, Verify, Bridges, Make, Help, Version}
 use Rattle.ca_flow.specs.declared.finished.Finished.{Finished}
 use Rattle.ca_words.specs.Words.{cell_files, cell_word, vector_word, first_word, last_word, defect_word, dash}
 use Rattle.ca_words.specs.Words.{chip_files, instance_word, chip_defect_word, chip_first_word, chip_last_word}
 use Rattle.ca_words.specs.Words.{stil_word, log_word, cert_word, budget_word, order_word, number_word}
 use Rattle.ca_words.specs.Words.{IsRespond, IsPair, IsDefects, IsMatrix, IsCheck, IsFlatten, IsSimulate}
 use Rattle.ca_words.specs.Words.{IsAtpg, IsReplay, IsGrade, IsDiagnose, IsCertify, IsVerify, IsMake}
-use Rattle.ca_words.specs.Words.{IsHelp, IsVersion}
+use Rattle.ca_words.specs.Words.{bridges_budget_word, IsBridges, IsHelp, IsVersion}
 use Rattle.ca_on_cell.specs.Outputs.{AreValues}
 use Rattle.ca_flow.specs.Finished.{IsAnswer, Prints, Writes, ReportsSinkFault}
 use Rattle.ca_on_cell.specs.Cells.{OfCell}
@@ -27,6 +27,7 @@ use Rattle.ca_chip_diag.specs.Texts.{diagnosis_line}
 use Rattle.ca_diagnosing.specs.Diagnosing.{AreCandidatesByFiles}
 use Rattle.ca_certifying.specs.Certifying.{IsCertifiedFor}
 use Rattle.ca_verifying.specs.Verifying.{IsAnswerByFiles, answer_line}
+use Rattle.ca_bridging.specs.Bridging.{AreJudgedFor}
 use Rattle.ca_on_chip.specs.Making.{AreMadeTests}
 use Rattle.ca_flow.specs.Fault.{Outside, IsCause}
 use Rattle.ca_flow.specs.Complete.{Completes}
@@ -78,6 +79,10 @@ IsAsked words files (Verify chip chains pairs certificate answer line) = IsVerif
     × (IsChipOfFiles files (chip_files words) chip
     × (IsAnswerByFiles files (stil_word words) (cert_word words) chip chains pairs certificate answer
     × (line ≡ answer_line answer))))
+IsAsked words files (Bridges chip chains bridges pairs aims verdicts) = IsBridges words
+    × (AreAllChains chip chains
+    × (IsChipOfFiles files (chip_files words) chip
+    × AreJudgedFor (instance_word words) (bridges_budget_word words) chip bridges pairs aims verdicts))
 IsAsked words files (Make chip pairs aims verdicts) =
     IsMake words × AreMadeTests (number_word words) chip pairs aims verdicts
 IsAsked words files Help = IsHelp words

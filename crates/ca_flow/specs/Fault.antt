@@ -10,12 +10,13 @@ use Rattle.ca_words.specs.Words.{cell_files, cell_word, vector_word, first_word,
 use Rattle.ca_words.specs.Words.{chip_files, instance_word, chip_defect_word, chip_first_word, chip_last_word}
 use Rattle.ca_words.specs.Words.{stil_word, log_word, cert_word, budget_word, order_word, number_word}
 use Rattle.ca_words.specs.Words.{IsRespond, IsPair, IsDefects, IsMatrix, IsFlatten, IsSimulate, IsAtpg}
-use Rattle.ca_words.specs.Words.{IsReplay, IsGrade, IsDiagnose, IsCertify, IsVerify, IsMake}
+use Rattle.ca_words.specs.Words.{IsReplay, IsGrade, IsDiagnose, IsCertify, IsVerify, IsBridges, IsMake}
 use Rattle.ca_words.specs.Words.{IsOnChip, IsCommand, HasOut}
 use Rattle.ca_on_chip.specs.OnChip.{IsFlattenCause, IsSimulateCause, IsAtpgCause}
 use Rattle.ca_patterns.specs.Patterns.{IsPatternsCause}
 use Rattle.ca_diagnosing.specs.Diagnosing.{IsDiagnoseCause}
 use Rattle.ca_verifying.specs.Verifying.{IsVerifyCause}
+use Rattle.ca_bridging.specs.Bridging.{IsUnknownInstance}
 use Rattle.ca_on_chip.specs.Replay.{IsReplayCause}
 use Rattle.ca_on_chip.specs.Making.{IsMakeCause}
 
@@ -61,8 +62,9 @@ IsOwnCause words files before after fault =
     ⊎ ((IsDiagnose words
     × IsDiagnoseCause (chip_files words) (stil_word words) (log_word words) files before after fault)
     ⊎ ((IsCertify words × IsAtpgCause (chip_files words) (budget_word words) files fault)
-    ⊎ (IsVerify words
-    × IsVerifyCause (chip_files words) (stil_word words) (cert_word words) files before after fault)))))))
+    ⊎ ((IsVerify words
+    × IsVerifyCause (chip_files words) (stil_word words) (cert_word words) files before after fault)
+    ⊎ (IsBridges words × IsUnknownInstance (chip_files words) (instance_word words) files fault))))))))
 
 -- why a command on a chip did no work: its files give no chip, or its own words aren't of it
 abbrev pub IsChipWorkCause : List (List ℕ) → Option Files → ℕ → ℕ → Fault → Type 0

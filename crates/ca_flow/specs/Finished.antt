@@ -13,19 +13,21 @@ use Rattle.ca_engine.specs.ChipTask.{task_of}
 use Rattle.ca_chip_diag.specs.Texts.{candidates_text}
 use Rattle.ca_cert_text.specs.CertText.{certificate_text}
 use Rattle.ca_certifying.specs.Certified.{certified_line}
+use Rattle.ca_bridge_report.specs.BridgeReport.{bridges_report}
+use Rattle.ca_bridge_report.specs.Summary.{bridges_line}
 use Rattle.ca_fault.specs.declared.fault.Fault.{Fault}
 use Rattle.ca_fault.specs.declared.fault.Fault.TheVariants.{StoreFailed, SinkFailed}
 use Rattle.ca_flow.specs.declared.finished.Done.{Done}
 use Rattle.ca_flow.specs.declared.finished.Done.TheVariants.{Respond, Pair, Defects, Matrix, Check, Flatten}
 use Rattle.ca_flow.specs.declared.finished.Done.TheVariants.{Simulate, Atpg, Replay, Grade}
-use Rattle.ca_flow.specs.declared.finished.Done.TheVariants.{Diagnose, Certify, Verify, Make, Help, Version}
+use Rattle.ca_flow.specs.declared.finished.Done.TheVariants.{Diagnose, Certify, Verify, Bridges, Make, Help, Version}
 use Rattle.ca_flow.specs.declared.finished.Finished.{Finished}
 use Rattle.ca_fault.specs.FaultLine.{status_of}
 use Rattle.ca_on_cell.specs.Lines.{line_of_pin, line_of_name, IsSummary}
 use Rattle.ca_on_chip.specs.Lines.{check_text, flatten_text, simulate_text, replay_text}
 use Rattle.ca_flow.specs.Usage.{usage_text, version_text}
 use Rattle.ca_words.specs.Words.{out_word, flat_out_word, stil_word, report_word, candidates_word, cert_word}
-use Rattle.ca_words.specs.Words.{HasOut}
+use Rattle.ca_words.specs.Words.{bridges_stil_word, bridges_report_word, HasOut}
 
 -- the text reports a command's work
 abbrev pub IsReported : Done → List ℕ → Type 0
@@ -43,6 +45,8 @@ IsReported (Diagnose chip chains pairs log candidates line) text = text ≡ line
 IsReported (Certify chip chains pairs aims certificate) text =
     text ≡ certified_line certificate.claims (length pairs)
 IsReported (Verify chip chains pairs certificate answer line) text = text ≡ line
+IsReported (Bridges chip chains bridges pairs aims verdicts) text =
+    text ≡ bridges_line verdicts (length pairs)
 IsReported (Make chip pairs aims verdicts) text = text ≡ summary_text verdicts (length pairs)
 IsReported Help text = text ≡ usage_text
 IsReported Version text = text ≡ version_text
@@ -96,13 +100,12 @@ pub record MayChangeSecond (old new : Option Files) (first first_text second sec
 
 -- What work with two files leaves of them. The first is whole before the second is begun.
 pub record LeavesBoth (words : List (List ℕ)) (fault : Option Fault) (old new : Option Files)
-    (second : List ℕ) (IsFirst : List ℕ → Type 0) (text : List ℕ) : Type 0 where
+    (first second : List ℕ) (IsFirst : List ℕ → Type 0) (text : List ℕ) : Type 0 where
   pub stil : List ℕ
   pub is_stil : IsFirst stil
-  pub first_failed : fault ≡ Some (StoreFailed (stil_word words)) → MayWrite old new (stil_word words) stil
-  pub second_failed : fault ≡ Some (StoreFailed second)
-      → MayChangeSecond old new (stil_word words) stil second text
-  pub both : ¬ (IsOutFault words fault) → ChangesBoth old new (stil_word words) stil second text
+  pub first_failed : fault ≡ Some (StoreFailed first) → MayWrite old new first stil
+  pub second_failed : fault ≡ Some (StoreFailed second) → MayChangeSecond old new first stil second text
+  pub both : ¬ (IsOutFault words fault) → ChangesBoth old new first stil second text
 
 -- what work that is reported leaves of the files
 abbrev pub LeavesFiles : List (List ℕ) → Option Fault → Option Files → Option Files → Done → Type 0
@@ -111,14 +114,19 @@ LeavesFiles words fault old new (Matrix matrix) =
 LeavesFiles words fault old new (Flatten chip net) =
     LeavesText words fault old new (flat_out_word words) (flat_text net)
 LeavesFiles words fault old new (Atpg chip chains pairs aims verdicts) =
-    LeavesBoth words fault old new (report_word words) (IsStil chip chains pairs) (report_of chip verdicts)
+    LeavesBoth words fault old new (stil_word words) (report_word words) (IsStil chip chains pairs)
+    (report_of chip verdicts)
 LeavesFiles words fault old new (Grade chip chains pairs grades) =
     LeavesText words fault old new (report_word words) (grades_text chip grades)
 LeavesFiles words fault old new (Diagnose chip chains pairs log candidates line) =
     LeavesText words fault old new (candidates_word words)
     (candidates_text chip (task_of chip 0).defects candidates)
 LeavesFiles words fault old new (Certify chip chains pairs aims certificate) =
-    LeavesBoth words fault old new (cert_word words) (IsStil chip chains pairs) (certificate_text certificate)
+    LeavesBoth words fault old new (stil_word words) (cert_word words) (IsStil chip chains pairs)
+    (certificate_text certificate)
+LeavesFiles words fault old new (Bridges chip chains bridges pairs aims verdicts) =
+    LeavesBoth words fault old new (bridges_stil_word words) (bridges_report_word words)
+    (IsStil chip chains pairs) (bridges_report chip bridges verdicts)
 LeavesFiles words fault old new _ = new ≡ old
 
 -- what a command leaves of the files: where no work is reported they are as they were

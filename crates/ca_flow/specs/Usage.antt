@@ -25,9 +25,11 @@ command_lines =
     ++ (codes "                                               patterns to STIL, and to CERT what proves each verdict\n"
     ++ (codes "  cellaware verify CELLS NETLIST SCAN STIL CERT\n"
     ++ (codes "                                               whether each claim in CERT stands for the patterns in STIL\n"
+    ++ (codes "  cellaware bridges CELLS NETLIST SCAN INSTANCE STIL REPORT BUDGET\n"
+    ++ (codes "                                               patterns for shorts at the pins of INSTANCE, and verdicts\n"
     ++ (codes "  cellaware make N                             test generation on a generated chip of N gates, up to 4096\n"
     ++ (codes "  cellaware --help                             this text\n"
-    ++ codes "  cellaware --version                          the version\n"))))))))))))))))))))))
+    ++ codes "  cellaware --version                          the version\n"))))))))))))))))))))))))
 
 -- what the exit statuses mean
 abbrev pub status_lines : List ℕ
@@ -46,7 +48,7 @@ usage_text =
     ++ (codes "BUDGET is how many branches each search may have, at most 65536.\n"
     ++ (codes "The words strengths TABLE before a command but make read CELLS under a table of five ratios.\n"
     ++ (codes "The word --progress before a command tells on the standard error how far atpg, grade,\n"
-    ++ (codes "diagnose, certify or make is.\n"
+    ++ (codes "diagnose, certify, bridges or make is.\n"
     ++ (codes "ORDER has the events of one run: settle and blur with nodes, set with a node and a value.\n"
     ++ (status_lines
     ++ codes "Documents in the sources: README.md, docs/TUTORIAL.md, docs/FAULTS.md, docs/cellaware.1.\n"))))))))))

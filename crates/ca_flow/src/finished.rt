@@ -10,9 +10,12 @@ use crate::usage::{usage, version};
 use crate::work::{Work, write_out};
 use ca_atpg::summary_text;
 use ca_base::NoMemory;
+use ca_bridge_report::bridges_line;
+use ca_bridges::BridgeVerdicts;
 use ca_certifying::certified_line;
 use ca_chip_grade::grades_line;
 use ca_claim::{Answer, Certificate};
+use ca_cluster::BridgeList;
 use ca_credit::Verdicts;
 use ca_diag::Candidates;
 use ca_fault::Fault;
@@ -124,6 +127,16 @@ pub enum Done {
         answer: Answer,
         line: Text,
     },
+    /// A linked chip with its scan chains, the bridges of one of its instances, the listed pairs, for each
+    /// the place of the bridge for which it was found, and a verdict for each bridge.
+    Bridges {
+        chip: Chip,
+        chains: Chains,
+        bridges: BridgeList,
+        pairs: Pairs,
+        aims: Aims,
+        verdicts: BridgeVerdicts,
+    },
     /// A generated chip, the listed pairs, for each the place of the defect for which it was found, and a
     /// verdict for each defect.
     Make {
@@ -170,6 +183,11 @@ impl Done {
                 certificate,
                 ..
             } => certified_line(alloc, certificate.claims.as_slice(), pairs.len()),
+            Done::Bridges {
+                pairs,
+                verdicts,
+                ..
+            } => bridges_line(alloc, verdicts, pairs.len()),
             Done::Help => usage(alloc),
             Done::Version => version(alloc),
         }
@@ -249,6 +267,18 @@ fn discard_done(done: Done) {
             drop(chip);
             drop(pairs);
             drop(certificate);
+        }
+        Done::Bridges {
+            chip,
+            bridges,
+            pairs,
+            verdicts,
+            ..
+        } => {
+            drop(chip);
+            drop(bridges);
+            drop(pairs);
+            drop(verdicts);
         }
         Done::Make {
             chip,

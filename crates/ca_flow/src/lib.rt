@@ -2,6 +2,7 @@
 #![tactic(auto)]
 
 mod answering;
+mod bridges;
 mod certificates;
 mod files;
 mod finished;

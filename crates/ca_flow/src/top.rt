@@ -13,6 +13,7 @@ ghost use Rattle.ca_load.specs.Files.{ReportsStoreFault};
 ghost use Rattle.ca_flow.specs.Ends.{IsAsked, Ends};
 ghost use Rattle.ca_flow.specs.code.Work.{HasFiles};
 
+use crate::bridges::bridges_work;
 use crate::certificates::{answer_work, certificate_work};
 use crate::files::{TwoFiles, flat_file, matrix_file, text_file, two_files};
 use crate::finished::{Done, Finished, finish, refused};
@@ -125,6 +126,7 @@ fn work_of<'a, S: Store, T: Watch>(
         Command::Diagnose(request) => candidates_work(alloc, request, store, watch),
         Command::Certify(request) => certificate_work(alloc, request, store, watch),
         Command::Verify(request) => answer_work(alloc, request, store),
+        Command::Bridges(request) => bridges_work(alloc, request, store, watch),
         Command::Make(number) => make_work(alloc, *number, watch),
         Command::Help => Ok(printed(Done::Help)),
         Command::Version => Ok(printed(Done::Version)),

@@ -36,6 +36,8 @@ usage: cellaware COMMAND WORDS
                                                patterns to STIL, and to CERT what proves each verdict
   cellaware verify CELLS NETLIST SCAN STIL CERT
                                                whether each claim in CERT stands for the patterns in STIL
+  cellaware bridges CELLS NETLIST SCAN INSTANCE STIL REPORT BUDGET
+                                               patterns for shorts at the pins of INSTANCE, and verdicts
   cellaware make N                             test generation on a generated chip of N gates, up to 4096
   cellaware --help                             this text
   cellaware --version                          the version
@@ -46,7 +48,7 @@ INSTANCE is one of a cell, and DEFECT one of its defects, or both are -.
 BUDGET is how many branches each search may have, at most 65536.
 The words strengths TABLE before a command but make read CELLS under a table of five ratios.
 The word --progress before a command tells on the standard error how far atpg, grade,
-diagnose, certify or make is.
+diagnose, certify, bridges or make is.
 ORDER has the events of one run: settle and blur with nodes, set with a node and a value.
 Exit status: 0 done, 1 bad command line, 2 wrong contents, 3 a limit, 4 a file or the output
 failed, 5 out of memory. One line on the standard error says why.

@@ -22,7 +22,7 @@ use Rattle.ca_order.specs.declared.event.Event.{Event}
 use Rattle.ca_simulate.specs.OneRun.{ReadsRun}
 use Rattle.ca_words.specs.Words.{table_word, cells_word, cell_files, cell_word, vector_word, first_word, last_word, defect_word, dash, chip_files, instance_word}
 use Rattle.ca_words.specs.Words.{chip_defect_word, chip_first_word, chip_last_word, order_word, stil_word, log_word, cert_word}
-use Rattle.ca_words.specs.Words.{IsCheck, IsFlatten, IsSimulate, IsAtpg, IsReplay, IsGrade, IsDiagnose, IsCertify, IsVerify, IsOnChip}
+use Rattle.ca_words.specs.Words.{IsCheck, IsFlatten, IsSimulate, IsAtpg, IsReplay, IsGrade, IsDiagnose, IsCertify, IsVerify, IsBridges, IsOnChip}
 use Rattle.ca_scan.specs.ChainFault.{AreAllChains}
 use Rattle.ca_scan.proofs.AnswerLemmas.{one_answer}
 use Rattle.ca_credit.specs.declared.limit.TheConstants.{MOST_PAIRS}
@@ -50,21 +50,23 @@ use Rattle.ca_on_chip.specs.OnChip.{IsChipOfFiles}
 use Rattle.ca_on_chip.specs.Replay.{IsAskedRun, AreRunEndsOf}
 use Rattle.ca_flow.specs.declared.finished.Done.{Done}
 use Rattle.ca_flow.specs.declared.finished.Done.TheVariants.{Respond, Pair, Defects, Matrix, Check, Flatten}
-use Rattle.ca_flow.specs.declared.finished.Done.TheVariants.{Simulate, Atpg, Replay, Grade, Diagnose, Certify, Verify, Make, Help, Version}
+use Rattle.ca_flow.specs.declared.finished.Done.TheVariants.{Simulate, Atpg, Replay, Grade, Diagnose, Certify, Verify, Bridges, Make, Help, Version}
 use Rattle.ca_flow.specs.declared.finished.Finished.{Finished}
 use Rattle.ca_flow.specs.Finished.{status_reported}
 use Rattle.ca_flow.specs.Fault.{Outside, IsCause}
-use Rattle.ca_flow.specs.Complete.{FitsCell, FitsFile, FitsDefect, FitsSimulate, HasEvents, FitsReplay, FitsGrade, FitsDiagnose, FitsVerify, FitsOwn, FitsChip, IsAnswerable}
+use Rattle.ca_flow.specs.Complete.{FitsCell, FitsFile, FitsDefect, FitsSimulate, HasEvents, FitsReplay, FitsGrade, FitsDiagnose, FitsVerify, FitsBridges, FitsOwn, FitsChip, IsAnswerable}
 use Rattle.ca_flow.specs.Ends.{IsAsked, Ends}
 use Rattle.ca_flow_laws.specs.Same.{IsInputFault, IsCallFault, IsSame}
 use Rattle.ca_flow_laws.specs.Reported.{IsInputFile, ReportsFiles}
 use Rattle.ca_flow_laws.proofs.LinkLemmas.{traced_also}
 use Rattle.ca_flow_laws.proofs.OneLemmas.{AreOne, one_chip, one_back, NamesOne, names_one}
-use Rattle.ca_flow_laws.proofs.OwnLemmas.{fits_also, asked_also, run_also, one_run}
+use Rattle.ca_flow_laws.proofs.OwnLemmas.{named_also, fits_also, asked_also, run_also, one_run}
 use Rattle.ca_flow_laws.proofs.CellLemmas.{respond_or_pair}
 use Rattle.ca_flow_laws.proofs.ChipLemmas.{flatten_or_simulate, flatten_or_replay, simulate_or_replay, atpg_or_flatten, atpg_or_simulate, atpg_or_replay}
 use Rattle.ca_flow_laws.proofs.ChipLemmas.{flatten_or_grade, simulate_or_grade, replay_or_grade, atpg_or_grade}
 use Rattle.ca_flow_laws.proofs.ChipLemmas.{flatten_or_diagnose, simulate_or_diagnose, replay_or_diagnose, atpg_or_diagnose, grade_or_diagnose}
+use Rattle.ca_flow_laws.proofs.ChipLemmas.{flatten_or_bridges, simulate_or_bridges, replay_or_bridges, atpg_or_bridges, grade_or_bridges}
+use Rattle.ca_flow_laws.proofs.ChipLemmas.{diagnose_or_bridges, verify_or_bridges, certify_or_bridges}
 use Rattle.ca_flow_laws.proofs.ChipLemmas.{flatten_or_verify, simulate_or_verify, replay_or_verify, atpg_or_verify, grade_or_verify, diagnose_or_verify}
 use Rattle.ca_flow_laws.proofs.ChipLemmas.{certify_or_flatten, certify_or_simulate, certify_or_replay, certify_or_grade, certify_or_diagnose, certify_or_verify}
 use Rattle.ca_flow_laws.proofs.CertLemmas.{one_each_also}
@@ -94,6 +96,9 @@ check_or_diagnose words one other = let four = one.four in let seven = other.sev
 
 check_or_verify : (words : List (List ℕ)) → IsCheck words → IsVerify words → ⊥
 check_or_verify words one other = let four = one.four in let six = other.six in omega (arith, four, six)
+
+check_or_bridges : (words : List (List ℕ)) → IsCheck words → IsBridges words → ⊥
+check_or_bridges words one other = let four = one.four in let eight = other.eight in omega (arith, four, eight)
 
 -- what words name of a chip, they name of one that is one with it
 module _ (words : List (List ℕ)) (chip also : LinkedChip) (are : AreOne chip also) (one : NamesOne also) where
@@ -143,6 +148,7 @@ module _ (words : List (List ℕ)) (reported : Files) (chip : LinkedChip) where
     grade = λ grade. absurd (check_or_grade words is grade);
     diagnose = λ diagnose. absurd (check_or_diagnose words is diagnose);
     verify = λ verify. absurd (check_or_verify words is verify);
+    bridges = λ bridges. absurd (check_or_bridges words is bridges);
   }
 
   pub flatten_own : IsFlatten words → FitsDefect words chip → FitsOwn words reported chip
@@ -153,6 +159,7 @@ module _ (words : List (List ℕ)) (reported : Files) (chip : LinkedChip) where
     grade = λ grade. absurd (flatten_or_grade words is grade);
     diagnose = λ diagnose. absurd (flatten_or_diagnose words is diagnose);
     verify = λ verify. absurd (flatten_or_verify words is verify);
+    bridges = λ bridges. absurd (flatten_or_bridges words is bridges);
   }
 
   pub simulate_own : IsSimulate words → FitsSimulate words chip → FitsOwn words reported chip
@@ -163,6 +170,7 @@ module _ (words : List (List ℕ)) (reported : Files) (chip : LinkedChip) where
     grade = λ grade. absurd (simulate_or_grade words is grade);
     diagnose = λ diagnose. absurd (simulate_or_diagnose words is diagnose);
     verify = λ verify. absurd (simulate_or_verify words is verify);
+    bridges = λ bridges. absurd (simulate_or_bridges words is bridges);
   }
 
   pub atpg_own : IsAtpg words → FitsOwn words reported chip
@@ -173,6 +181,7 @@ module _ (words : List (List ℕ)) (reported : Files) (chip : LinkedChip) where
     grade = λ grade. absurd (atpg_or_grade words is grade);
     diagnose = λ diagnose. absurd (atpg_or_diagnose words is diagnose);
     verify = λ verify. absurd (atpg_or_verify words is verify);
+    bridges = λ bridges. absurd (atpg_or_bridges words is bridges);
   }
 
   pub replay_own : IsReplay words → FitsReplay words reported chip → FitsOwn words reported chip
@@ -183,6 +192,7 @@ module _ (words : List (List ℕ)) (reported : Files) (chip : LinkedChip) where
     grade = λ grade. absurd (replay_or_grade words is grade);
     diagnose = λ diagnose. absurd (replay_or_diagnose words is diagnose);
     verify = λ verify. absurd (replay_or_verify words is verify);
+    bridges = λ bridges. absurd (replay_or_bridges words is bridges);
   }
 
   pub grade_own : IsGrade words → FitsGrade words reported chip → FitsOwn words reported chip
@@ -193,6 +203,7 @@ module _ (words : List (List ℕ)) (reported : Files) (chip : LinkedChip) where
     grade = λ _. fits;
     diagnose = λ diagnose. absurd (grade_or_diagnose words is diagnose);
     verify = λ verify. absurd (grade_or_verify words is verify);
+    bridges = λ bridges. absurd (grade_or_bridges words is bridges);
   }
 
   pub diagnose_own : IsDiagnose words → FitsDiagnose words reported chip → FitsOwn words reported chip
@@ -203,6 +214,7 @@ module _ (words : List (List ℕ)) (reported : Files) (chip : LinkedChip) where
     grade = λ grade. absurd (grade_or_diagnose words grade is);
     diagnose = λ _. fits;
     verify = λ verify. absurd (diagnose_or_verify words is verify);
+    bridges = λ bridges. absurd (diagnose_or_bridges words is bridges);
   }
 
   pub certify_own : IsCertify words → FitsOwn words reported chip
@@ -213,6 +225,7 @@ module _ (words : List (List ℕ)) (reported : Files) (chip : LinkedChip) where
     grade = λ grade. absurd (certify_or_grade words is grade);
     diagnose = λ diagnose. absurd (certify_or_diagnose words is diagnose);
     verify = λ verify. absurd (certify_or_verify words is verify);
+    bridges = λ bridges. absurd (certify_or_bridges words is bridges);
   }
 
   pub verify_own : IsVerify words → FitsVerify words reported chip → FitsOwn words reported chip
@@ -223,6 +236,18 @@ module _ (words : List (List ℕ)) (reported : Files) (chip : LinkedChip) where
     grade = λ grade. absurd (grade_or_verify words grade is);
     diagnose = λ diagnose. absurd (diagnose_or_verify words diagnose is);
     verify = λ _. fits;
+    bridges = λ bridges. absurd (verify_or_bridges words is bridges);
+  }
+
+  pub bridges_own : IsBridges words → FitsBridges words chip → FitsOwn words reported chip
+  bridges_own is fits = record {
+    flatten = λ flatten. absurd (flatten_or_bridges words flatten is);
+    simulate = λ simulate. absurd (simulate_or_bridges words simulate is);
+    replay = λ replay. absurd (replay_or_bridges words replay is);
+    grade = λ grade. absurd (grade_or_bridges words grade is);
+    diagnose = λ diagnose. absurd (diagnose_or_bridges words diagnose is);
+    verify = λ verify. absurd (verify_or_bridges words verify is);
+    bridges = λ _. fits;
   }
 
 -- patterns of a chip, and logs, are those of one that is one with it
@@ -408,7 +433,7 @@ module _ (words : List (List ℕ)) (files : Option Files) (reported : Files) (ar
   answered (Certify chip chains pairs aims certificate) (is, (all, (held, certified))) =
       of_chip (inr (inr (inr (inr (inr (inr (inr (inl is)))))))) chip (chains, all) held (λ also same one. certify_own words reported also is)
   answered (Verify chip chains pairs certificate answer line) (is, (all, (held, (found, text)))) =
-      of_chip (inr (inr (inr (inr (inr (inr (inr (inr is)))))))) chip (chains, all) held
+      of_chip (inr (inr (inr (inr (inr (inr (inr (inr (inl is))))))))) chip (chains, all) held
       (λ also same one. verify_own words reported also is (fits_verify words reported chip also same chains all
       (record {
         file = record { pairs = pairs; expected = found.expected };
@@ -419,6 +444,10 @@ module _ (words : List (List ℕ)) (files : Option Files) (reported : Files) (ar
         one_each = found.one_each;
         cert_there = found.of_cert reported are;
       })))
+  answered (Bridges chip chains bridges pairs aims verdicts) (is, (all, (held, judged))) =
+      of_chip (inr (inr (inr (inr (inr (inr (inr (inr (inr is))))))))) chip (chains, all) held
+      (λ also same one. bridges_own words reported also is
+      (judged.judged.u, named_also chip also same (instance_word words) judged.judged.u judged.judged.named))
   answered (Make chip pairs aims verdicts) (is, asked) = inl (inr (inr is))
   answered Help is = inl (inl is)
   answered Version is = inl (inr (inl is))

@@ -11,7 +11,7 @@ use Rattle.ca_load.specs.Chips.{IsChipOf, IsTraced}
 use Rattle.ca_load.specs.Files.{OfFile}
 use Rattle.ca_load.specs.Causes.{IsLoadCause}
 use Rattle.ca_words.specs.Words.{chip_files, instance_word, chip_defect_word, chip_first_word, chip_last_word, order_word, stil_word, log_word, cert_word}
-use Rattle.ca_words.specs.Words.{IsFlatten, IsSimulate, IsAtpg, IsReplay, IsGrade, IsDiagnose, IsCertify, IsVerify, IsOnChip}
+use Rattle.ca_words.specs.Words.{IsFlatten, IsSimulate, IsAtpg, IsReplay, IsGrade, IsDiagnose, IsCertify, IsVerify, IsBridges, IsOnChip}
 use Rattle.ca_patterns.specs.declared.patterns.TheConstants.{MAX_STIL}
 use Rattle.ca_patterns.specs.Patterns.{IsStilCause, OfTraced, IsPatternsCause}
 use Rattle.ca_stil_pairs.specs.declared.file.StilFile.{StilFile}
@@ -33,6 +33,8 @@ use Rattle.ca_flow_laws.proofs.OneLemmas.{AreOne, one_chip, NamesOne, names_one}
 use Rattle.ca_flow_laws.proofs.LoadLemmas.{AreReadAs, AtLoad, one_read, one_load, no_load, read_given, of_load}
 use Rattle.ca_flow_laws.proofs.OwnLemmas.{AtDefect, AtPair, ReportsLine, AtOrder, AtRun, of_defect, of_simulation, defect_also, pair_also}
 use Rattle.ca_flow_laws.proofs.OwnLemmas.{at_run_also, one_defect, one_pair, one_at_run}
+use Rattle.ca_flow_laws.proofs.OwnLemmas.{AtInstance, of_instance, instance_also, one_instance}
+use Rattle.ca_request.specs.Asked.{IsInstanceCause}
 
 -- words of two commands
 pub flatten_or_simulate : (words : List (List ℕ)) → IsFlatten words → IsSimulate words → ⊥
@@ -116,6 +118,30 @@ certify_or_diagnose words one other = omega (arith, ap length (sym one.command �
 pub certify_or_verify : (words : List (List ℕ)) → IsCertify words → IsVerify words → ⊥
 certify_or_verify words one other = let seven = one.seven in let six = other.six in omega (arith, seven, six)
 
+pub flatten_or_bridges : (words : List (List ℕ)) → IsFlatten words → IsBridges words → ⊥
+flatten_or_bridges words one other = let seven = one.seven in let eight = other.eight in omega (arith, seven, eight)
+
+pub simulate_or_bridges : (words : List (List ℕ)) → IsSimulate words → IsBridges words → ⊥
+simulate_or_bridges words one other = omega (arith, ap length (sym one.command ∙ other.command))
+
+pub replay_or_bridges : (words : List (List ℕ)) → IsReplay words → IsBridges words → ⊥
+replay_or_bridges words one other = let nine = one.nine in let eight = other.eight in omega (arith, nine, eight)
+
+pub grade_or_bridges : (words : List (List ℕ)) → IsGrade words → IsBridges words → ⊥
+grade_or_bridges words one other = let six = one.six in let eight = other.eight in omega (arith, six, eight)
+
+pub diagnose_or_bridges : (words : List (List ℕ)) → IsDiagnose words → IsBridges words → ⊥
+diagnose_or_bridges words one other = let seven = one.seven in let eight = other.eight in omega (arith, seven, eight)
+
+pub verify_or_bridges : (words : List (List ℕ)) → IsVerify words → IsBridges words → ⊥
+verify_or_bridges words one other = let six = one.six in let eight = other.eight in omega (arith, six, eight)
+
+pub atpg_or_bridges : (words : List (List ℕ)) → IsAtpg words → IsBridges words → ⊥
+atpg_or_bridges words one other = let seven = one.seven in let eight = other.eight in omega (arith, seven, eight)
+
+pub certify_or_bridges : (words : List (List ℕ)) → IsCertify words → IsBridges words → ⊥
+certify_or_bridges words one other = let seven = one.seven in let eight = other.eight in omega (arith, seven, eight)
+
 -- what is reported of the own words of a command, of a chip
 abbrev pub AtOwn : List (List ℕ) → Files → LinkedChip → Fault → Type 0
 AtOwn words given chip fault =
@@ -126,7 +152,8 @@ AtOwn words given chip fault =
     × AtRun (instance_word words) (chip_defect_word words) (chip_first_word words) (chip_last_word words) (order_word words) given chip fault)
     ⊎ ((IsGrade words × AtPatterns (stil_word words) given chip fault)
     ⊎ ((IsDiagnose words × AtDiagnosis (stil_word words) (log_word words) given chip fault)
-    ⊎ (IsVerify words × AtVerification (stil_word words) (cert_word words) given chip fault)))))
+    ⊎ ((IsVerify words × AtVerification (stil_word words) (cert_word words) given chip fault)
+    ⊎ (IsBridges words × AtInstance (instance_word words) chip fault))))))
 
 -- the inputs give a chip with chains, of which it is reported
 pub record IsOwn (words : List (List ℕ)) (given : Files) (fault : Fault) (inputs : Inputs) : Type 0 where
@@ -155,21 +182,23 @@ module _ (words : List (List ℕ)) (given : Files) where
       inr (inr (inr (inl (is, patterns_also chip also are (stil_word words) given fault at))))
   own_also chip also are fault (inr (inr (inr (inr (inl (is, at)))))) =
       inr (inr (inr (inr (inl (is, diagnosis_also chip also are (stil_word words) (log_word words) given fault at)))))
-  own_also chip also are fault (inr (inr (inr (inr (inr (is, at)))))) =
-      inr (inr (inr (inr (inr (is, verification_also chip also are (stil_word words) (cert_word words) given fault at)))))
+  own_also chip also are fault (inr (inr (inr (inr (inr (inl (is, at))))))) =
+      inr (inr (inr (inr (inr (inl (is, verification_also chip also are (stil_word words) (cert_word words) given fault at))))))
+  own_also chip also are fault (inr (inr (inr (inr (inr (inr (is, at))))))) =
+      inr (inr (inr (inr (inr (inr (is, instance_also chip also are (instance_word words) fault at))))))
 
   one_of_chip : (chip : LinkedChip) → NamesOne chip → (fault other : Fault) → AtOwn words given chip fault → AtOwn words given chip other → fault ≡ other
-  one_of_chip chip one fault other (inl (is, here)) (inr (inr (inr (inr (inr (too, there)))))) = absurd (flatten_or_verify words is too)
-  one_of_chip chip one fault other (inr (inr (inr (inr (inr (is, here)))))) (inl (too, there)) = absurd (flatten_or_verify words too is)
-  one_of_chip chip one fault other (inr (inl (is, here))) (inr (inr (inr (inr (inr (too, there)))))) = absurd (simulate_or_verify words is too)
-  one_of_chip chip one fault other (inr (inr (inr (inr (inr (is, here)))))) (inr (inl (too, there))) = absurd (simulate_or_verify words too is)
-  one_of_chip chip one fault other (inr (inr (inl (is, here)))) (inr (inr (inr (inr (inr (too, there)))))) = absurd (replay_or_verify words is too)
-  one_of_chip chip one fault other (inr (inr (inr (inr (inr (is, here)))))) (inr (inr (inl (too, there)))) = absurd (replay_or_verify words too is)
-  one_of_chip chip one fault other (inr (inr (inr (inl (is, here))))) (inr (inr (inr (inr (inr (too, there)))))) = absurd (grade_or_verify words is too)
-  one_of_chip chip one fault other (inr (inr (inr (inr (inr (is, here)))))) (inr (inr (inr (inl (too, there))))) = absurd (grade_or_verify words too is)
-  one_of_chip chip one fault other (inr (inr (inr (inr (inl (is, here)))))) (inr (inr (inr (inr (inr (too, there)))))) = absurd (diagnose_or_verify words is too)
-  one_of_chip chip one fault other (inr (inr (inr (inr (inr (is, here)))))) (inr (inr (inr (inr (inl (too, there)))))) = absurd (diagnose_or_verify words too is)
-  one_of_chip chip one fault other (inr (inr (inr (inr (inr (is, here)))))) (inr (inr (inr (inr (inr (too, there)))))) =
+  one_of_chip chip one fault other (inl (is, here)) (inr (inr (inr (inr (inr (inl (too, there))))))) = absurd (flatten_or_verify words is too)
+  one_of_chip chip one fault other (inr (inr (inr (inr (inr (inl (is, here))))))) (inl (too, there)) = absurd (flatten_or_verify words too is)
+  one_of_chip chip one fault other (inr (inl (is, here))) (inr (inr (inr (inr (inr (inl (too, there))))))) = absurd (simulate_or_verify words is too)
+  one_of_chip chip one fault other (inr (inr (inr (inr (inr (inl (is, here))))))) (inr (inl (too, there))) = absurd (simulate_or_verify words too is)
+  one_of_chip chip one fault other (inr (inr (inl (is, here)))) (inr (inr (inr (inr (inr (inl (too, there))))))) = absurd (replay_or_verify words is too)
+  one_of_chip chip one fault other (inr (inr (inr (inr (inr (inl (is, here))))))) (inr (inr (inl (too, there)))) = absurd (replay_or_verify words too is)
+  one_of_chip chip one fault other (inr (inr (inr (inl (is, here))))) (inr (inr (inr (inr (inr (inl (too, there))))))) = absurd (grade_or_verify words is too)
+  one_of_chip chip one fault other (inr (inr (inr (inr (inr (inl (is, here))))))) (inr (inr (inr (inl (too, there))))) = absurd (grade_or_verify words too is)
+  one_of_chip chip one fault other (inr (inr (inr (inr (inl (is, here)))))) (inr (inr (inr (inr (inr (inl (too, there))))))) = absurd (diagnose_or_verify words is too)
+  one_of_chip chip one fault other (inr (inr (inr (inr (inr (inl (is, here))))))) (inr (inr (inr (inr (inl (too, there)))))) = absurd (diagnose_or_verify words too is)
+  one_of_chip chip one fault other (inr (inr (inr (inr (inr (inl (is, here))))))) (inr (inr (inr (inr (inr (inl (too, there))))))) =
       one_verification chip (stil_word words) (cert_word words) given fault other here there
   one_of_chip chip one fault other (inl (is, here)) (inl (too, there)) =
       one_defect chip (instance_word words) (chip_defect_word words) fault other here there
@@ -202,6 +231,19 @@ module _ (words : List (List ℕ)) (given : Files) where
   one_of_chip chip one fault other (inr (inr (inl (is, here)))) (inr (inr (inl (too, there)))) =
       one_at_run chip one (instance_word words) (chip_defect_word words) (chip_first_word words) (chip_last_word words) (order_word words) given
       fault other here there
+  one_of_chip chip one fault other (inl (is, here)) (inr (inr (inr (inr (inr (inr (too, there))))))) = absurd (flatten_or_bridges words is too)
+  one_of_chip chip one fault other (inr (inr (inr (inr (inr (inr (is, here))))))) (inl (too, there)) = absurd (flatten_or_bridges words too is)
+  one_of_chip chip one fault other (inr (inl (is, here))) (inr (inr (inr (inr (inr (inr (too, there))))))) = absurd (simulate_or_bridges words is too)
+  one_of_chip chip one fault other (inr (inr (inr (inr (inr (inr (is, here))))))) (inr (inl (too, there))) = absurd (simulate_or_bridges words too is)
+  one_of_chip chip one fault other (inr (inr (inl (is, here)))) (inr (inr (inr (inr (inr (inr (too, there))))))) = absurd (replay_or_bridges words is too)
+  one_of_chip chip one fault other (inr (inr (inr (inr (inr (inr (is, here))))))) (inr (inr (inl (too, there)))) = absurd (replay_or_bridges words too is)
+  one_of_chip chip one fault other (inr (inr (inr (inl (is, here))))) (inr (inr (inr (inr (inr (inr (too, there))))))) = absurd (grade_or_bridges words is too)
+  one_of_chip chip one fault other (inr (inr (inr (inr (inr (inr (is, here))))))) (inr (inr (inr (inl (too, there))))) = absurd (grade_or_bridges words too is)
+  one_of_chip chip one fault other (inr (inr (inr (inr (inl (is, here)))))) (inr (inr (inr (inr (inr (inr (too, there))))))) = absurd (diagnose_or_bridges words is too)
+  one_of_chip chip one fault other (inr (inr (inr (inr (inr (inr (is, here))))))) (inr (inr (inr (inr (inl (too, there)))))) = absurd (diagnose_or_bridges words too is)
+  one_of_chip chip one fault other (inr (inr (inr (inr (inr (inl (is, here))))))) (inr (inr (inr (inr (inr (inr (too, there))))))) = absurd (verify_or_bridges words is too)
+  one_of_chip chip one fault other (inr (inr (inr (inr (inr (inr (is, here))))))) (inr (inr (inr (inr (inr (inl (too, there))))))) = absurd (verify_or_bridges words too is)
+  one_of_chip chip one fault other (inr (inr (inr (inr (inr (inr (is, here))))))) (inr (inr (inr (inr (inr (inr (too, there))))))) = one_instance chip (instance_word words) fault other here there
 
   one_own : (fault other : Fault) → AreReadAs (chip_files words) given (IsOwn words given fault)
       → AreReadAs (chip_files words) given (IsOwn words given other) → fault ≡ other
@@ -377,7 +419,7 @@ module _ (words : List (List ℕ)) (files : Option Files) (reported : Files) (ar
         own : (chip : LinkedChip) (chains : List (List ℕ)) (Holds : StilFile → Type 0) → AreAllChains chip chains
             → ((file : StilFile) → Holds file → AtFile MAX_CERT (cert_word words) (IsBadCert chip) (given (cert_word words)) fault)
             → OfFile files (stil_word words) MAX_STIL (HasRight chip chains Holds) → AtOwn words given chip fault
-        own chip chains Holds all next there = inr (inr (inr (inr (inr (
+        own chip chains Holds all next there = inr (inr (inr (inr (inr (inl (
           verify,
           inr (record {
             chains = chains;
@@ -385,7 +427,7 @@ module _ (words : List (List ℕ)) (files : Option Files) (reported : Files) (ar
             at = of_right (agree (stil_word words) (inr (inr (inr (inr (inr (verify, inl refl))))))) chip chains Holds
                 (λ file. AtFile MAX_CERT (cert_word words) (IsBadCert chip) (given (cert_word words)) fault) next there;
           }),
-        )))))
+        ))))))
 
         by : IsCertCause (chip_files words) (stil_word words) (cert_word words) files before after fault
             → AreReadAs (chip_files words) given (IsOwn words given fault)
@@ -419,10 +461,13 @@ module _ (words : List (List ℕ)) (files : Option Files) (reported : Files) (ar
         (λ chip at. inr (inr (inr (inr (inl (diagnose, inl at)))))) is cause
     of_own fault is (inr (inr (inr (inr (inr (inl (diagnose, inr cause))))))) = of_log diagnose fault is cause
     of_own fault is (inr (inr (inr (inr (inr (inr (inl (certify, cause)))))))) = absurd (pairs_input fault is cause.many.0)
-    of_own fault is (inr (inr (inr (inr (inr (inr (inr (verify, inl cause)))))))) =
+    of_own fault is (inr (inr (inr (inr (inr (inr (inr (inl (verify, inl cause))))))))) =
         of_patterns (agree (stil_word words) (inr (inr (inr (inr (inr (verify, inl refl))))))) fault
-        (λ chip at. inr (inr (inr (inr (inr (verify, inl at)))))) is cause
-    of_own fault is (inr (inr (inr (inr (inr (inr (inr (verify, inr cause)))))))) = of_cert verify fault is cause
+        (λ chip at. inr (inr (inr (inr (inr (inl (verify, inl at))))))) is cause
+    of_own fault is (inr (inr (inr (inr (inr (inr (inr (inl (verify, inr cause))))))))) = of_cert verify fault is cause
+    of_own fault is (inr (inr (inr (inr (inr (inr (inr (inr (bridges, (word, held)))))))))) =
+        own_of (λ chip. IsInstanceCause chip (instance_word words) fault) fault
+        (λ chip cause. inr (inr (inr (inr (inr (inr (bridges, of_instance (instance_word words) chip fault cause))))))) held
     of_own fault is (inr (inr (inr (inl (replay, inl (word, held)))))) =
         own_of (IsSimulationCause (instance_word words) (chip_defect_word words) (chip_first_word words) (chip_last_word words) fault) fault
         (λ chip cause. inr (inr (inl (

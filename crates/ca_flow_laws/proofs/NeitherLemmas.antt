@@ -70,7 +70,7 @@ use Rattle.ca_verifying.specs.Verifying.{IsCertificateIn, IsBadCert, IsCertFault
 use Rattle.ca_chip_replay.specs.ChipRun.{RunOf}
 use Rattle.ca_words.specs.Words.{table_word, cells_word, cell_files, chip_files, instance_word, chip_defect_word, chip_first_word, chip_last_word, order_word}
 use Rattle.ca_words.specs.Words.{stil_word, log_word, cert_word}
-use Rattle.ca_words.specs.Words.{IsFlatten, IsSimulate, IsReplay, IsGrade, IsDiagnose, IsVerify, IsOnChip}
+use Rattle.ca_words.specs.Words.{IsFlatten, IsSimulate, IsReplay, IsGrade, IsDiagnose, IsVerify, IsBridges, IsOnChip}
 use Rattle.ca_on_chip.specs.declared.replays.TheConstants.{MAX_ORDER}
 use Rattle.ca_on_chip.specs.OnChip.{GiveChipWith, OfChip, IsDefectWord, IsVectorWord, IsSimulationCause}
 use Rattle.ca_on_chip.specs.Replay.{IsAskedRun, HasFaultyLine, HasRun}
@@ -88,6 +88,10 @@ use Rattle.ca_flow_laws.proofs.ChainLemmas.{traced_or}
 use Rattle.ca_flow_laws.proofs.GivenLemmas.{defect_or, simulate_or, asked_given, has_run, events_or}
 use Rattle.ca_flow_laws.proofs.AnsweredLemmas.{fits_defect, fits_simulate, fits_run, has_events, check_own, flatten_own, simulate_own}
 use Rattle.ca_flow_laws.proofs.AnsweredLemmas.{atpg_own, certify_own, replay_own, grade_own, diagnose_own, verify_own}
+use Rattle.ca_flow_laws.proofs.AnsweredLemmas.{bridges_own}
+use Rattle.ca_flow_laws.proofs.OwnLemmas.{named_also}
+use Rattle.ca_request.specs.Asked.{IsInstanceCause}
+use Rattle.ca_linked.specs.Instances.{IsNamedGate}
 use Rattle.ca_flow_laws.proofs.AnsweredLemmas.{fits_grade, fits_diagnose, fits_verify}
 use Rattle.ca_flow_laws.proofs.PatternLemmas.{named}
 use Rattle.ca_flow_laws.proofs.RightLemmas.{stil_reported, patterns_or}
@@ -504,14 +508,14 @@ module _ (words : List (List ℕ)) (outside : Outside) (reported : Files) (are :
             claimed = bytes_of (cert_word words) (inr (inr (inr (inr (inr (verify, inr refl))))))
 
             no_cert : length claimed.0 ≤ MAX_CERT → (fault : Fault) → IsInputFault fault → IsCertFault fault → IsBadCert chip fault claimed.0 → ⊥
-            no_cert short fault fault_is of_cert bad = no_own fault fault_is (inr (inr (inr (inr (inr (inr (inr (
+            no_cert short fault fault_is of_cert bad = no_own fault fault_is (inr (inr (inr (inr (inr (inr (inr (inl (
               verify,
               inr (inr (
                 of_cert,
                 of_right (λ chip file. OfFile outside.files (cert_word words) MAX_CERT (IsBadCert chip fault))
                     (in_file (cert_word words) claimed.0 MAX_CERT claimed.1 (IsBadCert chip fault) short bad),
               )),
-            ))))))))
+            )))))))))
 
             counted : length claimed.0 ≤ MAX_CERT → (certificate : Certificate) → IsTextOf claimed.0 certificate → ⊥
             counted short certificate text = elim (same_or_other (length certificate.claims) (length (listed_defects chip))) [
@@ -531,13 +535,13 @@ module _ (words : List (List ℕ)) (outside : Outside) (reported : Files) (are :
 
             by : (length claimed.0 ≤ MAX_CERT) ⊎ (MAX_CERT < length claimed.0) → ⊥
             by (inl short) = cert_or claimed.0 (λ line faulty. no_cert short (Cert line) tt tt faulty) (counted short)
-            by (inr past) = no_own (TooLong (cert_word words) (MAX_CERT + 1)) tt (inr (inr (inr (inr (inr (inr (inr (
+            by (inr past) = no_own (TooLong (cert_word words) (MAX_CERT + 1)) tt (inr (inr (inr (inr (inr (inr (inr (inl (
               verify,
               inr (inl (
                 of_right (λ chip file. ⊤) tt,
                 too_long (cert_word words) claimed.0 MAX_CERT claimed.1 past,
               )),
-            ))))))))
+            )))))))))
 
       at_grade : IsGrade words → ⊥
       at_grade grade = right_or (inr (inr (inr (inl (grade, refl)))))
@@ -557,8 +561,22 @@ module _ (words : List (List ℕ)) (outside : Outside) (reported : Files) (are :
 
       at_verify : IsVerify words → ⊥
       at_verify verify = right_or (inr (inr (inr (inr (inr (verify, inl refl))))))
-          (λ fault is cause. no_own fault is (inr (inr (inr (inr (inr (inr (inr (verify, inl cause)))))))))
+          (λ fault is cause. no_own fault is (inr (inr (inr (inr (inr (inr (inr (inl (verify, inl cause))))))))))
           (λ file bytes found within patterns few right. at_cert file bytes found within patterns few right verify)
+
+      at_bridges : IsBridges words → ⊥
+      at_bridges bridges = either ((u : ℕ) × IsNamedGate chip (instance_word words) u) (λ found. elim found [
+        | inl it ↦ own_answer (λ also same names.
+            bridges_own words reported also bridges (it.0, named_also chip also same (instance_word words) it.0 it.1))
+        | inr none ↦ no_own (NoInstance (instance_word words)) tt (inr (inr (inr (inr (inr (inr (inr (inr (
+          bridges,
+          (
+            refl,
+            of_chip (λ chip. IsInstanceCause chip (instance_word words) (NoInstance (instance_word words)))
+                (refl, λ u named. none (u, named)),
+          ),
+        )))))))))
+      ])
 
       at_chip : IsOnChip words → ⊥
       at_chip (inl check) = own_answer (λ also same names. check_own words reported also check)
@@ -569,7 +587,8 @@ module _ (words : List (List ℕ)) (outside : Outside) (reported : Files) (are :
       at_chip (inr (inr (inr (inr (inr (inl grade)))))) = at_grade grade
       at_chip (inr (inr (inr (inr (inr (inr (inl diagnose))))))) = at_diagnose diagnose
       at_chip (inr (inr (inr (inr (inr (inr (inr (inl certify)))))))) = own_answer (λ also same names. certify_own words reported also certify)
-      at_chip (inr (inr (inr (inr (inr (inr (inr (inr verify)))))))) = at_verify verify
+      at_chip (inr (inr (inr (inr (inr (inr (inr (inr (inl verify))))))))) = at_verify verify
+      at_chip (inr (inr (inr (inr (inr (inr (inr (inr (inr bridges))))))))) = at_bridges bridges
 
     at_inputs : ⊥
     at_inputs = either ((chip : LinkedChip) × IsChipOf inputs chip) (λ found. elim found [

@@ -13,6 +13,7 @@ use Rattle.ca_core.specs.Core.{core_of}
 use Rattle.ca_link_laws.proofs.TraceLemmas.{one_ports}
 use Rattle.ca_request.specs.Vectors.{dash, letters_of}
 use Rattle.ca_request.specs.Asked.{FitsInputs, defect_called, IsAskedDefect, LacksDefect, IsDefectCause, IsVectorsCause}
+use Rattle.ca_request.specs.Asked.{IsInstanceCause}
 use Rattle.ca_chip_replay.specs.ChipRun.{RunOf}
 use Rattle.ca_simulate.specs.Simulated.{pair_of}
 use Rattle.ca_simulate.specs.OneRun.{IsFaultyLine}
@@ -57,6 +58,10 @@ AtOrder instance defect first last order given chip fault =
     HasRun instance defect first last chip
     × AtFile MAX_ORDER order (ReportsLine instance defect first last chip) (given order) fault
 
+-- what is reported of the word of an instance alone
+abbrev pub AtInstance : List ℕ → LinkedChip → Fault → Type 0
+AtInstance instance chip fault = (fault ≡ NoInstance instance) × LacksGate chip instance
+
 -- what is reported of all of these
 abbrev pub AtRun : List ℕ → List ℕ → List ℕ → List ℕ → List ℕ → Files → LinkedChip → Fault → Type 0
 AtRun instance defect first last order given chip fault =
@@ -68,6 +73,10 @@ pub of_defect : (instance defect : List ℕ) (chip : LinkedChip) (fault : Fault)
 of_defect instance defect chip (NoInstance typed) (same, (some, lacks)) = (some, inl (ap NoInstance same, lacks))
 of_defect instance defect chip (NoDefect typed) (same, (some, lacks)) = (some, inr (ap NoDefect same, lacks))
 of_defect instance defect chip fault cause = absurd cause
+
+pub of_instance : (instance : List ℕ) (chip : LinkedChip) (fault : Fault) → IsInstanceCause chip instance fault → AtInstance instance chip fault
+of_instance instance chip (NoInstance typed) (same, lacks) = (ap NoInstance same, lacks)
+of_instance instance chip fault cause = absurd cause
 
 of_vectors : (first last : List ℕ) (chip : LinkedChip) (fault : Fault) → IsVectorsCause chip first last fault → AtVectors first last chip fault
 of_vectors first last chip (BadVector typed) (inl (same, unfit)) = inl (ap BadVector same, unfit)
@@ -126,6 +135,9 @@ module _ (chip also : LinkedChip) (are : AreOne chip also) where
   defect_also instance defect fault (some, inl (is, lacks)) = (some, inl (is, λ u named. lacks u (named_also also chip back instance u named)))
   defect_also instance defect fault (some, inr (is, lacks)) = (some, inr (is, lacks_also chip also are instance defect lacks))
 
+  pub instance_also : (instance : List ℕ) (fault : Fault) → AtInstance instance chip fault → AtInstance instance also fault
+  instance_also instance fault (is, lacks) = (is, λ u named. lacks u (named_also also chip back instance u named))
+
   pub pair_also : (instance defect first last : List ℕ) (fault : Fault) → AtPair instance defect first last chip fault
       → AtPair instance defect first last also fault
   pair_also instance defect first last fault (inl vectors) = inl (vectors_also first last fault vectors)
@@ -168,6 +180,9 @@ module _ (chip : LinkedChip) where
   one_vectors first last fault other (inl here) (inr there) = absurd (here.1 there.1.0)
   one_vectors first last fault other (inr here) (inl there) = absurd (there.1 here.1.0)
   one_vectors first last fault other (inr here) (inr there) = here.0 ∙ sym there.0
+
+  pub one_instance : (instance : List ℕ) (fault other : Fault) → AtInstance instance chip fault → AtInstance instance chip other → fault ≡ other
+  one_instance instance fault other here there = here.0 ∙ sym there.0
 
   pub one_defect : (instance defect : List ℕ) (fault other : Fault) → AtDefect instance defect chip fault → AtDefect instance defect chip other
       → fault ≡ other

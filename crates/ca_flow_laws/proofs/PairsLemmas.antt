@@ -19,6 +19,7 @@ use Rattle.ca_flow_laws.specs.Reported.{IsInputFile, ReportsFiles}
 use Rattle.ca_flow_laws.proofs.LoadLemmas.{read_given, no_load}
 use Rattle.ca_flow_laws.proofs.ChipLemmas.{atpg_or_flatten, atpg_or_simulate, atpg_or_replay, atpg_or_grade, atpg_or_diagnose, atpg_or_verify}
 use Rattle.ca_flow_laws.proofs.ChipLemmas.{certify_or_flatten, certify_or_simulate, certify_or_replay, certify_or_grade, certify_or_diagnose, certify_or_verify, AtOwn}
+use Rattle.ca_flow_laws.proofs.ChipLemmas.{atpg_or_bridges, certify_or_bridges}
 use Rattle.ca_flow_laws.proofs.ExactLemmas.{AtWords, of_cause}
 
 -- a fault is one of a call or of memory, one of input, or has pairs
@@ -99,13 +100,14 @@ module _ (words : List (List ℕ)) (pairs : _) (aims : _) (files : Option Files)
   of_own (inr (inr (inr (inr (inl (is, inl (held, read))))))) = absurd read
   of_own (inr (inr (inr (inr (inl (is, inr (word, held))))))) = absurd word
   of_own (inr (inr (inr (inr (inr (inl (is, inl (inl (held, read))))))))) = absurd read
-  of_own (inr (inr (inr (inr (inr (inr (inr (is, inl (inl (held, read)))))))))) = absurd read
+  of_own (inr (inr (inr (inr (inr (inr (inr (inl (is, inl (inl (held, read))))))))))) = absurd read
   of_own (inr (inr (inr (inr (inr (inl (is, inl (inr (word, held))))))))) = absurd word
-  of_own (inr (inr (inr (inr (inr (inr (inr (is, inl (inr (word, held)))))))))) = absurd word
+  of_own (inr (inr (inr (inr (inr (inr (inr (inl (is, inl (inr (word, held))))))))))) = absurd word
   of_own (inr (inr (inr (inr (inr (inl (is, inr (inl (held, read))))))))) = absurd read
-  of_own (inr (inr (inr (inr (inr (inr (inr (is, inr (inl (held, read)))))))))) = absurd read
+  of_own (inr (inr (inr (inr (inr (inr (inr (inl (is, inr (inl (held, read))))))))))) = absurd read
   of_own (inr (inr (inr (inr (inr (inl (is, inr (inr (word, held))))))))) = absurd word
-  of_own (inr (inr (inr (inr (inr (inr (inr (is, inr (inr (word, held)))))))))) = absurd word
+  of_own (inr (inr (inr (inr (inr (inr (inr (inl (is, inr (inr (word, held))))))))))) = absurd word
+  of_own (inr (inr (inr (inr (inr (inr (inr (inr (is, (word, held)))))))))) = absurd word
   of_own (inr (inr (inr (inr (inr (inr (inl (is, cause)))))))) = inl (inr is, (cause.budget, cause.many.1))
 
   of_work : IsWorkCause words files before after (TooManyPairs pairs aims) → IsGenerating words files (TooManyPairs pairs aims)
@@ -133,13 +135,15 @@ no_own_words words given chip fault (inl is) (inr (inl (simulate, at))) = atpg_o
 no_own_words words given chip fault (inl is) (inr (inr (inl (replay, at)))) = atpg_or_replay words is replay
 no_own_words words given chip fault (inl is) (inr (inr (inr (inl (grade, at))))) = atpg_or_grade words is grade
 no_own_words words given chip fault (inl is) (inr (inr (inr (inr (inl (diagnose, at)))))) = atpg_or_diagnose words is diagnose
-no_own_words words given chip fault (inl is) (inr (inr (inr (inr (inr (verify, at)))))) = atpg_or_verify words is verify
+no_own_words words given chip fault (inl is) (inr (inr (inr (inr (inr (inl (verify, at))))))) = atpg_or_verify words is verify
+no_own_words words given chip fault (inl is) (inr (inr (inr (inr (inr (inr (bridges, at))))))) = atpg_or_bridges words is bridges
 no_own_words words given chip fault (inr is) (inl (flatten, at)) = certify_or_flatten words is flatten
 no_own_words words given chip fault (inr is) (inr (inl (simulate, at))) = certify_or_simulate words is simulate
 no_own_words words given chip fault (inr is) (inr (inr (inl (replay, at)))) = certify_or_replay words is replay
 no_own_words words given chip fault (inr is) (inr (inr (inr (inl (grade, at))))) = certify_or_grade words is grade
 no_own_words words given chip fault (inr is) (inr (inr (inr (inr (inl (diagnose, at)))))) = certify_or_diagnose words is diagnose
-no_own_words words given chip fault (inr is) (inr (inr (inr (inr (inr (verify, at)))))) = certify_or_verify words is verify
+no_own_words words given chip fault (inr is) (inr (inr (inr (inr (inr (inl (verify, at))))))) = certify_or_verify words is verify
+no_own_words words given chip fault (inr is) (inr (inr (inr (inr (inr (inr (bridges, at))))))) = certify_or_bridges words is bridges
 
 -- they are of a command on a chip
 generates_on_chip : (words : List (List ℕ)) → IsAtpg words ⊎ IsCertify words → IsOnChip words

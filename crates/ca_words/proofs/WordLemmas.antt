@@ -28,7 +28,8 @@ chip_words words (inr (inr (inr (inr (inl replay))))) = inr (inr (let nine = rep
 chip_words words (inr (inr (inr (inr (inr (inl grade)))))) = inr (inl (grade.six, omega (arith, ap length grade.command)))
 chip_words words (inr (inr (inr (inr (inr (inr (inl diagnose))))))) = inr (inr (let seven = diagnose.seven in omega (arith, seven)))
 chip_words words (inr (inr (inr (inr (inr (inr (inr (inl certify)))))))) = inr (inr (let seven = certify.seven in omega (arith, seven)))
-chip_words words (inr (inr (inr (inr (inr (inr (inr (inr verify)))))))) = inr (inl (verify.six, omega (arith, ap length verify.command)))
+chip_words words (inr (inr (inr (inr (inr (inr (inr (inr (inl verify))))))))) = inr (inl (verify.six, omega (arith, ap length verify.command)))
+chip_words words (inr (inr (inr (inr (inr (inr (inr (inr (inr bridges))))))))) = inr (inr (let eight = bridges.eight in omega (arith, eight)))
 
 -- no command on one cell is one on a chip
 pub no_chip : (words : List (List ℕ)) → IsOnCell words → IsOnChip words → ⊥

@@ -15,18 +15,20 @@ use Rattle.ca_words.specs.declared.words.GradeWords.{GradeWords}
 use Rattle.ca_words.specs.declared.words.DiagnoseWords.{DiagnoseWords}
 use Rattle.ca_words.specs.declared.words.CertifyWords.{CertifyWords}
 use Rattle.ca_words.specs.declared.words.VerifyWords.{VerifyWords}
+use Rattle.ca_words.specs.declared.words.BridgesWords.{BridgesWords}
 use Rattle.ca_words.specs.declared.words.Command.{Command}
 use Rattle.ca_words.specs.declared.words.Command.TheVariants.{Respond, Pair, Defects, Matrix, Check, Flatten}
 use Rattle.ca_words.specs.declared.words.Command.TheVariants.{Simulate, Atpg, Replay, Grade, Diagnose}
-use Rattle.ca_words.specs.declared.words.Command.TheVariants.{Certify, Verify, Make, Help, Version}
+use Rattle.ca_words.specs.declared.words.Command.TheVariants.{Certify, Verify, Bridges, Make, Help, Version}
 use Rattle.ca_words.specs.Words.{cell_files, cell_word, vector_word, first_word, last_word, defect_word}
 use Rattle.ca_words.specs.Words.{out_word, dash}
 use Rattle.ca_words.specs.Words.{chip_files, instance_word, chip_defect_word, flat_out_word, chip_first_word}
 use Rattle.ca_words.specs.Words.{chip_last_word}
 use Rattle.ca_words.specs.Words.{stil_word, report_word, log_word, candidates_word, budget_word, order_word}
 use Rattle.ca_words.specs.Words.{cert_word, number_word}
+use Rattle.ca_words.specs.Words.{bridges_stil_word, bridges_report_word, bridges_budget_word}
 use Rattle.ca_words.specs.Words.{IsRespond, IsPair, IsDefects, IsMatrix, IsCheck, IsFlatten, IsSimulate}
-use Rattle.ca_words.specs.Words.{IsAtpg, IsReplay, IsGrade, IsDiagnose, IsCertify, IsVerify}
+use Rattle.ca_words.specs.Words.{IsAtpg, IsReplay, IsGrade, IsDiagnose, IsCertify, IsVerify, IsBridges}
 use Rattle.ca_words.specs.Words.{IsMake, IsHelp, IsVersion}
 
 -- the files and the cell of a command are those of the words
@@ -131,6 +133,15 @@ pub record IsSpelledVerify (words : List (List ℕ)) (request : VerifyWords) : T
   pub stil : request.stil.now ≡ stil_word words
   pub cert : request.cert.now ≡ cert_word words
 
+-- the words are these of `bridges`
+pub record IsSpelledBridges (words : List (List ℕ)) (request : BridgesWords) : Type 0 where
+  pub is : IsBridges words
+  pub files : names_of request.files ≡ chip_files words
+  pub instance : request.instance.now ≡ instance_word words
+  pub stil : request.stil.now ≡ bridges_stil_word words
+  pub report : request.report.now ≡ bridges_report_word words
+  pub budget : HasBudget (bridges_budget_word words) request.budget
+
 -- the words are these of `make`
 pub record IsSpelledMake (words : List (List ℕ)) (number : ℕ) : Type 0 where
   pub is : IsMake words
@@ -151,6 +162,7 @@ IsSpelled words (Grade request) = IsSpelledGrade words request
 IsSpelled words (Diagnose request) = IsSpelledDiagnose words request
 IsSpelled words (Certify request) = IsSpelledCertify words request
 IsSpelled words (Verify request) = IsSpelledVerify words request
+IsSpelled words (Bridges request) = IsSpelledBridges words request
 IsSpelled words (Make number) = IsSpelledMake words number
 IsSpelled words Help = IsHelp words
 IsSpelled words Version = IsVersion words

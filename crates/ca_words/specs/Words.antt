@@ -70,7 +70,7 @@ netlist_word words = word_at words 2
 abbrev pub scan_word : List (List ℕ) → List ℕ
 scan_word words = word_at words 3
 
--- the name of the library instance that has the defect, or a dash
+-- the name of the library instance that has the defect or, of `bridges`, the bridges, or a dash
 abbrev pub instance_word : List (List ℕ) → List ℕ
 instance_word words = word_at words 4
 
@@ -93,6 +93,18 @@ chip_last_word words = word_at words 7
 -- the file of events of `replay`
 abbrev pub order_word : List (List ℕ) → List ℕ
 order_word words = word_at words 8
+
+-- the file of patterns that `bridges` writes
+abbrev pub bridges_stil_word : List (List ℕ) → List ℕ
+bridges_stil_word words = word_at words 5
+
+-- the report that it writes
+abbrev pub bridges_report_word : List (List ℕ) → List ℕ
+bridges_report_word words = word_at words 6
+
+-- its budget
+abbrev pub bridges_budget_word : List (List ℕ) → List ℕ
+bridges_budget_word words = word_at words 7
 
 -- the file of patterns that `atpg` and `certify` write, and `grade`, `diagnose` and `verify` read
 abbrev pub stil_word : List (List ℕ) → List ℕ
@@ -304,6 +316,17 @@ pub record IsVerify (words : List (List ℕ)) : Type 0 where
   pub cert : IsOther words (cert_word words)
   pub others : cert_word words ≢ stil_word words
 
+-- the words are `bridges CELLS NETLIST SCAN INSTANCE STIL REPORT BUDGET`, and the instance is no dash
+pub record IsBridges (words : List (List ℕ)) : Type 0 where
+  pub eight : count_of words ≡ 8
+  pub command : word_at words 0 ≡ codes "bridges"
+  pub files : HasChipFiles words
+  pub some : instance_word words ≢ dash
+  pub stil : IsOther words (bridges_stil_word words)
+  pub report : IsOther words (bridges_report_word words)
+  pub others : bridges_report_word words ≢ bridges_stil_word words
+  pub budget : IsBudget (bridges_budget_word words)
+
 -- the one word is `--help`, and no table is named
 pub record IsHelp (words : List (List ℕ)) : Type 0 where
   pub no_table : table_word words ≡ None
@@ -339,7 +362,8 @@ IsOnCell words = IsRespond words ⊎ (IsPair words ⊎ (IsDefects words ⊎ IsMa
 abbrev pub IsOnChip : List (List ℕ) → Type 0
 IsOnChip words = IsCheck words
     ⊎ (IsFlatten words ⊎ (IsSimulate words ⊎ (IsAtpg words
-    ⊎ (IsReplay words ⊎ (IsGrade words ⊎ (IsDiagnose words ⊎ (IsCertify words ⊎ IsVerify words)))))))
+    ⊎ (IsReplay words ⊎ (IsGrade words ⊎ (IsDiagnose words
+    ⊎ (IsCertify words ⊎ (IsVerify words ⊎ IsBridges words))))))))
 
 -- the words are those of a command
 abbrev pub IsCommand : List (List ℕ) → Type 0
@@ -353,4 +377,5 @@ HasOut words name =
     ⊎ ((IsAtpg words × ((name ≡ stil_word words) ⊎ (name ≡ report_word words)))
     ⊎ ((IsGrade words × (name ≡ report_word words))
     ⊎ ((IsDiagnose words × (name ≡ candidates_word words))
-    ⊎ (IsCertify words × ((name ≡ stil_word words) ⊎ (name ≡ cert_word words)))))))
+    ⊎ ((IsCertify words × ((name ≡ stil_word words) ⊎ (name ≡ cert_word words)))
+    ⊎ (IsBridges words × ((name ≡ bridges_stil_word words) ⊎ (name ≡ bridges_report_word words))))))))

@@ -6,17 +6,18 @@ ghost use Rattle.ca_load.specs.Texts.{names_of};
 ghost use Rattle.ca_request.specs.Asked.{AreBothOrNeither};
 ghost use Rattle.ca_words.specs.Words.{file_called, AreChipFiles, IsOtherFile};
 ghost use Rattle.ca_words.specs.Words.{IsCheck, IsFlatten, IsSimulate, IsAtpg, IsReplay, IsGrade};
-ghost use Rattle.ca_words.specs.Words.{IsDiagnose, IsCertify, IsVerify};
+ghost use Rattle.ca_words.specs.Words.{IsDiagnose, IsCertify, IsVerify, IsBridges};
 ghost use Rattle.ca_words.specs.Command.{IsSpelledCheck, IsSpelledFlatten, IsSpelledSimulate};
 ghost use Rattle.ca_words.specs.Command.{IsSpelledAtpg, IsSpelledReplay, IsSpelledGrade};
 ghost use Rattle.ca_words.specs.Command.{IsSpelledDiagnose, IsSpelledCertify, IsSpelledVerify};
+ghost use Rattle.ca_words.specs.Command.{IsSpelledBridges};
 
 use crate::budget::budget_of;
 use crate::checks::{are_cell_files, is_called, is_file_name, is_vector};
 use crate::prefix::{command_words, table_word};
 use crate::words::{
-    AtpgWords, CertifyWords, ChipWords, DiagnoseWords, FlattenWords, GradeWords, ReplayWords,
-    SimulateWords, VerifyWords,
+    AtpgWords, BridgesWords, CertifyWords, ChipWords, DiagnoseWords, FlattenWords, GradeWords,
+    ReplayWords, SimulateWords, VerifyWords,
 };
 use ca_load::{CellNames, FileNames};
 
@@ -265,6 +266,47 @@ pub(crate) fn parse_verify(words: &[String]) -> Option<VerifyWords<'_>>
             files: files_called(table, cells, netlist, scan),
             stil: stil.as_str(),
             cert: cert.as_str(),
+        })
+    } else {
+        None
+    }
+}
+
+/// Those of `bridges`.
+pub(crate) fn parse_bridges(words: &[String]) -> Option<BridgesWords<'_>>
+    ensures found { IfSome result (IsSpelledBridges (map string_bytes words.now)) }
+    ensures none { IsNone result → ¬ (IsBridges (map string_bytes words.now)) }
+{
+    let table = table_word(words);
+    let [
+        command,
+        cells,
+        netlist,
+        scan,
+        instance,
+        stil,
+        report,
+        budget,
+    ] = command_words(words)
+    else {
+        return None;
+    };
+    let Some(budget) = budget_of(budget) else {
+        return None;
+    };
+    if command.as_str() == "bridges"
+        && are_chip_files(table, cells, netlist, scan)
+        && instance.as_str() != "-"
+        && is_other_file(stil, table, cells, netlist, scan)
+        && is_other_file(report, table, cells, netlist, scan)
+        && report.as_str() != stil.as_str()
+    {
+        Some(BridgesWords {
+            files: files_called(table, cells, netlist, scan),
+            instance: instance.as_str(),
+            stil: stil.as_str(),
+            report: report.as_str(),
+            budget,
         })
     } else {
         None

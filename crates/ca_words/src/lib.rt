@@ -9,6 +9,7 @@ mod words;
 
 pub use budget::{MOST_BUDGET, budget_of, chip_number_of};
 pub use words::{
-    AtpgWords, CellWords, CertifyWords, ChipWords, Command, DiagnoseWords, FlattenWords,
-    GradeWords, MatrixWords, PairWords, ReplayWords, SimulateWords, VerifyWords, parse,
+    AtpgWords, BridgesWords, CellWords, CertifyWords, ChipWords, Command, DiagnoseWords,
+    FlattenWords, GradeWords, MatrixWords, PairWords, ReplayWords, SimulateWords, VerifyWords,
+    parse,
 };

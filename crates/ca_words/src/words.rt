@@ -11,8 +11,8 @@ ghost use Rattle.ca_words.specs.Command.{IsSpelledMake, IsSpelled};
 use crate::budget::chip_number_of;
 use crate::checks::{are_cell_files, is_called, is_file_name, is_vector};
 use crate::chip_words::{
-    parse_atpg, parse_certify, parse_check, parse_diagnose, parse_flatten, parse_grade,
-    parse_replay, parse_simulate, parse_verify,
+    parse_atpg, parse_bridges, parse_certify, parse_check, parse_diagnose, parse_flatten,
+    parse_grade, parse_replay, parse_simulate, parse_verify,
 };
 use crate::prefix::{command_words, table_word};
 use ca_load::{CellNames, FileNames};
@@ -46,6 +46,8 @@ pub enum Command<'a> {
     Certify(CertifyWords<'a>),
     /// `verify CELLS NETLIST SCAN STIL CERT`.
     Verify(VerifyWords<'a>),
+    /// `bridges CELLS NETLIST SCAN INSTANCE STIL REPORT BUDGET`.
+    Bridges(BridgesWords<'a>),
     /// `make N`, with the number.
     Make(u32),
     /// `--help`.
@@ -145,6 +147,17 @@ pub struct VerifyWords<'a> {
     pub cert: &'a str,
 }
 
+/// The words of a command that generates tests for the pin bridges of a library instance, with the budget
+/// that they say.
+#[derive(Clone, Copy)]
+pub struct BridgesWords<'a> {
+    pub files: FileNames<'a>,
+    pub instance: &'a str,
+    pub stil: &'a str,
+    pub report: &'a str,
+    pub budget: u32,
+}
+
 /// The words of a command that replays one run of a chip, whose events are in a file.
 #[derive(Clone, Copy)]
 pub struct ReplayWords<'a> {
@@ -207,6 +220,8 @@ fn parse_on_chip(words: &[String]) -> Option<Command<'_>>
         Some(Command::Certify(request))
     } else if let Some(request) = parse_verify(words) {
         Some(Command::Verify(request))
+    } else if let Some(request) = parse_bridges(words) {
+        Some(Command::Bridges(request))
     } else {
         None
     }

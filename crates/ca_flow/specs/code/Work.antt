@@ -10,13 +10,16 @@ use Rattle.ca_chip_grade.specs.Texts.{grades_text}
 use Rattle.ca_engine.specs.ChipTask.{task_of}
 use Rattle.ca_chip_diag.specs.Texts.{candidates_text}
 use Rattle.ca_cert_text.specs.CertText.{certificate_text}
+use Rattle.ca_bridge_report.specs.BridgeReport.{bridges_report}
 use Rattle.ca_fault.specs.declared.fault.Fault.{Fault}
 use Rattle.ca_fault.specs.declared.fault.Fault.TheVariants.{StoreFailed, SinkFailed}
 use Rattle.ca_flow.specs.declared.finished.Done.{Done}
 use Rattle.ca_flow.specs.declared.finished.Done.TheVariants.{Matrix, Flatten, Atpg, Grade, Diagnose, Certify}
+use Rattle.ca_flow.specs.declared.finished.Done.TheVariants.{Bridges}
 use Rattle.ca_flow.specs.declared.finished.Finished.{Finished}
 use Rattle.ca_flow.specs.declared.work.OutFile.{OutFile}
 use Rattle.ca_words.specs.Words.{out_word, flat_out_word, stil_word, report_word, candidates_word, cert_word}
+use Rattle.ca_words.specs.Words.{bridges_stil_word, bridges_report_word}
 use Rattle.ca_flow.specs.Finished.{IsAnswer, Prints, Writes, ReportsSinkFault}
 use Rattle.ca_flow.specs.Fault.{Outside, IsWriteCause, IsPrintCause}
 use Rattle.ca_load.specs.Files.{ReportsStoreFault}
@@ -45,6 +48,8 @@ HasFile words (Diagnose chip chains pairs log candidates line) file = IsSomeAnd 
     (IsOutFile (candidates_word words) (candidates_text chip (task_of chip 0).defects candidates))
 HasFile words (Certify chip chains pairs aims certificate) file =
     IsSomeAnd file (IsFileWith (stil_word words) (IsStil chip chains pairs))
+HasFile words (Bridges chip chains bridges pairs aims verdicts) file =
+    IsSomeAnd file (IsFileWith (bridges_stil_word words) (IsStil chip chains pairs))
 HasFile words _ file = IsNone file
 
 -- the second
@@ -53,6 +58,8 @@ HasSecond words (Atpg chip chains pairs aims verdicts) second =
     IsSomeAnd second (IsOutFile (report_word words) (report_of chip verdicts))
 HasSecond words (Certify chip chains pairs aims certificate) second =
     IsSomeAnd second (IsOutFile (cert_word words) (certificate_text certificate))
+HasSecond words (Bridges chip chains bridges pairs aims verdicts) second =
+    IsSomeAnd second (IsOutFile (bridges_report_word words) (bridges_report chip bridges verdicts))
 HasSecond words _ second = IsNone second
 
 -- both

@@ -76,3 +76,6 @@ returns-in-Certify-clause-cause g c = rw c.in-Certify.is c.certificate_work.ensu
 
 pub returns-in-Verify-clause-cause : goal.returns-in-Verify-clause-cause
 returns-in-Verify-clause-cause g c = rw c.in-Verify.is c.answer_work.ensures.cause
+
+pub returns-in-Bridges-clause-cause : goal.returns-in-Bridges-clause-cause
+returns-in-Bridges-clause-cause g c = rw c.in-Bridges.is c.bridges_work.ensures.cause
