@@ -2,7 +2,7 @@
 """Makes a Verilog testbench that plays the patterns which `cellaware atpg` wrote.
 
 usage: stil_testbench.py PATTERNS.stil NETLIST.v --data PATTERNS.dat [--replace INSTANCE=MODEL --netlist OUT.v]
-                         [--log LOG.csv [--scan SCAN.csv]] [--seen SEEN.txt] > bench.v
+                         [--log LOG.csv] [--seen SEEN.txt] [--scan SCAN.csv [--parallel]] > bench.v
 
 The bench has one size, however many patterns there are: it reads their statements from PATTERNS.dat, which this tool
 writes. It plays each statement in a period of its own, compares each strobed output that is L or H, prints a line for
@@ -16,6 +16,9 @@ With --replace, OUT.v is the netlist in which one instance is of another model, 
 cell does with a defect; compile OUT.v in the place of NETLIST.v. With --log, the bench writes each mismatch to LOG.csv, in the form
 that `cellaware diagnose` reads; where there are scan chains, SCAN.csv is the table of scan cells, which tells their pins.
 With --seen, it writes to SEEN.txt what it sees at the outputs, a line for each statement (`tools/random_patterns.py`).
+With --parallel, chains aren't shifted: what their cells took is compared at once, and their state is put into them, which is some
+fifty times as fast on a large chip, and doesn't try the chains. SCAN.csv tells their pins, and their models have to keep their
+state in `state`, as `tools/scan_cell.v` does.
 Python 3.9 or later, no packages.
 """
 import argparse
@@ -49,7 +52,8 @@ def module_of(netlist):
 
 
 def cells_of_chains(netlist, table, scan_outs):
-    """For each chain, from its scan output to its scan input, the names of its cells' data pins as `simulate` gives them."""
+    """For each chain, from its scan output to its scan input, its cells: the name of the data pin as `simulate` gives it, and the
+    instance as the netlist spells it."""
     with open(table, newline="", encoding="utf-8") as file:
         pins = {it["cell"].upper(): it for it in csv.DictReader(file)}
     text = re.sub(r"//[^\n]*|/\*.*?\*/", " ", netlist, flags=re.S)
@@ -58,13 +62,14 @@ def cells_of_chains(netlist, table, scan_outs):
         if cell.upper() in pins:
             row = pins[cell.upper()]
             nets = {pin.upper(): net.strip().lstrip("\\").strip() for pin, net in re.findall(r"\.\s*([\w$]+)\s*\(([^)]*)\)", inside)}
-            behind[nets[row["so"].upper()]] = (f"{name.strip().lstrip(chr(92))}/{row['d'].upper()}", nets[row["si"].upper()])
+            called = f"{name.strip().lstrip(chr(92))}/{row['d'].upper()}"
+            behind[nets[row["so"].upper()]] = ((called, name.strip() + " " * name.startswith(chr(92))), nets[row["si"].upper()])
     chains = []
     for net in scan_outs:
         chain = []
         while net in behind:
-            name, net = behind[net]
-            chain.append(name)
+            cell, net = behind[net]
+            chain.append(cell)
         chains.append(chain)
     return chains
 
@@ -187,6 +192,18 @@ module bench;
     end
   endtask
 
+  task shift_at_once;
+    begin
+{beginning}      #40;
+{taking}      for (k = 0; k <= {scanned}; k = k + 1)
+        if (kept[k]) begin
+          strobes = strobes + 1;
+          if (taken[k] !== shifted[k]) report(cells[k], taken[k], shifted[k]);
+        end
+{putting}      #60;
+    end
+  endtask
+
   initial begin
     strobes = 0; mismatches = 0; in = 0; pair = 0; log = 0; seen = 0;
 {logging}{naming}    file = $fopen("{data}", "r");
@@ -207,7 +224,8 @@ module bench;
         found = $fscanf(file, " %h %h %h %h %h", count, loaded, pulse, kept, shifted);
         pulse = {clock};
         taken = 0;
-        for (place = 0; place < count; place = place + 1) shift_one;
+        if ({parallel}) shift_at_once;
+        else for (place = 0; place < count; place = place + 1) shift_one;
         if (seen != 0) $fdisplay(seen, "%b", taken);
       end
       found = $fscanf(file, "%d", kind);
@@ -221,7 +239,7 @@ endmodule
 """
 
 
-def bench_of(made, signals, module, ranges, data, log, seen, chains):
+def bench_of(made, signals, module, ranges, data, log, seen, chains, is_parallel):
     """The text of the bench. The names of the data pins of scan cells are known where a log is written."""
     whole = {}
     for name, direction in signals:
@@ -237,20 +255,27 @@ def bench_of(made, signals, module, ranges, data, log, seen, chains):
             f"      in[{made.ins.place[it]}] = loaded[place * {len(made.scan_ins)} + {k}];\n" for k, it in enumerate(made.scan_ins))
         for k, it in enumerate(made.scan_outs):
             at, place = f"place * {len(made.scan_outs)} + {k}", made.outs.place[it]
-            name = f"cells[{at}]" if log else f"names[{place}]"
+            name = f"cells[{at}]" if chains else f"names[{place}]"
             comparing += f"      taken[{at}] = out[{place}];\n" if seen else ""
             comparing += (f"      if (kept[{at}]) begin\n        strobes = strobes + 1;\n"
                           f"        if (out[{place}] !== shifted[{at}]) report({name}, out[{place}], shifted[{at}]);\n      end\n")
+    taking, putting, longest = "", "", max((len(it) for it in chains), default=0)
     for k, chain in enumerate(chains):
-        naming += "".join(f'    cells[{place * len(chains) + k}] = "{name}";\n' for place, name in enumerate(chain))
+        for place, (name, instance) in enumerate(chain):
+            naming += f'    cells[{place * len(chains) + k}] = "{name}";\n'
+            taking += f"      taken[{place * len(chains) + k}] = chip.{instance}.state;\n" if is_parallel else ""
+            loaded = (longest - len(chain) + place) * len(chains) + k
+            putting += f"      chip.{instance}.state = loaded[{loaded}];\n" if is_parallel else ""
+    beginning = shifting.split("\n")[0] + "\n" if shifting else ""
     logging = f'    log = $fopen("{log}", "w");\n    $fdisplay(log, "pair,output");\n' if log else ""
     logging += f'    seen = $fopen("{seen}", "w");\n' if seen else ""
-    longest = max([len(it) for it in made.outs.place] + [len(it) for chain in chains for it in chain] + [1])
+    widest = max([len(it) for it in made.outs.place] + [len(it[0]) for chain in chains for it in chain] + [1])
     bits = max(1, made.length * max(1, len(made.scan_ins)))
     clock = f"1 << {made.ins.place[made.groups['_ctl_'][1]]}" if made.scan_ins else "0"
     return BENCH.format(declared=declared, joined=joined, naming=naming, shifting=shifting, comparing=comparing, module=module,
                         ports=", ".join(f".{it}({it})" for it in whole), ins=made.ins.count - 1, outs=made.outs.count - 1,
-                        scanned=bits - 1, chains=max(1, len(made.scan_ins)) - 1, width=longest, logging=logging,
+                        scanned=bits - 1, chains=max(1, len(made.scan_ins)) - 1, width=widest, logging=logging,
+                        parallel=int(is_parallel), beginning=beginning, taking=taking, putting=putting,
                         data=data, clock=clock, kind_pair=PAIR, kind_vector=VECTOR)
 
 
@@ -274,6 +299,7 @@ def main():
     parser.add_argument("--log")
     parser.add_argument("--scan")
     parser.add_argument("--seen")
+    parser.add_argument("--parallel", action="store_true")
     asked = parser.parse_args()
     with open(asked.patterns, encoding="utf-8") as file:
         text = file.read()
@@ -284,14 +310,14 @@ def main():
     with open(asked.data, "w", encoding="utf-8") as out:
         made = write_statements(out, text, signals, groups)
     chains = []
-    if asked.log and made.scan_outs:
+    if (asked.log or asked.parallel) and made.scan_outs:
         if not asked.scan:
-            sys.exit("a log of a chip with scan chains needs --scan SCAN.csv")
+            sys.exit("--log and --parallel need --scan SCAN.csv where there are scan chains")
         chains = cells_of_chains(netlist, asked.scan, made.scan_outs)
         lengths = [int(it) for it in re.findall(r"ScanLength (\d+);", text)]
         if [len(it) for it in chains] != lengths:
             sys.exit(f"the chains of the netlist have {[len(it) for it in chains]} cells, and those of the patterns {lengths}")
-    sys.stdout.write(bench_of(made, signals, module, ranges, asked.data, asked.log, asked.seen, chains))
+    sys.stdout.write(bench_of(made, signals, module, ranges, asked.data, asked.log, asked.seen, chains, asked.parallel and bool(chains)))
     if asked.replace and asked.netlist:
         with open(asked.netlist, "w", encoding="utf-8") as out:
             out.write(replaced(netlist, asked.replace))
