@@ -17,7 +17,7 @@ cell does with a defect; compile OUT.v in the place of NETLIST.v. With --log, th
 that `cellaware diagnose` reads; where there are scan chains, SCAN.csv is the table of scan cells, which tells their pins.
 With --seen, it writes to SEEN.txt what it sees at the outputs, a line for each statement (`tools/random_patterns.py`).
 With --parallel, chains aren't shifted: what their cells took is compared at once, and their state is put into them, which is some
-fifty times as fast on a large chip, and doesn't try the chains. SCAN.csv tells their pins, and their models have to keep their
+ten times as fast on a large chip, and doesn't try the chains. SCAN.csv tells their pins, and their models have to keep their
 state in `state`, as `tools/scan_cell.v` does.
 Python 3.9 or later, no packages.
 """
