@@ -9,19 +9,21 @@ use Rattle.ca_net.specs.State.{value_at}
 use Rattle.ca_table.specs.Gives.{unknown_wave}
 use Rattle.ca_flat.specs.Flat.{flat}
 use Rattle.ca_flips.specs.Flips.{AreLastsOf}
-use Rattle.ca_sim.specs.Seen.{Seen, IsExact}
+use Rattle.ca_sim.specs.Seen.{Seen, AreNetWaves, IsExact}
 use Rattle.ca_sim.specs.Simulator.{Simulator}
-use Rattle.ca_sweep.specs.Seen.{Swept, lasts_in}
+use Rattle.ca_sweep.specs.Seen.{Loaded, lasts_in}
 use Rattle.ca_engine.specs.code.FlipBench.{IsFlipBench}
 
 -- the same chip and bits, and the same places
-pub flip_kept : (old new : Simulator) (swept : Swept) (loaded : Bool) → new.seen.chip ≡ old.seen.chip → new.seen.places ≡ old.seen.places
-    → new.seen.pair ≡ old.seen.pair → IsFlipBench old swept loaded → IsFlipBench new swept loaded
-flip_kept old new swept loaded chip_is places_are pair_is is = record {
+pub flip_kept : (old new : Simulator) (finder : Loaded) (loaded : Bool) → new.seen.chip ≡ old.seen.chip → new.seen.places ≡ old.seen.places
+    → new.seen.pair ≡ old.seen.pair → IsFlipBench old finder loaded → IsFlipBench new finder loaded
+flip_kept old new finder loaded chip_is places_are pair_is is = record {
   chip_is = is.chip_is ∙ sym chip_is;
   places_are = is.places_are ∙ sym places_are;
-  lasts = λ on. subst (λ chip. AreLastsOf chip new.seen.pair (value_at swept.lasts)) (sym chip_is)
-      (subst (λ pair. AreLastsOf old.seen.chip pair (value_at swept.lasts)) (sym pair_is) (is.lasts on));
+  lasts = λ on. subst (λ chip. AreLastsOf chip new.seen.pair (value_at finder.lasts)) (sym chip_is)
+      (subst (λ pair. AreLastsOf old.seen.chip pair (value_at finder.lasts)) (sym pair_is) (is.lasts on));
+  waves = λ on. subst (λ chip. AreNetWaves chip None new.seen.pair finder.waves) (sym chip_is)
+      (subst (λ pair. AreNetWaves old.seen.chip None pair finder.waves) (sym pair_is) (is.waves on));
 }
 
 -- the last values of the good waves are good last values
@@ -32,3 +34,8 @@ loaded_lasts seen lasts is exact formed = λ good net within.
     let here : value_at lasts net ≡ (get_or seen.good net unknown_wave).last =
     ap (λ list. value_at list net) is ∙ get_or-map (λ (wave : Wave). wave.last) seen.good net unknown_wave X (let c = waves.count in omega arith) in
     sym (ap (λ (wave : Wave). wave.last) (waves.exact good net within)) ∙ sym here
+
+-- the good waves are those of the flat network
+pub loaded_waves : (seen : Seen) (waves : List Wave) → waves ≡ seen.good → IsExact seen → IsWellFormed (flat seen.chip None)
+    → AreNetWaves seen.chip None seen.pair waves
+loaded_waves seen waves is exact formed = subst (AreNetWaves seen.chip None seen.pair) (sym is) (exact.good formed)

@@ -14,8 +14,8 @@ use ca_view::View;
 use std::alloc::Global;
 use std::marker::Model;
 
-/// A judge, and a finder, which is loaded with the good last values for the bits when it is asked. All memory
-/// is taken by `reserve`.
+/// A judge, and a finder, which is loaded with the good waves for the bits when it is asked. All memory is
+/// taken by `reserve`.
 #[derive(Drop)]
 pub(crate) struct FlipBench<'a, R: ExposingRows, P: Choice + Drop> {
     judge: ca_judge::ChipJudge<'a, R, P>,

@@ -8,7 +8,7 @@ use Rattle.ca_flat.specs.Chip.{Chip, cell_at, inputs_at, outputs_at, net_of, out
 use Rattle.ca_flat.specs.Chain.{IsChain}
 use Rattle.ca_flips.specs.Static.{IsStatic}
 use Rattle.ca_flips.specs.Flips.{IsAfter}
-use Rattle.ca_view.specs.Linked.{Reads, IsLinked, IsPlaced}
+use Rattle.ca_view.specs.Linked.{Reads, IsLinked}
 use Rattle.ca_sweep.specs.Seen.{IsClear}
 use Rattle.ca_sweep.specs.code.Kept.{IsPassing, AreDefinitePins, AreOutputsClear, AreMarks, AreAllStatic, is_marked}
 

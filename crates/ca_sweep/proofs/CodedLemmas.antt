@@ -1,6 +1,6 @@
 -- A defect whose code is known is found by it.
-use Rattle.std.proofs.Common.{◌≡◌, ◌≢◌, ℕ, zero, suc, ◌<◌, ◌≤◌, true, List, length, sym, ◌∙◌, ap, subst, arith}
-use Rattle.std.specs.Prelude.{slice_get, Option, None, Some, IfSome}
+use Rattle.std.proofs.Common.{◌≡◌, ◌≢◌, ℕ, zero, suc, ◌<◌, ◌≤◌, List, sym, ◌∙◌, ap, subst, arith}
+use Rattle.std.specs.Prelude.{slice_get, slice_index_or, Option, None, Some, IfSome}
 use Rattle.ca_net.specs.declared.trit.Trit.{Trit}
 use Rattle.ca_net.specs.declared.trit.Trit.TheVariants.{X}
 use Rattle.ca_net.specs.declared.wave.Wave.{Wave}
@@ -12,16 +12,19 @@ use Rattle.ca_flat.specs.Waves.{IsFlatChip}
 use Rattle.ca_flips.specs.Flips.{AreGoodLasts}
 use Rattle.ca_flips.specs.Laws.{SweptAreFlipped, DetectedIsFilledIn, DetectedIsFlipped}
 use Rattle.ca_table.specs.Gives.{wave_at}
+use Rattle.ca_sweep.specs.declared.hand.Hand.{Hand}
 use Rattle.ca_sweep.specs.declared.rows.Row.{Row}
 use Rattle.ca_sweep.specs.declared.seen.Seen.{Seen}
 use Rattle.ca_sweep.specs.Found.{IsFound}
-use Rattle.ca_sweep.specs.code.Rows.{trit_of, code_of_lasts, IsCoded, IsListOf, IsRowOf, IsCodeIn, IsKnownCode}
+use Rattle.ca_sweep.specs.code.Faulty.{AreWavesAt}
+use Rattle.ca_sweep.specs.code.Rows.{code_of_lasts, IsCoded, IsListOf, IsRowOf, IsCodeIn, IsKnownCode}
 use Rattle.ca_sweep.specs.code.Coded.{IsSeenCoded}
+use Rattle.ca_sweep.specs.code.Hand.{IsTakenAt, IsCodedAt}
 use Rattle.ca_sweep.proofs.FoundLemmas.{found_by, faulty_lasts}
 use Rattle.ca_sweep.proofs.RowLemmas.{flips_of_code, first_of_code, second_of_code}
 
 -- the code in a slot is that of what the cell gives with the defect
-pub coded_in : (raw : RawCell) (pins : List Wave) (slot : Option Row) (list : List Defect) (defect : Defect) (code : ℕ) → IsListOf raw list
+coded_in : (raw : RawCell) (pins : List Wave) (slot : Option Row) (list : List Defect) (defect : Defect) (code : ℕ) → IsListOf raw list
     → IsRowOf raw pins slot → IsCodeIn slot list defect code → IsCoded raw defect pins code
 coded_in raw pins None list defect code is_list row is = absurd is
 coded_in raw pins (Some row) list defect code is_list codes is =
@@ -44,7 +47,14 @@ coded_found swept filled flipped chip rank defect pair pins goods code answer is
     (flips_of_code chip goods defect.instance seen.ends coded.outputs code seen.flips seen.few seen.goods_are coded.code_is seen.flips_are) seen.known seen.seen
     (λ on output within. known_of_code coded.outputs code (outputs_at chip defect.instance) seen.few coded.code_is (seen.known_is on) output within) seen.seen_is)
 
-pub if_coded : (raw : RawCell) (pins : List Wave) (slot : Option Row) (list : List Defect) (defect : Defect) (result : Option ℕ) → IsListOf raw list
-    → IsRowOf raw pins slot → IfSome result (IsCodeIn slot list defect) → IfSome result (IsCoded raw defect pins)
-if_coded raw pins slot list defect None is_list row is = tt
-if_coded raw pins slot list defect (Some code) is_list row is = coded_in raw pins slot list defect code is_list row is
+-- the code in the slot is that of the defect
+pub hand_coded : (chip : Chip) (goods : ℕ → Trit) (waves : List Wave) (slots : List (Option Row)) (hand : Hand) (defect : ChipDefect) (list : List Defect) (result : Option ℕ)
+    → IsTakenAt chip goods waves slots hand defect.instance → IsListOf (cell_at chip defect.instance) list
+    → IfSome result (IsCodeIn (slice_index_or slots hand.slot None) list defect.defect) → IfSome result (IsCodedAt chip waves defect)
+hand_coded chip goods waves slots hand defect list None is is_list code_is = tt
+hand_coded chip goods waves slots hand defect list (Some code) is is_list code_is = record {
+  pins = is.taken.pins;
+  pins_are = subst (λ u. AreWavesAt chip waves u is.taken.pins) is.instance_is is.taken.pins_are;
+  coded = coded_in (cell_at chip defect.instance) is.taken.pins (slice_index_or slots hand.slot None) list defect.defect code is_list
+      (subst (λ u. IsRowOf (cell_at chip u) is.taken.pins (slice_index_or slots hand.slot None)) is.instance_is is.taken.row) code_is;
+}

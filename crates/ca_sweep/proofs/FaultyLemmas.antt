@@ -1,8 +1,7 @@
--- What is kept: what cells with a defect gave, and the answers for one instance.
-use Rattle.std.proofs.Common.{◌≡◌, ℕ, zero, suc, ◌+◌, ◌<◌, ◌≤◌, Bool, true, false, List, [], ◌∷◌, ◌++◌, length, get_or, set, Option, None, Some, inl, inr, refl, sym, ◌∙◌, ap, subst, arith, below_more}
+-- What is kept of cells with a defect, and what is found of them.
+use Rattle.std.proofs.Common.{◌≡◌, ℕ, zero, suc, ◌+◌, ◌<◌, ◌≤◌, Bool, true, false, List, [], ◌∷◌, ◌++◌, length, set, Option, Some, refl, sym, ◌∙◌, ap, subst, arith, below_more}
 use Rattle.std.specs.List.{All}
-use Rattle.std.proofs.lemmas.Bool.{cases_eq}
-use Rattle.std.proofs.lemmas.List.{get_or_push, get_or_append_left, get_or-set_same, get_or-set_other, length-set}
+use Rattle.std.proofs.lemmas.List.{get_or_push, get_or_append_left}
 use Rattle.std.proofs.lemmas.List.Elements.{All-set}
 use Rattle.ca_net.specs.declared.wave.Wave.{Wave}
 use Rattle.ca_net.specs.declared.trit.Trit.{Trit}
@@ -12,11 +11,7 @@ use Rattle.ca_table.specs.Gives.{Gives, wave_at, unknown_wave}
 use Rattle.ca_flat.specs.Chip.{Chip, cell_at, outputs_at}
 use Rattle.ca_view.specs.Linked.{IsLinked, IsPlaced}
 use Rattle.ca_sweep.specs.declared.faulty.Entry.{Entry}
-use Rattle.ca_sweep.specs.declared.memo.Memo.{Memo}
-use Rattle.ca_sweep.specs.declared.seen.Flips.{Flips}
-use Rattle.ca_sweep.specs.declared.seen.Seen.{Seen}
-use Rattle.ca_sweep.specs.Seen.{IsSeen}
-use Rattle.ca_sweep.specs.code.Faulty.{HoldsTrue, code_of, IsMemo, IsFlippedAt, AreFlipsOf}
+use Rattle.ca_sweep.specs.code.Faulty.{HoldsTrue, code_of, IsFlippedAt, AreFlipsOf}
 
 -- what the cell of one instance gives is kept for each with its number
 pub entry_true : (chip : Chip) (place_of number_of : ℕ → ℕ) (u : ℕ) (entry : Entry) (outputs : List Wave) → IsLinked chip place_of number_of → IsPlaced chip place_of u
@@ -56,28 +51,6 @@ code_small false false = omega arith
 code_small true false = omega arith
 code_small false true = omega arith
 code_small true true = omega arith
-
--- one answer more is kept
-pub memo_put : (chip : Chip) (goods : ℕ → Trit) (old new : Memo) (flips : Flips) (seen : Seen) (code : ℕ) → IsMemo chip goods old → code ≡ code_of flips.first flips.second
-    → new.instance ≡ old.instance → new.answers.items ≡ set old.answers.items code (Some seen) → IsSeen chip goods old.instance flips seen → IsMemo chip goods new
-memo_put chip goods old new flips seen code is code_is same new_is seen_is = record {
-  room = ap length new_is ∙ length-set old.answers.items code (Some seen) ∙ is.room;
-  each = λ other reported at. subst (λ u. IsSeen chip goods u other reported) (sym same) (elim (cases_eq (code_of other.first other.second) code) [
-    | inl e ↦
-        let flips_are = same_code other.first other.second flips.first flips.second (e ∙ code_is) in
-        let small = code_small flips.first flips.second in
-        let here : get_or new.answers.items (code_of other.first other.second) None ≡ Some seen =
-        ap (λ list. get_or list (code_of other.first other.second) None) new_is ∙ ap (λ k. get_or (set old.answers.items code (Some seen)) k None) e
-        ∙ get_or-set_same old.answers.items code (Some seen) None (let r = is.room in omega (arith, code_is)) in
-        let found : Some seen ≡ Some reported = sym here ∙ at in
-        let is_reported : seen ≡ reported = cc in
-        subst (λ a. IsSeen chip goods old.instance (record { first = a; second = other.second }) reported) (sym flips_are.0)
-        (subst (λ b. IsSeen chip goods old.instance (record { first = flips.first; second = b }) reported) (sym flips_are.1)
-        (subst (IsSeen chip goods old.instance flips) is_reported seen_is))
-    | inr apart ↦ is.each other reported (sym (ap (λ list. get_or list (code_of other.first other.second) None) new_is
-        ∙ get_or-set_other old.answers.items code (code_of other.first other.second) (Some seen) None apart) ∙ at)
-  ]);
-}
 
 -- two output pins are all
 pub flips_are : (chip : Chip) (goods : ℕ → Trit) (u : ℕ) (outputs : List Wave) (first second : Bool) → outputs_at chip u ≤ 2

@@ -1,5 +1,5 @@
 -- Where no pin is flipped, nothing is seen.
-use Rattle.std.proofs.Common.{◌≡◌, ◌≢◌, ℕ, zero, suc, false, refl, sym, ap, subst, inl}
+use Rattle.std.proofs.Common.{◌≡◌, ℕ, zero, suc, false, refl, sym, ap, inl}
 use Rattle.std.specs.Prelude.{slice_index}
 use Rattle.ca_net.specs.declared.trit.Trit.{Trit}
 use Rattle.ca_net.specs.declared.trit.Trit.TheVariants.{Zero, One, X}
@@ -7,7 +7,7 @@ use Rattle.ca_flat.specs.Chip.{Chip, output_net}
 use Rattle.ca_flips.specs.Flips.{IsOpposite}
 use Rattle.ca_sweep.specs.declared.seen.Flips.{Flips}
 use Rattle.ca_sweep.specs.declared.seen.Seen.TheVariants.{Nowhere}
-use Rattle.ca_sweep.specs.Seen.{is_flipped, flipped_if, flipped_outputs, IsClear, IsSeen}
+use Rattle.ca_sweep.specs.Seen.{is_flipped, flipped_if, IsClear, IsSeen}
 
 -- a value isn't its own opposite
 not_own : (v : Trit) → IsOpposite v v → ⊥

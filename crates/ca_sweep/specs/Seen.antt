@@ -21,6 +21,18 @@ pub record IsOfChip (chip : Chip) (places : List ℕ) (swept : Swept) : Type 0 w
   pub chip_is : swept.chip ≡ chip
   pub places_are : swept.places ≡ places
 
+-- the same of a finder, which has the good wave of each net too
+pub record Loaded : Type 0 where
+  pub chip : Chip
+  pub places : List ℕ
+  pub lasts : List Trit
+  pub waves : List Wave
+
+-- so it is of this chip
+pub record IsForChip (chip : Chip) (places : List ℕ) (loaded : Loaded) : Type 0 where
+  pub chip_is : loaded.chip ≡ chip
+  pub places_are : loaded.places ≡ places
+
 -- the last values of waves
 abbrev pub lasts_in : List Wave → List Trit
 lasts_in waves = map (λ (wave : Wave). wave.last) waves

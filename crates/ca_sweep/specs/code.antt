@@ -9,3 +9,4 @@ pub mod Faulty
 pub mod Segments
 pub mod Rows
 pub mod Coded
+pub mod Hand

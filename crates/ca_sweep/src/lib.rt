@@ -8,7 +8,7 @@ mod codes;
 mod faulty;
 mod finder;
 mod firsts;
-mod memo;
+mod hand;
 mod rows;
 mod run;
 mod seen;

@@ -5,7 +5,6 @@ ghost use Rattle.ca_net.specs.declared.trit.Trit.{Trit};
 ghost use Rattle.ca_flat.specs.Chip.{Chip, count_of};
 ghost use Rattle.ca_sweep.specs.code.Segments.{AreSegments, IsSegment};
 
-use crate::memo::code_of;
 use crate::seen::Flips;
 use ca_base::NoMemory;
 use std::alloc::Global;
@@ -75,5 +74,20 @@ impl Segments {
             → AreSegments chip place_of goods self.new.slots.items }
     {
         self.slots[4 * u + code_of(flips.first, flips.second)] = Some(segment);
+    }
+}
+
+ghost use Rattle.ca_sweep.specs.code.Faulty.{code_of};
+
+// The number of a choice of output pins.
+fn code_of(first: bool, second: bool) -> usize
+    ensures same { result ≡ code_of first second }
+    ensures few { result < 4 }
+{
+    match (first, second) {
+        (false, false) => 0,
+        (true, false) => 1,
+        (false, true) => 2,
+        (true, true) => 3,
     }
 }

@@ -1,11 +1,10 @@
--- What only proofs of code cite: what cells with a defect give, kept for later, and answers for one instance.
-use Rattle.std.specs.Prelude.{ℕ, ◌≡◌, ◌<◌, ◌↔◌, Bool, true, false, List, length, slice_index_or}
+-- What only proofs of code cite: what cells with a defect give, kept for later.
+use Rattle.std.specs.Prelude.{ℕ, ◌≡◌, ◌<◌, ◌↔◌, Bool, true, false, List, length}
 use Rattle.std.specs.Prelude.{Option, None, Some}
 use Rattle.std.specs.List.{All}
 use Rattle.ca_net.specs.declared.trit.Trit.{Trit}
 use Rattle.ca_net.specs.declared.wave.Wave.{Wave}
 use Rattle.ca_net.specs.Wave.{IsWave}
-use Rattle.ca_net.specs.State.{value_at}
 use Rattle.ca_defect.specs.declared.defect.Defect.{Defect}
 use Rattle.ca_defect.specs.List.{faulty_of}
 use Rattle.ca_table.specs.Gives.{Gives, wave_at}
@@ -15,12 +14,8 @@ use Rattle.ca_view.specs.Linked.{IsPlaced}
 use Rattle.ca_sim.specs.code.Cells.{AreCellRooms}
 use Rattle.ca_sweep.specs.declared.faulty.Entry.{Entry}
 use Rattle.ca_sweep.specs.declared.faulty.Faulty.{Faulty}
-use Rattle.ca_sweep.specs.declared.memo.Memo.{Memo}
-use Rattle.ca_sweep.specs.declared.rows.Rows.{Rows}
 use Rattle.ca_sweep.specs.declared.seen.Flips.{Flips}
-use Rattle.ca_sweep.specs.declared.seen.Seen.{Seen}
-use Rattle.ca_sweep.specs.Seen.{Swept, is_flipped, IsSeen}
-use Rattle.ca_sweep.specs.code.Rows.{AreRows}
+use Rattle.ca_sweep.specs.Seen.{is_flipped}
 
 -- an entry has what its cell with its defect gives, at each instance with a cell of that number
 abbrev pub HoldsTrue : Chip → (ℕ → ℕ) → (ℕ → ℕ) → Option Entry → Type 0
@@ -49,18 +44,6 @@ code_of true false = 1
 code_of false true = 2
 code_of true true = 3
 
--- the answers that are kept are those for one instance
-pub record IsMemo (chip : Chip) (goods : ℕ → Trit) (memo : Memo) : Type 0 where
-  pub room : length memo.answers.items ≡ 4
-  pub each : (flips : Flips) (seen : Seen)
-      → slice_index_or memo.answers.items (code_of flips.first flips.second) None ≡ Some seen
-      → IsSeen chip goods memo.instance flips seen
-
--- an answer that is kept says where the flips are seen
-abbrev pub IsSeenOr : Chip → (ℕ → Trit) → ℕ → Flips → Option Seen → Type 0
-IsSeenOr chip goods u flips None = Unit {0}
-IsSeenOr chip goods u flips (Some seen) = IsSeen chip goods u flips seen
-
 -- these are waves, those of the input nets of the instance
 pub record AreWavesAt (chip : Chip) (waves : List Wave) (u : ℕ) (pins : List Wave) : Type 0 where
   pub count : length pins ≡ inputs_at chip u
@@ -79,12 +62,3 @@ abbrev pub IsFlippedAt : Chip → (ℕ → Trit) → ℕ → List Wave → ℕ �
 IsFlippedAt chip goods u outputs output flipped =
     output < outputs_at chip u
     → (flipped ≡ true) ↔ IsOpposite (goods (output_net chip u output)) (wave_at outputs output).last
-
--- what a finder keeps: its sweep is of the chip, and what is kept is true
-pub record IsFinder (chip : Chip) (places : List ℕ) (place_of number_of : ℕ → ℕ) (swept : Swept)
-    (faulty : Faulty) (rows : Rows) (memo : Memo) : Type 0 where
-  pub chip_is : swept.chip ≡ chip
-  pub places_are : swept.places ≡ places
-  pub faulty_are : AreFaulty chip place_of number_of faulty
-  pub rows_are : AreRows chip place_of number_of rows
-  pub memo_is : IsMemo swept.chip (value_at swept.lasts) memo

@@ -2,7 +2,6 @@
 use Rattle.std.specs.Prelude.{ℕ, zero, suc, ◌+◌, ◌*◌, ◌/◌, ◌%◌, ◌≡◌, ◌≢◌, ◌<◌, ◌↔◌, true, List, [], length}
 use Rattle.std.specs.Prelude.{slice_get, slice_index, slice_index_or, Option, None, Some}
 use Rattle.std.specs.List.{All}
-use Rattle.std.specs.Option.{ForSome}
 use Rattle.ca_net.specs.declared.trit.Trit.{Trit}
 use Rattle.ca_net.specs.declared.trit.Trit.TheVariants.{Zero, One, X}
 use Rattle.ca_net.specs.declared.wave.Wave.{Wave}

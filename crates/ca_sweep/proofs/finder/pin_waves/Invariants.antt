@@ -6,8 +6,8 @@ use Rattle.ca_flat.specs.Chip.{net_of}
 use Rattle.ca_sweep.proofs.finder.pin_waves.Given as goal
 
 abbrev pub invariant-loop-pin : goal.invariant-loop-pin
-invariant-loop-pin g l = record {
+invariant-loop-pin l = record {
   count : length l.pins.items ≡ l.pin;
-  each : (pin : ℕ) → pin < l.pin → wave_at l.pins.items pin ≡ wave_at (g.V.NetWaves.seen l.waves).good (net_of l.chip.core l.u pin);
+  each : (pin : ℕ) → pin < l.pin → wave_at l.pins.items pin ≡ wave_at l.waves (net_of l.chip.core l.u pin);
   are_waves : All IsWave l.pins.items;
 }
