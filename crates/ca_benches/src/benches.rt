@@ -14,6 +14,7 @@ use ca_credit::{ByLasts, Simulator};
 use ca_generate::{Bench, SearchEnd};
 use ca_net::Trit;
 use ca_pair::Pair;
+use ca_places::PlaceSet;
 use std::alloc::Global;
 use std::marker::Model;
 
@@ -116,6 +117,10 @@ impl<B: Bench + Drop> Simulator for Benches<B> {
     fn load(&mut self, pair: &Pair) {
         self.good.load(pair);
         load_all(&mut self.parts, pair);
+    }
+
+    fn next_to_try(&mut self, places: &PlaceSet, from: usize) -> Option<usize> {
+        places.next(from)
     }
 
     fn may_detect(&self, place: usize) -> bool {

@@ -11,8 +11,8 @@ use Rattle.ca_flat.specs.Flat.{flat}
 use Rattle.ca_flips.specs.Flips.{AreLastsOf}
 use Rattle.ca_sim.specs.Seen.{Seen, AreNetWaves, IsExact}
 use Rattle.ca_sim.specs.Simulator.{Simulator}
-use Rattle.ca_sweep.specs.Seen.{Loaded, lasts_in}
-use Rattle.ca_engine.specs.code.FlipBench.{IsFlipBench}
+use Rattle.ca_sweep.specs.Seen.{Laned, Loaded, lasts_in}
+use Rattle.ca_engine.specs.code.FlipBench.{IsFlipBench, IsLaneBench}
 
 -- the same chip and bits, and the same places
 pub flip_kept : (old new : Simulator) (finder : Loaded) (loaded : Bool) → new.seen.chip ≡ old.seen.chip → new.seen.places ≡ old.seen.places
@@ -24,6 +24,13 @@ flip_kept old new finder loaded chip_is places_are pair_is is = record {
       (subst (λ pair. AreLastsOf old.seen.chip pair (value_at finder.lasts)) (sym pair_is) (is.lasts on));
   waves = λ on. subst (λ chip. AreNetWaves chip None new.seen.pair finder.waves) (sym chip_is)
       (subst (λ pair. AreNetWaves old.seen.chip None pair finder.waves) (sym pair_is) (is.waves on));
+}
+
+pub lanes_kept : (old new : Simulator) (finder : Loaded) (loaded : Bool) (laned : Laned) → new.seen.chip ≡ old.seen.chip → new.seen.places ≡ old.seen.places
+    → new.seen.pair ≡ old.seen.pair → IsLaneBench old finder loaded laned → IsLaneBench new finder loaded laned
+lanes_kept old new finder loaded laned chip_is places_are pair_is is = record {
+  flip = flip_kept old new finder loaded chip_is places_are pair_is is.flip;
+  lanes = record { chip_is = is.lanes.chip_is ∙ sym chip_is; places_are = is.lanes.places_are ∙ sym places_are };
 }
 
 -- the last values of the good waves are good last values

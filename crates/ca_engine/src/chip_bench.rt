@@ -16,6 +16,7 @@ use ca_generate::{Bench, SearchEnd, outcome_is_search};
 use ca_guide::Choice;
 use ca_net::Trit;
 use ca_pair::Pair;
+use ca_places::PlaceSet;
 use ca_rows::ExposableDefects;
 use ca_search::Search;
 use ca_sim::{NetWaves, definite_last_is_end};
@@ -169,11 +170,15 @@ impl<R: ExposableDefects, P: Choice + Drop> Simulator for ChipBench<'_, R, P> {
     }
 
     fn by_lasts(&mut self, place: usize) -> ByLasts {
-        match self.judge.by_lasts(self.defects.get(place)) {
+        match self.judge.by_lasts(self.defects.get(place), place) {
             Seen::Undecided => ByLasts::Undecided,
             Seen::Nowhere => ByLasts::Nowhere,
             Seen::At(output) => ByLasts::At(output),
         }
+    }
+
+    fn next_to_try(&mut self, places: &PlaceSet, from: usize) -> Option<usize> {
+        self.judge.next_to_try(&self.defects, places, from)
     }
 
     fn may_detect(&self, place: usize) -> bool {

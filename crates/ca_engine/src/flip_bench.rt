@@ -3,16 +3,21 @@
 ghost use Rattle.std.specs.Prelude.{◌≡◌, ◌<◌, ◌^◌, length, IfOk};
 
 use ca_base::NoMemory;
+use ca_chip_defects::ChipDefects;
 use ca_flat::ChipDefect;
 use ca_guide::{Attempt, Choice, Step};
 use ca_judge::ExposingRows;
 use ca_net::Wave;
+use ca_places::PlaceSet;
 use ca_search::{Judge, Standing};
 use ca_sim::{Bits, NetWaves};
-use ca_sweep::{Finder, Seen};
+use ca_sweep::{Finder, LaneSweep, Seen};
 use ca_view::View;
 use std::alloc::Global;
 use std::marker::Model;
+
+// The number of no lane.
+const NO_LANE: usize = 64;
 
 /// A judge, and a finder, which is loaded with the good waves for the bits when it is asked. All memory is
 /// taken by `reserve`.
@@ -21,21 +26,23 @@ pub(crate) struct FlipBench<'a, R: ExposingRows, P: Choice + Drop> {
     judge: ca_judge::ChipJudge<'a, R, P>,
     finder: Finder<'a>,
     is_loaded: bool,
+    lanes: LaneSweep<'a>,
 }
 
 impl<'a, R: ExposingRows, P: Choice + Drop> Model for FlipBench<'a, R, P> {
     ghost use Rattle.ca_sim.specs.Simulator.{Simulator};
-    ghost use Rattle.ca_engine.specs.code.FlipBench.{IsFlipBench};
+    ghost use Rattle.ca_engine.specs.code.FlipBench.{IsLaneBench};
 
     ghost Value = { Simulator };
 
     ghost view = { λ bench. bench.judge };
 
-    ghost invariant = { λ bench. IsFlipBench bench.judge bench.finder bench.is_loaded };
+    ghost invariant = { λ bench. IsLaneBench bench.judge bench.finder bench.is_loaded bench.lanes };
 }
 
 impl<'a, R: ExposingRows, P: Choice + Drop> FlipBench<'a, R, P> {
-    ghost use Rattle.std.specs.Prelude.{IsFalse, IsTrue, None, Some};
+    ghost use Rattle.std.specs.Prelude.{ℕ, IsFalse, IsTrue, None, Some};
+    ghost use Rattle.std.specs.List.{All};
     ghost use Rattle.ca_net.specs.Circuit.{IsWellFormed};
     ghost use Rattle.ca_flat.specs.Flat.{flat};
     ghost use Rattle.ca_flat.specs.Chip.{IsDefectIn};
@@ -46,7 +53,8 @@ impl<'a, R: ExposingRows, P: Choice + Drop> FlipBench<'a, R, P> {
     ghost use Rattle.ca_sim.specs.Seen.{IsExact, aimed_anew};
     ghost use Rattle.ca_sim.specs.Simulator.{IsFresh, KeepsAim, KeepsPair, KeepsSeen, counted_up};
     ghost use Rattle.ca_judge.specs.ChipJudge.{CanBeJudged};
-    ghost use Rattle.ca_sweep.specs.Found.{IsFound};
+    ghost use Rattle.ca_places.specs.PlaceSet.{Has};
+    ghost use Rattle.ca_sweep.specs.Found.{IsFound, IsNextFound};
 
     /// Takes all memory. No bit is set, and no defect is aimed at.
     pub(crate) fn reserve(
@@ -62,12 +70,14 @@ impl<'a, R: ExposingRows, P: Choice + Drop> FlipBench<'a, R, P> {
         requires few { length outputs.items < 2 ^ 32 }
         ensures { IfOk result (IsFresh view.now.core view.now.ranks) }
     {
+        let lanes = LaneSweep::reserve(alloc, view, &outputs)?;
         let finder = Finder::reserve(alloc, view, outputs)?;
         let judge = ca_judge::ChipJudge::reserve(alloc, view, rows, choice)?;
         Ok(FlipBench {
             judge,
             finder,
             is_loaded: false,
+            lanes,
         })
     }
 
@@ -92,21 +102,42 @@ impl<'a, R: ExposingRows, P: Choice + Drop> FlipBench<'a, R, P> {
         self.judge.may_show(defect)
     }
 
-    /// What last values alone say of a defect: where the bits first detect it.
-    pub(crate) fn by_lasts(&mut self, defect: ChipDefect) -> Seen
+    /// What last values alone say of a defect: where the bits first detect it. Where it stands in a list, its
+    /// place there helps to find it in that of its cell.
+    pub(crate) fn by_lasts(&mut self, defect: ChipDefect, place: usize) -> Seen
         requires defect { IsPlacedDefect self.old.seen.chip (place_in self.old.seen.places) defect }
         requires good_is { IsWellFormed (flat self.old.seen.chip None) }
         requires faulty_is { IsWellFormed (flat self.old.seen.chip (Some defect)) }
         ensures found { IsFound self.old.seen.chip defect self.old.seen.pair result }
         ensures kept { self.new ≡ self.old }
     {
-        if self.is_loaded {
-            return self.finder.find(&self.judge, defect);
-        }
-        self.judge.exact();
-        self.finder.load(&self.judge);
+        load_finder(&self.judge, &mut self.finder, self.is_loaded);
         self.is_loaded = true;
-        self.finder.find(&self.judge, defect)
+        self.finder.find(&self.judge, defect, place)
+    }
+
+    /// The first place of the set at or past this one, but for places of defects of the list of which last
+    /// values alone say that the bits detect them nowhere.
+    pub(crate) fn next_to_try(
+        &mut self,
+        defects: &ChipDefects,
+        places: &PlaceSet,
+        from: usize,
+    ) -> Option<usize>
+        requires defects { All (IsPlacedDefect self.old.seen.chip (place_in self.old.seen.places))
+            defects.now }
+        requires few { length defects.now < 2 ^ 32 }
+        requires within { (place : ℕ) → Has places.now place → place < length defects.now }
+        requires good_is { IsWellFormed (flat self.old.seen.chip None) }
+        requires faulty_are { All (λ defect. IsWellFormed (flat self.old.seen.chip (Some defect)))
+            defects.now }
+        ensures next { IsNextFound self.old.seen.chip defects.now self.old.seen.pair places.now from result }
+        ensures kept { self.new ≡ self.old }
+    {
+        load_finder(&self.judge, &mut self.finder, self.is_loaded);
+        self.is_loaded = true;
+        self.finder
+            .next(&self.judge, defects, places, from, &self.lanes, NO_LANE)
     }
 
     /// Whether the instance of the defect that is aimed at gives the same with this other one of its defects.
@@ -204,4 +235,26 @@ impl<R: ExposingRows, P: Choice + Drop> Judge for FlipBench<'_, R, P> {
         self.is_loaded = false;
         self.judge.attempt()
     }
+}
+
+ghost use Rattle.std.specs.Prelude.{None, true};
+ghost use Rattle.ca_net.specs.Circuit.{IsWellFormed};
+ghost use Rattle.ca_flat.specs.Flat.{flat};
+ghost use Rattle.ca_engine.specs.code.FlipBench.{IsFlipBench};
+
+// Loads the finder with the good waves, if it isn't.
+fn load_finder<R: ExposingRows, P: Choice + Drop>(
+    judge: &ca_judge::ChipJudge<'_, R, P>,
+    finder: &mut Finder<'_>,
+    is_loaded: bool,
+)
+    requires bench { IsFlipBench judge.now finder.old is_loaded }
+    requires good_is { IsWellFormed (flat judge.now.seen.chip None) }
+    ensures { IsFlipBench judge.now finder.new true }
+{
+    if is_loaded {
+        return;
+    }
+    judge.exact();
+    finder.load(judge);
 }

@@ -10,3 +10,4 @@ pub mod Segments
 pub mod Rows
 pub mod Coded
 pub mod Hand
+pub mod Lanes

@@ -1,6 +1,6 @@
 //! Where a pair detects a defect, by last values alone.
 
-ghost use Rattle.std.specs.Prelude.{◌≡◌, ◌≢◌, ◌<◌, ◌^◌, ◌↔◌, length, IfOk, IfSome};
+ghost use Rattle.std.specs.Prelude.{ℕ, ◌≡◌, ◌≢◌, ◌<◌, ◌^◌, ◌↔◌, length, IfOk, IfSome};
 ghost use Rattle.std.specs.Prelude.{IsTrue, None, Some};
 ghost use Rattle.std.specs.List.{All};
 ghost use Rattle.ca_net.specs.declared.trit.Trit.TheVariants.{X};
@@ -18,20 +18,23 @@ ghost use Rattle.ca_sim.specs.Seen.{AreNetWaves};
 ghost use Rattle.ca_view.specs.Linked.{IsPlaced, IsPlacedDefect, place_in};
 ghost use Rattle.ca_view.specs.Places.{cell_number};
 ghost use Rattle.ca_sweep.specs.Seen.{IsForChip, lasts_in};
-ghost use Rattle.ca_sweep.specs.Found.{IsFound};
+ghost use Rattle.ca_sweep.specs.Found.{IsFound, IsNextFound, IsUndetectedBefore};
+ghost use Rattle.ca_places.specs.PlaceSet.{Has};
 ghost use Rattle.ca_sweep.specs.code.Faulty.{AreFaulty, AreWavesAt, AreFlipsOf};
 
 use crate::codes::{flips_of_code, goods_at, is_known};
 use crate::faulty::Faulty;
 use crate::firsts::are_opposite;
 use crate::hand::Hand;
+use crate::lane_sweep::LaneSweep;
 use crate::rows::Rows;
 use crate::seen::{Flips, Seen};
 use crate::sweep::Sweep;
-use ca_base::NoMemory;
+use ca_base::{List, NoMemory};
 use ca_flat::ChipDefect;
 use ca_flips::{detected_is_filled_in, detected_is_flipped, swept_are_flipped};
 use ca_net::{Trit, Wave};
+use ca_places::PlaceSet;
 use ca_response::PinWaves;
 use ca_sim::NetWaves;
 use ca_view::View;
@@ -47,6 +50,8 @@ pub struct Finder<'a> {
     faulty: Faulty,
     rows: Rows,
     waves: Vec<Wave>,
+    // for each instance the place of its cell's first defect in the list that is asked for, as it is guessed
+    starts: Vec<usize>,
     hand: Hand,
 }
 
@@ -80,6 +85,7 @@ impl<'a> Finder<'a> {
         let faulty = Faulty::reserve(alloc, chip)?;
         let rows = Rows::reserve(alloc, chip)?;
         let waves = vec![in alloc; Wave::default(); chip.nets()]?;
+        let starts = vec![in alloc; 0usize; chip.instances()]?;
         let hand = Hand::reserve(alloc)?;
         let sweep = Sweep::reserve(alloc, chip, outputs)?;
         Ok(Finder {
@@ -88,6 +94,7 @@ impl<'a> Finder<'a> {
             faulty,
             rows,
             waves,
+            starts,
             hand,
         })
     }
@@ -104,6 +111,16 @@ impl<'a> Finder<'a> {
         self.sweep.load(waves);
         load(waves, &mut self.waves);
         self.hand.clear();
+    }
+
+    /// Whether a lane has the last values that were taken over, at all nets on pins of instances with a place.
+    pub fn is_lane(&self, lanes: &LaneSweep<'_>, lane: usize) -> bool
+        requires chip { lanes.now.chip ≡ self.now.chip }
+        requires lane { lane < 64 }
+        ensures { IsTrue result → AreSameAt lanes.now.pinned (value_at (trits_in lanes.now.ones lane))
+            (value_at self.now.lasts) }
+    {
+        lanes.agrees(lane, self.sweep.lasts())
     }
 
     // Which output pins have the opposite of the good last value.
@@ -136,7 +153,7 @@ impl<'a> Finder<'a> {
 
     // The code of what the cell of a defect's instance ends with, if that can be in hand and its row has the
     // code.
-    fn code_of(&mut self, defect: ChipDefect) -> Option<u8>
+    fn code_of(&mut self, defect: ChipDefect, place: usize) -> Option<u8>
         requires { IsPlaced self.old.chip (place_in self.old.places) defect.instance }
         ensures code { IfSome result (IsCodedAt self.old.chip self.old.waves defect) }
         ensures kept { self.new ≡ self.old }
@@ -154,8 +171,10 @@ impl<'a> Finder<'a> {
         ) {
             return None;
         }
-        self.rows
-            .code(self.hand.slot, self.chip.number(u), defect.defect)
+        let guess = place.wrapping_sub(start_of(&self.starts, u));
+        let at = self.rows.place(self.hand.number, defect.defect, guess)?;
+        put_start(&mut self.starts, u, place.wrapping_sub(at));
+        self.rows.code(self.hand.slot, at)
     }
 
     // What is found of a defect of an instance that ends with what a code says, as it is kept, or computed
@@ -177,8 +196,9 @@ impl<'a> Finder<'a> {
     /// Where the pair of these waves first detects a defect. The waves that were taken over, and their last
     /// values, are those of the pair. It is undecided where an instance after that of the defect isn't
     /// static, a good last value isn't definite there, or only waves show what unknown values of the
-    /// instance's outputs do. It takes no memory.
-    pub fn find<V: NetWaves>(&mut self, waves: &V, defect: ChipDefect) -> Seen
+    /// instance's outputs do. Where the defect stands in a list, its place there helps to find it in that of
+    /// its cell. It takes no memory.
+    pub fn find<V: NetWaves>(&mut self, waves: &V, defect: ChipDefect, place: usize) -> Seen
         requires chip { (V.seen waves.now).chip ≡ self.old.chip }
         requires defect { IsPlacedDefect self.old.chip (place_in self.old.places) defect }
         requires lasts { AreLastsOf self.old.chip (V.seen waves.now).pair (value_at self.old.lasts) }
@@ -194,10 +214,80 @@ impl<'a> Finder<'a> {
         detected_is_flipped();
         self.chip.linked();
         let u = defect.instance as usize;
-        match self.code_of(defect) {
+        match self.code_of(defect, place) {
             Some(code) => self.find_coded(u, code),
             None => self.find_computed(waves, defect),
         }
+    }
+
+    /// The first place of the set at or past this one, but for places of defects of the list that the pair of
+    /// these waves is found to detect nowhere. The waves that were taken over are those of the pair. A lane
+    /// that is sure has their last values; there may be no such lane.
+    pub fn next<V: NetWaves>(
+        &mut self,
+        waves: &V,
+        defects: &List<ChipDefect>,
+        places: &PlaceSet,
+        from: usize,
+        lanes: &LaneSweep<'_>,
+        lane: usize,
+    ) -> Option<usize>
+        requires chip { (V.seen waves.now).chip ≡ self.old.chip }
+        requires defects { All (IsPlacedDefect self.old.chip (place_in self.old.places)) defects.now }
+        requires few { length defects.now < 2 ^ 32 }
+        requires within { (place : ℕ) → Has places.now place → place < length defects.now }
+        requires lasts { AreLastsOf self.old.chip (V.seen waves.now).pair (value_at self.old.lasts) }
+        requires waves { AreNetWaves self.old.chip None (V.seen waves.now).pair self.old.waves }
+        requires good_is { IsWellFormed (flat self.old.chip None) }
+        requires faulty_are { All (λ defect. IsWellFormed (flat self.old.chip (Some defect))) defects.now }
+        requires lanes_chip { lanes.now.chip ≡ self.old.chip }
+        requires lanes_places { lanes.now.places ≡ self.old.places }
+        requires lane { lane < 64 → has_lane lanes.now.sure lane ≡ true → AreSameAt lanes.now.pinned
+            (value_at (trits_in lanes.now.ones lane)) (value_at self.old.lasts) }
+
+        ensures next { IsNextFound self.old.chip defects.now (V.seen waves.now).pair places.now from result }
+        ensures kept { self.new ≡ self.old }
+    {
+        let mut at = from;
+        'places: while let Some(place) = places.next(at) {
+            let defect = defects.get(place);
+            if !self.is_passed(waves, defect, place, lanes, lane) {
+                return Some(place);
+            }
+            at = place + 1;
+        }
+        None
+    }
+
+    // Whether it is found that the pair detects a defect nowhere: in a lane, or by what its cell gives.
+    fn is_passed<V: NetWaves>(
+        &mut self,
+        waves: &V,
+        defect: ChipDefect,
+        place: usize,
+        lanes: &LaneSweep<'_>,
+        lane: usize,
+    ) -> bool
+        requires chip { (V.seen waves.now).chip ≡ self.old.chip }
+        requires defect { IsPlacedDefect self.old.chip (place_in self.old.places) defect }
+        requires lasts { AreLastsOf self.old.chip (V.seen waves.now).pair (value_at self.old.lasts) }
+        requires waves { AreNetWaves self.old.chip None (V.seen waves.now).pair self.old.waves }
+        requires good_is { IsWellFormed (flat self.old.chip None) }
+        requires faulty_is { IsWellFormed (flat self.old.chip (Some defect)) }
+        requires lanes_chip { lanes.now.chip ≡ self.old.chip }
+        requires lanes_places { lanes.now.places ≡ self.old.places }
+        requires lane { lane < 64 → has_lane lanes.now.sure lane ≡ true → AreSameAt lanes.now.pinned
+            (value_at (trits_in lanes.now.ones lane)) (value_at self.old.lasts) }
+
+        ensures undetected { IsTrue result → IsUndetectedBefore self.old.chip defect
+            (V.seen waves.now).pair (length self.old.chip.outputs) }
+        ensures kept { self.new ≡ self.old }
+    {
+        self.chip.linked();
+        if is_unseen(lanes, lane, defect.instance as usize) {
+            return true;
+        }
+        is_nowhere(self.find(waves, defect, place))
     }
 
     // The same, where what the cell gives with the defect isn't in a row.
@@ -250,14 +340,16 @@ fn take(
     requires faulty { AreFaulty chip.now.core (place_in chip.now.ranks) (cell_number chip.now.chip)
         faulty.old }
     requires rows { AreRows chip.now.core (place_in chip.now.ranks) (cell_number chip.now.chip) rows.old }
-    requires hand { IsHand chip.now.core (value_at sweep.now.lasts) waves.now rows.old.slots.items hand.old }
+    requires hand { IsHand chip.now.core (cell_number chip.now.chip) (value_at sweep.now.lasts) waves.now
+        rows.old.slots.items hand.old }
 
-    ensures taken { IsTrue result → IsTakenAt chip.now.core (value_at sweep.now.lasts) waves.now
-        rows.new.slots.items hand.new u }
+    ensures taken { IsTrue result → IsTakenAt chip.now.core (cell_number chip.now.chip)
+        (value_at sweep.now.lasts) waves.now rows.new.slots.items hand.new u }
     ensures faulty { AreFaulty chip.now.core (place_in chip.now.ranks) (cell_number chip.now.chip)
         faulty.new }
     ensures rows { AreRows chip.now.core (place_in chip.now.ranks) (cell_number chip.now.chip) rows.new }
-    ensures hand { IsHand chip.now.core (value_at sweep.now.lasts) waves.now rows.new.slots.items hand.new }
+    ensures hand { IsHand chip.now.core (cell_number chip.now.chip) (value_at sweep.now.lasts) waves.now
+        rows.new.slots.items hand.new }
 {
     chip.linked();
     if hand.has(u) {
@@ -269,7 +361,7 @@ fn take(
     match pin_waves(chip, waves, u) {
         Some(pins) => {
             let slot = rows.find(chip, faulty, u, pins);
-            hand.take(u, slot);
+            hand.take(u, chip.number(u), slot);
             true
         }
         None => false,
@@ -291,6 +383,46 @@ fn see_coded(chip: &View<'_>, sweep: &mut Sweep<'_>, u: usize, code: u8) -> Seen
     let seen = sweep.see(u, flips);
     reported(seen, is_known(code, outputs))
 }
+
+// The start that is guessed for an instance, 0 where none is.
+fn start_of(starts: &[usize], u: usize) -> usize {
+    if u < starts.len() { starts[u] } else { 0 }
+}
+
+// Keeps a start for an instance.
+fn put_start(starts: &mut Vec<usize>, u: usize, start: usize) {
+    if u < starts.len() {
+        starts[u] = start;
+    }
+}
+
+// Whether it was found that no flip of an instance's output pins is seen in a lane, if there is such a lane.
+fn is_unseen(lanes: &LaneSweep<'_>, lane: usize, u: usize) -> bool
+    requires { IsPlaced lanes.now.chip (place_in lanes.now.places) u }
+    ensures within { IsTrue result → lane < 64 }
+    ensures sure { IsTrue result → has_lane lanes.now.sure lane ≡ true }
+    ensures unseen { (goods : ℕ → Trit) → AreSameAt lanes.now.pinned
+        (value_at (trits_in lanes.now.ones lane)) goods → IsTrue result → AreUnseen lanes.now.chip goods u }
+{
+    lane < 64 && lanes.is_unseen(u, lane)
+}
+
+ghost use Rattle.ca_net.specs.declared.trit.Trit.{Trit};
+ghost use Rattle.ca_planes.specs.Plane.{has_lane};
+ghost use Rattle.ca_sweep.specs.Seen.{AreSameAt, AreUnseen, trits_in};
+ghost use Rattle.std.specs.Prelude.{true};
+
+// Whether nothing is detected.
+fn is_nowhere(seen: Seen) -> bool
+    ensures { IsTrue result → seen ≡ Nowhere }
+{
+    match seen {
+        Seen::Nowhere => true,
+        Seen::At(_) | Seen::Undecided => false,
+    }
+}
+
+ghost use Rattle.ca_sweep.specs.declared.seen.Seen.TheVariants.{Nowhere};
 
 // What is answered where flips are seen so, and all last values of the instance's outputs are known or not.
 fn reported(seen: Seen, is_known: bool) -> Seen

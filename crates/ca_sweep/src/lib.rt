@@ -9,6 +9,11 @@ mod faulty;
 mod finder;
 mod firsts;
 mod hand;
+mod lane_find;
+mod lane_masks;
+mod lane_run;
+mod lane_sweep;
+mod lane_values;
 mod rows;
 mod run;
 mod seen;
@@ -17,5 +22,6 @@ mod sweep;
 mod values;
 
 pub use finder::Finder;
+pub use lane_sweep::LaneSweep;
 pub use seen::{Flips, Seen};
 pub use sweep::Sweep;

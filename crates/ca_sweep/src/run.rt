@@ -73,8 +73,8 @@ pub(crate) fn sweep(
     Halt::Done
 }
 
-// Whether no place after one is due.
-fn is_last(due: &PlaceSet, place: usize) -> bool
+/// Whether no place after one is due.
+pub(crate) fn is_last(due: &PlaceSet, place: usize) -> bool
     requires { place < 2 ^ 33 }
     ensures { IsTrue result → IsNext due.now (place + 1) None }
 {

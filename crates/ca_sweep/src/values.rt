@@ -170,8 +170,8 @@ impl Values {
     }
 }
 
-// The instances that read a net become due.
-fn mark_readers(chip: &View<'_>, net: usize, due: &mut PlaceSet)
+/// The instances that read a net become due.
+pub(crate) fn mark_readers(chip: &View<'_>, net: usize, due: &mut PlaceSet)
     requires known { net < length chip.now.core.nets }
     requires room { HoldsUpTo due.old (count_of chip.now.core + 1) }
     ensures { IsMarked chip.now.core (place_in chip.now.ranks) net due.old due.new }

@@ -23,7 +23,8 @@ invariant_of-result g c =
     (core_can_be_judged view c.viewed.ensures.wired c.flat_is_well_formed.ensures
     (subst (λ (chip : linked.LinkedChip). (given : Option ChipDefect) → IsFew (core_of chip) given) c.chip.ensures (c.in_ok-judge_size.ensures {u = tt}))
     c.viewed.ensures.is_view)
-    c.requires.rows c.requires.placed refl (let count = c.output_count.ensures in let few = c.if-output_count.false in omega arith)
+    c.requires.rows c.requires.placed (let count = c.len.ensures in let few = c.if-len.false in omega arith) refl
+    (let count = c.output_count.ensures in let few = c.if-output_count.false in omega arith)
 
 pub returns-clause-few : goal.returns-clause-few
 returns-clause-few g c = let count = c.len.ensures in let few = c.if-len.false in omega arith
