@@ -13,6 +13,7 @@ use ca_engine::{ChipBench, ChipDefects};
 use ca_flat::ExposableDefects;
 use ca_guide::Choice;
 use ca_rows::ChipRows;
+use ca_sweep::Finder;
 use ca_targets::{Cluster, ShortList, library_defects_are_placed};
 use ca_view::View;
 use std::alloc::Global;
@@ -93,7 +94,7 @@ fn part_of<'a, R: ExposableDefects, P: Choice + Drop>(
     choice: P,
     shorts: &ShortList,
     budget: u32,
-) -> Result<ChipBench<'a, R, P>, NoMemory>
+) -> Result<ChipBench<'a, R, P, Finder<'a>>, NoMemory>
     requires rows { R.chip rows.now ≡ view.now.core }
     requires shorts { All (IsLibraryDefect view.now.chip) shorts.now }
     ensures { IfOk result (IsPartOf view.now.core shorts.now budget) }
@@ -130,7 +131,7 @@ fn cluster_part<'a, R: ExposableDefects, P: Choice + Drop>(
     k: usize,
     choice: P,
     budget: u32,
-) -> Result<ChipBench<'a, R, P>, NoMemory>
+) -> Result<ChipBench<'a, R, P, Finder<'a>>, NoMemory>
     requires within { k < length clusters.now }
     requires views { AreEach (λ cluster view. IsViewOf cluster.chip view)
         clusters.now (length clusters.now) views.now }
@@ -158,7 +159,7 @@ pub(crate) fn parts_of<'a, R: ExposableDefects, P: Choice + Drop>(
     rows: &'a [R],
     choices: Vec<P>,
     budget: u32,
-) -> Result<Vec<ChipBench<'a, R, P>>, NoMemory>
+) -> Result<Vec<ChipBench<'a, R, P, Finder<'a>>>, NoMemory>
     requires own { R.chip own_rows.now ≡ own.now.core }
     requires views { AreEach (λ cluster view. IsViewOf cluster.chip view)
         clusters.now (length clusters.now) views.now }

@@ -4,7 +4,7 @@ use Rattle.ca_flat.specs.Chip.{Chip}
 use Rattle.ca_engine.specs.ChipDefects.{chip_defects}
 use Rattle.ca_engine.specs.ChipTask.{task_of}
 use Rattle.ca_engine.proofs.CoreLemmas.{task_ext}
-use Rattle.ca_engine.proofs.chip_bench.ChipBench.reserve.Goals as goal
+use Rattle.ca_engine.proofs.chip_bench.ChipBench.reserve_by.Goals as goal
 
 pub returns-clause-task : goal.returns-clause-task
 returns-clause-task g c =
