@@ -81,13 +81,15 @@ fn main() {
     }
 }
 
-// Credits pairs of a file, one in each line of bits, one after another, as `grade` does.
+// Credits pairs of a file, one in each line of bits, in lanes, as `grade` does.
 fn graded(chip: &ca_linked::Chip, file: &str) {
     let alloc = Global;
     let text = std::fs::read_to_string(file).unwrap();
     let view = ca_view::View::new(alloc, chip).ok().unwrap();
     let rows = ca_rows::ChipRows::new(alloc, chip).ok().unwrap();
-    let mut bench = ca_engine::ChipBench::reserve(alloc, &view, &rows, ca_guide::LowestUnset, 0).ok().unwrap();
+    let finder = ca_engine::reserve_laned(alloc, &view).ok().unwrap();
+    let choice = ca_guide::LowestUnset;
+    let mut bench = ca_engine::ChipBench::reserve(alloc, &view, &rows, choice, finder, 0).ok().unwrap();
     let start = std::time::Instant::now();
     let count = bench.defect_count();
     let mut credits = ca_credit::Credits::reserve(alloc, count).ok().unwrap();
@@ -96,16 +98,21 @@ fn graded(chip: &ca_linked::Chip, file: &str) {
             credits.settle(place, Verdict::Unexposable);
         }
     }
-    let (mut number, mut credited) = (0, 0);
+    let mut pairs = Vec::new();
     for line in text.lines().filter(|it| it.starts_with(['0', '1'])) {
         let mut pair = ca_pair::Pair::new(alloc);
         for bit in line.bytes() {
             pair.push(bit == b'1').ok().unwrap();
         }
-        credited += credits.credit_pair(&mut bench, &pair, number);
-        number += 1;
+        pairs.push(pair);
     }
-    println!("pairs {number}, credited {credited}, seconds {:.2}", start.elapsed().as_secs_f64());
+    let (mut from, mut credited) = (0, 0);
+    while from < pairs.len() {
+        credited += credits.credit_block(&mut bench, &pairs, from);
+        from += ca_credit::BLOCK;
+    }
+    let seconds = start.elapsed().as_secs_f64();
+    println!("pairs {}, credited {credited}, seconds {seconds:.2}", pairs.len());
 }
 
 // The verdicts on the bridges of the instance of a name, or of each library instance.

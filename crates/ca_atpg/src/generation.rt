@@ -1,5 +1,6 @@
 //! Test generation on a linked chip.
 
+ghost use Rattle.ca_sweep.specs.Seen.{IsForChip};
 ghost use Rattle.std.specs.Prelude.{◌≡◌, length, IfOk, IfErr};
 ghost use Rattle.std.specs.List.{All};
 ghost use Rattle.ca_flat.specs.Pair.{bit_count};
@@ -14,7 +15,7 @@ ghost use Rattle.ca_atpg.specs.Atpg.{IsStil, report_of};
 use crate::texts::{report_of, stil_of};
 use ca_base::NoMemory;
 use ca_credit::Verdicts;
-use ca_engine::{ChipBench, generate_over};
+use ca_engine::{ChipBench, generate_over, reserve_finder};
 use ca_expected::{Expected, expected};
 use ca_generate::{Aims, GenerateFault, Generated, Watch};
 use ca_guide::LowestUnset;
@@ -23,6 +24,7 @@ use ca_linked::Chip;
 use ca_pair::Pairs;
 use ca_rows::ChipRows;
 use ca_scan::Chains;
+use ca_sweep::FlipFinder;
 use ca_view::View;
 use std::alloc::Global;
 
@@ -44,7 +46,29 @@ struct Made {
     values: Expected,
 }
 
-// What the good chip ends with under each pair.
+// What the good chip ends with under each pair, by a finder of any type: so the bench that is dropped here
+// has few parts to the prover.
+fn values_by<F: FlipFinder + Drop>(
+    alloc: Global,
+    view: &View<'_>,
+    rows: &ChipRows<'_>,
+    finder: F,
+    pairs: &Pairs,
+) -> Result<Expected, NoMemory>
+    requires rows { rows.now.chip ≡ view.now.chip }
+    requires finder { IsForChip view.now.core view.now.ranks (F.loaded finder) }
+    requires whole { All (λ pair. length pair ≡ bit_count (core_of view.now.chip)) pairs.now }
+
+    ensures { IfOk result (AreExpected (core_of view.now.chip) pairs.now) }
+{
+    view.viewed();
+    let mut bench = ChipBench::reserve(alloc, view, rows, LowestUnset, finder, 0)?;
+    let values = expected(alloc, &mut bench, pairs.as_slice());
+    drop(bench);
+    values
+}
+
+// The same with a finder.
 fn values_for(
     alloc: Global,
     view: &View<'_>,
@@ -56,11 +80,8 @@ fn values_for(
 
     ensures { IfOk result (AreExpected (core_of view.now.chip) pairs.now) }
 {
-    view.viewed();
-    let mut bench = ChipBench::reserve(alloc, view, rows, LowestUnset, 0)?;
-    let values = expected(alloc, &mut bench, pairs.as_slice());
-    drop(bench);
-    values
+    let finder = reserve_finder(alloc, view)?;
+    values_by(alloc, view, rows, finder, pairs)
 }
 
 /// The text of these pairs, with what the good chip ends with under each, over its view and rows.

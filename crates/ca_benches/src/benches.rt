@@ -14,6 +14,7 @@ use ca_credit::{ByLasts, Simulator};
 use ca_generate::{Bench, SearchEnd};
 use ca_net::Trit;
 use ca_pair::Pair;
+use ca_places::PlaceSet;
 use std::alloc::Global;
 use std::marker::Model;
 
@@ -117,6 +118,14 @@ impl<B: Bench + Drop> Simulator for Benches<B> {
         self.good.load(pair);
         load_all(&mut self.parts, pair);
     }
+
+    fn next_to_try(&mut self, places: &PlaceSet, from: usize) -> Option<usize> {
+        places.next(from)
+    }
+
+    fn keep(&mut self, _lane: usize, _pair: &Pair) {}
+
+    fn turn_to(&mut self, _lane: usize) {}
 
     fn may_detect(&self, place: usize) -> bool {
         may_detect_at(&self.parts, self.stations.get(place))

@@ -1,7 +1,7 @@
 -- The benches of clusters, and what is generated with them.
-use Rattle.std.proofs.Common.{◌≡◌, ◌==◌, ℕ, zero, suc, ◌+◌, ◌<◌, ◌≤◌, ◌∙◌, List, [], ◌∷◌, ◌++◌, length, length-append, map, get_or, refl, sym, ap, subst, arith, Option, Some, None, inl, inr, Bool, true, false}
-use Rattle.std.specs.Prelude.{slice_get, option_map, IsSomeAnd, IfOk, Result, Ok, Err, if◌then◌else◌}
-use Rattle.std.specs.List.{All, range_with_len}
+use Rattle.std.proofs.Common.{◌≡◌, ◌==◌, ℕ, zero, suc, ◌+◌, ◌<◌, ◌≤◌, ◌∙◌, List, [], ◌∷◌, ◌++◌, length, length-append, map, get_or, refl, sym, ap, subst, arith, zero-add, add-zero, Option, Some, None, inl, inr, Bool, true, false}
+use Rattle.std.specs.Prelude.{slice_get, slice_index_or, option_map, IfSome, IsSomeAnd, IfOk, Result, Ok, Err, if◌then◌else◌}
+use Rattle.std.specs.List.{All, remove, range_with_len}
 use Rattle.std.proofs.Math.Decide.{dec_lt}
 use Rattle.std.proofs.lemmas.List.{length-map, length-replicate}
 use Rattle.std.proofs.lemmas.List.FromFn.{length-range_with_len}
@@ -31,7 +31,7 @@ use Rattle.ca_benches.specs.declared.station.Station.{Station}
 use Rattle.ca_benches.specs.Benches.{task_at, chip_of_station, defect_of, IsStationed, IsPart, task_of}
 use Rattle.ca_bridges.specs.Numbers.{IsFound, IsStationOf, AreNumbered, IsTaskOf}
 use Rattle.ca_bridges.specs.declared.numbers.Numbered.{Numbered}
-use Rattle.ca_bridges.specs.code.Parts.{AreEach, ArePartsOf, AreParts, IsPartOf, StandsInFor, IsGoodFor}
+use Rattle.ca_bridges.specs.code.Parts.{AreEach, AreEachFrom, ArePartsOf, AreParts, IsPartOf, StandsInFor, IsGoodFor}
 use Rattle.ca_bridges.proofs.TargetLemmas.{some_at, one_entry}
 use Rattle.ca_bridges.proofs.NumberLemmas.{all_entries}
 
@@ -59,6 +59,26 @@ pub each_pushed : {A B : Type 0} (Is : A → B → Type 0) (xs : List A) (count 
     → slice_get xs count ≡ Some x → Is x y → new ≡ ys ++ y ∷ [] → AreEach Is xs (count + 1) new
 each_pushed Is xs count ys new x y are here is grown =
     subst (AreEach Is xs (count + 1)) (sym grown) (each_more Is xs count ys x y are here is)
+
+-- so they are from the first place on
+pub each_from : {A B : Type 0} (Is : A → B → Type 0) (xs : List A) (count : ℕ) (ys : List B) → AreEach Is xs count ys → AreEachFrom Is xs 0 ys
+each_from Is xs count ys are = λ k x y at there. are.each k x y (subst (λ n. slice_get xs n ≡ Some x) (add-zero k) at) there
+
+-- the first of the others is so to the entry at that place
+pub each_here : {A B : Type 0} (Is : A → B → Type 0) (xs : List A) (from : ℕ) (ys : List B) (y : B) → AreEachFrom Is xs from ys
+    → 0 < length ys → y ≡ slice_index_or ys 0 y → IfSome (slice_get xs from) (λ x. Is x y)
+each_here Is xs from [] y are some is = absurd (omega arith)
+each_here {A} Is xs from (first ∷ ys) y are some is = by (slice_get xs from) refl
+  where
+    by : (o : Option A) → slice_get xs from ≡ o → IfSome o (λ x. Is x y)
+    by None none = tt
+    by (Some x) here = subst (Is x) (sym is) (are 0 x first (subst (λ n. slice_get xs n ≡ Some x) (sym (zero-add from)) here) refl)
+
+-- without it the others are so from the next place on
+pub each_after : {A B : Type 0} (Is : A → B → Type 0) (xs : List A) (from : ℕ) (ys : List B) → AreEachFrom Is xs from ys
+    → AreEachFrom Is xs (from + 1) (remove ys 0)
+each_after Is xs from [] are = λ k x y at there. absurd (let within = slice_get_within [] k y there in omega (arith, within))
+each_after Is xs from (first ∷ ys) are = λ k x y at there. are (suc k) x y (subst (λ n. slice_get xs n ≡ Some x) (omega arith) at) there
 
 pub parts_begin : (own : Chip) (budget : ℕ) (clusters : List Cluster) (good : Benched) (new : List Benched) → IsPartOf own [] budget good
     → new ≡ [] ++ good ∷ [] → AreParts own budget clusters 0 new

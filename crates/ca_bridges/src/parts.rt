@@ -1,18 +1,20 @@
 //! The benches of a chip and of those in which a cluster is one instance: the chip's own is the first.
 
-ghost use Rattle.std.specs.Prelude.{◌≡◌, ◌<◌, ◌+◌, length, slice_get, Some, IsSomeAnd, IfOk};
+ghost use Rattle.std.specs.Prelude.{◌≡◌, ◌<◌, ◌+◌, length, slice_get, Some, IfSome, IsSomeAnd, IfOk};
 ghost use Rattle.std.specs.List.{All};
 ghost use Rattle.ca_core.specs.Core.{core_of};
 ghost use Rattle.ca_view.specs.View.{IsViewOf};
+ghost use Rattle.ca_sweep.specs.Seen.{IsForChip};
 ghost use Rattle.ca_targets.specs.Targets.{IsLibraryDefect};
 ghost use Rattle.ca_bridges.specs.code.Parts.{AreEach, IsPartOf, AreParts};
 
 use ca_base::NoMemory;
 use ca_choice::CheapestWay;
-use ca_engine::{ChipBench, ChipDefects};
+use ca_engine::{ChipBench, ChipDefects, reserve_finder};
 use ca_flat::ExposableDefects;
 use ca_guide::Choice;
 use ca_rows::ChipRows;
+use ca_sweep::{Finder, FlipFinder};
 use ca_targets::{Cluster, ShortList, library_defects_are_placed};
 use ca_view::View;
 use std::alloc::Global;
@@ -73,6 +75,31 @@ pub(crate) fn choices_of<'a>(
     Ok(choices)
 }
 
+// The view at a place.
+fn view_at<'a>(views: &'a [View<'a>], k: usize) -> &'a View<'a>
+    requires { k < length views.now }
+    ensures { slice_get views.now k ≡ Some result.now }
+{
+    &views[k]
+}
+
+/// A finder for each of these views.
+pub(crate) fn finders_of<'a>(
+    alloc: Global,
+    views: &'a [View<'a>],
+) -> Result<Vec<Finder<'a>>, NoMemory>
+    ensures { IfOk result (λ finders. AreEach (λ view finder. IsForChip view.core view.ranks finder)
+        views.now (length views.now) finders.items) }
+{
+    let mut finders = Vec::new(alloc);
+    for k in 0..views.len() {
+        let view = view_at(views, k);
+        let finder = reserve_finder(alloc, view)?;
+        finders.push(finder)?;
+    }
+    Ok(finders)
+}
+
 // The same shorts once more.
 fn copied(alloc: Global, shorts: &ShortList) -> Result<ChipDefects, NoMemory>
     ensures { IfOk result (λ copy. copy ≡ shorts.now) }
@@ -84,33 +111,27 @@ fn copied(alloc: Global, shorts: &ShortList) -> Result<ChipDefects, NoMemory>
     Ok(copy)
 }
 
-// The bench of a chip for some defects of its library instances. It is for rows and a choice of any type, so
-// that it has few parts to the prover.
-fn part_of<'a, R: ExposableDefects, P: Choice + Drop>(
+// The bench of a chip for some defects of its library instances. It is for rows, a choice and a finder of any
+// type, so that it has few parts to the prover.
+fn part_of<'a, R: ExposableDefects, P: Choice + Drop, F: FlipFinder + Drop>(
     alloc: Global,
     view: &'a View<'a>,
     rows: &'a R,
     choice: P,
+    finder: F,
     shorts: &ShortList,
     budget: u32,
-) -> Result<ChipBench<'a, R, P>, NoMemory>
+) -> Result<ChipBench<'a, R, P, F>, NoMemory>
     requires rows { R.chip rows.now ≡ view.now.core }
+    requires finder { IsForChip view.now.core view.now.ranks (F.loaded finder) }
     requires shorts { All (IsLibraryDefect view.now.chip) shorts.now }
     ensures { IfOk result (IsPartOf view.now.core shorts.now budget) }
 {
     view.viewed();
     library_defects_are_placed();
     let defects = copied(alloc, shorts)?;
-    let part = ChipBench::reserve_for(alloc, view, rows, choice, defects, budget)?;
+    let part = ChipBench::reserve_for(alloc, view, rows, choice, finder, defects, budget)?;
     Ok(part)
-}
-
-// The view at a place.
-fn view_at<'a>(views: &'a [View<'a>], k: usize) -> &'a View<'a>
-    requires { k < length views.now }
-    ensures { slice_get views.now k ≡ Some result.now }
-{
-    &views[k]
 }
 
 // The rows at a place.
@@ -122,20 +143,23 @@ fn row_at<R>(rows: &[R], k: usize) -> &R
 }
 
 // The bench of the cluster at a place.
-fn cluster_part<'a, R: ExposableDefects, P: Choice + Drop>(
+fn cluster_part<'a, R: ExposableDefects, P: Choice + Drop, F: FlipFinder + Drop>(
     alloc: Global,
     clusters: &'a [Cluster],
     views: &'a [View<'a>],
     rows: &'a [R],
     k: usize,
     choice: P,
+    finder: F,
     budget: u32,
-) -> Result<ChipBench<'a, R, P>, NoMemory>
+) -> Result<ChipBench<'a, R, P, F>, NoMemory>
     requires within { k < length clusters.now }
     requires views { AreEach (λ cluster view. IsViewOf cluster.chip view)
         clusters.now (length clusters.now) views.now }
     requires rows { AreEach (λ cluster one. R.chip one ≡ core_of cluster.chip)
         clusters.now (length clusters.now) rows.now }
+    requires finder { IfSome (slice_get views.now k)
+        (λ view. IsForChip view.core view.ranks (F.loaded finder)) }
     requires shorts { All (λ cluster. All (IsLibraryDefect cluster.chip) cluster.shorts) clusters.now }
     ensures { IfOk result (λ part. IsSomeAnd (slice_get clusters.now k)
         (λ cluster. IsPartOf (core_of cluster.chip) cluster.shorts budget part)) }
@@ -143,13 +167,13 @@ fn cluster_part<'a, R: ExposableDefects, P: Choice + Drop>(
     let cluster = cluster_at(clusters, k);
     let view = view_at(views, k);
     let row = row_at(rows, k);
-    let part = part_of(alloc, view, row, choice, &cluster.shorts, budget)?;
+    let part = part_of(alloc, view, row, choice, finder, &cluster.shorts, budget)?;
     Ok(part)
 }
 
 /// The bench of a chip for no defects, and those of clusters, each for its shorts. The first of the choices
 /// is the chip's own.
-pub(crate) fn parts_of<'a, R: ExposableDefects, P: Choice + Drop>(
+pub(crate) fn parts_of<'a, R: ExposableDefects, P: Choice + Drop, F: FlipFinder + Drop>(
     alloc: Global,
     own: &'a View<'a>,
     own_rows: &'a R,
@@ -157,27 +181,34 @@ pub(crate) fn parts_of<'a, R: ExposableDefects, P: Choice + Drop>(
     views: &'a [View<'a>],
     rows: &'a [R],
     choices: Vec<P>,
+    own_finder: F,
+    finders: Vec<F>,
     budget: u32,
-) -> Result<Vec<ChipBench<'a, R, P>>, NoMemory>
+) -> Result<Vec<ChipBench<'a, R, P, F>>, NoMemory>
     requires own { R.chip own_rows.now ≡ own.now.core }
     requires views { AreEach (λ cluster view. IsViewOf cluster.chip view)
         clusters.now (length clusters.now) views.now }
     requires rows { AreEach (λ cluster one. R.chip one ≡ core_of cluster.chip)
         clusters.now (length clusters.now) rows.now }
     requires choices { length choices.items ≡ length clusters.now + 1 }
+    requires own_finder { IsForChip own.now.core own.now.ranks (F.loaded own_finder) }
+    requires finders { AreEach (λ view finder. IsForChip view.core view.ranks (F.loaded finder))
+        views.now (length views.now) finders.items }
     requires shorts { All (λ cluster. All (IsLibraryDefect cluster.chip) cluster.shorts) clusters.now }
     ensures { IfOk result (λ parts. AreParts own.now.core budget clusters.now
         (length clusters.now) parts.items) }
 {
     let mut choices = choices;
+    let mut finders = finders;
     let mut parts = Vec::new(alloc);
     let none = ShortList::new(alloc);
     let own_choice = choices.remove(0);
-    let good = part_of(alloc, own, own_rows, own_choice, &none, budget)?;
+    let good = part_of(alloc, own, own_rows, own_choice, own_finder, &none, budget)?;
     parts.push(good)?;
     for k in 0..clusters.len() {
         let choice = choices.remove(0);
-        let part = cluster_part(alloc, clusters, views, rows, k, choice, budget)?;
+        let finder = finders.remove(0);
+        let part = cluster_part(alloc, clusters, views, rows, k, choice, finder, budget)?;
         parts.push(part)?;
     }
     Ok(parts)

@@ -1,5 +1,6 @@
 //! The candidates of a linked chip.
 
+ghost use Rattle.ca_sweep.specs.Seen.{IsForChip};
 ghost use Rattle.std.specs.Prelude.{◌≡◌, IfOk};
 ghost use Rattle.ca_chip_diag.specs.Diagnosed.{CanBeDiagnosed};
 ghost use Rattle.ca_diag.specs.Candidates.{AreCandidates};
@@ -7,23 +8,45 @@ ghost use Rattle.ca_engine.specs.ChipTask.{task_of};
 
 use ca_base::NoMemory;
 use ca_diag::{Candidates, diagnose};
-use ca_engine::ChipBench;
+use ca_engine::{ChipBench, reserve_finder};
 use ca_generate::Watch;
 use ca_guide::{Choice, LowestUnset};
 use ca_linked::Chip;
 use ca_log::Log;
 use ca_pair::Pair;
 use ca_rows::{ChipRows, ExposableDefects};
+use ca_sweep::FlipFinder;
 use ca_view::View;
 use std::alloc::Global;
 
-// The candidates by rows and a choice of any type: so the bench that is dropped here has few parts to the
-// prover.
-fn diagnosed_by<R: ExposableDefects, P: Choice + Drop, T: Watch>(
+// The candidates by rows, a choice and a finder of any type: so the bench that is dropped here has few parts
+// to the prover.
+fn diagnosed_by<R: ExposableDefects, P: Choice + Drop, F: FlipFinder + Drop, T: Watch>(
     alloc: Global,
     view: &View<'_>,
     rows: &R,
     choice: P,
+    finder: F,
+    pairs: &[Pair],
+    log: &Log,
+    watch: &mut T,
+) -> Result<Candidates, NoMemory>
+    requires rows { R.chip rows.now ≡ view.now.core }
+    requires finder { IsForChip view.now.core view.now.ranks (F.loaded finder) }
+    requires log { CanBeDiagnosed view.now.chip pairs.now log.now }
+    ensures { IfOk result (AreCandidates (task_of view.now.chip 0) pairs.now log.now) }
+{
+    let mut bench = ChipBench::reserve(alloc, view, rows, choice, finder, 0)?;
+    let candidates = diagnose(alloc, &mut bench, pairs, log, watch);
+    drop(bench);
+    candidates
+}
+
+// The same with a finder.
+fn diagnosed_found<R: ExposableDefects, T: Watch>(
+    alloc: Global,
+    view: &View<'_>,
+    rows: &R,
     pairs: &[Pair],
     log: &Log,
     watch: &mut T,
@@ -32,10 +55,8 @@ fn diagnosed_by<R: ExposableDefects, P: Choice + Drop, T: Watch>(
     requires log { CanBeDiagnosed view.now.chip pairs.now log.now }
     ensures { IfOk result (AreCandidates (task_of view.now.chip 0) pairs.now log.now) }
 {
-    let mut bench = ChipBench::reserve(alloc, view, rows, choice, 0)?;
-    let candidates = diagnose(alloc, &mut bench, pairs, log, watch);
-    drop(bench);
-    candidates
+    let finder = reserve_finder(alloc, view)?;
+    diagnosed_by(alloc, view, rows, LowestUnset, finder, pairs, log, watch)
 }
 
 // The same over the chip's view. Each value is dropped in one place here and below: more places are slow to
@@ -52,7 +73,7 @@ fn diagnosed_over<T: Watch>(
 {
     view.viewed();
     let rows = ChipRows::new(alloc, view.chip())?;
-    let candidates = diagnosed_by(alloc, view, &rows, LowestUnset, pairs, log, watch);
+    let candidates = diagnosed_found(alloc, view, &rows, pairs, log, watch);
     drop(rows);
     candidates
 }

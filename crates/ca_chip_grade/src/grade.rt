@@ -9,9 +9,10 @@ ghost use Rattle.ca_expected.specs.Expected.{AreExpected};
 ghost use Rattle.ca_flat.specs.Pair.{bit_count};
 ghost use Rattle.ca_grade.specs.GradeFault.{IsCause};
 ghost use Rattle.ca_grade.specs.Graded.{AreGraded};
+ghost use Rattle.ca_sweep.specs.Seen.{IsForChip};
 
 use ca_base::List;
-use ca_engine::ChipBench;
+use ca_engine::{ChipBench, reserve_laned};
 use ca_generate::Watch;
 use ca_grade::{GradeFault, Grades, grade_judged};
 use ca_guide::{Choice, LowestUnset};
@@ -20,15 +21,43 @@ use ca_net::Trit;
 use ca_pair::Pair;
 use ca_rows::{ChipRows, ExposableDefects};
 use ca_scan::Chains;
+use ca_sweep::FlipFinder;
 use ca_view::View;
 use std::alloc::Global;
 
-// The grades by rows and a choice of any type: so the bench that is dropped here has few parts to the prover.
-fn graded_by<R: ExposableDefects, P: Choice + Drop, T: Watch>(
+// The grades by rows, a choice and a finder of any type: so the bench that is dropped here has few parts to
+// the prover.
+fn graded_by<R: ExposableDefects, P: Choice + Drop, F: FlipFinder + Drop, T: Watch>(
     alloc: Global,
     view: &View<'_>,
     rows: &R,
     choice: P,
+    finder: F,
+    pairs: &[Pair],
+    expected: &[List<Trit>],
+    watch: &mut T,
+) -> Result<Grades, GradeFault>
+    requires rows { R.chip rows.now ≡ view.now.core }
+    requires finder { IsForChip view.now.core view.now.ranks (F.loaded finder) }
+    requires numbers { length pairs.now < 2 ^ 32 }
+    requires bits { All (λ pair. length pair ≡ bit_count (core_of view.now.chip)) pairs.now }
+    requires counted { length pairs.now ≡ length expected.now }
+    requires values { All (λ values. length values ≡ length (core_of view.now.chip).outputs) expected.now }
+    ensures graded { IfOk result (AreGraded (task_of view.now.chip 0) pairs.now) }
+    ensures expected { IfOk result (λ grades. AreExpected (core_of view.now.chip) pairs.now expected.now) }
+    ensures cause { IfErr result (IsCause (core_of view.now.chip) pairs.now expected.now) }
+{
+    let mut bench = ChipBench::reserve(alloc, view, rows, choice, finder, 0)?;
+    let graded = grade_judged(alloc, &mut bench, pairs, expected, watch);
+    drop(bench);
+    graded
+}
+
+// The same with a finder that has lanes.
+fn graded_laned<R: ExposableDefects, T: Watch>(
+    alloc: Global,
+    view: &View<'_>,
+    rows: &R,
     pairs: &[Pair],
     expected: &[List<Trit>],
     watch: &mut T,
@@ -42,10 +71,17 @@ fn graded_by<R: ExposableDefects, P: Choice + Drop, T: Watch>(
     ensures expected { IfOk result (λ grades. AreExpected (core_of view.now.chip) pairs.now expected.now) }
     ensures cause { IfErr result (IsCause (core_of view.now.chip) pairs.now expected.now) }
 {
-    let mut bench = ChipBench::reserve(alloc, view, rows, choice, 0)?;
-    let graded = grade_judged(alloc, &mut bench, pairs, expected, watch);
-    drop(bench);
-    graded
+    let lanes = reserve_laned(alloc, view)?;
+    graded_by(
+        alloc,
+        view,
+        rows,
+        LowestUnset,
+        lanes,
+        pairs,
+        expected,
+        watch,
+    )
 }
 
 // The same over the chip's view. Each value is dropped in one place here and below: more places are slow to
@@ -67,7 +103,7 @@ fn graded_over<T: Watch>(
 {
     view.viewed();
     let rows = ChipRows::new(alloc, view.chip())?;
-    let graded = graded_by(alloc, view, &rows, LowestUnset, pairs, expected, watch);
+    let graded = graded_laned(alloc, view, &rows, pairs, expected, watch);
     drop(rows);
     graded
 }

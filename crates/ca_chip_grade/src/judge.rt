@@ -7,10 +7,11 @@ ghost use Rattle.ca_core.specs.Core.{core_of};
 ghost use Rattle.ca_expected.specs.Expected.{AreExpected};
 ghost use Rattle.ca_flat.specs.Pair.{bit_count};
 ghost use Rattle.ca_grade.specs.GradeFault.{IsCause};
+ghost use Rattle.ca_sweep.specs.Seen.{IsForChip};
 
 use ca_base::List;
 use ca_credit::Simulator;
-use ca_engine::ChipBench;
+use ca_engine::{ChipBench, reserve_finder};
 use ca_expected::first_wrong;
 use ca_grade::GradeFault;
 use ca_guide::{Choice, LowestUnset};
@@ -19,6 +20,7 @@ use ca_net::Trit;
 use ca_pair::Pair;
 use ca_rows::{ChipRows, ExposableDefects};
 use ca_scan::Chains;
+use ca_sweep::FlipFinder;
 use ca_view::View;
 use std::alloc::Global;
 
@@ -40,12 +42,36 @@ fn judged<S: Simulator>(
     }
 }
 
-// The same by rows and a choice of any type: so the bench that is dropped here has few parts to the prover.
-fn judged_by<R: ExposableDefects, P: Choice + Drop>(
+// The same by rows, a choice and a finder of any type: so the bench that is dropped here has few parts to
+// the prover.
+fn judged_by<R: ExposableDefects, P: Choice + Drop, F: FlipFinder + Drop>(
     alloc: Global,
     view: &View<'_>,
     rows: &R,
     choice: P,
+    finder: F,
+    pairs: &[Pair],
+    expected: &[List<Trit>],
+) -> Result<(), GradeFault>
+    requires rows { R.chip rows.now ≡ view.now.core }
+    requires finder { IsForChip view.now.core view.now.ranks (F.loaded finder) }
+    requires bits { All (λ pair. length pair ≡ bit_count (core_of view.now.chip)) pairs.now }
+    requires counted { length pairs.now ≡ length expected.now }
+    requires values { All (λ values. length values ≡ length (core_of view.now.chip).outputs) expected.now }
+    ensures ok { OnOk result (AreExpected (core_of view.now.chip) pairs.now expected.now) }
+    ensures cause { IfErr result (IsCause (core_of view.now.chip) pairs.now expected.now) }
+{
+    let mut bench = ChipBench::reserve(alloc, view, rows, choice, finder, 0)?;
+    let found = judged(&mut bench, pairs, expected);
+    drop(bench);
+    found
+}
+
+// The same with a finder.
+fn judged_found<R: ExposableDefects>(
+    alloc: Global,
+    view: &View<'_>,
+    rows: &R,
     pairs: &[Pair],
     expected: &[List<Trit>],
 ) -> Result<(), GradeFault>
@@ -56,10 +82,8 @@ fn judged_by<R: ExposableDefects, P: Choice + Drop>(
     ensures ok { OnOk result (AreExpected (core_of view.now.chip) pairs.now expected.now) }
     ensures cause { IfErr result (IsCause (core_of view.now.chip) pairs.now expected.now) }
 {
-    let mut bench = ChipBench::reserve(alloc, view, rows, choice, 0)?;
-    let found = judged(&mut bench, pairs, expected);
-    drop(bench);
-    found
+    let finder = reserve_finder(alloc, view)?;
+    judged_by(alloc, view, rows, LowestUnset, finder, pairs, expected)
 }
 
 // The same over the chip's view.
@@ -77,7 +101,7 @@ fn judged_over(
 {
     view.viewed();
     let rows = ChipRows::new(alloc, view.chip())?;
-    let found = judged_by(alloc, view, &rows, LowestUnset, pairs, expected);
+    let found = judged_found(alloc, view, &rows, pairs, expected);
     drop(rows);
     found
 }

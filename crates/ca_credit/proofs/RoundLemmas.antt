@@ -18,11 +18,13 @@ use Rattle.ca_credit.specs.Table.{verdict_at, is_open, IsAfterPair}
 use Rattle.ca_credit.specs.code.Table.{one_if, CreditsOne}
 use Rattle.ca_credit.specs.Table.{CreditsPair}
 use Rattle.ca_credit.specs.Detection.{IsAnswer}
+use Rattle.ca_credit.specs.ToTry.{IsNowhere}
 use Rattle.ca_credit.specs.code.Round.{IsOpenAt, AreOpen, IsRound, IsWithout, IsTried, TriesMore}
 use Rattle.ca_places.specs.declared.place_set.PlaceSet.{PlaceSet}
 use Rattle.ca_places.specs.PlaceSet.{Has, IsAsRoomy}
 use Rattle.std.proofs.lemmas.List.Elements.{Contains-get_or}
-use Rattle.std.proofs.Common.{◌↔◌, ◌/◌, slice_index}
+use Rattle.std.proofs.Common.{◌↔◌, ◌/◌, ◌%◌, ◌⊎◌, slice_index}
+use Rattle.std.specs.Int.{bit_at}
 use Rattle.ca_credit.proofs.DetectionLemmas.{first_by, not_shown_by, shown_by_first}
 use Rattle.ca_credit.proofs.TableLemmas.{some_within, of_open, verdict_at-set, verdict_at-other, credit_count-set}
 
@@ -255,11 +257,32 @@ tried_begin task pair number open_places left table is count same = record {
     some_before (x ∷ xs) zero y e = omega arith
     some_before (x ∷ xs) (suc k) y e = let l = some_before xs k y e in omega arith
 
--- where none is left, this is what the pair makes of the table
-pub tried_all : (task : Task) (pair : List Bool) (number : ℕ) (left : PlaceSet) (old new : List (Option Verdict))
-    → ((place : ℕ) → Has left place → ⊥) → IsTried task pair number left old new → CreditsPair task pair number old new
-tried_all task pair number left old new none is = record {
+-- whether a place is in a set
+has_or_not : (set : PlaceSet) (place : ℕ) → Has set place ⊎ (Has set place → ⊥)
+has_or_not set place = elim (ℕ_discrete (bit_at (slice_index set.words.items (place / 64)) (place % 64)) 1) [
+  | yes has ↦ inl has
+  | no gone ↦ inr gone
+]
+
+-- where the pair detects all defects that are left nowhere, this is what it makes of the table
+pub tried_all : (task : Task) (pair : List Bool) (number : ℕ) (open_places left : PlaceSet) (old new : List (Option Verdict))
+    → AreOpen new open_places left → ((place : ℕ) → Has left place → IsNowhere task (trits_of pair) place)
+    → IsTried task pair number left old new → CreditsPair task pair number old new
+tried_all task pair number open_places left old new stands nowhere is = record {
   as_many = is.as_many;
-  each = λ place defect below at. is.done place defect (none place) at;
+  each = λ place defect below at. elim (has_or_not left place) [
+    | inl has ↦
+        let kept = is.others place has in
+        let waits : is_open (verdict_at old place) ≡ true = ap is_open (sym kept) ∙ ((stands.are place).0 (stands.some place has)).1 in
+        of_open (task.chip_of place) pair number defect (verdict_at old place) (verdict_at new place) waits
+        (inr (record { undetected = not_shown_by (task.chip_of place) defect (trits_of pair) (nowhere place has defect at); same = kept }))
+    | inr gone ↦ is.done place defect gone at
+  ];
   others = λ place from. past new place None (let e = is.as_many in omega arith) ∙ sym (past old place None from);
 }
+
+-- the pair detects the defect nowhere: the same for a task and bits that are equal
+pub nowhere_same : (task same : Task) (pair : List Bool) (bits : List Trit) (place : ℕ) → same ≡ task → bits ≡ trits_of pair
+    → IsNowhere same bits place → IsNowhere task (trits_of pair) place
+nowhere_same task same pair bits place task_is bits_are nowhere =
+    subst (λ (b : List Trit). IsNowhere task b place) bits_are (subst (λ (t : Task). IsNowhere t bits place) task_is nowhere)

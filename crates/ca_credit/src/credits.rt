@@ -11,6 +11,7 @@ ghost use Rattle.std.specs.Option.{option_copied};
 ghost use Rattle.ca_credit.specs.Table.{CreditsPair, CreditsBlock, credit_count};
 ghost use Rattle.ca_credit.specs.Aims.{AimsAtSuspects, AimsOverBlock, aimed_after, bits_after};
 
+use crate::lanes::{LANES, keep_pairs};
 use crate::round::Round;
 use crate::simulator::Simulator;
 use crate::verdict::Verdict;
@@ -81,7 +82,8 @@ impl Credits {
 
     /// Credits the pair, with its number, with each defect that it detects and that has no verdict yet or an
     /// aborted search. Answers how many these are. The simulator has the bits of the pair afterwards, and is
-    /// aimed at no defect. It was aimed at most once more often than there are suspect defects.
+    /// aimed at no defect. It was aimed at most once more often than there are suspect defects. It takes less
+    /// time where `keep_pairs` kept the pair by its number.
     pub fn credit_pair<S: Simulator>(&mut self, sim: &mut S, pair: &Pair, number: u32) -> u32
         requires same { length self.old ≡ length (S.task sim.old).defects }
         requires few { length self.old < 2 ^ 32 }
@@ -95,6 +97,7 @@ impl Credits {
         ensures aims { AimsAtSuspects (S.task sim.old) pair.now self.old (S.aims sim.old) (S.aims sim.new) }
     {
         sim.load(pair);
+        sim.turn_to(number as usize % LANES);
         let credited = self.round.try_all(sim, pair, number);
         sim.aim_at_none();
         credited
@@ -126,6 +129,7 @@ impl Credits {
         let count = BLOCK.min(pairs.len() - from);
         let mut credited = 0;
         for k in 0..count {
+            keep_pairs(sim, pairs, from + k);
             credited += self.credit_pair(sim, &pairs[from + k], (from + k) as u32);
         }
         credited

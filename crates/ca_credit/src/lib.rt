@@ -4,6 +4,7 @@
 mod by_lasts;
 mod credit;
 mod credits;
+mod lanes;
 mod laws;
 mod limit;
 mod round;
@@ -13,6 +14,7 @@ mod verdicts;
 
 pub use by_lasts::ByLasts;
 pub use credits::{BLOCK, Credits};
+pub use lanes::{LANES, keep_pairs};
 pub use laws::{
     ample_is_never_aborted, pattern_bits_are_never_aborted, suspect_is_allowed_by_rows,
     unexposable_is_undetected,

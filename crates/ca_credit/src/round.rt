@@ -345,7 +345,7 @@ impl Round {
         self.left.take_over(&self.open_places);
         let mut credited = 0;
         let mut from = 0;
-        'places: while let Some(place) = self.left.next(from) {
+        'places: while let Some(place) = sim.next_to_try(&self.left, from) {
             credited += self.take_turn(sim, pair, number, place);
             from = place + 1;
         }

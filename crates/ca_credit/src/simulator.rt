@@ -3,6 +3,7 @@
 use crate::by_lasts::ByLasts;
 use ca_net::Trit;
 use ca_pair::Pair;
+use ca_places::PlaceSet;
 
 /// A chip with the list of its defects, the pattern bits that are set, the defect that is aimed at, and what
 /// every run of the flat network ends with.
@@ -17,6 +18,7 @@ pub trait Simulator {
     ghost use Rattle.ca_search.specs.Filled.{trits_of};
     ghost use Rattle.ca_credit.specs.Detection.{IsNetEnd, IsAllowedByRows, AreDetectedAlike};
     ghost use Rattle.ca_credit.specs.Detection.{IsDecided};
+    ghost use Rattle.ca_credit.specs.ToTry.{AreWithin, IsNextToTry};
 
     /// The chip, the list of defects with the chip of each, and how many branches each search may have.
     ghost task: { Self → Task };
@@ -67,6 +69,38 @@ pub trait Simulator {
 
         ensures decided { (defect : ChipDefect) → IsDefectAt (task self.old) place defect
             → IsDecided ((task self.old).chip_of place) defect (bits self.old) result }
+        ensures aimed { aimed self.new ≡ aimed self.old }
+        ensures aimed_in { aimed_in self.new ≡ aimed_in self.old }
+        ensures task { task self.new ≡ task self.old }
+        ensures bits { bits self.new ≡ bits self.old }
+        ensures aims { aims self.new ≡ aims self.old };
+
+    /// The first place of the set at or past this one, but for places at whose defects last values say at
+    /// once that the bits detect these nowhere. The bits and the aim stay.
+    fn next_to_try(&mut self, places: &PlaceSet, from: usize) -> Option<usize>
+        requires { AreWithin (task self.old) places.now }
+
+        ensures next { IsNextToTry (task self.old) (bits self.old) places.now from result }
+        ensures aimed { aimed self.new ≡ aimed self.old }
+        ensures aimed_in { aimed_in self.new ≡ aimed_in self.old }
+        ensures task { task self.new ≡ task self.old }
+        ensures bits { bits self.new ≡ bits self.old }
+        ensures aims { aims self.new ≡ aims self.old };
+
+    /// Keeps a pair in one of 64 lanes, in place of what that held: what is asked of all lanes at once costs
+    /// little more than for one pair. For a lane past the last nothing is done. The bits and the aim stay.
+    fn keep(&mut self, lane: usize, pair: &Pair)
+        requires { length pair.now ≡ bit_count (task self.old).chip }
+
+        ensures aimed { aimed self.new ≡ aimed self.old }
+        ensures aimed_in { aimed_in self.new ≡ aimed_in self.old }
+        ensures task { task self.new ≡ task self.old }
+        ensures bits { bits self.new ≡ bits self.old }
+        ensures aims { aims self.new ≡ aims self.old };
+
+    /// Lets what is known of this lane serve for the bits that are set, if they are those of its pair. For a
+    /// lane past the last nothing is done. The bits and the aim stay.
+    fn turn_to(&mut self, lane: usize)
         ensures aimed { aimed self.new ≡ aimed self.old }
         ensures aimed_in { aimed_in self.new ≡ aimed_in self.old }
         ensures task { task self.new ≡ task self.old }

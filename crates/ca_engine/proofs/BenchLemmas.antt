@@ -25,11 +25,15 @@ use Rattle.ca_judge.specs.ChipJudge.{judged_of}
 use Rattle.ca_judge.specs.ChipJudge as judge
 use Rattle.ca_credit.specs.Defects.{IsSearchable}
 use Rattle.ca_credit.specs.Detection.{IsNetEnd, AreDetectedAlike}
+use Rattle.ca_credit.specs.ToTry.{IsNextToTry}
+use Rattle.ca_places.specs.declared.place_set.PlaceSet.{PlaceSet}
+use Rattle.ca_sweep.specs.Found.{IsNextFound}
 use Rattle.ca_search.specs.declared.trail.Outcome.TheVariants.{Found, Exhausted, Spent}
 use Rattle.ca_generate.specs.declared.search_end.SearchEnd.{SearchEnd}
 use Rattle.ca_generate.specs.declared.search_end.SearchEnd.TheVariants as end
 use Rattle.ca_generate.specs.Outcome.{IsSearch, IsSearchEnd, IsSpentSearch}
 use Rattle.ca_generate.specs.Laws.{OutcomeIsSearch}
+use Rattle.ca_engine.specs.ChipBench.{Benched, task_in}
 use Rattle.ca_engine.specs.code.ChipBench.{IsChipBench}
 use Rattle.ca_engine.specs.code.SearchEnd.{IsKept}
 
@@ -50,10 +54,10 @@ same_entry defects place one other is also = let e : Some one ≡ Some other = s
 pub bench_begins : (core : Chip) (places : List ℕ) (number_of : ℕ → ℕ) (sim : Simulator)
     (rows_chip : Chip) (defects : List ChipDefect) (outputs : List ℕ)
     → IsFresh core places sim → IsLinked core (place_in places) number_of → judge.CanBeJudged core
-    → rows_chip ≡ core → All (IsPlacedDefect core (place_in places)) defects → outputs ≡ core.outputs
-    → length outputs < 2 ^ 32
+    → rows_chip ≡ core → All (IsPlacedDefect core (place_in places)) defects → length defects < 2 ^ 32
+    → outputs ≡ core.outputs → length outputs < 2 ^ 32
     → IsChipBench sim.seen.chip sim.seen.places sim.seen.aim rows_chip defects outputs None
-bench_begins core places number_of sim rows_chip defects outputs fresh linked judged same placed are few =
+bench_begins core places number_of sim rows_chip defects outputs fresh linked judged same placed few_defects are few =
     subst (λ c. IsChipBench c sim.seen.places sim.seen.aim rows_chip defects outputs None) (sym fresh.chip_is)
     (subst (λ p. IsChipBench core p sim.seen.aim rows_chip defects outputs None) (sym fresh.places_are) (record {
       rank = place_in places;
@@ -61,6 +65,7 @@ bench_begins core places number_of sim rows_chip defects outputs fresh linked ju
       good_is = judged.good_is;
       faulty_are = judged.faulty_are;
       placed = placed;
+      few_defects = few_defects;
       outputs_are = are;
       few = few;
       rows_are = same;
@@ -111,6 +116,7 @@ bench_aims old new rows_chip defects outputs before defect keeps aimed in_chip i
       good_is = is.good_is;
       faulty_are = is.faulty_are;
       placed = is.placed;
+      few_defects = is.few_defects;
       outputs_are = is.outputs_are;
       few = is.few;
       rows_are = is.rows_are;
@@ -228,6 +234,7 @@ module _ (seen : Seen) (rows_chip : Chip) (defects : List ChipDefect) (outputs :
     good_is = is.good_is;
     faulty_are = is.faulty_are;
     placed = is.placed;
+    few_defects = is.few_defects;
     outputs_are = is.outputs_are;
     few = is.few;
     rows_are = is.rows_are;
@@ -258,3 +265,9 @@ module _ (seen : Seen) (rows_chip : Chip) (defects : List ChipDefect) (outputs :
           faulty = (one_ends (opposite_of detects.value)).0 ((other_ends (opposite_of detects.value)).1 detects.faulty);
         },
       )
+
+-- what is found of places of the bench's list is what is to be tried of its task
+pub next_is : (bench : Benched) (set : PlaceSet) (from : ℕ) (next : Option ℕ)
+    → IsNextFound bench.chip bench.defects bench.bits set from next → IsNextToTry (task_in bench) bench.bits set from next
+next_is bench set from None found = found
+next_is bench set from (Some next) found = found

@@ -4,7 +4,6 @@ ghost use Rattle.std.specs.Prelude.{◌≡◌, ◌<◌, ◌^◌, length, IfOk};
 ghost use Rattle.ca_engine.specs.ChipTask.{task_of};
 
 use crate::flip_bench::FlipBench;
-use crate::outputs::output_nets;
 use crate::pair_bits::PairBits;
 use crate::search_end::end_of;
 use ca_base::NoMemory;
@@ -16,28 +15,30 @@ use ca_generate::{Bench, SearchEnd, outcome_is_search};
 use ca_guide::Choice;
 use ca_net::Trit;
 use ca_pair::Pair;
+use ca_places::PlaceSet;
 use ca_rows::ExposableDefects;
 use ca_search::Search;
 use ca_sim::{NetWaves, definite_last_is_end};
-use ca_sweep::Seen;
+use ca_sweep::{DefectSpans, FlipFinder, Seen};
 use ca_view::View;
 use std::alloc::Global;
 use std::marker::Model;
 
 /// The simulator and the guide of a linked chip, the list of its defects, and the room of a search. Memory is
-/// taken by `reserve`, and for a code that is kept. It is for rows and a choice of any type, so that what
-/// drops one has few parts to the prover.
+/// taken by `reserve`, and for a code that is kept. It is for rows, a choice and a finder of any type, so
+/// that what drops one has few parts to the prover.
 #[derive(Drop)]
-pub struct ChipBench<'a, R: ExposableDefects, P: Choice + Drop> {
+pub struct ChipBench<'a, R: ExposableDefects, P: Choice + Drop, F: FlipFinder + Drop> {
     view: &'a View<'a>,
-    judge: FlipBench<'a, R, P>,
+    judge: FlipBench<'a, R, P, F>,
     rows: &'a R,
-    defects: ChipDefects,
+    defects: DefectSpans,
     search: Search,
     aim: Option<ChipDefect>,
 }
 
-impl<'a, R: ExposableDefects, P: Choice + Drop> Model for ChipBench<'a, R, P> {
+impl<'a, R: ExposableDefects, P: Choice + Drop, F: FlipFinder + Drop> Model
+    for ChipBench<'a, R, P, F> {
     ghost use Rattle.ca_engine.specs.ChipBench.{Benched};
     ghost use Rattle.ca_engine.specs.code.ChipBench.{IsChipBench};
 
@@ -59,30 +60,33 @@ impl<'a, R: ExposableDefects, P: Choice + Drop> Model for ChipBench<'a, R, P> {
         bench.view.now.core.outputs bench.aim };
 }
 
-impl<'a, R: ExposableDefects, P: Choice + Drop> ChipBench<'a, R, P> {
+impl<'a, R: ExposableDefects, P: Choice + Drop, F: FlipFinder + Drop> ChipBench<'a, R, P, F> {
     ghost use Rattle.std.specs.List.{All};
+    ghost use Rattle.ca_sweep.specs.Seen.{IsForChip};
     ghost use Rattle.ca_view.specs.Linked.{IsPlacedDefect, place_in};
     ghost use Rattle.ca_engine.specs.ChipBench.{IsUnused, task_in};
 
-    /// The bench of a linked chip. Its task is to search for each defect of a library instance, with at most
-    /// `budget` branches. No bit is set, and no defect is aimed at. Also answers out of memory for a
-    /// chip with 2^32 observed outputs, with 2^32 defects or whose flat network may have 2^32 nodes or
-    /// devices.
+    /// The bench of a linked chip with a finder of it. Its task is to search for each defect of a library
+    /// instance, with at most `budget` branches. No bit is set, and no defect is aimed at. Also answers out
+    /// of memory for a chip with 2^32 observed outputs, with 2^32 defects or whose flat network may have 2^32
+    /// nodes or devices.
     pub fn reserve(
         alloc: Global,
         view: &'a View<'a>,
         rows: &'a R,
         choice: P,
+        finder: F,
         budget: u32,
     ) -> Result<Self, NoMemory>
-        requires { R.chip rows.now ≡ view.now.core }
+        requires rows { R.chip rows.now ≡ view.now.core }
+        requires finder { IsForChip view.now.core view.now.ranks (F.loaded finder) }
         ensures task { IfOk result (λ bench. task_in bench ≡ task_of view.now.chip budget) }
         ensures few { IfOk result (λ bench. length bench.defects < 2 ^ 32) }
         ensures unused { IfOk result IsUnused }
     {
         view.viewed();
         let defects = chip_defects(alloc, view)?;
-        let bench = ChipBench::reserve_for(alloc, view, rows, choice, defects, budget)?;
+        let bench = ChipBench::reserve_for(alloc, view, rows, choice, finder, defects, budget)?;
         Ok(bench)
     }
 
@@ -93,10 +97,12 @@ impl<'a, R: ExposableDefects, P: Choice + Drop> ChipBench<'a, R, P> {
         view: &'a View<'a>,
         rows: &'a R,
         choice: P,
+        finder: F,
         defects: ChipDefects,
         budget: u32,
     ) -> Result<Self, NoMemory>
         requires rows { R.chip rows.now ≡ view.now.core }
+        requires finder { IsForChip view.now.core view.now.ranks (F.loaded finder) }
         requires placed { All (IsPlacedDefect view.now.core (place_in view.now.ranks)) defects }
 
         ensures chip { IfOk result (λ bench. bench.chip ≡ view.now.core) }
@@ -113,9 +119,9 @@ impl<'a, R: ExposableDefects, P: Choice + Drop> ChipBench<'a, R, P> {
         if view.output_count() > u32::MAX as usize || defects.len() > u32::MAX as usize {
             return Err(NoMemory);
         }
-        let outputs = output_nets(alloc, view)?;
+        let defects = DefectSpans::new(alloc, defects)?;
         let search = Search::reserve(alloc, budget)?;
-        let judge = FlipBench::reserve(alloc, view, rows, choice, outputs)?;
+        let judge = FlipBench::reserve(alloc, view, rows, choice, finder)?;
         Ok(ChipBench {
             view,
             judge,
@@ -141,7 +147,8 @@ impl<'a, R: ExposableDefects, P: Choice + Drop> ChipBench<'a, R, P> {
     }
 }
 
-impl<R: ExposableDefects, P: Choice + Drop> Simulator for ChipBench<'_, R, P> {
+impl<R: ExposableDefects, P: Choice + Drop, F: FlipFinder + Drop> Simulator
+    for ChipBench<'_, R, P, F> {
     ghost use Rattle.ca_engine.specs.ChipBench.{task_in};
 
     ghost task = { λ bench. task_in bench };
@@ -169,11 +176,24 @@ impl<R: ExposableDefects, P: Choice + Drop> Simulator for ChipBench<'_, R, P> {
     }
 
     fn by_lasts(&mut self, place: usize) -> ByLasts {
-        match self.judge.by_lasts(self.defects.get(place)) {
+        match self.judge.by_lasts(self.defects.get(place), place) {
             Seen::Undecided => ByLasts::Undecided,
             Seen::Nowhere => ByLasts::Nowhere,
             Seen::At(output) => ByLasts::At(output),
         }
+    }
+
+    fn next_to_try(&mut self, places: &PlaceSet, from: usize) -> Option<usize> {
+        self.judge.next_to_try(&self.defects, places, from)
+    }
+
+    #[tactic(auto, using(crate::proofs::PairLemmas::count_of_trits))]
+    fn keep(&mut self, lane: usize, pair: &Pair) {
+        self.judge.keep(lane, &PairBits { pair });
+    }
+
+    fn turn_to(&mut self, lane: usize) {
+        self.judge.turn_to(lane);
     }
 
     fn may_detect(&self, place: usize) -> bool {
@@ -219,7 +239,7 @@ impl<R: ExposableDefects, P: Choice + Drop> Simulator for ChipBench<'_, R, P> {
     }
 }
 
-impl<R: ExposableDefects, P: Choice + Drop> Bench for ChipBench<'_, R, P> {
+impl<R: ExposableDefects, P: Choice + Drop, F: FlipFinder + Drop> Bench for ChipBench<'_, R, P, F> {
     fn is_exposable(&self, place: usize) -> bool {
         self.rows.is_exposable(self.defects.get(place))
     }

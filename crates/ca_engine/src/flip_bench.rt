@@ -7,23 +7,24 @@ use ca_flat::ChipDefect;
 use ca_guide::{Attempt, Choice, Step};
 use ca_judge::ExposingRows;
 use ca_net::Wave;
+use ca_places::PlaceSet;
 use ca_search::{Judge, Standing};
 use ca_sim::{Bits, NetWaves};
-use ca_sweep::{Finder, Seen};
+use ca_sweep::{DefectSpans, FlipFinder, Seen};
 use ca_view::View;
 use std::alloc::Global;
 use std::marker::Model;
 
-/// A judge, and a finder, which is loaded with the good waves for the bits when it is asked. All memory is
-/// taken by `reserve`.
+/// A judge, and a finder, which is loaded with the good waves for the bits when it is asked. It is for a
+/// finder of any type: so it has few parts to the prover, and test generation and grades share it.
 #[derive(Drop)]
-pub(crate) struct FlipBench<'a, R: ExposingRows, P: Choice + Drop> {
+pub(crate) struct FlipBench<'a, R: ExposingRows, P: Choice + Drop, F: FlipFinder + Drop> {
     judge: ca_judge::ChipJudge<'a, R, P>,
-    finder: Finder<'a>,
+    finder: F,
     is_loaded: bool,
 }
 
-impl<'a, R: ExposingRows, P: Choice + Drop> Model for FlipBench<'a, R, P> {
+impl<'a, R: ExposingRows, P: Choice + Drop, F: FlipFinder + Drop> Model for FlipBench<'a, R, P, F> {
     ghost use Rattle.ca_sim.specs.Simulator.{Simulator};
     ghost use Rattle.ca_engine.specs.code.FlipBench.{IsFlipBench};
 
@@ -31,22 +32,25 @@ impl<'a, R: ExposingRows, P: Choice + Drop> Model for FlipBench<'a, R, P> {
 
     ghost view = { λ bench. bench.judge };
 
-    ghost invariant = { λ bench. IsFlipBench bench.judge bench.finder bench.is_loaded };
+    ghost invariant = { λ bench. IsFlipBench bench.judge (F.loaded bench.finder) bench.is_loaded };
 }
 
-impl<'a, R: ExposingRows, P: Choice + Drop> FlipBench<'a, R, P> {
-    ghost use Rattle.std.specs.Prelude.{IsFalse, IsTrue, None, Some};
+impl<'a, R: ExposingRows, P: Choice + Drop, F: FlipFinder + Drop> FlipBench<'a, R, P, F> {
+    ghost use Rattle.std.specs.Prelude.{ℕ, IsFalse, IsTrue, None, Some};
+    ghost use Rattle.std.specs.List.{All};
     ghost use Rattle.ca_net.specs.Circuit.{IsWellFormed};
     ghost use Rattle.ca_flat.specs.Flat.{flat};
     ghost use Rattle.ca_flat.specs.Chip.{IsDefectIn};
     ghost use Rattle.ca_flat.specs.RuleOut.{RowsRuleOut};
     ghost use Rattle.ca_flat.specs.Waves.{FlatWaves};
-    ghost use Rattle.ca_flat.specs.Pair.{IsShown};
+    ghost use Rattle.ca_flat.specs.Pair.{bit_count, IsShown};
     ghost use Rattle.ca_view.specs.Linked.{IsAim, IsPlacedDefect, place_in};
     ghost use Rattle.ca_sim.specs.Seen.{IsExact, aimed_anew};
     ghost use Rattle.ca_sim.specs.Simulator.{IsFresh, KeepsAim, KeepsPair, KeepsSeen, counted_up};
     ghost use Rattle.ca_judge.specs.ChipJudge.{CanBeJudged};
-    ghost use Rattle.ca_sweep.specs.Found.{IsFound};
+    ghost use Rattle.ca_places.specs.PlaceSet.{Has};
+    ghost use Rattle.ca_sweep.specs.Found.{IsFound, IsNextFound};
+    ghost use Rattle.ca_sweep.specs.Seen.{IsForChip};
 
     /// Takes all memory. No bit is set, and no defect is aimed at.
     pub(crate) fn reserve(
@@ -54,15 +58,13 @@ impl<'a, R: ExposingRows, P: Choice + Drop> FlipBench<'a, R, P> {
         view: &'a View<'a>,
         rows: &'a R,
         choice: P,
-        outputs: Vec<u32>,
+        finder: F,
     ) -> Result<Self, NoMemory>
+        requires finder { IsForChip view.now.core view.now.ranks (F.loaded finder) }
         requires judged { CanBeJudged view.now.core }
         requires rows { R.chip rows.now ≡ view.now.core }
-        requires outputs { outputs.items ≡ view.now.core.outputs }
-        requires few { length outputs.items < 2 ^ 32 }
         ensures { IfOk result (IsFresh view.now.core view.now.ranks) }
     {
-        let finder = Finder::reserve(alloc, view, outputs)?;
         let judge = ca_judge::ChipJudge::reserve(alloc, view, rows, choice)?;
         Ok(FlipBench {
             judge,
@@ -92,21 +94,59 @@ impl<'a, R: ExposingRows, P: Choice + Drop> FlipBench<'a, R, P> {
         self.judge.may_show(defect)
     }
 
-    /// What last values alone say of a defect: where the bits first detect it.
-    pub(crate) fn by_lasts(&mut self, defect: ChipDefect) -> Seen
+    /// What last values alone say of a defect: where the bits first detect it. Where it stands in a list, its
+    /// place there helps to find it in that of its cell.
+    pub(crate) fn by_lasts(&mut self, defect: ChipDefect, place: usize) -> Seen
         requires defect { IsPlacedDefect self.old.seen.chip (place_in self.old.seen.places) defect }
         requires good_is { IsWellFormed (flat self.old.seen.chip None) }
         requires faulty_is { IsWellFormed (flat self.old.seen.chip (Some defect)) }
         ensures found { IsFound self.old.seen.chip defect self.old.seen.pair result }
         ensures kept { self.new ≡ self.old }
     {
-        if self.is_loaded {
-            return self.finder.find(&self.judge, defect);
-        }
-        self.judge.exact();
-        self.finder.load(&self.judge);
+        load_finder(&self.judge, &mut self.finder, self.is_loaded);
         self.is_loaded = true;
-        self.finder.find(&self.judge, defect)
+        self.finder.find(&self.judge, defect, place)
+    }
+
+    /// The first place of the set at or past this one, but for places of defects of the list of which last
+    /// values alone say that the bits detect them nowhere.
+    pub(crate) fn next_to_try(
+        &mut self,
+        defects: &DefectSpans,
+        places: &PlaceSet,
+        from: usize,
+    ) -> Option<usize>
+        requires defects { All (IsPlacedDefect self.old.seen.chip (place_in self.old.seen.places))
+            defects.now }
+        requires few { length defects.now < 2 ^ 32 }
+        requires within { (place : ℕ) → Has places.now place → place < length defects.now }
+        requires good_is { IsWellFormed (flat self.old.seen.chip None) }
+        requires faulty_are { All (λ defect. IsWellFormed (flat self.old.seen.chip (Some defect)))
+            defects.now }
+        ensures next { IsNextFound self.old.seen.chip defects.now self.old.seen.pair places.now from result }
+        ensures kept { self.new ≡ self.old }
+    {
+        load_finder(&self.judge, &mut self.finder, self.is_loaded);
+        self.is_loaded = true;
+        self.finder.next(&self.judge, defects, places, from)
+    }
+
+    /// Keeps the bits of a pair in a lane, if there is such a lane.
+    pub(crate) fn keep<B: Bits>(&mut self, lane: usize, bits: &B)
+        requires { length (B.bits bits.now) ≡ bit_count self.old.seen.chip }
+        ensures { self.new ≡ self.old }
+    {
+        self.finder.keep(lane, bits);
+    }
+
+    /// Looks whether a lane has the last values of the good waves for the bits, if there is such a lane.
+    pub(crate) fn turn_to(&mut self, lane: usize)
+        requires { IsWellFormed (flat self.old.seen.chip None) }
+        ensures { self.new ≡ self.old }
+    {
+        load_finder(&self.judge, &mut self.finder, self.is_loaded);
+        self.is_loaded = true;
+        self.finder.turn_to(lane);
     }
 
     /// Whether the instance of the defect that is aimed at gives the same with this other one of its defects.
@@ -144,7 +184,7 @@ impl<'a, R: ExposingRows, P: Choice + Drop> FlipBench<'a, R, P> {
     }
 }
 
-impl<R: ExposingRows, P: Choice + Drop> NetWaves for FlipBench<'_, R, P> {
+impl<R: ExposingRows, P: Choice + Drop, F: FlipFinder + Drop> NetWaves for FlipBench<'_, R, P, F> {
     ghost seen = { λ bench. bench.seen };
 
     fn good(&self, net: usize) -> Wave {
@@ -164,7 +204,7 @@ impl<R: ExposingRows, P: Choice + Drop> NetWaves for FlipBench<'_, R, P> {
     }
 }
 
-impl<R: ExposingRows, P: Choice + Drop> Judge for FlipBench<'_, R, P> {
+impl<R: ExposingRows, P: Choice + Drop, F: FlipFinder + Drop> Judge for FlipBench<'_, R, P, F> {
     ghost use Rattle.ca_judge.specs.ChipJudge.{judged_of};
 
     ghost judged = { λ bench. judged_of bench.seen };
@@ -204,4 +244,26 @@ impl<R: ExposingRows, P: Choice + Drop> Judge for FlipBench<'_, R, P> {
         self.is_loaded = false;
         self.judge.attempt()
     }
+}
+
+ghost use Rattle.std.specs.Prelude.{None, true};
+ghost use Rattle.ca_net.specs.Circuit.{IsWellFormed};
+ghost use Rattle.ca_flat.specs.Flat.{flat};
+ghost use Rattle.ca_engine.specs.code.FlipBench.{IsFlipBench};
+
+// Loads the finder with the good waves, if it isn't.
+fn load_finder<R: ExposingRows, P: Choice + Drop, F: FlipFinder>(
+    judge: &ca_judge::ChipJudge<'_, R, P>,
+    finder: &mut F,
+    is_loaded: bool,
+)
+    requires bench { IsFlipBench judge.now (F.loaded finder.old) is_loaded }
+    requires good_is { IsWellFormed (flat judge.now.seen.chip None) }
+    ensures { IsFlipBench judge.now (F.loaded finder.new) true }
+{
+    if is_loaded {
+        return;
+    }
+    judge.exact();
+    finder.load(judge);
 }

@@ -5,14 +5,17 @@ ghost use Rattle.ca_credit.specs.Good.{IsGood};
 ghost use Rattle.ca_generate.specs.GenerateFault.{IsCause};
 ghost use Rattle.ca_generate.specs.Known.{AreUntestable};
 ghost use Rattle.ca_engine.specs.ChipTask.{task_of};
+ghost use Rattle.ca_sweep.specs.Seen.{IsForChip};
 
 use crate::chip_bench::ChipBench;
+use crate::finders::reserve_finder;
 use crate::untestable::untestable_marks;
 use ca_choice::CheapestWay;
 use ca_generate::{GenerateFault, Generated, Watch, generate_knowing};
 use ca_guide::Choice;
 use ca_linked::Chip;
 use ca_rows::{ChipRows, ExposableDefects};
+use ca_sweep::FlipFinder;
 use ca_view::View;
 use std::alloc::Global;
 
@@ -93,11 +96,11 @@ fn generate_marked<R: ExposableDefects, T: Watch>(
     ensures cause { IfErr result (IsCause (task_of view.now.chip budget)) }
 {
     let choice = CheapestWay::reserve(alloc, view)?;
-    generate_by(alloc, view, rows, choice, untestable, budget, watch)
+    generate_found(alloc, view, rows, choice, untestable, budget, watch)
 }
 
-// The same by rows and a choice of any type: so the bench that is dropped here has few parts to the prover.
-fn generate_by<R: ExposableDefects, P: Choice + Drop, T: Watch>(
+// The same with a finder.
+fn generate_found<R: ExposableDefects, P: Choice + Drop, T: Watch>(
     alloc: Global,
     view: &View<'_>,
     rows: &R,
@@ -113,7 +116,31 @@ fn generate_by<R: ExposableDefects, P: Choice + Drop, T: Watch>(
         (λ made. IsGood (task_of view.now.chip budget) made.pairs made.aims made.verdicts) }
     ensures cause { IfErr result (IsCause (task_of view.now.chip budget)) }
 {
-    let mut bench = ChipBench::reserve(alloc, view, rows, choice, budget)?;
+    let finder = reserve_finder(alloc, view)?;
+    generate_by(alloc, view, rows, choice, finder, untestable, budget, watch)
+}
+
+// The same by rows, a choice and a finder of any type: so the bench that is dropped here has few parts to the
+// prover.
+fn generate_by<R: ExposableDefects, P: Choice + Drop, F: FlipFinder + Drop, T: Watch>(
+    alloc: Global,
+    view: &View<'_>,
+    rows: &R,
+    choice: P,
+    finder: F,
+    untestable: &[bool],
+    budget: u32,
+    watch: &mut T,
+) -> Result<Generated, GenerateFault>
+    requires rows { R.chip rows.now ≡ view.now.core }
+    requires finder { IsForChip view.now.core view.now.ranks (F.loaded finder) }
+    requires untestable { AreUntestable (task_of view.now.chip budget) untestable.now }
+
+    ensures good { IfOk result
+        (λ made. IsGood (task_of view.now.chip budget) made.pairs made.aims made.verdicts) }
+    ensures cause { IfErr result (IsCause (task_of view.now.chip budget)) }
+{
+    let mut bench = ChipBench::reserve(alloc, view, rows, choice, finder, budget)?;
     let made = generate_knowing(alloc, &mut bench, untestable, watch);
     drop(bench);
     made

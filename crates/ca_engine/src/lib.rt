@@ -2,6 +2,7 @@
 #![tactic(auto)]
 
 mod chip_bench;
+mod finders;
 mod flip_bench;
 mod generate;
 mod outputs;
@@ -11,4 +12,5 @@ mod untestable;
 
 pub use ca_chip_defects::{ChipDefects, chip_defects};
 pub use chip_bench::ChipBench;
+pub use finders::{reserve_finder, reserve_laned};
 pub use generate::{generate_chip, generate_over};

@@ -13,10 +13,14 @@ use ca_judge::ExposingRows;
 use ca_pair::Pair;
 use ca_search::{Judge, Outcome, Search};
 use ca_sim::NetWaves;
+use ca_sweep::FlipFinder;
 use std::alloc::Global;
 
 // A bit of the pair that is kept: 0 where it is unset.
-fn is_one<R: ExposingRows, P: Choice + Drop>(judge: &FlipBench<'_, R, P>, bit: usize) -> bool
+fn is_one<R: ExposingRows, P: Choice + Drop, F: FlipFinder + Drop>(
+    judge: &FlipBench<'_, R, P, F>,
+    bit: usize,
+) -> bool
     requires { bit < length judge.now.seen.pair }
     ensures { result ≡ filled_bit (value_at judge.now.seen.pair bit) }
 {
@@ -27,9 +31,9 @@ fn is_one<R: ExposingRows, P: Choice + Drop>(judge: &FlipBench<'_, R, P>, bit: u
 }
 
 // The pair that the bits give, 0 where one is unset.
-fn pair_of<R: ExposingRows, P: Choice + Drop>(
+fn pair_of<R: ExposingRows, P: Choice + Drop, F: FlipFinder + Drop>(
     alloc: Global,
-    judge: &FlipBench<'_, R, P>,
+    judge: &FlipBench<'_, R, P, F>,
 ) -> Result<Pair, NoMemory>
     ensures { IfOk result (λ pair. pair ≡ filled judge.now.seen.pair) }
 {
@@ -42,9 +46,9 @@ fn pair_of<R: ExposingRows, P: Choice + Drop>(
 }
 
 /// The end of a search with such an outcome: with the pair that it has found, or the code that it spent.
-pub(crate) fn end_of<R: ExposingRows, P: Choice + Drop>(
+pub(crate) fn end_of<R: ExposingRows, P: Choice + Drop, F: FlipFinder + Drop>(
     alloc: Global,
-    judge: &FlipBench<'_, R, P>,
+    judge: &FlipBench<'_, R, P, F>,
     search: &Search,
     outcome: Outcome,
 ) -> Result<SearchEnd, NoMemory>

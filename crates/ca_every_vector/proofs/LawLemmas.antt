@@ -1,8 +1,6 @@
 -- A defect that no possible row exposes is untestable.
-use Rattle.std.proofs.Common.{◌≡◌, ◌≢◌, ℕ, zero, suc, ◌+◌, ◌^◌, ◌<◌, Bool, true, false, List, length, None, Some, inl, inr, refl, sym, ◌∙◌, ap, subst, arith}
-use Rattle.std.specs.Prelude.{slice_index}
+use Rattle.std.proofs.Common.{◌≡◌, ◌≢◌, ℕ, ◌+◌, ◌^◌, ◌<◌, List, length, None, Some, inl, inr, refl, sym, ◌∙◌, ap, subst, arith}
 use Rattle.std.specs.List.{Contains}
-use Rattle.std.proofs.lemmas.List.{get_or_default}
 use Rattle.ca_net.specs.declared.trit.Trit.{Trit}
 use Rattle.ca_net.specs.declared.trit.Trit.TheVariants.{Zero, One, X}
 use Rattle.ca_net.specs.Trit.{IsBelow}
@@ -26,31 +24,9 @@ use Rattle.ca_flat.proofs.Rows.{row_ends}
 use Rattle.ca_flat.proofs.Filled.{fill, fill_definite, fill_above}
 use Rattle.ca_flips.specs.Flips.{IsOpposite, lasts_of}
 use Rattle.ca_flips.proofs.ReachLemmas.{reached_own}
-use Rattle.ca_flips.proofs.SweepLemmas.{swept_are_flipped_lem}
-use Rattle.ca_sweep.specs.declared.seen.Flips.{Flips}
-use Rattle.ca_sweep.specs.Seen.{flipped_if, flipped_outputs, IsSeenFrom}
-use Rattle.ca_every_vector.specs.Possible.{Has, HasFirsts, HasClear, HasLasts, HasAll, IsUnseen}
+use Rattle.ca_every_vector.specs.Possible.{Has, HasFirsts, HasClear, HasLasts, HasAll}
 use Rattle.ca_every_vector.specs.Laws.{NoneExposes, ImpossibleIsUntestable}
-use Rattle.ca_every_vector.proofs.SeenLemmas.{few_outputs, none_flipped, reached_good, undetected, rises}
-
--- whether a known value is the opposite of the good one
-abbrev differs : Trit → Trit → Bool
-differs Zero One = true
-differs Zero Zero = false
-differs Zero X = false
-differs One Zero = true
-differs One One = false
-differs One X = false
-differs X known = false
-
-flip_below : (good known : Trit) → good ≢ X → IsBelow known (flipped_if (differs good known) good)
-flip_below Zero Zero definite = inr refl
-flip_below Zero One definite = inr refl
-flip_below Zero X definite = inl refl
-flip_below One Zero definite = inr refl
-flip_below One One definite = inr refl
-flip_below One X definite = inl refl
-flip_below X known definite = absurd (definite refl)
+use Rattle.ca_sweep.proofs.UndetectedLemmas.{none_flipped, reached_good, undetected, unseen_is_undetected, rises}
 
 below_unless_opposite : (good known : Trit) → good ≢ X → (IsOpposite good known → ⊥) → IsBelow known good
 below_unless_opposite good X definite none = inl refl
@@ -89,36 +65,6 @@ module _ (chip : Chip) (rank : ℕ → ℕ) (defect : ChipDefect) (is : IsFlatCh
           (faulty_here chip defect)
           (row_ends chip rank (Some defect) (faulty_flat chip rank defect is) pair faulty defect.instance known a b faulty_firsts faulty_lasts output _ within (opposite_definite _ clash.0) clash.1);
     }
-
-  -- what no flip shows isn't detected
-  module _ (partial : List Trit) (low : FlatWaves chip None partial) (up : IsStateBelow partial pair) (values : List Trit)
-      (are_lasts : (waves : FlatWaves chip None partial) (net : ℕ) → net < length chip.nets → lasts_of waves net ≡ value_at values net) where
-    flips : Flips
-    flips = record {
-      first = differs (value_at values (output_net chip defect.instance 0)) (lasts_of faulty (output_net chip defect.instance 0));
-      second = differs (value_at values (output_net chip defect.instance 1)) (lasts_of faulty (output_net chip defect.instance 1));
-    }
-
-    flips_over : ((output : ℕ) → output < outputs_at chip defect.instance → value_at values (output_net chip defect.instance output) ≢ X)
-        → (output : ℕ) → output < outputs_at chip defect.instance
-        → IsBelow (lasts_of faulty (output_net chip defect.instance output)) (flipped_outputs chip defect.instance (value_at values) flips output)
-    unfolding flips
-    flips_over definite zero within = flip_below _ _ (definite 0 within)
-    flips_over definite (suc zero) within = flip_below _ _ (definite 1 within)
-    flips_over definite (suc (suc output)) within =
-        let few = few_outputs (cell_at chip defect.instance) (is.chip_is.cells defect.instance known).keeps in absurd (omega arith)
-
-    unseen_is_undetected : IsUnseen chip defect.instance values → (net : ℕ) → Contains chip.outputs net → DetectsAt chip defect pair net → ⊥
-    unseen_is_undetected unseen net observed detects =
-        let seen : IsSeenFrom chip (value_at values) defect.instance flips None = unseen flips in
-        let same : slice_index chip.outputs observed.0 ≡ net = get_or_default chip.outputs observed.0 0 net observed.1 ∙ observed.2 in
-        undetected chip rank defect is pair partial good faulty low up (value_at values) (are_lasts low) seen.clear
-        (flipped_outputs chip defect.instance (value_at values) flips) seen.values
-        (swept_are_flipped_lem chip rank partial defect.instance (value_at values) (flipped_outputs chip defect.instance (value_at values) flips) seen.values
-        is.chip_is is.good_is known are_lasts seen.clear.all_static seen.clear.definite seen.swept)
-        (flips_over seen.clear.definite.outputs)
-        net (is.chip_is.observed net observed)
-        (λ opposite. seen.first observed.0 observed.1 (subst (λ n. IsOpposite (value_at values n) (seen.values n)) (sym same) opposite)) detects
 
   -- for masks that have all possible rows, of which none exposes the defect
   module _ (firsts lasts : ℕ) (none : NoneExposes chip defect firsts lasts) where
@@ -207,7 +153,7 @@ module _ (chip : Chip) (rank : ℕ → ℕ) (defect : ChipDefect) (is : IsFlatCh
 
       by_lasts : HasLasts chip defect.instance lasts partial → ⊥
       by_lasts of = elim of.has [
-        | inl unseen ↦ unseen_is_undetected partial low up of.values of.are_lasts unseen net observed detects
+        | inl unseen ↦ unseen_is_undetected chip rank defect is pair good faulty partial low up (value_at of.values) of.are_lasts unseen net observed detects
         | inr (inl clear) ↦ by_clear of.values of.are_lasts clear
         | inr (inr all) ↦ by_all all
       ]

@@ -1,4 +1,3 @@
-pub mod SeenLemmas
 pub mod LawLemmas
 pub mod MaskLemmas
 pub mod VectorLemmas

@@ -4,20 +4,22 @@
 ghost use Rattle.std.specs.Prelude.{◌≡◌, ◌<◌, ◌^◌, length, IfSome};
 ghost use Rattle.std.specs.List.{All};
 ghost use Rattle.ca_flat.specs.Pair.{bit_count};
+ghost use Rattle.ca_sweep.specs.Seen.{IsForChip};
 
-use crate::chips::{C17, INV, ONE_BRANCH};
+use crate::chips::{CREDITED, INV, ONE_BRANCH};
 use crate::reported::{summary, verdict};
 use crate::worked::linked;
 use ca_base::NoMemory;
 use ca_choice::CheapestWay;
 use ca_credit::{BLOCK, Credits, Simulator};
-use ca_engine::ChipBench;
+use ca_engine::{ChipBench, reserve_finder, reserve_laned};
 use ca_generate::{Bench, Unwatched, generate};
 use ca_guide::{Choice, LowestUnset};
 use ca_lex::Text;
 use ca_linked::Chip;
 use ca_pair::{Pair, Pairs};
 use ca_rows::{ChipRows, ExposableDefects};
+use ca_sweep::FlipFinder;
 use ca_view::View;
 use std::alloc::Global;
 use std::process::Abort;
@@ -156,7 +158,40 @@ struct Reported {
 
 // What is reported about a bench of a chip, given its view and its rows. Pairs have `bits` bits. Each value
 // is dropped in one place here and below: more places are slow to prove.
-fn tell_over<R: ExposableDefects, P: Choice + Drop>(
+fn tell_over<R: ExposableDefects, P: Choice + Drop, F: FlipFinder + Drop>(
+    alloc: Global,
+    view: &View<'_>,
+    rows: &R,
+    choice: P,
+    finder: F,
+    budget: u32,
+    pairs: &[Pair],
+    bits: usize,
+    asked: Asked,
+) -> Result<Reported, NoMemory>
+    requires rows { R.chip rows.now ≡ view.now.core }
+    requires finder { IsForChip view.now.core view.now.ranks (F.loaded finder) }
+    requires bits { All (λ pair. length pair ≡ bits) pairs.now }
+    requires numbers { length pairs.now < 2 ^ 32 }
+{
+    view.linked();
+    view.viewed();
+    if bits != 2 * view.input_count() {
+        return Err(NoMemory);
+    }
+    let mut bench = ChipBench::reserve(alloc, view, rows, choice, finder, budget)?;
+    let text = answer(alloc, &mut bench, pairs, asked);
+    let reported = Reported {
+        text,
+        aims: bench.aim_count(),
+        evaluations: bench.evaluation_count(),
+    };
+    drop(bench);
+    Ok(reported)
+}
+
+// The same with a finder: blocks of pairs are credited with lanes, all else without.
+fn tell_found<R: ExposableDefects, P: Choice + Drop>(
     alloc: Global,
     view: &View<'_>,
     rows: &R,
@@ -170,20 +205,16 @@ fn tell_over<R: ExposableDefects, P: Choice + Drop>(
     requires bits { All (λ pair. length pair ≡ bits) pairs.now }
     requires numbers { length pairs.now < 2 ^ 32 }
 {
-    view.linked();
-    view.viewed();
-    if bits != 2 * view.input_count() {
-        return Err(NoMemory);
+    if let Asked::Blocks = asked {
+        let finder = reserve_laned(alloc, view)?;
+        return tell_over(
+            alloc, view, rows, choice, finder, budget, pairs, bits, asked,
+        );
     }
-    let mut bench = ChipBench::reserve(alloc, view, rows, choice, budget)?;
-    let text = answer(alloc, &mut bench, pairs, asked);
-    let reported = Reported {
-        text,
-        aims: bench.aim_count(),
-        evaluations: bench.evaluation_count(),
-    };
-    drop(bench);
-    Ok(reported)
+    let finder = reserve_finder(alloc, view)?;
+    tell_over(
+        alloc, view, rows, choice, finder, budget, pairs, bits, asked,
+    )
 }
 
 // The same with the choice that is asked for.
@@ -202,10 +233,10 @@ fn tell_by_choice(
 {
     view.viewed();
     if let Asked::Verdict(_) = asked {
-        return tell_over(alloc, view, rows, LowestUnset, budget, pairs, bits, asked);
+        return tell_found(alloc, view, rows, LowestUnset, budget, pairs, bits, asked);
     }
     let choice = CheapestWay::reserve(alloc, view)?;
-    tell_over(alloc, view, rows, choice, budget, pairs, bits, asked)
+    tell_found(alloc, view, rows, choice, budget, pairs, bits, asked)
 }
 
 // The same, of which a view is at hand.
@@ -274,25 +305,43 @@ fn a_falling_input_of_an_inverter(rt: HostRuntime) {
     assert!(rt; aims <= 6, "{aims}");
 }
 
-// The credits of 257 pairs in two blocks, which are those of the pairs one by one. The bits of a pair are
-// those of 37 times its number.
+// The credits of 257 pairs in two blocks, with lanes, are those of the pairs one by one, without. The bits of
+// a pair are those of 37 times its number.
 #[test]
 fn two_blocks_of_pairs(rt: HostRuntime) {
     let alloc = rt.alloc();
-    let pairs = drawn_pairs(alloc, 0, 257, 37, 10).expect(&rt, "memory");
-    let (blocks, _, _) = reported_of(&rt, alloc, C17, 0, pairs.as_slice(), 10, Asked::Blocks);
-    let (singles, _, _) = reported_of(&rt, alloc, C17, 0, pairs.as_slice(), 10, Asked::Singles);
-    assert!(rt;
-        blocks == singles,
-        "{:?} {:?}",
-        blocks.as_bytes(),
-        singles.as_bytes()
-    );
-    assert!(rt;
-        blocks.as_bytes().starts_with(b"66 "),
-        "{:?}",
-        blocks.as_bytes()
-    );
+    for (netlist, bits, wanted) in CREDITED {
+        let pairs = drawn_pairs(alloc, 0, 257, 37, bits).expect(&rt, "memory");
+        let (blocks, _, _) = reported_of(
+            &rt,
+            alloc,
+            netlist,
+            0,
+            pairs.as_slice(),
+            bits,
+            Asked::Blocks,
+        );
+        let (singles, _, _) = reported_of(
+            &rt,
+            alloc,
+            netlist,
+            0,
+            pairs.as_slice(),
+            bits,
+            Asked::Singles,
+        );
+        assert!(rt;
+            blocks == singles,
+            "{:?} {:?}",
+            blocks.as_bytes(),
+            singles.as_bytes()
+        );
+        assert!(rt;
+            blocks.as_bytes().starts_with(wanted),
+            "{:?}",
+            blocks.as_bytes()
+        );
+    }
 }
 
 // What a search gives up with after one branch.

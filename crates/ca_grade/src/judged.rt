@@ -13,7 +13,7 @@ ghost use Rattle.ca_grade.specs.declared.judged.GradeFault.TheVariants as fault;
 use crate::grade::{Grades, grades_of};
 use crate::marks::marked;
 use ca_base::{List, NoMemory};
-use ca_credit::Credits;
+use ca_credit::{Credits, keep_pairs};
 use ca_expected::{WrongValue, wrong_output};
 use ca_generate::{Bench, Watch};
 use ca_net::Trit;
@@ -35,8 +35,8 @@ impl From<NoMemory> for GradeFault {
     }
 }
 
-// Credits the pairs one after another, each loaded once: then its expected values are judged too, and the
-// first wrong one ends it.
+// Credits the pairs one after another: when one is loaded its expected values are judged too, and the first
+// wrong one ends it. Before the first of each 64 these are kept in lanes.
 fn credit_judged<B: Bench, T: Watch>(
     credits: &mut Credits,
     bench: &mut B,
@@ -57,6 +57,7 @@ fn credit_judged<B: Bench, T: Watch>(
     ensures task { B.task bench.new ≡ B.task bench.old }
 {
     for place in 0..pairs.len() {
+        keep_pairs(bench, pairs, place);
         credits.credit_pair(bench, &pairs[place], place as u32);
         if let Some(output) = wrong_output(bench, &expected[place]) {
             return Some(WrongValue {

@@ -118,7 +118,7 @@ impl Network {
             self.old self.new }
     {
         chip.linked();
-        let first = chip.cell(u).inputs();
+        let first = chip.inputs_at(u);
         for output in 0..outputs.len() {
             self.put(chip, chip.pin_net(u, first + output), outputs[output]);
         }
@@ -132,7 +132,7 @@ impl Network {
     {
         chip.linked();
         let mut pins = PinWaves::new();
-        for pin in 0..chip.cell(u).inputs() {
+        for pin in 0..chip.inputs_at(u) {
             pins.push(self.waves.get(chip.pin_net(u, pin)));
         }
         pins
@@ -145,7 +145,7 @@ impl Network {
         ensures { result.items ≡ output_waves chip.now.core self.now.waves u }
     {
         chip.linked();
-        let first = chip.cell(u).inputs();
+        let first = chip.inputs_at(u);
         let mut outputs = OutWaves::new();
         for output in 0..chip.cell(u).outputs() {
             outputs.push(self.waves.get(chip.pin_net(u, first + output)));

@@ -1,16 +1,15 @@
 -- An instance is clear where its output nets are definite, and all that read one pass flips on.
-use Rattle.std.proofs.Common.{◌≡◌, ◌≢◌, ℕ, ◌+◌, ◌<◌, Bool, true, false, List, [], ◌∷◌, length, get_or, set, replicate, sym, ◌∙◌, ap, subst, arith, inl, inr}
+use Rattle.std.proofs.Common.{◌≡◌, ℕ, ◌+◌, ◌<◌, Bool, true, false, List, [], ◌∷◌, length, get_or, set, replicate, sym, ◌∙◌, ap, subst, arith, inl, inr}
 use Rattle.std.proofs.lemmas.Bool.{cases_eq, cases_lt}
 use Rattle.std.proofs.lemmas.List.{get_or-set_same, get_or-set_other, length-set, get_or-replicate, get_or_past, length-replicate}
 use Rattle.ca_net.specs.declared.trit.Trit.{Trit}
-use Rattle.ca_net.specs.declared.trit.Trit.TheVariants.{X}
-use Rattle.ca_flat.specs.Chip.{Chip, cell_at, inputs_at, outputs_at, net_of, output_net, count_of}
+use Rattle.ca_flat.specs.Chip.{Chip, cell_at, inputs_at, outputs_at, net_of, count_of}
 use Rattle.ca_flat.specs.Chain.{IsChain}
 use Rattle.ca_flips.specs.Static.{IsStatic}
 use Rattle.ca_flips.specs.Flips.{IsAfter}
-use Rattle.ca_view.specs.Linked.{Reads, IsLinked}
+use Rattle.ca_view.specs.Linked.{Reads, IsLinked, IsPlaced}
 use Rattle.ca_sweep.specs.Seen.{IsClear}
-use Rattle.ca_sweep.specs.code.Kept.{IsPassing, AreDefinitePins, AreOutputsClear, AreMarks, AreAllStatic, is_marked}
+use Rattle.ca_sweep.specs.code.Kept.{IsPassing, AreDefinitePins, AreOutputsClear, AreMarks, AreAllDefinite, AreAllStatic, is_marked}
 
 module _ (chip : Chip) (goods : ℕ → Trit) where
   -- what holds of an instance that a chain from the net leads to, where all that read the net pass flips on
@@ -80,29 +79,24 @@ marks_new chip P marks count counted is = record {
       | inr high ↦ get_or_past (replicate count false) u false (let l = length-replicate count false in omega arith)
     ]
 
--- where all cells are static and all values are definite, each instance is clear
+-- where all cells are static and the values at all pins of instances with a place are definite, each of these
+-- instances is clear
 pub all_clear : (chip : Chip) (place_of number_of : ℕ → ℕ) (goods : ℕ → Trit) → IsLinked chip place_of number_of → AreAllStatic chip place_of
-    → ((net : ℕ) → net < length chip.nets → goods net ≢ X) → (u : ℕ) → u < count_of chip → IsClear chip goods u
-all_clear chip place_of number_of goods linked static definite u known = record {
-  all_static = λ w following. static w (record {
-    known = following.known;
-    placed = elim (cases_lt 0 (place_of w)) [
-      | inl some ↦ some
-      | inr none ↦ let bare = (linked.bare w following.known (omega arith)).no_pin in let pin = following.within in absurd (omega arith)
-    ];
-  });
+    → AreAllDefinite chip place_of goods → (u : ℕ) → IsPlaced chip place_of u → IsClear chip goods u
+all_clear chip place_of number_of goods linked static definite u placed = record {
+  all_static = λ w following. static w (record { known = following.known; placed = has_place w _ following.known following.within });
   definite = record {
-    outputs = λ output within. definite (output_net chip u output) (linked.is_chip.on_nets u (inputs_at chip u + output) known (omega arith));
-    read = λ w pin following within. definite (net_of chip w pin) (linked.is_chip.on_nets w pin following.known (omega arith));
+    outputs = λ output within. definite u placed (inputs_at chip u + output) (omega arith);
+    read = λ w pin following within. definite w (record { known = following.known; placed = has_place w pin following.known within }) pin (omega arith);
   };
 }
+  where
+    has_place : (w pin : ℕ) → w < count_of chip → pin < inputs_at chip w → 0 < place_of w
+    has_place w pin known within = elim (cases_lt 0 (place_of w)) [
+      | inl some ↦ some
+      | inr none ↦ let no_pin = (linked.bare w known (omega arith)).no_pin in absurd (omega arith)
+    ]
 
--- where all instances have the property, any marks stand
-pub marks_any : (chip : Chip) (P : ℕ → Type 0) (marks : List Bool) → length marks ≡ count_of chip → ((u : ℕ) → u < count_of chip → P u) → AreMarks chip P marks
-marks_any chip P marks room all = record {
-  room = room;
-  each = λ u marked. elim (cases_lt u (length marks)) [
-    | inl less ↦ all u (omega arith)
-    | inr past ↦ let none : get_or marks u false ≡ false = get_or_past marks u false past in let e : false ≡ true = sym none ∙ marked in absurd cc
-  ];
-}
+-- marks with which the property comes
+pub marks_by : (chip : Chip) (P Q : ℕ → Type 0) (marks : List Bool) → AreMarks chip P marks → ((u : ℕ) → P u → Q u) → AreMarks chip Q marks
+marks_by chip P Q marks are by = record { room = are.room; each = λ u marked. by u (are.each u marked) }

@@ -24,11 +24,11 @@ use Rattle.ca_sweep.proofs.FoundLemmas.{found_by, faulty_lasts}
 use Rattle.ca_sweep.proofs.RowLemmas.{flips_of_code, first_of_code, second_of_code}
 
 -- the code in a slot is that of what the cell gives with the defect
-coded_in : (raw : RawCell) (pins : List Wave) (slot : Option Row) (list : List Defect) (defect : Defect) (code : ℕ) → IsListOf raw list
-    → IsRowOf raw pins slot → IsCodeIn slot list defect code → IsCoded raw defect pins code
-coded_in raw pins None list defect code is_list row is = absurd is
-coded_in raw pins (Some row) list defect code is_list codes is =
-    subst (IsCoded raw defect pins) (sym is.is) (codes is.place defect is.within (ap (λ l. slice_get l is.place) (sym is_list.is) ∙ is.at))
+coded_in : (raw : RawCell) (pins : List Wave) (slot : Option Row) (list : List Defect) (defect : Defect) (place code : ℕ) → IsListOf raw list
+    → slice_get list place ≡ Some defect → IsRowOf raw pins slot → IsCodeIn slot place code → IsCoded raw defect pins code
+coded_in raw pins None list defect place code is_list at row is = absurd is
+coded_in raw pins (Some row) list defect place code is_list at codes is =
+    subst (IsCoded raw defect pins) (sym is.is) (codes place defect is.within (ap (λ l. slice_get l place) (sym is_list.is) ∙ at))
 
 -- the last values are definite where the code says so
 known_of_code : (outputs : List Wave) (code count : ℕ) → count ≤ 2 → code ≡ code_of_lasts outputs → IsKnownCode code count
@@ -48,13 +48,14 @@ coded_found swept filled flipped chip rank defect pair pins goods code answer is
     (λ on output within. known_of_code coded.outputs code (outputs_at chip defect.instance) seen.few coded.code_is (seen.known_is on) output within) seen.seen_is)
 
 -- the code in the slot is that of the defect
-pub hand_coded : (chip : Chip) (goods : ℕ → Trit) (waves : List Wave) (slots : List (Option Row)) (hand : Hand) (defect : ChipDefect) (list : List Defect) (result : Option ℕ)
-    → IsTakenAt chip goods waves slots hand defect.instance → IsListOf (cell_at chip defect.instance) list
-    → IfSome result (IsCodeIn (slice_index_or slots hand.slot None) list defect.defect) → IfSome result (IsCodedAt chip waves defect)
-hand_coded chip goods waves slots hand defect list None is is_list code_is = tt
-hand_coded chip goods waves slots hand defect list (Some code) is is_list code_is = record {
+pub hand_coded : (chip : Chip) (number_of : ℕ → ℕ) (goods : ℕ → Trit) (waves : List Wave) (slots : List (Option Row)) (hand : Hand) (defect : ChipDefect)
+    (list : List Defect) (place : ℕ) (result : Option ℕ) → IsTakenAt chip number_of goods waves slots hand defect.instance
+    → IsListOf (cell_at chip defect.instance) list → slice_get list place ≡ Some defect.defect
+    → IfSome result (IsCodeIn (slice_index_or slots hand.slot None) place) → IfSome result (IsCodedAt chip waves defect)
+hand_coded chip number_of goods waves slots hand defect list place None is is_list at code_is = tt
+hand_coded chip number_of goods waves slots hand defect list place (Some code) is is_list at code_is = record {
   pins = is.taken.pins;
   pins_are = subst (λ u. AreWavesAt chip waves u is.taken.pins) is.instance_is is.taken.pins_are;
-  coded = coded_in (cell_at chip defect.instance) is.taken.pins (slice_index_or slots hand.slot None) list defect.defect code is_list
+  coded = coded_in (cell_at chip defect.instance) is.taken.pins (slice_index_or slots hand.slot None) list defect.defect place code is_list at
       (subst (λ u. IsRowOf (cell_at chip u) is.taken.pins (slice_index_or slots hand.slot None)) is.instance_is is.taken.row) code_is;
 }

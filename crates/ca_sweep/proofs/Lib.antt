@@ -8,7 +8,12 @@ pub mod FirstLemmas
 pub mod SeenLemmas
 pub mod FaultyLemmas
 pub mod FoundLemmas
+pub mod UndetectedLemmas
 pub mod SegmentLemmas
 pub mod RowLemmas
 pub mod CodedLemmas
 pub mod NoneLemmas
+pub mod NextLemmas
+pub mod LaneLemmas
+pub mod LaneFindLemmas
+pub mod SpanLemmas

@@ -1,10 +1,14 @@
 -- What a sweep answers: the first observed output at which a flip of an instance's outputs is seen.
 use Rattle.std.specs.Prelude.{ℕ, zero, suc, ◌≡◌, ◌<◌, Bool, true, false, List, length, map, slice_index}
+use Rattle.std.specs.Prelude.{slice_index_or}
 use Rattle.std.specs.Prelude.{Option, None, Some}
 use Rattle.ca_net.specs.declared.trit.Trit.{Trit}
 use Rattle.ca_net.specs.declared.wave.Wave.{Wave}
+use Rattle.ca_net.specs.State.{value_at}
 use Rattle.ca_defect.specs.Exposes.{opposite_of}
+use Rattle.ca_planes.specs.Plane.{has_lane}
 use Rattle.ca_flat.specs.Chip.{Chip, output_net}
+use Rattle.ca_flat.specs.Codes.{bit_trit}
 use Rattle.ca_flips.specs.Flips.{AreStaticAfter, AreDefiniteAfter, AreSwept, IsOpposite}
 use Rattle.ca_sweep.specs.declared.seen.Flips.{Flips}
 use Rattle.ca_sweep.specs.declared.seen.Seen.{Seen}
@@ -88,3 +92,32 @@ abbrev pub IsSeen : Chip → (ℕ → Trit) → ℕ → Flips → Seen → Type 
 IsSeen chip goods u flips Undecided = Unit {0}
 IsSeen chip goods u flips Nowhere = IsSeenFrom chip goods u flips None
 IsSeen chip goods u flips (At output) = IsSeenFrom chip goods u flips (Some output)
+
+-- the chip, the places of its instances in the order, for each net whether an instance with a place has a pin
+-- on it, and for each net the lanes in which its last value is 1
+pub record Laned : Type 0 where
+  pub chip : Chip
+  pub places : List ℕ
+  pub pinned : List Bool
+  pub ones : List ℕ
+
+-- values that are the same at the marked nets
+abbrev pub AreSameAt : List Bool → (ℕ → Trit) → (ℕ → Trit) → Type 0
+AreSameAt marks one other = (net : ℕ) → slice_index_or marks net false ≡ true → one net ≡ other net
+
+-- so they are of this chip
+pub record IsLanedFor (chip : Chip) (places : List ℕ) (laned : Laned) : Type 0 where
+  pub chip_is : laned.chip ≡ chip
+  pub places_are : laned.places ≡ places
+
+-- no flip of the outputs of the instance u is seen at an observed output
+abbrev pub AreUnseen : Chip → (ℕ → Trit) → ℕ → Type 0
+AreUnseen chip goods u = (flips : Flips) → IsSeen chip goods u flips Nowhere
+
+-- the values of the nets in a lane: 1 where the plane of the net has the lane, else 0
+abbrev pub trits_in : List ℕ → ℕ → List Trit
+trits_in ones lane = map (λ (plane : ℕ). bit_trit (has_lane plane lane)) ones
+
+-- a lane has these values at all nets with a pin
+abbrev pub IsAtLane : Laned → ℕ → List Trit → Type 0
+IsAtLane laned lane lasts = AreSameAt laned.pinned (value_at (trits_in laned.ones lane)) (value_at lasts)

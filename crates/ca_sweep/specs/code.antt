@@ -10,3 +10,6 @@ pub mod Segments
 pub mod Rows
 pub mod Coded
 pub mod Hand
+pub mod Lanes
+pub mod LanedFinder
+pub mod Spans

@@ -21,7 +21,7 @@ fn are_definite_pins(chip: &View<'_>, lasts: &State, w: usize) -> bool
     ensures { IsTrue result → AreDefinitePins chip.now.core (value_at lasts.now) w }
 {
     chip.linked();
-    for pin in 0..chip.cell(w).inputs() {
+    for pin in 0..chip.inputs_at(w) {
         if lasts.get(chip.pin_net(w, pin)) == Trit::X {
             return false;
         }
@@ -53,8 +53,8 @@ fn are_outputs_clear(chip: &View<'_>, lasts: &State, marks: &[bool], u: usize) -
         (outputs_at chip.now.core u) }
 {
     chip.linked();
-    let first = chip.cell(u).inputs();
-    for output in 0..chip.cell(u).outputs() {
+    let first = chip.inputs_at(u);
+    for output in 0..chip.outputs_at(u) {
         let net = chip.pin_net(u, first + output);
         if lasts.get(net) == Trit::X || !are_readers_marked(chip, marks, net) {
             return false;
@@ -119,34 +119,64 @@ pub(crate) fn are_all_static(chip: &View<'_>, tables: &Tables) -> bool
 
 ghost use Rattle.ca_flat.specs.Chip.{cell_at};
 ghost use Rattle.ca_flips.specs.Static.{IsStatic};
-ghost use Rattle.std.specs.Prelude.{◌≢◌};
-ghost use Rattle.ca_net.specs.declared.trit.Trit.TheVariants.{X};
-ghost use Rattle.ca_sweep.specs.code.Kept.{AreAllStatic};
+ghost use Rattle.ca_sweep.specs.code.Kept.{AreAllDefinite, AreAllStatic, ArePinsDefinite};
 
-// Whether all values are definite.
-fn are_all_definite(lasts: &State) -> bool
-    ensures { IsTrue result → (net : ℕ) → net < length lasts.now → value_at lasts.now net ≢ X }
+// Whether the values at all pins of an instance are definite.
+fn are_pins_definite(chip: &View<'_>, lasts: &State, w: usize) -> bool
+    requires placed { IsPlaced chip.now.core (place_in chip.now.ranks) w }
+    requires nets { length lasts.now ≡ length chip.now.core.nets }
+    ensures { IsTrue result → ArePinsDefinite chip.now.core (value_at lasts.now) w }
 {
-    for net in 0..lasts.len() {
-        if lasts.get(net) == Trit::X {
+    chip.linked();
+    for pin in 0..chip.inputs_at(w) + chip.outputs_at(w) {
+        if lasts.get(chip.pin_net(w, pin)) == Trit::X {
             return false;
         }
     }
     true
 }
 
-// All instances are marked.
-fn mark_all(marks: &mut Vec<bool>)
-    ensures { length marks.new.items ≡ length marks.old.items }
+// Whether they are at those of an instance, if it has a place.
+fn is_definite_at(chip: &View<'_>, lasts: &State, u: usize) -> bool
+    requires known { u < count_of chip.now.core }
+    requires nets { length lasts.now ≡ length chip.now.core.nets }
+    ensures { IsTrue result → IsPlaced chip.now.core (place_in chip.now.ranks) u
+        → ArePinsDefinite chip.now.core (value_at lasts.now) u }
+{
+    chip.linked();
+    if chip.rank(u) == 0 {
+        return true;
+    }
+    are_pins_definite(chip, lasts, u)
+}
+
+// Whether they are at those of all instances with a place.
+fn are_all_definite(chip: &View<'_>, lasts: &State) -> bool
+    requires { length lasts.now ≡ length chip.now.core.nets }
+    ensures { IsTrue result → AreAllDefinite chip.now.core (place_in chip.now.ranks) (value_at lasts.now) }
+{
+    chip.linked();
+    for u in 0..chip.instances() {
+        if !is_definite_at(chip, lasts, u) {
+            return false;
+        }
+    }
+    true
+}
+
+// The instances with a place are marked.
+fn mark_placed(chip: &View<'_>, marks: &mut Vec<bool>)
+    requires { length marks.old.items ≡ count_of chip.now.core }
+    ensures { AreMarks chip.now.core (IsPlaced chip.now.core (place_in chip.now.ranks)) marks.new.items }
 {
     for u in 0..marks.len() {
-        marks[u] = true;
+        marks[u] = chip.rank(u) != 0;
     }
 }
 
-/// Finds the clear instances, and marks those that pass flips on. Where the cells of all instances are static
-/// and all values are definite, all are clear, and none is marked as passing. Else the last ones are looked
-/// at first.
+/// Finds the clear instances, and marks those that pass flips on. Where the cells of all instances with a
+/// place are static and all values at their pins are definite, all of them are clear, and none is marked as
+/// passing. Else the last ones are looked at first.
 pub(crate) fn find_clear(
     chip: &View<'_>,
     tables: &Tables,
@@ -172,8 +202,8 @@ pub(crate) fn find_clear(
     chip.linked();
     unmark(clear);
     unmark(passing);
-    if is_static && are_all_definite(lasts) {
-        mark_all(clear);
+    if is_static && are_all_definite(chip, lasts) {
+        mark_placed(chip, clear);
         return;
     }
     let places = order.len();

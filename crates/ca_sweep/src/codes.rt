@@ -40,10 +40,10 @@ fn good_at(chip: &View<'_>, sweep: &Sweep<'_>, u: usize, output: usize) -> Trit
         → result ≡ value_at sweep.now.lasts (output_net chip.now.core u output) }
 {
     chip.linked();
-    if output >= chip.cell(u).outputs() {
+    if output >= chip.outputs_at(u) {
         return Trit::X;
     }
-    sweep.last(chip.pin_net(u, chip.cell(u).inputs() + output))
+    sweep.last(chip.pin_net(u, chip.inputs_at(u) + output))
 }
 
 // The value of a number.

@@ -1,6 +1,6 @@
 //! Where a pair detects a defect, by last values alone.
 
-ghost use Rattle.std.specs.Prelude.{◌≡◌, ◌≢◌, ◌<◌, ◌^◌, ◌↔◌, length, IfOk, IfSome};
+ghost use Rattle.std.specs.Prelude.{ℕ, ◌≡◌, ◌≢◌, ◌<◌, ◌≤◌, ◌^◌, ◌↔◌, length, IfOk, IfSome};
 ghost use Rattle.std.specs.Prelude.{IsTrue, None, Some};
 ghost use Rattle.std.specs.List.{All};
 ghost use Rattle.ca_net.specs.declared.trit.Trit.TheVariants.{X};
@@ -18,22 +18,27 @@ ghost use Rattle.ca_sim.specs.Seen.{AreNetWaves};
 ghost use Rattle.ca_view.specs.Linked.{IsPlaced, IsPlacedDefect, place_in};
 ghost use Rattle.ca_view.specs.Places.{cell_number};
 ghost use Rattle.ca_sweep.specs.Seen.{IsForChip, lasts_in};
-ghost use Rattle.ca_sweep.specs.Found.{IsFound};
+ghost use Rattle.ca_sweep.specs.Found.{IsFound, IsNextFound, IsUndetectedAt};
+ghost use Rattle.ca_places.specs.PlaceSet.{Has};
 ghost use Rattle.ca_sweep.specs.code.Faulty.{AreFaulty, AreWavesAt, AreFlipsOf};
 
 use crate::codes::{flips_of_code, goods_at, is_known};
 use crate::faulty::Faulty;
 use crate::firsts::are_opposite;
+use crate::flip_finder::FlipFinder;
 use crate::hand::Hand;
+use crate::lanes::{Lanes, NO_LANE, NoLanes};
 use crate::rows::Rows;
 use crate::seen::{Flips, Seen};
+use crate::spans::DefectSpans;
 use crate::sweep::Sweep;
 use ca_base::NoMemory;
 use ca_flat::ChipDefect;
 use ca_flips::{detected_is_filled_in, detected_is_flipped, swept_are_flipped};
 use ca_net::{Trit, Wave};
+use ca_places::PlaceSet;
 use ca_response::PinWaves;
-use ca_sim::NetWaves;
+use ca_sim::{Bits, NetWaves};
 use ca_view::View;
 use std::alloc::Global;
 use std::marker::Model;
@@ -47,6 +52,10 @@ pub struct Finder<'a> {
     faulty: Faulty,
     rows: Rows,
     waves: Vec<Wave>,
+    // the place of the first defect of the instance that is asked for in its list, as it is guessed
+    start: usize,
+    // the number of the span that was asked for last in a list
+    span: usize,
     hand: Hand,
 }
 
@@ -88,6 +97,8 @@ impl<'a> Finder<'a> {
             faulty,
             rows,
             waves,
+            start: 0,
+            span: 0,
             hand,
         })
     }
@@ -104,6 +115,16 @@ impl<'a> Finder<'a> {
         self.sweep.load(waves);
         load(waves, &mut self.waves);
         self.hand.clear();
+    }
+
+    /// Whether a lane has the last values that were taken over, at all nets on pins of instances with a
+    /// place.
+    pub(crate) fn is_lane<L: Lanes>(&self, lanes: &L, lane: usize) -> bool
+        requires chip { (L.laned lanes.now).chip ≡ self.now.chip }
+        requires lane { lane < 64 }
+        ensures { IsTrue result → IsAtLane (L.laned lanes.now) lane self.now.lasts }
+    {
+        lanes.agrees(lane, self.sweep.lasts())
     }
 
     // Which output pins have the opposite of the good last value.
@@ -130,13 +151,13 @@ impl<'a> Finder<'a> {
         if output >= outputs.len() {
             return false;
         }
-        let net = self.chip.pin_net(u, self.chip.cell(u).inputs() + output);
+        let net = self.chip.pin_net(u, self.chip.inputs_at(u) + output);
         are_opposite(self.sweep.last(net), outputs[output].last)
     }
 
     // The code of what the cell of a defect's instance ends with, if that can be in hand and its row has the
     // code.
-    fn code_of(&mut self, defect: ChipDefect) -> Option<u8>
+    fn code_of(&mut self, defect: ChipDefect, place: usize) -> Option<u8>
         requires { IsPlaced self.old.chip (place_in self.old.places) defect.instance }
         ensures code { IfSome result (IsCodedAt self.old.chip self.old.waves defect) }
         ensures kept { self.new ≡ self.old }
@@ -154,8 +175,10 @@ impl<'a> Finder<'a> {
         ) {
             return None;
         }
-        self.rows
-            .code(self.hand.slot, self.chip.number(u), defect.defect)
+        let guess = place.wrapping_sub(self.start);
+        let at = self.rows.place(self.hand.number, defect.defect, guess)?;
+        self.start = place.wrapping_sub(at);
+        self.rows.code(self.hand.slot, at)
     }
 
     // What is found of a defect of an instance that ends with what a code says, as it is kept, or computed
@@ -177,8 +200,9 @@ impl<'a> Finder<'a> {
     /// Where the pair of these waves first detects a defect. The waves that were taken over, and their last
     /// values, are those of the pair. It is undecided where an instance after that of the defect isn't
     /// static, a good last value isn't definite there, or only waves show what unknown values of the
-    /// instance's outputs do. It takes no memory.
-    pub fn find<V: NetWaves>(&mut self, waves: &V, defect: ChipDefect) -> Seen
+    /// instance's outputs do. Where the defect stands in a list, its place there helps to find it in that of
+    /// its cell. It takes no memory.
+    pub fn find<V: NetWaves>(&mut self, waves: &V, defect: ChipDefect, place: usize) -> Seen
         requires chip { (V.seen waves.now).chip ≡ self.old.chip }
         requires defect { IsPlacedDefect self.old.chip (place_in self.old.places) defect }
         requires lasts { AreLastsOf self.old.chip (V.seen waves.now).pair (value_at self.old.lasts) }
@@ -194,10 +218,85 @@ impl<'a> Finder<'a> {
         detected_is_flipped();
         self.chip.linked();
         let u = defect.instance as usize;
-        match self.code_of(defect) {
+        match self.code_of(defect, place) {
             Some(code) => self.find_coded(u, code),
             None => self.find_computed(waves, defect),
         }
+    }
+
+    /// The first place of the set at or past this one, but for places of defects of the list that the pair of
+    /// these waves is found to detect nowhere. The waves that were taken over are those of the pair. A lane
+    /// that is sure has their last values; there may be no such lane.
+    pub(crate) fn next_in<V: NetWaves, L: Lanes>(
+        &mut self,
+        waves: &V,
+        defects: &DefectSpans,
+        places: &PlaceSet,
+        from: usize,
+        lanes: &L,
+        lane: usize,
+    ) -> Option<usize>
+        requires chip { (V.seen waves.now).chip ≡ self.old.chip }
+        requires defects { All (IsPlacedDefect self.old.chip (place_in self.old.places)) defects.now }
+        requires few { length defects.now < 2 ^ 32 }
+        requires within { (place : ℕ) → Has places.now place → place < length defects.now }
+        requires lasts { AreLastsOf self.old.chip (V.seen waves.now).pair (value_at self.old.lasts) }
+        requires waves { AreNetWaves self.old.chip None (V.seen waves.now).pair self.old.waves }
+        requires good_is { IsWellFormed (flat self.old.chip None) }
+        requires faulty_are { All (λ defect. IsWellFormed (flat self.old.chip (Some defect))) defects.now }
+        requires lanes { IsLanedFor self.old.chip self.old.places (L.laned lanes.now) }
+        requires lane { lane < 64 → IsAtLane (L.laned lanes.now) lane self.old.lasts }
+
+        ensures next { IsNextFound self.old.chip defects.now (V.seen waves.now).pair places.now from result }
+        ensures kept { self.new ≡ self.old }
+    {
+        let mut at = from;
+        'places: while let Some(place) = places.next(at) {
+            let end = self.pass(waves, defects, place, lanes, lane);
+            if end == place {
+                return Some(place);
+            }
+            at = end;
+        }
+        None
+    }
+
+    // A place before which, from this one on, all defects are found to be detected nowhere by the pair: in a
+    // lane those of one instance, or by what the cell gives the one here, or none.
+    fn pass<V: NetWaves, L: Lanes>(
+        &mut self,
+        waves: &V,
+        defects: &DefectSpans,
+        place: usize,
+        lanes: &L,
+        lane: usize,
+    ) -> usize
+        requires place { place < length defects.now }
+        requires chip { (V.seen waves.now).chip ≡ self.old.chip }
+        requires defects { All (IsPlacedDefect self.old.chip (place_in self.old.places)) defects.now }
+        requires lasts { AreLastsOf self.old.chip (V.seen waves.now).pair (value_at self.old.lasts) }
+        requires waves { AreNetWaves self.old.chip None (V.seen waves.now).pair self.old.waves }
+        requires good_is { IsWellFormed (flat self.old.chip None) }
+        requires faulty_are { All (λ defect. IsWellFormed (flat self.old.chip (Some defect))) defects.now }
+        requires lanes { IsLanedFor self.old.chip self.old.places (L.laned lanes.now) }
+        requires lane { lane < 64 → IsAtLane (L.laned lanes.now) lane self.old.lasts }
+
+        ensures onward { place ≤ result }
+        ensures passed { (k : ℕ) → place ≤ k → k < result
+            → IsUndetectedAt self.old.chip defects.now (V.seen waves.now).pair k }
+        ensures kept { self.new ≡ self.old }
+    {
+        self.chip.linked();
+        let span = defects.span_at(place, self.span);
+        self.span = span.number;
+        self.start = span.start;
+        if is_unseen(lanes, lane, span.instance) {
+            return span.end;
+        }
+        if is_nowhere(self.find(waves, defects.get(place), place)) {
+            return place + 1;
+        }
+        place
     }
 
     // The same, where what the cell gives with the defect isn't in a row.
@@ -230,6 +329,33 @@ impl<'a> Finder<'a> {
     }
 }
 
+impl FlipFinder for Finder<'_> {
+    ghost loaded = { λ finder. finder };
+
+    fn load<V: NetWaves>(&mut self, waves: &V) {
+        self.load(waves);
+    }
+
+    fn find<V: NetWaves>(&mut self, waves: &V, defect: ChipDefect, place: usize) -> Seen {
+        self.find(waves, defect, place)
+    }
+
+    fn next<V: NetWaves>(
+        &mut self,
+        waves: &V,
+        defects: &DefectSpans,
+        places: &PlaceSet,
+        from: usize,
+    ) -> Option<usize> {
+        let lanes = NoLanes::new(self.chip);
+        self.next_in(waves, defects, places, from, &lanes, NO_LANE)
+    }
+
+    fn keep<B: Bits>(&mut self, _lane: usize, _bits: &B) {}
+
+    fn turn_to(&mut self, _lane: usize) {}
+}
+
 ghost use Rattle.ca_sweep.specs.code.Faulty.{IsFlippedAt};
 ghost use Rattle.ca_sweep.specs.code.Found.{reported};
 
@@ -250,14 +376,16 @@ fn take(
     requires faulty { AreFaulty chip.now.core (place_in chip.now.ranks) (cell_number chip.now.chip)
         faulty.old }
     requires rows { AreRows chip.now.core (place_in chip.now.ranks) (cell_number chip.now.chip) rows.old }
-    requires hand { IsHand chip.now.core (value_at sweep.now.lasts) waves.now rows.old.slots.items hand.old }
+    requires hand { IsHand chip.now.core (cell_number chip.now.chip) (value_at sweep.now.lasts) waves.now
+        rows.old.slots.items hand.old }
 
-    ensures taken { IsTrue result → IsTakenAt chip.now.core (value_at sweep.now.lasts) waves.now
-        rows.new.slots.items hand.new u }
+    ensures taken { IsTrue result → IsTakenAt chip.now.core (cell_number chip.now.chip)
+        (value_at sweep.now.lasts) waves.now rows.new.slots.items hand.new u }
     ensures faulty { AreFaulty chip.now.core (place_in chip.now.ranks) (cell_number chip.now.chip)
         faulty.new }
     ensures rows { AreRows chip.now.core (place_in chip.now.ranks) (cell_number chip.now.chip) rows.new }
-    ensures hand { IsHand chip.now.core (value_at sweep.now.lasts) waves.now rows.new.slots.items hand.new }
+    ensures hand { IsHand chip.now.core (cell_number chip.now.chip) (value_at sweep.now.lasts) waves.now
+        rows.new.slots.items hand.new }
 {
     chip.linked();
     if hand.has(u) {
@@ -269,7 +397,7 @@ fn take(
     match pin_waves(chip, waves, u) {
         Some(pins) => {
             let slot = rows.find(chip, faulty, u, pins);
-            hand.take(u, slot);
+            hand.take(u, chip.number(u), slot);
             true
         }
         None => false,
@@ -291,6 +419,35 @@ fn see_coded(chip: &View<'_>, sweep: &mut Sweep<'_>, u: usize, code: u8) -> Seen
     let seen = sweep.see(u, flips);
     reported(seen, is_known(code, outputs))
 }
+
+// Whether it was found that no flip of an instance's output pins is seen in a lane, if there is such a lane.
+fn is_unseen<L: Lanes>(lanes: &L, lane: usize, u: usize) -> bool
+    requires { IsPlaced (L.laned lanes.now).chip (place_in (L.laned lanes.now).places) u }
+    ensures within { IsTrue result → lane < 64 }
+    ensures unseen { (lasts : List Trit) → IsAtLane (L.laned lanes.now) lane lasts → IsTrue result
+        → AreUnseen (L.laned lanes.now).chip (value_at lasts) u }
+{
+    if lane >= 64 {
+        return false;
+    }
+    lanes.is_unseen(u, lane)
+}
+
+ghost use Rattle.ca_net.specs.declared.trit.Trit.{Trit};
+ghost use Rattle.ca_sweep.specs.Seen.{AreUnseen, IsAtLane, IsLanedFor};
+ghost use Rattle.std.specs.Prelude.{List};
+
+// Whether nothing is detected.
+fn is_nowhere(seen: Seen) -> bool
+    ensures { IsTrue result → seen ≡ Nowhere }
+{
+    match seen {
+        Seen::Nowhere => true,
+        Seen::At(_) | Seen::Undecided => false,
+    }
+}
+
+ghost use Rattle.ca_sweep.specs.declared.seen.Seen.TheVariants.{Nowhere};
 
 // What is answered where flips are seen so, and all last values of the instance's outputs are known or not.
 fn reported(seen: Seen, is_known: bool) -> Seen
@@ -324,7 +481,7 @@ fn pin_waves(chip: &View<'_>, waves: &[Wave], u: usize) -> Option<PinWaves>
 {
     chip.linked();
     let mut pins = PinWaves::new();
-    for pin in 0..chip.cell(u).inputs() {
+    for pin in 0..chip.inputs_at(u) {
         let wave = waves[chip.pin_net(u, pin)];
         if !is_wave(wave) {
             return None;

@@ -85,8 +85,8 @@ fn lessened(
 {
     chip.linked();
     let mut least = number;
-    let pin = chip.cell(w).inputs();
-    for output in 0..chip.cell(w).outputs() {
+    let pin = chip.inputs_at(w);
+    for output in 0..chip.outputs_at(w) {
         let net = chip.pin_net(w, pin + output);
         let opposite = are_opposite(lasts.get(net), values.get(net));
         least = lesser_if(opposite, firsts[net], least);

@@ -16,12 +16,13 @@ use std::alloc::Global;
 // How many codes there are: those of two last values.
 const CODES: usize = 11;
 
-/// An instance, if one is in hand, the slot of the row for the good waves of its input pins, and what was
-/// found of its defects with each code.
+/// An instance, if one is in hand, the number of its cell, the slot of the row for the good waves of its
+/// input pins, and what was found of its defects with each code.
 #[derive(Drop, Debug)]
 pub struct Hand {
     pub(crate) is_full: bool,
     pub(crate) instance: usize,
+    pub(crate) number: usize,
     pub(crate) slot: usize,
     pub(crate) answers: Vec<Option<Seen>>,
 }
@@ -34,6 +35,7 @@ impl Hand {
         Ok(Hand {
             is_full: false,
             instance: 0,
+            number: 0,
             slot: 0,
             answers: vec![in alloc; None; CODES]?,
         })
@@ -47,13 +49,15 @@ impl Hand {
     }
 
     /// This instance is in hand, and no answer is kept.
-    pub(crate) fn take(&mut self, instance: usize, slot: usize)
+    pub(crate) fn take(&mut self, instance: usize, number: usize, slot: usize)
         ensures instance { self.new.instance ≡ instance }
+        ensures number { self.new.number ≡ number }
         ensures slot { self.new.slot ≡ slot }
         ensures none { (code : ℕ) → slice_index_or self.new.answers.items code None ≡ None }
     {
         self.is_full = true;
         self.instance = instance;
+        self.number = number;
         self.slot = slot;
         empty(&mut self.answers);
     }
@@ -68,8 +72,8 @@ impl Hand {
 
     /// The answer that is kept for a code of an instance, if that is in hand.
     pub(crate) fn get(&self, instance: usize, code: u8) -> Option<Seen>
-        ensures { (chip : Chip) (goods : ℕ → Trit) (waves : List Wave) (slots : List (Option Row))
-            → IsHand chip goods waves slots self.now
+        ensures { (chip : Chip) (number_of : ℕ → ℕ) (goods : ℕ → Trit) (waves : List Wave)
+            (slots : List (Option Row)) → IsHand chip number_of goods waves slots self.now
             → IfSome result (IsSeenCoded chip goods instance code) }
     {
         let place = code as usize;
@@ -82,9 +86,10 @@ impl Hand {
 
     /// Keeps an answer for a code of an instance, if that is in hand and there is room.
     pub(crate) fn put(&mut self, instance: usize, code: u8, seen: Seen)
-        ensures { (chip : Chip) (goods : ℕ → Trit) (waves : List Wave) (slots : List (Option Row))
-            → IsHand chip goods waves slots self.old → IsSeenCoded chip goods instance code seen
-            → IsHand chip goods waves slots self.new }
+        ensures { (chip : Chip) (number_of : ℕ → ℕ) (goods : ℕ → Trit) (waves : List Wave)
+            (slots : List (Option Row)) → IsHand chip number_of goods waves slots self.old
+            → IsSeenCoded chip goods instance code seen
+            → IsHand chip number_of goods waves slots self.new }
     {
         let place = code as usize;
         if self.has(instance) && place < self.answers.len() {

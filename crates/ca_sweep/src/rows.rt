@@ -27,7 +27,7 @@ use std::alloc::Global;
 pub(crate) const MOST_CODES: usize = 256;
 
 // The least and the greatest number of slots, and how many there are for an instance in between.
-const FEWEST_SLOTS: usize = 1_024;
+const FEWEST_SLOTS: usize = 4_096;
 
 const MOST_SLOTS: usize = 65_536;
 
@@ -55,8 +55,6 @@ pub struct Row {
 pub struct Rows {
     pub(crate) lists: Vec<DefectList>,
     pub(crate) slots: Vec<Option<Row>>,
-    // from where on a defect is looked for
-    pub(crate) cursor: usize,
 }
 
 impl Rows {
@@ -69,7 +67,6 @@ impl Rows {
         Ok(Rows {
             lists,
             slots: empty_slots(alloc, slot_count(chip.instances()))?,
-            cursor: 0,
         })
     }
 
@@ -141,18 +138,20 @@ impl Rows {
         slot
     }
 
-    /// The code of a defect of the cell with a number, in the row of a slot.
-    pub(crate) fn code(&mut self, slot: usize, number: usize, defect: Defect) -> Option<u8>
-        requires slot { slot < length self.old.slots.items }
-        requires number { number < length self.old.lists.items }
-        ensures code { IfSome result (λ code. IsCodeIn (slice_index_or self.old.slots.items slot None)
-            (slice_index_or self.old.lists.items number []) defect code) }
-        ensures lists { self.new.lists ≡ self.old.lists }
-        ensures slots { self.new.slots ≡ self.old.slots }
+    /// The place of a defect in the list of the cell with a number: it is looked for at this place first.
+    pub(crate) fn place(&self, number: usize, defect: Defect, hint: usize) -> Option<usize>
+        requires { number < length self.now.lists.items }
+        ensures { IfSome result (λ place.
+            slice_get (slice_index_or self.now.lists.items number []) place ≡ Some defect) }
     {
-        let list = &self.lists[number];
-        let place = place_of(list, defect, self.cursor)?;
-        self.cursor = place;
+        place_of(&self.lists[number], defect, hint)
+    }
+
+    /// The code for a place of that list, in the row of a slot.
+    pub(crate) fn code(&self, slot: usize, place: usize) -> Option<u8>
+        requires { slot < length self.now.slots.items }
+        ensures { IfSome result (IsCodeIn (slice_index_or self.now.slots.items slot None) place) }
+    {
         match &self.slots[slot] {
             Some(row) if place < row.codes.len() => Some(row.codes[place]),
             Some(_) | None => None,
@@ -160,14 +159,12 @@ impl Rows {
     }
 }
 
-// The place of a defect in a list, looked for from a place on and then from the first one.
-fn place_of(list: &DefectList, defect: Defect, from: usize) -> Option<usize>
+// The place of a defect in a list, looked for at a place first.
+fn place_of(list: &DefectList, defect: Defect, hint: usize) -> Option<usize>
     ensures { IfSome result (λ place. slice_get list.now place ≡ Some defect) }
 {
-    for place in from..list.len() {
-        if is_same(list.get(place), defect) {
-            return Some(place);
-        }
+    if hint < list.len() && is_same(list.get(hint), defect) {
+        return Some(hint);
     }
     for place in 0..list.len() {
         if is_same(list.get(place), defect) {

@@ -73,8 +73,8 @@ pub(crate) fn sweep(
     Halt::Done
 }
 
-// Whether no place after one is due.
-fn is_last(due: &PlaceSet, place: usize) -> bool
+/// Whether no place after one is due.
+pub(crate) fn is_last(due: &PlaceSet, place: usize) -> bool
     requires { place < 2 ^ 33 }
     ensures { IsTrue result → IsNext due.now (place + 1) None }
 {
@@ -137,10 +137,10 @@ fn flip_at(chip: &View<'_>, lasts: &State, values: &State, w: usize, output: usi
         output) }
 {
     chip.linked();
-    if output >= chip.cell(w).outputs() {
+    if output >= chip.outputs_at(w) {
         return Some(false);
     }
-    let net = chip.pin_net(w, chip.cell(w).inputs() + output);
+    let net = chip.pin_net(w, chip.inputs_at(w) + output);
     flip_of(lasts.get(net), values.get(net))
 }
 

@@ -106,6 +106,14 @@ impl<'a> Sweep<'a> {
         self.segments.forget();
     }
 
+    /// The good last values of the nets.
+    pub(crate) fn lasts(&self) -> &State
+        ensures value { result.now ≡ self.now.lasts }
+        ensures nets { length result.now ≡ length self.now.chip.nets }
+    {
+        &self.lasts
+    }
+
     /// The good last value of a net.
     pub(crate) fn last(&self, net: usize) -> Trit
         requires { net < length self.now.chip.nets }

@@ -64,8 +64,8 @@ impl Values {
             (flipped_outputs chip.now.core u (value_at self.old.values) flips) self.old self.new }
     {
         chip.linked();
-        let first = chip.cell(u).inputs();
-        for output in 0..chip.cell(u).outputs() {
+        let first = chip.inputs_at(u);
+        for output in 0..chip.outputs_at(u) {
             let net = chip.pin_net(u, first + output);
             let value = self.values.get(net);
             self.put(chip, net, flipped_if(is_flipped(flips, output), value));
@@ -82,8 +82,8 @@ impl Values {
             (last_at table.now number) self.old self.new }
     {
         chip.linked();
-        let first = chip.cell(w).inputs();
-        for output in 0..chip.cell(w).outputs() {
+        let first = chip.inputs_at(w);
+        for output in 0..chip.outputs_at(w) {
             self.put(
                 chip,
                 chip.pin_net(w, first + output),
@@ -101,7 +101,7 @@ impl Values {
     {
         chip.linked();
         let mut number = 0;
-        for pin in 0..chip.cell(w).inputs() {
+        for pin in 0..chip.inputs_at(w) {
             match self.values.get(chip.pin_net(w, pin)) {
                 Trit::Zero => number *= 2,
                 Trit::One => number = 2 * number + 1,
@@ -144,8 +144,8 @@ impl Values {
         ensures { IsGivenBack chip.now.core w (value_at lasts.now) self.old self.new }
     {
         chip.linked();
-        let first = chip.cell(w).inputs();
-        for output in 0..chip.cell(w).outputs() {
+        let first = chip.inputs_at(w);
+        for output in 0..chip.outputs_at(w) {
             let net = chip.pin_net(w, first + output);
             self.values.set(net, lasts.get(net));
         }
@@ -170,8 +170,8 @@ impl Values {
     }
 }
 
-// The instances that read a net become due.
-fn mark_readers(chip: &View<'_>, net: usize, due: &mut PlaceSet)
+/// The instances that read a net become due.
+pub(crate) fn mark_readers(chip: &View<'_>, net: usize, due: &mut PlaceSet)
     requires known { net < length chip.now.core.nets }
     requires room { HoldsUpTo due.old (count_of chip.now.core + 1) }
     ensures { IsMarked chip.now.core (place_in chip.now.ranks) net due.old due.new }

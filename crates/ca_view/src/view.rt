@@ -143,6 +143,22 @@ impl<'a> View<'a> {
         self.chip.cell_of(InstanceId(u as u32))
     }
 
+    /// The number of an instance's input pins.
+    pub fn inputs_at(&self, u: usize) -> usize
+        requires { IsPlaced self.now.core (place_in self.now.ranks) u }
+        ensures { result ≡ inputs_at self.now.core u }
+    {
+        self.pins.inputs(u).len()
+    }
+
+    /// The number of its output pins.
+    pub fn outputs_at(&self, u: usize) -> usize
+        requires { IsPlaced self.now.core (place_in self.now.ranks) u }
+        ensures { result ≡ outputs_at self.now.core u }
+    {
+        self.pins.outputs(u).len()
+    }
+
     /// A bound of the numbers of cells.
     pub fn numbers(&self) -> usize
         ensures { (u : ℕ) → IsPlaced self.now.core (place_in self.now.ranks) u

@@ -1,5 +1,5 @@
 -- The benches of a chip and of those in which a cluster is one instance.
-use Rattle.std.specs.Prelude.{ℕ, ◌≡◌, List, [], ◌∷◌, length, map, slice_get, Some}
+use Rattle.std.specs.Prelude.{ℕ, ◌≡◌, ◌+◌, List, [], ◌∷◌, length, map, slice_get, Some}
 use Rattle.ca_flat.specs.declared.chip_defect.ChipDefect.{ChipDefect}
 use Rattle.ca_flat.specs.Chip.{Chip}
 use Rattle.ca_flat.specs.Codes.{unset_pair}
@@ -17,6 +17,11 @@ use Rattle.ca_benches.specs.Benches.{defect_of}
 pub record AreEach {A B : Type 0} (Is : A → B → Type 0) (xs : List A) (count : ℕ) (ys : List B) : Type 0 where
   pub counted : length ys ≡ count
   pub each : (k : ℕ) (x : A) (y : B) → slice_get xs k ≡ Some x → slice_get ys k ≡ Some y → Is x y
+
+-- so are the entries to those of the other list from a place on
+abbrev pub AreEachFrom : {A B : Type 0} → (A → B → Type 0) → List A → ℕ → List B → Type 0
+AreEachFrom {A} {B} Is xs from ys =
+    (k : ℕ) (x : A) (y : B) → slice_get xs (k + from) ≡ Some x → slice_get ys k ≡ Some y → Is x y
 
 -- the bench is of this chip, for these defects, and no bit is set
 pub record IsPartOf (chip : Chip) (shorts : List ChipDefect) (budget : ℕ) (part : Benched) : Type 0 where

@@ -15,9 +15,11 @@ use Rattle.ca_sweep.specs.code.Faulty.{AreFaulty, AreWavesAt}
 use Rattle.ca_sweep.specs.code.Rows.{AreRows, IsCoded, IsRowOf}
 use Rattle.ca_sweep.specs.code.Coded.{IsSeenCoded}
 
--- the slot is that for the waves of the input nets of the instance in hand, and the answers are true
-pub record IsTaken (chip : Chip) (goods : ℕ → Trit) (waves : List Wave) (slots : List (Option Row))
-    (hand : Hand) : Type 0 where
+-- the number is that of the cell of the instance in hand, the slot that for the waves of its input nets, and
+-- the answers are true
+pub record IsTaken (chip : Chip) (number_of : ℕ → ℕ) (goods : ℕ → Trit) (waves : List Wave)
+    (slots : List (Option Row)) (hand : Hand) : Type 0 where
+  pub number_is : hand.number ≡ number_of hand.instance
   pub within : hand.slot < length slots
   pub pins : List Wave
   pub pins_are : AreWavesAt chip waves hand.instance pins
@@ -26,13 +28,14 @@ pub record IsTaken (chip : Chip) (goods : ℕ → Trit) (waves : List Wave) (slo
       → IsSeenCoded chip goods hand.instance code seen
 
 -- so it is where an instance is in hand
-abbrev pub IsHand : Chip → (ℕ → Trit) → List Wave → List (Option Row) → Hand → Type 0
-IsHand chip goods waves slots hand = hand.is_full ≡ true → IsTaken chip goods waves slots hand
+abbrev pub IsHand : Chip → (ℕ → ℕ) → (ℕ → Trit) → List Wave → List (Option Row) → Hand → Type 0
+IsHand chip number_of goods waves slots hand =
+    hand.is_full ≡ true → IsTaken chip number_of goods waves slots hand
 
 -- this instance is in hand
-pub record IsTakenAt (chip : Chip) (goods : ℕ → Trit) (waves : List Wave) (slots : List (Option Row))
-    (hand : Hand) (u : ℕ) : Type 0 where
-  pub taken : IsTaken chip goods waves slots hand
+pub record IsTakenAt (chip : Chip) (number_of : ℕ → ℕ) (goods : ℕ → Trit) (waves : List Wave)
+    (slots : List (Option Row)) (hand : Hand) (u : ℕ) : Type 0 where
+  pub taken : IsTaken chip number_of goods waves slots hand
   pub instance_is : hand.instance ≡ u
 
 -- the code is that of what the defect's cell gives for the waves of its instance's input nets
@@ -49,4 +52,4 @@ pub record IsFinder (chip : Chip) (places : List ℕ) (place_of number_of : ℕ 
   pub faulty_are : AreFaulty chip place_of number_of faulty
   pub rows_are : AreRows chip place_of number_of rows
   pub room : length waves ≡ length chip.nets
-  pub hand_is : IsHand chip (value_at swept.lasts) waves rows.slots.items hand
+  pub hand_is : IsHand chip number_of (value_at swept.lasts) waves rows.slots.items hand

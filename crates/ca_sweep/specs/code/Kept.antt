@@ -1,10 +1,10 @@
 -- What only proofs of code cite: marks of instances that are clear and pass flips on, and what a sweep keeps.
-use Rattle.std.specs.Prelude.{ℕ, ◌^◌, ◌≡◌, ◌≢◌, ◌<◌, Bool, true, false, List, length, slice_index_or, Option}
+use Rattle.std.specs.Prelude.{ℕ, ◌+◌, ◌^◌, ◌≡◌, ◌≢◌, ◌<◌, Bool, true, false, List, length, slice_index_or, Option}
 use Rattle.ca_net.specs.declared.trit.Trit.{Trit}
 use Rattle.ca_net.specs.declared.trit.Trit.TheVariants.{X}
 use Rattle.ca_net.specs.declared.wave.Wave.{Wave}
 use Rattle.ca_net.specs.State.{value_at}
-use Rattle.ca_flat.specs.Chip.{Chip, cell_at, inputs_at, net_of, output_net, count_of}
+use Rattle.ca_flat.specs.Chip.{Chip, cell_at, inputs_at, outputs_at, net_of, output_net, count_of}
 use Rattle.ca_flips.specs.Static.{IsStatic}
 use Rattle.ca_view.specs.Linked.{Reads, IsPlaced}
 use Rattle.ca_sweep.specs.declared.values.Values.{Values}
@@ -29,6 +29,15 @@ pub record IsPassing (chip : Chip) (goods : ℕ → Trit) (w : ℕ) : Type 0 whe
 -- the cell of each instance with a place is static
 abbrev pub AreAllStatic : Chip → (ℕ → ℕ) → Type 0
 AreAllStatic chip place_of = (u : ℕ) → IsPlaced chip place_of u → IsStatic (cell_at chip u)
+
+-- the values of all nets on the instance's pins are definite
+abbrev pub ArePinsDefinite : Chip → (ℕ → Trit) → ℕ → Type 0
+ArePinsDefinite chip goods w =
+    (pin : ℕ) → pin < inputs_at chip w + outputs_at chip w → goods (net_of chip w pin) ≢ X
+
+-- so they are at each instance with a place
+abbrev pub AreAllDefinite : Chip → (ℕ → ℕ) → (ℕ → Trit) → Type 0
+AreAllDefinite chip place_of goods = (w : ℕ) → IsPlaced chip place_of w → ArePinsDefinite chip goods w
 
 -- whether the instance is marked
 abbrev pub is_marked : List Bool → ℕ → Bool

@@ -84,17 +84,15 @@ abbrev pub IsRowOf : RawCell → List Wave → Option Row → Type 0
 IsRowOf raw pins None = Unit {0}
 IsRowOf raw pins (Some row) = AreCodes raw pins row.codes.items
 
--- it is that at the place of the defect in a list
-pub record IsCodeAt (codes : List ℕ) (list : List Defect) (defect : Defect) (code : ℕ) : Type 0 where
-  pub place : ℕ
-  pub at : slice_get list place ≡ Some defect
+-- it is that at a place
+pub record IsCodeAt (codes : List ℕ) (place code : ℕ) : Type 0 where
   pub within : place < length codes
   pub is : code ≡ slice_index codes place
 
--- the row of a slot has the code at the place of the defect in a list
-abbrev pub IsCodeIn : Option Row → List Defect → Defect → ℕ → Type 0
-IsCodeIn None list defect code = ⊥
-IsCodeIn (Some row) list defect code = IsCodeAt row.codes.items list defect code
+-- the row of a slot has the code at a place
+abbrev pub IsCodeIn : Option Row → ℕ → ℕ → Type 0
+IsCodeIn None place code = ⊥
+IsCodeIn (Some row) place code = IsCodeAt row.codes.items place code
 
 -- the lists are those of the cells, and what is kept is true
 pub record AreRows (chip : Chip) (place_of number_of : ℕ → ℕ) (rows : Rows) : Type 0 where

@@ -1,8 +1,9 @@
-use Rattle.std.proofs.Common.{rules, arith, ℕ, ◌≡◌, ◌∙◌, ◌++◌, ◌∷◌, [], List, ap, subst}
+use Rattle.std.proofs.Common.{rules, arith, ℕ, ◌≡◌, ◌∙◌, ◌++◌, ◌∷◌, [], List, ap, sym, subst, length, ◌+◌}
 use Rattle.ca_flat.specs.declared.chip_defect.ChipDefect.{ChipDefect}
+use Rattle.ca_sweep.specs.Seen.{IsForChip}
 use Rattle.ca_engine.specs.ChipBench.{Benched}
-use Rattle.ca_bridges.specs.code.Parts.{IsPartOf, AreParts}
-use Rattle.ca_bridges.proofs.PartLemmas.{parts_begin, parts_more}
+use Rattle.ca_bridges.specs.code.Parts.{AreEachFrom, IsPartOf, AreParts}
+use Rattle.ca_bridges.proofs.PartLemmas.{each_from, each_here, each_after, parts_begin, parts_more}
 use Rattle.ca_bridges.proofs.parts.parts_of.Goals as goal
 
 pub loop-k-init : goal.loop-k-init
@@ -11,13 +12,26 @@ loop-k-init g c = record {
       (subst (λ (shorts : List ChipDefect). IsPartOf c.args.own.now.core shorts c.args.budget c.in_ok-good.good) c.new-none.ensures
       c.in_ok-good.ensures) (c.in_ok-push.ensures.items ∙ ap (λ (front : List Benched). front ++ c.in_ok-good.good ∷ []) c.new-parts.ensures.items);
   left = search rules;
+  found = let counted = c.requires.finders.counted in let as_many = c.requires.views.counted in omega arith;
+  finders = each_from (λ view finder. IsForChip view.core view.ranks (g.F.FlipFinder.loaded finder)) c.args.views.now (length c.args.views.now)
+      c.args.finders.items c.requires.finders;
 }
+
+pub cluster_part-requires-clause-finder : goal.cluster_part-requires-clause-finder
+cluster_part-requires-clause-finder g c =
+    each_here (λ view finder. IsForChip view.core view.ranks (g.F.FlipFinder.loaded finder)) c.args.views.now c.loop-k.k c.loop-k.finders.items
+    c.remove-finder.result c.loop-k.invariant.finders
+    (let found = c.loop-k.invariant.found in let within = c.loop-k-test.true in omega arith) c.remove-finder.ensures.value
 
 pub loop-k-preserved : goal.loop-k-preserved
 loop-k-preserved g c = record {
   are = parts_more c.args.own.now.core c.args.budget c.args.clusters.now c.loop-k.k c.loop-k.parts.items
       c.push-in-loop-k.new.self.items c.in_ok-part.part c.loop-k.invariant.are c.in_ok-part.ensures c.in_ok-push-2.ensures.items;
   left = search rules;
+  found = search rules;
+  finders = subst (AreEachFrom (λ view finder. IsForChip view.core view.ranks (g.F.FlipFinder.loaded finder)) c.args.views.now (c.loop-k.k + 1))
+      (sym c.remove-finder.ensures.items) (each_after (λ view finder. IsForChip view.core view.ranks (g.F.FlipFinder.loaded finder))
+      c.args.views.now c.loop-k.k c.loop-k.finders.items c.loop-k.invariant.finders);
 }
 
 pub returns : goal.returns

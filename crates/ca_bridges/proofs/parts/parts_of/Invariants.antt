@@ -1,9 +1,12 @@
 use Rattle.std.proofs.Common.{◌≡◌, ◌+◌, length}
-use Rattle.ca_bridges.specs.code.Parts.{AreParts}
+use Rattle.ca_sweep.specs.Seen.{IsForChip}
+use Rattle.ca_bridges.specs.code.Parts.{AreEachFrom, AreParts}
 use Rattle.ca_bridges.proofs.parts.parts_of.Given as goal
 
 abbrev pub invariant-loop-k : goal.invariant-loop-k
 invariant-loop-k g l = record {
   are : AreParts l.own.core l.budget l.clusters l.k l.parts.items;
   left : length l.choices.items + l.k ≡ length l.clusters;
+  found : length l.finders.items + l.k ≡ length l.clusters;
+  finders : AreEachFrom (λ view finder. IsForChip view.core view.ranks (g.F.FlipFinder.loaded finder)) l.views l.k l.finders.items;
 }

@@ -13,7 +13,9 @@ loop-place-preserved g c =
     let task = g.B.Simulator.task c.args.bench.now in
     let was = c.loop-place.invariant in
     let turn = c.credit_pair.ensures in
-    let same = turn.task ∙ was.task in
+    let kept = c.keep_pairs.ensures in
+    let before = kept.task ∙ was.task in
+    let same = turn.task ∙ before in
     let at = slice_get-get_or c.args.pairs.now c.loop-place.place c.index-pairs-place.result c.loop-place-test.true
     ∙ ap Some (sym c.index-pairs-place.is) in
     let pair = c.index-pairs-place.is
@@ -24,7 +26,7 @@ loop-place-preserved g c =
     record {
       task = same;
       after = after_pair task c.args.pairs.now c.loop-place.place c.index-pairs-place.result c.loop-place.credits c.credit_pair.new.self at was.after
-          (subst (λ (of : Task). CreditsPair of c.index-pairs-place.result c.loop-place.place c.loop-place.credits c.credit_pair.new.self) was.task turn.credited);
+          (subst (λ (of : Task). CreditsPair of c.index-pairs-place.result c.loop-place.place c.loop-place.credits c.credit_pair.new.self) before turn.credited);
       right = row_right_by task.chip c.args.pairs.now c.args.expected.now c.loop-place.place c.index-pairs-place.result
           (g.B.Simulator.bits c.credit_pair.new.sim) c.index-expected-place.result was.right turn.bits pair row
           (subst (λ (of : Task). AreGoodEnds of.chip (g.B.Simulator.bits c.credit_pair.new.sim) c.index-expected-place.result) same

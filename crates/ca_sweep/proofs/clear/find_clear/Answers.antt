@@ -1,9 +1,8 @@
-use Rattle.std.proofs.Common.{◌∙◌, arith}
 use Rattle.ca_net.specs.State.{value_at}
-use Rattle.ca_view.specs.Linked.{place_in}
+use Rattle.ca_view.specs.Linked.{IsPlaced, place_in}
 use Rattle.ca_view.specs.Places.{cell_number}
 use Rattle.ca_sweep.specs.Seen.{IsClear}
-use Rattle.ca_sweep.proofs.ClearLemmas.{all_clear, marks_any}
+use Rattle.ca_sweep.proofs.ClearLemmas.{all_clear, marks_by}
 use Rattle.ca_sweep.proofs.clear.find_clear.Goals as goal
 
 pub mark-requires-clause-placed : goal.mark-requires-clause-placed
@@ -11,8 +10,8 @@ mark-requires-clause-placed c = (c.requires.order.only _ c.in-Some.u c.in-Some.i
 
 pub returns-then-are_all_definite-clause-clear : goal.returns-then-are_all_definite-clause-clear
 returns-then-are_all_definite-clause-clear c =
-    marks_any c.args.chip.now.core (IsClear c.args.chip.now.core (value_at c.args.lasts.now)) c.mark_all.new.marks.items
-    (c.mark_all.ensures ∙ c.unmark.ensures.room ∙ c.requires.clear_room)
-    (all_clear c.args.chip.now.core (place_in c.args.chip.now.ranks) (cell_number c.args.chip.now.chip) (value_at c.args.lasts.now)
-    c.linked.ensures.linked (c.requires.all_static c.if-is_static.true)
-    (λ net less. c.are_all_definite.ensures c.if-are_all_definite.true net (let n = c.requires.nets in omega arith)))
+    let chip = c.args.chip.now in
+    marks_by chip.core (IsPlaced chip.core (place_in chip.ranks)) (IsClear chip.core (value_at c.args.lasts.now)) c.mark_placed.new.marks.items
+    c.mark_placed.ensures
+    (all_clear chip.core (place_in chip.ranks) (cell_number chip.chip) (value_at c.args.lasts.now)
+    c.linked.ensures.linked (c.requires.all_static c.if-is_static.true) (c.are_all_definite.ensures c.if-are_all_definite.true))

@@ -3,8 +3,6 @@ use Rattle.std.specs.List.{All}
 use Rattle.std.proofs.lemmas.List.{get_or_default}
 use Rattle.std.proofs.lemmas.List.Elements.{All-push}
 use Rattle.ca_net.specs.Wave.{IsWave}
-use Rattle.ca_cell.specs.declared.raw.RawCell.{RawCell}
-use Rattle.ca_cell.specs.Raw.{is_input, role_count}
 use Rattle.ca_table.specs.Gives.{unknown_wave, wave_at}
 use Rattle.ca_flat.specs.Chip.{inputs_at, net_of}
 use Rattle.ca_sweep.proofs.FaultyLemmas.{pins_more}
@@ -12,8 +10,8 @@ use Rattle.ca_sweep.proofs.finder.pin_waves.Goals as goal
 
 pub loop-pin-preserved : goal.loop-pin-preserved
 loop-pin-preserved c =
-    let count : c.inputs-pin-end.result ≡ inputs_at c.args.chip.now.core c.args.u =
-    c.inputs-pin-end.ensures.count ∙ ap (λ (raw : RawCell). role_count is_input raw.pins) c.cell.ensures in
+    let count : c.inputs_at-pin-end.result ≡ inputs_at c.args.chip.now.core c.args.u =
+    c.inputs_at-pin-end.ensures in
     let on_nets : net_of c.args.chip.now.core c.args.u c.loop-pin.pin < length c.args.waves.now =
     subst (λ n. net_of c.args.chip.now.core c.args.u c.loop-pin.pin < n) (sym c.requires.nets)
     (c.linked.ensures.linked.is_chip.on_nets c.args.u c.loop-pin.pin c.requires.placed.known (omega (arith, c.loop-pin-test.true))) in

@@ -1,8 +1,6 @@
 use Rattle.std.proofs.Common.{◌≡◌, ◌+◌, arith, ap, ◌∙◌, refl}
 use Rattle.std.specs.Prelude.{slice_index}
 use Rattle.ca_net.specs.State.{value_at}
-use Rattle.ca_cell.specs.declared.raw.RawCell.{RawCell}
-use Rattle.ca_cell.specs.Raw.{is_input, is_output, role_count}
 use Rattle.ca_flat.specs.Chip.{net_of, inputs_at, outputs_at}
 use Rattle.ca_sweep.proofs.FirstLemmas.{lessened_by}
 use Rattle.ca_sweep.proofs.firsts.lessened.Goals as goal
@@ -10,9 +8,9 @@ use Rattle.ca_sweep.proofs.firsts.lessened.Goals as goal
 pub loop-output-preserved : goal.loop-output-preserved
 loop-output-preserved c =
     let core = c.args.chip.now.core in
-    let inputs : c.inputs-pin.result ≡ inputs_at core c.args.w = c.inputs-pin.ensures.count ∙ ap (λ (raw : RawCell). role_count is_input raw.pins) c.cell.ensures in
-    let outputs : c.outputs-output-end.result ≡ outputs_at core c.args.w = c.outputs-output-end.ensures.count ∙ ap (λ (raw : RawCell). role_count is_output raw.pins) c.cell-2.ensures in
-    let on = c.linked.ensures.linked.is_chip.on_nets c.args.w (c.inputs-pin.result + c.loop-output.output) c.requires.placed.known (omega arith) in
+    let inputs : c.inputs_at-pin.result ≡ inputs_at core c.args.w = c.inputs_at-pin.ensures in
+    let outputs : c.outputs_at-output-end.result ≡ outputs_at core c.args.w = c.outputs_at-output-end.ensures in
+    let on = c.linked.ensures.linked.is_chip.on_nets c.args.w (c.inputs_at-pin.result + c.loop-output.output) c.requires.placed.known (omega arith) in
     let at = c.pin_net-net.ensures in
     let net = c.pin_net-net.result in
     lessened_by core (value_at c.args.lasts.now) (value_at c.args.values.now) c.args.firsts.now c.requires.firsts c.args.w c.loop-output.output c.pin_net-net.result

@@ -1,7 +1,8 @@
-use Rattle.std.proofs.Common.{rules, arith, ◌<◌, ◌+◌, ◌∙◌, length, refl, sym, ap, Some, []}
+use Rattle.std.proofs.Common.{rules, arith, ◌<◌, ◌+◌, ◌∙◌, length, refl, sym, ap, subst, Some, []}
 use Rattle.std.proofs.lemmas.Option.{slice_get-get_or}
 use Rattle.ca_search.specs.Filled.{trits_of}
 use Rattle.ca_credit.specs.Table.{Begins}
+use Rattle.ca_credit.specs.Aims.{AimsOverBlock}
 use Rattle.ca_credit.proofs.AimLemmas.{block_aims_begin, block_aims_more, bits_after_more, aimed_after_more}
 use Rattle.ca_credit.proofs.DetectionLemmas.{get_or-other}
 use Rattle.ca_credit.proofs.TableLemmas.{credit_count_within, block_more}
@@ -36,16 +37,19 @@ loop-k-preserved g c =
     let at = slice_get-get_or c.args.pairs.now (c.args.from + c.loop-k.k) c.index-pairs-from.result lt
     ∙ ap Some (sym c.index-pairs-from.is) in
     let old = g.S.Simulator.task c.args.sim.now in
-    let same = g.S.Simulator.task c.loop-k.sim in
+    let kept = c.keep_pairs.ensures in
+    let same = g.S.Simulator.task c.keep_pairs.new.sim in
     record {
       credits = block_more old same c.args.pairs.now c.args.from c.loop-k.k _ _ c.args.self.now
-          c.loop-k.self c.credit_pair-credited.new.self was.task refl was.credits at turn.credited;
+          c.loop-k.self c.credit_pair-credited.new.self (kept.task ∙ was.task) refl was.credits at turn.credited;
       counted = let before = was.counted in let now = turn.counted in omega arith;
       as_many = turn.credited.as_many ∙ was.as_many;
-      task = turn.task ∙ was.task;
+      task = turn.task ∙ kept.task ∙ was.task;
       bits = bits_after_more c.args.pairs.now c.args.from c.loop-k.k _ _ (turn.bits ∙ ap trits_of (c.index-pairs-from.is
           ∙ get_or-other c.args.pairs.now (c.args.from + c.loop-k.k) c.index-pairs-from.result [] lt));
       aimed = aimed_after_more c.loop-k.k _ _ turn.aimed;
       aims = block_aims_more old same c.args.pairs.now c.args.from c.loop-k.k _ _ c.args.self.now
-          c.loop-k.self c.credit_pair-credited.new.self _ _ _ was.task refl was.aims at turn.credited turn.aims;
+          c.loop-k.self c.credit_pair-credited.new.self _ _ _ (kept.task ∙ was.task) refl
+          (subst (λ aims. AimsOverBlock old c.args.pairs.now c.args.from c.args.self.now c.loop-k.k c.loop-k.self
+          (g.S.Simulator.aims c.args.sim.now) aims) (sym kept.aims) was.aims) at turn.credited turn.aims;
     }

@@ -1,7 +1,5 @@
 use Rattle.std.proofs.Common.{◌≡◌, ◌+◌, length, ◌∙◌, ap, sym, arith, ◌++◌, ◌∷◌, []}
 use Rattle.ca_net.specs.declared.wave.Wave.{Wave}
-use Rattle.ca_cell.specs.declared.raw.RawCell.{RawCell}
-use Rattle.ca_cell.specs.Raw.{is_input, role_count}
 use Rattle.ca_flat.specs.Chip.{net_of, output_net, inputs_at}
 use Rattle.ca_table.specs.Gives.{wave_at}
 use Rattle.ca_sim.specs.code.Current.{waves_from}
@@ -23,7 +21,7 @@ loop-output-preserved c =
     let core = c.args.chip.now.core in
     let waves = c.args.self.now.waves in
     let more = waves_from-more (output_net core c.args.u) waves c.loop-output.output in
-    let inputs : c.inputs-first.result ≡ inputs_at core c.args.u = c.inputs-first.ensures.count ∙ ap (λ (raw : RawCell). role_count is_input raw.pins) c.cell.ensures in
+    let inputs : c.inputs_at-first.result ≡ inputs_at core c.args.u = c.inputs_at-first.ensures in
     let read : c.get.result ≡ wave_at waves (output_net core c.args.u c.loop-output.output) =
     c.get.ensures ∙ ap (wave_at waves) (c.pin_net.ensures ∙ ap (λ k. net_of core c.args.u (k + c.loop-output.output)) inputs) in
     c.push.ensures.items ∙ ap (λ list. list ++ c.get.result ∷ []) c.loop-output.invariant

@@ -1,7 +1,5 @@
 use Rattle.std.proofs.Common.{◌≡◌, ◌+◌, arith, ap, ◌∙◌}
 use Rattle.ca_net.specs.State.{value_at}
-use Rattle.ca_cell.specs.declared.raw.RawCell.{RawCell}
-use Rattle.ca_cell.specs.Raw.{is_input, is_output, role_count}
 use Rattle.ca_flat.specs.Chip.{net_of, output_net, inputs_at, outputs_at}
 use Rattle.ca_view.specs.Linked.{place_in}
 use Rattle.ca_sweep.specs.Seen.{flipped_outputs, flipped_if, is_flipped}
@@ -13,8 +11,8 @@ loop-output-preserved c =
     let core = c.args.chip.now.core in
     let place_of = place_in c.args.chip.now.ranks in
     let is_chip = c.linked.ensures.linked.is_chip in
-    let inputs : c.inputs-first.result ≡ inputs_at core c.args.u = c.inputs-first.ensures.count ∙ ap (λ (raw : RawCell). role_count is_input raw.pins) c.cell.ensures in
-    let outputs : c.outputs-output-end.result ≡ outputs_at core c.args.u = c.outputs-output-end.ensures.count ∙ ap (λ (raw : RawCell). role_count is_output raw.pins) c.cell-2.ensures in
+    let inputs : c.inputs_at-first.result ≡ inputs_at core c.args.u = c.inputs_at-first.ensures in
+    let outputs : c.outputs_at-output-end.result ≡ outputs_at core c.args.u = c.outputs_at-output-end.ensures in
     let flipped = flipped_outputs core c.args.u (value_at c.args.self.now.values) c.args.flips in
     let net_is : c.pin_net-net.result ≡ output_net core c.args.u c.loop-output.output = c.pin_net-net.ensures ∙ ap (λ k. net_of core c.args.u (k + c.loop-output.output)) inputs in
     let value_is : c.get-value.result ≡ value_at c.args.self.now.values (output_net core c.args.u c.loop-output.output) =

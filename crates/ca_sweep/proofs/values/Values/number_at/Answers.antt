@@ -1,7 +1,5 @@
 use Rattle.std.proofs.Common.{◌≡◌, arith, subst, sym, ap, ◌∙◌}
 use Rattle.ca_net.specs.State.{value_at}
-use Rattle.ca_cell.specs.declared.raw.RawCell.{RawCell}
-use Rattle.ca_cell.specs.Raw.{is_input, role_count}
 use Rattle.ca_flat.specs.Chip.{net_of, inputs_at}
 use Rattle.ca_flat.specs.Pair.{values_from}
 use Rattle.ca_sweep.specs.code.Changes.{IsNumberOf}
@@ -14,19 +12,22 @@ loop-pin-init c = number_none (λ pin. value_at c.args.self.now.values (net_of c
 
 pub overflow_mul-number : goal.overflow_mul-number
 overflow_mul-number c =
-    let few = c.inputs-pin-end.ensures.few in
+    let few = c.linked.ensures.nets.few_pins c.args.w c.requires.placed.known in
+    let count = c.inputs_at-pin-end.ensures in
     let small = number_small _ c.loop-pin.pin c.loop-pin.number c.loop-pin.invariant (omega arith) in
     omega arith
 
 pub overflow_mul-number-in-One : goal.overflow_mul-number-in-One
 overflow_mul-number-in-One c =
-    let few = c.inputs-pin-end.ensures.few in
+    let few = c.linked.ensures.nets.few_pins c.args.w c.requires.placed.known in
+    let count = c.inputs_at-pin-end.ensures in
     let small = number_small _ c.loop-pin.pin c.loop-pin.number c.loop-pin.invariant (omega arith) in
     omega arith
 
 pub overflow_add-number : goal.overflow_add-number
 overflow_add-number c =
-    let few = c.inputs-pin-end.ensures.few in
+    let few = c.linked.ensures.nets.few_pins c.args.w c.requires.placed.known in
+    let count = c.inputs_at-pin-end.ensures in
     let small = number_small _ c.loop-pin.pin c.loop-pin.number c.loop-pin.invariant (omega arith) in
     omega arith
 
@@ -44,7 +45,7 @@ loop-pin-preserved c =
 pub returns : goal.returns
 returns c =
     let core = c.args.chip.now.core in
-    let inputs : c.inputs-pin-end.result ≡ inputs_at core c.args.w = c.inputs-pin-end.ensures.count ∙ ap (λ (raw : RawCell). role_count is_input raw.pins) c.cell.ensures in
+    let inputs : c.inputs_at-pin-end.result ≡ inputs_at core c.args.w = c.inputs_at-pin-end.ensures in
     let all : c.loop-pin.pin ≡ inputs_at core c.args.w = omega arith in
     subst (λ n. IsNumberOf n (values_from (λ pin. value_at c.args.self.now.values (net_of core c.args.w pin)) 0 n) c.loop-pin.number) all
     (number_all (λ pin. value_at c.args.self.now.values (net_of core c.args.w pin)) c.loop-pin.pin c.loop-pin.number c.loop-pin.invariant)

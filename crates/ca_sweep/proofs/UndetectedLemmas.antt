@@ -1,8 +1,13 @@
--- What is seen of flips of an instance's outputs by last values at or below the good ones.
-use Rattle.std.proofs.Common.{◌≡◌, ◌≢◌, ℕ, ◌+◌, ◌<◌, ◌≤◌, List, length, None, Some, inl, inr, refl, sym, ◌∙◌, ap, subst, arith}
+-- What is seen of flips of an instance's outputs by last values at or below the good ones, and what isn't
+-- detected where nothing is.
+use Rattle.std.specs.Prelude.{slice_index}
+use Rattle.std.specs.List.{Contains}
+use Rattle.std.proofs.lemmas.List.{get_or_default}
+use Rattle.std.proofs.lemmas.List.Elements.{Contains-get_or}
+use Rattle.std.proofs.Common.{◌≡◌, ◌≢◌, ℕ, zero, suc, Bool, true, false, ◌+◌, ◌<◌, ◌≤◌, List, length, None, Some, inl, inr, refl, sym, ◌∙◌, ap, subst, arith}
 use Rattle.std.proofs.Math.Decide.{dec_le}
 use Rattle.ca_net.specs.declared.trit.Trit.{Trit}
-use Rattle.ca_net.specs.declared.trit.Trit.TheVariants.{X}
+use Rattle.ca_net.specs.declared.trit.Trit.TheVariants.{Zero, One, X}
 use Rattle.ca_net.specs.Trit.{IsBelow}
 use Rattle.ca_net.specs.State.{IsStateBelow}
 use Rattle.ca_parts.proofs.TritLemmas.{kept}
@@ -27,7 +32,12 @@ use Rattle.ca_flips.proofs.VectorLemmas.{vector_definite}
 use Rattle.ca_flips.proofs.ReachLemmas.{reached_late, reached_no_input, reached_is_after, unreached_same}
 use Rattle.ca_flips.proofs.FlipLemmas.{below_by_cases}
 use Rattle.ca_flips.proofs.DetectLemmas.{opposite_above}
-use Rattle.ca_sweep.specs.Seen.{IsClear}
+use Rattle.ca_flat.proofs.Detected.{some_good, some_faulty}
+use Rattle.ca_flips.specs.Flips.{AreLastsOf}
+use Rattle.ca_flips.proofs.SweepLemmas.{swept_are_flipped_lem}
+use Rattle.ca_sweep.specs.declared.seen.Flips.{Flips}
+use Rattle.ca_sweep.specs.Found.{IsUndetectedBefore}
+use Rattle.ca_sweep.specs.Seen.{AreUnseen, IsClear, IsSeenFrom, flipped_if, flipped_outputs}
 
 -- a cell that may be in a chip has few output pins
 pub few_outputs : (raw : RawCell) → KeepsAllBut NoOutput raw → role_count is_output raw.pins ≤ MOST_OUTPUTS
@@ -124,3 +134,61 @@ module _ (chip : Chip) (rank : ℕ → ℕ) (defect : ChipDefect) (is : IsFlatCh
         (opposite_above _ _ _ clash (reached_below net within reached))) in
         let e : lasts_of good net ≡ lasts_of faulty net = ap (λ w. w.last) (unreached_same chip rank defect is pair good faulty net within off) in
         opposite_differs (lasts_of good net) clash.0 (sym (e ∙ clash.1))
+
+-- whether a known value is the opposite of the good one
+abbrev differs : Trit → Trit → Bool
+differs Zero One = true
+differs Zero Zero = false
+differs Zero X = false
+differs One Zero = true
+differs One One = false
+differs One X = false
+differs X known = false
+
+flip_below : (good known : Trit) → good ≢ X → IsBelow known (flipped_if (differs good known) good)
+flip_below Zero Zero definite = inr refl
+flip_below Zero One definite = inr refl
+flip_below Zero X definite = inl refl
+flip_below One Zero definite = inr refl
+flip_below One One definite = inr refl
+flip_below One X definite = inl refl
+flip_below X known definite = absurd (definite refl)
+
+-- what no flip shows isn't detected
+module _ (chip : Chip) (rank : ℕ → ℕ) (defect : ChipDefect) (is : IsFlatChip chip rank defect) (pair : List Trit) (good : FlatWaves chip None pair)
+    (faulty : FlatWaves chip (Some defect) pair) (partial : List Trit) (low : FlatWaves chip None partial) (up : IsStateBelow partial pair) (values : ℕ → Trit)
+    (are_lasts : (waves : FlatWaves chip None partial) (net : ℕ) → net < length chip.nets → lasts_of waves net ≡ values net) where
+  flips : Flips
+  flips = record {
+    first = differs (values (output_net chip defect.instance 0)) (lasts_of faulty (output_net chip defect.instance 0));
+    second = differs (values (output_net chip defect.instance 1)) (lasts_of faulty (output_net chip defect.instance 1));
+  }
+
+  flips_over : ((output : ℕ) → output < outputs_at chip defect.instance → values (output_net chip defect.instance output) ≢ X)
+      → (output : ℕ) → output < outputs_at chip defect.instance
+      → IsBelow (lasts_of faulty (output_net chip defect.instance output)) (flipped_outputs chip defect.instance values flips output)
+  unfolding flips
+  flips_over definite zero within = flip_below _ _ (definite 0 within)
+  flips_over definite (suc zero) within = flip_below _ _ (definite 1 within)
+  flips_over definite (suc (suc output)) within =
+      let few = few_outputs (cell_at chip defect.instance) (is.chip_is.cells defect.instance is.defect_is.known).keeps in absurd (omega arith)
+
+  pub unseen_is_undetected : AreUnseen chip values defect.instance → (net : ℕ) → Contains chip.outputs net → DetectsAt chip defect pair net → ⊥
+  unseen_is_undetected unseen net observed detects =
+      let seen : IsSeenFrom chip values defect.instance flips None = unseen flips in
+      let same : slice_index chip.outputs observed.0 ≡ net = get_or_default chip.outputs observed.0 0 net observed.1 ∙ observed.2 in
+      undetected chip rank defect is pair partial good faulty low up values (are_lasts low) seen.clear
+      (flipped_outputs chip defect.instance values flips) seen.values
+      (swept_are_flipped_lem chip rank partial defect.instance values (flipped_outputs chip defect.instance values flips) seen.values
+      is.chip_is is.good_is is.defect_is.known are_lasts seen.clear.all_static seen.clear.definite seen.swept)
+      (flips_over seen.clear.definite.outputs)
+      net (is.chip_is.observed net observed)
+      (λ opposite. seen.first observed.0 observed.1 (subst (λ n. IsOpposite (values n) (seen.values n)) (sym same) opposite)) detects
+
+-- so a pair whose last values show no flip of an instance detects none of its defects
+pub unseen_undetected : (chip : Chip) (rank : ℕ → ℕ) (defect : ChipDefect) (pair : List Trit) (goods : ℕ → Trit) → IsFlatChip chip rank defect → AreLastsOf chip pair goods
+    → AreUnseen chip goods defect.instance → IsUndetectedBefore chip defect pair (length chip.outputs)
+unseen_undetected chip rank defect pair goods is lasts unseen output less detects =
+    some_good chip rank defect is pair (λ good. some_faulty chip rank defect is pair (λ faulty.
+    unseen_is_undetected chip rank defect is pair good faulty pair good (λ k. inr refl) goods lasts unseen
+    (slice_index chip.outputs output) (Contains-get_or chip.outputs output 0 less) detects))

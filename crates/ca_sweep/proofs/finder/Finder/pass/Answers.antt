@@ -1,0 +1,63 @@
+use Rattle.std.proofs.Common.{◌≡◌, ℕ, List, Some, ap, ◌∙◌, arith, refl, subst, sym}
+use Rattle.ca_net.specs.Circuit.{IsWellFormed}
+use Rattle.ca_net.specs.State.{value_at}
+use Rattle.ca_flat.specs.declared.chip_defect.ChipDefect.{ChipDefect}
+use Rattle.ca_flat.specs.Chip.{IsChip}
+use Rattle.ca_flat.specs.Flat.{flat}
+use Rattle.ca_flips.specs.Flips.{AreLastsOf}
+use Rattle.ca_view.specs.Linked.{IsPlaced, IsPlacedDefect, place_in}
+use Rattle.ca_sweep.specs.Seen.{AreUnseen, Loaded}
+use Rattle.ca_sweep.specs.Found.{IsFound}
+use Rattle.ca_sweep.proofs.NextLemmas.{entry_has, undetected_one, with_entry}
+use Rattle.ca_sweep.proofs.UndetectedLemmas.{unseen_undetected}
+use Rattle.ca_sweep.proofs.finder.Finder.pass.Goals as goal
+
+pub is_unseen-requires : goal.is_unseen-requires
+is_unseen-requires g c =
+    let laned = g.L.Lanes.laned c.args.lanes.now in
+    let chip = c.args.self.now.chip in
+    let place_of = place_in c.args.self.now.places in
+    let placed : IsPlaced chip place_of c.span_at-span.result.instance =
+    with_entry c.args.defects.now c.args.place c.requires.place (λ defect at.
+    let one = entry_has (IsPlacedDefect chip place_of) c.args.defects.now c.args.place defect at c.requires.defects in
+    subst (IsPlaced chip place_of) (c.span_at-span.ensures.span.each c.args.place defect (omega arith) c.span_at-span.ensures.past at)
+    (record { known = one.defect_is.known; placed = one.placed })) in
+    subst (λ (places : List ℕ). IsPlaced laned.chip (place_in places) c.span_at-span.result.instance) (sym c.requires.lanes.places_are)
+    (subst (λ chip. IsPlaced chip place_of c.span_at-span.result.instance) (sym c.requires.lanes.chip_is) placed)
+
+pub returns-then-is_unseen-clause-passed : goal.returns-then-is_unseen-clause-passed
+returns-then-is_unseen-clause-passed g c = λ k after before defect at.
+    let chip = c.args.self.now.chip in
+    let rank = place_in c.self.inside.chip.now.ranks in
+    let own : chip ≡ c.self.inside.chip.now.core = ap (λ (s : Loaded). s.chip) (sym c.self.view_is) ∙ c.self.invariant.chip_is in
+    let lasts = c.args.self.now.lasts in
+    let unseen = c.if-is_unseen.ensures.unseen lasts (c.requires.lane (c.if-is_unseen.ensures.within refl)) refl in
+    let here = c.span_at-span.ensures.span.each k defect after before at in
+    let placed = entry_has (IsPlacedDefect chip (place_in c.args.self.now.places)) c.args.defects.now k defect at c.requires.defects in
+    unseen_undetected chip rank defect (g.V.NetWaves.seen c.args.waves.now).pair (value_at lasts)
+    (record {
+      chip_is = subst (λ chip. IsChip chip (place_in c.self.inside.chip.now.ranks)) (sym own) c.linked.ensures.linked.is_chip;
+      defect_is = placed.defect_is;
+      good_is = c.requires.good_is;
+      faulty_is = entry_has (λ (d : ChipDefect). IsWellFormed (flat chip (Some d))) c.args.defects.now k defect at c.requires.faulty_are;
+    }) c.requires.lasts
+    (subst (AreUnseen chip (value_at lasts)) (sym here)
+    (subst (λ chip. AreUnseen chip (value_at lasts) c.span_at-span.result.instance) c.requires.lanes.chip_is unseen))
+
+pub returns-then-is_nowhere-clause-passed : goal.returns-then-is_nowhere-clause-passed
+returns-then-is_nowhere-clause-passed g c =
+    let chip = c.args.self.now.chip in
+    let pair = (g.V.NetWaves.seen c.args.waves.now).pair in
+    let same = ap (λ (s : Loaded). s.chip) c.self.view_is in
+    let found = subst (λ chip. IsFound chip c.get.result pair c.find.result) same c.find.ensures.found in
+    undetected_one chip c.args.defects.now pair c.args.place c.get.result c.get.ensures
+    (subst (IsFound chip c.get.result pair) (c.if-is_nowhere.ensures refl) found)
+
+pub find-requires-clause-lasts : goal.find-requires-clause-lasts
+find-requires-clause-lasts g c =
+    subst (λ (s : Loaded). AreLastsOf s.chip (g.V.NetWaves.seen c.args.waves.now).pair (value_at s.lasts)) (sym c.self.view_is) c.requires.lasts
+
+pub find-requires-clause-faulty_is : goal.find-requires-clause-faulty_is
+find-requires-clause-faulty_is g c =
+    subst (λ (s : Loaded). IsWellFormed (flat s.chip (Some c.get.result))) (sym c.self.view_is)
+    (entry_has (λ (d : ChipDefect). IsWellFormed (flat c.args.self.now.chip (Some d))) c.args.defects.now c.args.place c.get.result c.get.ensures c.requires.faulty_are)

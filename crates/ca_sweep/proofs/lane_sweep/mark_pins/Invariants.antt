@@ -1,0 +1,10 @@
+use Rattle.std.proofs.Common.{◌≡◌, length}
+use Rattle.ca_sweep.specs.code.Lanes.{AreKept, ArePinsMarked}
+use Rattle.ca_sweep.proofs.lane_sweep.mark_pins.Given as goal
+
+abbrev pub invariant-loop-pin : goal.invariant-loop-pin
+invariant-loop-pin l = record {
+  marked : ArePinsMarked l.chip.core l.u l.pin l.marks.items;
+  kept : AreKept l.fn.marks.items l.marks.items;
+  room : length l.marks.items ≡ length l.chip.core.nets;
+}
