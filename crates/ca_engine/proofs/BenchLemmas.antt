@@ -27,6 +27,7 @@ use Rattle.ca_credit.specs.Defects.{IsSearchable}
 use Rattle.ca_credit.specs.Detection.{IsNetEnd, AreDetectedAlike}
 use Rattle.ca_credit.specs.ToTry.{IsNextToTry}
 use Rattle.ca_places.specs.declared.place_set.PlaceSet.{PlaceSet}
+use Rattle.ca_sweep.specs.Spans.{Spanned}
 use Rattle.ca_sweep.specs.Found.{IsNextFound}
 use Rattle.ca_search.specs.declared.trail.Outcome.TheVariants.{Found, Exhausted, Spent}
 use Rattle.ca_generate.specs.declared.search_end.SearchEnd.{SearchEnd}
@@ -52,18 +53,20 @@ same_entry defects place one other is also = let e : Some one ≡ Some other = s
 
 -- the bench of a chip begins without a defect
 pub bench_begins : (core : Chip) (places : List ℕ) (number_of : ℕ → ℕ) (sim : Simulator)
-    (rows_chip : Chip) (defects : List ChipDefect) (outputs : List ℕ)
+    (rows_chip : Chip) (defects : Spanned) (outputs : List ℕ)
     → IsFresh core places sim → IsLinked core (place_in places) number_of → judge.CanBeJudged core
-    → rows_chip ≡ core → All (IsPlacedDefect core (place_in places)) defects → length defects < 2 ^ 32
+    → rows_chip ≡ core → defects.chip ≡ core → All (IsPlacedDefect core (place_in places)) defects.list
+    → length defects.list < 2 ^ 32
     → outputs ≡ core.outputs → length outputs < 2 ^ 32
     → IsChipBench sim.seen.chip sim.seen.places sim.seen.aim rows_chip defects outputs None
-bench_begins core places number_of sim rows_chip defects outputs fresh linked judged same placed few_defects are few =
+bench_begins core places number_of sim rows_chip defects outputs fresh linked judged same of placed few_defects are few =
     subst (λ c. IsChipBench c sim.seen.places sim.seen.aim rows_chip defects outputs None) (sym fresh.chip_is)
     (subst (λ p. IsChipBench core p sim.seen.aim rows_chip defects outputs None) (sym fresh.places_are) (record {
       rank = place_in places;
       chip_is = linked.is_chip;
       good_is = judged.good_is;
       faulty_are = judged.faulty_are;
+      spans_of = of;
       placed = placed;
       few_defects = few_defects;
       outputs_are = are;
@@ -75,7 +78,7 @@ bench_begins core places number_of sim rows_chip defects outputs fresh linked ju
 
 -- it is kept where the chip and the defect are the same
 same_bench : (chip new_chip : Chip) (places new_places : List ℕ) (aim new_aim : Option ChipDefect)
-    (rows_chip : Chip) (defects : List ChipDefect) (outputs : List ℕ) (defect : Option ChipDefect)
+    (rows_chip : Chip) (defects : Spanned) (outputs : List ℕ) (defect : Option ChipDefect)
     → new_chip ≡ chip → new_places ≡ places → new_aim ≡ aim
     → IsChipBench chip places aim rows_chip defects outputs defect
     → IsChipBench new_chip new_places new_aim rows_chip defects outputs defect
@@ -85,7 +88,7 @@ same_bench chip new_chip places new_places aim new_aim rows_chip defects outputs
     (subst (λ a. IsChipBench chip places a rows_chip defects outputs defect) (sym aim_is) is))
 
 -- so where other bits are loaded
-pub bench_loads : (old new : Simulator) (rows_chip : Chip) (defects : List ChipDefect) (outputs : List ℕ)
+pub bench_loads : (old new : Simulator) (rows_chip : Chip) (defects : Spanned) (outputs : List ℕ)
     (defect : Option ChipDefect) → KeepsAim old new
     → IsChipBench old.seen.chip old.seen.places old.seen.aim rows_chip defects outputs defect
     → IsChipBench new.seen.chip new.seen.places new.seen.aim rows_chip defects outputs defect
@@ -94,7 +97,7 @@ bench_loads old new rows_chip defects outputs defect keeps is =
     rows_chip defects outputs defect keeps.chip.chip keeps.chip.places keeps.aim is
 
 -- and where a search has ended
-pub bench_searches : (old new : Seen) (rows_chip : Chip) (defects : List ChipDefect) (outputs : List ℕ)
+pub bench_searches : (old new : Seen) (rows_chip : Chip) (defects : Spanned) (outputs : List ℕ)
     (defect : Option ChipDefect) → IsSameAim (judged_of old) (judged_of new)
     → IsChipBench old.chip old.places old.aim rows_chip defects outputs defect
     → IsChipBench new.chip new.places new.aim rows_chip defects outputs defect
@@ -103,7 +106,7 @@ bench_searches old new rows_chip defects outputs defect same is =
     (ap (λ judged. judged.chip) same) (ap (λ judged. judged.places) same) (ap (λ judged. judged.aim) same) is
 
 -- another defect of the chip is aimed at, or none
-pub bench_aims : (old new : Simulator) (rows_chip : Chip) (defects : List ChipDefect) (outputs : List ℕ)
+pub bench_aims : (old new : Simulator) (rows_chip : Chip) (defects : Spanned) (outputs : List ℕ)
     (before defect : Option ChipDefect) → KeepsPair old new → new.seen.aim ≡ defect
     → IsChipDefect old.seen.chip defect
     → IsChipBench old.seen.chip old.seen.places old.seen.aim rows_chip defects outputs before
@@ -115,6 +118,7 @@ bench_aims old new rows_chip defects outputs before defect keeps aimed in_chip i
       chip_is = is.chip_is;
       good_is = is.good_is;
       faulty_are = is.faulty_are;
+      spans_of = is.spans_of;
       placed = is.placed;
       few_defects = is.few_defects;
       outputs_are = is.outputs_are;
@@ -124,7 +128,7 @@ bench_aims old new rows_chip defects outputs before defect keeps aimed in_chip i
       aimed = in_chip;
     })
 
-module _ (seen : Seen) (rows_chip : Chip) (defects : List ChipDefect) (outputs : List ℕ)
+module _ (seen : Seen) (rows_chip : Chip) (defects : Spanned) (outputs : List ℕ)
     (defect : Option ChipDefect)
     (is : IsChipBench seen.chip seen.places seen.aim rows_chip defects outputs defect) where
   -- the defect that is aimed at is one of the chip
@@ -222,7 +226,7 @@ kept_end_is chip budget defect code partial outcome (Ok last) is kept =
     kept_ends chip budget defect code partial outcome last is kept
 kept_end_is chip budget defect code partial outcome (Err fault) is kept = tt
 
-module _ (seen : Seen) (rows_chip : Chip) (defects : List ChipDefect) (outputs : List ℕ)
+module _ (seen : Seen) (rows_chip : Chip) (defects : Spanned) (outputs : List ℕ)
     (defect : Option ChipDefect)
     (is : IsChipBench seen.chip seen.places seen.aim rows_chip defects outputs defect) (other : ChipDefect)
     (in_chip_too : IsDefectIn seen.chip other) where
@@ -233,6 +237,7 @@ module _ (seen : Seen) (rows_chip : Chip) (defects : List ChipDefect) (outputs :
     chip_is = is.chip_is;
     good_is = is.good_is;
     faulty_are = is.faulty_are;
+    spans_of = is.spans_of;
     placed = is.placed;
     few_defects = is.few_defects;
     outputs_are = is.outputs_are;

@@ -32,7 +32,7 @@ pub struct ChipBench<'a, R: ExposableDefects, P: Choice + Drop, F: FlipFinder + 
     view: &'a View<'a>,
     judge: FlipBench<'a, R, P, F>,
     rows: &'a R,
-    defects: DefectSpans,
+    defects: DefectSpans<'a>,
     search: Search,
     aim: Option<ChipDefect>,
 }
@@ -46,7 +46,7 @@ impl<'a, R: ExposableDefects, P: Choice + Drop, F: FlipFinder + Drop> Model
 
     ghost view = { λ bench. record {
       chip = bench.judge.seen.chip;
-      defects = bench.defects;
+      defects = bench.defects.list;
       budget = bench.search.budget;
       bits = bench.judge.seen.pair;
       aimed = bench.judge.seen.aim;
@@ -119,7 +119,7 @@ impl<'a, R: ExposableDefects, P: Choice + Drop, F: FlipFinder + Drop> ChipBench<
         if view.output_count() > u32::MAX as usize || defects.len() > u32::MAX as usize {
             return Err(NoMemory);
         }
-        let defects = DefectSpans::new(alloc, defects)?;
+        let defects = DefectSpans::new(alloc, view, defects)?;
         let search = Search::reserve(alloc, budget)?;
         let judge = FlipBench::reserve(alloc, view, rows, choice, finder)?;
         Ok(ChipBench {

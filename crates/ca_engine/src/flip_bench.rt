@@ -112,18 +112,20 @@ impl<'a, R: ExposingRows, P: Choice + Drop, F: FlipFinder + Drop> FlipBench<'a, 
     /// values alone say that the bits detect them nowhere.
     pub(crate) fn next_to_try(
         &mut self,
-        defects: &DefectSpans,
+        defects: &DefectSpans<'_>,
         places: &PlaceSet,
         from: usize,
     ) -> Option<usize>
+        requires of { defects.now.chip ≡ self.old.seen.chip }
         requires defects { All (IsPlacedDefect self.old.seen.chip (place_in self.old.seen.places))
-            defects.now }
-        requires few { length defects.now < 2 ^ 32 }
-        requires within { (place : ℕ) → Has places.now place → place < length defects.now }
+            defects.now.list }
+        requires few { length defects.now.list < 2 ^ 32 }
+        requires within { (place : ℕ) → Has places.now place → place < length defects.now.list }
         requires good_is { IsWellFormed (flat self.old.seen.chip None) }
         requires faulty_are { All (λ defect. IsWellFormed (flat self.old.seen.chip (Some defect)))
-            defects.now }
-        ensures next { IsNextFound self.old.seen.chip defects.now self.old.seen.pair places.now from result }
+            defects.now.list }
+        ensures next { IsNextFound self.old.seen.chip defects.now.list self.old.seen.pair places.now from
+            result }
         ensures kept { self.new ≡ self.old }
     {
         load_finder(&self.judge, &mut self.finder, self.is_loaded);

@@ -9,7 +9,7 @@ use Rattle.ca_defect.specs.declared.defect.Defect.{Defect}
 use Rattle.ca_flat.specs.declared.chip_defect.ChipDefect.{ChipDefect}
 use Rattle.ca_flat.specs.Chip.{Chip, cell_at, outputs_at}
 use Rattle.ca_flat.specs.Waves.{IsFlatChip}
-use Rattle.ca_flips.specs.Flips.{AreGoodLasts}
+use Rattle.ca_flips.specs.Flips.{AreGoodLasts, AreLastsOf}
 use Rattle.ca_flips.specs.Laws.{SweptAreFlipped, DetectedIsFilledIn, DetectedIsFlipped}
 use Rattle.ca_table.specs.Gives.{wave_at}
 use Rattle.ca_sweep.specs.declared.hand.Hand.{Hand}
@@ -20,7 +20,8 @@ use Rattle.ca_sweep.specs.code.Faulty.{AreWavesAt}
 use Rattle.ca_sweep.specs.code.Rows.{code_of_lasts, IsCoded, IsListOf, IsRowOf, IsCodeIn, IsKnownCode}
 use Rattle.ca_sweep.specs.code.Coded.{IsSeenCoded}
 use Rattle.ca_sweep.specs.code.Hand.{IsTakenAt, IsCodedAt}
-use Rattle.ca_sweep.proofs.FoundLemmas.{found_by, faulty_lasts}
+use Rattle.ca_sweep.proofs.FoundLemmas.{found_by, faulty_lasts, good_lasts}
+use Rattle.ca_sim.specs.Seen.{AreNetWaves}
 use Rattle.ca_sweep.proofs.RowLemmas.{flips_of_code, first_of_code, second_of_code}
 
 -- the code in a slot is that of what the cell gives with the defect
@@ -46,6 +47,15 @@ coded_found swept filled flipped chip rank defect pair pins goods code answer is
     (found_by swept filled flipped chip rank defect pair pins goods coded.outputs seen.flips is lasts (faulty_lasts chip defect pins coded.outputs coded.gives)
     (flips_of_code chip goods defect.instance seen.ends coded.outputs code seen.flips seen.few seen.goods_are coded.code_is seen.flips_are) seen.known seen.seen
     (λ on output within. known_of_code coded.outputs code (outputs_at chip defect.instance) seen.few coded.code_is (seen.known_is on) output within) seen.seen_is)
+
+-- so it is for the waves of all nets
+pub code_is_found : SweptAreFlipped → DetectedIsFilledIn → DetectedIsFlipped
+    → (chip : Chip) (rank : ℕ → ℕ) (defect : ChipDefect) (pair : List Trit) (waves : List Wave) (goods : ℕ → Trit) (code : ℕ) (answer : Seen)
+    → IsFlatChip chip rank defect → AreNetWaves chip None pair waves → AreLastsOf chip pair goods → IsCodedAt chip waves defect code
+    → IsSeenCoded chip goods defect.instance code answer → IsFound chip defect pair answer
+code_is_found swept filled flipped chip rank defect pair waves goods code answer is net_waves lasts at seen =
+    coded_found swept filled flipped chip rank defect pair at.pins goods code answer is
+    (good_lasts chip rank pair defect.instance waves at.pins goods is.chip_is is.defect_is.known net_waves at.pins_are lasts) at.coded seen
 
 -- the code in the slot is that of the defect
 pub hand_coded : (chip : Chip) (number_of : ℕ → ℕ) (goods : ℕ → Trit) (waves : List Wave) (slots : List (Option Row)) (hand : Hand) (defect : ChipDefect)

@@ -17,3 +17,4 @@ pub mod NextLemmas
 pub mod LaneLemmas
 pub mod LaneFindLemmas
 pub mod SpanLemmas
+pub mod TakenLemmas

@@ -9,6 +9,8 @@ use Rattle.ca_flat.specs.declared.chip_defect.ChipDefect.{ChipDefect}
 use Rattle.ca_flat.specs.Chip.{Chip}
 use Rattle.ca_places.specs.declared.place_set.PlaceSet.{PlaceSet}
 use Rattle.ca_places.specs.PlaceSet.{Has, IsNext}
+use Rattle.ca_view.specs.Linked.{IsPlaced, IsPlacedDefect}
+use Rattle.ca_sweep.specs.Spans.{AreOfInstance}
 use Rattle.ca_sweep.specs.Found.{IsUndetectedBefore, IsUndetectedAt}
 
 -- an entry of a list has what all have
@@ -30,13 +32,13 @@ undetected_one chip defects pair place defect at none k after before =
 -- places up to an end are passed over, and all before them that aren't in the set
 pub passed_to : (chip : Chip) (defects : List ChipDefect) (pair : List Trit) (set : PlaceSet) (from at place end : ℕ)
     → ((k : ℕ) → from ≤ k → k < at → Has set k → IsUndetectedAt chip defects pair k) → IsNext set at (Some place)
-    → ((k : ℕ) → place ≤ k → k < end → IsUndetectedAt chip defects pair k)
+    → ((k : ℕ) → place ≤ k → k < end → Has set k → IsUndetectedAt chip defects pair k)
     → (k : ℕ) → from ≤ k → k < end → Has set k → IsUndetectedAt chip defects pair k
 passed_to chip defects pair set from at place end before next none k after below has = elim (cases_lt k at) [
   | inl low ↦ before k after low has
   | inr high ↦ elim (cases_lt k place) [
     | inl less ↦ absurd (next.2 k high less has)
-    | inr past ↦ none k (omega arith) below
+    | inr past ↦ none k (omega arith) below has
   ]
 ]
 
@@ -63,3 +65,11 @@ pub with_entry : {A B : Type 0} (xs : List A) (k : ℕ) → k < length xs → ((
 with_entry [] k below go = absurd (omega arith)
 with_entry (x ∷ xs) zero below go = go x refl
 with_entry (x ∷ xs) (suc k) below go = with_entry xs k (omega arith) go
+
+-- the instance of a span has a place where the defects may be aimed at
+pub span_placed : (chip : Chip) (place_of : ℕ → ℕ) (defects : List ChipDefect) (place start end instance : ℕ) → place < length defects
+    → start ≤ place → place < end → AreOfInstance defects start end instance → All (IsPlacedDefect chip place_of) defects → IsPlaced chip place_of instance
+span_placed chip place_of defects place start end instance within after before are placed =
+    with_entry defects place within (λ defect at.
+    let one = entry_has (IsPlacedDefect chip place_of) defects place defect at placed in
+    subst (IsPlaced chip place_of) (are.each place defect after before at) (record { known = one.defect_is.known; placed = one.placed }))

@@ -8,7 +8,8 @@ ghost use Rattle.ca_net.specs.declared.wave.Wave.{Wave};
 ghost use Rattle.ca_net.specs.Wave.{IsWave};
 ghost use Rattle.ca_net.specs.Circuit.{IsWellFormed};
 ghost use Rattle.ca_net.specs.State.{value_at};
-ghost use Rattle.ca_flat.specs.Chip.{outputs_at};
+ghost use Rattle.ca_flat.specs.Chip.{cell_at, outputs_at};
+ghost use Rattle.ca_sweep.specs.code.Asked.{IsAsked, AreAsked, AreNowhereAt};
 ghost use Rattle.ca_sweep.specs.code.Rows.{AreRows};
 ghost use Rattle.ca_sweep.specs.code.Coded.{IsSeenCoded};
 ghost use Rattle.ca_sweep.specs.code.Hand.{IsCodedAt, IsHand, IsTakenAt};
@@ -19,6 +20,7 @@ ghost use Rattle.ca_view.specs.Linked.{IsPlaced, IsPlacedDefect, place_in};
 ghost use Rattle.ca_view.specs.Places.{cell_number};
 ghost use Rattle.ca_sweep.specs.Seen.{IsForChip, lasts_in};
 ghost use Rattle.ca_sweep.specs.Found.{IsFound, IsNextFound, IsUndetectedAt};
+ghost use Rattle.ca_sweep.specs.Spans.{AreOfInstance, AreOfCell};
 ghost use Rattle.ca_places.specs.PlaceSet.{Has};
 ghost use Rattle.ca_sweep.specs.code.Faulty.{AreFaulty, AreWavesAt, AreFlipsOf};
 
@@ -30,7 +32,7 @@ use crate::hand::Hand;
 use crate::lanes::{Lanes, NO_LANE, NoLanes};
 use crate::rows::Rows;
 use crate::seen::{Flips, Seen};
-use crate::spans::DefectSpans;
+use crate::spans::{DefectSpans, SpanFound};
 use crate::sweep::Sweep;
 use ca_base::NoMemory;
 use ca_flat::ChipDefect;
@@ -230,29 +232,25 @@ impl<'a> Finder<'a> {
     pub(crate) fn next_in<V: NetWaves, L: Lanes>(
         &mut self,
         waves: &V,
-        defects: &DefectSpans,
+        defects: &DefectSpans<'_>,
         places: &PlaceSet,
         from: usize,
         lanes: &L,
         lane: usize,
     ) -> Option<usize>
-        requires chip { (V.seen waves.now).chip ≡ self.old.chip }
-        requires defects { All (IsPlacedDefect self.old.chip (place_in self.old.places)) defects.now }
-        requires few { length defects.now < 2 ^ 32 }
-        requires within { (place : ℕ) → Has places.now place → place < length defects.now }
-        requires lasts { AreLastsOf self.old.chip (V.seen waves.now).pair (value_at self.old.lasts) }
-        requires waves { AreNetWaves self.old.chip None (V.seen waves.now).pair self.old.waves }
-        requires good_is { IsWellFormed (flat self.old.chip None) }
-        requires faulty_are { All (λ defect. IsWellFormed (flat self.old.chip (Some defect))) defects.now }
+        requires asked { AreAsked (V.seen waves.now) defects.now self.old }
+        requires few { length defects.now.list < 2 ^ 32 }
+        requires within { (place : ℕ) → Has places.now place → place < length defects.now.list }
         requires lanes { IsLanedFor self.old.chip self.old.places (L.laned lanes.now) }
         requires lane { lane < 64 → IsAtLane (L.laned lanes.now) lane self.old.lasts }
 
-        ensures next { IsNextFound self.old.chip defects.now (V.seen waves.now).pair places.now from result }
+        ensures next { IsNextFound self.old.chip defects.now.list (V.seen waves.now).pair places.now from
+            result }
         ensures kept { self.new ≡ self.old }
     {
         let mut at = from;
         'places: while let Some(place) = places.next(at) {
-            let end = self.pass(waves, defects, place, lanes, lane);
+            let end = self.pass(waves, defects, places, place, lanes, lane);
             if end == place {
                 return Some(place);
             }
@@ -261,29 +259,26 @@ impl<'a> Finder<'a> {
         None
     }
 
-    // A place before which, from this one on, all defects are found to be detected nowhere by the pair: in a
-    // lane those of one instance, or by what the cell gives the one here, or none.
+    // A place before which, from this one of the set on, the pair is found to detect no defect at a place of
+    // the set: in a lane none of one instance, or by what the cell gives those of the instance here or the
+    // one here, or none.
     fn pass<V: NetWaves, L: Lanes>(
         &mut self,
         waves: &V,
-        defects: &DefectSpans,
+        defects: &DefectSpans<'_>,
+        places: &PlaceSet,
         place: usize,
         lanes: &L,
         lane: usize,
     ) -> usize
-        requires place { place < length defects.now }
-        requires chip { (V.seen waves.now).chip ≡ self.old.chip }
-        requires defects { All (IsPlacedDefect self.old.chip (place_in self.old.places)) defects.now }
-        requires lasts { AreLastsOf self.old.chip (V.seen waves.now).pair (value_at self.old.lasts) }
-        requires waves { AreNetWaves self.old.chip None (V.seen waves.now).pair self.old.waves }
-        requires good_is { IsWellFormed (flat self.old.chip None) }
-        requires faulty_are { All (λ defect. IsWellFormed (flat self.old.chip (Some defect))) defects.now }
+        requires place { place < length defects.now.list }
+        requires asked { AreAsked (V.seen waves.now) defects.now self.old }
         requires lanes { IsLanedFor self.old.chip self.old.places (L.laned lanes.now) }
         requires lane { lane < 64 → IsAtLane (L.laned lanes.now) lane self.old.lasts }
 
         ensures onward { place ≤ result }
-        ensures passed { (k : ℕ) → place ≤ k → k < result
-            → IsUndetectedAt self.old.chip defects.now (V.seen waves.now).pair k }
+        ensures passed { (k : ℕ) → place ≤ k → k < result → Has places.now k
+            → IsUndetectedAt self.old.chip defects.now.list (V.seen waves.now).pair k }
         ensures kept { self.new ≡ self.old }
     {
         self.chip.linked();
@@ -293,10 +288,91 @@ impl<'a> Finder<'a> {
         if is_unseen(lanes, lane, span.instance) {
             return span.end;
         }
+        if self.takes(span) {
+            return self.pass_taken(waves, defects, places, span, place);
+        }
         if is_nowhere(self.find(waves, defects.get(place), place)) {
             return place + 1;
         }
         place
+    }
+
+    // The first place of the set from this one on whose defect isn't found to be detected nowhere, or the end
+    // of a span that is whole.
+    fn pass_taken<V: NetWaves>(
+        &mut self,
+        waves: &V,
+        defects: &DefectSpans<'_>,
+        places: &PlaceSet,
+        span: SpanFound,
+        place: usize,
+    ) -> usize
+        requires place { span.start ≤ place }
+        requires past { place < span.end }
+        requires within { span.end ≤ length defects.now.list }
+        requires span { AreOfInstance defects.now.list span.start span.end span.instance }
+        requires whole { AreOfCell (cell_at self.old.chip span.instance) defects.now.list span.start
+            span.end }
+        requires asked { AreAsked (V.seen waves.now) defects.now self.old }
+
+        ensures onward { place ≤ result }
+        ensures passed { (k : ℕ) → place ≤ k → k < result → Has places.now k
+            → IsUndetectedAt self.old.chip defects.now.list (V.seen waves.now).pair k }
+        ensures kept { self.new ≡ self.old }
+    {
+        let mut at = place;
+        'places: while let Some(next) = places.next(at) {
+            if next >= span.end {
+                return span.end;
+            }
+            if !self.is_nowhere_at(waves, span.instance, next - span.start) {
+                return next;
+            }
+            at = next + 1;
+        }
+        span.end
+    }
+
+    // Whether the defect at a place of the list of an instance's cell is found to be detected nowhere, where
+    // that instance is in hand.
+    fn is_nowhere_at<V: NetWaves>(&mut self, waves: &V, u: usize, at: usize) -> bool
+        requires placed { IsPlaced self.old.chip (place_in self.old.places) u }
+        requires asked { IsAsked (V.seen waves.now) self.old }
+        ensures nowhere { IsTrue result → AreNowhereAt (V.seen waves.now).pair u at self.old }
+        ensures kept { self.new ≡ self.old }
+    {
+        swept_are_flipped();
+        detected_is_filled_in();
+        detected_is_flipped();
+        self.chip.linked();
+        if !self.hand.has(u) {
+            return false;
+        }
+        match self.rows.code(self.hand.slot, at) {
+            Some(code) => is_nowhere(self.find_coded(u, code)),
+            None => false,
+        }
+    }
+
+    // Takes the instance of a span in hand if it isn't, the span is whole, and the instance is clear. Answers
+    // whether it is in hand.
+    fn takes(&mut self, span: SpanFound) -> bool
+        requires { IsPlaced self.old.chip (place_in self.old.places) span.instance }
+        ensures whole { IsTrue result → IsTrue span.is_whole }
+        ensures kept { self.new ≡ self.old }
+    {
+        if !span.is_whole {
+            return false;
+        }
+        take(
+            self.chip,
+            &self.sweep,
+            &mut self.faulty,
+            &mut self.rows,
+            &self.waves,
+            &mut self.hand,
+            span.instance,
+        )
     }
 
     // The same, where what the cell gives with the defect isn't in a row.
@@ -343,7 +419,7 @@ impl FlipFinder for Finder<'_> {
     fn next<V: NetWaves>(
         &mut self,
         waves: &V,
-        defects: &DefectSpans,
+        defects: &DefectSpans<'_>,
         places: &PlaceSet,
         from: usize,
     ) -> Option<usize> {

@@ -56,25 +56,26 @@ pub trait FlipFinder {
     fn next<V: NetWaves>(
         &mut self,
         waves: &V,
-        defects: &DefectSpans,
+        defects: &DefectSpans<'_>,
         places: &PlaceSet,
         from: usize,
     ) -> Option<usize>
         requires chip { (V.seen waves.now).chip ≡ (loaded self.old).chip }
+        requires of { defects.now.chip ≡ (loaded self.old).chip }
         requires defects { All (IsPlacedDefect (loaded self.old).chip (place_in (loaded self.old).places))
-            defects.now }
-        requires few { length defects.now < 2 ^ 32 }
-        requires within { (place : ℕ) → Has places.now place → place < length defects.now }
+            defects.now.list }
+        requires few { length defects.now.list < 2 ^ 32 }
+        requires within { (place : ℕ) → Has places.now place → place < length defects.now.list }
         requires lasts { AreLastsOf (loaded self.old).chip (V.seen waves.now).pair
             (value_at (loaded self.old).lasts) }
         requires waves { AreNetWaves (loaded self.old).chip None (V.seen waves.now).pair
             (loaded self.old).waves }
         requires good_is { IsWellFormed (flat (loaded self.old).chip None) }
         requires faulty_are { All (λ defect. IsWellFormed (flat (loaded self.old).chip (Some defect)))
-            defects.now }
+            defects.now.list }
 
-        ensures next { IsNextFound (loaded self.old).chip defects.now (V.seen waves.now).pair places.now from
-            result }
+        ensures next { IsNextFound (loaded self.old).chip defects.now.list (V.seen waves.now).pair places.now
+            from result }
         ensures kept { loaded self.new ≡ loaded self.old };
 
     /// Keeps the last values of a pair's bits in a lane, if there is such a lane.

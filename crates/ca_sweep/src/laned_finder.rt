@@ -61,7 +61,7 @@ impl FlipFinder for LanedFinder<'_> {
     fn next<V: NetWaves>(
         &mut self,
         waves: &V,
-        defects: &DefectSpans,
+        defects: &DefectSpans<'_>,
         places: &PlaceSet,
         from: usize,
     ) -> Option<usize> {

@@ -174,8 +174,8 @@ fn place_of(list: &DefectList, defect: Defect, hint: usize) -> Option<usize>
     None
 }
 
-// Whether the defects are one.
-fn is_same(one: Defect, other: Defect) -> bool
+/// Whether the defects are one.
+pub(crate) fn is_same(one: Defect, other: Defect) -> bool
     ensures { IsTrue result → one ≡ other }
 {
     one == other
@@ -249,8 +249,8 @@ fn digit_of(value: Trit) -> u8
     }
 }
 
-// The defects of the cells, by their numbers.
-fn lists_of(alloc: Global, chip: &View<'_>) -> Result<Vec<DefectList>, NoMemory>
+/// The defects of the cells, by their numbers.
+pub(crate) fn lists_of(alloc: Global, chip: &View<'_>) -> Result<Vec<DefectList>, NoMemory>
     ensures { IfOk result (λ lists. AreLists chip.now.core (place_in chip.now.ranks)
         (cell_number chip.now.chip) lists.items) }
 {

@@ -1,6 +1,6 @@
 -- What only proofs of code cite: values of nets in 64 lanes, where each lane is a sweep of its own.
-use Rattle.std.specs.Prelude.{ℕ, zero, suc, ◌+◌, ◌*◌, ◌^◌, ◌==◌, ◌≡◌, ◌<◌, ◌≤◌, Bool, true, false, List, length, Option}
-use Rattle.std.specs.Prelude.{◌≢◌, ◌&&◌, not, slice_index, slice_index_or}
+use Rattle.std.specs.Prelude.{ℕ, zero, suc, ◌+◌, ◌*◌, ◌^◌, ◌==◌, ◌≡◌, ◌<◌, ◌≤◌, Bool, true, false, List}
+use Rattle.std.specs.Prelude.{length, Option, ◌≢◌, ◌&&◌, not, slice_index, slice_index_or}
 use Rattle.ca_net.specs.declared.trit.Trit.{Trit}
 use Rattle.ca_net.specs.declared.wave.Wave.{Wave}
 use Rattle.ca_net.specs.State.{value_at}
@@ -99,7 +99,8 @@ ArePinnedMarked chip place_of marks =
     → slice_index_or marks (net_of chip u pin) false ≡ true
 
 -- What is kept for lanes: the first outputs of nets, the tables of the cells, the instances by their places,
--- a plane for each net, and the planes of flips, which are true where they were found for these planes of nets.
+-- a plane for each net, and the planes of flips, which are true where they were found for these planes of
+-- nets.
 pub record AreLanesKept (chip : Chip) (place_of number_of : ℕ → ℕ) (count : ℕ) (firsts : List ℕ)
     (tables : List (Option (List (List Wave)))) (is_static : Bool) (order : List (Option ℕ))
     (pinned : List Bool) (ones : List ℕ) (values : LaneValues) (masks seen : List ℕ) (is_found : Bool)

@@ -20,14 +20,14 @@ reserve-requires-2-clause-judged g c =
 pub invariant_of-result : goal.invariant_of-result
 invariant_of-result g c =
     let view = c.args.view.now in
-    let same = c.in_ok-defects.ensures {u = tt} in
+    let same = (c.in_ok-defects.ensures {u = tt}).list in
     let as_many = ap (λ (list : List ChipDefect). length list) same in
     bench_begins view.core view.ranks (cell_number view.chip) c.in_ok-judge.judge _ c.in_ok-defects.defects view.core.outputs
     (c.in_ok-judge.ensures {u = tt}) c.linked.ensures.linked
     (core_can_be_judged view c.viewed.ensures.wired c.flat_is_well_formed.ensures
     (subst (λ (chip : linked.LinkedChip). (given : Option ChipDefect) → IsFew (core_of chip) given) c.chip.ensures (c.in_ok-judge_size.ensures {u = tt}))
     c.viewed.ensures.is_view)
-    c.requires.rows (subst (All (IsPlacedDefect view.core (place_in view.ranks))) (sym same) c.requires.placed)
+    c.requires.rows (c.in_ok-defects.ensures {u = tt}).chip (subst (All (IsPlacedDefect view.core (place_in view.ranks))) (sym same) c.requires.placed)
     (let count = c.len.ensures in let few = c.if-len.false in omega arith) refl
     (let count = c.output_count.ensures in let few = c.if-output_count.false in omega arith)
 
@@ -35,5 +35,5 @@ pub returns-clause-few : goal.returns-clause-few
 returns-clause-few g c =
     let count = c.len.ensures in
     let few = c.if-len.false in
-    let as_many = ap (λ (list : List ChipDefect). length list) (c.in_ok-defects.ensures {u = tt}) in
+    let as_many = ap (λ (list : List ChipDefect). length list) ((c.in_ok-defects.ensures {u = tt}).list) in
     omega arith

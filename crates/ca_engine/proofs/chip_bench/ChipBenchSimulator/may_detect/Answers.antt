@@ -10,9 +10,9 @@ use Rattle.ca_engine.proofs.chip_bench.ChipBenchSimulator.may_detect.Goals as go
 pub returns-clause-undetected : goal.returns-clause-undetected
 returns-clause-undetected g c defect at denied =
     let inside = c.self.inside in
-    let at_inside : slice_get inside.defects c.args.place ≡ Some defect =
+    let at_inside : slice_get inside.defects.list c.args.place ≡ Some defect =
     subst (λ (bench : Benched). IsDefectAt (task_in bench) c.args.place defect) (sym c.self.view_is) at in
-    let same = same_entry inside.defects c.args.place c.get.result defect c.get.ensures at_inside in
+    let same = same_entry inside.defects.list c.args.place c.get.result defect c.get.ensures at_inside in
     subst (λ (bench : Benched). IsShown bench.chip defect bench.bits → ⊥) c.self.view_is
     (subst (λ d. IsShown inside.judge.seen.chip d inside.judge.seen.pair → ⊥) same
     (c.may_show.ensures.not_shown denied))
@@ -20,9 +20,9 @@ returns-clause-undetected g c defect at denied =
 pub returns-clause-allowed : goal.returns-clause-allowed
 returns-clause-allowed g c defect at granted =
     let inside = c.self.inside in
-    let at_inside : slice_get inside.defects c.args.place ≡ Some defect =
+    let at_inside : slice_get inside.defects.list c.args.place ≡ Some defect =
     subst (λ (bench : Benched). IsDefectAt (task_in bench) c.args.place defect) (sym c.self.view_is) at in
-    let same = same_entry inside.defects c.args.place c.get.result defect c.get.ensures at_inside in
+    let same = same_entry inside.defects.list c.args.place c.get.result defect c.get.ensures at_inside in
     subst (λ (bench : Benched). IsAllowedByRows bench.chip defect bench.bits) c.self.view_is
     (subst (λ d. IsAllowedByRows inside.judge.seen.chip d inside.judge.seen.pair) same
     (c.may_show.ensures.allowed granted))

@@ -10,8 +10,7 @@ use Rattle.ca_sweep.specs.Seen.{Loaded}
 use Rattle.ca_sweep.specs.Found.{IsFound}
 use Rattle.ca_sweep.specs.code.Coded.{IsSeenCoded}
 use Rattle.ca_sweep.specs.code.Hand.{IsCodedAt}
-use Rattle.ca_sweep.proofs.FoundLemmas.{good_lasts}
-use Rattle.ca_sweep.proofs.CodedLemmas.{coded_found}
+use Rattle.ca_sweep.proofs.CodedLemmas.{code_is_found}
 use Rattle.ca_sweep.proofs.finder.Finder.find.Goals as goal
 
 pub find_computed-requires-clause-lasts : goal.find_computed-requires-clause-lasts
@@ -37,12 +36,11 @@ returns-in-Some-clause-found g c =
     (c.code_of.ensures.kept ∙ sym c.self.view_is) c.find_coded.ensures.found) in
     let at = subst (λ chip. IsCodedAt chip c.args.self.now.waves c.args.defect c.in-Some.code) own c.in-Some.ensures.code in
     subst (λ chip. IsFound chip c.args.defect (g.V.NetWaves.seen c.args.waves.now).pair c.find_coded.result) (sym own)
-    (coded_found c.swept_are_flipped.ensures c.detected_is_filled_in.ensures c.detected_is_flipped.ensures core rank c.args.defect pair at.pins (value_at c.self.inside.sweep.lasts) code c.find_coded.result
+    (code_is_found c.swept_are_flipped.ensures c.detected_is_filled_in.ensures c.detected_is_flipped.ensures core rank c.args.defect pair waves
+    (value_at c.self.inside.sweep.lasts) code c.find_coded.result
     (record {
       chip_is = is_chip;
       defect_is = defect_is;
       good_is = good_is;
       faulty_is = subst (λ chip. IsWellFormed (flat chip (Some c.args.defect))) own c.requires.faulty_is;
-    })
-    (good_lasts core rank pair c.args.defect.instance waves at.pins (value_at c.self.inside.sweep.lasts) is_chip defect_is.known net_waves at.pins_are lasts)
-    at.coded seen)
+    }) net_waves lasts at seen)

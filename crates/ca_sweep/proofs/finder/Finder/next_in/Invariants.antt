@@ -8,8 +8,8 @@ invariant-places g l = record {
   kept : l.self ≡ l.fn.self;
   onward : l.from ≤ l.at;
   none : (place : ℕ) → l.from ≤ place → place < l.at → Has l.places place
-      → IsUndetectedAt l.fn.self.chip l.defects (g.V.NetWaves.seen l.waves).pair place;
+      → IsUndetectedAt l.fn.self.chip l.defects.list (g.V.NetWaves.seen l.waves).pair place;
 }
 
 abbrev pub decreases-places : goal.decreases-places
-decreases-places g l = length l.defects - l.at
+decreases-places g l = length l.defects.list - l.at

@@ -1,9 +1,17 @@
 use Rattle.std.proofs.Common.{subst, sym}
-use Rattle.ca_net.specs.State.{value_at}
-use Rattle.ca_flips.specs.Flips.{AreLastsOf}
-use Rattle.ca_sweep.specs.Seen.{Loaded}
+use Rattle.ca_sweep.specs.code.Asked.{AreAsked}
 use Rattle.ca_sweep.proofs.laned_finder.LanedFinderFlipFinder.next.Goals as goal
 
-pub next_in-requires-clause-lasts : goal.next_in-requires-clause-lasts
-next_in-requires-clause-lasts g c =
-    subst (λ (s : Loaded). AreLastsOf s.chip (g.V.NetWaves.seen c.args.waves.now).pair (value_at s.lasts)) (sym c.self.view_is) c.requires.lasts
+pub next_in-requires-clause-asked : goal.next_in-requires-clause-asked
+next_in-requires-clause-asked g c =
+    subst (AreAsked (g.V.NetWaves.seen c.args.waves.now) c.args.defects.now) (sym c.self.view_is) (record {
+      pair = record {
+        chip_is = c.requires.chip;
+        lasts_are = c.requires.lasts;
+        waves_are = c.requires.waves;
+        good_is = c.requires.good_is;
+      };
+      chip_is = c.requires.of;
+      placed = c.requires.defects;
+      faulty_are = c.requires.faulty_are;
+    })
