@@ -17,7 +17,8 @@ use Rattle.ca_view.specs.Linked.{IsLinked, IsPlaced}
 use Rattle.ca_sweep.specs.declared.seen.Flips.{Flips}
 use Rattle.ca_sweep.specs.Seen.{is_flipped, flipped_if}
 use Rattle.ca_sweep.specs.code.Faulty.{code_of}
-use Rattle.ca_sweep.specs.code.Lanes.{AreKept, ArePinnedMarked, ArePinsMarked, AreSeenFrom, AreThreePut, IsUnseen, goods_in}
+use Rattle.ca_sweep.specs.code.Pinned.{AreKept, ArePinnedMarked, ArePinsMarked}
+use Rattle.ca_sweep.specs.code.Lanes.{AreSeenFrom, AreThreePut, IsUnseen, goods_in}
 use Rattle.ca_sweep.specs.code.Segments.{IsCutAt, IsSweptFrom}
 use Rattle.ca_sweep.specs.Seen.{AreSameAt, AreUnseen, IsClear, trits_in}
 use Rattle.ca_sweep.specs.code.Kept.{AreAllStatic}

@@ -5,6 +5,7 @@ pub mod Cells
 pub mod Changes
 pub mod Held
 pub mod Firsts
+pub mod Pinned
 pub mod Kept
 pub mod Faulty
 pub mod Segments

@@ -11,6 +11,7 @@ ghost use Rattle.ca_sweep.specs.code.Kept.{AreDefinitePins, IsPassing, AreReader
 ghost use Rattle.ca_sweep.specs.code.Kept.{AreMarks};
 
 use crate::cells::Tables;
+use crate::pinned::are_all_definite;
 use ca_net::{State, Trit};
 use ca_view::View;
 
@@ -119,50 +120,8 @@ pub(crate) fn are_all_static(chip: &View<'_>, tables: &Tables) -> bool
 
 ghost use Rattle.ca_flat.specs.Chip.{cell_at};
 ghost use Rattle.ca_flips.specs.Static.{IsStatic};
-ghost use Rattle.ca_sweep.specs.code.Kept.{AreAllDefinite, AreAllStatic, ArePinsDefinite};
-
-// Whether the values at all pins of an instance are definite.
-fn are_pins_definite(chip: &View<'_>, lasts: &State, w: usize) -> bool
-    requires placed { IsPlaced chip.now.core (place_in chip.now.ranks) w }
-    requires nets { length lasts.now ≡ length chip.now.core.nets }
-    ensures { IsTrue result → ArePinsDefinite chip.now.core (value_at lasts.now) w }
-{
-    chip.linked();
-    for pin in 0..chip.inputs_at(w) + chip.outputs_at(w) {
-        if lasts.get(chip.pin_net(w, pin)) == Trit::X {
-            return false;
-        }
-    }
-    true
-}
-
-// Whether they are at those of an instance, if it has a place.
-fn is_definite_at(chip: &View<'_>, lasts: &State, u: usize) -> bool
-    requires known { u < count_of chip.now.core }
-    requires nets { length lasts.now ≡ length chip.now.core.nets }
-    ensures { IsTrue result → IsPlaced chip.now.core (place_in chip.now.ranks) u
-        → ArePinsDefinite chip.now.core (value_at lasts.now) u }
-{
-    chip.linked();
-    if chip.rank(u) == 0 {
-        return true;
-    }
-    are_pins_definite(chip, lasts, u)
-}
-
-// Whether they are at those of all instances with a place.
-fn are_all_definite(chip: &View<'_>, lasts: &State) -> bool
-    requires { length lasts.now ≡ length chip.now.core.nets }
-    ensures { IsTrue result → AreAllDefinite chip.now.core (place_in chip.now.ranks) (value_at lasts.now) }
-{
-    chip.linked();
-    for u in 0..chip.instances() {
-        if !is_definite_at(chip, lasts, u) {
-            return false;
-        }
-    }
-    true
-}
+ghost use Rattle.ca_sweep.specs.code.Kept.{AreAllStatic};
+ghost use Rattle.ca_sweep.specs.code.Pinned.{ArePinnedMarked};
 
 // The instances with a place are marked.
 fn mark_placed(chip: &View<'_>, marks: &mut Vec<bool>)
@@ -182,6 +141,7 @@ pub(crate) fn find_clear(
     tables: &Tables,
     is_static: bool,
     order: &[Option<usize>],
+    pinned: &[bool],
     lasts: &State,
     clear: &mut Vec<bool>,
     passing: &mut Vec<bool>,
@@ -190,6 +150,8 @@ pub(crate) fn find_clear(
     requires tables { AreTables chip.now.core (place_in chip.now.ranks) (cell_number chip.now.chip)
         tables.now.items }
     requires order { IsOrder chip.now.core (place_in chip.now.ranks) order.now }
+    requires pinned { ArePinnedMarked chip.now.core (place_in chip.now.ranks) pinned.now }
+    requires pinned_room { length pinned.now ≡ length chip.now.core.nets }
     requires nets { length lasts.now ≡ length chip.now.core.nets }
     requires clear_room { length clear.old.items ≡ count_of chip.now.core }
     requires passing_room { length passing.old.items ≡ count_of chip.now.core }
@@ -202,7 +164,7 @@ pub(crate) fn find_clear(
     chip.linked();
     unmark(clear);
     unmark(passing);
-    if is_static && are_all_definite(chip, lasts) {
+    if is_static && are_all_definite(chip, pinned, lasts) {
         mark_placed(chip, clear);
         return;
     }

@@ -10,7 +10,7 @@ ghost use Rattle.ca_net.specs.Circuit.{IsWellFormed};
 ghost use Rattle.ca_net.specs.State.{value_at};
 ghost use Rattle.ca_flat.specs.Chip.{cell_at, outputs_at};
 ghost use Rattle.ca_sweep.specs.code.Asked.{IsAsked, AreAsked, AreNowhereAt};
-ghost use Rattle.ca_sweep.specs.code.Rows.{AreRows};
+ghost use Rattle.ca_sweep.specs.code.Rows.{AreGoodsAt, AreRows};
 ghost use Rattle.ca_sweep.specs.code.Coded.{IsSeenCoded};
 ghost use Rattle.ca_sweep.specs.code.Hand.{IsCodedAt, IsHand, IsTakenAt};
 ghost use Rattle.ca_flat.specs.Flat.{flat};
@@ -24,7 +24,7 @@ ghost use Rattle.ca_sweep.specs.Spans.{AreOfInstance, AreOfCell};
 ghost use Rattle.ca_places.specs.PlaceSet.{Has};
 ghost use Rattle.ca_sweep.specs.code.Faulty.{AreFaulty, AreWavesAt, AreFlipsOf};
 
-use crate::codes::{flips_of_code, goods_at, is_known};
+use crate::codes::{Goods, flips_of_code, goods_at, is_known};
 use crate::faulty::Faulty;
 use crate::firsts::are_opposite;
 use crate::flip_finder::FlipFinder;
@@ -194,7 +194,11 @@ impl<'a> Finder<'a> {
         if let Some(seen) = self.hand.get(u, code) {
             return seen;
         }
-        let seen = see_coded(self.chip, &mut self.sweep, u, code);
+        let goods = match self.hand.goods(u) {
+            Some(goods) => goods,
+            None => goods_at(self.chip, &self.sweep, u),
+        };
+        let seen = see_coded(self.chip, &mut self.sweep, u, goods, code);
         self.hand.put(u, code, seen);
         seen
     }
@@ -473,23 +477,24 @@ fn take(
     match pin_waves(chip, waves, u) {
         Some(pins) => {
             let slot = rows.find(chip, faulty, u, pins);
-            hand.take(u, chip.number(u), slot);
+            hand.take(u, chip.number(u), slot, goods_at(chip, sweep, u));
             true
         }
         None => false,
     }
 }
 
-// What is found of a defect of an instance that ends with what a code says.
-fn see_coded(chip: &View<'_>, sweep: &mut Sweep<'_>, u: usize, code: u8) -> Seen
+// What is found of a defect of an instance, with these good last values at its output pins, that ends with
+// what a code says.
+fn see_coded(chip: &View<'_>, sweep: &mut Sweep<'_>, u: usize, goods: Goods, code: u8) -> Seen
     requires placed { IsPlaced chip.now.core (place_in chip.now.ranks) u }
     requires chip { sweep.old.chip ≡ chip.now.core }
     requires places { sweep.old.places ≡ chip.now.ranks }
+    requires goods { AreGoodsAt chip.now.core (value_at sweep.old.lasts) u goods }
     ensures found { IsSeenCoded chip.now.core (value_at sweep.old.lasts) u code result }
     ensures kept { sweep.new ≡ sweep.old }
 {
     chip.linked();
-    let goods = goods_at(chip, sweep, u);
     let outputs = chip.cell(u).outputs();
     let flips = flips_of_code(goods, code);
     let seen = sweep.see(u, flips);

@@ -40,6 +40,7 @@ fn see(
     tables: &Tables,
     firsts: &[usize],
     count: usize,
+    wanted: &[bool],
     goods: &[u64],
     values: &mut LaneValues,
     masks: &mut Vec<u64>,
@@ -53,6 +54,7 @@ fn see(
     requires all_static { AreAllStatic chip.now.core (place_in chip.now.ranks) }
     requires firsts { AreFirsts chip.now.core.outputs (length chip.now.core.nets) firsts.now }
     requires count { count ≡ length chip.now.core.outputs }
+    requires wanted { length wanted.now ≡ count_of chip.now.core }
     requires nets { length goods.now ≡ length chip.now.core.nets }
     requires rest { (lane : ℕ) → lane < 64 → IsAtRest chip.now.core (trits_in goods.now lane)
         (values_in values.old lane) }
@@ -67,7 +69,7 @@ fn see(
     ensures masks { length masks.new.items ≡ 64 }
 {
     chip.linked();
-    let halt = sweep_lanes(chip, tables, goods, values, masks, u, flips);
+    let halt = sweep_lanes(chip, tables, wanted, goods, values, masks, u, flips);
     let here = opposite_lanes(chip, firsts, count, goods, values, u);
     values.restore(chip, goods, u);
     match halt {
@@ -100,6 +102,7 @@ fn find_at(
     tables: &Tables,
     firsts: &[usize],
     count: usize,
+    wanted: &[bool],
     goods: &[u64],
     values: &mut LaneValues,
     masks: &mut Vec<u64>,
@@ -112,6 +115,7 @@ fn find_at(
     requires all_static { AreAllStatic chip.now.core (place_in chip.now.ranks) }
     requires firsts { AreFirsts chip.now.core.outputs (length chip.now.core.nets) firsts.now }
     requires count { count ≡ length chip.now.core.outputs }
+    requires wanted { length wanted.now ≡ count_of chip.now.core }
     requires nets { length goods.now ≡ length chip.now.core.nets }
     requires rest { (lane : ℕ) → lane < 64 → IsAtRest chip.now.core (trits_in goods.now lane)
         (values_in values.old lane) }
@@ -128,7 +132,7 @@ fn find_at(
     chip.linked();
     let only = flips_of(true, false);
     let first = see(
-        chip, tables, firsts, count, goods, values, masks, seen, u, only,
+        chip, tables, firsts, count, wanted, goods, values, masks, seen, u, only,
     );
     if chip.outputs_at(u) <= 1 {
         put_three(seen, u, first, 0, first);
@@ -136,11 +140,11 @@ fn find_at(
     }
     let only = flips_of(false, true);
     let second = see(
-        chip, tables, firsts, count, goods, values, masks, seen, u, only,
+        chip, tables, firsts, count, wanted, goods, values, masks, seen, u, only,
     );
     let two = flips_of(true, true);
     let two = see(
-        chip, tables, firsts, count, goods, values, masks, seen, u, two,
+        chip, tables, firsts, count, wanted, goods, values, masks, seen, u, two,
     );
     put_three(seen, u, first, second, two);
 }
@@ -158,13 +162,57 @@ fn put_three(seen: &mut Vec<u64>, u: usize, first: u64, second: u64, two: u64)
 
 ghost use Rattle.ca_sweep.specs.code.Lanes.{AreThreePut};
 
-/// Finds it for all instances with a place.
+// Finds it for an instance, if it is wanted: else its flips count as seen in all lanes.
+fn find_wanted(
+    chip: &View<'_>,
+    tables: &Tables,
+    firsts: &[usize],
+    count: usize,
+    wanted: &[bool],
+    goods: &[u64],
+    values: &mut LaneValues,
+    masks: &mut Vec<u64>,
+    seen: &mut Vec<u64>,
+    u: usize,
+)
+    requires placed { IsPlaced chip.now.core (place_in chip.now.ranks) u }
+    requires tables { AreTables chip.now.core (place_in chip.now.ranks) (cell_number chip.now.chip)
+        tables.now.items }
+    requires all_static { AreAllStatic chip.now.core (place_in chip.now.ranks) }
+    requires firsts { AreFirsts chip.now.core.outputs (length chip.now.core.nets) firsts.now }
+    requires count { count ≡ length chip.now.core.outputs }
+    requires wanted { length wanted.now ≡ count_of chip.now.core }
+    requires nets { length goods.now ≡ length chip.now.core.nets }
+    requires rest { (lane : ℕ) → lane < 64 → IsAtRest chip.now.core (trits_in goods.now lane)
+        (values_in values.old lane) }
+    requires masks { length masks.old.items ≡ 64 }
+    requires seen { AreSeenFrom chip.now.core (place_in chip.now.ranks) goods.now
+        (place_in chip.now.ranks u + 1) seen.old.items }
+
+    ensures seen { AreSeenFrom chip.now.core (place_in chip.now.ranks) goods.now
+        (place_in chip.now.ranks u) seen.new.items }
+    ensures rest { (lane : ℕ) → lane < 64 → IsAtRest chip.now.core (trits_in goods.now lane)
+        (values_in values.new lane) }
+    ensures masks { length masks.new.items ≡ 64 }
+{
+    chip.linked();
+    if wanted[u] {
+        find_at(
+            chip, tables, firsts, count, wanted, goods, values, masks, seen, u,
+        );
+    } else {
+        put_three(seen, u, ALL_LANES, ALL_LANES, ALL_LANES);
+    }
+}
+
+/// Finds it for all instances with a place that are wanted. Flips of the others count as seen in all lanes.
 pub(crate) fn find_lanes(
     chip: &View<'_>,
     tables: &Tables,
     firsts: &[usize],
     count: usize,
     order: &[Option<usize>],
+    wanted: &[bool],
     goods: &[u64],
     values: &mut LaneValues,
     masks: &mut Vec<u64>,
@@ -175,6 +223,7 @@ pub(crate) fn find_lanes(
     requires all_static { AreAllStatic chip.now.core (place_in chip.now.ranks) }
     requires firsts { AreFirsts chip.now.core.outputs (length chip.now.core.nets) firsts.now }
     requires count { count ≡ length chip.now.core.outputs }
+    requires wanted { length wanted.now ≡ count_of chip.now.core }
     requires nets { length goods.now ≡ length chip.now.core.nets }
     requires rest { (lane : ℕ) → lane < 64 → IsAtRest chip.now.core (trits_in goods.now lane)
         (values_in values.old lane) }
@@ -191,7 +240,9 @@ pub(crate) fn find_lanes(
     let places = order.len();
     for before in 0..places {
         if let Some(u) = order[places - 1 - before] {
-            find_at(chip, tables, firsts, count, goods, values, masks, seen, u);
+            find_wanted(
+                chip, tables, firsts, count, wanted, goods, values, masks, seen, u,
+            );
         }
     }
 }

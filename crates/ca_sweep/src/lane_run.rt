@@ -1,10 +1,11 @@
 //! One sweep in 64 lanes at once.
 
-ghost use Rattle.std.specs.Prelude.{ℕ, ◌≡◌, ◌<◌, length, false};
+ghost use Rattle.std.specs.Prelude.{ℕ, ◌+◌, ◌^◌, ◌≡◌, ◌<◌, length, false, None, IsTrue};
 ghost use Rattle.ca_net.specs.State.{value_at};
 ghost use Rattle.ca_planes.specs.Plane.{has_lane};
-ghost use Rattle.ca_flat.specs.Chip.{cell_at, output_net, outputs_at};
+ghost use Rattle.ca_flat.specs.Chip.{cell_at, count_of, output_net, outputs_at};
 ghost use Rattle.ca_flat.specs.Codes.{bit_trit};
+ghost use Rattle.ca_places.specs.PlaceSet.{IsNext};
 ghost use Rattle.ca_view.specs.Linked.{IsPlaced, place_in};
 ghost use Rattle.ca_view.specs.Places.{cell_number};
 ghost use Rattle.ca_static.specs.LastTable.{IsLastTable};
@@ -19,6 +20,7 @@ ghost use Rattle.ca_sweep.specs.code.Segments.{AreFlippedAt, IsFirstNumber, IsHa
 use crate::cells::Tables;
 use crate::lane_values::{LaneFlips, LaneValues};
 use crate::run::is_last;
+use ca_places::PlaceSet;
 use ca_planes::{either, except};
 use ca_static::LastTable;
 use ca_view::View;
@@ -94,11 +96,20 @@ fn flips_at(chip: &View<'_>, goods: &[u64], ones: &[u64], w: usize) -> LaneFlips
     }
 }
 
+// Whether a sweep is cut at a place: its instance is wanted, and no place after it is due.
+fn is_cut(due: &PlaceSet, place: usize, is_wanted: bool) -> bool
+    requires { place < 2 ^ 33 }
+    ensures { IsTrue result → IsNext due.now (place + 1) None }
+{
+    is_wanted && is_last(due, place)
+}
+
 /// Finds the values of the nets where some output pins of an instance are flipped, up to an instance that is
-/// the only one due, or to the end. Its time is that of what it evaluates.
+/// wanted and the only one due, or to the end. Its time is that of what it evaluates.
 pub(crate) fn sweep_lanes(
     chip: &View<'_>,
     tables: &Tables,
+    wanted: &[bool],
     goods: &[u64],
     values: &mut LaneValues,
     masks: &mut Vec<u64>,
@@ -109,6 +120,7 @@ pub(crate) fn sweep_lanes(
     requires tables { AreTables chip.now.core (place_in chip.now.ranks) (cell_number chip.now.chip)
         tables.now.items }
     requires all_static { AreAllStatic chip.now.core (place_in chip.now.ranks) }
+    requires wanted { length wanted.now ≡ count_of chip.now.core }
     requires nets { length goods.now ≡ length chip.now.core.nets }
     requires rest { (lane : ℕ) → lane < 64 → IsAtRest chip.now.core (trits_in goods.now lane)
         (values_in values.old lane) }
@@ -125,10 +137,10 @@ pub(crate) fn sweep_lanes(
     values.flip(chip, u, flips);
     let mut from = chip.rank(u) + 1;
     'places: while let Some(place) = values.due.next(from) {
-        let is_last = is_last(&values.due, place);
         let w = chip.order(place);
+        let is_cut = is_cut(&values.due, place, wanted[w]);
         values.evaluate(chip, table_at(chip, tables, w), masks, w);
-        if is_last {
+        if is_cut {
             return LaneHalt::Cut(LaneCut {
                 instance: w as u32,
                 flips: flips_at(chip, goods, &values.ones, w),

@@ -13,6 +13,7 @@ use crate::lane_find::find_lanes;
 use crate::lane_goods::{constant_planes, put_bits, settle_lanes};
 use crate::lane_values::LaneValues;
 use crate::lanes::Lanes;
+use crate::pinned::pinned_nets;
 use ca_base::NoMemory;
 use ca_net::{State, Trit};
 use ca_places::PlaceSet;
@@ -34,6 +35,8 @@ pub struct LaneSweep<'a> {
     is_static: bool,
     order: Vec<Option<usize>>,
     pinned: Vec<bool>,
+    // for which instances it is to be found
+    wanted: Vec<bool>,
     ones: Vec<u64>,
     values: LaneValues,
     masks: Vec<u64>,
@@ -58,8 +61,8 @@ impl<'a> Model for LaneSweep<'a> {
 
     ghost invariant = { λ lanes. AreLanesKept lanes.chip.now.core (place_in lanes.chip.now.ranks)
         (cell_number lanes.chip.now.chip) lanes.count lanes.firsts.items lanes.tables.items
-        lanes.is_static lanes.order.items lanes.pinned.items lanes.ones.items lanes.values
-        lanes.masks.items lanes.seen.items lanes.is_found };
+        lanes.is_static lanes.order.items lanes.pinned.items lanes.wanted.items lanes.ones.items
+        lanes.values lanes.masks.items lanes.seen.items lanes.is_found };
 }
 
 impl<'a> LaneSweep<'a> {
@@ -80,6 +83,7 @@ impl<'a> LaneSweep<'a> {
             is_static,
             order: order_of(alloc, chip)?,
             pinned: pinned_nets(alloc, chip)?,
+            wanted: vec![in alloc; true; chip.instances()]?,
             ones: constant_planes(alloc, chip)?,
             values: LaneValues {
                 ones: vec![in alloc; 0u64; chip.nets()]?,
@@ -89,6 +93,23 @@ impl<'a> LaneSweep<'a> {
             seen: vec![in alloc; 0u64; 4 * chip.instances()]?,
             is_found: false,
         })
+    }
+
+    /// From the next time on when it is found, it is found for the instances alone that are wanted after
+    /// this.
+    pub(crate) fn want_none(&mut self)
+        ensures { self.new ≡ self.old }
+    {
+        self.wanted.fill(false);
+    }
+
+    /// An instance is wanted.
+    pub(crate) fn want(&mut self, u: usize)
+        requires { IsPlaced self.old.chip (place_in self.old.places) u }
+        ensures { self.new ≡ self.old }
+    {
+        self.chip.linked();
+        self.wanted[u] = true;
     }
 }
 
@@ -122,6 +143,7 @@ impl Lanes for LaneSweep<'_> {
             &self.firsts,
             self.count,
             &self.order,
+            &self.wanted,
             &self.ones,
             &mut self.values,
             &mut self.masks,
@@ -163,11 +185,14 @@ fn agree(pinned: &[bool], ones: &[u64], lane: usize, lasts: &State) -> bool
 fn is_same(is_pinned: bool, bit: bool, value: Trit) -> bool
     ensures { IsTrue result → is_pinned ≡ true → bit_trit bit ≡ value }
 {
-    match value {
-        Trit::Zero => !is_pinned || !bit,
-        Trit::One => !is_pinned || bit,
-        Trit::X => !is_pinned,
-    }
+    !is_pinned || value == value_of(bit)
+}
+
+// The value of a bit.
+fn value_of(bit: bool) -> Trit
+    ensures { result ≡ bit_trit bit }
+{
+    if bit { Trit::One } else { Trit::Zero }
 }
 
 // Whether none of the planes of the three choices of an instance with a flip has a lane.
@@ -183,50 +208,6 @@ fn is_unset(seen: &[u64], u: usize, lane: usize) -> bool
     !has(any, lane)
 }
 
-// Whether an instance with a place has a pin on a net, for each net.
-fn pinned_nets(alloc: Global, chip: &View<'_>) -> Result<Vec<bool>, NoMemory>
-    ensures marked { IfOk result
-        (λ marks. ArePinnedMarked chip.now.core (place_in chip.now.ranks) marks.items) }
-    ensures room { IfOk result (λ marks. length marks.items ≡ length chip.now.core.nets) }
-{
-    chip.linked();
-    let mut marks = vec![in alloc; false; chip.nets()]?;
-    for u in 0..chip.instances() {
-        mark_pins(chip, u, &mut marks);
-    }
-    Ok(marks)
-}
-
-// Marks the nets on the pins of an instance, if it has a place.
-fn mark_pins(chip: &View<'_>, u: usize, marks: &mut Vec<bool>)
-    requires known { u < count_of chip.now.core }
-    requires room { length marks.old.items ≡ length chip.now.core.nets }
-    ensures marked { IsPlaced chip.now.core (place_in chip.now.ranks) u → ArePinsMarked chip.now.core u
-        (inputs_at chip.now.core u + outputs_at chip.now.core u) marks.new.items }
-    ensures kept { AreKept marks.old.items marks.new.items }
-    ensures room { length marks.new.items ≡ length chip.now.core.nets }
-{
-    chip.linked();
-    if chip.rank(u) == 0 {
-        return;
-    }
-    let pins = chip.inputs_at(u) + chip.outputs_at(u);
-    for pin in 0..pins {
-        mark_at(marks, chip.pin_net(u, pin));
-    }
-}
-
-// Marks a net.
-fn mark_at(marks: &mut Vec<bool>, net: usize)
-    requires { net < length marks.old.items }
-    ensures { marks.new.items ≡ slice_set marks.old.items net true }
-{
-    marks[net] = true;
-}
-
-ghost use Rattle.ca_flat.specs.Chip.{count_of, inputs_at, outputs_at};
-ghost use Rattle.std.specs.Prelude.{slice_set};
-ghost use Rattle.ca_sweep.specs.code.Lanes.{AreKept, ArePinnedMarked, ArePinsMarked};
 ghost use Rattle.ca_net.specs.declared.trit.Trit.{Trit};
 ghost use Rattle.ca_net.specs.declared.trit.Trit.TheVariants.{X};
 ghost use Rattle.ca_flat.specs.Codes.{bit_trit};

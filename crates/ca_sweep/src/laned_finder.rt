@@ -17,6 +17,8 @@ pub struct LanedFinder<'a> {
     finder: Finder<'a>,
     lanes: LaneSweep<'a>,
     lane: usize,
+    // whether the instances of the set that is asked for are wanted in lanes
+    is_gathered: bool,
 }
 
 impl<'a> Model for LanedFinder<'a> {
@@ -42,6 +44,7 @@ impl<'a> LanedFinder<'a> {
             finder,
             lanes,
             lane: NO_LANE,
+            is_gathered: false,
         }
     }
 }
@@ -65,6 +68,8 @@ impl FlipFinder for LanedFinder<'_> {
         places: &PlaceSet,
         from: usize,
     ) -> Option<usize> {
+        gather(&mut self.lanes, defects, places, self.is_gathered);
+        self.is_gathered = true;
         self.finder
             .next_in(waves, defects, places, from, &self.lanes, self.lane)
     }
@@ -74,6 +79,7 @@ impl FlipFinder for LanedFinder<'_> {
             return;
         }
         self.lane = NO_LANE;
+        self.is_gathered = false;
         self.lanes.set(lane, bits);
     }
 
@@ -88,6 +94,37 @@ impl FlipFinder for LanedFinder<'_> {
 
 ghost use Rattle.std.specs.Prelude.{◌≡◌, ◌<◌};
 ghost use Rattle.ca_sweep.specs.code.LanedFinder.{IsInLane};
+
+// The instances of the defects at the places of a set are wanted, and no others, if it wasn't done.
+fn gather(
+    lanes: &mut LaneSweep<'_>,
+    defects: &DefectSpans<'_>,
+    places: &PlaceSet,
+    is_gathered: bool,
+)
+    requires chip { defects.now.chip ≡ lanes.old.chip }
+    requires defects { All (IsPlacedDefect lanes.old.chip (place_in lanes.old.places)) defects.now.list }
+    requires within { (place : ℕ) → Has places.now place → place < length defects.now.list }
+    ensures { lanes.new ≡ lanes.old }
+{
+    if is_gathered {
+        return;
+    }
+    lanes.want_none();
+    let mut at = 0;
+    let mut near = 0;
+    'spans: while let Some(place) = places.next(at) {
+        let span = defects.span_at(place, near);
+        lanes.want(span.instance);
+        near = span.number;
+        at = span.end;
+    }
+}
+
+ghost use Rattle.std.specs.Prelude.{ℕ, length};
+ghost use Rattle.std.specs.List.{All};
+ghost use Rattle.ca_places.specs.PlaceSet.{Has};
+ghost use Rattle.ca_view.specs.Linked.{IsPlacedDefect, place_in};
 
 // The lane if it has the last values that the finder is loaded with, else none.
 fn lane_of(finder: &Finder<'_>, lanes: &LaneSweep<'_>, lane: usize) -> usize

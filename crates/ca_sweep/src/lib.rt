@@ -18,6 +18,7 @@ mod lane_sweep;
 mod lane_values;
 mod laned_finder;
 mod lanes;
+mod pinned;
 mod rows;
 mod run;
 mod seen;

@@ -50,6 +50,13 @@ pub struct Row {
     pub(crate) codes: Codes,
 }
 
+// A slot, and whether it has the row that was asked for.
+#[derive(Clone, Copy, Debug)]
+struct Slot {
+    slot: usize,
+    has_row: bool,
+}
+
 /// The defects of the cells, by their numbers, and slots, each empty or with a row.
 #[derive(Drop)]
 pub struct Rows {
@@ -83,19 +90,33 @@ impl Rows {
     }
 
     // The slot for a row: one of a few that has it, or the first of them that is empty, or else the first.
-    fn slot_of(&self, number: usize, pins: &[Wave]) -> usize
+    fn slot_of(&self, number: usize, pins: &[Wave]) -> Slot
         requires { 0 < length self.now.slots.items }
-        ensures { result < length self.now.slots.items }
+        ensures within { result.slot < length self.now.slots.items }
+        ensures row { IsTrue result.has_row → ForSome (slice_index_or self.now.slots.items result.slot None)
+            (IsRowFor number pins.now) }
     {
         let count = self.slots.len();
         let first = mix_of(number, pins) % count;
         for step in 0..WAYS {
             let slot = (first + step) % count;
-            if self.slots[slot].is_none() || self.is_there(slot, number, pins) {
-                return slot;
+            if self.is_there(slot, number, pins) {
+                return Slot {
+                    slot,
+                    has_row: true,
+                };
+            }
+            if self.slots[slot].is_none() {
+                return Slot {
+                    slot,
+                    has_row: false,
+                };
             }
         }
-        first
+        Slot {
+            slot: first,
+            has_row: false,
+        }
     }
 
     /// The slot with the row of an instance's cell for these waves of its input pins; the row is found if it
@@ -125,17 +146,17 @@ impl Rows {
     {
         chip.linked();
         let number = chip.number(u);
-        let slot = self.slot_of(number, pins.as_slice());
-        if self.is_there(slot, number, pins.as_slice()) {
-            return slot;
+        let found = self.slot_of(number, pins.as_slice());
+        if found.has_row {
+            return found.slot;
         }
         let codes = codes_of(chip, faulty, u, &self.lists[number], pins.as_slice());
-        self.slots[slot] = Some(Row {
+        self.slots[found.slot] = Some(Row {
             number,
             pins,
             codes,
         });
-        slot
+        found.slot
     }
 
     /// The place of a defect in the list of the cell with a number: it is looked for at this place first.

@@ -10,6 +10,7 @@ ghost use Rattle.ca_sweep.specs.code.Segments.{IsSegment, IsSweptFrom};
 use crate::cells::{Tables, order_of, tables_of};
 use crate::clear::{are_all_static, find_clear};
 use crate::firsts::{first_opposite, firsts_of};
+use crate::pinned::pinned_nets;
 use crate::run::{Halt, sweep};
 use crate::seen::{Flips, Seen};
 use crate::segments::{Segment, Segments};
@@ -31,6 +32,7 @@ pub struct Sweep<'a> {
     tables: Tables,
     is_static: bool,
     order: Vec<Option<usize>>,
+    pinned: Vec<bool>,
     lasts: State,
     clear: Vec<bool>,
     passing: Vec<bool>,
@@ -54,8 +56,8 @@ impl<'a> Model for Sweep<'a> {
 
     ghost invariant = { λ sweep. IsKept sweep.chip.now.core (place_in sweep.chip.now.ranks)
         (cell_number sweep.chip.now.chip) sweep.outputs.items sweep.firsts.items sweep.tables.items
-        sweep.is_static sweep.order.items sweep.lasts sweep.clear.items sweep.passing.items sweep.values
-        sweep.segments.slots.items };
+        sweep.is_static sweep.order.items sweep.pinned.items sweep.lasts sweep.clear.items
+        sweep.passing.items sweep.values sweep.segments.slots.items };
 }
 
 impl<'a> Sweep<'a> {
@@ -76,6 +78,7 @@ impl<'a> Sweep<'a> {
             tables,
             is_static,
             order: order_of(alloc, chip)?,
+            pinned: pinned_nets(alloc, chip)?,
             lasts: State::unknown(alloc, chip.nets())?,
             clear: vec![in alloc; false; chip.instances()]?,
             passing: vec![in alloc; false; chip.instances()]?,
@@ -93,12 +96,13 @@ impl<'a> Sweep<'a> {
     {
         waves.exact();
         load(waves, &mut self.lasts);
-        load(waves, &mut self.values.values);
+        copy(&self.lasts, &mut self.values.values);
         find_clear(
             self.chip,
             &self.tables,
             self.is_static,
             &self.order,
+            &self.pinned,
             &self.lasts,
             &mut self.clear,
             &mut self.passing,
@@ -241,6 +245,16 @@ fn load<V: NetWaves>(waves: &V, lasts: &mut State)
     waves.exact();
     for net in 0..lasts.len() {
         lasts.set(net, waves.good(net).last);
+    }
+}
+
+// Takes over values.
+fn copy(from: &State, into: &mut State)
+    requires { length into.old ≡ length from.now }
+    ensures { into.new ≡ from.now }
+{
+    for net in 0..into.len() {
+        into.set(net, from.get(net));
     }
 }
 

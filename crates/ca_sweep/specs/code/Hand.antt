@@ -12,11 +12,11 @@ use Rattle.ca_sweep.specs.declared.rows.Rows.{Rows}
 use Rattle.ca_sweep.specs.declared.seen.Seen.{Seen}
 use Rattle.ca_sweep.specs.Seen.{Swept}
 use Rattle.ca_sweep.specs.code.Faulty.{AreFaulty, AreWavesAt}
-use Rattle.ca_sweep.specs.code.Rows.{AreRows, IsCoded, IsRowOf}
+use Rattle.ca_sweep.specs.code.Rows.{AreGoodsAt, AreRows, IsCoded, IsRowOf}
 use Rattle.ca_sweep.specs.code.Coded.{IsSeenCoded}
 
--- the number is that of the cell of the instance in hand, the slot that for the waves of its input nets, and
--- the answers are true
+-- the number is that of the cell of the instance in hand, the slot that for the waves of its input nets, the
+-- ends are the good last values of its output nets, and the answers are true
 pub record IsTaken (chip : Chip) (number_of : ℕ → ℕ) (goods : ℕ → Trit) (waves : List Wave)
     (slots : List (Option Row)) (hand : Hand) : Type 0 where
   pub number_is : hand.number ≡ number_of hand.instance
@@ -24,6 +24,7 @@ pub record IsTaken (chip : Chip) (number_of : ℕ → ℕ) (goods : ℕ → Trit
   pub pins : List Wave
   pub pins_are : AreWavesAt chip waves hand.instance pins
   pub row : IsRowOf (cell_at chip hand.instance) pins (slice_index_or slots hand.slot None)
+  pub goods_are : AreGoodsAt chip goods hand.instance hand.goods
   pub answers : (code : ℕ) (seen : Seen) → slice_index_or hand.answers.items code None ≡ Some seen
       → IsSeenCoded chip goods hand.instance code seen
 

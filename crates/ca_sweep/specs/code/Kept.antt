@@ -15,6 +15,7 @@ use Rattle.ca_sweep.specs.code.Segments.{AreSegments}
 use Rattle.ca_sweep.specs.code.Cells.{AreTables, IsOrder}
 use Rattle.ca_sweep.specs.code.Firsts.{AreFirsts}
 use Rattle.ca_sweep.specs.code.Held.{IsAtRest}
+use Rattle.ca_sweep.specs.code.Pinned.{ArePinnedMarked}
 
 -- the values of the instance's input nets are definite
 abbrev pub AreDefinitePins : Chip → (ℕ → Trit) → ℕ → Type 0
@@ -60,11 +61,11 @@ pub record AreMarks (chip : Chip) (P : ℕ → Type 0) (marks : List Bool) : Typ
   pub each : (u : ℕ) → is_marked marks u ≡ true → P u
 
 -- The nets of the observed outputs, the first outputs of nets, the tables of the cells, the instances by
--- their places, a value for each net, which instances are clear, and parts of sweeps. Between two sweeps the
--- values are the good ones.
+-- their places, marks of the nets on pins, a value for each net, which instances are clear, and parts of
+-- sweeps. Between two sweeps the values are the good ones.
 pub record IsKept (chip : Chip) (place_of number_of : ℕ → ℕ) (outputs firsts : List ℕ)
     (tables : List (Option (List (List Wave)))) (is_static : Bool) (order : List (Option ℕ))
-    (lasts : List Trit) (clear passing : List Bool) (values : Values) (segments : List (Option Segment))
+    (pinned : List Bool) (lasts : List Trit) (clear passing : List Bool) (values : Values) (segments : List (Option Segment))
     : Type 0 where
   pub outputs_are : outputs ≡ chip.outputs
   pub few : length outputs < 2 ^ 32
@@ -72,6 +73,8 @@ pub record IsKept (chip : Chip) (place_of number_of : ℕ → ℕ) (outputs firs
   pub tables_are : AreTables chip place_of number_of tables
   pub all_static : is_static ≡ true → AreAllStatic chip place_of
   pub order_is : IsOrder chip place_of order
+  pub pinned_are : ArePinnedMarked chip place_of pinned
+  pub pinned_room : length pinned ≡ length chip.nets
   pub nets : length lasts ≡ length chip.nets
   pub clear_are : AreMarks chip (IsClear chip (value_at lasts)) clear
   pub passing_are : length passing ≡ count_of chip

@@ -1,11 +1,11 @@
 -- What only proofs of code cite: values of nets in 64 lanes, where each lane is a sweep of its own.
 use Rattle.std.specs.Prelude.{ℕ, zero, suc, ◌+◌, ◌*◌, ◌^◌, ◌==◌, ◌≡◌, ◌<◌, ◌≤◌, Bool, true, false, List}
-use Rattle.std.specs.Prelude.{length, Option, ◌≢◌, ◌&&◌, not, slice_index, slice_index_or}
+use Rattle.std.specs.Prelude.{length, Option, ◌≢◌, ◌&&◌, not, slice_index}
 use Rattle.ca_net.specs.declared.trit.Trit.{Trit}
 use Rattle.ca_net.specs.declared.wave.Wave.{Wave}
 use Rattle.ca_net.specs.State.{value_at}
 use Rattle.ca_planes.specs.Plane.{has_lane, lane_at}
-use Rattle.ca_flat.specs.Chip.{Chip, count_of, inputs_at, outputs_at, net_of}
+use Rattle.ca_flat.specs.Chip.{Chip, count_of}
 use Rattle.ca_places.specs.PlaceSet.{HoldsUpTo}
 use Rattle.ca_sweep.specs.declared.lane_run.LaneHalt.{LaneHalt}
 use Rattle.ca_sweep.specs.declared.lane_run.LaneHalt.TheVariants.{Done, Cut}
@@ -21,6 +21,7 @@ use Rattle.ca_sweep.specs.code.Cells.{AreTables, IsOrder}
 use Rattle.ca_sweep.specs.code.Changes.{IsDue}
 use Rattle.ca_sweep.specs.code.Firsts.{AreFirsts}
 use Rattle.ca_sweep.specs.code.Kept.{AreAllStatic}
+use Rattle.ca_sweep.specs.code.Pinned.{ArePinnedMarked}
 use Rattle.ca_sweep.specs.code.Faulty.{code_of}
 use Rattle.ca_sweep.specs.code.Segments.{IsSweptFrom}
 
@@ -92,18 +93,12 @@ pub record AreThreePut (u first second two : ℕ) (old new : List ℕ) : Type 0 
   pub rest : (place : ℕ) → place ≢ 4 * u + 1 → place ≢ 4 * u + 2 → place ≢ 4 * u + 3
       → slice_index new place ≡ slice_index old place
 
--- the nets on pins of instances with a place are marked
-abbrev pub ArePinnedMarked : Chip → (ℕ → ℕ) → List Bool → Type 0
-ArePinnedMarked chip place_of marks =
-    (u pin : ℕ) → IsPlaced chip place_of u → pin < inputs_at chip u + outputs_at chip u
-    → slice_index_or marks (net_of chip u pin) false ≡ true
-
 -- What is kept for lanes: the first outputs of nets, the tables of the cells, the instances by their places,
--- a plane for each net, and the planes of flips, which are true where they were found for these planes of
+-- which instances are wanted, a plane for each net, and the planes of flips, which are true where they were found for these planes of
 -- nets.
 pub record AreLanesKept (chip : Chip) (place_of number_of : ℕ → ℕ) (count : ℕ) (firsts : List ℕ)
     (tables : List (Option (List (List Wave)))) (is_static : Bool) (order : List (Option ℕ))
-    (pinned : List Bool) (ones : List ℕ) (values : LaneValues) (masks seen : List ℕ) (is_found : Bool)
+    (pinned wanted : List Bool) (ones : List ℕ) (values : LaneValues) (masks seen : List ℕ) (is_found : Bool)
     : Type 0 where
   pub count_is : count ≡ length chip.outputs
   pub firsts_are : AreFirsts chip.outputs (length chip.nets) firsts
@@ -112,6 +107,7 @@ pub record AreLanesKept (chip : Chip) (place_of number_of : ℕ → ℕ) (count 
   pub order_is : IsOrder chip place_of order
   pub pinned_are : ArePinnedMarked chip place_of pinned
   pub pinned_room : length pinned ≡ length chip.nets
+  pub wanted_room : length wanted ≡ count_of chip
   pub nets : length ones ≡ length chip.nets
   pub roomy : AreLanesRoomy chip values
   pub none : (place : ℕ) → ¬ (IsDue values.due place)
@@ -119,12 +115,3 @@ pub record AreLanesKept (chip : Chip) (place_of number_of : ℕ → ℕ) (count 
   pub room : length seen ≡ 4 * count_of chip
   pub static_found : is_found ≡ true → is_static ≡ true
   pub found : is_found ≡ true → AreSeenFrom chip place_of ones 0 seen
-
--- the nets on the first pins of an instance, this many, are marked
-abbrev pub ArePinsMarked : Chip → ℕ → ℕ → List Bool → Type 0
-ArePinsMarked chip u count marks =
-    (pin : ℕ) → pin < count → slice_index_or marks (net_of chip u pin) false ≡ true
-
--- what was marked is
-abbrev pub AreKept : List Bool → List Bool → Type 0
-AreKept old new = (net : ℕ) → slice_index_or old net false ≡ true → slice_index_or new net false ≡ true

@@ -17,11 +17,11 @@ loop-before-init c = record {
   masks = c.requires.masks;
 }
 
-pub find_at-requires-clause-placed : goal.find_at-requires-clause-placed
-find_at-requires-clause-placed c = (c.requires.order.only _ c.in-Some.u c.in-Some.is).0
+pub find_wanted-requires-clause-placed : goal.find_wanted-requires-clause-placed
+find_wanted-requires-clause-placed c = (c.requires.order.only _ c.in-Some.u c.in-Some.is).0
 
-pub find_at-requires-clause-seen : goal.find_at-requires-clause-seen
-find_at-requires-clause-seen c =
+pub find_wanted-requires-clause-seen : goal.find_wanted-requires-clause-seen
+find_wanted-requires-clause-seen c =
     let at = (c.requires.order.only _ c.in-Some.u c.in-Some.is).1 in
     let less = c.loop-before-test.true in
     subst (λ n. AreSeenFrom c.args.chip.now.core (place_in c.args.chip.now.ranks) c.args.goods.now n c.loop-before.seen.items)
@@ -38,10 +38,10 @@ loop-before-preserved c =
           let at = (c.requires.order.only _ w.in-Some.u w.in-Some.is).1 in
           record {
             seen = subst (λ (v : Vec ℕ Global). AreSeenFrom c.args.chip.now.core (place_in c.args.chip.now.ranks) c.args.goods.now (length c.args.order.now - (c.loop-before.before + 1)) v.items) (sym w.seen-is)
-                (subst (λ n. AreSeenFrom c.args.chip.now.core (place_in c.args.chip.now.ranks) c.args.goods.now n w.find_at.new.seen.items)
-                (let e : place_in c.args.chip.now.ranks w.in-Some.u ≡ length c.args.order.now - (c.loop-before.before + 1) = omega arith in e) w.find_at.ensures.seen);
-            rest = subst (λ (v : LaneValues). (lane : ℕ) → lane < 64 → IsAtRest c.args.chip.now.core (trits_in c.args.goods.now lane) (values_in v lane)) (sym w.values-is) w.find_at.ensures.rest;
-            masks = ap (λ (v : Vec ℕ Global). length v.items) w.masks-is ∙ w.find_at.ensures.masks;
+                (subst (λ n. AreSeenFrom c.args.chip.now.core (place_in c.args.chip.now.ranks) c.args.goods.now n w.find_wanted.new.seen.items)
+                (let e : place_in c.args.chip.now.ranks w.in-Some.u ≡ length c.args.order.now - (c.loop-before.before + 1) = omega arith in e) w.find_wanted.ensures.seen);
+            rest = subst (λ (v : LaneValues). (lane : ℕ) → lane < 64 → IsAtRest c.args.chip.now.core (trits_in c.args.goods.now lane) (values_in v lane)) (sym w.values-is) w.find_wanted.ensures.rest;
+            masks = ap (λ (v : Vec ℕ Global). length v.items) w.masks-is ∙ w.find_wanted.ensures.masks;
           }
       | in_default w ↦ record {
         seen = subst (λ (v : Vec ℕ Global). AreSeenFrom c.args.chip.now.core (place_in c.args.chip.now.ranks) c.args.goods.now (length c.args.order.now - (c.loop-before.before + 1)) v.items) (sym w.seen-is)

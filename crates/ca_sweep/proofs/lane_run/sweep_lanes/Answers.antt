@@ -37,8 +37,8 @@ places-init c =
       masks = c.requires.masks;
     }
 
-pub is_last-is_last-requires : goal.is_last-is_last-requires
-is_last-is_last-requires c =
+pub is_cut-is_cut-requires : goal.is_cut-is_cut-requires
+is_cut-is_cut-requires c =
     let found = (c.places.invariant.swept 0 (omega arith)).due c.in-Some.place c.in-Some.ensures.1 in
     let bound = c.linked.ensures.linked.within found.0 found.1.known in
     let few = c.linked.ensures.linked.few in
@@ -77,21 +77,21 @@ places-preserved c =
       masks = c.evaluate.ensures.masks;
     }
 
-pub returns-then-is_last-clause-swept : goal.returns-then-is_last-clause-swept
-returns-then-is_last-clause-swept c = λ lane within.
+pub returns-then-is_cut-clause-swept : goal.returns-then-is_cut-clause-swept
+returns-then-is_cut-clause-swept c = λ lane within.
     let core = c.args.chip.now.core in
     let place_of = place_in c.args.chip.now.ranks in (
       cut_made core place_of (cell_number c.args.chip.now.chip) c.linked.ensures.linked (goods_in c.args.goods.now lane)
           c.args.u (flips_in c.args.flips lane) c.requires.placed.known c.places.from c.in-Some.place c.order-w.result (values_in c.places.values lane) (values_in c.evaluate.new.self lane)
-          (c.places.invariant.swept lane within) c.in-Some.ensures (c.if-is_last.ensures refl)
+          (c.places.invariant.swept lane within) c.in-Some.ensures (c.if-is_cut.ensures refl)
           (record { instance = c.order-w.result; placed = c.order-w.ensures.placed; at = c.order-w.ensures.at; evaluated = c.evaluate.ensures.evaluated lane within })
           c.order-w.ensures.placed c.order-w.ensures.at,
       subst (λ list. AreFlippedAt core (goods_in c.args.goods.now lane) c.order-w.result (flips_in c.flips_at.result lane) (value_at (trits_in list lane)))
           c.deref.ensures.value (c.flips_at.ensures lane),
     )
 
-pub returns-then-is_last-clause-held : goal.returns-then-is_last-clause-held
-returns-then-is_last-clause-held c = λ lane within.
+pub returns-then-is_cut-clause-held : goal.returns-then-is_cut-clause-held
+returns-then-is_cut-clause-held c = λ lane within.
     let core = c.args.chip.now.core in
     let place_of = place_in c.args.chip.now.ranks in
     swept_held core place_of (cell_number c.args.chip.now.chip) c.linked.ensures.linked c.args.u c.requires.placed.known (goods_in c.args.goods.now lane) _

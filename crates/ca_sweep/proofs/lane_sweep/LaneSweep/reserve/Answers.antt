@@ -20,6 +20,7 @@ invariant_of-result c = record {
   order_is = c.in_ok-order_of.ensures;
   pinned_are = c.in_ok-pinned_nets.ensures.marked;
   pinned_room = c.in_ok-pinned_nets.ensures.room;
+  wanted_room = search rules;
   nets = search rules;
   roomy = record { nets = search rules; places = search rules };
   none = c.in_ok-reserve.ensures.none;

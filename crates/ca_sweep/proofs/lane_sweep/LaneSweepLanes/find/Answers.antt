@@ -16,11 +16,12 @@ invariant_of-self c =
       order_is = kept.order_is;
       pinned_are = kept.pinned_are;
       pinned_room = kept.pinned_room;
+      wanted_room = kept.wanted_room;
       nets = c.settle_lanes.ensures.nets;
       roomy = record { nets = sym (trits_count c.find_lanes.new.values.ones.items 0) ∙ rest.room.nets; places = rest.room.places };
       none = rest.none;
       masks_are = c.find_lanes.ensures.masks;
       room = c.find_lanes.ensures.seen.room;
       static_found = λ on. c.if-not-self.false;
-      found = λ on. subst (λ list. AreSeenFrom c.self.inside.chip.now.core (place_in c.self.inside.chip.now.ranks) list 0 c.find_lanes.new.seen.items) c.deref-5.ensures.value c.find_lanes.ensures.seen;
+      found = λ on. subst (λ list. AreSeenFrom c.self.inside.chip.now.core (place_in c.self.inside.chip.now.ranks) list 0 c.find_lanes.new.seen.items) c.deref-6.ensures.value c.find_lanes.ensures.seen;
     }

@@ -15,9 +15,9 @@ returns-clause-rows c =
     let number_of = cell_number c.args.chip.now.chip in
     record {
       lists = c.requires.rows.lists;
-      slots = All-set (HoldsRow core place_of number_of) c.args.self.now.slots.items c.slot_of-slot.result _
+      slots = All-set (HoldsRow core place_of number_of) c.args.self.now.slots.items c.slot_of-found.result.slot _
           (row_true core place_of number_of c.args.u _ c.linked.ensures.linked c.requires.placed c.number-number.ensures
-          (subst (λ list. AreCodes (cell_at core c.args.u) list c.codes_of-codes.result.items) c.as_slice-3.ensures.value c.codes_of-codes.ensures.codes))
+          (subst (λ list. AreCodes (cell_at core c.args.u) list c.codes_of-codes.result.items) c.as_slice-2.ensures.value c.codes_of-codes.ensures.codes))
           c.requires.rows.slots;
-      some = subst (λ n. 0 < n) (sym (length-set c.args.self.now.slots.items c.slot_of-slot.result _)) c.requires.rows.some;
+      some = subst (λ n. 0 < n) (sym (length-set c.args.self.now.slots.items c.slot_of-found.result.slot _)) c.requires.rows.some;
     }

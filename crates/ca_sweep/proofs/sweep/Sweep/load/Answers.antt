@@ -14,7 +14,7 @@ invariant_of-self g c =
     let nets : length c.load.new.lasts ≡ length c.self.inside.chip.now.core.nets =
     ap length c.load.ensures ∙ length-map (g.V.NetWaves.seen c.args.waves.now).good (λ (wave : Wave). wave.last) ∙ c.exact.ensures.whole.good
     ∙ ap (λ (chip : Chip). length chip.nets) (c.requires ∙ ap (λ (s : Swept). s.chip) (sym c.self.view_is)) in
-    let same : c.load-2.new.lasts ≡ c.load.new.lasts = c.load-2.ensures ∙ sym c.load.ensures in
+    let same : c.copy.new.into ≡ c.load.new.lasts = c.copy.ensures in
     record {
       outputs_are = kept.outputs_are;
       few = kept.few;
@@ -22,6 +22,8 @@ invariant_of-self g c =
       tables_are = kept.tables_are;
       all_static = kept.all_static;
       order_is = kept.order_is;
+      pinned_are = kept.pinned_are;
+      pinned_room = kept.pinned_room;
       nets = nets;
       clear_are = c.find_clear.ensures.clear;
       passing_are = c.find_clear.ensures.passing.room;

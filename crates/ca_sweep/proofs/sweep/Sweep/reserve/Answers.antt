@@ -23,6 +23,8 @@ invariant_of-result c = record {
   tables_are = c.in_ok-tables.ensures;
   all_static = c.are_all_static-is_static.ensures;
   order_is = c.in_ok-order_of.ensures;
+  pinned_are = c.in_ok-pinned_nets.ensures.marked;
+  pinned_room = c.in_ok-pinned_nets.ensures.room;
   nets = search rules;
   clear_are = marks_new c.args.chip.now.core (IsClear c.args.chip.now.core (value_at c.in_ok-unknown.field-0)) c.in_ok-vec.field-0.items c.instances.result
       c.instances.ensures (c.in_ok-vec.ensures.items_if_clones_equal (λ y same. same));

@@ -1,9 +1,9 @@
 use Rattle.std.proofs.Common.{◌≡◌, ◌<◌, arith, ap, subst, sym, ◌∙◌, length, true}
 use Rattle.std.proofs.lemmas.List.{length-set}
 use Rattle.ca_flat.specs.Chip.{inputs_at, outputs_at}
-use Rattle.ca_sweep.specs.code.Lanes.{AreKept}
+use Rattle.ca_sweep.specs.code.Pinned.{AreKept}
 use Rattle.ca_sweep.proofs.LaneFindLemmas.{mark_kept, pins_more}
-use Rattle.ca_sweep.proofs.lane_sweep.mark_pins.Goals as goal
+use Rattle.ca_sweep.proofs.pinned.mark_pins.Goals as goal
 
 pub loop-pin-preserved : goal.loop-pin-preserved
 loop-pin-preserved c =

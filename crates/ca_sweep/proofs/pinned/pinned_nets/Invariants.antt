@@ -1,8 +1,8 @@
 use Rattle.std.proofs.Common.{ℕ, ◌≡◌, ◌+◌, ◌<◌, length}
 use Rattle.ca_flat.specs.Chip.{inputs_at, outputs_at}
 use Rattle.ca_view.specs.Linked.{IsPlaced, place_in}
-use Rattle.ca_sweep.specs.code.Lanes.{ArePinsMarked}
-use Rattle.ca_sweep.proofs.lane_sweep.pinned_nets.Given as goal
+use Rattle.ca_sweep.specs.code.Pinned.{ArePinsMarked}
+use Rattle.ca_sweep.proofs.pinned.pinned_nets.Given as goal
 
 abbrev pub invariant-loop-u : goal.invariant-loop-u
 invariant-loop-u l = record {

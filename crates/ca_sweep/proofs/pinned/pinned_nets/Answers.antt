@@ -1,8 +1,8 @@
 use Rattle.std.proofs.Common.{◌+◌, arith, below_more}
 use Rattle.ca_flat.specs.Chip.{inputs_at, outputs_at, net_of}
 use Rattle.ca_view.specs.Linked.{IsPlaced, place_in}
-use Rattle.ca_sweep.specs.code.Lanes.{ArePinsMarked}
-use Rattle.ca_sweep.proofs.lane_sweep.pinned_nets.Goals as goal
+use Rattle.ca_sweep.specs.code.Pinned.{ArePinsMarked}
+use Rattle.ca_sweep.proofs.pinned.pinned_nets.Goals as goal
 
 pub loop-u-preserved : goal.loop-u-preserved
 loop-u-preserved c = record {

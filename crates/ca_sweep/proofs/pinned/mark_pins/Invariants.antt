@@ -1,6 +1,6 @@
 use Rattle.std.proofs.Common.{◌≡◌, length}
-use Rattle.ca_sweep.specs.code.Lanes.{AreKept, ArePinsMarked}
-use Rattle.ca_sweep.proofs.lane_sweep.mark_pins.Given as goal
+use Rattle.ca_sweep.specs.code.Pinned.{AreKept, ArePinsMarked}
+use Rattle.ca_sweep.proofs.pinned.mark_pins.Given as goal
 
 abbrev pub invariant-loop-pin : goal.invariant-loop-pin
 invariant-loop-pin l = record {
