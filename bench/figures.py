@@ -1,7 +1,7 @@
 #!/usr/bin/env python3
 """Measures what docs/FIGURES.md shows, and writes each table into that page.
 
-usage: bench/figures.py PROGRAM [matrices|commands|chips|made|certificates|diagnosis|bridges|large|hostile].. [--fuzz COUNT]
+usage: bench/figures.py PROGRAM [matrices|commands|chips|made|certificates|diagnosis|bridges|large|hostile|limits].. [--fuzz COUNT]
 
 PROGRAM is the built program. A table of the page is between a line `<!-- NAME -->` and the next blank line; the names are those above,
 all of them if none is said. The line `<!-- build -->` is followed by the commit and the size of the program. Run it on a quiet machine, with
@@ -153,6 +153,12 @@ def hostile(program, count):
     return table(rows)
 
 
+def limits(program):
+    rows = [["text", "what is said", "user seconds"]]
+    rows += [[text, f"`{said}`", used] for text, said, used in records([f"{HERE}/limits.py", program])[1:]]
+    return table(rows)
+
+
 def main(words):
     program, rest, count, names = os.path.abspath(words[0]), list(words[1:]), 5000, []
     while rest:
@@ -162,7 +168,7 @@ def main(words):
         else:
             names.append(word)
     tables = {"matrices": matrices, "commands": commands, "chips": chips, "made": made, "certificates": certificates,
-              "diagnosis": diagnosis, "bridges": bridges, "large": large, "hostile": lambda it: hostile(it, count)}
+              "diagnosis": diagnosis, "bridges": bridges, "large": large, "hostile": lambda it: hostile(it, count), "limits": limits}
     commit = printed(["git", "-C", TOP, "log", "-1", "--format=%h", "--", "crates"]).strip()
     found = {"build": [f"The program is that of commit {commit}, {os.path.getsize(program):,} bytes."]}
     found.update({name: tables[name](program) for name in names or tables})

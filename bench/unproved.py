@@ -1,16 +1,13 @@
 #!/usr/bin/env python3
-"""Builds test generation as plain Rust, without contracts, to measure a change before it is proved.
+"""Builds the program as plain Rust, without contracts, to measure and try a change before it is proved.
 
-usage: bench/unproved.py FOLDER                               # writes a workspace there, and builds it with cargo
-       FOLDER/target/release/app CELLS NETLIST scan|- BUDGET REPORT [pairs]
-       FOLDER/target/release/app make NUMBER - BUDGET REPORT [pairs]
-       FOLDER/target/release/app CELLS NETLIST scan|- 0 - grade PAIRS
-       FOLDER/target/release/app CELLS NETLIST scan|- BUDGET - bridges [INSTANCE]
+usage: bench/unproved.py FOLDER                     # writes a workspace there, and builds it with cargo
+       FOLDER/target/release/cellaware WORD..       # the program, with all its commands; --progress shows nothing
 
-The crates below ca_engine, and what links a chip of its texts, lose their contracts, ghost items and models by plain
-text; bench/unproved has what they use of the toolchain's libraries, over Rust's. Counts, pairs and verdicts are those
-of the program; times are near to its own. With `scan` the scan cells are those of examples/scan.csv. Nothing here is
-proved, and no figure of docs/FIGURES.md is taken with it. It needs Rust's cargo, and no packages.
+The crates below cellaware lose their contracts, ghost items and models by plain text; bench/unproved has what they
+use of the toolchain's libraries, over Rust's, and the files and outputs of the system. Answers and files are those of
+the program; times are up to one and a half of its own. Nothing here is proved, and no figure of docs/FIGURES.md is
+taken with it. It needs Rust's cargo, and no packages.
 """
 import os
 import re
@@ -19,9 +16,8 @@ import subprocess
 import sys
 
 TOP = os.path.dirname(os.path.dirname(os.path.abspath(__file__)))
-ROOTS = ["ca_engine", "ca_bridges", "ca_link", "ca_spice", "ca_verilog", "ca_make"]
+ROOTS = ["ca_flow"]
 OUTSIDE = ["csv", "itoa", "indexmap", "arrayvec"]
-USED = "ca_base ca_lex ca_cell ca_net ca_spice ca_verilog ca_make ca_wiring ca_link ca_linked ca_view ca_defect ca_chip_defects ca_credit ca_generate ca_engine ca_pair ca_rows ca_guide ca_cluster ca_targets ca_bridges".split()
 
 
 def libraries():
@@ -56,8 +52,13 @@ def match_brace(s, i):
     raise Exception("brace")
 def strip(s):
     """A source file without what the prover alone reads."""
-    # drop comments first
-    s=re.sub(r'//[^\n]*','',s)
+    # drop comments first, and set literals aside
+    kept=[]
+    def aside(m):
+        if m.group(0).startswith('//'): return ''
+        kept.append(m.group(0))
+        return f'"@{len(kept)-1}@"'
+    s=re.sub(r"""//[^\n]*|b?"(?:[^"\\]|\\.|\\\n)*"|b?'(?:\\x[0-9a-fA-F]{2}|\\u\{[0-9a-fA-F]+\}|\\.|[^'\\])'""",aside,s)
     s=re.sub(r'#!?\[tactic\([^\n]*\)\]\n','\n',s)
     # multi-line tactic
     s=re.sub(r'#!?\[tactic\((?:[^()]|\([^()]*\))*\)\]','',s)
@@ -86,6 +87,13 @@ def strip(s):
         if not m: break
         e=match_brace(s,m.end()-1)
         s=s[:m.start()].rstrip(' ')+s[e:]
+    while True:
+        m=re.search(r'(?m)^\s*by\s*\{',s)
+        if not m: break
+        e=match_brace(s,m.end()-1)
+        while e<len(s) and s[e] in ' \n\t': e+=1
+        if e<len(s) and s[e] in ';,': e+=1
+        s=s[:m.start()]+"\n"+s[e:]
     # Drop
     def derive(m):
         names=[x.strip() for x in m.group(1).split(',')]
@@ -100,6 +108,7 @@ def strip(s):
     s=s.replace('use std::alloc::{AllocError, AllocFailed, Global};','use rstd::{AllocError, AllocFailed, Global};')
     s=s.replace('std::alloc::','rstd::')
     s=re.sub(r'\.(to_vec|to_ascii_uppercase|to_ascii_lowercase)\((self\.)?alloc\)',r'.\1_in(\2alloc)',s)
+    s=re.sub(r'"@(\d+)@"',lambda m:kept[int(m.group(1))],s)
     return s
 
 
@@ -135,11 +144,13 @@ def main(words):
     verdicts = f"{out}/ca_credit/src/verdicts.rs"
     text = open(verdicts).read().replace("None => unreachable!(),", "None => { static V: Verdict = Verdict::Unexposable; &V }")
     open(verdicts, "w").write(text)
+    for name in ("file_store", "std_sink"):
+        write(f"{out}/ca_store/src/{name}.rs", open(f"{TOP}/bench/unproved/{name}.rs").read())
+    write(f"{out}/cellaware/src/main.rs", open(f"{TOP}/bench/unproved/main.rs").read())
+    write(f"{out}/cellaware/Cargo.toml", manifest("cellaware", ["rstd", "ca_store", "ca_flow"]))
     write(f"{out}/rstd/src/lib.rs", open(f"{TOP}/bench/unproved/rstd.rs").read())
     write(f"{out}/rstd/Cargo.toml", manifest("rstd", []))
-    write(f"{out}/app/src/main.rs", open(f"{TOP}/bench/unproved/main.rs").read())
-    write(f"{out}/app/Cargo.toml", manifest("app", ["rstd", *USED]))
-    members = ", ".join(f'"{it}"' for it in [*crates, "rstd", "app"])
+    members = ", ".join(f'"{it}"' for it in [*crates, "rstd", "cellaware"])
     profile = '[profile.release]\nopt-level = 3\nlto = "thin"\npanic = "abort"\ndebug = 1\noverflow-checks = false\n'
     write(f"{out}/Cargo.toml", f'[workspace]\nresolver = "2"\nmembers = [{members}]\n{profile}')
     return subprocess.run(["cargo", "build", "--release", "--offline"], cwd=out).returncode

@@ -3,9 +3,10 @@
 pub struct Global;
 #[derive(Clone, Copy, Debug)]
 pub struct AllocError;
-#[derive(Debug)]
 pub struct AllocFailed<T>(pub T);
-impl<T> AllocFailed<T> { }
+impl<T> std::fmt::Debug for AllocFailed<T> {
+    fn fmt(&self, to: &mut std::fmt::Formatter<'_>) -> std::fmt::Result { to.write_str("AllocFailed") }
+}
 use std::ops::{Deref, DerefMut};
 #[derive(Debug, PartialEq, Eq, Hash, PartialOrd, Ord)]
 pub struct Vec<T>(pub std::vec::Vec<T>);
@@ -53,4 +54,6 @@ pub struct Box<T: ?Sized>(pub std::boxed::Box<T>);
 impl<T> Box<T> { pub fn new(_: Global, x: T) -> Result<Self, AllocFailed<T>> { Ok(Box(std::boxed::Box::new(x))) } }
 impl<T: ?Sized> Deref for Box<T> { type Target = T; fn deref(&self) -> &T { &self.0 } }
 impl<T: ?Sized> DerefMut for Box<T> { fn deref_mut(&mut self) -> &mut T { &mut self.0 } }
-pub mod prelude { pub use crate::{Vec, Box, rvec, ToVecIn, UpperIn}; }
+#[macro_export]
+macro_rules! prove { ($($said:tt)*) => {}; }
+pub mod prelude { pub use crate::{Vec, Box, rvec, prove, ToVecIn, UpperIn}; }
