@@ -1,5 +1,5 @@
 -- What a check asks of a pair.
-use Rattle.std.specs.Prelude.{ℕ, List, Option, None, Some}
+use Rattle.std.specs.Prelude.{ℕ, ◌≡◌, List, Option, None, Some}
 use Rattle.std.specs.List.{All}
 use Rattle.ca_base.specs.First.{IsFirst}
 use Rattle.ca_net.specs.declared.trit.Trit.{Trit}
@@ -12,6 +12,16 @@ use Rattle.ca_read_code.specs.Examined.{Examined}
 -- the same, aimed at the defect
 abbrev pub with_aim : Examined → ChipDefect → Examined
 with_aim examined defect = record examined { aim = Some defect }
+
+-- the chip stays, with the places of its instances
+pub record KeepsChip (old new : Examined) : Type 0 where
+  pub chip : new.chip ≡ old.chip
+  pub places : new.places ≡ old.places
+
+-- the chip and the bits stay
+pub record KeepsPair (old new : Examined) : Type 0 where
+  pub chip : KeepsChip old new
+  pub pair : new.pair ≡ old.pair
 
 -- the defect is one of the chip that can be aimed at
 abbrev pub IsTestable : Examined → ChipDefect → Type 0

@@ -1,5 +1,5 @@
 -- Words of the code: what its invariants and private contracts say. No public claim rests on them.
-pub mod Tested
 pub mod Found
-pub mod Looked
+pub mod Asked
+pub mod Sought
 pub mod Standing

@@ -7,8 +7,7 @@ ghost use Rattle.ca_claim.specs.Stands.{IsAnswer};
 ghost use Rattle.std.specs.Prelude.{None};
 ghost use Rattle.ca_flat.specs.Codes.{IsWholeBy, IsSpentBy};
 ghost use Rattle.ca_read_code.specs.ClaimedCode.{claim_rules};
-ghost use Rattle.ca_cert.specs.Tested.{IsTestable, AreTestable};
-ghost use Rattle.ca_cert.specs.code.Tested.{KeepsChip};
+ghost use Rattle.ca_cert.specs.Tested.{IsTestable, AreTestable, KeepsChip};
 ghost use Rattle.ca_cert.specs.code.Standing.{StandsBy};
 
 use crate::detection::{Detection, detections};

@@ -1,5 +1,5 @@
 -- Where the check of a chip answers yes, its claims are true.
-use Rattle.std.proofs.Common.{◌≡◌, ℕ, ◌<◌, List, length, Bool, Some, Ok, Err, Result, IfOk, sym, subst, slice_get, All}
+use Rattle.std.proofs.Common.{◌≡◌, ℕ, List, length, Bool, Some, Ok, Err, Result, IfOk, sym, subst, slice_get, All}
 use Rattle.std.proofs.lemmas.Option.{slice_get_within, get_or_from_slice_get}
 use Rattle.ca_base.specs.declared.no_memory.NoMemory.{NoMemory}
 use Rattle.ca_flat.specs.declared.chip_defect.ChipDefect.{ChipDefect}

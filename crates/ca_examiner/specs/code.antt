@@ -7,3 +7,4 @@ pub mod OpenNets
 pub mod PinRows
 pub mod Ends
 pub mod ChipExaminer
+pub mod FlipSim

@@ -1,29 +1,31 @@
 //! The examiner of codes over the simulator of a chip.
 
-ghost use Rattle.std.specs.Prelude.{◌≡◌, ◌<◌, ◌^◌, length, IfOk, None, Some};
-ghost use Rattle.ca_flat.specs.Chip.{Chip};
-ghost use Rattle.ca_view.specs.Linked.{IsPlacedDefect, place_in};
-ghost use Rattle.ca_sim.specs.Simulator.{Simulator, IsFresh, KeepsAim, KeepsPair};
-ghost use Rattle.ca_examiner.specs.ChipExaminer.{AreNetworks};
+ghost use Rattle.std.specs.Prelude.{◌≡◌, ◌<◌, ◌^◌, length, IfOk};
+ghost use Rattle.ca_sweep.specs.Seen.{IsForChip};
+ghost use Rattle.ca_examiner.specs.ChipExaminer.{AreNetworks, IsFreshExaminer};
 
+use crate::flip_sim::FlipSim;
 use crate::leave::{may_branch, may_go_on, may_leave};
 use crate::order::order_of;
 use crate::support::mark_leading;
-use ca_base::NoMemory;
+use ca_base::{List, NoMemory};
 use ca_flat::{ChipDefect, ExposableDefects};
-use ca_net::Wave;
 use ca_read_code::Examiner;
-use ca_sim::{Bits, NetWaves, Sim};
+use ca_sim::NetWaves;
+use ca_sweep::{DefectSpans, FlipFinder};
 use ca_view::View;
 use std::alloc::Global;
 use std::marker::Model;
 
-/// A simulator of a chip, and the marks of nets by which is seen what may stand at a partial pair.
+/// A simulator of a chip with a finder, the list of defects that was taken over, and the marks of nets by
+/// which is seen what may stand at a partial pair. It is for a finder of any type, so that what drops one has
+/// few parts to the prover.
 #[derive(Drop)]
-pub struct ChipExaminer<'a, R: ExposableDefects> {
-    pub(crate) sim: Sim<'a>,
+pub struct ChipExaminer<'a, R: ExposableDefects, F: FlipFinder + Drop> {
+    pub(crate) sim: FlipSim<'a, F>,
     pub(crate) chip: &'a View<'a>,
     pub(crate) rows: &'a R,
+    pub(crate) defects: DefectSpans<'a>,
     // the observed nets
     pub(crate) outputs: Vec<u32>,
     // the instance at each place of the order
@@ -36,42 +38,48 @@ pub struct ChipExaminer<'a, R: ExposableDefects> {
     pub(crate) defect: Option<ChipDefect>,
 }
 
-impl<'a, R: ExposableDefects> Model for ChipExaminer<'a, R> {
+impl<'a, R: ExposableDefects, F: FlipFinder + Drop> Model for ChipExaminer<'a, R, F> {
     ghost use Rattle.std.specs.Prelude.{◌≡◌};
     ghost use Rattle.ca_view.specs.Linked.{place_in};
-    ghost use Rattle.ca_sim.specs.Simulator.{Simulator};
-    ghost use Rattle.ca_examiner.specs.code.ChipExaminer.{IsChipExaminer};
+    ghost use Rattle.ca_examiner.specs.ChipExaminer.{Examining};
+    ghost use Rattle.ca_examiner.specs.code.ChipExaminer.{IsChipExaminer, IsListing};
 
-    ghost Value = { Simulator };
+    ghost Value = { Examining };
 
-    ghost view = { λ own. own.sim };
+    ghost view = { λ own. record { seen = own.sim.seen; listed = own.defects.list } };
 
     ghost invariant = { λ own. (own.sim.seen.chip ≡ own.chip.now.core)
         × (own.sim.seen.places ≡ own.chip.now.ranks)
         × IsChipExaminer (own.chip.now.core) (place_in (own.chip.now.ranks)) own.sim.seen.aim
         (R.chip own.rows.now) own.outputs.items own.order.items own.all_nets.items
-        own.open_nets.items own.marks.items own.leading.items own.defect };
+        own.open_nets.items own.marks.items own.leading.items own.defect
+        × IsListing (own.chip.now.core) (place_in (own.chip.now.ranks)) own.defects };
 }
 
-impl<'a, R: ExposableDefects> ChipExaminer<'a, R> {
-    /// An examiner of the chip, whose observed nets these are. No bit is set, and no defect is aimed at.
+impl<'a, R: ExposableDefects, F: FlipFinder + Drop> ChipExaminer<'a, R, F> {
+    /// An examiner of the chip, whose observed nets these are, with a finder of it. No bit is set, no defect
+    /// is aimed at, and the list of defects is empty.
     pub fn new(
         alloc: Global,
         chip: &'a View<'a>,
         rows: &'a R,
+        finder: F,
         outputs: Vec<u32>,
     ) -> Result<Self, NoMemory>
         requires networks { AreNetworks chip.now.core }
         requires rows { R.chip rows.now ≡ chip.now.core }
+        requires finder { IsForChip chip.now.core chip.now.ranks (F.loaded finder) }
         requires outputs { outputs.items ≡ chip.now.core.outputs }
         requires few { length outputs.items < 2 ^ 32 }
-        ensures { IfOk result (IsFresh chip.now.core chip.now.ranks) }
+        ensures { IfOk result (IsFreshExaminer chip.now.core chip.now.ranks) }
     {
         let nets = chip.nets();
+        let defects = DefectSpans::new(alloc, chip, List::new(alloc))?;
         Ok(ChipExaminer {
-            sim: Sim::reserve(alloc, chip)?,
+            sim: FlipSim::reserve(alloc, chip, finder)?,
             chip,
             rows,
+            defects,
             outputs,
             order: order_of(alloc, chip)?,
             all_nets: vec![in alloc; true; nets]?,
@@ -82,11 +90,11 @@ impl<'a, R: ExposableDefects> ChipExaminer<'a, R> {
         })
     }
 
-    /// Aims at a defect. The bits stay.
-    pub fn aim(&mut self, defect: ChipDefect)
+    /// Aims at a defect, and marks the nets that its code asks for. The bits stay.
+    pub(crate) fn aim_at(&mut self, defect: ChipDefect)
         requires { IsPlacedDefect self.old.seen.chip (place_in self.old.seen.places) defect }
         ensures aim { self.new.seen.aim ≡ Some defect }
-        ensures kept { KeepsPair self.old self.new }
+        ensures kept { KeepsBits self.old self.new }
     {
         mark_leading(
             &mut self.leading,
@@ -100,38 +108,13 @@ impl<'a, R: ExposableDefects> ChipExaminer<'a, R> {
         self.sim.aim(Some(defect));
         self.defect = Some(defect);
     }
-
-    /// Gives all bits their values.
-    pub fn load<B: Bits>(&mut self, bits: &B)
-        requires { length (B.bits bits.now) ≡ length self.old.seen.pair }
-        ensures pair { self.new.seen.pair ≡ B.bits bits.now }
-        ensures kept { KeepsAim self.old self.new }
-    {
-        self.sim.load(bits);
-    }
 }
 
-impl<R: ExposableDefects> NetWaves for ChipExaminer<'_, R> {
-    ghost seen = { λ examiner. examiner.seen };
+ghost use Rattle.std.specs.Prelude.{Some};
+ghost use Rattle.ca_view.specs.Linked.{IsPlacedDefect, place_in};
+ghost use Rattle.ca_examiner.specs.code.ChipExaminer.{KeepsBits};
 
-    fn good(&self, net: usize) -> Wave {
-        self.sim.good(net)
-    }
-
-    fn faulty(&self, net: usize) -> Wave {
-        self.sim.faulty(net)
-    }
-
-    fn bit(&self, bit: usize) -> Option<bool> {
-        self.sim.bit(bit)
-    }
-
-    fn exact(&self) {
-        self.sim.exact();
-    }
-}
-
-impl<R: ExposableDefects> Examiner for ChipExaminer<'_, R> {
+impl<R: ExposableDefects, F: FlipFinder + Drop> Examiner for ChipExaminer<'_, R, F> {
     ghost use Rattle.ca_examiner.specs.ChipExaminer.{examined_of};
 
     ghost examined = { λ examiner. examined_of examiner.seen };

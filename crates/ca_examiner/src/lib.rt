@@ -5,6 +5,7 @@ mod checking;
 mod chip_examiner;
 mod detect;
 mod detections;
+mod flip_sim;
 mod leave;
 mod marks;
 mod open_nets;

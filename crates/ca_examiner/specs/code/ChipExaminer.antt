@@ -8,11 +8,12 @@ use Rattle.ca_flat.specs.Chip.{Chip}
 use Rattle.ca_flat.specs.Chain.{IsSupportBit}
 use Rattle.ca_flat.specs.Codes.{MayBranch}
 use Rattle.ca_view.specs.Linked.{IsPlacedDefect}
+use Rattle.ca_sweep.specs.Spans.{Spanned}
 use Rattle.ca_sim.specs.Seen.{Seen}
 use Rattle.ca_examiner.specs.code.Order.{IsOrder}
 use Rattle.ca_examiner.specs.code.Sweep.{HasOpenChain}
 use Rattle.ca_examiner.specs.code.Support.{AreLeadingNets}
-use Rattle.ca_examiner.specs.ChipExaminer.{AreNetworks}
+use Rattle.ca_examiner.specs.ChipExaminer.{AreNetworks, Examining}
 
 -- what is seen is seen of the chip, and of the defect that is aimed at
 pub record IsSeenOf (chip : Chip) (place_of : ℕ → ℕ) (seen : Seen) (defect : ChipDefect) : Type 0 where
@@ -59,3 +60,16 @@ pub record IsChipExaminer (chip : Chip) (place_of : ℕ → ℕ) (aim : Option C
   pub marks_count : length marks ≡ length chip.nets
   pub aim_is : aim ≡ defect
   pub aimed : IsAimed chip place_of leading defect
+
+-- the list is of the chip's defects that can be aimed at, fewer than 2^32
+pub record IsListing (chip : Chip) (place_of : ℕ → ℕ) (defects : Spanned) : Type 0 where
+  pub chip_is : defects.chip ≡ chip
+  pub placed : All (IsPlacedDefect chip place_of) defects.list
+  pub few : length defects.list < 2 ^ 32
+
+-- the chip, the bits and the list stay
+pub record KeepsBits (old new : Examining) : Type 0 where
+  pub chip : new.seen.chip ≡ old.seen.chip
+  pub places : new.seen.places ≡ old.seen.places
+  pub pair : new.seen.pair ≡ old.seen.pair
+  pub listed : new.listed ≡ old.listed

@@ -2,7 +2,7 @@ use Rattle.std.proofs.Common.{◌<◌, length, None, ap, subst, arith}
 use Rattle.std.proofs.lemmas.Option.{slice_get-get_or}
 use Rattle.std.proofs.lemmas.List.{get_or_read}
 use Rattle.ca_cert.specs.code.Found.{AreFound}
-use Rattle.ca_cert.proofs.FoundLemmas.{keeps_on}
+use Rattle.ca_cert.proofs.SoughtLemmas.{keeps_on}
 use Rattle.ca_cert.proofs.CheckLemmas.{claim_falls, claim_more, read_of}
 use Rattle.ca_cert.proofs.checking.check.Goals as goal
 

@@ -3,7 +3,7 @@ use Rattle.ca_flat.specs.Chip.{Chip}
 use Rattle.ca_view.specs.Linked.{place_in}
 use Rattle.ca_claim.specs.Stands.{IsAnswer}
 use Rattle.ca_examiner.proofs.TrueLemmas.{yes_is_true}
-use Rattle.ca_examiner.proofs.checking.check_linked.Goals as goal
+use Rattle.ca_examiner.proofs.checking.check_by.Goals as goal
 
 pub returns-clause-proves : goal.returns-clause-proves
 returns-clause-proves g c =
