@@ -64,6 +64,8 @@ def contracts(lines):
 def ends_contract(line, indent, is_first):
     text = line.rstrip()
     is_clause = re.search(r"\b(requires|ensures)\b", text)
+    if is_first and text.endswith("{}"):
+        return True
     return text == indent + "{" or text.endswith(";") and text.count("{") == text.count("}") or text.endswith(" {") and not is_clause
 
 
