@@ -17,7 +17,8 @@ use Rattle.ca_sweep.specs.Seen.{IsClear, IsSeenFrom}
 -- the first values of the nets, whichever states have the good waves
 abbrev pub AreFirstsOf : Chip → List Trit → (ℕ → Trit) → Type 0
 AreFirstsOf chip pair values =
-    (good : FlatWaves chip None pair) (net : ℕ) → net < length chip.nets → (wave_of good net).first ≡ values net
+    (good : FlatWaves chip None pair) (net : ℕ) → net < length chip.nets
+    → (wave_of good net).first ≡ values net
 
 -- the bit of the number is set in the mask
 abbrev pub Has : ℕ → ℕ → Type 0

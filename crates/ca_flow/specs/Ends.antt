@@ -6,7 +6,8 @@ use Rattle.ca_load.specs.Files.{OfFile, ReportsStoreFault}
 use Rattle.ca_flow.specs.declared.finished.Done.{Done}
 use Rattle.ca_flow.specs.declared.finished.Done.TheVariants.{Respond, Pair, Defects, Matrix, Check, Flatten}
 use Rattle.ca_flow.specs.declared.finished.Done.TheVariants.{Simulate, Atpg, Replay, Grade}
-use Rattle.ca_flow.specs.declared.finished.Done.TheVariants.{Diagnose, Certify, Verify, Bridges, Make, Help, Version}
+use Rattle.ca_flow.specs.declared.finished.Done.TheVariants.{Diagnose, Certify, Verify, Bridges}
+use Rattle.ca_flow.specs.declared.finished.Done.TheVariants.{Make, Help, Version}
 use Rattle.ca_flow.specs.declared.finished.Finished.{Finished}
 use Rattle.ca_words.specs.Words.{cell_files, cell_word, vector_word, first_word, last_word, defect_word, dash}
 use Rattle.ca_words.specs.Words.{chip_files, instance_word, chip_defect_word, chip_first_word, chip_last_word}

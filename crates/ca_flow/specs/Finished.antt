@@ -20,7 +20,8 @@ use Rattle.ca_fault.specs.declared.fault.Fault.TheVariants.{StoreFailed, SinkFai
 use Rattle.ca_flow.specs.declared.finished.Done.{Done}
 use Rattle.ca_flow.specs.declared.finished.Done.TheVariants.{Respond, Pair, Defects, Matrix, Check, Flatten}
 use Rattle.ca_flow.specs.declared.finished.Done.TheVariants.{Simulate, Atpg, Replay, Grade}
-use Rattle.ca_flow.specs.declared.finished.Done.TheVariants.{Diagnose, Certify, Verify, Bridges, Make, Help, Version}
+use Rattle.ca_flow.specs.declared.finished.Done.TheVariants.{Diagnose, Certify, Verify, Bridges}
+use Rattle.ca_flow.specs.declared.finished.Done.TheVariants.{Make, Help, Version}
 use Rattle.ca_flow.specs.declared.finished.Finished.{Finished}
 use Rattle.ca_fault.specs.FaultLine.{status_of}
 use Rattle.ca_on_cell.specs.Lines.{line_of_pin, line_of_name, IsSummary}

@@ -3,7 +3,8 @@
 ghost use Rattle.std.specs.Prelude.{ℕ, ◌≡◌, ◌<◌, ◌≤◌, length};
 ghost use Rattle.std.specs.List.{All};
 ghost use Rattle.ca_net.specs.Circuit.{NamesWithin};
-ghost use Rattle.ca_levels.specs.code.Come.{Leads, Raises, RaisesSome, LeadsNoMore, AreClosed, IsRound, RaiseBoth};
+ghost use Rattle.ca_levels.specs.code.Come.{AreClosed, IsRound, Leads, LeadsNoMore};
+ghost use Rattle.ca_levels.specs.code.Come.{RaiseBoth, Raises, RaisesSome};
 
 use ca_net::Device;
 use ca_planes::{both, either, except};

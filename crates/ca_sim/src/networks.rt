@@ -26,10 +26,32 @@ impl Networks {
     ghost use Rattle.ca_view.specs.Linked.{IsAim, place_in};
     ghost use Rattle.ca_view.specs.Places.{cell_number};
     ghost use Rattle.ca_sim.specs.code.Cells.{AreCells};
-    ghost use Rattle.ca_sim.specs.code.Network.{CountsDue};
+    ghost use Rattle.ca_sim.specs.code.Network.{CountsDue, IsReady, IsUnderway};
     ghost use Rattle.ca_sim.specs.code.Networks.{AreUnderway, AreAtRest, AreReady, MakesReadersDue};
     ghost use Rattle.ca_sim.specs.code.Current.{AreUnset};
     ghost use Rattle.ca_flat.specs.Codes.{unset_pair};
+
+    // Gives a chip input two bits, and its net the wave of these in the good network alone.
+    fn feed(&mut self, chip: &View, input: usize, first: Trit, last: Trit)
+        requires input { input < length chip.now.core.inputs }
+        requires bits { length self.old.bits ≡ bit_count chip.now.core }
+        requires ready { IsReady chip.now.core (place_in chip.now.ranks) self.old.good }
+
+        ensures bits { self.new.bits ≡ slice_set (slice_set self.old.bits input first)
+            (length chip.now.core.inputs + input) last }
+        ensures count { length self.new.bits ≡ bit_count chip.now.core }
+        ensures ready { IsReady chip.now.core (place_in chip.now.ranks) self.new.good }
+        ensures good { IsUnderway chip.now.core (place_in chip.now.ranks) None self.old.bits self.old.good
+            → IsUnderway chip.now.core (place_in chip.now.ranks) None self.new.bits self.new.good }
+        ensures faulty { self.new.faulty ≡ self.old.faulty }
+        ensures due { MakesReadersDue chip.now.core (place_in chip.now.ranks) input first last
+            self.old self.new }
+    {
+        chip.linked();
+        self.bits.set(input, first);
+        self.bits.set(chip.input_count() + input, last);
+        self.good.feed(chip, input, &self.bits);
+    }
 
     /// Gives a chip input two bits.
     pub(crate) fn change(&mut self, chip: &View, input: usize, first: Trit, last: Trit)
@@ -46,27 +68,54 @@ impl Networks {
             self.old self.new }
     {
         chip.linked();
-        self.bits.set(input, first);
-        self.bits.set(chip.input_count() + input, last);
-        self.good.feed(chip, input, &self.bits);
+        self.feed(chip, input, first, last);
         self.faulty.feed(chip, input, &self.bits);
     }
 
-    /// Gives all chip inputs their bits.
-    pub(crate) fn load<B: Bits>(&mut self, chip: &View, bits: &B)
+    // Gives all chip inputs their bits in the good network.
+    fn feed_all<B: Bits>(&mut self, chip: &View, bits: &B)
         requires count { length (B.bits bits.now) ≡ bit_count chip.now.core }
-        requires ready { AreReady chip.now.core (place_in chip.now.ranks) self.old }
+        requires bits { length self.old.bits ≡ bit_count chip.now.core }
+        requires ready { IsReady chip.now.core (place_in chip.now.ranks) self.old.good }
 
         ensures bits { self.new.bits ≡ B.bits bits.now }
-        ensures underway { (aim : Option ChipDefect)
-            → AreUnderway chip.now.core (place_in chip.now.ranks) aim self.old
-            → AreUnderway chip.now.core (place_in chip.now.ranks) aim self.new }
+        ensures good { IsUnderway chip.now.core (place_in chip.now.ranks) None self.old.bits self.old.good
+            → IsUnderway chip.now.core (place_in chip.now.ranks) None self.new.bits self.new.good }
+        ensures faulty { self.new.faulty ≡ self.old.faulty }
     {
         chip.linked();
         let inputs = chip.input_count();
         for input in 0..inputs {
-            self.change(chip, input, bits.value(input), bits.value(inputs + input));
+            self.feed(chip, input, bits.value(input), bits.value(inputs + input));
         }
+    }
+
+    /// Gives all chip inputs their bits, and evaluates the instances that are due after that. The faulty
+    /// network takes over the waves of the good one, so that only what its defect changes is evaluated there.
+    pub(crate) fn load<B: Bits>(
+        &mut self,
+        chip: &View,
+        aim: Option<ChipDefect>,
+        bits: &B,
+        cells: &mut Cells,
+    )
+        requires aim { IsAim chip.now.core (place_in chip.now.ranks) aim }
+        requires count { length (B.bits bits.now) ≡ bit_count chip.now.core }
+        requires rest { AreAtRest chip.now.core (place_in chip.now.ranks) aim self.old }
+        requires cells { AreCells chip.now.core (place_in chip.now.ranks)
+            (cell_number chip.now.chip) cells.old }
+
+        ensures bits { self.new.bits ≡ B.bits bits.now }
+        ensures rest { AreAtRest chip.now.core (place_in chip.now.ranks) aim self.new }
+        ensures cells { AreCells chip.now.core (place_in chip.now.ranks)
+            (cell_number chip.now.chip) cells.new }
+    {
+        chip.linked();
+        self.feed_all(chip, bits);
+        self.good.settle(chip, None, None, cells);
+        self.faulty.waves.take_over(&self.good.waves);
+        self.faulty.turn(chip, aim);
+        self.faulty.settle(chip, aim, Some(&self.good), cells);
     }
 
     /// Unsets all bits. The waves of the good network without any are there, and the faulty one takes them

@@ -122,8 +122,7 @@ impl<'a> Sim<'a> {
         ensures kept { KeepsAim self.old self.new }
     {
         let chip = self.chip;
-        self.networks.load(chip, bits);
-        self.networks.settle(chip, self.aim, &mut self.cells);
+        self.networks.load(chip, self.aim, bits, &mut self.cells);
     }
 
     /// Unsets all bits.

@@ -117,7 +117,3 @@ AreUnseen chip goods u = (flips : Flips) → IsSeen chip goods u flips Nowhere
 -- the values of the nets in a lane: 1 where the plane of the net has the lane, else 0
 abbrev pub trits_in : List ℕ → ℕ → List Trit
 trits_in ones lane = map (λ (plane : ℕ). bit_trit (has_lane plane lane)) ones
-
--- a lane has these values at all nets with a pin
-abbrev pub IsAtLane : Laned → ℕ → List Trit → Type 0
-IsAtLane laned lane lasts = AreSameAt laned.pinned (value_at (trits_in laned.ones lane)) (value_at lasts)

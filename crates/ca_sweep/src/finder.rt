@@ -515,7 +515,8 @@ fn is_unseen<L: Lanes>(lanes: &L, lane: usize, u: usize) -> bool
 }
 
 ghost use Rattle.ca_net.specs.declared.trit.Trit.{Trit};
-ghost use Rattle.ca_sweep.specs.Seen.{AreUnseen, IsAtLane, IsLanedFor};
+ghost use Rattle.ca_sweep.specs.Seen.{AreUnseen, IsLanedFor};
+ghost use Rattle.ca_sweep.specs.code.LanedFinder.{IsAtLane};
 ghost use Rattle.std.specs.Prelude.{List};
 
 // Whether nothing is detected.

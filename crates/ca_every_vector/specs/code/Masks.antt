@@ -34,7 +34,8 @@ IsOverPins chip u values number count = (pin : ℕ) → pin < count
 -- the mask has all vectors below a number that are at or above the values
 abbrev pub HasAllBelow : Chip → ℕ → List Trit → ℕ → ℕ → Type 0
 HasAllBelow chip u values end mask =
-    (number : ℕ) → number < end → IsVectorOver chip u values (vector_of (inputs_at chip u) number) → Has mask number
+    (number : ℕ) → number < end → IsVectorOver chip u values (vector_of (inputs_at chip u) number)
+    → Has mask number
 
 -- of the instances before one the masks have all vectors at or above the values
 abbrev pub HaveAllOver : Chip → (ℕ → ℕ) → List Trit → ℕ → List ℕ → Type 0

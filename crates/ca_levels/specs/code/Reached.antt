@@ -49,7 +49,8 @@ pub record AreKept (count : ℕ) (own from old new : List ℕ) : Type 0 where
 
 -- the links are those of the devices that are stronger than k, and nothing more comes over them; there are
 -- none at first
-pub record IsSpreadTo (devices : List Device) (from : Block) (k : ℕ) (levels : Levels) (out : Block) : Type 0 where
+pub record IsSpreadTo (devices : List Device) (from : Block) (k : ℕ) (levels : Levels) (out : Block)
+    : Type 0 where
   pub potential : AreLinked (length devices) devices from Potential (k + 1)
       levels.potential.items
   pub definite : AreLinked (length devices) devices from Definite (k + 1)

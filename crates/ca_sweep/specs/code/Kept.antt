@@ -65,8 +65,8 @@ pub record AreMarks (chip : Chip) (P : ℕ → Type 0) (marks : List Bool) : Typ
 -- sweeps. Between two sweeps the values are the good ones.
 pub record IsKept (chip : Chip) (place_of number_of : ℕ → ℕ) (outputs firsts : List ℕ)
     (tables : List (Option (List (List Wave)))) (is_static : Bool) (order : List (Option ℕ))
-    (pinned : List Bool) (lasts : List Trit) (clear passing : List Bool) (values : Values) (segments : List (Option Segment))
-    : Type 0 where
+    (pinned : List Bool) (lasts : List Trit) (clear passing : List Bool) (values : Values)
+    (segments : List (Option Segment)) : Type 0 where
   pub outputs_are : outputs ≡ chip.outputs
   pub few : length outputs < 2 ^ 32
   pub firsts_are : AreFirsts outputs (length chip.nets) firsts

@@ -1,7 +1,12 @@
 -- What only proofs of code cite: a finder beside lanes.
 use Rattle.std.specs.Prelude.{ℕ, ◌<◌, List}
 use Rattle.ca_net.specs.declared.trit.Trit.{Trit}
-use Rattle.ca_sweep.specs.Seen.{IsAtLane, IsLanedFor, Laned, Loaded}
+use Rattle.ca_net.specs.State.{value_at}
+use Rattle.ca_sweep.specs.Seen.{AreSameAt, IsLanedFor, Laned, Loaded, trits_in}
+
+-- a lane has these values at all nets with a pin
+abbrev pub IsAtLane : Laned → ℕ → List Trit → Type 0
+IsAtLane laned lane lasts = AreSameAt laned.pinned (value_at (trits_in laned.ones lane)) (value_at lasts)
 
 -- the last values are those of a lane, if that is one
 abbrev pub IsInLane : Laned → ℕ → List Trit → Type 0

@@ -94,8 +94,8 @@ pub record AreThreePut (u first second two : ℕ) (old new : List ℕ) : Type 0 
       → slice_index new place ≡ slice_index old place
 
 -- What is kept for lanes: the first outputs of nets, the tables of the cells, the instances by their places,
--- which instances are wanted, a plane for each net, and the planes of flips, which are true where they were found for these planes of
--- nets.
+-- which instances are wanted, a plane for each net, and the planes of flips, which are true where they were
+-- found for these planes of nets.
 pub record AreLanesKept (chip : Chip) (place_of number_of : ℕ → ℕ) (count : ℕ) (firsts : List ℕ)
     (tables : List (Option (List (List Wave)))) (is_static : Bool) (order : List (Option ℕ))
     (pinned wanted : List Bool) (ones : List ℕ) (values : LaneValues) (masks seen : List ℕ) (is_found : Bool)

@@ -1,36 +1,22 @@
-use Rattle.std.proofs.Common.{◌∙◌}
-use Rattle.std.specs.Prelude.{None}
+use Rattle.std.proofs.Common.{subst}
 use Rattle.ca_flat.specs.Chip.{Chip}
 use Rattle.ca_view.specs.Linked.{place_in}
 use Rattle.ca_view.specs.Places.{cell_number}
-use Rattle.ca_sim.proofs.CountLemmas.{reader_due}
-use Rattle.ca_sim.proofs.Loading.{changed_same, changed_length, set_both}
+use Rattle.ca_sim.specs.declared.network.Network.{Network}
+use Rattle.ca_sim.specs.code.Network.{IsFedAt}
+use Rattle.ca_sim.proofs.Loading.{changed_same}
 use Rattle.ca_sim.proofs.SimLemmas.{underway_fed}
 use Rattle.ca_sim.proofs.networks.Networks.change.Goals as goal
 
 pub returns-clause-underway : goal.returns-clause-underway
 returns-clause-underway c = λ aim under.
     let core : Chip = c.args.chip.now.core in
-    let place_of = place_in c.args.chip.now.ranks in
-    let number_of = (cell_number c.args.chip.now.chip) in
-    let linked = c.linked.ensures.linked in
-    let pinned = c.linked.ensures.pinned in
-    let next_is = set_both core c.args.self.now.bits c.set.new.self c.set-2.new.self c.args.input c.input_count.result c.args.first
-    c.args.last c.input_count.ensures c.set.ensures c.set-2.ensures in
-    let same = changed_same core c.args.self.now.bits c.set-2.new.self c.args.input c.args.first c.args.last c.requires.input next_is in
+    let same = changed_same core c.args.self.now.bits c.feed.new.self.bits c.args.input c.args.first c.args.last c.requires.input c.feed.ensures.bits in
     record {
-      bits = changed_length core c.args.self.now.bits c.set-2.new.self c.args.input c.args.first c.args.last c.requires.input next_is ∙ under.bits;
-      good = underway_fed core place_of number_of linked pinned None c.args.input c.requires.input c.args.self.now.bits c.set-2.new.self
-          c.args.self.now.good c.feed.new.self under.good same c.feed.ensures.fed c.feed.ensures.ready;
-      faulty = underway_fed core place_of number_of linked pinned aim c.args.input c.requires.input c.args.self.now.bits c.set-2.new.self
-          c.args.self.now.faulty c.feed-2.new.self under.faulty same c.feed-2.ensures.fed c.feed-2.ensures.ready;
+      bits = c.feed.ensures.count;
+      good = c.feed.ensures.good under.good;
+      faulty = underway_fed core (place_in c.args.chip.now.ranks) (cell_number c.args.chip.now.chip) c.linked.ensures.linked c.linked.ensures.pinned aim c.args.input
+          c.requires.input c.args.self.now.bits c.feed.new.self.bits c.args.self.now.faulty c.feed-2.new.self under.faulty same
+          (subst (λ (f : Network). IsFedAt c.args.chip.now.core (place_in c.args.chip.now.ranks) c.args.input c.feed.new.self.bits f c.feed-2.new.self) c.feed.ensures.faulty c.feed-2.ensures.fed)
+          c.feed-2.ensures.ready;
     }
-
-pub returns-clause-due : goal.returns-clause-due
-returns-clause-due c = λ u reads differ under.
-    let core : Chip = c.args.chip.now.core in
-    let next_is = set_both core c.args.self.now.bits c.set.new.self c.set-2.new.self c.args.input c.input_count.result c.args.first
-    c.args.last c.input_count.ensures c.set.ensures c.set-2.ensures in
-    reader_due core (place_in c.args.chip.now.ranks) (cell_number c.args.chip.now.chip) c.linked.ensures.linked
-    c.linked.ensures.pinned c.args.input c.requires.input c.args.self.now.bits c.set-2.new.self c.args.first c.args.last
-    c.args.self.now.good c.feed.new.self u c.requires.ready.bits next_is under c.feed.ensures.fed reads differ

@@ -1,5 +1,6 @@
 use Rattle.std.proofs.Common.{◌≤◌, arith, refl, subst, sym, ◌∙◌, Some}
-use Rattle.ca_sweep.specs.Seen.{IsAtLane, IsLanedFor, Loaded}
+use Rattle.ca_sweep.specs.Seen.{IsLanedFor, Loaded}
+use Rattle.ca_sweep.specs.code.LanedFinder.{IsAtLane}
 use Rattle.ca_sweep.specs.Found.{IsUndetectedAt}
 use Rattle.ca_sweep.specs.code.Asked.{AreAsked}
 use Rattle.ca_sweep.proofs.NextLemmas.{passed_to, passed_before, passed_all}
