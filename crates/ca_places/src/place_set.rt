@@ -66,6 +66,19 @@ impl PlaceSet {
         None
     }
 
+    /// The 64 places from this one on: bit k is set where the set has the place k past it.
+    pub fn window(&self, from: usize) -> u64
+        ensures { (k : ℕ) → k < 64 → (bit_at result k ≡ 1) ↔ Has self.now (from + k) }
+    {
+        let first = from / 64;
+        let shift = from % 64;
+        let low = word_at(&self.words, first) >> shift;
+        if shift == 0 {
+            return low;
+        }
+        low | word_at(&self.words, first + 1) << (64 - shift)
+    }
+
     /// Takes over the places of a set with as many words.
     pub fn take_over(&mut self, other: &PlaceSet)
         requires { IsAsRoomy self.old other.now }
@@ -75,3 +88,13 @@ impl PlaceSet {
         self.words.copy_from_slice(&other.words);
     }
 }
+
+// The word at a place of a list, 0 past its end.
+fn word_at(words: &[u64], place: usize) -> u64
+    ensures { result ≡ slice_index words.now place }
+{
+    if place < words.len() { words[place] } else { 0 }
+}
+
+ghost use Rattle.std.specs.Prelude.{slice_index};
+ghost use Rattle.std.specs.Int.{bit_at};

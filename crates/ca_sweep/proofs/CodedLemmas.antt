@@ -13,7 +13,7 @@ use Rattle.ca_flips.specs.Flips.{AreGoodLasts, AreLastsOf}
 use Rattle.ca_flips.specs.Laws.{SweptAreFlipped, DetectedIsFilledIn, DetectedIsFlipped}
 use Rattle.ca_table.specs.Gives.{wave_at}
 use Rattle.ca_sweep.specs.declared.hand.Hand.{Hand}
-use Rattle.ca_sweep.specs.declared.rows.Row.{Row}
+use Rattle.ca_sweep.specs.declared.row.Row.{Row}
 use Rattle.ca_sweep.specs.declared.seen.Seen.{Seen}
 use Rattle.ca_sweep.specs.Found.{IsFound}
 use Rattle.ca_sweep.specs.code.Faulty.{AreWavesAt}

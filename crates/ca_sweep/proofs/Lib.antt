@@ -18,3 +18,4 @@ pub mod LaneLemmas
 pub mod LaneFindLemmas
 pub mod SpanLemmas
 pub mod TakenLemmas
+pub mod LoudLemmas

@@ -1,8 +1,8 @@
 -- Rows of codes: what is kept, and what is passed over.
-use Rattle.std.proofs.Common.{◌≡◌, ℕ, zero, suc, ◌+◌, ◌*◌, ◌/◌, ◌%◌, ◌<◌, ◌≤◌, ◌↔◌, true, List, [], ◌∷◌, ◌++◌, length, get_or, Option, None, Some, refl, sym, ◌∙◌, ap, subst, arith, below_more}
-use Rattle.std.specs.Prelude.{slice_get, slice_index}
+use Rattle.std.proofs.Common.{◌≡◌, ℕ, zero, suc, ◌+◌, ◌*◌, ◌/◌, ◌%◌, ◌<◌, ◌≤◌, ◌≢◌, ◌↔◌, Bool, true, false, not, List, [], ◌∷◌, ◌++◌, length, get_or, Option, None, Some, refl, sym, ◌∙◌, ap, subst, arith, below_more}
+use Rattle.std.specs.Prelude.{slice_get, slice_index, slice_set, IsTrue}
 use Rattle.std.specs.Option.{ForSome}
-use Rattle.std.proofs.lemmas.List.{get_or_push, get_or_append_left}
+use Rattle.std.proofs.lemmas.List.{get_or_push, get_or_append_left, length-set}
 use Rattle.std.proofs.Common.{length-append}
 use Rattle.ca_net.specs.declared.trit.Trit.{Trit}
 use Rattle.ca_net.specs.declared.trit.Trit.TheVariants.{Zero, One, X}
@@ -13,12 +13,15 @@ use Rattle.ca_defect.specs.List.{faulty_of, defects_of}
 use Rattle.ca_table.specs.Gives.{Gives, wave_at}
 use Rattle.ca_flat.specs.Chip.{Chip, cell_at, outputs_at}
 use Rattle.ca_flips.specs.Flips.{IsOpposite}
+use Rattle.ca_planes.specs.Plane.{has_lane}
 use Rattle.ca_view.specs.Linked.{IsLinked, IsPlaced}
-use Rattle.ca_sweep.specs.declared.rows.Row.{Row}
+use Rattle.ca_sweep.specs.declared.row.Row.{Row}
 use Rattle.ca_sweep.specs.declared.codes.Goods.{Goods}
 use Rattle.ca_sweep.specs.declared.seen.Flips.{Flips}
 use Rattle.ca_sweep.specs.code.Faulty.{AreFlipsOf}
-use Rattle.ca_sweep.specs.code.Rows.{digit_of, trit_of, code_of_lasts, IsCoded, AreCodes, FitsList, AreListsTo, AreLists, HoldsRow, IsRowFor, IsRowOf, AreGoodsAt, AreFlipsOfCode}
+use Rattle.ca_sweep.specs.code.Digits.{digit_of, trit_of}
+use Rattle.ca_sweep.specs.code.Loud.{FlipsNone}
+use Rattle.ca_sweep.specs.code.Rows.{code_of_lasts, IsCoded, AreCodes, FitsList, AreListsTo, AreLists, HoldsRow, IsRowFor, IsRowOf, AreGoodsAt, AreFlipsOfCode}
 
 low_digit : (a b : Trit) → trit_of ((digit_of a + 4 * digit_of b) % 4) ≡ a
 low_digit Zero Zero = refl
@@ -111,3 +114,40 @@ lists_all chip place_of number_of count lists are few = record {
   room = λ u placed. let f = few u placed in let r = are.room in omega arith;
   each = λ u placed. are.each (number_of u) (few u placed) u placed refl;
 }
+
+-- one number more
+pub numbers_more : (chip : Chip) (place_of number_of : ℕ → ℕ) (count number : ℕ) (old new : List ℕ) → length old ≡ count
+    → ((k : ℕ) → k < count → IsPlaced chip place_of k → slice_index old k ≡ number_of k) → new ≡ old ++ number ∷ []
+    → (IsPlaced chip place_of count → number ≡ number_of count)
+    → (k : ℕ) → k < count + 1 → IsPlaced chip place_of k → slice_index new k ≡ number_of k
+numbers_more chip place_of number_of count number old new room each is last =
+    below_more (λ k. IsPlaced chip place_of k → slice_index new k ≡ number_of k) count
+    (λ k less placed. ap (λ l. get_or l k 0) is ∙ get_or_append_left old (number ∷ []) 0 k (omega arith) ∙ each k less placed)
+    (λ placed. ap (λ l. get_or l count 0) is ∙ get_or_push old number 0 count (omega arith) ∙ last placed)
+
+true_if : (b : Bool) → not b ≡ false → b ≡ true
+true_if true is = refl
+true_if false is = let e : true ≡ false = is in absurd cc
+
+-- where no pin is flipped by a code it flips none
+flips_none : (goods : Goods) (code : ℕ) (flips : Flips) → AreFlipsOfCode goods code flips → flips.first ≡ false → flips.second ≡ false → FlipsNone goods code
+flips_none goods code flips are first second = record {
+  first = λ opposite. let e : true ≡ false = sym (are.first.1 opposite) ∙ first in absurd cc;
+  second = λ opposite. let e : true ≡ false = sym (are.second.1 opposite) ∙ second in absurd cc;
+}
+
+-- one code more is looked at
+pub loud_more : (codes : List ℕ) (goods : Goods) (place old new code : ℕ) (flips : Flips) (none : Bool) → place < 64
+    → ((k : ℕ) → k < place → has_lane old k ≡ false → FlipsNone goods (slice_index codes k)) → code ≡ slice_index codes place → AreFlipsOfCode goods code flips
+    → (IsTrue none → flips.first ≡ false) → (IsTrue none → flips.second ≡ false) → has_lane new place ≡ not none
+    → ((other : ℕ) → other < 64 → other ≢ place → has_lane new other ≡ has_lane old other)
+    → (k : ℕ) → k < place + 1 → has_lane new k ≡ false → FlipsNone goods (slice_index codes k)
+loud_more codes goods place old new code flips none small before code_is are first second here others =
+    below_more (λ k. has_lane new k ≡ false → FlipsNone goods (slice_index codes k)) place
+    (λ k less clear. before k less (sym (others k (omega arith) (λ e. absurd (omega arith))) ∙ clear))
+    (λ clear. let is : none ≡ true = true_if none (sym here ∙ clear) in
+    subst (FlipsNone goods) code_is (flips_none goods code flips are (first is) (second is)))
+
+-- a list stays one with entries
+pub still_some : (slots : List (Option Row)) (place : ℕ) (slot : Option Row) → 0 < length slots → 0 < length (slice_set slots place slot)
+still_some slots place slot some = subst (λ n. 0 < n) (sym (length-set slots place slot)) some

@@ -15,13 +15,15 @@ use Rattle.ca_flips.proofs.ReachLemmas.{reached_late}
 use Rattle.ca_flips.proofs.VectorLemmas.{vector_same}
 use Rattle.ca_view.specs.Linked.{IsLinked, IsPlaced}
 use Rattle.ca_sweep.specs.declared.seen.Flips.{Flips}
+use Rattle.ca_sweep.specs.declared.segments.Aged.{Aged}
 use Rattle.ca_sweep.specs.declared.segments.Segment.{Segment}
+use Rattle.ca_sweep.specs.declared.segments.Segments.{Segments}
 use Rattle.ca_sweep.specs.declared.values.Values.{Values}
 use Rattle.ca_sweep.specs.Seen.{flipped_outputs, IsOppositeAt, IsClear, IsSeenFrom}
 use Rattle.ca_sweep.specs.code.Changes.{IsOutputBelow, IsEvaluatedAt, IsSweptTo}
 use Rattle.ca_sweep.specs.code.Faulty.{code_of}
 use Rattle.ca_places.specs.PlaceSet.{IsNext}
-use Rattle.ca_sweep.specs.code.Segments.{IsBehind, IsFirstNumber, IsSweptFrom, IsSweptUntil, IsCutAt, IsSegment, AreSegments}
+use Rattle.ca_sweep.specs.code.Segments.{IsBehind, IsFirstNumber, IsSweptFrom, IsSweptUntil, IsCutAt, IsSegment, AreAges, IsOfAge, AreSegments}
 use Rattle.ca_sweep.proofs.FaultyLemmas.{same_code, code_small}
 use Rattle.ca_sweep.proofs.SweepLemmas.{not_input, later, not_other, swept_passes, swept_ends}
 
@@ -352,44 +354,88 @@ nowhere_seen chip place_of goods u flips number clear is past = record {
   first = λ place less. is.first.before place (omega arith);
 }
 
--- no part is kept
-pub segments_none : (chip : Chip) (place_of : ℕ → ℕ) (goods : ℕ → Trit) (slots : List (Option Segment)) → length slots ≡ 4 * count_of chip
-    → ((k : ℕ) → get_or slots k None ≡ None) → AreSegments chip place_of goods slots
-segments_none chip place_of goods slots room none = record {
+-- no part is of a new age
+pub segments_none : (chip : Chip) (place_of : ℕ → ℕ) (goods : ℕ → Trit) (segments : Segments) → length segments.slots.items ≡ 4 * count_of chip
+    → AreAges segments.slots.items segments.age
+    → ((k : ℕ) (aged : Aged) → get_or segments.slots.items k None ≡ Some aged → aged.age ≡ segments.age → ⊥) → AreSegments chip place_of goods segments
+segments_none chip place_of goods segments room ages none = record {
   room = room;
-  each = λ u flips segment at. let e : None ≡ Some segment = sym (none (4 * u + code_of flips.first flips.second)) ∙ at in cc;
+  ages = ages;
+  each = λ u flips segment of_age. absurd (none (4 * u + code_of flips.first flips.second) of_age.aged of_age.slot_is of_age.age_is);
 }
+
+-- the age that comes after one has no part
+pub segments_newer : (chip : Chip) (place_of : ℕ → ℕ) (old new : ℕ → Trit) (before after : Segments) → AreSegments chip place_of old before
+    → after.slots.items ≡ before.slots.items → after.age ≡ before.age + 1 → AreSegments chip place_of new after
+segments_newer chip place_of old new before after are slots_are age_is =
+    segments_none chip place_of new after (ap length slots_are ∙ are.room)
+    (λ k aged at. let le = are.ages k aged (ap (λ list. get_or list k None) (sym slots_are) ∙ at) in omega arith)
+    (λ k aged at is. let le = are.ages k aged (ap (λ list. get_or list k None) (sym slots_are) ∙ at) in absurd (omega arith))
+
+-- a list without parts has none of any age
+pub segments_empty : (chip : Chip) (place_of : ℕ → ℕ) (goods : ℕ → Trit) (segments : Segments) → length segments.slots.items ≡ 4 * count_of chip
+    → ((k : ℕ) → get_or segments.slots.items k None ≡ None) → AreSegments chip place_of goods segments
+segments_empty chip place_of goods segments room none =
+    segments_none chip place_of goods segments room
+    (λ k aged at. let e : None ≡ Some aged = sym (none k) ∙ at in absurd cc)
+    (λ k aged at is. let e : None ≡ Some aged = sym (none k) ∙ at in absurd cc)
 
 -- a part that is kept says what is so
-pub segment_read : (chip : Chip) (place_of : ℕ → ℕ) (goods : ℕ → Trit) (slots : List (Option Segment)) (u : ℕ) (flips : Flips) (code : ℕ) (found : Option Segment)
-    → code ≡ code_of flips.first flips.second → AreSegments chip place_of goods slots → found ≡ get_or slots (4 * u + code) None
-    → IfSome found (IsSegment chip place_of goods u flips)
-segment_read chip place_of goods slots u flips code None code_is are read = tt
-segment_read chip place_of goods slots u flips code (Some segment) code_is are read =
-    are.each u flips segment (ap (λ k. get_or slots (4 * u + k) None) (sym code_is) ∙ sym read)
+pub segment_read : (chip : Chip) (place_of : ℕ → ℕ) (goods : ℕ → Trit) (segments : Segments) (u : ℕ) (flips : Flips) (code : ℕ) (slot : Option Aged) (found : Option Segment)
+    → code ≡ code_of flips.first flips.second → AreSegments chip place_of goods segments → slot ≡ get_or segments.slots.items (4 * u + code) None
+    → IfSome found (IsOfAge slot segments.age) → IfSome found (IsSegment chip place_of goods u flips)
+segment_read chip place_of goods segments u flips code slot None code_is are read of_age = tt
+segment_read chip place_of goods segments u flips code slot (Some segment) code_is are read of_age =
+    are.each u flips segment (subst (λ s. IsOfAge s segments.age segment) (read ∙ ap (λ k. get_or segments.slots.items (4 * u + k) None) code_is) of_age)
+
+-- the ages are so after one more part
+pub ages_put : (slots : List (Option Aged)) (age place : ℕ) (aged : Aged) → AreAges slots age → aged.age ≡ age → place < length slots
+    → AreAges (slice_set slots place (Some aged)) age
+ages_put slots age place aged ages is within k other at = elim (cases_eq k place) [
+  | inl e ↦
+      let here : get_or (slice_set slots place (Some aged)) k None ≡ Some aged = ap (λ j. get_or (slice_set slots place (Some aged)) j None) e ∙ get_or-set_same slots place (Some aged) None within in
+      let both : Some aged ≡ Some other = sym here ∙ at in
+      let same : aged ≡ other = cc in
+      let age_same = ap (λ (x : Aged). x.age) same in
+      omega arith
+  | inr apart ↦ ages k other (sym (get_or-set_other slots place k (Some aged) None apart) ∙ at)
+]
 
 -- one part more is kept
-pub segments_put : (chip : Chip) (place_of : ℕ → ℕ) (goods : ℕ → Trit) (slots : List (Option Segment)) (u : ℕ) (flips : Flips) (segment : Segment) (code : ℕ)
-    → code ≡ code_of flips.first flips.second → 4 * u + 4 ≤ length slots → AreSegments chip place_of goods slots → IsSegment chip place_of goods u flips segment
-    → AreSegments chip place_of goods (slice_set slots (4 * u + code) (Some segment))
-segments_put chip place_of goods slots u flips segment code code_is room are is = record {
-  room = length-set slots (4 * u + code) (Some segment) ∙ are.room;
-  each = λ v other found at.
-      let small = code_small flips.first flips.second in
-      let small_other = code_small other.first other.second in
-      elim (cases_eq (4 * v + code_of other.first other.second) (4 * u + code)) [
-        | inl e ↦
-            let same : v ≡ u = omega arith in
-            let codes : code_of other.first other.second ≡ code_of flips.first flips.second = omega arith in
-            let flips_are = same_code other.first other.second flips.first flips.second codes in
-            let here : get_or (slice_set slots (4 * u + code) (Some segment)) (4 * v + code_of other.first other.second) None ≡ Some segment =
-            ap (λ k. get_or (slice_set slots (4 * u + code) (Some segment)) k None) e ∙ get_or-set_same slots (4 * u + code) (Some segment) None (omega arith) in
-            let both : Some segment ≡ Some found = sym here ∙ at in
-            let found_is : segment ≡ found = cc in
-            subst (λ x. IsSegment chip place_of goods x other found) (sym same)
-            (subst (λ a. IsSegment chip place_of goods u (record { first = a; second = other.second }) found) (sym flips_are.0)
-            (subst (λ b. IsSegment chip place_of goods u (record { first = flips.first; second = b }) found) (sym flips_are.1)
-            (subst (IsSegment chip place_of goods u flips) found_is is)))
-        | inr apart ↦ are.each v other found (sym (get_or-set_other slots (4 * u + code) (4 * v + code_of other.first other.second) (Some segment) None apart) ∙ at)
-      ];
-}
+pub segments_put : (chip : Chip) (place_of : ℕ → ℕ) (goods : ℕ → Trit) (old new : Segments) (u : ℕ) (flips : Flips) (segment : Segment) (aged : Aged) (code : ℕ)
+    → code ≡ code_of flips.first flips.second → 4 * u + 4 ≤ length old.slots.items → AreSegments chip place_of goods old → IsSegment chip place_of goods u flips segment
+    → aged.segment ≡ segment → aged.age ≡ old.age → new.age ≡ old.age → new.slots.items ≡ slice_set old.slots.items (4 * u + code) (Some aged) → AreSegments chip place_of goods new
+segments_put chip place_of goods old new u flips segment aged code code_is room are is aged_is now_is age_is slots_are =
+    let slots = old.slots.items in
+    record {
+      room = ap length slots_are ∙ length-set slots (4 * u + code) (Some aged) ∙ are.room;
+      ages = subst (AreAges new.slots.items) (sym age_is) (subst (λ list. AreAges list old.age) (sym slots_are)
+          (ages_put slots old.age (4 * u + code) aged are.ages now_is
+          (let few = code_small flips.first flips.second in let e = code_is in omega arith)));
+      each = λ v other found of_age.
+          let small = code_small flips.first flips.second in
+          let small_other = code_small other.first other.second in
+          let at : get_or (slice_set slots (4 * u + code) (Some aged)) (4 * v + code_of other.first other.second) None ≡ Some of_age.aged =
+          ap (λ list. get_or list (4 * v + code_of other.first other.second) None) (sym slots_are) ∙ of_age.slot_is in
+          elim (cases_eq (4 * v + code_of other.first other.second) (4 * u + code)) [
+            | inl e ↦
+                let same : v ≡ u = omega arith in
+                let codes : code_of other.first other.second ≡ code_of flips.first flips.second = omega arith in
+                let flips_are = same_code other.first other.second flips.first flips.second codes in
+                let here : get_or (slice_set slots (4 * u + code) (Some aged)) (4 * v + code_of other.first other.second) None ≡ Some aged =
+                ap (λ k. get_or (slice_set slots (4 * u + code) (Some aged)) k None) e ∙ get_or-set_same slots (4 * u + code) (Some aged) None (omega arith) in
+                let both : Some aged ≡ Some of_age.aged = sym here ∙ at in
+                let aged_same : aged ≡ of_age.aged = cc in
+                let found_is : segment ≡ found = sym aged_is ∙ ap (λ (x : Aged). x.segment) aged_same ∙ of_age.segment_is in
+                subst (λ x. IsSegment chip place_of goods x other found) (sym same)
+                (subst (λ a. IsSegment chip place_of goods u (record { first = a; second = other.second }) found) (sym flips_are.0)
+                (subst (λ b. IsSegment chip place_of goods u (record { first = flips.first; second = b }) found) (sym flips_are.1)
+                (subst (IsSegment chip place_of goods u flips) found_is is)))
+            | inr apart ↦ are.each v other found (record {
+              aged = of_age.aged;
+              slot_is = sym (get_or-set_other slots (4 * u + code) (4 * v + code_of other.first other.second) (Some aged) None apart) ∙ at;
+              age_is = of_age.age_is ∙ age_is;
+              segment_is = of_age.segment_is;
+            })
+          ];
+    }

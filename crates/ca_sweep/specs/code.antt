@@ -9,6 +9,8 @@ pub mod Pinned
 pub mod Kept
 pub mod Faulty
 pub mod Segments
+pub mod Digits
+pub mod Loud
 pub mod Rows
 pub mod Coded
 pub mod Hand

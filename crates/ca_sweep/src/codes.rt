@@ -3,7 +3,8 @@
 ghost use Rattle.std.specs.Prelude.{ℕ, ◌≡◌, ◌≢◌, ◌<◌, IsTrue};
 ghost use Rattle.ca_net.specs.State.{value_at};
 ghost use Rattle.ca_view.specs.Linked.{IsPlaced, place_in};
-ghost use Rattle.ca_sweep.specs.code.Rows.{AreGoodsAt, AreFlipsOfCode, IsKnownCode, trit_of};
+ghost use Rattle.ca_sweep.specs.code.Rows.{AreGoodsAt, AreFlipsOfCode, IsKnownCode};
+ghost use Rattle.ca_sweep.specs.code.Digits.{trit_of};
 
 use crate::firsts::are_opposite;
 use crate::seen::Flips;
@@ -12,7 +13,7 @@ use ca_net::Trit;
 use ca_view::View;
 
 /// The good last values of the output pins of an instance, X where there is none.
-#[derive(Clone, Copy, Debug)]
+#[derive(Clone, Copy, Debug, PartialEq, Eq)]
 pub(crate) struct Goods {
     pub(crate) first: Trit,
     pub(crate) second: Trit,

@@ -1,6 +1,6 @@
 //! Where a pair detects a defect, by last values alone.
 
-ghost use Rattle.std.specs.Prelude.{ℕ, ◌≡◌, ◌≢◌, ◌<◌, ◌≤◌, ◌^◌, ◌↔◌, length, IfOk, IfSome};
+ghost use Rattle.std.specs.Prelude.{ℕ, ◌+◌, ◌-◌, ◌≡◌, ◌≢◌, ◌<◌, ◌≤◌, ◌^◌, ◌↔◌, length, IfOk, IfSome};
 ghost use Rattle.std.specs.Prelude.{IsTrue, None, Some};
 ghost use Rattle.std.specs.List.{All};
 ghost use Rattle.ca_net.specs.declared.trit.Trit.TheVariants.{X};
@@ -31,7 +31,7 @@ use crate::flip_finder::FlipFinder;
 use crate::hand::Hand;
 use crate::lanes::{Lanes, NO_LANE, NoLanes};
 use crate::rows::Rows;
-use crate::seen::{Flips, Seen};
+use crate::seen::{Flips, NO_FLIPS, Seen};
 use crate::spans::{DefectSpans, SpanFound};
 use crate::sweep::Sweep;
 use ca_base::NoMemory;
@@ -39,6 +39,7 @@ use ca_flat::ChipDefect;
 use ca_flips::{detected_is_filled_in, detected_is_flipped, swept_are_flipped};
 use ca_net::{Trit, Wave};
 use ca_places::PlaceSet;
+use ca_planes::{LANES, both, is_none};
 use ca_response::PinWaves;
 use ca_sim::{Bits, NetWaves};
 use ca_view::View;
@@ -293,6 +294,9 @@ impl<'a> Finder<'a> {
             return span.end;
         }
         if self.takes(span) {
+            if self.is_quiet(waves, places, span) {
+                return span.end;
+            }
             return self.pass_taken(waves, defects, places, span, place);
         }
         if is_nowhere(self.find(waves, defects.get(place), place)) {
@@ -335,6 +339,33 @@ impl<'a> Finder<'a> {
             at = next + 1;
         }
         span.end
+    }
+
+    // Whether no defect of the set in a span, of the first 64 of a cell, flips an output pin of its instance,
+    // by the row of that, which is in hand.
+    fn is_quiet<V: NetWaves>(&mut self, waves: &V, places: &PlaceSet, span: SpanFound) -> bool
+        requires span { span.start ≤ span.end }
+        requires placed { IsPlaced self.old.chip (place_in self.old.places) span.instance }
+        requires asked { IsAsked (V.seen waves.now) self.old }
+        ensures quiet { IsTrue result → (at : ℕ) → at < span.end - span.start
+            → Has places.now (span.start + at)
+            → AreNowhereAt (V.seen waves.now).pair span.instance at self.old }
+        ensures kept { self.new ≡ self.old }
+    {
+        swept_are_flipped();
+        detected_is_filled_in();
+        detected_is_flipped();
+        self.chip.linked();
+        let count = span.end - span.start;
+        if !self.hand.has(span.instance) || count > LANES {
+            return false;
+        }
+        let loud = match self.rows.loud(self.hand.slot, self.hand.goods, count) {
+            Some(loud) => loud,
+            None => return false,
+        };
+        is_none(both(places.window(span.start), loud))
+            && is_nowhere(self.sweep.see(span.instance, NO_FLIPS))
     }
 
     // Whether the defect at a place of the list of an instance's cell is found to be detected nowhere, where
@@ -476,8 +507,9 @@ fn take(
     }
     match pin_waves(chip, waves, u) {
         Some(pins) => {
-            let slot = rows.find(chip, faulty, u, pins);
-            hand.take(u, chip.number(u), slot, goods_at(chip, sweep, u));
+            let goods = goods_at(chip, sweep, u);
+            let slot = rows.find(chip, faulty, u, pins, goods);
+            hand.take(u, rows.number(chip, u), slot, goods);
             true
         }
         None => false,

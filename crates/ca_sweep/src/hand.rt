@@ -5,7 +5,7 @@ ghost use Rattle.std.specs.Prelude.{Option};
 ghost use Rattle.ca_net.specs.declared.trit.Trit.{Trit};
 ghost use Rattle.ca_net.specs.declared.wave.Wave.{Wave};
 ghost use Rattle.ca_flat.specs.Chip.{Chip};
-ghost use Rattle.ca_sweep.specs.declared.rows.Row.{Row};
+ghost use Rattle.ca_sweep.specs.declared.row.Row.{Row};
 ghost use Rattle.ca_sweep.specs.code.Coded.{IsSeenCoded};
 ghost use Rattle.ca_sweep.specs.code.Hand.{IsHand};
 ghost use Rattle.ca_sweep.specs.code.Rows.{AreGoodsAt};

@@ -19,6 +19,7 @@ mod lane_values;
 mod laned_finder;
 mod lanes;
 mod pinned;
+mod row;
 mod rows;
 mod run;
 mod seen;

@@ -1,30 +1,32 @@
 //! Rows of a cell: what each of its defects ends with, for waves of its input pins that occurred.
 
-ghost use Rattle.std.specs.Prelude.{◌≡◌, ◌<◌, length, slice_index_or, IfOk, IsTrue, None};
+ghost use Rattle.std.specs.Prelude.{◌≡◌, ◌<◌, length, slice_index, slice_index_or, IfOk, IsTrue, None};
 ghost use Rattle.std.specs.List.{All};
 ghost use Rattle.std.specs.Option.{ForSome};
 ghost use Rattle.ca_net.specs.Wave.{IsWave};
-ghost use Rattle.ca_flat.specs.Chip.{cell_at, inputs_at};
+ghost use Rattle.ca_flat.specs.Chip.{cell_at, count_of, inputs_at};
 ghost use Rattle.ca_view.specs.Linked.{IsPlaced, place_in};
 ghost use Rattle.ca_view.specs.Places.{cell_number};
 ghost use Rattle.ca_sweep.specs.code.Faulty.{AreFaulty};
 ghost use Rattle.ca_sweep.specs.code.Rows.{AreRows, AreCodes, AreLists, FitsList, IsListOf};
 ghost use Rattle.ca_sweep.specs.code.Rows.{IsRowOf, HoldsRow};
-ghost use Rattle.ca_sweep.specs.code.Rows.{code_of_lasts, digit_of};
+ghost use Rattle.ca_sweep.specs.code.Rows.{AreNumbers, IsLoudIn, code_of_lasts};
+ghost use Rattle.ca_sweep.specs.code.Digits.{digit_of};
+ghost use Rattle.ca_sweep.specs.code.Loud.{AreLoud};
 
 use crate::cells::instance_with;
+use crate::codes::{Goods, flips_of_code};
 use crate::faulty::{Faulty, same_waves};
-use arrayvec::ArrayVec;
+use crate::row::{Codes, MOST_CODES, Row};
+use crate::sweep::is_none;
 use ca_base::NoMemory;
 use ca_defect::{Defect, DefectList, defects};
 use ca_flat::ChipDefect;
 use ca_net::{Trit, Wave};
+use ca_planes::{LANES, with_lane};
 use ca_response::PinWaves;
 use ca_view::View;
 use std::alloc::Global;
-
-/// For how many defects of a cell a row has codes.
-pub(crate) const MOST_CODES: usize = 256;
 
 // The least and the greatest number of slots, and how many there are for an instance in between.
 const FEWEST_SLOTS: usize = 4_096;
@@ -39,17 +41,6 @@ const WAYS: usize = 4;
 // An odd number with many digits, by which slots are spread.
 const MIX: usize = 0x9E37_79B9_7F4A_7C15;
 
-/// A number for each defect of a cell, or for the first ones: the last values that it gives.
-pub type Codes = ArrayVec<u8, MOST_CODES>;
-
-/// A cell's number, waves of its input pins, and the codes of its defects for these.
-#[derive(Drop, Debug)]
-pub struct Row {
-    pub(crate) number: usize,
-    pub(crate) pins: PinWaves,
-    pub(crate) codes: Codes,
-}
-
 // A slot, and whether it has the row that was asked for.
 #[derive(Clone, Copy, Debug)]
 struct Slot {
@@ -57,10 +48,12 @@ struct Slot {
     has_row: bool,
 }
 
-/// The defects of the cells, by their numbers, and slots, each empty or with a row.
+/// The defects of the cells, by their numbers, the number of each instance's cell, and slots, each empty or
+/// with a row.
 #[derive(Drop)]
 pub struct Rows {
     pub(crate) lists: Vec<DefectList>,
+    pub(crate) numbers: Vec<usize>,
     pub(crate) slots: Vec<Option<Row>>,
 }
 
@@ -71,8 +64,10 @@ impl Rows {
             (cell_number chip.now.chip)) }
     {
         let lists = lists_of(alloc, chip)?;
+        let numbers = numbers_of(alloc, chip)?;
         Ok(Rows {
             lists,
+            numbers,
             slots: empty_slots(alloc, slot_count(chip.instances()))?,
         })
     }
@@ -119,14 +114,26 @@ impl Rows {
         }
     }
 
+    /// The number of an instance's cell.
+    pub(crate) fn number(&self, chip: &View<'_>, u: usize) -> usize
+        requires placed { IsPlaced chip.now.core (place_in chip.now.ranks) u }
+        requires rows { AreRows chip.now.core (place_in chip.now.ranks) (cell_number chip.now.chip)
+            self.now }
+        ensures { result ≡ cell_number chip.now.chip u }
+    {
+        chip.linked();
+        self.numbers[u]
+    }
+
     /// The slot with the row of an instance's cell for these waves of its input pins; the row is found if it
-    /// isn't there. Takes no memory.
+    /// isn't there, for these good last values of its output pins. Takes no memory.
     pub(crate) fn find(
         &mut self,
         chip: &View<'_>,
         faulty: &mut Faulty,
         u: usize,
         pins: PinWaves,
+        goods: Goods,
     ) -> usize
         requires placed { IsPlaced chip.now.core (place_in chip.now.ranks) u }
         requires pins { length pins.items ≡ inputs_at chip.now.core u }
@@ -145,16 +152,19 @@ impl Rows {
             faulty.new }
     {
         chip.linked();
-        let number = chip.number(u);
+        let number = self.number(chip, u);
         let found = self.slot_of(number, pins.as_slice());
         if found.has_row {
             return found.slot;
         }
         let codes = codes_of(chip, faulty, u, &self.lists[number], pins.as_slice());
+        let loud = loud_codes(codes.as_slice(), goods);
         self.slots[found.slot] = Some(Row {
             number,
             pins,
             codes,
+            goods,
+            loud,
         });
         found.slot
     }
@@ -175,6 +185,18 @@ impl Rows {
     {
         match &self.slots[slot] {
             Some(row) if place < row.codes.len() => Some(row.codes[place]),
+            Some(_) | None => None,
+        }
+    }
+
+    /// Which of the first codes, this many, flip an output pin that has these good last values, in the row of
+    /// a slot: a bit each.
+    pub(crate) fn loud(&self, slot: usize, goods: Goods, count: usize) -> Option<u64>
+        requires { slot < length self.now.slots.items }
+        ensures { IfSome result (IsLoudIn (slice_index_or self.now.slots.items slot None) goods count) }
+    {
+        match &self.slots[slot] {
+            Some(row) if count <= row.codes.len() && row.goods == goods => Some(row.loud),
             Some(_) | None => None,
         }
     }
@@ -238,6 +260,18 @@ fn codes_of(
     codes
 }
 
+// Which of the first 64 codes flip an output pin that has these good last values: a bit each.
+fn loud_codes(codes: &[u8], goods: Goods) -> u64
+    ensures { AreLoud codes.now goods result }
+{
+    let mut loud = 0;
+    for place in 0..codes.len().min(LANES) {
+        let flips = flips_of_code(goods, codes[place]);
+        loud = with_lane(loud, place, !is_none(flips));
+    }
+    loud
+}
+
 // The last values of the first two waves as a number.
 fn code_of_lasts(outputs: &[Wave]) -> u8
     ensures { result ≡ code_of_lasts outputs.now }
@@ -268,6 +302,29 @@ fn digit_of(value: Trit) -> u8
         Trit::One => 1,
         Trit::X => 2,
     }
+}
+
+// The number of the cell of each instance that has a place, 0 for the others.
+fn numbers_of(alloc: Global, chip: &View<'_>) -> Result<Vec<usize>, NoMemory>
+    ensures { IfOk result (λ numbers. AreNumbers chip.now.core (place_in chip.now.ranks)
+        (cell_number chip.now.chip) numbers.items) }
+{
+    let mut numbers = Vec::with_capacity(alloc, chip.instances())?;
+    for u in 0..chip.instances() {
+        numbers.push(number_at(chip, u))?;
+    }
+    Ok(numbers)
+}
+
+// The number of an instance's cell, if it has a place.
+fn number_at(chip: &View<'_>, u: usize) -> usize
+    requires { u < count_of chip.now.core }
+    ensures { IsPlaced chip.now.core (place_in chip.now.ranks) u → result ≡ cell_number chip.now.chip u }
+{
+    if chip.rank(u) == 0 {
+        return 0;
+    }
+    chip.number(u)
 }
 
 /// The defects of the cells, by their numbers.

@@ -7,6 +7,12 @@ pub struct Flips {
     pub second: bool,
 }
 
+/// No output pin is flipped.
+pub(crate) const NO_FLIPS: Flips = Flips {
+    first: false,
+    second: false,
+};
+
 /// Where a flip is seen.
 #[derive(Clone, Copy, Debug)]
 pub enum Seen {

@@ -1,9 +1,9 @@
 //! Parts of sweeps, which are kept while the good values stay.
 
-ghost use Rattle.std.specs.Prelude.{ℕ, ◌≡◌, ◌+◌, ◌*◌, ◌^◌, ◌<◌, ◌≤◌, length, IfOk, IfSome, None};
+ghost use Rattle.std.specs.Prelude.{ℕ, ◌≡◌, ◌+◌, ◌*◌, ◌^◌, ◌<◌, ◌≤◌, length, slice_index_or, IfOk, IfSome, None};
 ghost use Rattle.ca_net.specs.declared.trit.Trit.{Trit};
 ghost use Rattle.ca_flat.specs.Chip.{Chip, count_of};
-ghost use Rattle.ca_sweep.specs.code.Segments.{AreSegments, IsSegment};
+ghost use Rattle.ca_sweep.specs.code.Segments.{AreSegments, IsOfAge, IsSegment};
 
 use crate::seen::Flips;
 use ca_base::NoMemory;
@@ -24,10 +24,18 @@ pub struct Segment {
     pub next: Option<Cut>,
 }
 
-/// The parts that were found, four for each instance.
+/// A part, and the age in which it was kept.
+#[derive(Clone, Copy, Debug)]
+pub struct Aged {
+    pub age: u32,
+    pub segment: Segment,
+}
+
+/// The parts that were found, four for each instance. Those of an age before aren't kept any more.
 #[derive(Drop, Debug)]
 pub struct Segments {
-    pub(crate) slots: Vec<Option<Segment>>,
+    pub(crate) slots: Vec<Option<Aged>>,
+    pub(crate) age: u32,
 }
 
 impl Segments {
@@ -35,21 +43,24 @@ impl Segments {
     pub(crate) fn reserve(alloc: Global, instances: usize) -> Result<Self, NoMemory>
         requires { instances < 2 ^ 32 }
         ensures { (chip : Chip) (place_of : ℕ → ℕ) (goods : ℕ → Trit) → count_of chip ≡ instances
-            → IfOk result (λ segments. AreSegments chip place_of goods segments.slots.items) }
+            → IfOk result (λ segments. AreSegments chip place_of goods segments) }
     {
         Ok(Segments {
             slots: vec![in alloc; None; 4 * instances]?,
+            age: 0,
         })
     }
 
-    /// None is kept any more.
+    /// None is kept any more: a new age begins.
     pub(crate) fn forget(&mut self)
-        ensures { (chip : Chip) (place_of : ℕ → ℕ) (goods : ℕ → Trit)
-            → length self.old.slots.items ≡ 4 * count_of chip
-            → AreSegments chip place_of goods self.new.slots.items }
+        ensures { (chip : Chip) (place_of : ℕ → ℕ) (old new : ℕ → Trit)
+            → AreSegments chip place_of old self.old → AreSegments chip place_of new self.new }
     {
-        for place in 0..self.slots.len() {
-            self.slots[place] = None;
+        if self.age == u32::MAX {
+            empty(&mut self.slots);
+            self.age = 0;
+        } else {
+            self.age += 1;
         }
     }
 
@@ -58,10 +69,13 @@ impl Segments {
         requires few { u < 2 ^ 32 }
         requires room { 4 * u + 4 ≤ length self.now.slots.items }
         ensures { (chip : Chip) (place_of : ℕ → ℕ) (goods : ℕ → Trit)
-            → AreSegments chip place_of goods self.now.slots.items
+            → AreSegments chip place_of goods self.now
             → IfSome result (IsSegment chip place_of goods u flips) }
     {
-        self.slots[4 * u + code_of(flips.first, flips.second)]
+        segment_of(
+            self.slots[4 * u + code_of(flips.first, flips.second)],
+            self.age,
+        )
     }
 
     /// Keeps a part.
@@ -69,11 +83,34 @@ impl Segments {
         requires few { u < 2 ^ 32 }
         requires room { 4 * u + 4 ≤ length self.old.slots.items }
         ensures { (chip : Chip) (place_of : ℕ → ℕ) (goods : ℕ → Trit)
-            → AreSegments chip place_of goods self.old.slots.items
+            → AreSegments chip place_of goods self.old
             → IsSegment chip place_of goods u flips segment
-            → AreSegments chip place_of goods self.new.slots.items }
+            → AreSegments chip place_of goods self.new }
     {
-        self.slots[4 * u + code_of(flips.first, flips.second)] = Some(segment);
+        self.slots[4 * u + code_of(flips.first, flips.second)] = Some(Aged {
+            age: self.age,
+            segment,
+        });
+    }
+}
+
+// No part.
+fn empty(slots: &mut Vec<Option<Aged>>)
+    ensures room { length slots.new.items ≡ length slots.old.items }
+    ensures none { (place : ℕ) → slice_index_or slots.new.items place None ≡ None }
+{
+    for place in 0..slots.len() {
+        slots[place] = None;
+    }
+}
+
+// The part in a slot, if it is of this age.
+fn segment_of(slot: Option<Aged>, age: u32) -> Option<Segment>
+    ensures { IfSome result (IsOfAge slot age) }
+{
+    match slot {
+        Some(aged) if aged.age == age => Some(aged.segment),
+        Some(_) | None => None,
     }
 }
 

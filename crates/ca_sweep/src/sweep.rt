@@ -57,7 +57,7 @@ impl<'a> Model for Sweep<'a> {
     ghost invariant = { λ sweep. IsKept sweep.chip.now.core (place_in sweep.chip.now.ranks)
         (cell_number sweep.chip.now.chip) sweep.outputs.items sweep.firsts.items sweep.tables.items
         sweep.is_static sweep.order.items sweep.pinned.items sweep.lasts sweep.clear.items
-        sweep.passing.items sweep.values sweep.segments.slots.items };
+        sweep.passing.items sweep.values sweep.segments };
 }
 
 impl<'a> Sweep<'a> {
@@ -260,8 +260,8 @@ fn copy(from: &State, into: &mut State)
 
 ghost use Rattle.std.specs.Prelude.{false};
 
-// Whether no pin is flipped.
-fn is_none(flips: Flips) -> bool
+/// Whether no pin is flipped.
+pub(crate) fn is_none(flips: Flips) -> bool
     ensures first { IsTrue result → flips.first ≡ false }
     ensures second { IsTrue result → flips.second ≡ false }
 {

@@ -7,7 +7,7 @@ use Rattle.ca_flat.specs.declared.chip_defect.ChipDefect.{ChipDefect}
 use Rattle.ca_flat.specs.Chip.{Chip, cell_at}
 use Rattle.ca_sweep.specs.declared.faulty.Faulty.{Faulty}
 use Rattle.ca_sweep.specs.declared.hand.Hand.{Hand}
-use Rattle.ca_sweep.specs.declared.rows.Row.{Row}
+use Rattle.ca_sweep.specs.declared.row.Row.{Row}
 use Rattle.ca_sweep.specs.declared.rows.Rows.{Rows}
 use Rattle.ca_sweep.specs.declared.seen.Seen.{Seen}
 use Rattle.ca_sweep.specs.Seen.{Swept}

@@ -9,7 +9,7 @@ use Rattle.ca_flat.specs.Chip.{Chip, cell_at, inputs_at, outputs_at, net_of, out
 use Rattle.ca_flips.specs.Static.{IsStatic}
 use Rattle.ca_view.specs.Linked.{Reads, IsPlaced}
 use Rattle.ca_sweep.specs.declared.values.Values.{Values}
-use Rattle.ca_sweep.specs.declared.segments.Segment.{Segment}
+use Rattle.ca_sweep.specs.declared.segments.Segments.{Segments}
 use Rattle.ca_sweep.specs.Seen.{IsClear}
 use Rattle.ca_sweep.specs.code.Segments.{AreSegments}
 use Rattle.ca_sweep.specs.code.Cells.{AreTables, IsOrder}
@@ -66,7 +66,7 @@ pub record AreMarks (chip : Chip) (P : ℕ → Type 0) (marks : List Bool) : Typ
 pub record IsKept (chip : Chip) (place_of number_of : ℕ → ℕ) (outputs firsts : List ℕ)
     (tables : List (Option (List (List Wave)))) (is_static : Bool) (order : List (Option ℕ))
     (pinned : List Bool) (lasts : List Trit) (clear passing : List Bool) (values : Values)
-    (segments : List (Option Segment)) : Type 0 where
+    (segments : Segments) : Type 0 where
   pub outputs_are : outputs ≡ chip.outputs
   pub few : length outputs < 2 ^ 32
   pub firsts_are : AreFirsts outputs (length chip.nets) firsts

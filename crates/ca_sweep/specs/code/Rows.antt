@@ -1,33 +1,23 @@
 -- What only proofs of code cite: what the defects of a cell end with, as codes, and rows that are kept.
-use Rattle.std.specs.Prelude.{ℕ, zero, suc, ◌+◌, ◌*◌, ◌/◌, ◌%◌, ◌≡◌, ◌≢◌, ◌<◌, ◌↔◌, true, List, [], length}
+use Rattle.std.specs.Prelude.{ℕ, ◌+◌, ◌*◌, ◌/◌, ◌%◌, ◌≡◌, ◌≢◌, ◌<◌, ◌≤◌, ◌↔◌, true, List, [], length}
 use Rattle.std.specs.Prelude.{slice_get, slice_index, slice_index_or, Option, None, Some}
 use Rattle.std.specs.List.{All}
 use Rattle.ca_net.specs.declared.trit.Trit.{Trit}
-use Rattle.ca_net.specs.declared.trit.Trit.TheVariants.{Zero, One, X}
+use Rattle.ca_net.specs.declared.trit.Trit.TheVariants.{X}
 use Rattle.ca_net.specs.declared.wave.Wave.{Wave}
 use Rattle.ca_cell.specs.declared.raw.RawCell.{RawCell}
 use Rattle.ca_defect.specs.declared.defect.Defect.{Defect}
 use Rattle.ca_defect.specs.List.{faulty_of, defects_of, IsDefectOf}
 use Rattle.ca_table.specs.Gives.{Gives, wave_at}
-use Rattle.ca_flat.specs.Chip.{Chip, cell_at, outputs_at, output_net}
+use Rattle.ca_flat.specs.Chip.{Chip, cell_at, count_of, outputs_at, output_net}
 use Rattle.ca_flips.specs.Flips.{IsOpposite}
 use Rattle.ca_view.specs.Linked.{IsPlaced}
-use Rattle.ca_sweep.specs.declared.rows.Row.{Row}
+use Rattle.ca_sweep.specs.declared.row.Row.{Row}
 use Rattle.ca_sweep.specs.declared.rows.Rows.{Rows}
 use Rattle.ca_sweep.specs.declared.codes.Goods.{Goods}
 use Rattle.ca_sweep.specs.declared.seen.Flips.{Flips}
-
--- a value as a number
-abbrev pub digit_of : Trit → ℕ
-digit_of Zero = 0
-digit_of One = 1
-digit_of X = 2
-
--- the value of a number
-abbrev pub trit_of : ℕ → Trit
-trit_of zero = Zero
-trit_of (suc zero) = One
-trit_of (suc (suc more)) = X
+use Rattle.ca_sweep.specs.code.Digits.{digit_of, trit_of}
+use Rattle.ca_sweep.specs.code.Loud.{AreLoud}
 
 -- the last values of the first two waves as a number
 abbrev pub code_of_lasts : List Wave → ℕ
@@ -94,9 +84,25 @@ abbrev pub IsCodeIn : Option Row → ℕ → ℕ → Type 0
 IsCodeIn None place code = ⊥
 IsCodeIn (Some row) place code = IsCodeAt row.codes.items place code
 
--- the lists are those of the cells, and what is kept is true
+-- there are this many codes, and this says which of them flip an output pin with these good last values
+pub record IsLoudOf (codes : List ℕ) (goods : Goods) (count loud : ℕ) : Type 0 where
+  pub within : count ≤ length codes
+  pub are : AreLoud codes goods loud
+
+-- so it is in the row of a slot
+abbrev pub IsLoudIn : Option Row → Goods → ℕ → ℕ → Type 0
+IsLoudIn None goods count loud = ⊥
+IsLoudIn (Some row) goods count loud = IsLoudOf row.codes.items goods count loud
+
+-- the numbers of the cells of the instances that have a place
+pub record AreNumbers (chip : Chip) (place_of number_of : ℕ → ℕ) (numbers : List ℕ) : Type 0 where
+  pub room : length numbers ≡ count_of chip
+  pub each : (u : ℕ) → IsPlaced chip place_of u → slice_index numbers u ≡ number_of u
+
+-- the lists and numbers are those of the cells, and what is kept is true
 pub record AreRows (chip : Chip) (place_of number_of : ℕ → ℕ) (rows : Rows) : Type 0 where
   pub lists : AreLists chip place_of number_of rows.lists.items
+  pub numbers : AreNumbers chip place_of number_of rows.numbers.items
   pub slots : All (HoldsRow chip place_of number_of) rows.slots.items
   pub some : 0 < length rows.slots.items
 

@@ -11,7 +11,9 @@ use Rattle.ca_sweep.specs.declared.seen.Flips.{Flips}
 use Rattle.ca_sweep.specs.declared.segments.Cut as cut
 use Rattle.ca_sweep.specs.declared.run.Halt.{Halt}
 use Rattle.ca_sweep.specs.declared.run.Halt.TheVariants.{Stuck, Done, Cut}
+use Rattle.ca_sweep.specs.declared.segments.Aged.{Aged}
 use Rattle.ca_sweep.specs.declared.segments.Segment.{Segment}
+use Rattle.ca_sweep.specs.declared.segments.Segments.{Segments}
 use Rattle.ca_sweep.specs.Seen.{flipped_outputs, flipped_if, IsOppositeAt, AreNotOppositeBefore}
 use Rattle.ca_sweep.specs.code.Changes.{IsOutputBelow}
 use Rattle.ca_sweep.specs.code.Faulty.{code_of}
@@ -96,10 +98,23 @@ abbrev pub IsSegment : Chip → (ℕ → ℕ) → (ℕ → Trit) → ℕ → Fli
 IsSegment chip place_of goods u flips segment =
     IsPartTo chip place_of goods u flips segment.first segment.next
 
--- the parts that are kept say what is so
-pub record AreSegments (chip : Chip) (place_of : ℕ → ℕ) (goods : ℕ → Trit) (slots : List (Option Segment))
-    : Type 0 where
-  pub room : length slots ≡ 4 * count_of chip
+-- no part is of an age to come
+abbrev pub AreAges : List (Option Aged) → ℕ → Type 0
+AreAges slots age =
+    (place : ℕ) (aged : Aged) → slice_index_or slots place None ≡ Some aged → aged.age ≤ age
+
+-- the slot has this part, and it is of this age
+pub record IsOfAge (slot : Option Aged) (age : ℕ) (segment : Segment) : Type 0 where
+  pub aged : Aged
+  pub slot_is : slot ≡ Some aged
+  pub age_is : aged.age ≡ age
+  pub segment_is : aged.segment ≡ segment
+
+-- no part is of an age to come, and those of this age say what is so
+pub record AreSegments (chip : Chip) (place_of : ℕ → ℕ) (goods : ℕ → Trit) (segments : Segments) : Type 0 where
+  pub room : length segments.slots.items ≡ 4 * count_of chip
+  pub ages : AreAges segments.slots.items segments.age
   pub each : (u : ℕ) (flips : Flips) (segment : Segment)
-      → slice_index_or slots (4 * u + code_of flips.first flips.second) None ≡ Some segment
+      → IsOfAge (slice_index_or segments.slots.items (4 * u + code_of flips.first flips.second) None)
+      segments.age segment
       → IsSegment chip place_of goods u flips segment

@@ -1,4 +1,4 @@
-use Rattle.std.proofs.Common.{◌≡◌, ℕ, List, Some, ap, ◌∙◌, arith, refl, subst, sym}
+use Rattle.std.proofs.Common.{◌≡◌, ℕ, ◌+◌, ◌-◌, List, Some, ap, ◌∙◌, arith, refl, subst, sym}
 use Rattle.ca_net.specs.Circuit.{IsWellFormed}
 use Rattle.ca_net.specs.State.{value_at}
 use Rattle.ca_flat.specs.declared.chip_defect.ChipDefect.{ChipDefect}
@@ -9,8 +9,10 @@ use Rattle.ca_view.specs.Linked.{IsPlaced, IsPlacedDefect, place_in}
 use Rattle.ca_sweep.specs.Seen.{AreUnseen, Loaded}
 use Rattle.ca_sweep.specs.Spans.{AreOfCell}
 use Rattle.ca_sweep.specs.Found.{IsFound, IsUndetectedAt}
-use Rattle.ca_sweep.specs.code.Asked.{AreAsked}
+use Rattle.ca_places.specs.PlaceSet.{Has}
+use Rattle.ca_sweep.specs.code.Asked.{AreAsked, AreNowhereAt}
 use Rattle.ca_sweep.proofs.NextLemmas.{entry_has, span_placed, undetected_one}
+use Rattle.ca_sweep.proofs.TakenLemmas.{taken_undetected}
 use Rattle.ca_sweep.proofs.UndetectedLemmas.{unseen_undetected}
 use Rattle.ca_sweep.proofs.finder.Finder.pass.Goals as goal
 
@@ -33,19 +35,42 @@ takes-requires g c =
     (span_placed c.args.self.now.chip (place_in c.args.self.now.places) c.args.defects.now.list c.args.place span.result.start span.result.end
     span.result.instance c.requires.place span.ensures.within span.ensures.past span.ensures.span c.requires.asked.placed)
 
+pub is_quiet-requires-clause-placed : goal.is_quiet-requires-clause-placed
+is_quiet-requires-clause-placed g c =
+    let span = c.span_at-span in
+    subst (λ (s : Loaded). IsPlaced s.chip (place_in s.places) c.span_at-span.result.instance) (sym (c.takes.ensures.kept ∙ c.self.view_is))
+    (span_placed c.args.self.now.chip (place_in c.args.self.now.places) c.args.defects.now.list c.args.place span.result.start span.result.end
+    span.result.instance c.requires.place span.ensures.within span.ensures.past span.ensures.span c.requires.asked.placed)
+
+pub returns-then-is_quiet-clause-passed : goal.returns-then-is_quiet-clause-passed
+returns-then-is_quiet-clause-passed g c = λ k after before has.
+    let s = c.args.self.now in
+    let list = c.args.defects.now.list in
+    let pair = (g.V.NetWaves.seen c.args.waves.now).pair in
+    let span = c.span_at-span.result in
+    let there : k ≡ span.start + (k - span.start) = let start = c.span_at-span.ensures.within in omega arith in
+    taken_undetected s list pair span.start span.end span.instance k (let start = c.span_at-span.ensures.within in omega arith) before c.span_at-span.ensures.span
+    (subst (λ chip. AreOfCell (cell_at chip c.span_at-span.result.instance) c.args.defects.now.list c.span_at-span.result.start c.span_at-span.result.end)
+    c.requires.asked.chip_is (c.span_at-span.ensures.whole (c.if-takes.ensures.whole refl))) c.requires.asked.placed c.requires.asked.faulty_are
+    (subst (AreNowhereAt (g.V.NetWaves.seen c.args.waves.now).pair c.span_at-span.result.instance (k - c.span_at-span.result.start))
+    (c.takes.ensures.kept ∙ c.self.view_is)
+    (c.if-is_quiet.ensures.quiet refl (k - span.start) (let start = c.span_at-span.ensures.within in omega arith) (subst (Has c.args.places.now) there has)))
+
 pub pass_taken-requires-clause-asked : goal.pass_taken-requires-clause-asked
 pass_taken-requires-clause-asked g c =
-    subst (AreAsked (g.V.NetWaves.seen c.args.waves.now) c.args.defects.now) (sym (c.takes.ensures.kept ∙ c.self.view_is)) c.requires.asked
+    subst (AreAsked (g.V.NetWaves.seen c.args.waves.now) c.args.defects.now)
+    (sym (c.is_quiet.ensures.kept ∙ c.takes.ensures.kept ∙ c.self.view_is)) c.requires.asked
 
 pub pass_taken-requires-clause-whole : goal.pass_taken-requires-clause-whole
 pass_taken-requires-clause-whole g c =
     subst (λ chip. AreOfCell (cell_at chip c.span_at-span.result.instance) c.args.defects.now.list c.span_at-span.result.start c.span_at-span.result.end)
-    (c.requires.asked.chip_is ∙ ap (λ (s : Loaded). s.chip) (sym (c.takes.ensures.kept ∙ c.self.view_is)))
+    (c.requires.asked.chip_is ∙ ap (λ (s : Loaded). s.chip) (sym (c.is_quiet.ensures.kept ∙ c.takes.ensures.kept ∙ c.self.view_is)))
     (c.span_at-span.ensures.whole (c.if-takes.ensures.whole refl))
 
 pub returns-then-takes-clause-passed : goal.returns-then-takes-clause-passed
 returns-then-takes-clause-passed g c = λ k after before has.
-    subst (λ (s : Loaded). IsUndetectedAt s.chip c.args.defects.now.list (g.V.NetWaves.seen c.args.waves.now).pair k) (c.takes.ensures.kept ∙ c.self.view_is)
+    subst (λ (s : Loaded). IsUndetectedAt s.chip c.args.defects.now.list (g.V.NetWaves.seen c.args.waves.now).pair k)
+    (c.is_quiet.ensures.kept ∙ c.takes.ensures.kept ∙ c.self.view_is)
     (c.pass_taken.ensures.passed k after before has)
 
 pub returns-then-is_unseen-clause-passed : goal.returns-then-is_unseen-clause-passed

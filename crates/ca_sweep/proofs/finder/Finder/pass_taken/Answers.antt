@@ -1,4 +1,4 @@
-use Rattle.std.proofs.Common.{◌+◌, ◌-◌, arith, refl, subst, sym, ◌∙◌, Some}
+use Rattle.std.proofs.Common.{◌+◌, ◌-◌, arith, refl, subst, sym, ◌∙◌}
 use Rattle.ca_view.specs.Linked.{IsPlaced, place_in}
 use Rattle.ca_sweep.specs.Seen.{Loaded}
 use Rattle.ca_sweep.specs.Found.{IsUndetectedAt}

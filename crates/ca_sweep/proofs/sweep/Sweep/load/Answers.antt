@@ -32,5 +32,5 @@ invariant_of-self g c =
         values_are = same;
         none = kept.values_are.none;
       };
-      segments_are = c.forget.ensures c.self.inside.chip.now.core (place_in c.self.inside.chip.now.ranks) (value_at c.load.new.lasts) kept.segments_are.room;
+      segments_are = c.forget.ensures c.self.inside.chip.now.core (place_in c.self.inside.chip.now.ranks) (value_at c.self.inside.lasts) (value_at c.load.new.lasts) kept.segments_are;
     }
